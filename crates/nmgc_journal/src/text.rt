@@ -10,12 +10,13 @@
 ghost use Rattle.std.specs.Prelude.{◌≡◌, ◌+◌, ◌<◌, ◌≤◌, ◌^◌, ◌++◌, length, codes, OnOk, IfOk};
 ghost use Rattle.std.specs.List.{flat_map};
 ghost use Rattle.nmgc_journal.specs.Stops.{AreEndedFrom};
-ghost use Rattle.nmgc_journal.specs.Text.{reply_text, HasWord, reply_line, replies_text, round_text, rounds_text, stop_at, end_counts, heap_full_line, end_text, report_text};
+ghost use Rattle.nmgc_journal.specs.Text.{reply_line, replies_text, round_text, rounds_text, stop_at, end_counts, heap_full_line, end_text, report_text};
 
+use crate::lines::push_reply_line;
 use crate::stops::{are_in_order, push_next_stop, push_stop_at};
-use crate::words::{push_count, push_value, push_word};
+use crate::words::{push_count, push_word};
 use crate::{End, Replies, Report, RoundRows};
-use nmgc_graph::{NoMemory, Reply};
+use nmgc_graph::NoMemory;
 use nmgc_io::push_number;
 use std::alloc::Global;
 
@@ -117,47 +118,4 @@ fn push_replies(out: &mut Vec<u8>, mutator: u64, replies: &Replies) -> Result<()
         push_reply_line(out, mutator, replies.reply(at))?;
     }
     Ok(())
-}
-
-fn push_reply_line(out: &mut Vec<u8>, mutator: u64, reply: Reply) -> Result<(), NoMemory>
-    ensures { OnOk result (out.new.items ≡ out.old.items ++ reply_line mutator reply) }
-{
-    push_number(out, mutator)?;
-    out.push(b' ')?;
-    push_reply(out, reply)?;
-    out.push(b'\n')?;
-    Ok(())
-}
-
-fn push_reply(out: &mut Vec<u8>, reply: Reply) -> Result<(), NoMemory>
-    ensures { OnOk result (out.new.items ≡ out.old.items ++ reply_text reply) }
-{
-    match reply {
-        Reply::Given(value) => push_value(out, value),
-        other => push_word(out, word_of(other)),
-    }
-}
-
-// The word of a reply that gives no value.
-fn word_of(reply: Reply) -> &'static [u8]
-    requires { HasWord reply }
-    ensures { result.now ≡ reply_text reply }
-{
-    match reply {
-        Reply::Fine => b"ok",
-        Reply::Yes => b"yes",
-        Reply::No => b"no",
-        Reply::Updated => b"updated",
-        Reply::Already => b"already",
-        Reply::Given(_) => unreachable!(),
-        Reply::NoPointer => b"nopointer",
-        Reply::NoField => b"nofield",
-        Reply::WrongKind => b"wrongkind",
-        Reply::NotOwner => b"notowner",
-        Reply::Fixed => b"fixed",
-        Reply::Dead => b"dead",
-        Reply::Nothing => b"none",
-        Reply::StackFull => b"stackfull",
-        Reply::StackEmpty => b"stackempty",
-    }
 }

@@ -1,0 +1,32 @@
+use Rattle.std.proofs.Common.{◌∙◌, ◌++◌, List, ℕ, ap, refl, arith, decimal}
+use Rattle.std.proofs.lemmas.Fmt.{length-decimal-le}
+use Rattle.std.proofs.lemmas.List.{take_rest}
+use Rattle.nmgc_journal.proofs.Lines.{three_written}
+use Rattle.nmgc_journal.proofs.lines.push_dotted_line.Goals as goal
+
+pub write_before-serial-requires-clause-room : goal.write_before-serial-requires-clause-room
+write_before-serial-requires-clause-room c = omega (arith, length-decimal-le 10 c.args.name.serial (omega arith) (omega arith) (omega arith))
+
+pub write_before-maker-requires-clause-room : goal.write_before-maker-requires-clause-room
+write_before-maker-requires-clause-room c =
+    omega (
+      arith,
+      length-decimal-le 10 c.args.name.serial (omega arith) (omega arith) (omega arith),
+      length-decimal-le 3 c.args.name.maker (omega arith) (omega arith) (omega arith),
+    )
+
+pub write_before-from-requires-clause-room : goal.write_before-from-requires-clause-room
+write_before-from-requires-clause-room c =
+    omega (
+      arith,
+      length-decimal-le 10 c.args.name.serial (omega arith) (omega arith) (omega arith),
+      length-decimal-le 3 c.args.name.maker (omega arith) (omega arith) (omega arith),
+      length-decimal-le 20 c.args.mutator (omega arith) (omega arith) (omega arith),
+    )
+
+pub returns : goal.returns
+returns c =
+    let text = three_written (decimal c.args.mutator) (decimal c.args.name.maker) (decimal c.args.name.serial) _ _ _ _ c.write_before-serial.result
+    c.write_before-maker.result c.write_before-from.result c.write_before-serial.ensures.text c.write_before-maker.ensures.text
+    c.write_before-from.ensures.text refl in
+    c.in_ok-extend_from_slice.ensures.items ∙ ap (λ (l : List ℕ). c.args.out.now.items ++ l) (take_rest _ c.write_before-from.result ∙ text)

@@ -1,0 +1,22 @@
+use Rattle.std.proofs.Common.{◌∙◌, ◌++◌, List, ℕ, ap, refl, arith, decimal}
+use Rattle.std.proofs.lemmas.Fmt.{length-decimal-le}
+use Rattle.std.proofs.lemmas.List.{take_rest}
+use Rattle.nmgc_journal.proofs.Lines.{two_written}
+use Rattle.nmgc_journal.proofs.lines.push_number_line.Goals as goal
+
+pub write_before-text-requires-clause-room : goal.write_before-text-requires-clause-room
+write_before-text-requires-clause-room c = omega (arith, length-decimal-le 20 c.args.number (omega arith) (omega arith) (omega arith))
+
+pub write_before-from-requires-clause-room : goal.write_before-from-requires-clause-room
+write_before-from-requires-clause-room c =
+    omega (
+      arith,
+      length-decimal-le 20 c.args.number (omega arith) (omega arith) (omega arith),
+      length-decimal-le 20 c.args.mutator (omega arith) (omega arith) (omega arith),
+    )
+
+pub returns : goal.returns
+returns c =
+    let text = two_written (decimal c.args.mutator) (decimal c.args.number) _ _ _ c.write_before-text.result c.write_before-from.result
+    c.write_before-text.ensures.text c.write_before-from.ensures.text refl in
+    c.in_ok-extend_from_slice.ensures.items ∙ ap (λ (l : List ℕ). c.args.out.now.items ++ l) (take_rest _ c.write_before-from.result ∙ text)

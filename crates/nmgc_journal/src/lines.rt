@@ -1,0 +1,120 @@
+//! The line of a reply: the mutator, a space and the reply.
+//!
+//! A report may have millions of them, and nearly all give a name or a number. Such a line is written in a buffer from its
+//! end on, since the digits of a number come from its last one, and appended to the text as a whole.
+//!
+//! Easy to get wrong: the buffer has room for the longest line, of a mutator and a number of 20 digits each, but a name
+//! has two numbers more.
+ghost use Rattle.std.specs.Prelude.{◌≡◌, ◌+◌, ◌<◌, ◌≤◌, [], ◌∷◌, ◌++◌, decimal, drop, length, OnOk};
+ghost use Rattle.nmgc_graph.specs.declared.command.Reply.TheVariants.{Given};
+ghost use Rattle.nmgc_graph.specs.declared.value.Value.TheVariants.{Number, Ref};
+ghost use Rattle.nmgc_journal.specs.Text.{reply_line, reply_text, HasWord};
+
+use itoa::write_digits;
+use nmgc_graph::{Name, NoMemory, Reply, SHARED_MAKER, Value};
+use nmgc_io::push_number;
+
+// As many bytes as any line has, and more.
+const LINE: usize = 64;
+
+// Writes a number and a byte behind it, so that they end before a place, and answers where they begin. What stands from
+// that place on stays.
+#[inline(always)]
+fn write_before(line: &mut [u8; LINE], end: usize, number: u64, byte: u8) -> usize
+    requires room { length (decimal number) < end }
+    requires inside { end ≤ LINE }
+    ensures from { result + length (decimal number) + 1 ≡ end }
+    ensures text { drop result line.new ≡ decimal number ++ byte ∷ drop end line.old }
+{
+    line[end - 1] = byte;
+    write_digits(number, line, end - 1)
+}
+
+/// Appends the line of a mutator's reply.
+pub fn push_reply_line(out: &mut Vec<u8>, mutator: u64, reply: Reply) -> Result<(), NoMemory>
+    ensures { OnOk result (out.new.items ≡ out.old.items ++ reply_line mutator reply) }
+{
+    match reply {
+        Reply::Given(value) => push_value_line(out, mutator, value),
+        other => push_word_line(out, mutator, word_of(other)),
+    }
+}
+
+// The line of a reply that gives a value.
+fn push_value_line(out: &mut Vec<u8>, mutator: u64, value: Value) -> Result<(), NoMemory>
+    ensures { OnOk result (out.new.items ≡ out.old.items ++ reply_line mutator (Given value)) }
+{
+    match value {
+        Value::Nil => push_word_line(out, mutator, b"nil"),
+        Value::Number(number) => push_number_line(out, mutator, number),
+        Value::Ref(name) => push_name_line(out, mutator, name),
+    }
+}
+
+// The line of a reply that gives an object.
+fn push_name_line(out: &mut Vec<u8>, mutator: u64, name: Name) -> Result<(), NoMemory>
+    ensures { OnOk result (out.new.items ≡ out.old.items ++ reply_line mutator (Given (Ref name))) }
+{
+    if name.maker == SHARED_MAKER && name.serial == 0 {
+        return push_word_line(out, mutator, b"g");
+    }
+    push_dotted_line(out, mutator, name)
+}
+
+// The same of an object that isn't the shared array.
+fn push_dotted_line(out: &mut Vec<u8>, mutator: u64, name: Name) -> Result<(), NoMemory>
+    ensures { OnOk result (out.new.items ≡ out.old.items ++ (decimal mutator ++ 32 ∷ (decimal name.maker ++ 46 ∷ decimal name.serial) ++ 10 ∷ [])) }
+{
+    let mut line = [0u8; LINE];
+    let serial = write_before(&mut line, LINE, u64::from(name.serial), b'\n');
+    let maker = write_before(&mut line, serial, u64::from(name.maker), b'.');
+    let from = write_before(&mut line, maker, mutator, b' ');
+    out.extend_from_slice(&line[from..])?;
+    Ok(())
+}
+
+// The line of a reply that gives a number.
+fn push_number_line(out: &mut Vec<u8>, mutator: u64, number: u64) -> Result<(), NoMemory>
+    ensures { OnOk result (out.new.items ≡ out.old.items ++ reply_line mutator (Given (Number number))) }
+{
+    let mut line = [0u8; LINE];
+    let text = write_before(&mut line, LINE, number, b'\n');
+    let from = write_before(&mut line, text, mutator, b' ');
+    out.extend_from_slice(&line[from..])?;
+    Ok(())
+}
+
+// The line of a reply of a word.
+fn push_word_line(out: &mut Vec<u8>, mutator: u64, word: &[u8]) -> Result<(), NoMemory>
+    ensures { OnOk result (out.new.items ≡ out.old.items ++ (decimal mutator ++ 32 ∷ word.now ++ 10 ∷ [])) }
+{
+    push_number(out, mutator)?;
+    out.push(b' ')?;
+    out.extend_from_slice(word)?;
+    out.push(b'\n')?;
+    Ok(())
+}
+
+// The word of a reply that gives no value.
+fn word_of(reply: Reply) -> &'static [u8]
+    requires { HasWord reply }
+    ensures { result.now ≡ reply_text reply }
+{
+    match reply {
+        Reply::Fine => b"ok",
+        Reply::Yes => b"yes",
+        Reply::No => b"no",
+        Reply::Updated => b"updated",
+        Reply::Already => b"already",
+        Reply::Given(_) => unreachable!(),
+        Reply::NoPointer => b"nopointer",
+        Reply::NoField => b"nofield",
+        Reply::WrongKind => b"wrongkind",
+        Reply::NotOwner => b"notowner",
+        Reply::Fixed => b"fixed",
+        Reply::Dead => b"dead",
+        Reply::Nothing => b"none",
+        Reply::StackFull => b"stackfull",
+        Reply::StackEmpty => b"stackempty",
+    }
+}
