@@ -2,9 +2,12 @@
 //!
 //! Other words that read a script and run it tell something else of its report: they begin with `read_and_run`, as `run`
 //! does, and differ in the text alone.
-ghost use Rattle.std.specs.Prelude.{◌≤◌, length, IfOk};
+ghost use Rattle.std.specs.Prelude.{◌≡◌, ◌≤◌, length, sum_by, vec_len, IfOk, IfErr, MatchResult};
 ghost use Rattle.nmgc_io.specs.Causes.{Rose};
 ghost use Rattle.nmgc_limits.specs.Limits.{most_script_bytes};
+ghost use Rattle.nmgc_script.specs.Faults.{IsToldOf};
+ghost use Rattle.nmgc_script.specs.Spelling.{Spells};
+ghost use Rattle.nmgc_script.specs.declared.script.Script.{Script as Spelled};
 ghost use Rattle.nmgc_run.specs.Crowded.{IsRunOf};
 ghost use Rattle.nmgc_cycle.specs.Limits.{IsInLimits};
 ghost use Rattle.nmgc_cli.specs.Runs.{IsRan};
@@ -18,7 +21,7 @@ use nmgc_journal::Report;
 use nmgc_journal::text::text;
 use nmgc_limits::MAX_SCRIPT_BYTES;
 use nmgc_round::OpenGate;
-use nmgc_script::{Script, parse};
+use nmgc_script::{Script, ScriptFault, parse};
 use std::alloc::Global;
 use std::mem;
 use std::thread::Threads;
@@ -45,16 +48,31 @@ pub fn read_and_run<R: Threads + Sync, S: Source>(
     ensures { AnswersScript IsRan (S.left source.old) (S.left source.new) (Rose (S.faults source.old) (S.faults source.new)) result }
 {
     let bytes = read_all(alloc, source, MAX_SCRIPT_BYTES)?;
-    run_bytes(alloc, rt, &bytes)
+    run_bytes(alloc, rt, bytes)
 }
 
-/// The report of the script that these bytes spell, or why there is none.
-pub fn run_bytes<R: Threads + Sync>(alloc: Global, rt: &R, bytes: &[u8]) -> Result<Report, Refusal>
-    requires { length bytes.now ≤ most_script_bytes }
-    ensures { AnswersBytes IsRan bytes.now result }
+/// The report of the script that these bytes spell, or why there is none. Their memory is given back before the run.
+pub fn run_bytes<R: Threads + Sync>(
+    alloc: Global,
+    rt: &R,
+    bytes: Vec<u8>,
+) -> Result<Report, Refusal>
+    requires { vec_len bytes ≤ most_script_bytes }
+    ensures { AnswersBytes IsRan bytes.items result }
 {
-    let script = parse(alloc, bytes)?;
+    let script = script_of(alloc, bytes)?;
     Ok(run_script(alloc, rt, script)?)
+}
+
+// The script that these bytes spell, or what the parser tells of them. Their memory is given back.
+fn script_of(alloc: Global, bytes: Vec<u8>) -> Result<Script, ScriptFault>
+    requires { vec_len bytes ≤ most_script_bytes }
+    ensures found { IfOk result (λ script. Spells bytes.items script) }
+    ensures only { (script : Spelled) → Spells bytes.items script → MatchResult result (λ read. script ≡ read) (λ fault. fault ≡ ScriptFault.NoMemory) }
+    ensures few { IfOk result (λ script. sum_by (λ program. length program) script.threads ≤ vec_len bytes) }
+    ensures told { IfErr result (λ fault. IsToldOf bytes.items fault) }
+{
+    parse(alloc, &bytes)
 }
 
 /// The report of a script's run, under a gate that holds nobody back. Asks that the script is within the limits.

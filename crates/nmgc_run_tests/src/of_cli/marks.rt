@@ -115,7 +115,10 @@ fn report_of<R: Threads + Sync>(alloc: Global, rt: &R, bytes: &[u8]) -> Result<R
     requires { length bytes.now ≤ most_script_bytes }
     ensures { IfOk result IsOfScript }
 {
-    run_bytes(alloc, rt, bytes)
+    let Ok(own) = Vec::from_slice(alloc, bytes) else {
+        return Err(Refusal::NoMemory);
+    };
+    run_bytes(alloc, rt, own)
 }
 
 // The first object of each of two markers waits for that of the other.

@@ -1,0 +1,16 @@
+use Rattle.std.proofs.Common.{◌≡◌, ◌≤◌, List, ℕ, length, sym, subst, arith}
+use Rattle.std.specs.Prelude.{IfOk, IfErr, sum_by}
+use Rattle.nmgc_graph.specs.declared.command.Command.{Command}
+use Rattle.nmgc_script.specs.Faults.{IsToldOf}
+use Rattle.nmgc_script.specs.Spelling.{Spells}
+use Rattle.nmgc_script.specs.declared.script.Script.{Script}
+use Rattle.nmgc_cli.proofs.run.script_of.Goals as goal
+
+pub returns-clause-found : goal.returns-clause-found
+returns-clause-found c = subst (λ (bytes : List ℕ). IfOk c.parse.result (λ (script : Script). Spells bytes script)) c.deref.ensures.value c.parse.ensures.found
+
+pub returns-clause-only : goal.returns-clause-only
+returns-clause-only c = λ script spells. c.parse.ensures.only script (subst (λ (bytes : List ℕ). Spells bytes script) (sym c.deref.ensures.value) spells)
+
+pub returns-clause-told : goal.returns-clause-told
+returns-clause-told c = subst (λ (bytes : List ℕ). IfErr c.parse.result (IsToldOf bytes)) c.deref.ensures.value c.parse.ensures.told
