@@ -166,11 +166,19 @@ fn new_mutators(alloc: Global, layout: Layout) -> Result<(Vec<Mutator>, Inbox), 
     Ok((mutators, Inbox::new(Placed::of(receivers, place))))
 }
 
+// Takes memory for so many words, and gives it back untouched. From then on the C library's allocator keeps a block of
+// that size that is given back, where it had unmapped it. So what is touched once serves the run again.
+fn make_known(alloc: Global, count: usize) -> Result<(), NoMemory> {
+    drop(Vec::<u64>::with_capacity(alloc, count)?);
+    Ok(())
+}
+
 // The words of a new run, in their table. The list that they are copied from is given back.
 fn new_words(alloc: Global, layout: Layout) -> Result<Words, NoMemory>
     requires { IsLayout layout }
     ensures { IfOk result (IsEmptyHeap layout) }
 {
+    make_known(alloc, layout.total() as usize)?;
     let list = empty_words(alloc, layout)?;
     Words::new(alloc, list.as_slice())
 }
