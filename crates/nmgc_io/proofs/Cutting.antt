@@ -2,10 +2,10 @@
 use Rattle.std.proofs.Common.{◌≡◌, ◌≢◌, ◌+◌, ◌<◌, ◌≤◌, ◌∙◌, ℕ, List, ◌∷◌, ◌++◌, inl, inr, not, eqb, length, get_or, slice_index, take, drop, sym, ap, subst, arith, take-append-drop}
 use Rattle.std.specs.Prelude.{All}
 use Rattle.std.specs.List.{prefix_len}
-use Rattle.std.proofs.lemmas.Bool.{cases_lt, eqb-false}
-use Rattle.std.proofs.lemmas.List.{drop_more, length-take-le, get_or-take}
+use Rattle.std.proofs.lemmas.Bool.{cases_lt, eqb-false, eqb-true}
+use Rattle.std.proofs.lemmas.List.{drop_more, length-take-le, get_or-take, get_or-drop}
 use Rattle.std.proofs.lemmas.List.Elements.{All-from_get_or}
-use Rattle.std.proofs.lemmas.Simd.{run_in_chunk_fails}
+use Rattle.std.proofs.lemmas.Simd.{run_in_chunk_fails, run_in_chunk_stops}
 use lib.Lanes.{chunk}
 
 -- the bytes before the end of a run are others, as those before it
@@ -33,3 +33,26 @@ others_before bytes at byte within before = All-from_get_or (λ b. b ≢ byte) (
 -- and all are others where none is found
 pub all_others : (bytes : List ℕ) (at byte : ℕ) → at ≡ length bytes → ((k : ℕ) → k < at → slice_index bytes k ≢ byte) → All (λ b. b ≢ byte) bytes
 all_others bytes at byte end before = All-from_get_or (λ b. b ≢ byte) bytes 0 (λ k lt. before k (omega (arith, lt, end)))
+
+-- what stands in a part of a list, which begins at a place of it
+pub part_reads : (whole part : List ℕ) (from k : ℕ) → part ≡ take (length part) (drop from whole) → k < length part →
+    slice_index part k ≡ slice_index whole (from + k)
+part_reads whole part from k is inside =
+    ap (λ (l : List ℕ). get_or l k 0) is ∙ get_or-take (length part) (drop from whole) k 0 inside ∙ get_or-drop from whole k 0
+
+-- the bytes of a part before the end of a run from its place on are others
+pub part_others : (byte : ℕ) (whole part : List ℕ) (from n run : ℕ) → from + n ≤ length whole →
+    run ≡ prefix_len (λ x. not (eqb x byte)) (chunk from n whole) → part ≡ take (length part) (drop from whole) → (k : ℕ) → k < run → k < length part →
+    slice_index part k ≢ byte
+part_others byte whole part from n run room counted is k below inside =
+    let other = eqb-false (get_or whole (from + k) 0) byte (run_in_chunk_fails (λ x.
+        eqb x byte) whole from n run 0 room counted (from + k) (omega arith) (omega (arith, below))) in
+    subst (λ (b : ℕ). b ≢ byte) (sym (part_reads whole part from k is inside)) other
+
+-- and the one at its end isn't
+pub part_found : (byte : ℕ) (whole part : List ℕ) (from n run : ℕ) → from + n ≤ length whole →
+    run ≡ prefix_len (λ x. not (eqb x byte)) (chunk from n whole) → part ≡ take (length part) (drop from whole) → run < n → run < length part →
+    slice_index part run ≡ byte
+part_found byte whole part from n run room counted is stops inside =
+    part_reads whole part from run is inside ∙
+    eqb-true (get_or whole (from + run) 0) byte (run_in_chunk_stops (λ x. eqb x byte) whole from n run 0 room counted stops)

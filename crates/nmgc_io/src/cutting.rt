@@ -5,7 +5,7 @@
 //!
 //! Easy to get wrong: where the separator isn't found nothing is cut, and it is the caller who knows whether what is left is
 //! a last part.
-ghost use Rattle.std.specs.Prelude.{◌≡◌, ◌≢◌, ℕ, ◌+◌, ◌<◌, ◌≤◌, ◌==◌, not, ◌++◌, ◌∷◌, All, IfSome, IfNone, length, slice_index};
+ghost use Rattle.std.specs.Prelude.{◌≡◌, ◌≢◌, ℕ, ◌+◌, ◌<◌, ◌≤◌, ◌==◌, not, ◌++◌, ◌∷◌, All, IfSome, IfNone, length, slice_index, take, drop};
 ghost use Rattle.std.specs.List.{prefix_len};
 ghost use Rattle.std.specs.Simd.Lanes.{chunk};
 
@@ -67,4 +67,30 @@ pub fn cut(bytes: &[u8], byte: u8) -> Option<(&[u8], &[u8])>
         return None;
     }
     Some((&bytes[..at], &bytes[at + 1..]))
+}
+
+/// The same of a part of longer bytes, which begins at a place of theirs. A part that is shorter than the bytes which are
+/// looked at together is cut by one look all the same, where the longer ones have so many from that place on.
+#[inline]
+pub fn cut_within<'a>(
+    whole: &[u8],
+    from: usize,
+    part: &'a [u8],
+    byte: u8,
+) -> Option<(&'a [u8], &'a [u8])>
+    requires inside { from + length part.now ≤ length whole.now }
+    requires part { part.now ≡ take (length part.now) (drop from whole.now) }
+    ensures parts { IfSome result (λ parts. part.now ≡ parts.0.now ++ byte ∷ parts.1.now) }
+    ensures first { IfSome result (λ parts. All (λ b. b ≢ byte) parts.0.now) }
+    ensures less { IfSome result (λ parts. length parts.1.now < length part.now) }
+    ensures none { IfNone result (All (λ b. b ≢ byte) part.now) }
+{
+    if part.len() > LANES || whole.len() - from < LANES {
+        return cut(part, byte);
+    }
+    let run = run_before(whole, from, byte);
+    if run >= part.len() {
+        return None;
+    }
+    Some((&part[..run], &part[run + 1..]))
 }

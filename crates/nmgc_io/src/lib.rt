@@ -25,7 +25,7 @@ pub mod source;
 pub mod standard;
 pub mod transfer;
 
-pub use cutting::cut;
+pub use cutting::{cut, cut_within};
 pub use ends::{Failed, ReadEnd, WriteEnd};
 pub use memory_sink::MemorySink;
 pub use memory_source::MemorySource;

@@ -1,7 +1,8 @@
 -- A text is cut at its first separator.
-use Rattle.std.proofs.Common.{◌≡◌, ◌≢◌, ◌<◌, ℕ, List, [], ◌∷◌, ◌++◌, ◌+◌, true, false, length, refl, ap, ◌∙◌, arith}
+use Rattle.std.proofs.Common.{◌≡◌, ◌≢◌, ◌<◌, ℕ, List, [], ◌∷◌, ◌++◌, ◌+◌, true, false, length, take, drop, refl, sym, ap, ◌∙◌, arith, append_assoc, length-append}
 use Rattle.std.specs.Prelude.{◌==◌, if◌then◌else◌, All}
 use Rattle.std.specs.List.{AllByRecursion}
+use Rattle.std.proofs.lemmas.List.{take_at, drop_at, drop-take, drop-drop, length_push}
 use Rattle.std.proofs.lemmas.List.Elements.{recursion_from_All}
 use Rattle.std.proofs.lemmas.Bool.{eq-eqb, ne_eqb}
 use Rattle.nmgc_script.specs.Text.{onto_first, lines_of, words_of, is_passed, kept_from}
@@ -61,3 +62,22 @@ module _ (n : ℕ) (bytes line rest : List ℕ) (split : lines_of bytes ≡ line
 pub kept_none : (n : ℕ) (bytes : List ℕ) → lines_of bytes ≡ [] → kept_from n (lines_of bytes) ≡ []
 unfolding kept_from
 kept_none n bytes none = rw none refl
+
+-- a first part is the front of the bytes
+pub front_of : (s : ℕ) (bytes front back : List ℕ) → bytes ≡ front ++ s ∷ back → front ≡ take (length front) bytes
+front_of s bytes front back e = sym (ap (λ (l : List ℕ). take (length front) l) e ∙ take_at front (s ∷ back) (length front) refl)
+
+-- what is left behind a word lies in the text where the word's space ends
+pub rest_on : (s : ℕ) (text rest word after : List ℕ) (from : ℕ) → rest ≡ take (length rest) (drop from text) → rest ≡ word ++ s ∷ after →
+    after ≡ take (length after) (drop (from + (length word + 1)) text)
+rest_on s text rest word after from is e =
+    let n : ℕ = length word + 1 in
+    let long : length rest ≡ n + length after = ap (λ (l : List ℕ). length l) e ∙ length-append word (s ∷ after) ∙ omega arith in
+    let behind : drop n rest ≡ after = ap (λ (l : List ℕ). drop n l) (e ∙ sym (append_assoc word (s ∷ []) after)) ∙
+    drop_at (word ++ s ∷ []) after n (length_push word s) in
+    sym behind ∙ ap (λ (l : List ℕ). drop n l) is ∙ ap (λ (k : ℕ). drop n (take k (drop from text))) long ∙ drop-take n (length after) (drop from text) ∙
+    ap (λ (l : List ℕ). take (length after) l) (drop-drop n from text)
+
+-- and is shorter by both
+pub rest_less : (s : ℕ) (rest word after : List ℕ) → rest ≡ word ++ s ∷ after → length word + 1 + length after ≡ length rest
+rest_less s rest word after e = sym (ap (λ (l : List ℕ). length l) e ∙ length-append word (s ∷ after) ∙ omega arith)

@@ -118,7 +118,7 @@ fn heap_line<'a>(lines: &mut Lines<'a>, words: &mut Vec<&'a [u8]>) -> Result<Con
             cause: Cause::Heap,
         });
     };
-    cut_words(words, line)?;
+    cut_words(words, line, lines.text())?;
     at_line(number, heap_words(words))
 }
 
@@ -154,7 +154,7 @@ fn threads<'a>(
             cause: Cause::Thread,
         });
     };
-    cut_words(words, line)?;
+    cut_words(words, line, lines.text())?;
     at_line(number, section(version, config, 0, words))?;
     programs(alloc, version, config, lines, words)
 }
@@ -174,7 +174,7 @@ fn programs<'a>(
     let mut program = List::new(alloc);
     let mut begun = 1;
     while let Some((number, line)) = lines.next() {
-        cut_words(words, line)?;
+        cut_words(words, line, lines.text())?;
         match at_line(number, read_entry(alloc, version, config, begun, words))? {
             Entry::Section => {
                 threads.push(program)?;

@@ -1,10 +1,14 @@
-use Rattle.std.proofs.Common.{◌≡◌, ◌++◌, map, length}
+use Rattle.std.proofs.Common.{◌≡◌, ◌+◌, ◌≤◌, ◌++◌, map, length, take, drop}
 use Rattle.nmgc_script.specs.Text.{words_of}
 use Rattle.nmgc_script.proofs.text.cut_words.Given as goal
 
--- the words so far and those of the rest are those of the line
+-- the words so far and those of the rest are those of the line, and the rest lies in the text from a place on
 abbrev pub invariant-loop-word : goal.invariant-loop-word
-invariant-loop-word l = map (λ w. w.now) l.words.items ++ words_of l.rest ≡ words_of l.line
+invariant-loop-word l = record {
+  words : map (λ w. w.now) l.words.items ++ words_of l.rest ≡ words_of l.line;
+  part : l.rest ≡ take (length l.rest) (drop l.from l.text);
+  inside : l.from + length l.rest ≤ length l.text;
+}
 
 abbrev pub decreases-loop-word : goal.decreases-loop-word
 decreases-loop-word l = length l.rest

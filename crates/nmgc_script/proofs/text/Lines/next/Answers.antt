@@ -12,6 +12,9 @@ pub returns-then-not-is_passed-clause-end : goal.returns-then-not-is_passed-clau
 returns-then-not-is_passed-clause-end c =
     counted c.loop-line.self.number c.loop-line.self.rest.now c.in-Some.line.now c.in-Some.rest.now c.in-Some.ensures.line ∙ c.loop-line.invariant.end
 
+pub returns-then-not-is_passed-clause-text : goal.returns-then-not-is_passed-clause-text
+returns-then-not-is_passed-clause-text c = c.in-Some.ensures.front
+
 pub loop-line-preserved : goal.loop-line-preserved
 loop-line-preserved c = record {
   kept = passed c.loop-line.self.number c.loop-line.self.rest.now c.in-Some.line.now c.in-Some.rest.now c.in-Some.ensures.line
