@@ -1,4 +1,4 @@
-use Rattle.std.proofs.Common.{◌≡◌, ◌⊎◌, ◌↔◌, List, sym, ap, subst, ◌∙◌}
+use Rattle.std.proofs.Common.{◌≡◌, ◌⊎◌, ◌↔◌, List, inl, inr, sym, ap, subst, ◌∙◌, arith}
 use Rattle.std.specs.Prelude.{Contains}
 use Rattle.nmgc_graph.specs.Reach.{IsInOrder}
 use Rattle.nmgc_weak.specs.declared.weaks.OldWeak.{OldWeak}
@@ -22,3 +22,6 @@ pub returns-clause-ordered : goal.returns-clause-ordered
 returns-clause-ordered c =
     let items : c.swap.new.x.items ≡ c.merge.new.all.items = ap (λ v. v.items) c.swap.ensures.x_after in
     subst (λ (l : List OldWeak). IsInOrder (names_of l)) (sym items) c.merge.ensures.ordered
+
+pub returns-then-is_empty-clause-list : goal.returns-then-is_empty-clause-list
+returns-then-is_empty-clause-list c = λ other. (λ old. inl old, λ either. elim either [ | inl old ↦ old | inr new ↦ absurd (omega (arith, new.1)) ])
