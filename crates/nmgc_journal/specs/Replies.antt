@@ -5,7 +5,7 @@ use Rattle.nmgc_graph.specs.declared.value.Value.TheVariants.{Nil, Number, Ref}
 use Rattle.nmgc_graph.specs.declared.command.Reply.{Reply}
 use Rattle.nmgc_graph.specs.declared.command.Reply.TheVariants.{Fine, Yes, No, Updated, Already, Given, NoPointer, NoField, WrongKind, NotOwner, Fixed, Dead, Nothing, StackFull, StackEmpty}
 use Rattle.nmgc_journal.specs.declared.replies.Form.{Form}
-use Rattle.nmgc_journal.specs.declared.replies.Form.TheVariants.{Packed, Whole}
+use Rattle.nmgc_journal.specs.declared.replies.Form.TheVariants.{Halves, Packed, Whole}
 
 -- the replies that give neither a number nor an object, each at its place
 abbrev pub plain_replies : List Reply
@@ -26,5 +26,6 @@ reply_in word = if word % 2 == 1 then Given (Number (word / 2)) else if word % 4
 
 -- the replies in order, packed or as they are
 abbrev pub replies_of : Form → List Reply
+replies_of (Halves words) = map reply_in words.items
 replies_of (Packed words) = map reply_in words.items
 replies_of (Whole replies) = replies.items

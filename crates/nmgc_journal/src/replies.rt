@@ -1,7 +1,9 @@
-//! The replies of one mutator in one round, packed into a word each.
+//! The replies of one mutator in one round, packed into half a word each.
 //!
 //! A report keeps every reply of a run, and as values of 24 bytes they would be the largest part of a long run's. A reply
-//! is a number, an object's name or one of fifteen others, so it can be packed into a word (`specs/Replies.antt`).
+//! is a number, an object's name or one of fifteen others, so it can be packed into a word (`specs/Replies.antt`), of which the
+//! upper half is 0 but for numbers of 2^31 or more and names with a serial of 2^22 or more: where a list has neither, its
+//! words are kept by their lower halves.
 //! Whoever reads a report unpacks one reply at a time. How replies are kept is no part of their value: contracts see them.
 //!
 //! Easy to get wrong: a number of 2^63 or more doesn't fit beside the bit that tells a number. No heap has one, but a
@@ -32,17 +34,34 @@ impl Model for Replies {
     ghost view = { λ r. replies_of r.form };
 }
 
-// Packed into a word each, or as they are.
+// Packed into half a word each, or into a word each, or as they are.
 #[derive(Drop)]
 enum Form {
+    Halves(Vec<u32>),
     Packed(Vec<u64>),
     Whole(Vec<Reply>),
 }
 
 impl Replies {
-    /// These replies. Takes memory for a word each; where one is a number of 2^63 or more, for the replies as they are
-    /// besides, and gives the words back.
+    /// These replies. Takes memory for half a word each; where one doesn't fit, for a word each besides, and where one is
+    /// a number of 2^63 or more, for the replies as they are. What wasn't large enough is given back.
     pub fn from_slice(alloc: Global, replies: &[Reply]) -> Result<Replies, NoMemory>
+        ensures { IfOk result (λ own. own ≡ replies.now) }
+    {
+        let mut words = Vec::with_capacity(alloc, replies.len())?;
+        for reply in replies {
+            let Some(word) = half(*reply) else {
+                return Replies::in_words(alloc, replies);
+            };
+            words.push_reserved(word);
+        }
+        Ok(Replies {
+            form: Form::Halves(words),
+        })
+    }
+
+    // These replies, packed into a word each if they fit.
+    fn in_words(alloc: Global, replies: &[Reply]) -> Result<Replies, NoMemory>
         ensures { IfOk result (λ own. own ≡ replies.now) }
     {
         let mut words = Vec::with_capacity(alloc, replies.len())?;
@@ -71,6 +90,7 @@ impl Replies {
         ensures { result ≡ length self.now }
     {
         match &self.form {
+            Form::Halves(words) => words.len(),
             Form::Packed(words) => words.len(),
             Form::Whole(replies) => replies.len(),
         }
@@ -82,10 +102,22 @@ impl Replies {
         ensures { slice_get self.now at ≡ Some result }
     {
         match &self.form {
+            Form::Halves(words) => reply_in(u64::from(words[at])),
             Form::Packed(words) => reply_in(words[at]),
             Form::Whole(replies) => replies[at],
         }
     }
+}
+
+// The half word that a reply is packed into, if it fits.
+fn half(reply: Reply) -> Option<u32>
+    ensures { IfSome result (λ word. reply_in word ≡ reply) }
+{
+    let word = packed(reply)?;
+    if word > u64::from(u32::MAX) {
+        return None;
+    }
+    Some(word as u32)
 }
 
 // The word that a reply is packed into, if it fits.
