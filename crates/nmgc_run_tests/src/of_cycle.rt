@@ -116,8 +116,8 @@ fn weak_pointers_have_these_reports(rt: HostRuntime) -> Result<(), Fail> {
 // the first two are pointers to 0.0 at word 32 and to 1.0 in the next segment, and in the others is nil. The words between
 // g and the first segment belong to nobody.
 const FIRST_WORDS: [u64; 32] = [
-    0, 32771, 32, 64, 192, 1, 1, 1, 1, 1, 1, 1, 1, 1, 1, 1, 1, 1, 1, 0, 0, 0, 0, 0, 0, 0, 0, 0, 0, 0,
-    0, 0,
+    0, 32771, 32, 64, 192, 1, 1, 1, 1, 1, 1, 1, 1, 1, 1, 1, 1, 1, 1, 0, 0, 0, 0, 0, 0, 0, 0, 0, 0,
+    0, 0, 0,
 ];
 
 #[test]
