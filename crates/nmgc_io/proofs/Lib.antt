@@ -1,4 +1,4 @@
-pub mod Cutting
 pub mod Digits
 pub mod Known
 pub mod Pieces
+pub mod Separators

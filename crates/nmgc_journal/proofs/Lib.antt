@@ -1,3 +1,3 @@
+pub mod Buffers
 pub mod Ended
-pub mod Lines
 pub mod Read

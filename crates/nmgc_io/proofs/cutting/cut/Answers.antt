@@ -1,9 +1,9 @@
 use Rattle.std.proofs.Common.{◌<◌, length, arith}
-use Rattle.nmgc_io.proofs.Cutting.{cut_at, others_before, all_others}
+use Rattle.nmgc_io.proofs.Separators.{cut_at, others_before, all_others}
 use Rattle.nmgc_io.proofs.cutting.cut.Goals as goal
 
-pub returns-then-at-len-clause-none : goal.returns-then-at-len-clause-none
-returns-then-at-len-clause-none c = all_others c.args.bytes.now c.first_of-at.result c.args.byte (omega arith) c.first_of-at.ensures.before
+pub returns-then-at-bytes-clause-none : goal.returns-then-at-bytes-clause-none
+returns-then-at-bytes-clause-none c = all_others c.args.bytes.now c.first_of-at.result c.args.byte (omega arith) c.first_of-at.ensures.before
 
 pub returns-clause-parts : goal.returns-clause-parts
 returns-clause-parts c =

@@ -1,10 +1,10 @@
 use Rattle.std.proofs.Common.{ℕ, ◌≡◌, ◌≢◌, ◌+◌, ◌<◌, ◌≤◌, List, length, arith}
 use Rattle.std.proofs.lemmas.List.Elements.{All-from_get_or}
-use Rattle.nmgc_io.proofs.Cutting.{cut_at, others_before, part_others, part_found}
+use Rattle.nmgc_io.proofs.Separators.{cut_at, others_before, part_others, part_found}
 use Rattle.nmgc_io.proofs.cutting.cut_within.Goals as goal
 
-pub returns-then-run-len-clause-none : goal.returns-then-run-len-clause-none
-returns-then-run-len-clause-none c =
+pub returns-then-run-part-clause-none : goal.returns-then-run-part-clause-none
+returns-then-run-part-clause-none c =
     let whole : List ℕ = c.args.whole.now in
     let part : List ℕ = c.args.part.now in
     let run : ℕ = c.run_before-run.result in

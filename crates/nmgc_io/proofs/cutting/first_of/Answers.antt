@@ -1,7 +1,7 @@
 use Rattle.std.proofs.Common.{ℕ, ◌≡◌, ◌+◌, ◌≤◌, eqb, List, length, get_or, arith}
 use Rattle.std.proofs.lemmas.Bool.{eqb-true}
 use Rattle.std.proofs.lemmas.Simd.{run_in_chunk_le, run_in_chunk_stops}
-use Rattle.nmgc_io.proofs.Cutting.{others_more}
+use Rattle.nmgc_io.proofs.Separators.{others_more}
 use Rattle.nmgc_io.proofs.cutting.first_of.Goals as goal
 
 pub returns-then-run-lt-LANES : goal.returns-then-run-lt-LANES

@@ -2,13 +2,13 @@ use Rattle.std.proofs.Common.{◌≡◌, length, arith, refl}
 use Rattle.nmgc_io.proofs.Digits.{begins, stops, reads_whole, single, one_found, one_none}
 use Rattle.nmgc_io.proofs.numbers.read_number.Goals as goal
 
-pub returns-then-len-eq1-clause-found : goal.returns-then-len-eq1-clause-found
-returns-then-len-eq1-clause-found c =
+pub returns-then-word-eq1-clause-found : goal.returns-then-word-eq1-clause-found
+returns-then-word-eq1-clause-found c =
     let one : length c.args.word.now ≡ 1 = omega arith in
     one_found c.args.word.now _ c.args.limit c.with_digit.result (single c.args.word.now one) c.with_digit.ensures.digit c.with_digit.ensures.within
 
-pub returns-then-len-eq1-clause-none : goal.returns-then-len-eq1-clause-none
-returns-then-len-eq1-clause-none c =
+pub returns-then-word-eq1-clause-none : goal.returns-then-word-eq1-clause-none
+returns-then-word-eq1-clause-none c =
     let one : length c.args.word.now ≡ 1 = omega arith in
     one_none c.args.word.now c.args.limit c.with_digit.result (omega arith) one c.with_digit.ensures.none
 

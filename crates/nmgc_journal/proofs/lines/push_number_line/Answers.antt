@@ -1,7 +1,7 @@
 use Rattle.std.proofs.Common.{◌∙◌, ◌++◌, List, ℕ, ap, refl, arith, decimal}
 use Rattle.std.proofs.lemmas.Fmt.{length-decimal-le}
 use Rattle.std.proofs.lemmas.List.{take_rest}
-use Rattle.nmgc_journal.proofs.Lines.{two_written}
+use Rattle.nmgc_journal.proofs.Buffers.{two_written}
 use Rattle.nmgc_journal.proofs.lines.push_number_line.Goals as goal
 
 pub write_before-text-requires-clause-room : goal.write_before-text-requires-clause-room

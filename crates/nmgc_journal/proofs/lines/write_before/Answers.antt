@@ -1,5 +1,5 @@
 use Rattle.std.proofs.Common.{decimal, arith}
-use Rattle.nmgc_journal.proofs.Lines.{written}
+use Rattle.nmgc_journal.proofs.Buffers.{written}
 use Rattle.nmgc_journal.proofs.lines.write_before.Goals as goal
 
 pub returns-clause-text : goal.returns-clause-text

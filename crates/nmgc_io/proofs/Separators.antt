@@ -1,9 +1,9 @@
 -- Bytes up to the first that is a separator.
-use Rattle.std.proofs.Common.{◌≡◌, ◌≢◌, ◌+◌, ◌<◌, ◌≤◌, ◌∙◌, ℕ, List, ◌∷◌, ◌++◌, inl, inr, not, eqb, length, get_or, slice_index, take, drop, sym, ap, subst, arith, take-append-drop}
+use Rattle.std.proofs.Common.{◌≡◌, ◌≢◌, ◌+◌, ◌-◌, ◌<◌, ◌≤◌, ◌∙◌, ℕ, List, ◌∷◌, ◌++◌, inl, inr, not, eqb, length, get_or, slice_index, take, drop, sym, ap, subst, arith, take-append-drop}
 use Rattle.std.specs.Prelude.{All}
 use Rattle.std.specs.List.{prefix_len}
 use Rattle.std.proofs.lemmas.Bool.{cases_lt, eqb-false, eqb-true}
-use Rattle.std.proofs.lemmas.List.{drop_more, length-take-le, get_or-take, get_or-drop}
+use Rattle.std.proofs.lemmas.List.{drop_more, length-take-le, get_or-take, get_or-drop, take_rest}
 use Rattle.std.proofs.lemmas.List.Elements.{All-from_get_or}
 use Rattle.std.proofs.lemmas.Simd.{run_in_chunk_fails, run_in_chunk_stops}
 use lib.Lanes.{chunk}
@@ -18,10 +18,12 @@ others_more byte bytes at n run room counted before k below =
     ]
 
 -- a list is what comes before an item, the item, and what comes after it
-pub cut_at : (bytes : List ℕ) (at byte : ℕ) → at < length bytes → slice_index bytes at ≡ byte → bytes ≡ take at bytes ++ byte ∷ drop (at + 1) bytes
+pub cut_at : (bytes : List ℕ) (at byte : ℕ) → at < length bytes → slice_index bytes at ≡ byte →
+    bytes ≡ take at bytes ++ byte ∷ take (length bytes - (at + 1)) (drop (at + 1) bytes)
 cut_at bytes at byte within found =
     sym (take-append-drop at bytes) ∙
-    ap (λ (l : List ℕ). take at bytes ++ l) (drop_more bytes at 0 within ∙ ap (λ (b : ℕ). b ∷ drop (at + 1) bytes) found)
+    ap (λ (l : List ℕ). take at bytes ++ l) (drop_more bytes at 0 within ∙ ap (λ (b : ℕ). b ∷ drop (at + 1) bytes) found) ∙
+    ap (λ (l : List ℕ). take at bytes ++ byte ∷ l) (sym (take_rest bytes (at + 1)))
 
 -- what comes before a place at which all before are others
 pub others_before : (bytes : List ℕ) (at byte : ℕ) → at ≤ length bytes → ((k : ℕ) → k < at → slice_index bytes k ≢ byte) →
