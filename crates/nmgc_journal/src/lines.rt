@@ -66,8 +66,8 @@ fn push_dotted_line(out: &mut Vec<u8>, mutator: u64, name: Name) -> Result<(), N
     ensures { OnOk result (out.new.items ≡ out.old.items ++ (decimal mutator ++ 32 ∷ (decimal name.maker ++ 46 ∷ decimal name.serial) ++ 10 ∷ [])) }
 {
     let mut line = [0u8; LINE];
-    let serial = write_before(&mut line, LINE, u64::from(name.serial), b'\n');
-    let maker = write_before(&mut line, serial, u64::from(name.maker), b'.');
+    let serial = write_before(&mut line, LINE, name.serial as u64, b'\n');
+    let maker = write_before(&mut line, serial, name.maker as u64, b'.');
     let from = write_before(&mut line, maker, mutator, b' ');
     out.extend_from_slice(&line[from..])?;
     Ok(())

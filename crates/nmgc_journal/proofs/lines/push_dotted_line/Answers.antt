@@ -1,6 +1,6 @@
-use Rattle.std.proofs.Common.{◌∙◌, ◌++◌, List, ℕ, ap, refl, arith, decimal}
+use Rattle.std.proofs.Common.{◌≡◌, ◌-◌, ◌∙◌, ◌++◌, List, ℕ, take, drop, ap, refl, arith, decimal, length-drop}
 use Rattle.std.proofs.lemmas.Fmt.{length-decimal-le}
-use Rattle.std.proofs.lemmas.List.{take_rest}
+use Rattle.std.proofs.lemmas.List.{take_all}
 use Rattle.nmgc_journal.proofs.Buffers.{three_written}
 use Rattle.nmgc_journal.proofs.lines.push_dotted_line.Goals as goal
 
@@ -29,4 +29,8 @@ returns c =
     let text = three_written (decimal c.args.mutator) (decimal c.args.name.maker) (decimal c.args.name.serial) _ _ _ _ c.write_before-serial.result
     c.write_before-maker.result c.write_before-from.result c.write_before-serial.ensures.text c.write_before-maker.ensures.text
     c.write_before-from.ensures.text refl in
-    c.in_ok-extend_from_slice.ensures.items ∙ ap (λ (l : List ℕ). c.args.out.now.items ++ l) (take_rest _ c.write_before-from.result ∙ text)
+    let line : List ℕ = c.write_before-from.new.line in
+    let from : ℕ = c.write_before-from.result in
+    let whole : take (64 - from) (drop from line) ≡ drop from line =
+        take_all (64 - from) (drop from line) (omega (arith, length-drop from line, c.write_before-from.array_long)) in
+    c.in_ok-extend_from_slice.ensures.items ∙ ap (λ (l : List ℕ). c.args.out.now.items ++ l) (whole ∙ text)

@@ -1,6 +1,6 @@
-use Rattle.std.proofs.Common.{◌∙◌, ◌++◌, List, ℕ, ap, refl, arith, decimal}
+use Rattle.std.proofs.Common.{◌≡◌, ◌-◌, ◌∙◌, ◌++◌, List, ℕ, take, drop, ap, refl, arith, decimal, length-drop}
 use Rattle.std.proofs.lemmas.Fmt.{length-decimal-le}
-use Rattle.std.proofs.lemmas.List.{take_rest}
+use Rattle.std.proofs.lemmas.List.{take_all}
 use Rattle.nmgc_journal.proofs.Buffers.{two_written}
 use Rattle.nmgc_journal.proofs.lines.push_number_line.Goals as goal
 
@@ -19,4 +19,8 @@ pub returns : goal.returns
 returns c =
     let text = two_written (decimal c.args.mutator) (decimal c.args.number) _ _ _ c.write_before-text.result c.write_before-from.result
     c.write_before-text.ensures.text c.write_before-from.ensures.text refl in
-    c.in_ok-extend_from_slice.ensures.items ∙ ap (λ (l : List ℕ). c.args.out.now.items ++ l) (take_rest _ c.write_before-from.result ∙ text)
+    let line : List ℕ = c.write_before-from.new.line in
+    let from : ℕ = c.write_before-from.result in
+    let whole : take (64 - from) (drop from line) ≡ drop from line =
+        take_all (64 - from) (drop from line) (omega (arith, length-drop from line, c.write_before-from.array_long)) in
+    c.in_ok-extend_from_slice.ensures.items ∙ ap (λ (l : List ℕ). c.args.out.now.items ++ l) (whole ∙ text)
