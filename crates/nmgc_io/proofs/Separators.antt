@@ -48,7 +48,7 @@ pub part_others : (byte : ℕ) (whole part : List ℕ) (from n run : ℕ) → fr
     slice_index part k ≢ byte
 part_others byte whole part from n run room counted is k below inside =
     let other = eqb-false (get_or whole (from + k) 0) byte (run_in_chunk_fails (λ x.
-        eqb x byte) whole from n run 0 room counted (from + k) (omega arith) (omega (arith, below))) in
+    eqb x byte) whole from n run 0 room counted (from + k) (omega arith) (omega (arith, below))) in
     subst (λ (b : ℕ). b ≢ byte) (sym (part_reads whole part from k is inside)) other
 
 -- and the one at its end isn't

@@ -28,5 +28,5 @@ pub three_written : (mutator maker serial rest first second third : List ℕ) (l
 three_written mutator maker serial rest first second third low at from one two three nothing =
     let serials : drop low first ≡ serial ++ 10 ∷ [] = one ∙ ap (λ (l : List ℕ). serial ++ 10 ∷ l) nothing in
     let names : drop at second ≡ (maker ++ 46 ∷ serial) ++ 10 ∷ [] =
-        two ∙ ap (λ (l : List ℕ). maker ++ 46 ∷ l) serials ∙ sym (append_assoc maker (46 ∷ serial) (10 ∷ [])) in
+    two ∙ ap (λ (l : List ℕ). maker ++ 46 ∷ l) serials ∙ sym (append_assoc maker (46 ∷ serial) (10 ∷ [])) in
     three ∙ ap (λ (l : List ℕ). mutator ++ 32 ∷ l) names ∙ sym (append_assoc mutator (32 ∷ (maker ++ 46 ∷ serial)) (10 ∷ []))

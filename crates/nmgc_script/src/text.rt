@@ -100,11 +100,7 @@ fn split_line(bytes: &[u8]) -> Option<(&[u8], &[u8])>
 }
 
 /// Cuts a line, with which a text begins, into its words, which take the place of those that are there.
-pub fn cut_words<'a>(
-    words: &mut Vec<&'a [u8]>,
-    line: &'a [u8],
-    text: &[u8],
-) -> Result<(), NoMemory>
+pub fn cut_words<'a>(words: &mut Vec<&'a [u8]>, line: &'a [u8], text: &[u8]) -> Result<(), NoMemory>
     requires { line.now ≡ take (length line.now) text.now }
     ensures { OnOk result (map (λ w. w.now) words.new.items ≡ words_of line.now) }
 {

@@ -22,5 +22,5 @@ returns c =
     let line : List ℕ = c.write_before-from.new.line in
     let from : ℕ = c.write_before-from.result in
     let whole : take (64 - from) (drop from line) ≡ drop from line =
-        take_all (64 - from) (drop from line) (omega (arith, length-drop from line, c.write_before-from.array_long)) in
+    take_all (64 - from) (drop from line) (omega (arith, length-drop from line, c.write_before-from.array_long)) in
     c.in_ok-extend_from_slice.ensures.items ∙ ap (λ (l : List ℕ). c.args.out.now.items ++ l) (whole ∙ text)

@@ -7,7 +7,7 @@ use Rattle.nmgc_script.proofs.text.cut_words.Goals as goal
 pub loop-word-init : goal.loop-word-init
 loop-word-init c =
     let long : length c.args.line.now ≤ length c.args.text.now =
-        omega (arith, ap (λ l. length l) c.requires, length-take (length c.args.line.now) c.args.text.now) in
+    omega (arith, ap (λ l. length l) c.requires, length-take (length c.args.line.now) c.args.text.now) in
     record { words = rw c.clear.ensures.items refl; part = c.requires; inside = omega (arith, long) }
 
 pub loop-word-preserved : goal.loop-word-preserved

@@ -24,4 +24,4 @@ returns-clause-ordered c =
     subst (λ (l : List OldWeak). IsInOrder (names_of l)) (sym items) c.merge.ensures.ordered
 
 pub returns-then-is_empty-clause-list : goal.returns-then-is_empty-clause-list
-returns-then-is_empty-clause-list c = λ other. (λ old. inl old, λ either. elim either [ | inl old ↦ old | inr new ↦ absurd (omega (arith, new.1)) ])
+returns-then-is_empty-clause-list c = λ other. (λ old. inl old, λ either. elim either [ inl old ↦ old | inr new ↦ absurd (omega (arith, new.1)) ])
