@@ -450,8 +450,7 @@ fn check_many<R: Abort + Threads + Sync>(rt: &R, alloc: Global) -> Result<(), Fa
     Ok(())
 }
 
-// So many segments that their names are listed in two halves, of which the lower has one more: the lists are in order of
-// blocks, and so here of serials.
+// The lists of many segments are in order of blocks, and so here of serials.
 #[test]
 fn names_of_many_segments(rt: HostRuntime) -> Result<(), Fail> {
     check_many(&rt, rt.alloc())

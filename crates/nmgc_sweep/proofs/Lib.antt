@@ -3,5 +3,4 @@ pub mod Going
 pub mod Judged
 pub mod Listed
 pub mod Lists
-pub mod Parts
 pub mod Steps

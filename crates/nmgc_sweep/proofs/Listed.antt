@@ -1,10 +1,10 @@
 -- Listing the names of a segment, block after block.
-use Rattle.std.proofs.Common.{ℕ, zero, suc, ◌≡◌, ◌≢◌, ◌+◌, ◌*◌, ◌/◌, ◌%◌, ◌^◌, ◌<◌, ◌≤◌, ◌∙◌, inl, inr, refl, sym, ap, subst, arith, List, [], ◌∷◌, ◌++◌, length, drop, append-nil, Option, Some, mul-le-mul_right}
+use Rattle.std.proofs.Common.{ℕ, zero, suc, ◌≡◌, ◌≢◌, ◌+◌, ◌-◌, ◌*◌, ◌/◌, ◌%◌, ◌^◌, ◌<◌, ◌≤◌, ◌∙◌, inl, inr, refl, sym, ap, subst, arith, List, [], ◌∷◌, ◌++◌, length, drop, append-nil, slice_index_or, Option, Some, mul-le-mul_right}
 use Rattle.std.specs.Prelude.{Contains}
 use Rattle.std.proofs.lemmas.Bool.{cases_eq, cases_lt}
 use Rattle.std.proofs.lemmas.List.Elements.{Contains-append_left, Contains-push, Contains-push_cases}
 use Rattle.nmgc_graph.specs.declared.value.Name.{Name}
-use Rattle.nmgc_graph.specs.laws.Orders.{contains_cases}
+use Rattle.nmgc_graph.specs.laws.Orders.{contains_head, contains_cases}
 use Rattle.nmgc_object.specs.declared.layout.Layout.{Layout}
 use Rattle.nmgc_object.specs.declared.layout.TheConstants.{FIRST_PLACE}
 use Rattle.nmgc_object.specs.declared.size.TheConstants.{MIN_BLOCK_WORDS}
@@ -23,6 +23,7 @@ use Rattle.nmgc_run.specs.Listing.{ListsNumbers}
 use Rattle.nmgc_sweep.specs.Listing.{ListsBlocks}
 use Rattle.nmgc_sweep.specs.Names.{HaveEntries, entry_of}
 use Rattle.nmgc_sweep.specs.laws.Names.{entry_there, place_above}
+use Rattle.nmgc_sweep.specs.Sweeper.{Sweeper, CanList}
 use Rattle.nmgc_sweep.proofs.Begins.{waits_exists}
 use Rattle.nmgc_sweep.proofs.Lists.{ascends_push, distinct_append}
 
@@ -154,6 +155,13 @@ few_in_segment s number sound there =
 
 -- the first that is left, and the others
 
+drop_first : (numbers : List ℕ) (done number : ℕ) → done < length numbers → number ≡ slice_index_or numbers done number →
+    drop done numbers ≡ number ∷ drop (done + 1) numbers
+drop_first [] done number low e = absurd (omega (arith, low))
+drop_first (x ∷ xs) zero number low e = ap (λ (n : ℕ). n ∷ xs) (sym e)
+drop_first (x ∷ xs) (suc done) number low e = drop_first xs done number (omega (arith, low)) e ∙
+    ap (λ (k : ℕ). number ∷ drop k (x ∷ xs)) (let f : suc (done + 1) ≡ suc done + 1 = omega arith in f)
+
 drop_past : (numbers : List ℕ) (done : ℕ) → length numbers ≤ done → drop done numbers ≡ []
 drop_past [] zero past = refl
 drop_past [] (suc done) past = refl
@@ -167,6 +175,37 @@ pub left_some : (numbers : List ℕ) (done : ℕ) → done < length numbers → 
 left_some [] done low e = omega (arith, low)
 left_some (x ∷ xs) zero low e = cc
 left_some (x ∷ xs) (suc done) low e = left_some xs done (omega (arith, low)) e
+
+pub taken : (numbers : List ℕ) (done number : ℕ) (left : List ℕ) → drop done numbers ≡ left → left ≢ [] →
+    number ≡ slice_index_or numbers done number → drop done numbers ≡ number ∷ drop (done + 1) numbers
+taken numbers done number left e some is = drop_first numbers done number (some_left numbers done (λ none. some (sym e ∙ none))) is
+
+-- it waits
+pub first_waits : (s : Segments) (x : Sweeper) (numbers : List ℕ) (done first : ℕ) → drop done numbers ≡ x.left → CanList s x → x.left ≢ [] →
+    first ≡ slice_index_or numbers done first → IsWaiting s first
+first_waits s x numbers done first is can some at =
+    let rest : List ℕ = drop (done + 1) numbers in
+    let split : x.left ≡ first ∷ rest = sym is ∙ taken numbers done first x.left is some at in
+    can.waits first (subst (λ (l : List ℕ). Contains l first) (sym split) (contains_head first rest))
+
+-- there is room for what is in one segment more, and afterwards for that of the others
+
+pub room_for_one : (count done most words len capacity : ℕ) → done < count → words ≤ MIN_BLOCK_WORDS * most →
+    len + (count - done) * most ≤ capacity → MIN_BLOCK_WORDS * len + words ≤ MIN_BLOCK_WORDS * capacity
+room_for_one count done most words len capacity low few room =
+    let one : 1 * most ≤ (count - done) * most = let some : 1 ≤ count - done = omega (arith, low) in mul-le-mul_right most some in
+    let same : 1 * most ≡ most = omega arith in
+    omega (arith, one, same, few, room)
+
+pub room_for_others : (count done most words len after capacity capacity_after : ℕ) → done < count → words ≤ MIN_BLOCK_WORDS * most →
+    len + (count - done) * most ≤ capacity → MIN_BLOCK_WORDS * after ≤ MIN_BLOCK_WORDS * len + words → capacity_after ≡ capacity →
+    after + (count - (done + 1)) * most ≤ capacity_after
+room_for_others count done most words len after capacity capacity_after low few room more same =
+    let rest = count - (done + 1) in
+    let whole : count - done ≡ rest + 1 = omega (arith, low) in
+    let split : (count - done) * most ≡ (rest + 1) * most = ap (λ (k : ℕ). k * most) whole in
+    let parts : (rest + 1) * most ≡ rest * most + most = omega arith in
+    omega (arith, split, parts, few, room, more, same)
 
 -- the segments below a number that wait
 

@@ -407,6 +407,24 @@ more_swept s t u names x y z m n h k = record {
 pub can_list : (s : Segments) (x : Sweeper) → AreLeft s x → CanList s x
 can_list s x h = record { waits = h.numbers.sound; room = h.room }
 
+pub can_list_next : (s : Segments) (names : List Name) (x y : Sweeper) → CanList s x → HasListed s names x y → CanList s y
+can_list_next s names x y can h = record {
+  waits = λ n has. can.waits n (subst (λ (l : List ℕ). Contains l n) (sym h.left) (contains_tail h.first y.left n has));
+  room = subst (λ (k : ℕ). s.layout.words ≤ MIN_BLOCK_WORDS * k) (sym (ap (λ (z : Sweeper). z.most) h.rest)) can.room;
+}
+
+pub listed_fewer : (s : Segments) (names : List Name) (x y : Sweeper) → HasListed s names x y → length y.left + 1 ≡ length x.left
+listed_fewer s names x y h = let e : length x.left ≡ suc (length y.left) = ap (λ (l : List ℕ). length l) h.left in omega (arith, e)
+
+-- one more
+pub listed_more : (s : Segments) (names : List Name) (n : ℕ) (x y z : Sweeper) → HaveListed s names n x y → HasListed s names y z →
+    HaveListed s names (n + 1) x z
+listed_more s names n x y z h l = let e : suc n ≡ n + 1 = omega arith in subst (λ (k : ℕ). HaveListed s names k x z) e (listed_suc n x h)
+  where
+    listed_suc : (n : ℕ) (x : Sweeper) → HaveListed s names n x y → HaveListed s names (suc n) x z
+    listed_suc zero x h = (z, subst (λ (w : Sweeper). HasListed s names w z) h l, refl)
+    listed_suc (suc n) x h = (h.0, h.1, listed_suc n h.0 h.2)
+
 -- what was listed stays so
 pub listed_keeps : (s : Segments) (names : List Name) (n : ℕ) (x y : Sweeper) → HaveListed s names n x y → (y.seen.epoch ≡ x.seen.epoch) ×
     (y.turns ≡ x.turns) × (y.upper_turns ≡ x.upper_turns)

@@ -1,5 +1,5 @@
 -- What contracts see of a sweeper, and what it keeps from its cycle's beginning on.
-use Rattle.std.specs.Prelude.{ℕ, ◌+◌, ◌*◌, ◌/◌, ◌≤◌, List, Contains, vec_len, vec_capacity}
+use Rattle.std.specs.Prelude.{ℕ, ◌*◌, ◌≤◌, List, Contains}
 use Rattle.std.specs.Ordering.{ordering_then, nat_cmp}
 use Rattle.std.specs.List.Sorted.{IsSortedByKey}
 use Rattle.nmgc_graph.specs.declared.value.Name.{Name}
@@ -10,9 +10,6 @@ use Rattle.nmgc_run.specs.Listing.{ListsNumbers}
 use Rattle.nmgc_run.specs.Marks.{HasNoted}
 use Rattle.nmgc_run.specs.Seen.{SweeperSeen}
 use Rattle.nmgc_run.specs.State.{Cycle}
-use Rattle.nmgc_sweep.specs.declared.listing.Lists.{Lists}
-use Rattle.nmgc_sweep.specs.declared.listing.TheConstants.{LEAST_APART}
-use Rattle.nmgc_sweep.specs.Listing.{IsEmpty}
 
 -- what every collector's sweeper shows, the segments that it hasn't swept, in order, for how many names of each of
 -- them it has room, and how often the collector passed the gate in the whole run, for the upper halves of its sweeps
@@ -37,14 +34,6 @@ pub record AreLeft (segments : Segments) (sweeper : Sweeper) : Type 0 where
 pub record CanList (segments : Segments) (sweeper : Sweeper) : Type 0 where
   pub waits : (number : ℕ) → Contains sweeper.left number → IsWaiting segments number
   pub room : segments.layout.words ≤ MIN_BLOCK_WORDS * sweeper.most
-
--- there is room in the lists for so many names more
-abbrev pub HasSpace : Lists → ℕ → Type 0
-HasSpace lists count = (vec_len lists.had + count ≤ vec_capacity lists.had) × (vec_len lists.freed + count ≤ vec_capacity lists.freed)
-
--- nothing is listed, and where so many segments have so many blocks that they are listed apart, there is room for the names of half of them
-abbrev pub HasSpare : Lists → ℕ → ℕ → Type 0
-HasSpare lists count most = IsEmpty lists × (LEAST_APART ≤ count * most → HasSpace lists (count / 2 * most))
 
 -- the maker and the serial, by which names are sorted
 abbrev pub key_of : Name → ℕ × ℕ

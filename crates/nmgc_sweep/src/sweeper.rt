@@ -3,17 +3,16 @@
 //! The segments that wait are exactly those that are left, in the same order. Each name is judged once, before its
 //! segment's sweep: the sweep leaves in use exactly the blocks that are marked with this cycle's epoch. So a call lists
 //! what is in all segments that it is to sweep, and then sweeps them in two halves, each in a thread of its own: no
-//! sweep touches the marks of another segment. Of many segments the names are listed in two halves too (`listing`). Room
-//! for all names is taken at the start, and where they are many for half of them once more, where the upper half lists;
-//! so sweeping beside the mutators takes no memory. Memory that is reserved isn't touched, and the start takes time for
-//! the number of segments alone.
+//! sweep touches the marks of another segment. Room for all names is taken at the start, so that sweeping beside the
+//! mutators takes no memory; memory that is reserved isn't touched, and the start takes time for the number of segments
+//! alone.
 //!
 //! Each half passes the gate under a number of its own, so the sweeper has two counts: its lower half goes on with the
 //! count of the marker, and its upper half counts what upper halves passed before.
 //!
 //! Easy to get wrong: the names that were had and freed lie in order of blocks, and several makers' segments
 //! alternate. So a cycle's row, as a report tells it, has them in order, and the sweeper's lists haven't (`order`).
-ghost use Rattle.std.specs.Prelude.{ℕ, ◌≡◌, ◌≢◌, ◌-◌, ◌*◌, ◌/◌, ◌<◌, ◌≤◌, [], length, min, IsTrue, IfOk, ◌↔◌};
+ghost use Rattle.std.specs.Prelude.{ℕ, ◌≡◌, ◌≢◌, ◌-◌, ◌/◌, ◌<◌, ◌≤◌, [], length, min, IsTrue, IfOk, ◌↔◌};
 ghost use Rattle.nmgc_segment.specs.Marks.{IsEpoch};
 ghost use Rattle.nmgc_alloc.specs.Halves.{IsInHalf};
 ghost use Rattle.nmgc_alloc.specs.Segments.{IsWaiting};
@@ -21,9 +20,9 @@ ghost use Rattle.nmgc_run.specs.Listing.{ListsNumbers};
 ghost use Rattle.nmgc_round.specs.Gate.{passed};
 ghost use Rattle.nmgc_sweep.specs.Names.{HaveEntries};
 ghost use Rattle.nmgc_sweep.specs.Sweeper.{AreLeft, CanList};
-ghost use Rattle.nmgc_sweep.specs.Work.{HasBegun, HaveListed, HasSwept, HasJudged};
+ghost use Rattle.nmgc_sweep.specs.Work.{HasBegun, HasListed, HaveListed, HasSwept, HasJudged};
 
-use crate::listing::{Lists, are_many, list_all};
+use crate::listing::list_segment;
 use crate::names::Names;
 use nmgc_alloc::Segments;
 use nmgc_graph::{MAKERS, Name, NoMemory};
@@ -65,26 +64,26 @@ pub struct Sweeper {
     swept: Vec<u32>,
     done: usize,
     most: u32,
-    lists: Lists,
-    spare: Lists,
+    had: Vec<Name>,
+    freed: Vec<Name>,
 }
 
 impl Model for Sweeper {
-    ghost use Rattle.std.specs.Prelude.{◌-◌, ◌*◌, ◌≤◌, length, drop};
+    ghost use Rattle.std.specs.Prelude.{◌+◌, ◌-◌, ◌*◌, ◌≤◌, length, drop, vec_len, vec_capacity};
     ghost use Rattle.nmgc_segment.specs.Marks.{IsEpoch};
-    ghost use Rattle.nmgc_sweep.specs.Sweeper.{Sweeper as Shown, HasSpace, HasSpare};
+    ghost use Rattle.nmgc_sweep.specs.Sweeper.{Sweeper as Shown};
 
     ghost Value = { Shown };
 
     ghost view = { λ s. record {
-      seen = record { epoch = s.epoch; swept = s.swept.items; had = s.lists.had.items; freed = s.lists.freed.items };
+      seen = record { epoch = s.epoch; swept = s.swept.items; had = s.had.items; freed = s.freed.items };
       left = drop s.done s.swept.items;
       most = s.most;
       turns = s.turns;
       upper_turns = s.upper_turns;
     } };
 
-    ghost invariant = { λ s. IsEpoch s.epoch × (s.done ≤ length s.swept.items) × HasSpace s.lists ((length s.swept.items - s.done) * s.most) × HasSpare s.spare (length s.swept.items) s.most };
+    ghost invariant = { λ s. IsEpoch s.epoch × (s.done ≤ length s.swept.items) × (vec_len s.had + (length s.swept.items - s.done) * s.most ≤ vec_capacity s.had) × (vec_len s.freed + (length s.swept.items - s.done) * s.most ≤ vec_capacity s.freed) };
 }
 
 // The numbers of the segments that wait to be swept, in order.
@@ -100,17 +99,6 @@ fn waiting(alloc: Global, segments: &Segments) -> Result<Vec<u32>, NoMemory>
     Ok(numbers)
 }
 
-// For how many names there has to be room, with so many segments of so many blocks at most. No heap has so many that this
-// fails.
-fn names_in(segments: usize, most: u32) -> Result<usize, NoMemory>
-    ensures { IfOk result (λ names. names ≡ segments * most) }
-{
-    match segments.checked_mul(most as usize) {
-        Some(names) => Ok(names),
-        None => Err(NoMemory),
-    }
-}
-
 // How often the gate was passed, after so many passes more.
 fn counted(turns: u64, passes: u32) -> u64
     ensures { result ≡ passed turns passes }
@@ -120,8 +108,7 @@ fn counted(turns: u64, passes: u32) -> u64
 
 impl Sweeper {
     /// Notes, as a cycle begins, the segments to be swept, and makes room for their names and for those that will be
-    /// freed, and where they are many for half of these once more: the only memory that a sweeper takes.
-    /// `Segments::prepare` was just called. `turns` and `upper_turns` are 0 then. Takes time for the number of segments.
+    /// freed: the only memory that a sweeper takes. `Segments::prepare` was just called. `turns` and `upper_turns` are 0 then. Takes time for the number of segments.
     pub fn start(alloc: Global, segments: &Segments, epoch: u8) -> Result<Sweeper, NoMemory>
         requires epoch { IsEpoch epoch }
         ensures begun { IfOk result (λ sweeper. HasBegun segments.now epoch sweeper) }
@@ -130,9 +117,10 @@ impl Sweeper {
     {
         let swept = waiting(alloc, segments)?;
         let most = segments.layout().words / MIN_BLOCK_WORDS;
-        let names = names_in(swept.len(), most)?;
-        let lists = Lists::with_capacity(alloc, names)?;
-        let spare = Lists::spare(alloc, names)?;
+        // No heap has so many that this fails.
+        let Some(names) = swept.len().checked_mul(most as usize) else {
+            return Err(NoMemory);
+        };
         Ok(Sweeper {
             turns: 0,
             upper_turns: 0,
@@ -140,8 +128,8 @@ impl Sweeper {
             swept,
             done: 0,
             most,
-            lists,
-            spare,
+            had: Vec::with_capacity(alloc, names)?,
+            freed: Vec::with_capacity(alloc, names)?,
         })
     }
 
@@ -156,14 +144,14 @@ impl Sweeper {
     pub fn had(&self) -> &[Name]
         ensures { result.now ≡ self.now.seen.had }
     {
-        self.lists.had.as_slice()
+        self.had.as_slice()
     }
 
     /// The names that were freed so far, in no order.
     pub fn freed(&self) -> &[Name]
         ensures { result.now ≡ self.now.seen.freed }
     {
-        self.lists.freed.as_slice()
+        self.freed.as_slice()
     }
 
     /// What it noted, listed and freed, for the cycle's row, in lists that have no more room than they need. Takes no
@@ -180,8 +168,8 @@ impl Sweeper {
             swept,
             done: _,
             most: _,
-            lists: Lists { mut had, mut freed },
-            spare: _,
+            mut had,
+            mut freed,
         } = self;
         had.shrink_to_fit();
         freed.shrink_to_fit();
@@ -195,33 +183,35 @@ impl Sweeper {
         self.done < self.swept.len()
     }
 
-    // Lists what is in so many segments that are left, the first of them, and what a sweep frees of it.
-    fn list_first<R: Threads + Sync>(
-        &mut self,
-        rt: &R,
-        segments: &Segments,
-        names: &Names,
-        count: u32,
-    )
+    // Lists what is in the first segment that is left, and what a sweep frees of it.
+    fn list_next(&mut self, segments: &Segments, names: &Names)
+        requires can { CanList segments.now self.old }
+        requires some { self.old.left ≢ [] }
+        requires entries { HaveEntries segments.now.layout names.now }
+        ensures { HasListed segments.now names.now self.old self.new }
+    {
+        let number = self.swept[self.done];
+        list_segment(
+            names,
+            segments,
+            number,
+            self.epoch,
+            &mut self.had,
+            &mut self.freed,
+        );
+        self.done += 1;
+    }
+
+    // The same for so many of them.
+    fn list_first(&mut self, segments: &Segments, names: &Names, count: u32)
         requires can { CanList segments.now self.old }
         requires enough { count ≤ length self.old.left }
         requires entries { HaveEntries segments.now.layout names.now }
         ensures { HaveListed segments.now names.now count self.old self.new }
     {
-        let (_, left) = self.swept.as_slice().split_at(self.done);
-        let (numbers, _) = left.split_at(count as usize);
-        let apart = are_many(count as usize, self.most as usize);
-        list_all(
-            rt,
-            names,
-            segments,
-            numbers,
-            self.epoch,
-            apart,
-            &mut self.lists,
-            &mut self.spare,
-        );
-        self.done += count as usize;
+        for _listed in 0..count {
+            self.list_next(segments, names);
+        }
     }
 
     // Lists what is in the waiting segments of least number, at most so many, and what is lost of it, and sweeps them.
@@ -243,7 +233,7 @@ impl Sweeper {
         ensures turns { (self.new.turns ≡ self.old.turns) × (self.new.upper_turns ≡ self.old.upper_turns) }
     {
         let count = quota.min(segments.sweep_count());
-        self.list_first(rt, segments, names, count);
+        self.list_first(segments, names, count);
         segments.sweep_many(rt, self.epoch, count, before)
     }
 
@@ -251,8 +241,8 @@ impl Sweeper {
     /// halves, each in a thread of its own; one segment alone starts no thread. The gate is passed before each, as
     /// `MAKERS` in the lower half, which has one segment more where they are odd, and as `MAKERS + 1` in the upper one;
     /// the clauses `turns` and `upper_turns` tell the counts. Where `names` has the names in blocks, what was in these
-    /// segments is listed before, and what is freed of it; of many segments in two halves, too. Whatever the marks are,
-    /// freed are exactly the names of the blocks in use that aren't marked with the epoch.
+    /// segments is listed before, and what is freed of it. Whatever the marks are, freed are exactly the names of the blocks
+    /// in use that aren't marked with the epoch.
     ///
     /// `swept` is the lesser of `quota` and the number of those that waited. `finished` is false exactly where one
     /// is left. The segments that wait are exactly those that this sweeper noted and hasn't swept. Takes no

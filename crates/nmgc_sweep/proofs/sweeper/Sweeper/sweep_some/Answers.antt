@@ -10,10 +10,10 @@ use Rattle.nmgc_sweep.proofs.Steps.{all_swept, can_list, listed_keeps}
 use Rattle.nmgc_sweep.proofs.sweeper.Sweeper.sweep_some.Goals as goal
 
 pub list_first-requires-clause-can : goal.list_first-requires-clause-can
-list_first-requires-clause-can g c κs within = can_list c.args.segments.now c.args.self.now c.requires.left
+list_first-requires-clause-can g c = can_list c.args.segments.now c.args.self.now c.requires.left
 
 pub list_first-requires-clause-enough : goal.list_first-requires-clause-enough
-list_first-requires-clause-enough g c κs within =
+list_first-requires-clause-enough g c =
     let all = counted c.args.segments.now c.args.self.now.left c.args.segments.now.segments c.requires.left.numbers in
     let waiting = c.sweep_count.ensures in
     let least = c.min-count.ensures in

@@ -1,0 +1,12 @@
+use Rattle.std.proofs.Common.{◌≡◌, ◌+◌, length}
+use Rattle.nmgc_sweep.specs.Sweeper.{CanList}
+use Rattle.nmgc_sweep.specs.Work.{HaveListed}
+use Rattle.nmgc_sweep.proofs.sweeper.Sweeper.list_first.Given as goal
+
+-- so many were listed, and the others can be
+abbrev pub invariant-loop-listed : goal.invariant-loop-listed
+invariant-loop-listed l = record {
+  done : HaveListed l.segments l.names l._listed l.initial.self l.self;
+  can : CanList l.segments l.self;
+  fewer : length l.self.left + l._listed ≡ length l.initial.self.left;
+}
