@@ -1,5 +1,5 @@
 -- Once what was remembered was added, the collector stands for the same state, and nothing is remembered.
-use Rattle.std.proofs.Common.{ℕ, ◌≡◌, List, length, map, refl, sym, ap, subst, ◌∙◌, Some, Global, ◌≤◌, vec_capacity, arith}
+use Rattle.std.proofs.Common.{ℕ, ◌≡◌, List, length, map, refl, sym, ap, subst, ◌∙◌, Some, Global, ◌≤◌, arith}
 use Rattle.std.specs.Prelude.{All, slice_get}
 use Rattle.std.specs.declared.vec.Vec.{Vec}
 use Rattle.std.proofs.lemmas.List.{length-map}

@@ -1,5 +1,5 @@
 -- What a collector has once the promotion of its stop is done.
-use Rattle.std.proofs.Common.{ℕ, ◌≡◌, ◌↔◌, ◌+◌, ◌*◌, ◌<◌, List, length, map, arith, refl, sym, ap, subst, ◌∙◌, inl, inr, slice_index_or, Some}
+use Rattle.std.proofs.Common.{ℕ, ◌≡◌, ◌↔◌, ◌+◌, ◌<◌, List, length, map, arith, refl, sym, ap, subst, ◌∙◌, inl, inr, slice_index_or, Some}
 use Rattle.std.specs.Prelude.{Contains, slice_get}
 use Rattle.std.proofs.Math.ListN.{get_or-map}
 use Rattle.std.proofs.lemmas.List.{length-map}
@@ -8,7 +8,6 @@ use Rattle.nmgc_limits.specs.declared.mutators.TheConstants.{REGISTERS}
 use Rattle.nmgc_graph.specs.World.{World}
 use Rattle.nmgc_object.specs.declared.layout.Layout.{Layout}
 use Rattle.nmgc_object.specs.declared.layout.Nursery.{Nursery}
-use Rattle.nmgc_object.specs.FinQueue.{FinQueue}
 use Rattle.nmgc_alloc.specs.AllocState.{AllocState, StandsFor}
 use Rattle.nmgc_heap.specs.Moves.{Moved, settled}
 use Rattle.nmgc_heap.specs.Places.{Place}

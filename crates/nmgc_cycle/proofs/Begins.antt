@@ -48,7 +48,6 @@ use Rattle.nmgc_sweep.specs.Names.{AreNamed}
 use Rattle.nmgc_sweep.specs.laws.Names.{named_first}
 use Rattle.nmgc_cycle.specs.declared.collector.Collector.{Collector}
 use Rattle.nmgc_cycle.specs.Bound.{AreFew}
-use Rattle.nmgc_cycle.specs.declared.progress.Progress.{Progress as Doing}
 use Rattle.nmgc_cycle.specs.Keeps.{CanStop, IsFresh, HasWorked, Sweeps}
 use Rattle.nmgc_cycle.specs.Shown.{seen, told_cycles}
 use Rattle.nmgc_cycle.specs.Limits.{IsInLimits}
@@ -57,7 +56,6 @@ use Rattle.nmgc_cycle.proofs.Few.{fresh_few, fresh_begun}
 use Rattle.nmgc_cycle.proofs.Measures.{answered_more}
 use Rattle.nmgc_cycle.proofs.MutatorLists.{same_stopped}
 use Rattle.nmgc_cycle.proofs.NewStops.{stopped_in, new_stopped}
-use Rattle.nmgc_cycle.proofs.Phases.{when_idle}
 use Rattle.nmgc_cycle.proofs.Plans.{is_runnable}
 use Rattle.nmgc_cycle.proofs.StopNumbers.{run_number}
 use Rattle.nmgc_cycle.proofs.Views.{registers_seen, queues_seen, nurseries_seen, recorded_seen, young_seen}

@@ -1,5 +1,5 @@
 -- How often the collector passed the gate: a stop's steps leave it, and a round adds what was scanned or swept.
-use Rattle.std.proofs.Common.{ℕ, ◌≡◌, ◌∙◌, ◌-◌, ◌/◌, Bool, inl, inr, List, length, refl, sym, ap, subst, arith}
+use Rattle.std.proofs.Common.{ℕ, ◌≡◌, ◌∙◌, ◌-◌, ◌/◌, Bool, inl, inr, List, refl, sym, ap, subst, arith}
 use Rattle.nmgc_alloc.specs.Segments.{Segments}
 use Rattle.nmgc_round.specs.declared.table.Round.{Round}
 use Rattle.nmgc_round.specs.Gate.{passed}

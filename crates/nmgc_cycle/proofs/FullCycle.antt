@@ -28,7 +28,6 @@ use Rattle.nmgc_cycle.specs.FullLaws.{StandsAtStop, FinishingNowLeads, SweepingR
 use Rattle.nmgc_cycle.specs.Shown.{words_in, told_cycles}
 use Rattle.nmgc_cycle.specs.Limits.{IsInLimits}
 use Rattle.nmgc_cycle.specs.Steps.{StandsAt, StartingLeads, EndLeads, BeginReady, BeginningLeads}
-use Rattle.nmgc_cycle.proofs.Plans.{is_runnable}
 use Rattle.nmgc_cycle.proofs.StopFew.{none_waits}
 use Rattle.nmgc_cycle.proofs.Telling.{stands_told}
 use Rattle.nmgc_cycle.proofs.WholeStop.{KeepsOn, ending_keeps, beginning_keeps}

@@ -1,6 +1,6 @@
 -- The collector after a round, its replies told: what it keeps, and that it worked.
-use Rattle.std.proofs.Common.{ℕ, ◌≡◌, ◌<◌, ◌≤◌, List, [], ◌∷◌, ◌++◌, length, map, slice_index, refl, sym, ap, subst, ◌∙◌, arith, Some}
-use Rattle.std.specs.Prelude.{slice_get, slice_index_or, vec_capacity}
+use Rattle.std.proofs.Common.{ℕ, ◌≡◌, ◌<◌, List, [], ◌∷◌, ◌++◌, length, map, slice_index, refl, sym, ap, subst, ◌∙◌, arith, Some}
+use Rattle.std.specs.Prelude.{slice_get, slice_index_or}
 use Rattle.std.specs.declared.vec.Vec.{Vec}
 use Rattle.std.proofs.Common.{Global}
 use Rattle.std.proofs.Math.ListN.{get_or-map}
@@ -8,15 +8,11 @@ use Rattle.std.proofs.lemmas.List.{length-map}
 use Rattle.std.proofs.lemmas.Option.{get_or_from_slice_get, slice_get_within}
 use Rattle.nmgc_heap.specs.laws.Kinds.{map_item}
 use Rattle.nmgc_graph.specs.declared.command.Reply.{Reply}
-use Rattle.nmgc_alloc.specs.Segments.{Segments}
-use Rattle.nmgc_object.specs.FinQueue.{FinQueue}
 use Rattle.nmgc_object.specs.declared.layout.Layout.{Layout}
 use Rattle.nmgc_object.specs.Places.{IsLayout}
 use Rattle.nmgc_journal.specs.declared.report.RoundRows.{RoundRows}
 use Rattle.nmgc_minor.specs.Promotion.{IsFor}
 use Rattle.nmgc_mutator.specs.declared.mutator.Mutator.{Mutator}
-use Rattle.nmgc_round.specs.declared.table.Round.{Round}
-use Rattle.nmgc_round.specs.Seat.{RoundSeat}
 use Rattle.nmgc_round.specs.View.{Opening}
 use Rattle.nmgc_turn.specs.Worked.{Done}
 use Rattle.nmgc_script.specs.declared.script.Script.{Script}
@@ -24,13 +20,8 @@ use Rattle.nmgc_run.specs.Collector.{IsAfterRound}
 use Rattle.nmgc_run.specs.Seen as run
 use Rattle.nmgc_run.specs.State.{plan_of}
 use Rattle.nmgc_run.specs.Statements.{answered_count}
-use Rattle.nmgc_graph.specs.declared.value.Name.{Name}
 use Rattle.nmgc_sweep.specs.Names.{HaveEntries}
 use Rattle.nmgc_cycle.specs.declared.collector.Collector.{Collector}
-use Rattle.nmgc_cycle.specs.declared.progress.Marking.{Marking}
-use Rattle.nmgc_cycle.specs.declared.progress.Progress.{Progress as Doing}
-use Rattle.nmgc_cycle.specs.declared.progress.Progress.TheVariants as doing
-use Rattle.nmgc_cycle.specs.Cycles.{HasHelped}
 use Rattle.nmgc_cycle.specs.Keeps.{IsWellFormed, IsOwn, DidRound}
 use Rattle.nmgc_cycle.specs.Shown.{seen, seen_mutator}
 use Rattle.nmgc_cycle.specs.Working.{cleared}

@@ -21,7 +21,6 @@ use Rattle.nmgc_blocks.specs.Occupied.{KeepsMarks}
 use Rattle.nmgc_blocks.specs.Promoted.{PlacesEach}
 use Rattle.nmgc_heap.specs.Moves.{Moved, new_place, old_place, settled}
 use Rattle.nmgc_minor.specs.Promotion.{IsFor}
-use Rattle.nmgc_mutator.specs.declared.mutator.Mutator.{Mutator}
 use Rattle.nmgc_sweep.specs.Names.{HaveNoted}
 use Rattle.nmgc_cycle.specs.Roots.{promoted_by}
 use Rattle.nmgc_heap.specs.Places.{Place}

@@ -1,5 +1,5 @@
 -- What the closing of a cycle and its beginning ask for holds at a stop.
-use Rattle.std.proofs.Common.{ℕ, ◌≡◌, ◌+◌, ◌≤◌, List, [], length, map, refl, sym, ap, subst, ◌∙◌, arith, true, Some, vec_capacity}
+use Rattle.std.proofs.Common.{ℕ, ◌≡◌, ◌+◌, ◌≤◌, List, [], length, map, refl, sym, ap, subst, ◌∙◌, arith, true, Some}
 use Rattle.std.specs.Prelude.{slice_get}
 use Rattle.std.proofs.lemmas.List.{length-map}
 use Rattle.nmgc_beside.specs.Resolves.{FinishMayResolve, IsStopOf, finished_on, stop_opening}

@@ -1,6 +1,6 @@
 -- How often the mutators passed the gate: a stop's steps leave it, and a round adds what each tried.
 use Rattle.std.proofs.Common.{ℕ, ◌≡◌, ◌+◌, ◌-◌, ◌∙◌, Bool, inl, inr, List, [], ◌∷◌, length, map, slice_index, refl, sym, ap, subst, arith, Option, None, Some, Global}
-use Rattle.std.specs.Prelude.{slice_get, slice_index_or}
+use Rattle.std.specs.Prelude.{slice_get}
 use Rattle.std.specs.declared.vec.Vec.{Vec}
 use Rattle.std.proofs.lemmas.Option.{slice_get_within, get_or_from_slice_get}
 use Rattle.nmgc_graph.specs.declared.command.Command.{Command}

@@ -14,8 +14,6 @@ use Rattle.nmgc_run.specs.Statements.{answered_count}
 use Rattle.nmgc_run.specs.Run.{Run, Turn, last_state, with_turn}
 use Rattle.nmgc_run.specs.Collector.{IsNew, IsAtStop, IsAfterRound}
 use Rattle.nmgc_cycle.specs.declared.collector.Collector.{Collector}
-use Rattle.nmgc_cycle.specs.declared.progress.Progress.{Progress as Doing}
-use Rattle.nmgc_cycle.specs.declared.progress.Progress.TheVariants as doing
 use Rattle.nmgc_cycle.specs.declared.stop.StopEnd.{StopEnd}
 use Rattle.nmgc_cycle.specs.declared.stop.StopEnd.TheVariants as answer
 use Rattle.nmgc_sweep.specs.Names.{AreNamed, HaveEntries}

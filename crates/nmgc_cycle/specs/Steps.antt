@@ -2,7 +2,7 @@
 --
 -- A stop is promotion, adding, closing, end and beginning, or a full cycle in the beginning's place (`Full`, `FullLaws`).
 -- After each of these the collector stands for a state of the run at that stop; only what is known of the pace and of what mutators remember differs.
-use Rattle.std.specs.Prelude.{ℕ, ◌≡◌, ◌+◌, ◌++◌, ◌≤◌, List, [], true, false, length}
+use Rattle.std.specs.Prelude.{ℕ, ◌≡◌, ◌+◌, ◌++◌, ◌≤◌, List, [], true, false}
 use Rattle.nmgc_run.specs.Census.{IsKeptObject}
 use Rattle.nmgc_run.specs.Closing.{Closes, ClosesOrWaits, MayClose}
 use Rattle.nmgc_run.specs.Collector.{Matches, AreNurseries, EachMutator, IsAtRest, HoldsInCycle, IsPacedAtStop, IsPacedAfterRound}

@@ -19,8 +19,6 @@ use Rattle.nmgc_journal.specs.declared.report.End.{End}
 use Rattle.nmgc_journal.specs.declared.report.End.TheVariants as end
 use Rattle.nmgc_minor.specs.Placing.{moved_of}
 use Rattle.nmgc_minor.specs.Promotion.{IsFor}
-use Rattle.nmgc_object.specs.FinQueue.{FinQueue}
-use Rattle.nmgc_mutator.specs.declared.mutator.Mutator.{Mutator}
 use Rattle.nmgc_object.specs.Places.{reserve_count}
 use Rattle.nmgc_script.specs.declared.script.Script.{Script}
 use Rattle.nmgc_sweep.specs.Names.{HaveNoted}

@@ -1,5 +1,4 @@
-use Rattle.std.proofs.Common.{◌≡◌, ℕ, ◌≤◌, List, length, false, refl, sym, ap, subst, ◌∙◌, arith, Global, vec_capacity}
-use Rattle.std.specs.declared.vec.Vec.{Vec}
+use Rattle.std.proofs.Common.{◌≡◌, ℕ, List, false, refl, sym, ap, subst, ◌∙◌}
 use Rattle.std.specs.Vec.{with_items}
 use Rattle.nmgc_alloc.specs.Segments.{Segments}
 use Rattle.nmgc_beside.specs.Prepares.{all_prepared}
@@ -7,7 +6,6 @@ use Rattle.nmgc_mark.specs.Beginning.{IsBeginning, most_blocks}
 use Rattle.nmgc_mark.specs.Marker.{HasMarked, blank}
 use Rattle.nmgc_mark.specs.Marker as after
 use Rattle.nmgc_mark.specs.Tie.{IsTied}
-use Rattle.nmgc_object.specs.FinQueue.{FinQueue}
 use Rattle.nmgc_run.specs.Seen.{MarkerSeen}
 use Rattle.nmgc_round.specs.Marking.{Marks, marks_of}
 use Rattle.nmgc_round.specs.View.{Opening}
