@@ -55,7 +55,7 @@ look_bears o words views h id v here p is at header c can = by_hit (eqb (slice_i
 -- so the rule holds again after it
 pub look_holds : (o : Opening) (words : List ℕ) (views : List Seen) (k : Keeps o words views) (m : ℕ) (c : Command) (hit : Bool) (others : List Seen) →
     AddsIfMet o words views k m c hit words others → Keeps o words others
-look_holds o words views k m c true others adds = adds.1.0
+look_holds o words views k m c true others adds = adds.1
 look_holds o words views k m c false others stays = stays.0
 
 module _ (o : Opening) where
