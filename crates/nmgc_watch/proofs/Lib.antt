@@ -9,6 +9,7 @@ pub mod Judging
 pub mod ListedLaws
 pub mod Living
 pub mod Needing
+pub mod OrderedLaws
 pub mod Reasons
 pub mod RowLaws
 pub mod Standing

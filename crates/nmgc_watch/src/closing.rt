@@ -15,6 +15,7 @@ use crate::cycle::Cycle;
 use crate::due::names_among;
 use crate::event::Why;
 use crate::left::{Left, missing};
+use crate::ordered::Ordered;
 use nmgc_graph::{List, Marks, Name, NoMemory, World};
 use std::alloc::Global;
 
@@ -142,8 +143,8 @@ impl Cycle {
         let old = serials(&self.snapshot)?;
         Ok(Left {
             world,
-            kept,
-            needed,
+            kept: Ordered::new(kept),
+            needed: Ordered::new(needed),
             old,
             dues: self.dues(),
         })

@@ -1,7 +1,7 @@
 //! What a cycle leaves.
 //!
-//! A runtime that tells what it marked, or what it freed, is compared with it. Both lists may be long, so the names are
-//! put into sets first.
+//! A runtime that tells what it marked, or what it freed, is compared with it. It may tell what it freed in many lines, so
+//! nothing is made for a line: the names of the cycle are in order, and each told one is found by halves.
 //!
 //! Easy to get wrong: what was made since the cycle began is in no snapshot, so nothing of the cycle says that it is
 //! garbage; a sweep that frees it is wrong, whether or not something refers to it.
@@ -12,6 +12,7 @@ ghost use Rattle.nmgc_graph.specs.Search.{IsSetOf};
 ghost use Rattle.nmgc_watch.specs.Watching.{IsMissingIf, is_old};
 
 use crate::event::Why;
+use crate::ordered::Ordered;
 use nmgc_graph::{List, Marks, Name, NoMemory, World};
 
 /// The world after a cycle, and which names of its snapshot the cycle kept, in order: all that the commands and the
@@ -21,8 +22,8 @@ use nmgc_graph::{List, Marks, Name, NoMemory, World};
 #[derive(Drop)]
 pub struct Left {
     pub world: World,
-    pub kept: List<Name>,
-    pub needed: List<Name>,
+    pub kept: Ordered,
+    pub needed: Ordered,
     pub old: List<u32>,
     pub dues: u64,
 }
@@ -31,38 +32,39 @@ impl Left {
     ghost use Rattle.nmgc_watch.specs.Watching.{IsMarkedIf, IsFreedIf};
 
     /// Why these can't be all that the runtime marked: a kept name that isn't among them, or one of them that isn't
-    /// kept. Takes time for each name of the world.
+    /// kept. Takes memory for each kept name, and time for each kept name and each told one, times the logarithm of how many
+    /// are kept.
     pub fn marked(&self, names: &[Name]) -> Result<Option<Why>, NoMemory>
         ensures { IfOk result (IsMarkedIf names.now self.now) }
     {
-        if let Some(name) = missing(&self.world, names, self.kept.items())? {
+        if let Some(name) = self.kept.left_out(self.world.alloc(), names)? {
             return Ok(Some(Why::NotTold(name)));
         }
-        match missing(&self.world, self.kept.items(), names)? {
+        match self.kept.without(names) {
             Some(name) => Ok(Some(Why::NotMarked(name))),
             None => Ok(None),
         }
     }
 
     /// Why the runtime can't have freed these: one that the heap doesn't have, that was made since the cycle began, or that
-    /// the commands or a weak pointer that lives on need. Takes time for each name of the world.
-    pub fn freed(&self, names: &[Name]) -> Result<Option<Why>, NoMemory>
-        ensures { IfOk result (IsFreedIf names.now self.now) }
+    /// the commands or a weak pointer that lives on need. Takes no memory, and time for each of them, times the logarithm of
+    /// how many names are needed.
+    pub fn freed(&self, names: &[Name]) -> Option<Why>
+        ensures { IsFreedIf names.now self.now result }
     {
-        let set = self.world.set_of(self.needed.items())?;
         let old = self.old.items();
         for name in names {
             if self.world.node(*name).is_none() {
-                return Ok(Some(Why::NoSuchName(*name)));
+                return Some(Why::NoSuchName(*name));
             }
             if !is_old(old, *name) {
-                return Ok(Some(Why::NotOld(*name)));
+                return Some(Why::NotOld(*name));
             }
-            if set.contains(*name) {
-                return Ok(Some(Why::Needed(*name)));
+            if self.needed.has(*name) {
+                return Some(Why::Needed(*name));
             }
         }
-        Ok(None)
+        None
     }
 }
 

@@ -6,7 +6,8 @@
 //! without its marker: whoever tells what the mutators did and what was remembered has each step allowed, or refused with
 //! a reason and the line since which it is true.
 //! - `event`: what can be told, and the reasons. `watch`: the machine over events, any number of cycles.
-//! - `cycle`: one cycle, and `closing`: how it ends; `left`: what it leaves, compared with what the runtime marked or freed.
+//! - `cycle`: one cycle, and `closing`: how it ends; `left`: what it leaves, compared with what the runtime marked or freed;
+//!   `ordered`: names that are found by halves.
 //! - `accounts`: what each mutator owes. `listed`: names, each once.
 //! - `due`: what a command makes due. `opened`: what it opens and finalises. `rows`: a copy of many fields, and a fill.
 //! - `laws`: a reason refuses; and a cycle that closes without debts marked exactly what it had to, whatever marker ran
@@ -24,6 +25,7 @@ pub mod laws;
 pub mod left;
 mod listed;
 mod opened;
+pub mod ordered;
 pub mod rows;
 pub mod watch;
 
@@ -31,5 +33,6 @@ pub use cycle::Cycle;
 pub use due::Field;
 pub use event::{Event, Why};
 pub use left::Left;
+pub use ordered::Ordered;
 pub use rows::{Copying, Filling};
 pub use watch::{Running, Watch};

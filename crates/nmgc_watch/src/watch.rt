@@ -112,8 +112,9 @@ impl Watch {
     /// Takes the event of a line, and answers `None`; or refuses it with a reason, and then nothing has changed, but that of
     /// several commands in one line (`Event::Rows`) those before the refused one are done. After `NoMemory` nothing is known
     /// of the watch. Takes amortised constant time for a push, a take and a settled mutator, and for a command for each operand
-    /// and each field that it may take away; for the beginning and the end of a cycle, and for what was marked or freed, time
-    /// for each object. Memory grows with the heap alone: in a cycle it has two worlds, three for a moment as one begins or
+    /// and each field that it may take away; for the beginning and the end of a cycle time for each object (`Cycle::end`); for
+    /// what was marked time for each kept name, and for what was marked or freed the time to find each told name by halves.
+    /// What can have been marked has each kept name. Memory grows with the heap alone: in a cycle it has two worlds, three for a moment as one begins or
     /// ends, and a few bytes for each name and mutator.
     pub fn step(&mut self, line: usize, event: &Event) -> Result<Option<Why>, NoMemory>
         ensures { IfOk result (λ why. IsStep line self.old event.now why self.new) }
@@ -132,7 +133,7 @@ impl Watch {
             Event::Close => self.close(),
             Event::CloseTold { dead } => self.close_told(dead.items()),
             Event::Marked { names } => self.marked(names.items()),
-            Event::Freed { names } => self.freed(names.items()),
+            Event::Freed { names } => Ok(self.freed(names.items())),
             Event::Stop => Ok(self.stop()),
         }
     }
@@ -345,12 +346,12 @@ impl Watch {
     }
 
     // The runtime freed these.
-    fn freed(&self, names: &[Name]) -> Result<Option<Why>, NoMemory>
-        ensures { IfOk result (λ why. IsStep 0 self.now (event.Freed names.now) why self.now) }
+    fn freed(&self, names: &[Name]) -> Option<Why>
+        ensures { IsStep 0 self.now (event.Freed names.now) result self.now }
     {
         match self {
             Watch::Ended(left) => left.freed(names),
-            Watch::Between(_) | Watch::Marking(_) | Watch::Stopped => Ok(Some(Why::Misplaced)),
+            Watch::Between(_) | Watch::Marking(_) | Watch::Stopped => Some(Why::Misplaced),
         }
     }
 

@@ -11,8 +11,11 @@ kept-requires c = subst (λ (l : List Name). All (λ name. IsSome (node_of c.sel
     rw (c.items.ensures, c.items-2.ensures) refl))) (both_there c.self.inside.world c.self.inside.snapshot c.self.inside.remembered
     c.self.inside.opened c.self.inside.taken c.self.inside.accounts c.self.inside.finalised c.self.invariant)
 
+pub new-requires : goal.new-requires
+new-requires c = c.in_ok-kept.ensures.ordered
+
 pub returns-clause-kept : goal.returns-clause-kept
-returns-clause-kept c = rw (← c.self.view_is) (rw (
+returns-clause-kept c = rw (← c.self.view_is, c.new.ensures) (rw (
   c.as_slice.ensures.value,
   c.in_ok-all.ensures,
   c.items.ensures,
@@ -21,7 +24,7 @@ returns-clause-kept c = rw (← c.self.view_is) (rw (
 ) at c.in_ok-kept.ensures)
 
 pub returns-clause-needed : goal.returns-clause-needed
-returns-clause-needed c = c.in_ok-needed.ensures
+returns-clause-needed c = rw c.new-2.ensures c.in_ok-needed.ensures
 
 pub returns-clause-old : goal.returns-clause-old
 returns-clause-old c = rw (← c.self.view_is) c.in_ok-old.ensures

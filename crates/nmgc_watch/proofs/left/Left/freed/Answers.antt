@@ -1,10 +1,9 @@
-use Rattle.std.proofs.Common.{◌≡◌, ◌∙◌, refl, sym, subst, List, ap, Bool, true, false, not, get_or, inl, inr}
-use Rattle.std.specs.Prelude.{Contains, IsSome}
+use Rattle.std.proofs.Common.{◌≡◌, ◌∙◌, refl, sym, ap, Bool, true, false, not, get_or, inl, inr}
+use Rattle.std.specs.Prelude.{IsSome}
 use Rattle.std.proofs.lemmas.Bool.{false≢true}
 use Rattle.std.proofs.lemmas.List.Elements.{Contains-get_or}
 use Rattle.nmgc_graph.specs.declared.value.Name.{Name}
 use Rattle.nmgc_graph.specs.World.{node_of}
-use Rattle.nmgc_graph.specs.Marks.{mark_of}
 use Rattle.nmgc_watch.specs.Watching.{MayFree, is_old}
 use Rattle.nmgc_watch.proofs.CycleLaws.{none_there, not_none_there}
 use Rattle.nmgc_watch.proofs.Filters.{each_more, each_all}
@@ -27,13 +26,12 @@ returns-then-not-is_old c =
       inr (inl (refl, λ old. false≢true (sym new ∙ old))),
     )
 
-pub returns-then-contains : goal.returns-then-contains
-returns-then-contains c =
-    let n : Name = get_or c.args.names.now c.loop-name.name-index (record { maker = 0; serial = 0 }) in
-    let marked = sym c.contains.ensures ∙ c.if-contains.true in (
+pub returns-then-has : goal.returns-then-has
+returns-then-has c =
+    let n : Name = get_or c.args.names.now c.loop-name.name-index (record { maker = 0; serial = 0 }) in (
       n,
       Contains-get_or c.args.names.now c.loop-name.name-index (record { maker = 0; serial = 0 }) c.loop-name-test.true,
-      inr (inr (refl, subst (λ (l : List Name). Contains l n) c.items.ensures (c.in_ok-set.ensures.sound n marked))),
+      inr (inr (refl, c.has.ensures.0 c.if-has.true)),
     )
 
 pub loop-name-preserved : goal.loop-name-preserved
@@ -42,9 +40,8 @@ loop-name-preserved c =
     let there : IsSome (node_of c.args.self.now.world n) = not_none_there c.node.result _ c.node.ensures (ap not (c.is_none.ensures ∙
     ap not c.if-is_none.false)) in
     let old : is_old c.args.self.now.old n ≡ true = rw c.items-old.ensures at (sym c.is_old.ensures ∙ c.if-not-is_old.false) in
-    let free = sym c.contains.ensures ∙ c.if-contains.false in
     each_more (MayFree c.args.self.now) c.args.names.now c.loop-name.name-index (record { maker = 0; serial = 0 }) c.loop-name-test.true c.loop-name.invariant
-    (there, old, λ k. false≢true (sym free ∙ c.in_ok-set.ensures.complete n (subst (λ (l : List Name). Contains l n) (sym c.items.ensures) k) there))
+    (there, old, λ k. false≢true (sym c.if-has.false ∙ c.has.ensures.1 k))
 
 pub returns : goal.returns
 returns c = each_all (MayFree c.args.self.now) c.args.names.now c.loop-name.name-index c.loop-name-test.false c.loop-name.invariant

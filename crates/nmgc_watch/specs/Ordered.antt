@@ -1,0 +1,23 @@
+-- Names in order, each once, and where a name stands among them.
+use Rattle.std.specs.Prelude.{◌≡◌, ◌↔◌, ◌<◌, ◌≤◌, ℕ, List, length, slice_index_or, Bool, true, false, Contains}
+use Rattle.nmgc_graph.specs.declared.value.Name.{Name}
+use Rattle.nmgc_graph.specs.Reach.{IsBefore}
+
+-- the name stands at this place
+abbrev pub StandsAt : List Name → ℕ → Name → Type 0
+StandsAt names place name = (place < length names) × (slice_index_or names place name ≡ name)
+
+-- of the names, those before one place come before the name, and those from the other on don't
+pub record IsBetween (names : List Name) (name : Name) (least end : ℕ) : Type 0 where
+  pub most : end ≤ length names
+  pub before : (i : ℕ) (n : Name) → StandsAt names i n → i < least → IsBefore n name
+  pub others : (i : ℕ) (n : Name) → StandsAt names i n → end ≤ i → IsBefore n name → ⊥
+
+-- so many names come before the name
+abbrev pub IsPlaceOf : List Name → Name → ℕ → Type 0
+IsPlaceOf names name place = IsBetween names name place place
+
+-- for each place whether its name is one of the others
+pub record AreMet (names others : List Name) (met : List Bool) : Type 0 where
+  pub places : length met ≡ length names
+  pub same : (i : ℕ) (n : Name) → StandsAt names i n → (slice_index_or met i false ≡ true) ↔ Contains others n
