@@ -48,7 +48,7 @@ pub record CanWork (round : Round) (slice : ℕ) (program : List Command) (worke
   pub program_is : All (Fits worker.mutator.layout.words) program
   pub room : HasRoom worker.mutator (min slice (length program))
 
--- it did its slice of them, and passed the gate before each that it tried
+-- it did its slice of them, and counted a pass of the gate for each that it tried
 pub record HasWorkedOn (round : Round) (slice : ℕ) (program : List Command) (old new : Worker) : Type 0 where
   pub run : HasRun round (seen old.seat) new.seat old.mutator new.mutator (take new.done program)
   pub end : SliceEnd
@@ -152,7 +152,7 @@ OpensIn _ s c places o = o ≡ opening_at c.segments.layout s.world places c.mut
 abbrev pub OpensAt : Script → Collector → Opening → Type 0
 OpensAt script c o = (run : Run) × (h : IsAfterStop script c run) × OpensIn (last_state run).progress (last_state run) c h.at_stop.heap.places o
 
--- what mutator k did in a round: its slice of what was left, with these replies, and a pass of the gate for each command tried; its finaliser queue
+-- what mutator k did in a round: its slice of what was left, with these replies, and counted a pass of the gate for each command tried; its finaliser queue
 -- has no less room, and its sender is that of the same ring
 pub record DidSlice (script : Script) (old new : Collector) (k : ℕ) (m n : Mutator) (done : List Done) : Type 0 where
   pub commands : map (λ (d : Done). d.0) done ≡ slice_of script.config (left_at script old.positions.items k)
@@ -208,8 +208,8 @@ pub record DidSlices (script : Script) (o : Opening) (old new : Collector) : Typ
   pub each : (k : ℕ) (m n : Mutator) (d : List Done) → slice_get old.mutators.items k ≡ Some m → slice_get new.mutators.items k ≡ Some n →
       slice_get done k ≡ Some d → DidSlice script old new k m n d
 
--- mutator k did so many commands of what was left at these positions, up to the end of its slice, and passed the gate
--- once for each command that it tried
+-- mutator k did so many commands of what was left at these positions, up to the end of its slice, and counted a pass of
+-- the gate for each command that it tried
 pub record HasTried (script : Script) (before after : List ℕ) (k : ℕ) (m n : Mutator) : Type 0 where
   pub done : ℕ
   pub position : slice_index after k ≡ slice_index before k + done

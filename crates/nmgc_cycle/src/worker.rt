@@ -232,7 +232,7 @@ pub fn work_all<R: Threads + Sync, G: Gate>(
 }
 
 /// The same, and the collector does its part beside them, in a thread of its own too. Where it has nothing to do, or
-/// nobody has commands left, no thread is started for it: it does its part, and then they do theirs.
+/// nobody has commands left, none is started for it but a sweep's own: it does its part, and then they do theirs.
 pub fn work_beside<R: Threads + Sync, G: Gate>(
     rt: &R,
     round: &Round,

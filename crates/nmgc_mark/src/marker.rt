@@ -6,7 +6,7 @@
 //!
 //! Easy to get wrong: a pointer may lead to g, or to an object that was born in a round, and there no block
 //! begins. So each mark is a try, and one look-up tells both whether a block begins there and which.
-ghost use Rattle.std.specs.Prelude.{ℕ, ◌≡◌, ◌+◌, ◌-◌, ◌*◌, ◌^◌, ◌<◌, ◌≤◌, [], ◌∷◌, ◌++◌, ◌↔◌, length, map, Contains, IsTrue, IfSome, IfNone, IfOk};
+ghost use Rattle.std.specs.Prelude.{ℕ, ◌≡◌, ◌+◌, ◌-◌, ◌*◌, ◌^◌, ◌<◌, ◌≤◌, [], ◌∷◌, ◌++◌, ◌↔◌, length, map, Contains, IsTrue, IfSome, IfNone, IfOk, OnErr};
 ghost use Rattle.std.specs.List.{flat_map};
 ghost use Rattle.nmgc_segment.specs.Marks.{IsEpoch};
 ghost use Rattle.nmgc_object.specs.declared.layout.TheConstants.{FIRST_PLACE};
@@ -111,6 +111,7 @@ impl Marker {
         ensures words { W.words words.new ≡ W.words words.old }
         ensures marked { IfOk result (λ marker. HasMarked segments.old segments.new (blank epoch (most_blocks segments.old.layout)) marker 0) }
         ensures turns { IfOk result (λ marker. marker.turns ≡ 0) }
+        ensures err { OnErr result (segments.new ≡ segments.old) }
         ensures tied { IfOk result (λ marker. (o : Opening) →
             IsBeginning o segments.old epoch (W.words words.old) (flat_map M.registers mutators.now) (map M.queue mutators.now) →
             IsTied o (marks_of (opening o.core.snapshot)) segments.new marker) }

@@ -107,7 +107,7 @@ pub fn each_cycle_has_its_row()
     ensures { EachCycleHasItsRow }
 {}
 
-/// Each cycle of a lawful report was closed within as many rounds as scan one object less than it kept, and one more: also
+/// Each cycle of a lawful report of a script within the limits was closed within as many rounds as scan one object less than it kept, and one more: also
 /// one that a full cycle closed.
 pub fn closings_are_soon()
     ensures { ClosingsAreSoon }

@@ -241,8 +241,8 @@ impl Sweeper {
     /// halves, each in a thread of its own; one segment alone starts no thread. The gate is passed before each, as
     /// `MAKERS` in the lower half, which has one segment more where they are odd, and as `MAKERS + 1` in the upper one;
     /// the clauses `turns` and `upper_turns` tell the counts. Where `names` has the names in blocks, what was in these
-    /// segments is listed before, and what is freed of it. Whatever the marks are, freed are exactly the names of the blocks
-    /// in use that aren't marked with the epoch.
+    /// segments is listed before, and what is freed of it. Whatever the marks are, freed are exactly the names of those
+    /// of their blocks in use that aren't marked with the epoch.
     ///
     /// `swept` is the lesser of `quota` and the number of those that waited. `finished` is false exactly where one
     /// is left. The segments that wait are exactly those that this sweeper noted and hasn't swept. Takes no

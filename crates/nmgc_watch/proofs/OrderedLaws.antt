@@ -132,14 +132,12 @@ module _ (xs others : List Name) (met : List Bool) (h : AreMet xs others met) (o
       | inl p ↦
           let t : StandsAt xs place n = subst (λ (k : ℕ). StandsAt xs k n) p.1 s in
           let e : other ≡ n = same_at xs place other n here t in
-          let within : place < length met = (let lt : place < length xs = here.0 in let k = h.places in omega arith) in
-          (
+          let within : place < length met = (let lt : place < length xs = here.0 in let k = h.places in omega arith) in (
             λ b. Contains-append_right others (other ∷ []) n (subst (λ (m : Name). Contains (other ∷ []) m) e (contains_one other)),
             λ c. ap (λ (k : ℕ). get_or (set met place true) k false) p.1 ∙ get_or-set_same met place true false within,
           )
       | inr p ↦
-          let apart : get_or (set met place true) i false ≡ get_or met i false = get_or-set_other met place i true false p.1 in
-          (
+          let apart : get_or (set met place true) i false ≡ get_or met i false = get_or-set_other met place i true false p.1 in (
             λ b. Contains-append_left others (other ∷ []) n ((h.same i n s).0 (sym apart ∙ b)),
             λ c. elim (Contains-append_cases others (other ∷ []) n c) [
               | inl old ↦ apart ∙ (h.same i n s).1 old

@@ -1,5 +1,5 @@
 -- What holds of every cycle, and what its calls promise.
-use Rattle.std.specs.Prelude.{◌≡◌, ◌≢◌, ℕ, List, [], ◌∷◌, ◌++◌, length, flat_map, Option, Some, None, Bool, true, false, not, ◌&&◌, IsSome, Contains}
+use Rattle.std.specs.Prelude.{◌≡◌, ◌≢◌, ℕ, List, [], ◌∷◌, ◌++◌, length, flat_map, Option, Some, None, Bool, true, false, not, ◌&&◌, IsSome, Contains, ◌<◌, ◌⊎◌}
 use Rattle.nmgc_graph.specs.declared.value.Name.{Name}
 use Rattle.nmgc_graph.specs.declared.node.Parts.{Parts}
 use Rattle.nmgc_graph.specs.declared.command.Command.{Command}
@@ -20,7 +20,6 @@ use Rattle.nmgc_watch.specs.declared.event.Why.TheVariants as why
 use Rattle.nmgc_watch.specs.Accounts.{AreAccounts, IsLeastIn}
 use Rattle.nmgc_watch.specs.Listed.{IsListed}
 use Rattle.nmgc_watch.specs.Rows.{is_done}
-use Rattle.std.specs.Prelude.{◌<◌, ◌⊎◌}
 
 -- names that were pushed, opened and taken are listed; what is owed is due; a weak pointer of the snapshot that
 -- wasn't finalised is as it was there; and both worlds are closed

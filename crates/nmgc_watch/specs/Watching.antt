@@ -1,5 +1,5 @@
 -- What it is for an event to happen, and why one can't: by the heap, the lax rule and nothing else.
-use Rattle.std.specs.Prelude.{◌≡◌, ◌≤◌, ◌↔◌, ◌⊎◌, ◌++◌, ℕ, List, [], ◌∷◌, length, map, slice_index_or, Option, Some, None, Result, Ok, Err, IsSome, Contains, Bool, true, false, ◌||◌, ltb}
+use Rattle.std.specs.Prelude.{◌≡◌, ◌≤◌, ◌↔◌, ◌⊎◌, ◌++◌, ℕ, List, [], ◌∷◌, length, map, slice_index_or, Option, Some, None, Result, Ok, Err, IsSome, Contains, Bool, true, false, ◌||◌, ltb, ◌<◌}
 use Rattle.nmgc_graph.specs.declared.value.Name.{Name}
 use Rattle.nmgc_graph.specs.declared.command.Command.{Command}
 use Rattle.nmgc_graph.specs.declared.command.Reply.{Reply}
@@ -24,7 +24,6 @@ use Rattle.nmgc_watch.specs.declared.watch.Watch.{Watch}
 use Rattle.nmgc_watch.specs.declared.watch.Watch.TheVariants as watch
 use Rattle.nmgc_watch.specs.Cycles.{IsWhyNot, IsNotDone, IsTaken, IsSettled, IsUnsettled, IsUntakenName}
 use Rattle.nmgc_watch.specs.Rows.{is_done}
-use Rattle.std.specs.Prelude.{◌<◌}
 
 -- outside of a cycle the heap takes a command with this answer
 abbrev pub IsGiven : World → ℕ → Command → Reply → World → Type 0

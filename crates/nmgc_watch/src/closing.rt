@@ -5,7 +5,8 @@
 //!
 //! Easy to get wrong: which weak pointers die is told by what the commands keep, where it is told; what floats is kept all
 //! the same. And a weak pointer may live on though the commands don't keep its key: since the key floats, or since it isn't
-//! told as dying. Whoever holds it can still read its value, so its key counts for what may be freed, and for what else dies.
+//! told as dying. One lives on as long as its key, and its finaliser is still to run, whether or not anybody holds it; whoever
+//! does can still read its value. So its key counts for what may be freed, and for what else dies.
 ghost use Rattle.std.specs.Prelude.{◌≡◌, ◌++◌, [], None, IfOk, All, filter};
 ghost use Rattle.nmgc_graph.specs.Reach.{IsInOrder, IsAliveWeak, closed};
 ghost use Rattle.nmgc_watch.specs.Cycles.{is_outside, keys_then};

@@ -56,8 +56,8 @@ pub enum Event {
 pub enum Why {
     /// No event of this kind can stand here: in a cycle, between cycles, or after the stop.
     Misplaced,
-    /// There is no such mutator or register, or the mutator has no serial left; also of a settle, or of several commands that
-    /// are none.
+    /// There is no such mutator or register, or the mutator has no serial left; also for a settle, and for several commands
+    /// in one line where there are none of them.
     CannotApply,
     /// The heap answers this.
     Answer(Reply),
@@ -69,8 +69,8 @@ pub enum Why {
     NotPushed(Name),
     /// It is told what the marker took, and not this name, which was pushed.
     Untaken(Name),
-    /// The weak pointer isn't dead: the commands keep its key, or a weak pointer that lives on does; or it is none that was
-    /// alive at the snapshot and wasn't finalised since.
+    /// The weak pointer isn't dead: the commands keep its key, as they do one that is no object, or a weak pointer that lives
+    /// on does; or it is none that was alive at the snapshot and wasn't finalised since.
     NotDead(Name),
     /// The name has to be marked, and isn't told.
     NotTold(Name),
