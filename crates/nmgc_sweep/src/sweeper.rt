@@ -108,7 +108,8 @@ fn counted(turns: u64, passes: u32) -> u64
 
 impl Sweeper {
     /// Notes, as a cycle begins, the segments to be swept, and makes room for their names and for those that will be
-    /// freed: the only memory that a sweeper takes. `Segments::prepare` was just called. `turns` and `upper_turns` are 0 then. Takes time for the number of segments.
+    /// freed: the only memory that a sweeper takes. `Segments::prepare` was just called. `turns` and `upper_turns` are 0
+    /// then. Takes time for the number of segments.
     pub fn start(alloc: Global, segments: &Segments, epoch: u8) -> Result<Sweeper, NoMemory>
         requires epoch { IsEpoch epoch }
         ensures begun { IfOk result (λ sweeper. HasBegun segments.now epoch sweeper) }
