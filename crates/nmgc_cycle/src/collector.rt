@@ -166,9 +166,10 @@ fn new_mutators(alloc: Global, layout: Layout) -> Result<(Vec<Mutator>, Inbox), 
     Ok((mutators, Inbox::new(Placed::of(receivers, place))))
 }
 
-// Takes memory for so many words, and gives it back untouched. From then on the C library's allocator keeps a block of
-// that size that is given back, where it had unmapped it. So what is touched once serves the run again.
-fn make_known(alloc: Global, count: usize) -> Result<(), NoMemory> {
+// Takes memory for so many words, and gives it back untouched. Only the run's time hangs on it: the C library returns a
+// large block to the system when it is given back, but keeps from then on those up to that block's size, 32 MiB at most.
+// So the pages of the list that the words are copied from, touched as it is filled, serve the run again.
+fn keep_freed_pages(alloc: Global, count: usize) -> Result<(), NoMemory> {
     drop(Vec::<u64>::with_capacity(alloc, count)?);
     Ok(())
 }
@@ -178,7 +179,7 @@ fn new_words(alloc: Global, layout: Layout) -> Result<Words, NoMemory>
     requires { IsLayout layout }
     ensures { IfOk result (IsEmptyHeap layout) }
 {
-    make_known(alloc, layout.total() as usize)?;
+    keep_freed_pages(alloc, layout.total() as usize)?;
     let list = empty_words(alloc, layout)?;
     Words::new(alloc, list.as_slice())
 }
