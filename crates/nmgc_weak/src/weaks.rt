@@ -208,12 +208,11 @@ impl Weaks {
         ensures spare { self.new.spare + length fresh.now ≡ self.old.spare }
         ensures deaths { self.new.deaths ≡ self.old.deaths }
     {
+        self.dying.clear();
         // At most stops none joins, and then nothing goes through the list.
         if fresh.is_empty() {
-            let _ = self.limit;
             return;
         }
-        self.dying.clear();
         merge(self.list.as_slice(), fresh, &mut self.dying);
         swap(&mut self.list, &mut self.dying);
     }

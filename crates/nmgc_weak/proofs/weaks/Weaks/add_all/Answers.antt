@@ -24,4 +24,10 @@ returns-clause-ordered c =
     subst (λ (l : List OldWeak). IsInOrder (names_of l)) (sym items) c.merge.ensures.ordered
 
 pub returns-then-is_empty-clause-list : goal.returns-then-is_empty-clause-list
-returns-then-is_empty-clause-list c = λ other. (λ old. inl old, λ either. elim either [ inl old ↦ old | inr new ↦ absurd (omega (arith, new.1)) ])
+returns-then-is_empty-clause-list c = λ other.
+    let list : c.self.inside.list.items ≡ c.args.self.now.list = ap (λ (a : Weaks). a.list) c.self.view_is in
+    subst (λ (l : List OldWeak). Contains c.self.inside.list.items other ↔ (Contains l other ⊎ Contains c.args.fresh.now other)) list
+    (λ old. inl old, λ either. elim either [ inl old ↦ old | inr new ↦ absurd (grind (arith, new.1, c.if-is_empty.ensures)) ])
+
+pub returns-then-is_empty-clause-ordered : goal.returns-then-is_empty-clause-ordered
+returns-then-is_empty-clause-ordered c = c.self.invariant.0
