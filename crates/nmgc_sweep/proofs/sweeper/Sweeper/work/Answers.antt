@@ -1,4 +1,6 @@
-use Rattle.std.proofs.Common.{ℕ, ◌≡◌, ◌-◌, ◌/◌, ◌∙◌, ap, sym, subst}
+use Rattle.std.proofs.Common.{ℕ, ◌≡◌, ◌≢◌, ◌↔◌, ◌-◌, ◌/◌, ◌∙◌, List, [], ◌∷◌, Bool, true, false, drop, refl, ap, sym, subst}
+use Rattle.std.specs.Prelude.{IsTrue}
+use mathlib.Core.Bool.{not}
 use Rattle.nmgc_round.specs.Gate.{passed}
 use Rattle.nmgc_sweep.specs.Sweeper.{Sweeper}
 use Rattle.nmgc_sweep.specs.Work.{HasSwept, HasJudged}
@@ -40,3 +42,13 @@ pub returns-clause-upper_turns : goal.returns-clause-upper_turns
 returns-clause-upper_turns g c =
     let was : c.self.inside.upper_turns ≡ c.args.self.now.upper_turns = ap (λ (s : Sweeper). s.upper_turns) c.self.view_is in
     c.counted-self-inside-2.ensures ∙ ap (λ (n : ℕ). passed n (c.sweep_some-swept.result / 2)) was
+
+-- a test for some says no exactly where there is none
+no_where_none : (numbers : List ℕ) (some : Bool) → (IsTrue some ↔ (numbers ≢ [])) → IsTrue (not some) ↔ (numbers ≡ [])
+no_where_none [] true h = (λ no. refl, λ none. absurd (h.0 refl refl))
+no_where_none [] false h = (λ no. refl, λ none. refl)
+no_where_none (x ∷ numbers) true h = (λ no. let bad : false ≡ true = no in cc, λ none. cc)
+no_where_none (x ∷ numbers) false h = (λ no. let bad : false ≡ true = h.1 (λ none. cc) in cc, λ none. cc)
+
+pub returns-clause-finished : goal.returns-clause-finished
+returns-clause-finished g c = no_where_none (drop c.self-2.inside.done c.self-2.inside.swept.items) c.has_left.result c.has_left.ensures
