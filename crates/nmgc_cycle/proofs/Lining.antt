@@ -80,8 +80,18 @@ last_item (z ∷ xs) y = last_item xs y
 pub lined_grown : (inbox : List Receiver) (r : Receiver) (k : ℕ) (s : Sender) → IsLined inbox k s → IsLined (inbox ++ r ∷ []) k s
 lined_grown inbox r k s (q, at, line) = (q, grown inbox r q k at, line)
 
-pub lined_new : (inbox : List Receiver) (r : Receiver) (s : Sender) (slots k : ℕ) → length inbox ≡ k → AreNew slots s r → IsLined (inbox ++ r ∷ []) k s
-lined_new inbox r s slots k long new = (r, subst (λ (i : ℕ). slice_get (inbox ++ r ∷ []) i ≡ Some r) long (last_item inbox r), new_line slots s r new)
+pub lined_new : (inbox : List Receiver) (r q : Receiver) (s : Sender) (slots k : ℕ) → length inbox ≡ k → AreNew slots s r →
+    q ≡ record r { taken = q.taken } → q.taken.items ≡ r.taken.items → IsLined (inbox ++ q ∷ []) k s
+lined_new inbox r q s slots k long new rest items = (
+  q,
+  subst (λ (i : ℕ). slice_get (inbox ++ q ∷ []) i ≡ Some q) long (last_item inbox q),
+  line_goes_on r q s s (new_line slots s r new) (record {
+    entries = [];
+    ring = ap (λ (x : Receiver). x.ring) rest;
+    received = ap (λ (x : Receiver). x.received) rest ∙ sym (append-nil r.received);
+    taken = items ∙ sym (append-nil r.taken.items);
+  }) refl refl,
+)
 
 -- a list with more room has the same entries
 reserve_polled : (entries : ℕ) (r q : Receiver) → Reserves entries r q → HasPolled r q

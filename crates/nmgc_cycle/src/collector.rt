@@ -2,7 +2,8 @@
 //!
 //! Here is the memory that grows with the heap, and most of it is taken at the beginning: the words in their table,
 //! the segments, the array of names beside them, and the lists of promotion. The table is made from a list of as many
-//! words, which is given back at once. The marker's queue and the sweeper's lists are taken as each cycle begins.
+//! words, which is given back at once, so that its pages serve what is filled later. Room that may never be filled is taken
+//! before it, or it would lie in them. The marker's queue and the sweeper's lists are taken as each cycle begins.
 //!
 //! The report is made where nothing can fail any more. So its words are those of the table, where they lie, and what
 //! the mutators have in hand goes into a list whose room was made at the beginning; in between that one stays empty
@@ -41,7 +42,7 @@ use nmgc_alloc::Segments;
 use nmgc_graph::{Kind, List, Name, NoMemory, Place, Placed, SHARED_SLOTS};
 use nmgc_journal::{CycleRow, End, FinalWords, MutatorEnd, Report, RoundRows, StopRow};
 use nmgc_minor::Promotion;
-use nmgc_mutator::Mutator;
+use nmgc_mutator::mutator::{MOST_PUSHED, Mutator};
 use nmgc_object::layout::SHARED_PLACE;
 use nmgc_object::size::{HEADER_WORDS, NAME_OFFSET};
 use nmgc_object::words::{NIL_WORD, encode_header, encode_name};
@@ -50,7 +51,7 @@ use nmgc_round::laws::empty_heap_opens;
 use nmgc_round::{Gate, Words};
 use nmgc_script::Script;
 use nmgc_sweep::Names;
-use nmgc_updrem::{Inbox, link};
+use nmgc_updrem::{BLOCK_ENTRIES, Inbox, link};
 use nmgc_weak::Weaks;
 use std::alloc::Global;
 use std::thread::Threads;
@@ -147,8 +148,28 @@ fn empty_words(alloc: Global, layout: Layout) -> Result<Vec<u64>, NoMemory>
     Ok(words)
 }
 
-// As many mutators as the layout has, by their numbers, which did nothing yet, and the other ends of their rings.
-fn new_mutators(alloc: Global, layout: Layout) -> Result<(Vec<Mutator>, Inbox), NoMemory>
+// How many commands a program's first slice has at most. No clause speaks of the answer.
+fn first_slice(script: &Script, number: u8) -> u32 {
+    match script.threads.items().get(usize::from(number)) {
+        Some(program) => program.items().len().min(script.config.slice as usize) as u32,
+        None => 0,
+    }
+}
+
+// How many entries so many commands send at most, in whole blocks. No clause speaks of the answer.
+fn most_entries(commands: u32) -> u32 {
+    commands
+        .saturating_mul(MOST_PUSHED)
+        .saturating_add(BLOCK_ENTRIES as u32)
+}
+
+// As many mutators as the layout has, by their numbers, which did nothing yet, and the other ends of their rings. Both
+// have room for what the first slice notes and sends.
+fn new_mutators(
+    alloc: Global,
+    layout: Layout,
+    script: &Script,
+) -> Result<(Vec<Mutator>, Inbox), NoMemory>
     requires { IsLayout layout }
     ensures count { IfOk result (λ made. (length made.0.items ≡ layout.mutators) × (length made.1 ≡ layout.mutators)) }
     ensures new { IfOk result (λ made. (k : ℕ) (m : MutatorShown) → slice_get made.0.items k ≡ Some m → IsNew k layout m) }
@@ -159,8 +180,12 @@ fn new_mutators(alloc: Global, layout: Layout) -> Result<(Vec<Mutator>, Inbox), 
     let place = Place::new(alloc)?;
     let mut receivers = Vec::with_capacity(alloc, layout.mutators as usize)?;
     for number in 0..layout.mutators {
-        let (sender, receiver) = link(alloc)?;
-        mutators.push(Mutator::new(alloc, number, layout, sender)?)?;
+        let commands = first_slice(script, number);
+        let (sender, mut receiver) = link(alloc)?;
+        receiver.reserve(most_entries(commands))?;
+        let mut mutator = Mutator::new(alloc, number, layout, sender)?;
+        mutator.reserve(commands)?;
+        mutators.push(mutator)?;
         receivers.push(receiver)?;
     }
     Ok((mutators, Inbox::new(Placed::of(receivers, place))))
@@ -190,7 +215,8 @@ impl Collector {
     ///
     /// Asks that the script is within the limits. Takes memory for the words, and for as many again until they lie in
     /// their table, for the segments with their marks and the names of what lies in them, for what the promotion of full
-    /// nurseries needs, and for a ring of `RING_BLOCKS` blocks for each mutator; what a cycle needs is taken as it begins.
+    /// nurseries needs and the first slices note, and for a ring of `RING_BLOCKS` blocks for each mutator; what a cycle
+    /// needs is taken as it begins.
     pub fn new(alloc: Global, script: &Script) -> Result<Collector, NoMemory>
         requires { IsInLimits script.now }
         ensures fresh { IfOk result (λ collector. IsFresh script.now collector) }
@@ -200,11 +226,11 @@ impl Collector {
     {
         empty_heap_opens();
         let layout = layout_of(script);
+        let promotion = Promotion::reserve(alloc, layout)?;
+        let (mutators, inbox) = new_mutators(alloc, layout, script)?;
         let words = new_words(alloc, layout)?;
         let segments = Segments::new(alloc, layout)?;
-        let promotion = Promotion::reserve(alloc, layout)?;
         let names = Names::new(alloc, layout)?;
-        let (mutators, inbox) = new_mutators(alloc, layout)?;
         let count = layout.mutators as usize;
         let positions = vec![in alloc; 0u32; count]?;
         let ends = Vec::with_capacity(alloc, count)?;

@@ -2,7 +2,7 @@ use Rattle.std.proofs.Common.{ℕ, ◌≡◌, ◌∙◌, arith, subst, sym, ap, 
 use Rattle.std.proofs.lemmas.Grind.{common_steps}
 use Rattle.nmgc_object.specs.declared.layout.Layout.{Layout}
 use Rattle.nmgc_mutator.specs.declared.mutator.Mutator.{Mutator}
-use Rattle.nmgc_mutator.specs.Ready.{IsNew}
+use Rattle.nmgc_mutator.specs.Ready.{IsNew, Reserves}
 use Rattle.nmgc_updrem.specs.Rings.{Sender, Receiver, AreNew}
 use Rattle.nmgc_updrem.specs.declared.ring.TheConstants.{RING_BLOCKS}
 use Rattle.nmgc_cycle.specs.Lined.{IsLined}
@@ -16,17 +16,34 @@ record AreMade (layout : Layout) (mutators : List Mutator) (receivers : List Rec
   lines : (k : ℕ) (m : Mutator) → slice_get mutators k ≡ Some m → IsLined receivers k m.sender
   unsent : (k : ℕ) (m : Mutator) → slice_get mutators k ≡ Some m → m.sender.since ≡ []
 
+-- a new mutator with room in its lists
+reserved : (number : ℕ) (layout : Layout) (old m : Mutator) → IsNew number layout old → Reserves old m → IsNew number layout m
+reserved number layout old m h r = subst (λ (x : Mutator). IsNew number layout x) (sym r.rest) (record {
+  number_is = h.number_is;
+  layout_is = h.layout_is;
+  registers = h.registers;
+  queue = h.queue;
+  unused = record { base = h.unused.base; top = h.unused.top; end = h.unused.end };
+  serial = h.serial;
+  turns = h.turns;
+  replies = r.replies.items ∙ h.replies;
+  recorded = r.recorded.items ∙ h.recorded;
+  young_weaks = r.young_weaks.items ∙ h.young_weaks;
+  updrem = r.updrem.items ∙ h.updrem;
+})
+
 -- one more
-made_more : {s : Sender} {r : Receiver} (layout : Layout) (number : ℕ) (mutators : List Mutator) (receivers : List Receiver) (m : Mutator) →
-    length mutators ≡ number → length receivers ≡ number → AreMade layout mutators receivers → AreNew RING_BLOCKS s r → m.sender ≡ s →
-    IsNew number layout m → AreMade layout (mutators ++ m ∷ []) (receivers ++ r ∷ [])
-made_more {s} {r} layout number mutators receivers m count many h linked sender new =
-    let last : IsLined (receivers ++ r ∷ []) number m.sender =
-    subst (λ (x : Sender). IsLined (receivers ++ r ∷ []) number x) (sym sender) (lined_new receivers r s RING_BLOCKS number many linked) in
+made_more : {s : Sender} (r q : Receiver) (layout : Layout) (number : ℕ) (mutators : List Mutator) (receivers : List Receiver) (m : Mutator) →
+    length mutators ≡ number → length receivers ≡ number → AreMade layout mutators receivers → AreNew RING_BLOCKS s r →
+    q ≡ record r { taken = q.taken } → q.taken.items ≡ r.taken.items → m.sender ≡ s →
+    IsNew number layout m → AreMade layout (mutators ++ m ∷ []) (receivers ++ q ∷ [])
+made_more {s} r q layout number mutators receivers m count many h linked rest items sender new =
+    let last : IsLined (receivers ++ q ∷ []) number m.sender =
+    subst (λ (x : Sender). IsLined (receivers ++ q ∷ []) number x) (sym sender) (lined_new receivers r q s RING_BLOCKS number many linked rest items) in
     record {
       new = each_pushed (λ (k : ℕ) (x : Mutator). IsNew k layout x) mutators m h.new (subst (λ (n : ℕ). IsNew n layout m) (sym {A = ℕ} count) new);
-      lines = each_pushed (λ (k : ℕ) (x : Mutator). IsLined (receivers ++ r ∷ []) k x.sender) mutators m (λ k x e.
-          lined_grown receivers r k x.sender (h.lines k x e)) (subst (λ (n : ℕ). IsLined (receivers ++ r ∷ []) n m.sender) (sym {A = ℕ} count) last);
+      lines = each_pushed (λ (k : ℕ) (x : Mutator). IsLined (receivers ++ q ∷ []) k x.sender) mutators m (λ k x e.
+          lined_grown receivers q k x.sender (h.lines k x e)) (subst (λ (n : ℕ). IsLined (receivers ++ q ∷ []) n m.sender) (sym {A = ℕ} count) last);
       unsent = each_pushed (λ (k : ℕ) (x : Mutator). x.sender.since ≡ []) mutators m h.unsent (ap (λ (x : Sender). x.since) sender ∙ linked.sent_is.1);
     }
 
@@ -34,15 +51,20 @@ pub loop-number-preserved : goal.loop-number-preserved
 loop-number-preserved c =
     let l = c.loop-number in
     let inv = l.invariant in
-    let m : Mutator = c.in_ok-new.field-0 in
+    let old : Mutator = c.in_ok-mutator.mutator in
+    let m : Mutator = c.reserve-in-loop-number.new.self in
+    let kept : Reserves old m = c.reserve-in-loop-number.ensures.kept in
+    let q : Receiver = c.reserve.new.self in
     let before : AreMade c.args.layout l.mutators.items l.receivers.items = record { new = inv.new; lines = inv.lines; unsent = inv.unsent } in
-    let more = made_more c.args.layout l.number l.mutators.items l.receivers.items m inv.count inv.many before c.in_ok-sender.ensures
-    c.in_ok-new.ensures.sender c.in_ok-new.ensures.new in
+    let more = made_more c.in_ok-sender.receiver q c.args.layout l.number l.mutators.items l.receivers.items m inv.count inv.many before
+    c.in_ok-sender.ensures c.reserve.ensures.rest c.reserve.ensures.items
+    (ap (λ (x : Mutator). x.sender) kept.rest ∙ c.in_ok-mutator.ensures.sender)
+    (reserved l.number c.args.layout old m c.in_ok-mutator.ensures.new kept) in
     let items = c.in_ok-push.ensures.items in
     let listed = c.in_ok-push-2.ensures.items in
     let all = subst (λ (receivers : List Receiver). AreMade c.args.layout c.push.new.self.items receivers) (sym {A =
     List Receiver} listed) (subst (λ (mutators : List Mutator).
-    AreMade c.args.layout mutators (l.receivers.items ++ c.in_ok-sender.receiver ∷ [])) (sym {A = List Mutator} items) more) in
+    AreMade c.args.layout mutators (l.receivers.items ++ q ∷ [])) (sym {A = List Mutator} items) more) in
     record {
       count = grind (arith, common_steps);
       many = grind (arith, common_steps);
