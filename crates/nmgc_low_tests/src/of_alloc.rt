@@ -40,33 +40,20 @@ fn counts(rt: &impl Abort, segments: &Segments, free: u32, filled: u32, sweep: u
     assert!(rt; segments.fresh() == fresh);
 }
 
-// Where blocks begin, and where none does: before the segments, within a block, in the four words that twelve blocks of
-// five words leave over, in a free segment, and behind the last one.
-fn blocks_begin(rt: &impl Abort, segments: &Segments) {
-    for (at, block) in [
-        (0, None),
-        (1, None),
-        (31, None),
-        (32, Some((0, 0))),
-        (33, None),
-        (38, None),
-        (92, Some((0, 15))),
-        (95, None),
-        (96, Some((1, 0))),
-        (160, Some((2, 0))),
-        (164, None),
-        (165, Some((2, 1))),
-        (215, Some((2, 11))),
-        (219, None),
-        (220, None),
-        (223, None),
-        (224, Some((3, 0))),
-        (288, None),
-        (2079, None),
-        (2080, None),
-        (4_294_967_295, None),
-    ] {
-        assert!(rt; segments.block_at(Address(at)) == block, "at {at}");
+// Blocks begin at these places: in this segment, with this number.
+fn blocks_begin(rt: &impl Abort, segments: &Segments, rows: &[(u32, u32, u32)]) {
+    for (at, segment, block) in rows {
+        assert!(rt;
+            segments.block_at(Address(*at)) == Some((*segment, *block)),
+            "at {at}"
+        );
+    }
+}
+
+// No block begins at these places.
+fn none_begins(rt: &impl Abort, segments: &Segments, places: &[u32]) {
+    for at in places {
+        assert!(rt; segments.block_at(Address(*at)).is_none(), "at {at}");
     }
 }
 
@@ -96,7 +83,23 @@ fn a_cycle(rt: HostRuntime) -> Result<(), Fail> {
     for (at, marked) in [(36, true), (36, false), (96, true), (224, false)] {
         mark(&rt, &mut segments, at, 1, marked);
     }
-    blocks_begin(&rt, &segments);
+    blocks_begin(
+        &rt,
+        &segments,
+        &[
+            (32, 0, 0),
+            (92, 0, 15),
+            (96, 1, 0),
+            (160, 2, 0),
+            (165, 2, 1),
+            (215, 2, 11),
+            (224, 3, 0),
+        ],
+    );
+    // Before the segments, within a block, and in the four words that twelve blocks of five words leave over; in a free
+    // segment, and behind the last one.
+    none_begins(&rt, &segments, &[0, 1, 31, 33, 38, 95, 164, 219, 220, 223]);
+    none_begins(&rt, &segments, &[288, 2079, 2080, 4_294_967_295]);
     segments.carry(1);
     assert!(rt; segments.sweep_next(1) == Some(0));
     assert!(rt; segments.sweep_next(1) == None);
