@@ -1,20 +1,40 @@
 -- Following strong fields: what each step keeps, and what is reached in the end.
-use Rattle.std.proofs.Common.{◌≡◌, ◌+◌, List, [], ◌∷◌, ◌++◌, length, inl, inr, sym, ◌∙◌, arith, ◌⊎◌, length-append, Some, None}
-use Rattle.std.specs.Prelude.{Contains, All}
-use Rattle.std.proofs.lemmas.List.Elements.{Contains-append_left, Contains-push, Contains-push_cases}
+use Rattle.std.proofs.Common.{◌≡◌, ◌+◌, List, [], ◌∷◌, ◌++◌, length, inl, inr, refl, sym, subst, ◌∙◌, arith, Bool, ◌⊎◌, length-append, Option, Some, None}
+use Rattle.std.specs.Prelude.{Contains, All, IfSome}
+use Rattle.std.proofs.lemmas.List.Elements.{All-nil, Contains-append_left, Contains-push, Contains-push_cases}
 use Rattle.nmgc_graph.specs.declared.value.Name.{Name}
 use Rattle.nmgc_graph.specs.declared.value.Value.{Value}
+use Rattle.nmgc_graph.specs.declared.value.Value.TheVariants.{Ref}
 use Rattle.nmgc_graph.specs.declared.node.Node.{Node}
 use Rattle.nmgc_graph.specs.declared.search.Search.{Search}
-use Rattle.nmgc_graph.specs.World.{World, node_of, IsNodeOf}
+use Rattle.nmgc_graph.specs.World.{World, node_of, IsKnown, AreKnown, IsNodeOf, IsWorld}
 use Rattle.nmgc_graph.specs.Marks.{IsMarked, IsPlaced, unmarked_count, HasPlaces}
 use Rattle.nmgc_graph.specs.Reach.{IsReached, strong_fields, RefersTo}
-use Rattle.nmgc_graph.specs.Search.{with_values, IsSearch, IsFollowed}
+use Rattle.nmgc_graph.specs.Search.{with_values, fields_in, IsSearch, IsFollowed}
 use Rattle.nmgc_graph.specs.laws.Nodes.{fields_known}
 use Rattle.nmgc_graph.proofs.Searches.{Marks, values_mark, are_placed}
 
-same_node : (a b : Node) → Some a ≡ Some b → a ≡ b
-same_node a b e = cc
+-- what a name refers to is in its fields, and the other way round
+pub refers_in : (w : World) (name target : Name) → RefersTo w name target → Contains (fields_in (node_of w name)) (Ref target)
+refers_in w name target r = rw r.1 r.2
+
+in_refers : (w : World) (name target : Name) (o : Option Node) → node_of w name ≡ o → Contains (fields_in o) (Ref target) → RefersTo w name target
+in_refers w name target None e c = absurd (omega (arith, c.1))
+in_refers w name target (Some node) e c = (node, e, c)
+
+pub fields_refer : (w : World) (name target : Name) → Contains (fields_in (node_of w name)) (Ref target) → RefersTo w name target
+fields_refer w name target c = in_refers w name target (node_of w name) refl c
+
+known_in : (w : World) (o : Option Node) → IfSome o (IsNodeOf w) → AreKnown w (fields_in o)
+known_in w None is = All-nil (IsKnown w)
+known_in w (Some node) is = fields_known w node is.known
+
+-- what the fields of a name refer to has a place
+pub fields_placed : (w : World) → IsWorld w → (marks : List (List Bool)) → HasPlaces w marks → (name : Name) → All (IsPlaced marks) (fields_in (node_of w name))
+fields_placed w h marks places name = are_placed w marks places (fields_in (node_of w name)) (known_in w (node_of w name) (h.nodes name))
+
+pub node_placed : (w : World) (marks : List (List Bool)) → HasPlaces w marks → (node : Node) → IsNodeOf w node → All (IsPlaced marks) (strong_fields node)
+node_placed w marks places node is = are_placed w marks places (strong_fields node) (fields_known w node is.known)
 
 -- places stay where names are marked
 pub places_stay : (w : World) (s t : Search) (values : List Value) → Marks s t values → HasPlaces w s.marks → HasPlaces w t.marks
@@ -45,75 +65,69 @@ follow_none w s h = record {
   fewer = omega arith;
 }
 
--- one name comes off the worklist
-module _ (w : World) (old s : Search) (rest : List Name) (name : Name) (off : s.work ≡ rest ++ name ∷ []) (h : IsFollowed w old s) where
+-- one name comes off the worklist of a search, and values are marked
+module _ (w : World) (s : Search) (rest : List Name) (name : Name) (off : s.work ≡ rest ++ name ∷ []) (is : IsSearch w s) where
   taken : Search
   taken = record { marks = s.marks; work = rest }
 
   taken_waiting : (n : Name) → Contains rest n → IsMarked s.marks n
-  taken_waiting n c = h.search.waiting n (rw off (Contains-append_left rest (name ∷ []) n c))
+  taken_waiting n c = is.waiting n (rw off (Contains-append_left rest (name ∷ []) n c))
 
-  was_marked : IsMarked s.marks name
-  was_marked = h.search.waiting name (rw off (Contains-push rest name))
+  pub was_marked : IsMarked s.marks name
+  was_marked = is.waiting name (rw off (Contains-push rest name))
 
-  still_waits : (n target : Name) → IsMarked s.marks n → RefersTo w n target → (name ≡ n) ⊎ (Contains rest n ⊎ IsMarked s.marks target)
-  still_waits n target m r = elim (h.search.traced n target m r) [
-    | inl c ↦ elim (Contains-push_cases rest name n (rw off at c)) [ inl d ↦ inr (inl d) | inr e ↦ inl e ]
-    | inr t ↦ inr (inr t)
-  ]
+  pub still_waits : (n : Name) → Contains s.work n → Contains rest n ⊎ (name ≡ n)
+  still_waits n c = Contains-push_cases rest name n (rw off at c)
 
-  -- it isn't in the map, so it refers to nothing
-  pub follow_nothing : node_of w name ≡ None → IsFollowed w old (record { marks = s.marks; work = rest })
-  follow_nothing none = record {
-    search = record {
-      places = h.search.places;
-      waiting = taken_waiting;
-      traced = λ n target m r. elim (still_waits n target m r) [
-        | inl e ↦ absurd (let there = r.1 in let lost = rw e at none in cc)
-        | inr d ↦ d
-      ];
-    };
-    kept = h.kept;
-    sound = h.sound;
-    fewer = h.fewer;
-  }
-
-  -- what its strong fields refer to is marked
-  module _ (node : Node) (is : node_of w name ≡ Some node) (known : IsNodeOf w node) where
-    pub fields_placed : All (IsPlaced s.marks) (strong_fields node)
-    fields_placed = are_placed w s.marks h.search.places (strong_fields node) (fields_known w node known.known)
-
-    marks : Marks (record { marks = s.marks; work = rest }) (with_values (record { marks = s.marks; work = rest }) (strong_fields node)) (strong_fields node)
-    marks = values_mark (strong_fields node) (record { marks = s.marks; work = rest }) fields_placed
-
-    pub follow_fields : IsFollowed w old (with_values (record { marks = s.marks; work = rest }) (strong_fields node))
-    follow_fields = record {
-      search = record {
-        places = places_stay w (record { marks = s.marks; work = rest }) _ (strong_fields node) marks h.search.places;
-        waiting = λ n c. elim (marks.waiting n c) [ inl d ↦ marks.kept n (taken_waiting n d) | inr k ↦ k ];
-        traced = λ n target k r. elim (marks.fresh n k) [
-          | inl m ↦ elim (still_waits n target m r) [
-            | inl e ↦
-                let same : r.0 ≡ node = same_node r.0 node (sym r.1 ∙ rw e at is) in
-                inr (marks.hit target (rw same at r.2))
-            | inr d ↦ elim d [ inl c ↦ inl (marks.waits n c) | inr t ↦ inr (marks.kept target t) ]
+  module _ (t : Search) (values : List Value) (m : Marks (record { marks = s.marks; work = rest }) t values) where
+    -- it is a search as before, if all is marked that the name refers to
+    pub search_goes_on : ((target : Name) → RefersTo w name target → IsMarked t.marks target) → IsSearch w t
+    search_goes_on done = record {
+      places = places_stay w (record { marks = s.marks; work = rest }) t values m is.places;
+      waiting = λ n c. elim (m.waiting n c) [ inl d ↦ m.kept n (taken_waiting n d) | inr k ↦ k ];
+      traced = λ n target k r. elim (m.fresh n k) [
+        | inl old ↦ elim (is.traced n target old r) [
+          | inl c ↦ elim (still_waits n c) [
+            | inl d ↦ inl (m.waits n d)
+            | inr e ↦ inr (done target (let P : Name → Type 0 = λ a. RefersTo w a target in subst P (sym e) r))
           ]
-          | inr new ↦ inl new.1
-        ];
-      };
-      kept = λ n m. marks.kept n (h.kept n m);
-      sound = λ n k. elim (marks.fresh n k) [
-        | inl m ↦ h.sound n m
-        | inr new ↦ IsReached.field name n (h.sound name was_marked) (node, is, new.0)
+          | inr hit ↦ inr (m.kept target hit)
+        ]
+        | inr new ↦ inl new.1
       ];
-      fewer = omega (arith, marks.count, marks.longer, h.fewer);
     }
 
-    pub follow_count : unmarked_count (with_values (record {
+    pub one_less : unmarked_count t.marks + length t.work + 1 ≡ unmarked_count s.marks + length s.work
+    one_less =
+        let more : length s.work ≡ length rest + 1 = rw off (length-append rest (name ∷ [])) in
+        omega (arith, m.count)
+
+  module _ (h : IsWorld w) where
+    -- what its fields refer to is marked
+    pub fields_mark : Marks (record { marks = s.marks; work = rest }) (with_values (record { marks = s.marks; work = rest }) (fields_in (node_of w name)))
+        (fields_in (node_of w name))
+    fields_mark = values_mark (fields_in (node_of w name)) (record { marks = s.marks; work = rest }) (fields_placed w h s.marks is.places name)
+
+    pub fields_search : IsSearch w (with_values (record { marks = s.marks; work = rest }) (fields_in (node_of w name)))
+    fields_search = search_goes_on (with_values (record {
       marks = s.marks;
       work = rest;
-    }) (strong_fields node)).marks + length (with_values (record { marks = s.marks; work = rest }) (strong_fields node)).work + 1 ≡
+    }) (fields_in (node_of w name))) (fields_in (node_of w name)) fields_mark (λ target r. fields_mark.hit target (refers_in w name target r))
+
+    pub fields_follow : (old : Search) → IsFollowed w old s → IsFollowed w old (with_values (record { marks = s.marks; work = rest }) (fields_in (node_of w name)))
+    fields_follow old f = record {
+      search = fields_search;
+      kept = λ n m. fields_mark.kept n (f.kept n m);
+      sound = λ n k. elim (fields_mark.fresh n k) [
+        | inl m ↦ f.sound n m
+        | inr new ↦ IsReached.field name n (f.sound name was_marked) (fields_refer w name n new.0)
+      ];
+      fewer = omega (arith, fields_mark.count, fields_mark.longer, f.fewer);
+    }
+
+    pub fields_count : unmarked_count (with_values (record {
+      marks = s.marks;
+      work = rest;
+    }) (fields_in (node_of w name))).marks + length (with_values (record { marks = s.marks; work = rest }) (fields_in (node_of w name))).work + 1 ≡
         unmarked_count s.marks + length s.work
-    follow_count =
-        let more : length s.work ≡ length rest + 1 = rw off (length-append rest (name ∷ [])) in
-        omega (arith, marks.count)
+    fields_count = one_less (with_values (record { marks = s.marks; work = rest }) (fields_in (node_of w name))) (fields_in (node_of w name)) fields_mark

@@ -1,5 +1,6 @@
 pub mod Changes
 pub mod Closings
+pub mod Filing
 pub mod Follows
 pub mod Kepts
 pub mod Lent

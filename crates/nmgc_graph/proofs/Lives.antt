@@ -1,22 +1,25 @@
 -- From a search to the live names: what it begins with, and what it has found in the end.
-use Rattle.std.proofs.Common.{◌≡◌, ◌<◌, ◌+◌, ℕ, zero, suc, List, [], ◌∷◌, ◌++◌, length, map, get_or, inl, inr, refl, sym, ap, subst, ◌∙◌, arith, Bool, true, false, eqb}
+use Rattle.std.proofs.Common.{◌≡◌, ◌+◌, ℕ, zero, suc, List, [], ◌∷◌, ◌++◌, length, map, get_or, inl, inr, refl, sym, ap, subst, ◌∙◌, arith, Bool, true, false, Some}
 use Rattle.std.specs.Prelude.{Contains, All, IsSome, flat_map}
-use Rattle.std.proofs.lemmas.Bool.{false≢true, eqb-true, eq-eqb}
+use Rattle.std.proofs.lemmas.Bool.{false≢true}
+use Rattle.std.proofs.lemmas.List.{get_or_read}
 use Rattle.std.proofs.lemmas.List.Elements.{All-cons, All-nil, All-head, All-tail, All-append, All-contains, All-from_get_or, All-weaker, Contains-append_left, Contains-append_right, Contains-append_cases}
 use Rattle.nmgc_graph.specs.declared.value.Name.{Name}
 use Rattle.nmgc_graph.specs.declared.value.Value.{Value}
 use Rattle.nmgc_graph.specs.declared.value.Value.TheVariants.{Nil, Number, Ref}
+use Rattle.nmgc_graph.specs.declared.node.Parts.{Parts}
 use Rattle.nmgc_graph.specs.declared.search.Search.{Search}
 use Rattle.nmgc_graph.specs.World.{World, node_of, state_of, no_mutator, IsKnown, AreKnown, IsWorld}
 use Rattle.nmgc_graph.specs.Step.{shared_name}
 use Rattle.nmgc_graph.specs.Marks.{mark_of, IsMarked, HasPlace, unmarked_count, HasPlaces}
-use Rattle.nmgc_graph.specs.Reach.{IsReached, IsRoot, IsLive, IsAliveWeak, IsPlain}
-use Rattle.nmgc_graph.specs.Search.{with_name, with_values, with_weaks, values_held, starts_of, is_key_marked, IsFollowed, IsLiveSearch, AreRevived, IsLiveFound}
+use Rattle.nmgc_graph.specs.Reach.{IsRoot, IsLive, IsAlive, IsAliveWeak, IsKeptBy, IsPlain}
+use Rattle.nmgc_graph.specs.Search.{with_name, with_values, with_weaks, values_held, starts_of, is_key_marked, fields_in, IsLiveSearch, AreRevived, IsLiveFound}
+use Rattle.nmgc_graph.specs.Waiting.{key_of, weak_at, IsRevival}
 use Rattle.nmgc_graph.specs.laws.Orders.{contains_head, contains_tail, contains_cases}
 use Rattle.nmgc_graph.specs.laws.Rows.{name_placed}
-use Rattle.nmgc_graph.proofs.Searches.{Marks, same_ref, values_mark, name_marks, are_placed}
-use Rattle.nmgc_graph.proofs.Follows.{places_stay, search_stays}
-use Rattle.nmgc_graph.proofs.Weaks.{weaks_mark, weaks_sound, revived}
+use Rattle.nmgc_graph.proofs.Searches.{Marks, same_ref, values_mark, name_marks, are_placed, then_marks}
+use Rattle.nmgc_graph.proofs.Follows.{places_stay, search_stays, refers_in, fields_refer, fields_mark, was_marked, still_waits, search_goes_on, one_less}
+use Rattle.nmgc_graph.proofs.Weaks.{weaks_mark, weaks_sound, weaks_begun, key_cases, key_from_alive, revived}
 
 -- an element of one of the lists that are joined
 contains_flat_map : {A B : Type 0} (f : A → List B) (xs : List A) (i : ℕ) (d : A) (y : B) → f d ≡ [] → Contains (f (get_or xs i d)) y →
@@ -31,14 +34,6 @@ flat_map_contains f (x ∷ xs) d y c = elim (Contains-append_cases (f x) (flat_m
   | inl l ↦ (0, l)
   | inr r ↦ let t = flat_map_contains f xs d y r in (suc t.0, t.1)
 ]
-
-pub empty_list : {A : Type 0} (xs ys : List A) → ys ≡ xs → true ≡ eqb (length ys) 0 → xs ≡ []
-empty_list [] ys e t = refl
-empty_list (x ∷ xs) ys e t = absurd (let none = eqb-true (length ys) 0 (sym t) in let same = ap length e in omega arith)
-
-pub some_list : {A : Type 0} (xs ys : List A) → ys ≡ xs → false ≡ eqb (length ys) 0 → 0 < length xs
-some_list [] ys e t = absurd (false≢true (t ∙ eq-eqb (length ys) 0 (ap length e)))
-some_list (x ∷ xs) ys e t = omega arith
 
 contains_refs : (names : List Name) (n : Name) → Contains names n → Contains (map Ref names) (Ref n)
 contains_refs [] n c = absurd (omega (arith, c.1))
@@ -134,19 +129,7 @@ module _ (w : World) (h : IsWorld w) (extra : List Name) where
           begun = λ n c. m.hit n c;
         }
 
-  reached_live : (P : Name → Type 0) → ((n : Name) → P n → IsLive w extra n) → (n : Name) → IsReached w P n → IsLive w extra n
-  reached_live P sound n (IsReached.start _ p) = sound n p
-  reached_live P sound n (IsReached.field name _ r f) = IsLive.field name n (reached_live P sound name r) f
-
-  -- following strong fields keeps a search for live names
-  pub live_followed : (s t : Search) → IsFollowed w s t → IsLiveSearch w extra s → IsLiveSearch w extra t
-  live_followed s t f l = record {
-    search = f.search;
-    sound = λ n m. reached_live (IsMarked s.marks) l.sound n (f.sound n m);
-    begun = λ n c. f.kept n (l.begun n c);
-  }
-
-  -- so does a pass over the weak pointers
+  -- a pass over the weak pointers keeps a search for live names
   module _ (weaks : List Name) (s : Search) (l : IsLiveSearch w extra s) where
     marks : (values : List Value) × Marks s (with_weaks w s weaks) values
     marks = weaks_mark w h weaks s l.search.places
@@ -158,13 +141,80 @@ module _ (w : World) (h : IsWorld w) (extra : List Name) where
       begun = λ n c. marks.1.kept n (l.begun n c);
     }
 
-    pub pass_count : unmarked_count (with_weaks w s weaks).marks + length (with_weaks w s weaks).work ≡ unmarked_count s.marks + length s.work
-    pass_count = marks.1.count
-
     pub pass_revives : ((weak : Name) → IsAliveWeak w weak → Contains weaks weak) → AreRevived w (with_weaks w s weaks)
     pass_revives all = revived w h weaks s l.search.places all
 
-  -- where nothing waits and a pass has been made, all live names are marked
+  -- a name comes off the worklist: its fields are marked, and the weak pointers that wait for it do their part
+  module _ (s : Search) (rest : List Name) (name : Name) (off : s.work ≡ rest ++ name ∷ []) (l : IsLiveSearch w extra s) where
+    abbrev fields : List Value
+    fields = fields_in (node_of w name)
+
+    abbrev taken : Search
+    taken = record { marks = s.marks; work = rest }
+
+    abbrev scanned : Search
+    scanned = with_values taken fields
+
+    fields_marks : Marks taken scanned fields
+    fields_marks = fields_mark w s rest name off l.search h
+
+    pub scanned_places : HasPlaces w (with_values (record { marks = s.marks; work = rest }) (fields_in (node_of w name))).marks
+    scanned_places = places_stay w taken scanned fields fields_marks l.search.places
+
+    scanned_sound : (n : Name) → IsMarked scanned.marks n → IsLive w extra n
+    scanned_sound n k = elim (fields_marks.fresh n k) [
+      | inl old ↦ l.sound n old
+      | inr new ↦ IsLive.field name n (l.sound name (was_marked w s rest name off l.search)) (fields_refer w name n new.0)
+    ]
+
+    module _ (weaks : List Name) (t : Search) (v : IsRevival w weaks name (with_values (record { marks = s.marks; work = rest }) (fields_in (node_of w name))) t) where
+      passed : (values : List Value) × Marks scanned (with_weaks w scanned v.passed) values
+      passed = weaks_mark w h v.passed scanned scanned_places
+
+      both : Marks taken t (fields ++ passed.0)
+      both =
+          let P : Search → Type 0 = λ u. Marks taken u (fields ++ passed.0) in
+          subst P (sym v.is) (then_marks taken scanned (with_weaks w scanned v.passed) fields passed.0 fields_marks passed.1)
+
+      kept_on : (n : Name) → IsMarked scanned.marks n → IsMarked t.marks n
+      kept_on n k = rw v.is (passed.1.kept n k)
+
+      pub live_goes_on : IsLiveSearch w extra t
+      live_goes_on = record {
+        search = search_goes_on w s rest name off l.search t (fields ++ passed.0) both (λ target r. kept_on target (fields_marks.hit target (refers_in w name target r)));
+        sound = rw v.is (weaks_sound w h extra v.passed scanned scanned_places scanned_sound);
+        begun = λ n c. both.kept n (l.begun n c);
+      }
+
+      pub live_count : unmarked_count t.marks + length t.work + 1 ≡ unmarked_count s.marks + length s.work
+      live_count = one_less w s rest name off l.search t (fields ++ passed.0) both
+
+      module _ (complete : (weak : Name) → IsAliveWeak w weak → Contains weaks weak) where
+        -- what waited for the name has done its part
+        woken : (weak target : Name) (parts : Parts) → IsAlive w weak parts → parts.key ≡ Ref name → IsKeptBy weak parts target → IsMarked t.marks target
+        woken weak target parts alive e kept =
+            let none : Name = record { maker = 0; serial = 0 } in
+            let c = complete weak (parts, alive) in
+            let there : weak ≡ weak_at weaks c.0 = get_or_read weaks c.0 weak c.1 (sym c.2) none in
+            let P : Name → Type 0 = λ n. key_of w n ≡ Some name in
+            let Q : Name → Type 0 = Contains v.passed in
+            let d : Contains v.passed weak = subst Q (sym there) (v.all c.0 c.1 (subst P there (key_from_alive w weak name parts alive e))) in
+            let shown : is_key_marked scanned.marks parts.key ≡ true = rw e (fields_marks.kept name (was_marked w s rest name off l.search)) in
+            rw v.is (weaks_begun w h v.passed scanned scanned_places weak target parts d alive shown kept)
+
+        pub revival_goes_on : AreRevived w s → AreRevived w t
+        revival_goes_on r weak target parts alive shown kept = elim (key_cases w h taken t (fields ++ passed.0) both parts.key shown) [
+          | inl before ↦ elim (r weak target parts alive before kept) [
+            | inl x ↦ elim (still_waits w s rest name off l.search x.0 x.2) [
+              | inl d ↦ inl (x.0, x.1, both.waits x.0 d)
+              | inr e ↦ inr (woken weak target parts alive (x.1 ∙ ap Ref (sym e)) kept)
+            ]
+            | inr k ↦ inr (both.kept target k)
+          ]
+          | inr waits ↦ inl waits
+        ]
+
+  -- where nothing waits and each weak pointer has done its part, all live names are marked
   module _ (s : Search) (l : IsLiveSearch w extra s) (r : AreRevived w s) (empty : s.work ≡ []) where
     none_waits : (n : Name) → Contains s.work n → ⊥
     none_waits n c = let bad = rw empty at c in omega (arith, bad.1)

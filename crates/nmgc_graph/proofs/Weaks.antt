@@ -1,5 +1,5 @@
 -- Passing over the weak pointers: what a pass marks, and that it is live.
-use Rattle.std.proofs.Common.{◌≡◌, List, [], ◌∷◌, ◌++◌, inl, inr, refl, sym, ap, subst, arith, Bool, true, ◌⊎◌, Option, Some, None}
+use Rattle.std.proofs.Common.{◌≡◌, List, [], ◌∷◌, ◌++◌, inl, inr, refl, sym, ap, subst, ◌∙◌, arith, Bool, true, ◌⊎◌, Option, Some, None}
 use Rattle.std.specs.Prelude.{Contains, All, IsSome, IfSome, option_and_then}
 use Rattle.std.proofs.lemmas.Bool.{cases_Bool}
 use Rattle.std.proofs.lemmas.List.Elements.{All-cons, All-tail}
@@ -14,6 +14,7 @@ use Rattle.nmgc_graph.specs.World.{World, node_of, AreKnown, IsNodeOf, IsWorld, 
 use Rattle.nmgc_graph.specs.Marks.{IsMarked, IsPlaced, HasPlaces}
 use Rattle.nmgc_graph.specs.Reach.{IsAlive, IsAliveWeak, IsKeptBy, IsLive}
 use Rattle.nmgc_graph.specs.Search.{with_weak, with_weaks, parts_in, parts_of, is_key_marked, AreRevived}
+use Rattle.nmgc_graph.specs.Waiting.{name_in, key_of}
 use Rattle.nmgc_graph.specs.laws.Orders.{contains_head, contains_tail, contains_cases}
 use Rattle.nmgc_graph.specs.laws.Rows.{name_placed}
 use Rattle.nmgc_graph.proofs.Searches.{same_ref, Marks, no_marks, then_marks, values_mark, are_placed}
@@ -34,6 +35,11 @@ alive_from_parts w weak parts e = parts_alive (node_of w weak) parts e
 
 pub parts_from_alive : (w : World) (weak : Name) (parts : Parts) → IsAlive w weak parts → parts_of w weak ≡ Some parts
 parts_from_alive w weak parts e = ap (λ (o : Option Node). option_and_then parts_in o) e
+
+-- an alive weak pointer waits for the name that its key refers to
+pub key_from_alive : (w : World) (weak name : Name) (parts : Parts) → IsAlive w weak parts → parts.key ≡ Ref name → key_of w weak ≡ Some name
+key_from_alive w weak name parts alive e =
+    ap (λ (o : Option Parts). option_and_then (λ (p : Parts). name_in p.key) o) (parts_from_alive w weak parts alive) ∙ ap name_in e
 
 -- what an alive weak pointer holds is known
 pub parts_known : (w : World) (o : Option Node) → IfSome o (IsNodeOf w) → (parts : Parts) → option_and_then parts_in o ≡ Some parts →
@@ -136,7 +142,7 @@ module _ (w : World) (h : IsWorld w) where
       weaks_sound extra weaks t (places_stay w s t one.0 one.1 places) (weak_sound s places weak extra sound)
 
   -- a key that is marked in the end was marked at the start, or waits
-  key_cases : (s t : Search) (values : List Value) → Marks s t values → (key : Value) → is_key_marked t.marks key ≡ true →
+  pub key_cases : (s t : Search) (values : List Value) → Marks s t values → (key : Value) → is_key_marked t.marks key ≡ true →
       (is_key_marked s.marks key ≡ true) ⊎ ((name : Name) × (key ≡ Ref name) × Contains t.work name)
   key_cases s t values m Nil shown = inl refl
   key_cases s t values m (Number n) shown = inl refl
@@ -144,6 +150,25 @@ module _ (w : World) (h : IsWorld w) where
     | inl old ↦ inl old
     | inr new ↦ inr (name, refl, new.1)
   ]
+
+  -- a key that was marked at the start is marked in the end
+  key_stays : (s t : Search) (values : List Value) → Marks s t values → (key : Value) → is_key_marked s.marks key ≡ true → is_key_marked t.marks key ≡ true
+  key_stays s t values m Nil shown = refl
+  key_stays s t values m (Number n) shown = refl
+  key_stays s t values m (Ref name) shown = m.kept name shown
+
+  -- a weak pointer whose key was marked at the start has done its part
+  pub weaks_begun : (weaks : List Name) (s : Search) → HasPlaces w s.marks → (weak target : Name) (parts : Parts) → Contains weaks weak →
+      IsAlive w weak parts → is_key_marked s.marks parts.key ≡ true → IsKeptBy weak parts target → IsMarked (with_weaks w s weaks).marks target
+  weaks_begun [] s places weak target parts c alive shown kept = absurd (omega (arith, c.1))
+  weaks_begun (x ∷ xs) s places weak target parts c alive shown kept =
+      let one = weak_marks s places x in
+      let t = with_weak s x (parts_of w x) in
+      let placed = places_stay w s t one.0 one.1 places in
+      elim (contains_cases x xs weak c) [
+        | inl e ↦ (weaks_mark xs t placed).1.kept target (weak_done s places x parts target (rw e alive) shown (rw e kept))
+        | inr d ↦ weaks_begun xs t placed weak target parts d alive (key_stays s t one.0 one.1 parts.key shown) kept
+      ]
 
   pub weaks_done : (weaks : List Name) (s : Search) → HasPlaces w s.marks → (weak target : Name) (parts : Parts) → Contains weaks weak →
       IsAlive w weak parts → is_key_marked (with_weaks w s weaks).marks parts.key ≡ true → IsKeptBy weak parts target →

@@ -8,5 +8,6 @@ pub mod Reach
 pub mod Replay
 pub mod Search
 pub mod Step
+pub mod Waiting
 pub mod World
 pub mod laws

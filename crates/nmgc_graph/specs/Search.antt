@@ -13,7 +13,7 @@ use Rattle.nmgc_graph.specs.World.{World, node_of}
 use Rattle.nmgc_graph.specs.Marks.{mark_of, IsMarked, with_mark, unmarked_count, HasPlaces}
 use Rattle.nmgc_graph.specs.declared.mutator_state.MutatorState.{MutatorState}
 use Rattle.nmgc_graph.specs.Step.{shared_name}
-use Rattle.nmgc_graph.specs.Reach.{RefersTo, IsReached, IsAlive, IsKeptBy, IsLive, IsKept}
+use Rattle.nmgc_graph.specs.Reach.{strong_fields, RefersTo, IsReached, IsAlive, IsKeptBy, IsLive, IsKept}
 
 -- a name that wasn't marked is marked, and waits
 abbrev pub with_name : Search → Name → Search
@@ -28,6 +28,11 @@ with_value s (value.Ref name) = with_name s name
 -- the names that values refer to are marked
 abbrev pub with_values : Search → List Value → Search
 with_values s values = fold with_value s values
+
+-- what the strong fields of a node hold, if it is there
+abbrev pub fields_in : Option Node → List Value
+fields_in None = []
+fields_in (Some node) = strong_fields node
 
 -- each strong field of a marked name that doesn't wait refers to a marked name
 abbrev pub IsTraced : World → Search → Type 0

@@ -21,6 +21,7 @@ mod reply;
 mod search;
 mod validity;
 pub mod value;
+mod waiting;
 pub mod world;
 
 pub use command::{Command, Operand, Reply};

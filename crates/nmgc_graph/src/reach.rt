@@ -1,20 +1,21 @@
 //! Live names, dead weak pointers and kept names.
 //!
-//! Each is a least set: what its rules give, and nothing else. The search marks the roots, follows
-//! strong fields until nothing waits, and then passes over the weak pointers that are alive: where a
-//! key is live, the weak pointer, its value and its finaliser are live too. These may lead to the key
-//! of a weak pointer that the pass has gone by, so it follows the fields again and makes another
-//! pass, until a pass marks nothing new. A pass is needed for each weak pointer that revives one
-//! before it, and never more.
+//! Each is a least set: what its rules give, and nothing else. The search marks the roots, and passes
+//! once over the weak pointers that are alive: where a key is live, the weak pointer, its value and its
+//! finaliser are live too. Then it takes the marked names up one by one, and marks what their strong
+//! fields refer to, and what the weak pointers keep whose key has just that name. These are found by
+//! an index, so that each weak pointer is looked at twice at most, however they revive one another.
 //!
-//! Easy to get wrong: a single pass is not enough, and the weak pointer itself need not be referred to.
-ghost use Rattle.std.specs.Prelude.{◌≡◌, ◌+◌, ◌<◌, [], false, IsSome, IfSome, IfOk, OnOk, All, length, flat_map};
+//! Easy to get wrong: a single pass is not enough, since a weak pointer may revive the key of one before
+//! it. One whose key is nil or a number waits for no name. And the weak pointer itself need not be referred to.
+ghost use Rattle.std.specs.Prelude.{◌≡◌, ℕ, ◌+◌, ◌<◌, [], false, IsSome, IfSome, IfOk, OnOk, All, length, flat_map};
 ghost use Rattle.nmgc_graph.specs.declared.value.Name.{Name as NameAt};
 ghost use Rattle.nmgc_graph.specs.Marks.{IsPlaced, mark_of};
-ghost use Rattle.nmgc_graph.specs.Search.{with_values, values_held, parts_in};
+ghost use Rattle.nmgc_graph.specs.Search.{with_values, values_held, parts_in, fields_in};
 
 use crate::marks::Marks;
 use crate::search::Search;
+use crate::waiting::Waiting;
 use crate::{List, MutatorState, Name, NoMemory, Node, Parts, SHARED_MAKER, Value, World};
 
 impl World {
@@ -23,11 +24,11 @@ impl World {
     ghost use Rattle.nmgc_graph.specs.Order.{ListsBefore};
     ghost use Rattle.nmgc_graph.specs.Marks.{HasPlaces, count_of};
     ghost use Rattle.nmgc_graph.specs.Search.{IsSearch, IsFollowed, parts_of, with_weak, with_weaks, starts_of, IsLiveSearch, IsLiveFound, IsKeptFound, IsLost, IsSetOf, is_lost, finalisers_of};
+    ghost use Rattle.nmgc_graph.specs.Waiting.{key_of, bounds_of, bound_of, AreFiled, IsRevival};
 
     /// The live names in order: g, what registers and finaliser queues refer to, the further names,
     /// and what these reach along strong fields and by live keys. After `NoMemory` there is no
-    /// answer. Takes time in proportion to the names and their fields, and to a pass over the weak
-    /// pointers for each that revives one before it.
+    /// answer. Takes time in proportion to the names, their fields and the further names, and memory for each name.
     pub fn live(&self, extra: &[Name]) -> Result<List<Name>, NoMemory>
         requires { All (λ name. IsSome (node_of self.now name)) extra.now }
         ensures { IfOk result (λ names. Lists (IsLive self.now extra.now) names) }
@@ -41,7 +42,7 @@ impl World {
 
     /// The dead weak pointers in order: those that are alive so far and not among `finalised`, and
     /// whose key is a reference to a name that isn't live. Names of `finalised` that aren't in the
-    /// map count for nothing. Takes as long as `live`.
+    /// map count for nothing. Takes as long as `live`, and constant time for each of `finalised`.
     pub fn dead_weaks(&self, extra: &[Name], finalised: &[Name]) -> Result<List<Name>, NoMemory>
         requires { All (λ name. IsSome (node_of self.now name)) extra.now }
         ensures { IfOk result (λ names. Lists (IsDead self.now extra.now finalised.now) names) }
@@ -52,7 +53,7 @@ impl World {
     }
 
     /// The kept names in order: the live ones, the finalisers of the dead weak pointers, and what
-    /// these reach along strong fields. Takes as long as `live`.
+    /// these reach along strong fields. Takes as long as `live`, and constant time for each of `finalised`.
     pub fn kept(&self, extra: &[Name], finalised: &[Name]) -> Result<List<Name>, NoMemory>
         requires { All (λ name. IsSome (node_of self.now name)) extra.now }
         ensures { IfOk result (λ names. Lists (IsKept self.now extra.now finalised.now) names) }
@@ -168,12 +169,22 @@ impl World {
         ensures followed { OnOk result (IsFollowed self.now search.old search.new) }
         ensures empty { OnOk result (search.new.work ≡ []) }
     {
+        let _ = &self.mutators;
         while let Some(name) = search.work.pop() {
-            if let Some(node) = self.object(Value::Ref(name)) {
-                search.mark_fields(node)?;
-            }
+            self.mark_fields(name, search)?;
         }
         Ok(())
+    }
+
+    // Marks what the strong fields of a name refer to.
+    fn mark_fields(&self, name: Name, search: &mut Search) -> Result<(), NoMemory>
+        requires { HasPlaces self.now search.old.marks }
+        ensures { OnOk result (search.new ≡ with_values search.old (fields_in (node_of self.now name))) }
+    {
+        match self.object(Value::Ref(name)) {
+            Some(node) => search.mark_fields(node),
+            None => Ok(()),
+        }
     }
 
     /// The parts of a weak pointer, where the name is that of an alive one. Takes no memory, and
@@ -210,6 +221,64 @@ impl World {
         let _ = &self.mutators;
         for weak in weaks {
             self.mark_weak(*weak, search)?;
+        }
+        Ok(())
+    }
+
+    // The name that a weak pointer waits for, where it is alive and its key is a reference.
+    fn key(&self, weak: Name) -> Option<Name>
+        ensures key { result ≡ key_of self.now weak }
+        ensures known { IfSome result (λ name. IsSome (node_of self.now name)) }
+    {
+        let parts = self.parts(weak)?;
+        match parts.key {
+            Value::Ref(name) => Some(name),
+            _ => None,
+        }
+    }
+
+    // The index of no weak pointer, with a place for each name.
+    fn none_filed(&self) -> Result<Waiting, NoMemory>
+        ensures before { IfOk result (λ waiting. waiting.before ≡ []) }
+        ensures counts { IfOk result (λ waiting. (maker : ℕ) → length (bounds_of waiting.bounds maker) ≡ count_of self.now maker) }
+        ensures none { IfOk result (λ waiting. (name : NameAt) → bound_of waiting.bounds name ≡ 0) }
+    {
+        let mut waiting = Waiting::new(self.alloc);
+        for maker in 0..SHARED_MAKER + 1 {
+            waiting.add_maker(self.alloc, self.count(maker))?;
+        }
+        Ok(waiting)
+    }
+
+    // Files weak pointers by the names that they wait for.
+    fn filed(&self, weaks: &[Name]) -> Result<Waiting, NoMemory>
+        ensures { IfOk result (AreFiled self.now weaks.now (length weaks.now)) }
+    {
+        let mut waiting = self.none_filed()?;
+        for weak in weaks {
+            waiting.add(self.key(*weak))?;
+        }
+        Ok(waiting)
+    }
+
+    // Those of the weak pointers that wait for a name mark themselves, their values and their finalisers.
+    fn revive(
+        &self,
+        name: Name,
+        weaks: &[Name],
+        waiting: &Waiting,
+        search: &mut Search,
+    ) -> Result<(), NoMemory>
+        requires places { HasPlaces self.now search.old.marks }
+        requires filed { AreFiled self.now weaks.now (length weaks.now) waiting.now }
+        ensures { OnOk result (IsRevival self.now weaks.now name search.old search.new) }
+    {
+        let _ = &self.mutators;
+        let mut bound = waiting.bound(name);
+        while bound > 0 {
+            let place = bound - 1;
+            self.mark_weak(weaks[place], search)?;
+            bound = waiting.bound_before(place);
         }
         Ok(())
     }
@@ -271,11 +340,12 @@ impl World {
         ensures { IfOk result (IsLiveFound self.now extra.now) }
     {
         let _ = &self.mutators;
+        let waiting = self.filed(weaks)?;
         let mut search = self.start(extra)?;
         self.mark_weaks(weaks, &mut search)?;
-        while !search.work.items().is_empty() {
-            self.follow(&mut search)?;
-            self.mark_weaks(weaks, &mut search)?;
+        while let Some(name) = search.work.pop() {
+            self.mark_fields(name, &mut search)?;
+            self.revive(name, weaks, &waiting, &mut search)?;
         }
         Ok(search)
     }

@@ -27,8 +27,7 @@ impl Cycle {
     ghost use Rattle.nmgc_watch.specs.Watching.{IsEnding, IsEndingTold, IsAgainstIf, IsDeadIf, IsLeft, IsLeftTold};
 
     /// What the cycle leaves, if it can end: the debt of the least line stands against it, or a name that wasn't taken.
-    /// Takes time for each object and debt, and for a pass over the weak pointers for each link of the longest chain in
-    /// which one revives the key of the next.
+    /// Takes time and memory for each object, each field and each debt, however the weak pointers revive one another.
     pub fn end(&self) -> Result<Result<Left, Why>, NoMemory>
         ensures { IfOk result (IsEnding self.now) }
     {

@@ -388,6 +388,32 @@ fn a_long_list(rt: HostRuntime) -> Result<(), Fail> {
     Ok(())
 }
 
+// Each weak pointer keeps the key of the one before it. If the search passed over all of them for each link, it would not
+// come to its end here.
+#[test]
+fn a_long_chain_of_weak_pointers(rt: HostRuntime) -> Result<(), Fail> {
+    let mut world = World::new(rt.alloc(), 1)?;
+    give(&rt, rt.alloc(), &mut world, 0, Step::Con(4, 10))?;
+    for _ in 0..200_000 {
+        give(&rt, rt.alloc(), &mut world, 0, Step::Con(5, 10))?;
+        give(&rt, rt.alloc(), &mut world, 0, Step::Weak(6, 5, 4, 10))?;
+        give(&rt, rt.alloc(), &mut world, 0, Step::Con(4, 10))?;
+        give(&rt, rt.alloc(), &mut world, 0, Step::Weak(6, 4, 5, 10))?;
+    }
+    give(&rt, rt.alloc(), &mut world, 0, Step::Nil(5))?;
+    give(&rt, rt.alloc(), &mut world, 0, Step::Nil(6))?;
+    let live = world.live(&[])?;
+    assert!(rt; live.items().len() == 800_002);
+    let dead = world.dead_weaks(&[], &[])?;
+    assert!(rt; dead.items().len() == 0);
+    give(&rt, rt.alloc(), &mut world, 0, Step::Nil(4))?;
+    let live = world.live(&[])?;
+    assert!(rt; live.items().len() == 1);
+    let dead = world.dead_weaks(&[], &[])?;
+    assert!(rt; dead.items().len() == 400_000);
+    Ok(())
+}
+
 #[test]
 fn a_room(rt: HostRuntime) -> Result<(), Fail> {
     let mut room = Room::new(rt.alloc());

@@ -1,10 +1,12 @@
-use Rattle.std.proofs.Common.{arith, length, ap, ◌≡◌, ◌<◌}
+use Rattle.std.proofs.Common.{arith, List, sym, subst, ◌∙◌}
 use Rattle.nmgc_graph.specs.World.{IsWorld}
-use Rattle.nmgc_graph.proofs.Lives.{live_followed, live_passed, pass_count, pass_revives, live_found, empty_list, some_list}
+use Rattle.nmgc_graph.specs.Search.{IsLiveFound}
+use Rattle.nmgc_graph.specs.declared.value.Name.{Name}
+use Rattle.nmgc_graph.proofs.Lives.{live_passed, pass_revives, scanned_places, live_goes_on, live_count, revival_goes_on, live_found}
 use Rattle.nmgc_graph.proofs.world.World.find_live.Goals as goal
 
-pub loop-search-init : goal.loop-search-init
-loop-search-init c =
+pub loop-name-init : goal.loop-name-init
+loop-name-init c =
     let w = c.args.self.now in
     let h : IsWorld w = rw (← c.self.view_is) c.self.invariant in
     let s = c.in_ok-search.search in
@@ -13,31 +15,39 @@ loop-search-init c =
       pass_revives w h c.args.extra.now c.args.weaks.now s c.in_ok-search.ensures c.requires.weaks.complete,
     )
 
-pub loop-search-smaller : goal.loop-search-smaller
-loop-search-smaller c =
+pub revive-requires-clause-places : goal.revive-requires-clause-places
+revive-requires-clause-places c =
     let w = c.args.self.now in
     let h : IsWorld w = rw (← c.self.view_is) c.self.invariant in
-    let f = c.follow.new.search in
-    let l = live_followed w h c.args.extra.now c.loop-search.search f c.in_ok-follow.ensures.followed c.loop-search.invariant.0 in
-    let count = pass_count w h c.args.extra.now c.args.weaks.now f l in
-    let none : length f.work ≡ 0 = ap length c.in_ok-follow.ensures.empty in
-    let some : 0 < length c.loop-search.search.work = some_list c.loop-search.search.work c.items.result.now c.items.ensures c.loop-search-test.ensures in
-    rw c.in_ok-mark_weaks-2.ensures (omega (arith, count, none, some, c.in_ok-follow.ensures.followed.fewer))
+    rw c.in_ok-mark_fields.ensures (scanned_places w h c.args.extra.now c.loop-name.search c.pop.new.self c.in-Some.name c.in-Some.ensures.last
+    c.loop-name.invariant.0)
 
-pub loop-search-preserved : goal.loop-search-preserved
-loop-search-preserved c =
+pub loop-name-smaller : goal.loop-name-smaller
+loop-name-smaller c =
     let w = c.args.self.now in
     let h : IsWorld w = rw (← c.self.view_is) c.self.invariant in
-    let f = c.follow.new.search in
-    let l = live_followed w h c.args.extra.now c.loop-search.search f c.in_ok-follow.ensures.followed c.loop-search.invariant.0 in
-    rw c.in_ok-mark_weaks-2.ensures (
-      live_passed w h c.args.extra.now c.args.weaks.now f l,
-      pass_revives w h c.args.extra.now c.args.weaks.now f l c.requires.weaks.complete,
+    let count = live_count w h c.args.extra.now c.loop-name.search c.pop.new.self c.in-Some.name c.in-Some.ensures.last c.loop-name.invariant.0
+    c.args.weaks.now c.revive.new.search (rw c.in_ok-mark_fields.ensures at c.in_ok-revive.ensures) in
+    omega (arith, count)
+
+pub loop-name-preserved : goal.loop-name-preserved
+loop-name-preserved c =
+    let w = c.args.self.now in
+    let h : IsWorld w = rw (← c.self.view_is) c.self.invariant in
+    let v = rw c.in_ok-mark_fields.ensures at c.in_ok-revive.ensures in
+    let s = c.loop-name.search in
+    (
+      live_goes_on w h c.args.extra.now s c.pop.new.self c.in-Some.name c.in-Some.ensures.last c.loop-name.invariant.0 c.args.weaks.now
+      c.revive.new.search v,
+      revival_goes_on w h c.args.extra.now s c.pop.new.self c.in-Some.name c.in-Some.ensures.last c.loop-name.invariant.0 c.args.weaks.now
+      c.revive.new.search v c.requires.weaks.complete c.loop-name.invariant.1,
     )
 
 pub returns : goal.returns
 returns c =
     let w = c.args.self.now in
     let h : IsWorld w = rw (← c.self.view_is) c.self.invariant in
-    live_found w h c.args.extra.now c.loop-search.search c.loop-search.invariant.0 c.loop-search.invariant.1
-    (empty_list c.loop-search.search.work c.items.result.now c.items.ensures c.loop-search-test.ensures)
+    let s = c.loop-name.search in
+    let P : List Name → Type 0 = λ work. IsLiveFound w c.args.extra.now (record { marks = s.marks; work = work }) in
+    subst P (c.in_default.ensures.empty.0 ∙ sym c.in_default.ensures.empty.1) (live_found w h c.args.extra.now s c.loop-name.invariant.0
+    c.loop-name.invariant.1 c.in_default.ensures.empty.0)

@@ -3,8 +3,8 @@ use Rattle.nmgc_graph.specs.Marks.{unmarked_count}
 use Rattle.nmgc_graph.specs.Search.{IsLiveSearch, AreRevived}
 use Rattle.nmgc_graph.proofs.world.World.find_live.Given as goal
 
-abbrev pub invariant-loop-search : goal.invariant-loop-search
-invariant-loop-search l = IsLiveSearch l.self l.extra l.search × AreRevived l.self l.search
+abbrev pub invariant-loop-name : goal.invariant-loop-name
+invariant-loop-name l = IsLiveSearch l.self l.extra l.search × AreRevived l.self l.search
 
-abbrev pub decreases-loop-search : goal.decreases-loop-search
-decreases-loop-search l = unmarked_count l.search.marks + length l.search.work
+abbrev pub decreases-loop-name : goal.decreases-loop-name
+decreases-loop-name l = unmarked_count l.search.marks + length l.search.work

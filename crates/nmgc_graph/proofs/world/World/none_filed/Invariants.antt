@@ -1,0 +1,8 @@
+use Rattle.std.proofs.Common.{◌≡◌, ◌<◌, ℕ, [], length, replicate}
+use Rattle.nmgc_graph.specs.Marks.{count_of}
+use Rattle.nmgc_graph.specs.Waiting.{bounds_of}
+use Rattle.nmgc_graph.proofs.world.World.none_filed.Given as goal
+
+abbrev pub invariant-loop-maker : goal.invariant-loop-maker
+invariant-loop-maker l =
+    (length l.waiting.bounds ≡ l.maker) × (l.waiting.before ≡ []) × ((k : ℕ) → k < l.maker → bounds_of l.waiting.bounds k ≡ replicate (count_of l.self k) 0)

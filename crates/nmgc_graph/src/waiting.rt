@@ -1,0 +1,100 @@
+//! Which weak pointers wait for which name.
+//!
+//! A weak pointer lives as soon as its key does, so the search that comes to a name has to find those that wait for
+//! it, and no others. They are those of a list, each told by its place in it. What is kept is a bound for each name: all
+//! that wait for it have places below the bound, and the last of them the place just below. And for each weak pointer
+//! the bound that its key had before, which leads to the one before it. So filing one takes constant time, and going
+//! over those that wait for a name takes time for these alone.
+//!
+//! Easy to get wrong: a bound is one more than a place, and 0 where none waits. Each bound that is
+//! met is smaller than the one before it, which is why going over them ends.
+ghost use Rattle.std.specs.Prelude.{◌≡◌, ◌<◌, ◌≤◌, ◌^◌, [], ◌∷◌, ◌++◌, length, replicate, slice_index, slice_set, OnOk, IfSome};
+
+use crate::{List, Name, NoMemory};
+use std::alloc::Global;
+
+/// For each name the bound of the weak pointers that wait for it, and for each weak pointer that of those before it.
+#[derive(Drop)]
+pub(crate) struct Waiting {
+    pub(crate) bounds: List<List<usize>>,
+    pub(crate) before: List<usize>,
+}
+
+impl Waiting {
+    ghost use Rattle.nmgc_graph.specs.Waiting.{HasBound, bound_of, with_next};
+
+    /// No place for a bound yet, and no weak pointer. Takes no memory.
+    pub(crate) fn new(alloc: Global) -> Self
+        ensures { result ≡ record { bounds = []; before = [] } }
+    {
+        Waiting {
+            bounds: List::new(alloc),
+            before: List::new(alloc),
+        }
+    }
+
+    /// Makes places for the bounds of so many names of the next maker. No weak pointer waits for these yet.
+    pub(crate) fn add_maker(&mut self, alloc: Global, count: usize) -> Result<(), NoMemory>
+        ensures { OnOk result (self.new ≡ record { bounds = self.old.bounds ++ replicate count 0 ∷ []; before = self.old.before }) }
+    {
+        let row = List::from_vec(vec![in alloc; 0usize; count]?)?;
+        self.bounds.push(row)
+    }
+
+    /// Files the next weak pointer of the list, which waits for this name, or for none. Takes constant time.
+    pub(crate) fn add(&mut self, key: Option<Name>) -> Result<(), NoMemory>
+        requires { IfSome key (HasBound self.old.bounds) }
+        ensures { OnOk result (self.new ≡ with_next self.old key) }
+    {
+        let bound = self.before.items().len() + 1;
+        let before = match key {
+            Some(name) => raise(
+                &mut self.bounds.items_mut()[name.maker as usize],
+                name.serial,
+                bound,
+            ),
+            None => 0,
+        };
+        self.before.push(before)
+    }
+
+    /// The bound of the weak pointers that wait for a name. Takes constant time.
+    pub(crate) fn bound(&self, name: Name) -> usize
+        ensures { result ≡ bound_of self.now.bounds name }
+    {
+        match self.bounds.items().get(name.maker as usize) {
+            Some(row) => bound_in(row.items(), name.serial),
+            None => 0,
+        }
+    }
+
+    /// The bound of those that wait for the same name and come before the weak pointer at a place. Takes constant time.
+    pub(crate) fn bound_before(&self, place: usize) -> usize
+        requires { place < length self.now.before }
+        ensures { result ≡ slice_index self.now.before place }
+    {
+        self.before.items()[place]
+    }
+}
+
+// Sets the bound of a serial, and gives the one before.
+fn raise(row: &mut List<usize>, serial: u32, bound: usize) -> usize
+    requires { serial < length row.old }
+    ensures before { result ≡ slice_index row.old serial }
+    ensures row { row.new ≡ slice_set row.old serial bound }
+{
+    let place = &mut row.items_mut()[serial as usize];
+    let before = *place;
+    *place = bound;
+    before
+}
+
+// The bound of a serial.
+fn bound_in(row: &[usize], serial: u32) -> usize
+    ensures { result ≡ slice_index row.now serial }
+{
+    match row.get(serial as usize) {
+        Some(bound) => *bound,
+        None => 0,
+    }
+}
