@@ -1,5 +1,5 @@
 -- A trace that is read line by line: some lines were read, which are those that the bytes say, and so far they bring it.
-use Rattle.std.proofs.Common.{◌≡◌, ◌+◌, ◌∙◌, ◌++◌, ℕ, refl, sym, ap, subst, arith, List, [], ◌∷◌, length, Option, Some, None, Bool, true, false, codes}
+use Rattle.std.proofs.Common.{◌≡◌, ◌≤◌, ◌+◌, ◌-◌, ◌^◌, ◌∙◌, ◌++◌, ℕ, refl, sym, ap, subst, arith, List, [], ◌∷◌, length, Option, Some, None, Bool, true, false, codes}
 use Rattle.std.specs.Prelude.{IfSome, ◌&&◌}
 use Rattle.std.specs.Str.{bytes_eq}
 use Rattle.std.specs.Io.BufRead.{strip_last}
@@ -19,8 +19,10 @@ use Rattle.nmgc_judge.specs.declared.report.Refusal.{Refusal}
 use Rattle.nmgc_judge.specs.declared.report.Report.{Report}
 use Rattle.nmgc_judge.specs.declared.report.Report.TheVariants as report
 use Rattle.nmgc_judge.specs.declared.reading.Outcome.TheVariants as outcome
+use Rattle.nmgc_judge.specs.declared.reading.TraceFault.{TraceFault}
+use Rattle.nmgc_judge.specs.declared.reading.TraceFault.TheVariants as fault
 use Rattle.nmgc_judge.specs.declared.telling.Answer.{Answer}
-use Rattle.nmgc_judge.specs.Outcomes.{is_refused, is_refused_there, AreWatchedLines, AreMarkedLines, IsWatched, IsMarked, IsWatchedOf, IsMarkedOf, IsOutcome}
+use Rattle.nmgc_judge.specs.Outcomes.{is_refused, is_refused_there, AreWatchedLines, AreMarkedLines, IsWatched, IsMarked, IsWatchedOf, IsMarkedOf, IsOutcome, IsFault, IsTooLong}
 use Rattle.nmgc_judge.specs.Reports.{Comes, Happens, IsRefusal, IsReport, report_of}
 use Rattle.nmgc_judge.specs.Said.{texts_of, ahead, AreSaid, IsNextLine, Says, SaysLine}
 use Rattle.nmgc_judge.specs.Trace as trace
@@ -37,6 +39,13 @@ said_more : {A : Type 0} (says : List ℕ → A → Type 0) (texts : List (List 
 said_more says texts [] text left l is s = subst (λ (ts : List (List ℕ)). AreSaid says ts (l ∷ []) left) (sym is) (s, refl)
 said_more says [] (x ∷ xs) text left l is s = absurd is
 said_more says (t ∷ ts) (x ∷ xs) text left l is s = (is.0, said_more says ts xs text left l is.1 s)
+
+-- no more lines are said than there are texts
+said_within : {A : Type 0} (says : List ℕ → A → Type 0) (texts : List (List ℕ)) (lines : List A) (left : List (List ℕ)) → AreSaid says texts lines left →
+    length lines ≤ length texts
+said_within says texts [] left is = omega arith
+said_within says [] (x ∷ xs) left is = absurd is
+said_within says (t ∷ ts) (x ∷ xs) left is = let rest : length xs ≤ length ts = said_within says ts xs left is.1 in omega arith
 
 -- FORMAT 2
 
@@ -131,6 +140,16 @@ told_ended known now next n p text answer s is told_is = (
   tellings.ends_well (told.Blank ∷ s.lines) p answer.report s.comes told_is,
   tells_whole (told.Blank ∷ s.lines) p answer.report s.comes told_is,
 )
+
+-- with the head, as many lines as there are numbers
+pub watched_too_long : (known now : Option (List ℕ)) (head : List ℕ) (n : ℕ) (p : Begun) → SoFar known n p now → n ≡ 2 ^ 64 - 1 →
+    IsTooLong (ahead true head) known
+watched_too_long None now head n p s last = tt
+watched_too_long (Some all) now head n p s last =
+    let read : (rest : List ℕ) × (now ≡ Some rest) × AreSaid Says (texts_of all) s.lines (texts_of rest) = s.read in
+    let within : length s.lines ≤ length (texts_of all) = said_within Says (texts_of all) s.lines (texts_of read.0) read.2 in
+    let c : n ≡ 2 + length s.lines = s.count in
+    omega arith
 
 -- FORMAT 1
 
@@ -238,6 +257,17 @@ module _ (known : Option (List ℕ)) (is_there : Bool) (first : List ℕ) (n : �
     tells_kept s.lines p v s.comes is,
   )
 
+-- as many lines as there are numbers
+pub marked_too_long : (known : Option (List ℕ)) (is_there : Bool) (first : List ℕ) (n : ℕ) (p : Progress) (now : Option (List ℕ)) (goes_on : Bool)
+    (text : List ℕ) → Reached known is_there first n p now goes_on text → n ≡ 2 ^ 64 - 1 → IsTooLong (ahead is_there first) known
+marked_too_long None is_there first n p now goes_on text s last = tt
+marked_too_long (Some all) is_there first n p now goes_on text s last =
+    let read : (rest : List ℕ) × (now ≡ Some rest) × AreSaid SaysLine (ahead is_there first all) s.lines (ahead goes_on text rest) = s.judged in
+    let within : length s.lines ≤ length (ahead is_there first all) =
+    said_within SaysLine (ahead is_there first all) s.lines (ahead goes_on text read.0) read.2 in
+    let c : n ≡ 1 + length s.lines = s.count in
+    omega arith
+
 -- WHICH FORMAT
 
 is_head : (text : List ℕ) → bytes_eq text (codes "trace 2") ≡ true → text ≡ codes "trace 2"
@@ -288,3 +318,19 @@ marked_of (Some bytes) now is_there line lines v is head t =
 pub outcome_marked : (old now : Option (List ℕ)) (is_there : Bool) (line : List ℕ) (v : Verdict) → IsNextLine old now line is_there →
     (is_there && bytes_eq (strip_last 13 (strip_last 10 line)) (codes "trace 2")) ≡ false → IsMarked now is_there line v → IsOutcome old (outcome.Marked v)
 outcome_marked old now is_there line v is head m = (m.0, marked_of old now is_there line m.0 v is head m.1, m.2, m.3)
+
+-- WHY NOTHING IS TOLD
+
+-- what is too long by one cause is so by what follows from it
+pub fault_by : (long longer : Type 0) (f : TraceFault) → (long → longer) → IsFault long f → IsFault longer f
+fault_by long longer fault.NoMemory follows is = tt
+fault_by long longer (fault.Io error) follows is = is
+fault_by long longer fault.TooLong follows is = follows is
+
+-- the first line is one of the lines
+pub all_too_long : (old now : Option (List ℕ)) (is_there : Bool) (line : List ℕ) → IsNextLine old now line is_there → IsTooLong (ahead is_there line) now →
+    IsTooLong texts_of old
+all_too_long None now is_there line is long = tt
+all_too_long (Some bytes) now is_there line is long =
+    let there : 2 ^ 64 - 2 ≤ length (ahead is_there line is.0) = subst (IsTooLong (ahead is_there line)) is.1 long in
+    subst (λ (texts : List (List ℕ)). 2 ^ 64 - 2 ≤ length texts) (sym is.2) there

@@ -2,7 +2,7 @@
 --
 -- A reader that tells its bytes, as a slice in memory does, has the lines of these bytes judged. A file or a pipe tells none, so
 -- there it isn't said which lines were read: it is the same code that reads them.
-use Rattle.std.specs.Prelude.{◌≡◌, ◌≢◌, ℕ, List, [], ◌∷◌, codes, Option, Bool, true, false, IfSome}
+use Rattle.std.specs.Prelude.{◌≡◌, ◌≢◌, ◌≤◌, ◌-◌, ◌^◌, ℕ, List, [], ◌∷◌, length, codes, Option, Bool, true, false, IfSome}
 use Rattle.std.specs.IoError.{error_kind}
 use Rattle.std.specs.declared.io.ErrorKind.TheVariants.{OutOfMemory}
 use Rattle.nmgc_judge.specs.declared.line.Line.{Line}
@@ -78,8 +78,12 @@ abbrev pub is_passed_of : Outcome → Bool
 is_passed_of (outcome.Marked verdict) = is_passed verdict
 is_passed_of (outcome.Watched answer) = is_whole answer.report
 
--- why nothing can be told: a fault of reading or writing is no want of memory
-abbrev pub IsFault : TraceFault → Type 0
-IsFault fault.NoMemory = Unit {0}
-IsFault (fault.Io error) = error_kind error ≢ OutOfMemory
-IsFault fault.TooLong = Unit {0}
+-- why nothing can be told: a fault of reading or writing is no want of memory, and what is too long is so by this
+abbrev pub IsFault : Type 0 → TraceFault → Type 0
+IsFault long fault.NoMemory = Unit {0}
+IsFault long (fault.Io error) = error_kind error ≢ OutOfMemory
+IsFault long fault.TooLong = long
+
+-- there are 2 ^ 64 - 2 lines or more, where the bytes are known of which these are the texts
+abbrev pub IsTooLong : (List ℕ → List (List ℕ)) → Option (List ℕ) → Type 0
+IsTooLong texts known = IfSome known (λ bytes. 2 ^ 64 - 2 ≤ length (texts bytes))

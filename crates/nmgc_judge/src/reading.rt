@@ -2,12 +2,12 @@
 //!
 //! The first line tells the format. A line is judged as soon as it was read, and then forgotten: so memory is that of
 //! the heap of which the trace tells, and whoever writes a trace into a pipe is answered at the line that is wrong.
-ghost use Rattle.std.specs.Prelude.{◌≡◌, ◌&&◌, codes, string_bytes, IfErr, IfOk};
+ghost use Rattle.std.specs.Prelude.{◌≡◌, ◌&&◌, true, codes, string_bytes, IfErr, IfOk};
 ghost use Rattle.std.specs.Io.BufRead.{strip_last};
 ghost use Rattle.std.specs.Str.{bytes_eq};
 ghost use Rattle.nmgc_judge.specs.declared.reading.TraceFault.TheVariants.{NoMemory as no_memory};
-ghost use Rattle.nmgc_judge.specs.Outcomes.{IsFault, IsOutcome, IsMarked, IsWatched, is_passed_of};
-ghost use Rattle.nmgc_judge.specs.Said.{IsNextLine};
+ghost use Rattle.nmgc_judge.specs.Outcomes.{IsFault, IsTooLong, IsOutcome, IsMarked, IsWatched, is_passed_of};
+ghost use Rattle.nmgc_judge.specs.Said.{IsNextLine, ahead, texts_of};
 
 use crate::line::line_of;
 use crate::progress::Progress;
@@ -55,7 +55,7 @@ pub enum TraceFault {
     NoMemory,
     /// It couldn't be read, or `ok` couldn't be written, and not for want of memory.
     Io(io::Error),
-    /// It has 2^64 - 1 lines or more.
+    /// It has 2^64 - 2 lines or more.
     TooLong,
 }
 
@@ -69,7 +69,7 @@ impl From<NoMemory> for TraceFault {
 
 // A line for which there is no room is want of memory, though a reader tells it as an error of its own.
 impl From<io::Error> for TraceFault {
-    ghost from_gives = { λ _ fault. IsFault fault };
+    ghost from_gives = { λ _ fault. IsFault ⊥ fault };
 
     fn from(error: io::Error) -> Self {
         match error.kind() {
@@ -89,7 +89,7 @@ pub fn outcome_of<R: BufRead, P: Print>(
     is_asked: bool,
 ) -> Result<Outcome, TraceFault>
     ensures outcome { IfOk result (IsOutcome (R.remaining reader.old)) }
-    ensures fault { IfErr result IsFault }
+    ensures fault { IfErr result (IsFault (IsTooLong texts_of (R.remaining reader.old))) }
 {
     let mut text = String::new(alloc);
     let is_there = next_line(reader, &mut text)?;
@@ -109,7 +109,7 @@ fn marked<R: BufRead>(
     is_there: bool,
 ) -> Result<Verdict, TraceFault>
     ensures lines { IfOk result (IsMarked (R.remaining reader.old) is_there (string_bytes text)) }
-    ensures fault { IfErr result IsFault }
+    ensures fault { IfErr result (IsFault (IsTooLong (ahead is_there (string_bytes text)) (R.remaining reader.old))) }
 {
     let mut progress = Progress::Nothing;
     let mut goes_on = is_there;
@@ -139,7 +139,7 @@ fn watched<R: BufRead, P: Print>(
     is_asked: bool,
 ) -> Result<Answer, TraceFault>
     ensures lines { IfOk result (IsWatched (R.remaining reader.old)) }
-    ensures fault { IfErr result IsFault }
+    ensures fault { IfErr result (IsFault (IsTooLong (ahead true (string_bytes text)) (R.remaining reader.old))) }
 {
     let mut telling = Telling::new(alloc);
     for number in 2..usize::MAX {
