@@ -82,6 +82,7 @@ impl From<io::Error> for TraceFault {
 /// Reads a trace up to the first line that can't happen, or to its end, and tells what it comes to. Where it is asked
 /// for answers, each empty line of a trace of format 2 is answered by `ok`, once all lines before it have happened. Takes
 /// memory for the heap that the trace tells of, for its longest line, and for the commands of its longest copy or fill.
+/// An error says why nothing can be told; `TooLong` comes of 2^64 - 2 lines or more alone.
 pub fn outcome_of<R: BufRead, P: Print>(
     alloc: Global,
     reader: &mut R,
