@@ -1,6 +1,6 @@
 -- A trace that is read line by line: some lines were read, which are those that the bytes say, and so far they bring it.
 use Rattle.std.proofs.Common.{◌≡◌, ◌≤◌, ◌+◌, ◌-◌, ◌^◌, ◌∙◌, ◌++◌, ℕ, refl, sym, ap, subst, arith, List, [], ◌∷◌, length, Option, Some, None, Bool, true, false, codes}
-use Rattle.std.specs.Prelude.{IfSome, ◌&&◌}
+use Rattle.std.specs.Prelude.{IfSome, ◌&&◌, Result, Ok, Err, IfErr, IsErrAnd}
 use Rattle.std.specs.Str.{bytes_eq}
 use Rattle.std.specs.Io.BufRead.{strip_last}
 use Rattle.std.proofs.lemmas.Bool.{and_parts, false≢true}
@@ -141,15 +141,16 @@ told_ended known now next n p text answer s is told_is = (
   tells_whole (told.Blank ∷ s.lines) p answer.report s.comes told_is,
 )
 
--- with the head, as many lines as there are numbers
-pub watched_too_long : (known now : Option (List ℕ)) (head : List ℕ) (n : ℕ) (p : Begun) → SoFar known n p now → n ≡ 2 ^ 64 - 1 →
+-- all numbers were given: with the head there are as many lines
+pub watched_too_long : (known now : Option (List ℕ)) (head : List ℕ) (n : ℕ) (p : Begun) → SoFar known n p now → 2 ^ 64 - 1 ≤ n →
     IsTooLong (ahead true head) known
 watched_too_long None now head n p s last = tt
 watched_too_long (Some all) now head n p s last =
     let read : (rest : List ℕ) × (now ≡ Some rest) × AreSaid Says (texts_of all) s.lines (texts_of rest) = s.read in
     let within : length s.lines ≤ length (texts_of all) = said_within Says (texts_of all) s.lines (texts_of read.0) read.2 in
     let c : n ≡ 2 + length s.lines = s.count in
-    omega arith
+    let long : 2 ^ 64 - 2 ≤ length (strip_last 13 (strip_last 10 head) ∷ texts_of all) = omega arith in
+    long
 
 -- FORMAT 1
 
@@ -257,16 +258,17 @@ module _ (known : Option (List ℕ)) (is_there : Bool) (first : List ℕ) (n : �
     tells_kept s.lines p v s.comes is,
   )
 
--- as many lines as there are numbers
+-- all numbers were given: there are as many lines
 pub marked_too_long : (known : Option (List ℕ)) (is_there : Bool) (first : List ℕ) (n : ℕ) (p : Progress) (now : Option (List ℕ)) (goes_on : Bool)
-    (text : List ℕ) → Reached known is_there first n p now goes_on text → n ≡ 2 ^ 64 - 1 → IsTooLong (ahead is_there first) known
+    (text : List ℕ) → Reached known is_there first n p now goes_on text → 2 ^ 64 - 1 ≤ n → IsTooLong (ahead is_there first) known
 marked_too_long None is_there first n p now goes_on text s last = tt
 marked_too_long (Some all) is_there first n p now goes_on text s last =
     let read : (rest : List ℕ) × (now ≡ Some rest) × AreSaid SaysLine (ahead is_there first all) s.lines (ahead goes_on text rest) = s.judged in
     let within : length s.lines ≤ length (ahead is_there first all) =
     said_within SaysLine (ahead is_there first all) s.lines (ahead goes_on text read.0) read.2 in
     let c : n ≡ 1 + length s.lines = s.count in
-    omega arith
+    let long : 2 ^ 64 - 2 ≤ length (ahead is_there first all) = omega arith in
+    long
 
 -- WHICH FORMAT
 
@@ -327,10 +329,22 @@ fault_by long longer fault.NoMemory follows is = tt
 fault_by long longer (fault.Io error) follows is = is
 fault_by long longer fault.TooLong follows is = follows is
 
--- the first line is one of the lines
+-- a fault of a stream, whatever is too long
+pub of_stream : {A : Type 0} (long : Type 0) (r : Result A TraceFault) → IsErrAnd r (IsFault ⊥) → IfErr r (IsFault long)
+of_stream long (Ok x) is = tt
+of_stream long (Err f) is = fault_by ⊥ long f (λ never. absurd never) is
+
+-- the lines from the one that was read on are all
 pub all_too_long : (old now : Option (List ℕ)) (is_there : Bool) (line : List ℕ) → IsNextLine old now line is_there → IsTooLong (ahead is_there line) now →
     IsTooLong texts_of old
 all_too_long None now is_there line is long = tt
 all_too_long (Some bytes) now is_there line is long =
-    let there : 2 ^ 64 - 2 ≤ length (ahead is_there line is.0) = subst (IsTooLong (ahead is_there line)) is.1 long in
+    let there : IsTooLong (ahead is_there line) (Some is.0) = subst (IsTooLong (ahead is_there line)) is.1 long in
     subst (λ (texts : List (List ℕ)). 2 ^ 64 - 2 ≤ length texts) (sym is.2) there
+
+-- with the head
+pub head_too_long : (old now : Option (List ℕ)) (is_there : Bool) (line : List ℕ) → IsNextLine old now line is_there →
+    (is_there && bytes_eq (strip_last 13 (strip_last 10 line)) (codes "trace 2")) ≡ true → IsTooLong (ahead true line) now → IsTooLong texts_of old
+head_too_long old now is_there line is head long =
+    let there : is_there ≡ true = (and_parts is_there (bytes_eq (strip_last 13 (strip_last 10 line)) (codes "trace 2")) head).0 in
+    all_too_long old now true line (subst (IsNextLine old now line) there is) long

@@ -1,9 +1,10 @@
-use Rattle.std.proofs.Common.{◌≡◌, ◌∙◌, ap, subst, ℕ, List, Option, string_bytes}
+use Rattle.std.proofs.Common.{◌≡◌, ◌∙◌, ap, subst, arith, ℕ, List, Option, string_bytes}
 use Rattle.std.specs.Io.BufRead.{strip_last}
 use Rattle.nmgc_judge.specs.declared.progress.Progress.{Progress}
-use Rattle.nmgc_judge.specs.Said.{SaysLine}
+use Rattle.nmgc_judge.specs.Outcomes.{IsTooLong}
+use Rattle.nmgc_judge.specs.Said.{ahead, SaysLine}
 use Rattle.nmgc_judge.specs.Trace.{IsNext}
-use Rattle.nmgc_judge.proofs.Readings.{nothing_read, reached_more, judged_refused, judged_ended}
+use Rattle.nmgc_judge.proofs.Readings.{nothing_read, reached_more, judged_refused, judged_ended, marked_too_long, of_stream}
 use Rattle.nmgc_judge.proofs.reading.marked.Goals as goal
 
 pub loop-number-init : goal.loop-number-init
@@ -35,3 +36,13 @@ loop-number-preserved g c =
     (g.R.Read.remaining c.next_line.new.reader) c.in-Some.reached c.in_ok-goes_on.goes_on (string_bytes c.next_line.new.text) c.in_ok-line.line
     c.if-not-goes_on.false (subst (λ (l : List ℕ). SaysLine l c.in_ok-line.line) text c.in_ok-line.ensures)
     (subst N c.in-Some.is c.in_ok-next.ensures) c.in_ok-goes_on.ensures
+
+pub returns-in_err-goes_on-clause-fault : goal.returns-in_err-goes_on-clause-fault
+returns-in_err-goes_on-clause-fault g c =
+    of_stream (IsTooLong (ahead c.args.is_there (string_bytes c.args.text)) (g.R.Read.remaining c.args.reader.now)) c.from_residual-in_err-goes_on.result
+    c.from_residual-in_err-goes_on.ensures.1
+
+pub returns-clause-fault : goal.returns-clause-fault
+returns-clause-fault g c =
+    marked_too_long (g.R.Read.remaining c.args.reader.now) c.args.is_there (string_bytes c.args.text) c.loop-number.number c.loop-number.progress
+    (g.R.Read.remaining c.loop-number.reader) c.loop-number.goes_on (string_bytes c.loop-number.text) c.loop-number.invariant (omega arith)

@@ -1,11 +1,12 @@
-use Rattle.std.proofs.Common.{◌≡◌, ◌∙◌, sym, ap, subst, ℕ, List, Option, Bool, string_bytes}
+use Rattle.std.proofs.Common.{◌≡◌, ◌∙◌, sym, ap, subst, arith, ℕ, List, Option, Bool, true, string_bytes}
 use Rattle.std.specs.Io.BufRead.{strip_last}
 use Rattle.nmgc_judge.specs.declared.told.Told.{Told}
 use Rattle.nmgc_judge.specs.declared.report.Begun.{Begun}
 use Rattle.nmgc_judge.specs.declared.report.Refusal.{Refusal}
+use Rattle.nmgc_judge.specs.Outcomes.{IsTooLong}
 use Rattle.nmgc_judge.specs.Reports.{IsHappening}
-use Rattle.nmgc_judge.specs.Said.{Says, IsNextLine}
-use Rattle.nmgc_judge.proofs.Readings.{SoFar, after_the_head, one_more, told_refused, told_ended}
+use Rattle.nmgc_judge.specs.Said.{ahead, Says, IsNextLine}
+use Rattle.nmgc_judge.proofs.Readings.{SoFar, after_the_head, one_more, told_refused, told_ended, watched_too_long, of_stream}
 use Rattle.nmgc_judge.proofs.reading.watched.Goals as goal
 
 pub loop-number-init : goal.loop-number-init
@@ -46,3 +47,17 @@ loop-number-preserved g c =
     c.loop-number.number c.loop-number.telling.begun c.line.new.self.begun (string_bytes c.next_line.new.text) t c.loop-number.invariant
     (subst N c.if-not-branch.false c.in_ok-next_line.ensures) (subst (λ (l : List ℕ). Says l t) text c.in_ok-refused.ensures.1)
     (subst H c.in_default.is c.in_ok-refused.ensures.2)
+
+pub returns-in_err-next_line-clause-fault : goal.returns-in_err-next_line-clause-fault
+returns-in_err-next_line-clause-fault g c =
+    of_stream (IsTooLong (ahead true (string_bytes c.args.text)) (g.R.Read.remaining c.args.reader.now)) c.from_residual.result c.from_residual.ensures.1
+
+pub returns-in_err-println-clause-fault : goal.returns-in_err-println-clause-fault
+returns-in_err-println-clause-fault g c =
+    of_stream (IsTooLong (ahead true (string_bytes c.args.text)) (g.R.Read.remaining c.args.reader.now)) c.from_residual-in_err-println.result
+    c.from_residual-in_err-println.ensures.1
+
+pub returns-clause-fault : goal.returns-clause-fault
+returns-clause-fault g c =
+    watched_too_long (g.R.Read.remaining c.args.reader.now) (g.R.Read.remaining c.loop-number.reader) (string_bytes c.args.text)
+    c.loop-number.number c.loop-number.telling.begun c.loop-number.invariant (omega arith)
