@@ -78,12 +78,12 @@ abbrev pub is_passed_of : Outcome → Bool
 is_passed_of (outcome.Marked verdict) = is_passed verdict
 is_passed_of (outcome.Watched answer) = is_whole answer.report
 
--- why nothing can be told: a fault of reading or writing is no want of memory, and what is too long is so by this
+-- why nothing can be told: a fault of reading or writing is no want of memory, and of a trace that is too long this is true
 abbrev pub IsFault : Type 0 → TraceFault → Type 0
 IsFault long fault.NoMemory = Unit {0}
 IsFault long (fault.Io error) = error_kind error ≢ OutOfMemory
 IsFault long fault.TooLong = long
 
--- there are 2 ^ 64 - 2 lines or more, where the bytes are known of which these are the texts
+-- where the bytes are known, they have 2 ^ 64 - 2 of these texts or more
 abbrev pub IsTooLong : (List ℕ → List (List ℕ)) → Option (List ℕ) → Type 0
 IsTooLong texts known = IfSome known (λ bytes. 2 ^ 64 - 2 ≤ length (texts bytes))

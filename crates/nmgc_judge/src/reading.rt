@@ -67,7 +67,8 @@ impl From<NoMemory> for TraceFault {
     }
 }
 
-// A line for which there is no room is want of memory, though a reader tells it as an error of its own.
+// A line for which there is no room is want of memory, though a reader tells it as an error of its own. No trace is too
+// long by such an error.
 impl From<io::Error> for TraceFault {
     ghost from_gives = { λ _ fault. IsFault ⊥ fault };
 
