@@ -1,7 +1,7 @@
 //! Bytes cut at their first separator.
 //!
-//! All texts that are read are cut into lines and words by this one call, and each of up to 16 MiB of bytes is looked at
-//! to find where a line ends. So sixteen are looked at together, as long as there are so many, and the rest one by one.
+//! Scripts, images, names and reports are cut into lines and words here, and each of their bytes is looked at to find where
+//! a line ends. So sixteen are looked at together, as long as there are so many, and the rest one by one.
 //!
 //! Easy to get wrong: where the separator isn't found nothing is cut, and it is the caller who knows whether what is left is
 //! a last part.
@@ -69,8 +69,8 @@ pub fn cut(bytes: &[u8], byte: u8) -> Option<(&[u8], &[u8])>
     Some((&bytes[..at], &bytes[at + 1..]))
 }
 
-/// The same of a part of longer bytes, which begins at a place of theirs. A part that is shorter than the bytes which are
-/// looked at together is cut by one look all the same, where the longer ones have so many from that place on.
+/// The same of `part`, which stands in `whole` from the place `from` on. Where `whole` has sixteen bytes or more from there,
+/// a part of at most sixteen is searched by one look.
 #[inline]
 pub fn cut_within<'a>(
     whole: &[u8],
