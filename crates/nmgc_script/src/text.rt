@@ -5,7 +5,8 @@
 //! of the next line of the text. Easy to get wrong: a line that is passed over still has a number, and
 //! where the text ends too early the line told is one that isn't there.
 //!
-//! Most lines are shorter than the bytes that are looked at together, so a line is cut with what comes behind it in sight.
+//! Most lines are shorter than the bytes that are looked at together, so a line is cut together with the text behind it,
+//! which makes up what a look takes.
 ghost use Rattle.std.specs.Prelude.{◌≡◌, ◌+◌, ◌<◌, ◌≤◌, ◌^◌, [], ◌∷◌, length, map, take, IfSome, IfNone, OnOk};
 ghost use Rattle.nmgc_script.specs.Text.{lines_of, words_of, is_passed, kept_after, end_after, kept_lines, end_of};
 

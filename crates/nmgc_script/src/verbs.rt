@@ -102,7 +102,8 @@ impl Verb {
     }
 }
 
-// The verb that a name is, if it is any: no other verb's name begins with its letters. No clause speaks of the answer.
+// The verb that a name is, if it is one: the letters that are looked at tell each verb from all others. No clause speaks of
+// the answer.
 fn likely(name: &[u8]) -> Verb {
     match name {
         [b'c', b'o', b'n', ..] => Verb::Con,
