@@ -3,8 +3,8 @@
 //! A report may have millions of them, and nearly all give a name or a number. Such a line is written in a buffer from its
 //! end on, since the digits of a number come from its last one, and appended to the text as a whole.
 //!
-//! Easy to get wrong: the buffer has room for the longest line, of a mutator and a number of 20 digits each, but a name
-//! has two numbers more.
+//! Easy to get wrong: the line of a name has one number more than that of a number. But its numbers are of 8 and of 32
+//! bits, so the longest line is that of a mutator and a number with 20 digits each.
 ghost use Rattle.std.specs.Prelude.{◌≡◌, ◌+◌, ◌<◌, ◌≤◌, [], ◌∷◌, ◌++◌, decimal, drop, length, OnOk};
 ghost use Rattle.nmgc_graph.specs.declared.command.Reply.TheVariants.{Given};
 ghost use Rattle.nmgc_graph.specs.declared.value.Value.TheVariants.{Number, Ref};
