@@ -155,7 +155,8 @@ impl<'a> Cursor<'a> {
         })
     }
 
-    // A number. `Bad` comes also where it has a leading zero, or more than eighteen digits, which only few numbers have.
+    // A number. `Bad` comes also where it has a leading zero, or more than eighteen digits, which the numbers of an image
+    // seldom have.
     fn number(&mut self) -> Result<u64, LineFault>
         ensures text { IfOk result (λ number. self.old.rest.now ≡ decimal number ++ self.new.rest.now) }
         ensures small { IfOk result (λ number. number < 10 ^ 18) }

@@ -26,8 +26,8 @@ const _: () = prove!(MAX_IMAGE_BYTES <= 1 << 31);
 /// Asks that the text is short enough for its lines to be counted in 32 bits.
 ///
 /// Takes time in proportion to the text, but for a look-up of each name that it mentions: in one step where the serials of
-/// the name's maker follow one another, and else by halving. A text that mentions a name without a node line before the
-/// first bad line is read twice, with the memory of both readings, and the names of node lines behind a bad line are
+/// the name's maker follow one another, and else by a binary search. A text that, before its first bad line, mentions a name
+/// without a node line is read twice, with the memory of both readings, and the names of node lines behind a bad line are
 /// sorted. Takes memory for the image, and 8 bytes for each node line.
 pub fn read_image(alloc: Global, bytes: &[u8]) -> Result<Image, ImageFault>
     requires { length bytes.now ≤ 2 ^ 31 }
