@@ -3,8 +3,8 @@
 //! The cycle has the world as it is, and the snapshot. Of the names of the snapshot it has those that were pushed, those
 //! that the commands opened, and those that the marker took, where that is told: each is a list of names, once each, with
 //! a set for asking in constant time (`listed`). What came due waits in a queue for each mutator (`accounts`). A push puts
-//! the name into the set, so it takes constant time; a debt counts as long as its name isn't in the set. So a cycle takes
-//! memory for each name and mutator, however long it goes on.
+//! the name into list and set, so it takes amortised constant time; a debt counts as long as its name isn't in the set. So
+//! a cycle takes memory for each name and mutator, however long it goes on.
 //!
 //! Easy to get wrong: a name of no snapshot has no place in a set. It can't be due, and a push of it changes nothing.
 ghost use Rattle.std.specs.Prelude.{◌≡◌, ◌↔◌, ◌<◌, ◌++◌, length, IfOk, OnOk, IsSome, IsTrue};
@@ -99,7 +99,7 @@ impl Cycle {
 
     /// A mutator gives a command at a line. What it makes due, and wasn't pushed, is due since that line. A refused
     /// command changes nothing; after `NoMemory` nothing is known but that it is a cycle. Takes amortised constant time for
-    /// each operand and each field that the command may take away.
+    /// each operand, each field of an object that the command makes and each field that it may take away.
     pub fn command(
         &mut self,
         line: usize,
@@ -171,8 +171,8 @@ impl Cycle {
         Ok(())
     }
 
-    /// A name is pushed, by whomever. A name that the heap doesn't have is refused, and changes nothing. Takes constant
-    /// time.
+    /// A name is pushed, by whomever. A name that the heap doesn't have is refused, and changes nothing. Takes amortised
+    /// constant time.
     pub fn push(&mut self, name: Name) -> Result<Option<Why>, NoMemory>
         ensures push { IfOk result (λ why. IsPush name self.old why self.new) }
     {
@@ -207,7 +207,7 @@ impl Cycle {
         }
     }
 
-    /// The marker took a name: one that was pushed. Any other is refused, and changes nothing. Takes constant time.
+    /// The marker took a name: one that was pushed. Any other is refused, and changes nothing. Takes amortised constant time.
     pub fn take(&mut self, name: Name) -> Result<Option<Why>, NoMemory>
         ensures { IfOk result (λ why. IsTake name self.old why self.new) }
     {

@@ -1,7 +1,7 @@
 //! What a cycle leaves.
 //!
 //! A runtime that tells what it marked, or what it freed, is compared with it. It may tell what it freed in many lines, so
-//! nothing is made for a line: the names of the cycle are in order, and each told one is found by halves.
+//! no set is made for a line: the names of the cycle are in order, and each told one is found by a binary search.
 //!
 //! Easy to get wrong: what was made since the cycle began is in no snapshot, so nothing of the cycle says that it is
 //! garbage; a sweep that frees it is wrong, whether or not something refers to it.

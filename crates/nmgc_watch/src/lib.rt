@@ -7,7 +7,7 @@
 //! a reason and the line since which it is true.
 //! - `event`: what can be told, and the reasons. `watch`: the machine over events, any number of cycles.
 //! - `cycle`: one cycle, and `closing`: how it ends; `left`: what it leaves, compared with what the runtime marked or freed;
-//!   `ordered`: names that are found by halves.
+//!   `ordered`: names that are found by a binary search.
 //! - `accounts`: what each mutator owes. `listed`: names, each once.
 //! - `due`: what a command makes due. `opened`: what it opens and finalises. `rows`: a copy of many fields, and a fill.
 //! - `laws`: a reason refuses; and a cycle that closes without debts marked exactly what it had to, whatever marker ran

@@ -42,7 +42,7 @@ impl Listed {
         self.set.contains(name)
     }
 
-    /// A name joins, where the snapshot has it. After `NoMemory` nothing has changed. Takes constant time.
+    /// A name joins, where the snapshot has it. After `NoMemory` nothing has changed. Takes amortised constant time.
     pub(crate) fn add(&mut self, snapshot: &World, name: Name) -> Result<(), NoMemory>
         requires { HasPlaces snapshot.now self.old.set }
         ensures ok { OnOk result (self.new ≡ joined snapshot.now self.old name) }
@@ -56,7 +56,7 @@ impl Listed {
         Ok(())
     }
 
-    /// Names join, where the snapshot has them. After `NoMemory` some may have. Takes constant time for each.
+    /// Names join, where the snapshot has them. After `NoMemory` some may have. Takes amortised constant time for each.
     pub(crate) fn extend(&mut self, snapshot: &World, names: &[Name]) -> Result<(), NoMemory>
         requires { IsListed snapshot.now self.old }
         ensures listed { IsListed snapshot.now self.new }

@@ -1,7 +1,7 @@
 //! Names in order, each once.
 //!
-//! A name is found by halves, and so nothing is made to look for it: what a runtime tells of a cycle takes time for what
-//! is told, and not for all names that the heap ever had.
+//! A name is found by a binary search, so no set is made to look for it: what a runtime tells of a cycle takes time for
+//! what is told and what was kept, and not for all names that the heap ever had.
 ghost use Rattle.std.specs.Prelude.{◌≡◌, ◌↔◌, IsTrue, IfSome, IfNone, IfOk, Contains};
 ghost use Rattle.nmgc_graph.specs.Reach.{IsBefore, IsInOrder};
 ghost use Rattle.nmgc_watch.specs.Ordered.{StandsAt, IsPlaceOf, AreMet};

@@ -111,11 +111,17 @@ impl Watch {
 
     /// Takes the event of a line, and answers `None`; or refuses it with a reason, and then nothing has changed, but that of
     /// several commands in one line (`Event::Rows`) those before the refused one are done. After `NoMemory` nothing is known
-    /// of the watch. Takes amortised constant time for a push, a take and a settled mutator, and for a command for each operand
-    /// and each field that it may take away; for the beginning and the end of a cycle time for each object and each field; for
-    /// what was marked time for each kept name, and for what was marked or freed the time to find each told name by halves.
-    /// What can have been marked has each kept name. Memory grows with the heap alone: in a cycle it has two worlds, three for a moment as one begins or
-    /// ends, and a few bytes for each name and mutator.
+    /// of the watch.
+    ///
+    /// A push, a take and a settled mutator take amortised constant time; a command takes that for each operand, each field of
+    /// an object that it makes and each field that it may take away, and several commands in one line take it for each of
+    /// them. The beginning of a cycle and the stop take time for each object, and the end of a cycle takes it for
+    /// each object and each field.
+    /// What was marked takes time for each kept name, all of which a line that passes tells; and what was marked or freed takes
+    /// a binary search for each told name.
+    ///
+    /// Memory grows with the heap alone: in a cycle it has two worlds, three for a moment as one begins or ends, and a few
+    /// bytes for each name and mutator.
     pub fn step(&mut self, line: usize, event: &Event) -> Result<Option<Why>, NoMemory>
         ensures { IfOk result (λ why. IsStep line self.old event.now why self.new) }
     {
