@@ -67,6 +67,7 @@ fields_scanned kind.Thunk n = n
 fields_scanned kind.Weak n = 0
 fields_scanned kind.Stack n = n
 
+-- whether objects of the kind may have a result: thunks alone
 abbrev pub has_results : Kind → Bool
 has_results kind.Con = false
 has_results kind.Var = false
