@@ -225,7 +225,7 @@ IsPath words left left' taken taken' status report = (name : Name) → Asks word
     × (status ≡ Done → (bytes : List ℕ) × IsReadWithin MAX_IMAGE_BYTES left left' bytes × (image : shown.Image) × spelling.Spells bytes image ×
     (answer : Retained) × IsCertified image name answer × Appends taken taken' (retained_text answer))
 
--- the report tells a run that ended as heap full, and so did each that it tells by the cause of that end: also the one that `IsReport` has
+-- the report tells a run that ended as heap full; and each run that it tells, also the one of the clause `report`, ended so by its cause
 abbrev pub IsFullOf : Script → Option Report → Type 0
 IsFullOf script None = ⊥
 IsFullOf script (Some report) = IsRunOf script report × IsHeapFull report.end × ((run : IsRunOf script report) → IsFullRun script report run)
