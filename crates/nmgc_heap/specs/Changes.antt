@@ -39,7 +39,7 @@ pub record Remembers (w : World) (earlier later : List World) (K L : Name → No
   pub worlds : (e : World) → Contains later e → Contains (w ∷ earlier) e
   pub nodes : (name : Name) (node : Node) → L name node → K name node ⊎ (node_of w name ≡ Some node)
 
--- other words that are the same at every name, in every object that is told, and where they belong to nobody
+-- other words that are the same at every name, in every object that is told, and beside g
 pub record AgreeWhereTold (layout : Layout) (earlier : List World) (places : List Place) (w : World) (old new : List ℕ) : Type 0 where
   pub total : length new ≡ length old
   pub names : (p : Place) → Contains places p → slice_index new (p.at + NAME_OFFSET) ≡ slice_index old (p.at + NAME_OFFSET)
@@ -47,7 +47,7 @@ pub record AgreeWhereTold (layout : Layout) (earlier : List World) (places : Lis
       i < p.at + size_of node → slice_index new i ≡ slice_index old i
   pub between : (at : ℕ) → IsBetween at → slice_index new at ≡ slice_index old at
 
--- a word that is no name, in no object that is told, and none of those that belong to nobody
+-- a word that is no name, in no object that is told, and not beside g
 pub record IsUnborn (layout : Layout) (earlier : List World) (places : List Place) (w : World) (i : ℕ) : Type 0 where
   pub names : (p : Place) → Contains places p → i ≢ p.at + NAME_OFFSET
   pub objects : (p : Place) (node : Node) → Contains places p → IsTold layout earlier w p → node_of w p.name ≡ Some node → (i < p.at) ⊎

@@ -66,7 +66,7 @@ LiesInNursery layout maker at size = (size ≤ layout.words) × ((i : ℕ) → a
 abbrev pub shared_end : ℕ
 shared_end = SHARED_PLACE + HEADER_WORDS + SHARED_SLOTS
 
--- the word belongs to nobody: it comes before g, or between g and the first segment
+-- the word is beside g, and belongs to nobody: it comes before g, or between g and the first segment
 abbrev pub IsBetween : ℕ → Type 0
 IsBetween at = (at < SHARED_PLACE) ⊎ ((shared_end ≤ at) × (at < FIRST_PLACE))
 

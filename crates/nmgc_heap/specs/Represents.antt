@@ -42,7 +42,7 @@ pub record IsPlaced (layout : Layout) (earlier : List World) (K : Name → Node 
   pub kept : (before : Node) → K name before → HasSlots (Contains places) words (at + HEADER_WORDS) (fixed_slots before)
 
 -- words represent a world, where of earlier worlds the collector still speaks, and K tells the nodes by which a round
--- knows its objects; an object born in a nursery has its header and extent even where nobody speaks of it, and words that belong to nobody are 0
+-- knows its objects; an object born in a nursery has its header and extent even where nobody speaks of it; and the words beside g are 0
 pub record Represents (layout : Layout) (earlier : List World) (K : Name → Node → Type 0) (places : List Place) (w : World) (words : List ℕ) : Type 0 where
   pub total : length words ≡ word_total layout
   pub one : (p q : Place) → Contains places p → Contains places q → (p.name ≡ q.name) ⊎ (p.at ≡ q.at) → p ≡ q

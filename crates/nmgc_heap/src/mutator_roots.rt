@@ -37,7 +37,7 @@ pub trait MutatorRoots {
     // The mutator with another queue.
     ghost with_queue: { Self → Queue → Self };
 
-    // The mutator once its nursery was emptied, with its lists of the round.
+    // The mutator whose nursery and lists of the round were emptied.
     ghost after_stop: { Self → Self };
 
     /// The field words of its registers.

@@ -4,7 +4,7 @@ use Rattle.std.proofs.lemmas.List.{get_or_append_left, get_or-append-add, get_or
 use Rattle.nmgc_limits.specs.declared.mutators.TheConstants.{SHARED_SLOTS}
 use Rattle.nmgc_heap.specs.Places.{HasZeros}
 
--- the words that belong to nobody are 0 there
+-- the words beside g are 0 there
 pub zeros_first : (header name : ℕ) (slots rest : List ℕ) → length slots ≡ SHARED_SLOTS →
     HasZeros (0 ∷ header ∷ name ∷ (slots ++ (replicate 13 0 ++ rest)))
 zeros_first header name slots rest long zero nobody = refl
