@@ -39,7 +39,7 @@ abbrev pub wrote : Exchanged → Bool
 wrote outcome.Yes = true
 wrote (outcome.No found) = false
 
--- where it wrote nothing, the word that stood there isn't the expected one
+-- where it wrote nothing, the word that it answers isn't the expected one
 abbrev pub FoundOther : ℕ → Exchanged → Type 0
 FoundOther expected outcome.Yes = Unit {0}
 FoundOther expected (outcome.No found) = found ≢ expected

@@ -21,7 +21,7 @@ use Rattle.nmgc_round.specs.View.{Hand, Opening}
 abbrev pub empty_array : Node
 empty_array = Arr (replicate SHARED_SLOTS Nil)
 
--- the words of the heap of which nothing was made: g's header, name and slots; those that belong to nobody are 0, and any words stand from the first segment on
+-- the words of the heap of which nothing was made: g's header, name and slots, zeros beside g, and any words from the first segment on
 pub record IsEmptyHeap (layout : Layout) (words : List ℕ) : Type 0 where
   pub total : length words ≡ word_total layout
   pub header : slice_index words SHARED_PLACE ≡ header_word (header_of empty_array)

@@ -108,7 +108,7 @@ pub record RepresentsInRound (o : Opening) (born : List Object) (w : World) (wor
   pub objects : (x : Object) → IsObject o born x → IsStanding o born w words x
   pub zeros : HasZeros words
 
--- the word is in no object, is neither the header nor the name of any place in use, and is none of those that belong to nobody
+-- the word is in no object, is neither the header nor the name of any place in use, and is not beside g
 pub record IsFree (o : Opening) (born : List Object) (i : ℕ) : Type 0 where
   pub objects : (x : Object) → IsObject o born x → (i < x.at) ⊎ (end_of x ≤ i)
   pub places : (q : Place) → IsPlace o born q → (i < q.at) ⊎ (q.at + HEADER_WORDS ≤ i)
