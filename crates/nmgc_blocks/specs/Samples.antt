@@ -27,7 +27,7 @@ young_place = record { at = nursery_place small_layout 0; name = own 0 }
 abbrev pub young_stop : Stopped
 young_stop = record { world = young_world; began = new_world 1; later = []; places = shared_place ∷ young_place ∷ []; serials = 1 ∷ [] }
 
--- g with nil in each slot, the constructor's header, name and field, and 0 where words belong to nobody
+-- g with nil in each slot, zeros beside it, and the constructor's header, name and field
 pub record HoldsYoung (words : List ℕ) : Type 0 where
   pub total : length words ≡ word_total small_layout
   pub shared_header : slice_index words SHARED_PLACE ≡ 32771
