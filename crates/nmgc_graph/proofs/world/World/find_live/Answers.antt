@@ -35,12 +35,11 @@ loop-name-preserved c =
     let w = c.args.self.now in
     let h : IsWorld w = rw (← c.self.view_is) c.self.invariant in
     let v = rw c.in_ok-mark_fields.ensures at c.in_ok-revive.ensures in
-    let s = c.loop-name.search in
-    (
+    let s = c.loop-name.search in (
       live_goes_on w h c.args.extra.now s c.pop.new.self c.in-Some.name c.in-Some.ensures.last c.loop-name.invariant.0 c.args.weaks.now
-      c.revive.new.search v,
+          c.revive.new.search v,
       revival_goes_on w h c.args.extra.now s c.pop.new.self c.in-Some.name c.in-Some.ensures.last c.loop-name.invariant.0 c.args.weaks.now
-      c.revive.new.search v c.requires.weaks.complete c.loop-name.invariant.1,
+          c.revive.new.search v c.requires.weaks.complete c.loop-name.invariant.1,
     )
 
 pub returns : goal.returns
