@@ -3,14 +3,14 @@
 //! The field words of an object are copied to one buffer, which the whole search uses again. Which of them stand for
 //! values depends on the kind: a thunk with a result has dropped its free variables, a dead weak pointer all that it
 //! had, and a stack what lies above its depth. Of the other words nothing is known, and they aren't looked at.
-ghost use Rattle.std.specs.Prelude.{◌≡◌, ◌+◌, ◌^◌, ◌≤◌, ◌<◌, length, map, take, drop, All, IfOk, OnOk, IsTrue, true};
+ghost use Rattle.std.specs.Prelude.{◌≡◌, ◌+◌, ◌^◌, ◌≤◌, ◌<◌, ◌/◌, length, map, take, drop, All, IfOk, OnOk, IfSome, IfNone, IsTrue, true, false};
 ghost use Rattle.nmgc_object.specs.declared.size.TheConstants.{HEADER_WORDS as header_words};
 ghost use Rattle.nmgc_object.specs.declared.words.Header.{Header as HeaderOf};
 ghost use Rattle.nmgc_image.specs.Objects.{IsNamedAt, IsObjectAt, IsReadable, name_in, value_in, is_pointer, leading, told, told_thunk, told_weak, fields_at, told_at, begins_unset, made_of, var_of, thunk_of, weak_of, node_read};
 
 use nmgc_graph::{Kind, List, Name, NoMemory, Node, Parts, Value};
 use nmgc_journal::FinalWords;
-use nmgc_object::words::{Header, NIL_WORD, header_of, name_of};
+use nmgc_object::words::{FieldWord, Header, header_of, name_of};
 use nmgc_object::{HEADER_WORDS, NAME_OFFSET};
 use std::alloc::Global;
 
@@ -30,11 +30,16 @@ fn header_at(words: &FinalWords, at: u32) -> Header
     header_of(words.word(at as usize))
 }
 
-/// Whether a field word is that of a pointer.
-pub(crate) fn is_pointer(word: u64) -> bool
-    ensures { result ≡ is_pointer word }
+/// The place that a field word points to. `None` comes exactly where it is no pointer's.
+pub(crate) fn place_in(word: u64) -> Option<u64>
+    ensures some { IfSome result (λ at. (is_pointer word ≡ true) × (at ≡ word / 2)) }
+    ensures none { IfNone result (is_pointer word ≡ false) }
 {
-    word > 0 && word % 2 == 0
+    let at = FieldWord(word).place()?;
+    if at == 0 {
+        return None;
+    }
+    Some(at)
 }
 
 // The value that a field word stands for.
@@ -42,13 +47,13 @@ fn value_of(words: &FinalWords, word: u64) -> Value
     requires { IsReadable words.now word }
     ensures { result ≡ value_in words.now word }
 {
-    if word == NIL_WORD {
-        return Value::Nil;
+    if let Some(at) = FieldWord(word).place() {
+        return Value::Ref(name_at(words, at as u32));
     }
-    if word % 2 == 0 {
-        return Value::Ref(name_at(words, (word / 2) as u32));
+    match FieldWord(word).number() {
+        Some(number) => Value::Number(number),
+        None => Value::Nil,
     }
-    Value::Number(word / 2 - 1)
 }
 
 /// The values that field words stand for.

@@ -7,7 +7,7 @@ ghost use Rattle.std.specs.Prelude.{◌≡◌, ◌⊎◌, ◌↔◌, ℕ, ◌<�
 ghost use Rattle.nmgc_image.specs.Objects.{IsObjectAt, pointers, told_at};
 ghost use Rattle.nmgc_image.specs.Reaching.{Reaches, ReachesObjects, IsSearch, Visits, ArePointers, PointWithin};
 
-use crate::objects::{copy_fields, is_pointer, told};
+use crate::objects::{copy_fields, place_in, told};
 use nmgc_graph::NoMemory;
 use nmgc_journal::FinalWords;
 use std::alloc::Global;
@@ -52,8 +52,8 @@ impl Search {
         ensures { OnOk result (Visits (ArePointers words.now) self.old self.new) }
     {
         for word in words {
-            if is_pointer(*word) {
-                self.visit((*word / 2) as u32)?;
+            if let Some(at) = place_in(*word) {
+                self.visit(at as u32)?;
             }
         }
         Ok(())

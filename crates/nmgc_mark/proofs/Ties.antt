@@ -1,5 +1,5 @@
 -- One mark at a place: the room, the count, and the marks of the machine.
-use Rattle.std.proofs.Common.{ne_eqb, eq-eqb, ◌≡◌, ◌≢◌, inl, inr, ℕ, ◌+◌, ◌<◌, ◌/◌, ◌%◌, Bool, true, false, not, ◌&&◌, cond, eqb, IsTrue, List, [], ◌∷◌, ◌++◌, length, length-append, refl, sym, ap, subst, ◌∙◌, arith, Option, Some, None, is_some}
+use Rattle.std.proofs.Common.{ne_eqb, eq-eqb, ◌≡◌, ◌≢◌, inl, inr, ℕ, ◌+◌, ◌*◌, ◌<◌, ◌/◌, ◌%◌, Bool, true, false, not, ◌&&◌, cond, eqb, IsTrue, List, [], ◌∷◌, ◌++◌, length, length-append, refl, sym, ap, subst, ◌∙◌, arith, Option, Some, None, is_some}
 use Rattle.std.specs.Prelude.{Contains, IsSome}
 use Rattle.std.proofs.lemmas.List.Elements.{Contains-append_left, Contains-push, Contains-push_cases}
 use Rattle.nmgc_graph.specs.declared.value.Name.{Name}
@@ -226,21 +226,21 @@ module _ (o : Opening) (m : Marks) (old new : Segments) (before : MarkerSeen) (a
   tied_at later h r = subst (λ (k : MarkerSeen). IsTied o (with_name S m (name_at o.places at)) new k) (sym r.marker) (tied_case r.answer r.layout h r.place)
 
 -- the marks for the name that a word means
-pub tied_word : (o : Opening) (m : Marks) (old new : Segments) (before later : MarkerSeen) (w at : ℕ) → w ≢ 0 → w % 2 ≡ 0 → w / 2 ≡ at →
+pub tied_word : (o : Opening) (m : Marks) (old new : Segments) (before later : MarkerSeen) (w at : ℕ) → w ≡ 2 * at → at ≢ 0 →
     IsTied o m old before → MarksAt old new before later at → IsTied o (with_name o.core.snapshot m (name_meant o.places w)) new later
-tied_word o m old new before later w at some_ even is h r =
-    let a : eqb w 0 ≡ false = ne_eqb w 0 some_ in
-    let b : eqb (w % 2) 0 ≡ true = eq-eqb (w % 2) 0 even in
-    rw (a, b, is) (tied_at o m old new before at later h r)
+tied_word o m old new before later w at is some_ h r =
+    let a : eqb w 0 ≡ false = ne_eqb w 0 (omega (arith, is, some_)) in
+    let b : eqb (w % 2) 0 ≡ true = eq-eqb (w % 2) 0 (omega (arith, is)) in
+    let half : w / 2 ≡ at = omega (arith, is) in
+    rw (a, b, half) (tied_at o m old new before at later h r)
 
 pub tied_unset : (o : Opening) (m : Marks) (s : Segments) (marker : MarkerSeen) (w : ℕ) → w ≡ 0 → IsTied o m s marker →
     IsTied o (with_name o.core.snapshot m (name_meant o.places w)) s marker
 tied_unset o m s marker w e h = let a : eqb w 0 ≡ true = eq-eqb w 0 e in rw a h
 
-pub tied_odd : (o : Opening) (m : Marks) (s : Segments) (marker : MarkerSeen) (w : ℕ) → (w % 2 ≡ 0 → ⊥) → IsTied o m s marker →
+pub tied_odd : (o : Opening) (m : Marks) (s : Segments) (marker : MarkerSeen) (w : ℕ) → w % 2 ≡ 1 → IsTied o m s marker →
     IsTied o (with_name o.core.snapshot m (name_meant o.places w)) s marker
-tied_odd o m s marker w ne h =
-    let z : w ≢ 0 = λ e. ne (omega arith) in
-    let a : eqb w 0 ≡ false = ne_eqb w 0 z in
-    let b : eqb (w % 2) 0 ≡ false = ne_eqb (w % 2) 0 ne in
+tied_odd o m s marker w odd h =
+    let a : eqb w 0 ≡ false = ne_eqb w 0 (omega (arith, odd)) in
+    let b : eqb (w % 2) 0 ≡ false = ne_eqb (w % 2) 0 (omega (arith, odd)) in
     rw (a, b) h

@@ -23,7 +23,7 @@ ghost use Rattle.nmgc_mark.specs.Tie.{IsTied, with_places, with_words, with_queu
 use nmgc_alloc::Segments;
 use nmgc_graph::{NoMemory, Room, SHARED_SLOTS};
 use nmgc_heap::{HeapWords, MutatorRoots};
-use nmgc_object::{Address, HEADER_WORDS, Layout, MIN_BLOCK_WORDS, SHARED_PLACE};
+use nmgc_object::{Address, FieldWord, HEADER_WORDS, Layout, MIN_BLOCK_WORDS, SHARED_PLACE};
 use nmgc_round::{CollectorSeat, Round};
 use std::alloc::Global;
 use std::marker::Model;
@@ -283,9 +283,12 @@ impl Marker {
         ensures tied { (o : Opening) (m : Marks) → IsTied o m segments.old self.old →
             IsTied o (with_name o.core.snapshot m (name_meant o.places word)) segments.new self.new }
     {
-        if word == 0 || word % 2 != 0 {
+        let Some(at) = FieldWord(word).place() else {
+            return;
+        };
+        if at == 0 {
             return;
         }
-        self.mark(segments, Address((word / 2) as u32));
+        self.mark(segments, Address(at as u32));
     }
 }

@@ -24,7 +24,7 @@ at_most_or a b = elim (cases_lt b a) [
 ]
 
 module _ (table : List ℕ) (base : ℕ) where
-  odd_stays : (word : ℕ) → word % 2 ≡ 1 → forward_word table base word ≡ word
+  pub odd_stays : (word : ℕ) → word % 2 ≡ 1 → forward_word table base word ≡ word
   odd_stays word e = let b : eqb (word % 2) 0 ≡ false = ne_eqb (word % 2) 0 (λ z. omega (arith, z, e)) in rw b refl
 
   low_stays : (at : ℕ) → at < base → forward_word table base (2 * at) ≡ 2 * at
@@ -45,6 +45,25 @@ module _ (table : List ℕ) (base : ℕ) where
         | inl h ↦ rw (even, h.0, half, e, set) refl
         | inr h ↦ absurd (omega (arith, h.1, half, l))
       ]
+
+  unset_stays : (at : ℕ) → base ≤ at → slice_index table (at - base) ≡ 0 → forward_word table base (2 * at) ≡ 2 * at
+  unset_stays at l e =
+      let even : eqb (2 * at % 2) 0 ≡ true = eq-eqb (2 * at % 2) 0 (omega arith) in
+      let half : 2 * at / 2 ≡ at = omega arith in
+      elim (at_most_or base (2 * at / 2)) [
+        | inl h ↦ rw (even, h.0, half, e) refl
+        | inr h ↦ absurd (omega (arith, h.1, half, l))
+      ]
+
+  -- the same of a word, by the place in it
+  pub word_low : (word at : ℕ) → word ≡ 2 * at → at < base → word ≡ forward_word table base word
+  word_low word at is l = is ∙ sym (low_stays at l) ∙ ap (λ (w : ℕ). forward_word table base w) (sym is)
+
+  pub word_unset : (word at : ℕ) → word ≡ 2 * at → base ≤ at → slice_index table (at - base) ≡ 0 → word ≡ forward_word table base word
+  word_unset word at is l e = is ∙ sym (unset_stays at l e) ∙ ap (λ (w : ℕ). forward_word table base w) (sym is)
+
+  pub word_moved : (word at to : ℕ) → word ≡ 2 * at → base ≤ at → slice_index table (at - base) ≡ to → to ≢ 0 → 2 * to ≡ forward_word table base word
+  word_moved word at to is l e ne = sym (high_goes at to l e ne) ∙ ap (λ (w : ℕ). forward_word table base w) (sym is)
 
   -- a word that was forwarded is left when it is forwarded again
   pub twice : ((k : ℕ) → slice_index table k < base) → (word : ℕ) → forward_word table base (forward_word table base word) ≡ forward_word table base word

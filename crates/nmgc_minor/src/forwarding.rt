@@ -16,16 +16,18 @@ use crate::placing::Move;
 use nmgc_graph::SHARED_SLOTS;
 use nmgc_heap::{HeapWords, MutatorRoots};
 use nmgc_object::laws::words_differ;
-use nmgc_object::{Address, HEADER_WORDS, SHARED_PLACE, fields_of};
+use nmgc_object::{Address, FieldWord, HEADER_WORDS, SHARED_PLACE, fields_of};
 
 /// The word once what it points to has moved: a pointer to an object with a new place points there,
 /// and every other word is left.
 pub fn forwarded(table: &[u32], base: u32, word: u64) -> u64
     ensures { result ≡ forward_word table.now base word }
 {
-    let at = word / 2;
+    let Some(at) = FieldWord(word).place() else {
+        return word;
+    };
     let base = u64::from(base);
-    if word % 2 != 0 || at < base {
+    if at < base {
         return word;
     }
     let index = (at - base) as usize;
@@ -33,7 +35,11 @@ pub fn forwarded(table: &[u32], base: u32, word: u64) -> u64
         return word;
     }
     let to = table[index];
-    if to == 0 { word } else { 2 * u64::from(to) }
+    if to == 0 {
+        word
+    } else {
+        FieldWord::of_place(to).0
+    }
 }
 
 /// Forwards each of the words.

@@ -15,7 +15,7 @@ use crate::young::Young;
 use nmgc_graph::SHARED_SLOTS;
 use nmgc_heap::{HeapWords, MutatorRoots};
 use nmgc_object::words::WEAK_FIELDS;
-use nmgc_object::{Address, HEADER_WORDS, SHARED_PLACE};
+use nmgc_object::{Address, FieldWord, HEADER_WORDS, SHARED_PLACE};
 
 // Notes what registers hold.
 fn note_registers<M: MutatorRoots>(young: &mut Young, mutators: &[M])
@@ -77,7 +77,7 @@ fn note_weak<W: HeapWords>(young: &mut Young, words: &mut W, at: Address)
 {
     let fields = at.0 as usize + HEADER_WORDS as usize;
     if words.load(fields + 1) != 0 {
-        young.note(2 * u64::from(at.0));
+        young.note(FieldWord::of_place(at.0).0);
         young.note_range(words, fields, fields + WEAK_FIELDS as usize);
     }
 }

@@ -11,7 +11,7 @@ ghost use Rattle.nmgc_minor.specs.Young.{HasHeader, IsStrongRange};
 use nmgc_graph::{Kind, Room};
 use nmgc_heap::HeapWords;
 use nmgc_object::laws::words_differ;
-use nmgc_object::{Address, HEADER_WORDS, header_of};
+use nmgc_object::{Address, FieldWord, HEADER_WORDS, header_of};
 
 /// The entry of an object that was found and has no place yet.
 pub const FOUND: u32 = 1;
@@ -56,9 +56,9 @@ impl Young {
         ensures some { IfSome result (λ index. word ≡ 2 * (self.now.base + index)) }
         ensures none { IfNone result ((at : ℕ) → word ≡ 2 * at → self.now.base ≤ at → ⊥) }
     {
-        let at = word / 2;
+        let at = FieldWord(word).place()?;
         let base = u64::from(self.base);
-        if word % 2 == 0 && at >= base {
+        if at >= base {
             Some((at - base) as usize)
         } else {
             None

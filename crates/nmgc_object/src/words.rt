@@ -6,13 +6,15 @@
 //!
 //! A field's code keeps apart what the collector follows and what it doesn't: 0 is a field that is
 //! unset, or a weak pointer's value once it is dead; an even word is a pointer; an odd one is nil or
-//! a number. Easy to get wrong: a word is not valid because its parts look sound one by one. A tag
-//! belongs to constructors alone, and the number of fields depends on the kind, so decoding tests
-//! both together.
-ghost use Rattle.std.specs.Prelude.{◌≡◌, ◌≢◌, ◌↔◌, ◌+◌, ◌*◌, ◌<◌, ◌≤◌, IfSome, IfNone, IsTrue};
+//! a number. `FieldWord` alone takes it apart, and whoever has a field's word asks it.
+//!
+//! Easy to get wrong: a word is not valid because its parts look sound one by one. A tag belongs to
+//! constructors alone, and the number of fields depends on the kind, so decoding tests both together.
+ghost use Rattle.std.specs.Prelude.{◌≡◌, ◌≢◌, ◌↔◌, ◌+◌, ◌*◌, ◌%◌, ◌<◌, ◌≤◌, IfSome, IfNone, IsTrue};
 ghost use Rattle.nmgc_graph.specs.declared.value.Name.{Name};
 ghost use Rattle.nmgc_graph.specs.declared.node.Kind.{Kind};
 ghost use Rattle.nmgc_object.specs.Words.{kind_number, header_word, name_word, field_word, IsHeader, IsName, IsField};
+ghost use Rattle.nmgc_object.specs.declared.words.TheConstants.{NUMBER_LIMIT, NIL_WORD, ZERO_WORD};
 ghost use Rattle.nmgc_object.specs.declared.words.Header.{Header};
 ghost use Rattle.nmgc_object.specs.declared.words.Field.{Field};
 
@@ -72,6 +74,57 @@ pub enum Field {
     Nil,
     Number(u64),
     Pointer(Address),
+}
+
+/// The word of a field, which is put together and taken apart here alone. An even word is twice a place: 0 where the field
+/// is unset or its weak pointer is dead, and else that of the object to which it points. An odd word is nil's or a number's.
+/// Any word may be looked at, also one that means nothing.
+#[derive(Clone, Copy, Debug, PartialEq, Eq)]
+pub struct FieldWord(pub u64);
+
+impl FieldWord {
+    /// The word of a pointer to a place. Takes no memory.
+    #[inline]
+    pub fn of_place(at: u32) -> FieldWord
+        ensures { result.0 ≡ 2 * at }
+    {
+        FieldWord(2 * u64::from(at))
+    }
+
+    /// The word of a number, which is below `NUMBER_LIMIT`. Takes no memory.
+    #[inline]
+    pub fn of_number(number: u64) -> FieldWord
+        requires { number < NUMBER_LIMIT }
+        ensures { result.0 ≡ 2 * number + ZERO_WORD }
+    {
+        FieldWord(2 * number + ZERO_WORD)
+    }
+
+    /// The place whose double the word is: 0 where the field is unset. `None` comes exactly where the word is odd. The place
+    /// of a word that means nothing may be beyond the heap, and beyond 32 bits. Takes no memory.
+    #[inline]
+    pub fn place(self) -> Option<u64>
+        ensures some { IfSome result (λ at. self.0 ≡ 2 * at) }
+        ensures none { IfNone result (self.0 % 2 ≡ 1) }
+    {
+        if self.0 % 2 == 0 {
+            Some(self.0 / 2)
+        } else {
+            None
+        }
+    }
+
+    /// The number whose word it is. `None` comes exactly where the word is nil's or even. Takes no memory.
+    #[inline]
+    pub fn number(self) -> Option<u64>
+        ensures some { IfSome result (λ number. self.0 ≡ 2 * number + ZERO_WORD) }
+        ensures none { IfNone result (self.0 % 2 ≡ 1 → self.0 ≡ NIL_WORD) }
+    {
+        if self.0 % 2 == 0 || self.0 == NIL_WORD {
+            return None;
+        }
+        Some((self.0 - ZERO_WORD) / 2)
+    }
 }
 
 impl Header {
@@ -229,8 +282,8 @@ pub fn encode_value(field: Field) -> u64
     match field {
         Field::Unset => 0,
         Field::Nil => NIL_WORD,
-        Field::Number(number) => 2 * number + ZERO_WORD,
-        Field::Pointer(at) => 2 * u64::from(at.0),
+        Field::Number(number) => FieldWord::of_number(number).0,
+        Field::Pointer(at) => FieldWord::of_place(at.0).0,
     }
 }
 
@@ -239,23 +292,21 @@ pub fn decode_value(word: u64) -> Option<Field>
     ensures some { IfSome result (λ field. IsField field × (field_word field ≡ word)) }
     ensures none { IfNone result ((field : Field) → IsField field → field_word field ≢ word) }
 {
-    if word == 0 {
-        return Some(Field::Unset);
+    if let Some(at) = FieldWord(word).place() {
+        if at == 0 {
+            return Some(Field::Unset);
+        }
+        if at > u64::from(u32::MAX) {
+            return None;
+        }
+        return Some(Field::Pointer(Address(at as u32)));
     }
-    if word == NIL_WORD {
+    let Some(number) = FieldWord(word).number() else {
         return Some(Field::Nil);
+    };
+    if number < NUMBER_LIMIT {
+        Some(Field::Number(number))
+    } else {
+        None
     }
-    let half = word / 2;
-    if word % 2 == 1 {
-        let number = half - 1;
-        return if number < NUMBER_LIMIT {
-            Some(Field::Number(number))
-        } else {
-            None
-        };
-    }
-    if half > u64::from(u32::MAX) {
-        return None;
-    }
-    Some(Field::Pointer(Address(half as u32)))
 }

@@ -22,7 +22,7 @@ use crate::still::StillWords;
 use crate::table::{ClaimSeat, ClaimTable};
 use nmgc_graph::{Kind, Room};
 use nmgc_object::laws::words_differ;
-use nmgc_object::{Address, FIRST_PLACE, HEADER_WORDS, MIN_BLOCK_WORDS, header_of};
+use nmgc_object::{Address, FIRST_PLACE, FieldWord, HEADER_WORDS, MIN_BLOCK_WORDS, header_of};
 use nmgc_round::Gate;
 
 /// A marker: its number, its seat at the claim table, the objects that it claimed, in the order in which it did, and those
@@ -87,8 +87,10 @@ impl Marker {
         requires within { LeadsWithin (bounds_of table.now).blocks word }
         ensures { HasTried table.now self.old self.new (λ w. w ≡ word) }
     {
-        let at = word / 2;
-        if word % 2 == 0 && at >= u64::from(FIRST_PLACE) {
+        let Some(at) = FieldWord(word).place() else {
+            return;
+        };
+        if at >= u64::from(FIRST_PLACE) {
             self.claim_place(table, at as u32);
         }
     }

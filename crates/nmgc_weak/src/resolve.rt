@@ -25,7 +25,7 @@ use crate::weaks::{Death, FINALISER, OldWeak, VALUE};
 use nmgc_alloc::Segments;
 use nmgc_heap::HeapWords;
 use nmgc_mark::Marker;
-use nmgc_object::{Address, HEADER_WORDS, SHARED_PLACE};
+use nmgc_object::{Address, FieldWord, HEADER_WORDS, SHARED_PLACE};
 
 // Whether a block of the snapshot begins at a place.
 fn is_of_snapshot(segments: &Segments, at: Address) -> bool
@@ -56,10 +56,10 @@ fn is_key_marked(segments: &Segments, key: u64, epoch: u8) -> bool
     requires small { (to : ℕ) → key ≡ 2 * to → to < 2 ^ 32 }
     ensures { IsTrue result ↔ IsKeyMarkedWord segments.now epoch key }
 {
-    if key % 2 != 0 {
+    let Some(at) = FieldWord(key).place() else {
         return true;
-    }
-    let to = (key / 2) as u32;
+    };
+    let to = at as u32;
     to == SHARED_PLACE || is_marked(segments, Address(to), epoch)
 }
 

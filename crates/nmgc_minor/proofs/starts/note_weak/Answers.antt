@@ -8,10 +8,8 @@ use Rattle.nmgc_minor.proofs.starts.note_weak.Goals as goal
 
 pub note-requires-clause-within : goal.note-requires-clause-within
 note-requires-clause-within g c =
-    let n = c.from.ensures in
-    let e : 2 * c.args.at.0 ≡ 2 * c.from.result = omega (arith, n) in
     let alive : IsAliveAt (g.W.HeapWords.words c.args.words.now) c.args.at.0 = λ z. c.if-load-ne0.true (c.load.ensures.word ∙ z) in
-    subst (λ (x : ℕ). IsWithin c.args.young.now x) e (c.requires.within (2 * c.args.at.0) (alive, inl refl))
+    subst (λ (x : ℕ). IsWithin c.args.young.now x) (sym c.of_place.ensures) (c.requires.within (2 * c.args.at.0) (alive, inl refl))
 
 pub note_range-requires-clause-inside : goal.note_range-requires-clause-inside
 note_range-requires-clause-inside g c =
@@ -30,18 +28,17 @@ note_range-requires-clause-within g c =
     let words = g.W.HeapWords.words c.args.words.now in
     let alive : IsAliveAt (g.W.HeapWords.words c.args.words.now) c.args.at.0 = λ z. c.if-load-ne0.true (c.load.ensures.word ∙ z) in
     rw (c.load.ensures.same) (λ word h. within_after c.args.young.now c.note.new.self (λ w. w ≡
-    2 * c.from.result) c.note.ensures word (c.requires.within word (alive, inr (part words c.args.at.0 word h))))
+    c.of_place.result.0) c.note.ensures word (c.requires.within word (alive, inr (part words c.args.at.0 word h))))
 
 pub returns-then-load-ne0-clause-notes : goal.returns-then-load-ne0-clause-notes
 returns-then-load-ne0-clause-notes g c =
     let words = g.W.HeapWords.words c.args.words.now in
-    let n = c.from.ensures in
     let alive : IsAliveAt (g.W.HeapWords.words c.args.words.now) c.args.at.0 = λ z. c.if-load-ne0.true (c.load.ensures.word ∙ z) in
-    let same : 2 * c.args.at.0 ≡ 2 * c.from.result = omega (arith, n) in
+    let same = sym c.of_place.ensures in
     let notes = subst (λ (ws : List ℕ).
     Notes c.note.new.self c.note_range.new.self (IsAmong ws (c.args.at.0 + 2) (c.args.at.0 + 2 + 3))) c.load.ensures.same c.note_range.ensures.notes in
     notes_then c.args.young.now c.note.new.self c.note_range.new.self (λ w. w ≡
-    2 * c.from.result) (IsAmong words (c.args.at.0 + 2) (c.args.at.0 + 2 + 3)) (IsWeakStart words c.args.at) c.note.ensures notes
+    c.of_place.result.0) (IsAmong words (c.args.at.0 + 2) (c.args.at.0 + 2 + 3)) (IsWeakStart words c.args.at) c.note.ensures notes
     (λ w e. (alive, inl (same ∙ sym e)))
     (λ w h. (alive, inr (part words c.args.at.0 w h)))
     (λ w h. elim h.1 [

@@ -1,41 +1,47 @@
-use Rattle.std.proofs.Common.{◌≡◌, ◌+◌, ◌/◌, ◌<◌, ◌^◌, sym, ◌∙◌, subst, arith, take, get_or, length}
+use Rattle.std.proofs.Common.{◌≡◌, ◌+◌, ◌<◌, ◌^◌, ℕ, sym, subst, arith, take, get_or, length}
 use Rattle.std.proofs.lemmas.List.{take_all}
+use Rattle.std.specs.Prelude.{Option, IfNone, false}
 use Rattle.nmgc_image.specs.declared.search.Search.{Search}
+use Rattle.nmgc_image.specs.Objects.{is_pointer}
 use Rattle.nmgc_image.specs.Reaching.{Visits, ArePointers}
 use Rattle.nmgc_image.proofs.Searching.{visits_none, pointer_no, pointer_yes, pointer_within}
 use Rattle.nmgc_reach.specs.laws.ItemLaws.{nothing_in}
 use Rattle.nmgc_image.proofs.search.Search.visit_words.Goals as goal
-use Rattle.nmgc_image.proofs.search.Search.visit_words.Goals.{then-is_pointer+in_ok-visit, else-is_pointer}
+use Rattle.nmgc_image.proofs.search.Search.visit_words.Goals.{in-Some+in_ok-visit, in_default}
 
-pub overflow_cast-word : goal.overflow_cast-word
-overflow_cast-word c =
-    let lies = pointer_within (length c.args.self.now.seen.items) c.args.words.now c.loop-word.word-index 0 c.loop-word-test.true
-    (sym c.is_pointer.ensures ∙ c.if-is_pointer.true) c.requires.within in
+pub overflow_cast-at : goal.overflow_cast-at
+overflow_cast-at c =
+    let is = c.in-Some.ensures.some in
+    let lies = pointer_within (length c.args.self.now.seen.items) c.args.words.now c.loop-word.word-index 0 c.loop-word-test.true is.0 c.requires.within in
+    let at = is.1 in
     let small = lies.1 in
-    omega (arith, small)
+    omega (arith, at, small)
 
 pub visit-requires-clause-within : goal.visit-requires-clause-within
 visit-requires-clause-within c =
-    let lies = pointer_within (length c.args.self.now.seen.items) c.args.words.now c.loop-word.word-index 0 c.loop-word-test.true
-    (sym c.is_pointer.ensures ∙ c.if-is_pointer.true) c.requires.within in
+    let is = c.in-Some.ensures.some in
+    let lies = pointer_within (length c.args.self.now.seen.items) c.args.words.now c.loop-word.word-index 0 c.loop-word-test.true is.0 c.requires.within in
     let room = c.loop-word.invariant.room in
+    let at = is.1 in
     let low = lies.0 in
-    omega (arith, low, room)
+    omega (arith, at, low, room)
 
 pub loop-word-init : goal.loop-word-init
 loop-word-init c = visits_none (ArePointers (take 0 c.args.words.now)) c.args.self.now c.requires.sound (λ at b. absurd (nothing_in at b))
 
 pub loop-word-preserved : goal.loop-word-preserved
 loop-word-preserved c =
-    elim c.if-is_pointer.branch [
-      | then-is_pointer+in_ok-visit w ↦
+    elim c.match-place_in.branch [
+      | in-Some+in_ok-visit w ↦
+          let is = w.in-Some.ensures.some in
           subst (Visits (ArePointers (take (c.loop-word.word-index + 1) c.args.words.now)) c.args.self.now) (sym w.self-is)
-          (pointer_yes c.args.self.now c.loop-word.self w.visit.new.self c.args.words.now c.loop-word.word-index 0 c.loop-word-test.true
-          (sym c.is_pointer.ensures ∙ w.if-is_pointer.true) c.loop-word.invariant w.in_ok-visit.ensures)
-      | else-is_pointer w ↦
+          (pointer_yes c.args.self.now c.loop-word.self w.visit.new.self c.args.words.now c.loop-word.word-index 0 c.loop-word-test.true is.0
+          c.loop-word.invariant (subst (λ (k : ℕ). Visits (λ p. p ≡ k) c.loop-word.self w.visit.new.self) is.1 w.in_ok-visit.ensures))
+      | in_default w ↦
+          let none = subst (λ (found : Option ℕ). IfNone found (is_pointer (get_or c.args.words.now c.loop-word.word-index 0) ≡ false)) w.in_default.is
+          c.place_in.ensures.none in
           subst (Visits (ArePointers (take (c.loop-word.word-index + 1) c.args.words.now)) c.args.self.now) (sym w.self-is)
-          (pointer_no c.args.self.now c.loop-word.self c.args.words.now c.loop-word.word-index 0 c.loop-word-test.true (sym c.is_pointer.ensures ∙
-          w.if-is_pointer.false) c.loop-word.invariant)
+          (pointer_no c.args.self.now c.loop-word.self c.args.words.now c.loop-word.word-index 0 c.loop-word-test.true none c.loop-word.invariant)
     ]
 
 pub returns : goal.returns

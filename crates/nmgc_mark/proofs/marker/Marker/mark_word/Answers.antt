@@ -1,20 +1,26 @@
-use Rattle.std.proofs.Common.{◌/◌, ◌<◌, ◌^◌, arith, refl}
-use Rattle.nmgc_mark.proofs.Ties.{place_marked, place_turns, tied_word}
+use Rattle.std.proofs.Common.{arith}
+use Rattle.nmgc_mark.proofs.Ties.{place_marked, place_turns, tied_word, tied_unset, tied_odd}
 use Rattle.nmgc_mark.proofs.marker.Marker.mark_word.Goals as goal
 
-pub overflow_cast-word : goal.overflow_cast-word
-overflow_cast-word c =
-    let e = c.if-word-ne0.false in
-    let lt : c.args.word / 2 < 2 ^ 32 = c.requires.small (c.args.word / 2) (omega arith) in
-    omega arith
+pub overflow_cast-at : goal.overflow_cast-at
+overflow_cast-at c =
+    let lt = c.requires.small c.in-Some.at c.in-Some.ensures.some in
+    omega (arith, lt)
+
+pub returns-in_default-clause-tied : goal.returns-in_default-clause-tied
+returns-in_default-clause-tied c = λ o m h. tied_odd o m c.args.segments.now c.args.self.now c.args.word c.in_default.ensures.none h
+
+pub returns-then-at-eq0-clause-tied : goal.returns-then-at-eq0-clause-tied
+returns-then-at-eq0-clause-tied c = λ o m h.
+    tied_unset o m c.args.segments.now c.args.self.now c.args.word (omega (arith, c.in-Some.ensures.some, c.if-at-eq0.true)) h
 
 pub returns-clause-marked : goal.returns-clause-marked
-returns-clause-marked c = place_marked c.args.segments.now c.mark.new.segments c.args.self.now c.mark.new.self (c.args.word / 2) c.requires.room c.mark.ensures
+returns-clause-marked c = place_marked c.args.segments.now c.mark.new.segments c.args.self.now c.mark.new.self c.in-Some.at c.requires.room c.mark.ensures
 
 pub returns-clause-tied : goal.returns-clause-tied
 returns-clause-tied c = λ o m h.
-    tied_word o m c.args.segments.now c.mark.new.segments c.args.self.now c.mark.new.self c.args.word (c.args.word / 2) c.if-word-eq0.false
-    c.if-word-ne0.false refl h c.mark.ensures
+    tied_word o m c.args.segments.now c.mark.new.segments c.args.self.now c.mark.new.self c.args.word c.in-Some.at c.in-Some.ensures.some
+    c.if-at-eq0.false h c.mark.ensures
 
 pub returns-clause-turns : goal.returns-clause-turns
-returns-clause-turns c = place_turns c.args.segments.now c.mark.new.segments c.args.self.now c.mark.new.self (c.args.word / 2) c.mark.ensures
+returns-clause-turns c = place_turns c.args.segments.now c.mark.new.segments c.args.self.now c.mark.new.self c.in-Some.at c.mark.ensures

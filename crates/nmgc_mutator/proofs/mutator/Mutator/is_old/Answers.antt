@@ -1,0 +1,12 @@
+use Rattle.std.proofs.Common.{◌*◌, refl, sym, ◌∙◌, arith}
+use Rattle.nmgc_mutator.proofs.Refers.{old_at, old_low}
+use Rattle.nmgc_mutator.proofs.mutator.Mutator.is_old.Goals as goal
+
+pub returns-then-at-from : goal.returns-then-at-from
+returns-then-at-from c =
+    old_at c.args.self.now.layout (2 * c.args.at) c.args.at refl c.from-base.result (c.from-base.ensures ∙ c.nursery_base.ensures)
+    (omega (arith, c.if-at-from.true, c.from.ensures))
+
+pub returns-else-at-from : goal.returns-else-at-from
+returns-else-at-from c =
+    sym (old_low c.args.self.now.layout (2 * c.args.at) c.args.at refl (omega (arith, c.if-at-from.false, c.from.ensures)))

@@ -1,0 +1,27 @@
+use Rattle.std.proofs.Common.{◌≡◌, ◌*◌, true, refl, sym, ap, ◌∙◌, arith, rules}
+use Rattle.nmgc_mutator.specs.Records.{numbers, is_old}
+use Rattle.nmgc_mutator.proofs.Readies.{kept_items}
+use Rattle.nmgc_mutator.proofs.Refers.{old_below, old_odd, old_pushed, none_pushed}
+use Rattle.nmgc_mutator.proofs.mutator.Mutator.push.Goals as goal
+
+pub overflow_cast-at : goal.overflow_cast-at
+overflow_cast-at c =
+    let below = old_below c.args.self.now.layout (2 * c.in-Some.at) c.in-Some.at refl (sym c.is_old.ensures ∙ c.if-is_old.true) in
+    let heap = c.requires.one.layout.heap in
+    omega (arith, below, heap)
+
+pub returns-in_default-clause-pushed : goal.returns-in_default-clause-pushed
+returns-in_default-clause-pushed c =
+    rw (none_pushed c.args.self.now.layout c.args.marking c.args.word (old_odd c.args.self.now.layout c.args.word c.in_default.ensures.none))
+    (kept_items (numbers c.args.self.now.updrem.items))
+
+pub returns-then-is_old-clause-pushed : goal.returns-then-is_old-clause-pushed
+returns-then-is_old-clause-pushed c =
+    let old : is_old c.args.self.now.layout c.args.word ≡ true = ap (is_old c.args.self.now.layout) c.in-Some.ensures.some ∙ sym c.is_old.ensures ∙
+    c.if-is_old.true in
+    rw (old_pushed c.args.self.now.layout c.args.word c.in-Some.at c.in-Some.ensures.some c.args.marking c.if-marking.false old) (search rules)
+
+pub returns-else-is_old-clause-pushed : goal.returns-else-is_old-clause-pushed
+returns-else-is_old-clause-pushed c =
+    rw (none_pushed c.args.self.now.layout c.args.marking c.args.word (ap (is_old c.args.self.now.layout) c.in-Some.ensures.some ∙ sym c.is_old.ensures ∙
+    c.if-is_old.false)) (kept_items (numbers c.args.self.now.updrem.items))
