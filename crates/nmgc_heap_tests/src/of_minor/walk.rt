@@ -16,15 +16,19 @@ ghost use Rattle.nmgc_heap_tests.specs.Checked.{PointsWell, PointsWellAll, IsMad
 use nmgc_alloc::Segments;
 use nmgc_graph::Name;
 use nmgc_mutator::Mutator;
-use nmgc_object::{Address, HEADER_WORDS, Header, Layout, Nursery, decode_header, decode_name};
+use nmgc_object::{
+    Address, FieldWord, HEADER_WORDS, Header, Layout, Nursery, decode_header, decode_name,
+};
 use std::process::Abort;
 
 // Whether an object begins where the word points, if it points to the nurseries.
 fn points_well(sizes: &[u32], base: u32, word: u64) -> bool
     ensures { IsTrue result → PointsWell base sizes.now word }
 {
-    let at = word / 2;
-    if word % 2 != 0 || at < u64::from(base) {
+    let Some(at) = FieldWord(word).place() else {
+        return true;
+    };
+    if at < u64::from(base) {
         return true;
     }
     let index = (at - u64::from(base)) as usize;

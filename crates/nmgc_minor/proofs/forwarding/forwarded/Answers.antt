@@ -1,4 +1,4 @@
-use Rattle.std.proofs.Common.{ℕ, ◌-◌, refl, sym, ap, ◌∙◌, arith}
+use Rattle.std.proofs.Common.{ℕ, ◌-◌, get_or, refl, sym, ap, ◌∙◌, arith}
 use Rattle.std.proofs.lemmas.List.{get_or_past}
 use Rattle.nmgc_minor.specs.Forwarding.{forward_word}
 use Rattle.nmgc_minor.proofs.ForwardLaws.{odd_stays, word_low, word_unset, word_moved}
@@ -26,5 +26,6 @@ returns-then-to-eq0 c =
 pub returns-else-to-eq0 : goal.returns-else-to-eq0
 returns-else-to-eq0 c =
     c.of_place.ensures ∙
-    word_moved c.args.table.now c.from-base.result c.args.word c.in-Some.at _ c.in-Some.ensures.some c.if-at-base.false refl c.if-to-eq0.false ∙
+    word_moved c.args.table.now c.from-base.result c.args.word c.in-Some.at
+    (get_or c.args.table.now (c.in-Some.at - c.from-base.result) 0) c.in-Some.ensures.some c.if-at-base.false refl c.if-to-eq0.false ∙
     ap (λ (b : ℕ). forward_word c.args.table.now b c.args.word) c.from-base.ensures

@@ -19,7 +19,7 @@ pub returns-then-is_old-clause-pushed : goal.returns-then-is_old-clause-pushed
 returns-then-is_old-clause-pushed c =
     let old : is_old c.args.self.now.layout c.args.word ≡ true = ap (is_old c.args.self.now.layout) c.in-Some.ensures.some ∙ sym c.is_old.ensures ∙
     c.if-is_old.true in
-    rw (old_pushed c.args.self.now.layout c.args.word c.in-Some.at c.in-Some.ensures.some c.args.marking c.if-marking.false old) (search rules)
+    rw (old_pushed c.args.self.now.layout c.args.word c.in-Some.at c.in-Some.ensures.some c.args.marking c.if-not-marking.false old) (search rules)
 
 pub returns-else-is_old-clause-pushed : goal.returns-else-is_old-clause-pushed
 returns-else-is_old-clause-pushed c =
