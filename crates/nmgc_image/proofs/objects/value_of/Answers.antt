@@ -45,8 +45,8 @@ name_at-requires c = place_named c.args.words.now c.args.word c.in-Some.at c.in-
 pub returns-in-Some : goal.returns-in-Some
 returns-in-Some c = ap value.Ref c.name_at.ensures ∙ place_read c.args.words.now c.args.word c.in-Some.at c.in-Some.ensures.some
 
-pub returns-in-Some-2 : goal.returns-in-Some-2
-returns-in-Some-2 c = number_read c.args.words.now c.args.word c.in-Some-2.number c.in-Some-2.ensures.some
+pub returns-in-Some-number : goal.returns-in-Some-number
+returns-in-Some-number c = number_read c.args.words.now c.args.word c.in-Some-number.number c.in-Some-number.ensures.some
 
 pub returns-in-None : goal.returns-in-None
 returns-in-None c = nil_read c.args.words.now c.args.word (c.in-None.ensures.none c.in_default.ensures.none)
