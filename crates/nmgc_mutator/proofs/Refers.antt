@@ -50,8 +50,8 @@ module _ (layout : Layout) (w at : ℕ) (is : w ≡ 2 * at) where
 
   -- it is what is pushed
   pub old_pushed : (b : Bool) → b ≡ true → is_old layout w ≡ true → all_pushed layout (owed_word b w) ≡ at ∷ []
-  old_pushed true yes old = rw old (ap (λ n. n ∷ []) half)
-  old_pushed false yes old = absurd cc
+  old_pushed true marking old = rw old (ap (λ n. n ∷ []) half)
+  old_pushed false marking old = absurd cc
 
 -- an odd word refers to none
 pub young_odd : (layout : Layout) (w : ℕ) → w % 2 ≡ 1 → is_young layout w ≡ false

@@ -1,4 +1,5 @@
 use Rattle.std.proofs.Common.{◌*◌, refl, sym, ◌∙◌, arith}
+use Rattle.std.proofs.lemmas.Bool.{lt-leb}
 use Rattle.nmgc_mutator.proofs.Refers.{old_at, old_low}
 use Rattle.nmgc_mutator.proofs.mutator.Mutator.is_old.Goals as goal
 
@@ -9,4 +10,5 @@ returns-then-at-from c =
 
 pub returns-else-at-from : goal.returns-else-at-from
 returns-else-at-from c =
+    lt-leb c.from.result c.args.at c.if-at-from.false ∙
     sym (old_low c.args.self.now.layout (2 * c.args.at) c.args.at refl (omega (arith, c.if-at-from.false, c.from.ensures)))

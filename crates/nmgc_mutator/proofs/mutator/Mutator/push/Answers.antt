@@ -1,4 +1,6 @@
-use Rattle.std.proofs.Common.{◌≡◌, ◌*◌, true, refl, sym, ap, ◌∙◌, arith, rules}
+use Rattle.std.proofs.Common.{◌≡◌, ◌*◌, true, List, [], ◌∷◌, refl, sym, ap, ◌∙◌, arith}
+use Rattle.std.proofs.lemmas.List.{map-append}
+use Rattle.nmgc_object.specs.declared.words.Address.{Address}
 use Rattle.nmgc_mutator.specs.Records.{numbers, is_old}
 use Rattle.nmgc_mutator.proofs.Readies.{kept_items}
 use Rattle.nmgc_mutator.proofs.Refers.{old_below, old_odd, old_pushed, none_pushed}
@@ -19,7 +21,9 @@ pub returns-then-is_old-clause-pushed : goal.returns-then-is_old-clause-pushed
 returns-then-is_old-clause-pushed c =
     let old : is_old c.args.self.now.layout c.args.word ≡ true = ap (is_old c.args.self.now.layout) c.in-Some.ensures.some ∙ sym c.is_old.ensures ∙
     c.if-is_old.true in
-    rw (old_pushed c.args.self.now.layout c.args.word c.in-Some.at c.in-Some.ensures.some c.args.marking c.if-not-marking.false old) (search rules)
+    rw (old_pushed c.args.self.now.layout c.args.word c.in-Some.at c.in-Some.ensures.some c.args.marking c.if-not-marking.false old)
+    (ap (λ (l : List Address). numbers l) c.push.ensures.entries ∙
+    map-append (λ (a : Address). a.0) c.args.self.now.updrem.items (record { 0 = c.in-Some.at } ∷ []))
 
 pub returns-else-is_old-clause-pushed : goal.returns-else-is_old-clause-pushed
 returns-else-is_old-clause-pushed c =
