@@ -1,4 +1,4 @@
-use Rattle.std.proofs.Common.{ℕ, ◌-◌, get_or, refl, sym, ap, ◌∙◌, arith}
+use Rattle.std.proofs.Common.{ℕ, ◌-◌, get_or, refl, sym, ap, ◌∙◌}
 use Rattle.std.proofs.lemmas.List.{get_or_past}
 use Rattle.nmgc_minor.specs.Forwarding.{forward_word}
 use Rattle.nmgc_minor.proofs.ForwardLaws.{odd_stays, word_low, word_unset, word_moved}
@@ -12,9 +12,9 @@ returns-then-at-base c =
     word_low c.args.table.now c.from-base.result c.args.word c.in-Some.at c.in-Some.ensures.some c.if-at-base.true ∙
     ap (λ (b : ℕ). forward_word c.args.table.now b c.args.word) c.from-base.ensures
 
-pub returns-then-index-len : goal.returns-then-index-len
-returns-then-index-len c =
-    let past = get_or_past c.args.table.now (c.in-Some.at - c.from-base.result) 0 (omega (arith, c.if-index-len.true, c.len.ensures)) in
+pub returns-then-index-table : goal.returns-then-index-table
+returns-then-index-table c =
+    let past = get_or_past c.args.table.now (c.in-Some.at - c.from-base.result) 0 c.if-index-table.true in
     word_unset c.args.table.now c.from-base.result c.args.word c.in-Some.at c.in-Some.ensures.some c.if-at-base.false past ∙
     ap (λ (b : ℕ). forward_word c.args.table.now b c.args.word) c.from-base.ensures
 
