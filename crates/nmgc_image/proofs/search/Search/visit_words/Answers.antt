@@ -1,7 +1,6 @@
-use Rattle.std.proofs.Common.{◌≡◌, ◌+◌, ◌<◌, ◌^◌, ℕ, sym, subst, arith, take, get_or, length}
+use Rattle.std.proofs.Common.{◌≡◌, ◌+◌, ℕ, sym, subst, arith, take, get_or, length}
 use Rattle.std.proofs.lemmas.List.{take_all}
 use Rattle.std.specs.Prelude.{Option, IfNone, false}
-use Rattle.nmgc_image.specs.declared.search.Search.{Search}
 use Rattle.nmgc_image.specs.Objects.{is_pointer}
 use Rattle.nmgc_image.specs.Reaching.{Visits, ArePointers}
 use Rattle.nmgc_image.proofs.Searching.{visits_none, pointer_no, pointer_yes, pointer_within}
