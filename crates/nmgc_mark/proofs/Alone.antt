@@ -27,13 +27,13 @@ use Rattle.nmgc_round.specs.Marking.{Marks, marks_of, marks_after, offset_of}
 use Rattle.nmgc_round.specs.Objects.{Object, place_of, IsIn}
 use Rattle.nmgc_round.specs.Rule.{Keeps, now, AllRead, IsRead}
 use Rattle.nmgc_round.specs.Added.{AddsScan}
-use Rattle.nmgc_round.specs.Ready.{CanScan, scanned_by}
+use Rattle.nmgc_round.specs.Ready.{CanScan, first_of, scanned_by}
 use Rattle.nmgc_round.specs.Starting.{CanOpen}
-use Rattle.nmgc_round.specs.Told.{TellsEntry, TellsNode, IsSafe}
+use Rattle.nmgc_round.specs.Told.{TellsEntry, TellsNode, TellsScan, IsSafe}
 use Rattle.nmgc_run.specs.Seen.{MarkerSeen}
-use Rattle.nmgc_mark.specs.Stopped.{AreScans, IsAlone, HasFinished}
+use Rattle.nmgc_mark.specs.Stopped.{AreScans, IsAlone, WordsShow, HasFinished}
 use Rattle.nmgc_mark.specs.Tie.{IsTied, AreQueued}
-use Rattle.nmgc_mark.specs.Work.{IsScanning, IsAtField, entry_now, marks_seen, rest_of}
+use Rattle.nmgc_mark.specs.Work.{entry_now, marks_seen}
 use Rattle.nmgc_mark.proofs.OneMark.{mark_is}
 
 -- what the laws of rounds say of a scan and of an opening
@@ -72,22 +72,22 @@ more_scans [] entry v h = tt
 more_scans (did m c r ∷ es) entry v h = absurd h
 more_scans (scanned e x ∷ es) entry v h = more_scans es entry v h
 
--- the first entry can be scanned
-abbrev pub can_scan : (v : Seen) (s : Segments) (m : MarkerSeen) (at position offset : ℕ) → v.collects ≡ true → IsScanning v s m at position →
-    offset ≡ offset_of position → CanScan v at offset
-can_scan v s m at position offset collects h e = record {
-  collects = collects;
-  entry = entry_now v;
-  rest = (rest_of (marks_seen v)).queue;
-  first = ap (λ (k : Marks). k.queue) h.first;
-  there = h.there;
-  position = e ∙ ap offset_of (sym h.stands);
-}
+-- what a view scans next, by the name of its own first entry
+abbrev own : (v : Seen) (at offset : ℕ) → CanScan v at offset → CanScan v at offset
+own v at offset can =
+    let same : can.entry ≡ entry_now v = sym (ap first_of can.first) in
+    record {
+      collects = can.collects;
+      entry = entry_now v;
+      rest = can.rest;
+      first = can.first ∙ ap (λ (e : Entry). e ∷ can.rest) same;
+      there = subst (λ (e : Entry). Contains v.opening.places (record { at = at; name = e.name })) same can.there;
+      position = can.position ∙ ap (λ (e : Entry). offset_of e.position) same;
+    }
 
-module _ (o : Opening) (words : List ℕ) (v : Seen) (a : IsAlone o words v) (s : Segments) (m : MarkerSeen) (at position offset : ℕ)
-    (h : IsScanning v s m at position) (e : offset ≡ offset_of position) (law : ScanLaw) where
+module _ (o : Opening) (words : List ℕ) (v : Seen) (a : IsAlone o words v) (at offset : ℕ) (can : CanScan v at offset) (law : ScanLaw) where
   added : AddsScan o words (v ∷ []) a.keeps (entry_now v) words (scanned_by v (slice_index words (at + offset)) ∷ [])
-  added = law o words (v ∷ []) 0 v at offset a.keeps refl (can_scan v s m at position offset a.collects h e)
+  added = law o words (v ∷ []) 0 v at offset a.keeps refl (own v at offset can)
 
   pub alone_then : IsAlone o words (scanned_by v (slice_index words (at + offset)))
   alone_then = record {
@@ -97,19 +97,19 @@ module _ (o : Opening) (words : List ℕ) (v : Seen) (a : IsAlone o words v) (s 
     scans = subst AreScans (sym added.2) (more_scans a.keeps.events (entry_now v) added.0 a.scans);
   }
 
-  queue_is : (now o a.keeps.events).queue ≡ entry_now v ∷ (rest_of (marks_seen v)).queue
+  queue_is : (now o a.keeps.events).queue ≡ entry_now v ∷ can.rest
   queue_is =
       ap (λ (x : Marks). x.queue) ((a.keeps.agrees 0 v refl).scans a.collects).2
       ∙ ap (λ (y : Opening). (marks_after y v.scans).queue) (sym a.opening)
-      ∙ ap (λ (x : Marks). x.queue) h.first
+      ∙ (own v at offset can).first
 
   there_is : Contains o.places (record { at = at; name = (entry_now v).name })
-  there_is = subst (λ (y : Opening). Contains y.places (record { at = at; name = (entry_now v).name })) a.opening h.there
+  there_is = subst (λ (y : Opening). Contains y.places (record { at = at; name = (entry_now v).name })) a.opening (own v at offset can).there
 
-  node_told : position ≡ 0 → TellsNode o (entry_now v).name (slice_index words (at + offset))
+  node_told : (entry_now v).position ≡ 0 → TellsNode o (entry_now v).name (slice_index words (at + offset))
   node_told first =
       let q = a.keeps.queued (entry_now v) (subst (λ (l : List Entry).
-      Contains l (entry_now v)) (sym queue_is) (contains_head (entry_now v) (rest_of (marks_seen v)).queue)) in
+      Contains l (entry_now v)) (sym queue_is) (contains_head (entry_now v) can.rest)) in
       let x : Object = q.object in
       let same = a.keeps.stands.one (place_of q.object) (record { at = at; name = (entry_now v).name }) (inl q.here.there) (inl there_is) (inl q.name) in
       let x_at : q.object.at ≡ at = ap (λ (p : Place). p.at) same in
@@ -118,7 +118,7 @@ module _ (o : Opening) (words : List ℕ) (v : Seen) (a : IsAlone o words v) (s 
       let wide = a.keeps.is.wide q.marking q.object q.here (subst (λ (y : Option Node). IsSome y) (sym known) refl) in
       let later = (st.kept q.node (inr (record { marking = q.marking; wide = wide; there = known }))).0 in
       let apart = a.keeps.stands.apart q.object (inl q.here) in
-      let z : at + offset ≡ at = let f = e ∙ ap offset_of first in omega arith in
+      let z : at + offset ≡ at = let f = (own v at offset can).position ∙ ap offset_of first in omega arith in
       record {
         node = q.node;
         there = q.there;
@@ -142,7 +142,7 @@ module _ (o : Opening) (words : List ℕ) (v : Seen) (a : IsAlone o words v) (s 
       let f = r.1 in
       omega arith
 
-  field_safe : 1 ≤ position → IsSafe o (slice_index words (at + offset))
+  field_safe : 1 ≤ (entry_now v).position → IsSafe o (slice_index words (at + offset))
   field_safe some_ =
       let n = added.1 in
       let reads = ((added.1.agrees 0 (scanned_by v (slice_index words (at + offset))) refl).scans a.collects).1 in
@@ -150,20 +150,19 @@ module _ (o : Opening) (words : List ℕ) (v : Seen) (a : IsAlone o words v) (s 
       pointer_safe (IsIn o added.1.born)
       (λ p q. let x : Object = record { at = p.at; name = p.name; node = q.0 } in
       let l = lies_within o.layout (place_of x) (size_of q.0) (omega arith) (added.1.stands.apart x q.1).lies in omega arith)
-      last.0 last.1 (λ none. last.2 none (let f = h.stands in omega arith))
+      last.0 last.1 (λ none. last.2 none some_)
 
   pub alone_tells : TellsEntry o (entry_now v) (slice_index words (at + offset))
-  alone_tells = record { header = λ first. node_told (sym h.stands ∙ first); safe = λ some_. field_safe (let f = h.stands in omega arith) }
+  alone_tells = record { header = λ first. node_told first; safe = λ some_. field_safe some_ }
 
--- the same at a word that is known to be there
-pub scan_alone : ScanLaw → (o : Opening) (words : List ℕ) (v : Seen) (s : Segments) (m : MarkerSeen) (at position offset i w : ℕ) →
-    IsAlone o words v → IsScanning v s m at position → offset ≡ offset_of position → i ≡ at + offset → w ≡ slice_index words i →
-    IsAlone o words (scanned_by v w) × TellsEntry v.opening (entry_now v) w
-scan_alone law o words v s m at position offset i w a h e place is =
-    let word : slice_index words (at + offset) ≡ w = ap (λ j. slice_index words j) (sym place) ∙ sym is in (
-      subst (λ x. IsAlone o words (scanned_by v x)) word (alone_then o words v a s m at position offset h e law),
-      subst (λ (y : Opening). TellsEntry y (entry_now v) w) (sym a.opening) (subst (λ x.
-          TellsEntry o (entry_now v) x) word (alone_tells o words v a s m at position offset h e law)),
+-- the same for a word that was loaded
+pub scan_alone : ScanLaw → (first old new : List ℕ) (v : Seen) (at offset w : ℕ) → WordsShow first old v → CanScan v at offset → new ≡ old →
+    w ≡ slice_index old (at + offset) → WordsShow first new (scanned_by v w) × TellsScan v w
+scan_alone law first old new v at offset w shows can same is =
+    let next : IsAlone v.opening old (scanned_by v w) =
+    subst (λ x. IsAlone v.opening old (scanned_by v x)) (sym is) (alone_then v.opening old v shows.1 at offset can law) in (
+      (same ∙ shows.0, subst (λ (l : List ℕ). IsAlone v.opening l (scanned_by v w)) (sym same) next),
+      subst (λ x. TellsEntry v.opening (entry_now v) x) (sym is) (alone_tells v.opening old v shows.1 at offset can law),
     )
 
 -- every word is among those that the layout has
@@ -233,26 +232,12 @@ alone_ends o words v s m a h empty =
       tied = subst (λ (k : Marks). IsTied o k s m) (sym same) h;
     }
 
-field_offset : (field : ℕ) → 2 + field ≡ offset_of (field + 1)
-field_offset field = let z : field + 1 ≡ suc field = omega arith in sym (ap offset_of z)
+-- the opening of a view is that of the collector alone
+pub alone_shows : (o : Opening) (first words : List ℕ) (v : Seen) → words ≡ first → IsAlone o first v → WordsShow words words v
+alone_shows o first words v same a =
+    (refl, subst (λ (y : Opening). IsAlone y words v) (sym a.opening) (subst (λ (l : List ℕ). IsAlone o l v) (sym same) a))
 
--- the next field of an object, by a load
-pub field_alone : ScanLaw → (o : Opening) (words : List ℕ) (from v : Seen) (s : Segments) (m : MarkerSeen) (at fields field i w : ℕ) →
-    IsAlone o words v → IsAtField from v s m at fields field → field < fields → i ≡ at + 2 + field → w ≡ slice_index words i →
-    IsAlone o words (scanned_by v w) × TellsEntry v.opening (entry_now v) w
-field_alone law o words from v s m at fields field i w a h lt place is =
-    scan_alone law o words v s m at (field + 1) (2 + field) i w a (h.more lt).0 (field_offset field) (let e = place in omega arith) is
-
--- its word is no pointer past the heap's words
-pub field_small : (o : Opening) (words : List ℕ) (from v : Seen) (s : Segments) (m : MarkerSeen) (at fields field w : ℕ) → IsAlone o words v →
-    IsAtField from v s m at fields field → field < fields → TellsEntry v.opening (entry_now v) w → (a : ℕ) → w ≡ 2 * a → a < 2 ^ 32
-field_small o words from v s m at fields field w a h lt tells b e =
-    let stands = (h.more lt).0.stands in
-    let l = tells.safe (omega arith) b e in
-    let t = (alone_total o words v a).1 in
-    omega arith
-
--- the header of an object, by a load
-pub header_alone : ScanLaw → (o : Opening) (words : List ℕ) (v : Seen) (s : Segments) (m : MarkerSeen) (at w : ℕ) → IsAlone o words v →
-    IsScanning v s m at 0 → w ≡ slice_index words at → IsAlone o words (scanned_by v w) × TellsEntry v.opening (entry_now v) w
-header_alone law o words v s m at w a h is = scan_alone law o words v s m at 0 0 at w a h refl (omega arith) is
+pub shows_alone : (o : Opening) (first old new : List ℕ) (from v : Seen) → old ≡ first → IsAlone o first from → v.opening ≡ from.opening →
+    WordsShow old new v → IsAlone o first v
+shows_alone o first old new from v same a later shows =
+    subst (λ (y : Opening). IsAlone y first v) (later ∙ a.opening) (subst (λ (l : List ℕ). IsAlone v.opening l v) (shows.0 ∙ same) shows.1)

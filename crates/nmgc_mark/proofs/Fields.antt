@@ -1,11 +1,12 @@
 -- The loop over the fields of one object, and over objects.
-use Rattle.std.proofs.Common.{◌≡◌, ℕ, suc, ◌+◌, ◌^◌, ◌<◌, ◌≤◌, Bool, true, false, not, ◌&&◌, eqb, List, [], ◌∷◌, ◌++◌, length, refl, sym, ap, subst, ◌∙◌, arith, append_assoc}
+use Rattle.std.proofs.Common.{ne_eqb, ◌≡◌, ℕ, suc, ◌+◌, ◌^◌, ◌<◌, ◌≤◌, Bool, true, false, not, ◌&&◌, eqb, List, [], ◌∷◌, ◌++◌, length, refl, sym, ap, subst, ◌∙◌, arith, append_assoc}
 use Rattle.std.proofs.lemmas.List.{append-nil}
 use Rattle.nmgc_graph.specs.declared.value.Name.{Name}
 use Rattle.nmgc_graph.specs.declared.node.Kind.{Kind}
 use Rattle.nmgc_graph.specs.declared.node.Kind.TheVariants as kind
 use Rattle.nmgc_object.specs.declared.words.Header.{Header}
 use Rattle.nmgc_object.specs.declared.size.TheConstants.{HEADER_WORDS}
+use Rattle.nmgc_object.specs.Words.{header_word, IsHeader}
 use Rattle.nmgc_object.specs.Places.{IsLayout, word_total}
 use Rattle.nmgc_object.specs.declared.layout.Layout.{Layout}
 use Rattle.nmgc_core.specs.Scan.{fields_of}
@@ -15,13 +16,14 @@ use Rattle.nmgc_round.specs.Gate.{next_turn, passed}
 use Rattle.nmgc_round.specs.View.{Opening, Seen, Scan}
 use Rattle.nmgc_round.specs.Marking.{Marks, name_meant, name_read, with_name, is_last_word}
 use Rattle.nmgc_round.specs.Ready.{scanned_by}
+use Rattle.nmgc_round.specs.Told.{TellsScan}
 use Rattle.nmgc_round.specs.Seat.{RoundSeat, IsAt, Knows, seen, word_count}
 use Rattle.nmgc_run.specs.Seen.{MarkerSeen}
 use Rattle.nmgc_run.specs.Marker.{HasRoomToMark}
 use Rattle.nmgc_mark.specs.Marker.{HasScanned, HasMarked, turned}
 use Rattle.nmgc_mark.specs.Tie.{IsTied}
-use Rattle.nmgc_mark.specs.Work.{IsScanning, IsCollector, IsLaterSeat, IsAtField, HasWorked, entry_now, marks_seen, rest_of, fields_scanned, has_results, is_result}
-use Rattle.nmgc_mark.proofs.Scanning.{IsNode, IsTaken, goes_on, ends, not_last, header_more, field_last, result_last, fields_are}
+use Rattle.nmgc_mark.specs.Work.{IsScanning, IsCollector, IsLaterSeat, IsAtField, HasWorked, SeatShows, entry_now, marks_seen, rest_of, fields_scanned, has_results, is_result}
+use Rattle.nmgc_mark.proofs.Scanning.{IsNode, IsTaken, node_told, goes_on, ends, not_last, header_more, field_last, result_last, fields_are}
 
 pub few : (k : Kind) (n : ℕ) → fields_scanned k n ≤ n
 few kind.Con n = omega arith
@@ -31,13 +33,9 @@ few kind.Thunk n = omega arith
 few kind.Weak n = omega arith
 few kind.Stack n = omega arith
 
-and_false : (b : Bool) → (b && false) ≡ false
-and_false true = refl
-and_false false = refl
-
--- what is no thunk has no result
-pub no_result : (k : Kind) (field w : ℕ) → has_results k ≡ false → is_result k field w ≡ false
-no_result k field w none = ap (λ (b : Bool). eqb field 0 && (b && not (eqb w 0))) none ∙ and_false (eqb field 0)
+-- a result is the first field alone
+pub not_first : (k : Kind) (field w : ℕ) → 1 ≤ field → is_result k field w ≡ false
+not_first k field w later = ap (λ (b : Bool). b && (has_results k && not (eqb w 0))) (ne_eqb field 0 (λ e. omega arith))
 
 pub scanned_none : (m : MarkerSeen) → HasScanned m m 0
 scanned_none m = record { epoch = refl; grows = omega arith; pace = omega arith; room = refl }
@@ -71,7 +69,7 @@ read_field : (o : Opening) (m : Marks) (field w : ℕ) → with_name o.core.snap
 read_field o m field w = let z : field + 1 ≡ suc field = omega arith in ap (λ n. with_name o.core.snapshot m (name_read o.places n w)) z
 
 -- after the header
-pub first_field : (v : Seen) (s : Segments) (m : MarkerSeen) (at w fields : ℕ) (header : Header) → IsScanning v s m at 0 →
+first_field : (v : Seen) (s : Segments) (m : MarkerSeen) (at w fields : ℕ) (header : Header) → IsScanning v s m at 0 →
     IsNode v.opening (entry_now v).name header → fields ≡ fields_scanned header.kind header.fields → IsAtField v (scanned_by v w) s m at fields 0
 first_field v s m at w fields header h n f =
     let are = fields_are n.node header fields n.is f in
@@ -81,8 +79,16 @@ first_field v s m at w fields header h n f =
       last = λ le. ends v w at s s m m 0 h n.node n.there (field_last n.node fields 0 w are le) h.tied;
     }
 
+-- what the header of the object tells
+pub header_told : (v : Seen) (s : Segments) (m : MarkerSeen) (at w fields : ℕ) (header : Header) → IsScanning v s m at 0 → TellsScan v w →
+    ((other : Header) → IsHeader other → header_word other ≡ w → header ≡ other) → fields ≡ fields_scanned header.kind header.fields →
+    IsNode v.opening (entry_now v).name header × IsAtField v (scanned_by v w) s m at fields 0
+header_told v s m at w fields header h tells is f =
+    let n = node_told v s m at w header h tells is in
+    (n, first_field v s m at w fields header h n f)
+
 -- the node of the object that is scanned, later
-pub node_later : (from v : Seen) (s : Segments) (m : MarkerSeen) (at fields field : ℕ) (header : Header) →
+node_later : (from v : Seen) (s : Segments) (m : MarkerSeen) (at fields field : ℕ) (header : Header) →
     IsNode from.opening (entry_now from).name header → IsAtField from v s m at fields field → field < fields → IsNode v.opening (entry_now v).name header
 node_later from v s m at fields field header n h lt =
     subst (λ (y : Opening). IsNode y (entry_now v).name header) (sym h.opening) (subst (λ (k : Name). IsNode from.opening k header) (sym (h.more lt).1) n)
@@ -175,7 +181,7 @@ same_seat seat = record {
       v) (sym (append-nil (seen seat).scans));
 }
 
-pub one_scan : (round : Round) (from old new : RoundSeat) (w : ℕ) → IsLaterSeat from old → Knows round old new (scanned_by (seen old) w) → IsLaterSeat from new
+one_scan : (round : Round) (from old new : RoundSeat) (w : ℕ) → IsLaterSeat from old → Knows round old new (scanned_by (seen old) w) → IsLaterSeat from new
 one_scan round from old new w l k =
     let s : Scan = record { entry = entry_now (seen old); word = w } in
     let is : seen old ≡ record (seen from) { scans = (seen from).scans ++ l.scans } = l.knows in
@@ -194,9 +200,17 @@ later_seat a b c x y = record {
       ap (λ (xs : List Scan). let u : Seen = record (seen a) { scans = xs } in u) (append_assoc (seen a).scans x.scans y.scans);
 }
 
-pub still_collector : (round : Round) (old new : RoundSeat) (w : ℕ) → IsCollector round old → Knows round old new (scanned_by (seen old) w) →
+still_collector : (round : Round) (old new : RoundSeat) (w : ℕ) → IsCollector round old → Knows round old new (scanned_by (seen old) w) →
     IsCollector round new
 still_collector round old new w h k = (k.0, ap (λ (v : Seen). v.collects) k.2 ∙ h.1)
+
+pub seat_scanned : (round : Round) (first old new : RoundSeat) (v : Seen) (w : ℕ) → SeatShows round first old v →
+    Knows round old new (scanned_by (seen old) w) → SeatShows round first new (scanned_by v w)
+seat_scanned round first old new v w shows k = (
+  still_collector round old new w shows.0 k,
+  one_scan round first old new w shows.1 k,
+  k.2 ∙ ap (λ (x : Seen). scanned_by x w) shows.2,
+)
 
 -- a seat that looked at a word, and knows what it knew
 pub still_worked : (round : Round) (from old new : RoundSeat) (s t : Segments) (m n : MarkerSeen) (count : ℕ) → HasWorked round from old s t m n count →

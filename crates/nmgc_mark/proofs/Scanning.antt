@@ -1,5 +1,5 @@
 -- What one scan adds to a collector's view.
-use Rattle.std.proofs.Common.{ne_eqb, eq-eqb, le-leb, leb-true, ◌≡◌, inl, inr, ◌↔◌, ℕ, ◌+◌, ◌<◌, ◌≤◌, Bool, true, false, not, ◌&&◌, ◌||◌, cond, eqb, leb, List, [], ◌∷◌, ◌++◌, refl, sym, ap, subst, ◌∙◌, arith, Option, Some, None, is_some, drop}
+use Rattle.std.proofs.Common.{ne_eqb, eq-eqb, le-leb, leb-true, ◌≡◌, inl, inr, ◌↔◌, ℕ, suc, ◌+◌, ◌<◌, ◌≤◌, Bool, true, false, not, ◌&&◌, ◌||◌, cond, eqb, leb, List, [], ◌∷◌, ◌++◌, refl, sym, ap, subst, ◌∙◌, arith, Option, Some, None, is_some, drop}
 use Rattle.std.specs.Prelude.{Contains}
 use Rattle.std.proofs.lemmas.Bool.Decides.{eqb_tells}
 use Rattle.nmgc_graph.specs.declared.value.Name.{Name}
@@ -16,12 +16,28 @@ use Rattle.nmgc_alloc.specs.Segments.{Segments}
 use Rattle.nmgc_alloc.specs.Blocks.{IsMarkedAt}
 use Rattle.nmgc_heap.specs.Shape.{header_of, size_of}
 use Rattle.nmgc_round.specs.View.{Opening, Seen, Scan}
-use Rattle.nmgc_round.specs.Marking.{Marks, marks_of, name_read, with_name, after_word, folded, entry_past, first_past, is_last_word, is_thunk}
-use Rattle.nmgc_round.specs.Ready.{first_of, scanned_by}
+use Rattle.nmgc_round.specs.Marking.{Marks, marks_of, name_read, with_name, after_word, folded, entry_past, first_past, is_last_word, is_thunk, offset_of}
+use Rattle.nmgc_round.specs.Ready.{CanScan, first_of, scanned_by}
 use Rattle.nmgc_round.specs.Told.{TellsEntry}
 use Rattle.nmgc_run.specs.Seen.{MarkerSeen}
 use Rattle.nmgc_mark.specs.Tie.{AreQueued, IsTied}
 use Rattle.nmgc_mark.specs.Work.{IsScanning, entry_now, marks_seen, rest_of, with_first, fields_scanned, has_results, is_result}
+
+-- its word is what the view scans next
+pub can_scan : (v : Seen) (s : Segments) (marker : MarkerSeen) (at position offset : ℕ) → IsScanning v s marker at position →
+    offset ≡ offset_of position → CanScan v at offset
+can_scan v s marker at position offset h e = record {
+  collects = h.collects;
+  entry = entry_now v;
+  rest = (rest_of (marks_seen v)).queue;
+  first = ap (λ (m : Marks). m.queue) h.first;
+  there = h.there;
+  position = e ∙ ap offset_of (sym h.stands);
+}
+
+-- where a field is among the words of its object
+pub field_offset : (field : ℕ) → 2 + field ≡ offset_of (field + 1)
+field_offset field = let z : field + 1 ≡ suc field = omega arith in sym (ap offset_of z)
 
 -- the node of a name in the snapshot, by its header
 pub record IsNode (o : Opening) (name : Name) (header : Header) : Type 0 where
@@ -119,6 +135,7 @@ goes_on v w at s new before later position h node there more tied =
     let rest : rest_of (marks_seen (scanned_by v w)) ≡
     with_name v.opening.core.snapshot (rest_of (marks_seen v)) (name_read v.opening.places (entry_now v).position w) = ap rest_of is in (
       record {
+        collects = h.collects;
         first = is ∙ sym (λ i. with_first (entry i) (rest i));
         there = subst (λ n. Contains v.opening.places (record { at = at; name = n })) (sym (ap (λ (k : Entry). k.name) entry)) h.there;
         stands = ap (λ (k : Entry). k.position) entry ∙ ap (λ n. n + 1) h.stands;
@@ -143,9 +160,9 @@ abbrev pub IsTaken : MarkerSeen → MarkerSeen → Type 0
 IsTaken old new = new ≡ record old { queue = new.queue; turns = new.turns }
 
 -- the first of the queue is scanned next
-pub begins : (v : Seen) (s : Segments) (before later : MarkerSeen) (at : ℕ) → IsTied v.opening (marks_seen v) s before →
+pub begins : (v : Seen) (s : Segments) (before later : MarkerSeen) (at : ℕ) → v.collects ≡ true → IsTied v.opening (marks_seen v) s before →
     before.queue ≡ at ∷ later.queue → IsTaken before later → IsScanning v s later at 0
-begins v s before later at h e same = by_queue before.queue (marks_seen v).queue e refl h.queue
+begins v s before later at collects h e same = by_queue before.queue (marks_seen v).queue e refl h.queue
   where
     by_queue : (ats : List ℕ) (entries : List Entry) → ats ≡ at ∷ later.queue → (marks_seen v).queue ≡ entries →
         AreQueued v.opening.places ats entries → IsScanning v s later at 0
@@ -159,6 +176,7 @@ begins v s before later at h e same = by_queue before.queue (marks_seen v).queue
         let epoch_is : later.epoch ≡ before.epoch = ap (λ (k : MarkerSeen). k.epoch) same in
         let marked_is : later.marked ≡ before.marked = ap (λ (k : MarkerSeen). k.marked) same in
         record {
+          collects = collects;
           first = (λ i. record { marked = (marks_seen v).marked; queue = (q ∙ sym (λ j. entry j ∷ drop 1 (q j))) i });
           there = subst (λ n. Contains v.opening.places (record { at = at; name = n })) (sym (ap (λ (k : Entry). k.name) entry)) (subst (λ n.
               Contains v.opening.places (record { at = n; name = x.name })) b_is a.0.0);

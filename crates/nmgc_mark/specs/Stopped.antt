@@ -22,6 +22,10 @@ pub record IsAlone (o : Opening) (words : List ℕ) (v : Seen) : Type 0 where
   pub keeps : Keeps o words (v ∷ [])
   pub scans : AreScans keeps.events
 
+-- no word changed since the first words, and a collector alone could have this view by now
+abbrev pub WordsShow : List ℕ → List ℕ → Seen → Type 0
+WordsShow first words v = (words ≡ first) × IsAlone v.opening words v
+
 -- the words represent the world of the opening, and the marker's marks and queue are those of its core state
 pub record IsReady (o : Opening) (words : List ℕ) (s : Segments) (marker : MarkerSeen) : Type 0 where
   pub opens : CanOpen o words

@@ -38,8 +38,13 @@ pub record IsLaterSeat (old new : RoundSeat) : Type 0 where
   pub scans : List Scan
   pub knows : seen new ≡ record (seen old) { scans = (seen old).scans ++ scans }
 
+-- since the first seat there were only scans, and the seat knows this
+abbrev pub SeatShows : Round → RoundSeat → RoundSeat → Seen → Type 0
+SeatShows round first seat v = IsCollector round seat × IsLaterSeat first seat × (seen seat ≡ v)
+
 -- the first entry is the object at this place, at this position, and all else is tied
 pub record IsScanning (v : Seen) (s : Segments) (marker : MarkerSeen) (at position : ℕ) : Type 0 where
+  pub collects : v.collects ≡ true
   pub first : marks_seen v ≡ with_first (entry_now v) (rest_of (marks_seen v))
   pub there : Contains v.opening.places (record { at = at; name = (entry_now v).name })
   pub stands : (entry_now v).position ≡ position
@@ -50,6 +55,11 @@ pub record IsAtField (from v : Seen) (s : Segments) (marker : MarkerSeen) (at fi
   pub opening : v.opening ≡ from.opening
   pub more : field < fields → IsScanning v s marker at (field + 1) × ((entry_now v).name ≡ (entry_now from).name)
   pub last : fields ≤ field → IsTied v.opening (marks_seen v) s marker
+
+-- the object that a view was to scan was scanned to its end
+pub record IsDone (from v : Seen) (s : Segments) (marker : MarkerSeen) : Type 0 where
+  pub opening : v.opening ≡ from.opening
+  pub tied : IsTied v.opening (marks_seen v) s marker
 
 -- so many objects were scanned, and the marker's marks and queue are those of the view
 pub record HasWorked (round : Round) (from seat : RoundSeat) (old new : Segments) (before marker : MarkerSeen) (count : ℕ) : Type 0 where

@@ -1,8 +1,7 @@
 //! Scanning beside the mutators.
 //!
-//! Each word of an object is one load of the round, and one scan of the core machine: first the header, then
-//! field after field. What a field refers to is marked before the next one is read. An object is scanned to its
-//! end once it was begun, so between two calls every queued object is still to be scanned from its header on.
+//! Each word of an object is one load of the round, and one scan of the core machine (`scanning`). An object is scanned
+//! to its end once it was begun, so between two calls every queued object is still to be scanned from its header on.
 //!
 //! Before each object the rings of all mutators are polled once: a block of remembered places that is there goes to the
 //! collector's own list, and is marked at the stop. So a mutator finds free slots again while the marker is at work.
@@ -12,54 +11,20 @@
 //!
 //! Easy to get wrong: whether anything is left is told by the queue on return, and not by the quota: a round that
 //! scans its whole quota may leave nothing.
-ghost use Rattle.std.specs.Prelude.{◌≡◌, ◌+◌, ◌<◌, ◌≤◌, [], ◌↔◌, IsTrue, length};
-ghost use Rattle.nmgc_object.specs.declared.size.TheConstants.{HEADER_WORDS};
+ghost use Rattle.std.specs.Prelude.{◌≡◌, ◌<◌, ◌≤◌, [], ◌↔◌, IsTrue, length};
 ghost use Rattle.nmgc_round.specs.Gate.{next_turn, passed};
-ghost use Rattle.nmgc_round.specs.Marking.{with_name, name_meant};
-ghost use Rattle.nmgc_round.specs.Ready.{scanned_by};
-ghost use Rattle.nmgc_round.specs.Seat.{Knows, seen, word_count};
+ghost use Rattle.nmgc_round.specs.Seat.{seen};
 ghost use Rattle.nmgc_run.specs.Marker.{HasRoomToMark};
 ghost use Rattle.nmgc_updrem.specs.Rings.{HavePolled};
-ghost use Rattle.nmgc_mark.specs.Marker.{HasMarked, turned};
+ghost use Rattle.nmgc_mark.specs.Marker.{turned};
 ghost use Rattle.nmgc_mark.specs.Tie.{IsTied};
-ghost use Rattle.nmgc_mark.specs.Work.{IsCollector, IsScanning, HasWorked, marks_seen, rest_of, fields_scanned, has_results, is_result};
+ghost use Rattle.nmgc_mark.specs.Work.{IsCollector, HasWorked, marks_seen};
 
 use crate::marker::{Marker, Work};
 use nmgc_alloc::Segments;
-use nmgc_graph::{Kind, MAKERS};
-use nmgc_object::{Address, HEADER_WORDS, Header, header_of};
+use nmgc_graph::MAKERS;
 use nmgc_round::{CollectorSeat, Gate, Round};
 use nmgc_updrem::Inbox;
-
-/// How many fields of an object are scanned.
-pub(crate) fn fields_scanned(header: Header) -> u32
-    ensures { result ≡ fields_scanned header.kind header.fields }
-{
-    match header.kind {
-        Kind::Weak => 0,
-        Kind::Con | Kind::Var | Kind::Arr | Kind::Thunk | Kind::Stack => header.fields,
-    }
-}
-
-/// Whether the object may have a result: it's a thunk.
-pub(crate) fn has_results(header: Header) -> bool
-    ensures { result ≡ has_results header.kind }
-{
-    match header.kind {
-        Kind::Thunk => true,
-        Kind::Con | Kind::Var | Kind::Arr | Kind::Weak | Kind::Stack => false,
-    }
-}
-
-/// Whether the word is a result that was set, after which nothing of a thunk is scanned.
-pub(crate) fn is_result(header: Header, field: u32, word: u64) -> bool
-    ensures { result ≡ is_result header.kind field word }
-{
-    match header.kind {
-        Kind::Thunk => field == 0 && word != 0,
-        Kind::Con | Kind::Var | Kind::Arr | Kind::Weak | Kind::Stack => false,
-    }
-}
 
 impl Marker {
     // Passes the gate.
@@ -68,62 +33,6 @@ impl Marker {
     {
         self.turns = self.turns.saturating_add(1);
         gate.pass(MAKERS, self.turns);
-    }
-
-    // Scans one field of the object that the first entry names, and marks what it refers to.
-    fn scan_field(
-        &mut self,
-        round: &Round,
-        seat: &mut CollectorSeat,
-        segments: &mut Segments,
-        at: Address,
-        field: u32,
-    ) -> u64
-        requires collector { IsCollector round.now seat.old }
-        requires room { HasRoomToMark segments.old self.old }
-        requires scanning { IsScanning (seen seat.old) segments.old self.old at.0 (field + 1) }
-        requires within { at.0 + HEADER_WORDS + field < word_count round.now }
-        ensures view { Knows round.now seat.old seat.new (scanned_by (seen seat.old) result) }
-        ensures marked { HasMarked segments.old segments.new self.old self.new 0 }
-        ensures turns { self.new.turns ≡ self.old.turns }
-        ensures tied { IsTied (seen seat.old).opening (with_name (seen seat.old).opening.core.snapshot (rest_of (marks_seen (seen seat.old)))
-            (name_meant (seen seat.old).opening.places result)) segments.new self.new }
-    {
-        let _ = segments.layout();
-        let word = round.scan_load(seat, at, HEADER_WORDS + field);
-        self.mark_word(segments, word);
-        word
-    }
-
-    // Scans the object at a place, whose entry is the first: its header, and then field after field. A thunk
-    // with a result is done after that; in the fields of all other objects no result is looked for.
-    fn scan(
-        &mut self,
-        round: &Round,
-        seat: &mut CollectorSeat,
-        segments: &mut Segments,
-        at: Address,
-    )
-        requires collector { IsCollector round.now seat.old }
-        requires room { HasRoomToMark segments.old self.old }
-        requires scanning { IsScanning (seen seat.old) segments.old self.old at.0 0 }
-        ensures worked { HasWorked round.now seat.old seat.new segments.old segments.new self.old self.new 0 }
-        ensures turns { self.new.turns ≡ self.old.turns }
-    {
-        let header = header_of(round.scan_load(seat, at, 0));
-        let fields = fields_scanned(header);
-        if has_results(header) {
-            for field in 0..fields {
-                let word = self.scan_field(round, seat, segments, at, field);
-                if is_result(header, field, word) {
-                    return;
-                }
-            }
-            return;
-        }
-        for index in 0..fields {
-            self.scan_field(round, seat, segments, at, index);
-        }
     }
 
     /// Scans objects from the queue's front beside the mutators, at most so many, each to its end and each word

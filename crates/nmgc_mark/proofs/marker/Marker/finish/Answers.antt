@@ -2,12 +2,12 @@ use Rattle.std.proofs.Common.{ℕ, ◌≡◌, ◌+◌, ◌∙◌, List, refl, sy
 use Rattle.nmgc_round.specs.View.{Opening, Seen, whole}
 use Rattle.nmgc_alloc.specs.Segments.{Segments}
 use Rattle.nmgc_run.specs.Seen.{MarkerSeen}
-use Rattle.nmgc_mark.specs.Stopped.{IsAlone, HasFinished}
+use Rattle.nmgc_mark.specs.Stopped.{IsAlone, IsReady, HasFinished}
 use Rattle.nmgc_mark.specs.Tie.{IsTied}
 use Rattle.nmgc_mark.specs.Work.{marks_seen}
 use Rattle.nmgc_mark.proofs.Scanning.{begins}
 use Rattle.nmgc_mark.proofs.Fields.{marked_none, object_marked, room_taken, queue_taken}
-use Rattle.nmgc_mark.proofs.Alone.{alone_opens, alone_ends}
+use Rattle.nmgc_mark.proofs.Alone.{alone_opens, alone_ends, alone_shows, shows_alone}
 use Rattle.nmgc_mark.proofs.marker.Marker.finish.Goals as goal
 
 pub loop-at-init : goal.loop-at-init
@@ -19,30 +19,26 @@ loop-at-init g c = record {
   each = λ o r. (whole o, alone_opens c.words_open.ensures o (g.W.HeapWords.words c.args.words.now) r.opens, r.tied);
 }
 
-pub scan_stopped-requires-clause-room : goal.scan_stopped-requires-clause-room
-scan_stopped-requires-clause-room g c =
+pub scan-requires-clause-room : goal.scan-requires-clause-room
+scan-requires-clause-room g c =
     room_taken c.loop-at.segments c.loop-at.self c.take_first.new.self c.loop-at.invariant.marked.room
     (queue_taken c.loop-at.self c.take_first.new.self c.in-Some.ensures.some.1)
-
--- the collector alone, at the words as they still are
-at_words : (o : Opening) (ws now : List ℕ) (u : Seen) → now ≡ ws → IsAlone o ws u → IsAlone o now u
-at_words o ws now u e a = subst (λ (l : List ℕ). IsAlone o l u) (sym e) a
 
 tied_as : (o : Opening) (ws : List ℕ) (u : Seen) (s : Segments) (m : MarkerSeen) → IsAlone o ws u → IsTied o (marks_seen u) s m →
     IsTied u.opening (marks_seen u) s m
 tied_as o ws u s m a t = subst (λ (y : Opening). IsTied y (marks_seen u) s m) (sym a.opening) t
 
-pub scan_stopped-requires-clause-scanning : goal.scan_stopped-requires-clause-scanning
-scan_stopped-requires-clause-scanning g c =
+pub scan-requires-clause-scanning : goal.scan-requires-clause-scanning
+scan-requires-clause-scanning g c =
     let ws = g.W.HeapWords.words c.args.words.now in
     let now = g.W.HeapWords.words c.loop-at.words in
+    let inv = c.loop-at.invariant in
     let r = c.requires.ready in
-    let u = c.loop-at.invariant.each r.0 r.1 in
+    let u = inv.each r.0 r.1 in
     let s = c.in-Some.ensures.some in (
-      r.0,
       u.0,
-      at_words r.0 ws now u.0 c.loop-at.invariant.words u.1,
-      begins u.0 c.loop-at.segments c.loop-at.self c.take_first.new.self c.in-Some.at.0
+      alone_shows r.0 ws now u.0 inv.words u.1,
+      begins u.0 c.loop-at.segments c.loop-at.self c.take_first.new.self c.in-Some.at.0 u.1.collects
           (tied_as r.0 ws u.0 c.loop-at.segments c.loop-at.self u.1 u.2) s.0 (queue_taken c.loop-at.self c.take_first.new.self s.1),
     )
 
@@ -50,20 +46,26 @@ pub loop-at-preserved : goal.loop-at-preserved
 loop-at-preserved g c =
     let ws = g.W.HeapWords.words c.args.words.now in
     let now = g.W.HeapWords.words c.loop-at.words in
+    let new = g.W.HeapWords.words c.scan.new.source in
     let inv = c.loop-at.invariant in
     let s = c.in-Some.ensures.some in
+    let taken = queue_taken c.loop-at.self c.take_first.new.self s.1 in
+    let next = λ (o : Opening) (r : IsReady o ws c.args.segments.now c.args.self.now).
+    let u = inv.each o r in
+    c.scan.ensures.done u.0 (alone_shows o ws now u.0 inv.words u.1)
+    (begins u.0 c.loop-at.segments c.loop-at.self c.take_first.new.self c.in-Some.at.0 u.1.collects
+    (tied_as o ws u.0 c.loop-at.segments c.loop-at.self u.1 u.2) s.0 taken) in
     record {
-      words = c.scan_stopped.ensures.words ∙ inv.words;
+      words = (next c.requires.ready.0 c.requires.ready.1).1.0 ∙ inv.words;
       count = inv.count + 1;
-      marked = object_marked c.args.segments.now c.loop-at.segments c.scan_stopped.new.segments c.args.self.now c.loop-at.self c.take_first.new.self
-          c.scan_stopped.new.self c.in-Some.at.0 inv.count inv.marked s.0 (queue_taken c.loop-at.self c.take_first.new.self s.1) c.scan_stopped.ensures.marked;
-      turns = c.scan_stopped.ensures.turns ∙ ap (λ (m : MarkerSeen). m.turns) s.1 ∙ inv.turns;
+      marked = object_marked c.args.segments.now c.loop-at.segments c.scan.new.segments c.args.self.now c.loop-at.self c.take_first.new.self
+          c.scan.new.self c.in-Some.at.0 inv.count inv.marked s.0 taken c.scan.ensures.marked;
+      turns = c.scan.ensures.turns ∙ ap (λ (m : MarkerSeen). m.turns) s.1 ∙ inv.turns;
       each = λ o r.
           let u = inv.each o r in
-          let next = c.scan_stopped.ensures.tied o u.0 (at_words o ws now u.0 inv.words u.1)
-          (begins u.0 c.loop-at.segments c.loop-at.self c.take_first.new.self c.in-Some.at.0
-          (tied_as o ws u.0 c.loop-at.segments c.loop-at.self u.1 u.2) s.0 (queue_taken c.loop-at.self c.take_first.new.self s.1)) in
-          (next.0, subst (λ (l : List ℕ). IsAlone o l next.0) inv.words next.1, next.2);
+          let n = next o r in
+          let a = shows_alone o ws now new u.0 n.0 inv.words u.1 n.2.opening n.1 in
+          (n.0, a, subst (λ (y : Opening). IsTied y (marks_seen n.0) c.scan.new.segments c.scan.new.self) a.opening n.2.tied);
     }
 
 pub returns-clause-turns : goal.returns-clause-turns

@@ -1,8 +1,10 @@
 use Rattle.std.proofs.Common.{◌∙◌, ◌∷◌, ap, refl, subst, sym}
 use Rattle.nmgc_round.specs.Gate.{next_turn}
 use Rattle.nmgc_round.specs.Seat.{seen}
+use Rattle.nmgc_round.specs.View.{Seen}
 use Rattle.nmgc_run.specs.Seen.{MarkerSeen}
-use Rattle.nmgc_mark.specs.Work.{HasWorked}
+use Rattle.nmgc_mark.specs.Tie.{IsTied}
+use Rattle.nmgc_mark.specs.Work.{HasWorked, marks_seen}
 use Rattle.nmgc_mark.proofs.Scanning.{begins}
 use Rattle.nmgc_mark.proofs.Fields.{marked_none, object_marked, room_taken, passed_taken, passed_more, same_seat, later_seat, still_worked}
 use Rattle.nmgc_updrem.specs.laws.Polls.{polled_all_none, polled_all_then}
@@ -31,11 +33,6 @@ returns-in-None-clause-worked g c =
     (still_worked c.args.round.now c.args.seat.now c.loop-scanned.seat c.look_ahead.new.seat c.args.segments.now c.loop-scanned.segments
     c.args.self.now c.loop-scanned.self c.loop-scanned.scanned c.loop-scanned.invariant.worked c.look_ahead.ensures)
 
-pub scan-requires-clause-collector : goal.scan-requires-clause-collector
-scan-requires-clause-collector g c =
-    (still_worked c.args.round.now c.args.seat.now c.loop-scanned.seat c.look_ahead.new.seat c.args.segments.now c.loop-scanned.segments
-    c.args.self.now c.loop-scanned.self c.loop-scanned.scanned c.loop-scanned.invariant.worked c.look_ahead.ensures).collector
-
 pub scan-requires-clause-room : goal.scan-requires-clause-room
 scan-requires-clause-room g c =
     room_taken c.loop-scanned.segments c.loop-scanned.self c.pass.new.self c.loop-scanned.invariant.worked.marked.room
@@ -44,27 +41,33 @@ scan-requires-clause-room g c =
 pub scan-requires-clause-scanning : goal.scan-requires-clause-scanning
 scan-requires-clause-scanning g c =
     let s = c.in-Some.ensures.some in
+    let seat = c.look_ahead.new.seat in
     let first = s.0 ∙ ap (λ (m : MarkerSeen). c.in-Some.at.0 ∷ m.queue) (sym c.pass.ensures) in
-    let inv = still_worked c.args.round.now c.args.seat.now c.loop-scanned.seat c.look_ahead.new.seat c.args.segments.now
-    c.loop-scanned.segments c.args.self.now c.loop-scanned.self c.loop-scanned.scanned c.loop-scanned.invariant.worked c.look_ahead.ensures in
-    begins (seen c.look_ahead.new.seat) c.loop-scanned.segments c.loop-scanned.self c.pass.new.self c.in-Some.at.0 inv.tied first
-    (passed_taken c.loop-scanned.self c.take_first.new.self c.pass.new.self (next_turn c.take_first.new.self.turns) s.1 c.pass.ensures)
+    let inv = still_worked c.args.round.now c.args.seat.now c.loop-scanned.seat seat c.args.segments.now
+    c.loop-scanned.segments c.args.self.now c.loop-scanned.self c.loop-scanned.scanned c.loop-scanned.invariant.worked c.look_ahead.ensures in (
+      seen seat,
+      (inv.collector, same_seat seat, refl),
+      begins (seen seat) c.loop-scanned.segments c.loop-scanned.self c.pass.new.self c.in-Some.at.0 inv.collector.1 inv.tied first
+          (passed_taken c.loop-scanned.self c.take_first.new.self c.pass.new.self (next_turn c.take_first.new.self.turns) s.1 c.pass.ensures),
+    )
 
 pub loop-scanned-preserved : goal.loop-scanned-preserved
 loop-scanned-preserved g c =
     let s = c.in-Some.ensures.some in
+    let seat = c.look_ahead.new.seat in
     let first = s.0 ∙ ap (λ (m : MarkerSeen). c.in-Some.at.0 ∷ m.queue) (sym c.pass.ensures) in
-    let inv = still_worked c.args.round.now c.args.seat.now c.loop-scanned.seat c.look_ahead.new.seat c.args.segments.now
+    let inv = still_worked c.args.round.now c.args.seat.now c.loop-scanned.seat seat c.args.segments.now
     c.loop-scanned.segments c.args.self.now c.loop-scanned.self c.loop-scanned.scanned c.loop-scanned.invariant.worked c.look_ahead.ensures in
-    let done = c.scan.ensures.worked in
+    let taken = passed_taken c.loop-scanned.self c.take_first.new.self c.pass.new.self (next_turn c.take_first.new.self.turns) s.1 c.pass.ensures in
+    let done = c.scan.ensures.done (seen seat) (inv.collector, same_seat seat, refl)
+    (begins (seen seat) c.loop-scanned.segments c.loop-scanned.self c.pass.new.self c.in-Some.at.0 inv.collector.1 inv.tied first taken) in
     record {
       worked = record {
-        collector = done.collector;
-        later = later_seat c.args.seat.now c.look_ahead.new.seat c.scan.new.seat inv.later done.later;
+        collector = done.1.0;
+        later = later_seat c.args.seat.now seat c.scan.new.source inv.later done.1.1;
         marked = object_marked c.args.segments.now c.loop-scanned.segments c.scan.new.segments c.args.self.now c.loop-scanned.self c.pass.new.self
-            c.scan.new.self c.in-Some.at.0 c.loop-scanned.scanned inv.marked first
-            (passed_taken c.loop-scanned.self c.take_first.new.self c.pass.new.self (next_turn c.take_first.new.self.turns) s.1 c.pass.ensures) done.marked;
-        tied = done.tied;
+            c.scan.new.self c.in-Some.at.0 c.loop-scanned.scanned inv.marked first taken c.scan.ensures.marked;
+        tied = subst (λ (v : Seen). IsTied v.opening (marks_seen v) c.scan.new.segments c.scan.new.self) (sym done.1.2) done.2.tied;
       };
       turns = c.scan.ensures.turns ∙ ap (λ (m : MarkerSeen). m.turns) c.pass.ensures ∙
           ap (λ n. next_turn n) (ap (λ (m : MarkerSeen). m.turns) s.1 ∙ c.loop-scanned.invariant.turns) ∙

@@ -1,0 +1,136 @@
+//! Scanning one object: its header, and then field after field.
+//!
+//! Each word of an object is one scan of the core machine, and what a field refers to is marked before the next one is
+//! read. Beside the mutators the collector's seat loads the words; at a stop, where the mutators stand still, they are
+//! loaded where they lie. That the latter scans are the machine's too is a law of rounds: what the collector does there
+//! is a round in which no mutator does anything (`specs/Stopped.antt`), and since it is alone, that round needs no table.
+//! So the loop stands once, over a trait that says how a load changes what the collector knows.
+//!
+//! Easy to get wrong: a thunk's result is its first field, and where it was set, nothing else of the thunk is scanned. So
+//! the first field is scanned before the loop, and in all others no result is looked for.
+ghost use Rattle.std.specs.Prelude.{ℕ, ◌≡◌, ◌+◌, ◌<◌};
+ghost use Rattle.nmgc_object.specs.Places.{word_total};
+ghost use Rattle.nmgc_object.specs.declared.size.TheConstants.{HEADER_WORDS};
+ghost use Rattle.nmgc_round.specs.Marking.{with_name, name_meant};
+ghost use Rattle.nmgc_round.specs.Ready.{CanScan, scanned_by};
+ghost use Rattle.nmgc_round.specs.Told.{TellsScan};
+ghost use Rattle.nmgc_round.specs.View.{Seen};
+ghost use Rattle.nmgc_run.specs.Marker.{HasRoomToMark};
+ghost use Rattle.nmgc_mark.specs.Marker.{HasMarked};
+ghost use Rattle.nmgc_mark.specs.Stopped.{WordsShow};
+ghost use Rattle.nmgc_mark.specs.Tie.{IsTied};
+ghost use Rattle.nmgc_mark.specs.Work.{IsScanning, IsDone, SeatShows, marks_seen, rest_of, fields_scanned, is_result};
+
+use crate::marker::Marker;
+use nmgc_alloc::Segments;
+use nmgc_graph::Kind;
+use nmgc_heap::HeapWords;
+use nmgc_object::{Address, HEADER_WORDS, Header, header_of};
+use nmgc_round::{CollectorSeat, Round, laws};
+
+/// Loads of the words of objects that are scanned, from a seat of a round or from the words at a stop.
+pub(crate) trait ScanLoad<S> {
+    // Since the first `S` words were only scanned, and the collector may have this view by now.
+    ghost shows: { Self → S → S → Seen → Type 0 };
+
+    /// The word that a view scans next. The view has that one scan more.
+    fn load(&self, source: &mut S, at: Address, offset: u32) -> u64
+        requires { (first : S) × (v : Seen) × shows self.now first source.old v × CanScan v at.0 offset × (at.0 + offset < word_total v.opening.layout) }
+        ensures { (first : S) (v : Seen) → shows self.now first source.old v → CanScan v at.0 offset →
+            shows self.now first source.new (scanned_by v result) × TellsScan v result };
+}
+
+impl ScanLoad<CollectorSeat> for Round {
+    ghost shows = { SeatShows };
+
+    fn load(&self, source: &mut CollectorSeat, at: Address, offset: u32) -> u64 {
+        self.scan_load(source, at, offset)
+    }
+}
+
+/// A stop: the collector goes on alone.
+pub(crate) struct AtStop;
+
+impl<W: HeapWords> ScanLoad<W> for AtStop {
+    ghost shows = { λ stop first words v. WordsShow (W.words first) (W.words words) v };
+
+    fn load(&self, source: &mut W, at: Address, offset: u32) -> u64 {
+        laws::scan();
+        source.load(at.0 as usize + offset as usize)
+    }
+}
+
+/// How many fields of an object are scanned.
+fn fields_scanned(header: Header) -> u32
+    ensures { result ≡ fields_scanned header.kind header.fields }
+{
+    match header.kind {
+        Kind::Weak => 0,
+        Kind::Con | Kind::Var | Kind::Arr | Kind::Thunk | Kind::Stack => header.fields,
+    }
+}
+
+/// Whether the word of the first field is a result that was set, after which nothing of a thunk is scanned.
+fn is_result(header: Header, word: u64) -> bool
+    ensures { result ≡ is_result header.kind 0 word }
+{
+    match header.kind {
+        Kind::Thunk => word != 0,
+        Kind::Con | Kind::Var | Kind::Arr | Kind::Weak | Kind::Stack => false,
+    }
+}
+
+impl Marker {
+    // Scans one field of the object that the first entry names, and marks what it refers to.
+    fn scan_field<S, L: ScanLoad<S>>(
+        &mut self,
+        loads: &L,
+        source: &mut S,
+        segments: &mut Segments,
+        at: Address,
+        field: u32,
+    ) -> u64
+        requires room { HasRoomToMark segments.old self.old }
+        requires scanning { (first : S) × (v : Seen) × L.shows loads.now first source.old v × IsScanning v segments.old self.old at.0 (field + 1) ×
+            (at.0 + HEADER_WORDS + field < word_total v.opening.layout) }
+        ensures marked { HasMarked segments.old segments.new self.old self.new 0 }
+        ensures turns { self.new.turns ≡ self.old.turns }
+        ensures tied { (first : S) (v : Seen) → L.shows loads.now first source.old v → IsScanning v segments.old self.old at.0 (field + 1) →
+            L.shows loads.now first source.new (scanned_by v result) ×
+            IsTied v.opening (with_name v.opening.core.snapshot (rest_of (marks_seen v)) (name_meant v.opening.places result)) segments.new self.new }
+    {
+        let _ = segments.layout();
+        let word = loads.load(source, at, HEADER_WORDS + field);
+        self.mark_word(segments, word);
+        word
+    }
+
+    /// Scans the object at a place, whose entry is the first, to its end.
+    pub(crate) fn scan<S, L: ScanLoad<S>>(
+        &mut self,
+        loads: &L,
+        source: &mut S,
+        segments: &mut Segments,
+        at: Address,
+    )
+        requires room { HasRoomToMark segments.old self.old }
+        requires scanning { (v : Seen) × L.shows loads.now source.old source.old v × IsScanning v segments.old self.old at.0 0 }
+        ensures marked { HasMarked segments.old segments.new self.old self.new 0 }
+        ensures turns { self.new.turns ≡ self.old.turns }
+        ensures done { (v : Seen) → L.shows loads.now source.old source.old v → IsScanning v segments.old self.old at.0 0 → (w : Seen) ×
+            L.shows loads.now source.old source.new w × IsDone v w segments.new self.new }
+    {
+        let header = header_of(loads.load(source, at, 0));
+        let fields = fields_scanned(header);
+        if fields == 0 {
+            return;
+        }
+        let first = self.scan_field(loads, source, segments, at, 0);
+        if is_result(header, first) {
+            return;
+        }
+        for field in 1..fields {
+            self.scan_field(loads, source, segments, at, field);
+        }
+    }
+}
