@@ -343,8 +343,8 @@ impl Segments {
         }
     }
 
-    // Marks a block where it is in the snapshot and wasn't marked.
-    fn mark(&mut self, number: u32, block: u32, epoch: u8) -> bool
+    /// Marks a block as `mark_at` does, for a caller that has found it by `block_at`. Constant time.
+    pub fn mark(&mut self, number: u32, block: u32, epoch: u8) -> bool
         requires epoch { IsEpoch epoch }
         requires exists { HasNumber self.old number }
         requires block { block < block_count (nth self.old.segments number) }

@@ -9,11 +9,12 @@
 ghost use Rattle.std.specs.Prelude.{ℕ, ◌≡◌, ◌+◌, ◌-◌, ◌*◌, ◌^◌, ◌<◌, ◌≤◌, [], ◌∷◌, ◌++◌, ◌↔◌, length, map, Contains, IsTrue, IfSome, IfNone, IfOk, OnErr};
 ghost use Rattle.std.specs.List.{flat_map};
 ghost use Rattle.nmgc_segment.specs.Marks.{IsEpoch};
+ghost use Rattle.nmgc_alloc.specs.Segments.{IsBlockAt};
 ghost use Rattle.nmgc_object.specs.declared.layout.TheConstants.{FIRST_PLACE};
 ghost use Rattle.nmgc_object.specs.Places.{IsLayout};
 ghost use Rattle.nmgc_core.specs.State.{opening};
 ghost use Rattle.nmgc_round.specs.View.{Opening};
-ghost use Rattle.nmgc_round.specs.Marking.{Marks, marks_of, with_name, name_meant};
+ghost use Rattle.nmgc_round.specs.Marking.{Marks, marks_of, with_name, name_at, name_meant};
 ghost use Rattle.nmgc_round.specs.Seat.{IsAt, Knows, seen};
 ghost use Rattle.nmgc_run.specs.Marker.{HasRoomToMark};
 ghost use Rattle.nmgc_mark.specs.Beginning.{IsBeginning, slots_of, queue_words, most_blocks};
@@ -194,6 +195,23 @@ impl Marker {
     {
         for at in entries {
             self.mark(segments, *at);
+        }
+    }
+
+    /// Marks and queues a block that begins at a place, if it is of the snapshot and wasn't marked. So whoever has found
+    /// the block needs no second look-up. The count of the gate's passes stays.
+    pub fn mark_block(&mut self, segments: &mut Segments, at: Address, number: u32, block: u32)
+        requires room { HasRoomToMark segments.old self.old }
+        requires begins { IsBlockAt segments.old number block at.0 }
+        ensures marked { HasMarked segments.old segments.new self.old self.new 0 }
+        ensures turns { self.new.turns ≡ self.old.turns }
+        ensures tied { (o : Opening) (m : Marks) → IsTied o m segments.old self.old →
+            IsTied o (with_name o.core.snapshot m (name_at o.places at.0)) segments.new self.new }
+    {
+        let epoch = self.epoch();
+        let _ = segments.layout();
+        if segments.mark(number, block, epoch) {
+            self.queue(at);
         }
     }
 

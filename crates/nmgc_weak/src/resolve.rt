@@ -7,10 +7,11 @@
 //! Easy to get wrong: the finalisers of those that die may reach their own keys. So all of them are found before
 //! the first finaliser is marked, and their value words become 0 last, while the words still represent the world
 //! in which the marker follows fields.
-ghost use Rattle.std.specs.Prelude.{ℕ, ◌≡◌, ◌↔◌, ◌*◌, ◌^◌, ◌+◌, ◌<◌, ◌≤◌, List, length, slice_index, vec_len, vec_capacity, Contains, IsTrue, [], ◌∷◌};
+ghost use Rattle.std.specs.Prelude.{ℕ, ◌≡◌, ◌↔◌, ◌*◌, ◌^◌, ◌+◌, ◌<◌, ◌≤◌, List, length, slice_index, vec_len, vec_capacity, Contains, IsTrue, IfSome, IfNone, [], ◌∷◌};
 ghost use Rattle.nmgc_graph.specs.declared.value.Name.{Name};
 ghost use Rattle.nmgc_segment.specs.Marks.{IsEpoch};
 ghost use Rattle.nmgc_alloc.specs.Blocks.{IsSnapshotAt, IsMarkedAt};
+ghost use Rattle.nmgc_alloc.specs.Segments.{IsBlockAt};
 ghost use Rattle.nmgc_heap.specs.Places.{Place};
 ghost use Rattle.nmgc_round.specs.View.{Opening};
 ghost use Rattle.nmgc_round.specs.Marking.{Marks, with_name, name_meant};
@@ -27,15 +28,24 @@ use nmgc_heap::HeapWords;
 use nmgc_mark::Marker;
 use nmgc_object::{Address, FieldWord, HEADER_WORDS, SHARED_PLACE};
 
+// The segment and the number of the block of the snapshot that begins at a place, if one does.
+fn snapshot_block(segments: &Segments, at: Address) -> Option<(u32, u32)>
+    ensures some { IfSome result (λ p. IsBlockAt segments.now p.0 p.1 at.0 × IsSnapshotAt segments.now at.0) }
+    ensures none { IfNone result (IsSnapshotAt segments.now at.0 → ⊥) }
+{
+    let _ = segments.layout();
+    let (number, block) = segments.block_at(at)?;
+    if segments.segment(number).in_snapshot(block) {
+        return Some((number, block));
+    }
+    None
+}
+
 // Whether a block of the snapshot begins at a place.
 fn is_of_snapshot(segments: &Segments, at: Address) -> bool
     ensures { IsTrue result ↔ IsSnapshotAt segments.now at.0 }
 {
-    let _ = segments.layout();
-    match segments.block_at(at) {
-        Some((number, block)) => segments.segment(number).in_snapshot(block),
-        None => false,
-    }
+    snapshot_block(segments, at).is_some()
 }
 
 // Whether a block that is marked begins at a place.
@@ -90,9 +100,17 @@ fn is_lost<W: HeapWords>(marker: &Marker, words: &mut W, segments: &Segments, at
     is_of_snapshot(segments, at) && !key_marked
 }
 
-// Marks a weak pointer with its value and its finaliser, and all that these reach.
-fn keep<W: HeapWords>(marker: &mut Marker, words: &mut W, segments: &mut Segments, at: Address)
+// Marks a weak pointer, whose block this is, with its value and its finaliser, and all that these reach.
+fn keep<W: HeapWords>(
+    marker: &mut Marker,
+    words: &mut W,
+    segments: &mut Segments,
+    at: Address,
+    number: u32,
+    block: u32,
+)
     requires room { HasRoomToMark segments.old marker.old }
+    requires begins { IsBlockAt segments.old number block at.0 }
     requires within { IsWithin (W.words words.old) at.0 }
     requires can { (o : Opening) × (weaks : List Place) × (weak : Name) × CanKeep o (W.words words.old) segments.old marker.old weaks at.0 weak }
     ensures words { W.words words.new ≡ W.words words.old }
@@ -104,7 +122,7 @@ fn keep<W: HeapWords>(marker: &mut Marker, words: &mut W, segments: &mut Segment
     let first = at.0 as usize;
     let value = words.load(first + VALUE);
     let finaliser = words.load(first + FINALISER);
-    marker.add(segments, &[at]);
+    marker.mark_block(segments, at, number, block);
     marker.mark_word(segments, value);
     marker.mark_word(segments, finaliser);
     marker.finish(words, segments);
@@ -126,13 +144,13 @@ fn keep_if_key_marked<W: HeapWords>(
     ensures passed { (o : Opening) (weaks : List Place) → CanResolve o (W.words words.old) segments.old marker.old weaks →
         Contains weaks (place_of weak) → HasPassed o (W.words words.old) segments.new marker.new weaks (weak.weak ∷ []) }
 {
-    if !is_of_snapshot(segments, weak.at) {
+    let Some((number, block)) = snapshot_block(segments, weak.at) else {
         return;
-    }
+    };
     if !has_marked_key(marker, words, segments, weak.at) {
         return;
     }
-    keep(marker, words, segments, weak.at);
+    keep(marker, words, segments, weak.at, number, block);
 }
 
 // A pass over the list: each weak pointer of the snapshot whose key is marked keeps its parts.

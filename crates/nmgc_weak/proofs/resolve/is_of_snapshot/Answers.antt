@@ -1,7 +1,16 @@
-use Rattle.nmgc_segment.specs.Segment.{InSnapshot}
-use Rattle.nmgc_weak.proofs.Telling.{block_told}
+use Rattle.std.proofs.Common.{◌↔◌, ◌∙◌, refl, subst, sym, IsTrue, Option, Some, None, is_some}
+use Rattle.std.specs.Prelude.{IfSome, IfNone}
+use Rattle.nmgc_alloc.specs.Blocks.{IsSnapshotAt}
+use Rattle.nmgc_alloc.specs.Segments.{IsBlockAt}
 use Rattle.nmgc_weak.proofs.resolve.is_of_snapshot.Goals as goal
 
-pub returns-in-Some : goal.returns-in-Some
-returns-in-Some c = block_told InSnapshot c.args.segments.now c.in-Some.number c.in-Some.block c.args.at.0 c.segment.result.now c.in_snapshot.result
-    c.layout.ensures.sound c.in-Some.ensures.some c.segment.ensures c.in_snapshot.ensures
+-- something was found exactly where there is something
+found : {A : Type 0} (o : Option A) (Q : A → Type 0) (P : Type 0) → IfSome o (λ a. Q a × P) → IfNone o (P → ⊥) → IsTrue (is_some o) ↔ P
+found None Q P some_ none = (λ t. absurd cc, λ p. absurd (none p))
+found (Some a) Q P some_ none = (λ t. some_.1, λ p. refl)
+
+pub returns : goal.returns
+returns c =
+    let there = found c.snapshot_block.result (λ p. IsBlockAt c.args.segments.now p.0 p.1 c.args.at.0) (IsSnapshotAt c.args.segments.now c.args.at.0)
+    c.snapshot_block.ensures.some c.snapshot_block.ensures.none in
+    subst (λ b. IsTrue b ↔ IsSnapshotAt c.args.segments.now c.args.at.0) (sym c.is_some.ensures) there

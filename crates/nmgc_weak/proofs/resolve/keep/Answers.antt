@@ -43,9 +43,9 @@ finish-requires-clause-ready g c =
     let o : Opening = r.0 in
     let v = value_is ws at c.load-value.result c.load-value.ensures.word in
     let f = finaliser_is ws (g.W.HeapWords.words c.load-value.new.self) at c.load-finaliser.result c.load-value.ensures.same c.load-finaliser.ensures.word in
-    let st = three o ws c.args.segments.now c.args.marker.now r.1 at r.2 r.3 c.add.new.segments c.mark_word.new.segments c.mark_word-2.new.segments
-    c.add.new.self c.mark_word.new.self c.mark_word-2.new.self
-    (λ m h. c.add.ensures.tied o m h)
+    let st = three o ws c.args.segments.now c.args.marker.now r.1 at r.2 r.3 c.mark_block.new.segments c.mark_word.new.segments c.mark_word-2.new.segments
+    c.mark_block.new.self c.mark_word.new.self c.mark_word-2.new.self
+    (λ m h. c.mark_block.ensures.tied o m h)
     (λ m h. subst (λ (x : ℕ).
     IsTied o (with_name o.core.snapshot m (name_meant o.places x)) c.mark_word.new.segments c.mark_word.new.self) v (c.mark_word.ensures.tied o m h))
     (λ m h. subst (λ (x : ℕ).
@@ -60,9 +60,9 @@ finish-requires-clause-ready g c =
 
 pub returns-clause-marked : goal.returns-clause-marked
 returns-clause-marked g c =
-    let one = marked_sum c.args.segments.now c.add.new.segments c.mark_word.new.segments c.args.marker.now c.add.new.self c.mark_word.new.self (
+    let one = marked_sum c.args.segments.now c.mark_block.new.segments c.mark_word.new.segments c.args.marker.now c.mark_block.new.self c.mark_word.new.self (
       0,
-      c.add.ensures.marked,
+      c.mark_block.ensures.marked,
     ) (0, c.mark_word.ensures.marked) in
     let two = marked_sum c.args.segments.now c.mark_word.new.segments c.mark_word-2.new.segments c.args.marker.now c.mark_word.new.self
     c.mark_word-2.new.self one (0, c.mark_word-2.ensures.marked) in
@@ -75,9 +75,9 @@ returns-clause-kept g c = λ o weaks weak h.
     let at : ℕ = c.args.at.0 in
     let v = value_is ws at c.load-value.result c.load-value.ensures.word in
     let f = finaliser_is ws (g.W.HeapWords.words c.load-value.new.self) at c.load-finaliser.result c.load-value.ensures.same c.load-finaliser.ensures.word in
-    let st = three o ws c.args.segments.now c.args.marker.now weaks at weak h c.add.new.segments c.mark_word.new.segments c.mark_word-2.new.segments
-    c.add.new.self c.mark_word.new.self c.mark_word-2.new.self
-    (λ m k. c.add.ensures.tied o m k)
+    let st = three o ws c.args.segments.now c.args.marker.now weaks at weak h c.mark_block.new.segments c.mark_word.new.segments c.mark_word-2.new.segments
+    c.mark_block.new.self c.mark_word.new.self c.mark_word-2.new.self
+    (λ m k. c.mark_block.ensures.tied o m k)
     (λ m k. subst (λ (x : ℕ).
     IsTied o (with_name o.core.snapshot m (name_meant o.places x)) c.mark_word.new.segments c.mark_word.new.self) v (c.mark_word.ensures.tied o m k))
     (λ m k. subst (λ (x : ℕ).

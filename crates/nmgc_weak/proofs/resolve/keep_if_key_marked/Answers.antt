@@ -4,20 +4,19 @@ use Rattle.nmgc_weak.proofs.Counting.{marked_none}
 use Rattle.nmgc_weak.proofs.Passing.{can_keep, one_kept, none_kept}
 use Rattle.nmgc_weak.proofs.resolve.keep_if_key_marked.Goals as goal
 
-pub returns-then-not-is_of_snapshot-clause-marked : goal.returns-then-not-is_of_snapshot-clause-marked
-returns-then-not-is_of_snapshot-clause-marked g c = (0, marked_none c.args.segments.now c.args.marker.now c.requires.room)
+pub returns-in_default-clause-marked : goal.returns-in_default-clause-marked
+returns-in_default-clause-marked g c = (0, marked_none c.args.segments.now c.args.marker.now c.requires.room)
 
-pub returns-then-not-is_of_snapshot-clause-passed : goal.returns-then-not-is_of_snapshot-clause-passed
-returns-then-not-is_of_snapshot-clause-passed g c = λ o weaks h here.
-    none_kept o (g.W.HeapWords.words c.args.words.now) c.args.segments.now c.args.marker.now weaks c.args.weak h here (inr (λ snap.
-    let t = c.is_of_snapshot.ensures.1 snap in let f = c.if-not-is_of_snapshot.true in cc))
+pub returns-in_default-clause-passed : goal.returns-in_default-clause-passed
+returns-in_default-clause-passed g c = λ o weaks h here.
+    none_kept o (g.W.HeapWords.words c.args.words.now) c.args.segments.now c.args.marker.now weaks c.args.weak h here (inr c.in_default.ensures.none)
 
 pub returns-then-not-has_marked_key-clause-marked : goal.returns-then-not-has_marked_key-clause-marked
 returns-then-not-has_marked_key-clause-marked g c = (0, marked_none c.args.segments.now c.args.marker.now c.requires.room)
 
 pub returns-then-not-has_marked_key-clause-passed : goal.returns-then-not-has_marked_key-clause-passed
 returns-then-not-has_marked_key-clause-passed g c = λ o weaks h here.
-    let snap = c.is_of_snapshot.ensures.0 c.if-not-is_of_snapshot.false in
+    let snap = c.in-Some.ensures.some.1 in
     none_kept o (g.W.HeapWords.words c.args.words.now) c.args.segments.now c.args.marker.now weaks c.args.weak h here
     (inl (
       c.has_marked_key.ensures.epoch,
@@ -28,11 +27,14 @@ returns-then-not-has_marked_key-clause-passed g c = λ o weaks h here.
       ),
     ))
 
+pub keep-requires-clause-begins : goal.keep-requires-clause-begins
+keep-requires-clause-begins g c = c.in-Some.ensures.some.0
+
 pub keep-requires-clause-can : goal.keep-requires-clause-can
 keep-requires-clause-can g c =
     let ws = g.W.HeapWords.words c.args.words.now in
     let r = c.requires.can in
-    let snap = c.is_of_snapshot.ensures.0 c.if-not-is_of_snapshot.false in
+    let snap = c.in-Some.ensures.some.1 in
     let k = can_keep r.0 ws c.args.segments.now c.args.marker.now r.1 c.args.weak r.2 r.3 c.has_marked_key.ensures.epoch snap
     (c.has_marked_key.ensures.marked.0 c.if-not-has_marked_key.false) in (
       r.0,
@@ -45,7 +47,7 @@ keep-requires-clause-can g c =
 pub returns-clause-passed : goal.returns-clause-passed
 returns-clause-passed g c = λ o weaks h here.
     let ws = g.W.HeapWords.words c.args.words.now in
-    let snap = c.is_of_snapshot.ensures.0 c.if-not-is_of_snapshot.false in
+    let snap = c.in-Some.ensures.some.1 in
     let k = can_keep o ws c.args.segments.now c.args.marker.now weaks c.args.weak h here c.has_marked_key.ensures.epoch snap
     (c.has_marked_key.ensures.marked.0 c.if-not-has_marked_key.false) in
     let can = subst (λ (l : List ℕ).
