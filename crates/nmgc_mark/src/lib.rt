@@ -1,7 +1,7 @@
 //! The marker: what the snapshot reached is found and marked, beside running mutators.
 //!
 //! A cycle begins at a stop: what registers, finaliser queues and the slots of g refer to is marked and
-//! queued (`marker`). In each round the marker scans objects from the queue's front, word after word (`scanning`), while
+//! queued (`marker`). In each round the marker scans objects from the queue's front, word after word (`scan`), while
 //! the mutators write (`work`). What a mutator takes away from its sight is remembered, and `Marker::add`
 //! marks it at the next stop. At the end the mutators stand still, and it scans what is left (`finish`). Only
 //! blocks that were in use at the snapshot are marked, each once.
@@ -17,7 +17,7 @@
 mod finish;
 pub mod laws;
 pub mod marker;
-mod scanning;
+mod scan;
 mod work;
 
 pub use marker::{Marker, Work};

@@ -1,6 +1,6 @@
 //! Scanning beside the mutators.
 //!
-//! Each word of an object is one load of the round, and one scan of the core machine (`scanning`). An object is scanned
+//! Each word of an object is one load of the round, and one scan of the core machine (`scan`). An object is scanned
 //! to its end once it was begun, so between two calls every queued object is still to be scanned from its header on.
 //!
 //! Before each object the rings of all mutators are polled once: a block of remembered places that is there goes to the

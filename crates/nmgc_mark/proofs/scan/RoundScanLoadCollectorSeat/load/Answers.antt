@@ -4,7 +4,7 @@ use Rattle.nmgc_round.specs.Ready.{CanScan}
 use Rattle.nmgc_round.specs.Told.{TellsScan}
 use Rattle.nmgc_round.specs.View.{Seen}
 use Rattle.nmgc_mark.proofs.Fields.{seat_scanned, words_in}
-use Rattle.nmgc_mark.proofs.scanning.RoundScanLoadSeatUnitView.load.Goals as goal
+use Rattle.nmgc_mark.proofs.scan.RoundScanLoadCollectorSeat.load.Goals as goal
 
 pub scan_load-requires-clause-seat : goal.scan_load-requires-clause-seat
 scan_load-requires-clause-seat c = c.requires.2.0.0

@@ -1,6 +1,6 @@
 use Rattle.std.proofs.Common.{arith}
 use Rattle.nmgc_mark.proofs.Alone.{alone_total, scan_alone}
-use Rattle.nmgc_mark.proofs.scanning.AtStopScanLoad.load.Goals as goal
+use Rattle.nmgc_mark.proofs.scan.AtStopScanLoad.load.Goals as goal
 
 pub load-requires : goal.load-requires
 load-requires g c =
