@@ -1,4 +1,4 @@
-use Rattle.std.proofs.Common.{◌↔◌, ◌∙◌, refl, subst, sym, IsTrue, Option, Some, None, is_some}
+use Rattle.std.proofs.Common.{◌↔◌, refl, subst, sym, IsTrue, Option, Some, None, is_some}
 use Rattle.std.specs.Prelude.{IfSome, IfNone}
 use Rattle.nmgc_alloc.specs.Blocks.{IsSnapshotAt}
 use Rattle.nmgc_alloc.specs.Segments.{IsBlockAt}

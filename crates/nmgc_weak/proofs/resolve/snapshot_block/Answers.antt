@@ -1,6 +1,4 @@
-use Rattle.std.proofs.Common.{◌↔◌, IsTrue}
 use Rattle.nmgc_segment.specs.Segment.{InSnapshot}
-use Rattle.nmgc_alloc.specs.Blocks.{IsSnapshotAt}
 use Rattle.nmgc_weak.proofs.Telling.{block_told}
 use Rattle.nmgc_weak.proofs.resolve.snapshot_block.Goals as goal
 

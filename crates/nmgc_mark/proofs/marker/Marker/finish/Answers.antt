@@ -1,4 +1,4 @@
-use Rattle.std.proofs.Common.{ℕ, ◌≡◌, ◌+◌, ◌∙◌, List, refl, sym, ap, subst}
+use Rattle.std.proofs.Common.{ℕ, ◌+◌, ◌∙◌, List, refl, sym, ap, subst}
 use Rattle.nmgc_round.specs.View.{Opening, Seen, whole}
 use Rattle.nmgc_alloc.specs.Segments.{Segments}
 use Rattle.nmgc_run.specs.Seen.{MarkerSeen}

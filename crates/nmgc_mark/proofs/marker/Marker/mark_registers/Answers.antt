@@ -1,4 +1,4 @@
-use Rattle.std.proofs.Common.{ℕ, ◌≡◌, ◌∙◌, ◌++◌, List, take, refl, sym, subst, ap}
+use Rattle.std.proofs.Common.{ℕ, ◌∙◌, List, take, refl, sym, subst, ap}
 use Rattle.std.specs.Prelude.{Contains}
 use Rattle.std.specs.List.{flat_map}
 use Rattle.std.proofs.lemmas.List.Elements.{Contains-get_or}

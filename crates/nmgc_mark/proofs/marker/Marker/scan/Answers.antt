@@ -1,4 +1,4 @@
-use Rattle.std.proofs.Common.{◌+◌, ◌<◌, ◌∙◌, refl, sym, arith}
+use Rattle.std.proofs.Common.{◌<◌, ◌∙◌, refl, sym, arith}
 use Rattle.nmgc_round.specs.Ready.{scanned_by}
 use Rattle.nmgc_mark.proofs.Scanning.{can_scan, header_there}
 use Rattle.nmgc_mark.proofs.Fields.{header_told, field_within, next_field, not_first, with_result, marked_none, marked_more}

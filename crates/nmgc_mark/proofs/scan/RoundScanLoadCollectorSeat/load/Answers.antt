@@ -1,4 +1,4 @@
-use Rattle.std.proofs.Common.{◌+◌, ◌<◌, ap, arith, subst, sym}
+use Rattle.std.proofs.Common.{ap, arith, subst, sym}
 use Rattle.nmgc_object.specs.Places.{word_total}
 use Rattle.nmgc_round.specs.Ready.{CanScan}
 use Rattle.nmgc_round.specs.Told.{TellsScan}
