@@ -8,7 +8,7 @@
 //!
 //! Easy to get wrong: a thunk's result is its first field, and where it was set, nothing else of the thunk is scanned. So
 //! the first field is scanned before the loop, and in all others no result is looked for.
-ghost use Rattle.std.specs.Prelude.{ℕ, ◌≡◌, ◌+◌, ◌<◌};
+ghost use Rattle.std.specs.Prelude.{◌≡◌, ◌+◌, ◌<◌};
 ghost use Rattle.nmgc_object.specs.Places.{word_total};
 ghost use Rattle.nmgc_object.specs.declared.size.TheConstants.{HEADER_WORDS};
 ghost use Rattle.nmgc_round.specs.Marking.{with_name, name_meant};
