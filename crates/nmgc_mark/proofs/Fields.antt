@@ -1,7 +1,9 @@
 -- The loop over the fields of one object, and over objects.
-use Rattle.std.proofs.Common.{ne_eqb, ◌≡◌, ℕ, suc, ◌+◌, ◌^◌, ◌<◌, ◌≤◌, Bool, true, false, not, ◌&&◌, eqb, List, [], ◌∷◌, ◌++◌, length, refl, sym, ap, subst, ◌∙◌, arith, append_assoc}
+use Rattle.std.proofs.Common.{ne_eqb, eq-eqb, ◌≡◌, ◌≢◌, ℕ, suc, ◌+◌, ◌^◌, ◌<◌, ◌≤◌, Bool, true, false, not, ◌&&◌, eqb, List, [], ◌∷◌, ◌++◌, length, refl, sym, ap, subst, ◌∙◌, arith, append_assoc}
 use Rattle.std.proofs.lemmas.List.{append-nil}
 use Rattle.nmgc_graph.specs.declared.value.Name.{Name}
+use Rattle.nmgc_graph.specs.declared.node.Node.{Node}
+use Rattle.nmgc_graph.specs.declared.node.Node.TheVariants.{Con, Var, Arr, Thunk, Weak, Stack}
 use Rattle.nmgc_graph.specs.declared.node.Kind.{Kind}
 use Rattle.nmgc_graph.specs.declared.node.Kind.TheVariants as kind
 use Rattle.nmgc_object.specs.declared.words.Header.{Header}
@@ -14,7 +16,7 @@ use Rattle.nmgc_alloc.specs.Segments.{Segments}
 use Rattle.nmgc_round.specs.declared.table.Round.{Round}
 use Rattle.nmgc_round.specs.Gate.{next_turn, passed}
 use Rattle.nmgc_round.specs.View.{Opening, Seen, Scan}
-use Rattle.nmgc_round.specs.Marking.{Marks, name_meant, name_read, with_name, is_last_word}
+use Rattle.nmgc_round.specs.Marking.{Marks, name_meant, name_read, with_name, is_last_word, is_thunk}
 use Rattle.nmgc_round.specs.Ready.{scanned_by}
 use Rattle.nmgc_round.specs.Told.{TellsScan}
 use Rattle.nmgc_round.specs.Seat.{RoundSeat, IsAt, Knows, seen, word_count}
@@ -23,7 +25,7 @@ use Rattle.nmgc_run.specs.Marker.{HasRoomToMark}
 use Rattle.nmgc_mark.specs.Marker.{HasScanned, HasMarked, turned}
 use Rattle.nmgc_mark.specs.Tie.{IsTied}
 use Rattle.nmgc_mark.specs.Work.{IsScanning, IsCollector, IsLaterSeat, IsAtField, HasWorked, SeatShows, entry_now, marks_seen, rest_of, fields_scanned, has_results, is_result}
-use Rattle.nmgc_mark.proofs.Scanning.{IsNode, IsTaken, node_told, goes_on, ends, not_last, header_more, field_last, result_last, fields_are}
+use Rattle.nmgc_mark.proofs.Scanning.{IsNode, IsTaken, node_told, thunk_by, goes_on, ends, not_last, header_more, field_last, result_last, fields_are}
 
 pub few : (k : Kind) (n : ℕ) → fields_scanned k n ≤ n
 few kind.Con n = omega arith
@@ -33,9 +35,40 @@ few kind.Thunk n = omega arith
 few kind.Weak n = omega arith
 few kind.Stack n = omega arith
 
--- a result is the first field alone
-pub not_first : (k : Kind) (field w : ℕ) → 1 ≤ field → is_result k field w ≡ false
-not_first k field w later = ap (λ (b : Bool). b && (has_results k && not (eqb w 0))) (ne_eqb field 0 (λ e. omega arith))
+and_false : (b : Bool) → (b && false) ≡ false
+and_false true = refl
+and_false false = refl
+
+-- what is no thunk has no result, and a thunk's is its first field
+pub no_result : (k : Kind) (field w : ℕ) → (has_results k ≡ true → 1 ≤ field) → is_result k field w ≡ false
+no_result k field w later = by (has_results k) refl
+  where
+    by : (b : Bool) → has_results k ≡ b → (eqb field 0 && (has_results k && not (eqb w 0))) ≡ false
+    by true e = ap (λ (b : Bool). b && (has_results k && not (eqb w 0))) (ne_eqb field 0 (λ z. let l = later e in omega arith))
+    by false e = ap (λ (b : Bool). eqb field 0 && (b && not (eqb w 0))) e ∙ and_false (eqb field 0)
+
+-- whether it was set
+pub result_set : (k : Kind) (w : ℕ) → has_results k ≡ true → w ≢ 0 → is_result k 0 w ≡ true
+result_set k w thunk some_ = ap (λ (b : Bool). b && not (eqb w 0)) thunk ∙ ap (λ (b : Bool). not b) (ne_eqb w 0 some_)
+
+pub result_unset : (k : Kind) (w : ℕ) → w ≡ 0 → is_result k 0 w ≡ false
+result_unset k w none = ap (λ (b : Bool). has_results k && not b) (eq-eqb w 0 none) ∙ and_false (has_results k)
+
+thunk_has : (node : Node) → is_thunk node ≡ true → 0 < fields_of node
+thunk_has (Thunk free result) e = omega arith
+thunk_has (Con tag values) e = absurd cc
+thunk_has (Var v) e = absurd cc
+thunk_has (Arr values) e = absurd cc
+thunk_has (Weak parts) e = absurd cc
+thunk_has (Stack size values) e = absurd cc
+
+-- a thunk has the field of its result
+pub result_there : (o : Opening) (name : Name) (header : Header) (fields : ℕ) → IsNode o name header → has_results header.kind ≡ true →
+    fields ≡ fields_scanned header.kind header.fields → 0 < fields
+result_there o name header fields n thunk f =
+    let has = thunk_has n.node (thunk_by n.node ∙ ap (λ (h : Header). has_results h.kind) n.is ∙ thunk) in
+    let are = fields_are n.node header fields n.is f in
+    omega arith
 
 pub scanned_none : (m : MarkerSeen) → HasScanned m m 0
 scanned_none m = record { epoch = refl; grows = omega arith; pace = omega arith; room = refl }

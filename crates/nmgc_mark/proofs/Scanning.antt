@@ -66,7 +66,7 @@ fields_by (Thunk free result) = refl
 fields_by (Weak parts) = refl
 fields_by (Stack size values) = refl
 
-thunk_by : (node : Node) → is_thunk node ≡ has_results (header_of node).kind
+pub thunk_by : (node : Node) → is_thunk node ≡ has_results (header_of node).kind
 thunk_by (Con tag values) = refl
 thunk_by (Var v) = refl
 thunk_by (Arr values) = refl

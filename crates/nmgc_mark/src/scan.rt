@@ -7,7 +7,7 @@
 //! So the loop stands once, over a trait that says how a load changes what the collector knows.
 //!
 //! Easy to get wrong: a thunk's result is its first field, and where it was set, nothing else of the thunk is scanned. So
-//! the first field is scanned before the loop, and in all others no result is looked for.
+//! that field is scanned before the loop, and in all others no result is looked for.
 ghost use Rattle.std.specs.Prelude.{◌≡◌, ◌+◌, ◌<◌};
 ghost use Rattle.nmgc_object.specs.Places.{word_total};
 ghost use Rattle.nmgc_object.specs.declared.size.TheConstants.{HEADER_WORDS};
@@ -19,7 +19,7 @@ ghost use Rattle.nmgc_run.specs.Marker.{HasRoomToMark};
 ghost use Rattle.nmgc_mark.specs.Marker.{HasMarked};
 ghost use Rattle.nmgc_mark.specs.Stopped.{WordsShow};
 ghost use Rattle.nmgc_mark.specs.Tie.{IsTied};
-ghost use Rattle.nmgc_mark.specs.Work.{IsScanning, IsDone, SeatShows, marks_seen, rest_of, fields_scanned, is_result};
+ghost use Rattle.nmgc_mark.specs.Work.{IsScanning, IsDone, SeatShows, marks_seen, rest_of, fields_scanned, has_results};
 
 use crate::marker::Marker;
 use nmgc_alloc::Segments;
@@ -70,12 +70,12 @@ fn fields_scanned(header: Header) -> u32
     }
 }
 
-/// Whether the word of the first field is a result that was set, after which nothing of a thunk is scanned.
-fn is_result(header: Header, word: u64) -> bool
-    ensures { result ≡ is_result header.kind 0 word }
+/// Whether the object may have a result: it's a thunk.
+fn has_results(header: Header) -> bool
+    ensures { result ≡ has_results header.kind }
 {
     match header.kind {
-        Kind::Thunk => word != 0,
+        Kind::Thunk => true,
         Kind::Con | Kind::Var | Kind::Arr | Kind::Weak | Kind::Stack => false,
     }
 }
@@ -122,14 +122,15 @@ impl Marker {
     {
         let header = header_of(loads.load(source, at, 0));
         let fields = fields_scanned(header);
-        if fields == 0 {
-            return;
+        let mut first = 0;
+        if has_results(header) {
+            let result = self.scan_field(loads, source, segments, at, 0);
+            if result != 0 {
+                return;
+            }
+            first = 1;
         }
-        let first = self.scan_field(loads, source, segments, at, 0);
-        if is_result(header, first) {
-            return;
-        }
-        for field in 1..fields {
+        for field in first..fields {
             self.scan_field(loads, source, segments, at, field);
         }
     }

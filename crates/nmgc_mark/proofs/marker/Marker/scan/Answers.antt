@@ -1,7 +1,8 @@
-use Rattle.std.proofs.Common.{◌<◌, ◌∙◌, refl, sym, arith}
+use Rattle.std.proofs.Common.{◌≡◌, ◌≤◌, ◌<◌, ◌∙◌, refl, sym, arith, true}
 use Rattle.nmgc_round.specs.Ready.{scanned_by}
+use Rattle.nmgc_mark.specs.Work.{entry_now, has_results}
 use Rattle.nmgc_mark.proofs.Scanning.{can_scan, header_there}
-use Rattle.nmgc_mark.proofs.Fields.{header_told, field_within, next_field, not_first, with_result, marked_none, marked_more}
+use Rattle.nmgc_mark.proofs.Fields.{header_told, result_there, result_set, result_unset, field_within, next_field, no_result, with_result, marked_none, marked_more}
 use Rattle.nmgc_mark.proofs.marker.Marker.scan.Goals as goal
 
 pub load-requires : goal.load-requires
@@ -19,74 +20,74 @@ header_of-header-requires g c =
     let l = c.load.ensures c.args.source.now r.0 r.1 (can_scan r.0 s m c.args.at.0 0 0 r.2 refl) in
     header_there r.0 s m c.args.at.0 c.load.result r.2 l.1
 
-pub returns-then-fields-eq0-clause-marked : goal.returns-then-fields-eq0-clause-marked
-returns-then-fields-eq0-clause-marked g c = marked_none c.args.segments.now c.args.self.now c.requires.room
-
-pub returns-then-fields-eq0-clause-done : goal.returns-then-fields-eq0-clause-done
-returns-then-fields-eq0-clause-done g c = λ v shows h.
-    let s = c.args.segments.now in
-    let m = c.args.self.now in
-    let l = c.load.ensures c.args.source.now v shows (can_scan v s m c.args.at.0 0 0 h refl) in
-    let t = header_told v s m c.args.at.0 c.load.result c.fields_scanned-fields.result c.header_of-header.result h l.1 c.header_of-header.ensures
-    c.fields_scanned-fields.ensures in
-    let none = c.if-fields-eq0.true in
-    (scanned_by v c.load.result, l.0, record { opening = t.1.opening; tied = t.1.last (omega (arith, none)) })
-
-pub scan_field-first-requires-clause-scanning : goal.scan_field-first-requires-clause-scanning
-scan_field-first-requires-clause-scanning g c =
+pub scan_field-result-requires-clause-scanning : goal.scan_field-result-requires-clause-scanning
+scan_field-result-requires-clause-scanning g c =
     let r = c.requires.scanning in
     let s = c.args.segments.now in
     let m = c.args.self.now in
+    let header = c.header_of-header.result in
+    let fields = c.fields_scanned-fields.result in
     let l = c.load.ensures c.args.source.now r.0 r.1 (can_scan r.0 s m c.args.at.0 0 0 r.2 refl) in
-    let t = header_told r.0 s m c.args.at.0 c.load.result c.fields_scanned-fields.result c.header_of-header.result r.2 l.1 c.header_of-header.ensures
-    c.fields_scanned-fields.ensures in
-    let some_ = c.if-fields-eq0.false in
-    let lt : 0 < c.fields_scanned-fields.result = omega (arith, some_) in (
+    let t = header_told r.0 s m c.args.at.0 c.load.result fields header r.2 l.1 c.header_of-header.ensures c.fields_scanned-fields.ensures in
+    let lt = result_there r.0.opening (entry_now r.0).name header fields t.0 (sym c.has_results.ensures ∙ c.if-has_results.true)
+    c.fields_scanned-fields.ensures in (
       c.args.source.now,
       scanned_by r.0 c.load.result,
       l.0,
       (t.1.more lt).0,
-      field_within r.0 (scanned_by r.0 c.load.result) s m c.args.at.0 c.fields_scanned-fields.result 0 c.header_of-header.result t.0 t.1 lt
-          c.fields_scanned-fields.ensures,
+      field_within r.0 (scanned_by r.0 c.load.result) s m c.args.at.0 fields 0 header t.0 t.1 lt c.fields_scanned-fields.ensures,
     )
 
-pub returns-then-is_result-clause-done : goal.returns-then-is_result-clause-done
-returns-then-is_result-clause-done g c = λ v shows h.
+pub returns-then-result-ne0-clause-done : goal.returns-then-result-ne0-clause-done
+returns-then-result-ne0-clause-done g c = λ v shows h.
     let s = c.args.segments.now in
     let m = c.args.self.now in
+    let header = c.header_of-header.result in
+    let fields = c.fields_scanned-fields.result in
+    let thunk = sym c.has_results.ensures ∙ c.if-has_results.true in
     let l = c.load.ensures c.args.source.now v shows (can_scan v s m c.args.at.0 0 0 h refl) in
-    let t = header_told v s m c.args.at.0 c.load.result c.fields_scanned-fields.result c.header_of-header.result h l.1 c.header_of-header.ensures
-    c.fields_scanned-fields.ensures in
-    let some_ = c.if-fields-eq0.false in
-    let lt : 0 < c.fields_scanned-fields.result = omega (arith, some_) in
+    let t = header_told v s m c.args.at.0 c.load.result fields header h l.1 c.header_of-header.ensures c.fields_scanned-fields.ensures in
+    let lt = result_there v.opening (entry_now v).name header fields t.0 thunk c.fields_scanned-fields.ensures in
     let u = scanned_by v c.load.result in
-    let f = c.scan_field-first.ensures.tied c.args.source.now u l.0 (t.1.more lt).0 in
-    let tied = with_result v u s c.scan_field-first.new.segments m c.scan_field-first.new.self c.args.at.0 c.scan_field-first.result
-    c.fields_scanned-fields.result 0 c.header_of-header.result t.0 t.1 lt c.fields_scanned-fields.ensures f.1
-    (sym c.is_result.ensures ∙ c.if-is_result.true) in
-    (scanned_by u c.scan_field-first.result, f.0, record { opening = refl; tied = tied })
+    let w = c.scan_field-result.result in
+    let f = c.scan_field-result.ensures.tied c.args.source.now u l.0 (t.1.more lt).0 in
+    let tied = with_result v u s c.scan_field-result.new.segments m c.scan_field-result.new.self c.args.at.0 w fields 0 header t.0 t.1 lt
+    c.fields_scanned-fields.ensures f.1 (result_set header.kind w thunk c.if-result-ne0.true) in
+    (scanned_by u w, f.0, record { opening = refl; tied = tied })
 
 pub loop-field-init : goal.loop-field-init
-loop-field-init g c = record {
-  marked = c.scan_field-first.ensures.marked;
-  turns = c.scan_field-first.ensures.turns;
-  each = λ v shows h.
-      let s = c.args.segments.now in
-      let m = c.args.self.now in
-      let l = c.load.ensures c.args.source.now v shows (can_scan v s m c.args.at.0 0 0 h refl) in
-      let t = header_told v s m c.args.at.0 c.load.result c.fields_scanned-fields.result c.header_of-header.result h l.1 c.header_of-header.ensures
-      c.fields_scanned-fields.ensures in
-      let some_ = c.if-fields-eq0.false in
-      let lt : 0 < c.fields_scanned-fields.result = omega (arith, some_) in
-      let u = scanned_by v c.load.result in
-      let f = c.scan_field-first.ensures.tied c.args.source.now u l.0 (t.1.more lt).0 in (
-        scanned_by u c.scan_field-first.result,
-        f.0,
-        next_field v u s c.scan_field-first.new.segments m c.scan_field-first.new.self c.args.at.0 c.scan_field-first.result
-            c.fields_scanned-fields.result 0 c.header_of-header.result t.0 t.1 lt c.fields_scanned-fields.ensures f.1
-            (sym c.is_result.ensures ∙ c.if-is_result.false),
-      );
-}
+loop-field-init g c =
+    let s = c.args.segments.now in
+    let m = c.args.self.now in
+    let header = c.header_of-header.result in
+    let fields = c.fields_scanned-fields.result in
+    elim c.if-has_results.branch [
+      | then-has_results+else-result-ne0 w ↦ record {
+        marked = rw (w.segments-is, w.self-is) w.scan_field-result.ensures.marked;
+        turns = rw w.self-is w.scan_field-result.ensures.turns;
+        each = λ v shows h.
+            let l = c.load.ensures c.args.source.now v shows (can_scan v s m c.args.at.0 0 0 h refl) in
+            let t = header_told v s m c.args.at.0 c.load.result fields header h l.1 c.header_of-header.ensures c.fields_scanned-fields.ensures in
+            let lt = result_there v.opening (entry_now v).name header fields t.0 (sym c.has_results.ensures ∙ w.if-has_results.true)
+            c.fields_scanned-fields.ensures in
+            let u = scanned_by v c.load.result in
+            let f = w.scan_field-result.ensures.tied c.args.source.now u l.0 (t.1.more lt).0 in
+            rw (w.source-is, w.segments-is, w.self-is, w.first-is) (
+              scanned_by u w.scan_field-result.result,
+              f.0,
+              next_field v u s w.scan_field-result.new.segments m w.scan_field-result.new.self c.args.at.0 w.scan_field-result.result fields 0
+                  header t.0 t.1 lt c.fields_scanned-fields.ensures f.1 (result_unset header.kind w.scan_field-result.result w.if-result-ne0.false),
+            );
+      }
+      | else-has_results w ↦ record {
+        marked = rw (w.segments-is, w.self-is) (marked_none s m c.requires.room);
+        turns = rw w.self-is refl;
+        each = λ v shows h.
+            let l = c.load.ensures c.args.source.now v shows (can_scan v s m c.args.at.0 0 0 h refl) in
+            let t = header_told v s m c.args.at.0 c.load.result fields header h l.1 c.header_of-header.ensures c.fields_scanned-fields.ensures in
+            rw (w.source-is, w.segments-is, w.self-is, w.first-is) (scanned_by v c.load.result, l.0, t.1);
+      }
+    ]
 
 pub scan_field-requires-clause-room : goal.scan_field-requires-clause-room
 scan_field-requires-clause-room g c = c.loop-field.invariant.marked.room
@@ -113,6 +114,14 @@ loop-field-preserved g c =
     let s = c.args.segments.now in
     let m = c.args.self.now in
     let inv = c.loop-field.invariant in
+    let kind = c.header_of-header.result.kind in
+    let past : has_results kind ≡ true → 1 ≤ c.loop-field.field = λ thunk. elim c.if-has_results.branch [
+      | then-has_results+else-result-ne0 w ↦
+          let one = w.first-is in
+          let from = c.loop-field.auto.field in
+          omega (arith, one, from)
+      | else-has_results w ↦ let other = sym c.has_results.ensures ∙ w.if-has_results.false in absurd cc
+    ] in
     record {
       marked = marked_more s c.loop-field.segments c.scan_field.new.segments m c.loop-field.self c.scan_field.new.self inv.marked c.scan_field.ensures.marked;
       turns = c.scan_field.ensures.turns ∙ inv.turns;
@@ -127,7 +136,7 @@ loop-field-preserved g c =
             next_field v u.0 c.loop-field.segments c.scan_field.new.segments c.loop-field.self c.scan_field.new.self c.args.at.0 c.scan_field.result
                 c.fields_scanned-fields.result c.loop-field.field c.header_of-header.result t.0 u.2 c.loop-field-test.true
                 c.fields_scanned-fields.ensures f.1
-                (not_first c.header_of-header.result.kind c.loop-field.field c.scan_field.result c.loop-field.auto.field),
+                (no_result kind c.loop-field.field c.scan_field.result past),
           );
     }
 
