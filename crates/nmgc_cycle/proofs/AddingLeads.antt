@@ -143,6 +143,7 @@ module _ (script : Script) (old : Collector) (s : State) (h : StandsPromoted scr
     positions = h.kept.positions;
     no_ends = h.kept.no_ends;
     room = h.kept.room;
+    workers = h.kept.workers;
   }
 
   abbrev heap : HoldsAtStop (layout_of (plan_of script)) s (seen then).words segments (ends_of (seen then)) (seen then).weaks

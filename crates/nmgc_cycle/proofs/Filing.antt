@@ -143,6 +143,7 @@ module _ (script : Script) (c : Collector) (st : State) (h : StandsAt script (re
     positions = h.kept.positions;
     no_ends = h.kept.no_ends;
     room = h.kept.room;
+    workers = h.kept.workers;
   }
 
   pub stands_filed : StandsAt script next t

@@ -288,6 +288,7 @@ module _ (Paced : Cycle → State → Seen → Type 0) (laws : ClosingLaws) (scr
     positions = h.kept.positions;
     no_ends = h.kept.no_ends;
     room = h.kept.room;
+    workers = h.kept.workers;
   }
 
   sound_then : IsSoundState (plan_of script) t

@@ -60,6 +60,7 @@ pub record IsMade (layout : Layout) (script : Script) (c : Collector) : Type 0 w
   pub positions : c.positions.items ≡ replicate layout.mutators 0
   pub no_ends : c.ends.items ≡ []
   pub room : layout.mutators ≤ vec_capacity c.ends
+  pub workers : layout.mutators ≤ c.workers
 
 module _ (script : Script) (c : Collector) (made : IsMade (layout_of (plan_of script)) script c) where
   abbrev sizes : Layout
@@ -108,6 +109,7 @@ module _ (script : Script) (c : Collector) (made : IsMade (layout_of (plan_of sc
         sym (ap (λ (rounds : List RoundRows). answered_count rounds k) made.nothing.0);
     no_ends = made.no_ends;
     room = made.room;
+    workers = made.workers;
   }
 
   holds : HeapStandsFor sizes [] (shared_place ∷ []) (new_world (length script.threads)) (all_empty script.config.segments) (seen c).words c.segments ends

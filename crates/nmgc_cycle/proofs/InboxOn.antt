@@ -80,6 +80,7 @@ module _ (script : Script) (c : Collector) (inbox : List Receiver) where
     positions = k.positions;
     no_ends = k.no_ends;
     room = k.room;
+    workers = k.workers;
   }
 
   -- what is after a stop stays so
@@ -151,6 +152,7 @@ module _ (script : Script) (c : Collector) (inbox : List Receiver) (mutators : V
     positions = k.positions;
     no_ends = k.no_ends;
     room = k.room;
+    workers = k.workers;
   }
 
   pub worked_met : HasWorked script c → HasWorked script after

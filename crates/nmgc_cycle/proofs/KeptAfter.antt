@@ -120,6 +120,7 @@ module _ (laws : HasLaws) (script : Script) (c new : Collector) (o : Opening) (x
     positions = position_is;
     no_ends = x.still.kept.no_ends;
     room = x.still.kept.room;
+    workers = x.still.kept.workers;
   }
 
   pub did_round : DidRound script c after

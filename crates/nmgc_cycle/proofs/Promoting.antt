@@ -327,6 +327,7 @@ module _ (laws : HasPromotionLaws) (script : Script) (old new : Collector) (kept
       positions = kept.positions;
       no_ends = kept.no_ends;
       room = kept.room;
+      workers = kept.workers;
     }
 
     stands_mid : StandsPromoted script mid t

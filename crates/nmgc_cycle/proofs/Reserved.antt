@@ -127,6 +127,7 @@ module _ (script : Script) (c : Collector) (run : Run) (still : IsAfterStop scri
     positions = still.kept.positions;
     no_ends = still.kept.no_ends;
     room = still.kept.room;
+    workers = still.kept.workers;
   }
 
   pub still_reserved : IsAfterStop script roomy run

@@ -1,10 +1,10 @@
 -- What the slices of a round leave of positions and replies, and whether one asked for a cycle.
 use Rattle.std.proofs.Common.{ℕ, zero, suc, ◌≡◌, ◌+◌, ◌-◌, ◌<◌, ◌^◌, Bool, List, [], ◌∷◌, ◌++◌, length, map, take, drop, slice_index, refl, sym, ap, subst, ◌∙◌, arith, Option, Some}
-use Rattle.std.specs.Prelude.{slice_get, option_map}
+use Rattle.std.specs.Prelude.{slice_get, slice_index_or, option_map}
 use Rattle.std.specs.List.{list_any}
 use Rattle.std.specs.declared.vec.Vec.{Vec}
 use Rattle.std.proofs.Common.{Global}
-use Rattle.std.proofs.lemmas.List.{length-map, length-drop}
+use Rattle.std.proofs.lemmas.List.{length-drop}
 use Rattle.std.proofs.lemmas.Option.{slice_get-map, slice_get_within, get_or_from_slice_get}
 use Rattle.nmgc_round.specs.declared.table.Round.{Round}
 use Rattle.nmgc_alloc.specs.Segments.{Segments}
@@ -40,13 +40,16 @@ overwritten n (x ∷ xs) [] l e = absurd (omega arith)
 overwritten zero (x ∷ xs) (y ∷ ys) l e = absurd (omega arith)
 overwritten (suc n) (x ∷ xs) (y ∷ ys) l e = ap (λ rest. y ∷ rest) (overwritten n xs ys (omega arith) (omega arith))
 
+-- the worker at a place did what stands there in the list of all
+pub done_of : (ws : List Worker) (k : ℕ) (d : Worker) → k < length ws → slice_index (map done_by ws) k ≡ (slice_index_or ws k d).done
+done_of [] k d lt = absurd (omega (arith, lt))
+done_of (w ∷ ws) zero d lt = refl
+done_of (w ∷ ws) (suc k) d lt = done_of ws k d (omega (arith, lt))
+
 module _ (script : Script) (c : Collector) (run : Run) (limits : IsInLimits script) (still : IsAfterStop script c run) (o : Opening) (round : Round)
     (new : List Worker) (count : length new ≡ length c.mutators.items) (did : AllDid script c round o new) where
-  positions_counted : length c.positions.items ≡ length new
+  pub positions_counted : length c.positions.items ≡ length new
   positions_counted = still.kept.positions_are ∙ sym (count ∙ still.kept.count)
-
-  pub counts_are : length (map done_by new) ≡ length c.positions.items
-  counts_are = length-map new done_by ∙ sym positions_counted
 
   done_at : (k : ℕ) (x : Worker) → slice_get new k ≡ Some x → slice_index (map done_by new) k ≡ x.done
   done_at k x e = get_or_from_slice_get (map done_by new) k x.done 0 (slice_get-map done_by new k ∙ ap (option_map done_by) e)

@@ -153,6 +153,7 @@ module _ (laws : BeginningLaws) (script : Script) (c : Collector) (s : State) (h
     positions = h.kept.positions;
     no_ends = h.kept.no_ends;
     room = h.kept.room;
+    workers = h.kept.workers;
   }
 
   -- the state is sound

@@ -161,6 +161,7 @@ module _ (laws : SweepingLaws) (script : Script) (c : Collector) (st : State) (k
     positions = h.kept.positions;
     no_ends = h.kept.no_ends;
     room = h.kept.room;
+    workers = h.kept.workers;
   }
 
   pub stands_then : StandsAt script next t

@@ -36,6 +36,7 @@ kept_told script old new rest k = subst (λ (x : Collector). IsWellFormed script
   positions = k.positions;
   no_ends = k.no_ends;
   room = k.room;
+  workers = k.workers;
 })
 
 module _ (script : Script) (old new : Collector) (s t : State) where

@@ -45,7 +45,7 @@ pub record IsOwn (c : Collector) (k : ℕ) (m : Mutator) : Type 0 where
   pub line : IsLined c.inbox k m.sender
 
 -- what is true of a collector whatever its run: its parts are for one layout, with an entry of the array of names for
--- each block, and it knows how many commands of each program were answered
+-- each block, it knows how many commands of each program were answered, and has room for a worker for each
 pub record IsWellFormed (script : Script) (c : Collector) : Type 0 where
   pub layout : c.segments.layout ≡ layout_of (plan_of script)
   pub sound : IsSegments c.segments
@@ -59,6 +59,7 @@ pub record IsWellFormed (script : Script) (c : Collector) : Type 0 where
   pub positions : (k : ℕ) → k < length script.threads → slice_index c.positions.items k ≡ answered_count c.rounds k
   pub no_ends : c.ends.items ≡ []
   pub room : length script.threads ≤ vec_capacity c.ends
+  pub workers : length script.threads ≤ c.workers
 
 -- a new collector
 pub record IsFresh (script : Script) (c : Collector) : Type 0 where

@@ -109,13 +109,10 @@ seat_of worker = worker.seat
 abbrev pub done_by : Worker → ℕ
 done_by worker = worker.done
 
--- empty lists with room for so many mutators
+-- empty lists with room for so many seats
 pub record HaveRoom (count : ℕ) (lists : Lists) : Type 0 where
   pub room : (lists.room.items ≡ []) × (count ≤ vec_capacity lists.room)
-  pub workers : (lists.workers.items ≡ []) × (count ≤ vec_capacity lists.workers)
-  pub mutators : (lists.mutators.items ≡ []) × (count ≤ vec_capacity lists.mutators)
   pub seats : (lists.seats.items ≡ []) × (count ≤ vec_capacity lists.seats)
-  pub done : (lists.done.items ≡ []) × (count ≤ vec_capacity lists.done)
 
 -- its lists have room for what so many commands note: one pushes eight words at most
 pub record HasLists (count : ℕ) (m : Mutator) : Type 0 where

@@ -38,6 +38,7 @@ ghost use Rattle.nmgc_cycle.specs.Keeps.{IsFresh, HasEnded};
 use crate::names::put_rows_in_order;
 use crate::progress::Progress;
 use crate::stop::StopEnd;
+use crate::worker::WorkerRoom;
 use nmgc_alloc::Segments;
 use nmgc_graph::{Kind, List, Name, NoMemory, Place, Placed, SHARED_SLOTS};
 use nmgc_journal::{CycleRow, End, FinalWords, MutatorEnd, Report, RoundRows, StopRow};
@@ -70,6 +71,8 @@ pub struct Collector {
     pub(crate) weaks: Weaks,
     // By their numbers.
     pub(crate) mutators: Vec<Mutator>,
+    // Room for the workers of a round, one for each mutator.
+    pub(crate) workers: WorkerRoom,
     // The other ends of the mutators' rings, and what was taken out of each since the last stop.
     pub(crate) inbox: Inbox,
     // How many commands of each program were answered.
@@ -215,8 +218,8 @@ impl Collector {
     ///
     /// Asks that the script is within the limits. Takes memory for the words, and for as many again until they lie in
     /// their table, for the segments with their marks and the names of what lies in them, for what the promotion of full
-    /// nurseries needs and the first slices note, and for a ring of `RING_BLOCKS` blocks for each mutator; what a cycle
-    /// needs is taken as it begins.
+    /// nurseries needs and the first slices note, for the workers of a round, and for a ring of `RING_BLOCKS` blocks for each
+    /// mutator; what a cycle needs is taken as it begins.
     pub fn new(alloc: Global, script: &Script) -> Result<Collector, NoMemory>
         requires { IsInLimits script.now }
         ensures fresh { IfOk result (λ collector. IsFresh script.now collector) }
@@ -232,6 +235,7 @@ impl Collector {
         let segments = Segments::new(alloc, layout)?;
         let names = Names::new(alloc, layout)?;
         let count = layout.mutators as usize;
+        let workers = WorkerRoom::reserve(alloc, count)?;
         let positions = vec![in alloc; 0u32; count]?;
         let ends = Vec::with_capacity(alloc, count)?;
         let places = Places::new(alloc)?;
@@ -243,6 +247,7 @@ impl Collector {
             names,
             weaks: Weaks::new(alloc),
             mutators,
+            workers,
             inbox,
             positions,
             rounds: List::new(alloc),
@@ -320,6 +325,7 @@ impl Collector {
             names: _,
             weaks,
             mutators,
+            workers: _,
             inbox: _,
             positions: _,
             rounds,

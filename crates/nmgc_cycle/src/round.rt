@@ -30,7 +30,7 @@ ghost use Rattle.nmgc_cycle.specs.Lined.{IsLined, HasMetSender, HaveLines, HaveM
 ghost use Rattle.nmgc_cycle.specs.Keeps.{HasStopped, DidRound};
 ghost use Rattle.nmgc_cycle.specs.Cycles.{CanHelp, HasHelped, worked_on, upper_worked_on};
 ghost use Rattle.nmgc_cycle.specs.Shown.{is_marking_in, turns_of, upper_turns_of};
-ghost use Rattle.nmgc_cycle.specs.Working.{left_at, HaveRoom, HasLists, HaveSliceRoom, HasInboxRoom, AreReserved, CanAllWork, HaveAllWorked, OpensAt, DidSlices, HaveTried, asks_of, asks_full_of, cleared, replies_of};
+ghost use Rattle.nmgc_cycle.specs.Working.{left_at, HaveRoom, HasLists, HaveSliceRoom, HasInboxRoom, AreReserved, CanAllWork, HaveAllWorked, OpensAt, DidSlices, HaveTried, asks_of, asks_full_of, done_by, cleared, replies_of};
 
 use crate::Collector;
 use crate::worker::{Worker, seated, some_ask_full, some_asks, unseated, work_beside};
@@ -56,29 +56,24 @@ use std::alloc::Global;
 use std::mem;
 use std::thread::Threads;
 
-// The lists that a round fills, and where the seats that it gives and takes will lie.
+// The lists of seats that a round gives and takes, and where they will lie. It takes them by value, as lists of which
+// contracts see no room, and keeps none. So they are the one thing that is made anew for each; a seat has no bytes.
 #[derive(Drop)]
 struct Lists {
     room: Vec<MutatorSeat>,
-    workers: Vec<Worker>,
-    mutators: Vec<Mutator>,
     seats: Vec<MutatorSeat>,
-    done: Vec<u32>,
     given: Place<MutatorSeat>,
     taken: Place<MutatorSeat>,
 }
 
 impl Lists {
-    // Empty lists, with room for so many mutators.
+    // Empty lists, with room for so many seats.
     fn new(alloc: Global, count: usize) -> Result<Lists, NoMemory>
         ensures { IfOk result (λ lists. HaveRoom count lists) }
     {
         Ok(Lists {
             room: Vec::with_capacity(alloc, count)?,
-            workers: Vec::with_capacity(alloc, count)?,
-            mutators: Vec::with_capacity(alloc, count)?,
             seats: Vec::with_capacity(alloc, count)?,
-            done: Vec::with_capacity(alloc, count)?,
             given: Place::new(alloc)?,
             taken: Place::new(alloc)?,
         })
@@ -235,10 +230,7 @@ impl Collector {
         a_heap_ties_by_blocks();
         let Lists {
             room,
-            mut workers,
-            mut mutators,
             mut seats,
-            mut done,
             given: given_place,
             taken: taken_place,
         } = lists;
@@ -250,8 +242,9 @@ impl Collector {
             mutators: given,
             mut collector,
         } = Round::start(words, layout, marking, opening, room, given_place);
+        let mut workers = self.workers.lend(self.alloc);
         let own = mem::replace(&mut self.mutators, Vec::new(self.alloc));
-        seated(own, given, &mut workers);
+        self.mutators = seated(own, given, &mut workers);
         self.work(
             rt,
             &round,
@@ -260,11 +253,11 @@ impl Collector {
             script,
             gate,
         );
-        unseated(workers, &mut mutators, &mut seats, &mut done);
+        advance(self.positions.as_mut_slice(), workers.as_slice());
+        let left = unseated(workers, &mut self.mutators, &mut seats);
+        self.workers.give_back(left);
         let Finished { words } = round.finish(List::in_place(seats, taken_place), collector);
         self.words = Some(words);
-        self.mutators = mutators;
-        advance(self.positions.as_mut_slice(), done.as_slice());
     }
 
     // The workers do their slices, and the collector its part beside them; what the slices ask for is noted.
@@ -384,15 +377,16 @@ fn reserve_all(mutators: &mut [Mutator], script: &Script, positions: &[u32]) -> 
     Ok(())
 }
 
-// Each position moves on by so many commands.
-fn advance(positions: &mut [u32], done: &[u32])
-    requires count { length done.now ≡ length positions.old }
-    requires fits { (k : ℕ) → k < length positions.old → slice_index positions.old k + slice_index done.now k < 2 ^ 32 }
+// Each position moves on by as many commands as its worker did.
+#[tactic(auto, using(crate::proofs::Sliced::done_of))]
+fn advance(positions: &mut [u32], workers: &[Worker])
+    requires count { length workers.now ≡ length positions.old }
+    requires fits { (k : ℕ) → k < length positions.old → slice_index positions.old k + slice_index (map done_by workers.now) k < 2 ^ 32 }
     ensures count { length positions.new ≡ length positions.old }
-    ensures each { (k : ℕ) → k < length positions.old → slice_index positions.new k ≡ slice_index positions.old k + slice_index done.now k }
+    ensures each { (k : ℕ) → k < length positions.old → slice_index positions.new k ≡ slice_index positions.old k + slice_index (map done_by workers.now) k }
 {
     for (number, position) in positions.iter_mut().enumerate() {
-        *position += done[number];
+        *position += workers[number].done;
     }
 }
 

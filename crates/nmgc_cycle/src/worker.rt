@@ -3,31 +3,38 @@
 //! A worker is a mutator with its seat. It reads its program from where it stands, and no other's, and notes how many
 //! commands it did; so the workers share the round alone, and what each did is told by its own contract.
 //!
+//! Between two rounds there are no workers. The room for them lasts for the run (`WorkerRoom`), and so does that of the
+//! mutators' list, which is empty within a round: `seated` and `unseated` take what a list has from its front, as a queue
+//! that lies where the list lay, and give the list back empty. So no round takes memory for either.
+//!
 //! No thread is started for nothing: none for a mutator whose program has ended, and none for the collector where it has
 //! nothing to do, or where no program has commands left. So the workers are split where half of those with commands left
 //! are on either side, and a part in which at most one has any does its slices one after the other.
 //!
 //! Easy to get wrong: where no thread can be started the caller does the work, one worker after the other. So nothing
 //! here may rest on two that run side by side.
-ghost use Rattle.std.specs.Prelude.{◌≡◌, ◌↔◌, ◌+◌, ◌^◌, ◌<◌, ◌≤◌, [], IsTrue, length, map, slice_index, vec_len, vec_capacity};
+ghost use Rattle.std.specs.Prelude.{◌≡◌, ◌↔◌, ◌+◌, ◌^◌, ◌<◌, ◌≤◌, [], IfOk, IsTrue, length, map, slice_index, vec_len, vec_capacity};
 ghost use Rattle.nmgc_run.specs.Slice.{program_of};
 ghost use Rattle.std.specs.Thread.{IsSync};
 ghost use Rattle.std.specs.List.{list_any};
 ghost use Rattle.nmgc_updrem.specs.Rings.{HavePolled};
 ghost use Rattle.nmgc_cycle.specs.Cycles.{CanHelp, HasHelped};
 ghost use Rattle.nmgc_cycle.specs.Stopping.{SomeIsLeft};
-ghost use Rattle.nmgc_cycle.specs.Working.{asks_of, asks_full_of, left_at, CanWork, HasWorkedOn, CanAllWork, HaveAllWorked, CanWorkFrom, HaveWorkedFrom, workers_of, mutator_of, seat_of, done_by};
+ghost use Rattle.nmgc_cycle.specs.Working.{asks_of, asks_full_of, left_at, CanWork, HasWorkedOn, CanAllWork, HaveAllWorked, CanWorkFrom, HaveWorkedFrom, workers_of, mutator_of, seat_of};
 
 use crate::progress::Progress;
 use nmgc_alloc::Segments;
-use nmgc_graph::{Command, List};
+use nmgc_graph::{Command, List, NoMemory};
 use nmgc_mutator::{Mutator, SliceEnd};
 use nmgc_round::{CollectorSeat, Gate, MutatorSeat, Round};
 use nmgc_script::Script;
 use nmgc_sweep::Names;
 use nmgc_updrem::Inbox;
-use std::thread;
+use std::alloc::Global;
+use std::collections::VecDeque;
+use std::marker::Model;
 use std::thread::Threads;
+use std::{mem, thread};
 
 /// A mutator with its seat in the round, and how many commands it did.
 #[derive(Drop)]
@@ -53,6 +60,50 @@ impl Worker {
         self.done = ended.done;
         self.asks = ended.end == SliceEnd::Collect;
         self.asks_full = ended.end == SliceEnd::Full;
+    }
+}
+
+/// Room for the workers of a round, which lasts for the run. Contracts see for how many.
+#[derive(Drop)]
+pub struct WorkerRoom {
+    // Empty.
+    workers: Vec<Worker>,
+}
+
+impl Model for WorkerRoom {
+    ghost use Rattle.std.specs.Prelude.{ℕ, ◌≡◌, [], vec_capacity};
+
+    ghost Value = { ℕ };
+
+    ghost view = { λ r. vec_capacity r.workers };
+
+    ghost invariant = { λ r. r.workers.items ≡ [] };
+}
+
+impl WorkerRoom {
+    /// Takes memory for so many workers.
+    pub fn reserve(alloc: Global, count: usize) -> Result<WorkerRoom, NoMemory>
+        ensures { IfOk result (λ room. room ≡ count) }
+    {
+        Ok(WorkerRoom {
+            workers: Vec::with_capacity(alloc, count)?,
+        })
+    }
+
+    /// The room, as a list of workers that is empty. No room is left until it is given back. Takes no memory.
+    pub fn lend(&mut self, alloc: Global) -> Vec<Worker>
+        ensures empty { result.items ≡ [] }
+        ensures room { vec_capacity result ≡ self.old }
+    {
+        mem::replace(&mut self.workers, Vec::new(alloc))
+    }
+
+    /// Takes the list back, which is empty again.
+    pub fn give_back(&mut self, workers: Vec<Worker>)
+        requires { workers.items ≡ [] }
+        ensures { self.new ≡ vec_capacity workers }
+    {
+        self.workers = workers;
     }
 }
 
@@ -298,14 +349,22 @@ pub fn some_ask_full(workers: &[Worker]) -> bool
     workers.iter().any(|worker| worker.asks_full)
 }
 
-/// Each mutator gets its seat. The list has room for them.
-pub fn seated(mutators: Vec<Mutator>, seats: List<MutatorSeat>, workers: &mut Vec<Worker>)
+/// Each mutator gets its seat. The list of workers has room for them. Gives the mutators' list back, which is empty and
+/// has its room.
+pub fn seated(
+    mutators: Vec<Mutator>,
+    seats: List<MutatorSeat>,
+    workers: &mut Vec<Worker>,
+) -> Vec<Mutator>
     requires count { vec_len mutators ≡ length seats }
     requires room { (workers.old.items ≡ []) × (vec_len mutators ≤ vec_capacity workers.old) }
-    ensures { workers.new.items ≡ workers_of mutators.items seats }
+    ensures workers { workers.new.items ≡ workers_of mutators.items seats }
+    ensures room { vec_capacity workers.new ≡ vec_capacity workers.old }
+    ensures left { (result.items ≡ []) × (vec_capacity result ≡ vec_capacity mutators) }
 {
+    let mut left = VecDeque::from_vec(mutators);
     let mut seats = seats;
-    for mutator in mutators {
+    while let Some(mutator) = left.pop_front() {
         let Some(seat) = seats.take_first() else {
             unreachable!();
         };
@@ -317,32 +376,33 @@ pub fn seated(mutators: Vec<Mutator>, seats: List<MutatorSeat>, workers: &mut Ve
             asks_full: false,
         });
     }
+    left.into_vec()
 }
 
-/// The mutators, their seats, and how many commands each did. The lists have room for them.
+/// The mutators and their seats. The lists have room for them. Gives the workers' list back, which is empty and has its
+/// room.
 pub fn unseated(
     workers: Vec<Worker>,
     mutators: &mut Vec<Mutator>,
     seats: &mut Vec<MutatorSeat>,
-    done: &mut Vec<u32>,
-)
+) -> Vec<Worker>
     requires mutators { (mutators.old.items ≡ []) × (vec_len workers ≤ vec_capacity mutators.old) }
     requires seats { (seats.old.items ≡ []) × (vec_len workers ≤ vec_capacity seats.old) }
-    requires done { (done.old.items ≡ []) × (vec_len workers ≤ vec_capacity done.old) }
     ensures mutators { mutators.new.items ≡ map mutator_of workers.items }
     ensures seats { seats.new.items ≡ map seat_of workers.items }
-    ensures done { done.new.items ≡ map done_by workers.items }
+    ensures left { (result.items ≡ []) × (vec_capacity result ≡ vec_capacity workers) }
 {
-    for worker in workers {
+    let mut left = VecDeque::from_vec(workers);
+    while let Some(worker) = left.pop_front() {
         let Worker {
             mutator,
             seat,
-            done: count,
+            done: _,
             asks: _,
             asks_full: _,
         } = worker;
         mutators.push_reserved(mutator);
         seats.push_reserved(seat);
-        done.push_reserved(count);
     }
+    left.into_vec()
 }

@@ -1,13 +1,17 @@
-use Rattle.std.proofs.Common.{◌≡◌, ◌++◌, length, drop, vec_capacity}
-use Rattle.std.specs.Vec.Iter.{into_iter_items}
+use Rattle.std.proofs.Common.{◌≡◌, ◌+◌, ◌≤◌, ◌++◌, length, vec_len, vec_capacity}
+use Rattle.std.specs.VecDeque.{deque_len, deque_capacity}
 use Rattle.nmgc_cycle.specs.Working.{workers_of}
 use Rattle.nmgc_cycle.proofs.worker.seated.Given as goal
 
--- as many seats are gone as mutators, and each of those is a worker
+-- there is a seat for each mutator that is left, and those before are workers
 abbrev pub invariant-loop-mutator : goal.invariant-loop-mutator
 invariant-loop-mutator l = record {
-  all : l.yielded ++ into_iter_items l.mutator-iterator ≡ l.fn.mutators.items;
-  left : l.seats ≡ drop (length l.yielded) l.fn.seats;
-  workers_are : l.workers.items ≡ workers_of l.yielded l.fn.seats;
-  room : vec_capacity l.workers ≡ vec_capacity l.fn.workers;
+  all : l.workers.items ++ workers_of l.left.items l.seats ≡ workers_of l.fn.mutators.items l.fn.seats;
+  count : deque_len l.left ≡ length l.seats;
+  room : vec_len l.workers + deque_len l.left ≤ vec_capacity l.workers;
+  kept : vec_capacity l.workers ≡ vec_capacity l.fn.workers;
+  left_room : deque_capacity l.left ≡ vec_capacity l.fn.mutators;
 }
+
+abbrev pub decreases-loop-mutator : goal.decreases-loop-mutator
+decreases-loop-mutator l = deque_len l.left

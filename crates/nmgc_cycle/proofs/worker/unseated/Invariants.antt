@@ -1,13 +1,17 @@
-use Rattle.std.proofs.Common.{◌≡◌, map, vec_capacity}
-use Rattle.nmgc_cycle.specs.Working.{mutator_of, seat_of, done_by}
+use Rattle.std.proofs.Common.{◌≡◌, ◌+◌, ◌≤◌, ◌++◌, map, vec_len, vec_capacity}
+use Rattle.std.specs.VecDeque.{deque_len, deque_capacity}
+use Rattle.nmgc_cycle.specs.Working.{mutator_of, seat_of}
 use Rattle.nmgc_cycle.proofs.worker.unseated.Given as goal
 
+-- what the workers before had is in the lists, and these have room for what is left
 abbrev pub invariant-loop-worker : goal.invariant-loop-worker
 invariant-loop-worker l = record {
-  mutators_are : l.mutators.items ≡ map mutator_of l.yielded;
-  seats_are : l.seats.items ≡ map seat_of l.yielded;
-  done_are : l.done.items ≡ map done_by l.yielded;
-  mutator_room : vec_capacity l.mutators ≡ vec_capacity l.initial.mutators;
-  seat_room : vec_capacity l.seats ≡ vec_capacity l.initial.seats;
-  done_room : vec_capacity l.done ≡ vec_capacity l.initial.done;
+  mutators_are : l.mutators.items ++ map mutator_of l.left.items ≡ map mutator_of l.fn.workers.items;
+  seats_are : l.seats.items ++ map seat_of l.left.items ≡ map seat_of l.fn.workers.items;
+  mutator_room : vec_len l.mutators + deque_len l.left ≤ vec_capacity l.mutators;
+  seat_room : vec_len l.seats + deque_len l.left ≤ vec_capacity l.seats;
+  left_room : deque_capacity l.left ≡ vec_capacity l.fn.workers;
 }
+
+abbrev pub decreases-loop-worker : goal.decreases-loop-worker
+decreases-loop-worker l = deque_len l.left

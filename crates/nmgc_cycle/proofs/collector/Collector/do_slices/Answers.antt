@@ -1,4 +1,4 @@
-use Rattle.std.proofs.Common.{ℕ, ◌≡◌, List, length, map, subst, sym, ap, ◌∙◌, arith, Some, Global}
+use Rattle.std.proofs.Common.{ℕ, ◌≡◌, List, length, map, subst, sym, ap, ◌∙◌, arith, Some, Global, vec_capacity}
 use Rattle.std.specs.Vec.{with_items}
 use Rattle.std.specs.declared.vec.Vec.{Vec}
 use Rattle.nmgc_object.specs.declared.layout.Layout.{Layout}
@@ -10,7 +10,7 @@ use Rattle.nmgc_cycle.proofs.MutatorLists.{vec_back}
 use Rattle.nmgc_cycle.proofs.Opened.{CanOpenRounds}
 use Rattle.nmgc_cycle.proofs.Played.{CanMove, HaveMoved, are_seated, counted, can_play, played, left_in, scanned, has_all, seats_at, did_slices}
 use Rattle.nmgc_cycle.proofs.Ran.{HasBegun, may_begin, can_open, seats_are}
-use Rattle.nmgc_cycle.proofs.Sliced.{counts_are, positions_fit}
+use Rattle.nmgc_cycle.proofs.Sliced.{positions_counted, positions_fit}
 use Rattle.nmgc_cycle.proofs.collector.Collector.do_slices.Goals as goal
 
 pub start-round-requires-clause-opens : goal.start-round-requires-clause-opens
@@ -73,6 +73,25 @@ seated-requires-clause-count g c =
     let b : HasBegun script own o round given = record { may = may; has = record { opened = s.round.0; seen_are = s.mutators.0; at = s.mutators.1 } } in
     c.replace-own.result.ok.0 ∙ ap (λ v. length v.items) c.replace-own.ensures.value ∙ sym (seats_are script own o round given b)
 
+pub seated-requires-clause-room : goal.seated-requires-clause-room
+seated-requires-clause-room g c =
+    let laws : CanOpenRounds = record {
+      quiet = c.a_rest_opens_a_round.ensures;
+      marks = c.a_rest_opens_a_round-2.ensures;
+      rests = c.the_heap_goes_on.ensures.rests;
+      snapshot = c.a_heap_ties_by_blocks.ensures.snapshot;
+    } in
+    let script = c.args.script.now in
+    let own : Collector = c.args.self.now in
+    let o = c.args.opening.now.value in
+    let may = may_begin laws script own o c.unwrap-words.result c.requires.limits c.requires.opens (sym c.take.ensures.value ∙ c.unwrap-words.ensures) in
+    let had = c.replace-own.result.ok.0 in
+    let own_had : length c.replace-own.result.items ≡ length own.mutators.items = ap (λ v. length v.items) c.replace-own.ensures.value in
+    let count = may.still.kept.count in
+    let fits = may.still.kept.workers in
+    let room = c.lend-workers.ensures.room in
+    (c.lend-workers.ensures.empty, omega (arith, had, own_had, count, fits, room))
+
 pub work-requires-clause-collector : goal.work-requires-clause-collector
 work-requires-clause-collector g c κs within =
     let laws : CanOpenRounds = record {
@@ -122,11 +141,11 @@ work-requires-clause-mutators g c κs within =
     let s = c.start-round.ensures in
     let b : HasBegun script own o round given = record { may = may; has = record { opened = s.round.0; seen_are = s.mutators.0; at = s.mutators.1 } } in
     let was : List Worker = c.as_mut_slice.result.now in
-    let u = are_seated script own o round given b c.replace-own.result c.replace-own.ensures.value was (c.as_mut_slice.ensures.value ∙ c.seated.ensures) in
+    let u = are_seated script own o round given b c.replace-own.result c.replace-own.ensures.value was (c.as_mut_slice.ensures.value ∙ c.seated.ensures.workers) in
     can_play script own o round was u c.a_round_finds_mutators_ready.ensures c.requires.room
 
-pub unseated-requires-clause-mutators : goal.unseated-requires-clause-mutators
-unseated-requires-clause-mutators g c =
+pub unseated-left-requires-clause-mutators : goal.unseated-left-requires-clause-mutators
+unseated-left-requires-clause-mutators g c =
     let laws : CanOpenRounds = record {
       quiet = c.a_rest_opens_a_round.ensures;
       marks = c.a_rest_opens_a_round-2.ensures;
@@ -142,15 +161,20 @@ unseated-requires-clause-mutators g c =
     let s = c.start-round.ensures in
     let b : HasBegun script own o round given = record { may = may; has = record { opened = s.round.0; seen_are = s.mutators.0; at = s.mutators.1 } } in
     let was : List Worker = c.as_mut_slice.result.now in
-    let u = are_seated script own o round given b c.replace-own.result c.replace-own.ensures.value was (c.as_mut_slice.ensures.value ∙ c.seated.ensures) in
-    let many = c.requires.lists.mutators.1 in
+    let u = are_seated script own o round given b c.replace-own.result c.replace-own.ensures.value was (c.as_mut_slice.ensures.value ∙ c.seated.ensures.workers) in
     let count = counted script own o round was u in
     let same = ap (λ (l : List Worker). length l) c.as_mut_slice.ensures.value in
     let all = c.seated.new.workers.ok.0 in
-    (c.requires.lists.mutators.0, omega (arith, many, count, same, all))
+    let had = c.replace-own.result.ok in
+    let own_had : length c.replace-own.result.items ≡ length own.mutators.items = ap (λ v. length v.items) c.replace-own.ensures.value in
+    let room = c.seated.ensures.left.1 in
+    let still : vec_capacity c.work.new.self.mutators ≡ vec_capacity c.seated.result = ap (λ (y : Collector). vec_capacity y.mutators) c.work.ensures.rest in (
+      ap (λ (y : Collector). y.mutators.items) c.work.ensures.rest ∙ c.seated.ensures.left.0,
+      omega (arith, count, same, all, had.0, had.1, own_had, room, still),
+    )
 
-pub unseated-requires-clause-seats : goal.unseated-requires-clause-seats
-unseated-requires-clause-seats g c =
+pub unseated-left-requires-clause-seats : goal.unseated-left-requires-clause-seats
+unseated-left-requires-clause-seats g c =
     let laws : CanOpenRounds = record {
       quiet = c.a_rest_opens_a_round.ensures;
       marks = c.a_rest_opens_a_round-2.ensures;
@@ -166,36 +190,12 @@ unseated-requires-clause-seats g c =
     let s = c.start-round.ensures in
     let b : HasBegun script own o round given = record { may = may; has = record { opened = s.round.0; seen_are = s.mutators.0; at = s.mutators.1 } } in
     let was : List Worker = c.as_mut_slice.result.now in
-    let u = are_seated script own o round given b c.replace-own.result c.replace-own.ensures.value was (c.as_mut_slice.ensures.value ∙ c.seated.ensures) in
+    let u = are_seated script own o round given b c.replace-own.result c.replace-own.ensures.value was (c.as_mut_slice.ensures.value ∙ c.seated.ensures.workers) in
     let many = c.requires.lists.seats.1 in
     let count = counted script own o round was u in
     let same = ap (λ (l : List Worker). length l) c.as_mut_slice.ensures.value in
     let all = c.seated.new.workers.ok.0 in
     (c.requires.lists.seats.0, omega (arith, many, count, same, all))
-
-pub unseated-requires-clause-done : goal.unseated-requires-clause-done
-unseated-requires-clause-done g c =
-    let laws : CanOpenRounds = record {
-      quiet = c.a_rest_opens_a_round.ensures;
-      marks = c.a_rest_opens_a_round-2.ensures;
-      rests = c.the_heap_goes_on.ensures.rests;
-      snapshot = c.a_heap_ties_by_blocks.ensures.snapshot;
-    } in
-    let script = c.args.script.now in
-    let own : Collector = c.args.self.now in
-    let o = c.args.opening.now.value in
-    let may = may_begin laws script own o c.unwrap-words.result c.requires.limits c.requires.opens (sym c.take.ensures.value ∙ c.unwrap-words.ensures) in
-    let round = c.start-round.result.round in
-    let given = c.start-round.result.mutators in
-    let s = c.start-round.ensures in
-    let b : HasBegun script own o round given = record { may = may; has = record { opened = s.round.0; seen_are = s.mutators.0; at = s.mutators.1 } } in
-    let was : List Worker = c.as_mut_slice.result.now in
-    let u = are_seated script own o round given b c.replace-own.result c.replace-own.ensures.value was (c.as_mut_slice.ensures.value ∙ c.seated.ensures) in
-    let many = c.requires.lists.done.1 in
-    let count = counted script own o round was u in
-    let same = ap (λ (l : List Worker). length l) c.as_mut_slice.ensures.value in
-    let all = c.seated.new.workers.ok.0 in
-    (c.requires.lists.done.0, omega (arith, many, count, same, all))
 
 pub finish-words-requires-clause-seats : goal.finish-words-requires-clause-seats
 finish-words-requires-clause-seats g c =
@@ -214,7 +214,7 @@ finish-words-requires-clause-seats g c =
     let s = c.start-round.ensures in
     let b : HasBegun script own o round given = record { may = may; has = record { opened = s.round.0; seen_are = s.mutators.0; at = s.mutators.1 } } in
     let was : List Worker = c.as_mut_slice.result.now in
-    let u = are_seated script own o round given b c.replace-own.result c.replace-own.ensures.value was (c.as_mut_slice.ensures.value ∙ c.seated.ensures) in
+    let u = are_seated script own o round given b c.replace-own.result c.replace-own.ensures.value was (c.as_mut_slice.ensures.value ∙ c.seated.ensures.workers) in
     let new : List Worker = c.work.new.workers in
     let ran = played script own o round was u c.slices_are_gathered.ensures new c.work.ensures.mutators in
     let left = left_in c.seated.new.workers was new c.as_mut_slice.ensures.value c.work.ensures.mutators.count in
@@ -222,7 +222,7 @@ finish-words-requires-clause-seats g c =
     let after : Collector = c.work.new.self in
     let has = scanned o round script.config.quota c.start-round.result.collector seat own.segments after.segments own.names own.progress
     after.progress s.collector.0 s.collector.1 c.work.ensures.collector in
-    let seats : c.in_place.result ≡ map seat_of new = c.in_place.ensures ∙ c.unseated.ensures.seats ∙ ap (λ (l : List Worker). map seat_of l) left in
+    let seats : c.in_place.result ≡ map seat_of new = c.in_place.ensures ∙ c.unseated-left.ensures.seats ∙ ap (λ (l : List Worker). map seat_of l) left in
     (seats_at script own o may round new ran seat has c.in_place.result seats, has.at)
 
 pub finish-words-requires-clause-all : goal.finish-words-requires-clause-all
@@ -242,7 +242,7 @@ finish-words-requires-clause-all g c =
     let s = c.start-round.ensures in
     let b : HasBegun script own o round given = record { may = may; has = record { opened = s.round.0; seen_are = s.mutators.0; at = s.mutators.1 } } in
     let was : List Worker = c.as_mut_slice.result.now in
-    let u = are_seated script own o round given b c.replace-own.result c.replace-own.ensures.value was (c.as_mut_slice.ensures.value ∙ c.seated.ensures) in
+    let u = are_seated script own o round given b c.replace-own.result c.replace-own.ensures.value was (c.as_mut_slice.ensures.value ∙ c.seated.ensures.workers) in
     let new : List Worker = c.work.new.workers in
     let ran = played script own o round was u c.slices_are_gathered.ensures new c.work.ensures.mutators in
     let left = left_in c.seated.new.workers was new c.as_mut_slice.ensures.value c.work.ensures.mutators.count in
@@ -250,7 +250,7 @@ finish-words-requires-clause-all g c =
     let after : Collector = c.work.new.self in
     let has = scanned o round script.config.quota c.start-round.result.collector seat own.segments after.segments own.names own.progress
     after.progress s.collector.0 s.collector.1 c.work.ensures.collector in
-    let seats : c.in_place.result ≡ map seat_of new = c.in_place.ensures ∙ c.unseated.ensures.seats ∙ ap (λ (l : List Worker). map seat_of l) left in
+    let seats : c.in_place.result ≡ map seat_of new = c.in_place.ensures ∙ c.unseated-left.ensures.seats ∙ ap (λ (l : List Worker). map seat_of l) left in
     has_all script own o may round new ran seat has c.slices_are_owed.ensures.gathered c.in_place.result seats
 
 pub advance-requires-clause-count : goal.advance-requires-clause-count
@@ -270,14 +270,14 @@ advance-requires-clause-count g c =
     let s = c.start-round.ensures in
     let b : HasBegun script own o round given = record { may = may; has = record { opened = s.round.0; seen_are = s.mutators.0; at = s.mutators.1 } } in
     let was : List Worker = c.as_mut_slice.result.now in
-    let u = are_seated script own o round given b c.replace-own.result c.replace-own.ensures.value was (c.as_mut_slice.ensures.value ∙ c.seated.ensures) in
+    let u = are_seated script own o round given b c.replace-own.result c.replace-own.ensures.value was (c.as_mut_slice.ensures.value ∙ c.seated.ensures.workers) in
     let new : List Worker = c.work.new.workers in
     let ran = played script own o round was u c.slices_are_gathered.ensures new c.work.ensures.mutators in
     let left = left_in c.seated.new.workers was new c.as_mut_slice.ensures.value c.work.ensures.mutators.count in
-    let done : c.as_slice.result.now ≡ map done_by new = c.as_slice.ensures.value ∙ c.unseated.ensures.done ∙ ap (λ (l : List Worker). map done_by l) left in
+    let done : c.as_slice.result.now ≡ new = c.as_slice.ensures.value ∙ left in
     let positions : c.as_mut_slice-2.result.now ≡ own.positions.items = c.as_mut_slice-2.ensures.value ∙
     ap (λ (y : Collector). y.positions.items) c.work.ensures.rest in
-    ap (λ (l : List ℕ). length l) done ∙ counts_are script own may.run may.limits may.still o round new ran.count ran.did ∙
+    ap (λ (l : List Worker). length l) done ∙ sym (positions_counted script own may.run may.limits may.still o round new ran.count ran.did) ∙
     sym (ap (λ (l : List ℕ). length l) positions)
 
 pub advance-requires-clause-fits : goal.advance-requires-clause-fits
@@ -297,15 +297,15 @@ advance-requires-clause-fits g c =
     let s = c.start-round.ensures in
     let b : HasBegun script own o round given = record { may = may; has = record { opened = s.round.0; seen_are = s.mutators.0; at = s.mutators.1 } } in
     let was : List Worker = c.as_mut_slice.result.now in
-    let u = are_seated script own o round given b c.replace-own.result c.replace-own.ensures.value was (c.as_mut_slice.ensures.value ∙ c.seated.ensures) in
+    let u = are_seated script own o round given b c.replace-own.result c.replace-own.ensures.value was (c.as_mut_slice.ensures.value ∙ c.seated.ensures.workers) in
     let new : List Worker = c.work.new.workers in
     let ran = played script own o round was u c.slices_are_gathered.ensures new c.work.ensures.mutators in
     let left = left_in c.seated.new.workers was new c.as_mut_slice.ensures.value c.work.ensures.mutators.count in
-    let done : c.as_slice.result.now ≡ map done_by new = c.as_slice.ensures.value ∙ c.unseated.ensures.done ∙ ap (λ (l : List Worker). map done_by l) left in
+    let done : c.as_slice.result.now ≡ new = c.as_slice.ensures.value ∙ left in
     let positions : c.as_mut_slice-2.result.now ≡ own.positions.items = c.as_mut_slice-2.ensures.value ∙
     ap (λ (y : Collector). y.positions.items) c.work.ensures.rest in
-    subst (λ (l : List ℕ). CanMove l c.as_slice.result.now) (sym positions) (subst (λ (l : List ℕ).
-    CanMove own.positions.items l) (sym done) (positions_fit script own may.run may.limits may.still o round new ran.count ran.did))
+    subst (λ (l : List ℕ). CanMove l (map done_by c.as_slice.result.now)) (sym positions) (subst (λ (l : List Worker).
+    CanMove own.positions.items (map done_by l)) (sym done) (positions_fit script own may.run may.limits may.still o round new ran.count ran.did))
 
 pub returns : goal.returns
 returns g c =
@@ -324,7 +324,7 @@ returns g c =
     let s = c.start-round.ensures in
     let b : HasBegun script own o round given = record { may = may; has = record { opened = s.round.0; seen_are = s.mutators.0; at = s.mutators.1 } } in
     let was : List Worker = c.as_mut_slice.result.now in
-    let u = are_seated script own o round given b c.replace-own.result c.replace-own.ensures.value was (c.as_mut_slice.ensures.value ∙ c.seated.ensures) in
+    let u = are_seated script own o round given b c.replace-own.result c.replace-own.ensures.value was (c.as_mut_slice.ensures.value ∙ c.seated.ensures.workers) in
     let new : List Worker = c.work.new.workers in
     let ran = played script own o round was u c.slices_are_gathered.ensures new c.work.ensures.mutators in
     let left = left_in c.seated.new.workers was new c.as_mut_slice.ensures.value c.work.ensures.mutators.count in
@@ -332,8 +332,8 @@ returns g c =
     let after : Collector = c.work.new.self in
     let has = scanned o round script.config.quota c.start-round.result.collector seat own.segments after.segments own.names own.progress
     after.progress s.collector.0 s.collector.1 c.work.ensures.collector in
-    let seats : c.in_place.result ≡ map seat_of new = c.in_place.ensures ∙ c.unseated.ensures.seats ∙ ap (λ (l : List Worker). map seat_of l) left in
-    let done : c.as_slice.result.now ≡ map done_by new = c.as_slice.ensures.value ∙ c.unseated.ensures.done ∙ ap (λ (l : List Worker). map done_by l) left in
+    let seats : c.in_place.result ≡ map seat_of new = c.in_place.ensures ∙ c.unseated-left.ensures.seats ∙ ap (λ (l : List Worker). map seat_of l) left in
+    let done : c.as_slice.result.now ≡ new = c.as_slice.ensures.value ∙ left in
     let positions : c.as_mut_slice-2.result.now ≡ own.positions.items = c.as_mut_slice-2.ensures.value ∙
     ap (λ (y : Collector). y.positions.items) c.work.ensures.rest in
     let same : after.positions ≡ own.positions = ap (λ (y : Collector). y.positions) c.work.ensures.rest in
@@ -342,16 +342,24 @@ returns g c =
     let back : (with_items after.positions moved).items ≡ moved = vec_back after.positions moved (many ∙
     sym (ap (λ (v : Vec ℕ Global). length v.items) same)) in
     let move : HaveMoved own.positions.items (map done_by new) moved =
-    subst (λ (l : List ℕ). HaveMoved l (map done_by new) moved) positions (subst (λ (l : List ℕ).
-    HaveMoved c.as_mut_slice-2.result.now l moved) done c.advance.ensures.each) in
+    subst (λ (l : List ℕ). HaveMoved l (map done_by new) moved) positions (subst (λ (l : List Worker).
+    HaveMoved c.as_mut_slice-2.result.now (map done_by l) moved) done c.advance.ensures.each) in
     let did = did_slices script own o may round new ran seat has c.slices_are_owed.ensures.gathered c.slices_are_owed.ensures.owed
     c.start-round.result.collector s.collector.1 s.round.0 after.segments c.work.ensures.sound after.progress c.work.ensures.collector
     c.in_place.result seats c.finish-words.result.words c.finish-words.ensures.leaves after.collect after.full c.work.ensures.collect
-    c.work.ensures.full after.inbox c.work.ensures.polled c.unseated.new.mutators (with_items after.positions moved)
-    (c.unseated.ensures.mutators ∙ ap (λ (l : List Worker). map mutator_of l) left) (ap (λ (l : List ℕ). length l) back ∙
+    c.work.ensures.full after.inbox c.work.ensures.polled c.unseated-left.new.mutators (with_items after.positions moved)
+    (c.unseated-left.ensures.mutators ∙ ap (λ (l : List Worker). map mutator_of l) left) (ap (λ (l : List ℕ). length l) back ∙
     many) (subst (λ (l : List ℕ). HaveMoved own.positions.items (map done_by new) l) (sym back) move) in
-    subst (λ (y : Collector). DidSlices script o own (record y {
+    let room : c.give_back.new.self ≡ own.workers = c.give_back.ensures ∙ c.unseated-left.ensures.left.1 ∙ c.seated.ensures.room ∙
+    c.lend-workers.ensures.room in
+    subst (λ (n : ℕ). DidSlices script o own (record after {
       words = Some c.finish-words.result.words;
-      mutators = c.unseated.new.mutators;
+      mutators = c.unseated-left.new.mutators;
       positions = with_items after.positions moved;
-    })) (sym c.work.ensures.rest) did
+      workers = n;
+    })) (sym room) (subst (λ (y : Collector). DidSlices script o own (record y {
+      words = Some c.finish-words.result.words;
+      mutators = c.unseated-left.new.mutators;
+      positions = with_items after.positions moved;
+      workers = own.workers;
+    })) (sym c.work.ensures.rest) did)

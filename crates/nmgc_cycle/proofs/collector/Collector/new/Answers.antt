@@ -24,6 +24,7 @@ returns-clause-fresh c = is_fresh c.layout_of-layout.result c.args.script.now _ 
   positions = c.in_ok-positions.ensures.items_if_clones_equal (λ y e. e);
   no_ends = c.in_ok-ends.ensures.items;
   room = let room = c.in_ok-ends.ensures.exact in omega arith;
+  workers = let room = c.in_ok-workers.ensures in omega arith;
 })
 
 pub returns-clause-mutator_turns : goal.returns-clause-mutator_turns
