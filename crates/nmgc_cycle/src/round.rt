@@ -1,9 +1,9 @@
 //! A round: each mutator does a slice of what is left of its program, in a thread of its own where anything is, and beside
 //! them the collector marks or sweeps, where a cycle is in progress, in one too.
 //!
-//! What can fail comes first: room for the replies and for what the mutators note, and the lists that the round
-//! fills. Then the words go into the round and come back from it, and nothing in between can fail. Only then are the
-//! replies taken off the mutators, for the report.
+//! What can fail comes first: room for the replies and for what the mutators note, and the lists of the round's seats;
+//! the room for its workers lasts for the run. Then the words go into the round and come back from it, and nothing in
+//! between can fail. Only then are the replies taken off the mutators, for the report.
 //!
 //! The opening of the round, which world the words stand for, is known in proofs alone (`Chosen`): it is the last
 //! state of the run that the collector's rows tell, and while a cycle marks it has the machine to which the marker is
@@ -56,8 +56,8 @@ use std::alloc::Global;
 use std::mem;
 use std::thread::Threads;
 
-// The lists of seats that a round gives and takes, and where they will lie. It takes them by value, as lists of which
-// contracts see no room, and keeps none. So they are the one thing that is made anew for each; a seat has no bytes.
+// The lists of seats that a round gives and takes, and where they will lie. They are made anew for each round: it takes
+// them by value, and contracts see no room of a `List`. A seat has no bytes.
 #[derive(Drop)]
 struct Lists {
     room: Vec<MutatorSeat>,
