@@ -18,7 +18,7 @@ one_more ws new left ms m seats rest seat all first given pushed before =
 
 pub unreachable-requires : goal.unreachable-requires
 unreachable-requires c =
-    let none : length c.loop-mutator.seats ≡ 0 = ap length c.in_default.ensures.empty.0 in
+    let none : length c.loop-mutator.seats ≡ 0 = ap length c.in_default-take_first.ensures.empty.0 in
     let count = c.loop-mutator.invariant.count in
     let one = c.in-Some.ensures.cases in
     omega arith

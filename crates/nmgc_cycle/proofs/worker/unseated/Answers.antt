@@ -23,8 +23,8 @@ push_reserved-requires c =
     let one = c.in-Some.ensures.cases in
     omega arith
 
-pub push_reserved-2-requires : goal.push_reserved-2-requires
-push_reserved-2-requires c =
+pub push_reserved-requires-in-Some : goal.push_reserved-requires-in-Some
+push_reserved-requires-in-Some c =
     let room = c.loop-worker.invariant.seat_room in
     let one = c.in-Some.ensures.cases in
     omega arith
@@ -36,14 +36,14 @@ loop-worker-preserved c =
     let mutator_more = c.push_reserved.ensures.len in
     let mutator_same = c.push_reserved.ensures.capacity in
     let seats = c.loop-worker.invariant.seat_room in
-    let seat_more = c.push_reserved-2.ensures.len in
-    let seat_same = c.push_reserved-2.ensures.capacity in
+    let seat_more = c.push_reserved-in-Some.ensures.len in
+    let seat_same = c.push_reserved-in-Some.ensures.capacity in
     record {
       mutators_are = one_more mutator_of c.loop-worker.mutators.items c.push_reserved.new.self.items c.loop-worker.left.items
           c.pop_front.new.self.items c.in-Some.worker (map mutator_of c.args.workers.items) c.in-Some.ensures.items c.push_reserved.ensures.items
           c.loop-worker.invariant.mutators_are;
-      seats_are = one_more seat_of c.loop-worker.seats.items c.push_reserved-2.new.self.items c.loop-worker.left.items c.pop_front.new.self.items
-          c.in-Some.worker (map seat_of c.args.workers.items) c.in-Some.ensures.items c.push_reserved-2.ensures.items c.loop-worker.invariant.seats_are;
+      seats_are = one_more seat_of c.loop-worker.seats.items c.push_reserved-in-Some.new.self.items c.loop-worker.left.items c.pop_front.new.self.items
+          c.in-Some.worker (map seat_of c.args.workers.items) c.in-Some.ensures.items c.push_reserved-in-Some.ensures.items c.loop-worker.invariant.seats_are;
       mutator_room = omega (arith, one, mutators, mutator_more, mutator_same);
       seat_room = omega (arith, one, seats, seat_more, seat_same);
       left_room = c.pop_front.ensures.capacity ∙ c.loop-worker.invariant.left_room;
