@@ -209,24 +209,7 @@ impl Command {
             Command::Thunk { free, .. } => 3 + free.items().len(),
             Command::Weak { .. } => 5,
             Command::Stack { size, .. } => 2 + *size as usize,
-            Command::Num { .. }
-            | Command::Nil { .. }
-            | Command::Mov { .. }
-            | Command::Get { .. }
-            | Command::Set { .. }
-            | Command::Cas { .. }
-            | Command::Update { .. }
-            | Command::Force { .. }
-            | Command::Push { .. }
-            | Command::Pop { .. }
-            | Command::Deref { .. }
-            | Command::Finalise { .. }
-            | Command::NextFin { .. }
-            | Command::Show { .. }
-            | Command::Same { .. }
-            | Command::Yield
-            | Command::Collect
-            | Command::Full => 0,
+            _ => 0,
         }
     }
 }

@@ -379,24 +379,7 @@ impl World {
             ),
             Command::Pop { dest: _, object } => (object, Change::Pop { mutator }),
             Command::Finalise { dest: _, object } => (object, Change::Finalise),
-            Command::Num { .. }
-            | Command::Nil { .. }
-            | Command::Mov { .. }
-            | Command::Con { .. }
-            | Command::Var { .. }
-            | Command::Arr { .. }
-            | Command::Thunk { .. }
-            | Command::Weak { .. }
-            | Command::Stack { .. }
-            | Command::Get { .. }
-            | Command::Force { .. }
-            | Command::Deref { .. }
-            | Command::NextFin { .. }
-            | Command::Show { .. }
-            | Command::Same { .. }
-            | Command::Yield
-            | Command::Collect
-            | Command::Full => return None,
+            _ => return None,
         };
         Some((self.value(mutator, *object), change))
     }

@@ -31,28 +31,7 @@ pub(crate) fn opened_by(
             Some(parts) => names_among(alloc, &[parts.value, parts.finaliser]),
             None => names_among(alloc, &[]),
         },
-        Command::Num { .. }
-        | Command::Nil { .. }
-        | Command::Mov { .. }
-        | Command::Con { .. }
-        | Command::Var { .. }
-        | Command::Arr { .. }
-        | Command::Thunk { .. }
-        | Command::Weak { .. }
-        | Command::Stack { .. }
-        | Command::Get { .. }
-        | Command::Set { .. }
-        | Command::Cas { .. }
-        | Command::Update { .. }
-        | Command::Force { .. }
-        | Command::Push { .. }
-        | Command::Pop { .. }
-        | Command::NextFin { .. }
-        | Command::Show { .. }
-        | Command::Same { .. }
-        | Command::Yield
-        | Command::Collect
-        | Command::Full => names_among(alloc, &[]),
+        _ => names_among(alloc, &[]),
     }
 }
 
@@ -72,29 +51,7 @@ pub(crate) fn finalised_by(
             Some(_) => names_among(alloc, &[world.value(mutator, *object)]),
             None => names_among(alloc, &[]),
         },
-        Command::Num { .. }
-        | Command::Nil { .. }
-        | Command::Mov { .. }
-        | Command::Con { .. }
-        | Command::Var { .. }
-        | Command::Arr { .. }
-        | Command::Thunk { .. }
-        | Command::Weak { .. }
-        | Command::Stack { .. }
-        | Command::Get { .. }
-        | Command::Set { .. }
-        | Command::Cas { .. }
-        | Command::Update { .. }
-        | Command::Force { .. }
-        | Command::Push { .. }
-        | Command::Pop { .. }
-        | Command::Deref { .. }
-        | Command::NextFin { .. }
-        | Command::Show { .. }
-        | Command::Same { .. }
-        | Command::Yield
-        | Command::Collect
-        | Command::Full => names_among(alloc, &[]),
+        _ => names_among(alloc, &[]),
     }
 }
 
