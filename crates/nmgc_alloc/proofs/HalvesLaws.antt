@@ -11,10 +11,11 @@ use Rattle.nmgc_object.specs.Size.{block_size}
 use Rattle.nmgc_segment.specs.Marks.{IsEpoch, swept}
 use Rattle.nmgc_segment.specs.Segment.{Segment, InUse, IsMarked, block_count, segment_words, mark_of, free_segment}
 use Rattle.nmgc_segment.specs.declared.state.State.TheVariants as state
-use Rattle.nmgc_segment.specs.laws.Segments.{mark-map, zero_swept}
+use Rattle.nmgc_segment.specs.laws.Segments.{mark-map, zero_swept, swept_is}
 use Rattle.nmgc_alloc.specs.declared.search.Sought.TheVariants.{Sweeping}
-use Rattle.nmgc_alloc.specs.Search.{nth, is, NoneBelow, sought_count}
-use Rattle.nmgc_alloc.specs.Segments.{Segments, IsLeast, IsSegments, HasNumber, HasNone, HasNoneIn, SweepsSegment, SweepsNext}
+use Rattle.nmgc_alloc.specs.Numbered.{nth, is, Segments, HasNumber}
+use Rattle.nmgc_alloc.specs.Search.{NoneBelow, sought_count}
+use Rattle.nmgc_alloc.specs.Segments.{IsLeast, IsSegments, HasNone, HasNoneIn, SweepsSegment, SweepsNext}
 use Rattle.nmgc_alloc.specs.Halves.{SweepsMany, HasSweptBytes, SweptWaiting, FirstSwept, Settles, SettlesNext, SettlesAt}
 use Rattle.nmgc_alloc.specs.laws.Counts.{none_counted, one_counted}
 use Rattle.nmgc_alloc.specs.laws.Numbers.{nth-set_same, nth-set_other}
@@ -64,13 +65,6 @@ swept_twice epoch mark e = elim (cases_eq mark epoch) [
 all_twice : (epoch : ℕ) (marks : List ℕ) → IsEpoch epoch → map (swept epoch) (map (swept epoch) marks) ≡ map (swept epoch) marks
 all_twice epoch [] e = refl
 all_twice epoch (m ∷ ms) e = (λ i. swept_twice epoch m e i ∷ all_twice epoch ms e i)
-
--- it is of the epoch where it was before
-swept_is : (epoch mark : ℕ) → IsEpoch epoch → (swept epoch mark ≡ epoch) ↔ (mark ≡ epoch)
-swept_is epoch mark e = elim (cases_eq mark epoch) [
-  | inl same ↦ let one : swept epoch mark ≡ mark = grind (arith, nat_tests) in ((λ _. same), (λ _. one ∙ same))
-  | inr other ↦ let one : swept epoch mark ≡ 0 = grind (arith, nat_tests) in ((λ k. absurd (omega (arith, k, one, e.0))), (λ k. absurd (other k)))
-]
 
 -- sweeping such bytes again would leave them
 pub bytes_stay : (x m : Segment) (epoch : ℕ) → IsEpoch epoch → HasSweptBytes epoch x m → HasSweptBytes epoch m m

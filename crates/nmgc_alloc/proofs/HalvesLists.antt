@@ -8,7 +8,8 @@ use lib.Seq.{length-take-le}
 use Rattle.nmgc_segment.specs.Segment.{Segment, free_segment}
 use Rattle.nmgc_segment.specs.declared.state.State.TheVariants as state
 use Rattle.nmgc_alloc.specs.declared.search.Sought.TheVariants.{Sweeping}
-use Rattle.nmgc_alloc.specs.Search.{nth, NoneBelow, is_sought, sought_count}
+use Rattle.nmgc_alloc.specs.Numbered.{nth}
+use Rattle.nmgc_alloc.specs.Search.{NoneBelow, is_sought, sought_count}
 use Rattle.nmgc_alloc.specs.Halves.{SweptWaiting, AllSwept, FirstSwept}
 use Rattle.nmgc_alloc.specs.laws.Counts.{one_if}
 use Rattle.nmgc_alloc.proofs.TallyLaws.{passes}

@@ -13,8 +13,9 @@ use Rattle.nmgc_alloc.specs.declared.search.Sought.TheVariants.{Free, Active, Sw
 use Rattle.nmgc_segment.specs.declared.state.State.{State}
 use Rattle.nmgc_alloc.proofs.TallyLaws.{tally_read}
 use Rattle.nmgc_alloc.specs.declared.tally.Tally.{Tally}
-use Rattle.nmgc_alloc.specs.Search.{nth, is, Is, IsTally, NoneBelow, tally_place, is_for, is_sought}
-use Rattle.nmgc_alloc.specs.Segments.{Segments, IsSegments, IsMember, IsCurrent, Leads, Tells, HasNumber, filled_count}
+use Rattle.nmgc_alloc.specs.Numbered.{nth, is, Segments, HasNumber}
+use Rattle.nmgc_alloc.specs.Search.{Is, IsTally, NoneBelow, tally_place, is_for, is_sought}
+use Rattle.nmgc_alloc.specs.Segments.{IsSegments, IsMember, IsCurrent, Leads, Tells, filled_count}
 use Rattle.nmgc_alloc.specs.Halves.{SweptWaiting, FirstSwept}
 use Rattle.nmgc_alloc.proofs.HalvesLaws.{bytes_words, waits_or_not}
 use Rattle.nmgc_alloc.specs.laws.Counts.{one_if}

@@ -15,14 +15,16 @@ ghost use Rattle.nmgc_object.specs.Places.{IsLayout, IsSegmentSize, segment_plac
 ghost use Rattle.nmgc_segment.specs.Marks.{IsEpoch};
 ghost use Rattle.nmgc_segment.specs.Segment.{free_segment, block_count};
 ghost use Rattle.nmgc_alloc.specs.CycleSteps.{prepared, carried_over, retired};
-ghost use Rattle.nmgc_alloc.specs.Search.{is, nth, sought_count, Is, IsKind, NoneBelow, tally_from};
+ghost use Rattle.nmgc_alloc.specs.Numbered.{is, nth};
+ghost use Rattle.nmgc_alloc.specs.Search.{sought_count, Is, IsKind, NoneBelow, tally_from};
 ghost use Rattle.nmgc_alloc.specs.Halves.{IsInHalf, SweepsMany, IsSwept, FirstSwept, Settles, SettlesAt};
 
 use crate::search::{self, Sought};
 use crate::tables::{CLASSES, KINDS, PAIRS};
 use crate::tally::Tally;
 use crate::{cycle_steps, halves};
-use nmgc_graph::{MAKERS, NoMemory};
+use nmgc_limits::MAKERS;
+use nmgc_lists::NoMemory;
 use nmgc_object::{Address, FIRST_PLACE, Layout, block_words};
 use nmgc_segment::{Segment, State, Swept};
 use std::alloc::Global;
@@ -41,7 +43,8 @@ pub struct Segments {
 }
 
 impl Model for Segments {
-    ghost use Rattle.nmgc_alloc.specs.Segments.{Segments as Shown, IsSegments, Leads, Tells};
+    ghost use Rattle.nmgc_alloc.specs.Numbered.{Segments as Shown};
+    ghost use Rattle.nmgc_alloc.specs.Segments.{IsSegments, Leads, Tells};
 
     ghost Value = { Shown };
 
@@ -98,7 +101,8 @@ fn first_tallies(alloc: Global, segments: u32) -> Result<Vec<Tally>, NoMemory>
 }
 
 impl Segments {
-    ghost use Rattle.nmgc_alloc.specs.Segments.{all_free, IsMutator, IsClass, IsCurrent, HasNumber, HasRoom, HasNone, HasNoneIn, HasNoCurrent, Allocates, SweepsNext, IsBlockAt, IsSegments, IsOwn, IsLeast, IsOpen, CountsFilled, TakesBlock, IsChosen, SweepsSegment, Marks, MarksIfBlock, IsToMark, as_current, block_place, marked_if};
+    ghost use Rattle.nmgc_alloc.specs.Segments.{all_free, IsMutator, IsClass, IsCurrent, HasRoom, HasNone, HasNoneIn, HasNoCurrent, Allocates, SweepsNext, IsBlockAt, IsSegments, IsOwn, IsLeast, IsOpen, CountsFilled, TakesBlock, IsChosen, SweepsSegment, Marks, MarksIfBlock, IsToMark, as_current, marked_if};
+    ghost use Rattle.nmgc_alloc.specs.Numbered.{HasNumber, block_place};
 
     /// All segments of a layout, free.
     pub fn new(alloc: Global, layout: Layout) -> Result<Self, NoMemory>

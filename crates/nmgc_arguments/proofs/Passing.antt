@@ -1,21 +1,17 @@
 -- Words that are passed on one after the other.
-use Rattle.std.proofs.Common.{◌≡◌, ◌≤◌, ◌<◌, ℕ, ◌+◌, List, [], ◌∷◌, ◌++◌, length, take, drop, map, refl, arith, Bool, true, false, Option, Some, None, inl, inr, get_or, suc, add-one, length-take}
+use Rattle.std.proofs.Common.{◌≡◌, ◌≤◌, ◌<◌, ℕ, ◌+◌, List, [], ◌∷◌, ◌++◌, length, take, drop, map, refl, arith, true, false, Option, Some, None, inl, inr, get_or, suc, add-one, length-take}
 use Rattle.std.proofs.Math.Seq.{take-suc}
 use Rattle.std.proofs.lemmas.List.{drop-append-le, map-append}
 use Rattle.std.proofs.lemmas.Option.{slice_get_cases}
 use Rattle.std.proofs.lemmas.Str.{IsUtf8-from_is_utf8}
 use Rattle.std.specs.Str.{IsUtf8, is_utf8}
 use Rattle.nmgc_arguments.specs.Words.{passed_as, IsPassedAt}
+use Rattle.nmgc_lists.specs.laws.Truths.{false_of}
 
 -- the words before a place were passed on
 abbrev pub ArePassedTo : Option (List (List ℕ)) → ℕ → List (List ℕ) → Type 0
 ArePassedTo None place passed = Unit {0}
 ArePassedTo (Some words) place passed = passed ≡ map passed_as (drop 1 (take place words))
-
--- what isn't text fails the test
-false_of : (b : Bool) → (b ≡ true → ⊥) → b ≡ false
-false_of true none = absurd (none refl)
-false_of false none = refl
 
 pub not_utf8 : (bytes : List ℕ) → (IsUtf8 bytes → ⊥) → is_utf8 bytes ≡ false
 not_utf8 bytes none = false_of (is_utf8 bytes) (λ (is : is_utf8 bytes ≡ true). none (IsUtf8-from_is_utf8 bytes is))

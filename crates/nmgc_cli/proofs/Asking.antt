@@ -1,16 +1,16 @@
 -- Words ask for one task, or for none.
-use Rattle.std.proofs.Common.{◌≡◌, ◌≤◌, ◌<◌, ◌∙◌, ℕ, List, [], ◌∷◌, length, get_or, refl, sym, ap, subst, arith, Option, Some, codes, decimal}
+use Rattle.std.proofs.Common.{◌≡◌, ◌≤◌, ◌<◌, ◌∙◌, ℕ, List, [], ◌∷◌, length, get_or, refl, sym, ap, subst, arith, Option, codes, decimal}
 use Rattle.std.specs.Prelude.{IfSome, IfNone}
 use Rattle.std.proofs.lemmas.Fmt.{decimal_injective}
 use Rattle.std.proofs.lemmas.Option.{same_Some}
-use Rattle.nmgc_graph.specs.declared.value.Name.{Name}
+use Rattle.nmgc_world_spec.specs.declared.value.Name.{Name}
 use Rattle.nmgc_journal.specs.Reading.{name_at}
 use Rattle.nmgc_journal.specs.Text.{name_text}
-use Rattle.nmgc_journal.specs.laws.Reading.{name_reads}
 use Rattle.nmgc_object.specs.Words.{IsName}
 use Rattle.nmgc_cli.specs.Task.{Asks, IsWrong}
 use Rattle.nmgc_cli.specs.declared.task.Task.{Task}
 use Rattle.nmgc_cli.specs.declared.task.Task.TheVariants.{Run, Bench, Upgrade, Image, Retain, Marks}
+use Rattle.nmgc_journal.specs.laws.Reading.{name_again}
 
 -- words that ask for none of the tasks are wrong
 pub none_asked : (words : List (List ℕ)) → (words ≡ codes "run" ∷ [] → ⊥) → (words ≡ codes "upgrade" ∷ [] → ⊥) → (words ≡ codes "image" ∷ [] → ⊥) →
@@ -50,10 +50,6 @@ asks_first words (Marks markers) asks = ap head asks.0
 -- letters of the first word
 letter : (a b : List ℕ) (i : ℕ) → a ≡ b → get_or a i 0 ≡ get_or b i 0
 letter a b i e = ap (λ (l : List ℕ). get_or l i 0) e
-
--- a name has one text
-name_again : (name : Name) → IsName name → name_at (name_text name) ≡ Some name
-name_again name valid = name_reads.again name valid
 
 one_name : (a b : Name) → IsName a → IsName b → name_text a ≡ name_text b → a ≡ b
 one_name a b va vb e = same_Some a b (sym (name_again a va) ∙ ap name_at e ∙ name_again b vb)

@@ -1,43 +1,26 @@
 -- A run answers no more commands than its programs have.
-use Rattle.std.proofs.Common.{◌≡◌, ◌≤◌, ◌<◌, ℕ, ◌+◌, ◌-◌, ◌*◌, ◌^◌, List, [], ◌∷◌, length, map, refl, ap, arith, Bool, true, false}
-use Rattle.std.specs.Prelude.{sum_by, if◌then◌else◌}
+use Rattle.std.proofs.Common.{◌≡◌, ◌≤◌, ◌<◌, ℕ, ◌+◌, ◌-◌, ◌*◌, ◌^◌, List, [], ◌∷◌, length, map, refl, ap, arith}
+use Rattle.std.specs.Prelude.{sum_by}
 use Rattle.std.proofs.lemmas.List.{length-drop}
 use Rattle.std.proofs.lemmas.List.Sums.{sum_by-cons, sum_by-le}
 use Rattle.nmgc_limits.specs.Limits.{most_script_bytes}
 use Rattle.nmgc_limits.specs.declared.mutators.TheConstants.{MAKERS}
-use Rattle.nmgc_graph.specs.declared.command.Command.{Command}
-use Rattle.nmgc_graph.specs.declared.command.Reply.{Reply}
-use Rattle.nmgc_graph.specs.Command.{words_made}
-use Rattle.nmgc_graph.specs.History.{Row}
+use Rattle.nmgc_world_spec.specs.declared.command.Command.{Command}
+use Rattle.nmgc_world_spec.specs.declared.command.Reply.{Reply}
+use Rattle.nmgc_world_spec.specs.History.{Row}
 use Rattle.nmgc_script.specs.Limits.{HasFewCommands}
 use Rattle.nmgc_script.specs.declared.script.Config.{Config}
 use Rattle.nmgc_script.specs.declared.script.Script.{Script}
 use Rattle.nmgc_journal.specs.declared.report.Report.{Report}
 use Rattle.nmgc_journal.specs.declared.report.RoundRows.{RoundRows}
 use Rattle.nmgc_journal.specs.Summary.{reply_count, command_count}
-use Rattle.nmgc_run.specs.Lawful.{IsLawful}
-use Rattle.nmgc_run.specs.Round.{IsRound}
-use Rattle.nmgc_run.specs.Run.{Turn, AreTurns, state_after}
-use Rattle.nmgc_run.specs.Slice.{slice, slice_of, slices, rest_of, is_next, ends_slice}
-use Rattle.nmgc_run.specs.State.{Plan, State, plan_of, start}
-use Rattle.nmgc_run.specs.laws.Lefts.{stop_left}
-
-either_few : (b : Bool) (program : List Command) (n : ℕ) → length program ≤ n → length {A = Command} (if b then [] else program) ≤ n
-either_few true program n h = omega arith
-either_few false program n h = h
-
-next_few : (b : Bool) (c : Command) (rest : List Command) (n : ℕ) → length rest ≤ n → length {A = Command} (if b then c ∷ rest else []) ≤ n + 1
-next_few true c rest n h = omega (arith, h)
-next_few false c rest n h = omega arith
-
-slice_few : (commands words : ℕ) (program : List Command) → length (slice commands words program) ≤ length program
-slice_few commands words [] = omega arith
-slice_few commands words (c ∷ program) =
-    let few : length (slice commands words (c ∷ program)) ≤ length program + 1 =
-    next_few (is_next commands words c) c (if ends_slice c then [] else slice (commands - 1) (words - words_made c) program) (length program)
-    (either_few (ends_slice c) (slice (commands - 1) (words - words_made c) program) (length program)
-    (slice_few (commands - 1) (words - words_made c) program)) in
-    omega (arith, few)
+use Rattle.nmgc_run_spec.specs.Lawful.{IsLawful}
+use Rattle.nmgc_run_spec.specs.Round.{IsRound}
+use Rattle.nmgc_run_spec.specs.Run.{Turn, AreTurns, state_after}
+use Rattle.nmgc_run_spec.specs.Slice.{slice_of, slices, rest_of}
+use Rattle.nmgc_run_spec.specs.State.{Plan, State, plan_of, start}
+use Rattle.nmgc_run_laws.specs.laws.Lefts.{stop_left}
+use Rattle.nmgc_run_laws.specs.laws.Programs.{slice_few}
 
 -- how many items lists have together
 abbrev total : {A : Type 0} → List (List A) → ℕ

@@ -1,9 +1,8 @@
 -- The answer to bytes, to a task and to words, one inside the other, and what is told of it.
-use Rattle.std.proofs.Common.{◌≡◌, ◌≢◌, ◌≤◌, ℕ, ◌+◌, List, ◌++◌, length, refl, sym, ◌∙◌, ap, subst, arith, Option, Some, None, Ok, Err, inl, inr, length-append, ◌⊎◌}
+use Rattle.std.proofs.Common.{◌≡◌, ◌≢◌, ◌≤◌, ℕ, ◌+◌, List, ◌++◌, length, refl, sym, ◌∙◌, ap, subst, arith, Option, Some, None, Ok, Err, inl, inr, ◌⊎◌}
 use Rattle.std.proofs.lemmas.List.{append-nil}
-use Rattle.std.specs.Prelude.{IfSome, IfOk}
+use Rattle.std.specs.Prelude.{IfSome}
 use Rattle.std.specs.Io.KnownBytes.{Appends}
-use Rattle.nmgc_io.specs.Counts.{Takes}
 use Rattle.nmgc_journal.specs.declared.report.Report.{Report}
 use Rattle.nmgc_journal.specs.declared.report.End.{End}
 use Rattle.nmgc_journal.specs.declared.report.End.TheVariants as end
@@ -11,7 +10,7 @@ use Rattle.nmgc_script.specs.Bench.{bench_script}
 use Rattle.nmgc_script.specs.Limits.{upgraded}
 use Rattle.nmgc_script.specs.Spelling.{Spells, plain}
 use Rattle.nmgc_script.specs.declared.script.Script.{Script}
-use Rattle.nmgc_graph.specs.declared.value.Name.{Name}
+use Rattle.nmgc_world_spec.specs.declared.value.Name.{Name}
 use Rattle.nmgc_image.specs.declared.image.Image as shown
 use Rattle.nmgc_image.specs.declared.read.TheConstants.{MAX_IMAGE_BYTES}
 use Rattle.nmgc_image.specs.Spelling as spelling
@@ -20,14 +19,11 @@ use Rattle.nmgc_retain.specs.Levels.{IsCertified}
 use Rattle.nmgc_retain.specs.Text.{retained_text}
 use Rattle.nmgc_journal.specs.Text.{report_text}
 use Rattle.nmgc_journal.specs.Summary.{summary_text}
-use Rattle.nmgc_cli.specs.Answer.{Answer, Reported, refusal_status, answer_status, answer_report, answer_text, text_bytes, IsToldAs}
-use Rattle.nmgc_cli.specs.Bench.{AnswersBench}
+use Rattle.nmgc_cli.specs.Answer.{Answer, refusal_status, answer_status, answer_report, answer_text, text_bytes, IsToldAs, IsRan, status_of}
+use Rattle.nmgc_cli.specs.Told.{AnswersBench, IsRead, IsReadWithin, SpellsOnly, IsUpgraded, Answers, AnswersScript, AnswersRetain, TellsReport, TellsOf, IsText, IsSummary, IsImageText, IsTold, IsWritten, Ends, IsReport, IsRunThrough, IsComplete, IsBenchComplete, IsUpgrade, IsUpgradeComplete, IsPath, IsRetainComplete}
 use Rattle.nmgc_cli.specs.Marks.{IsMarksText}
-use Rattle.nmgc_cli.specs.Runs.{IsRan, IsOfScript}
-use Rattle.nmgc_run.specs.Crowded.{IsRunOf, IsHeapFull}
-use Rattle.nmgc_cli.specs.Status.{status_of}
+use Rattle.nmgc_run_spec.specs.Crowded.{IsRunOf, IsHeapFull}
 use Rattle.nmgc_cli.specs.Task.{Asks, CanBeDone, IsRunning}
-use Rattle.nmgc_cli.specs.Told.{IsRead, IsReadWithin, SpellsOnly, IsUpgraded, Answers, AnswersBytes, AnswersScript, AnswersRetain, TellsReport, TellsOf, IsText, IsSummary, IsImageText, IsTold, IsWritten, Ends, IsReport, IsRunThrough, IsComplete, IsBenchComplete, IsUpgrade, IsUpgradeComplete, IsPath, IsRetainComplete}
 use Rattle.nmgc_cli.specs.declared.answer.Outcome.{Outcome}
 use Rattle.nmgc_cli.specs.declared.answer.Refusal.{Refusal}
 use Rattle.nmgc_cli.specs.declared.answer.Refusal.TheVariants as no
@@ -38,6 +34,7 @@ use Rattle.nmgc_cli.specs.declared.task.Task.{Task}
 use Rattle.nmgc_cli.specs.declared.task.Task.TheVariants.{Run, Bench, Upgrade, Image, Retain, Marks}
 use Rattle.nmgc_limits.specs.Limits.{most_script_bytes}
 use Rattle.nmgc_cli.proofs.Asking.{one_task}
+use Rattle.nmgc_io.specs.laws.Common.{taken_within}
 
 -- what is told was written
 pub ends : (taken taken' : Option (List ℕ)) (rose : Type 0) (answer : Answer) (told : Told) (bytes : List ℕ) (status : Status) →
@@ -52,11 +49,6 @@ ends taken taken' rose answer told bytes status is e h =
 pub read_for : (T : Report → List ℕ → Type 0) (old new : Option (List ℕ)) (rose : Type 0) (report : Report) →
     AnswersScript IsRan old new rose (Ok report) → TellsOf T (AnswersScript IsRan old new rose) (Err no.NoMemory)
 read_for T old new rose report h = (h.0, h.1.taken, h.1.within)
-
--- a report that was answered to bytes is one of a script
-pub of_bytes : (bytes : List ℕ) (answer : Reported) → AnswersBytes IsRan bytes answer → IfOk answer IsOfScript
-of_bytes bytes (Ok report) h = record { script = h.0; limits = h.2.limits; run = h.2.run }
-of_bytes bytes (Err refusal) h = tt
 
 -- a task that words ask for can be done
 pub asked_can : (words : List (List ℕ)) (task : Task) → Asks words task → CanBeDone task
@@ -182,11 +174,6 @@ reports words left left' taken taken' read_fault write_fault answer status found
 whole : (limit : ℕ) (bytes read : List ℕ) (new : Option (List ℕ)) → IsReadWithin limit (Some bytes) new read → bytes ≡ read
 whole limit bytes read None is = absurd is.taken
 whole limit bytes read (Some left) is = is.taken ∙ ap (λ (l : List ℕ). read ++ l) is.end ∙ append-nil read
-
--- no more bytes are taken than there are
-taken_within : (bytes : List ℕ) (new : Option (List ℕ)) (n : ℕ) → Takes (Some bytes) new n → n ≤ length bytes
-taken_within bytes None n h = absurd h.1
-taken_within bytes (Some left) n h = omega (arith, ap length h.1, length-append h.0 left, h.2)
 
 -- what is told of a run that ended so
 of_end : (end : End) (script : Script) (report : Report) → report.end ≡ end → IsRunOf script report → IsRunThrough script (status_of end) (Some report)

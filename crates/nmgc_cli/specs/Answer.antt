@@ -16,7 +16,12 @@ use Rattle.nmgc_cli.specs.declared.told.Text.{Text}
 use Rattle.nmgc_cli.specs.declared.told.Text.TheVariants.{Fixed, Made}
 use Rattle.nmgc_cli.specs.declared.told.Told.{Told}
 use Rattle.nmgc_cli.specs.declared.status.Status.{Status}
-use Rattle.nmgc_cli.specs.declared.status.Status.TheVariants.{Usage, ReadFault, BadScript, TooLong, NoMemory, BadImage}
+use Rattle.nmgc_cli.specs.declared.status.Status.TheVariants.{Usage, ReadFault, BadScript, TooLong, NoMemory, BadImage, Done, WriteFault, HeapFull}
+use Rattle.nmgc_script.specs.declared.script.Script.{Script}
+use Rattle.nmgc_run_spec.specs.Crowded.{IsRunOf}
+use Rattle.nmgc_script.specs.Limits.{IsInLimits}
+use Rattle.nmgc_journal.specs.declared.report.End.{End}
+use Rattle.nmgc_journal.specs.declared.report.End.TheVariants as end
 
 -- the report of a run, or why there is none
 abbrev pub Reported : Type 0
@@ -110,3 +115,31 @@ pub record IsToldAs (answer : Answer) (told : Told) : Type 0 where
   pub status : told.status ≡ answer_status answer
   pub report : told.report ≡ answer_report answer
   pub text : text_bytes told.text ≡ answer_text answer
+
+-- the script is within the limits, and the report is one of a run of it
+pub record IsRan (script : Script) (report : Report) : Type 0 where
+  pub limits : IsInLimits script
+  pub run : IsRunOf script report
+
+-- the report is one of a run of some script within the limits
+pub record IsOfScript (report : Report) : Type 0 where
+  pub script : Script
+  pub limits : IsInLimits script
+  pub run : IsRunOf script report
+
+-- the number with which the process ends
+abbrev pub number_of : Status → ℕ
+number_of Done = 0
+number_of Usage = 2
+number_of ReadFault = 3
+number_of WriteFault = 4
+number_of BadScript = 5
+number_of TooLong = 5
+number_of HeapFull = 6
+number_of NoMemory = 7
+number_of BadImage = 9
+
+-- the status of a run that ended so
+abbrev pub status_of : End → Status
+status_of end.Done = Done
+status_of (end.HeapFull free reserve) = HeapFull

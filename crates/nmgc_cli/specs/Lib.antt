@@ -1,8 +1,8 @@
 pub mod Answer
 pub mod Bench
+pub mod Claimed
 pub mod Marks
 pub mod Program
-pub mod Runs
-pub mod Status
 pub mod Task
 pub mod Told
+pub mod laws

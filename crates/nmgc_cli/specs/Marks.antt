@@ -1,17 +1,17 @@
 -- What `marks N` writes: what the registers and queues of a run's last world reach by strong fields.
 use Rattle.std.specs.Prelude.{◌≡◌, ℕ, List, [], ◌∷◌, ◌++◌, length, codes, decimal}
 use Rattle.std.specs.List.{flat_map}
-use Rattle.nmgc_graph.specs.declared.value.Name.{Name}
-use Rattle.nmgc_graph.specs.World.{World}
-use Rattle.nmgc_graph.specs.Reach.{Lists}
+use Rattle.nmgc_world_spec.specs.declared.value.Name.{Name}
+use Rattle.nmgc_world_spec.specs.World.{World}
+use Rattle.nmgc_world_spec.specs.Reach.{Lists}
 use Rattle.nmgc_script.specs.declared.script.Script.{Script}
 use Rattle.nmgc_journal.specs.declared.report.Report.{Report}
 use Rattle.nmgc_journal.specs.declared.report.End.{End}
 use Rattle.nmgc_journal.specs.Text.{name_text, end_text}
-use Rattle.nmgc_run.specs.Lawful.{IsLawful}
-use Rattle.nmgc_run.specs.Run.{last_state}
-use Rattle.nmgc_cycle.specs.Limits.{IsInLimits}
-use Rattle.nmgc_pmark.specs.Claims.{IsStrong, AreClaims, roots_of}
+use Rattle.nmgc_run_spec.specs.Lawful.{IsLawful}
+use Rattle.nmgc_run_spec.specs.Run.{last_state}
+use Rattle.nmgc_script.specs.Limits.{IsInLimits}
+use Rattle.nmgc_pmark.specs.Strong.{IsStrong, roots_of}
 
 -- the line of a name
 abbrev pub name_line : Name → List ℕ
@@ -25,11 +25,6 @@ marks_lines markers names end = (codes "marks " ++ decimal markers ++ 10 ∷ [])
 -- the world that a lawful report's run leaves
 abbrev pub last_world : (script : Script) (report : Report) → IsLawful script report → World
 last_world script report lawful = (last_state lawful.run).world
-
--- what so many markers claim in that world from what its mutators hold, for every script within the limits of which the report is lawful
-abbrev pub AreClaimsOf : ℕ → Report → List (List Name) → Type 0
-AreClaimsOf markers report by = (script : Script) → IsInLimits script → (lawful : IsLawful script report) →
-    AreClaims (last_world script report lawful) (roots_of (last_world script report lawful)) markers by
 
 -- the names are those that strong fields reach in that world from what its mutators hold and from the slots of g, in order, and the text tells them
 pub record IsMarksOf (markers : ℕ) (script : Script) (report : Report) (lawful : IsLawful script report) (text : List ℕ) : Type 0 where

@@ -1,8 +1,7 @@
 -- What the whole program did.
 use Rattle.std.specs.Prelude.{◌≡◌, ℕ, List, Option}
 use Rattle.nmgc_journal.specs.declared.report.Report.{Report}
-use Rattle.nmgc_cli.specs.Answer.{Answer}
-use Rattle.nmgc_cli.specs.Status.{number_of}
+use Rattle.nmgc_cli.specs.Answer.{Answer, number_of}
 use Rattle.nmgc_cli.specs.Told.{IsTold, Ends, ReadsNothing}
 use Rattle.nmgc_arguments.specs.Words.{ArePassed}
 use Rattle.nmgc_cli.specs.declared.status.Status.{Status}

@@ -2,15 +2,15 @@
 use Rattle.std.specs.Prelude.{◌≡◌, ◌≢◌, ◌⊎◌, ◌≤◌, ◌+◌, ℕ, List, length, Option, Some, None, Result, Ok, Err}
 use Rattle.std.specs.Io.KnownBytes.{Consumes, Appends, Keeps, IsAtEnd}
 use Rattle.nmgc_io.specs.Counts.{Takes, TakesUpTo, AppendsFront}
-use Rattle.nmgc_script.specs.Limits.{upgraded}
+use Rattle.nmgc_script.specs.Limits.{upgraded, IsInLimits}
 use Rattle.nmgc_script.specs.Spelling.{Spells, plain}
 use Rattle.nmgc_script.specs.Faults.{Tells}
 use Rattle.nmgc_script.specs.Text.{kept_lines, end_of}
 use Rattle.nmgc_script.specs.declared.script.Script.{Script}
 use Rattle.nmgc_script.specs.declared.fault.Cause.{Cause}
 use Rattle.nmgc_journal.specs.declared.report.Report.{Report}
-use Rattle.nmgc_graph.specs.declared.value.Name.{Name}
-use Rattle.nmgc_graph.specs.World.{World}
+use Rattle.nmgc_world_spec.specs.declared.value.Name.{Name}
+use Rattle.nmgc_world_spec.specs.World.{World}
 use Rattle.nmgc_image.specs.declared.image.Image as shown
 use Rattle.nmgc_image.specs.declared.read.TheConstants.{MAX_IMAGE_BYTES}
 use Rattle.nmgc_image.specs.Faults.{IsFirstBad}
@@ -19,18 +19,14 @@ use Rattle.nmgc_image.specs.Spelling as spelling
 use Rattle.nmgc_retain.specs.declared.path.Retained.{Retained}
 use Rattle.nmgc_retain.specs.Levels.{IsCertified}
 use Rattle.nmgc_retain.specs.Text.{retained_text}
-use Rattle.nmgc_cycle.specs.Limits.{IsInLimits}
-use Rattle.nmgc_run.specs.Run.{last_state}
+use Rattle.nmgc_run_spec.specs.Run.{last_state}
 use Rattle.nmgc_cli.specs.declared.answer.Outcome.{Outcome}
-use Rattle.nmgc_cli.specs.Answer.{Answer, Reported, answer_status, answer_report, answer_text}
-use Rattle.nmgc_cli.specs.Bench.{AnswersBench}
+use Rattle.nmgc_cli.specs.Answer.{Answer, Reported, answer_status, answer_report, answer_text, IsRan, status_of}
 use Rattle.nmgc_cli.specs.Marks.{IsMarksOf, IsMarksText}
 use Rattle.nmgc_journal.specs.Text.{report_text}
 use Rattle.nmgc_journal.specs.Summary.{summary_text}
 use Rattle.nmgc_script.specs.Bench.{bench_script}
-use Rattle.nmgc_run.specs.Crowded.{IsRunOf, IsHeapFull, IsFullRun}
-use Rattle.nmgc_cli.specs.Runs.{IsRan}
-use Rattle.nmgc_cli.specs.Status.{status_of}
+use Rattle.nmgc_run_spec.specs.Crowded.{IsRunOf, IsHeapFull, IsFullRun}
 use Rattle.nmgc_cli.specs.Task.{Asks, IsWrong, IsReading, IsRunning}
 use Rattle.nmgc_cli.specs.declared.answer.Refusal.{Refusal}
 use Rattle.nmgc_cli.specs.declared.answer.Refusal.TheVariants as no
@@ -132,6 +128,12 @@ AnswersRetain name old new rose (Err no.ReadFault) = TakesUpTo old new MAX_IMAGE
 AnswersRetain name old new rose (Err no.TooLong) = Takes old new (MAX_IMAGE_BYTES + 1)
 AnswersRetain name old new rose (Err no.NoMemory) = TakesUpTo old new MAX_IMAGE_BYTES
 AnswersRetain name old new rose answer = (bytes : List ℕ) × IsReadWithin MAX_IMAGE_BYTES old new bytes × AnswersImage name bytes answer
+
+-- the answer to a bench of so many batches: the report is one of a run of the bench's script
+abbrev pub AnswersBench : ℕ → Reported → Type 0
+AnswersBench batches (Ok report) = IsRunOf (bench_script batches) report
+AnswersBench batches (Err no.NoMemory) = Unit {0}
+AnswersBench batches (Err _) = ⊥
 
 -- the answer to a task: a bench reads nothing, and an upgrade is read for as a run is
 abbrev pub Answers : Task → Option (List ℕ) → Option (List ℕ) → Type 0 → Answer → Type 0

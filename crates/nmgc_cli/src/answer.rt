@@ -6,15 +6,14 @@
 //! Easy to get wrong: a text that takes memory may not be there after all. The answer is then
 //! `NoMemory`, whose own text takes none.
 ghost use Rattle.std.specs.Prelude.{◌≡◌, Some};
-ghost use Rattle.nmgc_cli.specs.Answer.{refusal_status, read_refusal, script_refusal, image_refusal};
-ghost use Rattle.nmgc_cli.specs.Status.{status_of};
+ghost use Rattle.nmgc_cli.specs.Answer.{refusal_status, read_refusal, script_refusal, image_refusal, status_of};
 ghost use Rattle.nmgc_cli.specs.declared.answer.Refusal.TheVariants.{NoMemory as no_memory};
 
 use crate::Status;
-use nmgc_graph::NoMemory;
 use nmgc_image::ImageFault;
 use nmgc_io::ReadEnd;
 use nmgc_journal::Report;
+use nmgc_lists::NoMemory;
 use nmgc_script::{Cause, ScriptFault};
 
 /// What is told of a task that was done: its status, the report where a script was run, and the text.

@@ -4,19 +4,19 @@
 //! a run as any other, so what is proved of runs holds of it; its summary is written in place of its text.
 //! Easy to get wrong: `bench 0` and `bench 01` are wrong words, as `bench 101` is.
 ghost use Rattle.std.specs.Prelude.{◌≡◌, ℕ, [], ◌∷◌, decimal, map, string_bytes, IfOk, IfSome, IfNone};
-ghost use Rattle.nmgc_cli.specs.Bench.{AnswersBench, HasCount};
-ghost use Rattle.nmgc_run.specs.Crowded.{IsRunOf};
+ghost use Rattle.nmgc_cli.specs.Told.{AnswersBench, TellsOf, IsSummary};
+ghost use Rattle.nmgc_cli.specs.Bench.{HasCount};
+ghost use Rattle.nmgc_run_spec.specs.Crowded.{IsRunOf};
 ghost use Rattle.nmgc_cli.specs.Task.{Asks, IsBench};
-ghost use Rattle.nmgc_cli.specs.Told.{TellsOf, IsSummary};
 ghost use Rattle.nmgc_cli.specs.declared.task.Task.TheVariants.{Bench};
 ghost use Rattle.nmgc_script.specs.Bench.{bench_script};
 
 use crate::answer::{Outcome, Refusal};
 use crate::run::run_script;
-use nmgc_graph::NoMemory;
 use nmgc_io::read_number;
 use nmgc_journal::Report;
 use nmgc_journal::summary::summary;
+use nmgc_lists::NoMemory;
 use nmgc_script::{MAX_BATCHES, generate};
 use std::alloc::Global;
 use std::thread::Threads;

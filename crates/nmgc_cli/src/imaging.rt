@@ -1,15 +1,15 @@
 //! The words `image`: the heap that a run left, as an image.
 ghost use Rattle.std.specs.Prelude.{IfOk};
-ghost use Rattle.nmgc_io.specs.Causes.{Rose};
-ghost use Rattle.nmgc_cli.specs.Runs.{IsRan, IsOfScript};
+ghost use Rattle.nmgc_io.specs.Counts.{Rose};
+ghost use Rattle.nmgc_cli.specs.Answer.{IsRan, IsOfScript};
 ghost use Rattle.nmgc_cli.specs.Told.{AnswersScript, TellsOf, IsImageText};
 
 use crate::answer::{Outcome, Refusal};
 use crate::run::read_and_run;
-use nmgc_graph::NoMemory;
 use nmgc_image::write_image;
 use nmgc_io::Source;
 use nmgc_journal::Report;
+use nmgc_lists::NoMemory;
 use std::alloc::Global;
 use std::thread::Threads;
 

@@ -8,22 +8,24 @@
 ghost use Rattle.std.specs.Prelude.{◌≡◌, ℕ, [], ◌∷◌, ◌++◌, decimal, map, string_bytes, IfOk, IfSome, IfNone, OnOk};
 ghost use Rattle.std.specs.List.{flat_map};
 ghost use Rattle.nmgc_pmark.specs.Stops.{root_words};
-ghost use Rattle.nmgc_cli.specs.Marks.{AreClaimsOf, IsMarksText, marks_lines, name_line};
-ghost use Rattle.nmgc_cli.specs.Runs.{IsRan, IsOfScript};
+ghost use Rattle.nmgc_cli.specs.Claimed.{AreClaimsOf};
+ghost use Rattle.nmgc_cli.specs.Marks.{IsMarksText, marks_lines, name_line};
+ghost use Rattle.nmgc_cli.specs.Answer.{IsRan, IsOfScript};
 ghost use Rattle.nmgc_cli.specs.Task.{Asks, AreMarkers};
 ghost use Rattle.nmgc_cli.specs.Told.{AnswersScript, TellsOf};
-ghost use Rattle.nmgc_io.specs.Causes.{Rose};
+ghost use Rattle.nmgc_io.specs.Counts.{Rose};
 ghost use Rattle.nmgc_cli.specs.declared.task.Task.TheVariants.{Marks};
 
 use crate::answer::{Outcome, Refusal};
 use crate::run::read_and_run;
-use nmgc_graph::{Name, NoMemory};
 use nmgc_io::{Source, push_number, read_number};
 use nmgc_journal::text::push_end;
 use nmgc_journal::{End, FinalWords, MutatorEnd, Report, push_name};
+use nmgc_lists::NoMemory;
 use nmgc_pmark::laws::a_stop_is_stopped;
 use nmgc_pmark::{Claims, MOST_MARKERS, mark_all, names_of};
 use nmgc_round::{Gate, OpenGate};
+use nmgc_world_spec::Name;
 use std::alloc::Global;
 use std::thread::Threads;
 

@@ -3,8 +3,8 @@ ghost use Rattle.std.specs.Prelude.{◌≡◌, IfOk};
 ghost use Rattle.nmgc_cli.specs.Answer.{IsBad, refusal_text, cause_text, bad_line, bad_image_line};
 
 use crate::answer::Refusal;
-use nmgc_graph::NoMemory;
 use nmgc_io::push_number;
+use nmgc_lists::NoMemory;
 use nmgc_script::Cause;
 use std::alloc::Global;
 

@@ -3,8 +3,8 @@
 //! The answer of the search is judged by the image alone before it is told. That the judge says yes is proved of the
 //! search; it takes no memory, and less time than reading the image.
 ghost use Rattle.std.specs.Prelude.{◌≡◌, ◌≢◌, [], ◌∷◌, ℕ, ◌≤◌, length, map, string_bytes, codes, IfSome, IfNone};
-ghost use Rattle.nmgc_graph.specs.declared.value.Name.{Name as NameOf};
-ghost use Rattle.nmgc_io.specs.Causes.{Rose};
+ghost use Rattle.nmgc_world_spec.specs.declared.value.Name.{Name as NameOf};
+ghost use Rattle.nmgc_io.specs.Counts.{Rose};
 ghost use Rattle.nmgc_journal.specs.Text.{name_text};
 ghost use Rattle.nmgc_object.specs.Words.{IsName};
 ghost use Rattle.nmgc_cli.specs.Task.{Asks};
@@ -13,11 +13,11 @@ ghost use Rattle.nmgc_cli.specs.declared.task.Task.TheVariants.{Retain};
 
 use crate::Status;
 use crate::answer::{Outcome, Refusal};
-use nmgc_graph::Name;
 use nmgc_image::{MAX_IMAGE_BYTES, read_image};
 use nmgc_io::{Source, read_all};
 use nmgc_journal::read_name;
 use nmgc_retain::{retain as find, retained_text, verify};
+use nmgc_world_spec::Name;
 use std::alloc::Global;
 
 /// The name in the words `retain NAME`. `None` comes exactly where they aren't such words.

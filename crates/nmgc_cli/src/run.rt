@@ -3,23 +3,23 @@
 //! Other words that read a script and run it tell something else of its report: they begin with `read_and_run`, as `run`
 //! does, and differ in the text alone.
 ghost use Rattle.std.specs.Prelude.{◌≡◌, ◌≤◌, length, sum_by, vec_len, IfOk, IfErr, MatchResult};
-ghost use Rattle.nmgc_io.specs.Causes.{Rose};
+ghost use Rattle.nmgc_io.specs.Counts.{Rose};
 ghost use Rattle.nmgc_limits.specs.Limits.{most_script_bytes};
 ghost use Rattle.nmgc_script.specs.Faults.{IsToldOf};
 ghost use Rattle.nmgc_script.specs.Spelling.{Spells};
 ghost use Rattle.nmgc_script.specs.declared.script.Script.{Script as Spelled};
-ghost use Rattle.nmgc_run.specs.Crowded.{IsRunOf};
-ghost use Rattle.nmgc_cycle.specs.Limits.{IsInLimits};
-ghost use Rattle.nmgc_cli.specs.Runs.{IsRan};
+ghost use Rattle.nmgc_run_spec.specs.Crowded.{IsRunOf};
+ghost use Rattle.nmgc_script.specs.Limits.{IsInLimits};
+ghost use Rattle.nmgc_cli.specs.Answer.{IsRan};
 ghost use Rattle.nmgc_cli.specs.Told.{AnswersScript, AnswersBytes, TellsOf, IsText};
 
 use crate::answer::{Outcome, Refusal};
 use nmgc_cycle::Collector;
-use nmgc_graph::NoMemory;
 use nmgc_io::{Source, read_all};
 use nmgc_journal::Report;
 use nmgc_journal::text::text;
 use nmgc_limits::MAX_SCRIPT_BYTES;
+use nmgc_lists::NoMemory;
 use nmgc_round::OpenGate;
 use nmgc_script::{Script, ScriptFault, parse};
 use std::alloc::Global;

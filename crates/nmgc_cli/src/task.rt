@@ -8,7 +8,7 @@ ghost use Rattle.nmgc_cli.specs.Task.{Asks, IsWrong};
 use crate::bench::batches_of;
 use crate::marks::markers_of;
 use crate::retaining::name_asked;
-use nmgc_graph::Name;
+use nmgc_world_spec::Name;
 
 /// What the program is asked to do.
 #[derive(Clone, Copy, Debug, PartialEq, Eq)]

@@ -3,7 +3,7 @@
 //! A script is read as for a run, with the same refusals; its plain spelling in the last version is what is written. The
 //! programs stay, and a version says nothing of what a script does, so the upgrade runs as the script does.
 ghost use Rattle.std.specs.Prelude.{◌≤◌, length};
-ghost use Rattle.nmgc_io.specs.Causes.{Rose};
+ghost use Rattle.nmgc_io.specs.Counts.{Rose};
 ghost use Rattle.nmgc_limits.specs.Limits.{most_script_bytes};
 ghost use Rattle.nmgc_cli.specs.Told.{AnswersBytes, AnswersScript, IsUpgraded};
 

@@ -3,27 +3,22 @@ use Rattle.std.proofs.Common.{◌≡◌, ◌<◌, List, [], ◌∷◌, length, g
 use Rattle.std.specs.Prelude.{All, Contains, IsSome, ◌==◌, ◌↔◌}
 use Rattle.std.proofs.lemmas.Bool.Decides.{eqb_tells}
 use Rattle.std.proofs.lemmas.List.Elements.{Contains-get_or}
-use Rattle.nmgc_graph.specs.declared.value.Name.{Name}
+use Rattle.nmgc_world_spec.specs.declared.value.Name.{Name}
 use Rattle.nmgc_limits.specs.declared.mutators.TheConstants.{SHARED_MAKER}
-use Rattle.nmgc_graph.specs.declared.node.Node.{Node}
-use Rattle.nmgc_graph.specs.declared.node.Node.TheVariants.{Con, Var, Arr, Thunk, Weak, Stack}
-use Rattle.nmgc_graph.specs.World.{World, state_of, node_of, IsWorld}
-use Rattle.nmgc_graph.specs.Step.{with_state, with_node, with_nth}
+use Rattle.nmgc_world_spec.specs.declared.node.Node.{Node}
+use Rattle.nmgc_world_spec.specs.declared.node.Node.TheVariants.{Con, Var, Arr, Thunk, Weak, Stack}
+use Rattle.nmgc_world_spec.specs.World.{World, state_of, node_of, IsWorld}
+use Rattle.nmgc_world_spec.specs.Step.{with_state, with_node, with_nth}
 use Rattle.nmgc_graph.specs.Marks.{HasPlace, HasPlaces, IsMarked, mark_of}
-use Rattle.nmgc_graph.specs.Reach.{IsAliveWeak, Lists, queued, closed, closed_by}
+use Rattle.nmgc_world_spec.specs.Reach.{IsAliveWeak, Lists, queued, closed, closed_by}
 use Rattle.nmgc_graph.specs.laws.Rows.{marked_place}
-use Rattle.nmgc_graph.specs.laws.Worlds.{is_some_get}
+use Rattle.nmgc_lists.specs.laws.Items.{is_some_get}
 use Rattle.nmgc_core.specs.declared.closing.Closing.{Closing}
-use Rattle.nmgc_core.specs.State.{State, is_listed}
-use Rattle.nmgc_core.specs.Closing.{IsDying, IsMarkedLast, IsClosing}
+use Rattle.nmgc_snapshot_laws.specs.State.{State, is_listed}
+use Rattle.nmgc_snapshot_laws.specs.Closing.{IsDying, IsMarkedLast, IsClosing}
 use Rattle.nmgc_core.specs.Sound.{IsCore, IsFound}
-use Rattle.nmgc_core.specs.laws.Listed.{contains_listed, listed_from}
-
--- two tests that pass together are the same
-same_test : (a b : Bool) → (a ≡ true → b ≡ true) → (b ≡ true → a ≡ true) → a ≡ b
-same_test true b f g = sym (f refl)
-same_test false true f g = g refl
-same_test false false f g = refl
+use Rattle.nmgc_snapshot_laws.specs.laws.Listed.{contains_listed, listed_from}
+use Rattle.nmgc_lists.specs.laws.Truths.{same_test}
 
 -- closing leaves the number of mutators
 node_mutators : (w : World) (name : Name) (made : Node) → length (with_node w name made).mutators ≡ length w.mutators

@@ -2,33 +2,31 @@
 use Rattle.std.proofs.Common.{◌≡◌, ◌<◌, ◌+◌, ℕ, zero, suc, List, [], ◌∷◌, ◌++◌, length, get_or, set, take, inl, inr, refl, sym, ap, subst, length-set, ◌∙◌, arith, Option, Some, None, Result, Ok, Err, Bool, true, false, not}
 use Rattle.std.specs.Prelude.{All, Contains, slice_get, is_some, ◌&&◌, ◌||◌, IfOk, IfSome, IfNone}
 use Rattle.std.proofs.lemmas.List.{take_more, get_or-set_same, set-get_or, take-append-le, take_all}
-use Rattle.nmgc_graph.specs.declared.value.Name.{Name}
-use Rattle.nmgc_graph.specs.World.{World, node_of}
-use Rattle.nmgc_graph.specs.Change.{is_same_name}
-use Rattle.nmgc_graph.specs.Reach.{Lists}
-use Rattle.nmgc_graph.specs.declared.command.Command.{Command}
-use Rattle.nmgc_graph.specs.declared.command.Reply.{Reply}
-use Rattle.nmgc_graph.specs.Step.{CanApply, step}
-use Rattle.nmgc_graph.specs.declared.node.Parts.{Parts}
-use Rattle.nmgc_graph.specs.World.{state_of, IsWorld}
-use Rattle.nmgc_graph.specs.History.{finalised_by}
-use Rattle.nmgc_graph.specs.Reach.{IsAlive}
-use Rattle.nmgc_graph.specs.laws.Growth.{step_grows}
-use Rattle.nmgc_graph.specs.laws.Worlds.{not_shared}
+use Rattle.nmgc_world_spec.specs.declared.value.Name.{Name}
+use Rattle.nmgc_world_spec.specs.World.{World, node_of, state_of, IsWorld}
+use Rattle.nmgc_world_spec.specs.Change.{is_same_name}
+use Rattle.nmgc_world_spec.specs.Reach.{Lists, IsAlive}
+use Rattle.nmgc_world_spec.specs.declared.command.Command.{Command}
+use Rattle.nmgc_world_spec.specs.declared.command.Reply.{Reply}
+use Rattle.nmgc_world_spec.specs.Step.{CanApply, step}
+use Rattle.nmgc_world_spec.specs.declared.node.Parts.{Parts}
+use Rattle.nmgc_world_spec.specs.History.{finalised_by}
+use Rattle.nmgc_world_laws.specs.laws.Growth.{step_grows}
+use Rattle.nmgc_world_laws.specs.laws.Worlds.{not_shared}
 use Rattle.std.proofs.lemmas.List.Elements.{Contains-append_left}
-use Rattle.nmgc_reach.specs.Holds.{Names}
-use Rattle.nmgc_core.specs.laws.Turns.{step_alive}
-use Rattle.nmgc_core.specs.declared.event.Entry.{Entry}
+use Rattle.nmgc_world_laws.specs.Holds.{Names}
+use Rattle.nmgc_snapshot_laws.specs.laws.Turns.{step_alive}
+use Rattle.nmgc_snapshot_laws.specs.declared.event.Entry.{Entry}
 use Rattle.nmgc_lists.specs.declared.memory.NoMemory.{NoMemory}
-use Rattle.nmgc_graph.specs.declared.value.Value.{Value}
-use Rattle.nmgc_graph.specs.declared.value.Value.TheVariants as value
-use Rattle.nmgc_core.specs.State.{State, is_listed, is_new, names_of, mark_name, mark_value, mark_values, mark_read, entry_of}
-use Rattle.nmgc_core.specs.laws.Marking.{mark_cases}
+use Rattle.nmgc_world_spec.specs.declared.value.Value.{Value}
+use Rattle.nmgc_world_spec.specs.declared.value.Value.TheVariants as value
+use Rattle.nmgc_snapshot_laws.specs.State.{State, is_listed, is_new, names_of, mark_name, mark_value, mark_values, mark_read, entry_of}
+use Rattle.nmgc_snapshot_laws.specs.laws.Marking.{mark_cases}
 use Rattle.nmgc_graph.specs.Marks.{HasPlace, HasPlaces, IsMarked, mark_of, with_mark}
-use Rattle.nmgc_graph.specs.laws.Rows.{added, kept_others, places_kept, makers_kept, name_cases}
-use Rattle.nmgc_graph.specs.laws.Rows.{name_placed}
+use Rattle.nmgc_graph.specs.laws.Rows.{added, kept_others, places_kept, makers_kept, name_placed}
+use Rattle.nmgc_world_spec.specs.laws.Orders.{name_cases}
 use Rattle.nmgc_core.specs.Sound.{IsCore}
-use Rattle.nmgc_core.specs.laws.Listed.{contains_listed, listed_from, tested_same, is_same_name-refl}
+use Rattle.nmgc_snapshot_laws.specs.laws.Listed.{contains_listed, listed_from, tested_same, is_same_name-refl}
 
 is_listed-push : (name : Name) (xs : List Name) (x : Name) → is_listed name (xs ++ x ∷ []) ≡ (is_listed name xs || is_same_name x name)
 is_listed-push name [] x = by_test (is_same_name x name)
@@ -138,10 +136,6 @@ taken_back lists lists' m names count lt e f =
     take-append-le (length (names_of lists m)) (names_of lists m) names (omega arith) ∙
     take_all (length (names_of lists m)) (names_of lists m) (omega arith) in
     rw (e, f, get_or-set_same lists m (names_of lists m ++ names) [] lt, back, set_twice) (set-get_or lists m [])
-
-pub none_first : {A : Type 0} (xs : List A) → slice_get xs 0 ≡ None → xs ≡ []
-none_first [] h = refl
-none_first (x ∷ xs) h = absurd cc
 
 pub some_first : {A : Type 0} (xs : List A) (x : A) → slice_get xs 0 ≡ Some x → 0 < length xs
 some_first [] x h = absurd cc

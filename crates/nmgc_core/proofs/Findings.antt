@@ -4,16 +4,16 @@ use Rattle.std.specs.Prelude.{Contains, IsSome, OnOk}
 use Rattle.std.proofs.lemmas.List.Elements.{Contains-append_left, Contains-append_right, Contains-append_cases, Contains-push, Contains-push_cases}
 use Rattle.std.proofs.lemmas.List.{take_more}
 use Rattle.nmgc_lists.specs.declared.memory.NoMemory.{NoMemory}
-use Rattle.nmgc_graph.specs.declared.value.Name.{Name}
-use Rattle.nmgc_graph.specs.declared.value.Value.{Value}
-use Rattle.nmgc_graph.specs.declared.value.Value.TheVariants as value
-use Rattle.nmgc_graph.specs.World.{World, node_of}
+use Rattle.nmgc_world_spec.specs.declared.value.Name.{Name}
+use Rattle.nmgc_world_spec.specs.declared.value.Value.{Value}
+use Rattle.nmgc_world_spec.specs.declared.value.Value.TheVariants as value
+use Rattle.nmgc_world_spec.specs.World.{World, node_of}
 use Rattle.nmgc_graph.specs.Marks.{IsMarked, HasPlace, HasPlaces, mark_of, with_mark, unmarked_count}
-use Rattle.nmgc_graph.specs.laws.Rows.{added, kept_others, places_kept, makers_kept, one_fewer, name_cases}
-use Rattle.nmgc_graph.specs.laws.Rows.{name_placed}
+use Rattle.nmgc_graph.specs.laws.Rows.{added, kept_others, places_kept, makers_kept, one_fewer, name_placed}
+use Rattle.nmgc_world_spec.specs.laws.Orders.{name_cases}
 use Rattle.nmgc_core.specs.declared.closing.Finding.{Finding}
 use Rattle.nmgc_core.specs.Finding.{Adds}
-use Rattle.nmgc_reach.specs.laws.ItemLaws.{contains_one, one_is}
+use Rattle.nmgc_lists.specs.laws.Items.{contains_one, one_is}
 
 -- nothing is marked for values that lead to no unmarked name of the snapshot
 pub none_added : (snapshot : World) (s : Finding) (values : List Value) → HasPlaces snapshot s.marks →

@@ -3,14 +3,14 @@ use Rattle.std.proofs.Common.{◌≡◌, ◌+◌, List, [], ◌∷◌, ◌++◌,
 use Rattle.std.specs.Prelude.{Contains, IsSome}
 use Rattle.std.proofs.lemmas.Bool.{cases_Bool}
 use Rattle.std.proofs.lemmas.List.Elements.{Contains-append_left, Contains-push, Contains-push_cases}
-use Rattle.nmgc_graph.specs.declared.value.Name.{Name}
-use Rattle.nmgc_graph.specs.declared.value.Value.TheVariants as value
-use Rattle.nmgc_graph.specs.declared.node.Node.{Node}
-use Rattle.nmgc_graph.specs.World.{node_of}
+use Rattle.nmgc_world_spec.specs.declared.value.Name.{Name}
+use Rattle.nmgc_world_spec.specs.declared.value.Value.TheVariants as value
+use Rattle.nmgc_world_spec.specs.declared.node.Node.{Node}
+use Rattle.nmgc_world_spec.specs.World.{node_of}
 use Rattle.nmgc_graph.specs.Marks.{IsMarked, mark_of, unmarked_count}
-use Rattle.nmgc_graph.specs.Reach.{RefersTo, strong_fields}
+use Rattle.nmgc_world_spec.specs.Reach.{RefersTo, strong_fields}
 use Rattle.nmgc_core.specs.declared.closing.Finding.{Finding}
-use Rattle.nmgc_core.specs.State.{State}
+use Rattle.nmgc_snapshot_laws.specs.State.{State}
 use Rattle.nmgc_core.specs.Finding.{Adds, IsSearch, IsReached, IsFollowed}
 
 pub follow_none : (s : State) (f : Finding) → IsSearch s f → IsFollowed s f f

@@ -4,24 +4,21 @@ use Rattle.std.specs.Prelude.{All, Contains, IsSome}
 use Rattle.std.proofs.lemmas.Bool.{cases_Bool, false≢true, eqb-true, eq-eqb}
 use Rattle.std.proofs.lemmas.List.{take_more}
 use Rattle.std.proofs.lemmas.List.Elements.{Contains-push_cases, Contains-get_or}
-use Rattle.nmgc_graph.specs.declared.value.Name.{Name}
-use Rattle.nmgc_graph.specs.declared.value.Value.{Value}
-use Rattle.nmgc_graph.specs.declared.value.Value.TheVariants as value
-use Rattle.nmgc_graph.specs.declared.node.Parts.{Parts}
-use Rattle.nmgc_graph.specs.World.{World, node_of}
+use Rattle.nmgc_world_spec.specs.declared.value.Name.{Name}
+use Rattle.nmgc_world_spec.specs.declared.value.Value.{Value}
+use Rattle.nmgc_world_spec.specs.declared.value.Value.TheVariants as value
+use Rattle.nmgc_world_spec.specs.declared.node.Parts.{Parts}
+use Rattle.nmgc_world_spec.specs.World.{World, node_of}
 use Rattle.nmgc_graph.specs.Marks.{IsMarked, mark_of}
-use Rattle.nmgc_graph.specs.Reach.{IsAlive, IsKeptBy, IsPlain, Lists}
+use Rattle.nmgc_world_spec.specs.Reach.{IsAlive, IsKeptBy, IsPlain, Lists}
 use Rattle.nmgc_graph.specs.Search.{IsSetOf, parts_of, is_key_marked}
-use Rattle.nmgc_graph.specs.laws.Orders.{contains_head, contains_tail, contains_cases}
+use Rattle.nmgc_lists.specs.laws.Items.{contains_head, contains_tail, contains_cases, nothing_in}
 use Rattle.nmgc_core.specs.declared.closing.Finding.{Finding}
-use Rattle.nmgc_core.specs.State.{State}
-use Rattle.nmgc_core.specs.Closing.{IsWaiting, IsUnmarked, IsRevived, IsMarkedFirst}
+use Rattle.nmgc_snapshot_laws.specs.State.{State}
+use Rattle.nmgc_snapshot_laws.specs.Closing.{IsWaiting, IsUnmarked, IsRevived, IsMarkedFirst}
 use Rattle.nmgc_core.specs.Finding.{Adds, IsSearch, IsReached, IsFollowed, IsWaitingWeak, values_kept, IsReviving, AreRevived, IsPass, IsFirstFound}
-use Rattle.nmgc_reach.specs.laws.ItemLaws.{nothing_in}
-use Rattle.nmgc_core.proofs.Waiting.{parts_from_alive}
-
-same_ref : (a b : Name) → value.Ref a ≡ value.Ref b → a ≡ b
-same_ref a b e = cc
+use Rattle.nmgc_graph.specs.laws.Common.{parts_from_alive}
+use Rattle.nmgc_world_spec.specs.laws.Common.{same_ref}
 
 -- marking keeps a search as it has to be
 pub adds_search : (s : State) (f t : Finding) (values : List Value) → Adds s.snapshot f t values → IsSearch s f → IsSearch s t

@@ -1,25 +1,19 @@
 -- The weak pointers that wait for their keys: listing them, and those of them that die.
-use Rattle.std.proofs.Common.{◌≡◌, List, refl, sym, ap, ◌∙◌, Bool, true, false, not, Option, Some}
-use Rattle.std.specs.Prelude.{filter, option_and_then}
+use Rattle.std.proofs.Common.{◌≡◌, List, refl, sym, ◌∙◌, Bool, true, false, not}
+use Rattle.std.specs.Prelude.{filter}
 use Rattle.std.proofs.lemmas.Bool.{false≢true, not-true, not_from_false, false_from_ne_true}
-use Rattle.nmgc_graph.specs.declared.value.Name.{Name}
-use Rattle.nmgc_graph.specs.declared.value.Value.{Value}
-use Rattle.nmgc_graph.specs.declared.value.Value.TheVariants as value
-use Rattle.nmgc_graph.specs.declared.node.Parts.{Parts}
-use Rattle.nmgc_graph.specs.declared.node.Node.{Node}
-use Rattle.nmgc_graph.specs.World.{World}
+use Rattle.nmgc_world_spec.specs.declared.value.Name.{Name}
+use Rattle.nmgc_world_spec.specs.declared.value.Value.{Value}
+use Rattle.nmgc_world_spec.specs.declared.value.Value.TheVariants as value
 use Rattle.nmgc_graph.specs.Marks.{mark_of}
-use Rattle.nmgc_graph.specs.Reach.{IsAlive, IsAliveWeak, Lists}
-use Rattle.nmgc_graph.specs.Search.{IsSetOf, parts_in, parts_of, is_key_marked}
-use Rattle.nmgc_graph.specs.laws.Orders.{contains_filter, filter_contains, in_order_filter}
+use Rattle.nmgc_world_spec.specs.Reach.{IsAliveWeak, Lists}
+use Rattle.nmgc_graph.specs.Search.{IsSetOf, parts_of, is_key_marked}
+use Rattle.nmgc_world_spec.specs.laws.Orders.{contains_filter, filter_contains, in_order_filter}
 use Rattle.nmgc_core.specs.declared.closing.Finding.{Finding}
-use Rattle.nmgc_core.specs.State.{State}
-use Rattle.nmgc_core.specs.Closing.{IsDying}
+use Rattle.nmgc_snapshot_laws.specs.State.{State}
+use Rattle.nmgc_snapshot_laws.specs.Closing.{IsDying}
 use Rattle.nmgc_core.specs.Finding.{IsWaitingWeak, IsFirstFound, is_hidden}
-
--- the parts of an alive weak pointer are there
-pub parts_from_alive : (w : World) (weak : Name) (parts : Parts) → IsAlive w weak parts → parts_of w weak ≡ Some parts
-parts_from_alive w weak parts e = ap (λ (o : Option Node). option_and_then parts_in o) e
+use Rattle.nmgc_graph.specs.laws.Common.{parts_from_alive}
 
 -- the alive weak pointers that aren't in the set of the finalised ones are those that wait
 module _ (s : State) (ended : List (List Bool)) (set : IsSetOf s.snapshot s.finalised ended) where

@@ -1,9 +1,2 @@
-pub mod Closing
-pub mod Facts
 pub mod Finding
-pub mod Machine
-pub mod Run
-pub mod Scan
 pub mod Sound
-pub mod State
-pub mod laws

@@ -10,14 +10,16 @@
 //! a mutator finalised neither keeps anything nor dies again.
 ghost use Rattle.std.specs.Prelude.{◌≡◌, IfOk, OnOk, ◌∷◌, [], All};
 ghost use Rattle.nmgc_graph.specs.Marks.{HasPlaces};
-ghost use Rattle.nmgc_graph.specs.Reach.{Lists, strong_fields};
+ghost use Rattle.nmgc_world_spec.specs.Reach.{Lists, strong_fields};
 ghost use Rattle.nmgc_graph.specs.Search.{parts_of, is_key_marked, finaliser_in, finalisers_of};
-ghost use Rattle.nmgc_core.specs.Closing.{IsDying};
+ghost use Rattle.nmgc_snapshot_laws.specs.Closing.{IsDying};
 ghost use Rattle.nmgc_core.specs.Sound.{IsFound};
 ghost use Rattle.nmgc_core.specs.Finding.{Adds, IsSearch, IsFollowed, IsWaitingWeak, IsReviving, IsPass, IsFirstFound, IsLastFound, values_kept, is_hidden};
 
 use crate::Core;
-use nmgc_graph::{List, Marks, Name, NoMemory, Node, Value, World};
+use nmgc_graph::{Marks, World};
+use nmgc_lists::{List, NoMemory};
+use nmgc_world_spec::{Name, Node, Value};
 
 /// The names that are marked, and those of them whose fields are still to be followed.
 #[derive(Drop)]

@@ -29,23 +29,25 @@
 //! Easy to get wrong: the third fact is about the snapshot's fields, so it is the old value that is owed.
 //! A barrier on the new value would leave a target lost whose field was overwritten before the scan.
 ghost use Rattle.std.specs.Prelude.{◌≡◌, ◌∷◌, ◌++◌, [], false, slice_get, slice_set, IfOk, OnOk, OnErr, IsTrue, IsSome, ◌↔◌, Some, Contains, if◌then◌else◌};
-ghost use Rattle.nmgc_graph.specs.declared.value.Name.{Name as NameAt};
-ghost use Rattle.nmgc_graph.specs.Step.{shared_name};
+ghost use Rattle.nmgc_world_spec.specs.declared.value.Name.{Name as NameAt};
+ghost use Rattle.nmgc_world_spec.specs.Step.{shared_name};
 ghost use Rattle.nmgc_graph.specs.Marks.{HasPlaces, mark_of};
-ghost use Rattle.nmgc_core.specs.State.{is_listed};
-ghost use Rattle.nmgc_core.specs.Machine.{is_pushed_in, AreEmpty};
+ghost use Rattle.nmgc_snapshot_laws.specs.State.{is_listed};
+ghost use Rattle.nmgc_snapshot_laws.specs.Machine.{is_pushed_in, AreEmpty};
 
 use crate::answers::is_answer;
 use crate::closing::find;
 use crate::lists::{
     are_empty, count_at, drop_first_at, empty_lists, extend_at, first_at, truncate_at,
 };
-use crate::opened::{finalised_by, opened_by};
 use crate::owed::owed_by;
 use crate::roots::root_values;
 use crate::scan::{moved_on, read};
-use crate::{Entry, Event};
-use nmgc_graph::{Command, List, Marks, Name, NoMemory, Queue, Reply, Value, World};
+use nmgc_graph::opened::{finalised_by, opened_by};
+use nmgc_graph::{Marks, World};
+use nmgc_lists::{List, NoMemory, Queue};
+use nmgc_snapshot_laws::{Entry, Event};
+use nmgc_world_spec::{Command, Name, Reply, Value};
 use std::alloc::Global;
 use std::marker::Model;
 use std::slice;
@@ -95,7 +97,7 @@ impl Drop for Core {
 }
 
 impl Model for Core {
-    ghost use Rattle.nmgc_core.specs.State.{State};
+    ghost use Rattle.nmgc_snapshot_laws.specs.State.{State};
     ghost use Rattle.nmgc_core.specs.Sound.{IsCore};
 
     ghost Value = { State };
@@ -106,14 +108,14 @@ impl Model for Core {
 }
 
 impl Core {
-    ghost use Rattle.nmgc_graph.specs.World.{IsWorld, node_of};
-    ghost use Rattle.nmgc_graph.specs.Reach.{Lists};
-    ghost use Rattle.nmgc_graph.specs.Step.{CanApply, step};
-    ghost use Rattle.nmgc_graph.specs.History.{finalised_by};
-    ghost use Rattle.nmgc_core.specs.State.{names_of, opening, mark_name, mark_value, mark_read, mark_values, is_new, unmarked};
-    ghost use Rattle.nmgc_core.specs.Run.{IsRun};
-    ghost use Rattle.nmgc_core.specs.Machine.{Passes, advanced};
-    ghost use Rattle.nmgc_core.specs.declared.event.Event.TheVariants as event;
+    ghost use Rattle.nmgc_world_spec.specs.World.{IsWorld, node_of};
+    ghost use Rattle.nmgc_world_spec.specs.Reach.{Lists};
+    ghost use Rattle.nmgc_world_spec.specs.Step.{CanApply, step};
+    ghost use Rattle.nmgc_world_spec.specs.History.{finalised_by};
+    ghost use Rattle.nmgc_snapshot_laws.specs.State.{names_of, opening, mark_name, mark_value, mark_read, mark_values, is_new, unmarked};
+    ghost use Rattle.nmgc_snapshot_laws.specs.Run.{IsRun};
+    ghost use Rattle.nmgc_snapshot_laws.specs.Machine.{Passes, advanced};
+    ghost use Rattle.nmgc_snapshot_laws.specs.declared.event.Event.TheVariants as event;
 
     /// Marking begins: the world is the snapshot, and its roots are marked. Takes time and memory for
     /// each object of the world, for the snapshot is a copy.

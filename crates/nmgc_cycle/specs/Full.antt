@@ -1,11 +1,12 @@
 -- A full cycle at a stop: what each of its parts does with a collector.
 use Rattle.std.specs.Prelude.{ℕ, ◌≡◌, ◌⊎◌, List, [], map, length, Bool, true, false, ◌&&◌, nat_lt}
 use Rattle.nmgc_alloc.specs.Reserve.{free_count}
-use Rattle.nmgc_alloc.specs.Segments.{Segments, IsSegments}
+use Rattle.nmgc_alloc.specs.Numbered.{Segments}
+use Rattle.nmgc_alloc.specs.Segments.{IsSegments}
 use Rattle.nmgc_alloc.specs.CycleSteps.{retired}
 use Rattle.nmgc_object.specs.Places.{reserve_count}
 use Rattle.nmgc_object.specs.FinQueue.{FinQueue}
-use Rattle.nmgc_graph.specs.declared.value.Name.{Name}
+use Rattle.nmgc_world_spec.specs.declared.value.Name.{Name}
 use Rattle.nmgc_sweep.specs.Names.{HaveEntries}
 use Rattle.nmgc_sweep.specs.Sweeper.{AreLeft}
 use Rattle.nmgc_sweep.specs.Work.{HasSwept}

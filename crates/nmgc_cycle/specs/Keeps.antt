@@ -1,7 +1,7 @@
 -- What a collector keeps from call to call.
 use Rattle.std.specs.Prelude.{ℕ, ◌≡◌, ◌<◌, ◌≤◌, ◌⊎◌, List, [], length, slice_get, slice_index, Some, None, IsSome, vec_capacity}
-use Rattle.nmgc_graph.specs.declared.command.Reply.{Reply}
-use Rattle.nmgc_graph.specs.History.{Row}
+use Rattle.nmgc_world_spec.specs.declared.command.Reply.{Reply}
+use Rattle.nmgc_world_spec.specs.History.{Row}
 use Rattle.nmgc_alloc.specs.Segments.{IsSegments}
 use Rattle.nmgc_minor.specs.Promotion.{IsFor}
 use Rattle.nmgc_mutator.specs.declared.mutator.Mutator.{Mutator}
@@ -9,10 +9,11 @@ use Rattle.nmgc_mutator.specs.Ready.{IsWhole}
 use Rattle.nmgc_script.specs.declared.script.Script.{Script}
 use Rattle.nmgc_journal.specs.declared.report.End.{End}
 use Rattle.nmgc_journal.specs.declared.report.End.TheVariants.{Done, HeapFull}
-use Rattle.nmgc_run.specs.State.{State, Cycle, Progress, idle, marking, sweeping, plan_of, layout_of}
-use Rattle.nmgc_run.specs.Statements.{answered_count}
-use Rattle.nmgc_run.specs.Run.{Run, Turn, last_state, with_turn}
-use Rattle.nmgc_run.specs.Collector.{IsNew, IsAtStop, IsAfterRound}
+use Rattle.nmgc_run_spec.specs.State.{State, Progress, idle, marking, sweeping, plan_of, layout_of}
+use Rattle.nmgc_blocks_spec.specs.Cycle.{Cycle}
+use Rattle.nmgc_run_laws.specs.Statements.{answered_count}
+use Rattle.nmgc_run_spec.specs.Run.{Run, Turn, last_state, with_turn}
+use Rattle.nmgc_collector_laws.specs.Collector.{IsNew, IsAtStop, IsAfterRound}
 use Rattle.nmgc_cycle.specs.declared.collector.Collector.{Collector}
 use Rattle.nmgc_cycle.specs.declared.stop.StopEnd.{StopEnd}
 use Rattle.nmgc_cycle.specs.declared.stop.StopEnd.TheVariants as answer

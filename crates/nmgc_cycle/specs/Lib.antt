@@ -3,7 +3,6 @@ pub mod Cycles
 pub mod Full
 pub mod FullLaws
 pub mod Keeps
-pub mod Limits
 pub mod Lined
 pub mod Listed
 pub mod Roots

@@ -1,11 +1,11 @@
 -- The list of weak pointers and the finaliser queues at a stop: who leaves the list and who joins it, and what a closing needs of the queues.
 use Rattle.std.specs.Prelude.{ℕ, ◌≡◌, ◌≢◌, ◌⊎◌, ◌↔◌, ◌<◌, ◌≤◌, ◌^◌, ◌==◌, ◌&&◌, not, Bool, List, [], map, filter, length, count_by, slice_get, slice_index, slice_index_or, Contains, Some, IsSome}
-use Rattle.nmgc_graph.specs.Reach.{IsInOrder}
+use Rattle.nmgc_world_spec.specs.Reach.{IsInOrder}
 use Rattle.nmgc_object.specs.FinQueue.{FinQueue}
 use Rattle.nmgc_object.specs.Words.{header_word}
 use Rattle.nmgc_minor.specs.declared.placing.Move.{Move}
 use Rattle.nmgc_mutator.specs.declared.mutator.Mutator.{Mutator}
-use Rattle.nmgc_beside.specs.Joins.{weak_header}
+use Rattle.nmgc_collector_laws.specs.Joins.{weak_header}
 use Rattle.nmgc_weak.specs.declared.weaks.Death.{Death}
 use Rattle.nmgc_weak.specs.declared.weaks.OldWeak.{OldWeak}
 use Rattle.nmgc_weak.specs.Queues.{AllJoin}

@@ -5,12 +5,14 @@ use Rattle.nmgc_journal.specs.declared.report.Phase.TheVariants as phase
 use Rattle.nmgc_journal.specs.declared.report.CycleRow.{CycleRow}
 use Rattle.nmgc_journal.specs.declared.report.Report.{Report}
 use Rattle.nmgc_journal.specs.declared.report.End.{End}
-use Rattle.nmgc_run.specs.Seen.{Seen, MarkerSeen, WorkSeen, CycleSeen, ends_of}
-pub use Rattle.nmgc_beside.specs.Heaps.{seen_mutator}
+use Rattle.nmgc_collector_laws.specs.Seen.{Seen, ends_of}
+use Rattle.nmgc_mark.specs.Seen.{MarkerSeen, WorkSeen}
+use Rattle.nmgc_sweep.specs.Seen.{CycleSeen}
+pub use Rattle.nmgc_collector_laws.specs.Heaps.{seen_mutator}
 use Rattle.nmgc_mutator.specs.declared.mutator.Mutator.{Mutator}
 use Rattle.nmgc_sweep.specs.Order.{in_order}
 use Rattle.nmgc_sweep.specs.Sweeper.{Sweeper}
-use Rattle.nmgc_graph.specs.declared.value.Name.{Name}
+use Rattle.nmgc_world_spec.specs.declared.value.Name.{Name}
 use Rattle.nmgc_weak.specs.declared.weaks.Death.{Death}
 use Rattle.nmgc_weak.specs.Weaks.{names_of, places_of}
 use Rattle.nmgc_cycle.specs.declared.collector.Collector.{Collector}

@@ -3,17 +3,17 @@
 -- A stop is promotion, adding, closing, end and beginning, or a full cycle in the beginning's place (`Full`, `FullLaws`).
 -- After each of these the collector stands for a state of the run at that stop; only what is known of the pace and of what mutators remember differs.
 use Rattle.std.specs.Prelude.{ℕ, ◌≡◌, ◌+◌, ◌++◌, ◌≤◌, List, [], true, false}
-use Rattle.nmgc_run.specs.Census.{IsKeptObject}
-use Rattle.nmgc_run.specs.Closing.{Closes, ClosesOrWaits, MayClose}
-use Rattle.nmgc_run.specs.Collector.{Matches, AreNurseries, EachMutator, IsAtRest, HoldsInCycle, IsPacedAtStop, IsPacedAfterRound}
-use Rattle.nmgc_run.specs.Course.{IsStateInCourse}
-use Rattle.nmgc_run.specs.Heap.{HoldsAtStop}
-use Rattle.nmgc_run.specs.Listing.{Counts}
-use Rattle.nmgc_run.specs.Seen.{Seen, MutatorSeen, ends_of, nurseries_of}
-use Rattle.nmgc_run.specs.Sound.{IsSoundState}
-use Rattle.nmgc_run.specs.State.{State, Cycle, marking, cycle_started, plan_of, layout_of}
-use Rattle.nmgc_run.specs.Stop.{EndsOrWaits, BeginsOrWaits}
-use Rattle.nmgc_blocks.specs.Nurseries.{AreEmpty}
+use Rattle.nmgc_blocks_spec.specs.Cycle.{IsKeptObject, Cycle}
+use Rattle.nmgc_run_spec.specs.Closing.{Closes, ClosesOrWaits, MayClose}
+use Rattle.nmgc_collector_laws.specs.Collector.{Matches, AreNurseries, EachMutator, IsAtRest, HoldsInCycle, IsPacedAtStop, IsPacedAfterRound}
+use Rattle.nmgc_run_laws.specs.Course.{IsStateInCourse}
+use Rattle.nmgc_run_spec.specs.Heap.{HoldsAtStop}
+use Rattle.nmgc_world_spec.specs.Listing.{Counts}
+use Rattle.nmgc_collector_laws.specs.Seen.{Seen, MutatorSeen, ends_of, nurseries_of}
+use Rattle.nmgc_run_laws.specs.Sound.{IsSoundState}
+use Rattle.nmgc_run_spec.specs.State.{State, marking, cycle_started, plan_of, layout_of}
+use Rattle.nmgc_run_spec.specs.Stop.{EndsOrWaits, BeginsOrWaits}
+use Rattle.nmgc_blocks_spec.specs.Nurseries.{AreEmpty}
 use Rattle.nmgc_journal.specs.declared.report.CycleRow.{CycleRow}
 use Rattle.nmgc_script.specs.declared.script.Script.{Script}
 use Rattle.nmgc_sweep.specs.Names.{AreNamed}
@@ -25,7 +25,7 @@ use Rattle.nmgc_cycle.specs.Cycles.{HasTaken, CanClose, Closes as ClosesThen, Ha
 use Rattle.nmgc_cycle.specs.Keeps.{IsWellFormed, Sweeps}
 use Rattle.nmgc_cycle.specs.Roots.{queues_in}
 use Rattle.nmgc_cycle.specs.Shown.{seen, told_cycles, words_in}
-use Rattle.nmgc_cycle.specs.Limits.{IsInLimits}
+use Rattle.nmgc_script.specs.Limits.{IsInLimits}
 
 -- the pace of marking once what was remembered was added: where the last work left something the cycle goes on in pace, and else it may be closed
 pub record IsPacedWithin (quota : ℕ) (c : Cycle) (s : State) (seen : Seen) : Type 0 where

@@ -2,13 +2,13 @@
 use Rattle.std.specs.Prelude.{ℕ, ◌≡◌, ◌↔◌, ◌||◌, IsTrue, Bool, false, ◌+◌, ◌*◌, ◌<◌, ◌≤◌, List, [], ◌++◌, length, map, drop, take, min, All, slice_get, slice_index, slice_index_or, Some, vec_capacity}
 use Rattle.std.specs.Int.{div_ceil}
 use Rattle.std.specs.List.{zip}
-use Rattle.nmgc_graph.specs.declared.command.Command.{Command}
-use Rattle.nmgc_graph.specs.declared.command.Reply.{Reply}
-use Rattle.nmgc_graph.specs.Command.{Fits}
+use Rattle.nmgc_world_spec.specs.declared.command.Command.{Command}
+use Rattle.nmgc_world_spec.specs.declared.command.Reply.{Reply}
+use Rattle.nmgc_world_spec.specs.Command.{Fits}
 use Rattle.nmgc_alloc.specs.Segments.{IsSegments}
-use Rattle.nmgc_beside.specs.Owed.{IsGathered, HaveOwed, gathered}
-use Rattle.nmgc_beside.specs.Rest.{opening_beside}
-use Rattle.nmgc_heap.specs.Places.{Place}
+use Rattle.nmgc_collector_laws.specs.Owed.{IsGathered, HaveOwed, gathered}
+use Rattle.nmgc_collector_laws.specs.RestMarking.{opening_beside}
+use Rattle.nmgc_heap_spec.specs.Places.{Place}
 use Rattle.nmgc_round.specs.declared.table.Round.{Round}
 use Rattle.nmgc_round.specs.View.{Opening, Scan, whole}
 use Rattle.nmgc_round.specs.Seat.{RoundSeat, seen}
@@ -24,13 +24,13 @@ use Rattle.nmgc_mutator.specs.Ready.{IsReady, Reserves}
 use Rattle.nmgc_updrem.specs.Rings.{HavePolled, Receiver}
 use Rattle.nmgc_updrem.specs.declared.block.TheConstants.{BLOCK_ENTRIES}
 use Rattle.nmgc_mutator.specs.Slice.{HasRoom, HasRun, Ended, tried}
-use Rattle.nmgc_turn.specs.Rest.{opening_at}
-use Rattle.nmgc_turn.specs.Worked.{Done}
+use Rattle.nmgc_collector_laws.specs.Rest.{opening_at}
+use Rattle.nmgc_collector_laws.specs.Worked.{Done}
 use Rattle.nmgc_script.specs.declared.script.Script.{Script}
-use Rattle.nmgc_run.specs.Collector.{IsMarking}
-use Rattle.nmgc_run.specs.Run.{Run, last_state}
-use Rattle.nmgc_run.specs.Slice.{program_of, slice_of, some_asks, is_collect, is_full}
-use Rattle.nmgc_run.specs.State.{State, Progress, marking}
+use Rattle.nmgc_collector_laws.specs.Collector.{IsMarking}
+use Rattle.nmgc_run_spec.specs.Run.{Run, last_state}
+use Rattle.nmgc_run_spec.specs.Slice.{program_of, slice_of, some_asks, is_collect, is_full}
+use Rattle.nmgc_run_spec.specs.State.{State, Progress, marking}
 use Rattle.nmgc_cycle.specs.declared.collector.Collector.{Collector}
 use Rattle.nmgc_cycle.specs.declared.round.Lists.{Lists}
 use Rattle.nmgc_cycle.specs.declared.worker.Worker.{Worker}

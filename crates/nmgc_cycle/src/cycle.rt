@@ -13,9 +13,8 @@
 ghost use Rattle.std.specs.Prelude.{ℕ, ◌≡◌, ◌↔◌, ◌+◌, ◌*◌, ◌<◌, ◌≤◌, ◌^◌, IfOk, IfSome, IfNone, OnOk, IsSome, IsTrue, Some, length, slice_get};
 ghost use Rattle.nmgc_object.specs.declared.layout.TheConstants.{FIRST_PLACE};
 ghost use Rattle.nmgc_alloc.specs.Segments.{IsSegments};
-ghost use Rattle.nmgc_run.specs.Marker.{HasRoomToMark};
-ghost use Rattle.nmgc_run.specs.Marks.{epoch_of as epoch_by};
-ghost use Rattle.nmgc_segment.specs.Marks.{IsEpoch};
+ghost use Rattle.nmgc_mark.specs.Marker.{HasRoomToMark};
+ghost use Rattle.nmgc_segment.specs.Marks.{epoch_of as epoch_by, IsEpoch};
 ghost use Rattle.nmgc_cycle.specs.Roots.{queues_in};
 ghost use Rattle.nmgc_cycle.specs.Shown.{words_in};
 ghost use Rattle.nmgc_updrem.specs.Lines.{TakesRestSo, IsLevelSo};
@@ -28,12 +27,13 @@ ghost use Rattle.nmgc_cycle.specs.Cycles.{remembered_by, CanAdd, HasAdded, HasTa
 use crate::progress::{Marking, Progress, Sweeping};
 use crate::{Collector, weaks};
 use nmgc_alloc::Segments;
-use nmgc_graph::{List, Name, NoMemory};
 use nmgc_journal::CycleRow;
+use nmgc_lists::{List, NoMemory};
 use nmgc_mark::{Marker, Work};
 use nmgc_mutator::Mutator;
 use nmgc_sweep::{Census, Sweeper};
 use nmgc_updrem::{Inbox, UpdBlock};
+use nmgc_world_spec::Name;
 use std::alloc::Global;
 use std::mem;
 

@@ -17,7 +17,7 @@ ghost use Rattle.nmgc_cycle.specs.FullLaws.{StandsAtStop};
 use crate::Collector;
 use crate::leading::{a_finish_leads, a_full_cycle_leads};
 use crate::progress::Progress;
-use nmgc_graph::NoMemory;
+use nmgc_lists::NoMemory;
 use std::mem;
 use std::thread::Threads;
 

@@ -6,13 +6,13 @@ ghost use Rattle.nmgc_cycle.specs.Steps.{AddingLeads, ClosingLeads, EndLeads, St
 ghost use Rattle.nmgc_cycle.specs.FullLaws.{CloseNowReady, FinishingNowLeads, SweepRestReady, SweepingRestLeads, FinishLeads, FilingLeads, ProceedingLeads};
 ghost use Rattle.nmgc_cycle.specs.StopLaws.{HasStopLaws};
 
-use nmgc_beside::laws::{
+use nmgc_collector_laws::marking::{
     a_closed_cycle_sweeps, a_closing_is_in_bounds, a_heap_ties_by_blocks,
     a_resolved_cycle_is_closed, a_stop_is_prepared, freed_places_go, marking_goes_on,
     the_heap_goes_on, the_list_is_joined, the_marker_leads_a_cycle, the_pace_is_kept,
 };
 use nmgc_mark::laws::prepared_heaps_begin;
-use nmgc_run::laws::{cycles_are_in_course, places_are_blocks};
+use nmgc_run_laws::laws::{cycles_are_in_course, places_are_blocks};
 use nmgc_sweep::laws::{
     closing_begins_work, end_tells_census, segments_are_left, start_is_noted, work_goes_on,
 };

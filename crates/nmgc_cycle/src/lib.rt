@@ -7,7 +7,7 @@
 //! are its parts.
 //!
 //! What a collector keeps from call to call is in `specs/Keeps.antt`: there is one run of the script, as
-//! `nmgc_run` defines it, of which the collector's rows tell and for whose last state its words, segments, mutators,
+//! `nmgc_run_spec` defines it, of which the collector's rows tell and for whose last state its words, segments, mutators,
 //! marker and sweeper stand. A new collector is what such a run begins with; a round leads from a stop to the end of a
 //! round, with one legal order of all its commands; a stop leads from there to the next stop of the run, and changes
 //! the world only where weak pointers die. So the report of a run is lawful, whatever the schedule was.

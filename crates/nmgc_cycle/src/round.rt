@@ -20,12 +20,12 @@ ghost use Rattle.std.specs.List.{list_any};
 ghost use Rattle.nmgc_alloc.specs.Segments.{IsSegments};
 ghost use Rattle.nmgc_round.specs.Gate.{passed};
 ghost use Rattle.nmgc_mutator.specs.declared.mutator.Mutator.{Mutator as MutatorSeen};
-ghost use Rattle.nmgc_run.specs.Slice.{program_of};
+ghost use Rattle.nmgc_run_spec.specs.Slice.{program_of};
 ghost use Rattle.nmgc_limits.specs.Limits.{most_slice};
 ghost use Rattle.nmgc_limits.specs.declared.mutators.TheConstants.{MAKERS};
 ghost use Rattle.nmgc_updrem.specs.Lines.{HasMetSo};
 ghost use Rattle.nmgc_updrem.specs.Rings.{AtLine, HavePolled};
-ghost use Rattle.nmgc_cycle.specs.Limits.{IsInLimits};
+ghost use Rattle.nmgc_script.specs.Limits.{IsInLimits};
 ghost use Rattle.nmgc_cycle.specs.Lined.{IsLined, HasMetSender, HaveLines, HaveMet, RememberInOrder};
 ghost use Rattle.nmgc_cycle.specs.Keeps.{HasStopped, DidRound};
 ghost use Rattle.nmgc_cycle.specs.Cycles.{CanHelp, HasHelped, worked_on, upper_worked_on};
@@ -35,22 +35,23 @@ ghost use Rattle.nmgc_cycle.specs.Working.{left_at, HaveRoom, HasLists, HaveSlic
 use crate::Collector;
 use crate::worker::{Worker, seated, some_ask_full, some_asks, unseated, work_beside};
 use nmgc_alloc::Segments;
-use nmgc_beside::laws::{
+use nmgc_collector_laws::idle::{
+    a_rest_opens_a_round, a_round_is_a_history, a_round_is_stopped, slices_are_gathered,
+};
+use nmgc_collector_laws::marking::{
     a_closed_cycle_sweeps, a_heap_ties_by_blocks, a_rest_opens_a_round as opens_beside,
     freed_places_go, slices_are_owed, the_heap_goes_on, the_machine_goes_on,
     the_marker_leads_a_cycle, the_pace_is_kept,
 };
-use nmgc_graph::{List, MAKERS, NoMemory, Place};
 use nmgc_journal::{Replies, RoundRows};
+use nmgc_limits::MAKERS;
+use nmgc_lists::{List, NoMemory, Place};
 use nmgc_mutator::laws::a_round_finds_mutators_ready;
 use nmgc_mutator::mutator::{MOST_PUSHED, Mutator};
 use nmgc_round::chosen::Wanted;
 use nmgc_round::{Chosen, CollectorSeat, Finished, Gate, MutatorSeat, Opened, Round, Started};
 use nmgc_script::Script;
 use nmgc_sweep::laws::segments_are_left;
-use nmgc_turn::laws::{
-    a_rest_opens_a_round, a_round_is_a_history, a_round_is_stopped, slices_are_gathered,
-};
 use nmgc_updrem::{BLOCK_ENTRIES, Inbox};
 use std::alloc::Global;
 use std::mem;
@@ -378,7 +379,7 @@ fn reserve_all(mutators: &mut [Mutator], script: &Script, positions: &[u32]) -> 
 }
 
 // Each position moves on by as many commands as its worker did.
-#[tactic(auto, using(crate::proofs::Sliced::done_of))]
+#[tactic(auto, using(crate::proofs::rounds::Sliced::done_of))]
 fn advance(positions: &mut [u32], workers: &[Worker])
     requires count { length workers.now ≡ length positions.old }
     requires fits { (k : ℕ) → k < length positions.old → slice_index positions.old k + slice_index (map done_by workers.now) k < 2 ^ 32 }

@@ -14,10 +14,10 @@
 //! cycle at this stop left it so. And where no commands are left, the run goes on as long as a cycle is in progress,
 //! since its row is still to be told.
 ghost use Rattle.std.specs.Prelude.{ℕ, ◌≡◌, ◌↔◌, ◌^◌, ◌<◌, [], ◌∷◌, ◌++◌, IfOk, OnOk, IsSome, IsTrue, length};
-ghost use Rattle.nmgc_blocks.specs.Stopped.{Stopped};
+ghost use Rattle.nmgc_blocks_spec.specs.Stopped.{Stopped};
 ghost use Rattle.nmgc_minor.specs.Promotion.{IsFor};
 ghost use Rattle.nmgc_cycle.specs.Cycles.{MarksOn};
-ghost use Rattle.nmgc_cycle.specs.Limits.{IsInLimits};
+ghost use Rattle.nmgc_script.specs.Limits.{IsInLimits};
 ghost use Rattle.nmgc_cycle.specs.Shown.{turns_of, upper_turns_of, mutator_turns_of};
 ghost use Rattle.nmgc_cycle.specs.declared.stop.StopEnd.TheVariants as answer;
 ghost use Rattle.nmgc_sweep.specs.Names.{HaveEntries};
@@ -28,9 +28,9 @@ use crate::Collector;
 use crate::leading::a_stop_leads;
 use crate::names::note_moves;
 use crate::worker::is_some_left;
-use nmgc_beside::laws::the_list_is_joined;
-use nmgc_graph::NoMemory;
+use nmgc_collector_laws::marking::the_list_is_joined;
 use nmgc_journal::{End, Phase, StopRow};
+use nmgc_lists::NoMemory;
 use nmgc_script::Script;
 use nmgc_weak::laws::the_list_is_left;
 use std::thread::Threads;

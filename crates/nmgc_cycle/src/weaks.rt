@@ -8,7 +8,7 @@
 //! then its words mean nothing. So those leave before the promotion, while the world as the round began is still
 //! spoken of; the others join after it, at their new places.
 ghost use Rattle.std.specs.Prelude.{ℕ, ◌≡◌, ◌≢◌, ◌+◌, ◌<◌, ◌≤◌, ◌^◌, length, Contains, IfOk, OnOk, IsSome, IsTrue};
-ghost use Rattle.nmgc_graph.specs.Reach.{IsInOrder};
+ghost use Rattle.nmgc_world_spec.specs.Reach.{IsInOrder};
 ghost use Rattle.nmgc_object.specs.declared.size.TheConstants.{HEADER_WORDS};
 ghost use Rattle.nmgc_weak.specs.Queues.{HaveRoom};
 ghost use Rattle.nmgc_weak.specs.Weaks.{AreInside, names_of};
@@ -18,13 +18,14 @@ ghost use Rattle.nmgc_cycle.specs.Shown.{died, words_in};
 ghost use Rattle.nmgc_cycle.specs.Listed.{is_alive_at, moved_weaks, AreMovedInside, CanJoin, IsMergeOf, FinalisedLeft, MovedJoined, count_made_by, HasQueueRoom, HaveQueueRoom, FinalisersQueued};
 
 use crate::Collector;
-use nmgc_graph::{Kind, List, Name, NoMemory};
-use nmgc_heap::HeapWords;
+use nmgc_heap_spec::HeapWords;
+use nmgc_lists::{List, NoMemory};
 use nmgc_minor::Move;
 use nmgc_mutator::Mutator;
 use nmgc_object::words::{WEAK_FIELDS, encode_header};
 use nmgc_object::{Address, HEADER_WORDS, Header};
 use nmgc_weak::{Death, OldWeak, Weaks, queue_finalisers};
+use nmgc_world_spec::{Kind, Name};
 use std::alloc::Global;
 
 // Whether by its words a weak pointer stands at a place that is alive.

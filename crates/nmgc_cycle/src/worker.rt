@@ -14,7 +14,7 @@
 //! Easy to get wrong: where no thread can be started the caller does the work, one worker after the other. So nothing
 //! here may rest on two that run side by side.
 ghost use Rattle.std.specs.Prelude.{◌≡◌, ◌↔◌, ◌+◌, ◌^◌, ◌<◌, ◌≤◌, [], IfOk, IsTrue, length, map, slice_index, vec_len, vec_capacity};
-ghost use Rattle.nmgc_run.specs.Slice.{program_of};
+ghost use Rattle.nmgc_run_spec.specs.Slice.{program_of};
 ghost use Rattle.std.specs.Thread.{IsSync};
 ghost use Rattle.std.specs.List.{list_any};
 ghost use Rattle.nmgc_updrem.specs.Rings.{HavePolled};
@@ -24,12 +24,13 @@ ghost use Rattle.nmgc_cycle.specs.Working.{asks_of, asks_full_of, left_at, CanWo
 
 use crate::progress::Progress;
 use nmgc_alloc::Segments;
-use nmgc_graph::{Command, List, NoMemory};
+use nmgc_lists::{List, NoMemory};
 use nmgc_mutator::{Mutator, SliceEnd};
 use nmgc_round::{CollectorSeat, Gate, MutatorSeat, Round};
 use nmgc_script::Script;
 use nmgc_sweep::Names;
 use nmgc_updrem::Inbox;
+use nmgc_world_spec::Command;
 use std::alloc::Global;
 use std::collections::VecDeque;
 use std::marker::Model;

@@ -1,13 +1,13 @@
 -- What is told of words and bytes for which nothing is in the way.
-use Rattle.std.proofs.Common.{◌≡◌, ◌≤◌, ◌+◌, ℕ, List, [], ◌∷◌, ◌++◌, length, refl, sym, ◌∙◌, ap, subst, arith, Option, Some, None, inl, inr, ◌⊎◌, length-append, append-nil}
-use Rattle.nmgc_io.specs.Counts.{Takes}
-use Rattle.nmgc_graph.specs.declared.value.Name.{Name}
+use Rattle.std.proofs.Common.{◌≡◌, ◌≤◌, ◌+◌, ℕ, List, [], ◌∷◌, ◌++◌, length, refl, sym, ◌∙◌, ap, subst, arith, Option, Some, None, inl, inr, ◌⊎◌, append-nil}
+use Rattle.nmgc_world_spec.specs.declared.value.Name.{Name}
 use Rattle.nmgc_fin.specs.declared.job.Job.{Job}
 use Rattle.nmgc_fin.specs.declared.top.FinStatus.{FinStatus}
 use Rattle.nmgc_fin.specs.declared.top.FinStatus.TheVariants.{Done, Usage, ReadFault, WriteFault, BadReport, TooLong, NoMemory}
 use Rattle.nmgc_fin.specs.Jobs.{lines_of, IsBad, NamesOf, AreJobsOf, IsFirstBad}
 use Rattle.nmgc_fin.specs.Program.{Asks, IsRead, Says, IsWritten, IsComplete}
 use Rattle.nmgc_fin.specs.declared.top.TheConstants.{MAX_REPORT_BYTES}
+use Rattle.nmgc_io.specs.laws.Common.{taken_within}
 
 -- lines that give names have no bad line
 none_bad : (before : List (List ℕ)) (line : List ℕ) (after : List (List ℕ)) (names : List Name) → NamesOf (before ++ line ∷ after) names → IsBad line → ⊥
@@ -23,11 +23,6 @@ no_first_bad lines names number of bad = none_bad bad.before bad.line bad.after 
 whole : (bytes read : List ℕ) (new : Option (List ℕ)) → IsRead (Some bytes) new read → bytes ≡ read
 whole bytes read None is = absurd is.taken
 whole bytes read (Some left) is = is.taken ∙ ap (λ (l : List ℕ). read ++ l) is.end ∙ append-nil read
-
--- no more bytes are taken than there are
-taken_within : (bytes : List ℕ) (new : Option (List ℕ)) (n : ℕ) → Takes (Some bytes) new n → n ≤ length bytes
-taken_within bytes None n h = absurd h.1
-taken_within bytes (Some left) n h = let a = ap (λ (l : List ℕ). length l) h.1 in let b = length-append h.0 left in let c = h.2 in omega (arith, a, b, c)
 
 module _ (words : List (List ℕ)) (bytes : List ℕ) (workers : ℕ) (jobs : List Job) (new : Option (List ℕ)) (rose : Type 0)
     (asks : Asks words workers) (within : length bytes ≤ MAX_REPORT_BYTES) (are : AreJobsOf (lines_of bytes) jobs) (none : rose → ⊥) where

@@ -4,7 +4,7 @@ use Rattle.std.specs.Io.KnownBytes.{Consumes, Appends, Keeps, IsAtEnd}
 use Rattle.std.proofs.Common.{Vec, Global}
 use Rattle.nmgc_arguments.specs.Words.{ArePassed}
 use Rattle.nmgc_io.specs.Counts.{Takes, TakesUpTo, AppendsFront}
-use Rattle.nmgc_graph.specs.declared.value.Name.{Name}
+use Rattle.nmgc_world_spec.specs.declared.value.Name.{Name}
 use Rattle.nmgc_lists.specs.declared.memory.NoMemory.{NoMemory as NoMemoryOf}
 use Rattle.nmgc_fin.specs.declared.job.Job.{Job}
 use Rattle.nmgc_fin.specs.declared.run.TheConstants.{MOST_WORKERS}

@@ -9,9 +9,10 @@ ghost use Rattle.nmgc_fin.specs.declared.job.Job.{Job as JobOf};
 
 use crate::Handled;
 use crate::job::Job;
-use nmgc_graph::{Name, NoMemory};
 use nmgc_io::push_number;
 use nmgc_journal::push_name;
+use nmgc_lists::NoMemory;
+use nmgc_world_spec::Name;
 use std::alloc::Global;
 
 /// So many names, and the name of each handled job stands at the job's number.

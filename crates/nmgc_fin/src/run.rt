@@ -15,12 +15,12 @@ use crate::hand::Hand;
 use crate::job::Job;
 use crate::plays::{Both, Part, Puts};
 use crate::worker::{JobPass, JobQueue, Worker};
-use nmgc_graph::{List, NoMemory};
+use nmgc_lists::{List, NoMemory};
 use nmgc_round::Gate;
 use std::alloc::Global;
 use std::sync::Wait;
-use std::thread;
 use std::thread::Threads;
+use std::thread;
 
 /// There may be so many workers.
 pub const MOST_WORKERS: u8 = 32;

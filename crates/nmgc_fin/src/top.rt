@@ -3,7 +3,7 @@
 //! The work goes one way: words, bytes, jobs, workers, text, sink. The first refusal is told, and what is to be told is
 //! settled before the sink is touched, so a sink that fails replaces the status and nothing else.
 ghost use Rattle.std.specs.Prelude.{◌≡◌, ◌≤◌, ℕ, List, [], ◌∷◌, length, map, string_bytes, IfOk, IfSome, IfNone, decimal};
-ghost use Rattle.nmgc_io.specs.Causes.{Rose};
+ghost use Rattle.nmgc_io.specs.Counts.{Rose};
 ghost use Rattle.nmgc_fin.specs.Handles.{AreNumbered, Handles};
 ghost use Rattle.nmgc_fin.specs.Program.{IsCount, Asks, IsWrong, number_of, IsFixed, fixed_text, bad_text, text_bytes, IsMadeOf, AreDone, SaysOfBytes, Says, IsWritten, IsComplete};
 ghost use Rattle.nmgc_fin.specs.declared.top.TheConstants.{MAX_REPORT_BYTES};
@@ -13,8 +13,8 @@ use crate::job::Job;
 use crate::order::{handled_text, in_order};
 use crate::run::{Handled, MOST_WORKERS, run_jobs};
 use crate::text::{JobsFault, jobs};
-use nmgc_graph::NoMemory;
 use nmgc_io::{ReadEnd, Sink, Source, push_number, read_all, read_number, write_all};
+use nmgc_lists::NoMemory;
 use nmgc_round::OpenGate;
 use std::alloc::Global;
 use std::sync::Wait;

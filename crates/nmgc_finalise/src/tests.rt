@@ -6,9 +6,10 @@ ghost use Rattle.nmgc_fin.specs.Handles.{AreNumbered};
 
 use nmgc_fin::order::handled_text;
 use nmgc_fin::{FinStatus, Handled, Job, JobsFault, jobs, nmgc_fin, run_jobs};
-use nmgc_graph::{Name, SHARED_MAKER};
 use nmgc_io::{MemorySink, MemorySource};
+use nmgc_limits::SHARED_MAKER;
 use nmgc_round::{Gate, OpenGate};
+use nmgc_world_spec::Name;
 use std::alloc::{AllocError, Global};
 use std::process::Abort;
 use std::sync::Wait;

@@ -1,16 +1,17 @@
 -- A change in two halves: its answer tells whether it is done, and one that is done leaves what it writes.
-use Rattle.std.proofs.Common.{◌≡◌, ◌-◌, ℕ, List, [], ◌∷◌, ◌++◌, length, set, cond, eqb, ltb, refl, sym, ap, ◌∙◌, arith, Option, Some, None, Bool, true, false}
-use Rattle.std.specs.Prelude.{IsSome, slice_get}
+use Rattle.std.proofs.Common.{◌≡◌, ◌-◌, ℕ, List, [], ◌∷◌, ◌++◌, length, set, cond, eqb, ltb, refl, sym, ap, ◌∙◌, Option, Some, None, Bool, true, false}
+use Rattle.std.specs.Prelude.{slice_get}
 use Rattle.std.proofs.lemmas.Bool.{lt-ltb}
-use Rattle.nmgc_graph.specs.declared.command.Reply.{Reply}
-use Rattle.nmgc_graph.specs.declared.command.Reply.TheVariants.{Fine, Yes, No, NoField, StackFull, StackEmpty}
-use Rattle.nmgc_graph.specs.declared.value.Value.{Value}
-use Rattle.nmgc_graph.specs.declared.node.Node.{Node}
-use Rattle.nmgc_graph.specs.declared.node.Node.TheVariants.{Con, Var, Arr, Thunk, Weak, Stack}
-use Rattle.nmgc_graph.specs.declared.change.Change.{Change}
-use Rattle.nmgc_graph.specs.declared.change.Change.TheVariants as change
-use Rattle.nmgc_graph.specs.Change.{is_same, given_or, exchanged_at, field_set, field_exchanged, thunk_updated, stack_pushed, stack_popped, weak_finalised, without_last, last_of, changed, is_done, field_written, result_written, value_pushed, top_dropped, killed, written}
-use Rattle.nmgc_graph.specs.laws.Worlds.{is_some_get, get_is_some}
+use Rattle.nmgc_world_spec.specs.declared.command.Reply.{Reply}
+use Rattle.nmgc_world_spec.specs.declared.command.Reply.TheVariants.{Fine, Yes, No, NoField, StackFull, StackEmpty}
+use Rattle.nmgc_world_spec.specs.declared.value.Value.{Value}
+use Rattle.nmgc_world_spec.specs.declared.node.Node.{Node}
+use Rattle.nmgc_world_spec.specs.declared.node.Node.TheVariants.{Con, Var, Arr, Thunk, Weak, Stack}
+use Rattle.nmgc_world_spec.specs.declared.change.Change.{Change}
+use Rattle.nmgc_world_spec.specs.declared.change.Change.TheVariants as change
+use Rattle.nmgc_world_spec.specs.Change.{is_same, given_or, exchanged_at, field_set, field_exchanged, thunk_updated, stack_pushed, stack_popped, weak_finalised, without_last, last_of, changed, is_done, field_written, result_written, value_pushed, top_dropped, killed, written}
+use Rattle.nmgc_lists.specs.laws.Items.{get_is_some}
+use Rattle.nmgc_world_spec.specs.laws.Common.{none_left}
 
 -- what is left is what was made, where the answer says so, and else what was there
 abbrev Halves : Node × Reply → Node → Node → Type 0
@@ -69,14 +70,6 @@ push_halves own (Var old) v = refl
 push_halves own (Arr values) v = refl
 push_halves own (Thunk free result) v = refl
 push_halves own (Weak parts) v = refl
-
-not_both : (o : Option Value) → o ≡ None → IsSome o → ⊥
-not_both None e h = absurd cc
-not_both (Some x) e h = absurd cc
-
-none_left : (values : List Value) → last_of values ≡ None → without_last values ≡ values
-none_left [] e = refl
-none_left (x ∷ xs) e = absurd (not_both (last_of (x ∷ xs)) e (is_some_get (x ∷ xs) (length (x ∷ xs) - 1) (omega arith)))
 
 pop_top : (size : ℕ) (values : List Value) (o : Option Value) → last_of values ≡ o →
     Stack size (without_last values) ≡ cond (is_done (given_or StackEmpty o)) (Stack size (without_last values)) (Stack size values)

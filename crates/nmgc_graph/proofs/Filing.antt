@@ -9,16 +9,15 @@ use Rattle.std.proofs.lemmas.List.{get_or-set_same, get_or-set_other, get_or_pas
 use Rattle.std.proofs.lemmas.List.Elements.{Contains-append_left, Contains-push}
 use Rattle.std.proofs.lemmas.List.Sums.{fold-append}
 use Rattle.nmgc_limits.specs.declared.mutators.TheConstants.{SHARED_MAKER}
-use Rattle.nmgc_graph.specs.declared.value.Name.{Name}
+use Rattle.nmgc_world_spec.specs.declared.value.Name.{Name}
 use Rattle.nmgc_graph.specs.declared.search.Search.{Search}
 use Rattle.nmgc_graph.specs.declared.waiting.Waiting.{Waiting}
-use Rattle.nmgc_graph.specs.World.{World, node_of, state_of, IsWorld}
+use Rattle.nmgc_world_spec.specs.World.{World, node_of, state_of, IsWorld}
 use Rattle.nmgc_graph.specs.Marks.{HasPlaces, count_of}
 use Rattle.nmgc_graph.specs.Search.{parts_of, with_weak, with_weaks}
 use Rattle.nmgc_graph.specs.Waiting.{key_of, bounds_of, bound_of, HasBound, with_bound, with_next, weak_at, IsBound, AreFiled, IsRevival}
-use Rattle.nmgc_graph.specs.laws.Orders.{same_name}
-use Rattle.nmgc_graph.specs.laws.Rows.{name_cases}
-use Rattle.nmgc_graph.specs.laws.Worlds.{get_is_some}
+use Rattle.nmgc_world_spec.specs.laws.Orders.{same_name, name_cases}
+use Rattle.nmgc_lists.specs.laws.Items.{get_is_some}
 use Rattle.nmgc_graph.proofs.Follows.{places_stay}
 use Rattle.nmgc_graph.proofs.Weaks.{weaks_mark}
 

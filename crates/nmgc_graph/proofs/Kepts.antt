@@ -1,24 +1,26 @@
 -- From the live names to the dead weak pointers and the kept names.
-use Rattle.std.proofs.Common.{◌≡◌, ◌<◌, ◌≤◌, ◌+◌, ℕ, List, [], ◌∷◌, ◌++◌, length, inl, inr, refl, sym, ap, subst, ◌∙◌, arith, Bool, true, false, not, Option, Some, None, Bor}
-use Rattle.std.specs.Prelude.{Contains, IsSome, filter, option_copied, is_some}
+use Rattle.std.proofs.Common.{◌≡◌, ◌<◌, ◌≤◌, ◌+◌, ℕ, List, [], ◌∷◌, ◌++◌, length, inl, inr, refl, sym, ap, subst, ◌∙◌, arith, Bool, true, false, not, Option, Some, None}
+use Rattle.std.specs.Prelude.{Contains, IsSome, filter, is_some}
 use Rattle.std.proofs.lemmas.Bool.{false≢true, and_parts, and_from, not-true, not_from_false, false_from_ne_true}
 use Rattle.std.proofs.lemmas.List.Elements.{All-nil, All-tail, All-append, All-get_or, Contains-append_left, Contains-append_right, Contains-append_cases, Contains-push, Contains-push_cases}
-use Rattle.nmgc_graph.specs.declared.value.Name.{Name}
-use Rattle.nmgc_graph.specs.declared.value.Value.{Value}
-use Rattle.nmgc_graph.specs.declared.value.Value.TheVariants.{Nil, Number, Ref}
-use Rattle.nmgc_graph.specs.declared.node.Parts.{Parts}
+use Rattle.nmgc_world_spec.specs.declared.value.Name.{Name}
+use Rattle.nmgc_world_spec.specs.declared.value.Value.{Value}
+use Rattle.nmgc_world_spec.specs.declared.value.Value.TheVariants.{Nil, Number, Ref}
+use Rattle.nmgc_world_spec.specs.declared.node.Parts.{Parts}
 use Rattle.nmgc_graph.specs.declared.search.Search.{Search}
-use Rattle.nmgc_graph.specs.World.{World, node_of, serial_of, IsKnown, AreKnown, IsWorld, parts_held}
+use Rattle.nmgc_world_spec.specs.World.{World, node_of, serial_of, IsKnown, AreKnown, IsWorld, parts_held}
 use Rattle.nmgc_graph.specs.Marks.{mark_of, IsMarked, IsPlaced, HasPlaces, with_mark}
-use Rattle.nmgc_graph.specs.Reach.{IsReached, IsAliveWeak, IsDead, IsKept, Lists}
-use Rattle.nmgc_graph.specs.Order.{ListsBefore}
+use Rattle.nmgc_world_spec.specs.Reach.{IsReached, IsAliveWeak, IsDead, IsKept, Lists}
+use Rattle.nmgc_world_spec.specs.Order.{ListsBefore}
 use Rattle.nmgc_graph.specs.Search.{with_values, parts_of, is_key_marked, is_lost, IsLost, IsSetOf, finaliser_in, finalisers_of, IsSearch, IsFollowed, IsLiveFound, IsKeptFound}
-use Rattle.nmgc_graph.specs.laws.Orders.{contains_head, contains_tail, contains_cases, contains_filter, filter_contains, in_order_filter, lists_maker, lists_all}
-use Rattle.nmgc_graph.specs.laws.Rows.{added, kept_others, name_cases, places_kept, makers_kept, name_placed}
-use Rattle.nmgc_graph.specs.laws.Weaks.{weak_within, weak_maker}
+use Rattle.nmgc_lists.specs.laws.Items.{contains_head, contains_tail, contains_cases}
+use Rattle.nmgc_world_spec.specs.laws.Orders.{contains_filter, filter_contains, in_order_filter, lists_maker, lists_all, name_cases}
+use Rattle.nmgc_graph.specs.laws.Rows.{added, kept_others, places_kept, makers_kept, name_placed}
+use Rattle.nmgc_world_laws.specs.laws.Weaks.{weak_within, weak_maker}
 use Rattle.nmgc_graph.proofs.Searches.{Marks, values_mark, are_placed, known_placed}
 use Rattle.nmgc_graph.proofs.Follows.{places_stay, search_stays}
-use Rattle.nmgc_graph.proofs.Weaks.{alive_from_parts, parts_from_alive, parts_known}
+use Rattle.nmgc_graph.specs.laws.Common.{alive_from_parts, parts_from_alive}
+use Rattle.nmgc_graph.proofs.Weaks.{parts_known}
 
 -- an alive weak pointer is one where its parts are there
 pub weak_some : (w : World) (weak : Name) (o : Option Parts) → o ≡ parts_of w weak → is_some o ≡ true → IsAliveWeak w weak
@@ -62,11 +64,6 @@ module _ (w : World) (h : IsWorld w) where
         let t : Search = with_values s (finalisers_of w weaks) in
         known_placed w t.marks (places_stay w s t (finalisers_of w weaks) finalisers_mark places) parts.finaliser
         (All-get_or (IsKnown w) (parts_held (Some parts)) 2 Nil (omega arith) known)
-
--- a reference is there exactly where what it points to is
-pub copied_is_some : {A : Type 0} (r : Option (Bor A)) (o : Option A) → option_copied r ≡ o → is_some r ≡ is_some o
-copied_is_some None o e = ap is_some e
-copied_is_some (Some x) o e = ap is_some e
 
 -- a set of the names that are in the map
 pub set_more : (w : World) (done : List Name) (marks : List (List Bool)) (name : Name) → IsSetOf w done marks → IsSome (node_of w name) →

@@ -5,19 +5,20 @@ use Rattle.std.specs.List.{refill}
 use Rattle.std.proofs.lemmas.Bool.{ne_eqb}
 use Rattle.std.proofs.lemmas.Option.{get_or_from_slice_get}
 use Rattle.nmgc_lists.specs.declared.memory.NoMemory.{NoMemory}
-use Rattle.nmgc_graph.specs.declared.command.Operand.{Operand}
-use Rattle.nmgc_graph.specs.declared.command.Reply.{Reply}
+use Rattle.nmgc_world_spec.specs.declared.command.Operand.{Operand}
+use Rattle.nmgc_world_spec.specs.declared.command.Reply.{Reply}
 use Rattle.nmgc_limits.specs.declared.mutators.TheConstants.{SHARED_MAKER}
-use Rattle.nmgc_graph.specs.declared.value.Name.{Name}
-use Rattle.nmgc_graph.specs.declared.value.Value.{Value}
-use Rattle.nmgc_graph.specs.declared.node.Node.{Node}
-use Rattle.nmgc_graph.specs.declared.change.Change.{Change}
-use Rattle.nmgc_graph.specs.declared.mutator_state.MutatorState.{MutatorState}
-use Rattle.nmgc_graph.specs.World.{World, state_of, node_of, AreKnown, IsKnownReply, IsKnownChange, IsWorld}
-use Rattle.nmgc_graph.specs.Command.{IsOperand}
-use Rattle.nmgc_graph.specs.Change.{changed}
-use Rattle.nmgc_graph.specs.Step.{with_state, with_nth, with_node, value_of, change_node}
-use Rattle.nmgc_graph.specs.laws.Worlds.{refill_whole, operands_known, replaced, lent, is_shared, shared_changed, shared_reply, within, maker_exists, nth_changed, nth_reply, is_some_of, in_state, same_state}
+use Rattle.nmgc_world_spec.specs.declared.value.Name.{Name}
+use Rattle.nmgc_world_spec.specs.declared.value.Value.{Value}
+use Rattle.nmgc_world_spec.specs.declared.node.Node.{Node}
+use Rattle.nmgc_world_spec.specs.declared.change.Change.{Change}
+use Rattle.nmgc_world_spec.specs.declared.mutator_state.MutatorState.{MutatorState}
+use Rattle.nmgc_world_spec.specs.World.{World, state_of, node_of, AreKnown, IsKnownReply, IsKnownChange, IsWorld}
+use Rattle.nmgc_world_spec.specs.Command.{IsOperand}
+use Rattle.nmgc_world_spec.specs.Change.{changed}
+use Rattle.nmgc_world_spec.specs.Step.{with_state, with_nth, with_node, value_of, change_node}
+use Rattle.nmgc_world_laws.specs.laws.Worlds.{refill_whole, operands_known, replaced, lent, is_shared, shared_changed, shared_reply, within, maker_exists, nth_changed, nth_reply, in_state, same_state}
+use Rattle.nmgc_lists.specs.laws.Items.{is_some_of}
 
 -- the values that a call gave are known, if it gave any
 pub values_known : (w : World) (m : ℕ) → IsWorld w → m < length w.mutators → (os : List Operand) → All IsOperand os → (registers : List Value) →

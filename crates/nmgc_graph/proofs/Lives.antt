@@ -4,18 +4,18 @@ use Rattle.std.specs.Prelude.{Contains, All, IsSome, flat_map}
 use Rattle.std.proofs.lemmas.Bool.{false≢true}
 use Rattle.std.proofs.lemmas.List.{get_or_read}
 use Rattle.std.proofs.lemmas.List.Elements.{All-cons, All-nil, All-head, All-tail, All-append, All-contains, All-from_get_or, All-weaker, Contains-append_left, Contains-append_right, Contains-append_cases}
-use Rattle.nmgc_graph.specs.declared.value.Name.{Name}
-use Rattle.nmgc_graph.specs.declared.value.Value.{Value}
-use Rattle.nmgc_graph.specs.declared.value.Value.TheVariants.{Nil, Number, Ref}
-use Rattle.nmgc_graph.specs.declared.node.Parts.{Parts}
+use Rattle.nmgc_world_spec.specs.declared.value.Name.{Name}
+use Rattle.nmgc_world_spec.specs.declared.value.Value.{Value}
+use Rattle.nmgc_world_spec.specs.declared.value.Value.TheVariants.{Nil, Number, Ref}
+use Rattle.nmgc_world_spec.specs.declared.node.Parts.{Parts}
 use Rattle.nmgc_graph.specs.declared.search.Search.{Search}
-use Rattle.nmgc_graph.specs.World.{World, node_of, state_of, no_mutator, IsKnown, AreKnown, IsWorld}
-use Rattle.nmgc_graph.specs.Step.{shared_name}
+use Rattle.nmgc_world_spec.specs.World.{World, node_of, state_of, no_mutator, IsKnown, AreKnown, IsWorld}
+use Rattle.nmgc_world_spec.specs.Step.{shared_name}
 use Rattle.nmgc_graph.specs.Marks.{mark_of, IsMarked, HasPlace, unmarked_count, HasPlaces}
-use Rattle.nmgc_graph.specs.Reach.{IsRoot, IsLive, IsAlive, IsAliveWeak, IsKeptBy, IsPlain}
+use Rattle.nmgc_world_spec.specs.Reach.{IsRoot, IsLive, IsAlive, IsAliveWeak, IsKeptBy, IsPlain}
 use Rattle.nmgc_graph.specs.Search.{with_name, with_values, with_weaks, values_held, starts_of, is_key_marked, fields_in, IsLiveSearch, AreRevived, IsLiveFound}
 use Rattle.nmgc_graph.specs.Waiting.{key_of, weak_at, IsRevival}
-use Rattle.nmgc_graph.specs.laws.Orders.{contains_head, contains_tail, contains_cases}
+use Rattle.nmgc_lists.specs.laws.Items.{contains_head, contains_tail, contains_cases}
 use Rattle.nmgc_graph.specs.laws.Rows.{name_placed}
 use Rattle.nmgc_graph.proofs.Searches.{Marks, same_ref, values_mark, name_marks, are_placed, then_marks}
 use Rattle.nmgc_graph.proofs.Follows.{places_stay, search_stays, refers_in, fields_refer, fields_mark, was_marked, still_waits, search_goes_on, one_less}

@@ -2,16 +2,17 @@
 use Rattle.std.proofs.Common.{◌≡◌, ◌≤◌, ◌+◌, ℕ, List, [], ◌∷◌, ◌++◌, length, inl, inr, refl, sym, subst, ◌∙◌, arith, Bool, false, ◌⊎◌, length-append, map}
 use Rattle.std.specs.Prelude.{Contains, All}
 use Rattle.std.proofs.lemmas.Bool.{cases_Bool}
-use Rattle.std.proofs.lemmas.List.Elements.{All-cons, All-nil, All-head, All-tail, All-weaker, All-map, Contains-append_left, Contains-append_right, Contains-append_cases, Contains-push, Contains-push_cases}
-use Rattle.nmgc_graph.specs.declared.value.Name.{Name}
-use Rattle.nmgc_graph.specs.declared.value.Value.{Value}
-use Rattle.nmgc_graph.specs.declared.value.Value.TheVariants.{Nil, Number, Ref}
+use Rattle.std.proofs.lemmas.List.Elements.{All-head, All-tail, All-weaker, All-map, Contains-append_left, Contains-append_right, Contains-append_cases, Contains-push, Contains-push_cases}
+use Rattle.nmgc_world_spec.specs.declared.value.Name.{Name}
+use Rattle.nmgc_world_spec.specs.declared.value.Value.{Value}
+use Rattle.nmgc_world_spec.specs.declared.value.Value.TheVariants.{Nil, Number, Ref}
 use Rattle.nmgc_graph.specs.declared.search.Search.{Search}
-use Rattle.nmgc_graph.specs.World.{World, IsKnown, AreKnown}
+use Rattle.nmgc_world_spec.specs.World.{World, IsKnown, AreKnown}
 use Rattle.nmgc_graph.specs.Marks.{row_of, mark_of, IsMarked, HasPlace, IsPlaced, with_mark, unmarked_count, HasPlaces}
 use Rattle.nmgc_graph.specs.Search.{with_name, with_value, with_values}
-use Rattle.nmgc_graph.specs.laws.Orders.{contains_head, contains_cases}
-use Rattle.nmgc_graph.specs.laws.Rows.{name_placed, added, kept_others, places_kept, makers_kept, one_fewer, name_cases}
+use Rattle.nmgc_lists.specs.laws.Items.{contains_head, contains_cases}
+use Rattle.nmgc_graph.specs.laws.Rows.{name_placed, added, kept_others, places_kept, makers_kept, one_fewer}
+use Rattle.nmgc_world_spec.specs.laws.Orders.{name_cases}
 
 -- what marking the names that these values refer to changes
 pub record Marks (s t : Search) (values : List Value) : Type 0 where
@@ -134,14 +135,6 @@ values_mark (v ∷ values) s placed =
     let rest = All-weaker (IsPlaced s.marks) (IsPlaced (with_value s v).marks) (still_placed s.marks (with_value s v).marks one.places) values
     (All-tail (IsPlaced s.marks) v values placed) in
     then_marks s (with_value s v) (with_values s (v ∷ values)) (v ∷ []) values one (values_mark values (with_value s v) rest)
-
-pub all_front : {A : Type 0} (P : A → Type 0) (xs ys : List A) → All P (xs ++ ys) → All P xs
-all_front P [] ys all = All-nil P
-all_front P (x ∷ xs) ys all = All-cons P x xs (All-head P x (xs ++ ys) all) (all_front P xs ys (All-tail P x (xs ++ ys) all))
-
-pub all_back : {A : Type 0} (P : A → Type 0) (xs ys : List A) → All P (xs ++ ys) → All P ys
-all_back P [] ys all = all
-all_back P (x ∷ xs) ys all = all_back P xs ys (All-tail P x (xs ++ ys) all)
 
 -- values that have a place have one after marking others
 pub placed_after : (s : Search) (others values : List Value) → All (IsPlaced s.marks) others → All (IsPlaced s.marks) values →

@@ -3,38 +3,23 @@ use Rattle.std.proofs.Common.{◌≡◌, List, [], ◌∷◌, ◌++◌, inl, inr
 use Rattle.std.specs.Prelude.{Contains, All, IsSome, IfSome, option_and_then}
 use Rattle.std.proofs.lemmas.Bool.{cases_Bool}
 use Rattle.std.proofs.lemmas.List.Elements.{All-cons, All-tail}
-use Rattle.nmgc_graph.specs.declared.value.Name.{Name}
-use Rattle.nmgc_graph.specs.declared.value.Value.{Value}
-use Rattle.nmgc_graph.specs.declared.value.Value.TheVariants.{Nil, Number, Ref}
-use Rattle.nmgc_graph.specs.declared.node.Parts.{Parts}
-use Rattle.nmgc_graph.specs.declared.node.Node.{Node}
-use Rattle.nmgc_graph.specs.declared.node.Node.TheVariants.{Con, Var, Arr, Thunk, Weak, Stack}
+use Rattle.nmgc_world_spec.specs.declared.value.Name.{Name}
+use Rattle.nmgc_world_spec.specs.declared.value.Value.{Value}
+use Rattle.nmgc_world_spec.specs.declared.value.Value.TheVariants.{Nil, Number, Ref}
+use Rattle.nmgc_world_spec.specs.declared.node.Parts.{Parts}
+use Rattle.nmgc_world_spec.specs.declared.node.Node.{Node}
+use Rattle.nmgc_world_spec.specs.declared.node.Node.TheVariants.{Con, Var, Arr, Thunk, Weak, Stack}
 use Rattle.nmgc_graph.specs.declared.search.Search.{Search}
-use Rattle.nmgc_graph.specs.World.{World, node_of, AreKnown, IsNodeOf, IsWorld, parts_held}
+use Rattle.nmgc_world_spec.specs.World.{World, node_of, AreKnown, IsNodeOf, IsWorld, parts_held}
 use Rattle.nmgc_graph.specs.Marks.{IsMarked, IsPlaced, HasPlaces}
-use Rattle.nmgc_graph.specs.Reach.{IsAlive, IsAliveWeak, IsKeptBy, IsLive}
+use Rattle.nmgc_world_spec.specs.Reach.{IsAlive, IsAliveWeak, IsKeptBy, IsLive}
 use Rattle.nmgc_graph.specs.Search.{with_weak, with_weaks, parts_in, parts_of, is_key_marked, AreRevived}
 use Rattle.nmgc_graph.specs.Waiting.{name_in, key_of}
-use Rattle.nmgc_graph.specs.laws.Orders.{contains_head, contains_tail, contains_cases}
+use Rattle.nmgc_lists.specs.laws.Items.{contains_head, contains_tail, contains_cases}
 use Rattle.nmgc_graph.specs.laws.Rows.{name_placed}
 use Rattle.nmgc_graph.proofs.Searches.{same_ref, Marks, no_marks, then_marks, values_mark, are_placed}
 use Rattle.nmgc_graph.proofs.Follows.{places_stay}
-
--- the parts of a weak pointer are there where it is alive
-parts_alive : (o : Option Node) (parts : Parts) → option_and_then parts_in o ≡ Some parts → o ≡ Some (Weak (Some parts))
-parts_alive None parts e = absurd cc
-parts_alive (Some (Con tag values)) parts e = absurd cc
-parts_alive (Some (Var v)) parts e = absurd cc
-parts_alive (Some (Arr values)) parts e = absurd cc
-parts_alive (Some (Thunk free result)) parts e = absurd cc
-parts_alive (Some (Stack size values)) parts e = absurd cc
-parts_alive (Some (Weak found)) parts e = ap (λ (p : Option Parts). Some (Weak p)) e
-
-pub alive_from_parts : (w : World) (weak : Name) (parts : Parts) → parts_of w weak ≡ Some parts → IsAlive w weak parts
-alive_from_parts w weak parts e = parts_alive (node_of w weak) parts e
-
-pub parts_from_alive : (w : World) (weak : Name) (parts : Parts) → IsAlive w weak parts → parts_of w weak ≡ Some parts
-parts_from_alive w weak parts e = ap (λ (o : Option Node). option_and_then parts_in o) e
+use Rattle.nmgc_graph.specs.laws.Common.{parts_from_alive, parts_alive, alive_from_parts}
 
 -- an alive weak pointer waits for the name that its key refers to
 pub key_from_alive : (w : World) (weak name : Name) (parts : Parts) → IsAlive w weak parts → parts.key ≡ Ref name → key_of w weak ≡ Some name

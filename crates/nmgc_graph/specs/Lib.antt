@@ -1,13 +1,5 @@
-pub mod Change
 pub mod Closing
-pub mod Command
-pub mod History
 pub mod Marks
-pub mod Order
-pub mod Reach
-pub mod Replay
 pub mod Search
-pub mod Step
 pub mod Waiting
-pub mod World
 pub mod laws

@@ -1,8 +1,2 @@
-pub mod Closings
-pub mod Growth
-pub mod NewWorlds
-pub mod Nodes
-pub mod Orders
+pub mod Common
 pub mod Rows
-pub mod Weaks
-pub mod Worlds

@@ -12,41 +12,11 @@
 //! Easy to get wrong: `write` asks for no refusal again, and writes a variable's field at whatever
 //! index. So it is for changes whose answer says that they are done.
 ghost use Rattle.std.specs.Prelude.{◌≡◌, IfOk, OnOk, OnErr};
-ghost use Rattle.nmgc_graph.specs.Change.{changed, field_read, result_read, value_read, field_set, field_exchanged, thunk_updated, stack_pushed, stack_popped, weak_finalised, is_same, given_or, is_done, written, field_written, result_written, value_pushed, top_dropped, killed};
-ghost use Rattle.nmgc_graph.specs.declared.value.Value.{Value as ValueAt};
+ghost use Rattle.nmgc_world_spec.specs.Change.{changed, field_read, result_read, value_read, field_set, field_exchanged, thunk_updated, stack_pushed, stack_popped, weak_finalised, is_same, given_or, is_done, written, field_written, result_written, value_pushed, top_dropped, killed};
+ghost use Rattle.nmgc_world_spec.specs.declared.value.Value.{Value as ValueAt};
 
-use crate::{NoMemory, Node, Reply, Value};
-
-/// A change of one object, with the values that the operands have.
-#[derive(Clone, Copy, Debug, PartialEq, Eq)]
-pub enum Change {
-    /// A field of a variable or an array takes a value.
-    Set {
-        index: u32,
-        value: Value,
-    },
-    /// A field of a variable or an array takes a value where it holds the expected one.
-    Exchange {
-        index: u32,
-        expected: Value,
-        value: Value,
-    },
-    /// A thunk without a result gets one.
-    Update {
-        value: Value,
-    },
-    /// A value goes on top of a stack that this mutator made.
-    Push {
-        mutator: u8,
-        value: Value,
-    },
-    /// The top goes off a stack that this mutator made.
-    Pop {
-        mutator: u8,
-    },
-    /// An alive weak pointer dies.
-    Finalise,
-}
+use nmgc_lists::NoMemory;
+use nmgc_world_spec::{Change, Node, Reply, Value};
 
 /// What `get` answers of an object: a field of a constructor, a variable or an array, or the
 /// refusal. Takes no memory, and constant time.

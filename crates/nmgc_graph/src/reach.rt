@@ -9,19 +9,22 @@
 //! Easy to get wrong: a single pass is not enough, since a weak pointer may revive the key of one before
 //! it. One whose key is nil or a number waits for no name. And the weak pointer itself need not be referred to.
 ghost use Rattle.std.specs.Prelude.{◌≡◌, ℕ, ◌+◌, ◌<◌, [], false, IsSome, IfSome, IfOk, OnOk, All, length, flat_map};
-ghost use Rattle.nmgc_graph.specs.declared.value.Name.{Name as NameAt};
+ghost use Rattle.nmgc_world_spec.specs.declared.value.Name.{Name as NameAt};
 ghost use Rattle.nmgc_graph.specs.Marks.{IsPlaced, mark_of};
 ghost use Rattle.nmgc_graph.specs.Search.{with_values, values_held, parts_in, fields_in};
 
+use crate::World;
 use crate::marks::Marks;
 use crate::search::Search;
 use crate::waiting::Waiting;
-use crate::{List, MutatorState, Name, NoMemory, Node, Parts, SHARED_MAKER, Value, World};
+use nmgc_limits::SHARED_MAKER;
+use nmgc_lists::{List, NoMemory};
+use nmgc_world_spec::{MutatorState, Name, Node, Parts, Value};
 
 impl World {
-    ghost use Rattle.nmgc_graph.specs.World.{AreKnown, parts_held, node_of};
-    ghost use Rattle.nmgc_graph.specs.Reach.{IsAliveWeak, IsLive, IsDead, IsKept, Lists};
-    ghost use Rattle.nmgc_graph.specs.Order.{ListsBefore};
+    ghost use Rattle.nmgc_world_spec.specs.World.{AreKnown, parts_held, node_of};
+    ghost use Rattle.nmgc_world_spec.specs.Reach.{IsAliveWeak, IsLive, IsDead, IsKept, Lists};
+    ghost use Rattle.nmgc_world_spec.specs.Order.{ListsBefore};
     ghost use Rattle.nmgc_graph.specs.Marks.{HasPlaces, count_of};
     ghost use Rattle.nmgc_graph.specs.Search.{IsSearch, IsFollowed, parts_of, with_weak, with_weaks, starts_of, IsLiveSearch, IsLiveFound, IsKeptFound, IsLost, IsSetOf, is_lost, finalisers_of};
     ghost use Rattle.nmgc_graph.specs.Waiting.{key_of, bounds_of, bound_of, AreFiled, IsRevival};

@@ -1,11 +1,13 @@
 //! What a world has, for reading, and a copy of it.
 ghost use Rattle.std.specs.Prelude.{◌≡◌, ◌<◌, length, IfOk};
 
-use crate::{List, MutatorState, NoMemory, Node, Queue, Value, World};
+use crate::World;
+use nmgc_lists::{List, NoMemory, Queue};
+use nmgc_world_spec::{MutatorState, Node, Value};
 use std::alloc::Global;
 
 impl World {
-    ghost use Rattle.nmgc_graph.specs.World.{state_of, serial_of, IsWorld};
+    ghost use Rattle.nmgc_world_spec.specs.World.{state_of, serial_of, IsWorld};
 
     /// The allocator that the world takes its memory from. Takes constant time.
     pub fn alloc(&self) -> Global {

@@ -6,13 +6,14 @@
 //! readers that `apply` asks.
 ghost use Rattle.std.specs.Prelude.{◌≡◌, ◌<◌, length};
 
-use crate::change::{Change, change_reply, given_or};
-use crate::{Command, Name, Reply, Value, World};
+use crate::World;
+use crate::change::{change_reply, given_or};
+use nmgc_world_spec::{Change, Command, Name, Reply, Value};
 
 impl World {
-    ghost use Rattle.nmgc_graph.specs.Command.{HasRegisters};
-    ghost use Rattle.nmgc_graph.specs.Step.{step, asked, change_asked, change_object, next_name};
-    ghost use Rattle.nmgc_graph.specs.World.{state_of};
+    ghost use Rattle.nmgc_world_spec.specs.Command.{HasRegisters};
+    ghost use Rattle.nmgc_world_spec.specs.Step.{step, asked, change_asked, change_object, next_name};
+    ghost use Rattle.nmgc_world_spec.specs.World.{state_of};
 
     /// What `apply` would answer to a command, if there is memory. Nothing is done. Takes no memory, and
     /// constant time.

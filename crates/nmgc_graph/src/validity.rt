@@ -2,13 +2,13 @@
 //!
 //! A script never asks for a register that isn't there, or for more objects than there are serials. A
 //! caller that gets its commands from elsewhere has to ask.
-ghost use Rattle.std.specs.Prelude.{◌↔◌, IsTrue, All};
-ghost use Rattle.nmgc_graph.specs.Command.{HasRegisters, IsOperand, IsRegister};
+ghost use Rattle.std.specs.Prelude.{◌↔◌, IsTrue};
 
-use crate::{Command, Operand, REGISTERS, World};
+use crate::World;
+use nmgc_world_spec::Command;
 
 impl World {
-    ghost use Rattle.nmgc_graph.specs.Step.{CanApply};
+    ghost use Rattle.nmgc_world_spec.specs.Step.{CanApply};
 
     /// Whether the mutator and the command's registers exist, and one more object still has a serial:
     /// what `apply` asks for. Takes no memory, and as long as `Command::has_registers`.
@@ -17,74 +17,4 @@ impl World {
     {
         mutator < self.mutators() && command.has_registers() && self.serial(mutator) < u32::MAX
     }
-}
-
-impl Command {
-    /// Whether the registers of the command exist. Takes no memory, and constant time but for a
-    /// constructor or a thunk, whose operands are looked at one by one.
-    pub fn has_registers(&self) -> bool
-        ensures { IsTrue result ↔ HasRegisters self.now }
-    {
-        match self {
-            Command::Num { dest, .. } | Command::Nil { dest } => is_register(*dest),
-            Command::Stack { dest, .. } | Command::NextFin { dest } => is_register(*dest),
-            Command::Mov { dest, value }
-            | Command::Var { dest, value }
-            | Command::Arr { dest, value, .. } => is_register(*dest) && is_operand(*value),
-            Command::Con { dest, fields, .. } => is_register(*dest) && are_operands(fields.items()),
-            Command::Thunk { dest, free } => is_register(*dest) && are_operands(free.items()),
-            Command::Weak {
-                dest,
-                key,
-                value,
-                finaliser,
-            } => {
-                is_register(*dest)
-                    && is_operand(*key)
-                    && is_operand(*value)
-                    && is_operand(*finaliser)
-            }
-            Command::Get { dest, object, .. }
-            | Command::Force { dest, object }
-            | Command::Pop { dest, object }
-            | Command::Deref { dest, object }
-            | Command::Finalise { dest, object } => is_register(*dest) && is_operand(*object),
-            Command::Cas {
-                object,
-                index: _,
-                expected,
-                value,
-            } => { is_operand(*object) && is_operand(*expected) && is_operand(*value) }
-            Command::Set { object, value, .. }
-            | Command::Update { object, value }
-            | Command::Push { object, value } => is_operand(*object) && is_operand(*value),
-            Command::Show { value } => is_operand(*value),
-            Command::Same { left, right } => is_operand(*left) && is_operand(*right),
-            Command::Yield | Command::Collect | Command::Full => true,
-        }
-    }
-}
-
-// Whether the register exists.
-fn is_register(register: u8) -> bool
-    ensures { IsTrue result ↔ IsRegister register }
-{
-    register < REGISTERS
-}
-
-// Whether the operand's register exists, if it has one.
-fn is_operand(operand: Operand) -> bool
-    ensures { IsTrue result ↔ IsOperand operand }
-{
-    match operand {
-        Operand::Register(register) => is_register(register),
-        Operand::Shared => true,
-    }
-}
-
-// Whether the registers of all operands exist.
-fn are_operands(operands: &[Operand]) -> bool
-    ensures { IsTrue result ↔ All IsOperand operands.now }
-{
-    operands.iter().all(|operand| is_operand(*operand))
 }

@@ -10,7 +10,8 @@
 //! met is smaller than the one before it, which is why going over them ends.
 ghost use Rattle.std.specs.Prelude.{◌≡◌, ◌<◌, ◌≤◌, ◌^◌, [], ◌∷◌, ◌++◌, length, replicate, slice_index, slice_set, OnOk, IfSome};
 
-use crate::{List, Name, NoMemory};
+use nmgc_lists::{List, NoMemory};
+use nmgc_world_spec::Name;
 use std::alloc::Global;
 
 /// For each name the bound of the weak pointers that wait for it, and for each weak pointer that of those before it.

@@ -12,17 +12,16 @@
 //! Easy to get wrong: after want of memory nothing may have changed, so what takes memory is done
 //! before a register is written.
 ghost use Rattle.std.specs.Prelude.{replicate, Some, None, [], ◌≡◌, ◌-◌, ◌<◌, ◌≤◌, ◌^◌, length, map, IfOk, IfSome, IsSome, OnOk, OnErr, slice_get, option_copied, All};
-ghost use Rattle.nmgc_graph.specs.World.{new_mutator};
-ghost use Rattle.nmgc_graph.specs.Command.{IsOperand, IsRegister};
-ghost use Rattle.nmgc_graph.specs.Step.{value_of, with_new, next_name, holding, with_finaliser, with_nth};
-ghost use Rattle.nmgc_graph.specs.declared.node.Node.{Node as NodeAt};
-ghost use Rattle.nmgc_graph.specs.Change.{given_or, changed, field_read, result_read, value_read};
+ghost use Rattle.nmgc_world_spec.specs.World.{new_mutator};
+ghost use Rattle.nmgc_world_spec.specs.Command.{IsOperand, IsRegister};
+ghost use Rattle.nmgc_world_spec.specs.Step.{value_of, with_new, next_name, holding, with_finaliser, with_nth};
+ghost use Rattle.nmgc_world_spec.specs.declared.node.Node.{Node as NodeAt};
+ghost use Rattle.nmgc_world_spec.specs.Change.{given_or, changed, field_read, result_read, value_read};
 
-use crate::change::{Change, change_in_place, read_field, read_result, read_value, same};
-use crate::{
-    Command, List, MAKERS, MutatorState, Name, NoMemory, Node, Operand, Parts, Queue, REGISTERS,
-    Reply, SHARED_MAKER, SHARED_SLOTS, Value,
-};
+use crate::change::{change_in_place, read_field, read_result, read_value, same};
+use nmgc_limits::{MAKERS, REGISTERS, SHARED_MAKER, SHARED_SLOTS};
+use nmgc_lists::{List, NoMemory, Queue};
+use nmgc_world_spec::{Change, Command, MutatorState, Name, Node, Operand, Parts, Reply, Value};
 use std::alloc::Global;
 use std::marker::Model;
 
@@ -47,7 +46,7 @@ impl Drop for World {
 }
 
 impl Model for World {
-    ghost use Rattle.nmgc_graph.specs.World.{World as Shown, IsWorld};
+    ghost use Rattle.nmgc_world_spec.specs.World.{World as Shown, IsWorld};
 
     ghost Value = { Shown };
 
@@ -57,9 +56,9 @@ impl Model for World {
 }
 
 impl World {
-    ghost use Rattle.nmgc_graph.specs.World.{node_of, new_world, IsKnown, IsKnownReply, IsKnownChange, AreKnown, IsNodeOf, IsWorld, serial_of, Grows};
-    ghost use Rattle.nmgc_graph.specs.Command.{HasRegisters};
-    ghost use Rattle.nmgc_graph.specs.Step.{step, value_for, values_for, born, with_register, keeping, object_of, read_object, asked, change_asked, change_into, change_object, change_node, next_finaliser, same_reply};
+    ghost use Rattle.nmgc_world_spec.specs.World.{node_of, new_world, IsKnown, IsKnownReply, IsKnownChange, AreKnown, IsNodeOf, IsWorld, serial_of, Grows};
+    ghost use Rattle.nmgc_world_spec.specs.Command.{HasRegisters};
+    ghost use Rattle.nmgc_world_spec.specs.Step.{step, value_for, values_for, born, with_register, keeping, object_of, read_object, asked, change_asked, change_into, change_object, change_node, next_finaliser, same_reply};
 
     /// The world of 1 to `MAKERS` mutators before any command: registers are nil, queues are empty,
     /// g is full of nil, and no mutator has made anything.

@@ -4,8 +4,8 @@ use Rattle.std.specs.Prelude.{slice_index}
 use Rattle.std.proofs.Math.Nat.{mul-le-mul_right}
 use Rattle.std.proofs.Math.ListN.{get_or-eq_default}
 use Rattle.std.proofs.lemmas.Bool.{cases_eq, cases_lt, cases_order}
-use Rattle.nmgc_graph.specs.declared.node.Kind.{Kind}
-use Rattle.nmgc_graph.specs.declared.node.Kind.TheVariants.{Con, Var, Arr, Thunk, Weak, Stack}
+use Rattle.nmgc_world_spec.specs.declared.node.Kind.{Kind}
+use Rattle.nmgc_world_spec.specs.declared.node.Kind.TheVariants.{Con, Var, Arr, Thunk, Weak, Stack}
 use Rattle.nmgc_object.specs.Words.{header_word, HasFields}
 use Rattle.nmgc_object.specs.Places.{nursery_place}
 use Rattle.nmgc_object.specs.declared.layout.Layout.{Layout}
@@ -13,11 +13,12 @@ use Rattle.nmgc_object.specs.declared.layout.Nursery.{Nursery}
 use Rattle.nmgc_object.specs.declared.words.Header.{Header}
 use Rattle.nmgc_object.specs.declared.layout.TheConstants.{SHARED_PLACE, FIRST_PLACE}
 use Rattle.nmgc_object.specs.declared.size.TheConstants.{HEADER_WORDS}
-use Rattle.nmgc_alloc.specs.Segments.{Segments, IsSegments}
+use Rattle.nmgc_alloc.specs.Numbered.{Segments}
+use Rattle.nmgc_alloc.specs.Segments.{IsSegments}
 use Rattle.nmgc_alloc.specs.Reserve.{KeepsReserve}
-use Rattle.nmgc_heap.specs.laws.Headers.{same_header}
-use Rattle.nmgc_blocks.specs.Nurseries.{AreEmpty, nursery_at}
-use Rattle.nmgc_blocks.specs.Strong.{HasStrong, strong_part}
+use Rattle.nmgc_heap_spec.specs.laws.Headers.{same_header}
+use Rattle.nmgc_blocks_spec.specs.Nurseries.{AreEmpty, nursery_at}
+use Rattle.nmgc_blocks_spec.specs.Strong.{HasStrong, strong_part}
 use Rattle.nmgc_minor.specs.declared.young.Young.{Young}
 use Rattle.nmgc_minor.specs.Inputs.{Inputs}
 use Rattle.nmgc_minor.specs.Found.{IsStart, IsFound}

@@ -5,20 +5,19 @@ use Rattle.std.proofs.lemmas.List.{length-replicate, get_or-replicate}
 use mathlib.Core.Option.{some, some-injective, some-ne-none}
 use lib.ListN.{get_elem?}
 use Rattle.nmgc_limits.specs.declared.mutators.TheConstants.{SHARED_SLOTS}
-use Rattle.nmgc_graph.specs.declared.node.Kind.TheVariants as kind
-use Rattle.nmgc_graph.specs.declared.command.Command.{Command}
-use Rattle.nmgc_graph.specs.declared.command.Command.TheVariants.{Var, Get, Set, Yield}
-use Rattle.nmgc_graph.specs.declared.command.Operand.TheVariants.{Register, Shared}
-use Rattle.nmgc_graph.specs.declared.command.Reply.TheVariants.{Fine}
-use Rattle.nmgc_graph.specs.Command.{Fits}
-use Rattle.nmgc_graph.specs.laws.Orders.{contains_head, contains_tail}
+use Rattle.nmgc_world_spec.specs.declared.node.Kind.TheVariants as kind
+use Rattle.nmgc_world_spec.specs.declared.command.Command.{Command}
+use Rattle.nmgc_world_spec.specs.declared.command.Command.TheVariants.{Var, Get, Set, Yield}
+use Rattle.nmgc_world_spec.specs.declared.command.Operand.TheVariants.{Register, Shared}
+use Rattle.nmgc_world_spec.specs.declared.command.Reply.TheVariants.{Fine}
+use Rattle.nmgc_world_spec.specs.Command.{Fits}
+use Rattle.nmgc_lists.specs.laws.Items.{contains_head, contains_tail, nothing_in, one_is}
 use Rattle.nmgc_object.specs.Words.{name_word}
 use Rattle.nmgc_object.specs.Places.{IsLayout, nursery_place}
 use Rattle.nmgc_object.specs.declared.words.Header.{Header}
 use Rattle.nmgc_object.specs.declared.layout.Layout.{Layout}
-use Rattle.nmgc_reach.specs.laws.ItemLaws.{nothing_in, one_is}
 use Rattle.nmgc_round.specs.View.{loaded, stored, gave_birth, swapped, answered, plain, word, Hand, FixedWord, UnbornWord, Opening, Part, Seen, no_hand, hand_of, hand_now, blank, finding, knowing, storing, bearing_object, doing}
-use Rattle.nmgc_round.specs.Seat.{RoundSeat, IsAt, seen}
+use Rattle.nmgc_round.specs.Seat.{RoundSeat, seen}
 use Rattle.nmgc_round.specs.Seating.{alone, alones, all_together}
 use Rattle.nmgc_round.specs.Ready.{IsMutator, HasPart, CanGive, Names, CanLoad, CanSwap, CanStore, CanBear}
 use Rattle.nmgc_round.specs.Told.{CanFix, CanTake, taken, told_by}
@@ -26,6 +25,7 @@ use Rattle.nmgc_round.specs.Finishing.{HasAll}
 use Rattle.nmgc_round.specs.Empty.{new_hand, first_opening}
 use Rattle.nmgc_round.specs.declared.table.Round.{Round}
 use Rattle.nmgc_round.specs.laws.Gathering.{gathered}
+use Rattle.nmgc_round.specs.laws.Common.{alones_count, map_count}
 
 -- the view of a seat with one mutator's part
 abbrev pub with_part : Layout → Part → Seen
@@ -247,14 +247,6 @@ pub seat_is : (layout : Layout) (r : Round) (k : ℕ) (seats : List RoundSeat) (
 seat_is layout r k seats d e lt = seat_at layout r 0 k (first_opening layout).hands seats d e lt ∙
     ap (λ j. alone (first_opening layout) j) (let z : 0 + k ≡ k = omega arith in z)
 
-alones_count : (o : Opening) (n : ℕ) (hands : List Hand) → length (alones o n hands) ≡ length hands
-alones_count o n [] = refl
-alones_count o n (h ∷ hands) = ap suc (alones_count o (suc n) hands)
-
-map_count : (seats : List RoundSeat) → length (map seen seats) ≡ length seats
-map_count [] = refl
-map_count (s ∷ seats) = ap suc (map_count seats)
-
 pub seat_count : (layout : Layout) (seats : List RoundSeat) → map seen seats ≡ alones (first_opening layout) 0 (first_opening layout).hands →
     length seats ≡ layout.mutators
 seat_count layout seats e = sym (map_count seats) ∙ ap (λ (l : List Seen). length l) e ∙
@@ -288,14 +280,3 @@ written n [] (y ∷ ys) l e = absurd (omega arith)
 written n (x ∷ xs) [] l e = absurd (omega arith)
 written zero (x ∷ xs) (y ∷ ys) l e = absurd (omega arith)
 written (suc n) (x ∷ xs) (y ∷ ys) l e = ap (λ l. y ∷ l) (written n xs ys (omega arith) (omega arith))
-
--- the seats of a round that begins are ready
-pub are_ready : (layout : Layout) (r : Round) (value : Opening) (seats now : List RoundSeat) → value ≡ first_opening layout →
-    map seen seats ≡ alones value 0 value.hands → All (IsAt r) seats → now ≡ seats
-    → (length now ≡ layout.mutators) × ((k : ℕ) (d : RoundSeat) → k < length now → IsAt r (slice_index_or now k d) ×
-    (seen (slice_index_or now k d) ≡ alone (first_opening layout) k))
-are_ready layout r value seats now first cut all same =
-    let cut' : map seen seats ≡ alones (first_opening layout) 0 (first_opening layout).hands = cut ∙ ap (λ (y : Opening). alones y 0 y.hands) first in
-    subst (λ (l : List RoundSeat). (length l ≡ layout.mutators) ×
-    ((k : ℕ) (d : RoundSeat) → k < length l → IsAt r (slice_index_or l k d) × (seen (slice_index_or l k d) ≡ alone (first_opening layout) k))) (sym same)
-    (seat_count layout seats cut', λ k d lt. (all k d lt, seat_is layout r k seats d cut' lt))

@@ -2,7 +2,7 @@
 use Rattle.std.proofs.Common.{◌≡◌, ◌≤◌, ◌∙◌, ℕ, List, length, sym, ap, subst, refl, arith}
 use Rattle.std.specs.Prelude.{replicate}
 use Rattle.std.proofs.lemmas.List.{length-replicate}
-use Rattle.nmgc_heap.specs.Samples.{small_layout, chain_words}
+use Rattle.nmgc_heap_spec.specs.Samples.{small_layout, chain_words}
 use Rattle.nmgc_round.specs.View.{Opening, Seen, hand_of}
 use Rattle.nmgc_round.specs.Starting.{CanOpen}
 use Rattle.nmgc_round.specs.Seat.{RoundSeat, IsAt, opening_of, seen}

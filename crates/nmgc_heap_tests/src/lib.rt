@@ -2,9 +2,9 @@
 #![tactic(auto)]
 
 #[cfg(test)]
-mod of_beside;
+mod of_blocks_spec;
 #[cfg(test)]
-mod of_blocks;
+mod of_collector_laws;
 #[cfg(test)]
 mod of_journal;
 #[cfg(test)]
@@ -18,10 +18,8 @@ mod of_pmark;
 #[cfg(test)]
 mod of_round;
 #[cfg(test)]
-mod of_run;
+mod of_run_laws;
 #[cfg(test)]
 mod of_sweep;
-#[cfg(test)]
-mod of_turn;
 #[cfg(test)]
 mod of_weak;

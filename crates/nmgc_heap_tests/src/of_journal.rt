@@ -1,8 +1,10 @@
 // The text of every kind of line, and the worked examples' stops and cycles.
 use nmgc_alloc::Segments;
-use nmgc_graph::{List, Name, Reply, SHARED_MAKER, Value};
 use nmgc_journal::*;
+use nmgc_limits::SHARED_MAKER;
+use nmgc_lists::List;
 use nmgc_object::Layout;
+use nmgc_world_spec::{Name, Reply, Value};
 use std::alloc::Global;
 use std::test::Fail;
 use text::text;

@@ -1,9 +1,9 @@
 //! Remembered places: which are marked and queued, in which order, and which are passed over.
 ghost use Rattle.std.specs.Prelude.{IfOk};
-ghost use Rattle.nmgc_run.specs.Marker.{HasRoomToMark};
+ghost use Rattle.nmgc_mark.specs.Marker.{HasRoomToMark};
 
 use nmgc_alloc::Segments;
-use nmgc_graph::NoMemory;
+use nmgc_lists::NoMemory;
 use nmgc_mark::laws;
 use nmgc_mark::marker::{Marker, most_blocks};
 use nmgc_object::{Address, Layout};
@@ -94,7 +94,6 @@ fn laws_ask_nothing(rt: HostRuntime) {
     laws::round_begins();
     laws::round_ends();
     laws::places_may_grow();
-    laws::ties_agree();
     laws::marks_are_of_the_snapshot();
     laws::all_reached_is_marked();
     laws::blank_markers_have_room();

@@ -3,7 +3,7 @@
 //! The gate gives up after many turns of its spin, and notes it, so markers on one thread fail the test and don't hang.
 ghost use Rattle.std.specs.Prelude.{◌<◌, length};
 
-use nmgc_graph::List;
+use nmgc_lists::List;
 use nmgc_object::laws::words_differ;
 use nmgc_pmark::crew::places_marked;
 use nmgc_pmark::{Bounds, StillWords};

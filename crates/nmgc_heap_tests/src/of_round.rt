@@ -7,14 +7,16 @@ ghost use Rattle.nmgc_round.specs.Seating.{alone, alones};
 ghost use Rattle.nmgc_round.specs.Empty.{IsEmptyHeap, first_opening};
 ghost use Rattle.nmgc_round.specs.Ready.{HasPart};
 
-use nmgc_graph::{Command, Name, NoMemory, Operand, Place, SHARED_SLOTS};
+use nmgc_limits::SHARED_SLOTS;
+use nmgc_lists::{NoMemory, Place};
 use nmgc_object::{Address, Layout, encode_name};
 use nmgc_round::chosen::Wanted;
 use nmgc_round::{Chosen, Gate, MutatorSeat, OpenGate, Opened, Round, Started, Words, laws};
+use nmgc_world_spec::{Command, Name, Operand};
 use std::alloc::Global;
 use std::test::Fail;
-use std::thread;
 use std::thread::Threads;
+use std::thread;
 
 // The opening of a run's first round.
 struct First;

@@ -6,12 +6,13 @@ ghost use Rattle.nmgc_sweep.specs.Names.{HaveEntries};
 ghost use Rattle.nmgc_sweep.specs.Sweeper.{AreLeft};
 
 use nmgc_alloc::{Segments, laws};
-use nmgc_graph::{MAKERS, Name};
+use nmgc_limits::MAKERS;
 use nmgc_object::{Address, FIRST_PLACE, Layout, block_words};
 use nmgc_round::OpenGate;
 use nmgc_segment::State;
 use nmgc_sweep::order::put_in_order;
 use nmgc_sweep::{Names, Sweeper};
+use nmgc_world_spec::Name;
 use std::alloc::Global;
 use std::process::Abort;
 use std::test::Fail;

@@ -2,7 +2,7 @@
 use Rattle.std.proofs.Common.{◌≡◌, ◌≤◌, ℕ, List, [], ◌++◌, map, length, refl, sym, ap, subst, ◌∙◌, Bool, true, Some, None, Result, Ok, Err}
 use Rattle.std.specs.Prelude.{slice_get, IfOk, IfErr}
 use Rattle.std.proofs.lemmas.List.{drop_all}
-use Rattle.nmgc_graph.specs.declared.value.Name.{Name}
+use Rattle.nmgc_world_spec.specs.declared.value.Name.{Name}
 use Rattle.nmgc_image.specs.declared.image.Image.{Image}
 use Rattle.nmgc_image.specs.declared.reader.Reader.{Reader}
 use Rattle.nmgc_image.specs.declared.fault.ImageFault.{ImageFault}

@@ -8,13 +8,13 @@ use Rattle.std.proofs.lemmas.Option.{none-some, same_Some, slice_get_within, get
 use Rattle.std.proofs.lemmas.List.Folds.{list_any_at}
 use Rattle.std.proofs.lemmas.List.Elements.{All-contains, recursion_from_All, All-from_recursion}
 use Rattle.std.proofs.lemmas.Map.Views.{Contains-from_any}
-use Rattle.nmgc_graph.specs.declared.value.Name.{Name}
-use Rattle.nmgc_graph.specs.laws.Orders.{same_name}
-use Rattle.nmgc_graph.specs.World.{held_by}
-use Rattle.nmgc_reach.specs.laws.ItemLaws.{contains_at, place_of, nothing_in, contains_flat, flat_contains}
-use Rattle.nmgc_heap.specs.laws.Kinds.{item_map, map_item}
+use Rattle.nmgc_world_spec.specs.declared.value.Name.{Name}
+use Rattle.nmgc_world_spec.specs.laws.Orders.{same_name}
+use Rattle.nmgc_world_spec.specs.World.{held_by}
+use Rattle.nmgc_lists.specs.laws.Items.{contains_at, place_of, nothing_in, contains_flat, flat_contains, item_map}
+use Rattle.nmgc_heap_spec.specs.laws.Kinds.{map_item}
 use Rattle.nmgc_object.specs.Words.{IsName}
-use Rattle.nmgc_journal.specs.Reading.{IsValue}
+use Rattle.nmgc_journal.specs.Text.{IsValue}
 use Rattle.nmgc_image.specs.declared.image.Entry.{Entry}
 use Rattle.nmgc_image.specs.Names.{TellsNames}
 use Rattle.nmgc_image.specs.Spelling.{spaced, entry_words}

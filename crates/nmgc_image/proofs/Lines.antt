@@ -8,20 +8,22 @@ use Rattle.std.proofs.lemmas.Bool.{ltb-true, eqb-true, eq-eqb, ne_eqb, and_parts
 use Rattle.std.proofs.lemmas.List.{append-nil, length-append, length_push, length-replicate, map_push, nil_from_length}
 use Rattle.std.proofs.lemmas.Option.{same_Some}
 use Rattle.std.proofs.lemmas.Slice.Eq.{bytes_eq-Decides}
-use Rattle.std.proofs.lemmas.List.Elements.{All-push, All-nil, All-head, All-append, All-replicate, All-from_recursion, recursion_from_All}
+use Rattle.std.proofs.lemmas.List.Elements.{All-push, All-nil, All-head, All-append, All-replicate, All-from_recursion}
 use Rattle.nmgc_limits.specs.declared.mutators.TheConstants.{REGISTERS, MAKERS, SHARED_MAKER, SHARED_SLOTS}
-use Rattle.nmgc_graph.specs.declared.value.Name.{Name}
-use Rattle.nmgc_graph.specs.declared.value.Value.{Value}
-use Rattle.nmgc_graph.specs.declared.value.Value.TheVariants.{Nil, Number, Ref}
-use Rattle.nmgc_graph.specs.declared.node.Node.{Node}
-use Rattle.nmgc_graph.specs.declared.node.Node.TheVariants.{Con, Var, Arr, Thunk, Weak, Stack}
-use Rattle.nmgc_graph.specs.Change.{is_same_name}
-use Rattle.nmgc_graph.specs.Step.{shared_name}
-use Rattle.nmgc_graph.specs.Reach.{IsBefore, IsInOrder}
-use Rattle.nmgc_graph.specs.World.{held_by, IsShared}
-use Rattle.nmgc_graph.specs.laws.Orders.{same_name}
-use Rattle.nmgc_journal.specs.Reading.{IsValue, number_at, value_at}
-use Rattle.nmgc_journal.specs.laws.Reading.{bind_some, guard_some, chosen, number_takes, value_reads}
+use Rattle.nmgc_world_spec.specs.declared.value.Name.{Name}
+use Rattle.nmgc_world_spec.specs.declared.value.Value.{Value}
+use Rattle.nmgc_world_spec.specs.declared.value.Value.TheVariants.{Nil, Number, Ref}
+use Rattle.nmgc_world_spec.specs.declared.node.Node.{Node}
+use Rattle.nmgc_world_spec.specs.declared.node.Node.TheVariants.{Con, Var, Arr, Thunk, Weak, Stack}
+use Rattle.nmgc_world_spec.specs.Change.{is_same_name}
+use Rattle.nmgc_world_spec.specs.Step.{shared_name}
+use Rattle.nmgc_world_spec.specs.Reach.{IsBefore, IsInOrder}
+use Rattle.nmgc_world_spec.specs.World.{held_by, IsShared}
+use Rattle.nmgc_world_spec.specs.laws.Orders.{same_name}
+use Rattle.nmgc_journal.specs.Text.{IsValue}
+use Rattle.nmgc_journal.specs.Reading.{number_at, value_at}
+use Rattle.nmgc_journal.specs.laws.Reading.{bind_some, guard_some, number_takes, value_reads}
+use Rattle.nmgc_lists.specs.laws.Truths.{chosen}
 use Rattle.nmgc_image.specs.declared.image.Held.{Held}
 use Rattle.nmgc_image.specs.declared.image.ImageMutator.{ImageMutator}
 use Rattle.nmgc_image.specs.declared.image.Entry.{Entry}
@@ -32,6 +34,7 @@ use Rattle.nmgc_image.specs.Spelling.{first_words, mutator_words, register_words
 use Rattle.nmgc_image.specs.Reading.{is_declared, begun, is_open, is_full, first_at, new_own, mutator_at, is_above, is_nil, with_register, with_entry, register_at, queue_at, is_before, is_after, is_shared, is_below, is_owned, can_follow, entry_at, next_at, end_at, line_at, start, image_of, run}
 use Rattle.nmgc_image.proofs.NodeLaws.{entry_takes}
 use Rattle.nmgc_image.proofs.Machine.{IsIn}
+use Rattle.nmgc_lists.specs.laws.Items.{all_front, all_back}
 
 -- every mutator was begun
 pub record IsFull (r : Reader) : Type 0 where
@@ -256,21 +259,6 @@ some_value : (v : Value) → not (is_nil v) ≡ true → v ≢ Nil
 some_value Nil e = absurd (false≢true e)
 some_value (Number n) e = λ s. absurd cc
 some_value (Ref name) e = λ s. absurd cc
-
-front_of : {A : Type 0} (P : A → Type 0) (xs ys : List A) → AllByRecursion P (xs ++ ys) → AllByRecursion P xs
-front_of P [] ys h = tt
-front_of P (x ∷ xs) ys h = (h.0, front_of P xs ys h.1)
-
-back_of : {A : Type 0} (P : A → Type 0) (xs ys : List A) → AllByRecursion P (xs ++ ys) → AllByRecursion P ys
-back_of P [] ys h = h
-back_of P (x ∷ xs) ys h = back_of P xs ys h.1
-
--- what holds of all of two lists holds of all of each
-all_front : {A : Type 0} (P : A → Type 0) (xs ys : List A) → All P (xs ++ ys) → All P xs
-all_front P xs ys h = All-from_recursion P xs (front_of P xs ys (recursion_from_All P (xs ++ ys) h))
-
-all_back : {A : Type 0} (P : A → Type 0) (xs ys : List A) → All P (xs ++ ys) → All P ys
-all_back P xs ys h = All-from_recursion P ys (back_of P xs ys (recursion_from_All P (xs ++ ys) h))
 
 -- all values of a mutator with one more register, and with one more entry
 values_register : (P : Value → Type 0) (own : ImageMutator) (h : Held) → All P (values_of own) → P h.value → All P (values_of (with_register own h))

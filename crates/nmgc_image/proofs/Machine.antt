@@ -6,17 +6,18 @@ use Rattle.std.specs.Option.{option_to_list}
 use Rattle.std.proofs.lemmas.Bool.{lt-ltb, eq-eqb, eqb-true, and_parts, and_from, cases_Bool}
 use Rattle.std.proofs.lemmas.List.{append-nil, length_push}
 use Rattle.nmgc_limits.specs.declared.mutators.TheConstants.{REGISTERS, MAKERS, SHARED_SLOTS}
-use Rattle.nmgc_graph.specs.declared.value.Name.{Name}
-use Rattle.nmgc_graph.specs.declared.value.Value.{Value}
-use Rattle.nmgc_graph.specs.declared.value.Value.TheVariants.{Nil, Number, Ref}
-use Rattle.nmgc_graph.specs.declared.node.Node.{Node}
-use Rattle.nmgc_graph.specs.declared.node.Node.TheVariants.{Con, Var, Arr, Thunk, Weak, Stack}
-use Rattle.nmgc_graph.specs.Change.{is_same_name}
-use Rattle.nmgc_graph.specs.Step.{shared_name}
-use Rattle.nmgc_graph.specs.Reach.{IsBefore, IsInOrder}
-use Rattle.nmgc_graph.specs.World.{held_by, IsShared}
-use Rattle.nmgc_graph.specs.laws.Orders.{same_name}
-use Rattle.nmgc_journal.specs.Reading.{IsValue, ◌>>=◌}
+use Rattle.nmgc_world_spec.specs.declared.value.Name.{Name}
+use Rattle.nmgc_world_spec.specs.declared.value.Value.{Value}
+use Rattle.nmgc_world_spec.specs.declared.value.Value.TheVariants.{Nil, Number, Ref}
+use Rattle.nmgc_world_spec.specs.declared.node.Node.{Node}
+use Rattle.nmgc_world_spec.specs.declared.node.Node.TheVariants.{Con, Var, Arr, Thunk, Weak, Stack}
+use Rattle.nmgc_world_spec.specs.Change.{is_same_name}
+use Rattle.nmgc_world_spec.specs.Step.{shared_name}
+use Rattle.nmgc_world_spec.specs.Reach.{IsBefore, IsInOrder}
+use Rattle.nmgc_world_spec.specs.World.{held_by, IsShared}
+use Rattle.nmgc_world_spec.specs.laws.Orders.{same_name}
+use Rattle.nmgc_journal.specs.Text.{IsValue}
+use Rattle.nmgc_journal.specs.Reading.{◌>>=◌}
 use Rattle.nmgc_journal.specs.laws.Reading.{number_again, value_reads}
 use Rattle.nmgc_image.specs.declared.image.Held.{Held}
 use Rattle.nmgc_image.specs.declared.image.ImageMutator.{ImageMutator}
@@ -27,6 +28,7 @@ use Rattle.nmgc_image.specs.Image.{AreInOrder, IsHeld, IsOwned, names_of, values
 use Rattle.nmgc_image.specs.Spelling.{first_words, mutator_words, register_words, queue_words, entry_words, own_lines, mutator_lines, last_words}
 use Rattle.nmgc_image.specs.Reading.{is_declared, is_full, first_at, new_own, mutator_at, is_above, is_nil, register_at, queue_at, is_before, is_after, is_shared, is_owned, next_at, end_at, line_at, start, run, image_of}
 use Rattle.nmgc_image.proofs.NodeLaws.{IsSpellable, entry_again}
+use Rattle.nmgc_world_spec.specs.laws.Common.{name_itself as same_name_is}
 
 bind_on : {A B C : Type 0} (o : Option A) (f : A → Option B) (g : B → Option C) → ((o >>= f) >>= g) ≡ (o >>= λ x. f x >>= g)
 bind_on (Some x) f g = refl
@@ -208,9 +210,6 @@ shared_is (Arr values) h = eq-eqb (length values) SHARED_SLOTS h
 shared_is (Thunk free result) h = absurd h
 shared_is (Weak parts) h = absurd h
 shared_is (Stack size values) h = absurd h
-
-same_name_is : (a b : Name) → a ≡ b → is_same_name a b ≡ true
-same_name_is a b e = rw (eq-eqb a.maker b.maker (ap (λ (n : Name). n.maker) e), eq-eqb a.serial b.serial (ap (λ (n : Name). n.serial) e)) refl
 
 not_same_is : (a b : Name) → a ≢ b → is_same_name a b ≡ false
 not_same_is a b ne = elim (cases_Bool (is_same_name a b)) [

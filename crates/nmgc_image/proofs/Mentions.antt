@@ -5,10 +5,10 @@ use Rattle.std.specs.List.{AllByRecursion, list_all}
 use Rattle.std.specs.Option.{option_to_list}
 use Rattle.std.proofs.lemmas.Bool.{and_parts}
 use Rattle.std.proofs.lemmas.List.Elements.{All-append, All-from_recursion}
-use Rattle.nmgc_graph.specs.declared.value.Name.{Name}
-use Rattle.nmgc_graph.specs.declared.value.Value.{Value}
-use Rattle.nmgc_graph.specs.Step.{shared_name}
-use Rattle.nmgc_graph.specs.World.{held_by}
+use Rattle.nmgc_world_spec.specs.declared.value.Name.{Name}
+use Rattle.nmgc_world_spec.specs.declared.value.Value.{Value}
+use Rattle.nmgc_world_spec.specs.Step.{shared_name}
+use Rattle.nmgc_world_spec.specs.World.{held_by}
 use Rattle.nmgc_image.specs.declared.image.Held.{Held}
 use Rattle.nmgc_image.specs.declared.image.ImageMutator.{ImageMutator}
 use Rattle.nmgc_image.specs.declared.image.Entry.{Entry}

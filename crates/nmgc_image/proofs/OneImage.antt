@@ -1,6 +1,6 @@
 -- A text spells at most one image: what is read is a function of its lines.
 use Rattle.std.proofs.Common.{◌≡◌, ◌∙◌, ℕ, List, map, Bool}
-use Rattle.nmgc_graph.specs.declared.value.Name.{Name}
+use Rattle.nmgc_world_spec.specs.declared.value.Name.{Name}
 use Rattle.nmgc_image.specs.declared.image.Image.{Image}
 use Rattle.nmgc_image.specs.Reading.{has_key, keys_of}
 use Rattle.nmgc_image.specs.Spelling.{Spells}

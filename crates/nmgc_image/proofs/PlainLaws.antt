@@ -5,11 +5,10 @@ use Rattle.std.proofs.lemmas.Fmt.{decimal_digit, decimal_step}
 use Rattle.std.proofs.lemmas.List.{length-append, map_push}
 use Rattle.std.proofs.lemmas.List.Elements.{recursion_from_All, All-from_recursion}
 use Rattle.nmgc_limits.specs.declared.mutators.TheConstants.{SHARED_MAKER}
-use Rattle.nmgc_graph.specs.declared.value.Name.{Name}
-use Rattle.nmgc_graph.specs.declared.value.Value.{Value}
-use Rattle.nmgc_graph.specs.World.{held_by}
-use Rattle.nmgc_journal.specs.Text.{name_text, value_text}
-use Rattle.nmgc_journal.specs.Reading.{IsValue}
+use Rattle.nmgc_world_spec.specs.declared.value.Name.{Name}
+use Rattle.nmgc_world_spec.specs.declared.value.Value.{Value}
+use Rattle.nmgc_world_spec.specs.World.{held_by}
+use Rattle.nmgc_journal.specs.Text.{name_text, value_text, IsValue}
 use Rattle.nmgc_image.specs.declared.image.Entry.{Entry}
 use Rattle.nmgc_image.specs.declared.reader.Reader.{Reader}
 use Rattle.nmgc_image.specs.declared.fault.LineFault.{LineFault}

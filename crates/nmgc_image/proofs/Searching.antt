@@ -1,28 +1,19 @@
 -- A search goes on: what it adds to what it had.
-use Rattle.std.proofs.Common.{◌≡◌, ◌≢◌, ◌⊎◌, ◌↔◌, ◌<◌, ◌≤◌, ◌+◌, ◌/◌, ◌^◌, ℕ, zero, suc, List, [], ◌∷◌, ◌++◌, length, get_or, set, take, replicate, refl, sym, ap, subst, ◌∙◌, arith, inl, inr, Bool, true, false, cond, Some, None, length-append}
+use Rattle.std.proofs.Common.{◌≡◌, ◌⊎◌, ◌↔◌, ◌<◌, ◌≤◌, ◌+◌, ◌/◌, ◌^◌, ℕ, zero, suc, List, [], ◌∷◌, ◌++◌, length, get_or, set, take, replicate, refl, sym, ap, subst, ◌∙◌, arith, inl, inr, Bool, true, false, cond, Some, length-append}
 use Rattle.std.specs.Prelude.{Contains, slice_get, count_by, not}
 use Rattle.std.proofs.lemmas.Bool.{cases_eq}
 use Rattle.std.proofs.lemmas.List.{length-replicate, length-set, append_assoc, append-nil, take_more}
-use Rattle.std.proofs.lemmas.List.Elements.{Contains-append_left, Contains-append_cases, Contains-push, Contains-push_cases, Contains-get_or}
+use Rattle.std.proofs.lemmas.List.Elements.{Contains-append_left, Contains-push, Contains-push_cases, Contains-get_or}
 use Rattle.std.proofs.lemmas.Option.{slice_get_within, slice_get-get_or, get_or_from_slice_get}
 use Rattle.std.proofs.lemmas.List.Sums.{sum_by-cons}
-use Rattle.nmgc_graph.specs.laws.Worlds.{slice_get-set_same, slice_get-set_other}
+use Rattle.nmgc_lists.specs.laws.Items.{slice_get-set_other, contains_head, contains_tail, place_of, nothing_in, count-set as set_counts}
 use Rattle.nmgc_image.specs.declared.search.Search.{Search}
-use Rattle.nmgc_graph.specs.laws.Orders.{contains_head, contains_tail}
-use Rattle.nmgc_reach.specs.laws.ItemLaws.{place_of, nothing_in}
 use Rattle.nmgc_image.specs.Objects.{IsObjectAt, is_pointer, pointers, told_at}
 use Rattle.nmgc_image.specs.Reaching.{Reaches, ReachesObjects, IsSearch, Visits, ArePointers, PointWithin}
 
 -- how many flags aren't set, one by one
-counts : (x : Bool) (xs : List Bool) → count_by not (x ∷ xs) ≡ cond (not x) 1 0 + count_by not xs
+pub counts : (x : Bool) (xs : List Bool) → count_by not (x ∷ xs) ≡ cond (not x) 1 0 + count_by not xs
 counts x xs = sum_by-cons (λ (y : Bool). cond (not y) 1 0) x xs
-
--- a list of flags in which one more is set
-set_counts : (xs : List Bool) (i : ℕ) → i < length xs → get_or xs i false ≡ false → count_by not (set xs i true) + 1 ≡ count_by not xs
-set_counts [] i lt e = absurd (omega arith)
-set_counts (true ∷ xs) zero lt e = absurd cc
-set_counts (false ∷ xs) zero lt e = omega (arith, counts true xs, counts false xs)
-set_counts (x ∷ xs) (suc i) lt e = let r = set_counts xs i (omega arith) e in omega (arith, r, counts x (set xs i true), counts x xs)
 
 -- a search that has found nothing
 none_seen : (n : ℕ) → count_by not (replicate n false) ≡ n

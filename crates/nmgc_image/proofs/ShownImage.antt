@@ -6,35 +6,33 @@ use Rattle.std.proofs.lemmas.Bool.{cases_eq, cases_lt, ne_eqb}
 use Rattle.std.proofs.lemmas.Option.{slice_get_within, slice_get-get_or, get_or_from_slice_get, none-some, same_Some}
 use Rattle.std.proofs.lemmas.List.Elements.{All-contains, All-get_or, Contains-append_left, Contains-append_right, Contains-append_cases, Contains-get_or}
 use Rattle.nmgc_limits.specs.declared.mutators.TheConstants.{REGISTERS, MAKERS, SHARED_MAKER}
-use Rattle.nmgc_graph.specs.declared.value.Name.{Name}
-use Rattle.nmgc_graph.specs.declared.value.Value.{Value}
-use Rattle.nmgc_graph.specs.declared.value.Value.TheVariants as value
-use Rattle.nmgc_graph.specs.declared.node.Parts.{Parts}
-use Rattle.nmgc_graph.specs.declared.node.Node.{Node}
-use Rattle.nmgc_graph.specs.declared.node.Node.TheVariants.{Con, Var, Arr, Thunk, Weak, Stack}
-use Rattle.nmgc_graph.specs.declared.mutator_state.MutatorState.{MutatorState}
-use Rattle.nmgc_graph.specs.Step.{shared_name}
-use Rattle.nmgc_graph.specs.World.{World, IsWorld, IsShared, IsSized, IsNodeOf, IsKnown, AreKnown, node_of, state_of, serial_of, no_mutator, held_by}
-use Rattle.nmgc_graph.specs.Reach.{IsReached, start, field, IsRoot, IsAlive, RefersTo, strong_fields}
-use Rattle.nmgc_graph.specs.laws.Orders.{contains_cases, contains_head}
-use Rattle.nmgc_graph.specs.laws.Rows.{name_cases}
-use Rattle.nmgc_graph.specs.laws.Worlds.{at_some, is_some_of}
-use Rattle.nmgc_reach.specs.Limits.{IsSmall, IsWithin, IsNodeWithin}
-use Rattle.nmgc_reach.specs.Wide.{IsWide, IsWideRoot, IsOfWeak}
-use Rattle.nmgc_reach.specs.laws.ItemLaws.{contains_at, place_of, nothing_in, flat_contains}
-use Rattle.nmgc_reach.specs.laws.Reached.{wide_known}
+use Rattle.nmgc_world_spec.specs.declared.value.Name.{Name}
+use Rattle.nmgc_world_spec.specs.declared.value.Value.{Value}
+use Rattle.nmgc_world_spec.specs.declared.value.Value.TheVariants as value
+use Rattle.nmgc_world_spec.specs.declared.node.Parts.{Parts}
+use Rattle.nmgc_world_spec.specs.declared.node.Node.{Node}
+use Rattle.nmgc_world_spec.specs.declared.node.Node.TheVariants.{Con, Var, Arr, Thunk, Weak, Stack}
+use Rattle.nmgc_world_spec.specs.declared.mutator_state.MutatorState.{MutatorState}
+use Rattle.nmgc_world_spec.specs.Step.{shared_name}
+use Rattle.nmgc_world_spec.specs.World.{World, IsWorld, IsShared, IsSized, IsNodeOf, IsKnown, AreKnown, node_of, state_of, serial_of, no_mutator, held_by}
+use Rattle.nmgc_world_spec.specs.Reach.{IsReached, start, field, IsRoot, IsAlive, RefersTo, strong_fields}
+use Rattle.nmgc_lists.specs.laws.Items.{contains_cases, contains_head, at_some, is_some_of, contains_at, place_of, nothing_in, flat_contains, item_map}
+use Rattle.nmgc_world_spec.specs.laws.Orders.{name_cases}
+use Rattle.nmgc_world_laws.specs.Limits.{IsSmall, IsWithin, IsNodeWithin}
+use Rattle.nmgc_world_spec.specs.Wide.{IsWide, IsWideRoot, IsOfWeak}
+use Rattle.nmgc_world_laws.specs.laws.Reached.{wide_known}
 use Rattle.nmgc_object.specs.Words.{IsName}
 use Rattle.nmgc_object.specs.declared.words.TheConstants.{MAX_FIELDS, TAGS}
 use Rattle.nmgc_object.specs.declared.size.TheConstants.{HEADER_WORDS}
-use Rattle.nmgc_heap.specs.laws.Kinds.{map_item, item_map}
-use Rattle.nmgc_journal.specs.Reading.{IsValue}
+use Rattle.nmgc_heap_spec.specs.laws.Kinds.{map_item}
+use Rattle.nmgc_journal.specs.Text.{IsValue}
 use Rattle.nmgc_image.specs.declared.image.Held.{Held}
 use Rattle.nmgc_image.specs.declared.image.ImageMutator.{ImageMutator}
 use Rattle.nmgc_image.specs.declared.image.Entry.{Entry}
 use Rattle.nmgc_image.specs.declared.image.Image.{Image}
 use Rattle.nmgc_image.specs.Image.{AreInOrder, IsHeld, IsMutator, IsNode, IsMade, IsOwned, IsEntry, IsOrderly, IsImage, names_of, values_of, values_in, HasNode}
-use Rattle.nmgc_image.specs.Left.{most_object_words}
-use Rattle.nmgc_image.specs.Shows.{Shows, ShowsMutator, ListsHeld, ShownIsImage, shown}
+use Rattle.nmgc_image.specs.Left.{most_object_words, ShownIsImage}
+use Rattle.nmgc_image.specs.Shows.{Shows, ShowsMutator, ListsHeld, shown}
 
 -- what every item of a list has that is told of each item
 pub all_items : {A : Type 0} (P : A → Type 0) (xs : List A) → ((x : A) → Contains xs x → P x) → All P xs

@@ -7,20 +7,19 @@ use Rattle.std.proofs.lemmas.Option.{slice_get_within, get_or_from_slice_get, sl
 use Rattle.std.proofs.lemmas.List.{length-map, get_or_append_left, get_or-append-add}
 use Rattle.std.proofs.lemmas.List.Elements.{All-contains, All-tail, Contains-append_left, Contains-append_right, Contains-append_cases}
 use Rattle.nmgc_limits.specs.declared.mutators.TheConstants.{REGISTERS, SHARED_MAKER}
-use Rattle.nmgc_graph.specs.declared.value.Name.{Name}
-use Rattle.nmgc_graph.specs.declared.value.Value.{Value}
-use Rattle.nmgc_graph.specs.declared.value.Value.TheVariants as value
-use Rattle.nmgc_graph.specs.declared.node.Parts.{Parts}
-use Rattle.nmgc_graph.specs.declared.node.Node.{Node}
-use Rattle.nmgc_graph.specs.declared.node.Node.TheVariants.{Weak}
-use Rattle.nmgc_graph.specs.declared.mutator_state.MutatorState.{MutatorState}
-use Rattle.nmgc_graph.specs.Step.{shared_name}
-use Rattle.nmgc_graph.specs.World.{World, IsWorld, IsNodeOf, IsSized, IsShared, node_of, state_of, no_mutator, held_by}
-use Rattle.nmgc_graph.specs.Reach.{IsReached, start, field, IsRoot, IsAlive, IsAliveWeak, RefersTo}
-use Rattle.nmgc_graph.specs.laws.Worlds.{at_some, is_some_of, is_some_get}
-use Rattle.nmgc_reach.specs.Wide.{IsWide, IsWideRoot, IsOfWeak}
-use Rattle.nmgc_reach.specs.laws.ItemLaws.{contains_at, place_of, nothing_in}
-use Rattle.nmgc_reach.specs.laws.Reached.{wide_known}
+use Rattle.nmgc_world_spec.specs.declared.value.Name.{Name}
+use Rattle.nmgc_world_spec.specs.declared.value.Value.{Value}
+use Rattle.nmgc_world_spec.specs.declared.value.Value.TheVariants as value
+use Rattle.nmgc_world_spec.specs.declared.node.Parts.{Parts}
+use Rattle.nmgc_world_spec.specs.declared.node.Node.{Node}
+use Rattle.nmgc_world_spec.specs.declared.node.Node.TheVariants.{Weak}
+use Rattle.nmgc_world_spec.specs.declared.mutator_state.MutatorState.{MutatorState}
+use Rattle.nmgc_world_spec.specs.Step.{shared_name}
+use Rattle.nmgc_world_spec.specs.World.{World, IsWorld, IsNodeOf, IsSized, IsShared, node_of, state_of, no_mutator, held_by}
+use Rattle.nmgc_world_spec.specs.Reach.{IsReached, start, field, IsRoot, IsAlive, IsAliveWeak, RefersTo}
+use Rattle.nmgc_lists.specs.laws.Items.{at_some, is_some_of, is_some_get, contains_at, place_of, nothing_in, item_map}
+use Rattle.nmgc_world_spec.specs.Wide.{IsWide, IsWideRoot, IsOfWeak}
+use Rattle.nmgc_world_laws.specs.laws.Reached.{wide_known}
 use Rattle.nmgc_object.specs.Places.{InSegment, nursery_place}
 use Rattle.nmgc_object.specs.Size.{block_size}
 use Rattle.nmgc_object.specs.Words.{header_word, IsHeader, IsName, name_word}
@@ -28,18 +27,18 @@ use Rattle.nmgc_object.specs.declared.words.Header.{Header}
 use Rattle.nmgc_object.specs.declared.layout.TheConstants.{SHARED_PLACE}
 use Rattle.nmgc_object.specs.declared.size.TheConstants.{HEADER_WORDS}
 use Rattle.nmgc_segment.specs.Segment.{InUse}
-use Rattle.nmgc_alloc.specs.Search.{nth}
+use Rattle.nmgc_alloc.specs.Numbered.{nth}
 use Rattle.nmgc_alloc.specs.Segments.{IsBlockAt}
-use Rattle.nmgc_heap.specs.Shape.{header_of, size_of, slots_of}
-use Rattle.nmgc_heap.specs.Places.{Place, Means, AllMean, ListMeans, HasSlots, LiesWell}
-use Rattle.nmgc_heap.specs.Represents.{IsPlaced, NoNode}
-use Rattle.nmgc_heap.specs.laws.Changes.{lies_within}
-use Rattle.nmgc_heap.specs.laws.Headers.{same_header}
-use Rattle.nmgc_heap.specs.laws.Kinds.{HasFields, fields_of_slots, item_map, map_item}
-use Rattle.nmgc_heap.specs.laws.Meanings.{above_zero, placed_at}
-use Rattle.nmgc_heap.specs.laws.Roots.{wide_tracked}
-use Rattle.nmgc_heap.specs.laws.Tracking.{reached_in}
-use Rattle.nmgc_blocks.specs.Occupied.{IsOccupied}
+use Rattle.nmgc_heap_spec.specs.Shape.{header_of, size_of, slots_of}
+use Rattle.nmgc_heap_spec.specs.Places.{Place, Means, AllMean, ListMeans, HasSlots, LiesWell}
+use Rattle.nmgc_heap_spec.specs.Represents.{IsPlaced, NoNode}
+use Rattle.nmgc_heap_spec.specs.laws.Changes.{lies_within}
+use Rattle.nmgc_heap_spec.specs.laws.Headers.{same_header}
+use Rattle.nmgc_heap_spec.specs.laws.Kinds.{HasFields, fields_of_slots, map_item}
+use Rattle.nmgc_heap_spec.specs.laws.Meanings.{above_zero, placed_at}
+use Rattle.nmgc_heap_spec.specs.laws.Roots.{wide_tracked}
+use Rattle.nmgc_heap_spec.specs.laws.Tracking.{reached_in}
+use Rattle.nmgc_blocks_spec.specs.Occupied.{IsOccupied}
 use Rattle.nmgc_journal.specs.declared.report.MutatorEnd.{MutatorEnd}
 use Rattle.nmgc_journal.specs.declared.report.Report.{Report}
 use Rattle.nmgc_image.specs.declared.image.Entry.{Entry}

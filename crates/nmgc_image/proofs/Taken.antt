@@ -7,14 +7,13 @@ use Rattle.std.proofs.lemmas.Option.{slice_get_within}
 use Rattle.std.proofs.lemmas.List.{append-nil, same_from_push}
 use Rattle.std.proofs.lemmas.List.Elements.{recursion_from_All}
 use Rattle.nmgc_limits.specs.declared.mutators.TheConstants.{MAKERS}
-use Rattle.nmgc_graph.specs.declared.value.Name.{Name}
-use Rattle.nmgc_graph.specs.declared.value.Value.{Value}
-use Rattle.nmgc_graph.specs.Step.{shared_name}
-use Rattle.nmgc_graph.specs.World.{held_by}
-use Rattle.nmgc_graph.specs.laws.Nodes.{item_has}
-use Rattle.nmgc_graph.specs.laws.Worlds.{at_some}
+use Rattle.nmgc_world_spec.specs.declared.value.Name.{Name}
+use Rattle.nmgc_world_spec.specs.declared.value.Value.{Value}
+use Rattle.nmgc_world_spec.specs.Step.{shared_name}
+use Rattle.nmgc_world_spec.specs.World.{held_by}
+use Rattle.nmgc_lists.specs.laws.Items.{item_has, at_some, front_of, back_of}
 use Rattle.nmgc_object.specs.Words.{IsName}
-use Rattle.nmgc_journal.specs.Reading.{IsValue}
+use Rattle.nmgc_journal.specs.Text.{IsValue}
 use Rattle.nmgc_journal.specs.laws.Reading.{bind_some}
 use Rattle.nmgc_image.specs.declared.image.Held.{Held}
 use Rattle.nmgc_image.specs.declared.image.ImageMutator.{ImageMutator}
@@ -30,14 +29,6 @@ use Rattle.nmgc_image.proofs.Machine.{run_append, run_on, run_step, state, IsIn,
 both : {A : Type 0} (P Q : A → Type 0) (xs : List A) → AllByRecursion P xs → AllByRecursion Q xs → AllByRecursion (λ x. P x × Q x) xs
 both P Q [] h k = tt
 both P Q (x ∷ xs) h k = ((h.0, k.0), both P Q xs h.1 k.1)
-
-front_of : {A : Type 0} (P : A → Type 0) (xs ys : List A) → AllByRecursion P (xs ++ ys) → AllByRecursion P xs
-front_of P [] ys h = tt
-front_of P (x ∷ xs) ys h = (h.0, front_of P xs ys h.1)
-
-back_of : {A : Type 0} (P : A → Type 0) (xs ys : List A) → AllByRecursion P (xs ++ ys) → AllByRecursion P ys
-back_of P [] ys h = h
-back_of P (x ∷ xs) ys h = back_of P xs ys h.1
 
 of_map : {A B : Type 0} (P : B → Type 0) (f : A → B) (xs : List A) → AllByRecursion P (map f xs) → AllByRecursion (λ x. P (f x)) xs
 of_map P f [] h = tt

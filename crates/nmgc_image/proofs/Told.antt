@@ -7,15 +7,15 @@ use Rattle.std.proofs.lemmas.List.{append-nil, map-append, take_all, take_more, 
 use Rattle.std.proofs.lemmas.Option.{none-some, same_Some, slice_get-get_or}
 use Rattle.std.proofs.lemmas.List.Elements.{All-from_recursion, recursion_from_All, Contains-append_left, Contains-append_right, Contains-append_cases, All-contains}
 use Rattle.nmgc_limits.specs.declared.mutators.TheConstants.{MAKERS}
-use Rattle.nmgc_graph.specs.declared.value.Name.{Name}
-use Rattle.nmgc_graph.specs.declared.value.Value.{Value}
-use Rattle.nmgc_graph.specs.declared.value.Value.TheVariants.{Nil, Number, Ref}
-use Rattle.nmgc_graph.specs.Step.{shared_name}
-use Rattle.nmgc_graph.specs.World.{held_by}
-use Rattle.nmgc_graph.specs.laws.Orders.{contains_head, contains_tail, contains_cases}
-use Rattle.nmgc_reach.specs.laws.ItemLaws.{contains_at, nothing_in, contains_flat, flat_contains}
+use Rattle.nmgc_world_spec.specs.declared.value.Name.{Name}
+use Rattle.nmgc_world_spec.specs.declared.value.Value.{Value}
+use Rattle.nmgc_world_spec.specs.declared.value.Value.TheVariants.{Nil, Number, Ref}
+use Rattle.nmgc_world_spec.specs.Step.{shared_name}
+use Rattle.nmgc_world_spec.specs.World.{held_by}
+use Rattle.nmgc_lists.specs.laws.Items.{contains_head, contains_tail, contains_cases, contains_at, nothing_in, contains_flat, flat_contains, contains_map}
 use Rattle.nmgc_object.specs.Words.{IsName}
-use Rattle.nmgc_journal.specs.Reading.{IsValue, ◌>>=◌}
+use Rattle.nmgc_journal.specs.Text.{IsValue}
+use Rattle.nmgc_journal.specs.Reading.{◌>>=◌}
 use Rattle.nmgc_journal.specs.laws.Reading.{bind_some}
 use Rattle.nmgc_image.specs.declared.image.Held.{Held}
 use Rattle.nmgc_image.specs.declared.image.ImageMutator.{ImageMutator}
@@ -119,13 +119,6 @@ map_contains f [] y c = absurd (nothing_in y c)
 map_contains f (x ∷ xs) y c = elim (contains_cases (f x) (map f xs) y c) [
   | inl e ↦ (x, contains_head x xs, e)
   | inr k ↦ let r : (z : _) × Contains xs z × (f z ≡ y) = map_contains f xs y k in (r.0, contains_tail x xs r.0 r.1, r.2)
-]
-
-contains_map : {A B : Type 0} (f : A → B) (xs : List A) (x : A) → Contains xs x → Contains (map f xs) (f x)
-contains_map f [] x c = absurd (nothing_in x c)
-contains_map f (z ∷ xs) x c = elim (contains_cases z xs x c) [
-  | inl e ↦ subst (λ (w : _). Contains (f z ∷ map f xs) (f w)) e (contains_head (f z) (map f xs))
-  | inr k ↦ contains_tail (f z) (map f xs) (f x) (contains_map f xs x k)
 ]
 
 spellable_of : (entry : Entry) → IsWritable entry → IsSpellable entry

@@ -4,7 +4,7 @@ use Rattle.std.specs.Prelude.{Contains, OnOk}
 use Rattle.std.proofs.lemmas.Bool.{cases_eq, cases_lt}
 use Rattle.std.proofs.lemmas.List.{take_more, take_all}
 use Rattle.std.proofs.lemmas.List.Elements.{Contains-append_left, Contains-push, Contains-push_cases, Contains-get_or}
-use Rattle.nmgc_reach.specs.laws.ItemLaws.{nothing_in}
+use Rattle.nmgc_lists.specs.laws.Items.{nothing_in}
 use Rattle.nmgc_object.specs.declared.layout.TheConstants.{SHARED_PLACE}
 use Rattle.nmgc_journal.specs.declared.report.MutatorEnd.{MutatorEnd}
 use Rattle.nmgc_journal.specs.declared.report.Report.{Report}

@@ -4,20 +4,20 @@ use Rattle.std.specs.Prelude.{◌&&◌, Contains, All, slice_get}
 use Rattle.std.proofs.lemmas.Bool.{ne_eqb, eq-eqb, lt-ltb, cases_Bool}
 use Rattle.std.proofs.lemmas.List.{drop_more}
 use Rattle.std.proofs.lemmas.List.Elements.{All-nil, All-cons}
-use Rattle.nmgc_graph.specs.declared.value.Name.{Name}
-use Rattle.nmgc_graph.specs.declared.value.Value.{Value}
-use Rattle.nmgc_graph.specs.declared.value.Value.TheVariants as value
-use Rattle.nmgc_graph.specs.declared.node.Node.{Node}
-use Rattle.nmgc_graph.specs.declared.node.Node.TheVariants.{Con, Var, Arr, Thunk, Weak, Stack}
-use Rattle.nmgc_graph.specs.World.{IsSized, held_by}
-use Rattle.nmgc_graph.specs.laws.Orders.{same_name, contains_cases, contains_head, contains_tail}
-use Rattle.nmgc_reach.specs.laws.ItemLaws.{nothing_in}
+use Rattle.nmgc_world_spec.specs.declared.value.Name.{Name}
+use Rattle.nmgc_world_spec.specs.declared.value.Value.{Value}
+use Rattle.nmgc_world_spec.specs.declared.value.Value.TheVariants as value
+use Rattle.nmgc_world_spec.specs.declared.node.Node.{Node}
+use Rattle.nmgc_world_spec.specs.declared.node.Node.TheVariants.{Con, Var, Arr, Thunk, Weak, Stack}
+use Rattle.nmgc_world_spec.specs.World.{IsSized, held_by}
+use Rattle.nmgc_world_spec.specs.laws.Orders.{same_name}
+use Rattle.nmgc_lists.specs.laws.Items.{contains_cases, contains_head, contains_tail, nothing_in}
 use Rattle.nmgc_object.specs.Words.{IsName, name_word}
 use Rattle.nmgc_object.specs.declared.words.TheConstants.{SERIAL_UNIT, NIL_WORD}
 use Rattle.nmgc_object.specs.declared.size.TheConstants.{HEADER_WORDS}
-use Rattle.nmgc_heap.specs.Shape.{header_of}
-use Rattle.nmgc_heap.specs.Places.{Place, Means, AllMean, ListMeans}
-use Rattle.nmgc_heap.specs.laws.Kinds.{HasFields, AreUnset}
+use Rattle.nmgc_heap_spec.specs.Shape.{header_of}
+use Rattle.nmgc_heap_spec.specs.Places.{Place, Means, AllMean, ListMeans}
+use Rattle.nmgc_heap_spec.specs.laws.Kinds.{HasFields, AreUnset}
 use Rattle.nmgc_image.specs.Objects.{IsNamedAt, IsReadable, name_in, value_in, is_pointer, pointers, leading, told, told_thunk, told_weak, fields_at, told_at, begins_unset, made_of, thunk_of, weak_of, node_read}
 use Rattle.nmgc_image.specs.Shows.{shown}
 

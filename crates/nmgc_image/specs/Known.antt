@@ -1,6 +1,6 @@
 -- Which names count as declared while a text is read.
 use Rattle.std.specs.Prelude.{Bool, true}
-use Rattle.nmgc_graph.specs.declared.value.Name.{Name}
+use Rattle.nmgc_world_spec.specs.declared.value.Name.{Name}
 use Rattle.nmgc_image.specs.declared.known.Known.{Known}
 use Rattle.nmgc_image.specs.declared.known.Known.TheVariants as known
 use Rattle.nmgc_image.specs.Reading.{has_key}

@@ -1,20 +1,23 @@
 -- The heap that a report has stands for a world.
 use Rattle.std.specs.Prelude.{◌≡◌, ℕ, ◌+◌, ◌<◌, ◌≤◌, List, length, map, flat_map, Contains, All}
 use Rattle.nmgc_limits.specs.declared.mutators.TheConstants.{REGISTERS}
-use Rattle.nmgc_graph.specs.declared.value.Name.{Name}
-use Rattle.nmgc_graph.specs.World.{World, IsWorld}
-use Rattle.nmgc_reach.specs.Limits.{IsWithin}
-use Rattle.nmgc_reach.specs.Wide.{IsWide}
+use Rattle.nmgc_world_spec.specs.declared.value.Name.{Name}
+use Rattle.nmgc_world_spec.specs.World.{World, IsWorld}
+use Rattle.nmgc_world_laws.specs.Limits.{IsWithin}
+use Rattle.nmgc_world_spec.specs.Wide.{IsWide}
 use Rattle.nmgc_object.specs.Places.{IsLayout, nursery_place}
 use Rattle.nmgc_object.specs.declared.layout.Layout.{Layout}
 use Rattle.nmgc_object.specs.declared.size.TheConstants.{HEADER_WORDS}
 use Rattle.nmgc_object.specs.declared.words.TheConstants.{MAX_FIELDS}
-use Rattle.nmgc_heap.specs.Places.{Place}
-use Rattle.nmgc_heap.specs.Represents.{Represents, NoNode}
-use Rattle.nmgc_heap.specs.Roots.{RepresentsRoots, ListsWeaks}
-use Rattle.nmgc_blocks.specs.Occupied.{AreBlocks}
+use Rattle.nmgc_heap_spec.specs.Places.{Place}
+use Rattle.nmgc_heap_spec.specs.Represents.{Represents, NoNode}
+use Rattle.nmgc_heap_spec.specs.Roots.{RepresentsRoots, ListsWeaks}
+use Rattle.nmgc_blocks_spec.specs.Occupied.{AreBlocks}
 use Rattle.nmgc_journal.specs.declared.report.MutatorEnd.{MutatorEnd}
 use Rattle.nmgc_journal.specs.declared.report.Report.{Report}
+use Rattle.nmgc_image.specs.declared.image.Image.{Image}
+use Rattle.nmgc_image.specs.Image.{IsImage}
+use Rattle.nmgc_image.specs.Shows.{Shows}
 
 -- as many words as a segment may have, so that the header of each object can be written
 abbrev pub most_object_words : ℕ
@@ -45,3 +48,7 @@ pub record IsLeftAs (report : Report) (w : World) : Type 0 where
 -- a name of the wide reach lies at the place
 abbrev pub LiesWideAt : List Place → World → ℕ → Type 0
 LiesWideAt places w at = (name : Name) × IsWide w name × Contains places (record { at = at; name = name })
+
+-- what shows a world within the limits is an image: it is orderly, and closed
+abbrev pub ShownIsImage : Type 0
+ShownIsImage = (words : ℕ) (w : World) (image : Image) → words ≤ most_object_words → IsWorld w → IsWithin words w → Shows w image → IsImage image

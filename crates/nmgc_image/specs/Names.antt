@@ -1,6 +1,6 @@
 -- A test that tells which names are among others.
 use Rattle.std.specs.Prelude.{◌≡◌, List, Bool, true, Contains}
-use Rattle.nmgc_graph.specs.declared.value.Name.{Name}
+use Rattle.nmgc_world_spec.specs.declared.value.Name.{Name}
 use Rattle.nmgc_object.specs.Words.{IsName}
 
 -- a test is true of exactly those names that are among these

@@ -1,8 +1,8 @@
 -- Node lines that are read without being cut into words.
 use Rattle.std.specs.Prelude.{◌≡◌, ℕ, List, ◌∷◌, ◌++◌, All}
-use Rattle.nmgc_graph.specs.declared.node.Node.{Node}
-use Rattle.nmgc_graph.specs.World.{held_by}
-use Rattle.nmgc_journal.specs.Reading.{IsValue}
+use Rattle.nmgc_world_spec.specs.declared.node.Node.{Node}
+use Rattle.nmgc_world_spec.specs.World.{held_by}
+use Rattle.nmgc_journal.specs.Text.{IsValue}
 use Rattle.nmgc_image.specs.declared.image.Entry.{Entry}
 use Rattle.nmgc_image.specs.Image.{IsNode}
 use Rattle.nmgc_image.specs.Faults.{IsWritable}

@@ -2,7 +2,7 @@
 -- `Shows` alone.
 use Rattle.std.specs.Prelude.{◌≡◌, ℕ, List, length, map, All, Contains}
 use Rattle.nmgc_limits.specs.declared.mutators.TheConstants.{REGISTERS}
-use Rattle.nmgc_graph.specs.Reach.{IsInOrder}
+use Rattle.nmgc_world_spec.specs.Reach.{IsInOrder}
 use Rattle.nmgc_journal.specs.declared.report.MutatorEnd.{MutatorEnd}
 use Rattle.nmgc_image.specs.declared.image.Entry.{Entry}
 use Rattle.nmgc_image.specs.declared.image.ImageMutator.{ImageMutator}

@@ -1,19 +1,17 @@
 -- Which image shows a world: what its mutators have in hand, and the objects of its wide reach.
-use Rattle.std.specs.Prelude.{◌≡◌, ◌≢◌, ◌≤◌, ℕ, List, [], length, slice_get, Some, None, Contains}
-use Rattle.nmgc_graph.specs.declared.value.Name.{Name}
-use Rattle.nmgc_graph.specs.declared.value.Value.{Value}
-use Rattle.nmgc_graph.specs.declared.value.Value.TheVariants as value
-use Rattle.nmgc_graph.specs.declared.node.Node.{Node}
-use Rattle.nmgc_graph.specs.declared.node.Node.TheVariants.{Con, Var, Arr, Thunk, Weak, Stack}
-use Rattle.nmgc_graph.specs.Reach.{Lists}
-use Rattle.nmgc_graph.specs.World.{World, state_of, serial_of, node_of, IsWorld}
-use Rattle.nmgc_reach.specs.Limits.{IsWithin}
-use Rattle.nmgc_reach.specs.Wide.{IsWide}
+use Rattle.std.specs.Prelude.{◌≡◌, ◌≢◌, ℕ, List, [], length, slice_get, Some, None, Contains}
+use Rattle.nmgc_world_spec.specs.declared.value.Name.{Name}
+use Rattle.nmgc_world_spec.specs.declared.value.Value.{Value}
+use Rattle.nmgc_world_spec.specs.declared.value.Value.TheVariants as value
+use Rattle.nmgc_world_spec.specs.declared.node.Node.{Node}
+use Rattle.nmgc_world_spec.specs.declared.node.Node.TheVariants.{Con, Var, Arr, Thunk, Weak, Stack}
+use Rattle.nmgc_world_spec.specs.Reach.{Lists}
+use Rattle.nmgc_world_spec.specs.World.{World, state_of, serial_of, node_of}
+use Rattle.nmgc_world_spec.specs.Wide.{IsWide}
 use Rattle.nmgc_image.specs.declared.image.Held.{Held}
 use Rattle.nmgc_image.specs.declared.image.ImageMutator.{ImageMutator}
 use Rattle.nmgc_image.specs.declared.image.Image.{Image}
-use Rattle.nmgc_image.specs.Left.{most_object_words}
-use Rattle.nmgc_image.specs.Image.{AreInOrder, names_of, HasNode, IsImage}
+use Rattle.nmgc_image.specs.Image.{AreInOrder, names_of, HasNode}
 
 -- a node as it is shown: a thunk with a result has no free variables any more
 abbrev pub shown : Node → Node
@@ -43,7 +41,3 @@ pub record Shows (w : World) (image : Image) : Type 0 where
   pub mutators : (m : ℕ) (own : ImageMutator) → slice_get image.mutators m ≡ Some own → ShowsMutator w m own
   pub names : Lists (IsWide w) (names_of image.nodes)
   pub nodes : (name : Name) (node : Node) → HasNode image name node → (is : Node) × (node_of w name ≡ Some is) × (node ≡ shown is)
-
--- what shows a world within the limits is an image: it is orderly, and closed
-abbrev pub ShownIsImage : Type 0
-ShownIsImage = (words : ℕ) (w : World) (image : Image) → words ≤ most_object_words → IsWorld w → IsWithin words w → Shows w image → IsImage image

@@ -13,7 +13,9 @@ use crate::LineFault;
 use crate::image::Entry;
 use crate::nodes::node_line;
 use crate::text::{cut_words, next_line};
-use nmgc_graph::{MAKERS, Name, NoMemory};
+use nmgc_limits::MAKERS;
+use nmgc_lists::NoMemory;
+use nmgc_world_spec::Name;
 use std::alloc::Global;
 
 /// Names, as numbers in order. Where a maker's serials follow one another, the place of a number is that number and the

@@ -12,7 +12,7 @@ use crate::known::Known;
 use crate::plain::Cursor;
 use crate::reader::Reader;
 use crate::text::{Lines, cut_words, next_line};
-use nmgc_graph::NoMemory;
+use nmgc_lists::NoMemory;
 use std::alloc::Global;
 
 /// Takes the lines of a text up to the first that can't be taken, and stays there. Takes time in

@@ -6,15 +6,15 @@
 ghost use Rattle.std.specs.Prelude.{◌≡◌, true};
 ghost use Rattle.std.specs.List.{list_all};
 ghost use Rattle.std.specs.Option.{option_to_list};
-ghost use Rattle.nmgc_graph.specs.Step.{shared_name};
-ghost use Rattle.nmgc_graph.specs.World.{held_by};
+ghost use Rattle.nmgc_world_spec.specs.Step.{shared_name};
+ghost use Rattle.nmgc_world_spec.specs.World.{held_by};
 ghost use Rattle.nmgc_image.specs.Known.{test_of};
 ghost use Rattle.nmgc_image.specs.Reading.{is_declared, is_own_in, is_object_in, AreMentionsIn};
 
 use crate::declared::Declared;
 use crate::image::{Entry, Held, ImageMutator};
 use crate::reader::Reader;
-use nmgc_graph::{Name, Node, Value};
+use nmgc_world_spec::{Name, Node, Value};
 
 /// Which names count as declared: every name, or these.
 #[derive(Drop)]

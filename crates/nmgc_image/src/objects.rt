@@ -8,10 +8,11 @@ ghost use Rattle.nmgc_object.specs.declared.size.TheConstants.{HEADER_WORDS as h
 ghost use Rattle.nmgc_object.specs.declared.words.Header.{Header as HeaderOf};
 ghost use Rattle.nmgc_image.specs.Objects.{IsNamedAt, IsObjectAt, IsReadable, name_in, value_in, is_pointer, leading, told, told_thunk, told_weak, fields_at, told_at, begins_unset, made_of, var_of, thunk_of, weak_of, node_read};
 
-use nmgc_graph::{Kind, List, Name, NoMemory, Node, Parts, Value};
 use nmgc_journal::FinalWords;
+use nmgc_lists::{List, NoMemory};
 use nmgc_object::words::{FieldWord, Header, header_of, name_of};
 use nmgc_object::{HEADER_WORDS, NAME_OFFSET};
+use nmgc_world_spec::{Kind, Name, Node, Parts, Value};
 use std::alloc::Global;
 
 /// The name that stands at a place. Takes no memory.

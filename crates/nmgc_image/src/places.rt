@@ -6,8 +6,8 @@
 //! nothing else of it. So nothing but the name is read before it was found among those of the weak pointers.
 ghost use Rattle.std.specs.Prelude.{◌≡◌, ◌↔◌, ℕ, ◌^◌, ◌<◌, length, Contains, IfOk, IsTrue, OnOk};
 ghost use Rattle.nmgc_segment.specs.Segment.{InUse};
-ghost use Rattle.nmgc_alloc.specs.Search.{nth};
-ghost use Rattle.nmgc_alloc.specs.Segments.{HasNumber, IsBlockAt};
+ghost use Rattle.nmgc_alloc.specs.Numbered.{nth, HasNumber};
+ghost use Rattle.nmgc_alloc.specs.Segments.{IsBlockAt};
 ghost use Rattle.nmgc_image.specs.Names.{TellsNames};
 ghost use Rattle.nmgc_image.specs.Objects.{name_in};
 ghost use Rattle.nmgc_image.specs.Reading.{has_key};
@@ -16,8 +16,8 @@ ghost use Rattle.nmgc_image.specs.Reaching.{Reaches, IsSearch, Visits, ArePointe
 use crate::declared::{Declared, of_names};
 use crate::objects::name_at;
 use crate::search::Search;
-use nmgc_graph::NoMemory;
 use nmgc_journal::{MutatorEnd, Report};
+use nmgc_lists::NoMemory;
 use nmgc_object::SHARED_PLACE;
 use nmgc_segment::{Segment, State};
 use std::alloc::Global;

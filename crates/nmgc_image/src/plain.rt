@@ -5,17 +5,18 @@
 //! which reads any line by its words.
 //! Easy to get wrong: a number with a leading zero is the text of none.
 ghost use Rattle.std.specs.Prelude.{◌≡◌, ◌+◌, ◌^◌, ◌<◌, ◌++◌, ◌∷◌, codes, decimal, length, map, All, IfOk, IfSome, OnOk};
-ghost use Rattle.nmgc_journal.specs.Reading.{IsValue};
-ghost use Rattle.nmgc_journal.specs.Text.{name_text, value_text};
+ghost use Rattle.nmgc_journal.specs.Text.{IsValue, name_text, value_text};
 ghost use Rattle.nmgc_object.specs.Words.{IsName};
 ghost use Rattle.nmgc_image.specs.Plain.{IsPlain, IsPlainNode};
 ghost use Rattle.nmgc_image.specs.Printing.{after_spaces};
 
 use crate::LineFault;
 use crate::image::Entry;
-use nmgc_graph::{List, Name, Node, SHARED_MAKER, Value};
+use nmgc_limits::SHARED_MAKER;
+use nmgc_lists::List;
 use nmgc_object::MAX_FIELDS;
 use nmgc_object::words::TAGS;
+use nmgc_world_spec::{Name, Node, Value};
 use std::alloc::Global;
 
 /// A number from which on no more digits are read.

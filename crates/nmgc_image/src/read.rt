@@ -1,6 +1,6 @@
 //! Images read from their text.
 ghost use Rattle.std.specs.Prelude.{◌≡◌, ◌↔◌, ℕ, ◌≤◌, ◌^◌, Bool, List, [], length, true, IfErr, IfOk, IsTrue, MatchResult};
-ghost use Rattle.nmgc_graph.specs.declared.value.Name.{Name as NameOf};
+ghost use Rattle.nmgc_world_spec.specs.declared.value.Name.{Name as NameOf};
 ghost use Rattle.nmgc_image.specs.Faults.{IsToldOf};
 ghost use Rattle.nmgc_image.specs.Known.{test_of};
 ghost use Rattle.nmgc_image.specs.Reading.{AreRead, IsAnswer, image_of, Tells};

@@ -4,7 +4,7 @@
 ghost use Rattle.std.specs.Prelude.{◌≡◌, ◌++◌, ◌==◌, ◌&&◌, map, length, not, slice_get, IfOk, OnOk};
 ghost use Rattle.std.specs.List.{list_all};
 ghost use Rattle.std.specs.Option.{option_to_list, option_copied};
-ghost use Rattle.nmgc_graph.specs.World.{held_by};
+ghost use Rattle.nmgc_world_spec.specs.World.{held_by};
 ghost use Rattle.nmgc_image.specs.Known.{test_of};
 ghost use Rattle.nmgc_image.specs.Reading.{Takes, begins, object_at, is_declared, begun, is_open, is_full, first_at, new_own, mutator_at, is_above, is_nil, with_register, with_entry, register_at, queue_at, is_before, is_after, is_shared, is_below, is_owned, can_follow, next_at, end_at, line_at, start};
 
@@ -12,9 +12,9 @@ use crate::LineFault;
 use crate::image::{Entry, Held, ImageMutator};
 use crate::known::{Known, is_known, is_node_known, is_value_known};
 use crate::nodes::{entry, number, value};
-use nmgc_graph::{
-    List, MAKERS, Name, NoMemory, Node, REGISTERS, SHARED_MAKER, SHARED_SLOTS, Value,
-};
+use nmgc_limits::{MAKERS, REGISTERS, SHARED_MAKER, SHARED_SLOTS};
+use nmgc_lists::{List, NoMemory};
+use nmgc_world_spec::{Name, Node, Value};
 use std::alloc::Global;
 use std::mem;
 

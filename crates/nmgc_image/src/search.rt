@@ -8,8 +8,8 @@ ghost use Rattle.nmgc_image.specs.Objects.{IsObjectAt, pointers, told_at};
 ghost use Rattle.nmgc_image.specs.Reaching.{Reaches, ReachesObjects, IsSearch, Visits, ArePointers, PointWithin};
 
 use crate::objects::{copy_fields, place_in, told};
-use nmgc_graph::NoMemory;
 use nmgc_journal::FinalWords;
+use nmgc_lists::NoMemory;
 use std::alloc::Global;
 
 /// The places that were found, in the order in which they were.

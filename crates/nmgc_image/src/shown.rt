@@ -5,7 +5,7 @@
 ghost use Rattle.std.specs.Prelude.{◌≡◌, ◌↔◌, ℕ, ◌≤◌, length, map, slice_get, Some, All, IfOk, IsTrue};
 ghost use Rattle.std.specs.List.Sorted.{IsNonDecreasingBy};
 ghost use Rattle.nmgc_limits.specs.declared.mutators.TheConstants.{REGISTERS};
-ghost use Rattle.nmgc_graph.specs.World.{World as WorldOf};
+ghost use Rattle.nmgc_world_spec.specs.World.{World as WorldOf};
 ghost use Rattle.nmgc_journal.specs.declared.report.MutatorEnd.{MutatorEnd as EndOf};
 ghost use Rattle.nmgc_image.specs.declared.image.ImageMutator.{ImageMutator as ShownOf};
 ghost use Rattle.nmgc_image.specs.declared.shown.Keyed.{Keyed as KeyedOf};
@@ -18,8 +18,9 @@ use crate::image::{Entry, Held, Image, ImageMutator};
 use crate::objects::{name_at, node_at, values_of};
 use crate::places::places_of;
 use crate::reader::is_after;
-use nmgc_graph::{List, NoMemory, Value};
 use nmgc_journal::{FinalWords, MutatorEnd, Report};
+use nmgc_lists::{List, NoMemory};
+use nmgc_world_spec::Value;
 use std::alloc::Global;
 
 /// An object: its name as a number, and its place.

@@ -3,7 +3,7 @@
 //! It is appended line by line, from left to right, so no line is built apart and no piece is moved.
 ghost use Rattle.std.specs.Prelude.{◌≡◌, ◌∷◌, [], ◌++◌, map, IfOk, OnOk};
 ghost use Rattle.nmgc_journal.specs.Text.{value_text};
-ghost use Rattle.nmgc_graph.specs.World.{World as WorldOf};
+ghost use Rattle.nmgc_world_spec.specs.World.{World as WorldOf};
 ghost use Rattle.nmgc_image.specs.declared.image.Image.{Image as ImageOf};
 ghost use Rattle.nmgc_image.specs.Left.{IsLeftAs};
 ghost use Rattle.nmgc_image.specs.Shows.{Shows};
@@ -12,9 +12,10 @@ ghost use Rattle.nmgc_image.specs.Spelling.{Spells, image_text, spaced, first_wo
 
 use crate::image::{Entry, Held, Image, ImageMutator};
 use crate::shown::image_of;
-use nmgc_graph::{NoMemory, Node, Parts, Value};
 use nmgc_io::push_number;
 use nmgc_journal::{Report, push_name, push_value};
+use nmgc_lists::NoMemory;
+use nmgc_world_spec::{Node, Parts, Value};
 use std::alloc::Global;
 
 /// The text of the image that shows the heap of a report: what the mutators have in hand, and all that anybody could

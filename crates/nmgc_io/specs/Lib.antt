@@ -1,4 +1,4 @@
-pub mod Causes
 pub mod Counts
 pub mod Memory
 pub mod Streams
+pub mod laws

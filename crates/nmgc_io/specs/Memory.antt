@@ -1,6 +1,6 @@
 -- What contracts see of a source and a sink in memory.
 use Rattle.std.specs.Prelude.{◌≡◌, ℕ, ◌+◌, List, Result, OnErr, IfOk}
-use Rattle.nmgc_io.specs.Causes.{next, CountsErr}
+use Rattle.nmgc_io.specs.Counts.{next, CountsErr}
 
 -- a source: the bytes left, how many of them a call gives at most, which calls fail,
 -- how many calls were made and how many failed

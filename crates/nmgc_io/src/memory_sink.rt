@@ -6,7 +6,7 @@
 //! Easy to get wrong: a call with no room left fails, and one with less room than the piece doesn't.
 ghost use Rattle.std.specs.Prelude.{◌≡◌, ◌⊎◌, ◌↔◌, ◌+◌, ◌<◌, ◌≤◌, ◌++◌, [], min, length, vec_len, vec_capacity, IfOk, IsErr, Contains, Some};
 ghost use Rattle.std.specs.Io.KnownBytes.{WriteAppends};
-ghost use Rattle.nmgc_io.specs.Causes.{HasCause, next};
+ghost use Rattle.nmgc_io.specs.Counts.{HasCause, next};
 
 use crate::{Failed, Sink};
 use nmgc_lists::NoMemory;

@@ -7,7 +7,7 @@
 ghost use Rattle.std.specs.Prelude.{◌≡◌, ◌↔◌, ◌<◌, ◌≤◌, ◌+◌, ◌++◌, min, length, take, drop, IfOk, IsErr, Contains, Some};
 ghost use Rattle.std.specs.Io.{ReadsAtMost};
 ghost use Rattle.std.specs.Io.KnownBytes.{ReadConsumes};
-ghost use Rattle.nmgc_io.specs.Causes.{HasCause, next};
+ghost use Rattle.nmgc_io.specs.Counts.{HasCause, next};
 
 use crate::{Failed, Source};
 use std::marker::Model;

@@ -7,7 +7,7 @@
 //! again.
 ghost use Rattle.std.specs.Prelude.{ℕ, List, Option, ◌<◌, ◌≤◌, length, IfOk};
 ghost use Rattle.std.specs.Io.KnownBytes.{WriteAppends};
-ghost use Rattle.nmgc_io.specs.Causes.{HasCause};
+ghost use Rattle.nmgc_io.specs.Counts.{HasCause};
 
 use crate::Failed;
 

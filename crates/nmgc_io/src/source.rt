@@ -8,7 +8,7 @@
 ghost use Rattle.std.specs.Prelude.{ℕ, List, Option, ◌<◌, length};
 ghost use Rattle.std.specs.Io.{ReadsAtMost};
 ghost use Rattle.std.specs.Io.KnownBytes.{ReadConsumes};
-ghost use Rattle.nmgc_io.specs.Causes.{HasCause};
+ghost use Rattle.nmgc_io.specs.Counts.{HasCause};
 
 use crate::Failed;
 

@@ -11,7 +11,7 @@
 ghost use Rattle.std.specs.Prelude.{◌≡◌, ◌<◌, ◌≤◌, length, IfOk};
 ghost use Rattle.std.specs.Io.{ReadsAtMost};
 ghost use Rattle.std.specs.Io.KnownBytes.{ReadConsumes, WriteAppends};
-ghost use Rattle.nmgc_io.specs.Causes.{HasCause, CountsErr};
+ghost use Rattle.nmgc_io.specs.Counts.{HasCause, CountsErr};
 
 use crate::{Failed, Sink, Source};
 use std::io::{Read, Stdin, Stdout, Write};

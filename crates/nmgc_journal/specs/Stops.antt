@@ -1,10 +1,7 @@
 -- Which cycles ended at a stop, and what is left of them after it.
-use Rattle.std.specs.Prelude.{◌≡◌, ℕ, ◌+◌, ◌<◌, ◌≤◌, ◌==◌, List, [], ◌∷◌, length, filter, drop}
+use Rattle.std.specs.Prelude.{◌≡◌, ℕ, ◌+◌, ◌<◌, ◌≤◌, List, [], ◌∷◌, length, drop}
 use Rattle.nmgc_journal.specs.declared.report.CycleRow.{CycleRow}
-
--- the cycles that ended at this stop
-abbrev pub ended_at : ℕ → List CycleRow → List CycleRow
-ended_at n cycles = filter (λ (cycle : CycleRow). cycle.ended == n) cycles
+use Rattle.nmgc_journal.specs.Text.{ended_at}
 
 -- the cycles ended at this stop or later, each no earlier than the one before it
 abbrev pub AreEndedFrom : ℕ → List CycleRow → Type 0

@@ -1,14 +1,13 @@
 -- The text of a report: ASCII lines, each ended by a line feed.
-use Rattle.std.specs.Prelude.{ℕ, ◌+◌, List, [], ◌∷◌, ◌++◌, codes, decimal, length, slice_get, ◌==◌, ◌&&◌, if◌then◌else◌}
+use Rattle.std.specs.Prelude.{ℕ, ◌+◌, List, [], ◌∷◌, ◌++◌, codes, decimal, length, slice_get, ◌==◌, ◌&&◌, if◌then◌else◌, ◌<◌, filter}
 use Rattle.std.specs.List.{flat_map}
 use Rattle.std.specs.Option.{option_map_or}
 use Rattle.nmgc_limits.specs.declared.mutators.TheConstants.{SHARED_MAKER}
-use Rattle.nmgc_graph.specs.declared.value.Name.{Name}
-use Rattle.nmgc_graph.specs.declared.value.Value.{Value}
-use Rattle.nmgc_graph.specs.declared.value.Value.TheVariants.{Nil, Number, Ref}
-use Rattle.nmgc_graph.specs.declared.command.Reply.{Reply}
-use Rattle.nmgc_graph.specs.declared.command.Reply.TheVariants.{Fine, Yes, No, Updated, Already, Given, NoPointer, NoField, WrongKind, NotOwner, Fixed, Dead, Nothing, StackFull, StackEmpty}
-use Rattle.nmgc_journal.specs.Stops.{ended_at}
+use Rattle.nmgc_world_spec.specs.declared.value.Name.{Name}
+use Rattle.nmgc_world_spec.specs.declared.value.Value.{Value}
+use Rattle.nmgc_world_spec.specs.declared.value.Value.TheVariants.{Nil, Number, Ref}
+use Rattle.nmgc_world_spec.specs.declared.command.Reply.{Reply}
+use Rattle.nmgc_world_spec.specs.declared.command.Reply.TheVariants.{Fine, Yes, No, Updated, Already, Given, NoPointer, NoField, WrongKind, NotOwner, Fixed, Dead, Nothing, StackFull, StackEmpty}
 use Rattle.nmgc_journal.specs.declared.report.RoundRows.{RoundRows}
 use Rattle.nmgc_journal.specs.declared.report.StopRow.{StopRow}
 use Rattle.nmgc_journal.specs.declared.report.CycleRow.{CycleRow}
@@ -17,6 +16,8 @@ use Rattle.nmgc_journal.specs.declared.report.Phase.{Phase}
 use Rattle.nmgc_journal.specs.declared.report.Phase.TheVariants.{Idle, Marking, Sweeping}
 use Rattle.nmgc_journal.specs.declared.report.End.{End}
 use Rattle.nmgc_journal.specs.declared.report.End.TheVariants.{Done, HeapFull}
+use Rattle.nmgc_object.specs.Words.{IsName}
+use Rattle.nmgc_object.specs.declared.words.TheConstants.{NUMBER_LIMIT}
 
 -- the maker and the serial with a full stop between, and g for the shared array
 abbrev pub name_text : Name → List ℕ
@@ -102,6 +103,10 @@ name_line word name = word ++ name_text name ++ 10 ∷ []
 abbrev pub cycle_text : CycleRow → List ℕ
 cycle_text c = cycle_line c ++ flat_map (name_line (codes "dead ")) c.dead ++ flat_map (name_line (codes "freed ")) c.freed
 
+-- the cycles that ended at this stop
+abbrev pub ended_at : ℕ → List CycleRow → List CycleRow
+ended_at n cycles = filter (λ (cycle : CycleRow). cycle.ended == n) cycles
+
 -- the stop of this number, if there is a row of it: its line, and the cycles that ended there
 abbrev pub stop_at : List StopRow → List CycleRow → ℕ → List ℕ
 stop_at stops cycles n = option_map_or (λ stop. stop_line stop ++ flat_map cycle_text (ended_at n cycles)) (slice_get stops n) []
@@ -127,3 +132,9 @@ end_text (HeapFull free reserve) = heap_full_line free reserve
 -- the whole text
 abbrev pub report_text : Report → List ℕ
 report_text r = codes "report 1\n" ++ stop_at r.stops r.cycles 0 ++ rounds_text r.stops r.cycles 1 r.rounds ++ end_text r.end
+
+-- a value that has a text: a number is small enough for a word, and a name may be an object's
+abbrev pub IsValue : Value → Type 0
+IsValue Nil = Unit {0}
+IsValue (Number n) = n < NUMBER_LIMIT
+IsValue (Ref name) = IsName name

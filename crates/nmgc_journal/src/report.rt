@@ -13,7 +13,8 @@
 use crate::final_words::FinalWords;
 use crate::replies::Replies;
 use nmgc_alloc::Segments;
-use nmgc_graph::{List, Name};
+use nmgc_lists::List;
+use nmgc_world_spec::Name;
 
 /// The replies of one round: a list for each mutator, in the mutator's own order.
 #[derive(Drop)]

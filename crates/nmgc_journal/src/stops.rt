@@ -8,12 +8,13 @@
 //! at cycles that ended before it.
 ghost use Rattle.std.specs.Prelude.{◌≡◌, ◌≢◌, ◌↔◌, ℕ, ◌+◌, ◌<◌, ◌≤◌, ◌++◌, ◌==◌, length, take, drop, IsTrue, OnOk, IfOk};
 ghost use Rattle.std.specs.List.{flat_map, take_while};
-ghost use Rattle.nmgc_journal.specs.Text.{phase_text, stop_line, stop_counts, cycle_line, cycle_stops, cycle_swept, cycle_kept, cycle_text, name_line, stop_at};
-ghost use Rattle.nmgc_journal.specs.Stops.{AreEndedFrom, ended_at, IsRestAfter};
+ghost use Rattle.nmgc_journal.specs.Text.{phase_text, stop_line, stop_counts, cycle_line, cycle_stops, cycle_swept, cycle_kept, cycle_text, name_line, stop_at, ended_at};
+ghost use Rattle.nmgc_journal.specs.Stops.{AreEndedFrom, IsRestAfter};
 
 use crate::words::{push_count, push_name, push_word};
 use crate::{CycleRow, Phase, StopRow};
-use nmgc_graph::{Name, NoMemory};
+use nmgc_lists::NoMemory;
+use nmgc_world_spec::Name;
 
 /// Whether each cycle ended no earlier than the one before it. Takes no memory.
 pub fn are_in_order(cycles: &[CycleRow]) -> bool

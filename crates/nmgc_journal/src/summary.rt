@@ -13,7 +13,7 @@ use crate::text::push_end;
 use crate::words::push_word;
 use crate::{CycleRow, MutatorEnd, Report, RoundRows, StopRow};
 use itoa::Buffer;
-use nmgc_graph::NoMemory;
+use nmgc_lists::NoMemory;
 use std::alloc::Global;
 
 /// The summary of a bench of so many batches, as `docs/FORMATS.md` gives it, over the rows of its report.

@@ -16,8 +16,8 @@ use crate::lines::push_reply_line;
 use crate::stops::{are_in_order, push_next_stop, push_stop_at};
 use crate::words::{push_count, push_word};
 use crate::{End, Replies, Report, RoundRows};
-use nmgc_graph::NoMemory;
 use nmgc_io::push_number;
+use nmgc_lists::NoMemory;
 use std::alloc::Global;
 
 /// The text of a report, as `docs/FORMATS.md` gives it, for every report. The cycles that ended at one

@@ -45,11 +45,6 @@ pub one_word : (words front : List (Bor (List ℕ))) (answer : Bor (List ℕ)) �
 one_word words front answer e none =
     ap (λ (ws : List (Bor (List ℕ))). answered_at (texts_of_words ws)) (e ∙ ap (λ (ws : List (Bor (List ℕ))). ws ++ answer ∷ []) none)
 
--- what a test tells
-pub is_not : (b : Bool) → not b ≡ true → b ≡ false
-is_not true e = absurd (false≢true e)
-is_not false e = refl
-
 pub is_so : (b : Bool) → not b ≡ false → b ≡ true
 is_so true e = refl
 is_so false e = absurd (false≢true (sym e))

@@ -1,18 +1,18 @@
 -- A closed trace keeps what a cycle has to keep: its lines after `mark` are a run of the core machine.
-use Rattle.std.proofs.Common.{◌≡◌, ◌↔◌, ◌⊎◌, ◌∙◌, ◌++◌, ℕ, zero, suc, refl, sym, ap, subst, inl, inr, List, [], ◌∷◌, true, append_assoc}
+use Rattle.std.proofs.Common.{◌≡◌, ◌↔◌, ◌⊎◌, ◌++◌, ℕ, zero, suc, refl, sym, ap, subst, inl, inr, List, [], ◌∷◌, true}
 use Rattle.std.specs.Prelude.{Contains}
-use Rattle.nmgc_graph.specs.declared.value.Name.{Name}
-use Rattle.nmgc_graph.specs.declared.command.Reply.{Reply}
-use Rattle.nmgc_graph.specs.World.{World, IsWorld, new_world}
-use Rattle.nmgc_graph.specs.History.{Row, opened, finalised}
-use Rattle.nmgc_graph.specs.Reach.{IsKept, Lists}
-use Rattle.nmgc_graph.specs.laws.NewWorlds.{new_is_world}
-use Rattle.nmgc_reach.specs.laws.WorldSteps.{step_keeps_world}
-use Rattle.nmgc_core.specs.declared.event.Event.{Event}
-use Rattle.nmgc_core.specs.declared.event.Event.TheVariants as event
-use Rattle.nmgc_core.specs.State.{State, opening}
-use Rattle.nmgc_core.specs.Run.{rows_if, Runs, IsExact}
-use Rattle.nmgc_core.specs.laws.Runs.{snapshot_theorem}
+use Rattle.nmgc_world_spec.specs.declared.value.Name.{Name}
+use Rattle.nmgc_world_spec.specs.declared.command.Reply.{Reply}
+use Rattle.nmgc_world_spec.specs.World.{World, IsWorld, new_world}
+use Rattle.nmgc_world_spec.specs.History.{Row, opened, finalised}
+use Rattle.nmgc_world_spec.specs.Reach.{IsKept, Lists}
+use Rattle.nmgc_world_laws.specs.laws.NewWorlds.{new_is_world}
+use Rattle.nmgc_world_laws.specs.laws.WorldSteps.{step_keeps_world}
+use Rattle.nmgc_snapshot_laws.specs.declared.event.Event.{Event}
+use Rattle.nmgc_snapshot_laws.specs.declared.event.Event.TheVariants as event
+use Rattle.nmgc_snapshot_laws.specs.State.{State, opening}
+use Rattle.nmgc_snapshot_laws.specs.Run.{Runs, IsExact}
+use Rattle.nmgc_snapshot_laws.specs.laws.Runs.{snapshot_theorem}
 use Rattle.nmgc_judge.specs.declared.line.Line.{Line}
 use Rattle.nmgc_judge.specs.declared.line.Line.TheVariants as line
 use Rattle.nmgc_judge.specs.declared.progress.Progress.{Progress}
@@ -22,22 +22,7 @@ use Rattle.nmgc_judge.specs.declared.verdict.Verdict.TheVariants as verdict
 use Rattle.nmgc_judge.specs.Trace.{Can, Comes, IsAnswered, Scans}
 use Rattle.nmgc_judge.specs.Verdicts.{IsTold, refusal_of}
 use Rattle.nmgc_judge.specs.Kept.{rows_in, IsKeptTold, TellsKept}
-
--- RUNS OF THE MACHINE
-
-runs_join : (s t u : State) (xs ys : List Event) (rows rest : List Row) → Runs s xs rows t → Runs t ys rest u → Runs s (xs ++ ys) (rows ++ rest) u
-runs_join s t u [] ys rows rest h k =
-    let R : List Row → Type 0 = λ r. Runs s ys (r ++ rest) u in
-    let S : State → Type 0 = λ x. Runs x ys rest u in
-    subst R (sym h.0) (subst S h.1 k)
-runs_join s t u (x ∷ xs) ys rows rest (d, next, more, first, is, others) k = (
-  d,
-  next,
-  more ++ rest,
-  first,
-  ap (λ (r : List Row). r ++ rest) is ∙ append_assoc (rows_if d x) more rest,
-  runs_join next t u xs ys more rest others k,
-)
+use Rattle.nmgc_snapshot_laws.specs.laws.Common.{runs_join}
 
 scans_run : (s t : State) (n : ℕ) → Scans s n t → (events : List Event) × Runs s events [] t
 scans_run s t zero h = ([], (refl, h))

@@ -2,17 +2,18 @@
 use Rattle.std.proofs.Common.{◌≡◌, ◌<◌, ℕ, List, [], ◌∷◌, refl, sym, ap, subst, ◌∙◌, inl, inr, true, false, codes, decimal, Option, Some, None}
 use Rattle.std.specs.Str.{bytes_eq}
 use Rattle.std.proofs.lemmas.Option.{same_Some, none-some}
-use Rattle.nmgc_graph.specs.declared.value.Name.{Name}
-use Rattle.nmgc_graph.specs.declared.command.Command.{Command}
-use Rattle.nmgc_graph.specs.declared.command.Reply.{Reply}
-use Rattle.nmgc_core.specs.declared.event.Event.{Event}
-use Rattle.nmgc_core.specs.declared.event.Event.TheVariants as core
+use Rattle.nmgc_world_spec.specs.declared.value.Name.{Name}
+use Rattle.nmgc_world_spec.specs.declared.command.Command.{Command}
+use Rattle.nmgc_world_spec.specs.declared.command.Reply.{Reply}
+use Rattle.nmgc_snapshot_laws.specs.declared.event.Event.{Event}
+use Rattle.nmgc_snapshot_laws.specs.declared.event.Event.TheVariants as core
 use Rattle.nmgc_object.specs.Words.{IsName}
 use Rattle.nmgc_script.specs.Text.{words_of, is_passed}
 use Rattle.nmgc_script.specs.Spelling.{spaced, command_words}
 use Rattle.nmgc_journal.specs.Text.{name_text, reply_text}
 use Rattle.nmgc_journal.specs.Reading.{◌>>=◌, name_at}
-use Rattle.nmgc_journal.specs.laws.Reading.{bind_some, guard_some, chosen, name_reads}
+use Rattle.nmgc_journal.specs.laws.Reading.{bind_some, guard_some, name_reads}
+use Rattle.nmgc_lists.specs.laws.Truths.{chosen}
 use Rattle.nmgc_judge.specs.declared.line.Line.{Line}
 use Rattle.nmgc_judge.specs.declared.line.Line.TheVariants as line
 use Rattle.nmgc_judge.specs.Reading.{byte_at, count_line_at, mark_line_at, push_line_at, scan_line_at, take_line_at, close_line_at, drain_line_at, marker_line_at, plain_line_at, parts_at, IsCommandOf, IsLineCommand, IsLineGiven, IsLineBy}

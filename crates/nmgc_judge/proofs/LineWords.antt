@@ -7,14 +7,15 @@ use Rattle.std.proofs.lemmas.Bool.Decides.{eqb_tells}
 use Rattle.std.proofs.lemmas.Fmt.{decimal_by_steps, length-decimal-le}
 use Rattle.std.proofs.lemmas.List.{append-nil, length-append, length-map}
 use Rattle.std.proofs.lemmas.List.Elements.{recursion_from_All}
-use Rattle.nmgc_graph.specs.declared.command.Operand.{Operand}
-use Rattle.nmgc_graph.specs.declared.command.Operand.TheVariants.{Register, Shared}
-use Rattle.nmgc_graph.specs.declared.command.Command.{Command}
-use Rattle.nmgc_graph.specs.declared.command.Command.TheVariants.{Num, Nil, Mov, Con, Var, Arr, Thunk, Weak, Stack, Get, Set, Cas, Update, Force, Push, Pop, Deref, Finalise, NextFin, Show, Same, Yield, Collect, Full}
-use Rattle.nmgc_graph.specs.Command.{IsRegister, IsOperand, Fits}
+use Rattle.nmgc_world_spec.specs.declared.command.Operand.{Operand}
+use Rattle.nmgc_world_spec.specs.declared.command.Operand.TheVariants.{Register, Shared}
+use Rattle.nmgc_world_spec.specs.declared.command.Command.{Command}
+use Rattle.nmgc_world_spec.specs.declared.command.Command.TheVariants.{Num, Nil, Mov, Con, Var, Arr, Thunk, Weak, Stack, Get, Set, Cas, Update, Force, Push, Pop, Deref, Finalise, NextFin, Show, Same, Yield, Collect, Full}
+use Rattle.nmgc_world_spec.specs.Command.{IsRegister, IsOperand, Fits}
 use Rattle.nmgc_script.specs.Text.{words_of, onto_first, is_passed}
 use Rattle.nmgc_script.specs.Spelling.{spaced, operand_word, register_word, command_words}
 use Rattle.nmgc_judge.specs.Reading.{after_spaces}
+use Rattle.nmgc_lists.specs.laws.Truths.{cond_true}
 
 -- ANY WORDS
 
@@ -117,10 +118,6 @@ operands_small (o ∷ os) h = (operand_small o h.0, operands_small os h.1)
 abbrev is_bare : List ℕ → Bool
 is_bare [] = true
 is_bare (b ∷ bytes) = cond (leb 48 b) (is_bare bytes) false
-
-cond_true : (a b : Bool) → cond a b false ≡ true → (a ≡ true) × (b ≡ true)
-cond_true true b e = (refl, e)
-cond_true false b e = absurd cc
 
 tested : (word : List ℕ) → is_bare word ≡ true → IsBare word
 tested [] e = tt

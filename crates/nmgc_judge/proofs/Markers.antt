@@ -1,15 +1,15 @@
 -- Each cycle of a trace began with a closed world, and came so far by commands and pushes.
 use Rattle.std.proofs.Common.{◌+◌, ℕ, sym, subst, List, [], ◌∷◌}
-use Rattle.nmgc_graph.specs.declared.command.Command.{Command}
-use Rattle.nmgc_graph.specs.declared.command.Reply.{Reply}
-use Rattle.nmgc_graph.specs.World.{World, IsWorld}
-use Rattle.nmgc_graph.specs.Step.{step}
-use Rattle.nmgc_graph.specs.laws.NewWorlds.{new_is_world}
-use Rattle.nmgc_reach.specs.laws.Deaths.{closed_world}
-use Rattle.nmgc_reach.specs.laws.WorldSteps.{step_keeps_world}
-use Rattle.nmgc_lax.specs.Cycle.{Cycle, watching, IsWatched}
-use Rattle.nmgc_lax.specs.Barrier.{Watches}
-use Rattle.nmgc_lax.specs.Barrier as barrier
+use Rattle.nmgc_world_spec.specs.declared.command.Command.{Command}
+use Rattle.nmgc_world_spec.specs.declared.command.Reply.{Reply}
+use Rattle.nmgc_world_spec.specs.World.{World, IsWorld}
+use Rattle.nmgc_world_spec.specs.Step.{step}
+use Rattle.nmgc_world_laws.specs.laws.NewWorlds.{new_is_world}
+use Rattle.nmgc_world_laws.specs.laws.Deaths.{closed_world}
+use Rattle.nmgc_world_laws.specs.laws.WorldSteps.{step_keeps_world}
+use Rattle.nmgc_barrier_laws.specs.Cycle.{Cycle, watching, IsWatched}
+use Rattle.nmgc_barrier_laws.specs.Barrier.{Watches}
+use Rattle.nmgc_barrier_laws.specs.Barrier as barrier
 use Rattle.nmgc_watch.specs.declared.event.Event.{Event}
 use Rattle.nmgc_watch.specs.declared.event.Event.TheVariants as event
 use Rattle.nmgc_watch.specs.declared.watch.Watch.{Watch}

@@ -32,6 +32,7 @@ use Rattle.nmgc_judge.proofs.Kepts.{refusal_tells, tells_kept}
 use Rattle.nmgc_judge.proofs.Tellings as tellings
 use Rattle.nmgc_judge.proofs.Traces as traces
 use Rattle.nmgc_judge.proofs.Wholes.{tells_whole}
+use Rattle.nmgc_lists.specs.laws.Items.{same_first as head_of}
 
 -- one more line is said by the next text
 said_more : {A : Type 0} (says : List ℕ → A → Type 0) (texts : List (List ℕ)) (lines : List A) (text : List ℕ) (left : List (List ℕ)) (l : A) →
@@ -293,9 +294,6 @@ pub outcome_watched : (old now : Option (List ℕ)) (is_there : Bool) (line : Li
     (is_there && bytes_eq (strip_last 13 (strip_last 10 line)) (codes "trace 2")) ≡ true → IsWatched now answer → IsOutcome old (outcome.Watched answer)
 outcome_watched old now is_there line answer is head w =
     (w.0, watched_of old now is_there line w.0 answer.report is head w.1, w.2, w.3)
-
-head_of : (x y : List ℕ) (xs ys : List (List ℕ)) → x ∷ xs ≡ y ∷ ys → x ≡ y
-head_of x y xs ys e = cc
 
 no_head : (is_there : Bool) (line rest : List ℕ) (texts : List (List ℕ)) →
     (is_there && bytes_eq (strip_last 13 (strip_last 10 line)) (codes "trace 2")) ≡ false → ahead is_there line rest ≡ codes "trace 2" ∷ texts → ⊥

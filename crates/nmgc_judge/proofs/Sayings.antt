@@ -5,17 +5,18 @@ use Rattle.std.specs.List.{AllByRecursion}
 use Rattle.std.specs.Str.{bytes_eq}
 use Rattle.std.proofs.lemmas.Bool.{false≢true}
 use Rattle.std.proofs.lemmas.Option.{same_Some, none-some}
-use Rattle.nmgc_graph.specs.declared.value.Name.{Name}
-use Rattle.nmgc_graph.specs.declared.command.Command.{Command}
-use Rattle.nmgc_graph.specs.declared.command.Reply.{Reply}
-use Rattle.nmgc_graph.specs.declared.command.Reply.TheVariants as reply
-use Rattle.nmgc_graph.specs.Command.{Fits}
+use Rattle.nmgc_world_spec.specs.declared.value.Name.{Name}
+use Rattle.nmgc_world_spec.specs.declared.command.Command.{Command}
+use Rattle.nmgc_world_spec.specs.declared.command.Reply.{Reply}
+use Rattle.nmgc_world_spec.specs.declared.command.Reply.TheVariants as reply
+use Rattle.nmgc_world_spec.specs.Command.{Fits}
 use Rattle.nmgc_object.specs.Words.{IsName}
 use Rattle.nmgc_script.specs.Text.{words_of, is_passed}
 use Rattle.nmgc_script.specs.Spelling.{spaced, command_words}
 use Rattle.nmgc_journal.specs.Text.{name_text, reply_text}
 use Rattle.nmgc_journal.specs.Reading.{◌>>=◌, name_at}
-use Rattle.nmgc_journal.specs.laws.Reading.{bind_some, guard_some, chosen, name_reads}
+use Rattle.nmgc_journal.specs.laws.Reading.{bind_some, guard_some, name_reads}
+use Rattle.nmgc_lists.specs.laws.Truths.{chosen}
 use Rattle.nmgc_watch.specs.declared.event.Event.{Event}
 use Rattle.nmgc_watch.specs.declared.event.Event.TheVariants as event
 use Rattle.nmgc_judge.specs.declared.told.Told.{Told}

@@ -2,17 +2,15 @@
 use Rattle.std.proofs.Common.{◌≡◌, ◌≤◌, ◌↔◌, ◌⊎◌, ◌∙◌, inl, inr, refl, sym, ap, subst, arith, List, [], ◌∷◌, length, Bool, true, false}
 use Rattle.std.specs.Prelude.{Contains, IsTrue, ℕ, slice_set, if◌then◌else◌}
 use Rattle.std.proofs.lemmas.List.Elements.{Contains-append_left, Contains-append_cases}
-use Rattle.nmgc_graph.specs.declared.value.Name.{Name}
-use Rattle.nmgc_graph.specs.Step.{shared_name}
-use Rattle.nmgc_graph.specs.Reach.{IsBefore, IsInOrder, Lists}
-use Rattle.nmgc_graph.specs.laws.Orders.{before_trans, not_before_itself, contains_head, contains_tail, contains_cases, in_order_first, in_order_rest}
-use Rattle.nmgc_core.specs.declared.event.Event.TheVariants as event
-use Rattle.nmgc_core.specs.State.{State, names_of, is_new, with_mark}
-use Rattle.nmgc_core.specs.Machine.{Passes, after_take}
+use Rattle.nmgc_world_spec.specs.declared.value.Name.{Name}
+use Rattle.nmgc_world_spec.specs.Step.{shared_name}
+use Rattle.nmgc_world_spec.specs.Reach.{IsBefore, IsInOrder, Lists}
+use Rattle.nmgc_world_spec.specs.laws.Orders.{before_trans, not_before_itself, in_order_first, in_order_rest}
+use Rattle.nmgc_lists.specs.laws.Items.{contains_head, contains_tail, contains_cases, nothing_in as nothing}
+use Rattle.nmgc_snapshot_laws.specs.declared.event.Event.TheVariants as event
+use Rattle.nmgc_snapshot_laws.specs.State.{State, names_of, is_new, with_mark}
+use Rattle.nmgc_snapshot_laws.specs.Machine.{Passes, after_take}
 use Rattle.nmgc_judge.specs.Trace.{MarksJust, IsTakeIf}
-
-nothing : {A : Type 0} (x : A) → Contains [] x → ⊥
-nothing x c = omega (arith, c.1)
 
 -- TWO LISTS IN ORDER WITH THE SAME NAMES ARE ONE
 

@@ -1,12 +1,12 @@
 -- A whole trace has a cycle that ends in it, and each of them is exact.
 use Rattle.std.proofs.Common.{◌≡◌, ◌⊎◌, ◌+◌, ◌++◌, ℕ, refl, sym, ap, subst, arith, inl, inr, List, [], ◌∷◌, length, append_assoc}
 use Rattle.std.proofs.lemmas.List.{length-append}
-use Rattle.nmgc_graph.specs.declared.command.Command.{Command}
-use Rattle.nmgc_graph.specs.World.{World}
-use Rattle.nmgc_graph.specs.Reach.{Lists}
-use Rattle.nmgc_lax.specs.Cycle.{Cycle, Marks}
-use Rattle.nmgc_lax.specs.laws.Beside.{barrier_theorem, joint_theorem}
-use Rattle.nmgc_lax.specs.laws.Finishing.{some_finisher}
+use Rattle.nmgc_world_spec.specs.declared.command.Command.{Command}
+use Rattle.nmgc_world_spec.specs.World.{World}
+use Rattle.nmgc_world_spec.specs.Reach.{Lists}
+use Rattle.nmgc_barrier_laws.specs.Cycle.{Cycle, Marks}
+use Rattle.nmgc_barrier_laws.specs.laws.Beside.{barrier_theorem, joint_theorem}
+use Rattle.nmgc_barrier_laws.specs.laws.Finishing.{some_finisher}
 use Rattle.nmgc_watch.specs.declared.event.Event.{Event}
 use Rattle.nmgc_watch.specs.declared.event.Event.TheVariants as event
 use Rattle.nmgc_watch.specs.declared.left.Left.{Left}

@@ -9,20 +9,21 @@ use Rattle.std.proofs.lemmas.List.Elements.{All-from_recursion, recursion_from_A
 use Rattle.std.proofs.lemmas.Option.{same_Some, none-some}
 use Rattle.std.proofs.lemmas.Slice.Eq.{bytes_eq-Decides}
 use Rattle.nmgc_limits.specs.declared.mutators.TheConstants.{REGISTERS, SHARED_MAKER}
-use Rattle.nmgc_graph.specs.declared.value.Name.{Name}
-use Rattle.nmgc_graph.specs.declared.value.Value.{Value}
-use Rattle.nmgc_graph.specs.declared.value.Value.TheVariants as value
-use Rattle.nmgc_graph.specs.declared.command.Operand.{Operand}
-use Rattle.nmgc_graph.specs.declared.command.Operand.TheVariants as operand
-use Rattle.nmgc_graph.specs.declared.command.Command.{Command}
-use Rattle.nmgc_graph.specs.declared.command.Reply.{Reply}
-use Rattle.nmgc_graph.specs.declared.command.Reply.TheVariants as reply
-use Rattle.nmgc_graph.specs.Command.{IsRegister, IsOperand}
+use Rattle.nmgc_world_spec.specs.declared.value.Name.{Name}
+use Rattle.nmgc_world_spec.specs.declared.value.Value.{Value}
+use Rattle.nmgc_world_spec.specs.declared.value.Value.TheVariants as value
+use Rattle.nmgc_world_spec.specs.declared.command.Operand.{Operand}
+use Rattle.nmgc_world_spec.specs.declared.command.Operand.TheVariants as operand
+use Rattle.nmgc_world_spec.specs.declared.command.Command.{Command}
+use Rattle.nmgc_world_spec.specs.declared.command.Reply.{Reply}
+use Rattle.nmgc_world_spec.specs.declared.command.Reply.TheVariants as reply
+use Rattle.nmgc_world_spec.specs.Command.{IsRegister, IsOperand}
 use Rattle.nmgc_object.specs.Words.{IsName}
 use Rattle.nmgc_script.specs.Spelling.{register_word, operand_word}
-use Rattle.nmgc_journal.specs.Text.{name_text, value_text, reply_text}
-use Rattle.nmgc_journal.specs.Reading.{IsValue, ◌>>=◌, number_at, dotted_at, name_at, value_at}
-use Rattle.nmgc_journal.specs.laws.Reading.{Reads, bind_some, guard_some, chosen, number_takes, number_again, name_reads, value_reads}
+use Rattle.nmgc_journal.specs.Text.{name_text, value_text, reply_text, IsValue}
+use Rattle.nmgc_journal.specs.Reading.{◌>>=◌, number_at, dotted_at, name_at, value_at}
+use Rattle.nmgc_journal.specs.laws.Reading.{Reads, bind_some, guard_some, number_takes, number_again, name_reads, value_reads}
+use Rattle.nmgc_lists.specs.laws.Truths.{chosen}
 use Rattle.nmgc_watch.specs.declared.rows.Copying.{Copying}
 use Rattle.nmgc_watch.specs.declared.rows.Filling.{Filling}
 use Rattle.nmgc_watch.specs.Rows.{copied, filled}

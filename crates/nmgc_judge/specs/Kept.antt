@@ -1,10 +1,10 @@
 -- What a closed trace keeps, by the heap and the commands alone: nothing here speaks of marks.
 use Rattle.std.specs.Prelude.{◌≡◌, List, [], ◌∷◌, ◌++◌}
-use Rattle.nmgc_graph.specs.declared.value.Name.{Name}
-use Rattle.nmgc_graph.specs.World.{World}
-use Rattle.nmgc_graph.specs.History.{Row, IsLegal, opened, finalised}
-use Rattle.nmgc_graph.specs.Reach.{IsKept, Lists}
-use Rattle.nmgc_core.specs.Run.{row_of}
+use Rattle.nmgc_world_spec.specs.declared.value.Name.{Name}
+use Rattle.nmgc_world_spec.specs.World.{World}
+use Rattle.nmgc_world_spec.specs.History.{Row, IsLegal, opened, finalised}
+use Rattle.nmgc_world_spec.specs.Reach.{IsKept, Lists}
+use Rattle.nmgc_snapshot_laws.specs.Run.{row_of}
 use Rattle.nmgc_judge.specs.declared.line.Line.{Line}
 use Rattle.nmgc_judge.specs.declared.line.Line.TheVariants as line
 use Rattle.nmgc_judge.specs.declared.progress.Progress.TheVariants as progress

@@ -1,7 +1,7 @@
 -- What it is for a line of format 2 to happen, and what is told of a trace.
 use Rattle.std.specs.Prelude.{◌≡◌, ◌≤◌, ◌+◌, ℕ, List, [], ◌∷◌, ◌++◌, length, Option, Some, None, Bool, true, false}
 use Rattle.nmgc_limits.specs.declared.mutators.TheConstants.{MAKERS}
-use Rattle.nmgc_graph.specs.World.{new_world}
+use Rattle.nmgc_world_spec.specs.World.{new_world}
 use Rattle.nmgc_watch.specs.declared.event.Event.{Event}
 use Rattle.nmgc_watch.specs.declared.watch.Watch.{Watch}
 use Rattle.nmgc_watch.specs.declared.watch.Watch.TheVariants as watch

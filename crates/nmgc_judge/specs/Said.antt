@@ -1,13 +1,13 @@
 -- What the lines of a trace say, by their bytes: how each of them is spelled. A line is words with single spaces between.
 use Rattle.std.specs.Prelude.{◌≡◌, ◌⊎◌, ◌<◌, ℕ, List, [], ◌∷◌, ◌++◌, map, codes, decimal, Option, Some, Bool, true, false, nat_lt, All, IfSome}
 use Rattle.std.specs.Io.BufRead.{strip_last}
-use Rattle.nmgc_graph.specs.declared.value.Name.{Name}
-use Rattle.nmgc_graph.specs.declared.command.Command.{Command}
-use Rattle.nmgc_graph.specs.declared.command.Reply.{Reply}
-use Rattle.nmgc_graph.specs.declared.command.Reply.TheVariants as reply
-use Rattle.nmgc_graph.specs.Command.{Fits, IsRegister, IsOperand}
-use Rattle.nmgc_core.specs.declared.event.Event.{Event as CoreEvent}
-use Rattle.nmgc_core.specs.declared.event.Event.TheVariants as core
+use Rattle.nmgc_world_spec.specs.declared.value.Name.{Name}
+use Rattle.nmgc_world_spec.specs.declared.command.Command.{Command}
+use Rattle.nmgc_world_spec.specs.declared.command.Reply.{Reply}
+use Rattle.nmgc_world_spec.specs.declared.command.Reply.TheVariants as reply
+use Rattle.nmgc_world_spec.specs.Command.{Fits, IsRegister, IsOperand}
+use Rattle.nmgc_snapshot_laws.specs.declared.event.Event.{Event as CoreEvent}
+use Rattle.nmgc_snapshot_laws.specs.declared.event.Event.TheVariants as core
 use Rattle.nmgc_watch.specs.declared.event.Event.{Event}
 use Rattle.nmgc_watch.specs.declared.event.Event.TheVariants as event
 use Rattle.nmgc_watch.specs.declared.rows.Copying.{Copying}
@@ -16,8 +16,7 @@ use Rattle.nmgc_watch.specs.Rows.{copied, filled}
 use Rattle.nmgc_object.specs.Words.{IsName}
 use Rattle.nmgc_script.specs.Text.{lines_of, words_of, is_passed}
 use Rattle.nmgc_script.specs.Spelling.{register_word, operand_word, command_words}
-use Rattle.nmgc_journal.specs.Text.{name_text, reply_text}
-use Rattle.nmgc_journal.specs.Reading.{IsValue}
+use Rattle.nmgc_journal.specs.Text.{name_text, reply_text, IsValue}
 use Rattle.nmgc_judge.specs.declared.line.Line.{Line}
 use Rattle.nmgc_judge.specs.declared.line.Line.TheVariants as line
 use Rattle.nmgc_judge.specs.declared.told.Told.{Told}

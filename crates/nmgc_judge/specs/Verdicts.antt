@@ -1,7 +1,7 @@
 -- What is told of a trace.
 use Rattle.std.specs.Prelude.{◌≡◌, ◌+◌, ℕ, List, ◌∷◌, ◌++◌, length, Bool, true, false, Contains}
-use Rattle.nmgc_graph.specs.Reach.{Lists}
-use Rattle.nmgc_core.specs.State.{State}
+use Rattle.nmgc_world_spec.specs.Reach.{Lists}
+use Rattle.nmgc_snapshot_laws.specs.State.{State}
 use Rattle.nmgc_judge.specs.declared.line.Line.{Line}
 use Rattle.nmgc_judge.specs.declared.line.Line.TheVariants as line
 use Rattle.nmgc_judge.specs.declared.progress.Progress.{Progress}

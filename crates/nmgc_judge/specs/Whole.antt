@@ -1,13 +1,13 @@
 -- What a trace of format 2 shows of the marker that ran beside its barrier, which isn't in it.
 use Rattle.std.specs.Prelude.{◌≡◌, ◌↔◌, ◌+◌, List, ◌∷◌, ◌++◌, length, Contains}
-use Rattle.nmgc_graph.specs.declared.value.Name.{Name}
-use Rattle.nmgc_graph.specs.World.{World, IsWorld}
-use Rattle.nmgc_core.specs.declared.event.Event.TheVariants as core
-use Rattle.nmgc_core.specs.State.{State}
-use Rattle.nmgc_core.specs.Machine.{IsPossible}
-use Rattle.nmgc_core.specs.Closing.{IsClosing}
-use Rattle.nmgc_lax.specs.Cycle.{Cycle}
-use Rattle.nmgc_lax.specs.Barrier.{Watches, Beside, HasFinished, EndsExactly}
+use Rattle.nmgc_world_spec.specs.declared.value.Name.{Name}
+use Rattle.nmgc_world_spec.specs.World.{World, IsWorld}
+use Rattle.nmgc_snapshot_laws.specs.declared.event.Event.TheVariants as core
+use Rattle.nmgc_snapshot_laws.specs.State.{State}
+use Rattle.nmgc_snapshot_laws.specs.Machine.{IsPossible}
+use Rattle.nmgc_snapshot_laws.specs.Closing.{IsClosing}
+use Rattle.nmgc_barrier_laws.specs.Cycle.{Cycle}
+use Rattle.nmgc_barrier_laws.specs.Barrier.{Watches, Beside, HasFinished, EndsExactly}
 use Rattle.nmgc_watch.specs.declared.event.Event.{Event}
 use Rattle.nmgc_watch.specs.declared.left.Left.{Left}
 use Rattle.nmgc_watch.specs.declared.watch.Watch.TheVariants as watch

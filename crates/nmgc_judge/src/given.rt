@@ -9,9 +9,10 @@ ghost use Rattle.nmgc_script.specs.Spelling.{spaced};
 ghost use Rattle.nmgc_judge.specs.Reading.{done_at, refused_at, nothing_at, reply_at, answered_at, parts_at, script_head, after_spaces, IsCommandIf, IsSpelledIf, IsLastIf, IsLastOf};
 
 use crate::words::byte;
-use nmgc_graph::{Command, NoMemory, Reply};
 use nmgc_journal::read_value;
+use nmgc_lists::NoMemory;
 use nmgc_script::{Script, ScriptFault, parse};
+use nmgc_world_spec::{Command, Reply};
 use std::alloc::Global;
 
 // No command of a script takes more bytes, with the lines before it.

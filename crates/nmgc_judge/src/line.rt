@@ -5,9 +5,10 @@ ghost use Rattle.nmgc_judge.specs.Said.{SaysLine};
 
 use crate::given::{command, parts};
 use crate::words::{byte, cut_words, is_passed};
-use nmgc_core::Event;
-use nmgc_graph::{Name, NoMemory};
 use nmgc_journal::read_name;
+use nmgc_lists::NoMemory;
+use nmgc_snapshot_laws::Event;
+use nmgc_world_spec::Name;
 use std::alloc::Global;
 
 /// What a line says.

@@ -16,8 +16,12 @@ ghost use Rattle.nmgc_judge.specs.Trace.{IsNext, CanStart, IsAnsweredIf, IsTakeI
 ghost use Rattle.nmgc_judge.specs.declared.line.Line.TheVariants as line_is;
 
 use crate::line::Line;
-use nmgc_core::{Core, Event};
-use nmgc_graph::{MAKERS, Name, NoMemory, World};
+use nmgc_core::Core;
+use nmgc_graph::World;
+use nmgc_limits::MAKERS;
+use nmgc_lists::NoMemory;
+use nmgc_snapshot_laws::Event;
+use nmgc_world_spec::Name;
 use std::alloc::Global;
 use std::marker::Model;
 
@@ -28,7 +32,7 @@ pub struct Built {
 }
 
 impl Model for Built {
-    ghost use Rattle.nmgc_graph.specs.World.{World};
+    ghost use Rattle.nmgc_world_spec.specs.World.{World};
 
     ghost Value = { World };
 

@@ -13,7 +13,7 @@ use crate::line::line_of;
 use crate::progress::Progress;
 use crate::telling::{Answer, Telling};
 use crate::verdict::{Verdict, refusal, told_in_the_end};
-use nmgc_graph::NoMemory;
+use nmgc_lists::NoMemory;
 use std::alloc::Global;
 use std::io::{BufRead, Print};
 use std::{fmt, io};

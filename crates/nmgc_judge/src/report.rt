@@ -5,7 +5,8 @@ ghost use Rattle.nmgc_judge.specs.Whole.{TellsWhole};
 ghost use Rattle.nmgc_judge.specs.declared.told.Told.TheVariants as told_is;
 
 use crate::told::Told;
-use nmgc_graph::{MAKERS, NoMemory};
+use nmgc_limits::MAKERS;
+use nmgc_lists::NoMemory;
 use nmgc_watch::{Watch, Why};
 use std::alloc::Global;
 

@@ -1,8 +1,9 @@
 //! Why a line can't happen, as a sentence; and names, values and answers within one.
 use crate::report::Refusal;
-use nmgc_graph::{Name, Reply, SHARED_MAKER, Value};
-use nmgc_lax::Debt;
+use nmgc_barrier_laws::Debt;
+use nmgc_limits::SHARED_MAKER;
 use nmgc_watch::Why;
+use nmgc_world_spec::{Name, Reply, Value};
 use std::fmt;
 
 /// Writes why a line can't happen, with the text of the line since which something is due, where it is known.

@@ -14,7 +14,7 @@ use crate::counts::Counts;
 use crate::report::{Begun, Refusal, Report, happen, report_of};
 use crate::sentence::write_refusal;
 use crate::told::{Told, told_of};
-use nmgc_graph::NoMemory;
+use nmgc_lists::NoMemory;
 use nmgc_watch::Why;
 use std::alloc::Global;
 use std::fmt;

@@ -8,10 +8,11 @@ ghost use Rattle.nmgc_judge.specs.Said.{Says};
 
 use crate::given::{command, parts};
 use crate::words::{byte, cut_words, is_passed, names, operand, pusher, register, short};
-use nmgc_graph::{Command, List, NoMemory, Operand, Reply};
 use nmgc_journal::read_name;
+use nmgc_lists::{List, NoMemory};
 use nmgc_watch::rows::{copied, filled};
 use nmgc_watch::{Copying, Event, Filling};
+use nmgc_world_spec::{Command, Operand, Reply};
 use std::alloc::Global;
 
 /// What a line says.

@@ -6,7 +6,8 @@ ghost use Rattle.nmgc_judge.specs.Verdicts.{IsVerdict, IsTold, refusal_of};
 use crate::line::Line;
 use crate::progress::Progress;
 use crate::sentence::write_name;
-use nmgc_graph::{List, Name, NoMemory};
+use nmgc_lists::{List, NoMemory};
+use nmgc_world_spec::Name;
 use std::alloc::Global;
 use std::fmt;
 

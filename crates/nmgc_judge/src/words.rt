@@ -7,9 +7,11 @@ ghost use Rattle.nmgc_script.specs.Text.{words_of, is_passed};
 ghost use Rattle.nmgc_journal.specs.Reading.{number_at, name_at};
 ghost use Rattle.nmgc_judge.specs.Reading.{byte_at, short_at, register_at, operand_at, each_at, no_names_at, names_at, pusher_at};
 
-use nmgc_graph::{List, Name, NoMemory, Operand, REGISTERS};
 use nmgc_io::read_number;
 use nmgc_journal::read_name;
+use nmgc_limits::REGISTERS;
+use nmgc_lists::{List, NoMemory};
+use nmgc_world_spec::{Name, Operand};
 use std::alloc::Global;
 
 /// Whether a line is empty or a remark. Takes no memory.

@@ -6,3 +6,4 @@ pub mod Lends
 pub mod PlacedLends
 pub mod Room
 pub mod RoomLends
+pub mod laws

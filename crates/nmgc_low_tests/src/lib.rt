@@ -8,15 +8,13 @@ mod of_core;
 #[cfg(test)]
 mod of_graph;
 #[cfg(test)]
-mod of_heap;
+mod of_heap_spec;
 #[cfg(test)]
 mod of_io;
 #[cfg(test)]
 mod of_lists;
 #[cfg(test)]
 mod of_object;
-#[cfg(test)]
-mod of_reach;
 #[cfg(test)]
 mod of_script;
 #[cfg(test)]
@@ -25,3 +23,5 @@ mod of_segment;
 mod of_updrem;
 #[cfg(test)]
 mod of_watch;
+#[cfg(test)]
+mod of_world_laws;

@@ -1,10 +1,12 @@
 //! Worked numbers of words, sizes and places, and a queue from end to end.
-use nmgc_graph::{Kind, MAKERS, Name, Place};
+use nmgc_limits::MAKERS;
+use nmgc_lists::Place;
 use nmgc_object::{
     Address, Field, FinQueue, Header, Layout, Nursery, block_words, class_of, decode_header,
-    decode_name, decode_value, encode_header, encode_name, encode_value, fields_of, header_of,
-    laws, name_of, object_words, words_of,
+    decode_name, decode_value, encode_header, encode_name, encode_value, fields_of, header_of, laws,
+    name_of, object_words, words_of,
 };
+use nmgc_world_spec::{Kind, Name};
 use std::test::Fail;
 
 #[test]

@@ -2,13 +2,13 @@
 ghost use Rattle.std.specs.Prelude.{◌≡◌, ◌+◌, ◌<◌, ◌≤◌, length, IfOk};
 ghost use Rattle.nmgc_updrem.specs.Rings.{IsPair};
 
-use nmgc_graph::{NoMemory, Place, Placed};
+use nmgc_lists::{NoMemory, Place, Placed};
 use nmgc_object::Address;
 use nmgc_updrem::*;
 use std::alloc::Global;
 use std::test::Fail;
-use std::thread;
 use std::thread::Threads;
+use std::thread;
 
 #[test]
 fn pushes_come_out_in_order(rt: HostRuntime) -> Result<(), Fail> {

@@ -1,26 +1,24 @@
 -- A collector that scans alone: each load is the machine's next scan, by the law of scans.
-use Rattle.std.proofs.Common.{◌≡◌, inl, inr, ℕ, ◌+◌, ◌-◌, ◌<◌, ◌≤◌, ◌^◌, List, [], ◌∷◌, ◌++◌, length, set, refl, sym, ap, subst, ◌∙◌, arith, Some, None, Option}
+use Rattle.std.proofs.Common.{◌≡◌, inl, inr, ℕ, ◌+◌, ◌<◌, ◌≤◌, ◌^◌, List, [], ◌∷◌, ◌++◌, length, set, refl, sym, ap, subst, ◌∙◌, arith, Some, None, Option}
 use Rattle.std.specs.Prelude.{Contains, slice_index, IsSome}
 use mathlib.Core.Option.{some}
 use lib.ListN.{get_elem?}
-use Rattle.nmgc_graph.specs.declared.value.Name.{Name}
-use Rattle.nmgc_graph.specs.declared.value.Value.{Value}
-use Rattle.nmgc_graph.specs.declared.value.Value.TheVariants as value
-use Rattle.nmgc_graph.specs.declared.node.Node.{Node}
-use Rattle.nmgc_graph.specs.World.{node_of}
-use Rattle.nmgc_graph.specs.laws.Orders.{contains_head}
-use Rattle.nmgc_object.specs.declared.layout.Layout.{Layout}
+use Rattle.nmgc_world_spec.specs.declared.value.Name.{Name}
+use Rattle.nmgc_world_spec.specs.declared.value.Value.{Value}
+use Rattle.nmgc_world_spec.specs.declared.value.Value.TheVariants as value
+use Rattle.nmgc_world_spec.specs.declared.node.Node.{Node}
+use Rattle.nmgc_world_spec.specs.World.{node_of}
+use Rattle.nmgc_lists.specs.laws.Items.{contains_head}
 use Rattle.nmgc_object.specs.declared.words.Header.{Header}
 use Rattle.nmgc_object.specs.Places.{word_total}
 use Rattle.nmgc_object.specs.Words.{header_word, IsHeader}
-use Rattle.nmgc_core.specs.declared.event.Entry.{Entry}
-use Rattle.nmgc_core.specs.State.{State, mark_value, mark_read}
-use Rattle.nmgc_core.specs.Scan.{read_at, moved_on}
-use Rattle.nmgc_core.specs.Machine.{after_scan, advanced}
-use Rattle.nmgc_alloc.specs.Segments.{Segments}
-use Rattle.nmgc_alloc.specs.laws.Placing.{step}
-use Rattle.nmgc_heap.specs.Shape.{size_of}
-use Rattle.nmgc_heap.specs.Places.{Place, LiesWell}
+use Rattle.nmgc_snapshot_laws.specs.declared.event.Entry.{Entry}
+use Rattle.nmgc_snapshot_laws.specs.State.{State, mark_value, mark_read}
+use Rattle.nmgc_snapshot_laws.specs.Scan.{read_at, moved_on}
+use Rattle.nmgc_snapshot_laws.specs.Machine.{after_scan, advanced}
+use Rattle.nmgc_alloc.specs.Numbered.{Segments}
+use Rattle.nmgc_heap_spec.specs.Shape.{size_of}
+use Rattle.nmgc_heap_spec.specs.Places.{Place}
 use Rattle.nmgc_round.specs.Events.{Happening, did, scanned, replay}
 use Rattle.nmgc_round.specs.View.{Opening, Seen, Scan, whole}
 use Rattle.nmgc_round.specs.Marking.{Marks, marks_of, marks_after, offset_of}
@@ -30,11 +28,12 @@ use Rattle.nmgc_round.specs.Added.{AddsScan}
 use Rattle.nmgc_round.specs.Ready.{CanScan, first_of, scanned_by}
 use Rattle.nmgc_round.specs.Starting.{CanOpen}
 use Rattle.nmgc_round.specs.Told.{TellsEntry, TellsNode, TellsScan, IsSafe}
-use Rattle.nmgc_run.specs.Seen.{MarkerSeen}
+use Rattle.nmgc_mark.specs.Seen.{MarkerSeen}
 use Rattle.nmgc_mark.specs.Stopped.{AreScans, IsAlone, WordsShow, HasFinished}
 use Rattle.nmgc_mark.specs.Tie.{IsTied, AreQueued}
 use Rattle.nmgc_mark.specs.Work.{entry_now, marks_seen}
 use Rattle.nmgc_mark.proofs.OneMark.{mark_is}
+use Rattle.nmgc_heap_spec.specs.laws.Common.{lies_within}
 
 -- what the laws of rounds say of a scan and of an opening
 abbrev pub ScanLaw : Type 0
@@ -44,20 +43,6 @@ ScanLaw = (o : Opening) (words : List ℕ) (views : List Seen) (id : ℕ) (v : S
 
 abbrev pub OpenLaw : Type 0
 OpenLaw = (o : Opening) (words : List ℕ) → CanOpen o words → (k : Keeps o words (whole o ∷ [])) × (k.events ≡ [])
-
--- the words of an object are among the heap's
-pub lies_within : (layout : Layout) (p : Place) (size : ℕ) → 0 < size → LiesWell layout p size → p.at + size ≤ word_total layout
-lies_within layout p size pos (inl g) = let e = g.2 in omega arith
-lies_within layout p size pos (inr (ne, inl segment)) =
-    let last = (segment.1 (p.at + size - 1) (omega arith) (omega arith)) in
-    let more = step segment.0 layout.segments layout.words last.exists in
-    let before = last.before in
-    omega arith
-lies_within layout p size pos (inr (ne, inr nursery)) =
-    let last = (nursery.1 (p.at + size - 1) (omega arith) (omega arith)) in
-    let more = step p.name.maker layout.mutators layout.nursery last.exists in
-    let before = last.before in
-    omega arith
 
 -- what the last of the scans read
 last_read : (P : Place → Type 0) (ss : List Scan) (s : Scan) (xs : List (Entry × Option Value)) → AllRead P (ss ++ s ∷ []) xs → (x : Option Value) ×

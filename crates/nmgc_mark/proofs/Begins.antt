@@ -1,92 +1,36 @@
 -- A heap at a stop, just prepared, is one with which marking begins.
-use Rattle.std.proofs.Common.{◌≡◌, inl, inr, ℕ, zero, suc, ◌+◌, ◌*◌, ◌<◌, ◌≤◌, List, [], ◌∷◌, map, length, take, drop, get_or, refl, sym, ap, subst, ◌∙◌, arith, Some, None, Option, length-drop}
+use Rattle.std.proofs.Common.{◌≡◌, inl, inr, ℕ, zero, suc, ◌+◌, List, [], ◌∷◌, map, length, get_or, refl, sym, ap, subst, ◌∙◌, arith, Some, None, Option}
 use Rattle.std.specs.Prelude.{Contains, IsSome, slice_get}
 use Rattle.std.specs.List.{flat_map}
-use Rattle.std.proofs.lemmas.List.{get_or-take, get_or-drop, length-take-le, take-append-drop}
-use Rattle.nmgc_limits.specs.declared.mutators.TheConstants.{REGISTERS, SHARED_SLOTS}
-use Rattle.nmgc_graph.specs.declared.value.Name.{Name}
-use Rattle.nmgc_graph.specs.declared.value.Value.{Value}
-use Rattle.nmgc_graph.specs.declared.node.Node.{Node}
-use Rattle.nmgc_graph.specs.declared.node.Node.TheVariants.{Con, Var, Arr, Thunk, Weak, Stack}
-use Rattle.nmgc_graph.specs.declared.mutator_state.MutatorState.{MutatorState}
-use Rattle.nmgc_graph.specs.World.{World, IsShared, no_mutator}
-use Rattle.nmgc_graph.specs.Step.{shared_name}
-use Rattle.nmgc_graph.specs.Reach.{start, strong_fields}
-use Rattle.nmgc_graph.specs.laws.Orders.{contains_head}
+use Rattle.nmgc_limits.specs.declared.mutators.TheConstants.{SHARED_SLOTS}
+use Rattle.nmgc_world_spec.specs.declared.value.Name.{Name}
+use Rattle.nmgc_world_spec.specs.declared.value.Value.{Value}
+use Rattle.nmgc_world_spec.specs.declared.node.Node.{Node}
+use Rattle.nmgc_world_spec.specs.declared.node.Node.TheVariants.{Con, Var, Arr, Thunk, Weak, Stack}
+use Rattle.nmgc_world_spec.specs.declared.mutator_state.MutatorState.{MutatorState}
+use Rattle.nmgc_world_spec.specs.World.{IsShared, no_mutator}
+use Rattle.nmgc_world_spec.specs.Step.{shared_name}
+use Rattle.nmgc_world_spec.specs.Reach.{start, strong_fields}
+use Rattle.nmgc_lists.specs.laws.Items.{contains_head}
 use Rattle.nmgc_object.specs.FinQueue.{FinQueue}
-use Rattle.nmgc_object.specs.declared.layout.Layout.{Layout}
 use Rattle.nmgc_object.specs.declared.size.TheConstants.{HEADER_WORDS}
 use Rattle.nmgc_segment.specs.Segment.{InUse}
-use Rattle.nmgc_alloc.specs.Search.{nth}
-use Rattle.nmgc_alloc.specs.Segments.{Segments, IsBlockAt, HasNumber, block_place}
+use Rattle.nmgc_alloc.specs.Numbered.{nth, Segments, HasNumber, block_place}
+use Rattle.nmgc_alloc.specs.Segments.{IsBlockAt}
 use Rattle.nmgc_alloc.specs.AllocState.{LiesIn, Cells, cells, name_in}
 use Rattle.nmgc_alloc.specs.laws.Placing.{inside}
 use Rattle.nmgc_alloc.specs.laws.Sound.{stands_sound, used_exists}
 use Rattle.nmgc_segment.specs.declared.state.State.TheVariants.{Free}
-use Rattle.nmgc_heap.specs.Shape.{holds, slots_of as slots_in}
-use Rattle.nmgc_heap.specs.Places.{Place, Means, ListMeans, AllMean, LiesWell, shared_place}
-use Rattle.nmgc_heap.specs.Represents.{Represents, NoNode}
-use Rattle.nmgc_heap.specs.Tracked.{IsTracked}
+use Rattle.nmgc_heap_spec.specs.Shape.{holds, slots_of as slots_in}
+use Rattle.nmgc_heap_spec.specs.Places.{Place, Means, ListMeans, shared_place}
+use Rattle.nmgc_heap_spec.specs.Tracked.{IsTracked}
 use Rattle.nmgc_round.specs.View.{Opening}
 use Rattle.nmgc_mark.specs.Beginning.{IsBeginning, IsPrepared, slots_of}
 use Rattle.nmgc_mark.specs.Tie.{AreApart, IsRightSnapshot}
-use Rattle.nmgc_mark.proofs.Alone.{lies_within}
-use Rattle.nmgc_mark.proofs.Roots.{means_append}
+use Rattle.nmgc_heap_spec.specs.laws.Common.{means_append, list_means, flat_registers}
 use Rattle.nmgc_mark.proofs.Words.{slot_word, slots_count}
-
-above_zero : (layout : Layout) (p : Place) (size : ℕ) → 0 < size → LiesWell layout p size → 1 ≤ p.at
-above_zero layout p size pos (inl g) = let e = g.1 in omega arith
-above_zero layout p size pos (inr (ne, inl segment)) = let first = segment.1 p.at (omega arith) (omega arith) in let from = first.from in omega arith
-above_zero layout p size pos (inr (ne, inr nursery)) = let first = nursery.1 p.at (omega arith) (omega arith) in let from = first.from in omega arith
-
--- places that words represent are apart
-pub apart_of : (layout : Layout) (earlier : List World) (places : List Place) (w : World) (words : List ℕ) →
-    Represents layout earlier NoNode places w words → AreApart layout places
-apart_of layout earlier places w words h = record {
-  one = h.one;
-  above = λ p c. above_zero layout p HEADER_WORDS (omega arith) (h.named p c).lies;
-  inside = λ p c. lies_within layout p HEADER_WORDS (omega arith) (h.named p c).lies;
-}
-
-got_below : {A : Type 0} (xs : List A) (i : ℕ) (x : A) → slice_get xs i ≡ Some x → i < length xs
-got_below [] i x e = absurd cc
-got_below (y ∷ xs) zero x e = omega arith
-got_below (y ∷ xs) (suc i) x e = let r = got_below xs i x e in omega arith
-
-list_means : (P : Place → Type 0) (ws : List ℕ) (values : List Value) → length ws ≡ length values →
-    ((i : ℕ) (v : Value) → slice_get values i ≡ Some v → Means P (get_or ws i 0) v) → ListMeans P ws values
-list_means P [] [] e h = tt
-list_means P [] (v ∷ vs) e h = absurd (omega arith)
-list_means P (w ∷ ws) [] e h = absurd (omega arith)
-list_means P (w ∷ ws) (v ∷ vs) e h = (h 0 v refl, list_means P ws vs (omega arith) (λ i u g. h (suc i) u g))
-
--- the registers of all mutators as one list
-flat_registers : (P : Place → Type 0) (xs : List MutatorState) (ws : List ℕ) → length ws ≡ REGISTERS * length xs →
-    ((m : ℕ) → m < length xs → (length (get_or xs m no_mutator).registers ≡ REGISTERS) ×
-    AllMean P ws (REGISTERS * m) (get_or xs m no_mutator).registers) → ListMeans P ws (flat_map (λ (state : MutatorState). state.registers) xs)
-flat_registers P [] [] size h = tt
-flat_registers P [] (w ∷ ws) size h = absurd (omega arith)
-flat_registers P (x ∷ xs) ws size h =
-    let first = h 0 (omega arith) in
-    let n : length (take REGISTERS ws) ≡ REGISTERS = length-take-le REGISTERS ws (omega arith) in
-    let d = length-drop REGISTERS ws in
-    let a : ListMeans P (take REGISTERS ws) x.registers = list_means P (take REGISTERS ws) x.registers (n ∙ sym first.0)
-    (λ i v e.
-    let lt = got_below x.registers i v e in
-    let same : get_or ws (REGISTERS * 0 + i) 0 ≡ get_or (take REGISTERS ws) i 0 = (let z : REGISTERS * 0 + i ≡ i = omega arith in
-    ap (λ j. get_or ws j 0) z) ∙ sym (get_or-take REGISTERS ws i 0 (let f = first.0 in omega arith)) in
-    subst (λ y. Means P y v) same (first.1 i v e)) in
-    let b = flat_registers P xs (drop REGISTERS ws) (omega arith)
-    (λ m lt.
-    let r = h (suc m) (omega arith) in (
-      r.0,
-      λ i v e.
-          let z : REGISTERS * suc m + i ≡ REGISTERS + (REGISTERS * m + i) = omega arith in
-          subst (λ y. Means P y v) (ap (λ j. get_or ws j 0) z ∙ sym (get_or-drop REGISTERS ws (REGISTERS * m + i) 0)) (r.1 i v e),
-    )) in
-    subst (λ l. ListMeans P l (flat_map (λ (state : MutatorState). state.registers) (x ∷
-    xs))) (take-append-drop REGISTERS ws) (means_append P (take REGISTERS ws) (drop REGISTERS ws) x.registers
-    (flat_map (λ (state : MutatorState). state.registers) xs) a b)
+use Rattle.nmgc_mark.specs.laws.Common.{places_apart as apart_of}
+use Rattle.std.proofs.lemmas.Option.{slice_get_within as got_below}
 
 -- the finaliser queues of all mutators
 flat_queues : (P : Place → Type 0) (qs : List FinQueue) (xs : List MutatorState) → length qs ≡ length xs →

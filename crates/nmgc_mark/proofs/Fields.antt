@@ -1,31 +1,30 @@
 -- The loop over the fields of one object, and over objects.
 use Rattle.std.proofs.Common.{ne_eqb, eq-eqb, ◌≡◌, ◌≢◌, ℕ, suc, ◌+◌, ◌^◌, ◌<◌, ◌≤◌, Bool, true, false, not, ◌&&◌, eqb, List, [], ◌∷◌, ◌++◌, length, refl, sym, ap, subst, ◌∙◌, arith, append_assoc}
 use Rattle.std.proofs.lemmas.List.{append-nil}
-use Rattle.nmgc_graph.specs.declared.value.Name.{Name}
-use Rattle.nmgc_graph.specs.declared.node.Node.{Node}
-use Rattle.nmgc_graph.specs.declared.node.Node.TheVariants.{Con, Var, Arr, Thunk, Weak, Stack}
-use Rattle.nmgc_graph.specs.declared.node.Kind.{Kind}
-use Rattle.nmgc_graph.specs.declared.node.Kind.TheVariants as kind
+use Rattle.nmgc_world_spec.specs.declared.value.Name.{Name}
+use Rattle.nmgc_world_spec.specs.declared.node.Node.{Node}
+use Rattle.nmgc_world_spec.specs.declared.node.Node.TheVariants.{Con, Var, Arr, Thunk, Weak, Stack}
+use Rattle.nmgc_world_spec.specs.declared.node.Kind.{Kind}
+use Rattle.nmgc_world_spec.specs.declared.node.Kind.TheVariants as kind
 use Rattle.nmgc_object.specs.declared.words.Header.{Header}
 use Rattle.nmgc_object.specs.declared.size.TheConstants.{HEADER_WORDS}
 use Rattle.nmgc_object.specs.Words.{header_word, IsHeader}
 use Rattle.nmgc_object.specs.Places.{IsLayout, word_total}
 use Rattle.nmgc_object.specs.declared.layout.Layout.{Layout}
-use Rattle.nmgc_core.specs.Scan.{fields_of}
-use Rattle.nmgc_alloc.specs.Segments.{Segments}
+use Rattle.nmgc_snapshot_laws.specs.Scan.{fields_of}
+use Rattle.nmgc_alloc.specs.Numbered.{Segments}
 use Rattle.nmgc_round.specs.declared.table.Round.{Round}
-use Rattle.nmgc_round.specs.Gate.{next_turn, passed}
 use Rattle.nmgc_round.specs.View.{Opening, Seen, Scan}
 use Rattle.nmgc_round.specs.Marking.{Marks, name_meant, name_read, with_name, is_last_word, is_thunk}
 use Rattle.nmgc_round.specs.Ready.{scanned_by}
 use Rattle.nmgc_round.specs.Told.{TellsScan}
 use Rattle.nmgc_round.specs.Seat.{RoundSeat, IsAt, Knows, seen, word_count}
-use Rattle.nmgc_run.specs.Seen.{MarkerSeen}
-use Rattle.nmgc_run.specs.Marker.{HasRoomToMark}
-use Rattle.nmgc_mark.specs.Marker.{HasScanned, HasMarked, turned}
+use Rattle.nmgc_mark.specs.Seen.{MarkerSeen}
+use Rattle.nmgc_mark.specs.Marker.{HasRoomToMark, HasMarked, turned}
 use Rattle.nmgc_mark.specs.Tie.{IsTied}
 use Rattle.nmgc_mark.specs.Work.{IsScanning, IsCollector, IsLaterSeat, IsAtField, HasWorked, SeatShows, entry_now, marks_seen, rest_of, fields_scanned, has_results, is_result}
 use Rattle.nmgc_mark.proofs.Scanning.{IsNode, IsTaken, node_told, thunk_by, goes_on, ends, not_last, header_more, field_last, result_last, fields_are}
+use Rattle.nmgc_mark.specs.laws.Common.{marked_then}
 
 pub few : (k : Kind) (n : ℕ) → fields_scanned k n ≤ n
 few kind.Con n = omega arith
@@ -69,30 +68,6 @@ result_there o name header fields n thunk f =
     let has = thunk_has n.node (thunk_by n.node ∙ ap (λ (h : Header). has_results h.kind) n.is ∙ thunk) in
     let are = fields_are n.node header fields n.is f in
     omega arith
-
-pub scanned_none : (m : MarkerSeen) → HasScanned m m 0
-scanned_none m = record { epoch = refl; grows = omega arith; pace = omega arith; room = refl }
-
-scanned_then : (a b c : MarkerSeen) (i j : ℕ) → HasScanned a b i → HasScanned b c j → HasScanned a c (i + j)
-scanned_then a b c i j x y = record {
-  epoch = y.epoch ∙ x.epoch;
-  grows = (let p = x.grows in let q = y.grows in omega arith);
-  pace = (let p = x.pace in let q = y.pace in omega arith);
-  room = y.room ∙ x.room;
-}
-
--- nothing was marked
-pub marked_none : (s : Segments) (m : MarkerSeen) → HasRoomToMark s m → HasMarked s s m m 0
-marked_none s m h = record { room = h; scanned = scanned_none m; layout = refl; stands = λ words a k. k }
-
--- marks follow marks
-pub marked_then : (s t u : Segments) (a b c : MarkerSeen) (i j : ℕ) → HasMarked s t a b i → HasMarked t u b c j → HasMarked s u a c (i + j)
-marked_then s t u a b c i j x y = record {
-  room = y.room;
-  scanned = scanned_then a b c i j x.scanned y.scanned;
-  layout = y.layout ∙ x.layout;
-  stands = λ words k h. y.stands words k (x.stands words k h);
-}
 
 pub marked_more : (s t u : Segments) (a b c : MarkerSeen) → HasMarked s t a b 0 → HasMarked t u b c 0 → HasMarked s u a c 0
 marked_more s t u a b c x y = marked_then s t u a b c 0 0 x y
@@ -271,7 +246,3 @@ queue_taken old new e = e ∙ ap (λ (n : ℕ). let k : MarkerSeen = record old 
 pub passed_taken : (old taken new : MarkerSeen) (turns : ℕ) → taken ≡ record old { queue = taken.queue } → new ≡ turned taken turns → IsTaken old new
 passed_taken old taken new turns e same = same ∙ ap (λ (m : MarkerSeen). turned m turns) e ∙
     ap (λ (m : MarkerSeen). let k : MarkerSeen = record old { queue = m.queue; turns = m.turns } in k) (sym same)
-
--- one pass more
-pub passed_more : (turns count : ℕ) → next_turn (passed turns count) ≡ passed turns (count + 1)
-passed_more turns count = let e : suc count ≡ count + 1 = omega arith in ap (λ n. passed turns n) e

@@ -1,6 +1,5 @@
 pub mod Alone
 pub mod Begins
-pub mod BlockTies
 pub mod Fields
 pub mod Growth
 pub mod Names

@@ -2,9 +2,9 @@
 use Rattle.std.proofs.Common.{◌≡◌, Bool, true, false, cond, [], ◌∷◌, ◌++◌, refl, sym, ap, Some}
 use Rattle.std.specs.Prelude.{Contains}
 use Rattle.std.proofs.lemmas.List.Elements.{Contains-append_left}
-use Rattle.nmgc_graph.specs.declared.value.Name.{Name}
-use Rattle.nmgc_graph.specs.Step.{shared_name}
-use Rattle.nmgc_core.specs.State.{State, is_new, mark_name, with_mark, entry_of}
+use Rattle.nmgc_world_spec.specs.declared.value.Name.{Name}
+use Rattle.nmgc_world_spec.specs.Step.{shared_name}
+use Rattle.nmgc_snapshot_laws.specs.State.{State, is_new, mark_name, with_mark, entry_of}
 use Rattle.nmgc_round.specs.Marking.{marks_of, with_name}
 
 -- a mark changes marks and queue alone

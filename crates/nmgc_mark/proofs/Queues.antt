@@ -1,13 +1,11 @@
 -- The marker's list of found places, of which the queue is what follows an index.
-use Rattle.std.proofs.Common.{◌≡◌, inl, inr, nat_eq, eq-eqb, ℕ, zero, suc, ◌+◌, ◌<◌, ◌≤◌, true, false, IsTrue, List, [], ◌∷◌, length, drop, refl, sym, ap, subst, ◌∙◌, arith, slice_index_or}
+use Rattle.std.proofs.Common.{◌≡◌, inl, inr, nat_eq, eq-eqb, ℕ, zero, suc, ◌+◌, ◌<◌, ◌≤◌, false, IsTrue, List, [], ◌∷◌, length, drop, refl, sym, ap, subst, ◌∙◌, arith, slice_index_or}
 use Rattle.std.specs.Prelude.{Option, Some, None, is_some, IfNone}
 use Rattle.std.proofs.lemmas.Bool.{cases_eq}
 use Rattle.std.proofs.lemmas.Bool.Decides.{eqb_tells}
 use Rattle.nmgc_object.specs.declared.words.Address.{Address}
 use Rattle.nmgc_mark.specs.Marker.{places}
-
-pub never : {A : Type 0} → IsTrue false → A
-never t = let e : false ≡ true = t in absurd cc
+use Rattle.nmgc_lists.specs.laws.Truths.{never}
 
 pub none_of : {A : Type 0} (o : Option A) (P : Type 0) → is_some o ≡ false → IfNone o P → P
 none_of None P e h = h

@@ -5,14 +5,13 @@ use Rattle.std.proofs.Math.Nat.{mul-le-mul_left}
 use Rattle.std.proofs.lemmas.Bool.{cases_eq}
 use Rattle.std.proofs.lemmas.Nat.{div-add-mod'}
 use Rattle.std.proofs.lemmas.List.Elements.{Contains-append_left, Contains-append_right}
-use Rattle.nmgc_graph.specs.laws.Orders.{contains_head, contains_tail}
+use Rattle.nmgc_lists.specs.laws.Items.{contains_head, contains_tail}
 use Rattle.nmgc_object.specs.Size.{block_size}
 use Rattle.nmgc_object.specs.laws.Classes.{least_block}
-use Rattle.nmgc_alloc.specs.Search.{nth}
-use Rattle.nmgc_alloc.specs.Segments.{Segments, IsSegments, IsBlockAt}
-use Rattle.nmgc_run.specs.Marker.{HasRoomToMark}
+use Rattle.nmgc_alloc.specs.Numbered.{nth, Segments}
+use Rattle.nmgc_alloc.specs.Segments.{IsSegments, IsBlockAt}
+use Rattle.nmgc_mark.specs.Marker.{HasRoomToMark, blank}
 use Rattle.nmgc_mark.specs.Beginning.{most_blocks}
-use Rattle.nmgc_mark.specs.Marker.{blank}
 
 -- so many places from one on, each so many words after the one before
 steps_from : ℕ → ℕ → ℕ → List ℕ

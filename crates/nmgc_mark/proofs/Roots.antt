@@ -2,31 +2,32 @@
 use Rattle.std.proofs.Common.{ne_eqb, eq-eqb, ◌≡◌, inr, ℕ, ◌*◌, ◌/◌, ◌%◌, true, false, eqb, List, [], ◌∷◌, ◌++◌, ◌+◌, ◌≤◌, ◌<◌, refl, sym, ap, ◌∙◌, arith, Option, Some, None, inl}
 use Rattle.std.specs.Prelude.{Contains}
 use Rattle.std.specs.List.{flat_map}
-use Rattle.nmgc_graph.specs.declared.value.Name.{Name}
-use Rattle.nmgc_graph.specs.declared.mutator_state.MutatorState.{MutatorState}
-use Rattle.nmgc_graph.specs.Step.{shared_name}
-use Rattle.nmgc_graph.specs.Reach.{strong_fields}
-use Rattle.nmgc_graph.specs.laws.Orders.{contains_head, contains_cases}
+use Rattle.nmgc_world_spec.specs.declared.value.Name.{Name}
+use Rattle.nmgc_world_spec.specs.declared.mutator_state.MutatorState.{MutatorState}
+use Rattle.nmgc_world_spec.specs.Step.{shared_name}
+use Rattle.nmgc_world_spec.specs.Reach.{strong_fields}
+use Rattle.nmgc_lists.specs.laws.Items.{contains_head, contains_cases}
 use Rattle.nmgc_object.specs.FinQueue.{FinQueue}
 use Rattle.nmgc_object.specs.Places.{word_total}
 use Rattle.nmgc_object.specs.Size.{block_size}
 use Rattle.nmgc_object.specs.laws.Classes.{least_block}
-use Rattle.nmgc_alloc.specs.Search.{nth}
-use Rattle.nmgc_alloc.specs.Segments.{Segments, IsSegments}
+use Rattle.nmgc_alloc.specs.Numbered.{nth, Segments}
+use Rattle.nmgc_alloc.specs.Segments.{IsSegments}
 use Rattle.nmgc_alloc.specs.laws.Apart.{lies_in}
-use Rattle.nmgc_graph.specs.declared.value.Value.{Value}
-use Rattle.nmgc_graph.specs.declared.value.Value.TheVariants as value
-use Rattle.nmgc_graph.specs.World.{World}
-use Rattle.nmgc_core.specs.State.{State, mark_value, mark_values, unmarked, opening}
-use Rattle.nmgc_heap.specs.Places.{Place, Means, ListMeans, shared_place}
+use Rattle.nmgc_world_spec.specs.declared.value.Value.{Value}
+use Rattle.nmgc_world_spec.specs.declared.value.Value.TheVariants as value
+use Rattle.nmgc_world_spec.specs.World.{World}
+use Rattle.nmgc_snapshot_laws.specs.State.{State, mark_value, mark_values, unmarked, opening}
+use Rattle.nmgc_heap_spec.specs.Places.{Place, Means, ListMeans, shared_place}
 use Rattle.nmgc_round.specs.View.{Opening}
 use Rattle.nmgc_round.specs.Marking.{Marks, marks_of, name_meant, with_name}
 use Rattle.nmgc_mark.specs.Beginning.{IsBeginning, slots_of}
 use Rattle.nmgc_mark.specs.Marker.{blank}
 use Rattle.nmgc_mark.specs.Tie.{IsTied, AreApart, with_words, with_queues}
 use Rattle.nmgc_mark.proofs.Words.{words_append, queues_flat}
-use Rattle.nmgc_mark.proofs.Names.{some_at}
+use Rattle.nmgc_round.specs.laws.Common.{some_at}
 use Rattle.nmgc_mark.proofs.OneMark.{mark_is}
+use Rattle.nmgc_heap_spec.specs.laws.Common.{means_append}
 
 -- the name that a value refers to
 abbrev ref_in : Value → Option Name
@@ -71,12 +72,6 @@ words_mark o s (w ∷ ws) (v ∷ vs) same h means =
 values_append : (s : State) (xs ys : List Value) → mark_values s (xs ++ ys) ≡ mark_values (mark_values s xs) ys
 values_append s [] ys = refl
 values_append s (x ∷ xs) ys = values_append (mark_value s x) xs ys
-
-pub means_append : (P : Place → Type 0) (ws us : List ℕ) (xs ys : List Value) → ListMeans P ws xs → ListMeans P us ys → ListMeans P (ws ++ us) (xs ++ ys)
-means_append P [] us [] ys a b = b
-means_append P [] us (x ∷ xs) ys a b = absurd a
-means_append P (w ∷ ws) us [] ys a b = absurd a
-means_append P (w ∷ ws) us (x ∷ xs) ys a b = (a.0, means_append P ws us xs ys a.1 b)
 
 -- a word that stands for a value is no pointer past the heap's words
 pub word_small : (o : Opening) (w : ℕ) (v : Value) → AreApart o.layout o.places → Means (Contains o.places) w v → (at : ℕ) → w ≡ 2 * at →

@@ -2,26 +2,28 @@
 use Rattle.std.proofs.Common.{ne_eqb, eq-eqb, le-leb, leb-true, ◌≡◌, inl, inr, ◌↔◌, ℕ, suc, ◌+◌, ◌<◌, ◌≤◌, Bool, true, false, not, ◌&&◌, ◌||◌, cond, eqb, leb, List, [], ◌∷◌, ◌++◌, refl, sym, ap, subst, ◌∙◌, arith, Option, Some, None, is_some, drop}
 use Rattle.std.specs.Prelude.{Contains}
 use Rattle.std.proofs.lemmas.Bool.Decides.{eqb_tells}
-use Rattle.nmgc_graph.specs.declared.value.Name.{Name}
-use Rattle.nmgc_graph.specs.declared.node.Node.{Node}
-use Rattle.nmgc_graph.specs.declared.node.Node.TheVariants.{Con, Var, Arr, Thunk, Weak, Stack}
-use Rattle.nmgc_graph.specs.World.{World, node_of}
+use Rattle.nmgc_world_spec.specs.declared.value.Name.{Name}
+use Rattle.nmgc_world_spec.specs.declared.node.Node.{Node}
+use Rattle.nmgc_world_spec.specs.declared.node.Node.TheVariants.{Con, Var, Arr, Thunk, Weak, Stack}
+use Rattle.nmgc_world_spec.specs.World.{World, node_of}
 use Rattle.nmgc_object.specs.declared.words.Header.{Header}
 use Rattle.nmgc_object.specs.Words.{header_word, IsHeader}
 use Rattle.nmgc_object.specs.Places.{word_total}
-use Rattle.nmgc_core.specs.declared.event.Entry.{Entry}
-use Rattle.nmgc_core.specs.State.{is_listed, entry_of}
-use Rattle.nmgc_core.specs.Scan.{fields_of}
-use Rattle.nmgc_alloc.specs.Segments.{Segments}
+use Rattle.nmgc_snapshot_laws.specs.declared.event.Entry.{Entry}
+use Rattle.nmgc_snapshot_laws.specs.State.{is_listed, entry_of}
+use Rattle.nmgc_snapshot_laws.specs.Scan.{fields_of}
+use Rattle.nmgc_alloc.specs.Numbered.{Segments}
 use Rattle.nmgc_alloc.specs.Blocks.{IsMarkedAt}
-use Rattle.nmgc_heap.specs.Shape.{header_of, size_of}
-use Rattle.nmgc_round.specs.View.{Opening, Seen, Scan}
-use Rattle.nmgc_round.specs.Marking.{Marks, marks_of, name_read, with_name, after_word, folded, entry_past, first_past, is_last_word, is_thunk, offset_of}
+use Rattle.nmgc_heap_spec.specs.Shape.{header_of, size_of}
+use Rattle.nmgc_round.specs.View.{Opening, Seen}
+use Rattle.nmgc_round.specs.Marking.{Marks, marks_of, name_read, with_name, after_word, entry_past, first_past, is_last_word, is_thunk, offset_of}
 use Rattle.nmgc_round.specs.Ready.{CanScan, first_of, scanned_by}
 use Rattle.nmgc_round.specs.Told.{TellsEntry}
-use Rattle.nmgc_run.specs.Seen.{MarkerSeen}
+use Rattle.nmgc_mark.specs.Seen.{MarkerSeen}
 use Rattle.nmgc_mark.specs.Tie.{AreQueued, IsTied}
 use Rattle.nmgc_mark.specs.Work.{IsScanning, entry_now, marks_seen, rest_of, with_first, fields_scanned, has_results, is_result}
+use Rattle.nmgc_round.specs.laws.Common.{folded_more}
+use Rattle.nmgc_lists.specs.laws.Truths.{or_second as or_true}
 
 -- its word is what the view scans next
 pub can_scan : (v : Seen) (s : Segments) (marker : MarkerSeen) (at position offset : ℕ) → IsScanning v s marker at position →
@@ -73,10 +75,6 @@ thunk_by (Arr values) = refl
 thunk_by (Thunk free result) = refl
 thunk_by (Weak parts) = refl
 thunk_by (Stack size values) = refl
-
-folded_more : (o : Opening) (m : Marks) (ss : List Scan) (s : Scan) → folded o m (ss ++ s ∷ []) ≡ after_word o (folded o m ss) s
-folded_more o m [] s = refl
-folded_more o m (x ∷ ss) s = folded_more o (after_word o m x) ss s
 
 name_first : (S : World) (entry : Entry) (rest : Marks) (y : Option Name) → with_name S (with_first entry rest) y ≡ with_first entry (with_name S rest y)
 name_first S entry rest None = refl
@@ -221,10 +219,6 @@ header_more node fields w e lt = by (leb (fields_of node) 0) refl
 pub field_last : (node : Node) (fields position w : ℕ) → fields_of node ≡ fields → fields ≤ position → is_last_word node position w ≡ true
 field_last node fields position w e le =
     ap (λ (b : Bool). b || (eqb position 1 && (is_thunk node && not (eqb w 0)))) (le-leb (fields_of node) position (omega arith))
-
-or_true : (a b : Bool) → b ≡ true → (a || b) ≡ true
-or_true true b e = refl
-or_true false b e = e
 
 pub result_last : (node : Node) (field w : ℕ) → is_result (header_of node).kind field w ≡ true → is_last_word node (field + 1) w ≡ true
 result_last node field w e = or_true (leb (fields_of node) (field + 1)) (eqb (field + 1) 1 && (is_thunk node && not (eqb w 0))) (same_test node field w ∙ e)

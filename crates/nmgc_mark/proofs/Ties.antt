@@ -2,27 +2,27 @@
 use Rattle.std.proofs.Common.{ne_eqb, eq-eqb, ◌≡◌, ◌≢◌, inl, inr, ℕ, ◌+◌, ◌*◌, ◌<◌, ◌/◌, ◌%◌, Bool, true, false, not, ◌&&◌, cond, eqb, IsTrue, List, [], ◌∷◌, ◌++◌, length, length-append, refl, sym, ap, subst, ◌∙◌, arith, Option, Some, None, is_some}
 use Rattle.std.specs.Prelude.{Contains, IsSome}
 use Rattle.std.proofs.lemmas.List.Elements.{Contains-append_left, Contains-push, Contains-push_cases}
-use Rattle.nmgc_graph.specs.declared.value.Name.{Name}
-use Rattle.nmgc_graph.specs.World.{World, node_of}
-use Rattle.nmgc_graph.specs.Step.{shared_name}
-use Rattle.nmgc_graph.specs.laws.Orders.{contains_head, contains_tail, contains_cases}
+use Rattle.nmgc_world_spec.specs.declared.value.Name.{Name}
+use Rattle.nmgc_world_spec.specs.World.{World, node_of}
+use Rattle.nmgc_world_spec.specs.Step.{shared_name}
+use Rattle.nmgc_lists.specs.laws.Items.{contains_head, contains_tail, contains_cases}
 use Rattle.nmgc_segment.specs.Marks.{IsEpoch}
-use Rattle.nmgc_core.specs.declared.event.Entry.{Entry}
-use Rattle.nmgc_core.specs.State.{is_listed, entry_of}
-use Rattle.nmgc_core.specs.laws.Listed.{contains_listed, not_listed}
-use Rattle.nmgc_alloc.specs.Segments.{Segments, IsSegments, IsBlockAt, Marks as MarksBlock}
+use Rattle.nmgc_snapshot_laws.specs.declared.event.Entry.{Entry}
+use Rattle.nmgc_snapshot_laws.specs.State.{is_listed, entry_of}
+use Rattle.nmgc_snapshot_laws.specs.laws.Listed.{contains_listed, not_listed}
+use Rattle.nmgc_alloc.specs.Numbered.{Segments}
+use Rattle.nmgc_alloc.specs.Segments.{IsSegments, IsBlockAt, Marks as MarksBlock}
 use Rattle.nmgc_alloc.specs.Blocks.{MarksPlace, IsSnapshotAt, IsMarkedAt}
 use Rattle.nmgc_alloc.specs.laws.Blocks.{marks_place}
 use Rattle.nmgc_alloc.specs.laws.Keeping.{marked_stands}
-use Rattle.nmgc_heap.specs.Places.{Place}
+use Rattle.nmgc_heap_spec.specs.Places.{Place}
 use Rattle.nmgc_round.specs.View.{Opening}
 use Rattle.nmgc_round.specs.Marking.{Marks, name_at, name_meant, with_name}
-use Rattle.nmgc_run.specs.Seen.{MarkerSeen}
-use Rattle.nmgc_run.specs.Marker.{HasRoomToMark}
-use Rattle.nmgc_mark.specs.Marker.{MarksAt, HasScanned, HasMarked, StandAsBefore, noted}
+use Rattle.nmgc_mark.specs.Seen.{MarkerSeen}
+use Rattle.nmgc_mark.specs.Marker.{HasRoomToMark, MarksAt, HasScanned, HasMarked, StandAsBefore, noted}
 use Rattle.nmgc_mark.specs.Tie.{IsRightSnapshot, AreQueued, IsTied}
-use Rattle.nmgc_mark.proofs.Names.{some_at, found_at}
-use Rattle.nmgc_mark.proofs.Queues.{never}
+use Rattle.nmgc_round.specs.laws.Common.{some_at, found_at}
+use Rattle.nmgc_lists.specs.laws.Truths.{never}
 
 -- no block begins there, and nothing is marked
 no_place : (s : Segments) (epoch at : ℕ) → ((number block : ℕ) → IsBlockAt s number block at → ⊥) → MarksPlace s s epoch at false
@@ -233,10 +233,6 @@ tied_word o m old new before later w at is some_ h r =
     let b : eqb (w % 2) 0 ≡ true = eq-eqb (w % 2) 0 (omega (arith, is)) in
     let half : w / 2 ≡ at = omega (arith, is) in
     rw (a, b, half) (tied_at o m old new before at later h r)
-
-pub tied_unset : (o : Opening) (m : Marks) (s : Segments) (marker : MarkerSeen) (w : ℕ) → w ≡ 0 → IsTied o m s marker →
-    IsTied o (with_name o.core.snapshot m (name_meant o.places w)) s marker
-tied_unset o m s marker w e h = let a : eqb w 0 ≡ true = eq-eqb w 0 e in rw a h
 
 pub tied_odd : (o : Opening) (m : Marks) (s : Segments) (marker : MarkerSeen) (w : ℕ) → w % 2 ≡ 1 → IsTied o m s marker →
     IsTied o (with_name o.core.snapshot m (name_meant o.places w)) s marker

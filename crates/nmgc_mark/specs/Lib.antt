@@ -1,6 +1,7 @@
 pub mod Beginning
-pub mod Blocks
 pub mod Marker
+pub mod Seen
 pub mod Stopped
 pub mod Tie
 pub mod Work
+pub mod laws

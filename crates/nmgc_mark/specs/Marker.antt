@@ -1,11 +1,11 @@
 -- What one mark does to a marker and to the segments, and what many do.
-use Rattle.std.specs.Prelude.{◌≤◌, ℕ, ◌≡◌, ◌+◌, ◌-◌, Bool, List, [], ◌∷◌, ◌++◌, length, map, if◌then◌else◌}
+use Rattle.std.specs.Prelude.{◌≤◌, ℕ, ◌≡◌, ◌+◌, ◌-◌, Bool, List, [], ◌∷◌, ◌++◌, length, map, if◌then◌else◌, Contains}
 use Rattle.nmgc_object.specs.declared.words.Address.{Address}
-use Rattle.nmgc_alloc.specs.Segments.{Segments}
-use Rattle.nmgc_alloc.specs.AllocState.{AllocState, StandsFor}
-use Rattle.nmgc_alloc.specs.Blocks.{MarksPlace}
-use Rattle.nmgc_run.specs.Seen.{MarkerSeen}
-use Rattle.nmgc_run.specs.Marker.{HasRoomToMark}
+use Rattle.nmgc_alloc.specs.Numbered.{Segments}
+use Rattle.nmgc_alloc.specs.AllocState.{AllocState}
+use Rattle.nmgc_alloc.specs.Stands.{StandsFor}
+use Rattle.nmgc_alloc.specs.Blocks.{MarksPlace, IsSnapshotAt, IsMarkedAt}
+use Rattle.nmgc_mark.specs.Seen.{MarkerSeen}
 
 -- the words at which addresses point
 abbrev pub places : List Address → List ℕ
@@ -41,6 +41,12 @@ pub record HasScanned (old new : MarkerSeen) (count : ℕ) : Type 0 where
   pub grows : old.marked ≤ new.marked
   pub pace : new.marked + length old.queue ≡ old.marked + length new.queue + count
   pub room : new.marked + new.spare ≡ old.marked + old.spare
+
+-- the marker has room for every block of the snapshot that it hasn't marked
+pub record HasRoomToMark (segments : Segments) (marker : MarkerSeen) : Type 0 where
+  pub places : List ℕ
+  pub all : (at : ℕ) → IsSnapshotAt segments at → (IsMarkedAt segments marker.epoch at → ⊥) → Contains places at
+  pub room : length places ≤ marker.spare
 
 -- blocks were marked, and so many objects scanned: there is room for all that are left, and segments and words stand for what they stood for
 pub record HasMarked (old new : Segments) (before after : MarkerSeen) (count : ℕ) : Type 0 where

@@ -1,15 +1,15 @@
 -- Scanning: the marks of the collector's view, and how far the scan of an object has come.
 use Rattle.std.specs.Prelude.{ℕ, ◌≡◌, ◌+◌, ◌<◌, ◌≤◌, Bool, true, false, not, ◌&&◌, ◌==◌, List, ◌∷◌, ◌++◌, drop, Contains}
-use Rattle.nmgc_graph.specs.declared.node.Kind.{Kind}
-use Rattle.nmgc_graph.specs.declared.node.Kind.TheVariants as kind
-use Rattle.nmgc_core.specs.declared.event.Entry.{Entry}
-use Rattle.nmgc_alloc.specs.Segments.{Segments}
+use Rattle.nmgc_world_spec.specs.declared.node.Kind.{Kind}
+use Rattle.nmgc_world_spec.specs.declared.node.Kind.TheVariants as kind
+use Rattle.nmgc_snapshot_laws.specs.declared.event.Entry.{Entry}
+use Rattle.nmgc_alloc.specs.Numbered.{Segments}
 use Rattle.nmgc_round.specs.declared.table.Round.{Round}
 use Rattle.nmgc_round.specs.View.{Seen, Scan}
 use Rattle.nmgc_round.specs.Marking.{Marks, marks_after}
 use Rattle.nmgc_round.specs.Ready.{first_of}
 use Rattle.nmgc_round.specs.Seat.{RoundSeat, IsAt, seen}
-use Rattle.nmgc_run.specs.Seen.{MarkerSeen}
+use Rattle.nmgc_mark.specs.Seen.{MarkerSeen}
 use Rattle.nmgc_mark.specs.Marker.{HasMarked}
 use Rattle.nmgc_mark.specs.Tie.{IsTied}
 

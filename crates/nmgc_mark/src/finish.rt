@@ -1,14 +1,13 @@
 //! Scanning at a stop, where the mutators stand still: until nothing waits, by plain loads (`scan`).
 ghost use Rattle.std.specs.Prelude.{ℕ, ◌≡◌, []};
 ghost use Rattle.nmgc_round.specs.View.{Opening};
-ghost use Rattle.nmgc_run.specs.Marker.{HasRoomToMark};
-ghost use Rattle.nmgc_mark.specs.Marker.{HasMarked};
+ghost use Rattle.nmgc_mark.specs.Marker.{HasRoomToMark, HasMarked};
 ghost use Rattle.nmgc_mark.specs.Stopped.{IsReady, HasFinished};
 
 use crate::marker::Marker;
 use crate::scan::AtStop;
 use nmgc_alloc::Segments;
-use nmgc_heap::HeapWords;
+use nmgc_heap_spec::HeapWords;
 use nmgc_round::laws;
 
 impl Marker {

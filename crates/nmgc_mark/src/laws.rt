@@ -1,24 +1,23 @@
 //! The marker against the core machine: each function does nothing, and its contract is the law.
-ghost use Rattle.std.specs.Prelude.{◌≡◌, ◌<◌, ℕ, [], List, Contains, IsSome, filter, true, false, length};
-ghost use Rattle.nmgc_graph.specs.declared.value.Name.{Name};
-ghost use Rattle.nmgc_graph.specs.Step.{shared_name};
-ghost use Rattle.nmgc_graph.specs.World.{node_of};
-ghost use Rattle.nmgc_graph.specs.Reach.{IsReached, IsRoot};
+ghost use Rattle.std.specs.Prelude.{◌≡◌, ℕ, [], List, Contains, IsSome, true};
+ghost use Rattle.nmgc_world_spec.specs.declared.value.Name.{Name};
+ghost use Rattle.nmgc_world_spec.specs.Step.{shared_name};
+ghost use Rattle.nmgc_world_spec.specs.World.{node_of};
+ghost use Rattle.nmgc_world_spec.specs.Reach.{IsReached, IsRoot};
 ghost use Rattle.nmgc_object.specs.FinQueue.{FinQueue};
-ghost use Rattle.nmgc_core.specs.Facts.{Facts};
-ghost use Rattle.nmgc_core.specs.State.{State as Core, names_of};
-ghost use Rattle.nmgc_alloc.specs.Segments.{Segments, IsSegments};
-ghost use Rattle.nmgc_heap.specs.Places.{Place};
+ghost use Rattle.nmgc_snapshot_laws.specs.Facts.{Facts};
+ghost use Rattle.nmgc_snapshot_laws.specs.State.{State as Core, names_of};
+ghost use Rattle.nmgc_alloc.specs.Numbered.{Segments};
+ghost use Rattle.nmgc_alloc.specs.Segments.{IsSegments};
+ghost use Rattle.nmgc_heap_spec.specs.Places.{Place};
 ghost use Rattle.nmgc_round.specs.View.{Opening, Seen, whole};
 ghost use Rattle.nmgc_round.specs.Seating.{collecting};
 ghost use Rattle.nmgc_round.specs.Marking.{Marks, marks_of};
 ghost use Rattle.nmgc_round.specs.Rule.{now};
 ghost use Rattle.nmgc_round.specs.Finishing.{IsFinished};
-ghost use Rattle.nmgc_run.specs.Marker.{HasRoomToMark};
-ghost use Rattle.nmgc_run.specs.Seen.{MarkerSeen};
+ghost use Rattle.nmgc_mark.specs.Marker.{HasRoomToMark, blank};
+ghost use Rattle.nmgc_mark.specs.Seen.{MarkerSeen};
 ghost use Rattle.nmgc_mark.specs.Beginning.{IsBeginning, IsPrepared, most_blocks};
-ghost use Rattle.nmgc_mark.specs.Blocks.{TiesAgree};
-ghost use Rattle.nmgc_mark.specs.Marker.{blank};
 ghost use Rattle.nmgc_mark.specs.Tie.{IsRightSnapshot, IsTied};
 ghost use Rattle.nmgc_mark.specs.Work.{marks_seen};
 
@@ -51,11 +50,6 @@ pub fn places_may_grow()
     ensures { (o : Opening) (places : List Place) (m : Marks) (s : Segments) (marker : MarkerSeen) →
         ((p : Place) → Contains o.places p → Contains places p) → IsRightSnapshot (record o { places = places }) s → IsTied o m s marker →
         IsTied (record o { places = places }) m s marker }
-{}
-
-/// The tie by places is the tie by blocks that a run keeps, where the places are those of the blocks.
-pub fn ties_agree()
-    ensures { TiesAgree }
 {}
 
 /// Where the facts of the core machine hold, marked names are of the snapshot, g among them.

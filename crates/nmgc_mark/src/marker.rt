@@ -12,18 +12,18 @@ ghost use Rattle.nmgc_segment.specs.Marks.{IsEpoch};
 ghost use Rattle.nmgc_alloc.specs.Segments.{IsBlockAt};
 ghost use Rattle.nmgc_object.specs.declared.layout.TheConstants.{FIRST_PLACE};
 ghost use Rattle.nmgc_object.specs.Places.{IsLayout};
-ghost use Rattle.nmgc_core.specs.State.{opening};
+ghost use Rattle.nmgc_snapshot_laws.specs.State.{opening};
 ghost use Rattle.nmgc_round.specs.View.{Opening};
 ghost use Rattle.nmgc_round.specs.Marking.{Marks, marks_of, with_name, name_at, name_meant};
 ghost use Rattle.nmgc_round.specs.Seat.{IsAt, Knows, seen};
-ghost use Rattle.nmgc_run.specs.Marker.{HasRoomToMark};
+ghost use Rattle.nmgc_mark.specs.Marker.{HasRoomToMark, MarksAt, HasMarked, places, blank};
 ghost use Rattle.nmgc_mark.specs.Beginning.{IsBeginning, slots_of, queue_words, most_blocks};
-ghost use Rattle.nmgc_mark.specs.Marker.{MarksAt, HasMarked, places, blank};
 ghost use Rattle.nmgc_mark.specs.Tie.{IsTied, with_places, with_words, with_queues};
 
 use nmgc_alloc::Segments;
-use nmgc_graph::{NoMemory, Room, SHARED_SLOTS};
-use nmgc_heap::{HeapWords, MutatorRoots};
+use nmgc_heap_spec::{HeapWords, MutatorRoots};
+use nmgc_limits::SHARED_SLOTS;
+use nmgc_lists::{NoMemory, Room};
 use nmgc_object::{Address, FieldWord, HEADER_WORDS, Layout, MIN_BLOCK_WORDS, SHARED_PLACE};
 use nmgc_round::{CollectorSeat, Round};
 use std::alloc::Global;
@@ -54,7 +54,7 @@ pub struct Marker {
 impl Model for Marker {
     ghost use Rattle.std.specs.Prelude.{◌-◌, ◌+◌, ◌≤◌, drop, length};
     ghost use Rattle.nmgc_segment.specs.Marks.{IsEpoch};
-    ghost use Rattle.nmgc_run.specs.Seen.{MarkerSeen};
+    ghost use Rattle.nmgc_mark.specs.Seen.{MarkerSeen};
     ghost use Rattle.nmgc_mark.specs.Marker.{places};
 
     ghost Value = { MarkerSeen };

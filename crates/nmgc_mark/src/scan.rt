@@ -15,18 +15,17 @@ ghost use Rattle.nmgc_round.specs.Marking.{with_name, name_meant};
 ghost use Rattle.nmgc_round.specs.Ready.{CanScan, scanned_by};
 ghost use Rattle.nmgc_round.specs.Told.{TellsScan};
 ghost use Rattle.nmgc_round.specs.View.{Seen};
-ghost use Rattle.nmgc_run.specs.Marker.{HasRoomToMark};
-ghost use Rattle.nmgc_mark.specs.Marker.{HasMarked};
+ghost use Rattle.nmgc_mark.specs.Marker.{HasRoomToMark, HasMarked};
 ghost use Rattle.nmgc_mark.specs.Stopped.{WordsShow};
 ghost use Rattle.nmgc_mark.specs.Tie.{IsTied};
 ghost use Rattle.nmgc_mark.specs.Work.{IsScanning, IsDone, SeatShows, marks_seen, rest_of, fields_scanned, has_results};
 
 use crate::marker::Marker;
 use nmgc_alloc::Segments;
-use nmgc_graph::Kind;
-use nmgc_heap::HeapWords;
+use nmgc_heap_spec::HeapWords;
 use nmgc_object::{Address, HEADER_WORDS, Header, header_of};
 use nmgc_round::{CollectorSeat, Round, laws};
+use nmgc_world_spec::Kind;
 
 /// Loads of the words of objects that are scanned, from a seat of a round or from the words at a stop.
 pub(crate) trait ScanLoad<S> {

@@ -14,15 +14,14 @@
 ghost use Rattle.std.specs.Prelude.{◌≡◌, ◌<◌, ◌≤◌, [], ◌↔◌, IsTrue, length};
 ghost use Rattle.nmgc_round.specs.Gate.{next_turn, passed};
 ghost use Rattle.nmgc_round.specs.Seat.{seen};
-ghost use Rattle.nmgc_run.specs.Marker.{HasRoomToMark};
+ghost use Rattle.nmgc_mark.specs.Marker.{HasRoomToMark, turned};
 ghost use Rattle.nmgc_updrem.specs.Rings.{HavePolled};
-ghost use Rattle.nmgc_mark.specs.Marker.{turned};
 ghost use Rattle.nmgc_mark.specs.Tie.{IsTied};
 ghost use Rattle.nmgc_mark.specs.Work.{IsCollector, HasWorked, marks_seen};
 
 use crate::marker::{Marker, Work};
 use nmgc_alloc::Segments;
-use nmgc_graph::MAKERS;
+use nmgc_limits::MAKERS;
 use nmgc_round::{CollectorSeat, Gate, Round};
 use nmgc_updrem::Inbox;
 

@@ -4,26 +4,27 @@ use Rattle.std.specs.Prelude.{Contains, slice_index}
 use Rattle.std.proofs.Math.ListN.{length-set}
 use Rattle.std.proofs.lemmas.Bool.{cases_eq, cases_lt}
 use Rattle.std.proofs.lemmas.List.{get_or_past, get_or-set_same, get_or-set_other}
-use Rattle.nmgc_graph.specs.declared.value.Name.{Name}
-use Rattle.nmgc_graph.specs.World.{World, node_of, IsWorld}
-use Rattle.nmgc_graph.specs.laws.Orders.{contains_head, contains_tail, contains_cases}
+use Rattle.nmgc_world_spec.specs.declared.value.Name.{Name}
+use Rattle.nmgc_world_spec.specs.World.{World, node_of, IsWorld}
+use Rattle.nmgc_lists.specs.laws.Items.{contains_head, contains_tail, contains_cases, contains_map as map_in, map_contains as map_from}
 use Rattle.nmgc_object.specs.Words.{header_word, name_word, IsHeader, IsName}
 use Rattle.nmgc_object.specs.Size.{block_size}
 use Rattle.nmgc_object.specs.Places.{nursery_place}
 use Rattle.nmgc_object.specs.declared.words.Header.{Header}
 use Rattle.nmgc_object.specs.declared.layout.Layout.{Layout}
 use Rattle.nmgc_segment.specs.declared.state.State.TheVariants as stands
-use Rattle.nmgc_alloc.specs.Search.{nth}
-use Rattle.nmgc_alloc.specs.Segments.{Segments, IsSegments, HasNumber, block_place}
-use Rattle.nmgc_alloc.specs.AllocState.{AllocState, Cells, Shows, StandsFor, name_in, cells}
-use Rattle.nmgc_heap.specs.Shape.{header_of}
-use Rattle.nmgc_heap.specs.Places.{Place}
-use Rattle.nmgc_heap.specs.Represents.{Represents, NoNode}
-use Rattle.nmgc_heap.specs.Moves.{Moved, Moves, StillSpoken}
-use Rattle.nmgc_blocks.specs.Occupied.{IsOccupied, AreBlocks}
-use Rattle.nmgc_blocks.specs.Promoted.{PlacesEach}
-use Rattle.nmgc_blocks.specs.laws.Blocks.{is_block}
-use Rattle.nmgc_blocks.specs.laws.Fields.{stands}
+use Rattle.nmgc_alloc.specs.Numbered.{nth, Segments, HasNumber, block_place}
+use Rattle.nmgc_alloc.specs.Segments.{IsSegments}
+use Rattle.nmgc_alloc.specs.AllocState.{AllocState, Cells, name_in, cells}
+use Rattle.nmgc_alloc.specs.Stands.{Shows, StandsFor}
+use Rattle.nmgc_heap_spec.specs.Shape.{header_of}
+use Rattle.nmgc_heap_spec.specs.Places.{Place}
+use Rattle.nmgc_heap_spec.specs.Represents.{Represents, NoNode}
+use Rattle.nmgc_heap_spec.specs.Moves.{Moved, Moves, StillSpoken}
+use Rattle.nmgc_blocks_spec.specs.Occupied.{IsOccupied, AreBlocks}
+use Rattle.nmgc_blocks_spec.specs.Promoted.{PlacesEach}
+use Rattle.nmgc_blocks_spec.specs.laws.Blocks.{is_block}
+use Rattle.nmgc_blocks_spec.specs.laws.Fields.{stands}
 use Rattle.nmgc_minor.specs.declared.placing.Move.{Move}
 use Rattle.nmgc_minor.specs.Inputs.{Inputs, HasInputs}
 use Rattle.nmgc_minor.specs.Placing.{PlacesEach as PlacesMoves, with_names, moved_of}
@@ -31,7 +32,6 @@ use Rattle.nmgc_minor.specs.Forwarding.{forward_word}
 use Rattle.nmgc_minor.specs.Promotes.{Promotes}
 use Rattle.nmgc_minor.proofs.FoundLaws.{node_at, found_tracked}
 use Rattle.nmgc_minor.proofs.PlacingLaws.{names_length}
-use Rattle.nmgc_minor.proofs.WriteLaws.{map_in, map_from}
 use Rattle.nmgc_minor.proofs.Final.{names_are, found_young, promotes_moves}
 
 -- words in which the new blocks have their names: what other words hold, and what these hold

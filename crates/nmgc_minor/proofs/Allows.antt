@@ -5,28 +5,29 @@ use Rattle.std.proofs.Math.Nat.{mul-le-mul_right}
 use Rattle.std.proofs.lemmas.Bool.{cases_eq}
 use Rattle.std.proofs.lemmas.Option.{slice_get_within}
 use Rattle.nmgc_limits.specs.declared.mutators.TheConstants.{SHARED_SLOTS}
-use Rattle.nmgc_graph.specs.declared.node.Node.{Node}
-use Rattle.nmgc_graph.specs.declared.node.Node.TheVariants.{Con, Var, Arr, Thunk, Weak, Stack}
-use Rattle.nmgc_graph.specs.World.{World, node_of, IsNodeOf, IsShared, IsWorld}
-use Rattle.nmgc_graph.specs.laws.Worlds.{at_some}
+use Rattle.nmgc_world_spec.specs.declared.node.Node.{Node}
+use Rattle.nmgc_world_spec.specs.declared.node.Node.TheVariants.{Con, Var, Arr, Thunk, Weak, Stack}
+use Rattle.nmgc_world_spec.specs.World.{World, node_of, IsNodeOf, IsShared, IsWorld}
+use Rattle.nmgc_lists.specs.laws.Items.{at_some}
 use Rattle.nmgc_object.specs.Words.{header_word, IsHeader}
 use Rattle.nmgc_object.specs.Places.{InNursery, nursery_place}
 use Rattle.nmgc_object.specs.declared.words.Header.{Header}
 use Rattle.nmgc_object.specs.declared.layout.Layout.{Layout}
 use Rattle.nmgc_object.specs.declared.layout.Nursery.{Nursery}
 use Rattle.nmgc_object.specs.declared.size.TheConstants.{HEADER_WORDS}
-use Rattle.nmgc_alloc.specs.Segments.{Segments, IsSegments}
+use Rattle.nmgc_alloc.specs.Numbered.{Segments}
+use Rattle.nmgc_alloc.specs.Segments.{IsSegments}
 use Rattle.nmgc_alloc.specs.Reserve.{KeepsReserve}
-use Rattle.nmgc_heap.specs.Shape.{header_of, size_of, slots_of}
-use Rattle.nmgc_heap.specs.Places.{Place}
-use Rattle.nmgc_heap.specs.Represents.{Represents, NoNode}
-use Rattle.nmgc_heap.specs.Moves.{StillSpoken}
-use Rattle.nmgc_heap.specs.laws.Slots.{slot_count}
-use Rattle.nmgc_blocks.specs.laws.Fields.{stands}
+use Rattle.nmgc_heap_spec.specs.Shape.{header_of, size_of, slots_of}
+use Rattle.nmgc_heap_spec.specs.Places.{Place}
+use Rattle.nmgc_heap_spec.specs.Represents.{Represents, NoNode}
+use Rattle.nmgc_heap_spec.specs.Moves.{StillSpoken}
+use Rattle.nmgc_heap_spec.specs.laws.Slots.{slot_count}
+use Rattle.nmgc_blocks_spec.specs.laws.Fields.{stands}
 use Rattle.nmgc_minor.specs.declared.young.Young.{Young}
 use Rattle.nmgc_minor.specs.Inputs.{Inputs, HasInputs}
 use Rattle.nmgc_minor.specs.Found.{IsStart, IsFound}
-use Rattle.nmgc_blocks.specs.Nurseries.{AreUsed, AreEmpty, nursery_at}
+use Rattle.nmgc_blocks_spec.specs.Nurseries.{AreUsed, AreEmpty, nursery_at}
 use Rattle.nmgc_minor.specs.Placing.{AreNurseries, CanPlaceEach, IsMarked}
 use Rattle.nmgc_minor.specs.Promotes.{CanPromoteWith}
 use Rattle.nmgc_minor.proofs.FoundLaws.{in_nursery, node_at, found_tracked, is_shared_node}

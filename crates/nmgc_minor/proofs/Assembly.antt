@@ -4,34 +4,34 @@ use Rattle.std.specs.Prelude.{Contains, slice_index}
 use Rattle.std.proofs.lemmas.Bool.{cases_lt}
 use Rattle.std.proofs.lemmas.Option.{slice_get_within}
 use Rattle.nmgc_limits.specs.declared.mutators.TheConstants.{SHARED_MAKER, SHARED_SLOTS}
-use Rattle.nmgc_graph.specs.declared.value.Name.{Name}
-use Rattle.nmgc_graph.specs.declared.node.Node.{Node}
-use Rattle.nmgc_graph.specs.declared.node.Node.TheVariants.{Con, Var, Arr, Thunk, Weak, Stack}
-use Rattle.nmgc_graph.specs.World.{World, node_of, IsNodeOf, IsShared, IsWorld}
-use Rattle.nmgc_graph.specs.laws.Orders.{contains_tail}
-use Rattle.nmgc_graph.specs.laws.Worlds.{at_some, is_some_of}
+use Rattle.nmgc_world_spec.specs.declared.value.Name.{Name}
+use Rattle.nmgc_world_spec.specs.declared.node.Node.{Node}
+use Rattle.nmgc_world_spec.specs.declared.node.Node.TheVariants.{Con, Var, Arr, Thunk, Weak, Stack}
+use Rattle.nmgc_world_spec.specs.World.{World, node_of, IsNodeOf, IsShared, IsWorld}
+use Rattle.nmgc_lists.specs.laws.Items.{contains_tail, at_some, is_some_of}
 use Rattle.nmgc_object.specs.Words.{header_word, IsHeader}
 use Rattle.nmgc_object.specs.Places.{InSegment, nursery_place}
 use Rattle.nmgc_object.specs.declared.words.Header.{Header}
 use Rattle.nmgc_object.specs.declared.layout.Layout.{Layout}
 use Rattle.nmgc_object.specs.declared.layout.TheConstants.{FIRST_PLACE}
 use Rattle.nmgc_object.specs.declared.size.TheConstants.{HEADER_WORDS}
-use Rattle.nmgc_alloc.specs.Segments.{Segments, IsSegments}
-use Rattle.nmgc_heap.specs.Shape.{header_of, size_of, slots_of}
-use Rattle.nmgc_heap.specs.Tracked.{IsTracked}
-use Rattle.nmgc_heap.specs.Places.{Place, IsBetween}
-use Rattle.nmgc_heap.specs.Represents.{Represents, NoNode}
-use Rattle.nmgc_heap.specs.Moves.{Moved, Moves, Keeps, Forwards, StillSpoken, new_place, old_place, settled}
-use Rattle.nmgc_heap.specs.laws.Changes.{not_between}
-use Rattle.nmgc_heap.specs.laws.Slots.{slot_count}
-use Rattle.nmgc_heap.specs.laws.Tracking.{tracked_more}
-use Rattle.nmgc_blocks.specs.laws.Fields.{stands}
-use Rattle.nmgc_heap.specs.laws.Moving.{settled_cases, settled_stays, settled_comes}
+use Rattle.nmgc_alloc.specs.Numbered.{Segments}
+use Rattle.nmgc_alloc.specs.Segments.{IsSegments}
+use Rattle.nmgc_heap_spec.specs.Shape.{header_of, size_of, slots_of}
+use Rattle.nmgc_heap_spec.specs.Tracked.{IsTracked}
+use Rattle.nmgc_heap_spec.specs.Places.{Place, IsBetween}
+use Rattle.nmgc_heap_spec.specs.Represents.{Represents, NoNode}
+use Rattle.nmgc_heap_spec.specs.Moves.{Moved, Moves, Keeps, Forwards, StillSpoken, new_place, old_place, settled}
+use Rattle.nmgc_heap_spec.specs.laws.Changes.{not_between}
+use Rattle.nmgc_heap_spec.specs.laws.Slots.{slot_count}
+use Rattle.nmgc_heap_spec.specs.laws.Tracking.{tracked_more}
+use Rattle.nmgc_blocks_spec.specs.laws.Fields.{stands}
+use Rattle.nmgc_heap_spec.specs.laws.Moving.{settled_cases, settled_stays, settled_comes}
 use Rattle.nmgc_minor.specs.Inputs.{Inputs, HasInputs}
-use Rattle.nmgc_blocks.specs.Occupied.{IsOccupied, AreBlocks}
+use Rattle.nmgc_blocks_spec.specs.Occupied.{IsOccupied, AreBlocks}
 use Rattle.nmgc_minor.specs.Placing.{HasHeaderWord, IsPlacing, IsSharedSlot, IsOutside, Rewrites}
 use Rattle.nmgc_minor.proofs.FoundLaws.{is_shared_node}
-use Rattle.nmgc_blocks.specs.laws.Blocks.{occupied_in, is_block, occupied_apart}
+use Rattle.nmgc_blocks_spec.specs.laws.Blocks.{occupied_in, is_block, occupied_apart}
 
 module _ (layout : Layout) (base : ℕ) (later earlier : List World) (places : List Place) (w : World) (old new : List ℕ) (inputs : Inputs)
     (s0 s : Segments) (moves : List Moved) (forward : ℕ → ℕ)

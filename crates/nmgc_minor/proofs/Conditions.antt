@@ -3,21 +3,21 @@ use Rattle.std.proofs.Common.{◌≡◌, ◌<◌, ◌≤◌, ◌+◌, ◌-◌, �
 use Rattle.std.specs.Prelude.{Contains}
 use Rattle.std.proofs.Math.Nat.{mul-le-mul_right}
 use Rattle.std.proofs.lemmas.Bool.{cases_order}
-use Rattle.nmgc_graph.specs.declared.value.Name.{Name}
-use Rattle.nmgc_graph.specs.declared.node.Node.{Node}
-use Rattle.nmgc_graph.specs.World.{World, node_of, IsWorld}
+use Rattle.nmgc_world_spec.specs.declared.value.Name.{Name}
+use Rattle.nmgc_world_spec.specs.declared.node.Node.{Node}
+use Rattle.nmgc_world_spec.specs.World.{World, node_of, IsWorld}
 use Rattle.nmgc_object.specs.Words.{header_word, IsHeader}
 use Rattle.nmgc_object.specs.Places.{InNursery, nursery_place}
 use Rattle.nmgc_object.specs.declared.words.Header.{Header}
 use Rattle.nmgc_object.specs.declared.layout.Layout.{Layout}
 use Rattle.nmgc_object.specs.declared.size.TheConstants.{HEADER_WORDS}
-use Rattle.nmgc_heap.specs.Shape.{header_of, size_of}
-use Rattle.nmgc_heap.specs.Tracked.{IsTracked}
-use Rattle.nmgc_heap.specs.Places.{Place, LiesInNursery}
-use Rattle.nmgc_heap.specs.Represents.{Represents, NoNode}
-use Rattle.nmgc_heap.specs.Moves.{StillSpoken}
-use Rattle.nmgc_blocks.specs.Strong.{HasStrong}
-use Rattle.nmgc_blocks.specs.laws.Fields.{stands, field_in}
+use Rattle.nmgc_heap_spec.specs.Shape.{header_of, size_of}
+use Rattle.nmgc_heap_spec.specs.Tracked.{IsTracked}
+use Rattle.nmgc_heap_spec.specs.Places.{Place, LiesInNursery}
+use Rattle.nmgc_heap_spec.specs.Represents.{Represents, NoNode}
+use Rattle.nmgc_heap_spec.specs.Moves.{StillSpoken}
+use Rattle.nmgc_blocks_spec.specs.Strong.{HasStrong}
+use Rattle.nmgc_blocks_spec.specs.laws.Fields.{stands, field_in}
 use Rattle.nmgc_minor.specs.declared.young.Young.{Young}
 use Rattle.nmgc_minor.specs.Inputs.{Inputs, HasInputs}
 use Rattle.nmgc_minor.specs.Found.{IsStart, IsFound}

@@ -10,7 +10,7 @@ use Rattle.nmgc_object.specs.Words.{header_word, IsHeader}
 use Rattle.nmgc_object.specs.declared.words.Header.{Header}
 use Rattle.nmgc_object.specs.declared.size.TheConstants.{HEADER_WORDS}
 use Rattle.nmgc_object.specs.declared.words.TheConstants.{NIL_WORD, ZERO_WORD}
-use Rattle.nmgc_heap.specs.Moves.{Moved, Copies, Forwards}
+use Rattle.nmgc_heap_spec.specs.Moves.{Moved, Copies, Forwards}
 use Rattle.nmgc_minor.specs.declared.placing.Move.{Move}
 use Rattle.nmgc_minor.specs.Young.{HasHeader}
 use Rattle.nmgc_minor.specs.Placing.{HasHeaderWord}

@@ -5,19 +5,17 @@ use Rattle.std.proofs.Math.Nat.{mul-le-mul_right}
 use Rattle.std.proofs.lemmas.Bool.{cases_lt, eqb-false}
 use Rattle.std.proofs.lemmas.Bool.Decides.{eqb_tells}
 use Rattle.std.proofs.lemmas.List.Elements.{All-contains, Contains-append_left, Contains-append_right, Contains-append_cases}
-use Rattle.nmgc_graph.specs.declared.value.Name.{Name}
-use Rattle.nmgc_graph.specs.declared.value.Value.{Value}
-use Rattle.nmgc_graph.specs.declared.value.Value.TheVariants as value
+use Rattle.nmgc_world_spec.specs.declared.value.Name.{Name}
+use Rattle.nmgc_world_spec.specs.declared.value.Value.{Value}
+use Rattle.nmgc_world_spec.specs.declared.value.Value.TheVariants as value
 use Rattle.nmgc_limits.specs.declared.mutators.TheConstants.{SHARED_MAKER, SHARED_SLOTS}
-use Rattle.nmgc_graph.specs.declared.node.Parts.{Parts}
-use Rattle.nmgc_graph.specs.declared.node.Node.{Node}
-use Rattle.nmgc_graph.specs.declared.node.Node.TheVariants.{Con, Var, Arr, Thunk, Weak, Stack}
-use Rattle.nmgc_graph.specs.World.{World, node_of, state_of, held_by, IsKnown, IsNodeOf, IsShared, IsWorld}
-use Rattle.nmgc_graph.specs.Step.{shared_name}
-use Rattle.nmgc_graph.specs.Reach.{strong_fields, RefersTo, IsRoot, IsAlive}
-use Rattle.nmgc_graph.specs.Reach.{IsReached}
-use Rattle.nmgc_graph.specs.laws.Orders.{contains_head, contains_cases, contains_tail}
-use Rattle.nmgc_graph.specs.laws.Worlds.{at_some, is_some_of}
+use Rattle.nmgc_world_spec.specs.declared.node.Parts.{Parts}
+use Rattle.nmgc_world_spec.specs.declared.node.Node.{Node}
+use Rattle.nmgc_world_spec.specs.declared.node.Node.TheVariants.{Con, Var, Arr, Thunk, Weak, Stack}
+use Rattle.nmgc_world_spec.specs.World.{World, node_of, state_of, held_by, IsKnown, IsNodeOf, IsShared, IsWorld}
+use Rattle.nmgc_world_spec.specs.Step.{shared_name}
+use Rattle.nmgc_world_spec.specs.Reach.{strong_fields, RefersTo, IsRoot, IsAlive, IsReached}
+use Rattle.nmgc_lists.specs.laws.Items.{contains_head, contains_cases, contains_tail, at_some, is_some_of, contains_at as contains_read}
 use Rattle.nmgc_object.specs.Words.{header_word, IsHeader}
 use Rattle.nmgc_object.specs.Places.{InNursery, nursery_place}
 use Rattle.nmgc_object.specs.declared.words.Header.{Header}
@@ -25,15 +23,16 @@ use Rattle.nmgc_object.specs.declared.layout.Layout.{Layout}
 use Rattle.nmgc_object.specs.declared.layout.TheConstants.{SHARED_PLACE}
 use Rattle.nmgc_object.specs.declared.words.TheConstants.{WEAK_FIELDS}
 use Rattle.nmgc_object.specs.declared.size.TheConstants.{HEADER_WORDS}
-use Rattle.nmgc_heap.specs.Shape.{Slot, holds, unset, untold, slots_of}
-use Rattle.nmgc_reach.specs.Wide.{IsWide, IsWideRoot}
-use Rattle.nmgc_heap.specs.Tracked.{IsTracked, IsWideIn}
-use Rattle.nmgc_heap.specs.Places.{Place, Means, Fills}
-use Rattle.nmgc_heap.specs.Represents.{Represents, NoNode}
-use Rattle.nmgc_heap.specs.Moves.{StillSpoken}
-use Rattle.nmgc_heap.specs.laws.Slots.{contains_read, strong_held}
-use Rattle.nmgc_heap.specs.laws.Tracking.{slot_tracked, tracked_more}
-use Rattle.nmgc_blocks.specs.laws.Fields.{held_where, strong_slot, stands, not_zero, field_in, field_out}
+use Rattle.nmgc_heap_spec.specs.Shape.{Slot, holds, unset, untold, slots_of}
+use Rattle.nmgc_world_spec.specs.Wide.{IsWide, IsWideRoot}
+use Rattle.nmgc_heap_spec.specs.Tracked.{IsTracked, IsWideIn}
+use Rattle.nmgc_heap_spec.specs.Places.{Place, Means, Fills}
+use Rattle.nmgc_heap_spec.specs.Represents.{Represents, NoNode}
+use Rattle.nmgc_heap_spec.specs.Moves.{StillSpoken}
+use Rattle.nmgc_heap_spec.specs.laws.Slots.{strong_held}
+use Rattle.nmgc_heap_spec.specs.laws.Tracking.{slot_tracked, tracked_more}
+use Rattle.nmgc_blocks_spec.specs.laws.Fields.{held_where, stands, not_zero, field_in, field_out}
+use Rattle.nmgc_heap_spec.specs.laws.Roots.{strong_slot}
 use Rattle.nmgc_minor.specs.Inputs.{Inputs, HasInputs}
 use Rattle.nmgc_minor.specs.Found.{IsAliveAt, IsStart, IsFound}
 

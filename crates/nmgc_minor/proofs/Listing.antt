@@ -6,8 +6,8 @@ use Rattle.std.proofs.lemmas.List.{take_more, get_or_default, length-map, map-ap
 use Rattle.std.proofs.lemmas.List.Concat.{flat_map-append}
 use Rattle.nmgc_object.specs.FinQueue.{FinQueue}
 use Rattle.nmgc_object.specs.declared.layout.Nursery.{Nursery}
-use Rattle.nmgc_heap.specs.Emptied.{emptied}
-use Rattle.nmgc_blocks.specs.Nurseries.{nursery_at}
+use Rattle.nmgc_heap_spec.specs.Emptied.{emptied}
+use Rattle.nmgc_blocks_spec.specs.Nurseries.{nursery_at}
 use Rattle.nmgc_minor.specs.Promotes.{forwarded, promoted}
 
 -- with the next item, what all of them have

@@ -7,14 +7,13 @@ use Rattle.std.proofs.lemmas.List.{append-nil, get_or-set_same, get_or-set_other
 use Rattle.std.proofs.lemmas.List.Sums.{sum_by-set}
 use Rattle.std.proofs.lemmas.List.Elements.{Contains-append_left, Contains-push, Contains-push_cases, Contains-get_or}
 use Rattle.nmgc_object.specs.declared.words.Address.{Address}
-use Rattle.nmgc_blocks.specs.Strong.{HasStrong}
+use Rattle.nmgc_blocks_spec.specs.Strong.{HasStrong, strong_of}
 use Rattle.nmgc_minor.specs.declared.young.Young.{Young}
 use Rattle.nmgc_minor.specs.declared.young.TheConstants.{FOUND}
 use Rattle.nmgc_minor.specs.Found.{IsFound}
 use Rattle.nmgc_object.specs.declared.words.Header.{Header}
 use Rattle.nmgc_object.specs.declared.size.TheConstants.{HEADER_WORDS}
 use Rattle.nmgc_object.specs.Words.{header_word, IsHeader}
-use Rattle.nmgc_blocks.specs.Strong.{strong_of}
 use Rattle.nmgc_minor.specs.Young.{IsStrongRange, IsIn, unfound_count, IsYoung, IsWithin, IsAmong, Notes, PointsIn, CanFollow, Follows, Following}
 
 -- nothing to note

@@ -6,8 +6,8 @@ use Rattle.std.proofs.Math.Nat.{mul-le-mul_right}
 use Rattle.std.proofs.lemmas.Bool.{cases_lt}
 use Rattle.std.proofs.lemmas.List.{map-append, get_or-set_same, get_or-set_other}
 use Rattle.std.proofs.lemmas.List.Elements.{Contains-append_left, Contains-append_right, Contains-append_cases, Contains-push, Contains-push_cases}
-use Rattle.nmgc_graph.specs.laws.Orders.{contains_head, contains_tail, contains_cases}
-use Rattle.nmgc_object.specs.laws.Classes.{class_counted}
+use Rattle.nmgc_lists.specs.laws.Items.{contains_head, contains_tail, contains_cases}
+use Rattle.nmgc_object.specs.laws.Classes.{class_counted, least_block as large}
 use Rattle.nmgc_object.specs.declared.layout.Layout.{Layout}
 use Rattle.nmgc_object.specs.declared.words.Header.{Header}
 use Rattle.nmgc_object.specs.declared.size.TheConstants.{HEADER_WORDS}
@@ -15,19 +15,19 @@ use Rattle.nmgc_object.specs.Size.{block_size}
 use Rattle.nmgc_object.specs.Places.{IsSegmentSize, nursery_place}
 use Rattle.nmgc_object.specs.Words.{name_word, IsName}
 use Rattle.nmgc_segment.specs.Segment.{Segment}
-use Rattle.nmgc_alloc.specs.Search.{nth}
-use Rattle.nmgc_alloc.specs.Segments.{Segments, IsSegments, IsClass, HasRoom}
-use Rattle.nmgc_alloc.specs.Segments.{block_place}
-use Rattle.nmgc_alloc.specs.AllocState.{AllocState, StandsFor, Places, Writes}
+use Rattle.nmgc_alloc.specs.Numbered.{nth, Segments, block_place}
+use Rattle.nmgc_alloc.specs.Segments.{IsSegments, IsClass, HasRoom}
+use Rattle.nmgc_alloc.specs.AllocState.{AllocState, Places}
+use Rattle.nmgc_alloc.specs.Stands.{StandsFor, Writes}
 use Rattle.nmgc_alloc.specs.Reserve.{KeepsReserve}
-use Rattle.nmgc_alloc.specs.laws.Placing.{large, placed_stands}
+use Rattle.nmgc_alloc.specs.laws.Placing.{placed_stands}
 use Rattle.nmgc_alloc.specs.laws.Reserve.{placing_keeps, reserve_has_room}
-use Rattle.nmgc_heap.specs.Moves.{Moved}
+use Rattle.nmgc_heap_spec.specs.Moves.{Moved}
 use Rattle.nmgc_minor.specs.declared.placing.Move.{Move}
-use Rattle.nmgc_blocks.specs.Occupied.{IsOccupied}
+use Rattle.nmgc_blocks_spec.specs.Occupied.{IsOccupied}
 use Rattle.nmgc_minor.specs.Placing.{AreRising, StandsAfter, PlacesEach, with_names, HasHeaderWord, IsPlacing, PlacesOne, CanPlaceAll, PlacesRange, Reaches, IsMarked, moved_of}
-use Rattle.nmgc_blocks.specs.laws.Placings.{occupies, stays_occupied, only_occupied, lies_apart, keeps_marks}
-use Rattle.nmgc_blocks.specs.laws.Blocks.{is_block}
+use Rattle.nmgc_blocks_spec.specs.laws.Placings.{occupies, stays_occupied, only_occupied, lies_apart, keeps_marks}
+use Rattle.nmgc_blocks_spec.specs.laws.Blocks.{is_block}
 
 -- a reserve is one also where more was placed
 more_placed : (layout : Layout) (xs : List Segment) (a b : ℕ) → a ≤ b → KeepsReserve layout xs a → KeepsReserve layout xs b

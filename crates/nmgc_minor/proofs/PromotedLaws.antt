@@ -2,17 +2,16 @@
 use Rattle.std.proofs.Common.{◌≡◌, ◌≢◌, ◌<◌, ◌≤◌, ◌+◌, ◌*◌, ◌⊎◌, ℕ, zero, suc, List, [], ◌∷◌, inl, inr, refl, sym, ap, subst, ◌∙◌, arith, Option, Some, None}
 use Rattle.std.specs.Prelude.{Contains, slice_get, slice_index, IsSome}
 use Rattle.std.proofs.lemmas.List.Elements.{All-contains, Contains-append_left, Contains-append_right}
-use Rattle.nmgc_graph.specs.declared.value.Name.{Name}
-use Rattle.nmgc_graph.specs.declared.value.Value.{Value}
-use Rattle.nmgc_graph.specs.declared.value.Value.TheVariants as value
-use Rattle.nmgc_graph.specs.declared.node.Parts.{Parts}
-use Rattle.nmgc_graph.specs.declared.node.Node.{Node}
-use Rattle.nmgc_graph.specs.declared.node.Node.TheVariants.{Weak}
-use Rattle.nmgc_graph.specs.World.{World, node_of, state_of, IsKnown, IsNodeOf, IsShared, IsWorld}
-use Rattle.nmgc_graph.specs.Step.{shared_name}
-use Rattle.nmgc_graph.specs.Reach.{IsReached, RefersTo, IsRoot, IsAlive}
-use Rattle.nmgc_graph.specs.laws.Orders.{contains_head}
-use Rattle.nmgc_graph.specs.laws.Worlds.{at_some, is_some_of}
+use Rattle.nmgc_world_spec.specs.declared.value.Name.{Name}
+use Rattle.nmgc_world_spec.specs.declared.value.Value.{Value}
+use Rattle.nmgc_world_spec.specs.declared.value.Value.TheVariants as value
+use Rattle.nmgc_world_spec.specs.declared.node.Parts.{Parts}
+use Rattle.nmgc_world_spec.specs.declared.node.Node.{Node}
+use Rattle.nmgc_world_spec.specs.declared.node.Node.TheVariants.{Weak}
+use Rattle.nmgc_world_spec.specs.World.{World, node_of, state_of, IsKnown, IsNodeOf, IsShared, IsWorld}
+use Rattle.nmgc_world_spec.specs.Step.{shared_name}
+use Rattle.nmgc_world_spec.specs.Reach.{IsReached, RefersTo, IsRoot, IsAlive}
+use Rattle.nmgc_lists.specs.laws.Items.{contains_head, at_some, is_some_of, contains_at as contains_read}
 use Rattle.nmgc_object.specs.Words.{header_word, IsHeader}
 use Rattle.nmgc_object.specs.Places.{nursery_place}
 use Rattle.nmgc_object.specs.declared.words.Header.{Header}
@@ -20,16 +19,16 @@ use Rattle.nmgc_object.specs.declared.layout.Layout.{Layout}
 use Rattle.nmgc_object.specs.declared.layout.TheConstants.{SHARED_PLACE}
 use Rattle.nmgc_object.specs.declared.words.TheConstants.{WEAK_FIELDS}
 use Rattle.nmgc_object.specs.declared.size.TheConstants.{HEADER_WORDS}
-use Rattle.nmgc_reach.specs.Wide.{IsOfWeak}
-use Rattle.nmgc_heap.specs.Shape.{Slot, holds, unset, untold, slots_of}
-use Rattle.nmgc_heap.specs.Tracked.{IsTracked}
-use Rattle.nmgc_heap.specs.Places.{Place, Means, Fills}
-use Rattle.nmgc_heap.specs.Represents.{Represents, NoNode}
-use Rattle.nmgc_heap.specs.Moves.{StillSpoken}
-use Rattle.nmgc_heap.specs.laws.Slots.{contains_read, slot_held}
-use Rattle.nmgc_blocks.specs.Promoted.{IsYoung, IsFirstPromoted, IsPromoted}
-use Rattle.nmgc_blocks.specs.Stopped.{IsRoundOf}
-use Rattle.nmgc_blocks.specs.laws.Fields.{stands, field_in}
+use Rattle.nmgc_world_spec.specs.Wide.{IsOfWeak}
+use Rattle.nmgc_heap_spec.specs.Shape.{Slot, holds, unset, untold, slots_of}
+use Rattle.nmgc_heap_spec.specs.Tracked.{IsTracked}
+use Rattle.nmgc_heap_spec.specs.Places.{Place, Means, Fills}
+use Rattle.nmgc_heap_spec.specs.Represents.{Represents, NoNode}
+use Rattle.nmgc_heap_spec.specs.Moves.{StillSpoken}
+use Rattle.nmgc_heap_spec.specs.laws.Slots.{slot_held}
+use Rattle.nmgc_blocks_spec.specs.Promoted.{IsYoung, IsFirstPromoted, IsPromoted}
+use Rattle.nmgc_blocks_spec.specs.Stopped.{IsRoundOf}
+use Rattle.nmgc_blocks_spec.specs.laws.Fields.{stands, field_in}
 use Rattle.nmgc_minor.specs.Inputs.{Inputs, HasInputs}
 use Rattle.nmgc_minor.specs.Found.{IsStart, IsFound}
 use Rattle.nmgc_minor.proofs.FoundLaws.{node_at, root_tracked, shared_tracked, weak_alive, weak_tracked, shared_in, followed, root_found}

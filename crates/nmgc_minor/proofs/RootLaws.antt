@@ -1,40 +1,21 @@
 -- What words that stand for the roots hold.
-use Rattle.std.proofs.Common.{◌≡◌, ◌<◌, ◌+◌, ◌*◌, ◌/◌, ◌%◌, ℕ, List, [], ◌∷◌, length, inl, inr, sym, ap, subst, ◌∙◌, arith, Some, get_or}
+use Rattle.std.proofs.Common.{◌≡◌, ◌<◌, ◌+◌, ◌*◌, ◌/◌, ◌%◌, ℕ, List, [], length, inl, inr, sym, ap, subst, ◌∙◌, arith, Some, get_or}
 use Rattle.std.specs.Prelude.{Contains, slice_index, slice_index_or}
 use Rattle.std.proofs.lemmas.Bool.{cases_lt}
 use Rattle.std.proofs.lemmas.List.{get_or_past, get_or_default}
 use Rattle.std.proofs.lemmas.List.Elements.{Contains-get_or}
 use Rattle.std.proofs.lemmas.Option.{slice_get-get_or}
-use Rattle.nmgc_graph.specs.declared.value.Name.{Name}
-use Rattle.nmgc_graph.specs.declared.value.Value.{Value}
-use Rattle.nmgc_graph.specs.declared.value.Value.TheVariants.{Nil, Ref}
+use Rattle.nmgc_world_spec.specs.declared.value.Name.{Name}
+use Rattle.nmgc_world_spec.specs.declared.value.Value.{Value}
+use Rattle.nmgc_world_spec.specs.declared.value.Value.TheVariants.{Nil, Ref}
 use Rattle.nmgc_limits.specs.declared.mutators.TheConstants.{REGISTERS}
-use Rattle.nmgc_graph.specs.declared.mutator_state.MutatorState.{MutatorState}
-use Rattle.nmgc_graph.specs.World.{World, state_of, no_mutator, IsWorld}
-use Rattle.nmgc_graph.specs.laws.Orders.{contains_head, contains_tail, contains_cases}
-use Rattle.nmgc_heap.specs.Places.{Place, Means, ListMeans}
-use Rattle.nmgc_heap.specs.Roots.{RepresentsRoots}
-use Rattle.nmgc_blocks.specs.Remembers.{Remembers}
+use Rattle.nmgc_world_spec.specs.declared.mutator_state.MutatorState.{MutatorState}
+use Rattle.nmgc_world_spec.specs.World.{World, state_of, no_mutator, IsWorld}
+use Rattle.nmgc_heap_spec.specs.Places.{Place, Means}
+use Rattle.nmgc_heap_spec.specs.Roots.{RepresentsRoots}
+use Rattle.nmgc_blocks_spec.specs.Remembers.{Remembers}
 use Rattle.nmgc_minor.specs.Inputs.{Inputs, HasInputs}
-
--- a word of a list that stands for values means one of them, and each of them has its word
-list_has : (P : Place → Type 0) (words : List ℕ) (values : List Value) (word : ℕ) → ListMeans P words values → Contains words word → (v : Value) ×
-    Contains values v × Means P word v
-list_has P [] values word m c = absurd (omega (arith, c.1))
-list_has P (w ∷ ws) [] word m c = absurd m
-list_has P (w ∷ ws) (v ∷ vs) word m c = elim (contains_cases w ws word c) [
-  | inl e ↦ (v, contains_head v vs, subst (λ (x : ℕ). Means P x v) e m.0)
-  | inr d ↦ let r = list_has P ws vs word m.1 d in (r.0, contains_tail v vs r.0 r.1, r.2)
-]
-
-list_of : (P : Place → Type 0) (words : List ℕ) (values : List Value) (v : Value) → ListMeans P words values → Contains values v → (word : ℕ) ×
-    Contains words word × Means P word v
-list_of P words [] v m c = absurd (omega (arith, c.1))
-list_of P [] (x ∷ vs) v m c = absurd m
-list_of P (w ∷ ws) (x ∷ vs) v m c = elim (contains_cases x vs v c) [
-  | inl e ↦ (w, contains_head w ws, subst (λ (y : Value). Means P w y) e m.0)
-  | inr d ↦ let r = list_of P ws vs v m.1 d in (r.0, contains_tail w ws r.0 r.1, r.2)
-]
+use Rattle.nmgc_heap_spec.specs.laws.Common.{list_has, list_of}
 
 module _ (places : List Place) (w : World) (registers : List ℕ) (queues : List (List ℕ)) (serials : List ℕ) (world : IsWorld w)
     (r : RepresentsRoots places w registers queues serials) where

@@ -8,13 +8,12 @@ use Rattle.nmgc_limits.specs.declared.mutators.TheConstants.{SHARED_SLOTS}
 use Rattle.nmgc_object.specs.FinQueue.{FinQueue}
 use Rattle.nmgc_object.specs.declared.words.Address.{Address}
 use Rattle.nmgc_object.specs.declared.size.TheConstants.{HEADER_WORDS}
-use Rattle.nmgc_graph.specs.laws.Orders.{contains_head, contains_tail, contains_cases}
+use Rattle.nmgc_lists.specs.laws.Items.{contains_flat, flat_contains, contains_map as map_in, map_contains as map_from}
 use Rattle.nmgc_minor.specs.declared.young.Young.{Young}
 use Rattle.nmgc_minor.specs.Inputs.{Inputs}
 use Rattle.nmgc_minor.specs.Found.{IsAliveAt, IsStart, IsFound}
 use Rattle.nmgc_minor.specs.Young.{IsYoung, IsWithin, Notes, PointsIn, CanFollow, Follows}
 use Rattle.nmgc_minor.specs.Start.{inputs_of, IsWeakStart, Finds}
-use Rattle.nmgc_reach.specs.laws.ItemLaws.{contains_flat, flat_contains}
 use Rattle.nmgc_minor.proofs.NoteLaws.{notes_then, notes_none, notes_as}
 
 -- one more item of a list
@@ -36,20 +35,6 @@ notes_first G y xs h = notes_none y (λ w. (x : _) × Contains (take 0 xs) x × 
 -- after more was noted, a word still points into the table
 pub within_after : (a b : Young) (P : ℕ → Type 0) → Notes a b P → (word : ℕ) → IsWithin a word → IsWithin b word
 within_after a b P n word h at e l = let s = n.base in let t = n.size in let r = h at e (omega (arith, s, l)) in omega (arith, s, t, r)
-
-pub map_in : {A B : Type 0} (f : A → B) (xs : List A) (x : A) → Contains xs x → Contains (map f xs) (f x)
-map_in f [] x c = absurd (omega (arith, c.1))
-map_in {A} {B} f (y ∷ xs) x c = elim (contains_cases y xs x c) [
-  | inl e ↦ subst (λ (z : A). Contains (f y ∷ map f xs) (f z)) e (contains_head (f y) (map f xs))
-  | inr d ↦ contains_tail (f y) (map f xs) (f x) (map_in f xs x d)
-]
-
-pub map_from : {A B : Type 0} (f : A → B) (xs : List A) (y : B) → Contains (map f xs) y → (x : A) × Contains xs x × (y ≡ f x)
-map_from f [] y c = absurd (omega (arith, c.1))
-map_from f (x ∷ xs) y c = elim (contains_cases (f x) (map f xs) y c) [
-  | inl e ↦ (x, contains_head x xs, sym e)
-  | inr d ↦ let r = map_from f xs y d in (r.0, contains_tail x xs r.0 r.1, r.2)
-]
 
 -- what mutators hold, as one list: words, what else is one after another, and one each
 pub notes_words : {A : Type 0} (f : A → List ℕ) (a b : Young) (xs : List A) → Notes a b (λ w. (x : A) × Contains xs x × Contains (f x) w) →

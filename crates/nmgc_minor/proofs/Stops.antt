@@ -1,27 +1,29 @@
 -- A heap at a stop can be promoted, and the passes settle it.
-use Rattle.std.proofs.Common.{◌≡◌, ◌<◌, ◌⊎◌, ℕ, List, [], ◌∷◌, map, inl, inr, refl, sym, ap, subst, arith}
+use Rattle.std.proofs.Common.{◌≡◌, ◌<◌, ◌⊎◌, ℕ, List, map, inl, inr, refl, sym, ap, subst, arith}
 use Rattle.std.specs.Prelude.{Contains, slice_index}
-use Rattle.nmgc_graph.specs.declared.value.Name.{Name}
-use Rattle.nmgc_graph.specs.Reach.{Lists}
-use Rattle.nmgc_graph.specs.laws.Orders.{contains_tail}
+use Rattle.nmgc_world_spec.specs.declared.value.Name.{Name}
+use Rattle.nmgc_world_spec.specs.Reach.{Lists}
+use Rattle.nmgc_lists.specs.laws.Items.{contains_tail, contains_map as map_in, map_contains as map_from}
 use Rattle.nmgc_object.specs.Words.{header_word, name_word, IsHeader, IsName}
 use Rattle.nmgc_object.specs.Places.{nursery_place}
 use Rattle.nmgc_object.specs.declared.words.Header.{Header}
 use Rattle.nmgc_object.specs.declared.layout.Layout.{Layout}
 use Rattle.nmgc_object.specs.declared.layout.Nursery.{Nursery}
-use Rattle.nmgc_alloc.specs.Segments.{Segments, IsSegments}
-use Rattle.nmgc_alloc.specs.AllocState.{AllocState, StandsFor}
+use Rattle.nmgc_alloc.specs.Numbered.{Segments}
+use Rattle.nmgc_alloc.specs.Segments.{IsSegments}
+use Rattle.nmgc_alloc.specs.AllocState.{AllocState}
+use Rattle.nmgc_alloc.specs.Stands.{StandsFor}
 use Rattle.nmgc_alloc.specs.Reserve.{KeepsReserve}
 use Rattle.nmgc_alloc.specs.laws.Reserve.{begins}
-use Rattle.nmgc_heap.specs.Places.{Place}
-use Rattle.nmgc_heap.specs.Represents.{Represents, NoNode}
-use Rattle.nmgc_heap.specs.Roots.{RepresentsRoots}
-use Rattle.nmgc_heap.specs.Moves.{Moved, StillSpoken, old_place, settled}
-use Rattle.nmgc_heap.specs.laws.Roots.{roots_moved}
-use Rattle.nmgc_blocks.specs.Nurseries.{AreEmpty}
-use Rattle.nmgc_blocks.specs.Occupied.{AreBlocks}
-use Rattle.nmgc_blocks.specs.Promoted.{IsPromoted, PlacesEach}
-use Rattle.nmgc_blocks.specs.Stopped.{Stopped, IsStopped, IsSettled, earlier_of, young_base}
+use Rattle.nmgc_heap_spec.specs.Places.{Place}
+use Rattle.nmgc_heap_spec.specs.Represents.{Represents, NoNode}
+use Rattle.nmgc_heap_spec.specs.Roots.{RepresentsRoots}
+use Rattle.nmgc_heap_spec.specs.Moves.{Moved, StillSpoken, old_place, settled}
+use Rattle.nmgc_heap_spec.specs.laws.Roots.{roots_moved}
+use Rattle.nmgc_blocks_spec.specs.Nurseries.{AreEmpty}
+use Rattle.nmgc_blocks_spec.specs.Occupied.{AreBlocks}
+use Rattle.nmgc_blocks_spec.specs.Promoted.{IsPromoted, PlacesEach}
+use Rattle.nmgc_blocks_spec.specs.Stopped.{Stopped, IsStopped, IsSettled, earlier_of, young_base}
 use Rattle.nmgc_minor.specs.declared.placing.Move.{Move}
 use Rattle.nmgc_minor.specs.Inputs.{Inputs, HasInputs}
 use Rattle.nmgc_minor.specs.Forwarding.{forward_word}
@@ -30,14 +32,9 @@ use Rattle.nmgc_minor.specs.Promotes.{CanPromoteWith, Promotes}
 use Rattle.nmgc_minor.proofs.RootLaws.{has_inputs}
 use Rattle.nmgc_minor.proofs.Allows.{recorded_low, world_allows}
 use Rattle.nmgc_minor.proofs.PromotedLaws.{found_promoted, promoted_found}
-use Rattle.nmgc_minor.proofs.WriteLaws.{map_in, map_from}
 use Rattle.nmgc_minor.proofs.Final.{taken, moves_in_order, promotes_moves, promotes_represents, promotes_blocks, promotes_fields}
 use Rattle.nmgc_minor.proofs.AllocationLaws.{stands_final, places_each}
-
--- the names of the moves, as they are told twice
-names_twice : (moves : List Move) → map (λ (m : Moved). m.name) (map moved_of moves) ≡ map (λ (m : Move). m.name) moves
-names_twice [] = refl
-names_twice (m ∷ moves) = ap (λ (names : List Name). m.name ∷ names) (names_twice moves)
+use Rattle.nmgc_minor.specs.laws.Common.{names_twice}
 
 module _ (t : Stopped) (s : Segments) (old : List ℕ) (nurseries : List Nursery) (inputs : Inputs)
     (differ : (a b : Header) → IsHeader a → IsHeader b → header_word a ≡ header_word b → a ≡ b)

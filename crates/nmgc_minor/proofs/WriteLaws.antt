@@ -1,18 +1,18 @@
 -- The three writes of the third pass, one after the other.
-use Rattle.std.proofs.Common.{◌≡◌, ◌≢◌, ◌<◌, ◌≤◌, ◌+◌, ◌-◌, ℕ, List, [], ◌∷◌, ◌++◌, length, map, take, drop, inl, inr, refl, sym, ap, subst, ◌∙◌, arith, ◌⊎◌}
+use Rattle.std.proofs.Common.{◌≡◌, ◌≢◌, ◌<◌, ◌≤◌, ◌+◌, ◌-◌, ℕ, List, ◌++◌, length, map, take, drop, inl, inr, refl, sym, ap, subst, ◌∙◌, arith, ◌⊎◌}
 use Rattle.std.specs.Prelude.{Contains, slice_index}
 use Rattle.std.proofs.Math.ListN.{get_or-eq_default}
 use Rattle.std.proofs.lemmas.Bool.{cases_lt, cases_eq}
 use Rattle.std.proofs.lemmas.List.{take_at}
-use Rattle.nmgc_graph.specs.laws.Orders.{contains_head, contains_tail, contains_cases}
 use Rattle.nmgc_object.specs.declared.words.Address.{Address}
 use Rattle.nmgc_object.specs.declared.words.Header.{Header}
 use Rattle.nmgc_object.specs.declared.size.TheConstants.{HEADER_WORDS}
 use Rattle.nmgc_object.specs.Places.{nursery_place}
 use Rattle.nmgc_object.specs.declared.layout.Layout.{Layout}
 use Rattle.nmgc_object.specs.declared.layout.Nursery.{Nursery}
-use Rattle.nmgc_alloc.specs.Segments.{Segments, IsSegments}
-use Rattle.nmgc_heap.specs.Moves.{Moved, Copies}
+use Rattle.nmgc_alloc.specs.Numbered.{Segments}
+use Rattle.nmgc_alloc.specs.Segments.{IsSegments}
+use Rattle.nmgc_heap_spec.specs.Moves.{Moved, Copies}
 use Rattle.nmgc_minor.specs.declared.placing.Move.{Move}
 use Rattle.nmgc_minor.specs.declared.young.Young.{Young}
 use Rattle.nmgc_minor.specs.Inputs.{Inputs}
@@ -22,23 +22,10 @@ use Rattle.nmgc_minor.specs.Start.{Finds}
 use Rattle.nmgc_minor.specs.Placing.{AreNurseries, CanPlaceEach, HasHeaderWord, IsMarked, IsSharedSlot, PlacesRange, moved_of}
 use Rattle.nmgc_minor.specs.Forwarding.{forward_word, ForwardsAt, CanCopyAll, CopiesAll}
 use Rattle.nmgc_minor.specs.Promotes.{CanPromote, Promotes, Leaves}
-use Rattle.nmgc_blocks.specs.laws.Blocks.{IsBlock, is_block, occupied_apart}
+use Rattle.nmgc_blocks_spec.specs.laws.Blocks.{IsBlock, is_block, occupied_apart}
 use Rattle.nmgc_minor.proofs.ForwardLaws.{twice, table_forwards}
 use Rattle.nmgc_minor.proofs.PlacingLaws.{few_moves}
-
-pub map_in : {A B : Type 0} (f : A → B) (xs : List A) (x : A) → Contains xs x → Contains (map f xs) (f x)
-map_in f [] x c = absurd (omega (arith, c.1))
-map_in {A} {B} f (y ∷ xs) x c = elim (contains_cases y xs x c) [
-  | inl e ↦ subst (λ (z : A). Contains (f y ∷ map f xs) (f z)) e (contains_head (f y) (map f xs))
-  | inr d ↦ contains_tail (f y) (map f xs) (f x) (map_in f xs x d)
-]
-
-pub map_from : {A B : Type 0} (f : A → B) (xs : List A) (y : B) → Contains (map f xs) y → (x : A) × Contains xs x × (y ≡ f x)
-map_from f [] y c = absurd (omega (arith, c.1))
-map_from f (x ∷ xs) y c = elim (contains_cases (f x) (map f xs) y c) [
-  | inl e ↦ (x, contains_head x xs, sym e)
-  | inr d ↦ let r = map_from f xs y d in (r.0, contains_tail x xs r.0 r.1, r.2)
-]
+use Rattle.nmgc_lists.specs.laws.Items.{contains_map as map_in, map_contains as map_from}
 
 pub address_in : (xs : List Address) (x : Address) → Contains xs x → Contains (map (λ (at : Address). at.0) xs) x.0
 address_in xs x c = map_in (λ (at : Address). at.0) xs x c

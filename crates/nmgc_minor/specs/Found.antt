@@ -8,7 +8,7 @@ use Rattle.nmgc_object.specs.declared.layout.TheConstants.{SHARED_PLACE}
 use Rattle.nmgc_object.specs.declared.words.TheConstants.{WEAK_FIELDS}
 use Rattle.nmgc_object.specs.declared.size.TheConstants.{HEADER_WORDS}
 use Rattle.nmgc_minor.specs.Inputs.{Inputs}
-use Rattle.nmgc_blocks.specs.Strong.{HasStrong}
+use Rattle.nmgc_blocks_spec.specs.Strong.{HasStrong}
 
 -- the young weak pointer at the place is alive
 abbrev pub IsAliveAt : List ℕ → ℕ → Type 0

@@ -1,11 +1,11 @@
 -- What the search reads beside the words, and what must hold of it in the world.
 use Rattle.std.specs.Prelude.{ℕ, ◌*◌, List, Contains}
-use Rattle.nmgc_graph.specs.declared.value.Name.{Name}
-use Rattle.nmgc_graph.specs.declared.value.Value.{Value}
-use Rattle.nmgc_graph.specs.declared.value.Value.TheVariants.{Ref}
-use Rattle.nmgc_graph.specs.World.{World, state_of}
-use Rattle.nmgc_heap.specs.Places.{Place, Means}
-use Rattle.nmgc_blocks.specs.Remembers.{Remembers}
+use Rattle.nmgc_world_spec.specs.declared.value.Name.{Name}
+use Rattle.nmgc_world_spec.specs.declared.value.Value.{Value}
+use Rattle.nmgc_world_spec.specs.declared.value.Value.TheVariants.{Ref}
+use Rattle.nmgc_world_spec.specs.World.{World, state_of}
+use Rattle.nmgc_heap_spec.specs.Places.{Place, Means}
+use Rattle.nmgc_blocks_spec.specs.Remembers.{Remembers}
 
 -- what the mutators hold, and what the last round left behind: recorded field places, and the places of its weak pointers
 pub record Inputs : Type 0 where

@@ -7,3 +7,4 @@ pub mod Start
 pub mod Promotes
 pub mod Resting
 pub mod Promotion
+pub mod laws

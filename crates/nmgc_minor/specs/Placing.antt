@@ -1,7 +1,7 @@
 -- What the second and the third pass do, told of segments and words.
 use Rattle.std.specs.Prelude.{ℕ, ◌≡◌, ◌≢◌, ◌+◌, ◌-◌, ◌*◌, ◌<◌, ◌≤◌, ◌⊎◌, List, [], ◌∷◌, length, map, slice_index, slice_set, Contains}
 use Rattle.nmgc_limits.specs.declared.mutators.TheConstants.{SHARED_SLOTS}
-use Rattle.nmgc_graph.specs.declared.value.Name.{Name}
+use Rattle.nmgc_world_spec.specs.declared.value.Name.{Name}
 use Rattle.nmgc_object.specs.Words.{header_word, name_word, IsHeader, IsName}
 use Rattle.nmgc_object.specs.Size.{block_size, IsClassOf}
 use Rattle.nmgc_object.specs.declared.layout.Layout.{Layout}
@@ -10,14 +10,16 @@ use Rattle.nmgc_object.specs.Places.{nursery_place}
 use Rattle.nmgc_object.specs.declared.layout.Nursery.{Nursery}
 use Rattle.nmgc_object.specs.declared.layout.TheConstants.{SHARED_PLACE}
 use Rattle.nmgc_object.specs.declared.size.TheConstants.{HEADER_WORDS, NAME_OFFSET}
-use Rattle.nmgc_alloc.specs.Segments.{Segments, Allocates, block_place}
-use Rattle.nmgc_alloc.specs.AllocState.{AllocState, StandsFor, Places}
+use Rattle.nmgc_alloc.specs.Numbered.{Segments, block_place}
+use Rattle.nmgc_alloc.specs.Segments.{Allocates}
+use Rattle.nmgc_alloc.specs.AllocState.{AllocState, Places}
+use Rattle.nmgc_alloc.specs.Stands.{StandsFor}
 use Rattle.nmgc_alloc.specs.Reserve.{KeepsReserve}
-use Rattle.nmgc_blocks.specs.Nurseries.{nursery_at}
-use Rattle.nmgc_heap.specs.Moves.{Moved, Copies}
+use Rattle.nmgc_blocks_spec.specs.Nurseries.{nursery_at}
+use Rattle.nmgc_heap_spec.specs.Moves.{Moved, Copies}
 use Rattle.nmgc_minor.specs.declared.placing.Move.{Move}
 use Rattle.nmgc_minor.specs.Young.{HasHeader}
-use Rattle.nmgc_blocks.specs.Occupied.{IsOccupied, KeepsMarks}
+use Rattle.nmgc_blocks_spec.specs.Occupied.{IsOccupied, KeepsMarks}
 
 -- the word is the header of the object at the place
 abbrev pub HasHeaderWord : List ℕ → ℕ → Header → Type 0

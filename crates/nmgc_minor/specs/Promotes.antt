@@ -9,11 +9,12 @@ use Rattle.nmgc_object.specs.declared.words.TheConstants.{WEAK_FIELDS}
 use Rattle.nmgc_object.specs.declared.layout.Nursery.{Nursery}
 use Rattle.nmgc_object.specs.declared.words.Address.{Address}
 use Rattle.nmgc_object.specs.FinQueue.{FinQueue}
-use Rattle.nmgc_alloc.specs.Segments.{Segments, IsSegments}
+use Rattle.nmgc_alloc.specs.Numbered.{Segments}
+use Rattle.nmgc_alloc.specs.Segments.{IsSegments}
 use Rattle.nmgc_alloc.specs.Reserve.{KeepsReserve}
-use Rattle.nmgc_heap.specs.Moves.{Moved, Forwards}
-use Rattle.nmgc_blocks.specs.Nurseries.{AreEmpty}
-use Rattle.nmgc_blocks.specs.Stopped.{Stopped, IsStopped}
+use Rattle.nmgc_heap_spec.specs.Moves.{Moved, Forwards}
+use Rattle.nmgc_blocks_spec.specs.Nurseries.{AreEmpty}
+use Rattle.nmgc_blocks_spec.specs.Stopped.{Stopped, IsStopped}
 use Rattle.nmgc_minor.specs.declared.placing.Move.{Move}
 use Rattle.nmgc_minor.specs.declared.young.Young.{Young}
 use Rattle.nmgc_minor.specs.Inputs.{Inputs}

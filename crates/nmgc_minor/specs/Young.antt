@@ -4,7 +4,7 @@ use Rattle.nmgc_object.specs.Words.{header_word, IsHeader}
 use Rattle.nmgc_object.specs.declared.words.Address.{Address}
 use Rattle.nmgc_object.specs.declared.words.Header.{Header}
 use Rattle.nmgc_object.specs.declared.size.TheConstants.{HEADER_WORDS}
-use Rattle.nmgc_blocks.specs.Strong.{HasStrong, strong_of}
+use Rattle.nmgc_blocks_spec.specs.Strong.{HasStrong, strong_of}
 use Rattle.nmgc_minor.specs.declared.young.Young.{Young}
 use Rattle.nmgc_minor.specs.declared.young.TheConstants.{FOUND}
 use Rattle.nmgc_minor.specs.Found.{IsFound}

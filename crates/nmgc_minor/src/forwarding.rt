@@ -13,8 +13,8 @@ ghost use Rattle.nmgc_object.specs.declared.words.Header.{Header};
 ghost use Rattle.nmgc_object.specs.declared.size.TheConstants.{HEADER_WORDS as HEADERS};
 
 use crate::placing::Move;
-use nmgc_graph::SHARED_SLOTS;
-use nmgc_heap::{HeapWords, MutatorRoots};
+use nmgc_heap_spec::{HeapWords, MutatorRoots};
+use nmgc_limits::SHARED_SLOTS;
 use nmgc_object::laws::words_differ;
 use nmgc_object::{Address, FieldWord, HEADER_WORDS, SHARED_PLACE, fields_of};
 

@@ -5,7 +5,7 @@
 //! the reserve sufficient.
 ghost use Rattle.std.specs.Prelude.{ℕ, ◌≡◌, ◌+◌, ◌-◌, ◌*◌, ◌<◌, ◌≤◌, ◌⊎◌, ◌++◌, List, length, map};
 ghost use Rattle.nmgc_alloc.specs.Reserve.{KeepsReserve};
-ghost use Rattle.nmgc_blocks.specs.Nurseries.{AreEmpty};
+ghost use Rattle.nmgc_blocks_spec.specs.Nurseries.{AreEmpty};
 ghost use Rattle.nmgc_alloc.specs.Segments.{IsSegments, IsMutator};
 ghost use Rattle.nmgc_minor.specs.declared.placing.Move.{Move as Shown};
 ghost use Rattle.nmgc_object.specs.Places.{nursery_place};
@@ -13,8 +13,8 @@ ghost use Rattle.nmgc_minor.specs.Placing.{CanPlaceAll, CanPlaceEach, AreNurseri
 
 use crate::placing::{Move, object_words, place_object};
 use nmgc_alloc::Segments;
-use nmgc_graph::Room;
-use nmgc_heap::{HeapWords, MutatorRoots};
+use nmgc_heap_spec::{HeapWords, MutatorRoots};
+use nmgc_lists::Room;
 
 /// Gives each found object of a part of the table a block, in their order.
 pub fn place_all<W: HeapWords>(

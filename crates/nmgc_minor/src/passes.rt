@@ -21,8 +21,8 @@ use crate::placing::Move;
 use crate::starts::mark;
 use crate::young::Young;
 use nmgc_alloc::Segments;
-use nmgc_graph::Room;
-use nmgc_heap::{HeapWords, MutatorRoots};
+use nmgc_heap_spec::{HeapWords, MutatorRoots};
+use nmgc_lists::Room;
 use nmgc_object::{Address, FinQueue};
 
 // The three passes, over words.

@@ -14,9 +14,10 @@ ghost use Rattle.nmgc_minor.specs.Placing.{CanPlace, PlacesOne, HasHeaderWord};
 ghost use Rattle.nmgc_object.specs.declared.size.TheConstants.{HEADER_WORDS as HEADERS, MAX_BLOCK_WORDS};
 
 use nmgc_alloc::Segments;
-use nmgc_graph::{Name, Room};
-use nmgc_heap::HeapWords;
+use nmgc_heap_spec::HeapWords;
+use nmgc_lists::Room;
 use nmgc_object::{Address, HEADER_WORDS, class_of, fields_of, name_of};
+use nmgc_world_spec::Name;
 
 /// An object that was moved: its name, the place in the nursery, and the place in a segment.
 #[derive(Clone, Copy, Debug, PartialEq, Eq)]

@@ -1,13 +1,14 @@
 //! Promotion as a whole: what it is given, and what it promises of the world.
 ghost use Rattle.std.specs.Prelude.{ℕ, ◌≡◌, ◌+◌, ◌*◌, ◌<◌, ◌≤◌, length, map, IfOk};
 ghost use Rattle.std.specs.List.{flat_map};
-ghost use Rattle.nmgc_alloc.specs.AllocState.{AllocState, StandsFor};
+ghost use Rattle.nmgc_alloc.specs.AllocState.{AllocState};
+ghost use Rattle.nmgc_alloc.specs.Stands.{StandsFor};
 ghost use Rattle.nmgc_alloc.specs.Segments.{IsSegments};
-ghost use Rattle.nmgc_blocks.specs.Occupied.{KeepsMarks};
-ghost use Rattle.nmgc_blocks.specs.Promoted.{PlacesEach};
-ghost use Rattle.nmgc_blocks.specs.Stopped.{Stopped, IsSettled, young_base};
+ghost use Rattle.nmgc_blocks_spec.specs.Occupied.{KeepsMarks};
+ghost use Rattle.nmgc_blocks_spec.specs.Promoted.{PlacesEach};
+ghost use Rattle.nmgc_blocks_spec.specs.Stopped.{Stopped, IsSettled, young_base};
 ghost use Rattle.nmgc_minor.specs.Placing.{moved_of};
-ghost use Rattle.nmgc_heap.specs.Emptied.{emptied};
+ghost use Rattle.nmgc_heap_spec.specs.Emptied.{emptied};
 ghost use Rattle.nmgc_minor.specs.Promotes.{Changes, IsStoppedBy, promoted};
 ghost use Rattle.nmgc_minor.specs.Start.{words_of, places_of};
 
@@ -15,8 +16,8 @@ use crate::passes::run_passes;
 use crate::placing::Move;
 use crate::young::Young;
 use nmgc_alloc::Segments;
-use nmgc_graph::{NoMemory, Room};
-use nmgc_heap::{HeapWords, MutatorRoots};
+use nmgc_heap_spec::{HeapWords, MutatorRoots};
+use nmgc_lists::{NoMemory, Room};
 use nmgc_object::Layout;
 use nmgc_object::laws::words_differ;
 use std::alloc::Global;

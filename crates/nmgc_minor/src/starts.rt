@@ -12,8 +12,8 @@ ghost use Rattle.nmgc_minor.specs.Young.{IsYoung, IsIn, IsWithin, Notes, CanFoll
 ghost use Rattle.nmgc_minor.specs.Start.{inputs_by, IsWeakStart, Finds};
 
 use crate::young::Young;
-use nmgc_graph::SHARED_SLOTS;
-use nmgc_heap::{HeapWords, MutatorRoots};
+use nmgc_heap_spec::{HeapWords, MutatorRoots};
+use nmgc_limits::SHARED_SLOTS;
 use nmgc_object::words::WEAK_FIELDS;
 use nmgc_object::{Address, FieldWord, HEADER_WORDS, SHARED_PLACE};
 

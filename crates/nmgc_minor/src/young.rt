@@ -5,13 +5,14 @@
 //! above g. Each found object is in the list once, and the list is gone through once, from its front.
 ghost use Rattle.std.specs.Prelude.{ℕ, ◌≡◌, ◌+◌, ◌*◌, ◌<◌, ◌≤◌, ◌⊎◌, length, slice_index, Contains, IfSome, IfNone};
 ghost use Rattle.nmgc_minor.specs.Found.{IsFound};
-ghost use Rattle.nmgc_blocks.specs.Strong.{HasStrong};
+ghost use Rattle.nmgc_blocks_spec.specs.Strong.{HasStrong};
 ghost use Rattle.nmgc_minor.specs.Young.{HasHeader, IsStrongRange};
 
-use nmgc_graph::{Kind, Room};
-use nmgc_heap::HeapWords;
+use nmgc_heap_spec::HeapWords;
+use nmgc_lists::Room;
 use nmgc_object::laws::words_differ;
 use nmgc_object::{Address, FieldWord, HEADER_WORDS, header_of};
+use nmgc_world_spec::Kind;
 
 /// The entry of an object that was found and has no place yet.
 pub const FOUND: u32 = 1;

@@ -57,9 +57,6 @@ module _ (layout : Layout) (w at : ℕ) (is : w ≡ 2 * at) where
 pub young_odd : (layout : Layout) (w : ℕ) → w % 2 ≡ 1 → is_young layout w ≡ false
 young_odd layout w odd = let e : eqb (w % 2) 0 ≡ false = ne_eqb (w % 2) 0 (omega (arith, odd)) in rw e refl
 
-pub old_odd : (layout : Layout) (w : ℕ) → w % 2 ≡ 1 → is_old layout w ≡ false
-old_odd layout w odd = let e : eqb (w % 2) 0 ≡ false = ne_eqb (w % 2) 0 (omega (arith, odd)) in rw e refl
-
 -- a word that refers to none is not pushed
 pub none_pushed : (layout : Layout) (b : Bool) (w : ℕ) → is_old layout w ≡ false → all_pushed layout (owed_word b w) ≡ []
 none_pushed layout true w new = rw new refl

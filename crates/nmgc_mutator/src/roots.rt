@@ -1,12 +1,12 @@
 //! What a stop reads and changes of a mutator, where it lies.
 ghost use Rattle.std.specs.Prelude.{length, refl};
 ghost use Rattle.std.specs.List.{refill};
-ghost use Rattle.nmgc_heap.specs.Emptied.{emptied};
+ghost use Rattle.nmgc_heap_spec.specs.Emptied.{emptied};
 ghost use Rattle.nmgc_mutator.specs.AtStop.{cleared};
 ghost use Rattle.nmgc_mutator.specs.laws.Refilled.{refill_all};
 
 use crate::mutator::Mutator;
-use nmgc_heap::MutatorRoots;
+use nmgc_heap_spec::MutatorRoots;
 use nmgc_object::{Address, FinQueue, Nursery};
 
 impl MutatorRoots for Mutator {

@@ -1,5 +1,4 @@
 pub mod FinQueue
-pub mod Parts
 pub mod Places
 pub mod Size
 pub mod Words

@@ -1,10 +1,10 @@
 -- The words of objects and of blocks.
 use Rattle.std.specs.Prelude.{ℕ, ◌+◌, ◌-◌, ◌*◌, ◌^◌, ◌<◌, ◌≤◌, nat_le, if◌then◌else◌}
-use Rattle.nmgc_graph.specs.declared.node.Kind.{Kind}
-use Rattle.nmgc_graph.specs.declared.node.Kind.TheVariants.{Con, Var, Arr, Thunk, Weak, Stack}
+use Rattle.nmgc_world_spec.specs.declared.node.Kind.{Kind}
+use Rattle.nmgc_world_spec.specs.declared.node.Kind.TheVariants.{Con, Var, Arr, Thunk, Weak, Stack}
 use Rattle.nmgc_object.specs.declared.words.TheConstants.{VAR_FIELDS, WEAK_FIELDS}
-use Rattle.nmgc_object.specs.declared.size.TheConstants.{MIN_BLOCK_WORDS, DENSE_CLASS, DENSE_WORDS}
-use Rattle.nmgc_object.specs.Parts.{words_with}
+use Rattle.nmgc_object.specs.declared.size.TheConstants.{MIN_BLOCK_WORDS, DENSE_CLASS, DENSE_WORDS, NAME_OFFSET, HEADER_WORDS}
+use Rattle.nmgc_object.specs.declared.words.Header.{Header}
 
 -- the fields of an object with so many parts
 abbrev pub field_count : Kind → ℕ → ℕ
@@ -14,6 +14,10 @@ field_count Arr parts = parts
 field_count Thunk parts = parts + 1
 field_count Weak parts = WEAK_FIELDS
 field_count Stack parts = parts
+
+-- the words of an object with so many fields
+abbrev pub words_with : ℕ → ℕ
+words_with fields = HEADER_WORDS + fields
 
 -- the words of an object with so many parts
 abbrev pub word_count : Kind → ℕ → ℕ
@@ -27,3 +31,19 @@ block_size class = if nat_le class DENSE_CLASS then class + MIN_BLOCK_WORDS else
 pub record IsClassOf (words class : ℕ) : Type 0 where
   pub holds : words ≤ block_size class
   pub least : (smaller : ℕ) → smaller < class → block_size smaller < words
+
+-- the place of the header
+abbrev pub header_place : ℕ → ℕ
+header_place at = at
+
+-- the place of the name
+abbrev pub name_place : ℕ → ℕ
+name_place at = at + NAME_OFFSET
+
+-- the place of a field
+abbrev pub field_place : ℕ → ℕ → ℕ
+field_place at field = at + HEADER_WORDS + field
+
+-- the words of an object with the header
+abbrev pub object_size : Header → ℕ
+object_size header = words_with header.fields

@@ -2,11 +2,10 @@
 //!
 //! Each function here does nothing; its contract is the law.
 ghost use Rattle.std.specs.Prelude.{ℕ, ◌≡◌, ◌↔◌, ◌+◌, ◌*◌, ◌^◌, ◌<◌, ◌≤◌};
-ghost use Rattle.nmgc_graph.specs.declared.value.Name.{Name};
+ghost use Rattle.nmgc_world_spec.specs.declared.value.Name.{Name};
 ghost use Rattle.nmgc_object.specs.Words.{header_word, name_word, field_word, IsHeader, IsName, IsField};
-ghost use Rattle.nmgc_object.specs.Parts.{header_place, name_place, field_place, object_size};
+ghost use Rattle.nmgc_object.specs.Size.{header_place, name_place, field_place, object_size, block_size, IsClassOf};
 ghost use Rattle.nmgc_object.specs.Places.{IsLayout, InSegment, InNursery, InHeap, class_count, left_over};
-ghost use Rattle.nmgc_object.specs.Size.{block_size, IsClassOf};
 ghost use Rattle.nmgc_object.specs.declared.words.Header.{Header};
 ghost use Rattle.nmgc_object.specs.declared.words.Field.{Field};
 ghost use Rattle.nmgc_object.specs.declared.layout.Layout.{Layout};

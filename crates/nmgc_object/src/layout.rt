@@ -9,7 +9,7 @@ ghost use Rattle.nmgc_object.specs.Size.{block_size};
 ghost use Rattle.nmgc_object.specs.Places.{IsLayout, segment_place, nursery_place, word_total, class_count, reserve_count};
 
 use crate::size::{HEADER_WORDS, class_of};
-use nmgc_graph::SHARED_SLOTS;
+use nmgc_limits::SHARED_SLOTS;
 
 /// Where the shared array begins.
 pub const SHARED_PLACE: u32 = 1;

@@ -6,13 +6,12 @@
 //! aren't a power of two, some words of a segment lie after its last block and belong to nobody, so a
 //! segment that is full of objects has fewer words of objects than it has words.
 ghost use Rattle.std.specs.Prelude.{ℕ, ◌≡◌, ◌<◌, ◌≤◌};
-ghost use Rattle.nmgc_object.specs.Parts.{object_size};
-ghost use Rattle.nmgc_object.specs.Size.{word_count, block_size};
+ghost use Rattle.nmgc_object.specs.Size.{object_size, word_count, block_size};
 ghost use Rattle.nmgc_object.specs.Words.{IsHeader};
 
 use crate::words::{Header, MAX_FIELDS, VAR_FIELDS, WEAK_FIELDS};
-use nmgc_graph::Kind;
 use nmgc_limits::MAX_SEGMENT_WORDS;
+use nmgc_world_spec::Kind;
 
 /// The words before an object's fields: the header and the name.
 pub const HEADER_WORDS: u32 = 2;

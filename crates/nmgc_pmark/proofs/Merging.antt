@@ -5,16 +5,17 @@ use Rattle.std.specs.List.{flat_map}
 use Rattle.std.specs.List.Sorted.{IsPermutation}
 use Rattle.std.proofs.lemmas.Option.{slice_get_within, get_or_from_slice_get}
 use Rattle.std.proofs.lemmas.List.Elements.{Contains-append_cases}
-use Rattle.nmgc_graph.specs.declared.value.Name.{Name}
-use Rattle.nmgc_graph.specs.declared.value.Value.{Value}
-use Rattle.nmgc_graph.specs.World.{World}
-use Rattle.nmgc_graph.specs.Reach.{IsBefore, IsInOrder, Lists}
-use Rattle.nmgc_graph.specs.laws.Orders.{contains_head, contains_tail, contains_cases}
-use Rattle.nmgc_reach.specs.laws.ItemLaws.{place_of, contains_flat, flat_contains}
-use Rattle.nmgc_pmark.specs.Claims.{IsStrong, AreClaims}
+use Rattle.nmgc_world_spec.specs.declared.value.Name.{Name}
+use Rattle.nmgc_world_spec.specs.declared.value.Value.{Value}
+use Rattle.nmgc_world_spec.specs.World.{World}
+use Rattle.nmgc_world_spec.specs.Reach.{IsBefore, IsInOrder, Lists}
+use Rattle.nmgc_lists.specs.laws.Items.{contains_head, contains_tail, contains_cases, place_of, contains_flat, flat_contains}
+use Rattle.nmgc_pmark.specs.Strong.{IsStrong}
+use Rattle.nmgc_pmark.specs.Claims.{AreClaims}
 use Rattle.nmgc_pmark.specs.Marker.{AreDistinct}
 use Rattle.nmgc_pmark.specs.Names.{AreSorted}
 use Rattle.nmgc_pmark.proofs.Orders.{distinct_once, sort_orders, permuted_has, permuted_had}
+use Rattle.nmgc_world_spec.specs.laws.Orders.{not_before_itself as never_before}
 
 abbrev pub all : List (List Name) → List Name
 all by = flat_map (λ (own : List Name). own) by
@@ -36,10 +37,6 @@ before_all name next (more ∷ names) first ordered other c = elim (contains_cas
     then a b c (inl p) (inr q) = let e = q.0 in inl (omega (arith, p, e))
     then a b c (inr p) (inl q) = let e = p.0 in inl (omega (arith, e, q))
     then a b c (inr p) (inr q) = let lt = p.1 in let less = q.1 in inr (p.0 ∙ q.0, omega (arith, lt, less))
-
-never_before : (name : Name) → IsBefore name name → ⊥
-never_before name (inl p) = absurd (omega (arith, p))
-never_before name (inr p) = let lt = p.1 in absurd (omega (arith, lt))
 
 ordered_distinct : (names : List Name) → IsInOrder names → AreDistinct names
 ordered_distinct [] o = tt

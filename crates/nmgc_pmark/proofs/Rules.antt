@@ -12,6 +12,7 @@ use Rattle.atomic_table.proofs.Lists.{at_set, set_here, set_else, at_longer, at_
 use Rattle.nmgc_pmark.specs.declared.bounds.Bounds.{Bounds}
 use Rattle.nmgc_pmark.specs.View.{Part, Seen, claiming, first_changed, tried, claimed_in, claimed_by, blank, blanks, whole, nobody, but_first, first_alone, keeps_rest, gives_first, together}
 use Rattle.nmgc_pmark.specs.Rule.{IsListed, Agrees, Keeps, IsMarker, CanSplit, HasAll, IsShared}
+use Rattle.nmgc_lists.specs.laws.Items.{nothing_in as nothing, word_again}
 
 module _ {A : Type 0} where
   pub only_one : (R : A → Type 0) (x : A) → R x → (k : ℕ) (y : A) → get_elem? (x ∷ []) k ≡ some y → R y
@@ -47,14 +48,6 @@ is_new a b x y e = ap (λ t. cond t x y) (eq-eqb a b e)
 
 is_old : (a b x y : ℕ) → a ≢ b → cond (eqb a b) x y ≡ y
 is_old a b x y n = ap (λ t. cond t x y) (ne_eqb a b n)
-
-nothing : {A : Type 0} (b : A) → Contains [] b → ⊥
-nothing b c = absurd (omega (arith, c.1))
-
-word_again : (ws : List ℕ) (i : ℕ) → set ws i (slice_index ws i) ≡ ws
-word_again [] i = refl
-word_again (w ∷ ws) zero = refl
-word_again (w ∷ ws) (suc i) = ap (λ (xs : List ℕ). w ∷ xs) (word_again ws i)
 
 module _ (bounds : Bounds) where
   abbrev pub holds : State (Unit {0}) Seen → Type 0

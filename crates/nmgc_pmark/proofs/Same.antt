@@ -1,20 +1,21 @@
 -- What several markers list from a snapshot's registers and queues is what the one marker marked.
 use Rattle.std.proofs.Common.{◌≡◌, ◌≢◌, ◌↔◌, ℕ, List, [], sym, ap, subst}
 use Rattle.std.specs.Prelude.{Contains}
-use Rattle.nmgc_graph.specs.declared.value.Name.{Name}
-use Rattle.nmgc_graph.specs.World.{World}
-use Rattle.nmgc_graph.specs.Step.{shared_name}
-use Rattle.nmgc_graph.specs.Reach.{IsReached, IsRoot}
-use Rattle.nmgc_core.specs.Facts.{Facts}
-use Rattle.nmgc_core.specs.State.{State, names_of}
-use Rattle.nmgc_alloc.specs.Segments.{Segments}
+use Rattle.nmgc_world_spec.specs.declared.value.Name.{Name}
+use Rattle.nmgc_world_spec.specs.World.{World}
+use Rattle.nmgc_world_spec.specs.Step.{shared_name}
+use Rattle.nmgc_world_spec.specs.Reach.{IsReached, IsRoot}
+use Rattle.nmgc_snapshot_laws.specs.Facts.{Facts}
+use Rattle.nmgc_snapshot_laws.specs.State.{State, names_of}
+use Rattle.nmgc_alloc.specs.Numbered.{Segments}
 use Rattle.nmgc_alloc.specs.Blocks.{IsSnapshotAt, IsMarkedAt}
-use Rattle.nmgc_heap.specs.Places.{Place}
+use Rattle.nmgc_heap_spec.specs.Places.{Place}
 use Rattle.nmgc_round.specs.Events.{replay}
 use Rattle.nmgc_round.specs.Rule.{now}
 use Rattle.nmgc_round.specs.View.{Opening}
-use Rattle.nmgc_run.specs.Seen.{MarkerSeen}
-use Rattle.nmgc_pmark.specs.Claims.{IsStart, AreClaims, roots_of}
+use Rattle.nmgc_mark.specs.Seen.{MarkerSeen}
+use Rattle.nmgc_pmark.specs.Strong.{IsStart, roots_of}
+use Rattle.nmgc_pmark.specs.Claims.{AreClaims}
 use Rattle.nmgc_pmark.specs.OneMarker.{IsClaimed, IsMarkedAlone}
 use Rattle.nmgc_pmark.proofs.Scans.{IsScanned, scanned_from, start_root, root_start}
 

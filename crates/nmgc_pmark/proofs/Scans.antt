@@ -1,34 +1,33 @@
 -- Scans alone mark what the roots reach along strong fields, and nothing else.
 use Rattle.std.proofs.Common.{◌≡◌, ℕ, List, [], ◌∷◌, ◌++◌, zero, suc, length, refl, sym, ap, subst, ◌∙◌, arith, Option, Some, None, inl, inr, ◌⊎◌, true, false}
-use Rattle.std.specs.Prelude.{Contains, flat_map, replicate}
+use Rattle.std.specs.Prelude.{Contains, flat_map}
 use Rattle.std.proofs.lemmas.List.{get_or_past}
 use Rattle.std.proofs.lemmas.List.Elements.{Contains-append_left, Contains-append_right, Contains-append_cases, Contains-get_or, Contains-push_cases}
 use Rattle.std.proofs.lemmas.Bool.{cases_lt}
 use Rattle.std.proofs.lemmas.Option.{get_or_from_slice_get}
-use Rattle.nmgc_graph.specs.declared.mutator_state.MutatorState.{MutatorState}
-use Rattle.nmgc_graph.specs.declared.node.Node.{Node}
-use Rattle.nmgc_graph.specs.declared.value.Name.{Name}
-use Rattle.nmgc_graph.specs.declared.value.Value.{Value}
-use Rattle.nmgc_graph.specs.declared.value.Value.TheVariants as value
-use Rattle.nmgc_graph.specs.World.{World, IsWorld, state_of, node_of, no_mutator}
-use Rattle.nmgc_graph.specs.Step.{shared_name}
-use Rattle.nmgc_graph.specs.Reach.{IsReached, IsRoot, strong_fields}
-use Rattle.nmgc_graph.specs.laws.Orders.{contains_head, contains_tail}
-use Rattle.nmgc_reach.specs.Holds.{has_result}
-use Rattle.nmgc_reach.specs.laws.ItemLaws.{nothing_in, one_is, contains_flat, flat_contains, place_of}
-use Rattle.nmgc_core.specs.declared.event.Entry.{Entry}
-use Rattle.nmgc_core.specs.State.{State, names_of, mark_name, mark_read, mark_values, root_values, unmarked, opening}
-use Rattle.nmgc_core.specs.Machine.{advanced, after_scan}
-use Rattle.nmgc_core.specs.Scan.{field_at, read_at}
-use Rattle.nmgc_core.specs.Facts.{Facts}
-use Rattle.nmgc_core.specs.laws.Lives.{refers}
-use Rattle.nmgc_core.specs.laws.Marking.{mark_cases}
-use Rattle.nmgc_core.specs.laws.Openings.{opening_facts}
-use Rattle.nmgc_core.specs.laws.ScanReads.{read_cases}
-use Rattle.nmgc_core.specs.laws.Scans.{scan_facts}
+use Rattle.nmgc_world_spec.specs.declared.mutator_state.MutatorState.{MutatorState}
+use Rattle.nmgc_world_spec.specs.declared.node.Node.{Node}
+use Rattle.nmgc_world_spec.specs.declared.value.Name.{Name}
+use Rattle.nmgc_world_spec.specs.declared.value.Value.{Value}
+use Rattle.nmgc_world_spec.specs.declared.value.Value.TheVariants as value
+use Rattle.nmgc_world_spec.specs.World.{World, IsWorld, state_of, node_of, no_mutator}
+use Rattle.nmgc_world_spec.specs.Step.{shared_name}
+use Rattle.nmgc_world_spec.specs.Reach.{IsReached, IsRoot, strong_fields}
+use Rattle.nmgc_lists.specs.laws.Items.{contains_head, contains_tail, nothing_in, one_is, contains_flat, flat_contains, place_of}
+use Rattle.nmgc_world_laws.specs.Holds.{has_result}
+use Rattle.nmgc_snapshot_laws.specs.declared.event.Entry.{Entry}
+use Rattle.nmgc_snapshot_laws.specs.State.{State, names_of, mark_name, mark_read, mark_values, root_values, unmarked, opening}
+use Rattle.nmgc_snapshot_laws.specs.Machine.{advanced, after_scan}
+use Rattle.nmgc_snapshot_laws.specs.Scan.{field_at, read_at}
+use Rattle.nmgc_snapshot_laws.specs.Facts.{Facts}
+use Rattle.nmgc_snapshot_laws.specs.laws.Lives.{refers}
+use Rattle.nmgc_snapshot_laws.specs.laws.Marking.{mark_cases}
+use Rattle.nmgc_snapshot_laws.specs.laws.Openings.{opening_facts, no_names as none_of}
+use Rattle.nmgc_snapshot_laws.specs.laws.ScanReads.{read_cases}
+use Rattle.nmgc_snapshot_laws.specs.laws.Scans.{scan_facts}
 use Rattle.nmgc_round.specs.Events.{Happening, did, scanned, replay}
 use Rattle.nmgc_mark.specs.Stopped.{AreScans}
-use Rattle.nmgc_pmark.specs.Claims.{IsStart, roots_of}
+use Rattle.nmgc_pmark.specs.Strong.{IsStart, roots_of}
 
 -- but for marks and queue the states are the same
 record IsAsBefore (s t : State) : Type 0 where
@@ -111,12 +110,6 @@ values_marked s (value.Ref name ∷ values) other c = elim (values_marked (mark_
   ]
   | inr d ↦ inr (contains_tail (value.Ref name) values (value.Ref other) d)
 ]
-
--- nobody owes or pushed anything
-none_of : (n m : ℕ) → names_of (replicate n []) m ≡ []
-none_of zero m = refl
-none_of (suc n) zero = refl
-none_of (suc n) (suc m) = none_of n m
 
 module _ (w : World) (h : IsWorld w) where
   abbrev Reached : Name → Type 0

@@ -1,79 +1,33 @@
 -- What a stop of a run leaves is a stopped heap, whose roots are what the mutators hold.
-use Rattle.std.proofs.Common.{◌≡◌, ◌+◌, ◌*◌, ◌<◌, ℕ, List, [], ◌∷◌, ◌++◌, zero, suc, length, take, drop, get_or, refl, sym, ap, subst, ◌∙◌, arith, inl, inr, Some, length-take-le, length-drop, get_or-drop}
+use Rattle.std.proofs.Common.{◌≡◌, ◌<◌, ℕ, List, [], ◌∷◌, suc, length, get_or, refl, sym, ap, subst, arith, inl, inr, Some}
 use Rattle.std.specs.Prelude.{Contains, slice_get}
 use Rattle.std.specs.List.{flat_map}
-use Rattle.std.proofs.lemmas.List.{get_or-take, take-append-drop}
-use Rattle.nmgc_graph.specs.declared.mutator_state.MutatorState.{MutatorState}
-use Rattle.nmgc_graph.specs.declared.value.Name.{Name}
-use Rattle.nmgc_graph.specs.declared.value.Value.{Value}
-use Rattle.nmgc_graph.specs.declared.value.Value.TheVariants as value
-use Rattle.nmgc_limits.specs.declared.mutators.TheConstants.{REGISTERS}
-use Rattle.nmgc_graph.specs.World.{IsWorld, no_mutator}
-use Rattle.nmgc_graph.specs.Reach.{IsReached}
-use Rattle.nmgc_graph.specs.laws.Orders.{contains_head}
+use Rattle.nmgc_world_spec.specs.declared.mutator_state.MutatorState.{MutatorState}
+use Rattle.nmgc_world_spec.specs.declared.value.Name.{Name}
+use Rattle.nmgc_world_spec.specs.declared.value.Value.TheVariants as value
+use Rattle.nmgc_world_spec.specs.World.{IsWorld, no_mutator}
+use Rattle.nmgc_world_spec.specs.Reach.{IsReached}
+use Rattle.nmgc_lists.specs.laws.Items.{contains_head}
 use Rattle.nmgc_object.specs.Size.{block_size}
 use Rattle.nmgc_object.specs.Places.{nursery_place}
 use Rattle.nmgc_object.specs.declared.layout.Layout.{Layout}
 use Rattle.nmgc_alloc.specs.AllocState.{cells}
-use Rattle.nmgc_alloc.specs.Segments.{Segments, IsSegments}
-use Rattle.nmgc_heap.specs.Places.{Place, Means, ListMeans, AllMean}
-use Rattle.nmgc_heap.specs.Represents.{Represents, NoNode}
-use Rattle.nmgc_heap.specs.Tracked.{IsTracked}
-use Rattle.nmgc_blocks.specs.Occupied.{AreBlocks, IsOccupied}
-use Rattle.nmgc_blocks.specs.laws.Blocks.{is_block}
+use Rattle.nmgc_alloc.specs.Numbered.{Segments}
+use Rattle.nmgc_alloc.specs.Segments.{IsSegments}
+use Rattle.nmgc_heap_spec.specs.Places.{Place, ListMeans}
+use Rattle.nmgc_heap_spec.specs.Represents.{Represents, NoNode}
+use Rattle.nmgc_heap_spec.specs.Tracked.{IsTracked}
+use Rattle.nmgc_blocks_spec.specs.Occupied.{AreBlocks, IsOccupied}
+use Rattle.nmgc_blocks_spec.specs.laws.Blocks.{is_block}
 use Rattle.nmgc_journal.specs.declared.report.MutatorEnd.{MutatorEnd}
-use Rattle.nmgc_run.specs.Heap.{HoldsAtStop, snapshots, registers_of, queues_of}
-use Rattle.nmgc_run.specs.State.{State}
-use Rattle.nmgc_run.specs.laws.Places.{block_used, blocks_at_stop}
-use Rattle.nmgc_pmark.specs.Claims.{Stopped, roots_of}
+use Rattle.nmgc_run_spec.specs.Heap.{HoldsAtStop, snapshots, registers_of, queues_of}
+use Rattle.nmgc_run_spec.specs.State.{State}
+use Rattle.nmgc_run_laws.specs.laws.Places.{block_used, blocks_at_stop}
+use Rattle.nmgc_pmark.specs.Claims.{Stopped}
+use Rattle.nmgc_pmark.specs.Strong.{roots_of}
 use Rattle.nmgc_pmark.specs.Stops.{root_words, IsStoppedAs, StopsAreStopped}
 use Rattle.nmgc_pmark.proofs.Scans.{start_root}
-
-got_below : {A : Type 0} (xs : List A) (i : ℕ) (x : A) → slice_get xs i ≡ Some x → i < length xs
-got_below [] i x e = absurd cc
-got_below (y ∷ xs) zero x e = omega arith
-got_below (y ∷ xs) (suc i) x e = let r = got_below xs i x e in omega (arith, r)
-
-list_means : (P : Place → Type 0) (ws : List ℕ) (values : List Value) → length ws ≡ length values →
-    ((i : ℕ) (v : Value) → slice_get values i ≡ Some v → Means P (get_or ws i 0) v) → ListMeans P ws values
-list_means P [] [] e h = tt
-list_means P [] (v ∷ vs) e h = absurd (omega (arith, e))
-list_means P (w ∷ ws) [] e h = absurd (omega (arith, e))
-list_means P (w ∷ ws) (v ∷ vs) e h = (h 0 v refl, list_means P ws vs (omega (arith, e)) (λ i u g. h (suc i) u g))
-
-means_append : (P : Place → Type 0) (ws us : List ℕ) (xs ys : List Value) → ListMeans P ws xs → ListMeans P us ys → ListMeans P (ws ++ us) (xs ++ ys)
-means_append P [] us [] ys a b = b
-means_append P [] us (x ∷ xs) ys a b = absurd a
-means_append P (w ∷ ws) us [] ys a b = absurd a
-means_append P (w ∷ ws) us (x ∷ xs) ys a b = (a.0, means_append P ws us xs ys a.1 b)
-
--- the registers of all mutators are one list of words
-flat_registers : (P : Place → Type 0) (xs : List MutatorState) (ws : List ℕ) → length ws ≡ REGISTERS * length xs →
-    ((m : ℕ) → m < length xs → (length (get_or xs m no_mutator).registers ≡ REGISTERS) ×
-    AllMean P ws (REGISTERS * m) (get_or xs m no_mutator).registers) → ListMeans P ws (flat_map (λ (state : MutatorState). state.registers) xs)
-flat_registers P [] [] size h = tt
-flat_registers P [] (w ∷ ws) size h = absurd (omega (arith, size))
-flat_registers P (x ∷ xs) ws size h =
-    let first = h 0 (omega arith) in
-    let n : length (take REGISTERS ws) ≡ REGISTERS = length-take-le REGISTERS ws (omega (arith, size)) in
-    let d : length (drop REGISTERS ws) ≡ REGISTERS * length xs = let l = length-drop REGISTERS ws in omega (arith, l, size) in
-    let a : ListMeans P (take REGISTERS ws) x.registers = list_means P (take REGISTERS ws) x.registers (n ∙ sym first.0)
-    (λ i v e.
-    let lt : i < REGISTERS = let l = got_below x.registers i v e in let f = first.0 in omega (arith, l, f) in
-    let at : REGISTERS * 0 + i ≡ i = omega arith in
-    let same : get_or ws (REGISTERS * 0 + i) 0 ≡ get_or (take REGISTERS ws) i 0 = ap (λ (j : ℕ). get_or ws j 0) at ∙ sym (get_or-take REGISTERS ws i 0 lt) in
-    subst (λ (y : ℕ). Means P y v) same (first.1 i v e)) in
-    let b = flat_registers P xs (drop REGISTERS ws) d
-    (λ m lt.
-    let r = h (suc m) (omega (arith, lt)) in (
-      r.0,
-      λ i v e.
-          let at : REGISTERS * suc m + i ≡ REGISTERS + (REGISTERS * m + i) = omega arith in
-          subst (λ (y : ℕ). Means P y v) (ap (λ (j : ℕ). get_or ws j 0) at ∙ sym (get_or-drop REGISTERS ws (REGISTERS * m + i) 0)) (r.1 i v e),
-    )) in
-    subst (λ (l : List ℕ). ListMeans P l (flat_map (λ (state : MutatorState). state.registers) (x ∷
-    xs))) (take-append-drop REGISTERS ws) (means_append P (take REGISTERS ws) (drop REGISTERS ws) x.registers
-    (flat_map (λ (state : MutatorState). state.registers) xs) a b)
+use Rattle.nmgc_heap_spec.specs.laws.Common.{means_append, flat_registers}
 
 -- and so are their finaliser queues
 flat_queues : (P : Place → Type 0) (ends : List MutatorEnd) (xs : List MutatorState) → length (queues_of ends) ≡ length xs →

@@ -4,13 +4,13 @@ use Rattle.std.specs.Prelude.{Contains, slice_index}
 use Rattle.std.proofs.lemmas.Bool.{cases_eq}
 use Rattle.std.proofs.lemmas.List.{length-map}
 use Rattle.std.proofs.lemmas.List.Elements.{Contains-append_left, Contains-push, Contains-push_cases}
-use Rattle.nmgc_graph.specs.laws.Orders.{contains_head, contains_tail, contains_cases}
+use Rattle.nmgc_lists.specs.laws.Items.{contains_head, contains_tail, contains_cases, nothing_in as nothing}
 use Rattle.nmgc_object.specs.declared.words.Address.{Address}
 use Rattle.nmgc_object.specs.declared.words.Header.{Header}
 use Rattle.nmgc_object.specs.declared.layout.TheConstants.{FIRST_PLACE}
 use Rattle.nmgc_object.specs.declared.size.TheConstants.{HEADER_WORDS}
 use Rattle.nmgc_object.specs.Words.{header_word, IsHeader}
-use Rattle.nmgc_blocks.specs.Strong.{HasStrong, strong_of}
+use Rattle.nmgc_blocks_spec.specs.Strong.{HasStrong, strong_of}
 use Rattle.nmgc_pmark.specs.declared.table.ClaimTable.{ClaimTable}
 use Rattle.nmgc_pmark.specs.declared.marker.Marker.{Marker}
 use Rattle.nmgc_pmark.specs.View.{Part, Seen, claiming, first_changed, tried, claimed_in, claimed_by}
@@ -18,9 +18,6 @@ use Rattle.nmgc_pmark.specs.Rule.{IsMarker}
 use Rattle.nmgc_pmark.specs.Seat.{seen, bounds_of, IsAt}
 use Rattle.nmgc_pmark.specs.Found.{block_index, blocks_of, IsStrongRange, IsAmong}
 use Rattle.nmgc_pmark.specs.Marker.{AreDistinct, part_of, IsSound, IsTaken, HasTried, IsOwnStart}
-
-nothing : {A : Type 0} (x : A) → Contains [] x → ⊥
-nothing x c = absurd (omega (arith, c.1))
 
 -- numbers without doubles
 

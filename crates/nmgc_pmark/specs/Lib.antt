@@ -7,4 +7,5 @@ pub mod OneMarker
 pub mod Rule
 pub mod Seat
 pub mod Stops
+pub mod Strong
 pub mod View

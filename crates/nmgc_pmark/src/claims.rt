@@ -18,15 +18,17 @@ use crate::crew::places_marked;
 use crate::order::sort;
 use crate::still::StillWords;
 use nmgc_alloc::Segments;
-use nmgc_graph::{List, Name, NoMemory, Room, SHARED_SLOTS};
+use nmgc_limits::SHARED_SLOTS;
+use nmgc_lists::{List, NoMemory, Room};
 use nmgc_object::laws::words_differ;
 use nmgc_object::{
     Address, HEADER_WORDS, Layout, MIN_BLOCK_WORDS, NAME_OFFSET, SHARED_PLACE, name_of,
 };
 use nmgc_round::Gate;
+use nmgc_world_spec::Name;
 use std::alloc::Global;
-use std::thread;
 use std::thread::Threads;
+use std::thread;
 
 /// For each marker, the names of the objects that it claimed, in order.
 #[derive(Drop)]

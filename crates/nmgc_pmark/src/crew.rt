@@ -15,12 +15,12 @@ use crate::bounds::Bounds;
 use crate::marker::Marker;
 use crate::still::StillWords;
 use crate::table::{ClaimSeat, ClaimTable};
-use nmgc_graph::{NoMemory, Room};
+use nmgc_lists::{NoMemory, Room};
 use nmgc_object::Address;
 use nmgc_round::Gate;
 use std::alloc::Global;
-use std::thread;
 use std::thread::Threads;
+use std::thread;
 
 /// There may be so many markers.
 pub const MOST_MARKERS: u8 = 8;

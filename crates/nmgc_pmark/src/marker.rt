@@ -13,17 +13,18 @@
 //! scans, and others help it only by claiming first.
 ghost use Rattle.std.specs.Prelude.{ℕ, ◌≡◌, ◌+◌, ◌*◌, ◌<◌, ◌≤◌, [], length, slice_index, IfSome, IfNone};
 ghost use Rattle.nmgc_object.specs.declared.layout.TheConstants.{FIRST_PLACE};
-ghost use Rattle.nmgc_blocks.specs.Strong.{HasStrong};
+ghost use Rattle.nmgc_blocks_spec.specs.Strong.{HasStrong};
 ghost use Rattle.nmgc_pmark.specs.Seat.{bounds_of};
 ghost use Rattle.nmgc_pmark.specs.Found.{IsFound, block_index, HasHeader, IsStrongRange, IsAmong, LeadsWithin, CanMark};
 ghost use Rattle.nmgc_pmark.specs.Marker.{IsSound, HasTried, IsOwnStart, TakesLast, CanBegin, HasMarked};
 
 use crate::still::StillWords;
 use crate::table::{ClaimSeat, ClaimTable};
-use nmgc_graph::{Kind, Room};
+use nmgc_lists::Room;
 use nmgc_object::laws::words_differ;
 use nmgc_object::{Address, FIRST_PLACE, FieldWord, HEADER_WORDS, MIN_BLOCK_WORDS, header_of};
 use nmgc_round::Gate;
+use nmgc_world_spec::Kind;
 
 /// A marker: its number, its seat at the claim table, the objects that it claimed, in the order in which it did, and those
 /// of them that it has still to scan.

@@ -1,15 +1,17 @@
 //! What all markers listed, as one list in order.
 ghost use Rattle.std.specs.Prelude.{ℕ, List, ◌≡◌, flat_map, IfOk};
-ghost use Rattle.nmgc_graph.specs.declared.value.Name.{Name as NameOf};
-ghost use Rattle.nmgc_graph.specs.declared.value.Value.{Value};
-ghost use Rattle.nmgc_graph.specs.Reach.{Lists};
-ghost use Rattle.nmgc_graph.specs.World.{World};
-ghost use Rattle.nmgc_pmark.specs.Claims.{AreClaims, IsStrong};
+ghost use Rattle.nmgc_world_spec.specs.declared.value.Name.{Name as NameOf};
+ghost use Rattle.nmgc_world_spec.specs.declared.value.Value.{Value};
+ghost use Rattle.nmgc_world_spec.specs.Reach.{Lists};
+ghost use Rattle.nmgc_world_spec.specs.World.{World};
+ghost use Rattle.nmgc_pmark.specs.Claims.{AreClaims};
+ghost use Rattle.nmgc_pmark.specs.Strong.{IsStrong};
 ghost use Rattle.nmgc_pmark.specs.Names.{ArePutInOrder};
 
 use crate::claims::Claims;
 use crate::order::sort;
-use nmgc_graph::{List, Name, NoMemory};
+use nmgc_lists::{List, NoMemory};
+use nmgc_world_spec::Name;
 use std::alloc::Global;
 
 /// The names that all markers listed, in order, each once. So of claims of a stopped heap they are exactly what strong

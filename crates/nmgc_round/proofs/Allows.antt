@@ -1,14 +1,14 @@
 -- The steps of a round with one opening, at a seat that holds no slot.
-use Rattle.std.proofs.Common.{◌≡◌, ℕ, zero, suc, ◌+◌, inr, Bool, true, false, eqb, List, [], ◌∷◌, set, refl, sym, ap, subst}
+use Rattle.std.proofs.Common.{◌≡◌, ℕ, ◌+◌, inr, Bool, true, false, eqb, List, [], set, refl, sym, ap, subst}
 use Rattle.std.proofs.lemmas.Bool.{eqb-true}
 use Rattle.std.specs.Prelude.{slice_index}
 use mathlib.Core.Option.{some}
 use lib.ListN.{get_elem?}
 use Rattle.atomic_table.specs.Table.{State, Me, Allows, keeps}
-use Rattle.nmgc_graph.specs.declared.command.Command.{Command}
+use Rattle.nmgc_world_spec.specs.declared.command.Command.{Command}
 use Rattle.nmgc_object.specs.declared.size.TheConstants.{HEADER_WORDS}
 use Rattle.nmgc_round.specs.View.{word, Opening, Part, Seen, loaded, answered, swapped, met, met_at_birth, stored, gave_birth}
-use Rattle.nmgc_core.specs.declared.event.Entry.{Entry}
+use Rattle.nmgc_snapshot_laws.specs.declared.event.Entry.{Entry}
 use Rattle.nmgc_round.specs.Marking.{marks_after}
 use Rattle.nmgc_round.specs.Rule.{Keeps}
 use Rattle.nmgc_round.specs.Added.{Stays, AddsCommand, AddsIfMet}
@@ -18,11 +18,7 @@ use Rattle.nmgc_round.proofs.Fixes.{fix_keeps, fix_room, take_keeps, take_safe, 
 use Rattle.nmgc_round.proofs.Scans.{scan_keeps, scan_tells}
 use Rattle.nmgc_round.proofs.Moves.{load_keeps, swap_keeps, store_keeps, birth_keeps}
 use Rattle.nmgc_round.proofs.Keeping.{acts, same_law}
-
-pub set_again : (ws : List ℕ) (i : ℕ) → set ws i (slice_index ws i) ≡ ws
-set_again [] i = refl
-set_again (w ∷ ws) zero = refl
-set_again (w ∷ ws) (suc i) = ap (λ (xs : List ℕ). w ∷ xs) (set_again ws i)
+use Rattle.nmgc_lists.specs.laws.Items.{word_again as set_again}
 
 -- a word that is stored again changes nothing
 pub stored_again : (ws : List ℕ) (i w : ℕ) → eqb (slice_index ws i) w ≡ true → set ws i w ≡ ws

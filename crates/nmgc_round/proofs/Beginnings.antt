@@ -4,25 +4,24 @@ use Rattle.std.specs.Prelude.{Contains}
 use Rattle.std.proofs.lemmas.List.{length-replicate}
 use Rattle.std.proofs.lemmas.List.Elements.{All-get_or, All-replicate}
 use Rattle.nmgc_limits.specs.declared.mutators.TheConstants.{REGISTERS, SHARED_SLOTS}
-use Rattle.nmgc_graph.specs.declared.value.Name.{Name}
-use Rattle.nmgc_graph.specs.declared.value.Value.{Value}
-use Rattle.nmgc_graph.specs.declared.value.Value.TheVariants as value
-use Rattle.nmgc_graph.specs.declared.node.Node.{Node}
-use Rattle.nmgc_graph.specs.declared.mutator_state.MutatorState.{MutatorState}
-use Rattle.nmgc_graph.specs.World.{World, node_of, state_of, new_world, new_mutator, no_mutator}
-use Rattle.nmgc_graph.specs.Step.{shared_name}
-use Rattle.nmgc_graph.specs.laws.Worlds.{at_some}
+use Rattle.nmgc_world_spec.specs.declared.value.Name.{Name}
+use Rattle.nmgc_world_spec.specs.declared.value.Value.{Value}
+use Rattle.nmgc_world_spec.specs.declared.value.Value.TheVariants as value
+use Rattle.nmgc_world_spec.specs.declared.node.Node.{Node}
+use Rattle.nmgc_world_spec.specs.declared.mutator_state.MutatorState.{MutatorState}
+use Rattle.nmgc_world_spec.specs.World.{World, node_of, state_of, new_world, new_mutator, no_mutator}
+use Rattle.nmgc_world_spec.specs.Step.{shared_name}
+use Rattle.nmgc_lists.specs.laws.Items.{at_some, nothing_in, contains_one, one_is}
 use Rattle.nmgc_object.specs.Places.{IsLayout}
 use Rattle.nmgc_object.specs.declared.layout.Layout.{Layout}
 use Rattle.nmgc_object.specs.declared.layout.TheConstants.{SHARED_PLACE}
 use Rattle.nmgc_object.specs.declared.size.TheConstants.{HEADER_WORDS}
 use Rattle.nmgc_object.specs.declared.words.TheConstants.{NIL_WORD}
-use Rattle.nmgc_reach.specs.laws.ItemLaws.{nothing_in, contains_one, one_is}
-use Rattle.nmgc_graph.specs.laws.NewWorlds.{new_nodes, new_is_world}
-use Rattle.nmgc_heap.specs.Shape.{slots_of}
-use Rattle.nmgc_heap.specs.Places.{Place, Means, HasSlots, AllMean, ListMeans, shared_place}
-use Rattle.nmgc_heap.specs.Represents.{IsNamed, IsObject, IsPlaced, Represents, NoNode}
-use Rattle.nmgc_heap.specs.laws.Kinds.{all_item, values_fill}
+use Rattle.nmgc_world_laws.specs.laws.NewWorlds.{new_nodes, new_is_world}
+use Rattle.nmgc_heap_spec.specs.Shape.{slots_of}
+use Rattle.nmgc_heap_spec.specs.Places.{Place, Means, HasSlots, AllMean, ListMeans, shared_place}
+use Rattle.nmgc_heap_spec.specs.Represents.{IsNamed, IsObject, IsPlaced, Represents, NoNode}
+use Rattle.nmgc_heap_spec.specs.laws.Kinds.{all_item, values_fill}
 use Rattle.nmgc_round.specs.View.{Slots, Hand, Opening, no_hand, hand_of}
 use Rattle.nmgc_round.specs.Own.{old_stacks}
 use Rattle.nmgc_round.specs.Rule.{IsOpening}

@@ -3,26 +3,20 @@ use Rattle.std.proofs.Common.{◌≡◌, ◌≢◌, ◌⊎◌, inl, inr, ℕ, �
 use Rattle.std.specs.Prelude.{IsSome}
 use Rattle.std.proofs.lemmas.Bool.{cases_lt}
 use Rattle.std.proofs.lemmas.List.Elements.{Contains-append_left, Contains-push_cases}
-use Rattle.nmgc_graph.specs.declared.value.Name.{Name}
-use Rattle.nmgc_graph.specs.declared.node.Node.{Node}
-use Rattle.nmgc_graph.specs.World.{World, node_of, IsSized}
+use Rattle.nmgc_world_spec.specs.declared.value.Name.{Name}
+use Rattle.nmgc_world_spec.specs.declared.node.Node.{Node}
+use Rattle.nmgc_world_spec.specs.World.{World, node_of, IsSized}
 use Rattle.nmgc_object.specs.Words.{header_word, name_word, IsHeader, IsName}
-use Rattle.nmgc_object.specs.declared.layout.Layout.{Layout}
 use Rattle.nmgc_object.specs.declared.words.Header.{Header}
 use Rattle.nmgc_object.specs.declared.size.TheConstants.{HEADER_WORDS}
-use Rattle.nmgc_heap.specs.Shape.{header_of, size_of, slots_of, fixed_slots}
-use Rattle.nmgc_heap.specs.Places.{Place, HasSlots, LiesWell, IsBetween}
-use Rattle.nmgc_heap.specs.Represents.{IsNamed}
+use Rattle.nmgc_heap_spec.specs.Shape.{header_of, size_of, slots_of, fixed_slots}
+use Rattle.nmgc_heap_spec.specs.Places.{Place, HasSlots, LiesWell, IsBetween}
+use Rattle.nmgc_heap_spec.specs.Represents.{IsNamed}
 use Rattle.nmgc_round.specs.View.{Opening}
 use Rattle.nmgc_round.specs.Objects.{KeepsOf, Object, place_of, end_of, IsObject, IsIn, IsPlace, IsLater, IsApart, IsStanding, RepresentsInRound, IsFree}
 use Rattle.nmgc_round.proofs.Fields.{fields_same, kept_same, fixed_of_slots}
 use Rattle.nmgc_round.proofs.Standing.{placed, same_node}
-
--- fewer words lie well too
-pub lies_less : (layout : Layout) (p : Place) (size n : ℕ) → n ≤ size → LiesWell layout p size → LiesWell layout p n
-lies_less layout p size n le (inl g) = inl (g.0, g.1, (let h = g.2 in omega arith))
-lies_less layout p size n le (inr (own, inl s)) = inr (own, inl (s.0, λ i l u. s.1 i l (omega arith)))
-lies_less layout p size n le (inr (own, inr s)) = inr (own, inr (let h = s.0 in omega arith, λ i l u. s.1 i l (omega arith)))
+use Rattle.nmgc_heap_spec.specs.laws.Births.{lies_less}
 
 -- one object more
 module _ (o : Opening) (born : List Object) (x : Object) where

@@ -2,24 +2,24 @@
 use Rattle.std.proofs.Common.{get_or, length-set, ◌≡◌, ℕ, zero, suc, ◌+◌, ◌<◌, List, [], ◌∷◌, length, set, refl, sym, ap, subst, ◌∙◌, arith, slice_index, Some, cond, get_or-set_same, lt-ltb}
 use Rattle.std.specs.Prelude.{slice_get, option_to_list}
 use Rattle.std.proofs.lemmas.Option.{slice_get-get_or}
-use Rattle.nmgc_graph.specs.declared.value.Name.{Name}
-use Rattle.nmgc_graph.specs.declared.value.Value.{Value}
-use Rattle.nmgc_graph.specs.declared.value.Value.TheVariants as value
-use Rattle.nmgc_graph.specs.declared.node.Node.{Node}
-use Rattle.nmgc_graph.specs.declared.node.Node.TheVariants.{Con, Var, Arr, Thunk, Weak, Stack}
-use Rattle.nmgc_graph.specs.declared.change.Change.{Change}
-use Rattle.nmgc_graph.specs.declared.change.Change.TheVariants as change
-use Rattle.nmgc_graph.specs.declared.command.Operand.{Operand}
-use Rattle.nmgc_graph.specs.declared.command.Command.TheVariants.{Get, Set}
-use Rattle.nmgc_graph.specs.declared.command.Reply.{Reply}
-use Rattle.nmgc_graph.specs.declared.command.Reply.TheVariants.{Fine, Given, NoField}
-use Rattle.nmgc_graph.specs.World.{World, node_of, IsSized}
-use Rattle.nmgc_graph.specs.Change.{given_or, field_set, field_read}
-use Rattle.nmgc_graph.specs.Step.{value_for, with_node, with_register, change_object, change_node, object_of, read_object, read_into, step}
-use Rattle.nmgc_reach.specs.Owed.{field_held, owed_of, owed_at, names_among, owed_by}
-use Rattle.nmgc_heap.specs.Shape.{header_of, holds, slots_of}
-use Rattle.nmgc_heap.specs.Places.{Place, Means, HasSlots}
-use Rattle.nmgc_heap.specs.laws.Kinds.{values_fill, slots_mean, slots_of_fields}
+use Rattle.nmgc_world_spec.specs.declared.value.Name.{Name}
+use Rattle.nmgc_world_spec.specs.declared.value.Value.{Value}
+use Rattle.nmgc_world_spec.specs.declared.value.Value.TheVariants as value
+use Rattle.nmgc_world_spec.specs.declared.node.Node.{Node}
+use Rattle.nmgc_world_spec.specs.declared.node.Node.TheVariants.{Con, Var, Arr, Thunk, Weak, Stack}
+use Rattle.nmgc_world_spec.specs.declared.change.Change.{Change}
+use Rattle.nmgc_world_spec.specs.declared.change.Change.TheVariants as change
+use Rattle.nmgc_world_spec.specs.declared.command.Operand.{Operand}
+use Rattle.nmgc_world_spec.specs.declared.command.Command.TheVariants.{Get, Set}
+use Rattle.nmgc_world_spec.specs.declared.command.Reply.{Reply}
+use Rattle.nmgc_world_spec.specs.declared.command.Reply.TheVariants.{Fine, Given, NoField}
+use Rattle.nmgc_world_spec.specs.World.{World, node_of, IsSized}
+use Rattle.nmgc_world_spec.specs.Change.{given_or, field_set, field_read}
+use Rattle.nmgc_world_spec.specs.Step.{value_for, with_node, with_register, change_object, change_node, object_of, read_object, read_into, step}
+use Rattle.nmgc_world_spec.specs.Owed.{field_held, owed_of, owed_at, names_among, owed_by}
+use Rattle.nmgc_heap_spec.specs.Shape.{header_of, holds, slots_of}
+use Rattle.nmgc_heap_spec.specs.Places.{Place, Means, HasSlots}
+use Rattle.nmgc_heap_spec.specs.laws.Kinds.{values_fill, slots_mean, slots_of_fields}
 use Rattle.nmgc_round.specs.Objects.{IsLater}
 use Rattle.nmgc_round.specs.Ready.{IsWritable, IsReadable}
 use Rattle.nmgc_round.proofs.Fields.{all_set}

@@ -2,27 +2,27 @@
 use Rattle.std.proofs.Common.{◌≡◌, ℕ, ◌+◌, ◌<◌, Bool, true, false, cond, eqb, eqb-true, List, [], ◌∷◌, ◌++◌, set, refl, sym, ap, subst, ◌∙◌, arith, slice_index, Some}
 use mathlib.Core.Option.{some}
 use lib.ListN.{get_elem?}
-use Rattle.nmgc_graph.specs.declared.value.Name.{Name}
-use Rattle.nmgc_graph.specs.declared.value.Value.{Value}
-use Rattle.nmgc_graph.specs.declared.value.Value.TheVariants as value
-use Rattle.nmgc_graph.specs.declared.node.Node.{Node}
-use Rattle.nmgc_graph.specs.declared.node.Node.TheVariants.{Con, Var, Arr, Thunk, Weak, Stack}
-use Rattle.nmgc_graph.specs.declared.change.Change.{Change}
-use Rattle.nmgc_graph.specs.declared.change.Change.TheVariants as change
-use Rattle.nmgc_graph.specs.declared.command.Operand.{Operand}
-use Rattle.nmgc_graph.specs.declared.command.Command.{Command}
-use Rattle.nmgc_graph.specs.declared.command.Command.TheVariants.{Cas}
-use Rattle.nmgc_graph.specs.declared.command.Reply.{Reply}
-use Rattle.nmgc_graph.specs.declared.command.Reply.TheVariants as reply
-use Rattle.nmgc_graph.specs.World.{World, node_of}
-use Rattle.nmgc_graph.specs.Change.{is_same, exchanged as node_exchanged, exchanged_at, field_set, field_exchanged}
-use Rattle.nmgc_graph.specs.Step.{value_for, with_node, change_object, change_node, step}
+use Rattle.nmgc_world_spec.specs.declared.value.Name.{Name}
+use Rattle.nmgc_world_spec.specs.declared.value.Value.{Value}
+use Rattle.nmgc_world_spec.specs.declared.value.Value.TheVariants as value
+use Rattle.nmgc_world_spec.specs.declared.node.Node.{Node}
+use Rattle.nmgc_world_spec.specs.declared.node.Node.TheVariants.{Con, Var, Arr, Thunk, Weak, Stack}
+use Rattle.nmgc_world_spec.specs.declared.change.Change.{Change}
+use Rattle.nmgc_world_spec.specs.declared.change.Change.TheVariants as change
+use Rattle.nmgc_world_spec.specs.declared.command.Operand.{Operand}
+use Rattle.nmgc_world_spec.specs.declared.command.Command.{Command}
+use Rattle.nmgc_world_spec.specs.declared.command.Command.TheVariants.{Cas}
+use Rattle.nmgc_world_spec.specs.declared.command.Reply.{Reply}
+use Rattle.nmgc_world_spec.specs.declared.command.Reply.TheVariants as reply
+use Rattle.nmgc_world_spec.specs.World.{World, node_of}
+use Rattle.nmgc_world_spec.specs.Change.{is_same, exchanged as node_exchanged, exchanged_at, field_set, field_exchanged}
+use Rattle.nmgc_world_spec.specs.Step.{value_for, with_node, change_object, change_node, step}
 use Rattle.nmgc_object.specs.declared.words.Header.{Header}
 use Rattle.nmgc_object.specs.declared.size.TheConstants.{HEADER_WORDS}
-use Rattle.nmgc_core.specs.State.{State, names_of}
-use Rattle.nmgc_reach.specs.Owed.{field_held, if_same, owed_of, owed_at, names_among, owed_by}
-use Rattle.nmgc_heap.specs.Shape.{header_of, slots_of, MayChange}
-use Rattle.nmgc_heap.specs.Places.{Place, Means, HasSlots}
+use Rattle.nmgc_snapshot_laws.specs.State.{State, names_of}
+use Rattle.nmgc_world_spec.specs.Owed.{field_held, if_same, owed_of, owed_at, names_among, owed_by}
+use Rattle.nmgc_heap_spec.specs.Shape.{header_of, slots_of, MayChange}
+use Rattle.nmgc_heap_spec.specs.Places.{Place, Means, HasSlots}
 use Rattle.nmgc_round.specs.View.{plain, Opening, Part, Seen, hand_now, doing, finding, first_changed, owed_word, answered}
 use Rattle.nmgc_round.specs.Events.{done_by}
 use Rattle.nmgc_round.specs.Objects.{Object, IsObject, IsIn}

@@ -3,16 +3,16 @@ use Rattle.std.proofs.Common.{◌≡◌, ◌≢◌, ℕ, zero, suc, ◌+◌, ◌
 use Rattle.std.specs.Prelude.{slice_get}
 use Rattle.std.proofs.lemmas.Option.{slice_get_within}
 use Rattle.std.proofs.lemmas.Bool.{cases_eq}
-use Rattle.nmgc_graph.specs.laws.Worlds.{slice_get-set_same, slice_get-set_other}
-use Rattle.nmgc_graph.specs.declared.value.Value.{Value}
-use Rattle.nmgc_graph.specs.declared.value.Value.TheVariants as value
-use Rattle.nmgc_graph.specs.declared.node.Node.{Node}
-use Rattle.nmgc_graph.specs.declared.node.Node.TheVariants.{Con, Var, Arr, Thunk, Weak, Stack}
-use Rattle.nmgc_graph.specs.World.{IsSized}
-use Rattle.nmgc_heap.specs.Shape.{Slot, holds, unset, untold, slots_of, fixed_slots, free_slots, header_of, MayChange}
-use Rattle.nmgc_heap.specs.Places.{Place, Means, Fills, HasSlots, AllMean, ListMeans}
-use Rattle.nmgc_heap.specs.laws.Kinds.{map_item, slots_none, slots_of_kept, fields_of_slots}
-use Rattle.nmgc_heap.specs.laws.Slots.{slot_count, free_fixed}
+use Rattle.nmgc_lists.specs.laws.Items.{slice_get-set_same, slice_get-set_other}
+use Rattle.nmgc_world_spec.specs.declared.value.Value.{Value}
+use Rattle.nmgc_world_spec.specs.declared.value.Value.TheVariants as value
+use Rattle.nmgc_world_spec.specs.declared.node.Node.{Node}
+use Rattle.nmgc_world_spec.specs.declared.node.Node.TheVariants.{Con, Var, Arr, Thunk, Weak, Stack}
+use Rattle.nmgc_world_spec.specs.World.{IsSized}
+use Rattle.nmgc_heap_spec.specs.Shape.{Slot, holds, unset, untold, slots_of, fixed_slots, free_slots, header_of, MayChange}
+use Rattle.nmgc_heap_spec.specs.Places.{Place, Means, Fills, HasSlots, AllMean, ListMeans}
+use Rattle.nmgc_heap_spec.specs.laws.Kinds.{map_item, slots_none, slots_of_kept, fields_of_slots}
+use Rattle.nmgc_heap_spec.specs.laws.Slots.{slot_count, free_fixed}
 use Rattle.nmgc_round.specs.View.{Opening}
 use Rattle.nmgc_round.specs.Objects.{Object, IsEarlierNode, KeepsOf}
 

@@ -4,34 +4,33 @@ use Rattle.std.specs.Prelude.{IsSome, Contains}
 use Rattle.std.proofs.lemmas.Bool.{cases_lt}
 use Rattle.std.proofs.lemmas.List.{get_or_past}
 use Rattle.std.proofs.lemmas.List.Elements.{Contains-append_left, Contains-append_right, Contains-append_cases}
-use Rattle.nmgc_reach.specs.laws.ItemLaws.{place_of as item_of, one_is}
-use Rattle.nmgc_graph.specs.laws.Orders.{contains_head, contains_tail, contains_cases}
-use Rattle.nmgc_graph.specs.declared.value.Name.{Name}
-use Rattle.nmgc_graph.specs.declared.value.Value.{Value}
-use Rattle.nmgc_graph.specs.declared.value.Value.TheVariants as value
-use Rattle.nmgc_graph.specs.declared.node.Parts.{Parts}
-use Rattle.nmgc_graph.specs.declared.node.Node.{Node}
-use Rattle.nmgc_graph.specs.declared.node.Node.TheVariants.{Con, Var, Arr, Thunk, Weak, Stack}
-use Rattle.nmgc_graph.specs.declared.mutator_state.MutatorState.{MutatorState}
-use Rattle.nmgc_graph.specs.World.{World, node_of, state_of, no_mutator}
-use Rattle.nmgc_graph.specs.Step.{shared_name}
-use Rattle.nmgc_graph.specs.Reach.{IsAlive, strong_fields, IsReached, start, field}
+use Rattle.nmgc_lists.specs.laws.Items.{place_of as item_of, one_is, contains_head, contains_tail, contains_cases}
+use Rattle.nmgc_world_spec.specs.declared.value.Name.{Name}
+use Rattle.nmgc_world_spec.specs.declared.value.Value.{Value}
+use Rattle.nmgc_world_spec.specs.declared.value.Value.TheVariants as value
+use Rattle.nmgc_world_spec.specs.declared.node.Parts.{Parts}
+use Rattle.nmgc_world_spec.specs.declared.node.Node.{Node}
+use Rattle.nmgc_world_spec.specs.declared.node.Node.TheVariants.{Con, Var, Arr, Thunk, Weak, Stack}
+use Rattle.nmgc_world_spec.specs.declared.mutator_state.MutatorState.{MutatorState}
+use Rattle.nmgc_world_spec.specs.World.{World, node_of, state_of, no_mutator}
+use Rattle.nmgc_world_spec.specs.Step.{shared_name}
+use Rattle.nmgc_world_spec.specs.Reach.{IsAlive, strong_fields, IsReached, start, field}
 use Rattle.nmgc_object.specs.Words.{header_word, IsHeader}
 use Rattle.nmgc_object.specs.declared.words.Header.{Header}
 use Rattle.nmgc_object.specs.declared.layout.TheConstants.{SHARED_PLACE}
 use Rattle.nmgc_object.specs.declared.size.TheConstants.{HEADER_WORDS}
-use Rattle.nmgc_heap.specs.Shape.{size_of, unset, slots_of, fixed_slots, free_slots}
-use Rattle.nmgc_reach.specs.Wide.{IsWide, IsWideRoot, IsOfWeak}
-use Rattle.nmgc_heap.specs.Tracked.{IsWideIn, IsTracked}
-use Rattle.nmgc_heap.specs.Places.{Place, Means, HasSlots, AllMean, ListMeans, LiesWell}
-use Rattle.nmgc_heap.specs.laws.Kinds.{HasFields, fields_of_slots}
-use Rattle.nmgc_heap.specs.Represents.{IsObject as IsObjectAt, Represents}
+use Rattle.nmgc_heap_spec.specs.Shape.{size_of, unset, slots_of, fixed_slots, free_slots}
+use Rattle.nmgc_world_spec.specs.Wide.{IsWide, IsWideRoot, IsOfWeak}
+use Rattle.nmgc_heap_spec.specs.Tracked.{IsWideIn, IsTracked}
+use Rattle.nmgc_heap_spec.specs.Places.{Place, Means, HasSlots, AllMean, ListMeans, LiesWell}
+use Rattle.nmgc_heap_spec.specs.laws.Kinds.{HasFields, fields_of_slots}
+use Rattle.nmgc_heap_spec.specs.Represents.{IsObject as IsObjectAt, Represents}
 use Rattle.nmgc_round.specs.View.{Opening, Seen, hand_now}
 use Rattle.nmgc_round.specs.Objects.{Object, place_of, earlier, IsObject, IsIn, IsPlace}
 use Rattle.nmgc_round.specs.Rule.{now}
 use Rattle.nmgc_round.specs.Finishing.{IsFinished, HasEach, Leaves, places_then, IsKeptThen}
 use Rattle.nmgc_round.proofs.Standing.{placed}
-use Rattle.nmgc_round.proofs.Runs.{same_count}
+use Rattle.nmgc_round.specs.laws.Common.{same_count}
 use Rattle.nmgc_round.proofs.Fields.{fields_same, fixed_same, free_same, free_of_fixed}
 
 -- a place is listed

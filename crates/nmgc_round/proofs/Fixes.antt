@@ -2,18 +2,18 @@
 use Rattle.std.proofs.Common.{◌≡◌, inl, inr, ℕ, zero, suc, ◌+◌, ◌*◌, ◌<◌, List, [], ◌∷◌, set, set-set, refl, sym, ap, subst, ◌∙◌, arith, slice_index}
 use mathlib.Core.Option.{some, some-ne-none}
 use lib.ListN.{get_elem?}
-use Rattle.nmgc_graph.specs.declared.value.Value.{Value}
-use Rattle.nmgc_graph.specs.declared.node.Kind.{Kind}
-use Rattle.nmgc_graph.specs.declared.node.Kind.TheVariants as kind
-use Rattle.nmgc_graph.specs.declared.command.Command.{Command}
-use Rattle.nmgc_graph.specs.World.{state_of}
-use Rattle.nmgc_graph.specs.Step.{shared_name, value_for}
+use Rattle.nmgc_world_spec.specs.declared.value.Value.{Value}
+use Rattle.nmgc_world_spec.specs.declared.node.Kind.{Kind}
+use Rattle.nmgc_world_spec.specs.declared.node.Kind.TheVariants as kind
+use Rattle.nmgc_world_spec.specs.declared.command.Command.{Command}
+use Rattle.nmgc_world_spec.specs.World.{state_of}
+use Rattle.nmgc_world_spec.specs.Step.{shared_name, value_for}
 use Rattle.nmgc_object.specs.Words.{header_word}
 use Rattle.nmgc_object.specs.declared.words.Header.{Header}
 use Rattle.nmgc_object.specs.declared.layout.TheConstants.{SHARED_PLACE}
 use Rattle.nmgc_object.specs.declared.size.TheConstants.{HEADER_WORDS}
-use Rattle.nmgc_heap.specs.Shape.{header_of, size_of, slots_of, MayChange}
-use Rattle.nmgc_heap.specs.Places.{Means, HasSlots}
+use Rattle.nmgc_heap_spec.specs.Shape.{header_of, size_of, slots_of, MayChange}
+use Rattle.nmgc_heap_spec.specs.Places.{Means, HasSlots}
 use Rattle.nmgc_round.specs.View.{Answer, word, Opening, Part, Seen, hand_now, doing, first_changed, loaded, answered}
 use Rattle.nmgc_round.specs.Objects.{Object, place_of, IsObject, IsIn}
 use Rattle.nmgc_round.specs.Rule.{now, IsFixed, Rests, Keeps}
@@ -22,9 +22,9 @@ use Rattle.nmgc_round.specs.Events.{Happening}
 use Rattle.nmgc_round.specs.Ready.{IsMutator, IsReadable, IsWritable, CanLoad, CanSwap, Names}
 use Rattle.nmgc_round.specs.Told.{TellsHeader, TellsName, CanFix, CanTake, taken, told, told_by, Tells, TellsField, TellsQueue, IsSafe}
 use Rattle.nmgc_round.proofs.Standing.{placed}
-use Rattle.nmgc_heap.specs.laws.Headers.{same_header}
+use Rattle.nmgc_heap_spec.specs.laws.Headers.{same_header}
 use Rattle.nmgc_round.proofs.Lists.{pointer_means, word_means}
-use Rattle.nmgc_round.proofs.Nurseries.{lies_within}
+use Rattle.nmgc_heap_spec.specs.laws.Common.{lies_within}
 use Rattle.nmgc_round.proofs.Moves.{operand_is, meant, fixed_keeps, load_keeps}
 use Rattle.nmgc_round.proofs.Commands.{read}
 use Rattle.nmgc_round.proofs.Refusals.{told_keeps}

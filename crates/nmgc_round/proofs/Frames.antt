@@ -3,21 +3,22 @@ use Rattle.std.proofs.Common.{◌≡◌, ◌≢◌, ℕ, ◌<◌, length, refl, 
 use Rattle.std.proofs.lemmas.Bool.{cases_eq}
 use Rattle.std.proofs.lemmas.Bool.Decides.{eqb_tells}
 use Rattle.nmgc_limits.specs.declared.mutators.TheConstants.{SHARED_MAKER}
-use Rattle.nmgc_graph.specs.declared.value.Name.{Name}
-use Rattle.nmgc_graph.specs.declared.value.Value.{Value}
-use Rattle.nmgc_graph.specs.declared.value.Value.TheVariants as value
-use Rattle.nmgc_graph.specs.declared.node.Node.{Node}
-use Rattle.nmgc_graph.specs.declared.mutator_state.MutatorState.{MutatorState}
-use Rattle.nmgc_graph.specs.declared.change.Change.{Change}
-use Rattle.nmgc_graph.specs.declared.change.Change.TheVariants as change
-use Rattle.nmgc_graph.specs.declared.command.Command.{Command}
-use Rattle.nmgc_graph.specs.declared.command.Command.TheVariants.{Num, Nil, Mov, Con, Var, Arr, Thunk, Weak, Stack, Get, Set, Cas, Update, Force, Push, Pop, Deref, Finalise, NextFin, Show, Same, Yield, Collect, Full}
-use Rattle.nmgc_graph.specs.declared.command.Reply.{Reply}
-use Rattle.nmgc_graph.specs.declared.command.Reply.TheVariants as reply
-use Rattle.nmgc_graph.specs.World.{World, state_of, node_of}
-use Rattle.nmgc_graph.specs.Change.{changed}
-use Rattle.nmgc_graph.specs.Step.{value_for, with_state, with_nth, with_node, keeping, change_node, change_object, change_into, step}
-use Rattle.nmgc_reach.specs.laws.NodeLaws.{state_same, state_other, maker_there, as_many}
+use Rattle.nmgc_world_spec.specs.declared.value.Name.{Name}
+use Rattle.nmgc_world_spec.specs.declared.value.Value.{Value}
+use Rattle.nmgc_world_spec.specs.declared.value.Value.TheVariants as value
+use Rattle.nmgc_world_spec.specs.declared.node.Node.{Node}
+use Rattle.nmgc_world_spec.specs.declared.mutator_state.MutatorState.{MutatorState}
+use Rattle.nmgc_world_spec.specs.declared.change.Change.{Change}
+use Rattle.nmgc_world_spec.specs.declared.change.Change.TheVariants as change
+use Rattle.nmgc_world_spec.specs.declared.command.Command.{Command}
+use Rattle.nmgc_world_spec.specs.declared.command.Command.TheVariants.{Num, Nil, Mov, Con, Var, Arr, Thunk, Weak, Stack, Get, Set, Cas, Update, Force, Push, Pop, Deref, Finalise, NextFin, Show, Same, Yield, Collect, Full}
+use Rattle.nmgc_world_spec.specs.declared.command.Reply.{Reply}
+use Rattle.nmgc_world_spec.specs.declared.command.Reply.TheVariants as reply
+use Rattle.nmgc_world_spec.specs.World.{World, state_of, node_of}
+use Rattle.nmgc_world_spec.specs.Change.{changed}
+use Rattle.nmgc_world_spec.specs.Step.{value_for, with_state, with_nth, with_node, keeping, change_node, change_object, change_into, step}
+use Rattle.nmgc_world_laws.specs.laws.NodeLaws.{state_same, state_other, maker_there}
+use Rattle.nmgc_world_laws.specs.laws.WorldSteps.{change_count}
 
 -- registers, queue and next serial are the same
 pub record IsSameState (s t : MutatorState) : Type 0 where
@@ -61,16 +62,6 @@ pub change_frame : (w : World) (v : Value) (c : Change) (k : ℕ) → IsSameStat
 change_frame w value.Nil c k = same_of _ _ refl
 change_frame w (value.Number n) c k = same_of _ _ refl
 change_frame w (value.Ref name) c k = change_node_frame w name (node_of w name) c refl k
-
-change_node_count : (w : World) (name : Name) (o : Option Node) (c : Change) → node_of w name ≡ o →
-    length (change_node w name o c).0.mutators ≡ length w.mutators
-change_node_count w name None c there = refl
-change_node_count w name (Some found) c there = as_many w name found (changed c name.maker found).0 there
-
-change_count : (w : World) (v : Value) (c : Change) → length (change_object w v c).0.mutators ≡ length w.mutators
-change_count w value.Nil c = refl
-change_count w (value.Number n) c = refl
-change_count w (value.Ref name) c = change_node_count w name (node_of w name) c refl
 
 -- the state of another mutator
 module _ (m k : ℕ) (ne : k ≢ m) where

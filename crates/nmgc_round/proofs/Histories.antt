@@ -1,11 +1,11 @@
 -- The commands among the events are a legal history of the never-collected heap.
 use Rattle.std.proofs.Common.{◌≡◌, ℕ, Bool, true, false, cond, eqb, List, [], ◌∷◌, map, refl, ap, ◌∙◌}
-use Rattle.nmgc_graph.specs.declared.command.Command.{Command}
-use Rattle.nmgc_graph.specs.declared.command.Reply.{Reply}
-use Rattle.nmgc_graph.specs.World.{World}
-use Rattle.nmgc_graph.specs.History.{Row, replayed, rows_of, IsLegal as IsLegalHistory}
-use Rattle.nmgc_core.specs.State.{State}
-use Rattle.nmgc_core.specs.Machine.{Does, after_command, after_scan}
+use Rattle.nmgc_world_spec.specs.declared.command.Command.{Command}
+use Rattle.nmgc_world_spec.specs.declared.command.Reply.{Reply}
+use Rattle.nmgc_world_spec.specs.World.{World}
+use Rattle.nmgc_world_spec.specs.History.{Row, replayed, rows_of, IsLegal as IsLegalHistory}
+use Rattle.nmgc_snapshot_laws.specs.State.{State}
+use Rattle.nmgc_snapshot_laws.specs.Machine.{Does, after_command, after_scan}
 use Rattle.nmgc_round.specs.Events.{Happening, did, scanned, event_of, after, replay, IsLegal, done_by, rows_in}
 use Rattle.nmgc_round.proofs.Runs.{rest_scan}
 

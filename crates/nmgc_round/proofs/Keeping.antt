@@ -4,35 +4,36 @@ use Rattle.std.specs.Prelude.{Contains}
 use mathlib.Core.Option.{some, some-injective, some-ne-none}
 use lib.ListN.{get_elem?}
 use Rattle.atomic_table.proofs.Lists.{at_set}
-use Rattle.nmgc_graph.specs.declared.value.Name.{Name}
-use Rattle.nmgc_graph.specs.declared.value.Value.{Value}
-use Rattle.nmgc_graph.specs.declared.node.Node.{Node}
-use Rattle.nmgc_graph.specs.declared.node.Node.TheVariants.{Stack}
-use Rattle.nmgc_graph.specs.declared.command.Command.{Command}
-use Rattle.nmgc_graph.specs.declared.command.Reply.{Reply}
-use Rattle.nmgc_graph.specs.World.{World, node_of}
-use Rattle.nmgc_graph.specs.Step.{step}
-use Rattle.nmgc_graph.specs.laws.Growth.{step_grows}
-use Rattle.nmgc_core.specs.declared.event.Entry.{Entry}
-use Rattle.nmgc_core.specs.State.{State, names_of}
-use Rattle.nmgc_reach.specs.Owed.{owed_by}
-use Rattle.nmgc_core.specs.Machine.{IsPossible, after_command, after_scan}
-use Rattle.nmgc_core.specs.Scan.{read_at}
-use Rattle.nmgc_core.specs.declared.event.Event.TheVariants as event
-use Rattle.nmgc_core.specs.laws.Listed.{names_same, names_other}
-use Rattle.nmgc_heap.specs.Places.{Place, ListMeans}
+use Rattle.nmgc_world_spec.specs.declared.value.Name.{Name}
+use Rattle.nmgc_world_spec.specs.declared.value.Value.{Value}
+use Rattle.nmgc_world_spec.specs.declared.node.Node.{Node}
+use Rattle.nmgc_world_spec.specs.declared.node.Node.TheVariants.{Stack}
+use Rattle.nmgc_world_spec.specs.declared.command.Command.{Command}
+use Rattle.nmgc_world_spec.specs.declared.command.Reply.{Reply}
+use Rattle.nmgc_world_spec.specs.World.{World, node_of}
+use Rattle.nmgc_world_spec.specs.Step.{step}
+use Rattle.nmgc_world_laws.specs.laws.Growth.{step_grows}
+use Rattle.nmgc_snapshot_laws.specs.declared.event.Entry.{Entry}
+use Rattle.nmgc_snapshot_laws.specs.State.{State, names_of}
+use Rattle.nmgc_world_spec.specs.Owed.{owed_by}
+use Rattle.nmgc_snapshot_laws.specs.Machine.{IsPossible, after_command, after_scan}
+use Rattle.nmgc_snapshot_laws.specs.Scan.{read_at}
+use Rattle.nmgc_snapshot_laws.specs.declared.event.Event.TheVariants as event
+use Rattle.nmgc_snapshot_laws.specs.laws.Listed.{names_same, names_other}
+use Rattle.nmgc_heap_spec.specs.Places.{Place, ListMeans}
 use Rattle.nmgc_round.specs.Events.{Happening, did, scanned, after, IsLegal, done_by, scans_in}
 use Rattle.nmgc_round.specs.View.{Answer, Hand, FixedWord, UnbornWord, Opening, Part, Scan, Seen, hand_of, hand_now, leaves, doing, scanning}
 use Rattle.nmgc_round.specs.Own.{OwnSlots}
 use Rattle.nmgc_round.specs.Objects.{Object, IsLater, IsObject, IsIn, RepresentsInRound}
 use Rattle.nmgc_round.proofs.Standing.{later_of}
 use Rattle.nmgc_round.proofs.Owners.{stack_of}
-use Rattle.nmgc_heap.specs.Shape.{header_of}
-use Rattle.nmgc_round.specs.Marking.{Marks, marks_of, after_word, folded}
+use Rattle.nmgc_heap_spec.specs.Shape.{header_of}
+use Rattle.nmgc_round.specs.Marking.{marks_of, after_word}
 use Rattle.nmgc_round.specs.Rule.{now, Answers, AllRead, Owes, IsHand, Fits, Rests, IsActive, Agrees, IsNew, AreKnown, IsQueued, IsRead, Keeps}
 use Rattle.nmgc_round.specs.Added.{Stays, AddsCommand, AddsScan}
 use Rattle.nmgc_round.specs.Ready.{IsMutator}
-use Rattle.nmgc_round.proofs.Lists.{answer_push, read_push, leave_more, answers_more, reads_more, owed_more}
+use Rattle.nmgc_round.proofs.Lists.{answer_push, read_push, answers_more, reads_more, owed_more}
+use Rattle.nmgc_round.specs.laws.Common.{leave_more, folded_more}
 use Rattle.nmgc_round.proofs.Fields.{list_more}
 use Rattle.nmgc_round.proofs.Logs.{replay_more, legal_more, scans_more, scans_same, done_scan, done_more, done_other}
 use Rattle.nmgc_round.proofs.Runs.{rest_scan, still_open}
@@ -109,10 +110,6 @@ module _ (o : Opening) (born more : List Object) (grow : (x : Object) → IsObje
               answer = a;
             }))) own;
       }
-
-folded_more : (o : Opening) (m : Marks) (ss : List Scan) (s : Scan) → folded o m (ss ++ s ∷ []) ≡ after_word o (folded o m ss) s
-folded_more o m [] s = refl
-folded_more o m (x ∷ ss) s = folded_more o (after_word o m x) ss s
 
 module _ (o : Opening) (words : List ℕ) (views : List Seen) (h : Keeps o words views) (id : ℕ) (v : Seen) (here : get_elem? views id ≡ some v) where
   now_more : (e : Happening) → now o (h.events ++ e ∷ []) ≡ after (now o h.events) e

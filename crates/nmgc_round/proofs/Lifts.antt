@@ -2,7 +2,7 @@
 use Rattle.std.proofs.Common.{◌≡◌, ◌≢◌, ℕ, ◌+◌, Bool, true, false, eqb, List, [], set, refl, sym, subst, slice_index}
 use prog.Atomic.{either}
 use Rattle.atomic_table.specs.Table.{Me, Allows, keeps}
-use Rattle.nmgc_graph.specs.declared.command.Command.{Command}
+use Rattle.nmgc_world_spec.specs.declared.command.Command.{Command}
 use Rattle.nmgc_object.specs.declared.size.TheConstants.{HEADER_WORDS}
 use Rattle.nmgc_object.specs.declared.layout.TheConstants.{SHARED_PLACE}
 use Rattle.nmgc_round.specs.View.{Opening, Seen}
@@ -13,7 +13,8 @@ use Rattle.nmgc_round.specs.Told.{IsSafe}
 use Rattle.nmgc_round.specs.Results.{CanForce, CanUpdate, forced, updated}
 use Rattle.nmgc_round.specs.Stacks.{CanPeek, CanSlot, TellsSlot, slot_swapped, IsRefusedSlot, slot_refused}
 use Rattle.nmgc_round.specs.Weaks.{CanDeref, CanFinalise, finaliser_named, weak_read, weak_taken}
-use Rattle.nmgc_round.proofs.Allows.{unchanged, set_again}
+use Rattle.nmgc_round.proofs.Allows.{unchanged}
+use Rattle.nmgc_lists.specs.laws.Items.{word_again as set_again}
 use Rattle.nmgc_round.proofs.Modes.{holding, within}
 use Rattle.nmgc_round.proofs.Keeping.{acts}
 use Rattle.nmgc_round.proofs.Exchanges.{exchange_keeps}

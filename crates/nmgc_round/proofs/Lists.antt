@@ -1,20 +1,20 @@
 -- Lists of words and what they mean, one more at the end or one that changes.
 use Rattle.std.proofs.Common.{◌≡◌, ℕ, zero, suc, ◌*◌, ◌≤◌, List, [], ◌∷◌, ◌++◌, get_or, set, refl, ap, subst, ◌∙◌, arith, Option, Some, None}
 use Rattle.std.specs.Prelude.{slice_get}
-use Rattle.nmgc_graph.specs.declared.value.Name.{Name}
-use Rattle.nmgc_graph.specs.declared.value.Value.{Value}
-use Rattle.nmgc_graph.specs.declared.value.Value.TheVariants as value
-use Rattle.nmgc_graph.specs.declared.command.Operand.{Operand}
-use Rattle.nmgc_graph.specs.declared.command.Operand.TheVariants.{Register, Shared}
-use Rattle.nmgc_graph.specs.declared.command.Command.{Command}
-use Rattle.nmgc_graph.specs.declared.command.Reply.{Reply}
-use Rattle.nmgc_graph.specs.Step.{shared_name, value_of}
+use Rattle.nmgc_world_spec.specs.declared.value.Name.{Name}
+use Rattle.nmgc_world_spec.specs.declared.value.Value.{Value}
+use Rattle.nmgc_world_spec.specs.declared.value.Value.TheVariants as value
+use Rattle.nmgc_world_spec.specs.declared.command.Operand.{Operand}
+use Rattle.nmgc_world_spec.specs.declared.command.Operand.TheVariants.{Register, Shared}
+use Rattle.nmgc_world_spec.specs.declared.command.Command.{Command}
+use Rattle.nmgc_world_spec.specs.declared.command.Reply.{Reply}
+use Rattle.nmgc_world_spec.specs.Step.{shared_name, value_of}
 use Rattle.nmgc_object.specs.declared.layout.TheConstants.{SHARED_PLACE}
 use Rattle.nmgc_object.specs.declared.words.TheConstants.{NIL_WORD}
-use Rattle.nmgc_reach.specs.Owed.{names_among}
-use Rattle.nmgc_core.specs.declared.event.Entry.{Entry}
-use Rattle.nmgc_heap.specs.Places.{Place, Means, ListMeans}
-use Rattle.nmgc_round.specs.View.{Answer, plain, word, Row, Scan, Hand, word_of, leaves, rows_leave}
+use Rattle.nmgc_world_spec.specs.Owed.{names_among}
+use Rattle.nmgc_snapshot_laws.specs.declared.event.Entry.{Entry}
+use Rattle.nmgc_heap_spec.specs.Places.{Place, Means, ListMeans}
+use Rattle.nmgc_round.specs.View.{Answer, plain, word, Row, Scan, word_of}
 use Rattle.nmgc_round.specs.Rule.{Answers, AllAnswer, IsRead, AllRead, AreOwed}
 use Rattle.nmgc_round.proofs.Fields.{means_more, list_more}
 
@@ -72,11 +72,6 @@ module _ (P : Place → Type 0) where
   pointer_means at value.Nil m = absurd (omega arith)
   pointer_means at (value.Number n) m = absurd (omega arith)
   pointer_means at (value.Ref name) m = let same : m.0 ≡ at = omega (arith, m.1) in (name, refl, subst (λ a. P (record { at = a; name = name })) same m.2)
-
--- what several rows leave
-pub leave_more : (h : Hand) (rs : List Row) (r : Row) → rows_leave h (rs ++ r ∷ []) ≡ leaves (rows_leave h rs) r.command r.answer
-leave_more h [] r = refl
-leave_more h (s ∷ rs) r = leave_more (leaves h s.command s.answer) rs r
 
 names_append : (vs xs : List Value) → names_among (vs ++ xs) ≡ names_among vs ++ names_among xs
 names_append [] xs = refl

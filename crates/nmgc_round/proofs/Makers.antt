@@ -2,22 +2,22 @@
 use Rattle.std.proofs.Common.{◌≡◌, ◌≢◌, Bool, cond, eq-eqb, ne_eqb, ℕ, zero, suc, ◌+◌, ◌*◌, ◌/◌, ◌≤◌, List, [], ◌∷◌, map, replicate, set, refl, sym, ap, subst, ◌∙◌, arith, slice_index, Some, None}
 use Rattle.std.specs.Prelude.{slice_get}
 use Rattle.std.proofs.lemmas.List.{length-map, length-replicate}
-use Rattle.nmgc_graph.specs.declared.value.Value.{Value}
-use Rattle.nmgc_graph.specs.declared.node.Node.{Node}
-use Rattle.nmgc_graph.specs.declared.node.Node.TheVariants as node
-use Rattle.nmgc_graph.specs.declared.command.Operand.{Operand}
-use Rattle.nmgc_graph.specs.declared.command.Command.{Command}
-use Rattle.nmgc_graph.specs.declared.command.Command.TheVariants.{Num, Nil, Mov, Con, Var, Arr, Thunk, Weak, Stack, Get, Set, Cas, Update, Force, Push, Pop, Deref, Finalise, NextFin, Show, Same, Yield, Collect, Full}
-use Rattle.nmgc_graph.specs.World.{World, state_of, IsSized}
-use Rattle.nmgc_graph.specs.Command.{Fits, IsMaking, words_made}
+use Rattle.nmgc_world_spec.specs.declared.value.Value.{Value}
+use Rattle.nmgc_world_spec.specs.declared.node.Node.{Node}
+use Rattle.nmgc_world_spec.specs.declared.node.Node.TheVariants as node
+use Rattle.nmgc_world_spec.specs.declared.command.Operand.{Operand}
+use Rattle.nmgc_world_spec.specs.declared.command.Command.{Command}
+use Rattle.nmgc_world_spec.specs.declared.command.Command.TheVariants.{Num, Nil, Mov, Con, Var, Arr, Thunk, Weak, Stack, Get, Set, Cas, Update, Force, Push, Pop, Deref, Finalise, NextFin, Show, Same, Yield, Collect, Full}
+use Rattle.nmgc_world_spec.specs.World.{World, state_of, IsSized}
+use Rattle.nmgc_world_spec.specs.Command.{Fits, IsMaking, words_made}
 use Rattle.nmgc_object.specs.Words.{IsHeader}
 use Rattle.nmgc_limits.specs.Limits.{most_segment_words}
-use Rattle.nmgc_graph.specs.Step.{shared_name, value_of, born, step}
+use Rattle.nmgc_world_spec.specs.Step.{shared_name, value_of, born, step}
 use Rattle.nmgc_object.specs.declared.layout.TheConstants.{SHARED_PLACE}
-use Rattle.nmgc_reach.specs.Owed.{owed_by}
-use Rattle.nmgc_heap.specs.Shape.{header_of, size_of, slots_of}
-use Rattle.nmgc_heap.specs.Places.{Place, Means, HasSlots, AllMean, ListMeans}
-use Rattle.nmgc_heap.specs.laws.Kinds.{item_all, values_fill, slots_of_fields}
+use Rattle.nmgc_world_spec.specs.Owed.{owed_by}
+use Rattle.nmgc_heap_spec.specs.Shape.{header_of, size_of, slots_of}
+use Rattle.nmgc_heap_spec.specs.Places.{Place, Means, HasSlots, AllMean, ListMeans}
+use Rattle.nmgc_heap_spec.specs.laws.Kinds.{item_all, values_fill, slots_of_fields}
 use Rattle.nmgc_round.specs.Own.{slots_at}
 use Rattle.nmgc_round.specs.View.{word, Hand, word_of, leaves}
 use Rattle.nmgc_round.specs.Making.{header_made, fields_made}

@@ -4,7 +4,7 @@ use mathlib.Core.Option.{some, some-injective, some-ne-none}
 use lib.ListN.{get_elem?}
 use Rattle.atomic_table.specs.Table.{State, Me, Allows, Splits, Joins, Final, Seen as SeenIn, keeps}
 use Rattle.atomic_table.proofs.Lists.{at_set}
-use Rattle.nmgc_graph.specs.declared.command.Command.{Command}
+use Rattle.nmgc_world_spec.specs.declared.command.Command.{Command}
 use Rattle.nmgc_object.specs.declared.size.TheConstants.{HEADER_WORDS}
 use Rattle.nmgc_round.specs.View.{word, Opening, Part, Seen, exclusive, whole, nobody, loaded, answered, swapped, met, met_at_birth, stored, gave_birth}
 use Rattle.nmgc_round.specs.Seating.{CanSplit, keeps_rest, gives_first, mutates, collecting, together}
@@ -14,7 +14,7 @@ use Rattle.nmgc_round.specs.Finishing.{HasAll, Ended}
 use Rattle.nmgc_round.specs.Ready.{CanScan, scanned_by, Mutates, CanLoad, CanSwap, CanStore, CanBear}
 use Rattle.nmgc_round.specs.Told.{CanFix, CanTake, taken, Tells, TellsField, TellsQueue, TellsScan, IsSafe}
 use Rattle.nmgc_round.proofs.Allows as allows
-use Rattle.nmgc_round.proofs.Allows.{set_again}
+use Rattle.nmgc_lists.specs.laws.Items.{word_again as set_again}
 use Rattle.nmgc_round.proofs.Keeping.{acts}
 use Rattle.nmgc_round.proofs.Openings.{begins}
 use Rattle.nmgc_round.proofs.Parts.{splits, splits_collector, joins, closes, ends, long}

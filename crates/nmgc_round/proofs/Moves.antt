@@ -1,39 +1,38 @@
 -- Each step of a mutator keeps the rule.
 use Rattle.std.proofs.Common.{◌≡◌, ◌≢◌, inl, inr, ℕ, ◌+◌, ◌-◌, ◌^◌, ◌*◌, ◌<◌, ◌≤◌, suc, Bool, true, false, List, [], ◌∷◌, ◌++◌, length, set, refl, sym, ap, subst, ◌∙◌, arith, slice_index, Some, None, append-nil, length-append, mul-le-mul_right}
-use Rattle.std.specs.Prelude.{slice_get}
 use Rattle.std.proofs.lemmas.List.Elements.{Contains-push, Contains-push_cases}
 use Rattle.std.proofs.lemmas.Option.{slice_get_past}
 use mathlib.Core.Option.{some}
 use lib.ListN.{get_elem?}
 use Rattle.nmgc_limits.specs.declared.mutators.TheConstants.{SHARED_MAKER}
-use Rattle.nmgc_graph.specs.declared.value.Name.{Name}
-use Rattle.nmgc_graph.specs.declared.value.Value.{Value}
-use Rattle.nmgc_graph.specs.declared.value.Value.TheVariants as value
-use Rattle.nmgc_graph.specs.declared.node.Kind.{Kind}
-use Rattle.nmgc_graph.specs.declared.node.Kind.TheVariants as kind
-use Rattle.nmgc_graph.specs.declared.node.Node.{Node}
-use Rattle.nmgc_graph.specs.declared.node.Node.TheVariants.{Stack}
-use Rattle.nmgc_graph.specs.declared.command.Operand.{Operand}
-use Rattle.nmgc_graph.specs.declared.command.Command.{Command}
-use Rattle.nmgc_graph.specs.declared.command.Command.TheVariants.{Get, Set}
-use Rattle.nmgc_graph.specs.declared.command.Reply.{Reply}
-use Rattle.nmgc_graph.specs.declared.command.Reply.TheVariants.{Fine, Given}
-use Rattle.nmgc_graph.specs.Command.{words_made}
-use Rattle.nmgc_graph.specs.World.{World, state_of, node_of, serial_of}
-use Rattle.nmgc_graph.specs.Step.{value_for, with_node, with_register, with_state, with_new, next_name, holding as world_holding, step}
+use Rattle.nmgc_world_spec.specs.declared.value.Name.{Name}
+use Rattle.nmgc_world_spec.specs.declared.value.Value.{Value}
+use Rattle.nmgc_world_spec.specs.declared.value.Value.TheVariants as value
+use Rattle.nmgc_world_spec.specs.declared.node.Kind.{Kind}
+use Rattle.nmgc_world_spec.specs.declared.node.Kind.TheVariants as kind
+use Rattle.nmgc_world_spec.specs.declared.node.Node.{Node}
+use Rattle.nmgc_world_spec.specs.declared.node.Node.TheVariants.{Stack}
+use Rattle.nmgc_world_spec.specs.declared.command.Operand.{Operand}
+use Rattle.nmgc_world_spec.specs.declared.command.Command.{Command}
+use Rattle.nmgc_world_spec.specs.declared.command.Command.TheVariants.{Get, Set}
+use Rattle.nmgc_world_spec.specs.declared.command.Reply.{Reply}
+use Rattle.nmgc_world_spec.specs.declared.command.Reply.TheVariants.{Fine, Given}
+use Rattle.nmgc_world_spec.specs.Command.{words_made}
+use Rattle.nmgc_world_spec.specs.World.{World, state_of, node_of, serial_of}
+use Rattle.nmgc_world_spec.specs.Step.{value_for, with_node, with_register, with_state, with_new, next_name, holding as world_holding, step}
 use Rattle.nmgc_object.specs.Words.{header_word, name_word, IsHeader, IsName}
 use Rattle.nmgc_object.specs.declared.words.Header.{Header}
 use Rattle.nmgc_object.specs.declared.size.TheConstants.{HEADER_WORDS}
-use Rattle.nmgc_core.specs.declared.event.Event.TheVariants as event
-use Rattle.nmgc_core.specs.State.{State, names_of}
-use Rattle.nmgc_reach.specs.Owed.{names_among, owed_by}
-use Rattle.nmgc_core.specs.Machine.{IsPossible}
-use Rattle.nmgc_reach.specs.laws.NodeLaws.{own_node, node_cases, nodes_kept, state_same, node_born, next_is_new, node_same}
-use Rattle.nmgc_heap.specs.Shape.{header_of, size_of, slots_of, MayChange}
-use Rattle.nmgc_heap.specs.Places.{Place, Means, HasSlots, ListMeans, LiesWell}
+use Rattle.nmgc_snapshot_laws.specs.declared.event.Event.TheVariants as event
+use Rattle.nmgc_snapshot_laws.specs.State.{State, names_of}
+use Rattle.nmgc_world_spec.specs.Owed.{names_among, owed_by}
+use Rattle.nmgc_snapshot_laws.specs.Machine.{IsPossible}
+use Rattle.nmgc_world_laws.specs.laws.NodeLaws.{own_node, node_cases, nodes_kept, state_same, node_born, next_is_new, node_same}
+use Rattle.nmgc_heap_spec.specs.Shape.{header_of, size_of, slots_of, MayChange}
+use Rattle.nmgc_heap_spec.specs.Places.{Place, Means, HasSlots, ListMeans, LiesWell}
 use Rattle.nmgc_round.specs.Events.{done_by}
-use Rattle.nmgc_graph.specs.declared.mutator_state.MutatorState.{MutatorState}
-use Rattle.nmgc_graph.specs.laws.Orders.{contains_cases}
+use Rattle.nmgc_world_spec.specs.declared.mutator_state.MutatorState.{MutatorState}
+use Rattle.nmgc_lists.specs.laws.Items.{contains_cases, slice_get-append_last as at_last}
 use Rattle.nmgc_round.specs.View.{FixedWord, loaded, holding, bearing_object, gave_birth, next_of, Answer, plain, word, Hand, Opening, Part, Seen, hand_now, leaves, doing, finding, knowing, storing, first_changed, owed_word, answered, swapped, stored}
 use Rattle.nmgc_round.specs.Own.{OwnSlots}
 use Rattle.nmgc_round.specs.Objects.{Object, place_of, end_of, IsLater, IsObject, IsIn, RepresentsInRound, IsFree}
@@ -45,9 +44,10 @@ use Rattle.nmgc_round.proofs.Lists.{operand_means, pointer_means, list_set, owed
 use Rattle.nmgc_round.proofs.Standing.{same_node, stands_field, stands_nodes}
 use Rattle.nmgc_round.proofs.Owners.{stack_of, own_kept, own_born}
 use Rattle.nmgc_round.proofs.Births.{stands_free, stands_born, more_objects}
-use Rattle.nmgc_round.proofs.Nurseries.{lies_within, rest_free, rests_field, rests_store, rests_stored, rests_born, rests_birth}
+use Rattle.nmgc_heap_spec.specs.laws.Common.{lies_within}
+use Rattle.nmgc_round.proofs.Nurseries.{rest_free, rests_field, rests_store, rests_stored, rests_born, rests_birth}
 use Rattle.nmgc_round.proofs.Frames.{IsSameState, node_frame}
-use Rattle.nmgc_heap.specs.laws.Headers.{same_header}
+use Rattle.nmgc_heap_spec.specs.laws.Headers.{same_header}
 use Rattle.nmgc_round.proofs.Keeping.{acts, grown, owes_more, command_law, store_law}
 use Rattle.nmgc_round.proofs.Runs.{still_open, serials_grow}
 use Rattle.nmgc_round.proofs.Makers.{made_header, maker}
@@ -61,10 +61,6 @@ may_change kind.Arr i w = tt
 may_change kind.Thunk i w = absurd w
 may_change kind.Weak i w = absurd w
 may_change kind.Stack i w = tt
-
-at_last : {A : Type 0} (xs : List A) (x : A) → slice_get (xs ++ x ∷ []) (length xs) ≡ Some x
-at_last [] x = refl
-at_last (y ∷ xs) x = at_last xs x
 
 module _ (o : Opening) (words : List ℕ) (views : List Seen) (h : Keeps o words views) (id : ℕ) (v : Seen) (here : get_elem? views id ≡
     some v) (p : Part) (is : IsMutator v p) where

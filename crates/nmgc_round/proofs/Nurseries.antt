@@ -3,32 +3,17 @@ use Rattle.std.proofs.Common.{◌≡◌, ◌≢◌, ◌⊎◌, inl, inr, ℕ, su
 use Rattle.std.specs.Prelude.{Contains}
 use Rattle.std.proofs.lemmas.Bool.{cases_eq, cases_lt}
 use Rattle.std.proofs.lemmas.List.Elements.{Contains-append_left, Contains-push, Contains-push_cases}
-use Rattle.nmgc_object.specs.Places.{InSegment, InNursery, segment_place, word_total}
-use Rattle.nmgc_object.specs.declared.layout.Layout.{Layout}
+use Rattle.nmgc_object.specs.Places.{InSegment, InNursery, segment_place}
 use Rattle.nmgc_object.specs.declared.words.Header.{Header}
 use Rattle.nmgc_object.specs.declared.size.TheConstants.{HEADER_WORDS}
-use Rattle.nmgc_graph.specs.World.{World}
-use Rattle.nmgc_heap.specs.Shape.{header_of, size_of, MayChange}
-use Rattle.nmgc_heap.specs.Places.{Place, LiesWell, IsBetween}
-use Rattle.nmgc_graph.specs.laws.Orders.{contains_cases}
+use Rattle.nmgc_world_spec.specs.World.{World}
+use Rattle.nmgc_heap_spec.specs.Shape.{header_of, size_of, MayChange}
+use Rattle.nmgc_heap_spec.specs.Places.{Place, LiesWell, IsBetween}
+use Rattle.nmgc_lists.specs.laws.Items.{contains_cases}
 use Rattle.nmgc_round.specs.View.{Opening, Part, UnbornWord, FixedWord, storing, bearing_object}
 use Rattle.nmgc_round.specs.Objects.{Object, place_of, end_of, IsObject, IsPlace, RepresentsInRound, IsFree}
 use Rattle.nmgc_round.specs.Rule.{IsOpening, IsNew, IsFixed, Rests, base_of, limit_of, top_of}
 use Rattle.nmgc_round.proofs.Standing.{one_or_apart, one_header}
-
--- what lies well lies within the words
-pub lies_within : (layout : Layout) (p : Place) (size : ℕ) → 0 < size → LiesWell layout p size → p.at + size ≤ word_total layout
-lies_within layout p size some (inl g) = let h = g.2 in omega arith
-lies_within layout p size some (inr (own, inl s)) =
-    let last : InSegment layout s.0 (p.at + (size - 1)) = s.1 (p.at + (size - 1)) (omega arith) (omega arith) in
-    let b = last.before in
-    let h : suc s.0 * layout.words ≤ layout.segments * layout.words = mul-le-mul_right layout.words last.exists in
-    omega arith
-lies_within layout p size some (inr (own, inr s)) =
-    let last : InNursery layout p.name.maker (p.at + (size - 1)) = s.1 (p.at + (size - 1)) (omega arith) (omega arith) in
-    let b = last.before in
-    let h : suc p.name.maker * layout.nursery ≤ layout.mutators * layout.nursery = mul-le-mul_right layout.nursery last.exists in
-    omega arith
 
 module _ (o : Opening) where
   segment_before : (s : ℕ) → s < o.layout.segments → (m : ℕ) → segment_place o.layout s + o.layout.words ≤ base_of o m

@@ -1,38 +1,27 @@
 -- What an opening lists of a mutator's stacks are its own ones: each tracked stack that it made has its words there.
-use Rattle.std.proofs.Common.{◌≡◌, ◌≢◌, inl, inr, ℕ, suc, ◌+◌, ◌<◌, Bool, true, false, cond, eqb, List, [], ◌∷◌, ◌++◌, map, refl, sym, ap, subst, ◌∙◌, arith, slice_index, Option, Some, None, eq-eqb, ne_eqb, eqb-true, true≢false}
+use Rattle.std.proofs.Common.{◌≡◌, ◌≢◌, inl, inr, ℕ, suc, ◌+◌, ◌<◌, Bool, true, false, cond, eqb, List, [], ◌∷◌, ◌++◌, map, refl, sym, ap, subst, ◌∙◌, arith, slice_index, Option, Some, None, eq-eqb, ne_eqb, true≢false}
 use Rattle.std.specs.Prelude.{Contains, slice_get}
-use Rattle.std.proofs.lemmas.Bool.{cases_eq, and_parts, and_from}
-use Rattle.nmgc_graph.specs.declared.value.Name.{Name}
-use Rattle.nmgc_graph.specs.declared.value.Value.{Value}
-use Rattle.nmgc_graph.specs.declared.value.Value.TheVariants as value
-use Rattle.nmgc_graph.specs.declared.node.Node.{Node}
-use Rattle.nmgc_graph.specs.declared.node.Node.TheVariants.{Con, Var, Arr, Thunk, Weak, Stack}
-use Rattle.nmgc_graph.specs.World.{World, node_of}
-use Rattle.nmgc_graph.specs.Change.{is_same_name}
-use Rattle.nmgc_graph.specs.laws.Orders.{contains_head, contains_tail, contains_cases}
+use Rattle.std.proofs.lemmas.Bool.{cases_eq}
+use Rattle.nmgc_world_spec.specs.declared.value.Name.{Name}
+use Rattle.nmgc_world_spec.specs.declared.value.Value.{Value}
+use Rattle.nmgc_world_spec.specs.declared.value.Value.TheVariants as value
+use Rattle.nmgc_world_spec.specs.declared.node.Node.{Node}
+use Rattle.nmgc_world_spec.specs.declared.node.Node.TheVariants.{Con, Var, Arr, Thunk, Weak, Stack}
+use Rattle.nmgc_world_spec.specs.World.{World, node_of}
+use Rattle.nmgc_world_spec.specs.Change.{is_same_name}
+use Rattle.nmgc_lists.specs.laws.Items.{contains_head, contains_tail, contains_cases, slice_get-append as item_left, item_map, contains_at as contains_read, is_some_of}
 use Rattle.nmgc_object.specs.declared.size.TheConstants.{HEADER_WORDS}
-use Rattle.nmgc_heap.specs.Shape.{holds, slots_of}
-use Rattle.nmgc_heap.specs.Tracked.{IsTracked}
-use Rattle.nmgc_heap.specs.Places.{Place, Means, ListMeans}
-use Rattle.nmgc_heap.specs.laws.Kinds.{fields_of_slots, item_left, item_map}
-use Rattle.nmgc_heap.specs.laws.Slots.{contains_read}
-use Rattle.nmgc_heap.specs.laws.Tracking.{slot_tracked}
-use Rattle.nmgc_graph.specs.laws.Worlds.{is_some_of}
+use Rattle.nmgc_heap_spec.specs.Shape.{holds, slots_of}
+use Rattle.nmgc_heap_spec.specs.Tracked.{IsTracked}
+use Rattle.nmgc_heap_spec.specs.Places.{Place, Means, ListMeans}
+use Rattle.nmgc_heap_spec.specs.laws.Kinds.{fields_of_slots}
+use Rattle.nmgc_heap_spec.specs.laws.Tracking.{slot_tracked}
 use Rattle.nmgc_round.specs.View.{Slots, Opening, hand_of}
 use Rattle.nmgc_round.specs.Objects.{place_of, IsIn, earlier}
 use Rattle.nmgc_round.specs.Own.{slots_at, OwnSlots, place_named, word_in, slots_of_node, stacks_at, old_stacks}
 use Rattle.nmgc_round.specs.Starting.{CanOpen}
-
-same_name : (a b : Name) → is_same_name a b ≡ true → a ≡ b
-same_name a b e =
-    let t = and_parts (eqb a.maker b.maker) (eqb a.serial b.serial) e in
-    let maker = eqb-true a.maker b.maker t.0 in
-    let serial = eqb-true a.serial b.serial t.1 in
-    λ i. record { maker = maker i; serial = serial i }
-
-name_itself : (a b : Name) → a ≡ b → is_same_name a b ≡ true
-name_itself a b e = and_from (eqb a.maker b.maker) (eqb a.serial b.serial) (eq-eqb a.maker b.maker (ap (λ (n : Name).
-    n.maker) e)) (eq-eqb a.serial b.serial (ap (λ (n : Name). n.serial) e))
+use Rattle.nmgc_snapshot_laws.specs.laws.Listed.{tested_same as same_name}
+use Rattle.nmgc_world_spec.specs.laws.Common.{name_itself}
 
 -- a name with a place has the one that is found
 place_there : (ps : List Place) (name : Name) (at : ℕ) → Contains ps (record { at = at; name = name }) →

@@ -1,30 +1,28 @@
 -- Words that represent a world meet the rule: references in what is tracked lead to what is tracked.
 use Rattle.std.proofs.Common.{◌≡◌, ◌≢◌, inl, inr, ⊎_elim, set, ℕ, zero, suc, ◌+◌, ◌<◌, Bool, true, false, cond, List, [], ◌∷◌, ◌++◌, length, refl, sym, ap, subst, ◌∙◌, arith, slice_index, Some}
 use Rattle.std.specs.Prelude.{Contains, slice_get}
-use Rattle.nmgc_reach.specs.laws.ItemLaws.{contains_one}
-use Rattle.nmgc_graph.specs.laws.Worlds.{is_some_of, at_some}
-use Rattle.nmgc_graph.specs.laws.Orders.{contains_head, contains_tail}
-use Rattle.nmgc_graph.specs.declared.value.Name.{Name}
-use Rattle.nmgc_graph.specs.declared.value.Value.{Value}
-use Rattle.nmgc_graph.specs.declared.value.Value.TheVariants as value
-use Rattle.nmgc_graph.specs.declared.node.Node.{Node}
-use Rattle.nmgc_graph.specs.World.{World, node_of, state_of, IsNodeOf, IsSized}
-use Rattle.nmgc_graph.specs.Step.{shared_name}
-use Rattle.nmgc_graph.specs.Reach.{strong_fields, start, field}
+use Rattle.nmgc_lists.specs.laws.Items.{contains_one, is_some_of, at_some, contains_head, contains_tail, contains_at as contains_read}
+use Rattle.nmgc_world_spec.specs.declared.value.Name.{Name}
+use Rattle.nmgc_world_spec.specs.declared.value.Value.{Value}
+use Rattle.nmgc_world_spec.specs.declared.value.Value.TheVariants as value
+use Rattle.nmgc_world_spec.specs.declared.node.Node.{Node}
+use Rattle.nmgc_world_spec.specs.World.{World, node_of, state_of, IsNodeOf, IsSized}
+use Rattle.nmgc_world_spec.specs.Step.{shared_name}
+use Rattle.nmgc_world_spec.specs.Reach.{strong_fields, start, field}
 use Rattle.nmgc_object.specs.declared.size.TheConstants.{HEADER_WORDS}
-use Rattle.nmgc_reach.specs.Wide.{IsWide, IsWideRoot}
-use Rattle.nmgc_heap.specs.Tracked.{IsTracked}
-use Rattle.nmgc_heap.specs.Places.{Place, Means, Fills, HasSlots, ListMeans}
-use Rattle.nmgc_heap.specs.laws.Slots.{contains_read, free_held}
-use Rattle.nmgc_heap.specs.laws.Tracking.{slot_tracked}
-use Rattle.nmgc_heap.specs.Shape.{Slot, holds, unset, untold, slots_of, fixed_slots, free_slots}
-use Rattle.nmgc_heap.specs.Represents.{IsObject as IsObjectAt}
+use Rattle.nmgc_world_spec.specs.Wide.{IsWide, IsWideRoot}
+use Rattle.nmgc_heap_spec.specs.Tracked.{IsTracked}
+use Rattle.nmgc_heap_spec.specs.Places.{Place, Means, Fills, HasSlots, ListMeans}
+use Rattle.nmgc_heap_spec.specs.laws.Slots.{free_held}
+use Rattle.nmgc_heap_spec.specs.laws.Tracking.{slot_tracked}
+use Rattle.nmgc_heap_spec.specs.Shape.{Slot, holds, unset, untold, slots_of, fixed_slots, free_slots}
+use Rattle.nmgc_heap_spec.specs.Represents.{IsObject as IsObjectAt}
 use Rattle.std.proofs.lemmas.List.Elements.{Contains-append_left, Contains-append_right}
 use mathlib.Core.Option.{some, some-injective, some-ne-none}
 use lib.ListN.{get_elem?}
 use Rattle.atomic_table.proofs.Lists.{at_set}
 use Rattle.nmgc_object.specs.declared.layout.TheConstants.{SHARED_PLACE}
-use Rattle.nmgc_core.specs.State.{names_of}
+use Rattle.nmgc_snapshot_laws.specs.State.{names_of}
 use Rattle.nmgc_round.specs.Rule.{Owes, IsHand, Fits, Rests, IsIdle, Agrees, Keeps}
 use Rattle.nmgc_round.specs.View.{Hand, Part, Seen, Opening, hand_of, blank, blanks, nobody, whole}
 use Rattle.nmgc_round.specs.Objects.{KeepsOf, Object, place_of, IsOld, IsIn, IsPlace, IsLater, IsStanding, RepresentsInRound, earlier}

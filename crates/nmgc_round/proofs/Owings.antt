@@ -3,15 +3,15 @@ use Rattle.std.proofs.Common.{◌≡◌, inl, inr, ℕ, suc, ◌+◌, ◌<◌, �
 use Rattle.std.specs.Prelude.{Contains}
 use mathlib.Core.Option.{some}
 use lib.ListN.{get_elem?}
-use Rattle.nmgc_graph.specs.declared.value.Name.{Name}
-use Rattle.nmgc_graph.specs.declared.value.Value.{Value}
-use Rattle.nmgc_graph.specs.laws.Orders.{contains_head, contains_tail, contains_cases}
+use Rattle.nmgc_world_spec.specs.declared.value.Name.{Name}
+use Rattle.nmgc_world_spec.specs.declared.value.Value.{Value}
+use Rattle.nmgc_lists.specs.laws.Items.{contains_head, contains_tail, contains_cases}
 use Rattle.nmgc_object.specs.Words.{header_word}
 use Rattle.nmgc_object.specs.declared.words.Header.{Header}
-use Rattle.nmgc_reach.specs.Owed.{names_among}
-use Rattle.nmgc_heap.specs.Shape.{size_of}
-use Rattle.nmgc_heap.specs.Places.{Place, Means, AllMean, ListMeans}
-use Rattle.nmgc_heap.specs.laws.Meanings.{lies_above}
+use Rattle.nmgc_world_spec.specs.Owed.{names_among}
+use Rattle.nmgc_heap_spec.specs.Shape.{size_of}
+use Rattle.nmgc_heap_spec.specs.Places.{Place, Means, AllMean, ListMeans}
+use Rattle.nmgc_heap_spec.specs.laws.Meanings.{lies_above}
 use Rattle.nmgc_round.specs.View.{FixedWord, Opening, Part, Seen}
 use Rattle.nmgc_round.specs.Objects.{Object, place_of, IsIn}
 use Rattle.nmgc_round.specs.Rule.{Owes, Rests, Keeps}
@@ -20,11 +20,7 @@ use Rattle.nmgc_round.specs.Told.{header_at}
 use Rattle.nmgc_round.specs.Owing.{fixed_at, fixed_from, owed_words}
 use Rattle.nmgc_round.proofs.Lists.{owed_append}
 use Rattle.nmgc_round.proofs.Refusals.{header_there}
-
-and_both : (a b : Bool) → (a && b) ≡ true → (a ≡ true) × (b ≡ true)
-and_both true true e = (refl, refl)
-and_both true false e = absurd cc
-and_both false b e = absurd cc
+use Rattle.nmgc_lists.specs.laws.Truths.{and_both}
 
 -- the word that is named is the one that all such fixed words have
 pub fixed_there : (fixed : List FixedWord) (at offset n w : ℕ) → ((f : FixedWord) → Contains fixed f → f.at ≡ at → f.offset ≡ offset → f.word ≡ w) →

@@ -1,13 +1,13 @@
 -- The own stacks of a hand, where nodes or hands change.
 use Rattle.std.proofs.Common.{◌≡◌, ◌≢◌, inl, inr, ℕ, List, [], sym, ap, subst, ◌∙◌, Some}
-use Rattle.nmgc_graph.specs.declared.value.Name.{Name}
-use Rattle.nmgc_graph.specs.declared.value.Value.{Value}
-use Rattle.nmgc_graph.specs.declared.node.Node.{Node}
-use Rattle.nmgc_graph.specs.declared.node.Node.TheVariants.{Con, Var, Arr, Thunk, Weak, Stack}
-use Rattle.nmgc_graph.specs.World.{World, node_of}
+use Rattle.nmgc_world_spec.specs.declared.value.Name.{Name}
+use Rattle.nmgc_world_spec.specs.declared.value.Value.{Value}
+use Rattle.nmgc_world_spec.specs.declared.node.Node.{Node}
+use Rattle.nmgc_world_spec.specs.declared.node.Node.TheVariants.{Con, Var, Arr, Thunk, Weak, Stack}
+use Rattle.nmgc_world_spec.specs.World.{World, node_of}
 use Rattle.nmgc_object.specs.declared.words.Header.{Header}
-use Rattle.nmgc_heap.specs.Shape.{header_of}
-use Rattle.nmgc_heap.specs.Places.{Place, ListMeans}
+use Rattle.nmgc_heap_spec.specs.Shape.{header_of}
+use Rattle.nmgc_heap_spec.specs.Places.{Place, ListMeans}
 use Rattle.std.proofs.lemmas.Bool.{cases_eq}
 use Rattle.nmgc_round.specs.View.{Slots, Hand, Opening}
 use Rattle.nmgc_round.specs.Objects.{Object, place_of, IsObject, IsIn, RepresentsInRound}

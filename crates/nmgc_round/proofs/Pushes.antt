@@ -5,33 +5,33 @@ use Rattle.std.proofs.lemmas.Bool.{cases_lt}
 use Rattle.std.proofs.lemmas.Option.{slice_get-get_or}
 use mathlib.Core.Option.{some}
 use lib.ListN.{get_elem?}
-use Rattle.nmgc_graph.specs.declared.value.Name.{Name}
-use Rattle.nmgc_graph.specs.declared.value.Value.{Value}
-use Rattle.nmgc_graph.specs.declared.value.Value.TheVariants as value
-use Rattle.nmgc_graph.specs.declared.node.Kind.TheVariants as kind
-use Rattle.nmgc_graph.specs.declared.node.Node.{Node}
-use Rattle.nmgc_graph.specs.declared.node.Node.TheVariants.{Con, Var, Arr, Thunk, Weak, Stack}
-use Rattle.nmgc_graph.specs.declared.change.Change.{Change}
-use Rattle.nmgc_graph.specs.declared.change.Change.TheVariants as change
-use Rattle.nmgc_graph.specs.declared.mutator_state.MutatorState.{MutatorState}
-use Rattle.nmgc_graph.specs.declared.command.Operand.{Operand}
-use Rattle.nmgc_graph.specs.declared.command.Command.{Command}
-use Rattle.nmgc_graph.specs.declared.command.Command.TheVariants.{Push, Pop}
-use Rattle.nmgc_graph.specs.declared.command.Reply.{Reply}
-use Rattle.nmgc_graph.specs.declared.command.Reply.TheVariants as reply
-use Rattle.nmgc_graph.specs.World.{World, state_of, node_of, IsSized}
-use Rattle.nmgc_graph.specs.Change.{given_or, stack_pushed, stack_popped, without_last, last_of}
-use Rattle.nmgc_graph.specs.laws.Rows.{name_cases}
-use Rattle.nmgc_graph.specs.Step.{value_for, with_node, with_register, holding as world_holding, keeping, change_object, change_node, change_into, step}
+use Rattle.nmgc_world_spec.specs.declared.value.Name.{Name}
+use Rattle.nmgc_world_spec.specs.declared.value.Value.{Value}
+use Rattle.nmgc_world_spec.specs.declared.value.Value.TheVariants as value
+use Rattle.nmgc_world_spec.specs.declared.node.Kind.TheVariants as kind
+use Rattle.nmgc_world_spec.specs.declared.node.Node.{Node}
+use Rattle.nmgc_world_spec.specs.declared.node.Node.TheVariants.{Con, Var, Arr, Thunk, Weak, Stack}
+use Rattle.nmgc_world_spec.specs.declared.change.Change.{Change}
+use Rattle.nmgc_world_spec.specs.declared.change.Change.TheVariants as change
+use Rattle.nmgc_world_spec.specs.declared.mutator_state.MutatorState.{MutatorState}
+use Rattle.nmgc_world_spec.specs.declared.command.Operand.{Operand}
+use Rattle.nmgc_world_spec.specs.declared.command.Command.{Command}
+use Rattle.nmgc_world_spec.specs.declared.command.Command.TheVariants.{Push, Pop}
+use Rattle.nmgc_world_spec.specs.declared.command.Reply.{Reply}
+use Rattle.nmgc_world_spec.specs.declared.command.Reply.TheVariants as reply
+use Rattle.nmgc_world_spec.specs.World.{World, state_of, node_of, IsSized}
+use Rattle.nmgc_world_spec.specs.Change.{given_or, stack_pushed, stack_popped, without_last, last_of}
+use Rattle.nmgc_world_spec.specs.laws.Orders.{name_cases}
+use Rattle.nmgc_world_spec.specs.Step.{value_for, with_node, with_register, holding as world_holding, keeping, change_object, change_node, change_into, step}
 use Rattle.nmgc_object.specs.Words.{name_word}
 use Rattle.nmgc_object.specs.declared.words.Header.{Header}
 use Rattle.nmgc_object.specs.declared.size.TheConstants.{HEADER_WORDS}
-use Rattle.nmgc_core.specs.State.{State, names_of}
-use Rattle.nmgc_reach.specs.Owed.{top_held, owed_of, owed_at, names_among, owed_by}
-use Rattle.nmgc_reach.specs.laws.NodeLaws.{as_many, nodes_kept}
-use Rattle.nmgc_heap.specs.Shape.{header_of, slots_of, MayChange}
-use Rattle.nmgc_heap.specs.Places.{Place, Means, AllMean, HasSlots, ListMeans}
-use Rattle.nmgc_heap.specs.laws.Kinds.{AreUnset, fields_of_slots, slots_of_fields}
+use Rattle.nmgc_snapshot_laws.specs.State.{State, names_of}
+use Rattle.nmgc_world_spec.specs.Owed.{top_held, owed_of, owed_at, names_among, owed_by}
+use Rattle.nmgc_world_laws.specs.laws.NodeLaws.{as_many, nodes_kept}
+use Rattle.nmgc_heap_spec.specs.Shape.{header_of, slots_of, MayChange}
+use Rattle.nmgc_heap_spec.specs.Places.{Place, Means, AllMean, HasSlots, ListMeans}
+use Rattle.nmgc_heap_spec.specs.laws.Kinds.{AreUnset, fields_of_slots, slots_of_fields}
 use Rattle.nmgc_round.specs.View.{plain, word, Slots, Hand, Opening, Part, Seen, with_slots, holding, hand_now, leaves, doing, finding, first_changed, answered, owed_word}
 use Rattle.nmgc_round.specs.Events.{done_by}
 use Rattle.nmgc_round.specs.Own.{slots_at, HasStack, OwnSlots}
@@ -50,7 +50,7 @@ use Rattle.nmgc_round.proofs.Refusals.{one_word, one_maker}
 use Rattle.nmgc_round.proofs.Keeping.{same_law}
 use Rattle.nmgc_round.proofs.Moves.{meant, operand_is, inside, same_opening, owes_nothing, finds_same, owes_old, still_law, hand_kept as moves_kept}
 use Rattle.nmgc_round.proofs.Writes.{Changes, field_law, node_now, node_again}
-use Rattle.nmgc_heap.specs.laws.Headers.{same_header}
+use Rattle.nmgc_heap_spec.specs.laws.Headers.{same_header}
 use Rattle.nmgc_round.proofs.Owings.{above, named_header}
 use Rattle.nmgc_round.proofs.Weakens.{register_in}
 use Rattle.nmgc_round.specs.laws.Slots.{slots_same, slots_other}

@@ -5,27 +5,27 @@ use Rattle.std.proofs.lemmas.Option.{slice_get_past}
 use Rattle.std.proofs.lemmas.Bool.{and_parts}
 use mathlib.Core.Option.{some}
 use lib.ListN.{get_elem?}
-use Rattle.nmgc_graph.specs.declared.value.Name.{Name}
-use Rattle.nmgc_graph.specs.declared.value.Value.{Value}
-use Rattle.nmgc_graph.specs.declared.value.Value.TheVariants as value
-use Rattle.nmgc_graph.specs.declared.node.Node.{Node}
-use Rattle.nmgc_graph.specs.declared.node.Node.TheVariants as node
-use Rattle.nmgc_graph.specs.declared.change.Change.{Change}
-use Rattle.nmgc_graph.specs.declared.change.Change.TheVariants as change
-use Rattle.nmgc_graph.specs.declared.command.Operand.{Operand}
-use Rattle.nmgc_graph.specs.declared.command.Command.{Command}
-use Rattle.nmgc_graph.specs.declared.command.Command.TheVariants.{Num, Nil, Mov, Con, Var, Arr, Thunk, Weak, Stack, Get, Set, Cas, Update, Force, Push, Pop, Deref, Finalise, NextFin, Show, Same, Yield, Collect, Full}
-use Rattle.nmgc_graph.specs.declared.command.Reply.{Reply}
-use Rattle.nmgc_graph.specs.declared.command.Reply.TheVariants.{Fine, Yes, No, Given, NoPointer, NoField, WrongKind, NotOwner, Fixed, Nothing}
-use Rattle.nmgc_graph.specs.World.{World, state_of, node_of}
-use Rattle.nmgc_graph.specs.Change.{given_or, field_read, field_set, is_same, exchanged_at, field_exchanged, thunk_updated, result_read, value_read, weak_finalised, stack_pushed, stack_popped, changed}
-use Rattle.nmgc_graph.specs.declared.node.Kind.TheVariants as kind
-use Rattle.nmgc_graph.specs.declared.mutator_state.MutatorState.{MutatorState}
-use Rattle.nmgc_graph.specs.Step.{change_into, holding_given, with_state, value_for, object_of, read_object, read_into, keeping, change_object, change_node, with_register, with_node, step}
+use Rattle.nmgc_world_spec.specs.declared.value.Name.{Name}
+use Rattle.nmgc_world_spec.specs.declared.value.Value.{Value}
+use Rattle.nmgc_world_spec.specs.declared.value.Value.TheVariants as value
+use Rattle.nmgc_world_spec.specs.declared.node.Node.{Node}
+use Rattle.nmgc_world_spec.specs.declared.node.Node.TheVariants as node
+use Rattle.nmgc_world_spec.specs.declared.change.Change.{Change}
+use Rattle.nmgc_world_spec.specs.declared.change.Change.TheVariants as change
+use Rattle.nmgc_world_spec.specs.declared.command.Operand.{Operand}
+use Rattle.nmgc_world_spec.specs.declared.command.Command.{Command}
+use Rattle.nmgc_world_spec.specs.declared.command.Command.TheVariants.{Num, Nil, Mov, Con, Var, Arr, Thunk, Weak, Stack, Get, Set, Cas, Update, Force, Push, Pop, Deref, Finalise, NextFin, Show, Same, Yield, Collect, Full}
+use Rattle.nmgc_world_spec.specs.declared.command.Reply.{Reply}
+use Rattle.nmgc_world_spec.specs.declared.command.Reply.TheVariants.{Fine, Yes, No, Given, NoPointer, NoField, WrongKind, NotOwner, Fixed, Nothing}
+use Rattle.nmgc_world_spec.specs.World.{World, state_of, node_of}
+use Rattle.nmgc_world_spec.specs.Change.{given_or, field_read, field_set, is_same, exchanged_at, field_exchanged, thunk_updated, result_read, value_read, weak_finalised, stack_pushed, stack_popped, changed}
+use Rattle.nmgc_world_spec.specs.declared.node.Kind.TheVariants as kind
+use Rattle.nmgc_world_spec.specs.declared.mutator_state.MutatorState.{MutatorState}
+use Rattle.nmgc_world_spec.specs.Step.{change_into, holding_given, with_state, value_for, object_of, read_object, read_into, keeping, change_object, change_node, with_register, with_node, step}
 use Rattle.nmgc_object.specs.Words.{header_word, name_word, IsName}
 use Rattle.nmgc_object.specs.declared.words.Header.{Header}
-use Rattle.nmgc_heap.specs.Shape.{header_of}
-use Rattle.nmgc_heap.specs.Places.{Place, Means, ListMeans}
+use Rattle.nmgc_heap_spec.specs.Shape.{header_of}
+use Rattle.nmgc_heap_spec.specs.Places.{Place, Means, ListMeans}
 use Rattle.nmgc_round.proofs.Lists.{list_set}
 use Rattle.nmgc_round.specs.View.{Hand, holding, leaves, Answer, plain, word, Opening, Part, Seen, FixedWord, hand_now, answered, doing, first_changed}
 use Rattle.nmgc_round.specs.Events.{done_by}
@@ -33,15 +33,16 @@ use Rattle.nmgc_round.specs.Objects.{Object, place_of, IsObject, IsIn}
 use Rattle.nmgc_round.specs.Rule.{now, Answers, IsHand, Fits, Rests, Keeps}
 use Rattle.nmgc_round.specs.Ready.{IsMutator, CanGive, Names, IsReadable, IsWritable, operand_word}
 use Rattle.nmgc_round.specs.Told.{header_at, get_refusal, set_refusal, owner_refusal, first_told, refused, told_by, IsRefused, IsForeign, CanTell, told}
-use Rattle.nmgc_reach.specs.Owed.{field_held, if_same, free_held, top_held, weak_held, value_held, owed_in, owed_of, owed_at, names_among, owed_by}
-use Rattle.nmgc_reach.specs.laws.NodeLaws.{nodes_kept, node_cases, state_same}
-use Rattle.nmgc_core.specs.laws.Listed.{tested_same, is_same_name-refl}
-use Rattle.nmgc_graph.specs.laws.Orders.{contains_head, contains_tail, contains_cases}
+use Rattle.nmgc_world_spec.specs.Owed.{field_held, if_same, free_held, top_held, weak_held, value_held, owed_in, owed_of, owed_at, names_among, owed_by}
+use Rattle.nmgc_world_laws.specs.laws.NodeLaws.{nodes_kept, node_cases, state_same}
+use Rattle.nmgc_snapshot_laws.specs.laws.Listed.{tested_same, is_same_name-refl}
+use Rattle.nmgc_lists.specs.laws.Items.{contains_head, contains_tail, contains_cases}
 use Rattle.nmgc_round.specs.Added.{AddsCommand}
 use Rattle.nmgc_round.proofs.Moves.{still_law, register_hand, hand_kept, meant, operand_is}
 use Rattle.nmgc_round.proofs.Frames.{node_frame}
 use Rattle.nmgc_round.proofs.Standing.{placed}
 use Rattle.nmgc_round.proofs.Keeping.{acts}
+use Rattle.nmgc_lists.specs.laws.Truths.{same_test as both}
 
 -- a field that isn't there, or isn't to be read
 get_refused : (n : Node) (index : ℕ) → (IsReadable (header_of n).kind → (header_of n).fields ≤ index) →
@@ -201,11 +202,6 @@ keeping_refused w m dest false = refl
 plain_if : (b : Bool) (r s : Reply) → cond b (plain r) (plain s) ≡ plain (cond b r s)
 plain_if true r s = refl
 plain_if false r s = refl
-
-both : (a b : Bool) → (a ≡ true → b ≡ true) → (b ≡ true → a ≡ true) → a ≡ b
-both true b f g = sym (f refl)
-both false true f g = g refl
-both false false f g = refl
 
 -- values that are the same nil, number or reference
 told_same : (x y : Value) → is_same x y ≡ true → x ≡ y

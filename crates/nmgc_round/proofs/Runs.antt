@@ -1,14 +1,14 @@
 -- What every run of events keeps: marking stays open, the snapshot and the marks' places stay, and serials never fall.
-use Rattle.std.proofs.Common.{◌≡◌, ℕ, ◌≤◌, Bool, true, false, cond, List, [], ◌∷◌, length, refl, ap, ◌∙◌, arith, Option, Some, None}
-use Rattle.nmgc_graph.specs.declared.value.Name.{Name}
-use Rattle.nmgc_graph.specs.declared.value.Value.{Value}
-use Rattle.nmgc_graph.specs.declared.value.Value.TheVariants as value
-use Rattle.nmgc_graph.specs.World.{World, node_of, serial_of}
-use Rattle.nmgc_graph.specs.laws.Growth.{step_grows}
-use Rattle.nmgc_core.specs.declared.event.Entry.{Entry}
-use Rattle.nmgc_core.specs.State.{State, is_new, with_mark, mark_read}
-use Rattle.nmgc_core.specs.Scan.{read_at}
-use Rattle.nmgc_core.specs.Machine.{after_command, advanced, after_scan}
+use Rattle.std.proofs.Common.{◌≡◌, ℕ, ◌≤◌, Bool, true, false, cond, List, [], ◌∷◌, refl, ap, ◌∙◌, arith, Option, Some, None}
+use Rattle.nmgc_world_spec.specs.declared.value.Name.{Name}
+use Rattle.nmgc_world_spec.specs.declared.value.Value.{Value}
+use Rattle.nmgc_world_spec.specs.declared.value.Value.TheVariants as value
+use Rattle.nmgc_world_spec.specs.World.{World, node_of, serial_of}
+use Rattle.nmgc_world_laws.specs.laws.Growth.{step_grows}
+use Rattle.nmgc_snapshot_laws.specs.declared.event.Entry.{Entry}
+use Rattle.nmgc_snapshot_laws.specs.State.{State, is_new, with_mark, mark_read}
+use Rattle.nmgc_snapshot_laws.specs.Scan.{read_at}
+use Rattle.nmgc_snapshot_laws.specs.Machine.{after_command, advanced, after_scan}
 use Rattle.nmgc_round.specs.Events.{Happening, did, scanned, replay, IsLegal}
 
 -- what marking never changes
@@ -60,9 +60,3 @@ serials_grow s (did m c r ∷ hs) legal k = let a = (step_grows s.world m c lega
 serials_grow s (scanned entry v ∷ hs) legal k =
     let e : serial_of (after_scan s s.queue).world k ≡ serial_of s.world k = ap (λ (w : World). serial_of w k) (rest_scan s s.queue).world in
     let b = serials_grow (after_scan s s.queue) hs legal.1 k in omega arith
-
--- there are as many mutators
-pub same_count : (s : State) (hs : List Happening) → IsLegal s hs → length (replay s hs).world.mutators ≡ length s.world.mutators
-same_count s [] legal = refl
-same_count s (did m c r ∷ hs) legal = same_count (after_command s m c) hs legal.1 ∙ (step_grows s.world m c legal.0.0.1.mutator).mutators
-same_count s (scanned entry v ∷ hs) legal = same_count (after_scan s s.queue) hs legal.1 ∙ ap (λ (w : World). length w.mutators) (rest_scan s s.queue).world

@@ -7,31 +7,29 @@ use Rattle.std.proofs.lemmas.Bool.Decides.{eqb_tells}
 use Rattle.std.proofs.lemmas.List.Elements.{Contains-append_cases, Contains-push_cases}
 use mathlib.Core.Option.{some}
 use lib.ListN.{get_elem?}
-use Rattle.nmgc_graph.specs.declared.value.Name.{Name}
-use Rattle.nmgc_graph.specs.declared.value.Value.{Value}
-use Rattle.nmgc_graph.specs.declared.value.Value.TheVariants as value
-use Rattle.nmgc_graph.specs.declared.node.Node.{Node}
-use Rattle.nmgc_graph.specs.declared.node.Node.TheVariants.{Con, Var, Arr, Thunk, Weak, Stack}
-use Rattle.nmgc_graph.specs.declared.node.Kind.{Kind}
-use Rattle.nmgc_graph.specs.declared.node.Kind.TheVariants as kind
-use Rattle.nmgc_graph.specs.World.{World, node_of}
-use Rattle.nmgc_graph.specs.laws.Worlds.{is_some_of}
-use Rattle.nmgc_graph.specs.laws.Orders.{contains_head, contains_tail, contains_cases}
+use Rattle.nmgc_world_spec.specs.declared.value.Name.{Name}
+use Rattle.nmgc_world_spec.specs.declared.value.Value.{Value}
+use Rattle.nmgc_world_spec.specs.declared.value.Value.TheVariants as value
+use Rattle.nmgc_world_spec.specs.declared.node.Node.{Node}
+use Rattle.nmgc_world_spec.specs.declared.node.Node.TheVariants.{Con, Var, Arr, Thunk, Weak, Stack}
+use Rattle.nmgc_world_spec.specs.declared.node.Kind.{Kind}
+use Rattle.nmgc_world_spec.specs.declared.node.Kind.TheVariants as kind
+use Rattle.nmgc_world_spec.specs.World.{World, node_of}
+use Rattle.nmgc_lists.specs.laws.Items.{is_some_of, contains_head, contains_tail, one_is}
 use Rattle.nmgc_object.specs.declared.words.Header.{Header}
 use Rattle.nmgc_object.specs.declared.size.TheConstants.{HEADER_WORDS}
 use Rattle.nmgc_object.specs.declared.layout.TheConstants.{FIRST_PLACE}
 use Rattle.nmgc_object.specs.Words.{header_word, IsHeader}
 use Rattle.nmgc_object.specs.Places.{word_total}
 use Rattle.nmgc_round.specs.Told.{IsSafe, TellsEntry}
-use Rattle.nmgc_reach.specs.laws.ItemLaws.{one_is}
-use Rattle.nmgc_core.specs.declared.event.Entry.{Entry}
-use Rattle.nmgc_core.specs.State.{State, is_new, is_listed, mark_read, with_mark, entry_of}
-use Rattle.nmgc_core.specs.Scan.{fields_of, read_at, field_at, is_last, moved_on}
-use Rattle.nmgc_reach.specs.Holds.{has_result}
-use Rattle.nmgc_core.specs.Machine.{advanced, after_scan}
-use Rattle.nmgc_heap.specs.Shape.{header_of, size_of, slots_of, free_slots}
-use Rattle.nmgc_heap.specs.Places.{Place, Means, HasSlots, AllMean}
-use Rattle.nmgc_heap.specs.laws.Kinds.{HasFields, KeepsFree, fields_of_slots, free_of_slots}
+use Rattle.nmgc_snapshot_laws.specs.declared.event.Entry.{Entry}
+use Rattle.nmgc_snapshot_laws.specs.State.{State, is_new, is_listed, mark_read, entry_of}
+use Rattle.nmgc_snapshot_laws.specs.Scan.{fields_of, read_at, field_at, is_last, moved_on}
+use Rattle.nmgc_world_laws.specs.Holds.{has_result}
+use Rattle.nmgc_snapshot_laws.specs.Machine.{advanced, after_scan}
+use Rattle.nmgc_heap_spec.specs.Shape.{header_of, size_of, slots_of, free_slots}
+use Rattle.nmgc_heap_spec.specs.Places.{Place, Means, HasSlots, AllMean}
+use Rattle.nmgc_heap_spec.specs.laws.Kinds.{HasFields, KeepsFree, fields_of_slots, free_of_slots}
 use Rattle.nmgc_round.specs.View.{Opening, Seen, scanning}
 use Rattle.nmgc_round.specs.Marking.{Marks, marks_of, marks_after, name_at, name_meant, name_read, with_name, is_thunk, is_last_word, entry_past, first_past, after_word, offset_of}
 use Rattle.nmgc_round.specs.Objects.{Object, place_of, free_of, IsLater, IsObject, IsIn}
@@ -39,11 +37,12 @@ use Rattle.nmgc_round.specs.Rule.{now, IsRead, IsQueued, Keeps}
 use Rattle.nmgc_round.specs.Added.{AddsScan}
 use Rattle.nmgc_round.specs.Ready.{CanScan, scanned_by, first_of}
 use Rattle.nmgc_round.proofs.Standing.{later_of}
-use Rattle.nmgc_heap.specs.laws.Meanings.{lies_above}
-use Rattle.nmgc_round.proofs.Nurseries.{lies_within}
+use Rattle.nmgc_heap_spec.specs.laws.Meanings.{lies_above}
+use Rattle.nmgc_heap_spec.specs.laws.Common.{lies_within}
 use Rattle.nmgc_round.proofs.Lists.{pointer_means}
 use Rattle.nmgc_round.proofs.Runs.{same_snapshot, rest_read}
 use Rattle.nmgc_round.proofs.Keeping.{scan_law}
+use Rattle.nmgc_round.specs.laws.Common.{marks_if, some_at, found_at}
 
 -- the word at a place is that of what was read: an unset field is 0
 pub record IsReadAt (P : Place → Type 0) (words : List ℕ) (j : ℕ) (v : Option Value) : Type 0 where
@@ -174,11 +173,6 @@ ref_of (Some value.Nil) = None
 ref_of (Some (value.Number n)) = None
 ref_of (Some (value.Ref name)) = Some name
 
-marks_if : (b : Bool) (s : State) (name : Name) → marks_of (cond b (with_mark s name) s) ≡
-    cond b (record { marked = s.marked ++ name ∷ []; queue = s.queue ++ entry_of name ∷ [] }) (marks_of s)
-marks_if true s name = refl
-marks_if false s name = refl
-
 mark_is : (s : State) (v : Option Value) → marks_of (mark_read s v) ≡ with_name s.snapshot (marks_of s) (ref_of v)
 mark_is s None = refl
 mark_is s (Some value.Nil) = refl
@@ -214,28 +208,6 @@ still_first snapshot m (Some name) entry rest q =
         )
       ],
     )
-
--- the place that begins here
-some_at : (places : List Place) (at : ℕ) (name : Name) → Contains places (record { at = at; name = name }) → (n : Name) ×
-    (name_at places at ≡ Some n) × Contains places (record { at = at; name = n })
-some_at [] at name c = absurd (let lt = c.1 in omega arith)
-some_at (p ∷ ps) at name c = elim (eqb_tells p.at at) [
-  | inl e ↦ (p.name, rw e.0 refl, subst (λ (a : ℕ). Contains (p ∷ ps) (record { at = a; name = p.name })) e.1 (contains_head p ps))
-  | inr e ↦ elim (contains_cases p ps (record { at = at; name = name }) c) [
-    | inl same ↦ absurd (e.1 (ap (λ (q : Place). q.at) same))
-    | inr d ↦ let r = some_at ps at name d in (r.0, rw e.0 r.1, contains_tail p ps (record { at = at; name = r.0 }) r.2)
-  ]
-]
-
-found_at : (places : List Place) (at : ℕ) (name : Name) → name_at places at ≡ Some name → Contains places (record { at = at; name = name })
-found_at [] at name e = absurd cc
-found_at (p ∷ ps) at name e = elim (eqb_tells p.at at) [
-  | inl t ↦
-      let here : Some p.name ≡ Some name = rw t.0 at e in
-      let same : p.name ≡ name = cc in
-      subst (λ (q : Place). Contains (p ∷ ps) q) (λ i. record { at = t.1 i; name = same i }) (contains_head p ps)
-  | inr t ↦ let later : name_at ps at ≡ Some name = rw t.0 at e in contains_tail p ps (record { at = at; name = name }) (found_at ps at name later)
-]
 
 module _ (o : Opening) (words : List ℕ) (views : List Seen) (h : Keeps o words views) where
   abbrev P : Place → Type 0

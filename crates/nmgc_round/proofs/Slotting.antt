@@ -3,10 +3,11 @@ use Rattle.std.proofs.Common.{◌≡◌, ◌≢◌, ◌⊎◌, inl, inr, ℕ, ze
 use Rattle.std.specs.Prelude.{slice_get}
 use Rattle.std.proofs.lemmas.Bool.{cases_eq}
 use Rattle.std.proofs.lemmas.Option.{slice_get_within}
-use Rattle.nmgc_graph.specs.declared.value.Value.{Value}
-use Rattle.nmgc_graph.specs.Change.{without_last, last_of}
-use Rattle.nmgc_heap.specs.Places.{Place, Means, AllMean, ListMeans}
-use Rattle.nmgc_heap.specs.laws.Kinds.{AreUnset, item_cases, item_left}
+use Rattle.nmgc_world_spec.specs.declared.value.Value.{Value}
+use Rattle.nmgc_world_spec.specs.Change.{without_last, last_of}
+use Rattle.nmgc_heap_spec.specs.Places.{Place, Means, AllMean, ListMeans}
+use Rattle.nmgc_heap_spec.specs.laws.Kinds.{AreUnset, item_cases}
+use Rattle.nmgc_lists.specs.laws.Items.{slice_get-append as item_left}
 
 -- nothing stands past the end
 pub past : (ws : List ℕ) (i : ℕ) → length ws ≤ i → slice_index ws i ≡ 0

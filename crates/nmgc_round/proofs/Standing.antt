@@ -2,16 +2,16 @@
 use Rattle.std.proofs.Common.{◌≡◌, ◌≢◌, ◌⊎◌, inl, inr, ℕ, ◌+◌, ◌<◌, ◌≤◌, List, set, refl, sym, ap, subst, ◌∙◌, arith, slice_index, Some, get_or-set_other, length-set}
 use Rattle.std.specs.Prelude.{IsSome}
 use Rattle.std.proofs.lemmas.Bool.{cases_eq}
-use Rattle.nmgc_graph.specs.laws.Rows.{name_cases}
-use Rattle.nmgc_graph.specs.declared.value.Name.{Name}
-use Rattle.nmgc_graph.specs.declared.node.Node.{Node}
-use Rattle.nmgc_graph.specs.World.{World, node_of, IsSized}
+use Rattle.nmgc_world_spec.specs.laws.Orders.{name_cases}
+use Rattle.nmgc_world_spec.specs.declared.value.Name.{Name}
+use Rattle.nmgc_world_spec.specs.declared.node.Node.{Node}
+use Rattle.nmgc_world_spec.specs.World.{World, node_of, IsSized}
 use Rattle.nmgc_object.specs.declared.words.Header.{Header}
 use Rattle.nmgc_object.specs.declared.size.TheConstants.{HEADER_WORDS}
-use Rattle.nmgc_heap.specs.Shape.{header_of, size_of, slots_of, MayChange}
-use Rattle.nmgc_heap.specs.Places.{Place, HasSlots, IsBetween}
-use Rattle.nmgc_heap.specs.laws.Changes.{not_between}
-use Rattle.nmgc_heap.specs.Represents.{IsNamed}
+use Rattle.nmgc_heap_spec.specs.Shape.{header_of, size_of, slots_of, MayChange}
+use Rattle.nmgc_heap_spec.specs.Places.{Place, HasSlots, IsBetween}
+use Rattle.nmgc_heap_spec.specs.laws.Changes.{not_between}
+use Rattle.nmgc_heap_spec.specs.Represents.{IsNamed}
 use Rattle.nmgc_round.specs.View.{Opening}
 use Rattle.nmgc_round.specs.Objects.{Object, place_of, end_of, IsObject, IsIn, IsPlace, IsLater, IsStanding, RepresentsInRound}
 use Rattle.nmgc_round.proofs.Fields.{fields_same, kept_same}

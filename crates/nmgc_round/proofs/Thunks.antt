@@ -2,32 +2,32 @@
 use Rattle.std.proofs.Common.{◌≡◌, ◌≢◌, ℕ, ◌+◌, ◌-◌, ◌*◌, ◌/◌, Bool, true, false, cond, eqb, eq-eqb, ne_eqb, List, [], ◌∷◌, ◌++◌, length, set, refl, sym, ap, subst, ◌∙◌, arith, slice_index, Option, Some, None, get_or-set_same}
 use mathlib.Core.Option.{some}
 use lib.ListN.{get_elem?}
-use Rattle.nmgc_graph.specs.declared.value.Name.{Name}
-use Rattle.nmgc_graph.specs.declared.value.Value.{Value}
-use Rattle.nmgc_graph.specs.declared.value.Value.TheVariants as value
-use Rattle.nmgc_graph.specs.declared.node.Kind.TheVariants as kind
-use Rattle.nmgc_graph.specs.declared.node.Node.{Node}
-use Rattle.nmgc_graph.specs.declared.node.Node.TheVariants.{Con, Var, Arr, Thunk, Weak, Stack}
-use Rattle.nmgc_graph.specs.declared.change.Change.{Change}
-use Rattle.nmgc_graph.specs.declared.change.Change.TheVariants as change
-use Rattle.nmgc_graph.specs.declared.mutator_state.MutatorState.{MutatorState}
-use Rattle.nmgc_graph.specs.declared.command.Operand.{Operand}
-use Rattle.nmgc_graph.specs.declared.command.Command.{Command}
-use Rattle.nmgc_graph.specs.declared.command.Command.TheVariants.{Update, Force}
-use Rattle.nmgc_graph.specs.declared.command.Reply.{Reply}
-use Rattle.nmgc_graph.specs.declared.command.Reply.TheVariants as reply
-use Rattle.nmgc_graph.specs.World.{World, state_of, node_of}
-use Rattle.nmgc_graph.specs.Change.{given_or, result_read, thunk_updated}
-use Rattle.nmgc_graph.specs.Step.{value_for, with_node, with_register, holding as world_holding, keeping, change_object, change_node, object_of, read_object, read_into, step}
+use Rattle.nmgc_world_spec.specs.declared.value.Name.{Name}
+use Rattle.nmgc_world_spec.specs.declared.value.Value.{Value}
+use Rattle.nmgc_world_spec.specs.declared.value.Value.TheVariants as value
+use Rattle.nmgc_world_spec.specs.declared.node.Kind.TheVariants as kind
+use Rattle.nmgc_world_spec.specs.declared.node.Node.{Node}
+use Rattle.nmgc_world_spec.specs.declared.node.Node.TheVariants.{Con, Var, Arr, Thunk, Weak, Stack}
+use Rattle.nmgc_world_spec.specs.declared.change.Change.{Change}
+use Rattle.nmgc_world_spec.specs.declared.change.Change.TheVariants as change
+use Rattle.nmgc_world_spec.specs.declared.mutator_state.MutatorState.{MutatorState}
+use Rattle.nmgc_world_spec.specs.declared.command.Operand.{Operand}
+use Rattle.nmgc_world_spec.specs.declared.command.Command.{Command}
+use Rattle.nmgc_world_spec.specs.declared.command.Command.TheVariants.{Update, Force}
+use Rattle.nmgc_world_spec.specs.declared.command.Reply.{Reply}
+use Rattle.nmgc_world_spec.specs.declared.command.Reply.TheVariants as reply
+use Rattle.nmgc_world_spec.specs.World.{World, state_of, node_of}
+use Rattle.nmgc_world_spec.specs.Change.{given_or, result_read, thunk_updated}
+use Rattle.nmgc_world_spec.specs.Step.{value_for, with_node, with_register, holding as world_holding, keeping, change_object, change_node, object_of, read_object, read_into, step}
 use Rattle.nmgc_object.specs.Words.{header_word}
 use Rattle.nmgc_object.specs.declared.words.Header.{Header}
 use Rattle.nmgc_object.specs.declared.size.TheConstants.{HEADER_WORDS}
-use Rattle.nmgc_core.specs.State.{State, names_of}
-use Rattle.nmgc_reach.specs.Owed.{free_held, owed_of, owed_at, names_among, owed_by}
-use Rattle.nmgc_reach.specs.laws.NodeLaws.{nodes_kept}
-use Rattle.nmgc_heap.specs.Shape.{header_of, slots_of, MayChange}
-use Rattle.nmgc_heap.specs.Places.{Place, Means, HasSlots, ListMeans}
-use Rattle.nmgc_heap.specs.laws.Kinds.{fields_of_slots, slots_of_fields}
+use Rattle.nmgc_snapshot_laws.specs.State.{State, names_of}
+use Rattle.nmgc_world_spec.specs.Owed.{free_held, owed_of, owed_at, names_among, owed_by}
+use Rattle.nmgc_world_laws.specs.laws.NodeLaws.{nodes_kept}
+use Rattle.nmgc_heap_spec.specs.Shape.{header_of, slots_of, MayChange}
+use Rattle.nmgc_heap_spec.specs.Places.{Place, Means, HasSlots, ListMeans}
+use Rattle.nmgc_heap_spec.specs.laws.Kinds.{fields_of_slots, slots_of_fields}
 use Rattle.nmgc_round.specs.View.{plain, word, Answer, Opening, Part, Seen, hand_now, doing, first_changed, answered}
 use Rattle.nmgc_round.specs.Events.{done_by}
 use Rattle.nmgc_round.specs.Objects.{Object, IsLater, IsObject, IsIn}

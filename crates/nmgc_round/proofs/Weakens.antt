@@ -2,31 +2,31 @@
 use Rattle.std.proofs.Common.{◌≡◌, ◌≢◌, ℕ, ◌+◌, ◌*◌, ◌<◌, Bool, true, cond, eq-eqb, ne_eqb, List, [], ◌∷◌, ◌++◌, length, set, refl, sym, ap, subst, ◌∙◌, arith, slice_index, Option, Some, None, get_or-set_same}
 use mathlib.Core.Option.{some}
 use lib.ListN.{get_elem?}
-use Rattle.nmgc_graph.specs.declared.value.Name.{Name}
-use Rattle.nmgc_graph.specs.declared.value.Value.{Value}
-use Rattle.nmgc_graph.specs.declared.value.Value.TheVariants as value
-use Rattle.nmgc_graph.specs.declared.node.Kind.TheVariants as kind
-use Rattle.nmgc_graph.specs.declared.node.Node.{Node}
-use Rattle.nmgc_graph.specs.declared.node.Parts.{Parts}
-use Rattle.nmgc_graph.specs.declared.node.Node.TheVariants.{Con, Var, Arr, Thunk, Weak, Stack}
-use Rattle.nmgc_graph.specs.declared.change.Change.TheVariants as change
-use Rattle.nmgc_graph.specs.declared.mutator_state.MutatorState.{MutatorState}
-use Rattle.nmgc_graph.specs.declared.command.Operand.{Operand}
-use Rattle.nmgc_graph.specs.declared.command.Command.{Command}
-use Rattle.nmgc_graph.specs.declared.command.Command.TheVariants.{Deref, Finalise}
-use Rattle.nmgc_graph.specs.declared.command.Reply.{Reply}
-use Rattle.nmgc_graph.specs.declared.command.Reply.TheVariants as reply
-use Rattle.nmgc_graph.specs.World.{World, state_of, node_of}
-use Rattle.nmgc_graph.specs.Change.{given_or, value_part, value_read, weak_finalised}
-use Rattle.nmgc_graph.specs.Step.{value_for, with_node, with_register, with_state, holding as world_holding, keeping, change_object, change_node, change_into, object_of, read_object, read_into, step}
+use Rattle.nmgc_world_spec.specs.declared.value.Name.{Name}
+use Rattle.nmgc_world_spec.specs.declared.value.Value.{Value}
+use Rattle.nmgc_world_spec.specs.declared.value.Value.TheVariants as value
+use Rattle.nmgc_world_spec.specs.declared.node.Kind.TheVariants as kind
+use Rattle.nmgc_world_spec.specs.declared.node.Node.{Node}
+use Rattle.nmgc_world_spec.specs.declared.node.Parts.{Parts}
+use Rattle.nmgc_world_spec.specs.declared.node.Node.TheVariants.{Con, Var, Arr, Thunk, Weak, Stack}
+use Rattle.nmgc_world_spec.specs.declared.change.Change.TheVariants as change
+use Rattle.nmgc_world_spec.specs.declared.mutator_state.MutatorState.{MutatorState}
+use Rattle.nmgc_world_spec.specs.declared.command.Operand.{Operand}
+use Rattle.nmgc_world_spec.specs.declared.command.Command.{Command}
+use Rattle.nmgc_world_spec.specs.declared.command.Command.TheVariants.{Deref, Finalise}
+use Rattle.nmgc_world_spec.specs.declared.command.Reply.{Reply}
+use Rattle.nmgc_world_spec.specs.declared.command.Reply.TheVariants as reply
+use Rattle.nmgc_world_spec.specs.World.{World, state_of, node_of}
+use Rattle.nmgc_world_spec.specs.Change.{given_or, value_part, value_read, weak_finalised}
+use Rattle.nmgc_world_spec.specs.Step.{value_for, with_node, with_register, with_state, holding as world_holding, keeping, change_object, change_node, change_into, object_of, read_object, read_into, step}
 use Rattle.nmgc_object.specs.declared.words.Header.{Header}
 use Rattle.nmgc_object.specs.declared.size.TheConstants.{HEADER_WORDS}
-use Rattle.nmgc_core.specs.State.{State, names_of}
-use Rattle.nmgc_reach.specs.Owed.{weak_held, value_held, owed_of, owed_at, names_among, owed_by}
-use Rattle.nmgc_reach.specs.laws.NodeLaws.{as_many, state_same, nodes_kept}
-use Rattle.nmgc_heap.specs.Shape.{header_of, slots_of, MayChange}
-use Rattle.nmgc_heap.specs.Places.{Place, Means, HasSlots, ListMeans}
-use Rattle.nmgc_heap.specs.laws.Kinds.{fields_of_slots, slots_of_fields}
+use Rattle.nmgc_snapshot_laws.specs.State.{State, names_of}
+use Rattle.nmgc_world_spec.specs.Owed.{weak_held, value_held, owed_of, owed_at, names_among, owed_by}
+use Rattle.nmgc_world_laws.specs.laws.NodeLaws.{as_many, state_same, nodes_kept}
+use Rattle.nmgc_heap_spec.specs.Shape.{header_of, slots_of, MayChange}
+use Rattle.nmgc_heap_spec.specs.Places.{Place, Means, HasSlots, ListMeans}
+use Rattle.nmgc_heap_spec.specs.laws.Kinds.{fields_of_slots, slots_of_fields}
 use Rattle.nmgc_round.specs.View.{plain, word, Answer, Opening, Hand, Part, Seen, hand_now, holding, doing, finding, first_changed, answered, owed_word}
 use Rattle.nmgc_round.specs.Events.{done_by}
 use Rattle.nmgc_round.specs.Objects.{Object, IsLater, IsObject, IsIn}
@@ -39,7 +39,7 @@ use Rattle.nmgc_round.specs.Weaks.{CanDeref, CanFinalise, finaliser_named, deref
 use Rattle.nmgc_round.proofs.Lists.{list_set}
 use Rattle.nmgc_round.proofs.Frames.{node_frame}
 use Rattle.nmgc_round.proofs.Scans.{means_some}
-use Rattle.nmgc_round.proofs.Allows.{set_again}
+use Rattle.nmgc_lists.specs.laws.Items.{word_again as set_again}
 use Rattle.nmgc_round.proofs.Fixes.{safe_word}
 use Rattle.nmgc_round.proofs.Moves.{meant, inside, same_opening, owes_old, register_hand, hand_kept, still_law}
 use Rattle.nmgc_round.proofs.Writes.{Changes, field_law, owing_law, own_same, node_now, node_again}

@@ -2,21 +2,21 @@
 use Rattle.std.proofs.Common.{◌≡◌, inl, inr, ℕ, ◌+◌, ◌<◌, true, List, [], ◌∷◌, ◌++◌, set, refl, sym, ap, subst, ◌∙◌, Some}
 use mathlib.Core.Option.{some}
 use lib.ListN.{get_elem?}
-use Rattle.nmgc_graph.specs.declared.value.Name.{Name}
-use Rattle.nmgc_graph.specs.declared.value.Value.{Value}
-use Rattle.nmgc_graph.specs.declared.node.Node.{Node}
-use Rattle.nmgc_graph.specs.declared.node.Node.TheVariants.{Stack}
-use Rattle.nmgc_graph.specs.declared.command.Command.{Command}
-use Rattle.nmgc_graph.specs.declared.command.Reply.{Reply}
-use Rattle.nmgc_graph.specs.World.{World, node_of, IsSized}
-use Rattle.nmgc_graph.specs.Step.{with_node, step}
-use Rattle.nmgc_graph.specs.laws.Rows.{name_cases}
+use Rattle.nmgc_world_spec.specs.declared.value.Name.{Name}
+use Rattle.nmgc_world_spec.specs.declared.value.Value.{Value}
+use Rattle.nmgc_world_spec.specs.declared.node.Node.{Node}
+use Rattle.nmgc_world_spec.specs.declared.node.Node.TheVariants.{Stack}
+use Rattle.nmgc_world_spec.specs.declared.command.Command.{Command}
+use Rattle.nmgc_world_spec.specs.declared.command.Reply.{Reply}
+use Rattle.nmgc_world_spec.specs.World.{World, node_of, IsSized}
+use Rattle.nmgc_world_spec.specs.Step.{with_node, step}
+use Rattle.nmgc_world_spec.specs.laws.Orders.{name_cases}
 use Rattle.nmgc_object.specs.declared.size.TheConstants.{HEADER_WORDS}
-use Rattle.nmgc_core.specs.State.{State, names_of}
-use Rattle.nmgc_reach.specs.Owed.{owed_by}
-use Rattle.nmgc_reach.specs.laws.NodeLaws.{node_cases}
-use Rattle.nmgc_heap.specs.Shape.{header_of, slots_of, MayChange}
-use Rattle.nmgc_heap.specs.Places.{Place, HasSlots}
+use Rattle.nmgc_snapshot_laws.specs.State.{State, names_of}
+use Rattle.nmgc_world_spec.specs.Owed.{owed_by}
+use Rattle.nmgc_world_laws.specs.laws.NodeLaws.{node_cases}
+use Rattle.nmgc_heap_spec.specs.Shape.{header_of, slots_of, MayChange}
+use Rattle.nmgc_heap_spec.specs.Places.{Place, HasSlots}
 use Rattle.nmgc_round.specs.View.{Answer, Hand, Opening, Part, Seen, hand_now, leaves, doing}
 use Rattle.nmgc_round.specs.Events.{done_by}
 use Rattle.nmgc_round.specs.Own.{OwnSlots}

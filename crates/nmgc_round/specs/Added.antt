@@ -1,9 +1,9 @@
 -- What a step adds to the events: nothing, or one at their end. So no step drops an event or reorders any.
 use Rattle.std.specs.Prelude.{◌≡◌, ℕ, List, [], ◌∷◌, ◌++◌, Option, Bool, true, false}
-use Rattle.nmgc_graph.specs.declared.value.Value.{Value}
-use Rattle.nmgc_graph.specs.declared.command.Command.{Command}
-use Rattle.nmgc_graph.specs.declared.command.Reply.{Reply}
-use Rattle.nmgc_core.specs.declared.event.Entry.{Entry}
+use Rattle.nmgc_world_spec.specs.declared.value.Value.{Value}
+use Rattle.nmgc_world_spec.specs.declared.command.Command.{Command}
+use Rattle.nmgc_world_spec.specs.declared.command.Reply.{Reply}
+use Rattle.nmgc_snapshot_laws.specs.declared.event.Entry.{Entry}
 use Rattle.nmgc_round.specs.Events.{did, scanned}
 use Rattle.nmgc_round.specs.View.{Opening, Seen}
 use Rattle.nmgc_round.specs.Rule.{Keeps}

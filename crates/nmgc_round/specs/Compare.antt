@@ -1,9 +1,9 @@
 -- Compare-exchange of a field: when it may be taken, and what its seat knows after it.
 use Rattle.std.specs.Prelude.{◌≡◌, ◌≢◌, ℕ, ◌*◌, ◌<◌, Bool, true, false, List, set, if◌then◌else◌}
-use Rattle.nmgc_graph.specs.declared.command.Operand.{Operand}
-use Rattle.nmgc_graph.specs.declared.command.Command.{Command}
-use Rattle.nmgc_graph.specs.declared.command.Command.TheVariants.{Cas}
-use Rattle.nmgc_graph.specs.declared.command.Reply.TheVariants as reply
+use Rattle.nmgc_world_spec.specs.declared.command.Operand.{Operand}
+use Rattle.nmgc_world_spec.specs.declared.command.Command.{Command}
+use Rattle.nmgc_world_spec.specs.declared.command.Command.TheVariants.{Cas}
+use Rattle.nmgc_world_spec.specs.declared.command.Reply.TheVariants as reply
 use Rattle.nmgc_object.specs.declared.words.Header.{Header}
 use Rattle.nmgc_round.specs.declared.compare.Exchanged.{Exchanged}
 use Rattle.nmgc_round.specs.declared.compare.Exchanged.TheVariants as outcome

@@ -2,14 +2,14 @@
 use Rattle.std.specs.Prelude.{◌≡◌, true, ℕ, ◌<◌, List, ◌∷◌, ◌++◌, map, length, Contains}
 use mathlib.Core.Option.{some}
 use lib.ListN.{get_elem?}
-use Rattle.nmgc_graph.specs.declared.value.Name.{Name}
-use Rattle.nmgc_graph.specs.declared.node.Node.{Node}
-use Rattle.nmgc_graph.specs.Step.{shared_name}
+use Rattle.nmgc_world_spec.specs.declared.value.Name.{Name}
+use Rattle.nmgc_world_spec.specs.declared.node.Node.{Node}
+use Rattle.nmgc_world_spec.specs.Step.{shared_name}
 use Rattle.nmgc_object.specs.declared.layout.TheConstants.{SHARED_PLACE}
 use Rattle.nmgc_object.specs.Places.{word_total}
-use Rattle.nmgc_core.specs.declared.event.Entry.{Entry}
-use Rattle.nmgc_heap.specs.Places.{Place}
-use Rattle.nmgc_heap.specs.Represents.{Represents}
+use Rattle.nmgc_snapshot_laws.specs.declared.event.Entry.{Entry}
+use Rattle.nmgc_heap_spec.specs.Places.{Place}
+use Rattle.nmgc_heap_spec.specs.Represents.{Represents}
 use Rattle.nmgc_round.specs.Events.{Happening, IsLegal, done_by, scans_in}
 use Rattle.nmgc_round.specs.View.{Opening, Part, Seen, exclusive}
 use Rattle.nmgc_round.specs.Marking.{marks_of, marks_after}

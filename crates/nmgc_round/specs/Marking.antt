@@ -1,14 +1,14 @@
 -- The fold of the collector's scans: what is marked and queued, by the opening state and its places alone.
 use Rattle.std.specs.Prelude.{ℕ, ◌+◌, ◌/◌, ◌%◌, ◌==◌, ◌&&◌, ◌||◌, not, nat_le, Bool, true, false, List, [], ◌∷◌, ◌++◌, zero, suc, Option, Some, None, is_some, if◌then◌else◌}
-use Rattle.nmgc_graph.specs.declared.value.Name.{Name}
-use Rattle.nmgc_graph.specs.declared.node.Node.{Node}
-use Rattle.nmgc_graph.specs.declared.node.Node.TheVariants.{Thunk}
-use Rattle.nmgc_graph.specs.World.{World, node_of}
-use Rattle.nmgc_core.specs.declared.event.Entry.{Entry}
-use Rattle.nmgc_core.specs.State.{State, is_listed, entry_of}
-use Rattle.nmgc_core.specs.Scan.{fields_of}
+use Rattle.nmgc_world_spec.specs.declared.value.Name.{Name}
+use Rattle.nmgc_world_spec.specs.declared.node.Node.{Node}
+use Rattle.nmgc_world_spec.specs.declared.node.Node.TheVariants.{Thunk}
+use Rattle.nmgc_world_spec.specs.World.{World, node_of}
+use Rattle.nmgc_snapshot_laws.specs.declared.event.Entry.{Entry}
+use Rattle.nmgc_snapshot_laws.specs.State.{State, is_listed, entry_of}
+use Rattle.nmgc_snapshot_laws.specs.Scan.{fields_of}
 use Rattle.nmgc_object.specs.declared.size.TheConstants.{HEADER_WORDS}
-use Rattle.nmgc_heap.specs.Places.{Place}
+use Rattle.nmgc_heap_spec.specs.Places.{Place}
 use Rattle.nmgc_round.specs.View.{Scan, Opening}
 
 -- the marked names and the queue

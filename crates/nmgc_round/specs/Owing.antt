@@ -1,6 +1,6 @@
 -- What a step owes beside the word that it found: words that the view's fixed words name.
 use Rattle.std.specs.Prelude.{ℕ, zero, suc, ◌+◌, ◌==◌, ◌&&◌, Bool, true, false, List, [], ◌∷◌, ◌++◌, if◌then◌else◌}
-use Rattle.nmgc_graph.specs.declared.command.Command.{Command}
+use Rattle.nmgc_world_spec.specs.declared.command.Command.{Command}
 use Rattle.nmgc_round.specs.View.{Answer, FixedWord, Part, Seen, changing, doing}
 
 -- the word that is named at a place and offset, or 0

@@ -3,15 +3,15 @@
 -- Only its maker pushes to a stack and pops off it, so a mutator's rows tell the words in the slots of its stacks,
 -- from those on that the round's opening tells: what the world's values are as words, by the places of objects.
 use Rattle.std.specs.Prelude.{◌≡◌, ℕ, ◌+◌, ◌*◌, ◌==◌, List, [], ◌∷◌, ◌++◌, map, Option, Some, None, if◌then◌else◌}
-use Rattle.nmgc_graph.specs.declared.value.Name.{Name}
-use Rattle.nmgc_graph.specs.declared.value.Value.{Value}
-use Rattle.nmgc_graph.specs.declared.value.Value.TheVariants as value
-use Rattle.nmgc_graph.specs.declared.node.Node.{Node}
-use Rattle.nmgc_graph.specs.declared.node.Node.TheVariants.{Stack}
-use Rattle.nmgc_graph.specs.Change.{is_same_name}
+use Rattle.nmgc_world_spec.specs.declared.value.Name.{Name}
+use Rattle.nmgc_world_spec.specs.declared.value.Value.{Value}
+use Rattle.nmgc_world_spec.specs.declared.value.Value.TheVariants as value
+use Rattle.nmgc_world_spec.specs.declared.node.Node.{Node}
+use Rattle.nmgc_world_spec.specs.declared.node.Node.TheVariants.{Stack}
+use Rattle.nmgc_world_spec.specs.Change.{is_same_name}
 use Rattle.nmgc_object.specs.declared.words.TheConstants.{NIL_WORD, ZERO_WORD}
-use Rattle.nmgc_graph.specs.World.{World, node_of}
-use Rattle.nmgc_heap.specs.Places.{Place, ListMeans}
+use Rattle.nmgc_world_spec.specs.World.{World, node_of}
+use Rattle.nmgc_heap_spec.specs.Places.{Place, ListMeans}
 use Rattle.nmgc_round.specs.View.{Slots, Hand, Opening}
 use Rattle.nmgc_round.specs.Objects.{Object, IsObject, IsIn}
 

@@ -1,10 +1,10 @@
 -- The result of a thunk: when it may be loaded or set, and what the seat knows then.
 use Rattle.std.specs.Prelude.{◌≡◌, ℕ, ◌+◌, ◌-◌, ◌*◌, ◌/◌, ◌<◌, ◌==◌, Bool, true, false, List, Contains, if◌then◌else◌}
-use Rattle.nmgc_graph.specs.declared.node.Kind.TheVariants as kind
-use Rattle.nmgc_graph.specs.declared.command.Operand.{Operand}
-use Rattle.nmgc_graph.specs.declared.command.Command.{Command}
-use Rattle.nmgc_graph.specs.declared.command.Command.TheVariants.{Update, Force}
-use Rattle.nmgc_graph.specs.declared.command.Reply.TheVariants.{Updated, Already, Nothing}
+use Rattle.nmgc_world_spec.specs.declared.node.Kind.TheVariants as kind
+use Rattle.nmgc_world_spec.specs.declared.command.Operand.{Operand}
+use Rattle.nmgc_world_spec.specs.declared.command.Command.{Command}
+use Rattle.nmgc_world_spec.specs.declared.command.Command.TheVariants.{Update, Force}
+use Rattle.nmgc_world_spec.specs.declared.command.Reply.TheVariants.{Updated, Already, Nothing}
 use Rattle.nmgc_object.specs.declared.words.Header.{Header}
 use Rattle.nmgc_object.specs.declared.words.TheConstants.{FIELDS_UNIT}
 use Rattle.nmgc_object.specs.declared.size.TheConstants.{HEADER_WORDS}

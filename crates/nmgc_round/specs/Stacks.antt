@@ -1,12 +1,12 @@
 -- A slot of an own stack: when it may be loaded or swapped, and what the seat knows then.
 use Rattle.std.specs.Prelude.{◌≡◌, ◌≢◌, ◌⊎◌, ℕ, ◌+◌, ◌*◌, ◌<◌, ◌≤◌, List, length, slice_index, Contains, Some}
-use Rattle.nmgc_graph.specs.declared.value.Name.{Name}
-use Rattle.nmgc_graph.specs.declared.node.Kind.TheVariants as kind
-use Rattle.nmgc_graph.specs.declared.command.Operand.{Operand}
-use Rattle.nmgc_graph.specs.declared.command.Command.{Command}
-use Rattle.nmgc_graph.specs.declared.command.Command.TheVariants.{Push, Pop}
-use Rattle.nmgc_graph.specs.declared.command.Reply.{Reply}
-use Rattle.nmgc_graph.specs.declared.command.Reply.TheVariants.{Fine, StackFull, StackEmpty}
+use Rattle.nmgc_world_spec.specs.declared.value.Name.{Name}
+use Rattle.nmgc_world_spec.specs.declared.node.Kind.TheVariants as kind
+use Rattle.nmgc_world_spec.specs.declared.command.Operand.{Operand}
+use Rattle.nmgc_world_spec.specs.declared.command.Command.{Command}
+use Rattle.nmgc_world_spec.specs.declared.command.Command.TheVariants.{Push, Pop}
+use Rattle.nmgc_world_spec.specs.declared.command.Reply.{Reply}
+use Rattle.nmgc_world_spec.specs.declared.command.Reply.TheVariants.{Fine, StackFull, StackEmpty}
 use Rattle.nmgc_object.specs.Words.{name_word, IsName}
 use Rattle.nmgc_object.specs.declared.words.Header.{Header}
 use Rattle.nmgc_object.specs.declared.layout.TheConstants.{SHARED_PLACE}

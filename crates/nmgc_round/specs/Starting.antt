@@ -1,11 +1,11 @@
 -- When a round may start: the words represent the world, and what is outside them stands for it.
 use Rattle.std.specs.Prelude.{◌≡◌, ℕ, ◌<◌, false, List, [], length, Contains, Some}
-use Rattle.nmgc_graph.specs.declared.node.Node.{Node}
-use Rattle.nmgc_graph.specs.World.{IsWorld, state_of, node_of, serial_of}
-use Rattle.nmgc_core.specs.declared.event.Entry.{Entry}
-use Rattle.nmgc_core.specs.State.{names_of, unmarked}
-use Rattle.nmgc_heap.specs.Places.{ListMeans}
-use Rattle.nmgc_heap.specs.Represents.{Represents, NoNode}
+use Rattle.nmgc_world_spec.specs.declared.node.Node.{Node}
+use Rattle.nmgc_world_spec.specs.World.{IsWorld, state_of, node_of, serial_of}
+use Rattle.nmgc_snapshot_laws.specs.declared.event.Entry.{Entry}
+use Rattle.nmgc_snapshot_laws.specs.State.{names_of, unmarked}
+use Rattle.nmgc_heap_spec.specs.Places.{ListMeans}
+use Rattle.nmgc_heap_spec.specs.Represents.{Represents, NoNode}
 use Rattle.nmgc_round.specs.View.{Hand, Opening, hand_of}
 use Rattle.nmgc_round.specs.Objects.{Object, IsLater, IsSnapshot, earlier}
 use Rattle.nmgc_round.specs.Own.{old_stacks}

@@ -1,10 +1,10 @@
 -- The value of a weak pointer: when it may be loaded or taken, and what the seat knows then.
 use Rattle.std.specs.Prelude.{◌≡◌, ℕ, ◌+◌, ◌*◌, ◌==◌, [], ◌∷◌, Contains, if◌then◌else◌}
-use Rattle.nmgc_graph.specs.declared.node.Kind.TheVariants as kind
-use Rattle.nmgc_graph.specs.declared.command.Operand.{Operand}
-use Rattle.nmgc_graph.specs.declared.command.Command.{Command}
-use Rattle.nmgc_graph.specs.declared.command.Command.TheVariants.{Deref, Finalise}
-use Rattle.nmgc_graph.specs.declared.command.Reply.TheVariants.{Dead}
+use Rattle.nmgc_world_spec.specs.declared.node.Kind.TheVariants as kind
+use Rattle.nmgc_world_spec.specs.declared.command.Operand.{Operand}
+use Rattle.nmgc_world_spec.specs.declared.command.Command.{Command}
+use Rattle.nmgc_world_spec.specs.declared.command.Command.TheVariants.{Deref, Finalise}
+use Rattle.nmgc_world_spec.specs.declared.command.Reply.TheVariants.{Dead}
 use Rattle.nmgc_object.specs.declared.words.Header.{Header}
 use Rattle.nmgc_object.specs.declared.size.TheConstants.{HEADER_WORDS}
 use Rattle.nmgc_round.specs.View.{plain, word, Opening, Part, Seen, changing, doing, owed_word, finding}

@@ -5,8 +5,8 @@
 //! no place for a command or a place in the heap, so those come by a type parameter, which each public step
 //! picks from its own arguments.
 ghost use Rattle.std.specs.Prelude.{◌≡◌, ◌==◌, ℕ, [], set, slice_index};
-ghost use Rattle.nmgc_graph.specs.declared.command.Command.{Command};
-ghost use Rattle.nmgc_graph.specs.declared.command.Command.TheVariants.{Yield};
+ghost use Rattle.nmgc_world_spec.specs.declared.command.Command.{Command};
+ghost use Rattle.nmgc_world_spec.specs.declared.command.Command.TheVariants.{Yield};
 ghost use Rattle.nmgc_round.specs.View.{Opening, no_opening, word, answered, swapped, met, met_at_birth, stored, loaded, gave_birth, whole, exclusive, nobody};
 ghost use Rattle.nmgc_round.specs.Ready.{Mutates, scanned_by};
 ghost use Rattle.nmgc_round.specs.Told.{taken, Tells, TellsField, TellsQueue, TellsScan, IsSafe};

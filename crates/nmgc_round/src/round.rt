@@ -19,7 +19,7 @@ use crate::plays::{Begun, Ends, Opens};
 use crate::table::{CollectorSeat, Finished, MutatorSeat, Round, Shared, Started};
 use crate::view::Opened;
 use crate::words::Words;
-use nmgc_graph::{List, Place};
+use nmgc_lists::{List, Place};
 use nmgc_object::Layout;
 use std::marker::Brand;
 

@@ -9,7 +9,7 @@ ghost use Rattle.nmgc_round.specs.Seat.{IsAt, seen, word_count, opening_of};
 
 use crate::plays::{Both, CollectorAlone, FirstMutator};
 use crate::table::{CollectorSeat, MutatorSeat, Round};
-use nmgc_graph::List;
+use nmgc_lists::List;
 
 impl Round {
     /// Cuts off the seat of the first mutator. The seat keeps the other parts.

@@ -27,8 +27,8 @@ use crate::plays::{
     Takes,
 };
 use crate::table::{CollectorSeat, MutatorSeat, Round};
-use nmgc_graph::Command;
 use nmgc_object::{Address, HEADER_WORDS};
+use nmgc_world_spec::Command;
 use std::marker::Brand;
 
 impl Round {

@@ -1,11 +1,2 @@
 -- What the answer to a script's bytes says of its report.
-use Rattle.std.proofs.Common.{ℕ, List, Ok, Err}
-use Rattle.std.specs.Prelude.{IfOk}
-use Rattle.nmgc_cli.specs.Answer.{Reported}
-use Rattle.nmgc_cli.specs.Runs.{IsRan, IsOfScript}
-use Rattle.nmgc_cli.specs.Told.{AnswersBytes}
-
--- a report that was answered to bytes is one of a script
-pub of_bytes : (bytes : List ℕ) (answer : Reported) → AnswersBytes IsRan bytes answer → IfOk answer IsOfScript
-of_bytes bytes (Ok report) h = record { script = h.0; limits = h.2.limits; run = h.2.run }
-of_bytes bytes (Err refusal) h = tt
+pub use Rattle.nmgc_cli.specs.laws.Common.{of_bytes}

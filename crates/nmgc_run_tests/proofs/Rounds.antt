@@ -3,7 +3,7 @@ use Rattle.std.proofs.Common.{ℕ, ◌≤◌, length, sym, subst}
 use Rattle.nmgc_script.specs.declared.script.Script.{Script}
 use Rattle.nmgc_cycle.specs.declared.collector.Collector.{Collector}
 use Rattle.nmgc_cycle.specs.Keeps.{DidRound}
-use Rattle.nmgc_cycle.specs.Limits.{IsInLimits}
+use Rattle.nmgc_script.specs.Limits.{IsInLimits}
 
 pub has_line : (script : Script) (old new : Collector) → IsInLimits script → DidRound script old new → 1 ≤ length new.inbox
 has_line script old new limits did = subst (λ (n : ℕ). 1 ≤ n) (sym did.0.kept.inbox) limits.fits.some_thread

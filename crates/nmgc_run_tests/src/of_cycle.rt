@@ -5,7 +5,7 @@
 //! fails the test and doesn't hang. What is read under a gate is told too, so a round whose threads only pass the
 //! gate fails as well.
 ghost use Rattle.std.specs.Prelude.{IfOk};
-ghost use Rattle.nmgc_cycle.specs.Limits.{IsInLimits};
+ghost use Rattle.nmgc_script.specs.Limits.{IsInLimits};
 
 use crate::worked::{
     CYCLES, EXCHANGE, EXCHANGE_REPORT, FIRST_UPDATED_REPORT, FULL_CYCLES, OBJECTS, OVERWRITTEN,
@@ -13,12 +13,12 @@ use crate::worked::{
     THREE_SEGMENTS_REPORT, THUNK, WEAKS,
 };
 use nmgc_cycle::Collector;
-use nmgc_graph::{MAKERS, Reply, Value};
 use nmgc_journal::Report;
 use nmgc_journal::text::text;
-use nmgc_limits::MAX_SCRIPT_BYTES;
+use nmgc_limits::{MAKERS, MAX_SCRIPT_BYTES};
 use nmgc_round::{Gate, OpenGate};
 use nmgc_script::{Script, parse};
+use nmgc_world_spec::{Reply, Value};
 use std::alloc::Global;
 use std::process::Abort;
 use std::sync::atomic::{AtomicU64, Ordering};

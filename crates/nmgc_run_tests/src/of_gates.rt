@@ -4,13 +4,14 @@
 //! the test and doesn't hang. It counts those who came: so a worker that passes no gate fails the test, and so does one that
 //! passes it under another number.
 ghost use Rattle.std.specs.Prelude.{◌≤◌, length, IfOk, IfSome};
-ghost use Rattle.nmgc_cycle.specs.Limits.{IsInLimits};
+ghost use Rattle.nmgc_script.specs.Limits.{IsInLimits};
 
 use crate::of_cycle::{Meet, script_of, told};
 use crate::worked::{EXCHANGE, THREE_SEGMENTS, WAITING};
 use itoa::Buffer;
 use nmgc_cycle::{Collector, StopEnd};
-use nmgc_graph::{MAKERS, NoMemory};
+use nmgc_limits::MAKERS;
+use nmgc_lists::NoMemory;
 use nmgc_round::{Gate, OpenGate};
 use nmgc_script::Script;
 use std::alloc::Global;

@@ -2,9 +2,10 @@
 ghost use Rattle.std.specs.Prelude.{◌^◌, IfOk};
 ghost use Rattle.nmgc_image.specs.Spelling.{IsSpelledWithin};
 
-use nmgc_graph::{List, Name, NoMemory, Node, Value};
 use nmgc_image::{Image, image_text, read_image};
+use nmgc_lists::{List, NoMemory};
 use nmgc_retain::{Hop, Level, Levels, Path, Retained, Root, retain, verify};
+use nmgc_world_spec::{Name, Node, Value};
 use std::alloc::Global;
 use std::process::Abort;
 use std::test::Fail;

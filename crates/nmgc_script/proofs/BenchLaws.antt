@@ -5,10 +5,10 @@ use Rattle.std.proofs.lemmas.List.Elements.{All-append, All-cons, All-nil, All-r
 use Rattle.std.specs.Prelude.{All, replicate}
 use lib.Count.{ones}
 use Rattle.nmgc_limits.specs.Limits.{most_script_bytes}
-use Rattle.nmgc_graph.specs.Command.{Fits, HasRegistersBelow, IsOperand, IsOperandBelow}
-use Rattle.nmgc_graph.specs.declared.command.Command.{Command}
-use Rattle.nmgc_graph.specs.declared.command.Command.TheVariants.{Nil, Set}
-use Rattle.nmgc_graph.specs.declared.command.Operand.TheVariants.{Register, Shared}
+use Rattle.nmgc_world_spec.specs.Command.{Fits, HasRegistersBelow, IsOperand, IsOperandBelow}
+use Rattle.nmgc_world_spec.specs.declared.command.Command.{Command}
+use Rattle.nmgc_world_spec.specs.declared.command.Command.TheVariants.{Nil, Set}
+use Rattle.nmgc_world_spec.specs.declared.command.Operand.TheVariants.{Register, Shared}
 use Rattle.nmgc_script.specs.Limits.{FitsConfig, FitsScript, HasFewCommands}
 use Rattle.nmgc_script.specs.Bench.{most_batches, list_cells, cell, batch, repeated, bench_program, bench_config, bench_script}
 

@@ -11,7 +11,8 @@ use Rattle.nmgc_limits.specs.Limits.{IsSegmentSize, least_segment_words, most_nu
 use Rattle.nmgc_script.specs.Limits.{FitsConfig}
 use Rattle.nmgc_script.specs.Spelling.{heap_words}
 use Rattle.nmgc_script.specs.Reading.{number_at, between_at, segment_size_at, sizes_at, pace_at, config_at, numbers_at, or_cause, heap_words_at}
-use Rattle.nmgc_script.proofs.WordLaws.{Reads, bind_ok, guard_ok, chosen, ok_is, number_reads}
+use Rattle.nmgc_script.proofs.WordLaws.{Reads, bind_ok, guard_ok, ok_is, number_reads}
+use Rattle.nmgc_lists.specs.laws.Truths.{chosen}
 use Rattle.nmgc_script.proofs.SectionLaws.{or_cause_ok}
 
 -- the number is within two limits

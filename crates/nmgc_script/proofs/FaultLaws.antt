@@ -4,8 +4,8 @@ use Rattle.std.specs.Str.{bytes_eq}
 use Rattle.std.proofs.lemmas.Bool.{leb-false, eq-eqb, eqb-true}
 use Rattle.std.proofs.lemmas.Slice.Eq.{bytes_eq-Decides}
 use Rattle.nmgc_limits.specs.Limits.{most_heap_words}
-use Rattle.nmgc_graph.specs.declared.command.Command.{Command}
-use Rattle.nmgc_graph.specs.Command.{HasRegistersBelow, HasNumbers, words_made}
+use Rattle.nmgc_world_spec.specs.declared.command.Command.{Command}
+use Rattle.nmgc_world_spec.specs.Command.{HasRegistersBelow, HasNumbers, words_made}
 use Rattle.nmgc_script.specs.declared.fault.Cause.{Cause}
 use Rattle.nmgc_script.specs.declared.fault.Cause.TheVariants as cause
 use Rattle.nmgc_script.specs.declared.fault.ScriptFault.{ScriptFault}
@@ -22,7 +22,8 @@ use Rattle.nmgc_script.specs.Spelling.{spaced, verb_name, command_words, heap_wo
 use Rattle.nmgc_script.specs.Text.{words_of, kept_lines, end_of}
 use Rattle.nmgc_script.specs.Faults.{first_of, HasArity, HasToBegin, HasFault, order_of, IsFirstFault, IsFaultless, begun_with, TellsRest, TellsHeap, Tells, IsToldOf}
 use Rattle.nmgc_script.specs.Reading.{◌>>=◌, or_cause, verb_at, operands_at, sized, command_at, thread_at, section_at, is_section, entry_at, begun_after, with_entry, rest_at, programs_at, threads_at, version_at, heap_words_at, numbers_at, heap_at, script_at, at_line, GivesAt}
-use Rattle.nmgc_script.proofs.WordLaws.{FailsBy, fails_choose, bind_ok, chosen, ok_is}
+use Rattle.nmgc_script.proofs.WordLaws.{FailsBy, fails_choose, bind_ok, ok_is}
+use Rattle.nmgc_lists.specs.laws.Truths.{chosen}
 use Rattle.nmgc_script.proofs.VerbLaws.{verb_takes, verb_again, verb_fails, verb_of_nothing}
 use Rattle.nmgc_script.proofs.CommandLaws.{Spell, operands_spell, sized_takes, command_again}
 use Rattle.nmgc_script.proofs.CauseLaws.{result_cases, fails_is, HasCount, TellsArity, operands_tell}

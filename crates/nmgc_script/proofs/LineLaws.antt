@@ -5,15 +5,16 @@ use Rattle.std.proofs.lemmas.Bool.{ne_eqb, leb-true}
 use Rattle.std.proofs.lemmas.Bool.Decides.{eqb_tells}
 use Rattle.std.proofs.lemmas.Fmt.{decimal_by_steps, decimal_digit}
 use Rattle.std.proofs.lemmas.List.Elements.{recursion_from_All}
-use Rattle.nmgc_graph.specs.declared.command.Operand.{Operand}
-use Rattle.nmgc_graph.specs.declared.command.Operand.TheVariants.{Register, Shared}
-use Rattle.nmgc_graph.specs.declared.command.Command.{Command}
-use Rattle.nmgc_graph.specs.declared.command.Command.TheVariants.{Num, Nil, Mov, Con, Var, Arr, Thunk, Weak, Stack, Get, Set, Cas, Update, Force, Push, Pop, Deref, Finalise, NextFin, Show, Same, Yield, Collect, Full}
-use Rattle.nmgc_graph.specs.Command.{IsRegister, IsOperand, Fits}
+use Rattle.nmgc_world_spec.specs.declared.command.Operand.{Operand}
+use Rattle.nmgc_world_spec.specs.declared.command.Operand.TheVariants.{Register, Shared}
+use Rattle.nmgc_world_spec.specs.declared.command.Command.{Command}
+use Rattle.nmgc_world_spec.specs.declared.command.Command.TheVariants.{Num, Nil, Mov, Con, Var, Arr, Thunk, Weak, Stack, Get, Set, Cas, Update, Force, Push, Pop, Deref, Finalise, NextFin, Show, Same, Yield, Collect, Full}
+use Rattle.nmgc_world_spec.specs.Command.{IsRegister, IsOperand, Fits}
 use Rattle.nmgc_script.specs.declared.script.Config.{Config}
 use Rattle.nmgc_script.specs.Limits.{FitsConfig}
 use Rattle.nmgc_script.specs.Text.{words_of, onto_first}
 use Rattle.nmgc_script.specs.Spelling.{spaced, operand_word, register_word, command_words, heap_words, section_words, version_words}
+use Rattle.nmgc_lists.specs.laws.Truths.{cond_true}
 
 onto_first_spaced : (b : ℕ) (words : List (List ℕ)) → spaced (onto_first b words) ≡ b ∷ spaced words
 onto_first_spaced b [] = refl
@@ -82,10 +83,6 @@ operands_bare (o ∷ os) h = (operand_bare o h.0, operands_bare os h.1)
 abbrev is_bare : List ℕ → Bool
 is_bare [] = true
 is_bare (b ∷ bytes) = cond (leb 48 b) (is_bare bytes) false
-
-cond_true : (a b : Bool) → cond a b false ≡ true → (a ≡ true) × (b ≡ true)
-cond_true true b e = (refl, e)
-cond_true false b e = absurd cc
 
 tested : (word : List ℕ) → is_bare word ≡ true → IsBare word
 tested [] e = tt

@@ -4,8 +4,8 @@ use Rattle.std.specs.List.{AllByRecursion, All}
 use Rattle.std.proofs.lemmas.Bool.{ne_eqb}
 use Rattle.std.proofs.lemmas.List.{append-nil}
 use Rattle.std.proofs.lemmas.List.Elements.{recursion_from_All}
-use Rattle.nmgc_graph.specs.declared.command.Command.{Command}
-use Rattle.nmgc_graph.specs.Command.{Fits}
+use Rattle.nmgc_world_spec.specs.declared.command.Command.{Command}
+use Rattle.nmgc_world_spec.specs.Command.{Fits}
 use Rattle.nmgc_script.specs.declared.script.Script.{Script}
 use Rattle.nmgc_script.specs.Limits.{FitsScript}
 use Rattle.nmgc_script.specs.laws.Versions.{threads_few, usable_number}

@@ -8,8 +8,8 @@ use Rattle.std.proofs.lemmas.List.Sums.{sum_by-cons}
 use Rattle.std.proofs.lemmas.List.Elements.{All-from_recursion, All-weaker, recursion_from_All}
 use Rattle.std.proofs.lemmas.Slice.Eq.{bytes_eq-Decides}
 use Rattle.nmgc_limits.specs.Limits.{most_heap_words}
-use Rattle.nmgc_graph.specs.declared.command.Command.{Command}
-use Rattle.nmgc_graph.specs.Command.{Fits, HasRegistersBelow}
+use Rattle.nmgc_world_spec.specs.declared.command.Command.{Command}
+use Rattle.nmgc_world_spec.specs.Command.{Fits, HasRegistersBelow}
 use Rattle.nmgc_script.specs.declared.fault.Cause.{Cause}
 use Rattle.nmgc_script.specs.declared.fault.Cause.TheVariants as cause
 use Rattle.nmgc_script.specs.declared.fault.ScriptFault.{ScriptFault}
@@ -23,7 +23,8 @@ use Rattle.nmgc_script.specs.Limits.{FitsConfig, FitsScript, IsVersion, total_wo
 use Rattle.nmgc_script.specs.Text.{lines_of, words_of, kept_from, kept_lines, end_of, onto_first, is_passed}
 use Rattle.nmgc_script.specs.Spelling.{spaced, heap_words, section_words, version_words, command_words, program_lines, section_lines, script_lines, Spells}
 use Rattle.nmgc_script.specs.Reading.{heap_words_at, section_at, rest_at, programs_at, threads_at, version_at, heap_at, script_at, at_line, GivesAt}
-use Rattle.nmgc_script.proofs.WordLaws.{bind_ok, guard_ok, chosen, ok_is}
+use Rattle.nmgc_script.proofs.WordLaws.{bind_ok, guard_ok, ok_is}
+use Rattle.nmgc_lists.specs.laws.Truths.{chosen}
 use Rattle.nmgc_script.proofs.CommandLaws.{Fit}
 use Rattle.nmgc_script.proofs.LineLaws.{spaced-words_of, words_of-line, heap_line_words, section_line_words, first_line, second_line}
 use Rattle.nmgc_script.proofs.ConfigLaws.{heap_takes, heap_again}

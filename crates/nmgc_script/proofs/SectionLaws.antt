@@ -6,7 +6,7 @@ use Rattle.std.proofs.lemmas.Bool.{le-leb, leb-true, eq-eqb, eqb-true}
 use Rattle.std.proofs.Math.Nat.{mul-le-mul_right}
 use Rattle.std.proofs.lemmas.Slice.Eq.{bytes_eq-Decides}
 use Rattle.nmgc_limits.specs.Limits.{most_heap_words}
-use Rattle.nmgc_graph.specs.declared.command.Command.{Command}
+use Rattle.nmgc_world_spec.specs.declared.command.Command.{Command}
 use Rattle.nmgc_script.specs.declared.fault.Cause.{Cause}
 use Rattle.nmgc_script.specs.declared.fault.Cause.TheVariants as cause
 use Rattle.nmgc_script.specs.declared.script.Config.{Config}
@@ -20,7 +20,8 @@ use Rattle.nmgc_script.specs.Limits.{total_words}
 use Rattle.nmgc_script.specs.Text.{words_of}
 use Rattle.nmgc_script.specs.Spelling.{spaced, verb_name, command_words, section_words, program_lines, section_lines}
 use Rattle.nmgc_script.specs.Reading.{◌>>=◌, number_at, or_cause, thread_at, section_at, is_section, entry_at, command_at, at_line, with_entry, begun_after, rest_at}
-use Rattle.nmgc_script.proofs.WordLaws.{Reads, bind_ok, guard_ok, chosen, ok_is, number_reads}
+use Rattle.nmgc_script.proofs.WordLaws.{Reads, bind_ok, guard_ok, ok_is, number_reads}
+use Rattle.nmgc_lists.specs.laws.Truths.{chosen}
 use Rattle.nmgc_script.proofs.CommandLaws.{Fit, words_read, command_reads}
 use Rattle.nmgc_script.proofs.LineLaws.{spaced-words_of, words_of-line, command_line_words, section_line_words}
 

@@ -9,7 +9,8 @@ use Rattle.nmgc_script.specs.declared.verbs.Verb.TheVariants as verb
 use Rattle.nmgc_script.specs.declared.verbs.TheConstants.{VERBS}
 use Rattle.nmgc_script.specs.Spelling.{verb_name}
 use Rattle.nmgc_script.specs.Reading.{first_named, verb_at}
-use Rattle.nmgc_script.proofs.WordLaws.{FailsBy, fails_choose, chosen, ok_is}
+use Rattle.nmgc_script.proofs.WordLaws.{FailsBy, fails_choose, ok_is}
+use Rattle.nmgc_lists.specs.laws.Truths.{chosen}
 
 first_takes : (name : List ℕ) (vs : List Verb) (v : Verb) → first_named name vs ≡ Ok v → name ≡ verb_name v
 unfolding first_named

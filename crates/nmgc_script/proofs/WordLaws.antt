@@ -1,20 +1,21 @@
 -- A word that is read is the word that was written, and what was written is read again.
-use Rattle.std.proofs.Common.{◌≡◌, ◌≤◌, ◌<◌, ◌-◌, ◌^◌, ◌⊎◌, ℕ, List, [], ◌∷◌, map, refl, subst, arith, inl, inr, Bool, true, false, cond, decimal, codes, Result, Ok, Err, ◌&&◌, leb, eqb}
+use Rattle.std.proofs.Common.{◌≡◌, ◌≤◌, ◌<◌, ◌-◌, ◌^◌, ℕ, List, [], ◌∷◌, map, refl, subst, arith, inl, inr, Bool, true, false, cond, decimal, codes, Result, Ok, Err, ◌&&◌, leb, eqb}
 use Rattle.std.specs.List.{AllByRecursion}
 use Rattle.std.proofs.lemmas.Fmt.{decimal_is_IsNumeral}
 use Rattle.std.proofs.lemmas.Slice.Eq.{bytes_eq-Decides}
 use Rattle.std.proofs.lemmas.Bool.{le-leb, leb-true, eqb-true}
 use Rattle.std.specs.Str.{bytes_eq}
 use Rattle.std.specs.Str.Parse.{digits_value}
-use Rattle.nmgc_graph.specs.declared.command.Operand.{Operand}
-use Rattle.nmgc_graph.specs.declared.command.Operand.TheVariants.{Register, Shared}
+use Rattle.nmgc_world_spec.specs.declared.command.Operand.{Operand}
+use Rattle.nmgc_world_spec.specs.declared.command.Operand.TheVariants.{Register, Shared}
 use Rattle.nmgc_script.specs.declared.fault.Cause.{Cause}
 use Rattle.nmgc_script.specs.declared.fault.Cause.TheVariants as cause
 use Rattle.nmgc_script.specs.declared.version.Version.{Version}
 use Rattle.nmgc_script.specs.laws.Versions.{IsUsable}
-use Rattle.nmgc_graph.specs.Command.{IsRegisterBelow, IsOperandBelow}
+use Rattle.nmgc_world_spec.specs.Command.{IsRegisterBelow, IsOperandBelow}
 use Rattle.nmgc_script.specs.Spelling.{register_word, operand_word}
 use Rattle.nmgc_script.specs.Reading.{◌>>=◌, number_at, register_at, operand_at, each_at}
+use Rattle.nmgc_lists.specs.laws.Truths.{and_both as both_true, chosen}
 
 -- f reads exactly what g writes of the values with P
 pub record Reads {A B E : Type 0} (f : A → Result B E) (g : B → A) (P : B → Type 0) : Type 0 where
@@ -31,11 +32,6 @@ pub guard_ok : {A E : Type 0} (b : Bool) (d : E) (x y : A) → cond b (Ok x) (Er
 guard_ok true d x y e = (refl, cc)
 guard_ok false d x y e = absurd cc
 
--- a choice, with the test's answer
-pub chosen : {A : Type 0} (b : Bool) (x y z : A) → cond b x y ≡ z → ((b ≡ true) × (x ≡ z)) ⊎ ((b ≡ false) × (y ≡ z))
-chosen true x y z e = inl (refl, e)
-chosen false x y z e = inr (refl, e)
-
 -- reading fails with one cause alone
 abbrev pub FailsBy : {A : Type 0} → Cause → Result A Cause → Type 0
 FailsBy c (Ok x) = Unit {0}
@@ -44,11 +40,6 @@ FailsBy c (Err e) = e ≡ c
 pub fails_choose : {A : Type 0} (c : Cause) (b : Bool) (r s : Result A Cause) → FailsBy c r → FailsBy c s → FailsBy c (cond b r s)
 fails_choose c true r s h k = h
 fails_choose c false r s h k = k
-
-pub both_true : (a b : Bool) → (a && b) ≡ true → (a ≡ true) × (b ≡ true)
-both_true true true e = (refl, refl)
-both_true true false e = absurd cc
-both_true false b e = absurd cc
 
 abbrev done : {A E : Type 0} → A → Result A E
 done x = Ok x

@@ -1,8 +1,8 @@
 -- The bench's script: each of four mutators makes lists, and keeps the last one in a slot of its own.
 use Rattle.std.specs.Prelude.{ℕ, zero, suc, List, [], ◌∷◌, ◌++◌, replicate}
-use Rattle.nmgc_graph.specs.declared.command.Operand.TheVariants.{Register, Shared}
-use Rattle.nmgc_graph.specs.declared.command.Command.{Command}
-use Rattle.nmgc_graph.specs.declared.command.Command.TheVariants.{Nil, Con, Set}
+use Rattle.nmgc_world_spec.specs.declared.command.Operand.TheVariants.{Register, Shared}
+use Rattle.nmgc_world_spec.specs.declared.command.Command.{Command}
+use Rattle.nmgc_world_spec.specs.declared.command.Command.TheVariants.{Nil, Con, Set}
 use Rattle.nmgc_script.specs.declared.script.Config.{Config}
 use Rattle.nmgc_script.specs.declared.script.Script.{Script}
 use Rattle.nmgc_script.specs.Limits.{version_1}

@@ -2,8 +2,8 @@
 use Rattle.std.specs.Prelude.{◌≡◌, ℕ, ◌+◌, ◌*◌, ◌≤◌, ◌⊎◌, List, length, All, ◌==◌, if◌then◌else◌}
 use Rattle.nmgc_limits.specs.Limits.{IsSegmentSize, most_heap_words, most_nursery_words, most_quota, most_script_bytes, most_segments, most_slice, most_trigger}
 use Rattle.nmgc_limits.specs.declared.mutators.TheConstants.{MAKERS, REGISTERS}
-use Rattle.nmgc_graph.specs.Command.{Fits, HasRegistersBelow}
-use Rattle.nmgc_graph.specs.declared.command.Command.{Command}
+use Rattle.nmgc_world_spec.specs.Command.{Fits, HasRegistersBelow}
+use Rattle.nmgc_world_spec.specs.declared.command.Command.{Command}
 use Rattle.nmgc_script.specs.declared.script.Config.{Config}
 use Rattle.nmgc_script.specs.declared.script.Script.{Script}
 use Rattle.nmgc_script.specs.declared.version.Version.{Version}
@@ -57,3 +57,8 @@ HasFewCommands script = All (λ (program : List Command). length program ≤ mos
 -- the script in version 2
 abbrev pub upgraded : Script → Script
 upgraded s = record { version = version_2.number; config = s.config; threads = s.threads }
+
+-- the script is within the limits, and so is the number of commands of each program
+pub record IsInLimits (script : Script) : Type 0 where
+  pub fits : FitsScript script
+  pub few : HasFewCommands script

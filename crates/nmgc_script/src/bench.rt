@@ -11,7 +11,8 @@ ghost use Rattle.nmgc_script.specs.Bench.{most_batches, cell, batch, bench_progr
 ghost use Rattle.nmgc_script.specs.Limits.{FitsScript, HasFewCommands};
 
 use crate::{Config, Script};
-use nmgc_graph::{Command, List, NoMemory, Operand};
+use nmgc_lists::{List, NoMemory};
+use nmgc_world_spec::{Command, Operand};
 use std::alloc::Global;
 
 /// The most batches of a bench.

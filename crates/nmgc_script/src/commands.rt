@@ -10,7 +10,7 @@ ghost use Rattle.nmgc_script.specs.Reading.{Gives, none_at, operands_at, sized, 
 use crate::verbs::{Verb, verb_of};
 use crate::version::Version;
 use crate::{Cause, LineFault};
-use nmgc_graph::Command;
+use nmgc_world_spec::Command;
 use std::alloc::Global;
 
 /// The command that words spell, where a segment has so many words.

@@ -6,7 +6,7 @@
 ghost use Rattle.std.specs.Prelude.{◌≡◌};
 ghost use Rattle.nmgc_script.specs.declared.fault.LineFault.TheVariants.{NoMemory as no_memory};
 
-use nmgc_graph::NoMemory;
+use nmgc_lists::NoMemory;
 use std::alloc::{AllocError, AllocFailed};
 use thiserror::Error;
 

@@ -19,7 +19,8 @@ use crate::sections::{Entry, read_entry, section};
 use crate::text::{Lines, cut_words};
 use crate::version::Version;
 use crate::{Cause, Config, LineFault, Script, ScriptFault};
-use nmgc_graph::{Command, List, NoMemory};
+use nmgc_lists::{List, NoMemory};
+use nmgc_world_spec::Command;
 use std::alloc::Global;
 
 impl From<NoMemory> for ScriptFault {

@@ -10,8 +10,9 @@ ghost use Rattle.nmgc_script.specs.Spelling.{Spells, command_words, ended, heap_
 
 use crate::verbs::Verb;
 use crate::{Config, Script};
-use nmgc_graph::{Command, List, NoMemory, Operand};
 use nmgc_io::push_number;
+use nmgc_lists::{List, NoMemory};
+use nmgc_world_spec::{Command, Operand};
 use std::alloc::Global;
 
 /// A word of a line after its first.

@@ -8,7 +8,8 @@ ghost use Rattle.std.specs.Prelude.{◌≡◌};
 ghost use Rattle.nmgc_script.specs.Limits.{FitsScript, upgraded};
 
 use crate::version::Version;
-use nmgc_graph::{Command, List};
+use nmgc_lists::List;
+use nmgc_world_spec::Command;
 
 /// The numbers of the heap line. Segments and nurseries are measured in words.
 #[derive(Clone, Copy, Debug, PartialEq, Eq)]

@@ -11,8 +11,8 @@ use crate::commands::command;
 use crate::version::Version;
 use crate::words::small;
 use crate::{Cause, Config, LineFault};
-use nmgc_graph::Command;
 use nmgc_limits::MAX_HEAP_WORDS;
+use nmgc_world_spec::Command;
 use std::alloc::Global;
 
 /// What a line is after the heap line.

@@ -8,7 +8,8 @@ ghost use Rattle.nmgc_script.specs.Reading.{Gives, register_at, operand_at, long
 
 use crate::version::Version;
 use crate::{Cause, LineFault};
-use nmgc_graph::{List, Operand};
+use nmgc_lists::List;
+use nmgc_world_spec::Operand;
 use std::alloc::Global;
 
 /// The greatest number of free variables of a thunk.

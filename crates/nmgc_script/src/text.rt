@@ -10,8 +10,8 @@
 ghost use Rattle.std.specs.Prelude.{◌≡◌, ◌+◌, ◌<◌, ◌≤◌, ◌^◌, [], ◌∷◌, length, map, take, IfSome, IfNone, OnOk};
 ghost use Rattle.nmgc_script.specs.Text.{lines_of, words_of, is_passed, kept_after, end_after, kept_lines, end_of};
 
-use nmgc_graph::NoMemory;
 use nmgc_io::{cut, cut_within};
+use nmgc_lists::NoMemory;
 
 /// A place in a text: the beginning of a line.
 #[derive(Drop)]

@@ -6,7 +6,7 @@
 ghost use Rattle.std.specs.Prelude.{◌≡◌};
 ghost use Rattle.nmgc_script.specs.Limits.{version_1, version_2};
 
-use nmgc_graph::{MAKERS, REGISTERS};
+use nmgc_limits::{MAKERS, REGISTERS};
 
 /// What a script of a version may name.
 #[derive(Clone, Copy, Debug, PartialEq, Eq)]

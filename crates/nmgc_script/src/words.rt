@@ -8,8 +8,9 @@ ghost use Rattle.std.specs.Prelude.{[], ◌∷◌, ◌≤◌, map, IfOk};
 
 use crate::version::Version;
 use crate::{Cause, LineFault};
-use nmgc_graph::{List, Operand};
 use nmgc_io::read_number;
+use nmgc_lists::List;
+use nmgc_world_spec::Operand;
 use std::alloc::Global;
 
 /// The greatest number that a value has.

@@ -4,26 +4,25 @@ use Rattle.std.specs.Prelude.{Contains, count_by}
 use Rattle.std.proofs.Math.ListN.{get_or-eq_default}
 use Rattle.std.proofs.lemmas.Bool.{cases_lt}
 use Rattle.std.proofs.lemmas.List.Sums.{sum_by-set}
-use Rattle.nmgc_graph.specs.declared.value.Name.{Name}
-use Rattle.nmgc_graph.specs.laws.Orders.{contains_head, contains_tail, contains_cases}
+use Rattle.nmgc_world_spec.specs.declared.value.Name.{Name}
+use Rattle.nmgc_lists.specs.laws.Items.{contains_head, contains_tail, contains_cases}
 use Rattle.nmgc_object.specs.declared.layout.Layout.{Layout}
 use Rattle.nmgc_object.specs.declared.size.TheConstants.{MIN_BLOCK_WORDS}
 use Rattle.nmgc_segment.specs.Segment.{Segment, free_segment}
 use Rattle.nmgc_segment.specs.declared.state.State.{State}
 use Rattle.nmgc_segment.specs.declared.state.State.TheVariants.{Free, Current, Active, Filled, Sweeping}
-use Rattle.nmgc_alloc.specs.Search.{nth, is}
-use Rattle.nmgc_alloc.specs.Segments.{Segments, IsWaiting}
-use Rattle.nmgc_alloc.specs.CycleSteps.{prepared_state}
-use Rattle.nmgc_alloc.specs.AllocState.{AllocState, Cells, StandsFor, IsIn, NoneIs, Exists, cells, cycle_begun}
+use Rattle.nmgc_alloc.specs.Numbered.{nth, is, Segments}
+use Rattle.nmgc_alloc.specs.Segments.{IsWaiting}
+use Rattle.nmgc_alloc.specs.AllocState.{prepared_state, AllocState, Cells, IsIn, NoneIs, Exists, cells, cycle_begun}
+use Rattle.nmgc_alloc.specs.Stands.{StandsFor}
 use Rattle.nmgc_alloc.specs.laws.Cells.{begun_cells}
 use Rattle.nmgc_alloc.specs.laws.Counts.{sweeping_none}
 use Rattle.nmgc_alloc.specs.laws.Keeping.{counts_stand}
 use Rattle.nmgc_alloc.specs.laws.Numbers.{nth-set_same, nth-set_other}
 use Rattle.nmgc_alloc.specs.laws.Sound.{used_exists}
-use Rattle.nmgc_run.specs.Census.{IsSweptIn, IsHadIn, IsFreedIn}
-use Rattle.nmgc_run.specs.Listing.{ListsNumbers}
-use Rattle.nmgc_run.specs.Marks.{IsWithoutDoubles}
-use Rattle.nmgc_run.specs.State.{Cycle}
+use Rattle.nmgc_blocks_spec.specs.Cycle.{IsSweptIn, IsHadIn, IsFreedIn, Cycle}
+use Rattle.nmgc_world_spec.specs.Listing.{ListsNumbers}
+use Rattle.nmgc_sweep.specs.Sweeping.{IsWithoutDoubles}
 use Rattle.nmgc_sweep.specs.Statements.{StartIsAsNoted, StaysAsNoted, StartIsNoted, LeftStays, ClosingBeginsWork, EndTellsCensus, LeftIsCounted}
 use Rattle.nmgc_sweep.specs.laws.Order.{lists_in_order}
 use Rattle.nmgc_sweep.proofs.Lists.{ascends_first, ascends_rest, once_distinct}

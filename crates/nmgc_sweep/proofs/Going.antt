@@ -2,17 +2,17 @@
 use Rattle.std.proofs.Common.{ℕ, ◌≡◌, ◌≢◌, ◌↔◌, ◌∙◌, inl, inr, sym, ap, subst, arith, List, length, Option, length-set}
 use Rattle.std.proofs.lemmas.Bool.{cases_eq}
 use Rattle.std.proofs.lemmas.List.{get_or-set_other}
-use Rattle.nmgc_graph.specs.declared.value.Name.{Name}
+use Rattle.nmgc_world_spec.specs.declared.value.Name.{Name}
 use Rattle.nmgc_segment.specs.Segment.{Segment, mark_of}
 use Rattle.nmgc_segment.specs.declared.state.State.TheVariants.{Sweeping}
-use Rattle.nmgc_alloc.specs.Search.{nth}
-use Rattle.nmgc_alloc.specs.Segments.{Segments, HasNumber, IsChosen, IsWaiting}
-use Rattle.nmgc_alloc.specs.AllocState.{AllocState, Cells, StandsFor, IsIn, IsTarget, LiesIn, cells, name_in, no_cells}
+use Rattle.nmgc_alloc.specs.Numbered.{nth, Segments, HasNumber}
+use Rattle.nmgc_alloc.specs.Segments.{IsChosen, IsWaiting}
+use Rattle.nmgc_alloc.specs.AllocState.{AllocState, Cells, IsIn, IsTarget, LiesIn, cells, name_in, no_cells}
+use Rattle.nmgc_alloc.specs.Stands.{StandsFor}
 use Rattle.nmgc_alloc.specs.laws.Numbers.{nth-set_other}
-use Rattle.nmgc_run.specs.Census.{IsKeptIn}
-use Rattle.nmgc_run.specs.Marks.{IsSettledByte}
-use Rattle.nmgc_run.specs.Seen.{CycleSeen}
-use Rattle.nmgc_run.specs.State.{Cycle}
+use Rattle.nmgc_blocks_spec.specs.Cycle.{IsKeptIn, Cycle}
+use Rattle.nmgc_alloc.specs.Settled.{IsSettledByte}
+use Rattle.nmgc_sweep.specs.Seen.{CycleSeen}
 use Rattle.nmgc_sweep.specs.Sweeper.{Sweeper}
 use Rattle.nmgc_sweep.specs.Work.{IsAtWork}
 use Rattle.nmgc_sweep.specs.Statements.{KeepsWaiting, WorkGoesOn, PlacingKeepsWaiting}

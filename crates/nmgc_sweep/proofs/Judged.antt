@@ -2,13 +2,12 @@
 use Rattle.std.proofs.Common.{ℕ, zero, suc, ◌≡◌, ◌<◌, ◌∙◌, inl, inr, sym, ap, subst, arith, List, [], ◌∷◌, ◌++◌, length, Some, append-nil, append_assoc}
 use Rattle.std.specs.Prelude.{Contains}
 use Rattle.std.proofs.lemmas.List.Elements.{Contains-append_left, Contains-append_right, Contains-append_cases}
-use Rattle.nmgc_graph.specs.declared.value.Name.{Name}
-use Rattle.nmgc_graph.specs.laws.Orders.{contains_head, contains_tail, contains_cases}
+use Rattle.nmgc_world_spec.specs.declared.value.Name.{Name}
+use Rattle.nmgc_lists.specs.laws.Items.{contains_head, contains_tail, contains_cases}
 use Rattle.nmgc_segment.specs.Segment.{Segment, InUse, block_count}
 use Rattle.nmgc_alloc.specs.Halves.{SweepsMany}
-use Rattle.nmgc_alloc.specs.Search.{nth}
-use Rattle.nmgc_alloc.specs.Segments.{Segments}
-use Rattle.nmgc_run.specs.Listing.{Ascends, AreDistinct}
+use Rattle.nmgc_alloc.specs.Numbered.{nth, Segments}
+use Rattle.nmgc_world_spec.specs.Listing.{Ascends, AreDistinct}
 use Rattle.nmgc_sweep.specs.Listing.{ListsBlocks, IsLost}
 use Rattle.nmgc_sweep.specs.Names.{named_at}
 use Rattle.nmgc_sweep.specs.Sweeper.{Sweeper, AreLeft}

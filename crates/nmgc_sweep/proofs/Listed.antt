@@ -3,23 +3,22 @@ use Rattle.std.proofs.Common.{ℕ, zero, suc, ◌≡◌, ◌≢◌, ◌+◌, ◌
 use Rattle.std.specs.Prelude.{Contains}
 use Rattle.std.proofs.lemmas.Bool.{cases_eq, cases_lt}
 use Rattle.std.proofs.lemmas.List.Elements.{Contains-append_left, Contains-push, Contains-push_cases}
-use Rattle.nmgc_graph.specs.declared.value.Name.{Name}
-use Rattle.nmgc_graph.specs.laws.Orders.{contains_head, contains_cases}
+use Rattle.nmgc_world_spec.specs.declared.value.Name.{Name}
+use Rattle.nmgc_lists.specs.laws.Items.{contains_head, contains_cases}
 use Rattle.nmgc_object.specs.declared.layout.Layout.{Layout}
 use Rattle.nmgc_object.specs.declared.layout.TheConstants.{FIRST_PLACE}
 use Rattle.nmgc_object.specs.declared.size.TheConstants.{MIN_BLOCK_WORDS}
 use Rattle.nmgc_object.specs.Places.{segment_place}
 use Rattle.nmgc_object.specs.Size.{block_size}
-use Rattle.nmgc_object.specs.laws.Classes.{none_left}
+use Rattle.nmgc_object.specs.laws.Classes.{none_left, least_block as large}
 use Rattle.nmgc_limits.specs.Limits.{IsSegmentSize}
 use Rattle.nmgc_segment.specs.Segment.{block_count}
 use Rattle.nmgc_segment.specs.laws.Segments.{few_blocks}
 use Rattle.nmgc_segment.specs.declared.state.State.TheVariants.{Free, Sweeping}
-use Rattle.nmgc_alloc.specs.Search.{nth}
-use Rattle.nmgc_alloc.specs.Segments.{Segments, HasNumber, IsSegments, IsBlockAt, IsWaiting, block_place}
+use Rattle.nmgc_alloc.specs.Numbered.{nth, Segments, HasNumber, block_place}
+use Rattle.nmgc_alloc.specs.Segments.{IsSegments, IsBlockAt, IsWaiting}
 use Rattle.nmgc_alloc.specs.laws.Apart.{lies_in}
-use Rattle.nmgc_alloc.specs.laws.Placing.{large}
-use Rattle.nmgc_run.specs.Listing.{ListsNumbers}
+use Rattle.nmgc_world_spec.specs.Listing.{ListsNumbers}
 use Rattle.nmgc_sweep.specs.Listing.{ListsBlocks}
 use Rattle.nmgc_sweep.specs.Names.{HaveEntries, entry_of}
 use Rattle.nmgc_sweep.specs.laws.Names.{entry_there, place_above}

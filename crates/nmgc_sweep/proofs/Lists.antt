@@ -3,13 +3,11 @@ use Rattle.std.proofs.Common.{ℕ, zero, suc, ◌≡◌, ◌<◌, ◌∙◌, inl
 use Rattle.std.specs.Prelude.{Contains, slice_get}
 use Rattle.std.proofs.lemmas.Option.{slice_get-get_or}
 use Rattle.std.proofs.lemmas.List.Elements.{Contains-append_cases}
-use Rattle.nmgc_graph.specs.declared.value.Name.{Name}
-use Rattle.nmgc_graph.specs.laws.Orders.{contains_head, contains_tail, contains_cases}
-use Rattle.nmgc_run.specs.Listing.{Ascends, AreDistinct}
-use Rattle.nmgc_run.specs.Marks.{IsWithoutDoubles}
-
-same_some : (x y : Name) → Some x ≡ Some y → x ≡ y
-same_some x y e = cc
+use Rattle.nmgc_world_spec.specs.declared.value.Name.{Name}
+use Rattle.nmgc_lists.specs.laws.Items.{contains_head, contains_tail, contains_cases}
+use Rattle.nmgc_world_spec.specs.Listing.{Ascends, AreDistinct}
+use Rattle.nmgc_sweep.specs.Sweeping.{IsWithoutDoubles}
+use Rattle.nmgc_alloc.specs.laws.Cells.{some_name as same_some}
 
 pub get_contains : (xs : List Name) (i : ℕ) (x : Name) → slice_get xs i ≡ Some x → Contains xs x
 get_contains [] i x e = absurd (let f : ◌≡◌ {A = Option Name} None (Some x) = e in cc)

@@ -4,28 +4,30 @@ use Rattle.std.specs.Prelude.{Contains, IsSome, min}
 use Rattle.std.proofs.lemmas.Bool.{cases_eq}
 use Rattle.std.proofs.lemmas.Bool.Decides.{nat_tests}
 use Rattle.std.proofs.lemmas.List.Elements.{Contains-append_left, Contains-append_right, Contains-append_cases}
-use Rattle.nmgc_graph.specs.declared.value.Name.{Name}
-use Rattle.nmgc_graph.specs.laws.Orders.{contains_head, contains_tail, contains_cases}
+use Rattle.nmgc_world_spec.specs.declared.value.Name.{Name}
+use Rattle.nmgc_lists.specs.laws.Items.{contains_head, contains_tail, contains_cases}
 use Rattle.nmgc_object.specs.declared.layout.Layout.{Layout}
 use Rattle.nmgc_object.specs.declared.size.TheConstants.{MIN_BLOCK_WORDS}
-use Rattle.nmgc_segment.specs.Marks.{IsEpoch, swept}
+use Rattle.nmgc_segment.specs.Marks.{IsEpoch, swept, epoch_of}
 use Rattle.nmgc_segment.specs.Segment.{Segment, InUse, IsMarked, mark_of, block_count}
 use Rattle.nmgc_segment.specs.declared.state.State.TheVariants.{Sweeping}
 use Rattle.nmgc_segment.specs.laws.Segments.{mark-map, zero_swept}
 use Rattle.nmgc_alloc.specs.Halves.{SweepsMany}
-use Rattle.nmgc_alloc.specs.Search.{nth}
-use Rattle.nmgc_alloc.specs.Segments.{Segments, HasNumber, SweepsNext, IsWaiting}
-use Rattle.nmgc_alloc.specs.AllocState.{AllocState, Cells, Shows, StandsFor, Sweeps, SweepsEach, SweepsSome, HoldsKept, LieOnce, LiesIn, IsIn, cells, name_in}
+use Rattle.nmgc_alloc.specs.Numbered.{nth, Segments, HasNumber}
+use Rattle.nmgc_alloc.specs.Segments.{SweepsNext, IsWaiting}
+use Rattle.nmgc_alloc.specs.AllocState.{AllocState, Cells, Sweeps, SweepsEach, SweepsSome, HoldsKept, LieOnce, LiesIn, IsIn, cells, name_in}
+use Rattle.nmgc_alloc.specs.Stands.{Shows, StandsFor}
 use Rattle.nmgc_alloc.specs.laws.Cells.{swept_by_names, swept_other, swept_state}
 use Rattle.nmgc_alloc.specs.laws.Numbers.{nth-set_other}
 use Rattle.nmgc_alloc.specs.laws.Placing.{inside}
 use Rattle.nmgc_alloc.specs.laws.Sweeping.{swept_stands}
 use Rattle.nmgc_round.specs.Gate.{next_turn, passed}
-use Rattle.nmgc_run.specs.Census.{IsKeptIn, IsSweptIn}
-use Rattle.nmgc_run.specs.Listing.{ListsNumbers}
-use Rattle.nmgc_run.specs.Marks.{AreAsNoted, IsSettledByte, IsWithoutDoubles, epoch_of}
-use Rattle.nmgc_run.specs.Seen.{CycleSeen}
-use Rattle.nmgc_run.specs.State.{Cycle}
+use Rattle.nmgc_blocks_spec.specs.Cycle.{IsKeptIn, IsSweptIn, Cycle}
+use Rattle.nmgc_world_spec.specs.Listing.{ListsNumbers}
+use Rattle.nmgc_blocks_spec.specs.Waiting.{AreAsNoted}
+use Rattle.nmgc_alloc.specs.Settled.{IsSettledByte}
+use Rattle.nmgc_sweep.specs.Sweeping.{IsWithoutDoubles}
+use Rattle.nmgc_sweep.specs.Seen.{CycleSeen}
 use Rattle.nmgc_sweep.specs.Listing.{ListsBlocks, IsLost}
 use Rattle.nmgc_sweep.specs.Names.{AreNamed, named_at}
 use Rattle.nmgc_sweep.specs.Sweeper.{Sweeper, AreLeft, CanList}

@@ -5,3 +5,5 @@ pub mod Sweeper
 pub mod Work
 pub mod Statements
 pub mod laws
+pub mod Seen
+pub mod Sweeping

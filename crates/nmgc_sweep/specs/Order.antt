@@ -1,6 +1,6 @@
 -- Names in order: by maker, and then by serial.
 use Rattle.std.specs.Prelude.{Bool, ◌==◌, ◌||◌, ◌&&◌, nat_lt, List, [], ◌∷◌, if◌then◌else◌}
-use Rattle.nmgc_graph.specs.declared.value.Name.{Name}
+use Rattle.nmgc_world_spec.specs.declared.value.Name.{Name}
 
 -- whether a name stands before another
 abbrev pub is_before : Name → Name → Bool

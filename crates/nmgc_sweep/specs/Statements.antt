@@ -1,18 +1,21 @@
 -- What a sweeper tells of its cycle, from the cycle's beginning to its end.
 use Rattle.std.specs.Prelude.{ℕ, ◌≡◌, ◌↔◌, ◌<◌, List, [], length}
-use Rattle.nmgc_graph.specs.declared.value.Name.{Name}
-use Rattle.nmgc_graph.specs.Reach.{Lists}
+use Rattle.nmgc_world_spec.specs.declared.value.Name.{Name}
+use Rattle.nmgc_world_spec.specs.Reach.{Lists}
 use Rattle.nmgc_object.specs.declared.layout.Layout.{Layout}
 use Rattle.nmgc_segment.specs.Segment.{mark_of}
-use Rattle.nmgc_alloc.specs.Search.{nth}
-use Rattle.nmgc_alloc.specs.Segments.{Segments, Allocates, IsWaiting}
-use Rattle.nmgc_alloc.specs.AllocState.{AllocState, StandsFor, LieOnce, NoneIs, IsIn, count_in, cycle_begun, cells, Places}
+use Rattle.nmgc_alloc.specs.Numbered.{nth, Segments}
+use Rattle.nmgc_alloc.specs.Segments.{Allocates, IsWaiting}
+use Rattle.nmgc_alloc.specs.AllocState.{AllocState, LieOnce, NoneIs, IsIn, count_in, cycle_begun, cells, Places}
+use Rattle.nmgc_alloc.specs.Stands.{StandsFor}
 use Rattle.nmgc_segment.specs.declared.state.State.TheVariants as stands
-use Rattle.nmgc_run.specs.Census.{IsDeadIn, IsKeptObject, IsSweptIn, IsHadIn, IsFreedIn}
-use Rattle.nmgc_run.specs.Listing.{ListsNumbers, Counts}
-use Rattle.nmgc_run.specs.Marks.{AreAsNoted, AreKeptMarked, AreSettled, epoch_of}
-use Rattle.nmgc_run.specs.Seen.{CycleSeen}
-use Rattle.nmgc_run.specs.State.{Cycle}
+use Rattle.nmgc_blocks_spec.specs.Cycle.{IsDeadIn, IsKeptObject, IsSweptIn, IsHadIn, IsFreedIn, Cycle}
+use Rattle.nmgc_world_spec.specs.Listing.{ListsNumbers, Counts}
+use Rattle.nmgc_blocks_spec.specs.Waiting.{AreAsNoted}
+use Rattle.nmgc_sweep.specs.Sweeping.{AreKeptMarked}
+use Rattle.nmgc_alloc.specs.Settled.{AreSettled}
+use Rattle.nmgc_segment.specs.Marks.{epoch_of}
+use Rattle.nmgc_sweep.specs.Seen.{CycleSeen}
 use Rattle.nmgc_sweep.specs.Order.{in_order}
 use Rattle.nmgc_sweep.specs.Sweeper.{Sweeper, AreLeft, HasNotes}
 use Rattle.nmgc_sweep.specs.Work.{HasBegun, IsAtWork}

@@ -2,14 +2,15 @@
 use Rattle.std.specs.Prelude.{ℕ, ◌*◌, ◌≤◌, List, Contains}
 use Rattle.std.specs.Ordering.{ordering_then, nat_cmp}
 use Rattle.std.specs.List.Sorted.{IsSortedByKey}
-use Rattle.nmgc_graph.specs.declared.value.Name.{Name}
+use Rattle.nmgc_world_spec.specs.declared.value.Name.{Name}
 use Rattle.nmgc_object.specs.declared.size.TheConstants.{MIN_BLOCK_WORDS}
-use Rattle.nmgc_alloc.specs.Segments.{Segments, IsWaiting}
+use Rattle.nmgc_alloc.specs.Numbered.{Segments}
+use Rattle.nmgc_alloc.specs.Segments.{IsWaiting}
 use Rattle.nmgc_alloc.specs.AllocState.{LieOnce}
-use Rattle.nmgc_run.specs.Listing.{ListsNumbers}
-use Rattle.nmgc_run.specs.Marks.{HasNoted}
-use Rattle.nmgc_run.specs.Seen.{SweeperSeen}
-use Rattle.nmgc_run.specs.State.{Cycle}
+use Rattle.nmgc_world_spec.specs.Listing.{ListsNumbers}
+use Rattle.nmgc_sweep.specs.Sweeping.{HasNoted}
+use Rattle.nmgc_sweep.specs.Seen.{SweeperSeen}
+use Rattle.nmgc_blocks_spec.specs.Cycle.{Cycle}
 
 -- what every collector's sweeper shows, the segments that it hasn't swept, in order, for how many names of each of
 -- them it has room, and how often the collector passed the gate in the whole run, for the upper halves of its sweeps

@@ -1,16 +1,16 @@
 -- What each call of a sweeper does to its cycle.
 use Rattle.std.specs.Prelude.{ℕ, zero, suc, ◌≡◌, ◌↔◌, ◌+◌, ◌<◌, List, [], ◌∷◌, ◌++◌, length, Contains, Some}
-use Rattle.nmgc_graph.specs.declared.value.Name.{Name}
+use Rattle.nmgc_world_spec.specs.declared.value.Name.{Name}
 use Rattle.nmgc_segment.specs.Segment.{Segment, InUse, block_count}
 use Rattle.nmgc_alloc.specs.Halves.{SweepsMany}
-use Rattle.nmgc_alloc.specs.Search.{nth}
-use Rattle.nmgc_alloc.specs.Segments.{Segments}
-use Rattle.nmgc_alloc.specs.AllocState.{AllocState, StandsFor, SweepsSome}
-use Rattle.nmgc_run.specs.Census.{IsKeptIn}
-use Rattle.nmgc_run.specs.Listing.{AreDistinct}
-use Rattle.nmgc_run.specs.Marks.{IsSweeping, AreSettled}
-use Rattle.nmgc_run.specs.Seen.{CycleSeen}
-use Rattle.nmgc_run.specs.State.{Cycle}
+use Rattle.nmgc_alloc.specs.Numbered.{nth, Segments}
+use Rattle.nmgc_alloc.specs.AllocState.{AllocState, SweepsSome}
+use Rattle.nmgc_alloc.specs.Stands.{StandsFor}
+use Rattle.nmgc_blocks_spec.specs.Cycle.{IsKeptIn, Cycle}
+use Rattle.nmgc_world_spec.specs.Listing.{AreDistinct}
+use Rattle.nmgc_sweep.specs.Sweeping.{IsSweeping}
+use Rattle.nmgc_alloc.specs.Settled.{AreSettled}
+use Rattle.nmgc_sweep.specs.Seen.{CycleSeen}
 use Rattle.nmgc_sweep.specs.Listing.{ListsBlocks, IsLost}
 use Rattle.nmgc_sweep.specs.Names.{AreNamed, named_at}
 use Rattle.nmgc_sweep.specs.Sweeper.{Sweeper, AreLeft, HasNotes}

@@ -7,7 +7,7 @@
 ghost use Rattle.std.specs.Prelude.{◌≤◌, length};
 ghost use Rattle.std.specs.List.Sorted.{IsPermutation};
 
-use nmgc_graph::Name;
+use nmgc_world_spec::Name;
 
 // The most blocks that are moved: in names without any order each move might be of one name, which is quadratic.
 const MOST_BLOCKS: u32 = 64;

@@ -6,15 +6,15 @@ ghost use Rattle.std.specs.Prelude.{◌≡◌, ◌+◌, ◌*◌, ◌≤◌, vec_
 ghost use Rattle.nmgc_object.specs.declared.size.TheConstants.{MIN_BLOCK_WORDS as LEAST};
 ghost use Rattle.nmgc_segment.specs.Marks.{IsEpoch};
 ghost use Rattle.nmgc_segment.specs.Segment.{InUse, block_count};
-ghost use Rattle.nmgc_alloc.specs.Search.{nth};
-ghost use Rattle.nmgc_alloc.specs.Segments.{HasNumber, IsWaiting};
+ghost use Rattle.nmgc_alloc.specs.Numbered.{nth, HasNumber};
+ghost use Rattle.nmgc_alloc.specs.Segments.{IsWaiting};
 ghost use Rattle.nmgc_sweep.specs.Listing.{ListsBlocks, IsLost};
 ghost use Rattle.nmgc_sweep.specs.Names.{HaveEntries, named_at};
 
 use crate::names::Names;
 use nmgc_alloc::Segments;
-use nmgc_graph::Name;
 use nmgc_object::{Address, block_words};
+use nmgc_world_spec::Name;
 
 /// Lists the names of the blocks in use of a segment that waits to be swept, and again those of the blocks that aren't
 /// marked with the epoch. There has to be room for as many as a segment may have. Takes time for the blocks of the segment.

@@ -14,8 +14,9 @@ ghost use Rattle.std.specs.Prelude.{◌≡◌, ◌<◌, length, slice_get, slice
 ghost use Rattle.nmgc_object.specs.Places.{IsLayout};
 ghost use Rattle.nmgc_sweep.specs.Names.{HaveEntries, entry_of};
 
-use nmgc_graph::{Name, NoMemory};
+use nmgc_lists::NoMemory;
 use nmgc_object::{Address, FIRST_PLACE, Layout, MIN_BLOCK_WORDS};
+use nmgc_world_spec::Name;
 use std::alloc::Global;
 use std::marker::Model;
 
@@ -27,7 +28,7 @@ pub struct Names {
 
 impl Model for Names {
     ghost use Rattle.std.specs.Prelude.{List};
-    ghost use Rattle.nmgc_graph.specs.declared.value.Name.{Name as Named};
+    ghost use Rattle.nmgc_world_spec.specs.declared.value.Name.{Name as Named};
 
     ghost Value = { List Named };
 

@@ -8,7 +8,7 @@ ghost use Rattle.nmgc_sweep.specs.Order.{in_order};
 ghost use Rattle.nmgc_sweep.specs.Sweeper.{AreSorted};
 
 use crate::blocks::move_blocks;
-use nmgc_graph::Name;
+use nmgc_world_spec::Name;
 
 // Puts names in order. Where whole blocks were all that was out of place, the sort finds them in order, and looks at each
 // name once.

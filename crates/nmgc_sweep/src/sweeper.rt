@@ -16,7 +16,7 @@ ghost use Rattle.std.specs.Prelude.{ℕ, ◌≡◌, ◌≢◌, ◌-◌, ◌/◌,
 ghost use Rattle.nmgc_segment.specs.Marks.{IsEpoch};
 ghost use Rattle.nmgc_alloc.specs.Halves.{IsInHalf};
 ghost use Rattle.nmgc_alloc.specs.Segments.{IsWaiting};
-ghost use Rattle.nmgc_run.specs.Listing.{ListsNumbers};
+ghost use Rattle.nmgc_world_spec.specs.Listing.{ListsNumbers};
 ghost use Rattle.nmgc_round.specs.Gate.{passed};
 ghost use Rattle.nmgc_sweep.specs.Names.{HaveEntries};
 ghost use Rattle.nmgc_sweep.specs.Sweeper.{AreLeft, CanList};
@@ -25,10 +25,12 @@ ghost use Rattle.nmgc_sweep.specs.Work.{HasBegun, HasListed, HaveListed, HasSwep
 use crate::listing::list_segment;
 use crate::names::Names;
 use nmgc_alloc::Segments;
-use nmgc_graph::{MAKERS, Name, NoMemory};
+use nmgc_limits::MAKERS;
+use nmgc_lists::NoMemory;
 use nmgc_object::MIN_BLOCK_WORDS;
 use nmgc_round::Gate;
 use nmgc_segment::State;
+use nmgc_world_spec::Name;
 use std::alloc::Global;
 use std::marker::Model;
 use std::thread::Threads;

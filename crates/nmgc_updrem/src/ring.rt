@@ -22,7 +22,7 @@ ghost use Rattle.nmgc_updrem.specs.Rings.{IsPair, AreNew, HasSent, HasLooked, Ha
 use crate::block::{BLOCK_ENTRIES, UpdBlock};
 use crate::level::Level;
 use crate::polled::Polled;
-use nmgc_graph::NoMemory;
+use nmgc_lists::NoMemory;
 use nmgc_object::Address;
 use rtrb::{Consumer, Producer, RingBuffer};
 use std::alloc::Global;

@@ -1,26 +1,23 @@
 -- What is owed after names came due, and after debts that no longer count left a queue.
 use Rattle.std.proofs.Common.{◌≡◌, ◌≢◌, ◌<◌, ◌≤◌, ◌+◌, ℕ, List, [], ◌∷◌, ◌++◌, zero, suc, length, set, take, get_or, refl, sym, ap, subst, ◌∙◌, arith, length-set, replicate, append-nil, append_assoc, Option, Some, None, Bool, true, false, not, cond, inl, inr, ◌⊎◌}
-use Rattle.std.specs.Prelude.{All, Contains, IsSome, IfSome, filter, slice_get, ◌&&◌}
+use Rattle.std.specs.Prelude.{All, Contains, IsSome, filter, slice_get, ◌&&◌}
 use Rattle.std.proofs.lemmas.Bool.{cases_Bool, cases_eq, cases_lt, and_cases, and_parts, not-false}
 use Rattle.std.proofs.lemmas.List.{get_or-set_same, get_or-set_other, get_or_past, take_more, length-replicate}
 use Rattle.std.proofs.lemmas.Option.{slice_get_within, slice_get-get_or, get_or_from_slice_get}
 use Rattle.std.proofs.lemmas.List.Elements.{filter-append, Contains-append_left, Contains-append_right, Contains-append_cases}
-use Rattle.nmgc_graph.specs.declared.value.Name.{Name}
-use Rattle.nmgc_graph.specs.World.{World, node_of}
+use Rattle.nmgc_world_spec.specs.declared.value.Name.{Name}
+use Rattle.nmgc_world_spec.specs.World.{World, node_of}
 use Rattle.nmgc_graph.specs.Marks.{HasPlace, HasPlaces, IsMarked, mark_of, with_mark}
-use Rattle.nmgc_graph.specs.laws.Rows.{added, kept_others, places_kept, makers_kept, name_cases, name_placed}
-use Rattle.nmgc_graph.specs.laws.Orders.{contains_head, contains_tail, contains_cases}
-use Rattle.nmgc_reach.specs.laws.ItemLaws.{nothing_in, one_is, contains_one, contains_at, place_of, contains_flat, flat_contains}
-use Rattle.nmgc_lax.specs.declared.debt.Debt.{Debt}
+use Rattle.nmgc_graph.specs.laws.Rows.{kept_others, places_kept, makers_kept, name_placed}
+use Rattle.nmgc_world_spec.specs.laws.Orders.{name_cases}
+use Rattle.nmgc_lists.specs.laws.Items.{contains_head, nothing_in, one_is, contains_one, contains_at, place_of, contains_flat, flat_contains}
+use Rattle.nmgc_barrier_laws.specs.declared.debt.Debt.{Debt}
 use Rattle.nmgc_watch.specs.declared.accounts.Accounts.{Accounts}
 use Rattle.nmgc_watch.specs.Dues.{is_owable}
 use Rattle.nmgc_watch.specs.Accounts.{is_unpaid, unpaid, IsPaidUp, queue_of, set_of, all_debts, debt_of, AreAccounts, AreNew, is_new, owed_one, IsOwing, IsForgotten, IsLeastIn}
 use Rattle.nmgc_watch.proofs.Filters.{kept_in, in_kept}
 use Rattle.nmgc_watch.proofs.DueLaws.{owable_is}
-
-unmarked : (b : Bool) → not b ≡ true → b ≡ false
-unmarked true h = absurd cc
-unmarked false h = refl
+use Rattle.nmgc_lists.specs.laws.Truths.{unmarked}
 
 -- the debts of a queue are among all, and each of all is one of some queue
 pub in_all : (queues : List (List Debt)) (m : ℕ) (debt : Debt) → Contains (queue_of queues m) debt → Contains (all_debts queues) debt

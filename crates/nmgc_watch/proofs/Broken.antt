@@ -5,28 +5,26 @@ use Rattle.std.specs.Prelude.{slice_get}
 use Rattle.std.proofs.lemmas.Bool.{ne_eqb, cases_eq}
 use Rattle.std.proofs.lemmas.Option.{slice_get_within}
 use Rattle.nmgc_limits.specs.declared.mutators.TheConstants.{SHARED_MAKER}
-use Rattle.nmgc_graph.specs.declared.value.Name.{Name}
-use Rattle.nmgc_graph.specs.declared.value.Value.{Value}
-use Rattle.nmgc_graph.specs.declared.value.Value.TheVariants as value
-use Rattle.nmgc_graph.specs.declared.node.Node.{Node}
-use Rattle.nmgc_graph.specs.declared.node.Node.TheVariants.{Con, Var, Arr, Thunk, Weak, Stack}
-use Rattle.nmgc_graph.specs.declared.command.Command.{Command}
-use Rattle.nmgc_graph.specs.declared.command.Reply.{Reply}
-use Rattle.nmgc_graph.specs.declared.command.Reply.TheVariants.{Fine, NoField, StackFull}
-use Rattle.nmgc_graph.specs.declared.change.Change.{Change}
-use Rattle.nmgc_graph.specs.declared.change.Change.TheVariants as change
-use Rattle.nmgc_graph.specs.Change.{changed, field_set, field_exchanged, stack_pushed, stack_popped}
-use Rattle.nmgc_graph.specs.World.{World, node_of}
-use Rattle.nmgc_graph.specs.Step.{asked, step, next_name}
-use Rattle.nmgc_graph.specs.World.{state_of}
-use Rattle.nmgc_graph.specs.laws.Worlds.{slice_get-set_other}
-use Rattle.nmgc_reach.specs.Holds.{strong_at, HasStrongField}
-use Rattle.nmgc_reach.specs.laws.Barrier.{two_nodes, exchanged_node}
-use Rattle.nmgc_reach.specs.laws.ItemLaws.{slice_get-append, slice_get-take}
-use Rattle.nmgc_reach.specs.laws.NodeLaws.{node_born, next_is_new, node_cases}
-use Rattle.nmgc_reach.specs.laws.Steps.{Object, Stepped}
-use Rattle.nmgc_reach.specs.laws.Keeps.{Any, stepped, still_there, hand_nodes}
-use Rattle.nmgc_lax.specs.Due.{IsBroken}
+use Rattle.nmgc_world_spec.specs.declared.value.Name.{Name}
+use Rattle.nmgc_world_spec.specs.declared.value.Value.{Value}
+use Rattle.nmgc_world_spec.specs.declared.value.Value.TheVariants as value
+use Rattle.nmgc_world_spec.specs.declared.node.Node.{Node}
+use Rattle.nmgc_world_spec.specs.declared.node.Node.TheVariants.{Con, Var, Arr, Thunk, Weak, Stack}
+use Rattle.nmgc_world_spec.specs.declared.command.Command.{Command}
+use Rattle.nmgc_world_spec.specs.declared.command.Reply.{Reply}
+use Rattle.nmgc_world_spec.specs.declared.command.Reply.TheVariants.{Fine, NoField, StackFull}
+use Rattle.nmgc_world_spec.specs.declared.change.Change.{Change}
+use Rattle.nmgc_world_spec.specs.declared.change.Change.TheVariants as change
+use Rattle.nmgc_world_spec.specs.Change.{changed, field_set, field_exchanged, stack_pushed, stack_popped}
+use Rattle.nmgc_world_spec.specs.World.{World, node_of, state_of}
+use Rattle.nmgc_world_spec.specs.Step.{asked, step, next_name}
+use Rattle.nmgc_lists.specs.laws.Items.{slice_get-set_other, slice_get-append, slice_get-take}
+use Rattle.nmgc_world_laws.specs.Holds.{strong_at, HasStrongField}
+use Rattle.nmgc_world_laws.specs.laws.Barrier.{two_nodes, exchanged_node}
+use Rattle.nmgc_world_laws.specs.laws.NodeLaws.{node_born, next_is_new, node_cases}
+use Rattle.nmgc_world_laws.specs.laws.Steps.{Object, Stepped}
+use Rattle.nmgc_world_laws.specs.laws.Keeps.{Any, stepped, still_there, hand_nodes}
+use Rattle.nmgc_barrier_laws.specs.Due.{IsBroken}
 use Rattle.nmgc_watch.specs.Dues.{first_place, end_place}
 
 abbrev Stays : Node → ℕ → Value → Type 0

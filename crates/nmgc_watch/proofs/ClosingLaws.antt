@@ -1,38 +1,34 @@
 -- What dies at an end is alive until then, what is told as dying, and what the weak pointers keep that live on.
-use Rattle.std.proofs.Common.{◌≡◌, ℕ, List, [], ◌∷◌, ◌++◌, get_or, refl, sym, subst, Option, Some, None, Bool, true, false, not, inl, inr}
-use Rattle.std.specs.Prelude.{All, Contains, IsSome, filter, ◌&&◌, ◌↔◌}
+use Rattle.std.proofs.Common.{◌≡◌, List, [], ◌∷◌, ◌++◌, get_or, refl, sym, subst, Option, Some, None, Bool, true, not, inl, inr}
+use Rattle.std.specs.Prelude.{All, Contains, IsSome, filter, ◌↔◌}
 use Rattle.std.proofs.lemmas.Bool.{and_parts, and_from}
 use Rattle.std.proofs.lemmas.List.Elements.{Contains-get_or, Contains-append_left, Contains-append_right, Contains-append_cases, All-append, All-contains}
-use Rattle.nmgc_graph.specs.declared.value.Name.{Name}
-use Rattle.nmgc_graph.specs.declared.value.Value.{Value}
-use Rattle.nmgc_graph.specs.declared.value.Value.TheVariants as value
-use Rattle.nmgc_graph.specs.declared.node.Parts.{Parts}
-use Rattle.nmgc_graph.specs.declared.node.Node.{Node}
-use Rattle.nmgc_graph.specs.declared.node.Node.TheVariants.{Weak}
-use Rattle.nmgc_graph.specs.World.{World, node_of, IsKnown, IsNodeOf, IsWorld}
+use Rattle.nmgc_world_spec.specs.declared.value.Name.{Name}
+use Rattle.nmgc_world_spec.specs.declared.value.Value.{Value}
+use Rattle.nmgc_world_spec.specs.declared.value.Value.TheVariants as value
+use Rattle.nmgc_world_spec.specs.declared.node.Parts.{Parts}
+use Rattle.nmgc_world_spec.specs.declared.node.Node.TheVariants.{Weak}
+use Rattle.nmgc_world_spec.specs.World.{World, node_of, IsKnown, IsNodeOf, IsWorld}
 use Rattle.nmgc_graph.specs.Marks.{IsMarked, mark_of}
 use Rattle.nmgc_graph.specs.Search.{IsSetOf, parts_of}
-use Rattle.nmgc_graph.specs.Reach.{IsAlive, IsDead, IsKept, IsAliveWeak, Lists}
-use Rattle.nmgc_graph.specs.laws.Orders.{contains_head, contains_filter, filter_contains}
-use Rattle.nmgc_graph.specs.laws.Worlds.{at_some}
-use Rattle.nmgc_reach.specs.laws.ItemLaws.{nothing_in, one_is, contains_one, contains_flat, flat_contains}
-use Rattle.nmgc_core.specs.laws.Listed.{name_among}
-use Rattle.nmgc_lax.specs.Cycle.{Cycle, IsKeyLeft, AreKeysLeft, Needs, IsDeadTold}
-use Rattle.nmgc_lax.specs.laws.TiedPush.{dead_same, kept_same}
+use Rattle.nmgc_world_spec.specs.Reach.{IsAlive, IsDead, IsKept, IsAliveWeak, Lists}
+use Rattle.nmgc_lists.specs.laws.Items.{contains_head, at_some, nothing_in, one_is, contains_one, contains_flat, flat_contains}
+use Rattle.nmgc_world_spec.specs.laws.Orders.{contains_filter, filter_contains}
+use Rattle.nmgc_snapshot_laws.specs.laws.Listed.{name_among}
+use Rattle.nmgc_barrier_laws.specs.Cycle.{Cycle, IsKeyLeft, AreKeysLeft, Needs, IsDeadTold}
+use Rattle.nmgc_barrier_laws.specs.laws.TiedPush.{dead_same, kept_same}
 use Rattle.nmgc_watch.specs.declared.accounts.Accounts.{Accounts}
 use Rattle.nmgc_watch.specs.declared.listed.Listed.{Listed}
 use Rattle.nmgc_watch.specs.Cycles.{IsCycle, is_outside, key_names, keys_then, IsOpenedWith}
 use Rattle.nmgc_watch.specs.Watching.{IsMissingIf, IsDeadIf}
 use Rattle.nmgc_watch.proofs.CycleLaws.{seen, not_both, not_so}
-use Rattle.nmgc_watch.proofs.DueLaws.{among_ref, alive_parts, parts_alive}
+use Rattle.nmgc_watch.proofs.DueLaws.{among_ref}
+use Rattle.nmgc_graph.specs.laws.Common.{alive_from_parts as alive_parts, parts_from_alive as parts_alive}
 use Rattle.nmgc_watch.proofs.ListedLaws.{all_listed}
+use Rattle.nmgc_world_spec.specs.laws.Common.{weak_there}
 
 lists_alike : (P Q : Name → Type 0) (names : List Name) → ((n : Name) → P n → Q n) → ((n : Name) → Q n → P n) → Lists P names → Lists Q names
 lists_alike P Q names pq qp l = record { ordered = l.ordered; sound = λ n c. pq n (l.sound n c); complete = λ n q. l.complete n (qp n q) }
-
--- an alive weak pointer is in the map, and so is its key
-weak_there : (w : World) (weak : Name) (parts : Parts) → IsAlive w weak parts → IsSome (node_of w weak)
-weak_there w weak parts alive = subst (λ (o : Option Node). IsSome o) (sym alive) refl
 
 key_there : (w : World) → IsWorld w → (weak : Name) (parts : Parts) (key : Name) → IsAlive w weak parts → parts.key ≡ value.Ref key → IsSome (node_of w key)
 key_there w is weak parts key alive e =

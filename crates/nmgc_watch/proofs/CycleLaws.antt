@@ -1,42 +1,39 @@
 -- What is kept of a cycle by a command, by a push, and by a take.
-use Rattle.std.proofs.Common.{◌≡◌, ◌≢◌, ◌<◌, ◌≤◌, ℕ, List, [], ◌∷◌, ◌++◌, length, drop, get_or, refl, sym, ap, subst, ◌∙◌, Option, Some, None, Bool, true, false, not, inl, inr, ◌⊎◌, Bor}
-use Rattle.std.specs.Prelude.{All, Contains, IsSome, is_some, is_none, option_copied, filter, slice_get, ◌↔◌, ◌&&◌}
+use Rattle.std.proofs.Common.{◌≡◌, ◌≢◌, ◌<◌, ℕ, List, [], ◌++◌, length, get_or, refl, sym, ap, subst, ◌∙◌, Option, Some, None, Bool, true, false, not, inl, inr, Bor}
+use Rattle.std.specs.Prelude.{All, Contains, IsSome, is_some, is_none, option_copied, filter, ◌↔◌}
 use Rattle.std.proofs.lemmas.Bool.{and_cases, and_parts, not-false}
-use Rattle.std.proofs.lemmas.List.Elements.{Contains-append_left, Contains-append_right, Contains-append_cases}
+use Rattle.std.proofs.lemmas.List.Elements.{Contains-append_left, Contains-append_right}
 use Rattle.nmgc_limits.specs.declared.mutators.TheConstants.{SHARED_MAKER}
-use Rattle.nmgc_graph.specs.declared.value.Name.{Name}
-use Rattle.nmgc_graph.specs.declared.value.Value.{Value}
-use Rattle.nmgc_graph.specs.declared.value.Value.TheVariants as value
-use Rattle.nmgc_graph.specs.declared.node.Parts.{Parts}
-use Rattle.nmgc_graph.specs.declared.command.Command.{Command}
-use Rattle.nmgc_graph.specs.World.{World, node_of, state_of, IsWorld}
-use Rattle.nmgc_graph.specs.Change.{is_same_name}
-use Rattle.nmgc_graph.specs.Step.{CanApply, step, shared_name}
-use Rattle.nmgc_graph.specs.Reach.{IsAlive}
-use Rattle.nmgc_graph.specs.History.{opened_by, finalised_by}
+use Rattle.nmgc_world_spec.specs.declared.value.Name.{Name}
+use Rattle.nmgc_world_spec.specs.declared.value.Value.{Value}
+use Rattle.nmgc_world_spec.specs.declared.value.Value.TheVariants as value
+use Rattle.nmgc_world_spec.specs.declared.command.Command.{Command}
+use Rattle.nmgc_world_spec.specs.World.{World, node_of, state_of, IsWorld}
+use Rattle.nmgc_world_spec.specs.Change.{is_same_name}
+use Rattle.nmgc_world_spec.specs.Step.{CanApply, step, shared_name}
+use Rattle.nmgc_world_spec.specs.Reach.{IsAlive}
+use Rattle.nmgc_world_spec.specs.History.{opened_by, finalised_by}
 use Rattle.nmgc_graph.specs.Marks.{mark_of, IsMarked}
-use Rattle.nmgc_graph.specs.laws.Worlds.{not_shared}
-use Rattle.nmgc_graph.specs.laws.Orders.{contains_tail}
-use Rattle.nmgc_reach.specs.Holds.{Names}
-use Rattle.nmgc_core.specs.laws.Turns.{step_alive}
-use Rattle.nmgc_core.specs.laws.Listed.{tested_same, is_same_name-refl}
-use Rattle.nmgc_lax.specs.declared.debt.Debt.{Debt}
-use Rattle.nmgc_lax.specs.Due.{IsDue}
-use Rattle.nmgc_lax.specs.Cycle.{Cycle, watching, IsWatched, IsPushed, IsTook}
+use Rattle.nmgc_world_laws.specs.laws.Worlds.{not_shared}
+use Rattle.nmgc_world_laws.specs.Holds.{Names}
+use Rattle.nmgc_snapshot_laws.specs.laws.Turns.{step_alive}
+use Rattle.nmgc_snapshot_laws.specs.laws.Listed.{tested_same, is_same_name-refl}
+use Rattle.nmgc_barrier_laws.specs.declared.debt.Debt.{Debt}
+use Rattle.nmgc_barrier_laws.specs.Cycle.{Cycle, watching, IsPushed, IsTook}
 use Rattle.nmgc_watch.specs.declared.accounts.Accounts.{Accounts}
 use Rattle.nmgc_watch.specs.declared.listed.Listed.{Listed}
 use Rattle.nmgc_watch.specs.declared.due.Field.{Field}
 use Rattle.nmgc_watch.specs.Dues.{stands_in, IsStanding, kept_then, targets}
-use Rattle.nmgc_watch.specs.Accounts.{is_unpaid, unpaid, all_debts, IsPaidUp, AreAccounts, AreNew, IsOwing}
+use Rattle.nmgc_watch.specs.Accounts.{is_unpaid, unpaid, all_debts, AreAccounts, AreNew, IsOwing}
 use Rattle.nmgc_watch.specs.Listed.{IsListed, Joins, joined}
-use Rattle.nmgc_watch.specs.declared.event.Why.{Why}
 use Rattle.nmgc_watch.specs.declared.event.Why.TheVariants as why
 use Rattle.nmgc_watch.specs.Cycles.{IsCycle, IsTaken, IsLeastDebt, IsUntakenIn, IsUntakenIf}
 use Rattle.nmgc_watch.specs.Watching.{IsAgainstIf}
 use Rattle.nmgc_watch.proofs.Filters.{kept_in, in_kept}
 use Rattle.nmgc_watch.proofs.AccountLaws.{StandsIn, stands, new_accounts_are, new_debts}
 use Rattle.nmgc_watch.proofs.DueLaws.{found_due, due_found}
-use Rattle.nmgc_watch.proofs.ListedLaws.{none_listed, listed_there, joined_is, joined_names, joined_keeps, joined_marks, joined_marked}
+use Rattle.nmgc_watch.proofs.ListedLaws.{listed_there, joined_is, joined_names, joined_keeps, joined_marks, joined_marked}
+use Rattle.nmgc_lists.specs.laws.Options.{copied_is_some}
 
 pub not_both : (b : Bool) → b ≡ true → not b ≡ true → ⊥
 not_both true e f = cc
@@ -278,18 +275,9 @@ module _ (w s : World) (remembered : Listed) (accounts : Accounts) (opened taken
         o : IsOwing s remembered.set line m found accounts accounts'
         o = subst (λ (l : List Name). IsOwing s remembered.set line m l accounts accounts') n o'
 
--- a reference is there exactly where what it points to is
-pub copied_is_some : {A : Type 0} (r : Option (Bor A)) (o : Option A) → option_copied r ≡ o → is_some r ≡ is_some o
-copied_is_some None o e = ap is_some e
-copied_is_some (Some x) o e = ap is_some e
-
 pub not_none_there : {A : Type 0} (r : Option (Bor A)) (o : Option A) → option_copied r ≡ o → is_none r ≡ false → IsSome o
 not_none_there None o e f = absurd cc
 not_none_there (Some x) o e f = subst (λ (p : Option _). IsSome p) e refl
-
-pub none_first : {A : Type 0} (xs : List A) → slice_get xs 0 ≡ None → xs ≡ []
-none_first [] h = refl
-none_first (x ∷ xs) h = absurd cc
 
 -- whether a name wasn't taken
 pub untaken_if : (w s : World) (remembered : Listed) (accounts : Accounts) (opened taken : Listed) (finalised : List Name) →

@@ -5,17 +5,16 @@ use Rattle.std.proofs.lemmas.Bool.{cases_Bool, cases_lt, false≢true, and_parts
 use Rattle.std.proofs.lemmas.Bool.Decides.{eqb_tells}
 use Rattle.std.proofs.lemmas.List.{get_or_past}
 use Rattle.nmgc_limits.specs.declared.mutators.TheConstants.{SHARED_MAKER}
-use Rattle.nmgc_graph.specs.declared.value.Name.{Name}
-use Rattle.nmgc_graph.specs.declared.mutator_state.MutatorState.{MutatorState}
-use Rattle.nmgc_graph.specs.Change.{is_same_name}
-use Rattle.nmgc_graph.specs.World.{World, node_of, state_of, serial_of, no_mutator}
-use Rattle.nmgc_graph.specs.Order.{ListsBefore}
-use Rattle.nmgc_graph.specs.Reach.{Lists}
-use Rattle.nmgc_graph.specs.laws.Orders.{contains_head, contains_tail, contains_cases, contains_filter, filter_contains, in_order_filter, lists_none, lists_more, lists_same, lists_maker, lists_all}
-use Rattle.nmgc_graph.specs.laws.Worlds.{get_is_some}
-use Rattle.nmgc_reach.specs.laws.ItemLaws.{nothing_in}
-use Rattle.nmgc_core.specs.State.{is_listed}
-use Rattle.nmgc_core.specs.laws.Listed.{tested_same, is_same_name-refl, contains_listed, not_listed, listed_from}
+use Rattle.nmgc_world_spec.specs.declared.value.Name.{Name}
+use Rattle.nmgc_world_spec.specs.declared.mutator_state.MutatorState.{MutatorState}
+use Rattle.nmgc_world_spec.specs.Change.{is_same_name}
+use Rattle.nmgc_world_spec.specs.World.{World, node_of, state_of, serial_of, no_mutator}
+use Rattle.nmgc_world_spec.specs.Order.{ListsBefore}
+use Rattle.nmgc_world_spec.specs.Reach.{Lists}
+use Rattle.nmgc_lists.specs.laws.Items.{contains_head, contains_tail, contains_cases, get_is_some, nothing_in}
+use Rattle.nmgc_world_spec.specs.laws.Orders.{contains_filter, filter_contains, in_order_filter, lists_none, lists_more, lists_same, lists_maker, lists_all}
+use Rattle.nmgc_snapshot_laws.specs.State.{is_listed}
+use Rattle.nmgc_snapshot_laws.specs.laws.Listed.{tested_same, is_same_name-refl, contains_listed, not_listed, listed_from}
 
 -- some name of the list passes the test
 abbrev pub some_of : (Name → Bool) → List Name → Bool

@@ -1,32 +1,32 @@
 -- The names that are found due are exactly those that are.
-use Rattle.std.proofs.Common.{◌≡◌, ◌≢◌, ◌<◌, ◌≤◌, ℕ, List, [], ◌∷◌, ◌++◌, length, refl, sym, ap, subst, ◌∙◌, arith, Option, Some, None, Bool, true, false, not, inl, inr, ◌⊎◌}
-use Rattle.std.specs.Prelude.{Contains, IsSome, is_some, filter, flat_map, ◌&&◌, ◌↔◌}
-use Rattle.std.proofs.lemmas.Bool.{cases_Bool, and_cases, not-false}
+use Rattle.std.proofs.Common.{◌≡◌, ◌≢◌, ◌<◌, ℕ, List, [], ◌∷◌, ◌++◌, length, refl, sym, ap, subst, ◌∙◌, Option, Some, None, Bool, true, false, not, inl, inr, ◌⊎◌}
+use Rattle.std.specs.Prelude.{Contains, IsSome, is_some, filter, ◌&&◌}
 use Rattle.std.proofs.lemmas.List.Elements.{Contains-append_left, Contains-append_right, Contains-append_cases}
 use Rattle.nmgc_limits.specs.declared.mutators.TheConstants.{SHARED_MAKER}
-use Rattle.nmgc_graph.specs.declared.value.Name.{Name}
-use Rattle.nmgc_graph.specs.declared.value.Value.{Value}
-use Rattle.nmgc_graph.specs.declared.value.Value.TheVariants as value
-use Rattle.nmgc_graph.specs.declared.node.Parts.{Parts}
-use Rattle.nmgc_graph.specs.declared.node.Node.{Node}
-use Rattle.nmgc_graph.specs.declared.node.Node.TheVariants.{Con, Var, Arr, Thunk, Weak, Stack}
-use Rattle.nmgc_graph.specs.declared.command.Command.{Command}
-use Rattle.nmgc_graph.specs.World.{World, node_of}
-use Rattle.nmgc_graph.specs.Change.{is_same_name}
-use Rattle.nmgc_graph.specs.Step.{shared_name, step}
-use Rattle.nmgc_graph.specs.Reach.{IsAlive, IsKeptBy}
-use Rattle.nmgc_graph.specs.Search.{parts_of, parts_in}
-use Rattle.nmgc_graph.specs.History.{opened_by, finalised_by, name_in}
-use Rattle.nmgc_graph.specs.laws.Orders.{contains_head, contains_tail, contains_cases, contains_filter, filter_contains}
-use Rattle.nmgc_reach.specs.Holds.{strong_at, HasStrongField}
-use Rattle.nmgc_reach.specs.Owed.{names_among}
-use Rattle.nmgc_reach.specs.laws.ItemLaws.{nothing_in, one_is, contains_flat, flat_contains}
-use Rattle.nmgc_core.specs.laws.Listed.{tested_same, is_same_name-refl, name_among}
-use Rattle.nmgc_lax.specs.Due.{IsBroken, IsEnded, IsDue}
+use Rattle.nmgc_world_spec.specs.declared.value.Name.{Name}
+use Rattle.nmgc_world_spec.specs.declared.value.Value.{Value}
+use Rattle.nmgc_world_spec.specs.declared.value.Value.TheVariants as value
+use Rattle.nmgc_world_spec.specs.declared.node.Parts.{Parts}
+use Rattle.nmgc_world_spec.specs.declared.node.Node.{Node}
+use Rattle.nmgc_world_spec.specs.declared.command.Command.{Command}
+use Rattle.nmgc_world_spec.specs.World.{World, node_of}
+use Rattle.nmgc_world_spec.specs.Change.{is_same_name}
+use Rattle.nmgc_world_spec.specs.Step.{shared_name, step}
+use Rattle.nmgc_world_spec.specs.Reach.{IsKeptBy}
+use Rattle.nmgc_graph.specs.Search.{parts_of}
+use Rattle.nmgc_world_spec.specs.History.{opened_by, finalised_by, name_in}
+use Rattle.nmgc_lists.specs.laws.Items.{contains_head, contains_tail, contains_cases, nothing_in, one_is, contains_flat, flat_contains}
+use Rattle.nmgc_world_spec.specs.laws.Orders.{contains_filter, filter_contains}
+use Rattle.nmgc_world_laws.specs.Holds.{strong_at, HasStrongField}
+use Rattle.nmgc_world_spec.specs.Owed.{names_among}
+use Rattle.nmgc_snapshot_laws.specs.laws.Listed.{tested_same, is_same_name-refl, name_among}
+use Rattle.nmgc_barrier_laws.specs.Due.{IsBroken, IsEnded, IsDue}
 use Rattle.nmgc_watch.specs.declared.due.Field.{Field}
 use Rattle.nmgc_watch.specs.Dues.{strong_in, is_ref_to, stands_in, IsStanding, is_owable, kept_of, kept_then, targets}
 use Rattle.nmgc_watch.proofs.Filters.{kept_in, in_kept, mapped_in, in_mapped}
 use Rattle.nmgc_watch.proofs.Broken.{BrokenAt, broken_at}
+use Rattle.nmgc_world_spec.specs.laws.Common.{same_ref as ref_is}
+use Rattle.nmgc_graph.specs.laws.Common.{alive_from_parts as alive_parts, parts_from_alive as parts_alive}
 
 -- a test of a field is the field
 pub stands_is : (w : World) (f : Field) → stands_in w f ≡ true → HasStrongField w f.name f.place (value.Ref f.target)
@@ -71,9 +71,6 @@ among_ref values t c = by_parts (flat_contains name_in values t c)
     by_parts : ((v : Value) × Contains values v × Contains (name_in v) t) → Contains values (value.Ref t)
     by_parts (v, h, k) = by_value v h k
 
-pub ref_is : (a b : Name) → value.Ref a ≡ value.Ref b → a ≡ b
-ref_is a b e = cc
-
 -- what the parts of a weak pointer keep
 pub kept_is : (weak : Name) (parts : Parts) (t : Name) → Contains (kept_of weak (Some parts)) t → IsKeptBy weak parts t
 kept_is weak parts t c = elim (contains_cases (value.Ref weak) (parts.value ∷ parts.finaliser ∷
@@ -96,26 +93,6 @@ is_kept weak parts t k = name_among (value.Ref weak ∷ parts.value ∷ parts.fi
     by_part (inr (inr e)) = subst (λ (v : Value). Contains (value.Ref weak ∷ parts.value ∷ parts.finaliser ∷
         []) v) e (contains_tail (value.Ref weak) (parts.value ∷ parts.finaliser ∷
         []) parts.finaliser (contains_tail parts.value (parts.finaliser ∷ []) parts.finaliser (contains_head parts.finaliser [])))
-
--- the parts that are read are those of an alive weak pointer
-pub alive_parts : (w : World) (weak : Name) (parts : Parts) → parts_of w weak ≡ Some parts → IsAlive w weak parts
-alive_parts w weak parts h = by_node (node_of w weak) refl
-  where
-    in_node : (node : Node) → node_of w weak ≡ Some node → parts_in node ≡ Some parts → IsAlive w weak parts
-    in_node (Weak found) e k = e ∙ ap (λ (o : Option Parts). Some (Weak o)) k
-    in_node (Con tag values) e k = absurd cc
-    in_node (Var v) e k = absurd cc
-    in_node (Arr values) e k = absurd cc
-    in_node (Thunk free result) e k = absurd cc
-    in_node (Stack size values) e k = absurd cc
-
-    by_node : (o : Option Node) → node_of w weak ≡ o → IsAlive w weak parts
-    by_node None e = absurd
-        (let k : None ≡ Some parts = subst (λ (o : Option Node). Rattle.std.specs.Prelude.option_and_then parts_in o ≡ Some parts) e h in cc)
-    by_node (Some node) e = in_node node e (subst (λ (o : Option Node). Rattle.std.specs.Prelude.option_and_then parts_in o ≡ Some parts) e h)
-
-pub parts_alive : (w : World) (weak : Name) (parts : Parts) → IsAlive w weak parts → parts_of w weak ≡ Some parts
-parts_alive w weak parts a = subst (λ (o : Option Node). Rattle.std.specs.Prelude.option_and_then parts_in o ≡ Some parts) (sym a) refl
 
 -- a name that may be due
 pub owable_is : (snapshot : World) (t : Name) → is_owable snapshot t ≡ true → IsSome (node_of snapshot t) × (t ≢ shared_name)

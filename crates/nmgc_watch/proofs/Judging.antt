@@ -3,23 +3,22 @@ use Rattle.std.proofs.Common.{◌≡◌, ◌≢◌, ◌<◌, ◌≤◌, ℕ, Lis
 use Rattle.std.specs.Prelude.{Contains, IsSome, is_some, filter, ◌&&◌, ◌↔◌}
 use Rattle.std.proofs.lemmas.Bool.{cases_Bool, cases_lt, cases_eq, false≢true, and_cases, and_parts, and_from, not-false, eqb-true, eq-eqb}
 use Rattle.std.proofs.lemmas.List.Elements.{Contains-append_left, Contains-append_right, Contains-append_cases}
-use Rattle.nmgc_graph.specs.declared.value.Name.{Name}
-use Rattle.nmgc_graph.specs.declared.mutator_state.MutatorState.{MutatorState}
-use Rattle.nmgc_graph.specs.declared.command.Command.{Command}
-use Rattle.nmgc_graph.specs.declared.command.Reply.{Reply}
-use Rattle.nmgc_graph.specs.Change.{is_same_name}
-use Rattle.nmgc_graph.specs.World.{World, node_of, IsWorld}
-use Rattle.nmgc_graph.specs.Step.{CanApply, step, shared_name}
-use Rattle.nmgc_graph.specs.declared.node.Parts.{Parts}
-use Rattle.nmgc_graph.specs.Reach.{IsAlive, IsDead, IsKept, Lists, closed}
-use Rattle.nmgc_graph.specs.laws.Orders.{contains_head, contains_tail, contains_cases}
-use Rattle.nmgc_graph.specs.laws.Rows.{name_cases}
-use Rattle.nmgc_reach.specs.laws.ItemLaws.{nothing_in, one_is, contains_one}
-use Rattle.nmgc_reach.specs.laws.WorldSteps.{step_keeps_world}
-use Rattle.nmgc_core.specs.State.{is_listed}
-use Rattle.nmgc_core.specs.laws.Listed.{tested_same, is_same_name-refl, contains_listed, not_listed, listed_from}
-use Rattle.nmgc_lax.specs.declared.debt.Debt.{Debt}
-use Rattle.nmgc_lax.specs.Cycle.{Cycle, watching, IsWatched, IsPushed, IsTook, IsAllTaken, IsDeadTold}
+use Rattle.nmgc_world_spec.specs.declared.value.Name.{Name}
+use Rattle.nmgc_world_spec.specs.declared.mutator_state.MutatorState.{MutatorState}
+use Rattle.nmgc_world_spec.specs.declared.command.Command.{Command}
+use Rattle.nmgc_world_spec.specs.declared.command.Reply.{Reply}
+use Rattle.nmgc_world_spec.specs.Change.{is_same_name}
+use Rattle.nmgc_world_spec.specs.World.{World, node_of, IsWorld}
+use Rattle.nmgc_world_spec.specs.Step.{CanApply, step, shared_name}
+use Rattle.nmgc_world_spec.specs.declared.node.Parts.{Parts}
+use Rattle.nmgc_world_spec.specs.Reach.{IsAlive, IsDead, IsKept, Lists, closed}
+use Rattle.nmgc_lists.specs.laws.Items.{contains_head, contains_tail, contains_cases, nothing_in, one_is, contains_one}
+use Rattle.nmgc_world_spec.specs.laws.Orders.{name_cases}
+use Rattle.nmgc_world_laws.specs.laws.WorldSteps.{step_keeps_world}
+use Rattle.nmgc_snapshot_laws.specs.State.{is_listed}
+use Rattle.nmgc_snapshot_laws.specs.laws.Listed.{tested_same, is_same_name-refl, contains_listed, not_listed, listed_from}
+use Rattle.nmgc_barrier_laws.specs.declared.debt.Debt.{Debt}
+use Rattle.nmgc_barrier_laws.specs.Cycle.{Cycle, watching, IsWatched, IsPushed, IsTook, IsAllTaken, IsDeadTold}
 use Rattle.nmgc_watch.specs.declared.event.Event.{Event}
 use Rattle.nmgc_watch.specs.declared.event.Event.TheVariants as event
 use Rattle.nmgc_watch.specs.declared.event.Why.{Why}
@@ -34,7 +33,8 @@ use Rattle.nmgc_watch.proofs.Filters.{kept_in, in_kept}
 use Rattle.nmgc_watch.proofs.ClosingLaws.{keys_are, dead_told, needs_listed}
 use Rattle.nmgc_watch.proofs.CycleLaws.{not_both, not_so}
 use Rattle.nmgc_watch.proofs.Deciding.{Decided, search, all_names, listed}
-use Rattle.nmgc_watch.proofs.Living.{dead_decided, dead_listed, kept_listed, alive_there}
+use Rattle.nmgc_watch.proofs.Living.{dead_decided, dead_listed, kept_listed}
+use Rattle.nmgc_world_spec.specs.laws.Common.{weak_there as alive_there}
 use Rattle.nmgc_watch.proofs.Watched.{Cases, can_cases, reply_cases, after, watched}
 
 -- an event at a line, from where the watch has come

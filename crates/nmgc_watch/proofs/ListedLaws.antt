@@ -6,12 +6,12 @@ use Rattle.std.proofs.lemmas.Bool.Decides.{eqb_tells}
 use Rattle.std.proofs.lemmas.List.{take_more}
 use Rattle.std.proofs.lemmas.List.Elements.{Contains-get_or, Contains-append_left, Contains-append_right, Contains-append_cases}
 use Rattle.nmgc_limits.specs.declared.mutators.TheConstants.{SHARED_MAKER}
-use Rattle.nmgc_graph.specs.declared.value.Name.{Name}
-use Rattle.nmgc_graph.specs.World.{World, state_of, node_of}
+use Rattle.nmgc_world_spec.specs.declared.value.Name.{Name}
+use Rattle.nmgc_world_spec.specs.World.{World, state_of, node_of}
 use Rattle.nmgc_graph.specs.Marks.{HasPlace, HasPlaces, IsMarked, mark_of, with_mark}
-use Rattle.nmgc_graph.specs.laws.Rows.{marked_place, added, kept_others, places_kept, makers_kept, name_cases, name_placed}
-use Rattle.nmgc_graph.specs.laws.Worlds.{is_some_get}
-use Rattle.nmgc_reach.specs.laws.ItemLaws.{nothing_in, one_is, contains_one}
+use Rattle.nmgc_graph.specs.laws.Rows.{marked_place, added, kept_others, places_kept, makers_kept, name_placed}
+use Rattle.nmgc_world_spec.specs.laws.Orders.{name_cases}
+use Rattle.nmgc_lists.specs.laws.Items.{is_some_get, nothing_in, one_is, contains_one}
 use Rattle.nmgc_watch.specs.declared.listed.Listed.{Listed}
 use Rattle.nmgc_watch.specs.Listed.{IsListed, Joins, joined}
 

@@ -1,43 +1,32 @@
 -- Which names of a world are live, dead and kept can be decided, so they can be listed.
-use Rattle.std.proofs.Common.{◌≡◌, ◌≢◌, ◌<◌, ℕ, List, [], ◌∷◌, ◌++◌, length, refl, sym, ap, subst, ◌∙◌, Bool, true, false, not, cond, inl, inr, ◌⊎◌, Option, Some, None}
-use Rattle.std.specs.Prelude.{Contains, IsSome, is_some, filter, slice_get, flat_map, ◌&&◌, ◌||◌, ◌↔◌}
-use Rattle.std.proofs.lemmas.Bool.{cases_Bool, cases_lt, false≢true, and_parts, and_from, or_cases, not-false}
+use Rattle.std.proofs.Common.{◌≡◌, ◌≢◌, ℕ, List, [], ◌∷◌, ◌++◌, length, refl, sym, ap, subst, ◌∙◌, Bool, true, false, not, cond, inl, inr, Option, Some, None}
+use Rattle.std.specs.Prelude.{Contains, IsSome, slice_get, flat_map, ◌&&◌, ◌||◌}
+use Rattle.std.proofs.lemmas.Bool.{cases_Bool, cases_lt, false≢true, and_parts, and_from, or_cases}
 use Rattle.std.proofs.lemmas.List.{get_or_past}
 use Rattle.std.proofs.lemmas.Option.{slice_get-get_or, get_or_from_slice_get}
 use Rattle.std.proofs.lemmas.List.Elements.{Contains-append_left, Contains-append_right, Contains-append_cases}
-use Rattle.nmgc_graph.specs.declared.value.Name.{Name}
-use Rattle.nmgc_graph.specs.declared.value.Value.{Value}
-use Rattle.nmgc_graph.specs.declared.value.Value.TheVariants as value
-use Rattle.nmgc_graph.specs.declared.node.Parts.{Parts}
-use Rattle.nmgc_graph.specs.declared.node.Node.{Node}
-use Rattle.nmgc_graph.specs.declared.mutator_state.MutatorState.{MutatorState}
-use Rattle.nmgc_graph.specs.World.{World, node_of, state_of, no_mutator, IsWorld}
-use Rattle.nmgc_graph.specs.Step.{shared_name}
-use Rattle.nmgc_graph.specs.History.{name_in}
+use Rattle.nmgc_world_spec.specs.declared.value.Name.{Name}
+use Rattle.nmgc_world_spec.specs.declared.value.Value.{Value}
+use Rattle.nmgc_world_spec.specs.declared.value.Value.TheVariants as value
+use Rattle.nmgc_world_spec.specs.declared.node.Parts.{Parts}
+use Rattle.nmgc_world_spec.specs.declared.node.Node.{Node}
+use Rattle.nmgc_world_spec.specs.declared.mutator_state.MutatorState.{MutatorState}
+use Rattle.nmgc_world_spec.specs.World.{World, node_of, state_of, no_mutator, IsWorld}
+use Rattle.nmgc_world_spec.specs.Step.{shared_name}
 use Rattle.nmgc_graph.specs.Search.{parts_of}
-use Rattle.nmgc_graph.specs.Reach.{strong_fields, RefersTo, IsRoot, IsAlive, IsPlain, IsKeptBy, IsLive, IsDead, IsKept, Lists}
-use Rattle.nmgc_graph.specs.Reach as reach
-use Rattle.nmgc_graph.specs.laws.Orders.{contains_head, contains_tail, contains_cases}
-use Rattle.nmgc_reach.specs.Owed.{names_among}
-use Rattle.nmgc_reach.specs.laws.ItemLaws.{nothing_in, one_is, contains_at, place_of, contains_flat, flat_contains}
-use Rattle.nmgc_core.specs.State.{is_listed}
-use Rattle.nmgc_core.specs.laws.Listed.{contains_listed, not_listed, listed_from, name_among}
-use Rattle.nmgc_core.specs.laws.Lives.{target_there, part_there, live_there}
+use Rattle.nmgc_world_spec.specs.Reach.{strong_fields, RefersTo, IsAlive, IsPlain, IsKeptBy, IsLive, IsDead, IsKept, Lists}
+use Rattle.nmgc_world_spec.specs.Reach as reach
+use Rattle.nmgc_lists.specs.laws.Items.{contains_head, contains_tail, contains_cases, nothing_in, one_is, contains_at, place_of, contains_flat, flat_contains}
+use Rattle.nmgc_world_spec.specs.Owed.{names_among}
+use Rattle.nmgc_snapshot_laws.specs.State.{is_listed}
+use Rattle.nmgc_snapshot_laws.specs.laws.Listed.{contains_listed, not_listed, listed_from, name_among}
+use Rattle.nmgc_snapshot_laws.specs.laws.Lives.{target_there, part_there, live_there}
 use Rattle.nmgc_watch.specs.Dues.{kept_of}
-use Rattle.nmgc_watch.proofs.DueLaws.{among_ref, kept_is, is_kept, alive_parts, parts_alive}
+use Rattle.nmgc_watch.proofs.DueLaws.{among_ref, kept_is, is_kept}
+use Rattle.nmgc_graph.specs.laws.Common.{alive_from_parts as alive_parts, parts_from_alive as parts_alive}
 use Rattle.nmgc_watch.proofs.Deciding.{some_of, some_in, in_some, Decided, all_names, listed, Settled, settled}
-
-or_left : (a b : Bool) → a ≡ true → (a || b) ≡ true
-or_left true b e = refl
-or_left false b e = absurd (false≢true e)
-
-or_right : (a b : Bool) → b ≡ true → (a || b) ≡ true
-or_right true b e = refl
-or_right false b e = e
-
-not_true : (b : Bool) → not b ≡ true → b ≡ false
-not_true true h = absurd (false≢true h)
-not_true false h = refl
+use Rattle.nmgc_lists.specs.laws.Truths.{or_first as or_left, or_second as or_right, unmarked as not_true}
+use Rattle.nmgc_world_spec.specs.laws.Common.{weak_there as alive_there}
 
 -- what the strong fields of a node refer to, if there is one
 abbrev refs_in : Option Node → List Name
@@ -99,9 +88,6 @@ root_held w n m c = elim (cases_lt m (length w.mutators)) [
   | inr le ↦ absurd (nothing_in (value.Ref n) (subst (λ (s : MutatorState).
       Contains (s.registers ++ s.queue) (value.Ref n)) (get_or_past w.mutators m no_mutator le) c))
 ]
-
-pub alive_there : (w : World) (weak : Name) (parts : Parts) → IsAlive w weak parts → IsSome (node_of w weak)
-alive_there w weak parts a = subst (λ (o : Option Node). IsSome o) (sym a) refl
 
 module _ (w : World) (is : IsWorld w) (extra : List Name) where
   abbrev all : List Name

@@ -3,11 +3,11 @@ use Rattle.std.proofs.Common.{◌≡◌, List, ◌++◌, refl, sym, ◌∙◌, B
 use Rattle.std.specs.Prelude.{Contains}
 use Rattle.std.proofs.lemmas.Bool.{cases_Bool, false≢true}
 use Rattle.std.proofs.lemmas.List.Elements.{Contains-append_left, Contains-append_cases}
-use Rattle.nmgc_graph.specs.declared.value.Name.{Name}
-use Rattle.nmgc_graph.specs.World.{World, IsWorld}
-use Rattle.nmgc_graph.specs.Reach.{IsLive, IsDead, IsKept, Lists}
-use Rattle.nmgc_graph.specs.Reach as reach
-use Rattle.nmgc_lax.specs.Cycle.{Cycle, IsKeyLeft, Needs, Marks}
+use Rattle.nmgc_world_spec.specs.declared.value.Name.{Name}
+use Rattle.nmgc_world_spec.specs.World.{World, IsWorld}
+use Rattle.nmgc_world_spec.specs.Reach.{IsLive, IsDead, IsKept, Lists}
+use Rattle.nmgc_world_spec.specs.Reach as reach
+use Rattle.nmgc_barrier_laws.specs.Cycle.{Cycle, IsKeyLeft, Needs, Marks}
 use Rattle.nmgc_watch.specs.declared.left.Left.{Left}
 use Rattle.nmgc_watch.specs.Watching.{IsLeft, KeptIsMarked, NeededIsKept}
 use Rattle.nmgc_watch.proofs.Deciding.{Decided}

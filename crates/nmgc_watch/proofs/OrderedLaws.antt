@@ -5,10 +5,10 @@ use Rattle.std.proofs.lemmas.Bool.{cases_lt, false≢true}
 use Rattle.std.proofs.lemmas.Bool.Decides.{eqb_tells}
 use Rattle.std.proofs.lemmas.List.{get_or_default, get_or-replicate, get_or-set_same, get_or-set_other, length-replicate, length-set}
 use Rattle.std.proofs.lemmas.List.Elements.{Contains-append_left, Contains-append_right, Contains-append_cases}
-use Rattle.nmgc_graph.specs.declared.value.Name.{Name}
-use Rattle.nmgc_graph.specs.Reach.{IsBefore, IsInOrder}
-use Rattle.nmgc_graph.specs.laws.Orders.{before_trans, not_before_itself, in_order_first, in_order_rest}
-use Rattle.nmgc_reach.specs.laws.ItemLaws.{nothing_in, one_is, contains_one}
+use Rattle.nmgc_world_spec.specs.declared.value.Name.{Name}
+use Rattle.nmgc_world_spec.specs.Reach.{IsBefore, IsInOrder}
+use Rattle.nmgc_world_spec.specs.laws.Orders.{before_trans, not_before_itself, in_order_first, in_order_rest}
+use Rattle.nmgc_lists.specs.laws.Items.{nothing_in, one_is, contains_one}
 use Rattle.nmgc_watch.specs.Ordered.{StandsAt, IsBetween, IsPlaceOf, AreMet}
 use Rattle.nmgc_watch.specs.Watching.{IsMissing}
 

@@ -1,16 +1,16 @@
 -- What has a reason can't happen.
 use Rattle.std.proofs.Common.{◌≡◌, ℕ, List, [], ◌∷◌, refl, sym, ap, subst, ◌∙◌, Option, Some, None, inl, inr, ◌⊎◌}
 use Rattle.std.specs.Prelude.{Contains, slice_get, IsSome}
-use Rattle.nmgc_graph.specs.declared.value.Name.{Name}
-use Rattle.nmgc_graph.specs.declared.command.Command.{Command}
-use Rattle.nmgc_graph.specs.declared.command.Reply.{Reply}
-use Rattle.nmgc_graph.specs.World.{World, IsWorld}
-use Rattle.nmgc_graph.specs.Step.{CanApply, step}
-use Rattle.nmgc_graph.specs.Reach.{Lists}
-use Rattle.nmgc_reach.specs.laws.ItemLaws.{nothing_in}
-use Rattle.nmgc_lax.specs.declared.debt.Debt.{Debt}
-use Rattle.nmgc_lax.specs.Cycle.{Cycle, Marks, IsAllTaken}
-use Rattle.nmgc_lax.specs.laws.Beside.{barrier_theorem}
+use Rattle.nmgc_world_spec.specs.declared.value.Name.{Name}
+use Rattle.nmgc_world_spec.specs.declared.command.Command.{Command}
+use Rattle.nmgc_world_spec.specs.declared.command.Reply.{Reply}
+use Rattle.nmgc_world_spec.specs.World.{World, IsWorld}
+use Rattle.nmgc_world_spec.specs.Step.{CanApply, step}
+use Rattle.nmgc_world_spec.specs.Reach.{Lists}
+use Rattle.nmgc_lists.specs.laws.Items.{nothing_in}
+use Rattle.nmgc_barrier_laws.specs.declared.debt.Debt.{Debt}
+use Rattle.nmgc_barrier_laws.specs.Cycle.{Cycle, Marks, IsAllTaken}
+use Rattle.nmgc_barrier_laws.specs.laws.Beside.{barrier_theorem}
 use Rattle.nmgc_watch.specs.declared.event.Event.{Event}
 use Rattle.nmgc_watch.specs.declared.event.Event.TheVariants as event
 use Rattle.nmgc_watch.specs.declared.event.Why.{Why}

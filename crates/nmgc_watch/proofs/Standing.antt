@@ -3,9 +3,9 @@ use Rattle.std.proofs.Common.{◌≡◌, ◌<◌, ◌≤◌, ◌+◌, ℕ, List,
 use Rattle.std.specs.Prelude.{Contains, option_to_list}
 use Rattle.std.proofs.lemmas.List.Elements.{Contains-append_left, Contains-append_right, Contains-append_cases}
 use Rattle.std.proofs.lemmas.Bool.{cases_eq}
-use Rattle.nmgc_graph.specs.declared.value.Name.{Name}
-use Rattle.nmgc_graph.specs.World.{World}
-use Rattle.nmgc_reach.specs.laws.ItemLaws.{nothing_in, one_is, contains_option}
+use Rattle.nmgc_world_spec.specs.declared.value.Name.{Name}
+use Rattle.nmgc_world_spec.specs.World.{World}
+use Rattle.nmgc_lists.specs.laws.Items.{nothing_in, one_is, contains_option}
 use Rattle.nmgc_watch.specs.declared.due.Field.{Field}
 use Rattle.nmgc_watch.specs.Dues.{stands_in}
 

@@ -4,37 +4,37 @@ use Rattle.std.specs.Prelude.{All, Contains, IsSome, is_some, filter, option_to_
 use Rattle.std.proofs.lemmas.Bool.{cases_Bool, cases_lt, cases_eq, false≢true}
 use Rattle.std.proofs.lemmas.List.Elements.{All-nil, All-cons, All-head, All-tail, Contains-append_left, Contains-append_right, Contains-append_cases}
 use Rattle.nmgc_limits.specs.declared.mutators.TheConstants.{REGISTERS, SHARED_MAKER}
-use Rattle.nmgc_graph.specs.declared.value.Name.{Name}
-use Rattle.nmgc_graph.specs.declared.value.Value.{Value}
-use Rattle.nmgc_graph.specs.declared.value.Value.TheVariants as value
-use Rattle.nmgc_graph.specs.declared.node.Node.{Node}
-use Rattle.nmgc_graph.specs.declared.change.Change.{Change}
-use Rattle.nmgc_graph.specs.declared.command.Operand.{Operand}
-use Rattle.nmgc_graph.specs.declared.command.Operand.TheVariants.{Register, Shared}
-use Rattle.nmgc_graph.specs.declared.command.Command.{Command}
-use Rattle.nmgc_graph.specs.declared.command.Command.TheVariants.{Num, Nil, Mov, Con, Var, Arr, Thunk, Weak, Stack, Get, Set, Cas, Update, Force, Push, Pop, Deref, Finalise, NextFin, Show, Same, Yield, Collect, Full}
-use Rattle.nmgc_graph.specs.declared.command.Reply.{Reply}
-use Rattle.nmgc_graph.specs.declared.command.Reply.TheVariants as reply
-use Rattle.nmgc_graph.specs.Command.{IsRegister, IsOperand, HasRegisters}
-use Rattle.nmgc_graph.specs.World.{World, node_of, serial_of, IsWorld}
-use Rattle.nmgc_graph.specs.Step.{CanApply, asked, step}
-use Rattle.nmgc_graph.specs.History.{opened_by, finalised_by}
-use Rattle.nmgc_graph.specs.laws.Orders.{contains_filter, filter_contains}
-use Rattle.nmgc_graph.specs.laws.Rows.{name_cases}
-use Rattle.nmgc_graph.specs.laws.Worlds.{not_shared}
-use Rattle.nmgc_reach.specs.laws.ItemLaws.{nothing_in}
-use Rattle.nmgc_core.specs.State.{is_listed}
-use Rattle.nmgc_core.specs.laws.Listed.{tested_same, is_same_name-refl, contains_listed, not_listed, listed_from}
-use Rattle.nmgc_lax.specs.declared.debt.Debt.{Debt}
-use Rattle.nmgc_lax.specs.Due.{IsDue}
-use Rattle.nmgc_lax.specs.Cycle.{Cycle, IsWatched, OwesBy}
+use Rattle.nmgc_world_spec.specs.declared.value.Name.{Name}
+use Rattle.nmgc_world_spec.specs.declared.value.Value.{Value}
+use Rattle.nmgc_world_spec.specs.declared.value.Value.TheVariants as value
+use Rattle.nmgc_world_spec.specs.declared.node.Node.{Node}
+use Rattle.nmgc_world_spec.specs.declared.change.Change.{Change}
+use Rattle.nmgc_world_spec.specs.declared.command.Operand.{Operand}
+use Rattle.nmgc_world_spec.specs.declared.command.Operand.TheVariants.{Register, Shared}
+use Rattle.nmgc_world_spec.specs.declared.command.Command.{Command}
+use Rattle.nmgc_world_spec.specs.declared.command.Command.TheVariants.{Num, Nil, Mov, Con, Var, Arr, Thunk, Weak, Stack, Get, Set, Cas, Update, Force, Push, Pop, Deref, Finalise, NextFin, Show, Same, Yield, Collect, Full}
+use Rattle.nmgc_world_spec.specs.declared.command.Reply.{Reply}
+use Rattle.nmgc_world_spec.specs.declared.command.Reply.TheVariants as reply
+use Rattle.nmgc_world_spec.specs.Command.{IsRegister, IsOperand, HasRegisters}
+use Rattle.nmgc_world_spec.specs.World.{World, node_of, serial_of, IsWorld}
+use Rattle.nmgc_world_spec.specs.Step.{CanApply, asked, step}
+use Rattle.nmgc_world_spec.specs.History.{opened_by, finalised_by}
+use Rattle.nmgc_world_spec.specs.laws.Orders.{contains_filter, filter_contains, name_cases}
+use Rattle.nmgc_world_laws.specs.laws.Worlds.{not_shared}
+use Rattle.nmgc_lists.specs.laws.Items.{nothing_in}
+use Rattle.nmgc_snapshot_laws.specs.State.{is_listed}
+use Rattle.nmgc_snapshot_laws.specs.laws.Listed.{tested_same, is_same_name-refl, contains_listed, not_listed, listed_from}
+use Rattle.nmgc_barrier_laws.specs.declared.debt.Debt.{Debt}
+use Rattle.nmgc_barrier_laws.specs.Due.{IsDue}
+use Rattle.nmgc_barrier_laws.specs.Cycle.{Cycle, IsWatched, OwesBy}
 use Rattle.nmgc_watch.specs.declared.due.Field.{Field}
 use Rattle.nmgc_watch.specs.Dues.{strong_in, is_ref_to, stands_in, first_place, end_place, IsStanding, is_owable, kept_then, targets}
 use Rattle.nmgc_watch.specs.Accounts.{debt_of}
 use Rattle.nmgc_watch.specs.Cycles.{IsTaken}
 use Rattle.nmgc_watch.proofs.Filters.{mapped_in, in_mapped}
 use Rattle.nmgc_watch.proofs.Standing.{noted_sound, noted_all}
-use Rattle.nmgc_watch.proofs.DueLaws.{ref_is, found_due, due_found}
+use Rattle.nmgc_world_spec.specs.laws.Common.{same_ref as ref_is}
+use Rattle.nmgc_watch.proofs.DueLaws.{found_due, due_found}
 
 -- what can be decided of both is decided
 abbrev pub Cases : Type 0 → Type 0

@@ -1,10 +1,10 @@
 -- What each mutator owes: a queue of debts, and the set of names that came due by it.
 use Rattle.std.specs.Prelude.{◌≡◌, ◌⊎◌, ◌<◌, ◌≤◌, ℕ, List, [], ◌∷◌, ◌++◌, length, filter, slice_get, slice_set, slice_index_or, Option, Some, None, Bool, false, not, ◌&&◌, IsSome, IfSome, Contains, if◌then◌else◌}
 use Rattle.std.specs.List.{flat_map}
-use Rattle.nmgc_graph.specs.declared.value.Name.{Name}
-use Rattle.nmgc_graph.specs.World.{World, node_of}
+use Rattle.nmgc_world_spec.specs.declared.value.Name.{Name}
+use Rattle.nmgc_world_spec.specs.World.{World, node_of}
 use Rattle.nmgc_graph.specs.Marks.{HasPlaces, IsMarked, mark_of, with_mark}
-use Rattle.nmgc_lax.specs.declared.debt.Debt.{Debt}
+use Rattle.nmgc_barrier_laws.specs.declared.debt.Debt.{Debt}
 use Rattle.nmgc_watch.specs.declared.accounts.Accounts.{Accounts}
 use Rattle.nmgc_watch.specs.Dues.{is_owable}
 

@@ -1,18 +1,18 @@
 -- What holds of every cycle, and what its calls promise.
 use Rattle.std.specs.Prelude.{◌≡◌, ◌≢◌, ℕ, List, [], ◌∷◌, ◌++◌, length, flat_map, Option, Some, None, Bool, true, false, not, ◌&&◌, IsSome, Contains, ◌<◌, ◌⊎◌}
-use Rattle.nmgc_graph.specs.declared.value.Name.{Name}
-use Rattle.nmgc_graph.specs.declared.node.Parts.{Parts}
-use Rattle.nmgc_graph.specs.declared.command.Command.{Command}
-use Rattle.nmgc_graph.specs.declared.command.Reply.{Reply}
-use Rattle.nmgc_graph.specs.World.{World, node_of, IsWorld}
-use Rattle.nmgc_graph.specs.Change.{is_same_name}
-use Rattle.nmgc_graph.specs.Step.{CanApply, step, shared_name}
+use Rattle.nmgc_world_spec.specs.declared.value.Name.{Name}
+use Rattle.nmgc_world_spec.specs.declared.node.Parts.{Parts}
+use Rattle.nmgc_world_spec.specs.declared.command.Command.{Command}
+use Rattle.nmgc_world_spec.specs.declared.command.Reply.{Reply}
+use Rattle.nmgc_world_spec.specs.World.{World, node_of, IsWorld}
+use Rattle.nmgc_world_spec.specs.Change.{is_same_name}
+use Rattle.nmgc_world_spec.specs.Step.{CanApply, step, shared_name}
 use Rattle.nmgc_graph.specs.Marks.{mark_of}
-use Rattle.nmgc_graph.specs.Reach.{IsAlive}
+use Rattle.nmgc_world_spec.specs.Reach.{IsAlive}
 use Rattle.nmgc_graph.specs.Search.{parts_of}
-use Rattle.nmgc_reach.specs.Owed.{names_among}
-use Rattle.nmgc_lax.specs.declared.debt.Debt.{Debt}
-use Rattle.nmgc_lax.specs.Cycle.{Cycle, IsWatched, IsPushed, IsTook, IsAllTaken, AreKeysLeft}
+use Rattle.nmgc_world_spec.specs.Owed.{names_among}
+use Rattle.nmgc_barrier_laws.specs.declared.debt.Debt.{Debt}
+use Rattle.nmgc_barrier_laws.specs.Cycle.{Cycle, IsWatched, IsPushed, IsTook, IsAllTaken, AreKeysLeft}
 use Rattle.nmgc_watch.specs.declared.accounts.Accounts.{Accounts}
 use Rattle.nmgc_watch.specs.declared.listed.Listed.{Listed}
 use Rattle.nmgc_watch.specs.declared.event.Why.{Why}

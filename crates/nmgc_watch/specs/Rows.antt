@@ -1,10 +1,10 @@
 -- Commands that one line tells: a copy of many fields, and a fill.
 use Rattle.std.specs.Prelude.{◌≡◌, ◌+◌, ◌-◌, ◌^◌, min, ℕ, zero, suc, List, [], ◌∷◌, ◌++◌, Bool, true, false, if◌then◌else◌}
-use Rattle.nmgc_graph.specs.declared.command.Operand.TheVariants as operand
-use Rattle.nmgc_graph.specs.declared.command.Command.{Command}
-use Rattle.nmgc_graph.specs.declared.command.Command.TheVariants as command
-use Rattle.nmgc_graph.specs.declared.command.Reply.{Reply}
-use Rattle.nmgc_graph.specs.declared.command.Reply.TheVariants as reply
+use Rattle.nmgc_world_spec.specs.declared.command.Operand.TheVariants as operand
+use Rattle.nmgc_world_spec.specs.declared.command.Command.{Command}
+use Rattle.nmgc_world_spec.specs.declared.command.Command.TheVariants as command
+use Rattle.nmgc_world_spec.specs.declared.command.Reply.{Reply}
+use Rattle.nmgc_world_spec.specs.declared.command.Reply.TheVariants as reply
 use Rattle.nmgc_watch.specs.declared.rows.Copying.{Copying}
 use Rattle.nmgc_watch.specs.declared.rows.Filling.{Filling}
 

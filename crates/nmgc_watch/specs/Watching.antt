@@ -1,20 +1,20 @@
 -- What it is for an event to happen, and why one can't: by the heap, the lax rule and nothing else.
 use Rattle.std.specs.Prelude.{◌≡◌, ◌≤◌, ◌↔◌, ◌⊎◌, ◌++◌, ℕ, List, [], ◌∷◌, length, map, slice_index_or, Option, Some, None, Result, Ok, Err, IsSome, Contains, Bool, true, false, ◌||◌, ltb, ◌<◌}
-use Rattle.nmgc_graph.specs.declared.value.Name.{Name}
-use Rattle.nmgc_graph.specs.declared.command.Command.{Command}
-use Rattle.nmgc_graph.specs.declared.command.Reply.{Reply}
-use Rattle.nmgc_graph.specs.declared.mutator_state.MutatorState.{MutatorState}
-use Rattle.nmgc_graph.specs.World.{World, node_of, IsWorld}
-use Rattle.nmgc_graph.specs.Change.{is_same_name}
-use Rattle.nmgc_graph.specs.Step.{CanApply, step, shared_name}
-use Rattle.nmgc_graph.specs.Reach.{Lists, IsKept}
-use Rattle.nmgc_core.specs.declared.event.Event.TheVariants as core
-use Rattle.nmgc_core.specs.State.{State}
-use Rattle.nmgc_core.specs.Machine.{IsPossible}
-use Rattle.nmgc_core.specs.Closing.{IsClosing}
-use Rattle.nmgc_lax.specs.declared.debt.Debt.{Debt}
-use Rattle.nmgc_lax.specs.Cycle.{Cycle, watching, IsWatched, IsPushed, IsTook, IsAllTaken, IsEnd, IsEndTold, IsDeadTold, Needs, Marks}
-use Rattle.nmgc_lax.specs.Barrier.{Beside}
+use Rattle.nmgc_world_spec.specs.declared.value.Name.{Name}
+use Rattle.nmgc_world_spec.specs.declared.command.Command.{Command}
+use Rattle.nmgc_world_spec.specs.declared.command.Reply.{Reply}
+use Rattle.nmgc_world_spec.specs.declared.mutator_state.MutatorState.{MutatorState}
+use Rattle.nmgc_world_spec.specs.World.{World, node_of, IsWorld}
+use Rattle.nmgc_world_spec.specs.Change.{is_same_name}
+use Rattle.nmgc_world_spec.specs.Step.{CanApply, step, shared_name}
+use Rattle.nmgc_world_spec.specs.Reach.{Lists, IsKept}
+use Rattle.nmgc_snapshot_laws.specs.declared.event.Event.TheVariants as core
+use Rattle.nmgc_snapshot_laws.specs.State.{State}
+use Rattle.nmgc_snapshot_laws.specs.Machine.{IsPossible}
+use Rattle.nmgc_snapshot_laws.specs.Closing.{IsClosing}
+use Rattle.nmgc_barrier_laws.specs.declared.debt.Debt.{Debt}
+use Rattle.nmgc_barrier_laws.specs.Cycle.{Cycle, watching, IsWatched, IsPushed, IsTook, IsAllTaken, IsEnd, IsEndTold, IsDeadTold, Needs, Marks}
+use Rattle.nmgc_barrier_laws.specs.Barrier.{Beside}
 use Rattle.nmgc_watch.specs.declared.event.Event.{Event}
 use Rattle.nmgc_watch.specs.declared.event.Event.TheVariants as event
 use Rattle.nmgc_watch.specs.declared.event.Why.{Why}

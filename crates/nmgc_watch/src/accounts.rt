@@ -7,14 +7,16 @@
 //!
 //! Easy to get wrong: a name that one mutator owes may come due by another one too, which then owes it as well.
 ghost use Rattle.std.specs.Prelude.{◌≡◌, ◌⊎◌, ◌<◌, ◌≤◌, ◌∷◌, ◌++◌, List, [], false, length, replicate, slice_get, IfOk, OnOk, OnErr, All, Contains, Some, None};
-ghost use Rattle.nmgc_graph.specs.declared.value.Name.{Name as NameAt};
+ghost use Rattle.nmgc_world_spec.specs.declared.value.Name.{Name as NameAt};
 ghost use Rattle.nmgc_graph.specs.Marks.{HasPlaces, mark_of};
-ghost use Rattle.nmgc_lax.specs.declared.debt.Debt.{Debt as DebtAt};
+ghost use Rattle.nmgc_barrier_laws.specs.declared.debt.Debt.{Debt as DebtAt};
 ghost use Rattle.nmgc_watch.specs.Accounts.{AreAccounts, AreNew, IsOwing, IsForgotten, IsLeastIn, IsPaidUp, owed_one, queue_of, all_debts, unpaid};
 
 use crate::due::is_owable;
-use nmgc_graph::{List, Marks, Name, NoMemory, Queue, World};
-use nmgc_lax::Debt;
+use nmgc_barrier_laws::Debt;
+use nmgc_graph::{Marks, World};
+use nmgc_lists::{List, NoMemory, Queue};
+use nmgc_world_spec::Name;
 use std::alloc::Global;
 
 /// For each mutator its debts, and the names that came due by it.

@@ -8,21 +8,23 @@
 //! told as dying. One lives on as long as its key, and its finaliser is still to run, whether or not anybody holds it; whoever
 //! does can still read its value. So its key counts for what may be freed, and for what else dies.
 ghost use Rattle.std.specs.Prelude.{◌≡◌, ◌++◌, [], None, IfOk, All, filter};
-ghost use Rattle.nmgc_graph.specs.Reach.{IsInOrder, IsAliveWeak, closed};
+ghost use Rattle.nmgc_world_spec.specs.Reach.{IsInOrder, IsAliveWeak, closed};
 ghost use Rattle.nmgc_watch.specs.Cycles.{is_outside, keys_then};
 ghost use Rattle.nmgc_watch.specs.Watching.{AreSerials};
 
 use crate::cycle::Cycle;
-use crate::due::names_among;
 use crate::event::Why;
 use crate::left::{Left, missing};
 use crate::ordered::Ordered;
-use nmgc_graph::{List, Marks, Name, NoMemory, World};
+use nmgc_graph::opened::names_among;
+use nmgc_graph::{Marks, World};
+use nmgc_lists::{List, NoMemory};
+use nmgc_world_spec::Name;
 use std::alloc::Global;
 
 impl Cycle {
-    ghost use Rattle.nmgc_graph.specs.Reach.{IsDead, Lists};
-    ghost use Rattle.nmgc_lax.specs.Cycle.{Marks as HasToMark, Needs, IsAllTaken};
+    ghost use Rattle.nmgc_world_spec.specs.Reach.{IsDead, Lists};
+    ghost use Rattle.nmgc_barrier_laws.specs.Cycle.{Marks as HasToMark, Needs, IsAllTaken};
     ghost use Rattle.nmgc_watch.specs.Cycles.{IsOpenedWith};
     ghost use Rattle.nmgc_watch.specs.Watching.{IsEnding, IsEndingTold, IsAgainstIf, IsDeadIf, IsLeft, IsLeftTold};
 

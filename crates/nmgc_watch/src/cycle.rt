@@ -8,7 +8,7 @@
 //!
 //! Easy to get wrong: a name of no snapshot has no place in a set. It can't be due, and a push of it changes nothing.
 ghost use Rattle.std.specs.Prelude.{◌≡◌, ◌↔◌, ◌<◌, ◌++◌, length, IfOk, OnOk, IsSome, IsTrue};
-ghost use Rattle.nmgc_graph.specs.World.{node_of};
+ghost use Rattle.nmgc_world_spec.specs.World.{node_of};
 ghost use Rattle.nmgc_watch.specs.Dues.{targets};
 ghost use Rattle.nmgc_watch.specs.Cycles.{IsUntakenIn, is_untaken};
 
@@ -16,10 +16,12 @@ use crate::accounts::Accounts;
 use crate::due::{Field, gone, is_owable, kept_then, standing};
 use crate::event::Why;
 use crate::listed::Listed;
-use crate::opened::{finalised_by, opened_by};
 use crate::rows::is_done;
-use nmgc_graph::{Command, Name, NoMemory, Queue, Reply, World};
-use nmgc_lax::Debt;
+use nmgc_barrier_laws::Debt;
+use nmgc_graph::World;
+use nmgc_graph::opened::{finalised_by, opened_by};
+use nmgc_lists::{NoMemory, Queue};
+use nmgc_world_spec::{Command, Name, Reply};
 use std::alloc::Global;
 use std::marker::Model;
 
@@ -37,7 +39,7 @@ pub struct Cycle {
 }
 
 impl Model for Cycle {
-    ghost use Rattle.nmgc_lax.specs.Cycle.{Cycle as Seen};
+    ghost use Rattle.nmgc_barrier_laws.specs.Cycle.{Cycle as Seen};
     ghost use Rattle.nmgc_watch.specs.Accounts.{unpaid, all_debts};
     ghost use Rattle.nmgc_watch.specs.Cycles.{IsCycle};
 
@@ -49,8 +51,8 @@ impl Model for Cycle {
 }
 
 impl Cycle {
-    ghost use Rattle.nmgc_graph.specs.Step.{CanApply};
-    ghost use Rattle.nmgc_lax.specs.Cycle.{watching, IsPushed};
+    ghost use Rattle.nmgc_world_spec.specs.Step.{CanApply};
+    ghost use Rattle.nmgc_barrier_laws.specs.Cycle.{watching, IsPushed};
     ghost use Rattle.nmgc_watch.specs.Cycles.{IsTaken, IsCommand, IsActing, IsPush, IsSettle, IsTake, IsLeastDebt, IsUntakenIf};
 
     /// Marking begins: the world is the snapshot. Takes time and memory for each object of the world and, for the names,

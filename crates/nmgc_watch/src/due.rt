@@ -8,17 +8,18 @@
 //! Easy to get wrong: a field that holds its target again, where the snapshot's has long gone, is no field of the
 //! snapshot any more, unless it is written back to the same place of the same object.
 ghost use Rattle.std.specs.Prelude.{◌≡◌, ◌<◌, ◌≤◌, ◌++◌, true, length, filter, not, option_to_list, Some, IfOk, OnOk, Contains};
-ghost use Rattle.nmgc_graph.specs.Command.{HasRegisters};
-ghost use Rattle.nmgc_graph.specs.World.{node_of};
-ghost use Rattle.nmgc_reach.specs.Holds.{strong_at};
-ghost use Rattle.nmgc_reach.specs.Owed.{names_among};
+ghost use Rattle.nmgc_world_spec.specs.Command.{HasRegisters};
+ghost use Rattle.nmgc_world_spec.specs.World.{node_of};
+ghost use Rattle.nmgc_world_laws.specs.Holds.{strong_at};
+ghost use Rattle.nmgc_world_spec.specs.Owed.{names_among};
 ghost use Rattle.nmgc_watch.specs.declared.due.Field.{Field as FieldAt};
-ghost use Rattle.nmgc_graph.specs.declared.node.Node.TheVariants as NodeIs;
+ghost use Rattle.nmgc_world_spec.specs.declared.node.Node.TheVariants as NodeIs;
 ghost use Rattle.nmgc_watch.specs.Dues.{strong_in, is_ref_to, stands_in, first_place, end_place, IsStanding, is_owable, kept_then};
 
-use nmgc_graph::change::Change;
-use nmgc_graph::{Command, List, Name, NoMemory, Node, Value, World};
-use std::alloc::Global;
+use nmgc_graph::World;
+use nmgc_graph::opened::names_among;
+use nmgc_lists::{List, NoMemory};
+use nmgc_world_spec::{Change, Command, Name, Node, Value};
 use std::slice;
 
 /// A strong field that refers to a target: the object, the place in it, and the target.
@@ -27,19 +28,6 @@ pub struct Field {
     pub name: Name,
     pub place: usize,
     pub target: Name,
-}
-
-/// The references among values.
-pub(crate) fn names_among(alloc: Global, values: &[Value]) -> Result<Vec<Name>, NoMemory>
-    ensures { IfOk result (λ names. names.items ≡ names_among values.now) }
-{
-    let mut names = Vec::new(alloc);
-    for value in values {
-        if let Value::Ref(name) = value {
-            names.push(*name)?;
-        }
-    }
-    Ok(names)
 }
 
 // The strong field of an object at a place.

@@ -1,6 +1,7 @@
 //! What can be told of a cycle, and why it can't have happened.
-use nmgc_graph::{Command, List, Name, Reply};
-use nmgc_lax::Debt;
+use nmgc_barrier_laws::Debt;
+use nmgc_lists::List;
+use nmgc_world_spec::{Command, Name, Reply};
 
 /// One thing that a runtime did. The marker isn't among them: what it read, and when, is not watched.
 #[derive(Drop)]

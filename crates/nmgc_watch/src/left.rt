@@ -6,14 +6,16 @@
 //! Easy to get wrong: what was made since the cycle began is in no snapshot, so nothing of the cycle says that it is
 //! garbage; a sweep that frees it is wrong, whether or not something refers to it.
 ghost use Rattle.std.specs.Prelude.{◌≡◌, ◌↔◌, slice_index_or, IfOk, IsTrue, Contains};
-ghost use Rattle.nmgc_graph.specs.declared.value.Name.{Name as NameAt};
+ghost use Rattle.nmgc_world_spec.specs.declared.value.Name.{Name as NameAt};
 ghost use Rattle.nmgc_graph.specs.Marks.{IsMarked};
 ghost use Rattle.nmgc_graph.specs.Search.{IsSetOf};
 ghost use Rattle.nmgc_watch.specs.Watching.{IsMissingIf, is_old};
 
 use crate::event::Why;
 use crate::ordered::Ordered;
-use nmgc_graph::{List, Marks, Name, NoMemory, World};
+use nmgc_graph::{Marks, World};
+use nmgc_lists::{List, NoMemory};
+use nmgc_world_spec::Name;
 
 /// The world after a cycle, and which names of its snapshot the cycle kept, in order: all that the commands and the
 /// pushes keep; and those that no collector may free that lets the same weak pointers die, since the commands keep them or

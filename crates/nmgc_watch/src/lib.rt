@@ -1,7 +1,7 @@
 //! A runtime's barrier, watched: which of its steps are allowed by the lax rule, and why another isn't.
 //!
 //! A collector that marks from a snapshot while mutators run loses nothing as long as its barrier remembers what is due
-//! (`nmgc_lax`): a target whose field of the snapshot goes, and what is read out of a weak pointer or was kept by a
+//! (`nmgc_barrier_laws`): a target whose field of the snapshot goes, and what is read out of a weak pointer or was kept by a
 //! finalised one. That is decided by the snapshot, the heap and the command alone. So a runtime's barrier is checked
 //! without its marker: whoever tells what the mutators did and what was remembered has each step allowed, or refused with
 //! a reason and the line since which it is true.
@@ -24,7 +24,6 @@ pub mod event;
 pub mod laws;
 pub mod left;
 mod listed;
-mod opened;
 pub mod ordered;
 pub mod rows;
 pub mod watch;

@@ -3,11 +3,13 @@
 //! The set answers in constant time whether a name is there, and the list has the same names, for going over them. A
 //! name that the snapshot doesn't have has no place in the set: it joins nothing.
 ghost use Rattle.std.specs.Prelude.{◌≡◌, ◌↔◌, [], false, IsTrue, IfOk, OnOk, OnErr};
-ghost use Rattle.nmgc_graph.specs.declared.value.Name.{Name as NameAt};
+ghost use Rattle.nmgc_world_spec.specs.declared.value.Name.{Name as NameAt};
 ghost use Rattle.nmgc_graph.specs.Marks.{HasPlaces, mark_of};
 ghost use Rattle.nmgc_watch.specs.Listed.{IsListed, Joins, joined};
 
-use nmgc_graph::{List, Marks, Name, NoMemory, World};
+use nmgc_graph::{Marks, World};
+use nmgc_lists::{List, NoMemory};
+use nmgc_world_spec::Name;
 
 /// The names, as a set and as a list.
 #[derive(Drop)]

@@ -3,11 +3,12 @@
 //! A name is found by a binary search, so no set is made to look for it: what a runtime tells of a cycle takes time for
 //! what is told and what was kept, and not for all names that the heap ever had.
 ghost use Rattle.std.specs.Prelude.{◌≡◌, ◌↔◌, IsTrue, IfSome, IfNone, IfOk, Contains};
-ghost use Rattle.nmgc_graph.specs.Reach.{IsBefore, IsInOrder};
+ghost use Rattle.nmgc_world_spec.specs.Reach.{IsBefore, IsInOrder};
 ghost use Rattle.nmgc_watch.specs.Ordered.{StandsAt, IsPlaceOf, AreMet};
 ghost use Rattle.nmgc_watch.specs.Watching.{IsMissingIf};
 
-use nmgc_graph::{List, Name, NoMemory};
+use nmgc_lists::{List, NoMemory};
+use nmgc_world_spec::Name;
 use std::alloc::Global;
 use std::marker::Model;
 
@@ -19,8 +20,8 @@ pub struct Ordered {
 
 impl Model for Ordered {
     ghost use Rattle.std.specs.Prelude.{List};
-    ghost use Rattle.nmgc_graph.specs.declared.value.Name.{Name as NameAt};
-    ghost use Rattle.nmgc_graph.specs.Reach.{IsInOrder};
+    ghost use Rattle.nmgc_world_spec.specs.declared.value.Name.{Name as NameAt};
+    ghost use Rattle.nmgc_world_spec.specs.Reach.{IsInOrder};
 
     ghost Value = { List NameAt };
 

@@ -8,7 +8,8 @@
 ghost use Rattle.std.specs.Prelude.{◌≡◌, ◌<◌, IfOk};
 ghost use Rattle.nmgc_watch.specs.Rows.{is_done, turn_place, index_at, load_of, store_of, write_of, copied, filled};
 
-use nmgc_graph::{Command, List, NoMemory, Operand, Reply};
+use nmgc_lists::{List, NoMemory};
+use nmgc_world_spec::{Command, Operand, Reply};
 use std::alloc::Global;
 
 /// A copy of `count` fields of `from`, from the field `first` on, over those of `to` from the field `place` on, each by the

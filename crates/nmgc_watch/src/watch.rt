@@ -7,7 +7,7 @@
 //! Easy to get wrong: a refused event leaves everything as it was, so that a test can go on; but of several commands in one
 //! line those before the refused one are done.
 ghost use Rattle.std.specs.Prelude.{◌≡◌, ◌↔◌, ◌<◌, ◌≤◌, length, IfOk, IsTrue};
-ghost use Rattle.nmgc_graph.specs.World.{new_world};
+ghost use Rattle.nmgc_world_spec.specs.World.{new_world};
 ghost use Rattle.nmgc_watch.specs.Watching.{IsStep, IsGivenIf, IsAct, IsDoneIf, AreActed, is_stopped, mutators_of};
 ghost use Rattle.nmgc_watch.specs.declared.event.Event.TheVariants as event;
 ghost use Rattle.nmgc_watch.specs.declared.watch.Watch.TheVariants as watch;
@@ -16,7 +16,10 @@ use crate::cycle::Cycle;
 use crate::event::{Event, Why};
 use crate::left::Left;
 use crate::rows::is_done;
-use nmgc_graph::{Command, List, MAKERS, Name, NoMemory, Reply, World};
+use nmgc_graph::World;
+use nmgc_limits::MAKERS;
+use nmgc_lists::{List, NoMemory};
+use nmgc_world_spec::{Command, Name, Reply};
 use std::alloc::Global;
 use std::marker::Model;
 
@@ -27,7 +30,7 @@ pub struct Running {
 }
 
 impl Model for Running {
-    ghost use Rattle.nmgc_lax.specs.Cycle.{Cycle as Seen};
+    ghost use Rattle.nmgc_barrier_laws.specs.Cycle.{Cycle as Seen};
 
     ghost Value = { Seen };
 
@@ -35,7 +38,7 @@ impl Model for Running {
 }
 
 impl Running {
-    ghost use Rattle.nmgc_lax.specs.Cycle.{watching};
+    ghost use Rattle.nmgc_barrier_laws.specs.Cycle.{watching};
     ghost use Rattle.nmgc_watch.specs.Cycles.{IsSettle};
     ghost use Rattle.nmgc_watch.specs.Watching.{IsEnding, IsEndingTold};
 

@@ -1,29 +1,25 @@
 -- What scans mark at a stop: all of it has a fact that strong fields of the world hand on.
 use Rattle.std.proofs.Common.{◌≡◌, ◌≤◌, ◌+◌, ℕ, zero, suc, Bool, true, false, cond, eqb, leb, List, [], ◌∷◌, refl, sym, ap, subst, ◌∙◌, arith, Option, Some, None, inl, inr, ◌⊎◌}
-use Rattle.std.specs.Prelude.{Contains, IsSome, is_some, not, ◌&&◌}
-use Rattle.std.proofs.lemmas.Bool.{or_parts, and_parts, and_cases, eq-eqb, cases_eq}
+use Rattle.std.specs.Prelude.{Contains, IsSome, ◌&&◌}
+use Rattle.std.proofs.lemmas.Bool.{or_parts, and_cases, eq-eqb, cases_eq}
 use Rattle.std.proofs.lemmas.List.Elements.{Contains-append_cases, Contains-push_cases}
-use Rattle.nmgc_graph.specs.declared.value.Name.{Name}
-use Rattle.nmgc_graph.specs.declared.value.Value.{Value}
-use Rattle.nmgc_graph.specs.declared.value.Value.TheVariants as value
-use Rattle.nmgc_graph.specs.declared.node.Node.{Node}
-use Rattle.nmgc_graph.specs.World.{World, node_of}
-use Rattle.nmgc_graph.specs.Reach.{RefersTo}
-use Rattle.nmgc_graph.specs.laws.Orders.{contains_head, contains_tail}
-use Rattle.nmgc_core.specs.declared.event.Entry.{Entry}
-use Rattle.nmgc_core.specs.Machine.{after_scan, advanced}
-use Rattle.nmgc_core.specs.Scan.{read_at, moved_on, fields_of, is_last}
-use Rattle.nmgc_core.specs.State.{State, entry_of, mark_name, mark_read, is_new, is_listed}
-use Rattle.nmgc_core.specs.laws.Marking.{mark_cases}
-use Rattle.nmgc_core.specs.laws.ScanReads.{read_cases}
-use Rattle.nmgc_reach.specs.Holds.{has_result}
-use Rattle.nmgc_reach.specs.laws.Barrier.{field_at_place}
-use Rattle.nmgc_reach.specs.laws.ItemLaws.{nothing_in, one_is}
+use Rattle.nmgc_world_spec.specs.declared.value.Name.{Name}
+use Rattle.nmgc_world_spec.specs.declared.value.Value.{Value}
+use Rattle.nmgc_world_spec.specs.declared.value.Value.TheVariants as value
+use Rattle.nmgc_world_spec.specs.declared.node.Node.{Node}
+use Rattle.nmgc_world_spec.specs.World.{World, node_of}
+use Rattle.nmgc_world_spec.specs.Reach.{RefersTo}
+use Rattle.nmgc_lists.specs.laws.Items.{contains_head, contains_tail, nothing_in, one_is}
+use Rattle.nmgc_snapshot_laws.specs.declared.event.Entry.{Entry}
+use Rattle.nmgc_snapshot_laws.specs.Machine.{after_scan, advanced}
+use Rattle.nmgc_snapshot_laws.specs.Scan.{read_at, moved_on, fields_of, is_last}
+use Rattle.nmgc_snapshot_laws.specs.State.{State, entry_of, mark_name, mark_read}
+use Rattle.nmgc_snapshot_laws.specs.laws.Marking.{mark_cases, new_there}
+use Rattle.nmgc_snapshot_laws.specs.laws.ScanReads.{read_cases}
+use Rattle.nmgc_world_laws.specs.Holds.{has_result}
+use Rattle.nmgc_world_laws.specs.laws.Barrier.{field_at_place}
 use Rattle.nmgc_round.specs.Events.{Happening, did, scanned, replay}
 use Rattle.nmgc_mark.specs.Stopped.{AreScans}
-
-new_there : (s : State) (name : Name) → is_new s name ≡ true → IsSome (node_of s.snapshot name)
-new_there s name e = (and_parts (is_some (node_of s.snapshot name)) (not (is_listed name s.marked)) e).0
 
 module _ (P : Name → Type 0) (w snapshot : World) (hands_on : (name target : Name) → P name → RefersTo w name target →
     IsSome (node_of snapshot target) → P target) where

@@ -3,31 +3,33 @@ use Rattle.std.proofs.Common.{◌≡◌, ◌≢◌, ◌*◌, ◌<◌, ℕ, zero,
 use Rattle.std.specs.Prelude.{Contains, slice_get}
 use Rattle.std.proofs.lemmas.Bool.{cases_eq}
 use Rattle.nmgc_limits.specs.declared.mutators.TheConstants.{REGISTERS, SHARED_MAKER}
-use Rattle.nmgc_graph.specs.declared.value.Name.{Name}
-use Rattle.nmgc_graph.specs.declared.value.Value.{Value}
-use Rattle.nmgc_graph.specs.declared.value.Value.TheVariants as value
-use Rattle.nmgc_graph.specs.declared.node.Node.{Node}
-use Rattle.nmgc_graph.specs.declared.node.Node.TheVariants.{Weak}
-use Rattle.nmgc_graph.specs.declared.node.Parts.{Parts}
-use Rattle.nmgc_graph.specs.declared.mutator_state.MutatorState.{MutatorState}
-use Rattle.nmgc_graph.specs.World.{World, IsWorld, node_of, state_of}
-use Rattle.nmgc_graph.specs.Reach.{IsAlive, IsBefore, IsInOrder, closed, closed_by, queued}
-use Rattle.nmgc_graph.specs.Step.{with_nth, with_state}
-use Rattle.nmgc_graph.specs.laws.Closings.{with_dead, closed_state}
-use Rattle.nmgc_graph.specs.laws.Orders.{contains_head, contains_tail, in_order_first, in_order_rest, not_before_itself}
-use Rattle.nmgc_graph.specs.laws.Weaks.{weak_maker}
-use Rattle.nmgc_graph.specs.laws.Worlds.{not_shared}
+use Rattle.nmgc_world_spec.specs.declared.value.Name.{Name}
+use Rattle.nmgc_world_spec.specs.declared.value.Value.{Value}
+use Rattle.nmgc_world_spec.specs.declared.value.Value.TheVariants as value
+use Rattle.nmgc_world_spec.specs.declared.node.Node.{Node}
+use Rattle.nmgc_world_spec.specs.declared.node.Node.TheVariants.{Weak}
+use Rattle.nmgc_world_spec.specs.declared.node.Parts.{Parts}
+use Rattle.nmgc_world_spec.specs.declared.mutator_state.MutatorState.{MutatorState}
+use Rattle.nmgc_world_spec.specs.World.{World, IsWorld, node_of, state_of}
+use Rattle.nmgc_world_spec.specs.Reach.{IsAlive, IsBefore, IsInOrder, closed, closed_by, queued}
+use Rattle.nmgc_world_spec.specs.Step.{with_nth, with_state}
+use Rattle.nmgc_world_laws.specs.laws.Closings.{with_dead, closed_state}
+use Rattle.nmgc_lists.specs.laws.Items.{contains_head, contains_tail, item as get_at}
+use Rattle.nmgc_world_spec.specs.laws.Orders.{in_order_first, in_order_rest, not_before_itself}
+use Rattle.nmgc_world_laws.specs.laws.Weaks.{weak_maker}
+use Rattle.nmgc_world_laws.specs.laws.Worlds.{not_shared}
 use Rattle.nmgc_object.specs.FinQueue.{FinQueue}
-use Rattle.nmgc_reach.specs.laws.Deaths.{dies_by, closing_leaves_hands, closed_mutators, closed_serials}
-use Rattle.nmgc_reach.specs.laws.NodeLaws.{state_same, state_other}
-use Rattle.nmgc_heap.specs.Places.{Place, Means, ListMeans, AllMean}
+use Rattle.nmgc_world_laws.specs.laws.Deaths.{dies_by, closing_leaves_hands, closed_mutators, closed_serials}
+use Rattle.nmgc_world_laws.specs.laws.NodeLaws.{state_same, state_other}
+use Rattle.nmgc_heap_spec.specs.Places.{Place, Means, ListMeans, AllMean}
 use Rattle.nmgc_round.specs.View.{Opening}
 use Rattle.nmgc_weak.specs.declared.weaks.Death.{Death}
 use Rattle.nmgc_weak.specs.Closes.{QueuesClose}
 use Rattle.nmgc_weak.specs.Queues.{joined}
 use Rattle.nmgc_weak.specs.Resolve.{AreDeaths}
 use Rattle.nmgc_weak.proofs.Dying.{others_stay}
-use Rattle.nmgc_weak.proofs.Joining.{one_of, joined_cons, own_joins, others_none, nil_none, get_within, get_at}
+use Rattle.nmgc_weak.proofs.Joining.{one_of, joined_cons, own_joins, others_none, nil_none}
+use Rattle.std.proofs.lemmas.Option.{slice_get_within as get_within}
 
 -- the deaths of a world
 abbrev DeathsAt : (Place → Type 0) → World → List Name → List Death → Type 0

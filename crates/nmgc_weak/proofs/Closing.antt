@@ -2,28 +2,22 @@
 -- that die are marked, what is kept: so the machine has closed.
 use Rattle.std.proofs.Common.{◌≡◌, ◌↔◌, ℕ, Bool, true, false, List, [], refl, sym, subst, inl, inr}
 use Rattle.std.specs.Prelude.{Contains}
-use Rattle.nmgc_graph.specs.declared.value.Name.{Name}
-use Rattle.nmgc_graph.specs.declared.value.Value.{Value}
-use Rattle.nmgc_graph.specs.declared.value.Value.TheVariants as value
-use Rattle.nmgc_graph.specs.declared.node.Parts.{Parts}
-use Rattle.nmgc_graph.specs.Reach.{IsAlive, IsPlain, IsKeptBy, IsDead, IsKept, Lists, RefersTo, closed}
-use Rattle.nmgc_graph.specs.Reach as reach
-use Rattle.nmgc_core.specs.Closing.{IsWaiting, IsDying, IsClosing}
-use Rattle.nmgc_core.specs.Facts.{IsLiveIn, IsSafe, IsAhead, Facts}
-use Rattle.nmgc_core.specs.Facts as facts
-use Rattle.nmgc_core.specs.Machine.{AreEmpty}
-use Rattle.nmgc_core.specs.State.{State, names_of, is_listed}
-use Rattle.nmgc_core.specs.laws.Ending.{live_first, first_live, last_kept, kept_last, dying_lists}
-use Rattle.nmgc_core.specs.laws.Listed.{contains_listed, not_listed}
-use Rattle.nmgc_core.specs.laws.Lives.{stands}
-use Rattle.nmgc_reach.specs.laws.ItemLaws.{nothing_in}
-use Rattle.std.proofs.lemmas.List.{get_or_past}
-use Rattle.std.proofs.lemmas.Bool.{cases_lt}
-use Rattle.std.proofs.Common.{length}
+use Rattle.nmgc_world_spec.specs.declared.value.Name.{Name}
+use Rattle.nmgc_world_spec.specs.declared.value.Value.{Value}
+use Rattle.nmgc_world_spec.specs.declared.value.Value.TheVariants as value
+use Rattle.nmgc_world_spec.specs.declared.node.Parts.{Parts}
+use Rattle.nmgc_world_spec.specs.Reach.{IsAlive, IsPlain, IsKeptBy, IsDead, IsKept, Lists, RefersTo, closed}
+use Rattle.nmgc_world_spec.specs.Reach as reach
+use Rattle.nmgc_snapshot_laws.specs.Closing.{IsWaiting, IsDying, IsClosing}
+use Rattle.nmgc_snapshot_laws.specs.Facts.{IsLiveIn, IsSafe, IsAhead, Facts}
+use Rattle.nmgc_snapshot_laws.specs.Facts as facts
+use Rattle.nmgc_snapshot_laws.specs.Machine.{AreEmpty}
+use Rattle.nmgc_snapshot_laws.specs.State.{State, is_listed}
+use Rattle.nmgc_snapshot_laws.specs.laws.Ending.{live_first, first_live, last_kept, kept_last, dying_lists, none_of}
+use Rattle.nmgc_snapshot_laws.specs.laws.Listed.{contains_listed, not_listed}
+use Rattle.nmgc_snapshot_laws.specs.laws.Lives.{stands}
+use Rattle.nmgc_lists.specs.laws.Items.{nothing_in}
 use Rattle.nmgc_weak.specs.Steps.{IsKeyMarked, IsLost}
-
-none_of : (lists : List (List Name)) → AreEmpty lists → (m : ℕ) → names_of lists m ≡ []
-none_of lists h m = elim (cases_lt m (length lists)) [ inl lt ↦ h m [] lt | inr le ↦ get_or_past lists m [] le ]
 
 -- where nothing waits, is owed or is pushed, what is safe is marked, and a marked name has its fields marked
 module _ (s : State) (f : Facts s) (queue : s.queue ≡ []) (owed : AreEmpty s.owed) (pushed : AreEmpty s.pushed) where

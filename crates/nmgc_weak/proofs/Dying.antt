@@ -1,47 +1,38 @@
 -- Weak pointers that die, in the words: their value words become 0, and words and list stand for the closed world.
 use Rattle.std.proofs.Common.{◌≡◌, ◌≢◌, ◌+◌, ◌≤◌, ℕ, zero, suc, Bool, true, false, cond, eqb, ne_eqb, eq-eqb, List, [], ◌∷◌, set, refl, sym, ap, subst, ◌∙◌, arith, Some, None, inl, inr, ◌⊎◌}
-use Rattle.std.specs.Prelude.{Contains, slice_index, slice_get, filter, not}
+use Rattle.std.specs.Prelude.{Contains, slice_index, filter, not}
 use Rattle.std.proofs.lemmas.Bool.{cases_eq}
-use Rattle.nmgc_graph.specs.declared.value.Name.{Name}
-use Rattle.nmgc_graph.specs.declared.value.Value.{Value}
-use Rattle.nmgc_graph.specs.declared.value.Value.TheVariants as value
-use Rattle.nmgc_graph.specs.declared.node.Node.TheVariants.{Weak}
-use Rattle.nmgc_graph.specs.declared.node.Parts.{Parts}
-use Rattle.nmgc_graph.specs.World.{World, IsWorld, node_of}
-use Rattle.nmgc_graph.specs.Reach.{IsAlive, IsAliveWeak, IsBefore, IsInOrder, IsReached, closed, closed_by}
-use Rattle.nmgc_graph.specs.laws.Orders.{contains_head, contains_tail, contains_cases, in_order_first, in_order_rest, not_before_itself}
+use Rattle.nmgc_world_spec.specs.declared.value.Name.{Name}
+use Rattle.nmgc_world_spec.specs.declared.value.Value.{Value}
+use Rattle.nmgc_world_spec.specs.declared.value.Value.TheVariants as value
+use Rattle.nmgc_world_spec.specs.declared.node.Node.TheVariants.{Weak}
+use Rattle.nmgc_world_spec.specs.declared.node.Parts.{Parts}
+use Rattle.nmgc_world_spec.specs.World.{World, IsWorld, node_of}
+use Rattle.nmgc_world_spec.specs.Reach.{IsAlive, IsAliveWeak, IsBefore, IsInOrder, IsReached, closed, closed_by}
+use Rattle.nmgc_lists.specs.laws.Items.{contains_head, contains_tail, contains_cases}
+use Rattle.nmgc_world_spec.specs.laws.Orders.{in_order_first, in_order_rest, not_before_itself}
 use Rattle.nmgc_object.specs.declared.layout.Layout.{Layout}
 use Rattle.nmgc_object.specs.declared.size.TheConstants.{HEADER_WORDS}
-use Rattle.nmgc_reach.specs.laws.Deaths.{Dies, dies_by}
-use Rattle.nmgc_heap.specs.Shape.{Slot, holds, unset, untold, slots_of}
-use Rattle.nmgc_heap.specs.Places.{Place, Means, Fills, LiesWell}
+use Rattle.nmgc_world_laws.specs.laws.Deaths.{Dies, dies_by}
+use Rattle.nmgc_heap_spec.specs.Shape.{Slot, holds, unset}
+use Rattle.nmgc_heap_spec.specs.Places.{Place, Means, Fills, LiesWell}
 use Rattle.std.proofs.lemmas.List.{get_or-set_other}
-use Rattle.nmgc_heap.specs.Represents.{Represents, NoNode}
-use Rattle.nmgc_heap.specs.Changes.{AreEarlier, ChangesAt}
-use Rattle.nmgc_heap.specs.Roots.{ListsWeaks, IsListedWeak}
-use Rattle.nmgc_heap.specs.Tracked.{IsTracked}
-use Rattle.nmgc_heap.specs.laws.Changes.{field_changed}
-use Rattle.nmgc_heap.specs.laws.CommandLaws.{closing_tracks, closing_keeps_earlier}
+use Rattle.nmgc_heap_spec.specs.Represents.{Represents, NoNode}
+use Rattle.nmgc_heap_spec.specs.Changes.{AreEarlier}
+use Rattle.nmgc_heap_spec.specs.Roots.{ListsWeaks, IsListedWeak}
+use Rattle.nmgc_heap_spec.specs.Tracked.{IsTracked}
+use Rattle.nmgc_heap_spec.specs.laws.Changes.{field_changed}
+use Rattle.nmgc_heap_spec.specs.laws.CommandLaws.{closing_tracks, closing_keeps_earlier}
 use Rattle.nmgc_weak.specs.declared.weaks.OldWeak.{OldWeak}
 use Rattle.nmgc_weak.specs.Weaks.{place_of, places_of, names_of, value_place, without_values, alive_of, is_alive}
-use Rattle.nmgc_weak.proofs.Finding.{names_same}
+use Rattle.nmgc_weak.specs.laws.Common.{names_same, of_place}
 use Rattle.nmgc_weak.proofs.Leaving.{filter_ordered}
-use Rattle.nmgc_weak.proofs.Saving.{has_place, of_place}
+use Rattle.nmgc_weak.proofs.Saving.{has_place}
+use Rattle.nmgc_heap_spec.specs.laws.NodeChanges.{died as dead_at}
 
 -- a weak pointer that is alive is tracked
 pub alive_tracked : (w : World) (earlier : List World) (weak : Name) (parts : Parts) → IsAlive w weak parts → IsTracked w earlier weak
 alive_tracked w earlier weak parts alive = IsReached.start weak (w, contains_head w earlier, IsReached.start weak (inr (weak, parts, alive, inl refl)))
-
--- the value of a weak pointer may change, and of a dead one nothing else is said
-dead_at : (parts : Parts) → ChangesAt 1 (Weak (Some parts)) (Weak None)
-dead_at parts = record { header = refl; within = omega arith; may = refl; rest = other }
-  where
-    other : (j : ℕ) (slot : Slot) → j ≢ 1 → slice_get (slots_of (Weak None)) j ≡ Some slot →
-        (slice_get (slots_of (Weak (Some parts))) j ≡ Some slot) ⊎ (slot ≡ untold)
-    other zero slot ne e = inr (let z : Some untold ≡ Some slot = e in let q : untold ≡ slot = cc in sym q)
-    other (suc zero) slot ne e = absurd (ne refl)
-    other (suc (suc zero)) slot ne e = inr (let z : Some untold ≡ Some slot = e in let q : untold ≡ slot = cc in sym q)
-    other (suc (suc (suc j))) slot ne e = absurd (let z : None ≡ Some slot = e in cc)
 
 -- what a death leaves
 module _ (w : World) (world : IsWorld w) (d : Name) (parts : Parts) (alive : IsAlive w d parts) where

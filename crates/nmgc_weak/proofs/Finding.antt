@@ -1,26 +1,23 @@
 -- Those that die, found one after another: in order, since the list is.
-use Rattle.std.proofs.Common.{◌≡◌, ◌+◌, ◌<◌, ℕ, zero, suc, List, [], ◌∷◌, ◌++◌, map, length, take, drop, get_or, refl, sym, ap, subst, ◌∙◌, append-nil, append_assoc, arith, inl, inr, ◌⊎◌}
+use Rattle.std.proofs.Common.{◌≡◌, ◌+◌, ◌<◌, ℕ, zero, suc, List, [], ◌∷◌, ◌++◌, length, take, drop, get_or, refl, sym, ap, subst, ◌∙◌, append-nil, append_assoc, arith, inl, inr, ◌⊎◌}
 use Rattle.std.specs.Prelude.{Contains, slice_index}
 use Rattle.std.proofs.lemmas.List.Elements.{Contains-append_left, Contains-push, Contains-push_cases}
-use Rattle.nmgc_graph.specs.declared.value.Name.{Name}
-use Rattle.nmgc_graph.specs.Reach.{IsInOrder}
-use Rattle.nmgc_graph.specs.laws.Orders.{contains_head, contains_tail, contains_cases, in_order_first, in_order_rest, in_order_cons}
+use Rattle.nmgc_world_spec.specs.declared.value.Name.{Name}
+use Rattle.nmgc_world_spec.specs.Reach.{IsInOrder}
+use Rattle.nmgc_lists.specs.laws.Items.{contains_head, contains_tail, contains_cases}
+use Rattle.nmgc_world_spec.specs.laws.Orders.{in_order_first, in_order_rest, in_order_cons}
 use Rattle.nmgc_segment.specs.Marks.{IsEpoch}
-use Rattle.nmgc_alloc.specs.Segments.{Segments}
-use Rattle.nmgc_heap.specs.Places.{Place}
+use Rattle.nmgc_alloc.specs.Numbered.{Segments}
+use Rattle.nmgc_heap_spec.specs.Places.{Place}
 use Rattle.nmgc_round.specs.View.{Opening}
-use Rattle.nmgc_run.specs.Seen.{MarkerSeen}
+use Rattle.nmgc_mark.specs.Seen.{MarkerSeen}
 use Rattle.nmgc_weak.specs.declared.weaks.OldWeak.{OldWeak}
 use Rattle.nmgc_weak.specs.Resolve.{CanResolve}
 use Rattle.nmgc_weak.specs.Steps.{IsLostAt, IsLost, AreLost}
 use Rattle.nmgc_weak.specs.Weaks.{place_of, places_of, names_of, key_place}
 use Rattle.nmgc_weak.proofs.Showing.{lost_is}
 use Rattle.nmgc_weak.proofs.Saving.{has_place}
-
--- the names of places are those of the list
-pub names_same : (list : List OldWeak) → map (λ (p : Place). p.name) (places_of list) ≡ names_of list
-names_same [] = refl
-names_same (w ∷ ws) = ap (λ (l : List Name). w.weak ∷ l) (names_same ws)
+use Rattle.nmgc_weak.specs.laws.Common.{names_same}
 
 pub names_append : (xs ys : List OldWeak) → names_of (xs ++ ys) ≡ names_of xs ++ names_of ys
 names_append [] ys = refl

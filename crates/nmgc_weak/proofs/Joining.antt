@@ -3,10 +3,10 @@ use Rattle.std.proofs.Common.{◌≡◌, ◌≢◌, ◌+◌, ◌<◌, ◌≤◌,
 use Rattle.std.specs.Prelude.{filter, slice_get, Some}
 use Rattle.std.specs.Option.{option_map}
 use Rattle.std.proofs.lemmas.List.{length-map, map-set}
-use Rattle.std.proofs.lemmas.Option.{slice_get-map}
+use Rattle.std.proofs.lemmas.Option.{slice_get-map, slice_get_within as get_within}
 use Rattle.std.proofs.lemmas.Bool.{cases_eq}
 use Rattle.std.proofs.lemmas.Bool.Decides.{eqb_tells}
-use Rattle.nmgc_graph.specs.laws.Worlds.{slice_get-set_same, slice_get-set_other}
+use Rattle.nmgc_lists.specs.laws.Items.{slice_get-set_same, slice_get-set_other, item as get_at}
 use Rattle.nmgc_object.specs.FinQueue.{FinQueue}
 use Rattle.nmgc_weak.specs.declared.weaks.Death.{Death}
 use Rattle.nmgc_weak.specs.Queues.{joins, joined, HaveRoom, Joins, AllJoin, HaveJoined}
@@ -91,17 +91,6 @@ one_word before between after words all w h is added spare =
           ap (λ (x : List ℕ). before.words ++ x) (sym is);
       spare = omega (arith, l, s);
     }
-
--- an item that is there
-pub get_within : {A : Type 0} (xs : List A) (i : ℕ) (x : A) → slice_get xs i ≡ Some x → i < length xs
-get_within [] i x e = absurd cc
-get_within (y ∷ ys) zero x e = omega arith
-get_within (y ∷ ys) (suc i) x e = let l = get_within ys i x e in omega arith
-
-pub get_at : {A : Type 0} (xs : List A) (i : ℕ) → i < length xs → (x : A) × (slice_get xs i ≡ Some x)
-get_at [] i lt = absurd (omega arith)
-get_at (y ∷ ys) zero lt = (y, refl)
-get_at (y ∷ ys) (suc i) lt = get_at ys i (omega arith)
 
 pub get_default : {A : Type 0} (xs : List A) (i : ℕ) (d : A) → i < length xs → slice_get xs i ≡ Some (get_or xs i d)
 get_default [] i d lt = absurd (omega arith)

@@ -1,29 +1,29 @@
 -- A weak pointer whose key is marked keeps its parts: they are marked, and the state may close as before.
 use Rattle.std.proofs.Common.{◌≡◌, ℕ, List, refl, sym, ap, subst, ◌∙◌, Option, Some, inl, inr}
 use Rattle.std.specs.Prelude.{Contains, IsSome, slice_index}
-use Rattle.nmgc_graph.specs.declared.value.Name.{Name}
-use Rattle.nmgc_graph.specs.declared.value.Value.{Value}
-use Rattle.nmgc_graph.specs.declared.value.Value.TheVariants as value
-use Rattle.nmgc_graph.specs.declared.node.Parts.{Parts}
-use Rattle.nmgc_graph.specs.declared.node.Node.TheVariants.{Weak}
-use Rattle.nmgc_graph.specs.World.{World, node_of}
-use Rattle.nmgc_graph.specs.Reach.{IsAlive, IsKeptBy, IsLive, IsPlain, plain_key, live_key}
-use Rattle.nmgc_core.specs.Facts.{Facts}
-use Rattle.nmgc_core.specs.State.{State}
-use Rattle.nmgc_core.specs.laws.Lives.{part_there}
-use Rattle.nmgc_reach.specs.Wide.{IsOfWeak}
-use Rattle.nmgc_alloc.specs.Segments.{Segments}
-use Rattle.nmgc_heap.specs.Places.{Place, Means}
+use Rattle.nmgc_world_spec.specs.declared.value.Name.{Name}
+use Rattle.nmgc_world_spec.specs.declared.value.Value.{Value}
+use Rattle.nmgc_world_spec.specs.declared.value.Value.TheVariants as value
+use Rattle.nmgc_world_spec.specs.declared.node.Parts.{Parts}
+use Rattle.nmgc_world_spec.specs.World.{node_of}
+use Rattle.nmgc_world_spec.specs.Reach.{IsAlive, IsKeptBy, IsLive, IsPlain, plain_key, live_key}
+use Rattle.nmgc_snapshot_laws.specs.Facts.{Facts}
+use Rattle.nmgc_snapshot_laws.specs.State.{State}
+use Rattle.nmgc_snapshot_laws.specs.laws.Lives.{part_there}
+use Rattle.nmgc_alloc.specs.Numbered.{Segments}
+use Rattle.nmgc_heap_spec.specs.Places.{Place, Means}
 use Rattle.nmgc_round.specs.Marking.{Marks, marks_of, name_at, name_meant, with_name}
 use Rattle.nmgc_round.specs.Rule.{now}
 use Rattle.nmgc_round.specs.View.{Opening}
-use Rattle.nmgc_run.specs.Seen.{MarkerSeen}
+use Rattle.nmgc_mark.specs.Seen.{MarkerSeen}
 use Rattle.nmgc_mark.specs.Stopped.{IsReady, HasFinished}
 use Rattle.nmgc_mark.specs.Tie.{IsTied, AreApart}
 use Rattle.nmgc_weak.specs.Steps.{IsKeyMarked, CanKeep, HasKept}
 use Rattle.nmgc_weak.specs.Weaks.{value_place, finaliser_place}
 use Rattle.nmgc_weak.proofs.Parts.{ref_in, named_at, meant, HasParts, has_parts, of_weak_tracked, may_queue}
 use Rattle.nmgc_weak.proofs.Stages.{with_marks, done_marks, Stage, CanMark, stage_mark, marked_there, marked_still, stage_ready, stage_begins, stage_done, done_goes}
+use Rattle.nmgc_world_laws.specs.laws.Closes.{same_parts as one_parts}
+use Rattle.nmgc_world_spec.specs.laws.Common.{of_weak}
 
 -- where the key of a weak pointer of the snapshot is marked, what it keeps is live
 kept_live : (s : State) → Facts s → (weak target : Name) (parts : Parts) → IsAlive s.snapshot weak parts → (key : Value) → parts.key ≡ key →
@@ -31,16 +31,6 @@ kept_live : (s : State) → Facts s → (weak target : Name) (parts : Parts) →
 kept_live s f weak target parts alive value.Nil e shown kept = plain_key weak target parts alive (subst IsPlain (sym e) tt) kept
 kept_live s f weak target parts alive (value.Number n) e shown kept = plain_key weak target parts alive (subst IsPlain (sym e) tt) kept
 kept_live s f weak target parts alive (value.Ref key) e shown kept = live_key weak target key parts alive e (f.base.live key shown) kept
-
--- a weak pointer has its parts
-pub one_parts : (w : World) (weak : Name) (a b : Parts) → IsAlive w weak a → IsAlive w weak b → a ≡ b
-one_parts w weak a b p q = let e : Some (Weak (Some a)) ≡ Some (Weak (Some b)) = sym p ∙ q in cc
-
--- what a weak pointer keeps is of the weak pointer
-of_weak : (weak target : Name) (parts : Parts) → IsKeptBy weak parts target → IsOfWeak weak parts target
-of_weak weak target parts (inl e) = inl e
-of_weak weak target parts (inr (inl e)) = inr (inr (inl e))
-of_weak weak target parts (inr (inr e)) = inr (inr (inr e))
 
 module _ (o : Opening) (words : List ℕ) (s : Segments) (marker : MarkerSeen) (weaks : List Place) (at : ℕ) (weak : Name)
     (h : CanKeep o words s marker weaks at weak) where

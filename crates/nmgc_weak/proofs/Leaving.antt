@@ -3,9 +3,10 @@ use Rattle.std.proofs.Common.{◌≡◌, ◌≢◌, ◌+◌, ◌<◌, ◌≤◌,
 use Rattle.std.specs.Prelude.{Contains, filter, slice_get, Some}
 use Rattle.std.proofs.lemmas.Bool.{cases_lt, cases_eq}
 use Rattle.std.proofs.lemmas.List.Elements.{Contains-append_left, Contains-append_right, Contains-append_cases, filter-append}
-use Rattle.nmgc_graph.specs.declared.value.Name.{Name}
-use Rattle.nmgc_graph.specs.Reach.{IsInOrder, IsBefore}
-use Rattle.nmgc_graph.specs.laws.Orders.{same_name, before_trans, contains_head, contains_tail, contains_cases, in_order_first, in_order_rest, in_order_cons}
+use Rattle.nmgc_world_spec.specs.declared.value.Name.{Name}
+use Rattle.nmgc_world_spec.specs.Reach.{IsInOrder, IsBefore}
+use Rattle.nmgc_world_spec.specs.laws.Orders.{same_name, before_trans, in_order_first, in_order_rest, in_order_cons}
+use Rattle.nmgc_lists.specs.laws.Items.{contains_head, contains_tail, contains_cases}
 use Rattle.nmgc_weak.specs.declared.weaks.OldWeak.{OldWeak}
 use Rattle.nmgc_weak.specs.Weaks.{names_of, alive_of, is_alive}
 use Rattle.nmgc_weak.proofs.Finding.{names_append, take_at}

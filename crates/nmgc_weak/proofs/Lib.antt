@@ -17,7 +17,6 @@ pub mod Merging
 pub mod Joining
 pub mod Dying
 pub mod Resolving
-pub mod Ends
 pub mod Lists
 pub mod Closed
 pub mod Room

@@ -4,10 +4,10 @@ use Rattle.std.specs.Prelude.{Contains, slice_get}
 use Rattle.std.proofs.lemmas.Option.{none-some, same_Some}
 use Rattle.std.proofs.lemmas.List.{drop_all}
 use Rattle.std.proofs.lemmas.List.Elements.{Contains-append_left, Contains-append_right, Contains-append_cases}
-use Rattle.nmgc_graph.specs.declared.value.Name.{Name}
-use Rattle.nmgc_graph.specs.Reach.{IsBefore, IsInOrder}
-use Rattle.nmgc_graph.specs.laws.Orders.{before_trans, contains_head, contains_tail, contains_cases, in_order_push, in_order_first, in_order_rest}
-use Rattle.nmgc_reach.specs.laws.ItemLaws.{nothing_in, contains_at}
+use Rattle.nmgc_world_spec.specs.declared.value.Name.{Name}
+use Rattle.nmgc_world_spec.specs.Reach.{IsBefore, IsInOrder}
+use Rattle.nmgc_world_spec.specs.laws.Orders.{before_trans, in_order_push, in_order_first, in_order_rest}
+use Rattle.nmgc_lists.specs.laws.Items.{contains_head, contains_tail, contains_cases, nothing_in, contains_at}
 use Rattle.nmgc_weak.specs.declared.weaks.OldWeak.{OldWeak}
 use Rattle.nmgc_weak.specs.Weaks.{names_of}
 use Rattle.nmgc_weak.proofs.Dying.{name_in, name_there}

@@ -1,23 +1,21 @@
 -- The words of a weak pointer, and which names they mark.
 use Rattle.std.proofs.Common.{ne_eqb, eq-eqb, ◌≡◌, ◌+◌, ◌*◌, ◌/◌, ◌%◌, ℕ, true, false, eqb, List, [], ◌∷◌, refl, sym, ap, subst, ◌∙◌, arith, Option, Some, None, inl, inr}
 use Rattle.std.specs.Prelude.{Contains, IsSome, slice_index, slice_get}
-use Rattle.nmgc_graph.specs.declared.value.Name.{Name}
-use Rattle.nmgc_graph.specs.declared.value.Value.{Value}
-use Rattle.nmgc_graph.specs.declared.value.Value.TheVariants as value
-use Rattle.nmgc_graph.specs.declared.node.Node.TheVariants.{Weak}
-use Rattle.nmgc_graph.specs.declared.node.Parts.{Parts}
-use Rattle.nmgc_graph.specs.World.{World, node_of}
-use Rattle.nmgc_graph.specs.Reach.{IsAlive, IsReached}
-use Rattle.nmgc_graph.specs.laws.Orders.{contains_head, contains_tail, contains_cases}
-use Rattle.std.proofs.lemmas.Bool.Decides.{eqb_tells}
-use Rattle.nmgc_graph.specs.laws.Worlds.{is_some_of}
+use Rattle.nmgc_world_spec.specs.declared.value.Name.{Name}
+use Rattle.nmgc_world_spec.specs.declared.value.Value.{Value}
+use Rattle.nmgc_world_spec.specs.declared.value.Value.TheVariants as value
+use Rattle.nmgc_world_spec.specs.declared.node.Node.TheVariants.{Weak}
+use Rattle.nmgc_world_spec.specs.declared.node.Parts.{Parts}
+use Rattle.nmgc_world_spec.specs.World.{World, node_of}
+use Rattle.nmgc_world_spec.specs.Reach.{IsAlive, IsReached}
+use Rattle.nmgc_lists.specs.laws.Items.{contains_head, is_some_of}
 use Rattle.nmgc_object.specs.declared.size.TheConstants.{HEADER_WORDS}
-use Rattle.nmgc_core.specs.State.{entry_of}
-use Rattle.nmgc_reach.specs.Wide.{IsWide, IsOfWeak}
-use Rattle.nmgc_heap.specs.Places.{Place, Means}
-use Rattle.nmgc_heap.specs.Shape.{holds, slots_of}
-use Rattle.nmgc_heap.specs.Tracked.{IsTracked}
-use Rattle.nmgc_heap.specs.Changes.{AreEarlier}
+use Rattle.nmgc_snapshot_laws.specs.State.{entry_of}
+use Rattle.nmgc_world_spec.specs.Wide.{IsWide, IsOfWeak}
+use Rattle.nmgc_heap_spec.specs.Places.{Place, Means}
+use Rattle.nmgc_heap_spec.specs.Shape.{holds, slots_of}
+use Rattle.nmgc_heap_spec.specs.Tracked.{IsTracked}
+use Rattle.nmgc_heap_spec.specs.Changes.{AreEarlier}
 use Rattle.nmgc_round.specs.Marking.{name_at, name_meant}
 use Rattle.nmgc_round.specs.Objects.{earlier}
 use Rattle.nmgc_round.specs.Rule.{IsQueued}
@@ -25,23 +23,13 @@ use Rattle.nmgc_round.specs.Starting.{CanOpen}
 use Rattle.nmgc_round.specs.View.{Opening}
 use Rattle.nmgc_mark.specs.Tie.{AreApart}
 use Rattle.nmgc_weak.specs.Weaks.{key_place, value_place, finaliser_place}
+use Rattle.nmgc_round.specs.laws.Common.{some_at}
 
 -- the name that a value refers to
 abbrev pub ref_in : Value → Option Name
 ref_in value.Nil = None
 ref_in (value.Number n) = None
 ref_in (value.Ref name) = Some name
-
-some_at : (places : List Place) (at : ℕ) (name : Name) → Contains places (record { at = at; name = name }) → (n : Name) ×
-    (name_at places at ≡ Some n) × Contains places (record { at = at; name = n })
-some_at [] at name c = absurd (let lt = c.1 in omega arith)
-some_at (p ∷ ps) at name c = elim (eqb_tells p.at at) [
-  | inl e ↦ (p.name, rw e.0 refl, subst (λ (a : ℕ). Contains (p ∷ ps) (record { at = a; name = p.name })) e.1 (contains_head p ps))
-  | inr e ↦ elim (contains_cases p ps (record { at = at; name = name }) c) [
-    | inl same ↦ absurd (e.1 (ap (λ (q : Place). q.at) same))
-    | inr d ↦ let r = some_at ps at name d in (r.0, rw e.0 r.1, contains_tail p ps (record { at = at; name = r.0 }) r.2)
-  ]
-]
 
 -- the name at a place, where places are apart
 pub named_at : (o : Opening) (at : ℕ) (name : Name) → AreApart o.layout o.places → Contains o.places (record { at = at; name = name }) →

@@ -2,27 +2,26 @@
 use Rattle.std.proofs.Common.{◌≡◌, ◌+◌, ◌<◌, ℕ, zero, suc, List, [], ◌∷◌, ◌++◌, length, take, get_or, refl, sym, ap, subst, ◌∙◌, append-nil, append_assoc, length-append, arith, inl, inr, ◌⊎◌}
 use Rattle.std.specs.Prelude.{Contains, IsSome, slice_index}
 use Rattle.std.proofs.lemmas.List.Elements.{Contains-append_left, Contains-push_cases}
-use Rattle.nmgc_graph.specs.declared.value.Name.{Name}
-use Rattle.nmgc_graph.specs.declared.value.Value.{Value}
-use Rattle.nmgc_graph.specs.declared.value.Value.TheVariants as value
-use Rattle.nmgc_graph.specs.declared.node.Parts.{Parts}
-use Rattle.nmgc_graph.specs.World.{node_of}
-use Rattle.nmgc_graph.specs.Reach.{IsAlive, IsKeptBy}
-use Rattle.nmgc_graph.specs.laws.Orders.{contains_head}
-use Rattle.nmgc_core.specs.Closing.{IsWaiting}
-use Rattle.nmgc_reach.specs.laws.ItemLaws.{one_is}
+use Rattle.nmgc_world_spec.specs.declared.value.Name.{Name}
+use Rattle.nmgc_world_spec.specs.declared.value.Value.{Value}
+use Rattle.nmgc_world_spec.specs.declared.value.Value.TheVariants as value
+use Rattle.nmgc_world_spec.specs.declared.node.Parts.{Parts}
+use Rattle.nmgc_world_spec.specs.World.{node_of}
+use Rattle.nmgc_world_spec.specs.Reach.{IsAlive, IsKeptBy}
+use Rattle.nmgc_lists.specs.laws.Items.{contains_head, one_is}
+use Rattle.nmgc_snapshot_laws.specs.Closing.{IsWaiting}
 use Rattle.nmgc_segment.specs.Marks.{IsEpoch}
-use Rattle.nmgc_alloc.specs.Segments.{Segments}
+use Rattle.nmgc_alloc.specs.Numbered.{Segments}
 use Rattle.nmgc_alloc.specs.Blocks.{IsSnapshotAt}
-use Rattle.nmgc_heap.specs.Places.{Place}
+use Rattle.nmgc_heap_spec.specs.Places.{Place}
 use Rattle.nmgc_round.specs.View.{Opening}
-use Rattle.nmgc_run.specs.Seen.{MarkerSeen}
+use Rattle.nmgc_mark.specs.Seen.{MarkerSeen}
 use Rattle.nmgc_weak.specs.declared.weaks.OldWeak.{OldWeak}
 use Rattle.nmgc_weak.specs.Resolve.{CanResolve}
 use Rattle.nmgc_weak.specs.Steps.{IsKeyMarked, IsKeyMarkedWord, IsLostAt, IsLost, MarksOn, GoesTo, CanKeep, HasKept, HasPassed, HasRevived}
 use Rattle.nmgc_weak.specs.Weaks.{place_of, places_of, names_of, key_place}
 use Rattle.nmgc_weak.proofs.Showing.{snapshot_is, snapshot_back, lost_is, shown_is}
-use Rattle.nmgc_weak.proofs.Keeping.{one_parts}
+use Rattle.nmgc_world_laws.specs.laws.Closes.{same_parts as one_parts}
 use Rattle.nmgc_weak.proofs.Saving.{listed_place, place_has_name}
 
 -- the same opening with more marks

@@ -1,29 +1,26 @@
 -- The steps of a closing together.
-use Rattle.std.proofs.Common.{true, map, ◌≡◌, ◌+◌, ◌-◌, ◌*◌, ◌≤◌, ◌<◌, ◌^◌, ℕ, zero, suc, List, [], ◌∷◌, refl, sym, ap, subst, ◌∙◌, arith, Some, inl, inr}
+use Rattle.std.proofs.Common.{true, map, ◌≡◌, ◌+◌, ◌*◌, ◌<◌, ◌^◌, ℕ, zero, suc, List, [], ◌∷◌, refl, sym, ap, subst, ◌∙◌, arith, Some, inl}
 use Rattle.std.specs.Prelude.{Contains, slice_index}
-use Rattle.nmgc_graph.specs.declared.value.Name.{Name}
-use Rattle.nmgc_graph.specs.declared.value.Value.{Value}
-use Rattle.nmgc_graph.specs.declared.value.Value.TheVariants as value
-use Rattle.nmgc_graph.specs.declared.node.Node.TheVariants.{Weak}
-use Rattle.nmgc_graph.specs.declared.node.Parts.{Parts}
-use Rattle.nmgc_graph.specs.World.{World}
-use Rattle.nmgc_graph.specs.Reach.{closed}
-use Rattle.nmgc_object.specs.Places.{word_total}
-use Rattle.nmgc_object.specs.declared.layout.Layout.{Layout}
+use Rattle.nmgc_world_spec.specs.declared.value.Name.{Name}
+use Rattle.nmgc_world_spec.specs.declared.value.Value.{Value}
+use Rattle.nmgc_world_spec.specs.declared.value.Value.TheVariants as value
+use Rattle.nmgc_world_spec.specs.declared.node.Node.TheVariants.{Weak}
+use Rattle.nmgc_world_spec.specs.declared.node.Parts.{Parts}
+use Rattle.nmgc_world_spec.specs.World.{World}
+use Rattle.nmgc_world_spec.specs.Reach.{closed}
 use Rattle.nmgc_object.specs.declared.size.TheConstants.{HEADER_WORDS}
-use Rattle.nmgc_core.specs.Closing.{IsClosing}
-use Rattle.nmgc_core.specs.State.{State}
-use Rattle.nmgc_alloc.specs.Segments.{Segments}
-use Rattle.nmgc_alloc.specs.laws.Placing.{step}
-use Rattle.nmgc_heap.specs.Places.{Place, Means, LiesWell}
-use Rattle.nmgc_heap.specs.Shape.{size_of}
+use Rattle.nmgc_snapshot_laws.specs.Closing.{IsClosing}
+use Rattle.nmgc_snapshot_laws.specs.State.{State}
+use Rattle.nmgc_alloc.specs.Numbered.{Segments}
+use Rattle.nmgc_heap_spec.specs.Places.{Place, Means}
+use Rattle.nmgc_heap_spec.specs.Shape.{size_of}
 use Rattle.nmgc_round.specs.Marking.{Marks, marks_of}
 use Rattle.nmgc_round.specs.Objects.{earlier}
-use Rattle.nmgc_graph.specs.laws.Orders.{contains_head, contains_tail}
-use Rattle.nmgc_heap.specs.Represents.{Represents, NoNode}
-use Rattle.nmgc_heap.specs.Roots.{ListsWeaks}
+use Rattle.nmgc_lists.specs.laws.Items.{contains_head, contains_tail}
+use Rattle.nmgc_heap_spec.specs.Represents.{Represents, NoNode}
+use Rattle.nmgc_heap_spec.specs.Roots.{ListsWeaks}
 use Rattle.nmgc_round.specs.View.{Opening}
-use Rattle.nmgc_run.specs.Seen.{MarkerSeen}
+use Rattle.nmgc_mark.specs.Seen.{MarkerSeen}
 use Rattle.nmgc_mark.specs.Tie.{IsTied}
 use Rattle.nmgc_weak.specs.declared.weaks.OldWeak.{OldWeak}
 use Rattle.nmgc_weak.specs.declared.weaks.Death.{Death}
@@ -33,21 +30,9 @@ use Rattle.nmgc_weak.specs.Weaks.{place_of, places_of, names_of, deaths_of, with
 use Rattle.nmgc_weak.proofs.Parts.{HasParts, has_parts, of_weak_tracked}
 use Rattle.nmgc_weak.proofs.Closing.{closes, closed_dead, closed_kept}
 use Rattle.nmgc_weak.proofs.Dying.{AreAlive, all_die, lists_closed}
-use Rattle.nmgc_weak.proofs.Saving.{has_place, of_place}
-
--- the words of an object are among the heap's
-lies_within : (layout : Layout) (p : Place) (size : ℕ) → 0 < size → LiesWell layout p size → p.at + size ≤ word_total layout
-lies_within layout p size pos (inl g) = let e = g.2 in omega arith
-lies_within layout p size pos (inr (ne, inl segment)) =
-    let last = (segment.1 (p.at + size - 1) (omega arith) (omega arith)) in
-    let more = step segment.0 layout.segments layout.words last.exists in
-    let before = last.before in
-    omega arith
-lies_within layout p size pos (inr (ne, inr nursery)) =
-    let last = (nursery.1 (p.at + size - 1) (omega arith) (omega arith)) in
-    let more = step p.name.maker layout.mutators layout.nursery last.exists in
-    let before = last.before in
-    omega arith
+use Rattle.nmgc_weak.proofs.Saving.{has_place}
+use Rattle.nmgc_weak.specs.laws.Common.{of_place}
+use Rattle.nmgc_heap_spec.specs.laws.Common.{lies_within}
 
 -- a pointer is no larger than a place may be
 small_word : (o : Opening) (words : List ℕ) (s : Segments) (k : MarkerSeen) (weaks : List Place) (w : ℕ) (v : Value) →

@@ -3,15 +3,15 @@ use Rattle.std.proofs.Common.{◌≡◌, ◌+◌, ◌≤◌, ◌<◌, ℕ, Bool,
 use Rattle.std.specs.Prelude.{Contains, is_some, count_by, ◌==◌, ◌&&◌}
 use Rattle.std.proofs.lemmas.Bool.Decides.{eqb_tells}
 use Rattle.std.proofs.lemmas.List.Sums.{sum_by-cons}
-use Rattle.nmgc_graph.specs.declared.value.Name.{Name}
-use Rattle.nmgc_graph.specs.declared.node.Node.{Node}
-use Rattle.nmgc_graph.specs.World.{World, node_of}
-use Rattle.nmgc_graph.specs.Reach.{IsBefore, IsInOrder}
-use Rattle.nmgc_graph.specs.laws.Orders.{contains_head, contains_tail, contains_cases, in_order_first, in_order_rest, not_before_itself, before_trans}
-use Rattle.nmgc_graph.specs.laws.Rows.{name_cases}
-use Rattle.nmgc_graph.specs.laws.Weaks.{weak_maker}
-use Rattle.nmgc_core.specs.Closing.{IsDying}
-use Rattle.nmgc_heap.specs.Places.{Place}
+use Rattle.nmgc_world_spec.specs.declared.value.Name.{Name}
+use Rattle.nmgc_world_spec.specs.declared.node.Node.{Node}
+use Rattle.nmgc_world_spec.specs.World.{World, node_of}
+use Rattle.nmgc_world_spec.specs.Reach.{IsBefore, IsInOrder}
+use Rattle.nmgc_lists.specs.laws.Items.{contains_head, contains_tail, contains_cases}
+use Rattle.nmgc_world_spec.specs.laws.Orders.{in_order_first, in_order_rest, not_before_itself, before_trans, name_cases}
+use Rattle.nmgc_world_laws.specs.laws.Weaks.{weak_maker}
+use Rattle.nmgc_snapshot_laws.specs.Closing.{IsDying}
+use Rattle.nmgc_heap_spec.specs.Places.{Place}
 use Rattle.nmgc_round.specs.View.{Opening}
 use Rattle.nmgc_weak.specs.declared.weaks.Death.{Death}
 use Rattle.nmgc_weak.specs.Closes.{DeathsHaveRoom}

@@ -3,29 +3,28 @@ use Rattle.std.proofs.Common.{◌≡◌, ◌<◌, ◌+◌, ℕ, Bool, true, cond
 use Rattle.std.specs.Prelude.{Contains, IsSome, slice_get, slice_index}
 use Rattle.std.proofs.lemmas.Bool.{cases_lt}
 use Rattle.std.proofs.lemmas.List.Elements.{Contains-append_left, Contains-push_cases}
-use Rattle.nmgc_graph.specs.declared.value.Name.{Name}
-use Rattle.nmgc_graph.specs.declared.value.Value.{Value}
-use Rattle.nmgc_graph.specs.declared.value.Value.TheVariants as value
-use Rattle.nmgc_graph.specs.declared.node.Node.TheVariants.{Weak}
-use Rattle.nmgc_graph.specs.declared.node.Parts.{Parts}
-use Rattle.nmgc_graph.specs.World.{node_of}
-use Rattle.nmgc_graph.specs.Reach.{IsAlive, IsKept, IsDead, Lists, RefersTo, closed}
-use Rattle.nmgc_graph.specs.laws.Orders.{contains_head, contains_tail, contains_cases}
-use Rattle.nmgc_graph.specs.laws.Weaks.{weak_maker}
-use Rattle.nmgc_graph.specs.laws.Worlds.{not_shared, get_is_some}
+use Rattle.nmgc_world_spec.specs.declared.value.Name.{Name}
+use Rattle.nmgc_world_spec.specs.declared.value.Value.{Value}
+use Rattle.nmgc_world_spec.specs.declared.value.Value.TheVariants as value
+use Rattle.nmgc_world_spec.specs.declared.node.Node.TheVariants.{Weak}
+use Rattle.nmgc_world_spec.specs.declared.node.Parts.{Parts}
+use Rattle.nmgc_world_spec.specs.World.{node_of}
+use Rattle.nmgc_world_spec.specs.Reach.{IsAlive, IsKept, IsDead, Lists, RefersTo, closed}
+use Rattle.nmgc_lists.specs.laws.Items.{contains_head, contains_tail, contains_cases, get_is_some, contains_at, place_of}
+use Rattle.nmgc_world_laws.specs.laws.Weaks.{weak_maker}
+use Rattle.nmgc_world_laws.specs.laws.Worlds.{not_shared}
 use Rattle.nmgc_object.specs.Places.{InSegment}
-use Rattle.nmgc_core.specs.Closing.{IsWaiting}
-use Rattle.nmgc_core.specs.Facts.{Facts}
-use Rattle.nmgc_core.specs.State.{State, entry_of, with_mark, mark_name}
-use Rattle.nmgc_core.specs.declared.event.Entry.{Entry}
-use Rattle.nmgc_core.specs.laws.Lives.{part_there}
-use Rattle.nmgc_reach.specs.laws.ItemLaws.{contains_at, place_of}
-use Rattle.nmgc_alloc.specs.Segments.{Segments}
-use Rattle.nmgc_heap.specs.Places.{Place, Means}
+use Rattle.nmgc_snapshot_laws.specs.Closing.{IsWaiting}
+use Rattle.nmgc_snapshot_laws.specs.Facts.{Facts}
+use Rattle.nmgc_snapshot_laws.specs.State.{State, entry_of, with_mark, mark_name}
+use Rattle.nmgc_snapshot_laws.specs.declared.event.Entry.{Entry}
+use Rattle.nmgc_snapshot_laws.specs.laws.Lives.{part_there}
+use Rattle.nmgc_alloc.specs.Numbered.{Segments}
+use Rattle.nmgc_heap_spec.specs.Places.{Place, Means}
 use Rattle.nmgc_round.specs.Marking.{Marks, marks_of, name_meant, with_name}
 use Rattle.nmgc_round.specs.Rule.{IsQueued, now}
 use Rattle.nmgc_round.specs.View.{Opening}
-use Rattle.nmgc_run.specs.Seen.{MarkerSeen}
+use Rattle.nmgc_mark.specs.Seen.{MarkerSeen}
 use Rattle.nmgc_mark.specs.Stopped.{IsReady, HasFinished}
 use Rattle.nmgc_mark.specs.Tie.{IsTied, AreQueued}
 use Rattle.nmgc_weak.specs.declared.weaks.OldWeak.{OldWeak}
@@ -33,11 +32,12 @@ use Rattle.nmgc_weak.specs.Resolve.{CanResolve}
 use Rattle.nmgc_weak.specs.Steps.{IsLost, CanRescue, HasRescued}
 use Rattle.nmgc_weak.specs.Weaks.{place_of as place_at, places_of, names_of, finaliser_place}
 use Rattle.nmgc_weak.proofs.Parts.{ref_in, meant, has_parts, of_weak_tracked, may_queue}
-use Rattle.nmgc_weak.proofs.Keeping.{one_parts}
+use Rattle.nmgc_world_laws.specs.laws.Closes.{same_parts as one_parts}
 use Rattle.nmgc_weak.proofs.Stages.{remade, done_marks, name_cases, push_once, marked_there, marked_still, Stage, stage_mark, stage_ready, stage_begins, IsDone, stage_done}
 use Rattle.nmgc_weak.proofs.Opens.{opened_facts}
 use Rattle.nmgc_weak.proofs.Clean.{scans_clean, clean_from}
 use Rattle.nmgc_weak.proofs.Closing.{live_marked, field_marked, lost_dead, dead_lost, closes}
+use Rattle.nmgc_weak.specs.laws.Common.{of_place}
 
 -- lists of weak pointers by their names
 pub name_of_place : (list : List OldWeak) (name : Name) → Contains (names_of list) name → (p : Place) × Contains (places_of list) p × (p.name ≡ name)
@@ -59,13 +59,6 @@ has_place [] w c = absurd (omega (arith, c.1))
 has_place (x ∷ xs) w c = elim (contains_cases x xs w c) [
   | inl e ↦ subst (λ (y : OldWeak). Contains (places_of (x ∷ xs)) (place_at y)) e (contains_head (place_at x) (places_of xs))
   | inr d ↦ contains_tail (place_at x) (places_of xs) (place_at w) (has_place xs w d)
-]
-
-pub of_place : (list : List OldWeak) (p : Place) → Contains (places_of list) p → (w : OldWeak) × Contains list w × (place_at w ≡ p)
-of_place [] p c = absurd (omega (arith, c.1))
-of_place (x ∷ xs) p c = elim (contains_cases (place_at x) (places_of xs) p c) [
-  | inl e ↦ (x, contains_head x xs, e)
-  | inr d ↦ let r = of_place xs p d in (r.0, contains_tail x xs r.0 r.1, r.2)
 ]
 
 -- a weak pointer that waits is in the list, since it has its place

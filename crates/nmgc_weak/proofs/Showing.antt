@@ -1,31 +1,30 @@
 -- A key's word tells whether it keeps the weak pointer, and which of the list are lost.
 use Rattle.std.proofs.Common.{◌≡◌, ◌↔◌, ◌*◌, ◌/◌, ℕ, refl, sym, ap, subst, ◌∙◌, arith, List, inl, inr, ◌⊎◌}
 use Rattle.std.specs.Prelude.{Contains, IsSome, slice_index}
-use Rattle.nmgc_graph.specs.declared.value.Name.{Name}
-use Rattle.nmgc_graph.specs.declared.value.Value.{Value}
-use Rattle.nmgc_graph.specs.declared.value.Value.TheVariants as value
+use Rattle.nmgc_world_spec.specs.declared.value.Name.{Name}
+use Rattle.nmgc_world_spec.specs.declared.value.Value.{Value}
+use Rattle.nmgc_world_spec.specs.declared.value.Value.TheVariants as value
 use Rattle.nmgc_limits.specs.declared.mutators.TheConstants.{SHARED_MAKER}
-use Rattle.nmgc_graph.specs.declared.node.Parts.{Parts}
-use Rattle.nmgc_graph.specs.World.{node_of}
-use Rattle.nmgc_graph.specs.Reach.{IsAlive}
-use Rattle.nmgc_graph.specs.Step.{shared_name}
-use Rattle.nmgc_graph.specs.laws.Orders.{same_name}
+use Rattle.nmgc_world_spec.specs.declared.node.Parts.{Parts}
+use Rattle.nmgc_world_spec.specs.World.{node_of}
+use Rattle.nmgc_world_spec.specs.Reach.{IsAlive, IsReached}
+use Rattle.nmgc_world_spec.specs.Step.{shared_name}
+use Rattle.nmgc_world_spec.specs.laws.Orders.{same_name}
 use Rattle.nmgc_object.specs.declared.layout.TheConstants.{SHARED_PLACE}
 use Rattle.nmgc_object.specs.declared.size.TheConstants.{HEADER_WORDS}
 use Rattle.nmgc_segment.specs.Marks.{IsEpoch}
-use Rattle.nmgc_core.specs.Closing.{IsWaiting}
-use Rattle.nmgc_alloc.specs.Segments.{Segments}
+use Rattle.nmgc_snapshot_laws.specs.Closing.{IsWaiting}
+use Rattle.nmgc_alloc.specs.Numbered.{Segments}
 use Rattle.nmgc_alloc.specs.Blocks.{IsSnapshotAt, IsMarkedAt}
-use Rattle.nmgc_heap.specs.Places.{Place, Means, LiesWell}
+use Rattle.nmgc_heap_spec.specs.Places.{Place, Means, LiesWell}
 use Rattle.nmgc_round.specs.View.{Opening}
-use Rattle.nmgc_run.specs.Seen.{MarkerSeen}
+use Rattle.nmgc_mark.specs.Seen.{MarkerSeen}
 use Rattle.nmgc_weak.specs.Resolve.{CanResolve}
 use Rattle.nmgc_weak.specs.Steps.{IsKeyMarked, IsKeyMarkedWord, IsLostAt, IsLost}
 use Rattle.nmgc_weak.specs.Weaks.{key_place}
 use Rattle.nmgc_weak.proofs.Parts.{has_parts}
-use Rattle.nmgc_weak.proofs.Keeping.{one_parts}
-use Rattle.nmgc_reach.specs.laws.Reached.{wide_known}
-use Rattle.nmgc_graph.specs.Reach.{IsReached}
+use Rattle.nmgc_world_laws.specs.laws.Closes.{same_parts as one_parts}
+use Rattle.nmgc_world_laws.specs.laws.Reached.{wide_known}
 
 -- a marked block is one of the snapshot
 marked_is : (s : Segments) (epoch at : ℕ) → IsEpoch epoch → IsMarkedAt s epoch at → IsSnapshotAt s at

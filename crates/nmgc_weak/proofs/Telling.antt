@@ -2,13 +2,13 @@
 use Rattle.std.proofs.Common.{ne_eqb, eq-eqb, eqb, ◌≡◌, ◌≢◌, ◌↔◌, ◌/◌, ◌%◌, ℕ, Bool, true, false, sym, subst, arith}
 use Rattle.std.specs.Prelude.{IsTrue}
 use Rattle.nmgc_segment.specs.Segment.{Segment}
-use Rattle.nmgc_alloc.specs.Search.{nth}
-use Rattle.nmgc_alloc.specs.Segments.{Segments, IsSegments, IsBlockAt}
+use Rattle.nmgc_alloc.specs.Numbered.{nth, Segments}
+use Rattle.nmgc_alloc.specs.Segments.{IsSegments, IsBlockAt}
 use Rattle.nmgc_alloc.specs.Blocks.{HasAt}
 use Rattle.nmgc_alloc.specs.laws.Apart.{same_block}
 use Rattle.nmgc_round.specs.View.{Opening}
 use Rattle.nmgc_round.specs.Marking.{Marks, name_at, name_meant, with_name}
-use Rattle.nmgc_run.specs.Seen.{MarkerSeen}
+use Rattle.nmgc_mark.specs.Seen.{MarkerSeen}
 use Rattle.nmgc_mark.specs.Tie.{IsTied}
 
 -- a test of the block that begins at a place
@@ -21,11 +21,6 @@ block_told Such s number block at segment t sound begins is told = (
       let here : Such (nth s.segments number) h.1 = subst (λ (n : ℕ). Such (nth s.segments n) h.1) same.0 h.3 in
       told.1 (subst (λ (x : Segment). Such x block) (sym is) (subst (λ (b : ℕ). Such (nth s.segments number) b) same.1 here)),
 )
-
--- a word that is no pointer marks nothing
-pub unset_marks : (o : Opening) (m : Marks) (s : Segments) (marker : MarkerSeen) (w : ℕ) → w ≡ 0 → IsTied o m s marker →
-    IsTied o (with_name o.core.snapshot m (name_meant o.places w)) s marker
-unset_marks o m s marker w e h = let a : eqb w 0 ≡ true = eq-eqb w 0 e in rw a h
 
 pub odd_marks : (o : Opening) (m : Marks) (s : Segments) (marker : MarkerSeen) (w : ℕ) → (w % 2 ≡ 0 → ⊥) → IsTied o m s marker →
     IsTied o (with_name o.core.snapshot m (name_meant o.places w)) s marker

@@ -3,3 +3,4 @@ pub mod Queues
 pub mod Resolve
 pub mod Steps
 pub mod Weaks
+pub mod laws

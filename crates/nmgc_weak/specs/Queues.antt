@@ -1,8 +1,10 @@
 -- Finalisers that join their makers' queues.
-use Rattle.std.specs.Prelude.{ℕ, ◌≡◌, ◌+◌, ◌<◌, ◌≤◌, ◌==◌, ◌&&◌, not, Bool, List, ◌++◌, length, filter, map, slice_get, Some, Contains}
+use Rattle.std.specs.Prelude.{ℕ, ◌≡◌, ◌+◌, ◌<◌, ◌≤◌, ◌==◌, ◌&&◌, not, Bool, List, ◌++◌, length, filter, map, slice_get, Some, Contains, count_by, is_some}
 use Rattle.nmgc_object.specs.FinQueue.{FinQueue}
 use Rattle.nmgc_object.specs.declared.words.TheConstants.{NIL_WORD}
 use Rattle.nmgc_weak.specs.declared.weaks.Death.{Death}
+use Rattle.nmgc_world_spec.specs.World.{World, node_of}
+use Rattle.nmgc_heap_spec.specs.Places.{Place}
 
 -- whether the finaliser of a death joins the queue of this maker
 abbrev pub joins : ℕ → Death → Bool
@@ -31,3 +33,7 @@ AllJoin deaths old new = (length new ≡ length old) × ((maker : ℕ) (before :
 pub record HaveJoined {M : Type 0} (queue : M → FinQueue) (with_queue : M → FinQueue → M) (deaths : List Death) (old new : List M) : Type 0 where
   pub joined : AllJoin deaths (map queue old) (map queue new)
   pub rest : (maker : ℕ) (before : M) → slice_get old maker ≡ Some before → (own : FinQueue) × (slice_get new maker ≡ Some (with_queue before own))
+
+-- how many of the listed weak pointers the mutator made, and the snapshot has
+abbrev pub weak_count : World → ℕ → List Place → ℕ
+weak_count snapshot m weaks = count_by (λ (p : Place). (p.name.maker == m) && is_some (node_of snapshot p.name)) weaks

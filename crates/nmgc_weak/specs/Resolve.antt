@@ -1,23 +1,23 @@
 -- The closing of a cycle, as the words and the marker show it: what it asks, and that it is the core machine's.
 use Rattle.std.specs.Prelude.{ℕ, ◌≡◌, true, List, [], ◌∷◌, Contains}
-use Rattle.nmgc_graph.specs.declared.value.Name.{Name}
-use Rattle.nmgc_graph.specs.declared.node.Parts.{Parts}
-use Rattle.nmgc_graph.specs.Reach.{IsAlive}
-use Rattle.nmgc_core.specs.declared.event.Event.TheVariants as event
-use Rattle.nmgc_core.specs.Closing.{IsClosing}
-use Rattle.nmgc_core.specs.Facts.{Facts}
-use Rattle.nmgc_core.specs.Machine.{IsPossible}
-use Rattle.nmgc_core.specs.State.{State as Core}
-use Rattle.nmgc_alloc.specs.Segments.{Segments}
-use Rattle.nmgc_heap.specs.Places.{Place, Means}
-use Rattle.nmgc_heap.specs.Changes.{AreEarlier}
-use Rattle.nmgc_heap.specs.Represents.{Represents, NoNode}
-use Rattle.nmgc_heap.specs.Roots.{ListsWeaks}
+use Rattle.nmgc_world_spec.specs.declared.value.Name.{Name}
+use Rattle.nmgc_world_spec.specs.declared.node.Parts.{Parts}
+use Rattle.nmgc_world_spec.specs.Reach.{IsAlive}
+use Rattle.nmgc_snapshot_laws.specs.declared.event.Event.TheVariants as event
+use Rattle.nmgc_snapshot_laws.specs.Closing.{IsClosing}
+use Rattle.nmgc_snapshot_laws.specs.Facts.{Facts}
+use Rattle.nmgc_snapshot_laws.specs.Machine.{IsPossible}
+use Rattle.nmgc_snapshot_laws.specs.State.{State as Core}
+use Rattle.nmgc_alloc.specs.Numbered.{Segments}
+use Rattle.nmgc_heap_spec.specs.Places.{Place, Means}
+use Rattle.nmgc_heap_spec.specs.Changes.{AreEarlier}
+use Rattle.nmgc_heap_spec.specs.Represents.{Represents, NoNode}
+use Rattle.nmgc_heap_spec.specs.Roots.{ListsWeaks}
 use Rattle.nmgc_round.specs.Marking.{marks_of}
 use Rattle.nmgc_round.specs.Objects.{earlier}
 use Rattle.nmgc_round.specs.View.{Opening}
-use Rattle.nmgc_run.specs.Listing.{AreDistinct}
-use Rattle.nmgc_run.specs.Seen.{MarkerSeen}
+use Rattle.nmgc_world_spec.specs.Listing.{AreDistinct}
+use Rattle.nmgc_mark.specs.Seen.{MarkerSeen}
 use Rattle.nmgc_mark.specs.Stopped.{IsReady}
 use Rattle.nmgc_mark.specs.Tie.{IsTied}
 use Rattle.nmgc_weak.specs.declared.weaks.OldWeak.{OldWeak}

@@ -3,7 +3,7 @@ ghost use Rattle.std.specs.Prelude.{map};
 ghost use Rattle.nmgc_weak.specs.Queues.{HaveRoom, HaveJoined};
 
 use crate::weaks::Death;
-use nmgc_heap::MutatorRoots;
+use nmgc_heap_spec::MutatorRoots;
 use nmgc_object::words::NIL_WORD;
 
 /// Adds the finaliser of each death, unless it is nil, to the queue of the weak pointer's maker, in the order of

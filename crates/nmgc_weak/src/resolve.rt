@@ -8,15 +8,14 @@
 //! the first finaliser is marked, and their value words become 0 last, while the words still represent the world
 //! in which the marker follows fields.
 ghost use Rattle.std.specs.Prelude.{ℕ, ◌≡◌, ◌↔◌, ◌*◌, ◌^◌, ◌+◌, ◌<◌, ◌≤◌, List, length, slice_index, vec_len, vec_capacity, Contains, IsTrue, IfSome, IfNone, [], ◌∷◌};
-ghost use Rattle.nmgc_graph.specs.declared.value.Name.{Name};
+ghost use Rattle.nmgc_world_spec.specs.declared.value.Name.{Name};
 ghost use Rattle.nmgc_segment.specs.Marks.{IsEpoch};
 ghost use Rattle.nmgc_alloc.specs.Blocks.{IsSnapshotAt, IsMarkedAt};
 ghost use Rattle.nmgc_alloc.specs.Segments.{IsBlockAt};
-ghost use Rattle.nmgc_heap.specs.Places.{Place};
+ghost use Rattle.nmgc_heap_spec.specs.Places.{Place};
 ghost use Rattle.nmgc_round.specs.View.{Opening};
 ghost use Rattle.nmgc_round.specs.Marking.{Marks, with_name, name_meant};
-ghost use Rattle.nmgc_run.specs.Marker.{HasRoomToMark};
-ghost use Rattle.nmgc_mark.specs.Marker.{HasMarked};
+ghost use Rattle.nmgc_mark.specs.Marker.{HasRoomToMark, HasMarked};
 ghost use Rattle.nmgc_mark.specs.Tie.{IsTied};
 ghost use Rattle.nmgc_weak.specs.Resolve.{CanResolve};
 ghost use Rattle.nmgc_weak.specs.Steps.{IsKeyMarkedWord, IsLostAt, CanKeep, HasKept, HasPassed, HasRevived, CanRescue, AreLost, HasRescued};
@@ -24,7 +23,7 @@ ghost use Rattle.nmgc_weak.specs.Weaks.{IsWithin, AreWithin, key_place, place_of
 
 use crate::weaks::{Death, FINALISER, OldWeak, VALUE};
 use nmgc_alloc::Segments;
-use nmgc_heap::HeapWords;
+use nmgc_heap_spec::HeapWords;
 use nmgc_mark::Marker;
 use nmgc_object::{Address, FieldWord, HEADER_WORDS, SHARED_PLACE};
 

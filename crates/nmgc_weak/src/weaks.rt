@@ -10,21 +10,21 @@
 //!
 //! Easy to get wrong: what lies in that last one means nothing between two calls, so each call clears it first.
 ghost use Rattle.std.specs.Prelude.{ℕ, ◌≡◌, ◌≢◌, ◌⊎◌, ◌↔◌, ◌+◌, ◌<◌, ◌≤◌, List, [], length, vec_len, vec_capacity, Contains, IsTrue, IsFalse, OnOk, OnErr, slice_get, Some};
-ghost use Rattle.nmgc_graph.specs.Reach.{IsBefore, IsInOrder};
+ghost use Rattle.nmgc_world_spec.specs.Reach.{IsBefore, IsInOrder};
 ghost use Rattle.nmgc_object.specs.declared.size.TheConstants.{HEADER_WORDS};
 ghost use Rattle.nmgc_round.specs.View.{Opening};
-ghost use Rattle.nmgc_run.specs.Marker.{HasRoomToMark};
-ghost use Rattle.nmgc_mark.specs.Marker.{HasMarked};
+ghost use Rattle.nmgc_mark.specs.Marker.{HasRoomToMark, HasMarked};
 ghost use Rattle.nmgc_weak.specs.declared.weaks.OldWeak.{OldWeak as Old};
 ghost use Rattle.nmgc_weak.specs.Resolve.{CanResolve, HasResolved};
 ghost use Rattle.nmgc_weak.specs.Weaks.{AreInside, HaveLostValues, alive_of, names_of, places_of};
 
 use crate::resolve::{clear_values, find_dying, revive, save_finalisers};
 use nmgc_alloc::Segments;
-use nmgc_graph::{List, Name, NoMemory, Place};
-use nmgc_heap::HeapWords;
+use nmgc_heap_spec::HeapWords;
+use nmgc_lists::{List, NoMemory, Place};
 use nmgc_mark::Marker;
 use nmgc_object::{Address, HEADER_WORDS};
+use nmgc_world_spec::Name;
 use std::alloc::Global;
 use std::marker::Model;
 use std::mem::swap;
@@ -56,7 +56,7 @@ pub struct Weaks {
 
 impl Model for Weaks {
     ghost use Rattle.std.specs.Prelude.{◌≡◌, [], ◌-◌, ◌≤◌, vec_len, vec_capacity};
-    ghost use Rattle.nmgc_graph.specs.Reach.{IsInOrder};
+    ghost use Rattle.nmgc_world_spec.specs.Reach.{IsInOrder};
     ghost use Rattle.nmgc_weak.specs.Weaks.{Weaks as Shown, names_of};
 
     ghost Value = { Shown };

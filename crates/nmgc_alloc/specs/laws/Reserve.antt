@@ -14,8 +14,8 @@ use Rattle.nmgc_object.specs.laws.Classes.{object_half, class_fits}
 use Rattle.nmgc_segment.specs.Segment.{Segment, InUse, HasFree, mark_of, segment_words, block_count, free_segment}
 use Rattle.nmgc_segment.specs.declared.state.State.{State}
 use Rattle.nmgc_segment.specs.declared.state.State.TheVariants.{Free, Current, Active, Filled}
-use Rattle.nmgc_alloc.specs.Search.{nth, is}
-use Rattle.nmgc_alloc.specs.Segments.{Segments, IsSegments, HasRoom, IsCurrent, Allocates, TakesBlock, as_current}
+use Rattle.nmgc_alloc.specs.Numbered.{nth, is, Segments}
+use Rattle.nmgc_alloc.specs.Segments.{IsSegments, HasRoom, IsCurrent, Allocates, TakesBlock, as_current}
 use Rattle.nmgc_alloc.specs.Reserve.{free_count, pair, HasLeft, KeepsReserve}
 use Rattle.nmgc_alloc.specs.laws.Numbers.{nth-set_same, nth-set_other}
 use Rattle.nmgc_alloc.specs.laws.Counts.{one_counted, is_free}

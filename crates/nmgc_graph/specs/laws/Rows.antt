@@ -1,17 +1,17 @@
 -- A set of names as rows of marks: what adding a name changes, and listing the names.
-use Rattle.std.proofs.Common.{◌≡◌, ◌≢◌, ◌<◌, ◌≤◌, ◌+◌, ℕ, List, [], length, get_or, set, inl, inr, refl, sym, ap, ◌∙◌, arith, Bool, true, false, cond, ◌⊎◌, not}
+use Rattle.std.proofs.Common.{◌≡◌, ◌≢◌, ◌<◌, ◌≤◌, ◌+◌, ℕ, List, [], length, set, inl, inr, refl, sym, ◌∙◌, arith, Bool, true, false, not}
 use Rattle.std.specs.Prelude.{count_by, IsSome}
 use Rattle.std.proofs.lemmas.Bool.{cases_lt, cases_eq, false≢true}
 use Rattle.std.proofs.lemmas.Bool.Decides.{eqb_tells}
 use Rattle.std.proofs.lemmas.List.{get_or-set_same, get_or-set_other, get_or_past, length-set}
 use Rattle.std.proofs.lemmas.List.Sums.{sum_by-set}
 use Rattle.nmgc_limits.specs.declared.mutators.TheConstants.{SHARED_MAKER}
-use Rattle.nmgc_graph.specs.declared.value.Name.{Name}
-use Rattle.nmgc_graph.specs.World.{World, node_of, state_of}
+use Rattle.nmgc_world_spec.specs.declared.value.Name.{Name}
+use Rattle.nmgc_world_spec.specs.World.{World, node_of, state_of}
 use Rattle.nmgc_graph.specs.Marks.{row_of, mark_of, IsMarked, HasPlace, with_mark, unmarked_count, HasPlaces}
-use Rattle.nmgc_graph.specs.Order.{ListsBefore}
-use Rattle.nmgc_graph.specs.laws.Orders.{lists_maker, same_name}
-use Rattle.nmgc_graph.specs.laws.Worlds.{get_is_some}
+use Rattle.nmgc_world_spec.specs.Order.{ListsBefore}
+use Rattle.nmgc_world_spec.specs.laws.Orders.{lists_maker, same_name}
+use Rattle.nmgc_lists.specs.laws.Items.{get_is_some, count-set}
 
 -- a name of the set has a place
 pub marked_place : (marks : List (List Bool)) (name : Name) → IsMarked marks name → HasPlace marks name
@@ -63,12 +63,6 @@ module _ (marks : List (List Bool)) (name : Name) (place : HasPlace marks name) 
   pub makers_kept : length (with_mark marks name) ≡ length marks
   makers_kept = length-set marks name.maker (set (row_of marks name.maker) name.serial true)
 
-count-set : (row : List Bool) (serial : ℕ) → serial < length row → get_or row serial false ≡ false → count_by not (set row serial true) + 1 ≡ count_by not row
-count-set row serial lt e =
-    let h = sum_by-set (λ (x : Bool). cond (not x) 1 0) row serial true false lt in
-    let k = rw e at h in
-    omega arith
-
 -- adding a new name takes it off those that aren't in the set
 pub one_fewer : (marks : List (List Bool)) (name : Name) → HasPlace marks name → mark_of marks name ≡ false →
     unmarked_count (with_mark marks name) + 1 ≡ unmarked_count marks
@@ -77,15 +71,6 @@ one_fewer marks name place new =
     let whole = sum_by-set (count_by not) marks name.maker (set row name.serial true) [] (place_maker marks name place) in
     let part = count-set row name.serial place new in
     omega arith
-
-pub name_cases : (a b : Name) → (a ≡ b) ⊎ (a ≢ b)
-name_cases a b = elim (cases_eq a.maker b.maker) [
-  | inl e ↦ elim (cases_eq a.serial b.serial) [
-    | inl f ↦ inl (same_name a b e f)
-    | inr g ↦ inr (λ s. g (ap (λ (n : Name). n.serial) s))
-  ]
-  | inr g ↦ inr (λ s. g (ap (λ (n : Name). n.maker) s))
-]
 
 -- a set with a place for each name of a world
 module _ (w : World) (marks : List (List Bool)) (h : HasPlaces w marks) where

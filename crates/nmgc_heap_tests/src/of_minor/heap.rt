@@ -1,13 +1,11 @@
 //! Heaps of plain words, whose objects a test makes one by one, and their promotions.
 ghost use Rattle.std.specs.Prelude.{◌≡◌, IfOk};
 ghost use Rattle.nmgc_object.specs.Places.{IsLayout};
-ghost use Rattle.nmgc_turn.specs.Worked.{nurseries_of};
+ghost use Rattle.nmgc_collector_laws.specs.Worked.{nurseries_of};
 
-use super::walk::{
-    check_lengths, check_mutators, check_nurseries, check_objects, check_room, check_words,
-};
 use nmgc_alloc::Segments;
-use nmgc_graph::{List, NoMemory, REGISTERS, Room, SHARED_MAKER, SHARED_SLOTS};
+use nmgc_limits::{REGISTERS, SHARED_MAKER, SHARED_SLOTS};
+use nmgc_lists::{List, NoMemory, Room};
 use nmgc_minor::{Move, Young, run_passes};
 use nmgc_mutator::Mutator;
 use nmgc_object::{Address, Layout, Nursery};
@@ -16,6 +14,9 @@ use std::alloc::Global;
 use std::marker::Model;
 use std::process::Abort;
 use std::test::Fail;
+use super::walk::{
+    check_lengths, check_mutators, check_nurseries, check_objects, check_room, check_words,
+};
 
 // The working lists of the passes, which rest between two promotions with what the last one found.
 #[derive(Drop)]

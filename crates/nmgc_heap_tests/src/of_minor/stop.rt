@@ -3,23 +3,25 @@ ghost use Rattle.std.specs.Prelude.{◌≡◌, ◌≤◌, [], ◌∷◌, IfOk, I
 ghost use Rattle.nmgc_object.specs.Places.{IsLayout};
 ghost use Rattle.nmgc_mutator.specs.declared.mutator.Mutator.{Mutator as MutatorSeen};
 ghost use Rattle.nmgc_alloc.specs.Segments.{all_free};
-ghost use Rattle.nmgc_heap.specs.Places.{HasZeros};
-ghost use Rattle.nmgc_heap.specs.Samples.{small_layout};
-ghost use Rattle.nmgc_blocks.specs.Samples.{HoldsYoung};
+ghost use Rattle.nmgc_heap_spec.specs.Places.{HasZeros};
+ghost use Rattle.nmgc_heap_spec.specs.Samples.{small_layout};
+ghost use Rattle.nmgc_blocks_spec.specs.Samples.{HoldsYoung};
 ghost use Rattle.nmgc_minor.specs.Promotion.{IsFor};
 ghost use Rattle.nmgc_heap_tests.specs.Checked.{IsYoungMutator};
 
-use super::heap::NIL;
 use nmgc_alloc::Segments;
-use nmgc_blocks::laws::one_young_object;
-use nmgc_graph::{List, Name, Place, Placed, REGISTERS};
+use nmgc_blocks_spec::laws::one_young_object;
+use nmgc_limits::REGISTERS;
+use nmgc_lists::{List, Place, Placed};
 use nmgc_minor::{Move, Promotion};
 use nmgc_mutator::Mutator;
 use nmgc_object::{Address, FinQueue, Layout, Nursery};
 use nmgc_updrem::link;
+use nmgc_world_spec::Name;
 use std::alloc::Global;
 use std::process::Abort;
 use std::test::Fail;
+use super::heap::NIL;
 
 // Whether the words that belong to nobody are 0.
 fn are_zeros(words: &[u64]) -> bool

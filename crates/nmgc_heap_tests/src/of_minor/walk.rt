@@ -14,11 +14,11 @@ ghost use Rattle.nmgc_mutator.specs.declared.mutator.Mutator.{Mutator as Mutator
 ghost use Rattle.nmgc_heap_tests.specs.Checked.{PointsWell, PointsWellAll, IsMade, AreMade, AreParts};
 
 use nmgc_alloc::Segments;
-use nmgc_graph::Name;
 use nmgc_mutator::Mutator;
 use nmgc_object::{
     Address, FieldWord, HEADER_WORDS, Header, Layout, Nursery, decode_header, decode_name,
 };
+use nmgc_world_spec::Name;
 use std::process::Abort;
 
 // Whether an object begins where the word points, if it points to the nurseries.

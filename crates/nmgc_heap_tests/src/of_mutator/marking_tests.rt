@@ -2,7 +2,7 @@
 //! collector reads the variable before the mutator overwrites it, or after.
 ghost use Rattle.nmgc_mutator.specs.declared.mutator.TheConstants.{MOST_PUSHED};
 ghost use Rattle.std.specs.Prelude.{◌≡◌, ◌*◌, ◌<◌, ◌≤◌, true, [], IfOk, IfSome, vec_capacity};
-ghost use Rattle.nmgc_heap.specs.Samples.{small_layout};
+ghost use Rattle.nmgc_heap_spec.specs.Samples.{small_layout};
 ghost use Rattle.nmgc_object.specs.Places.{word_total};
 ghost use Rattle.nmgc_round.specs.View.{whole};
 ghost use Rattle.nmgc_round.specs.Seat.{IsAt, seen, word_count};
@@ -10,15 +10,17 @@ ghost use Rattle.nmgc_round.specs.Seating.{alone, collecting};
 ghost use Rattle.nmgc_round.specs.Ready.{HasPart, scanned_by};
 ghost use Rattle.nmgc_heap_tests.specs.Sample.{snapshot_opening, IsSnapshotHeap, IsSnapshotMutator, IsBegun};
 
-use super::laws::a_marking_round_opens;
-use nmgc_graph::{Command, List, NoMemory, Operand, Place, Placed, REGISTERS, Reply};
+use nmgc_limits::REGISTERS;
+use nmgc_lists::{List, NoMemory, Place, Placed};
 use nmgc_mutator::{Mutator, Step, laws};
 use nmgc_object::{Address, Layout};
 use nmgc_round::chosen::Wanted;
 use nmgc_round::{Chosen, CollectorSeat, MutatorSeat, Opened, Round, Started, Words};
 use nmgc_updrem::{UpdSender, link};
+use nmgc_world_spec::{Command, Operand, Reply};
 use std::alloc::Global;
 use std::test::Fail;
+use super::laws::a_marking_round_opens;
 
 // The opening of the round.
 struct AtSnapshot;

@@ -1,7 +1,7 @@
 //! Programs on the heap of which nothing was made: of one mutator by the tables of what each command does, and
 //! of two in threads of their own.
 ghost use Rattle.std.specs.Prelude.{ℕ, List, ◌≡◌, ◌<◌, ◌≤◌, [], All, IsTrue, length, min, slice_index_or, vec_capacity};
-ghost use Rattle.nmgc_graph.specs.Command.{Fits, HasNumbers, words_made};
+ghost use Rattle.nmgc_world_spec.specs.Command.{Fits, HasNumbers, words_made};
 ghost use Rattle.nmgc_object.specs.Places.{IsLayout};
 ghost use Rattle.nmgc_round.specs.Empty.{IsEmptyHeap, first_opening};
 ghost use Rattle.nmgc_round.specs.Starting.{CanOpen};
@@ -11,17 +11,19 @@ ghost use Rattle.nmgc_mutator.specs.Ready.{IsNew};
 ghost use Rattle.nmgc_mutator.specs.Slice.{HasRoom};
 
 use crate::of_round::empty_heap;
-use nmgc_graph::{Command, List, MAKERS, Name, NoMemory, Operand, Place, Reply, Value};
+use nmgc_limits::MAKERS;
+use nmgc_lists::{List, NoMemory, Place};
 use nmgc_mutator::{Mutator, Slice, SliceEnd};
 use nmgc_object::Layout;
 use nmgc_round::chosen::Wanted;
 use nmgc_round::{Chosen, Gate, MutatorSeat, OpenGate, Opened, Round, Started, Words};
 use nmgc_updrem::link;
+use nmgc_world_spec::{Command, Name, Operand, Reply, Value};
 use std::alloc::Global;
 use std::sync::atomic::{AtomicU64, Ordering};
 use std::test::Fail;
-use std::thread;
 use std::thread::Threads;
+use std::thread;
 
 // The opening of a run's first round.
 struct First;

@@ -1,10 +1,13 @@
 //! A cycle in which a field is overwritten, and two hundred random ones against the world crate's search.
 ghost use Rattle.std.specs.Prelude.{◌<◌, IfOk, IsSome, All};
-ghost use Rattle.nmgc_graph.specs.World.{node_of};
-ghost use Rattle.nmgc_graph.specs.Reach.{IsInOrder, IsAliveWeak};
+ghost use Rattle.nmgc_world_spec.specs.World.{node_of};
+ghost use Rattle.nmgc_world_spec.specs.Reach.{IsInOrder, IsAliveWeak};
 
-use nmgc_core::{Core, Event, laws};
-use nmgc_graph::{Command, List, Name, Operand, Reply, World};
+use nmgc_core::Core;
+use nmgc_graph::World;
+use nmgc_lists::List;
+use nmgc_snapshot_laws::{Event, laws};
+use nmgc_world_spec::{Command, Name, Operand, Reply};
 use std::alloc::Global;
 use std::test::Fail;
 

@@ -1,8 +1,9 @@
 //! Changes of one object, each alone: what it is answered, with and without doing it, and what readers then find.
 use nmgc_graph::change::{
-    Change, change_in_place, change_reply, given_or, read_field, read_result, read_value, same,
+    change_in_place, change_reply, given_or, read_field, read_result, read_value, same,
 };
-use nmgc_graph::{List, Name, NoMemory, Node, Parts, Reply, Value};
+use nmgc_lists::{List, NoMemory};
+use nmgc_world_spec::{Change, Name, Node, Parts, Reply, Value};
 use std::alloc::Global;
 use std::process::Abort;
 use std::test::Fail;

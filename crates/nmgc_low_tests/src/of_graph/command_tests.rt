@@ -1,6 +1,6 @@
 //! Rows of commands, with the replies that the rules of the heap give.
-use nmgc_graph::change::Change;
 use nmgc_graph::*;
+use nmgc_world_spec::Change;
 use std::alloc::Global;
 use std::process::Abort;
 use std::test::Fail;

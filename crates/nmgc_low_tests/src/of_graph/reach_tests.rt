@@ -1,7 +1,7 @@
 //! Worlds that were worked by hand: what is live, dead and kept in them.
 ghost use Rattle.std.specs.Prelude.{◌≡◌, IsTrue, IsSome, IfOk, All, [], ◌∷◌};
-ghost use Rattle.nmgc_graph.specs.World.{node_of};
-ghost use Rattle.nmgc_graph.specs.Command.{IsRegister, IsOperand, HasRegisters};
+ghost use Rattle.nmgc_world_spec.specs.World.{node_of};
+ghost use Rattle.nmgc_world_spec.specs.Command.{IsRegister, IsOperand, HasRegisters};
 
 use nmgc_graph::*;
 use std::alloc::Global;

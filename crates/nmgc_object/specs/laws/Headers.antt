@@ -1,7 +1,7 @@
 -- How many fields an object may have.
 use Rattle.std.proofs.Common.{ℕ, ◌≤◌, arith}
-use Rattle.nmgc_graph.specs.declared.node.Kind.{Kind}
-use Rattle.nmgc_graph.specs.declared.node.Kind.TheVariants.{Con, Var, Arr, Thunk, Weak, Stack}
+use Rattle.nmgc_world_spec.specs.declared.node.Kind.{Kind}
+use Rattle.nmgc_world_spec.specs.declared.node.Kind.TheVariants.{Con, Var, Arr, Thunk, Weak, Stack}
 use Rattle.nmgc_object.specs.declared.words.Header.{Header}
 use Rattle.nmgc_object.specs.Words.{IsHeader, HasFields}
 

@@ -3,7 +3,7 @@
 //! The gate of the last test gives up after many turns of its spin, and notes it, so markers on one thread fail the test
 //! and don't hang.
 ghost use Rattle.std.specs.Prelude.{◌≤◌, length, IfOk};
-ghost use Rattle.nmgc_cli.specs.Runs.{IsOfScript};
+ghost use Rattle.nmgc_cli.specs.Answer.{IsOfScript};
 ghost use Rattle.nmgc_limits.specs.Limits.{most_script_bytes};
 
 use super::running::{HEAD, USAGE, run_words};

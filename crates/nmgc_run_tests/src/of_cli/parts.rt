@@ -1,19 +1,19 @@
 //! The parts of the top call, each alone: what words ask for, and what is answered of a script that is read, run and marked.
-use super::running::{ONE_OBJECT, ONE_OBJECT_REPORT, all_words, listed, script_of};
 use crate::of_cycle;
 use nmgc_cli::answer::{Outcome, Refusal};
 use nmgc_cli::marks::marks;
 use nmgc_cli::run::{read_and_run, run, run_script};
 use nmgc_cli::{Status, Task, task_of};
-use nmgc_graph::Name;
 use nmgc_io::MemorySource;
 use nmgc_journal::Report;
 use nmgc_journal::text::text;
 use nmgc_script::Cause;
+use nmgc_world_spec::Name;
 use std::alloc::Global;
 use std::process::Abort;
 use std::test::Fail;
 use std::thread::Threads;
+use super::running::{ONE_OBJECT, ONE_OBJECT_REPORT, all_words, listed, script_of};
 
 // Words, and what they ask for.
 const TASKS: [(&[&str], Option<Task>); 12] = [

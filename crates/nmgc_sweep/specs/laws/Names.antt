@@ -1,28 +1,29 @@
 -- That the array has the names in blocks: from the first state on, over each step of a cycle, and over a promotion whose moves are noted.
-use Rattle.std.proofs.Common.{ℕ, zero, suc, ◌≡◌, ◌≢◌, ◌⊎◌, ◌+◌, ◌-◌, ◌*◌, ◌<◌, ◌≤◌, ◌∙◌, inl, inr, refl, sym, ap, subst, arith, List, [], ◌∷◌, ◌++◌, length, set, length-set, Some, mul-le-mul_right}
+use Rattle.std.proofs.Common.{ℕ, ◌≡◌, ◌≢◌, ◌⊎◌, ◌+◌, ◌-◌, ◌*◌, ◌<◌, ◌≤◌, ◌∙◌, inl, inr, refl, sym, ap, subst, arith, List, [], ◌∷◌, ◌++◌, length, set, length-set, Some, mul-le-mul_right}
 use Rattle.std.specs.Prelude.{Contains, slice_get}
 use Rattle.std.proofs.Math.ListN.{get_or-eq_default}
 use Rattle.std.proofs.lemmas.Bool.{cases_eq, cases_lt}
-use Rattle.std.proofs.lemmas.List.{get_or-set_same}
 use Rattle.std.proofs.lemmas.Nat.{div_below}
 use Rattle.std.proofs.lemmas.List.Elements.{Contains-append_left, Contains-push, Contains-push_cases}
-use Rattle.std.proofs.lemmas.Option.{slice_get-get_or}
-use Rattle.nmgc_graph.specs.declared.value.Name.{Name}
+use Rattle.nmgc_world_spec.specs.declared.value.Name.{Name}
 use Rattle.nmgc_object.specs.declared.layout.Layout.{Layout}
 use Rattle.nmgc_object.specs.declared.layout.TheConstants.{FIRST_PLACE}
 use Rattle.nmgc_object.specs.declared.size.TheConstants.{MIN_BLOCK_WORDS}
 use Rattle.nmgc_object.specs.Places.{IsLayout}
 use Rattle.nmgc_object.specs.Size.{block_size}
 use Rattle.nmgc_segment.specs.declared.state.State.TheVariants.{Free}
-use Rattle.nmgc_alloc.specs.Search.{nth}
-use Rattle.nmgc_alloc.specs.Segments.{Segments, HasNumber, IsSegments, IsBlockAt, block_place}
-use Rattle.nmgc_alloc.specs.AllocState.{AllocState, Cells, StandsFor, Sweeps, SweepsEach, SweepsSome, HoldsKept, LiesIn, cells, name_in, no_cells, all_empty, all_retired, cycle_begun}
+use Rattle.nmgc_alloc.specs.Numbered.{nth, Segments, HasNumber, block_place}
+use Rattle.nmgc_alloc.specs.Segments.{IsSegments, IsBlockAt}
+use Rattle.nmgc_alloc.specs.AllocState.{AllocState, Cells, Sweeps, SweepsEach, SweepsSome, HoldsKept, LiesIn, cells, name_in, no_cells, all_empty, all_retired, cycle_begun}
+use Rattle.nmgc_alloc.specs.Stands.{StandsFor}
 use Rattle.nmgc_alloc.specs.laws.Apart.{blocks_lie_apart, lies_in}
 use Rattle.nmgc_alloc.specs.laws.Cells.{none_some, swept_back, swept_other, begun_cells, retired_cells}
 use Rattle.nmgc_alloc.specs.laws.OneState.{first_cells}
-use Rattle.nmgc_alloc.specs.laws.Placing.{inside, large}
-use Rattle.nmgc_heap.specs.Moves.{Moved}
+use Rattle.nmgc_alloc.specs.laws.Placing.{inside}
+use Rattle.nmgc_object.specs.laws.Classes.{least_block as large}
+use Rattle.nmgc_heap_spec.specs.Moves.{Moved}
 use Rattle.nmgc_sweep.specs.Names.{AreNamed, HaveEntries, HaveNoted, entry_of, named_at}
+use Rattle.nmgc_world_spec.specs.laws.Common.{get_set_other, get_set_same}
 
 -- where a name lies
 
@@ -30,7 +31,7 @@ lies_not_free : (a : AllocState) (number block : ℕ) (name : Name) → cells a 
 lies_not_free a number block name none lies = none_some (name_in no_cells block) name refl (ap (λ (x : Cells). name_in x block) (sym none) ∙ lies)
 
 -- a segment with a name exists
-lies_exists : (s : Segments) (words : List ℕ) (a : AllocState) → StandsFor s words a → (number block : ℕ) (name : Name) →
+pub lies_exists : (s : Segments) (words : List ℕ) (a : AllocState) → StandsFor s words a → (number block : ℕ) (name : Name) →
     LiesIn a number block name → HasNumber s number
 lies_exists s words a stood number block name lies = elim (cases_lt number (length a.segments)) [
   | inl lt ↦ let many = stood.count in omega (arith, lt, many)
@@ -175,20 +176,6 @@ named_noted s words b moves old new sound stands noted moved came number block n
         | inr was ↦ same ∙ was
       ]
     ]
-
--- noting one move after another
-
-get_set_other : (xs : List Name) (k i : ℕ) (y : Name) → i ≢ k → slice_get (set xs k y) i ≡ slice_get xs i
-get_set_other [] k i y ne = refl
-get_set_other (x ∷ xs) zero zero y ne = absurd (ne refl)
-get_set_other (x ∷ xs) zero (suc i) y ne = refl
-get_set_other (x ∷ xs) (suc k) zero y ne = refl
-get_set_other (x ∷ xs) (suc k) (suc i) y ne = get_set_other xs k i y (λ e. ne (ap suc e))
-
-get_set_same : (xs : List Name) (k : ℕ) (y : Name) → k < length xs → slice_get (set xs k y) k ≡ Some y
-get_set_same xs k y low =
-    let size = length-set xs k y in
-    slice_get-get_or (set xs k y) k y (omega (arith, low, size)) ∙ ap (λ (n : Name). Some n) (get_or-set_same xs k y y low)
 
 pub none_noted : (names : List Name) → HaveNoted [] names names
 none_noted names = record { count = refl; entry = λ i. inr ((λ m c. absurd (omega (arith, c.1))), refl) }

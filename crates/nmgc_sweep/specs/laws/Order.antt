@@ -5,32 +5,19 @@ use Rattle.std.specs.List.Sorted.{IsPermutation}
 use Rattle.std.specs.Ordering.{nat_cmp, ordering_then, is_lt}
 use Rattle.std.specs.declared.cmp.Ordering.{Ordering}
 use Rattle.std.specs.declared.cmp.Ordering.TheVariants.{Less, Equal, Greater}
-use Rattle.std.proofs.lemmas.Bool.{cases_Bool, cases_eq, cases_lt, lt-ltb, le-ltb, eq-eqb, ne_eqb}
+use Rattle.std.proofs.lemmas.Bool.{cases_Bool, cases_lt, lt-ltb, le-ltb, eq-eqb}
 use Rattle.std.proofs.lemmas.Cmp.{ranked}
 use Rattle.std.proofs.lemmas.List.Sums.{sum_by-cons}
 use Rattle.std.proofs.lemmas.List.Sorted.{sum_by-IsPermutation}
-use Rattle.nmgc_graph.specs.declared.value.Name.{Name}
-use Rattle.nmgc_graph.specs.Reach.{IsBefore, IsInOrder, Lists}
-use Rattle.nmgc_graph.specs.laws.Orders.{same_name, before_trans, not_before_itself, contains_head, contains_tail, contains_cases, in_order_cons, in_order_first, in_order_rest}
-use Rattle.nmgc_run.specs.Listing.{AreDistinct}
+use Rattle.nmgc_world_spec.specs.declared.value.Name.{Name}
+use Rattle.nmgc_world_spec.specs.Reach.{IsBefore, IsInOrder, Lists}
+use Rattle.nmgc_world_spec.specs.laws.Orders.{same_name, before_trans, not_before_itself, in_order_cons, in_order_first, in_order_rest}
+use Rattle.nmgc_lists.specs.laws.Items.{contains_head, contains_tail, contains_cases}
+use Rattle.nmgc_world_spec.specs.Listing.{AreDistinct}
 use Rattle.nmgc_sweep.specs.Order.{is_before, put, in_order}
 use Rattle.nmgc_sweep.specs.Sweeper.{AreSorted}
-
--- of two names one stands before the other, or they are one
-pub which_first : (a b : Name) → IsBefore a b ⊎ ((a ≡ b) ⊎ IsBefore b a)
-which_first a b = elim (cases_lt a.maker b.maker) [
-  | inl lt ↦ inl (inl lt)
-  | inr ge ↦ elim (cases_eq a.maker b.maker) [
-    | inl same ↦ elim (cases_lt a.serial b.serial) [
-      | inl lt ↦ inl (inr (same, lt))
-      | inr le ↦ elim (cases_eq a.serial b.serial) [
-        | inl e ↦ inr (inl (same_name a b same e))
-        | inr ne ↦ inr (inr (inr (sym same, omega (arith, le, ne))))
-      ]
-    ]
-    | inr other ↦ inr (inr (inl (omega (arith, ge, other))))
-  ]
-]
+use Rattle.nmgc_lists.specs.laws.Truths.{and_both, eq_true, or_first, or_second}
+use Rattle.nmgc_world_laws.specs.laws.Distinct.{before_cases as which_first}
 
 -- what the test tells
 and_true : (x y : Bool) → x ≡ true → y ≡ true → (x && y) ≡ true
@@ -38,34 +25,13 @@ and_true true true e f = refl
 and_true true false e f = absurd (cc)
 and_true false y e f = absurd (cc)
 
-and_both : (x y : Bool) → (x && y) ≡ true → (x ≡ true) × (y ≡ true)
-and_both true true e = (refl, refl)
-and_both true false e = absurd (cc)
-and_both false y e = absurd (cc)
-
 or_cases : (x y : Bool) → (x || y) ≡ true → (x ≡ true) ⊎ (y ≡ true)
 or_cases true y e = inl refl
 or_cases false true e = inr refl
 or_cases false false e = absurd (cc)
 
-or_first : (x y : Bool) → x ≡ true → (x || y) ≡ true
-or_first true y e = refl
-or_first false y e = absurd (cc)
-
-or_second : (x y : Bool) → y ≡ true → (x || y) ≡ true
-or_second true y e = refl
-or_second false true e = refl
-or_second false false e = absurd (cc)
-
 pub lt_true : (x y : ℕ) → nat_lt x y ≡ true → x < y
 lt_true x y e = elim (cases_lt x y) [ inl lt ↦ lt | inr ge ↦ absurd (let f : nat_lt x y ≡ false = le-ltb x y ge in let g : true ≡ false = sym e ∙ f in cc) ]
-
-eq_true : (x y : ℕ) → (x == y) ≡ true → x ≡ y
-eq_true x y e = elim (cases_eq x y) [
-  | inl same ↦ same
-  | inr other ↦ absurd (let f : (x == y) ≡ false = ne_eqb x y other in
-      let g : true ≡ false = sym e ∙ f in cc)
-]
 
 pub told_before : (a b : Name) → is_before a b ≡ true → IsBefore a b
 told_before a b e = elim (or_cases (nat_lt a.maker b.maker) ((a.maker == b.maker) && nat_lt a.serial b.serial) e) [

@@ -1,5 +1,5 @@
 use Rattle.std.proofs.lemmas.Result.{IfOk-weaker}
-use Rattle.nmgc_run.specs.Run.{last_state}
+use Rattle.nmgc_run_spec.specs.Run.{last_state}
 use Rattle.nmgc_cli.proofs.Leaving.{left_as}
 use Rattle.nmgc_cli.proofs.imaging.image_of.Goals as goal
 

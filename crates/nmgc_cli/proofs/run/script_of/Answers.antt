@@ -1,6 +1,6 @@
 use Rattle.std.proofs.Common.{◌≡◌, ◌≤◌, List, ℕ, length, sym, subst, arith}
 use Rattle.std.specs.Prelude.{IfOk, IfErr, sum_by}
-use Rattle.nmgc_graph.specs.declared.command.Command.{Command}
+use Rattle.nmgc_world_spec.specs.declared.command.Command.{Command}
 use Rattle.nmgc_script.specs.Faults.{IsToldOf}
 use Rattle.nmgc_script.specs.Spelling.{Spells}
 use Rattle.nmgc_script.specs.declared.script.Script.{Script}

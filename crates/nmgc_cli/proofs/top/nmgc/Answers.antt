@@ -1,6 +1,6 @@
 use Rattle.std.proofs.Common.{map, Global}
 use Rattle.std.specs.Prelude.{string_bytes}
-use Rattle.nmgc_io.specs.Causes.{Rose}
+use Rattle.nmgc_io.specs.Counts.{Rose}
 use Rattle.nmgc_cli.proofs.Telling.{ends, reports, completes, bench_completes, upgrades, upgrade_completes, paths, retain_completes}
 use Rattle.nmgc_cli.proofs.top.nmgc.Goals as goal
 

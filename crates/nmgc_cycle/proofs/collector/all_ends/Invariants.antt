@@ -1,5 +1,5 @@
 use Rattle.std.proofs.Common.{◌≡◌, map, vec_capacity}
-use Rattle.nmgc_run.specs.Seen.{end_of}
+use Rattle.nmgc_collector_laws.specs.Seen.{end_of}
 use Rattle.nmgc_cycle.specs.Shown.{seen_mutator}
 use Rattle.nmgc_cycle.proofs.collector.all_ends.Given as goal
 

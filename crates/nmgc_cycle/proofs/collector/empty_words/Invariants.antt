@@ -3,8 +3,8 @@ use Rattle.nmgc_object.specs.declared.layout.TheConstants.{SHARED_PLACE}
 use Rattle.nmgc_object.specs.declared.size.TheConstants.{HEADER_WORDS}
 use Rattle.nmgc_object.specs.Words.{header_word, name_word}
 use Rattle.nmgc_limits.specs.declared.mutators.TheConstants.{SHARED_SLOTS}
-use Rattle.nmgc_graph.specs.Step.{shared_name}
-use Rattle.nmgc_heap.specs.Shape.{header_of}
+use Rattle.nmgc_world_spec.specs.Step.{shared_name}
+use Rattle.nmgc_heap_spec.specs.Shape.{header_of}
 use Rattle.nmgc_object.specs.declared.words.TheConstants.{NIL_WORD}
 use Rattle.nmgc_round.specs.Empty.{empty_array}
 use Rattle.nmgc_object.specs.Places.{word_total}

@@ -6,31 +6,16 @@ use Rattle.nmgc_mutator.specs.Ready.{IsNew, Reserves}
 use Rattle.nmgc_updrem.specs.Rings.{Sender, Receiver, AreNew}
 use Rattle.nmgc_updrem.specs.declared.ring.TheConstants.{RING_BLOCKS}
 use Rattle.nmgc_cycle.specs.Lined.{IsLined}
-use Rattle.nmgc_cycle.proofs.Lining.{lined_grown, lined_new}
-use Rattle.nmgc_cycle.proofs.Lists.{each_pushed}
+use Rattle.nmgc_cycle.proofs.rounds.Lining.{lined_grown, lined_new}
+use Rattle.nmgc_cycle.proofs.starts.Lists.{each_pushed}
 use Rattle.nmgc_cycle.proofs.collector.new_mutators.Goals as goal
+use Rattle.nmgc_mutator.specs.laws.Common.{reserved}
 
 -- what the first so many mutators are, with the other ends of their rings
 record AreMade (layout : Layout) (mutators : List Mutator) (receivers : List Receiver) : Type 0 where
   new : (k : ℕ) (m : Mutator) → slice_get mutators k ≡ Some m → IsNew k layout m
   lines : (k : ℕ) (m : Mutator) → slice_get mutators k ≡ Some m → IsLined receivers k m.sender
   unsent : (k : ℕ) (m : Mutator) → slice_get mutators k ≡ Some m → m.sender.since ≡ []
-
--- a new mutator with room in its lists
-reserved : (number : ℕ) (layout : Layout) (old m : Mutator) → IsNew number layout old → Reserves old m → IsNew number layout m
-reserved number layout old m h r = subst (λ (x : Mutator). IsNew number layout x) (sym r.rest) (record {
-  number_is = h.number_is;
-  layout_is = h.layout_is;
-  registers = h.registers;
-  queue = h.queue;
-  unused = record { base = h.unused.base; top = h.unused.top; end = h.unused.end };
-  serial = h.serial;
-  turns = h.turns;
-  replies = r.replies.items ∙ h.replies;
-  recorded = r.recorded.items ∙ h.recorded;
-  young_weaks = r.young_weaks.items ∙ h.young_weaks;
-  updrem = r.updrem.items ∙ h.updrem;
-})
 
 -- one more
 made_more : {s : Sender} (r q : Receiver) (layout : Layout) (number : ℕ) (mutators : List Mutator) (receivers : List Receiver) (m : Mutator) →

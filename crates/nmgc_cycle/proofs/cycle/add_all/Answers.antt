@@ -3,9 +3,9 @@ use Rattle.std.proofs.lemmas.Option.{slice_get-get_or, get_or_from_slice_get}
 use Rattle.nmgc_mutator.specs.declared.mutator.Mutator.{Mutator}
 use Rattle.nmgc_mutator.specs.Does.{remembered}
 use Rattle.nmgc_cycle.specs.Cycles.{HasAdded, remembered_by}
-use Rattle.nmgc_cycle.proofs.Adding.{added_none, added_then, remembered_more}
-use Rattle.nmgc_cycle.proofs.Forgetting.{any_then, forgot_after, forgot_enough, forgot_more, forgot_none}
-use Rattle.nmgc_cycle.proofs.Items.{item}
+use Rattle.nmgc_cycle.proofs.stops.Adding.{added_none, added_then, remembered_more}
+use Rattle.nmgc_cycle.proofs.stops.Forgetting.{any_then, forgot_after, forgot_enough, forgot_more, forgot_none}
+use Rattle.nmgc_lists.specs.laws.Items.{item}
 use Rattle.nmgc_cycle.proofs.cycle.add_all.Goals as goal
 
 pub loop-number-init : goal.loop-number-init

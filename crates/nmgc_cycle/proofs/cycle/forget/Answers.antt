@@ -1,5 +1,5 @@
 use Rattle.std.proofs.Common.{refl}
-use Rattle.nmgc_cycle.proofs.Forgetting.{draining_none, draining_more, drained, drained_took, drained_line, fewer_wait}
+use Rattle.nmgc_cycle.proofs.stops.Forgetting.{draining_none, draining_more, drained, drained_took, drained_line, fewer_wait}
 use Rattle.nmgc_cycle.proofs.cycle.forget.Goals as goal
 
 pub loop-block-init : goal.loop-block-init

@@ -1,5 +1,5 @@
 use Rattle.std.specs.Prelude.{slice_get}
-use Rattle.nmgc_cycle.proofs.Forgetting.{IsDraining, waiting_in}
+use Rattle.nmgc_cycle.proofs.stops.Forgetting.{IsDraining, waiting_in}
 use Rattle.nmgc_cycle.proofs.cycle.forget.Given as goal
 
 abbrev pub invariant-loop-block : goal.invariant-loop-block

@@ -1,8 +1,8 @@
 use Rattle.std.proofs.Common.{get_or, arith}
 use Rattle.std.proofs.lemmas.Option.{slice_get-get_or}
 use Rattle.nmgc_mutator.specs.declared.mutator.Mutator.{Mutator}
-use Rattle.nmgc_cycle.proofs.Forgetting.{forgot_more, forgot_none}
-use Rattle.nmgc_cycle.proofs.Lining.{paired}
+use Rattle.nmgc_cycle.proofs.stops.Forgetting.{forgot_more, forgot_none}
+use Rattle.nmgc_cycle.proofs.rounds.Lining.{paired}
 use Rattle.nmgc_cycle.proofs.cycle.forget_all.Goals as goal
 
 pub loop-number-init : goal.loop-number-init

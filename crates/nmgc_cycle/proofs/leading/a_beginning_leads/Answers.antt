@@ -1,6 +1,6 @@
-use Rattle.nmgc_cycle.proofs.Beginning.{beginning_leads}
-use Rattle.nmgc_cycle.proofs.StartingLeads.{starting_leads}
-use Rattle.nmgc_cycle.proofs.StepReady.{begin_ready}
+use Rattle.nmgc_cycle.proofs.cycles.Beginning.{beginning_leads}
+use Rattle.nmgc_cycle.proofs.cycles.StartingLeads.{starting_leads}
+use Rattle.nmgc_cycle.proofs.cycles.StepReady.{begin_ready}
 use Rattle.nmgc_cycle.proofs.leading.a_beginning_leads.Goals as goal
 
 pub returns-clause-starting : goal.returns-clause-starting

@@ -1,6 +1,6 @@
-use Rattle.nmgc_cycle.proofs.Closing.{closing_leads}
-use Rattle.nmgc_cycle.proofs.FinishingLeads.{finishing_leads}
-use Rattle.nmgc_cycle.proofs.StepReady.{close_ready}
+use Rattle.nmgc_cycle.proofs.cycles.Closing.{closing_leads}
+use Rattle.nmgc_cycle.proofs.cycles.FinishingLeads.{finishing_leads}
+use Rattle.nmgc_cycle.proofs.cycles.StepReady.{close_ready}
 use Rattle.nmgc_cycle.proofs.leading.a_closing_leads.Goals as goal
 
 pub returns-clause-leads : goal.returns-clause-leads

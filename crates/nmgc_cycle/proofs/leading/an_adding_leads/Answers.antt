@@ -1,4 +1,4 @@
-use Rattle.nmgc_cycle.proofs.AddingLeads.{adding_leads}
+use Rattle.nmgc_cycle.proofs.stops.AddingLeads.{adding_leads}
 use Rattle.nmgc_cycle.proofs.leading.an_adding_leads.Goals as goal
 
 pub returns : goal.returns

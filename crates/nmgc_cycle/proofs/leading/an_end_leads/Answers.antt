@@ -1,4 +1,4 @@
-use Rattle.nmgc_cycle.proofs.Ending.{end_leads}
+use Rattle.nmgc_cycle.proofs.cycles.Ending.{end_leads}
 use Rattle.nmgc_cycle.proofs.leading.an_end_leads.Goals as goal
 
 pub returns : goal.returns

@@ -1,5 +1,5 @@
 use Rattle.nmgc_sweep.specs.laws.Names.{none_noted}
-use Rattle.nmgc_cycle.proofs.Noted.{entry_exists, noted_more}
+use Rattle.nmgc_cycle.proofs.stops.Noted.{entry_exists, noted_more}
 use Rattle.nmgc_cycle.proofs.names.note_moves.Goals as goal
 
 pub loop-moved-init : goal.loop-moved-init

@@ -1,7 +1,7 @@
 use Rattle.std.proofs.Common.{get_or, arith}
 use Rattle.std.proofs.lemmas.Option.{slice_get-get_or}
 use Rattle.nmgc_mutator.specs.declared.mutator.Mutator.{Mutator}
-use Rattle.nmgc_cycle.proofs.Meeting.{met_none, met_more}
+use Rattle.nmgc_cycle.proofs.rounds.Meeting.{met_none, met_more}
 use Rattle.nmgc_cycle.proofs.round.meet_each.Goals as goal
 
 pub loop-number-init : goal.loop-number-init

@@ -1,4 +1,4 @@
-use Rattle.nmgc_cycle.proofs.Opened.{opening_there}
+use Rattle.nmgc_cycle.proofs.rounds.Opened.{opening_there}
 use Rattle.nmgc_cycle.proofs.round.opening_of.Goals as goal
 
 pub of-requires : goal.of-requires

@@ -1,7 +1,7 @@
 use Rattle.std.proofs.Common.{ℕ, ◌≡◌, List, length, min, get_or, subst, sym, ap, ◌∙◌, arith}
-use Rattle.nmgc_graph.specs.declared.command.Command.{Command}
+use Rattle.nmgc_world_spec.specs.declared.command.Command.{Command}
 use Rattle.nmgc_cycle.specs.Working.{left_at, HasLists}
-use Rattle.nmgc_cycle.proofs.Reserving.{slice_left, kept_more, room_more, after_more}
+use Rattle.nmgc_cycle.proofs.rounds.Reserving.{slice_left, kept_more, room_more, after_more}
 use Rattle.nmgc_cycle.proofs.round.reserve_all.Goals as goal
 
 pub loop-number-preserved : goal.loop-number-preserved

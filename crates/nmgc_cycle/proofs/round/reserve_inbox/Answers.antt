@@ -1,11 +1,11 @@
 use Rattle.std.proofs.Common.{ℕ, ◌≡◌, ◌*◌, ◌≤◌, ◌∙◌, List, length, min, get_or, refl, subst, sym, ap, arith}
-use Rattle.nmgc_graph.specs.declared.command.Command.{Command}
+use Rattle.nmgc_world_spec.specs.declared.command.Command.{Command}
 use Rattle.nmgc_updrem.specs.laws.Polls.{polled_all_none, polled_all_then}
 use Rattle.nmgc_cycle.specs.Working.{in_blocks, left_at}
 use Rattle.nmgc_mutator.specs.declared.mutator.TheConstants.{MOST_PUSHED}
-use Rattle.nmgc_cycle.proofs.InboxRoom.{inbox_more}
-use Rattle.nmgc_cycle.proofs.Lining.{all_reserved}
-use Rattle.nmgc_cycle.proofs.Reserving.{slice_left}
+use Rattle.nmgc_cycle.proofs.rounds.InboxRoom.{inbox_more}
+use Rattle.nmgc_cycle.proofs.rounds.Lining.{all_reserved}
+use Rattle.nmgc_cycle.proofs.rounds.Reserving.{slice_left}
 use Rattle.nmgc_cycle.proofs.round.reserve_inbox.Goals as goal
 
 pub loop-number-init : goal.loop-number-init

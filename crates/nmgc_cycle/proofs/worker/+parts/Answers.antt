@@ -1,5 +1,5 @@
 use Rattle.std.proofs.Common.{◌≡◌, ◌+◌, length, arith}
-use Rattle.nmgc_cycle.proofs.Parts.{ready_front, ready_back, worked_both}
+use Rattle.nmgc_cycle.proofs.rounds.Parts.{ready_front, ready_back, worked_both}
 use Rattle.nmgc_cycle.proofs.worker.+parts.Goals as goal
 
 pub work_part-both_parts-requires-clause-front : goal.work_part-both_parts-requires-clause-front

@@ -1,4 +1,4 @@
-use Rattle.nmgc_cycle.proofs.Parts.{from_first, all_first}
+use Rattle.nmgc_cycle.proofs.rounds.Parts.{from_first, all_first}
 use Rattle.nmgc_cycle.proofs.worker.work_all.Goals as goal
 
 pub work_part-requires-clause-ready : goal.work_part-requires-clause-ready

@@ -1,6 +1,6 @@
 use Rattle.std.proofs.Common.{rules, ◌≡◌, ◌+◌, ℕ, List, [], ◌∷◌, ◌++◌, length, map, refl, sym, ap, subst, ◌∙◌, arith, length-append}
 use Rattle.std.specs.Prelude.{is_ok, Bool, true, if◌then◌else◌}
-use Rattle.nmgc_graph.specs.declared.value.Name.{Name}
+use Rattle.nmgc_world_spec.specs.declared.value.Name.{Name}
 use Rattle.nmgc_fin.specs.declared.job.Job.{Job}
 use Rattle.nmgc_fin.specs.Handles.{AreNumbered}
 use Rattle.nmgc_fin.specs.Jobs.{lines_of, NamesOf, weak_of}

@@ -1,6 +1,6 @@
 use Rattle.std.proofs.Common.{map, Global, ℕ, List, subst, sym}
 use Rattle.std.specs.Prelude.{string_bytes}
-use Rattle.nmgc_io.specs.Causes.{Rose}
+use Rattle.nmgc_io.specs.Counts.{Rose}
 use Rattle.nmgc_fin.specs.Program.{Says}
 use Rattle.nmgc_fin.proofs.Telling.{completes}
 use Rattle.nmgc_fin.proofs.top.nmgc_fin.Goals as goal

@@ -1,7 +1,7 @@
 use Rattle.std.proofs.Common.{take, sym, subst}
 use Rattle.std.specs.Prelude.{All, flat_map}
 use Rattle.std.proofs.lemmas.List.Elements.{All-get_or, All-take}
-use Rattle.nmgc_graph.specs.declared.mutator_state.MutatorState.{MutatorState}
+use Rattle.nmgc_world_spec.specs.declared.mutator_state.MutatorState.{MutatorState}
 use Rattle.nmgc_graph.specs.Marks.{IsPlaced}
 use Rattle.nmgc_graph.specs.Search.{values_held}
 use Rattle.nmgc_graph.proofs.Searches.{placed_after}

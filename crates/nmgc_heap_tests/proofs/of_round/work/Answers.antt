@@ -4,7 +4,7 @@ use Rattle.nmgc_round.specs.View.{Seen, blank}
 use Rattle.nmgc_round.specs.Seat.{seen}
 use Rattle.nmgc_round.specs.Ready.{Mutates, CanLoad, CanSwap, CanStore, CanBear}
 use Rattle.nmgc_round.specs.Told.{CanFix, CanTake}
-use Rattle.nmgc_graph.specs.declared.command.Command.TheVariants.{Yield}
+use Rattle.nmgc_world_spec.specs.declared.command.Command.TheVariants.{Yield}
 use Rattle.nmgc_heap_tests.proofs.SharedSlots.{mutates, makes, shares, reads, after_header, after_name, after_field, after_birth, after_swap, after_load, header_fixed, name_unborn, field_unborn, can_bear, can_swap, can_load, can_yield, seen_header, seen_name, seen_field, seen_birth, seen_swap, seen_load, has_part, seen_last}
 use Rattle.nmgc_heap_tests.proofs.of_round.work.Goals as goal
 

@@ -5,7 +5,8 @@ use Rattle.nmgc_round.specs.Seat.{RoundSeat, IsAt, seen}
 use Rattle.nmgc_round.specs.Seating.{all_together}
 use Rattle.nmgc_round.specs.Starting.{CanOpen}
 use Rattle.nmgc_round.specs.Finishing.{HasAll}
-use Rattle.nmgc_heap_tests.proofs.SharedSlots.{are_ready, has_all, written}
+use Rattle.nmgc_round.specs.laws.Common.{are_ready}
+use Rattle.nmgc_heap_tests.proofs.SharedSlots.{has_all, written}
 use Rattle.nmgc_heap_tests.proofs.of_round.worked.Goals as goal
 
 pub start-round-requires-clause-opens : goal.start-round-requires-clause-opens

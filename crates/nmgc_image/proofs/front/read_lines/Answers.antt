@@ -1,5 +1,5 @@
 use Rattle.std.proofs.Common.{Bool, subst}
-use Rattle.nmgc_graph.specs.declared.value.Name.{Name}
+use Rattle.nmgc_world_spec.specs.declared.value.Name.{Name}
 use Rattle.nmgc_image.specs.declared.fault.LineFault.{LineFault}
 use Rattle.nmgc_image.specs.Known.{test_of}
 use Rattle.nmgc_image.specs.Reading.{Halts}

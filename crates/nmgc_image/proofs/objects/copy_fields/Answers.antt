@@ -1,6 +1,6 @@
 use Rattle.std.proofs.Common.{◌≡◌, ◌≤◌, ◌+◌, ◌∙◌, ap, arith, take, drop}
-use Rattle.nmgc_graph.specs.declared.node.Kind.{Kind}
-use Rattle.nmgc_graph.specs.declared.node.Kind.TheVariants as kind
+use Rattle.nmgc_world_spec.specs.declared.node.Kind.{Kind}
+use Rattle.nmgc_world_spec.specs.declared.node.Kind.TheVariants as kind
 use Rattle.nmgc_object.specs.Words.{HasFields}
 use Rattle.nmgc_object.specs.declared.size.TheConstants.{HEADER_WORDS}
 use Rattle.nmgc_object.specs.declared.words.Header.{Header}

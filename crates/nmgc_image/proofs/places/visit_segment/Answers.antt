@@ -3,7 +3,7 @@ use Rattle.std.specs.Prelude.{Contains}
 use Rattle.nmgc_segment.specs.Segment.{Segment, InUse, block_count}
 use Rattle.nmgc_segment.specs.declared.state.State.{State}
 use Rattle.nmgc_segment.specs.declared.state.State.TheVariants as state
-use Rattle.nmgc_alloc.specs.Search.{nth}
+use Rattle.nmgc_alloc.specs.Numbered.{nth}
 use Rattle.nmgc_alloc.specs.Segments.{IsBlockAt}
 use Rattle.nmgc_image.specs.Objects.{name_in}
 use Rattle.nmgc_image.specs.Reaching.{Visits, IsWeakBlock, IsWeakIn}

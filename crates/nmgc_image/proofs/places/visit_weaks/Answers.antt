@@ -1,6 +1,6 @@
 use Rattle.std.proofs.Common.{ℕ, ◌≡◌, ◌<◌, List, [], sym, ap, subst, arith, true}
 use Rattle.std.specs.Prelude.{Contains}
-use Rattle.nmgc_graph.specs.declared.value.Name.{Name}
+use Rattle.nmgc_world_spec.specs.declared.value.Name.{Name}
 use Rattle.nmgc_object.specs.declared.layout.Layout.{Layout}
 use Rattle.nmgc_image.specs.Objects.{name_in}
 use Rattle.nmgc_image.specs.Reading.{has_key}

@@ -1,6 +1,6 @@
 use Rattle.std.proofs.Common.{arith, subst, Bool}
-use Rattle.nmgc_core.specs.declared.event.Event.TheVariants as event
-use Rattle.nmgc_core.specs.Machine.{Passes}
+use Rattle.nmgc_snapshot_laws.specs.declared.event.Event.TheVariants as event
+use Rattle.nmgc_snapshot_laws.specs.Machine.{Passes}
 use Rattle.nmgc_judge.proofs.Drains.{scans_more, drained, drained_out}
 use Rattle.nmgc_judge.proofs.progress.drain.Goals as goal
 

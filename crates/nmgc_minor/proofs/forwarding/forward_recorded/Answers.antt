@@ -4,7 +4,7 @@ use Rattle.std.specs.List.{flat_map}
 use Rattle.std.proofs.lemmas.List.{take_all}
 use Rattle.std.proofs.lemmas.List.Elements.{Contains-get_or, Contains-append_left, Contains-append_right, Contains-append_cases}
 use Rattle.nmgc_object.specs.declared.words.Address.{Address}
-use Rattle.nmgc_reach.specs.laws.ItemLaws.{contains_flat}
+use Rattle.nmgc_lists.specs.laws.Items.{contains_flat}
 use Rattle.nmgc_minor.specs.Forwarding.{ForwardsAt, forward_word}
 use Rattle.nmgc_minor.proofs.ForwardLaws.{none_forwarded, forwards_then}
 use Rattle.nmgc_minor.proofs.Listing.{flat_more}

@@ -7,7 +7,7 @@ use Rattle.nmgc_object.specs.declared.layout.Layout.{Layout}
 use Rattle.nmgc_object.specs.declared.layout.Nursery.{Nursery}
 use Rattle.nmgc_alloc.specs.Reserve.{KeepsReserve}
 use Rattle.nmgc_minor.specs.declared.placing.Move.{Move}
-use Rattle.nmgc_blocks.specs.Nurseries.{nursery_at}
+use Rattle.nmgc_blocks_spec.specs.Nurseries.{nursery_at}
 use Rattle.nmgc_minor.specs.Placing.{AreNurseries, CanPlaceAll, PlacesRange}
 use Rattle.nmgc_minor.proofs.Listing.{nursery_is}
 use Rattle.nmgc_minor.proofs.PlacingLaws.{range_none, range_gap, range_then, still_can_place}

@@ -2,7 +2,7 @@ use Rattle.std.proofs.Common.{◌≡◌, ◌+◌, ◌*◌, ◌≤◌, ◌⊎◌,
 use Rattle.nmgc_object.specs.Places.{nursery_place}
 use Rattle.nmgc_alloc.specs.Segments.{IsSegments}
 use Rattle.nmgc_alloc.specs.Reserve.{KeepsReserve}
-use Rattle.nmgc_blocks.specs.Nurseries.{AreEmpty}
+use Rattle.nmgc_blocks_spec.specs.Nurseries.{AreEmpty}
 use Rattle.nmgc_minor.specs.declared.placing.Move.{Move}
 use Rattle.nmgc_minor.specs.Placing.{PlacesRange}
 use Rattle.nmgc_minor.proofs.nurseries.place_nurseries.Given as goal

@@ -1,5 +1,5 @@
 use Rattle.std.proofs.Common.{ℕ, ap, subst, sym, ◌∙◌, arith}
-use Rattle.nmgc_graph.specs.declared.value.Name.{Name}
+use Rattle.nmgc_world_spec.specs.declared.value.Name.{Name}
 use Rattle.nmgc_object.specs.Size.{IsClassOf}
 use Rattle.nmgc_object.specs.Words.{IsName, name_word}
 use Rattle.nmgc_object.specs.laws.Classes.{class_fits}

@@ -4,7 +4,8 @@ use Rattle.std.proofs.lemmas.List.{take_all}
 use Rattle.std.proofs.lemmas.List.Elements.{Contains-get_or}
 use Rattle.nmgc_object.specs.FinQueue.{FinQueue}
 use Rattle.nmgc_minor.specs.Young.{Notes}
-use Rattle.nmgc_minor.proofs.StartLaws.{map_in, notes_first, notes_item, notes_mapped, within_after}
+use Rattle.nmgc_lists.specs.laws.Items.{contains_map as map_in}
+use Rattle.nmgc_minor.proofs.StartLaws.{notes_first, notes_item, notes_mapped, within_after}
 use Rattle.nmgc_minor.proofs.starts.note_queues.Goals as goal
 
 pub loop-mutator-init : goal.loop-mutator-init

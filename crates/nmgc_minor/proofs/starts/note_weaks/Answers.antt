@@ -3,7 +3,7 @@ use Rattle.std.specs.Prelude.{Contains}
 use Rattle.std.proofs.lemmas.List.{take_all}
 use Rattle.std.proofs.lemmas.List.Elements.{Contains-get_or}
 use Rattle.nmgc_object.specs.declared.words.Address.{Address}
-use Rattle.nmgc_reach.specs.laws.ItemLaws.{contains_flat}
+use Rattle.nmgc_lists.specs.laws.Items.{contains_flat}
 use Rattle.nmgc_minor.specs.Start.{IsWeakStart}
 use Rattle.nmgc_minor.specs.Young.{Notes}
 use Rattle.nmgc_minor.proofs.StartLaws.{notes_first, notes_item, notes_flat, within_after}

@@ -1,5 +1,5 @@
 use Rattle.std.proofs.Common.{◌≡◌, ◌∙◌, List, sym, subst}
-use Rattle.nmgc_graph.specs.declared.command.Command.{Command}
+use Rattle.nmgc_world_spec.specs.declared.command.Command.{Command}
 use Rattle.nmgc_script.specs.Limits.{FitsScript, HasFewCommands}
 use Rattle.nmgc_script.specs.Bench.{bench_config, bench_script}
 use Rattle.nmgc_script.proofs.BenchLaws.{bench_fits, bench_is_short, same_four}

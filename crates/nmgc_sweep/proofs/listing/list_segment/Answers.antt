@@ -1,9 +1,8 @@
 use Rattle.std.proofs.Common.{ℕ, ◌≡◌, ◌+◌, ◌*◌, ◌<◌, ◌∙◌, [], ◌∷◌, ◌++◌, length, slice_get, Option, Some, true, false, ap, refl, subst, sym, arith, Vec, Global}
 use Rattle.std.specs.Prelude.{vec_len, vec_capacity}
-use Rattle.nmgc_graph.specs.declared.value.Name.{Name}
+use Rattle.nmgc_world_spec.specs.declared.value.Name.{Name}
 use Rattle.nmgc_segment.specs.Segment.{Segment, InUse, IsMarked, block_count}
-use Rattle.nmgc_alloc.specs.Search.{nth}
-use Rattle.nmgc_alloc.specs.Segments.{block_place}
+use Rattle.nmgc_alloc.specs.Numbered.{nth, block_place}
 use Rattle.nmgc_sweep.specs.Listing.{ListsBlocks, IsLost}
 use Rattle.nmgc_sweep.specs.Names.{entry_of, named_at}
 use Rattle.nmgc_sweep.proofs.Listed.{none_listed, one_passed_over, one_listed, placed_at, place_named}

@@ -1,7 +1,7 @@
 use Rattle.std.proofs.Common.{◌≡◌, ◌+◌, ◌≤◌}
 use Rattle.std.specs.Prelude.{vec_len, vec_capacity}
 use Rattle.nmgc_segment.specs.Segment.{InUse}
-use Rattle.nmgc_alloc.specs.Search.{nth}
+use Rattle.nmgc_alloc.specs.Numbered.{nth}
 use Rattle.nmgc_sweep.specs.Listing.{ListsBlocks, IsLost}
 use Rattle.nmgc_sweep.specs.Names.{named_at}
 use Rattle.nmgc_sweep.proofs.listing.list_segment.Given as goal

@@ -1,6 +1,6 @@
 use Rattle.std.proofs.Common.{rules, ℕ, ◌∙◌, ◌+◌, ◌<◌, List, [], ◌∷◌, ◌++◌, ◌≡◌, ap, subst, sym, Vec, Global}
 use Rattle.nmgc_alloc.specs.Segments.{IsWaiting}
-use Rattle.nmgc_run.specs.Listing.{ListsNumbers}
+use Rattle.nmgc_world_spec.specs.Listing.{ListsNumbers}
 use Rattle.nmgc_sweep.proofs.Listed.{below_more, below_skip}
 use Rattle.nmgc_sweep.proofs.sweeper.waiting.Goals.{then-eq+in_ok-push, else-eq}
 use Rattle.nmgc_sweep.proofs.sweeper.waiting.Goals as goal

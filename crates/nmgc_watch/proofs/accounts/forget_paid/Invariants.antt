@@ -1,6 +1,6 @@
 use Rattle.std.proofs.Common.{◌≡◌, ℕ, length}
 use Rattle.std.specs.Prelude.{Contains}
-use Rattle.nmgc_lax.specs.declared.debt.Debt.{Debt}
+use Rattle.nmgc_barrier_laws.specs.declared.debt.Debt.{Debt}
 use Rattle.nmgc_watch.specs.Accounts.{unpaid}
 use Rattle.nmgc_watch.proofs.accounts.forget_paid.Given as goal
 

@@ -1,5 +1,5 @@
 use Rattle.std.proofs.Common.{◌++◌, List, take}
-use Rattle.nmgc_lax.specs.declared.debt.Debt.{Debt}
+use Rattle.nmgc_barrier_laws.specs.declared.debt.Debt.{Debt}
 use Rattle.nmgc_watch.specs.Accounts.{IsLeastIn, unpaid}
 use Rattle.nmgc_watch.proofs.accounts.least_of.Given as goal
 

@@ -1,7 +1,7 @@
 use Rattle.std.proofs.Common.{sym, subst}
 use Rattle.std.specs.Prelude.{All}
-use Rattle.nmgc_graph.specs.World.{World}
-use Rattle.nmgc_graph.specs.Reach.{IsAliveWeak}
+use Rattle.nmgc_world_spec.specs.World.{World}
+use Rattle.nmgc_world_spec.specs.Reach.{IsAliveWeak}
 use Rattle.nmgc_watch.proofs.closing.closed.Goals as goal
 
 pub close-requires-clause-alive : goal.close-requires-clause-alive

@@ -1,5 +1,5 @@
 use Rattle.std.proofs.Common.{◌≡◌, length, map, take}
-use Rattle.nmgc_graph.specs.declared.mutator_state.MutatorState.{MutatorState}
+use Rattle.nmgc_world_spec.specs.declared.mutator_state.MutatorState.{MutatorState}
 use Rattle.nmgc_watch.proofs.closing.serials.Given as goal
 
 abbrev pub invariant-loop-mutator : goal.invariant-loop-mutator

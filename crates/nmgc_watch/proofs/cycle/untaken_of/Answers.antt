@@ -1,5 +1,5 @@
 use Rattle.std.proofs.Common.{◌≡◌, ◌∙◌, sym, false}
-use Rattle.nmgc_graph.specs.declared.value.Name.{Name}
+use Rattle.nmgc_world_spec.specs.declared.value.Name.{Name}
 use Rattle.nmgc_watch.specs.Cycles.{is_untaken}
 use Rattle.nmgc_watch.proofs.Filters.{each_more, each_all}
 use Rattle.nmgc_watch.proofs.cycle.untaken_of.Goals as goal

@@ -1,6 +1,6 @@
 use Rattle.std.proofs.Common.{◌≡◌, take, false}
 use Rattle.std.specs.Prelude.{Contains}
-use Rattle.nmgc_graph.specs.declared.value.Name.{Name}
+use Rattle.nmgc_world_spec.specs.declared.value.Name.{Name}
 use Rattle.nmgc_watch.specs.Cycles.{is_untaken}
 use Rattle.nmgc_watch.proofs.cycle.untaken_of.Given as goal
 

@@ -1,7 +1,7 @@
 use Rattle.std.proofs.Common.{◌<◌, ◌+◌, ◌-◌, ◌/◌, ◌∙◌, ℕ, sym, length, get_or, arith}
 use Rattle.std.proofs.lemmas.Bool.{false≢true}
 use Rattle.std.proofs.lemmas.List.{get_or_default}
-use Rattle.nmgc_graph.specs.declared.value.Name.{Name}
+use Rattle.nmgc_world_spec.specs.declared.value.Name.{Name}
 use Rattle.nmgc_watch.specs.Ordered.{StandsAt}
 use Rattle.nmgc_watch.proofs.OrderedLaws.{after_middle, up_to_middle}
 use Rattle.nmgc_watch.proofs.ordered.place_of.Goals as goal

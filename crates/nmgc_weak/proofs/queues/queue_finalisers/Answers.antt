@@ -2,7 +2,7 @@ use Rattle.std.proofs.Common.{◌≡◌, ◌+◌, ◌<◌, ◌++◌, ◌∷◌, 
 use Rattle.std.specs.Prelude.{slice_get, Some}
 use Rattle.std.proofs.lemmas.List.{length-map}
 use Rattle.nmgc_object.specs.FinQueue.{FinQueue}
-use Rattle.nmgc_reach.specs.laws.ItemLaws.{contains_at}
+use Rattle.nmgc_lists.specs.laws.Items.{contains_at}
 use Rattle.nmgc_weak.specs.declared.weaks.Death.{Death}
 use Rattle.nmgc_weak.specs.Queues.{HaveJoined}
 use Rattle.nmgc_weak.proofs.Joining.{none_joined, joined_count, nil_stays, one_joined, queue_at, has_room, get_default}

@@ -9,14 +9,11 @@ use Rattle.nmgc_weak.proofs.Counting.{marked_sum}
 use Rattle.nmgc_weak.proofs.Keeping.{third, three, kept}
 use Rattle.nmgc_weak.proofs.Stages.{with_marks, stage_ready}
 use Rattle.nmgc_weak.proofs.resolve.keep.Goals as goal
+use Rattle.nmgc_weak.specs.laws.Common.{finaliser_is}
 
 -- the words that were loaded
 value_is : (words : List ℕ) (at w : ℕ) → w ≡ slice_index words (at + 3) → w ≡ slice_index words (value_place at)
 value_is words at w e = e ∙ ap (λ i. slice_index words i) (let z : at + 3 ≡ value_place at = omega arith in z)
-
-finaliser_is : (words now : List ℕ) (at w : ℕ) → now ≡ words → w ≡ slice_index now (at + 4) → w ≡ slice_index words (finaliser_place at)
-finaliser_is words now at w same e = e ∙ ap (λ (l : List ℕ). slice_index l (at + 4)) same ∙
-    ap (λ i. slice_index words i) (let z : at + 4 ≡ finaliser_place at = omega arith in z)
 
 pub mark_word-requires-clause-small : goal.mark_word-requires-clause-small
 mark_word-requires-clause-small g c = λ to e.

@@ -1,6 +1,6 @@
 use Rattle.std.proofs.Common.{ℕ, List, sym, subst, inl, inr}
 use Rattle.nmgc_weak.specs.Steps.{CanKeep, HasKept}
-use Rattle.nmgc_weak.proofs.Counting.{marked_none}
+use Rattle.nmgc_mark.specs.laws.Common.{marked_none}
 use Rattle.nmgc_weak.proofs.Passing.{can_keep, one_kept, none_kept}
 use Rattle.nmgc_weak.proofs.resolve.keep_if_key_marked.Goals as goal
 

@@ -1,10 +1,11 @@
 use Rattle.std.proofs.Common.{ℕ, List, [], ◌∷◌, take, get_or, refl, sym, subst, ◌∙◌}
-use Rattle.nmgc_graph.specs.declared.value.Name.{Name}
+use Rattle.nmgc_world_spec.specs.declared.value.Name.{Name}
 use Rattle.nmgc_weak.specs.declared.weaks.OldWeak.{OldWeak}
 use Rattle.nmgc_weak.specs.Resolve.{CanResolve}
 use Rattle.nmgc_weak.specs.Steps.{HasPassed}
 use Rattle.nmgc_weak.specs.Weaks.{IsWithin, places_of, names_of}
-use Rattle.nmgc_weak.proofs.Counting.{marked_none, marked_sum}
+use Rattle.nmgc_mark.specs.laws.Common.{marked_none}
+use Rattle.nmgc_weak.proofs.Counting.{marked_sum}
 use Rattle.nmgc_weak.proofs.Finding.{at_contains}
 use Rattle.nmgc_weak.proofs.Passing.{pass_none, pass_more, names_more}
 use Rattle.nmgc_weak.proofs.Saving.{has_place}

@@ -2,7 +2,8 @@ use Rattle.std.proofs.Common.{ℕ, List, refl, sym, subst, ◌∙◌}
 use Rattle.nmgc_weak.specs.Resolve.{CanResolve}
 use Rattle.nmgc_weak.specs.Steps.{HasPassed}
 use Rattle.nmgc_weak.specs.Weaks.{IsWithin, places_of, names_of}
-use Rattle.nmgc_weak.proofs.Counting.{marked_none, marked_sum}
+use Rattle.nmgc_mark.specs.laws.Common.{marked_none}
+use Rattle.nmgc_weak.proofs.Counting.{marked_sum}
 use Rattle.nmgc_weak.proofs.Passing.{stays, then_goes, saturated, revived_then}
 use Rattle.nmgc_weak.proofs.resolve.revive.Goals as goal
 

@@ -5,12 +5,14 @@ use Rattle.nmgc_weak.specs.declared.weaks.OldWeak.{OldWeak}
 use Rattle.nmgc_weak.specs.declared.weaks.Death.{Death}
 use Rattle.nmgc_weak.specs.Weaks.{finaliser_place, deaths_of}
 use Rattle.nmgc_weak.proofs.Clearing.{deaths_more}
-use Rattle.nmgc_weak.proofs.Counting.{marked_none, marked_sum}
+use Rattle.nmgc_mark.specs.laws.Common.{marked_none}
+use Rattle.nmgc_weak.proofs.Counting.{marked_sum}
 use Rattle.nmgc_weak.proofs.Finding.{at_contains}
 use Rattle.nmgc_weak.proofs.Joining.{get_default}
 use Rattle.nmgc_weak.proofs.Saving.{IsSaving, saving_begins, saving_more, saving_done}
 use Rattle.nmgc_weak.proofs.Stages.{remade, stage_ready}
 use Rattle.nmgc_weak.proofs.resolve.save_finalisers.Goals as goal
+use Rattle.nmgc_weak.specs.laws.Common.{finaliser_is as word_is}
 
 abbrev nobody : OldWeak
 nobody = record { weak = record { maker = 0; serial = 0 }; at = record { 0 = 0 } }
@@ -35,11 +37,6 @@ load-finaliser-requires g c =
     let inside = (c.requires.within x (at_contains c.args.dying.now c.loop-weak.weak-index nobody c.loop-weak-test.true)).inside in
     let l = ap length c.loop-weak.invariant.words in
     omega (arith, inside, l)
-
--- the word that was loaded
-word_is : (words now : List ℕ) (at w : ℕ) → now ≡ words → w ≡ slice_index now (at + 4) → w ≡ slice_index words (finaliser_place at)
-word_is words now at w same e = e ∙ ap (λ (l : List ℕ). slice_index l (at + 4)) same ∙
-    ap (λ i. slice_index words i) (let z : at + 4 ≡ finaliser_place at = omega arith in z)
 
 pub mark_word-requires-clause-room : goal.mark_word-requires-clause-room
 mark_word-requires-clause-room g c = c.loop-weak.invariant.marked.1.room

@@ -1,5 +1,5 @@
 use Rattle.std.proofs.Common.{ℕ, List, ◌≡◌, take, vec_capacity}
-use Rattle.nmgc_heap.specs.Places.{Place}
+use Rattle.nmgc_heap_spec.specs.Places.{Place}
 use Rattle.nmgc_round.specs.View.{Opening}
 use Rattle.nmgc_mark.specs.Marker.{HasMarked}
 use Rattle.nmgc_weak.specs.Steps.{CanRescue}

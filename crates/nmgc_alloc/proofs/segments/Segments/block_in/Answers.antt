@@ -1,6 +1,7 @@
 use Rattle.std.proofs.Common.{ℕ, ◌+◌, refl, subst}
 use Rattle.nmgc_object.specs.Places.{segment_place}
-use Rattle.nmgc_alloc.specs.Segments.{Segments, IsSegments, IsBlockAt}
+use Rattle.nmgc_alloc.specs.Numbered.{Segments}
+use Rattle.nmgc_alloc.specs.Segments.{IsSegments, IsBlockAt}
 use Rattle.nmgc_alloc.proofs.MarkLaws.{inside_segment, same_segment, begins_there, none_begins}
 use Rattle.nmgc_alloc.proofs.segments.Segments.block_in.Goals as goal
 

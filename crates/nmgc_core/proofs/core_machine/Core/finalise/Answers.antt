@@ -1,5 +1,5 @@
 use Rattle.std.proofs.Common.{◌∙◌, ◌≡◌, length, ap}
-use Rattle.nmgc_core.specs.State.{State}
+use Rattle.nmgc_snapshot_laws.specs.State.{State}
 use Rattle.nmgc_core.proofs.CoreLaws.{core_ended, core_back, front_taken}
 use Rattle.nmgc_core.proofs.core_machine.Core.finalise.Goals as goal
 

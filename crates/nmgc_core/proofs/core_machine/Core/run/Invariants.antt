@@ -1,5 +1,5 @@
 use Rattle.std.proofs.Common.{take}
-use Rattle.nmgc_graph.specs.World.{IsWorld}
+use Rattle.nmgc_world_spec.specs.World.{IsWorld}
 use Rattle.nmgc_core.proofs.Running.{IsRunning}
 use Rattle.nmgc_core.proofs.core_machine.Core.run.Given as goal
 

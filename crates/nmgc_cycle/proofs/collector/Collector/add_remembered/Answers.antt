@@ -2,7 +2,7 @@ use Rattle.std.proofs.Common.{◌≡◌, ℕ, List, length, refl, sym, subst, Gl
 use Rattle.std.specs.Prelude.{slice_get}
 use Rattle.std.specs.Vec.{with_items}
 use Rattle.std.specs.declared.vec.Vec.{Vec}
-use Rattle.nmgc_alloc.specs.Segments.{Segments}
+use Rattle.nmgc_alloc.specs.Numbered.{Segments}
 use Rattle.nmgc_mutator.specs.declared.mutator.Mutator.{Mutator}
 use Rattle.nmgc_updrem.specs.Rings.{Receiver}
 use Rattle.nmgc_cycle.specs.declared.progress.Marking.{Marking}
@@ -10,8 +10,8 @@ use Rattle.nmgc_cycle.specs.declared.progress.Progress.{Progress}
 use Rattle.nmgc_cycle.specs.declared.progress.Progress.TheVariants as doing
 use Rattle.nmgc_cycle.specs.Cycles.{AddsTo, HasAdded, remembered_by}
 use Rattle.nmgc_cycle.specs.Lined.{IsLined, HaveForgotten, HaveForgottenSoFar}
-use Rattle.nmgc_cycle.proofs.Forgetting.{all_forgot}
-use Rattle.nmgc_cycle.proofs.MutatorLists.{vec_back}
+use Rattle.nmgc_cycle.proofs.stops.Forgetting.{all_forgot}
+use Rattle.nmgc_cycle.proofs.lists.MutatorLists.{vec_back}
 use Rattle.nmgc_cycle.proofs.collector.Collector.add_remembered.Goals as goal
 
 -- the list that was lent, and what it has then

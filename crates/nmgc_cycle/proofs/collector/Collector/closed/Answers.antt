@@ -1,10 +1,10 @@
 use Rattle.std.proofs.Common.{ℕ, ◌≡◌, List, length, map, sym, ap, subst, ◌∙◌}
-use Rattle.nmgc_alloc.specs.Segments.{Segments}
+use Rattle.nmgc_alloc.specs.Numbered.{Segments}
 use Rattle.nmgc_alloc.specs.CycleSteps.{carried_over}
-use Rattle.nmgc_beside.specs.Resolves.{finished_on}
+use Rattle.nmgc_collector_laws.specs.Resolves.{finished_on}
 use Rattle.nmgc_mark.specs.Stopped.{IsReady}
 use Rattle.nmgc_mutator.specs.declared.mutator.Mutator.{Mutator}
-use Rattle.nmgc_run.specs.Seen.{MarkerSeen}
+use Rattle.nmgc_mark.specs.Seen.{MarkerSeen}
 use Rattle.nmgc_sweep.specs.Sweeper.{Sweeper, turned}
 use Rattle.nmgc_weak.specs.declared.weaks.Death.{Death}
 use Rattle.nmgc_weak.specs.Queues.{HaveRoom}
@@ -15,7 +15,7 @@ use Rattle.nmgc_cycle.specs.declared.progress.Sweeping.{Sweeping}
 use Rattle.nmgc_cycle.specs.Listed.{FinalisersQueued}
 use Rattle.nmgc_cycle.specs.Roots.{queues_in}
 use Rattle.nmgc_cycle.specs.Shown.{words_in}
-use Rattle.nmgc_cycle.proofs.MutatorLists.{vec_back}
+use Rattle.nmgc_cycle.proofs.lists.MutatorLists.{vec_back}
 use Rattle.nmgc_cycle.proofs.collector.Collector.closed.Goals as goal
 
 -- what a closed cycle has, by what it keeps and its sweeper

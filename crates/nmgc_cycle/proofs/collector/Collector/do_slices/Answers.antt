@@ -5,12 +5,12 @@ use Rattle.nmgc_object.specs.declared.layout.Layout.{Layout}
 use Rattle.nmgc_cycle.specs.declared.collector.Collector.{Collector}
 use Rattle.nmgc_cycle.specs.declared.worker.Worker.{Worker}
 use Rattle.nmgc_cycle.specs.Working.{DidSlices, mutator_of, seat_of, done_by}
-use Rattle.nmgc_cycle.proofs.Helping.{can_help}
-use Rattle.nmgc_cycle.proofs.MutatorLists.{vec_back}
-use Rattle.nmgc_cycle.proofs.Opened.{CanOpenRounds}
-use Rattle.nmgc_cycle.proofs.Played.{CanMove, HaveMoved, are_seated, counted, can_play, played, left_in, scanned, has_all, seats_at, did_slices}
-use Rattle.nmgc_cycle.proofs.Ran.{HasBegun, may_begin, can_open, seats_are}
-use Rattle.nmgc_cycle.proofs.Sliced.{positions_counted, positions_fit}
+use Rattle.nmgc_cycle.proofs.rounds.Helping.{can_help}
+use Rattle.nmgc_cycle.proofs.lists.MutatorLists.{vec_back}
+use Rattle.nmgc_cycle.proofs.rounds.Opened.{CanOpenRounds}
+use Rattle.nmgc_cycle.proofs.rounds.Played.{CanMove, HaveMoved, are_seated, counted, can_play, played, left_in, scanned, has_all, seats_at, did_slices}
+use Rattle.nmgc_cycle.proofs.rounds.Ran.{HasBegun, may_begin, can_open, seats_are}
+use Rattle.nmgc_cycle.proofs.rounds.Sliced.{positions_counted, positions_fit}
 use Rattle.nmgc_cycle.proofs.collector.Collector.do_slices.Goals as goal
 
 pub start-round-requires-clause-opens : goal.start-round-requires-clause-opens

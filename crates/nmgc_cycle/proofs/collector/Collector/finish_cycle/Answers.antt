@@ -1,4 +1,4 @@
-use Rattle.nmgc_cycle.proofs.FullCycle.{closed_at}
+use Rattle.nmgc_cycle.proofs.cycles.FullCycle.{closed_at}
 use Rattle.nmgc_cycle.proofs.collector.Collector.finish_cycle.Goals as goal
 
 pub close_now-requires-clause-words : goal.close_now-requires-clause-words

@@ -1,11 +1,11 @@
 use Rattle.std.proofs.Common.{◌≡◌, ◌∙◌, List, length, map, ap, sym, subst}
 use Rattle.std.proofs.lemmas.List.{length-map}
 use Rattle.std.specs.List.{refill}
-use Rattle.nmgc_graph.specs.laws.Worlds.{refill_whole}
+use Rattle.nmgc_world_laws.specs.laws.Worlds.{refill_whole}
 use Rattle.nmgc_journal.specs.declared.report.CycleRow.{CycleRow}
-use Rattle.nmgc_run.specs.Lawful.{IsLawful}
+use Rattle.nmgc_run_spec.specs.Lawful.{IsLawful}
 use Rattle.nmgc_cycle.specs.Shown.{told_row}
-use Rattle.nmgc_cycle.proofs.Told.{kept_of, told, same_parts, words_had}
+use Rattle.nmgc_cycle.proofs.stops.Told.{kept_of, told, same_parts, words_had}
 use Rattle.nmgc_cycle.proofs.collector.Collector.into_report.Goals as goal
 
 pub unwrap-requires : goal.unwrap-requires

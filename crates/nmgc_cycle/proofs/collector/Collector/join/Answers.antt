@@ -1,12 +1,12 @@
 use Rattle.std.proofs.Common.{◌≡◌, ◌≤◌, ℕ, List, length, sym, ap, subst, ◌∙◌, arith}
 use Rattle.std.specs.Prelude.{Contains}
-use Rattle.nmgc_graph.specs.Reach.{IsInOrder}
+use Rattle.nmgc_world_spec.specs.Reach.{IsInOrder}
 use Rattle.nmgc_minor.specs.declared.placing.Move.{Move}
 use Rattle.nmgc_weak.specs.declared.weaks.OldWeak.{OldWeak}
 use Rattle.nmgc_weak.specs.Weaks.{names_of}
 use Rattle.nmgc_cycle.specs.Listed.{AreMovedInside, CanJoin, moved_weaks}
 use Rattle.nmgc_cycle.specs.Shown.{words_in}
-use Rattle.nmgc_cycle.proofs.ListOver.{moved_few, moved_new, moved_ordered}
+use Rattle.nmgc_cycle.proofs.stops.ListOver.{moved_few, moved_new, moved_ordered}
 use Rattle.nmgc_cycle.proofs.collector.Collector.join.Goals as goal
 
 pub gather_moved-requires : goal.gather_moved-requires

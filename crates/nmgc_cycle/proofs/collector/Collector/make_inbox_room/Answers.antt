@@ -1,8 +1,8 @@
 use Rattle.std.proofs.Common.{◌≡◌, ◌∙◌, ap, sym, subst, length, arith, true, List, ℕ, OnOk}
 use Rattle.nmgc_cycle.specs.Shown.{is_marking_in}
 use Rattle.nmgc_cycle.specs.Working.{HasInboxRoom}
-use Rattle.nmgc_cycle.proofs.Plans.{is_runnable}
-use Rattle.nmgc_cycle.proofs.RoundWorked.{on_ok}
+use Rattle.nmgc_cycle.proofs.lists.Plans.{is_runnable}
+use Rattle.nmgc_cycle.proofs.rounds.RoundWorked.{on_ok}
 use Rattle.nmgc_cycle.proofs.collector.Collector.make_inbox_room.Goals as goal
 
 pub reserve_inbox-requires-clause-threads : goal.reserve_inbox-requires-clause-threads

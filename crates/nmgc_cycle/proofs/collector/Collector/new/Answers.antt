@@ -1,5 +1,5 @@
 use Rattle.std.proofs.Common.{arith, refl}
-use Rattle.nmgc_cycle.proofs.Fresh.{is_fresh}
+use Rattle.nmgc_cycle.proofs.starts.Fresh.{is_fresh}
 use Rattle.nmgc_cycle.proofs.collector.Collector.new.Goals as goal
 
 pub returns-clause-fresh : goal.returns-clause-fresh

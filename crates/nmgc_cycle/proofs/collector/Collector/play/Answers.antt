@@ -9,13 +9,13 @@ use Rattle.nmgc_cycle.specs.Cycles.{worked_on, upper_worked_on}
 use Rattle.nmgc_cycle.specs.Keeps.{DidRound}
 use Rattle.nmgc_cycle.specs.Shown.{is_marking_in, turns_of, upper_turns_of}
 use Rattle.nmgc_cycle.specs.Working.{HaveSliceRoom, HasInboxRoom, cleared, replies_of}
-use Rattle.nmgc_cycle.proofs.MutatorLists.{vec_back}
-use Rattle.nmgc_cycle.proofs.Reserved.{reserved_stopped, still_before}
-use Rattle.nmgc_cycle.proofs.Counted.{round_counts, round_counts_upper}
-use Rattle.nmgc_cycle.proofs.GoneOn.{HasLaws}
-use Rattle.nmgc_cycle.proofs.InboxOn.{inbox_before, inbox_stopped}
-use Rattle.nmgc_cycle.proofs.RoundWorked.{on_ok, worked_after}
-use Rattle.nmgc_cycle.proofs.Tried.{played_tried}
+use Rattle.nmgc_cycle.proofs.lists.MutatorLists.{vec_back}
+use Rattle.nmgc_cycle.proofs.rounds.Reserved.{reserved_stopped, still_before}
+use Rattle.nmgc_cycle.proofs.stops.Counted.{round_counts, round_counts_upper}
+use Rattle.nmgc_cycle.proofs.rounds.GoneOn.{HasLaws}
+use Rattle.nmgc_cycle.proofs.rounds.InboxOn.{inbox_before, inbox_stopped}
+use Rattle.nmgc_cycle.proofs.rounds.RoundWorked.{on_ok, worked_after}
+use Rattle.nmgc_cycle.proofs.stops.Tried.{played_tried}
 use Rattle.nmgc_cycle.proofs.collector.Collector.play.Goals as goal
 
 pub opening_of-opening-requires : goal.opening_of-opening-requires

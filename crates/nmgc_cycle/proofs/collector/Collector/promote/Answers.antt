@@ -2,7 +2,7 @@ use Rattle.std.proofs.Common.{sym, subst}
 use Rattle.nmgc_minor.specs.Promotion.{IsFor}
 use Rattle.nmgc_sweep.specs.Names.{HaveEntries}
 use Rattle.nmgc_cycle.specs.declared.collector.Collector.{Collector}
-use Rattle.nmgc_cycle.proofs.ListOver.{can_join, lists_inside, listed, promoted, stopped_then}
+use Rattle.nmgc_cycle.proofs.stops.ListOver.{can_join, lists_inside, listed, promoted, stopped_then}
 use Rattle.nmgc_cycle.proofs.collector.Collector.promote.Goals as goal
 
 pub leave-requires-clause-inside : goal.leave-requires-clause-inside

@@ -7,18 +7,18 @@ use Rattle.nmgc_journal.specs.declared.report.StopRow.{StopRow}
 use Rattle.nmgc_cycle.specs.declared.stop.StopEnd.{StopEnd}
 use Rattle.nmgc_cycle.specs.declared.stop.StopEnd.TheVariants as answer
 use Rattle.nmgc_cycle.specs.Shown.{seen}
-use Rattle.nmgc_cycle.proofs.AddingLeads.{can_add}
-use Rattle.nmgc_cycle.proofs.AfterPromotion as after
-use Rattle.nmgc_cycle.proofs.Begins.{begins}
-use Rattle.nmgc_cycle.proofs.Counted.{stop_counts, stop_counts_upper}
-use Rattle.nmgc_cycle.proofs.Few.{stop_fits}
-use Rattle.nmgc_cycle.proofs.InboxOn.{lines_of}
-use Rattle.nmgc_cycle.proofs.MarksOn.{marks_on}
-use Rattle.nmgc_cycle.proofs.NewStops.{stopped_in}
-use Rattle.nmgc_cycle.proofs.Plans.{is_runnable}
-use Rattle.nmgc_cycle.proofs.StopEnds.{IsStepped, IsRead, Why, row, some_left_then, rounds_are, stops_are, has_answered, stops_after, done_where, full_where}
-use Rattle.nmgc_cycle.proofs.StopSteps as steps
-use Rattle.nmgc_cycle.proofs.Tried.{stop_turns}
+use Rattle.nmgc_cycle.proofs.stops.AddingLeads.{can_add}
+use Rattle.nmgc_cycle.proofs.stops.AfterPromotion as after
+use Rattle.nmgc_cycle.proofs.stops.Begins.{begins}
+use Rattle.nmgc_cycle.proofs.stops.Counted.{stop_counts, stop_counts_upper}
+use Rattle.nmgc_cycle.proofs.lengths.Few.{stop_fits}
+use Rattle.nmgc_cycle.proofs.rounds.InboxOn.{lines_of}
+use Rattle.nmgc_cycle.proofs.stops.MarksOn.{marks_on}
+use Rattle.nmgc_cycle.proofs.starts.NewStops.{stopped_in}
+use Rattle.nmgc_cycle.proofs.lists.Plans.{is_runnable}
+use Rattle.nmgc_cycle.proofs.stops.StopEnds.{IsStepped, IsRead, Why, row, some_left_then, rounds_are, stops_are, has_answered, stops_after, done_where, full_where}
+use Rattle.nmgc_cycle.proofs.stops.StopSteps as steps
+use Rattle.nmgc_cycle.proofs.stops.Tried.{stop_turns}
 use Rattle.nmgc_cycle.proofs.collector.Collector.stop.Given.{Over}
 use Rattle.nmgc_cycle.proofs.collector.Collector.stop.Goals as goal
 use Rattle.nmgc_cycle.proofs.collector.Collector.stop.Goals.{then-left+then-free-reserve, else-left+then-not-left+then-eq, else-left-via-then-left+else-free-reserve, else-left-via-else-left, else-left+else-not-left, else-not-left-via-then-not-left+else-eq, else-not-left-via-else-not-left}

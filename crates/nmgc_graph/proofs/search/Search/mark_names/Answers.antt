@@ -1,7 +1,7 @@
 use Rattle.std.proofs.Common.{take, map}
 use Rattle.std.proofs.lemmas.List.Elements.{All-get_or, All-take}
-use Rattle.nmgc_graph.specs.declared.value.Name.{Name}
-use Rattle.nmgc_graph.specs.declared.value.Value.TheVariants.{Ref}
+use Rattle.nmgc_world_spec.specs.declared.value.Name.{Name}
+use Rattle.nmgc_world_spec.specs.declared.value.Value.TheVariants.{Ref}
 use Rattle.nmgc_graph.specs.Marks.{HasPlace}
 use Rattle.nmgc_graph.proofs.Searches.{values_mark, still_placed, refs_placed}
 use Rattle.nmgc_graph.proofs.search.Search.mark_names.Goals as goal

@@ -1,4 +1,4 @@
-use Rattle.nmgc_graph.specs.laws.Growth.{answer_grows}
+use Rattle.nmgc_world_laws.specs.laws.Growth.{answer_grows}
 use Rattle.nmgc_graph.proofs.world.World.apply.Goals as goal
 
 pub returns-clause-grows : goal.returns-clause-grows

@@ -1,7 +1,7 @@
 use Rattle.std.proofs.Common.{take, sym}
 use Rattle.std.proofs.lemmas.List.{take_more}
-use Rattle.nmgc_graph.specs.declared.value.Name.{Name}
-use Rattle.nmgc_graph.specs.World.{IsWorld}
+use Rattle.nmgc_world_spec.specs.declared.value.Name.{Name}
+use Rattle.nmgc_world_spec.specs.World.{IsWorld}
 use Rattle.nmgc_graph.proofs.Closings.{closed_push, next_alive}
 use Rattle.nmgc_graph.proofs.world.World.close_all.Goals as goal
 

@@ -1,5 +1,5 @@
 use Rattle.std.proofs.Common.{arith}
-use Rattle.nmgc_graph.specs.World.{IsWorld}
+use Rattle.nmgc_world_spec.specs.World.{IsWorld}
 use Rattle.nmgc_graph.proofs.Follows.{follow_none, fields_follow, fields_count}
 use Rattle.nmgc_graph.proofs.world.World.follow.Goals as goal
 

@@ -1,8 +1,8 @@
 use Rattle.std.proofs.Common.{sym, ◌∙◌}
-use Rattle.nmgc_graph.specs.World.{IsWorld}
-use Rattle.nmgc_graph.specs.Reach.{IsAliveWeak}
-use Rattle.nmgc_graph.specs.declared.value.Name.{Name}
-use Rattle.nmgc_graph.specs.laws.Orders.{lists_more, lists_same}
+use Rattle.nmgc_world_spec.specs.World.{IsWorld}
+use Rattle.nmgc_world_spec.specs.Reach.{IsAliveWeak}
+use Rattle.nmgc_world_spec.specs.declared.value.Name.{Name}
+use Rattle.nmgc_world_spec.specs.laws.Orders.{lists_more, lists_same}
 use Rattle.nmgc_graph.proofs.Kepts.{weak_some, weak_none, weaks_listed}
 use Rattle.nmgc_graph.proofs.world.World.list_weaks.Goals as goal
 use Rattle.nmgc_graph.proofs.world.World.list_weaks.Goals.{then-is_some+in_ok-push, else-is_some}

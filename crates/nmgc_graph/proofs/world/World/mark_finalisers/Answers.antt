@@ -1,5 +1,5 @@
 use Rattle.std.proofs.Common.{take}
-use Rattle.nmgc_graph.specs.World.{World}
+use Rattle.nmgc_world_spec.specs.World.{World}
 use Rattle.nmgc_graph.proofs.Kepts.{finaliser_placed}
 use Rattle.nmgc_graph.proofs.world.World.mark_finalisers.Goals as goal
 

@@ -1,4 +1,4 @@
-use Rattle.nmgc_graph.specs.World.{World}
+use Rattle.nmgc_world_spec.specs.World.{World}
 use Rattle.nmgc_graph.proofs.Lives.{extra_placed}
 use Rattle.nmgc_graph.proofs.world.World.mark_starts.Goals as goal
 

@@ -1,5 +1,5 @@
 use Rattle.std.proofs.Common.{take}
-use Rattle.nmgc_graph.specs.World.{World}
+use Rattle.nmgc_world_spec.specs.World.{World}
 use Rattle.nmgc_graph.specs.Search.{with_weaks}
 use Rattle.nmgc_graph.proofs.Follows.{places_stay}
 use Rattle.nmgc_graph.proofs.Weaks.{weaks_mark}

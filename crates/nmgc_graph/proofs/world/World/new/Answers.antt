@@ -1,4 +1,4 @@
-use Rattle.nmgc_graph.specs.laws.NewWorlds.{new_is_world}
+use Rattle.nmgc_world_laws.specs.laws.NewWorlds.{new_is_world}
 use Rattle.nmgc_graph.proofs.world.World.new.Goals as goal
 
 pub invariant_of-result : goal.invariant_of-result

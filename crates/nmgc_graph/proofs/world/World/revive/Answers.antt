@@ -1,5 +1,5 @@
 use Rattle.std.proofs.Common.{arith, ◌≡◌, ◌+◌, ◌-◌}
-use Rattle.nmgc_graph.specs.World.{IsWorld}
+use Rattle.nmgc_world_spec.specs.World.{IsWorld}
 use Rattle.nmgc_graph.proofs.Filing.{passing_begins, passing_places, passing_falls, passing_goes_on, passing_ends}
 use Rattle.nmgc_graph.proofs.world.World.revive.Goals as goal
 

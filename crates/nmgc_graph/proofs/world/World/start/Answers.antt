@@ -1,4 +1,4 @@
-use Rattle.nmgc_graph.specs.World.{IsWorld}
+use Rattle.nmgc_world_spec.specs.World.{IsWorld}
 use Rattle.nmgc_graph.proofs.Lives.{live_begun}
 use Rattle.nmgc_graph.proofs.world.World.start.Goals as goal
 

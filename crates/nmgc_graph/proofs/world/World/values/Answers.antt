@@ -1,6 +1,6 @@
 use Rattle.std.proofs.Common.{ap, ◌∙◌}
 use Rattle.nmgc_graph.proofs.Lent.{values_known}
-use Rattle.nmgc_graph.specs.laws.Worlds.{lent}
+use Rattle.nmgc_world_laws.specs.laws.Worlds.{lent}
 use Rattle.nmgc_graph.proofs.world.World.values.Goals as goal
 
 pub returns-clause-known : goal.returns-clause-known

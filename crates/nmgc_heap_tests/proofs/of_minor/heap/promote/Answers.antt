@@ -5,12 +5,11 @@ use Rattle.nmgc_object.specs.FinQueue.{FinQueue}
 use Rattle.nmgc_object.specs.declared.layout.Nursery.{Nursery}
 use Rattle.nmgc_object.specs.declared.words.Address.{Address}
 use Rattle.nmgc_alloc.specs.laws.Reserve.{begins}
-use Rattle.nmgc_heap.specs.laws.Moving.{map_contains}
+use Rattle.nmgc_lists.specs.laws.Items.{map_contains, flat_contains}
 use Rattle.nmgc_minor.specs.Inputs.{Inputs}
 use Rattle.nmgc_minor.specs.Start.{inputs_by, words_of, places_of}
 use Rattle.nmgc_mutator.specs.declared.mutator.Mutator.{Mutator}
-use Rattle.nmgc_reach.specs.laws.ItemLaws.{flat_contains}
-use Rattle.nmgc_turn.specs.Worked.{nurseries_of}
+use Rattle.nmgc_collector_laws.specs.Worked.{nurseries_of}
 use Rattle.nmgc_heap_tests.specs.Checked.{PointsWell, PointsWellAll, AreParts, AreMade, IsChecked}
 use Rattle.nmgc_heap_tests.proofs.CheckedLaws.{checked_can}
 use Rattle.nmgc_heap_tests.proofs.of_minor.heap.promote.Goals as goal

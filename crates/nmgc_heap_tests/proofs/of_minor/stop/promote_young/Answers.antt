@@ -1,7 +1,7 @@
 use Rattle.std.proofs.Common.{ℕ, ◌≡◌, ◌∙◌, List, [], ◌∷◌, subst, sym, ap, append-nil}
-use Rattle.nmgc_blocks.specs.Samples.{young_stop, young_nurseries, young_registers}
-use Rattle.nmgc_blocks.specs.Stopped.{IsStopped}
-use Rattle.nmgc_alloc.specs.Segments.{Segments}
+use Rattle.nmgc_blocks_spec.specs.Samples.{young_stop, young_nurseries, young_registers}
+use Rattle.nmgc_blocks_spec.specs.Stopped.{IsStopped}
+use Rattle.nmgc_alloc.specs.Numbered.{Segments}
 use Rattle.nmgc_minor.specs.Start.{places_of}
 use Rattle.nmgc_minor.specs.Promotes.{IsStoppedBy}
 use Rattle.nmgc_mutator.specs.declared.mutator.Mutator.{Mutator}

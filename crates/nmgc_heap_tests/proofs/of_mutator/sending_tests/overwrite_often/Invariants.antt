@@ -1,5 +1,5 @@
 use Rattle.std.proofs.Common.{◌≡◌, ◌+◌, ◌≤◌}
-use Rattle.nmgc_heap.specs.Samples.{small_layout}
+use Rattle.nmgc_heap_spec.specs.Samples.{small_layout}
 use Rattle.nmgc_mutator.specs.Ready.{IsReady}
 use Rattle.nmgc_heap_tests.proofs.of_mutator.sending_tests.overwrite_often.Given as goal
 

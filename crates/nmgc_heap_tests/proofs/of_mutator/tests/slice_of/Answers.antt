@@ -1,5 +1,6 @@
 use Rattle.std.proofs.Common.{length}
-use Rattle.nmgc_heap_tests.proofs.Samples.{new_reserved, has_room}
+use Rattle.nmgc_mutator.specs.laws.Common.{reserved as new_reserved}
+use Rattle.nmgc_heap_tests.proofs.Samples.{has_room}
 use Rattle.nmgc_heap_tests.proofs.of_mutator.tests.slice_of.Goals as goal
 
 pub slice_on-requires-clause-mutator : goal.slice_on-requires-clause-mutator

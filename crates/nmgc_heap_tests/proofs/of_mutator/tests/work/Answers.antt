@@ -1,5 +1,6 @@
 use Rattle.nmgc_heap_tests.proofs.Many.{many_ready}
-use Rattle.nmgc_heap_tests.proofs.Samples.{new_reserved, has_room}
+use Rattle.nmgc_mutator.specs.laws.Common.{reserved as new_reserved}
+use Rattle.nmgc_heap_tests.proofs.Samples.{has_room}
 use Rattle.std.proofs.Common.{arith}
 use Rattle.nmgc_heap_tests.proofs.of_mutator.tests.work.Goals as goal
 

@@ -1,7 +1,6 @@
 use Rattle.std.proofs.Common.{◌++◌, List, ℕ, ap, refl, ◌∙◌, map, length, arith, length-append}
 use Rattle.std.proofs.lemmas.List.Elements.{All-nil, All-push}
-use Rattle.nmgc_journal.specs.Text.{value_text}
-use Rattle.nmgc_journal.specs.Reading.{IsValue}
+use Rattle.nmgc_journal.specs.Text.{value_text, IsValue}
 use Rattle.nmgc_image.specs.Printing.{after_spaces}
 use Rattle.nmgc_image.proofs.PlainLaws.{value_more}
 use Rattle.nmgc_image.proofs.plain.Cursor.any_values.Goals as goal

@@ -1,7 +1,6 @@
 use Rattle.std.proofs.Common.{◌≡◌, ◌++◌, map, length}
 use Rattle.std.specs.Prelude.{All}
-use Rattle.nmgc_journal.specs.Text.{value_text}
-use Rattle.nmgc_journal.specs.Reading.{IsValue}
+use Rattle.nmgc_journal.specs.Text.{value_text, IsValue}
 use Rattle.nmgc_image.specs.Printing.{after_spaces}
 use Rattle.nmgc_image.proofs.plain.Cursor.any_values.Given as goal
 

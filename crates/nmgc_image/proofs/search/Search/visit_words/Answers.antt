@@ -4,7 +4,7 @@ use Rattle.std.specs.Prelude.{Option, IfNone, false}
 use Rattle.nmgc_image.specs.Objects.{is_pointer}
 use Rattle.nmgc_image.specs.Reaching.{Visits, ArePointers}
 use Rattle.nmgc_image.proofs.Searching.{visits_none, pointer_no, pointer_yes, pointer_within}
-use Rattle.nmgc_reach.specs.laws.ItemLaws.{nothing_in}
+use Rattle.nmgc_lists.specs.laws.Items.{nothing_in}
 use Rattle.nmgc_image.proofs.search.Search.visit_words.Goals as goal
 use Rattle.nmgc_image.proofs.search.Search.visit_words.Goals.{in-Some+in_ok-visit, in_default}
 

@@ -2,11 +2,11 @@ use Rattle.std.proofs.Common.{List, Bool, get_or}
 use Rattle.std.specs.Prelude.{All, filter}
 use Rattle.std.proofs.lemmas.List.{take_all}
 use Rattle.std.proofs.lemmas.List.Elements.{Contains-get_or}
-use Rattle.nmgc_graph.specs.declared.value.Name.{Name}
-use Rattle.nmgc_graph.specs.World.{World}
+use Rattle.nmgc_world_spec.specs.declared.value.Name.{Name}
+use Rattle.nmgc_world_spec.specs.World.{World}
 use Rattle.nmgc_graph.specs.Marks.{mark_of}
-use Rattle.nmgc_graph.specs.Reach.{IsAliveWeak, Lists}
-use Rattle.nmgc_graph.specs.laws.Orders.{filter_contains, in_order_filter}
+use Rattle.nmgc_world_spec.specs.Reach.{IsAliveWeak, Lists}
+use Rattle.nmgc_world_spec.specs.laws.Orders.{filter_contains, in_order_filter}
 use Rattle.nmgc_low_tests.proofs.of_core.tests.alive_among.Goals as goal
 
 filtered_alive : (w : World) (test : Name → Bool) (weaks : List Name) → Lists (IsAliveWeak w) weaks → All (IsAliveWeak w) (filter test weaks)

@@ -1,14 +1,10 @@
-use Rattle.std.proofs.Common.{◌≡◌, ap, sym, ◌∙◌, Option, Some, None, Bor}
-use Rattle.std.specs.Prelude.{IsSome, is_some, option_copied}
+use Rattle.std.proofs.Common.{sym, ◌∙◌}
+use Rattle.std.specs.Prelude.{IsSome}
 use Rattle.std.proofs.lemmas.List.Elements.{All-push}
-use Rattle.nmgc_graph.specs.World.{node_of}
+use Rattle.nmgc_world_spec.specs.World.{node_of}
 use Rattle.nmgc_low_tests.proofs.of_core.tests.in_snapshot.Goals as goal
 use Rattle.nmgc_low_tests.proofs.of_core.tests.in_snapshot.Goals.{then-is_some+in_ok-push, else-is_some}
-
--- a reference is there exactly where what it points to is
-copied_is_some : {A : Type 0} (r : Option (Bor A)) (o : Option A) → option_copied r ≡ o → is_some r ≡ is_some o
-copied_is_some None o e = ap is_some e
-copied_is_some (Some x) o e = ap is_some e
+use Rattle.nmgc_lists.specs.laws.Options.{copied_is_some}
 
 pub loop-name-preserved : goal.loop-name-preserved
 loop-name-preserved c =

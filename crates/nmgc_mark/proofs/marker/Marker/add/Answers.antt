@@ -4,7 +4,8 @@ use Rattle.nmgc_mark.specs.Tie.{IsTied, with_places}
 use Rattle.nmgc_mark.specs.Marker.{places}
 use Rattle.nmgc_mark.proofs.Ties.{place_marked, place_turns, tied_at}
 use Rattle.nmgc_mark.proofs.Words.{places_more}
-use Rattle.nmgc_mark.proofs.Fields.{marked_none, marked_more}
+use Rattle.nmgc_mark.specs.laws.Common.{marked_none}
+use Rattle.nmgc_mark.proofs.Fields.{marked_more}
 use Rattle.nmgc_mark.proofs.marker.Marker.add.Goals as goal
 
 pub loop-at-init : goal.loop-at-init

@@ -1,5 +1,5 @@
 use Rattle.std.proofs.Common.{sym, ap}
-use Rattle.nmgc_run.specs.Seen.{MarkerSeen}
+use Rattle.nmgc_mark.specs.Seen.{MarkerSeen}
 use Rattle.nmgc_mark.proofs.Queues.{empty_told}
 use Rattle.nmgc_mark.proofs.marker.Marker.is_empty.Goals as goal
 

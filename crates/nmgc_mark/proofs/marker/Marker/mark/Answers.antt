@@ -1,8 +1,8 @@
 use Rattle.std.proofs.Common.{IsTrue, sym, subst, inl, inr}
 use Rattle.nmgc_segment.specs.Marks.{IsEpoch}
-use Rattle.nmgc_alloc.specs.Segments.{Segments}
+use Rattle.nmgc_alloc.specs.Numbered.{Segments}
 use Rattle.nmgc_mark.specs.Marker.{MarksAt}
-use Rattle.nmgc_mark.proofs.Queues.{never}
+use Rattle.nmgc_lists.specs.laws.Truths.{never}
 use Rattle.nmgc_mark.proofs.Ties.{room_done, done_then, done_else, nothing_there}
 use Rattle.nmgc_mark.proofs.marker.Marker.mark.Goals as goal
 

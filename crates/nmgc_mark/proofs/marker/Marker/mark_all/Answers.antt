@@ -3,7 +3,8 @@ use Rattle.std.proofs.lemmas.List.Elements.{Contains-get_or}
 use Rattle.nmgc_round.specs.Marking.{Marks}
 use Rattle.nmgc_mark.specs.Tie.{IsTied, with_words}
 use Rattle.nmgc_mark.proofs.Words.{words_more}
-use Rattle.nmgc_mark.proofs.Fields.{marked_none, marked_more}
+use Rattle.nmgc_mark.specs.laws.Common.{marked_none}
+use Rattle.nmgc_mark.proofs.Fields.{marked_more}
 use Rattle.nmgc_mark.proofs.marker.Marker.mark_all.Goals as goal
 
 pub loop-word-init : goal.loop-word-init

@@ -1,7 +1,7 @@
 use Rattle.std.proofs.Common.{IsTrue, sym, subst}
 use Rattle.nmgc_segment.specs.Marks.{IsEpoch}
 use Rattle.nmgc_alloc.specs.Segments.{Marks}
-use Rattle.nmgc_mark.proofs.Queues.{never}
+use Rattle.nmgc_lists.specs.laws.Truths.{never}
 use Rattle.nmgc_mark.proofs.Ties.{room_done, done_then, done_else, place_marked, place_turns, tied_at}
 use Rattle.nmgc_mark.proofs.marker.Marker.mark_block.Goals as goal
 

@@ -2,11 +2,12 @@ use Rattle.std.proofs.Common.{ℕ, ◌∙◌, List, take, refl, sym, subst, ap}
 use Rattle.std.specs.Prelude.{Contains}
 use Rattle.std.specs.List.{flat_map}
 use Rattle.std.proofs.lemmas.List.Elements.{Contains-get_or}
-use Rattle.nmgc_reach.specs.laws.ItemLaws.{contains_flat}
+use Rattle.nmgc_lists.specs.laws.Items.{contains_flat}
 use Rattle.nmgc_round.specs.Marking.{Marks}
 use Rattle.nmgc_mark.specs.Tie.{IsTied, with_words}
 use Rattle.nmgc_mark.proofs.Words.{flat_more, words_append}
-use Rattle.nmgc_mark.proofs.Fields.{marked_none, marked_more}
+use Rattle.nmgc_mark.specs.laws.Common.{marked_none}
+use Rattle.nmgc_mark.proofs.Fields.{marked_more}
 use Rattle.nmgc_mark.proofs.marker.Marker.mark_registers.Goals as goal
 
 pub loop-mutator-init : goal.loop-mutator-init

@@ -6,7 +6,8 @@ use Rattle.nmgc_round.specs.Marking.{Marks, with_name, name_meant}
 use Rattle.nmgc_mark.specs.Beginning.{slots_of}
 use Rattle.nmgc_mark.specs.Tie.{IsTied, with_words}
 use Rattle.nmgc_mark.proofs.Words.{words_more, slot_word, slots_count}
-use Rattle.nmgc_mark.proofs.Fields.{marked_none, marked_more}
+use Rattle.nmgc_mark.specs.laws.Common.{marked_none}
+use Rattle.nmgc_mark.proofs.Fields.{marked_more}
 use Rattle.nmgc_mark.proofs.marker.Marker.mark_shared.Goals as goal
 
 pub loop-slot-init : goal.loop-slot-init

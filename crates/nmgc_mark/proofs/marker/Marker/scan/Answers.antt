@@ -2,7 +2,8 @@ use Rattle.std.proofs.Common.{◌≡◌, ◌≤◌, ◌∙◌, refl, sym, arith,
 use Rattle.nmgc_round.specs.Ready.{scanned_by}
 use Rattle.nmgc_mark.specs.Work.{entry_now, has_results}
 use Rattle.nmgc_mark.proofs.Scanning.{can_scan, header_there}
-use Rattle.nmgc_mark.proofs.Fields.{header_told, result_there, result_set, result_unset, field_within, next_field, no_result, with_result, marked_none, marked_more}
+use Rattle.nmgc_mark.proofs.Fields.{header_told, result_there, result_set, result_unset, field_within, next_field, no_result, with_result, marked_more}
+use Rattle.nmgc_mark.specs.laws.Common.{marked_none}
 use Rattle.nmgc_mark.proofs.marker.Marker.scan.Goals as goal
 use Rattle.nmgc_mark.proofs.marker.Marker.scan.Goals.{then-has_results+else-result-ne0, else-has_results}
 

@@ -1,12 +1,11 @@
 use Rattle.std.proofs.Common.{◌≡◌, ◌∙◌, arith, map, sym, subst, ap}
 use Rattle.std.specs.List.{flat_map}
 use Rattle.nmgc_object.specs.Places.{IsLayout}
-use Rattle.nmgc_core.specs.State.{unmarked}
+use Rattle.nmgc_snapshot_laws.specs.State.{unmarked}
 use Rattle.nmgc_round.specs.Marking.{Marks, marks_of}
 use Rattle.nmgc_mark.specs.Beginning.{slots_of, queue_words, most_blocks}
-use Rattle.nmgc_mark.specs.Marker.{blank}
-use Rattle.nmgc_run.specs.Seen.{MarkerSeen}
-use Rattle.nmgc_run.specs.Marker.{HasRoomToMark}
+use Rattle.nmgc_mark.specs.Marker.{blank, HasRoomToMark}
+use Rattle.nmgc_mark.specs.Seen.{MarkerSeen}
 use Rattle.nmgc_mark.specs.Tie.{IsTied, with_words, with_queues}
 use Rattle.nmgc_mark.proofs.Fields.{total_small}
 use Rattle.nmgc_mark.proofs.Rooms.{blank_room}

@@ -1,5 +1,5 @@
 use Rattle.std.proofs.Common.{◌+◌, drop, sym, ap}
-use Rattle.nmgc_run.specs.Seen.{MarkerSeen}
+use Rattle.nmgc_mark.specs.Seen.{MarkerSeen}
 use Rattle.nmgc_mark.specs.Marker.{places}
 use Rattle.nmgc_mark.proofs.Queues.{first_taken}
 use Rattle.nmgc_mark.proofs.marker.Marker.take_first.Goals as goal

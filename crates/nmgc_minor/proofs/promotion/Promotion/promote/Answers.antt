@@ -2,7 +2,7 @@ use Rattle.std.proofs.Common.{◌≡◌, ℕ, List, map, ap, ◌∙◌, arith}
 use Rattle.std.specs.List.{flat_map}
 use Rattle.nmgc_object.specs.FinQueue.{FinQueue}
 use Rattle.nmgc_object.specs.declared.layout.Nursery.{Nursery}
-use Rattle.nmgc_blocks.specs.Stopped.{young_base}
+use Rattle.nmgc_blocks_spec.specs.Stopped.{young_base}
 use Rattle.nmgc_minor.specs.Start.{inputs_by, words_of}
 use Rattle.nmgc_minor.specs.Forwarding.{forward_word}
 use Rattle.nmgc_minor.specs.Promotes.{forwarded}

@@ -1,7 +1,7 @@
 use Rattle.std.proofs.Common.{ℕ, ◌≡◌, ◌<◌, ◌≤◌, List, ap, subst, refl, ◌∙◌, length, arith, get_or}
 use Rattle.std.proofs.lemmas.List.{get_or_default}
 use Rattle.nmgc_object.specs.declared.words.Address.{Address}
-use Rattle.nmgc_blocks.specs.Strong.{HasStrong}
+use Rattle.nmgc_blocks_spec.specs.Strong.{HasStrong}
 use Rattle.nmgc_minor.specs.Young.{Notes}
 use Rattle.nmgc_minor.proofs.NoteLaws.{following_none, can_still, following_more, following_all}
 use Rattle.nmgc_minor.proofs.young.Young.follow.Goals as goal

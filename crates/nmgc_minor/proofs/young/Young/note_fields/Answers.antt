@@ -1,5 +1,5 @@
 use Rattle.std.proofs.Common.{ℕ, List, ap, subst, length, arith}
-use Rattle.nmgc_blocks.specs.Strong.{HasStrong}
+use Rattle.nmgc_blocks_spec.specs.Strong.{HasStrong}
 use Rattle.nmgc_minor.specs.Young.{Notes, IsAmong}
 use Rattle.nmgc_minor.proofs.NoteLaws.{notes_as, strong_read, strong_has}
 use Rattle.nmgc_minor.proofs.young.Young.note_fields.Goals as goal

@@ -3,7 +3,8 @@ use Rattle.std.proofs.lemmas.List.{map-append}
 use Rattle.nmgc_object.specs.declared.words.Address.{Address}
 use Rattle.nmgc_mutator.specs.Records.{numbers, is_old}
 use Rattle.nmgc_mutator.proofs.Readies.{kept_items}
-use Rattle.nmgc_mutator.proofs.Refers.{old_below, old_odd, old_pushed, none_pushed}
+use Rattle.nmgc_mutator.proofs.Refers.{old_below, old_pushed, none_pushed}
+use Rattle.nmgc_mutator.specs.laws.Common.{old_odd}
 use Rattle.nmgc_mutator.proofs.mutator.Mutator.push.Goals as goal
 
 pub overflow_cast-at : goal.overflow_cast-at

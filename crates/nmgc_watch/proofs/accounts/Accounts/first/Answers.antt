@@ -1,6 +1,6 @@
 use Rattle.std.proofs.Common.{◌<◌, ◌∙◌, ℕ, [], length, ap, sym, subst, List}
 use Rattle.std.specs.Prelude.{slice_get}
-use Rattle.nmgc_lax.specs.declared.debt.Debt.{Debt}
+use Rattle.nmgc_barrier_laws.specs.declared.debt.Debt.{Debt}
 use Rattle.nmgc_watch.proofs.AccountLaws.{item_is, first_counts, forgotten_count, forgotten_queue}
 use Rattle.nmgc_watch.proofs.accounts.Accounts.first.Goals as goal
 

@@ -1,7 +1,7 @@
 use Rattle.std.proofs.Common.{◌∙◌, refl, sym, subst, List}
 use Rattle.std.specs.Prelude.{All, IsSome}
-use Rattle.nmgc_graph.specs.declared.value.Name.{Name}
-use Rattle.nmgc_graph.specs.World.{node_of}
+use Rattle.nmgc_world_spec.specs.declared.value.Name.{Name}
+use Rattle.nmgc_world_spec.specs.World.{node_of}
 use Rattle.nmgc_watch.proofs.ClosingLaws.{both_there}
 use Rattle.nmgc_watch.proofs.cycle.Cycle.dead.Goals as goal
 

@@ -1,7 +1,7 @@
 use Rattle.std.proofs.Common.{◌<◌, ◌∙◌, ℕ, refl, sym, ap, subst, List}
-use Rattle.nmgc_graph.specs.declared.value.Name.{Name}
-use Rattle.nmgc_graph.specs.declared.command.Reply.{Reply}
-use Rattle.nmgc_graph.specs.World.{World}
+use Rattle.nmgc_world_spec.specs.declared.value.Name.{Name}
+use Rattle.nmgc_world_spec.specs.declared.command.Reply.{Reply}
+use Rattle.nmgc_world_spec.specs.World.{World}
 use Rattle.nmgc_watch.specs.Listed.{Joins}
 use Rattle.nmgc_watch.proofs.CycleLaws.{with_opened, with_accounts, cycle_ended, cycle_stepped, taken_then}
 use Rattle.nmgc_watch.proofs.cycle.Cycle.give.Goals as goal

@@ -1,7 +1,7 @@
 use Rattle.std.proofs.Common.{◌∙◌, sym, subst, List}
 use Rattle.std.specs.Prelude.{All}
-use Rattle.nmgc_graph.specs.declared.value.Name.{Name}
-use Rattle.nmgc_graph.specs.Reach.{IsAliveWeak}
+use Rattle.nmgc_world_spec.specs.declared.value.Name.{Name}
+use Rattle.nmgc_world_spec.specs.Reach.{IsAliveWeak}
 use Rattle.nmgc_watch.proofs.ClosingLaws.{told_alive, told_lists}
 use Rattle.nmgc_watch.proofs.CycleLaws.{seen}
 use Rattle.nmgc_watch.proofs.cycle.Cycle.left_by.Goals as goal

@@ -1,7 +1,8 @@
 use Rattle.std.proofs.Common.{◌<◌, ◌∙◌, ℕ, refl, sym, subst, inl, inr}
 use Rattle.std.proofs.lemmas.Bool.{false≢true}
 use Rattle.nmgc_watch.proofs.AccountLaws.{some_own, none_own, forgotten_accounts, forgotten_count, forgotten_same}
-use Rattle.nmgc_watch.proofs.CycleLaws.{none_first, seen_same, with_accounts}
+use Rattle.nmgc_lists.specs.laws.Items.{none_first}
+use Rattle.nmgc_watch.proofs.CycleLaws.{seen_same, with_accounts}
 use Rattle.nmgc_watch.proofs.cycle.Cycle.settle.Goals as goal
 use Rattle.nmgc_watch.proofs.cycle.Cycle.settle.Goals.{in-Some, in-None}
 

@@ -1,5 +1,5 @@
 use Rattle.std.proofs.Common.{◌∙◌, ◌≡◌, Bool, true, false, [], sym, subst, List, inl}
-use Rattle.nmgc_graph.specs.declared.value.Name.{Name}
+use Rattle.nmgc_world_spec.specs.declared.value.Name.{Name}
 use Rattle.nmgc_watch.specs.Cycles.{IsUntakenIn}
 use Rattle.nmgc_watch.proofs.CycleLaws.{untaken_if}
 use Rattle.nmgc_watch.proofs.cycle.Cycle.untaken.Goals as goal

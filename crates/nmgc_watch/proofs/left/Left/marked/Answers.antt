@@ -1,5 +1,5 @@
 use Rattle.std.proofs.Common.{subst, Option}
-use Rattle.nmgc_graph.specs.declared.value.Name.{Name}
+use Rattle.nmgc_world_spec.specs.declared.value.Name.{Name}
 use Rattle.nmgc_watch.specs.Watching.{IsMissingIf}
 use Rattle.nmgc_watch.proofs.left.Left.marked.Goals as goal
 

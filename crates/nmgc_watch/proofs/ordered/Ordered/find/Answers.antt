@@ -2,10 +2,10 @@ use Rattle.std.proofs.Common.{◌≡◌, ◌∙◌, List, sym, subst, ap, arith,
 use Rattle.std.specs.Prelude.{Contains}
 use Rattle.std.proofs.lemmas.Bool.{false≢true}
 use Rattle.std.proofs.lemmas.List.{get_or_default}
-use Rattle.nmgc_graph.specs.declared.value.Name.{Name}
-use Rattle.nmgc_graph.specs.Change.{is_same_name}
-use Rattle.nmgc_graph.specs.Reach.{IsInOrder}
-use Rattle.nmgc_core.specs.laws.Listed.{is_same_name-refl}
+use Rattle.nmgc_world_spec.specs.declared.value.Name.{Name}
+use Rattle.nmgc_world_spec.specs.Change.{is_same_name}
+use Rattle.nmgc_world_spec.specs.Reach.{IsInOrder}
+use Rattle.nmgc_snapshot_laws.specs.laws.Listed.{is_same_name-refl}
 use Rattle.nmgc_watch.specs.Ordered.{StandsAt}
 use Rattle.nmgc_watch.proofs.OrderedLaws.{not_there}
 use Rattle.nmgc_watch.proofs.ordered.Ordered.find.Goals as goal

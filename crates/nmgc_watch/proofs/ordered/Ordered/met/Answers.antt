@@ -1,8 +1,8 @@
 use Rattle.std.proofs.Common.{◌≡◌, ℕ, List, subst, take, get_or, Option}
 use Rattle.std.specs.Prelude.{Contains, IfNone}
 use Rattle.std.proofs.lemmas.List.{take_more}
-use Rattle.nmgc_graph.specs.declared.value.Name.{Name}
-use Rattle.nmgc_graph.specs.Reach.{IsInOrder}
+use Rattle.nmgc_world_spec.specs.declared.value.Name.{Name}
+use Rattle.nmgc_world_spec.specs.Reach.{IsInOrder}
 use Rattle.nmgc_watch.proofs.OrderedLaws.{met_here, met_elsewhere}
 use Rattle.nmgc_watch.proofs.ordered.Ordered.met.Goals as goal
 use Rattle.nmgc_watch.proofs.ordered.Ordered.met.Goals.{in-Some, in_default}

@@ -1,6 +1,6 @@
 use Rattle.std.proofs.Common.{◌∙◌, List, get_or, take, sym, subst}
 use Rattle.std.proofs.lemmas.List.{take_all, take_more}
-use Rattle.nmgc_graph.specs.declared.command.Command.{Command}
+use Rattle.nmgc_world_spec.specs.declared.command.Command.{Command}
 use Rattle.nmgc_watch.specs.Watching.{AreDone, IsAct}
 use Rattle.nmgc_watch.proofs.RowLaws.{done_more, acted_go, acted_stop}
 use Rattle.nmgc_watch.proofs.watch.Watch.act_all.Goals as goal

@@ -1,7 +1,7 @@
 use Rattle.std.proofs.Common.{◌≡◌, ◌≢◌, ◌+◌, ◌-◌, ◌≤◌, ◌<◌, ℕ, List, sym, ap, subst, ◌∙◌, arith, length, inl, inr, ◌⊎◌}
 use Rattle.std.specs.Prelude.{Contains, slice_get, Some}
-use Rattle.nmgc_graph.specs.Reach.{IsBefore}
-use Rattle.nmgc_reach.specs.laws.ItemLaws.{contains_at}
+use Rattle.nmgc_world_spec.specs.Reach.{IsBefore}
+use Rattle.nmgc_lists.specs.laws.Items.{contains_at}
 use Rattle.nmgc_weak.specs.declared.weaks.OldWeak.{OldWeak}
 use Rattle.nmgc_weak.specs.Weaks.{Weaks}
 use Rattle.nmgc_weak.proofs.Joining.{get_default}

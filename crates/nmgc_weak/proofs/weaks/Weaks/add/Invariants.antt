@@ -1,6 +1,6 @@
 use Rattle.std.proofs.Common.{◌≡◌, ◌≤◌, ℕ, vec_len}
 use Rattle.std.specs.Prelude.{slice_get, Some}
-use Rattle.nmgc_graph.specs.Reach.{IsBefore}
+use Rattle.nmgc_world_spec.specs.Reach.{IsBefore}
 use Rattle.nmgc_weak.specs.declared.weaks.OldWeak.{OldWeak}
 use Rattle.nmgc_weak.proofs.weaks.Weaks.add.Given as goal
 

@@ -1,6 +1,6 @@
 use Rattle.std.proofs.Common.{◌≡◌, List, sym, ap, subst, ◌∙◌, arith}
 use Rattle.std.specs.Prelude.{Contains}
-use Rattle.nmgc_graph.specs.Reach.{IsInOrder}
+use Rattle.nmgc_world_spec.specs.Reach.{IsInOrder}
 use Rattle.nmgc_weak.specs.declared.weaks.OldWeak.{OldWeak}
 use Rattle.nmgc_weak.specs.Weaks.{Weaks, names_of, is_alive, alive_of}
 use Rattle.nmgc_weak.proofs.Leaving.{filter_ordered}

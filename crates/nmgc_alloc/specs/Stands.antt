@@ -1,0 +1,34 @@
+-- When segments and the words of the heap stand for an allocation state, and what a placing writes into the words.
+use Rattle.std.specs.Prelude.{ℕ, ◌≡◌, ◌≢◌, ◌↔◌, List, length, slice_index, Some, IsSome, ◌+◌, ◌<◌, ◌≤◌, ◌⊎◌}
+use Rattle.nmgc_world_spec.specs.declared.value.Name.{Name}
+use Rattle.nmgc_object.specs.Size.{name_place, block_size}
+use Rattle.nmgc_object.specs.Words.{name_word}
+use Rattle.nmgc_object.specs.Places.{word_total}
+use Rattle.nmgc_segment.specs.Segment.{InUse, block_count}
+use Rattle.nmgc_segment.specs.declared.state.State.TheVariants as stands
+use Rattle.nmgc_alloc.specs.Numbered.{nth, Segments, block_place, HasNumber}
+use Rattle.nmgc_alloc.specs.AllocState.{Cells, no_cells, name_in, AllocState, cells, AreNames}
+
+-- a segment, and the words of the heap, show these cells; a free segment has no class and no names
+pub record Shows (s : Segments) (words : List ℕ) (number : ℕ) (c : Cells) : Type 0 where
+  pub state : c.state ≡ (nth s.segments number).state
+  pub free : c.state ≡ stands.Free → c ≡ no_cells
+  pub class : c.state ≢ stands.Free → c.class ≡ (nth s.segments number).class
+  pub blocks : c.state ≢ stands.Free → length c.names ≡ block_count (nth s.segments number)
+  pub used : (block : ℕ) → IsSome (name_in c block) ↔ InUse (nth s.segments number) block
+  pub named : (block : ℕ) (name : Name) → name_in c block ≡ Some name →
+      slice_index words (name_place (block_place s.layout number (nth s.segments number).class block)) ≡ name_word name
+
+-- segments with all words of the heap stand for the allocation state
+pub record StandsFor (s : Segments) (words : List ℕ) (allocation : AllocState) : Type 0 where
+  pub total : length words ≡ word_total s.layout
+  pub count : length allocation.segments ≡ length s.segments
+  pub names : AreNames allocation
+  pub fresh : allocation.fresh ≡ s.fresh
+  pub shows : (number : ℕ) → HasNumber s number → Shows s words number (cells allocation number)
+
+-- the words of an object placed there were written, with the name's as the second, and no others
+pub record Writes (old new : List ℕ) (at class : ℕ) (name : Name) : Type 0 where
+  pub length : length new ≡ length old
+  pub second : slice_index new (name_place at) ≡ name_word name
+  pub others : (i : ℕ) → (i < at) ⊎ (at + block_size class ≤ i) → slice_index new i ≡ slice_index old i

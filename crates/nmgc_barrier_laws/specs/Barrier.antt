@@ -1,0 +1,92 @@
+-- A watched cycle with a marker beside it: the runtime gives commands and pushes names, which is all that is
+-- watched; and the marker marks what it may hold, scans, and takes what waits in any order, unseen.
+use Rattle.std.specs.Prelude.{◌≡◌, ◌<◌, ◌↔◌, ◌⊎◌, ℕ, List, [], ◌∷◌, ◌++◌, length, slice_set, replicate, IsSome, Contains}
+use Rattle.nmgc_world_spec.specs.declared.value.Name.{Name}
+use Rattle.nmgc_world_spec.specs.declared.command.Command.{Command}
+use Rattle.nmgc_world_spec.specs.declared.command.Reply.{Reply}
+use Rattle.nmgc_world_spec.specs.World.{World, node_of, IsWorld}
+use Rattle.nmgc_snapshot_laws.specs.declared.event.Event.TheVariants as event
+use Rattle.nmgc_snapshot_laws.specs.State.{State, names_of, mark_name, opening}
+use Rattle.nmgc_snapshot_laws.specs.Machine.{IsPossible, AreEmpty, after_scan}
+use Rattle.nmgc_world_spec.specs.Reach.{IsDead, Lists, closed}
+use Rattle.nmgc_snapshot_laws.specs.Closing.{IsClosing}
+use Rattle.nmgc_snapshot_laws.specs.Facts.{MayHold}
+use Rattle.nmgc_barrier_laws.specs.declared.debt.Debt.{Debt}
+use Rattle.nmgc_barrier_laws.specs.Lax.{after_owing, IsShuffled}
+use Rattle.nmgc_barrier_laws.specs.Cycle.{Cycle, watching, IsWatched, IsPushed, IsTook, Marks}
+
+-- the names of debts
+abbrev pub names_in : List Debt → List Name
+names_in [] = []
+names_in (debt ∷ debts) = debt.name ∷ names_in debts
+
+-- marked, or on its way from whoever remembered it
+abbrev pub IsOnItsWay : State → Name → Type 0
+IsOnItsWay s name = Contains s.marked name ⊎ ((m : ℕ) × Contains (names_of s.pushed m) name)
+
+-- after a push: the name floats, and what is still due is all that is owed
+abbrev pub after_pushing : State → ℕ → Name → List Debt → State
+after_pushing s m name debts = record s {
+  opened = s.opened ++ name ∷ [];
+  pushed = slice_set s.pushed m (names_of s.pushed m ++ name ∷ []);
+  owed = slice_set (replicate (length s.owed) []) m (names_in debts);
+}
+
+-- the marker puts what waits in another order, or lets go of what is marked: what is on its way stays on its way
+pub record IsSorted (s next : State) : Type 0 where
+  pub shuffled : IsShuffled s next
+  pub owed : next.owed ≡ s.owed
+  pub way : (name : Name) → IsSome (node_of s.snapshot name) → IsOnItsWay s name → IsOnItsWay next name
+
+-- a cycle that began with this world, after commands and pushes, and what it is told that the marker took
+pub data Watches (w : World) : Cycle → Type 0 where
+  begun : Watches w (watching w)
+  given : (h next : Cycle) (line m : ℕ) (c : Command) (answer : Reply) → Watches w h → IsWatched h line m c answer next → Watches w next
+  pushed : (h next : Cycle) (name : Name) → Watches w h → IsPushed h name next → Watches w next
+  taken : (h next : Cycle) (name : Name) → Watches w h → IsTook h name next → Watches w next
+
+-- a cycle that began with this world, and where a marker beside it may be: what the cycle is told of the marker moves none
+pub data Beside (w : World) : Cycle → State → Type 0 where
+  start : Beside w (watching w) (opening w)
+  command : (h next : Cycle) (s : State) (line m : ℕ) (c : Command) (answer : Reply) → Beside w h s → IsWatched h line m c answer next →
+      Beside w next (after_owing s m c (names_in next.debts))
+  push : (h next : Cycle) (s : State) (m : ℕ) (name : Name) → Beside w h s → IsPushed h name next → m < length s.pushed →
+      Beside w next (after_pushing s m name next.debts)
+  take : (h next : Cycle) (s : State) (name : Name) → Beside w h s → IsTook h name next → Beside w next s
+  mark : (h : Cycle) (s : State) (name : Name) → Beside w h s → MayHold s name → Beside w h (mark_name s name)
+  scan : (h : Cycle) (s : State) → Beside w h s → Beside w h (after_scan s s.queue)
+  sort : (h : Cycle) (s next : State) → Beside w h s → IsSorted s next → Beside w h next
+
+-- wherever the marker is: without debts nothing is owed, and an end marks exactly what the commands and the pushes keep
+pub record IsBarrierExact (h : Cycle) (s : State) : Type 0 where
+  pub owes : h.debts ≡ [] → (m : ℕ) → names_of s.owed m ≡ []
+  pub marks : (next : State) → IsPossible s event.Close → IsClosing s next → (name : Name) → Contains next.marked name ↔ Marks h name
+
+-- the theorem of the watched barrier
+abbrev pub BarrierTheorem : Type 0
+BarrierTheorem = (w : World) → IsWorld w → (h : Cycle) (s : State) → Beside w h s → IsBarrierExact h s
+
+-- the marker has taken all that was pushed, and read all that it marked
+pub record HasFinished (s : State) : Type 0 where
+  pub queue : s.queue ≡ []
+  pub pushed : AreEmpty s.pushed
+
+-- marking can end, and each end has marked exactly what the commands and the pushes keep, and lets exactly those weak pointers die that are dead by them
+pub record EndsExactly (h : Cycle) (s : State) : Type 0 where
+  pub possible : IsPossible s event.Close
+  pub marks : (next : State) → IsClosing s next → (name : Name) → Contains next.marked name ↔ Marks h name
+  pub dies : (next : State) (closing : IsClosing s next) → Lists (IsDead h.snapshot (h.opened ++ h.remembered) h.finalised) closing.dead
+  pub world : (next : State) (closing : IsClosing s next) → next.world ≡ closed h.world closing.dead
+
+-- the joint theorem: from any list of commands and pushes that ends without debts, every marker beside it that has
+-- finished can end, and has marked exactly what the definition says
+abbrev pub JointTheorem : Type 0
+JointTheorem = (w : World) → IsWorld w → (h : Cycle) → Watches w h → h.debts ≡ [] → (s : State) → Beside w h s → HasFinished s → EndsExactly h s
+
+-- and beside any such list there is a marker
+abbrev pub SomeMarkerIsBeside : Type 0
+SomeMarkerIsBeside = (w : World) → IsWorld w → (h : Cycle) → Watches w h → (s : State) × Beside w h s
+
+-- there is also one that has finished, so that the joint theorem is of something
+abbrev pub SomeMarkerFinishes : Type 0
+SomeMarkerFinishes = (w : World) → IsWorld w → (h : Cycle) → Watches w h → (s : State) × Beside w h s × HasFinished s

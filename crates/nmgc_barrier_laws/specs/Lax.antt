@@ -1,0 +1,99 @@
+-- A marker and a barrier of more freedom than the core machine: a command owes at least what is due and at most
+-- what may be held, and what waits is handed over in any order, by anybody, with anything that may be held besides.
+use Rattle.std.specs.Prelude.{◌≡◌, ◌≢◌, ◌<◌, ◌↔◌, ◌⊎◌, ℕ, List, [], ◌∷◌, ◌++◌, length, slice_set, IsSome, All, Contains, Bool, false, true}
+use Rattle.nmgc_world_spec.specs.declared.value.Name.{Name}
+use Rattle.nmgc_world_spec.specs.declared.command.Command.{Command}
+use Rattle.nmgc_world_spec.specs.declared.command.Reply.{Reply}
+use Rattle.nmgc_world_spec.specs.World.{World, node_of, IsWorld}
+use Rattle.nmgc_world_spec.specs.Step.{CanApply, step}
+use Rattle.nmgc_world_spec.specs.History.{Row, IsLegal, replayed, opened, finalised}
+use Rattle.nmgc_world_spec.specs.Reach.{IsLive, IsDead, IsKept, Lists, closed}
+use Rattle.nmgc_snapshot_laws.specs.declared.event.Entry.{Entry}
+use Rattle.nmgc_snapshot_laws.specs.declared.event.Event.{Event}
+use Rattle.nmgc_snapshot_laws.specs.declared.event.Event.TheVariants as event
+use Rattle.nmgc_snapshot_laws.specs.State.{State, names_of, mark_name, opening}
+use Rattle.nmgc_snapshot_laws.specs.Machine.{IsPossible, Passes, after_command, after_scan}
+use Rattle.nmgc_snapshot_laws.specs.Closing.{IsClosing, IsMarkedFirst}
+use Rattle.nmgc_snapshot_laws.specs.Facts.{MayHold, IsSafe, Facts}
+use Rattle.nmgc_snapshot_laws.specs.Run.{IsExactClosing}
+use Rattle.nmgc_barrier_laws.specs.Due.{IsDue}
+
+-- after a command that owes these names
+abbrev pub after_owing : State → ℕ → Command → List Name → State
+after_owing s m c names = record (after_command s m c) { owed = slice_set s.owed m (names_of s.owed m ++ names) }
+
+-- a command: it owes names that may be held, and afterwards all that is due is safe
+pub record IsGiven (s : State) (m : ℕ) (c : Command) (next : State) : Type 0 where
+  pub can : CanApply s.world m c
+  pub names : List Name
+  pub next_is : next ≡ after_owing s m c names
+  pub held : All (MayHold next) names
+  pub due : (target : Name) → IsDue s.snapshot s.world m c target → IsSafe next target
+
+-- what waits is put in another order or other hands: no entry of the queue is lost or new; and what is owed or pushed
+-- afterwards may be held, and all that was safe is safe
+pub record IsShuffled (s next : State) : Type 0 where
+  pub rest : next ≡ record s { queue = next.queue; owed = next.owed; pushed = next.pushed }
+  pub queue : (entry : Entry) → Contains next.queue entry ↔ Contains s.queue entry
+  pub owed_lists : length next.owed ≡ length s.owed
+  pub pushed_lists : length next.pushed ≡ length s.pushed
+  pub owed : (m : ℕ) → All (MayHold s) (names_of next.owed m)
+  pub pushed : (m : ℕ) → All (MayHold s) (names_of next.pushed m)
+  pub safe : (name : Name) → IsSome (node_of s.snapshot name) → IsSafe s name → IsSafe next name
+
+-- a name is pushed that nobody need hold: from then on it counts as opened, so that it floats with all that it reaches
+pub record IsFloated (s : State) (name : Name) (next : State) : Type 0 where
+  pub m : ℕ
+  pub place : m < length s.pushed
+  pub next_is : next ≡ record s { opened = s.opened ++ name ∷ []; pushed = slice_set s.pushed m (names_of s.pushed m ++ name ∷ []) }
+
+-- one lax step: a command, an order of what waits, a push of whatever, the mark of anything that may be held, or a scan of the first entry
+pub data IsLax (s next : State) : Type 0 where
+  given : (m : ℕ) (c : Command) → IsGiven s m c next → IsLax s next
+  shuffled : IsShuffled s next → IsLax s next
+  floated : (name : Name) → IsFloated s name next → IsLax s next
+  marked : (name : Name) → MayHold s name → next ≡ mark_name s name → IsLax s next
+  scanned : next ≡ after_scan s s.queue → IsLax s next
+
+-- lax steps, one after the other
+pub data LaxSteps (s : State) : State → Type 0 where
+  nothing : LaxSteps s s
+  then : (between next : State) → LaxSteps s between → IsLax between next → LaxSteps s next
+
+-- the strict rule is an instance of the lax one: each event of the core machine that happens, but the end, is lax steps
+abbrev pub CoreIsLax : Type 0
+CoreIsLax = (s next : State) (e : Event) → Facts s → IsWorld s.world → Passes s e true next → e ≢ event.Close → LaxSteps s next
+
+-- a lax step keeps the facts, and the world closed
+abbrev pub LaxKeepsFacts : Type 0
+LaxKeepsFacts = (s next : State) → Facts s → IsWorld s.world → IsLax s next → Facts next × IsWorld next.world
+
+-- a step, the command that it is, and the name that it floats
+pub data LaxRow (s next : State) (rows : List Row) (extra : List Name) : Type 0 where
+  command : (m : ℕ) (c : Command) (answer : Reply) → IsGiven s m c next → (step s.world m c).1 ≡ answer →
+      rows ≡ (record { mutator = m; command = c; reply = answer }) ∷ [] → extra ≡ [] → LaxRow s next rows extra
+  quiet : IsShuffled s next → rows ≡ [] → extra ≡ [] → LaxRow s next rows extra
+  float : (name : Name) → IsFloated s name next → rows ≡ [] → extra ≡ name ∷ [] → LaxRow s next rows extra
+  mark : (name : Name) → MayHold s name → next ≡ mark_name s name → rows ≡ [] → extra ≡ [] → LaxRow s next rows extra
+  scan : next ≡ after_scan s s.queue → rows ≡ [] → extra ≡ [] → LaxRow s next rows extra
+
+-- lax steps, one after the other, the commands among them, and what was floated
+pub data LaxRuns (s : State) : List Row → List Name → State → Type 0 where
+  start : LaxRuns s [] [] s
+  more : (rows row : List Row) (extra one : List Name) (before next : State) → LaxRuns s rows extra before → LaxRow before next row one →
+      LaxRuns s (rows ++ row) (extra ++ one) next
+
+-- the snapshot theorem for them: the world is the replay; what counts as opened is what the commands opened and what
+-- was floated; until the end what is marked is live by it; and an end is exact
+pub record IsLaxMarking (w : World) (rows : List Row) (extra : List Name) (s : State) : Type 0 where
+  pub legal : IsLegal w rows
+  pub snapshot : s.snapshot ≡ w
+  pub world : s.world ≡ replayed w rows
+  pub opened : (name : Name) → Contains s.opened name ↔ (Contains (opened w rows) name ⊎ Contains extra name)
+  pub finalised : s.finalised ≡ finalised w rows
+  pub live : (name : Name) → Contains s.marked name → IsLive w s.opened name
+  pub exact : (next : State) → IsPossible s event.Close → (closing : IsClosing s next) → IsExactClosing s next closing
+
+-- the snapshot theorem for every lax run from an opening
+abbrev pub LaxTheorem : Type 0
+LaxTheorem = (w : World) → IsWorld w → (rows : List Row) (extra : List Name) (s : State) → LaxRuns (opening w) rows extra s → IsLaxMarking w rows extra s

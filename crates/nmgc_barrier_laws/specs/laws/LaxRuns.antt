@@ -1,0 +1,265 @@
+-- What a lax run does to the history. (The lemmas of Runs in nmgc_core, which are not public there.)
+use Rattle.std.proofs.Common.{◌≡◌, ℕ, List, [], ◌∷◌, ◌++◌, refl, sym, subst, ◌∙◌, append-nil, Option, Some, None, inl, inr}
+use Rattle.std.specs.Prelude.{Contains, All, ◌↔◌, ◌⊎◌}
+use Rattle.nmgc_world_spec.specs.declared.value.Name.{Name}
+use Rattle.nmgc_world_spec.specs.declared.value.Value.{Value}
+use Rattle.nmgc_world_spec.specs.declared.value.Value.TheVariants as value
+use Rattle.nmgc_world_spec.specs.declared.command.Command.{Command}
+use Rattle.nmgc_world_spec.specs.declared.command.Reply.{Reply}
+use Rattle.nmgc_world_spec.specs.World.{World, node_of, IsWorld}
+use Rattle.nmgc_world_spec.specs.Step.{step}
+use Rattle.nmgc_world_spec.specs.History.{Row, replayed, IsLegal, opened, finalised, opened_by}
+use Rattle.nmgc_world_laws.specs.laws.WorldSteps.{step_keeps_world}
+use Rattle.nmgc_snapshot_laws.specs.declared.event.Entry.{Entry}
+use Rattle.nmgc_snapshot_laws.specs.State.{State, opening, unmarked, mark_name, mark_read, mark_values, root_values}
+use Rattle.nmgc_snapshot_laws.specs.Machine.{after_scan, advanced}
+use Rattle.nmgc_snapshot_laws.specs.Scan.{read_at}
+use Rattle.nmgc_snapshot_laws.specs.laws.Marking.{mark_cases, mark_facts}
+use Rattle.nmgc_snapshot_laws.specs.laws.Scans.{scan_facts}
+use Rattle.nmgc_snapshot_laws.specs.laws.Openings.{opening_facts}
+use Rattle.nmgc_snapshot_laws.specs.laws.Runs.{closing_is_exact, opened-push, replayed-push, legal_push, finalised-push, live_from}
+use Rattle.nmgc_snapshot_laws.specs.Facts.{MayHold, IsSafe, Facts}
+use Rattle.nmgc_barrier_laws.specs.Lax.{after_owing, IsGiven, IsFloated, LaxKeepsFacts, LaxRow, LaxRuns, LaxTheorem}
+use Rattle.nmgc_barrier_laws.specs.Lax as lax
+use Rattle.nmgc_barrier_laws.specs.laws.Given.{given_facts}
+use Rattle.nmgc_barrier_laws.specs.laws.Laxer.{shuffled_facts}
+use Rattle.nmgc_barrier_laws.specs.laws.Floating.{floated_facts}
+use Rattle.std.proofs.lemmas.List.Elements.{Contains-append_left, Contains-append_right, Contains-append_cases}
+use Rattle.nmgc_lists.specs.laws.Items.{nothing_in}
+
+-- an event that is no command leaves the history
+record SameHistory (s t : State) : Type 0 where
+  world : t.world ≡ s.world
+  snapshot : t.snapshot ≡ s.snapshot
+  opened : t.opened ≡ s.opened
+  finalised : t.finalised ≡ s.finalised
+  is_closed : t.is_closed ≡ s.is_closed
+
+same_history : (s : State) → SameHistory s s
+same_history s = record { world = refl; snapshot = refl; opened = refl; finalised = refl; is_closed = refl }
+
+mark_history : (s : State) (name : Name) → SameHistory s (mark_name s name)
+mark_history s name = mark_cases (SameHistory s) s name (λ e. record {
+  world = refl;
+  snapshot = refl;
+  opened = refl;
+  finalised = refl;
+  is_closed = refl;
+}) (λ e. same_history s)
+
+read_history : (s : State) (o : Option Value) → SameHistory s (mark_read s o)
+read_history s None = same_history s
+read_history s (Some value.Nil) = same_history s
+read_history s (Some (value.Number n)) = same_history s
+read_history s (Some (value.Ref name)) = mark_history s name
+
+advanced_history : (s : State) (queue : List Entry) → SameHistory s (advanced s queue)
+advanced_history s [] = same_history s
+advanced_history s (entry ∷ rest) = record { world = refl; snapshot = refl; opened = refl; finalised = refl; is_closed = refl }
+
+then_history : (s t u : State) → SameHistory s t → SameHistory t u → SameHistory s u
+then_history s t u a b = record {
+  world = b.world ∙ a.world;
+  snapshot = b.snapshot ∙ a.snapshot;
+  opened = b.opened ∙ a.opened;
+  finalised = b.finalised ∙ a.finalised;
+  is_closed = b.is_closed ∙ a.is_closed;
+}
+
+scan_history : (s : State) (queue : List Entry) → SameHistory s (after_scan s queue)
+scan_history s [] = same_history s
+scan_history s (entry ∷ rest) =
+    let t : State = mark_read s (read_at (node_of s.world entry.name) entry.position) in
+    then_history s t (advanced t t.queue) (read_history s (read_at (node_of s.world entry.name) entry.position)) (advanced_history t t.queue)
+
+-- what counts as opened: what commands opened and what was floated
+abbrev Opens : World → List Row → List Name → List Name → Type 0
+Opens w rows extra names = (name : Name) → Contains names name ↔ (Contains (opened w rows) name ⊎ Contains extra name)
+
+record IsUnderWay (w : World) (rows : List Row) (extra : List Name) (s : State) : Type 0 where
+  facts : Facts s
+  world : IsWorld s.world
+  legal : IsLegal w rows
+  snapshot : s.snapshot ≡ w
+  now : s.world ≡ replayed w rows
+  opened_is : Opens w rows extra s.opened
+  finalised_is : s.finalised ≡ finalised w rows
+
+same_under_way : (w : World) (rows : List Row) (extra : List Name) (s t : State) → IsUnderWay w rows extra s → SameHistory s t → Facts t →
+    IsUnderWay w rows extra t
+same_under_way w rows extra s t u h f = record {
+  facts = f;
+  world = subst IsWorld (sym h.world) u.world;
+  legal = u.legal;
+  snapshot = h.snapshot ∙ u.snapshot;
+  now = h.world ∙ u.now;
+  opened_is = subst (Opens w rows extra) (sym h.opened) u.opened_is;
+  finalised_is = h.finalised ∙ u.finalised_is;
+}
+
+values_history : (s : State) (values : List Value) → SameHistory s (mark_values s values)
+values_history s [] = same_history s
+values_history s (value.Nil ∷ values) = values_history s values
+values_history s (value.Number n ∷ values) = values_history s values
+values_history s (value.Ref name ∷ values) =
+    then_history s (mark_name s name) (mark_values (mark_name s name) values) (mark_history s name) (values_history (mark_name s name) values)
+
+-- a command keeps the facts
+given_keeps : (s next : State) (f : Facts s) (w : IsWorld s.world) (m : ℕ) (c : Command) → IsGiven s m c next → Facts next
+given_keeps s next f w m c g =
+    subst Facts (sym g.next_is) (given_facts s f w m c g.can.mutator g.names
+    (subst (λ (t : State). All (MayHold t) g.names) g.next_is g.held)
+    (λ target d. subst (λ (t : State). IsSafe t target) g.next_is (g.due target d)))
+
+world_of : (s t : State) → SameHistory s t → IsWorld s.world → IsWorld t.world
+world_of s t h w = subst IsWorld (sym h.world) w
+
+shuffled_history : (s next : State) → SameHistory s (record s { queue = next.queue; owed = next.owed; pushed = next.pushed })
+shuffled_history s next = record { world = refl; snapshot = refl; opened = refl; finalised = refl; is_closed = refl }
+
+pub lax_keeps_facts : LaxKeepsFacts
+lax_keeps_facts s next f w (lax.given m c g) = (
+  given_keeps s next f w m c g,
+  subst (λ (t : State). IsWorld t.world) (sym g.next_is) (step_keeps_world s.world m c w g.can),
+)
+lax_keeps_facts s next f w (lax.shuffled h) = (subst Facts (sym h.rest) (shuffled_facts s f next h), subst (λ (t : State). IsWorld t.world) (sym h.rest) w)
+lax_keeps_facts s next f w (lax.floated name h) = (
+  subst Facts (sym h.next_is) (floated_facts s f h.m h.place name),
+  subst (λ (t : State). IsWorld t.world) (sym h.next_is) w,
+)
+lax_keeps_facts s next f w (lax.marked name may e) = (
+  subst Facts (sym e) (mark_facts s name f may),
+  subst (λ (t : State). IsWorld t.world) (sym e) (world_of s (mark_name s name) (mark_history s name) w),
+)
+lax_keeps_facts s next f w (lax.scanned e) = (
+  subst Facts (sym e) (scan_facts s f w s.queue refl),
+  subst (λ (t : State). IsWorld t.world) (sym e) (world_of s (after_scan s s.queue) (scan_history s s.queue) w),
+)
+
+-- a push of whatever keeps the facts
+floated_keeps : (s next : State) (name : Name) → Facts s → (h : IsFloated s name next) → Facts next
+floated_keeps s next name f h = subst Facts (sym h.next_is) (floated_facts s f h.m h.place name)
+
+-- a quiet step of a run that is under way
+quiet_on : (w : World) (rows row : List Row) (extra one : List Name) (s t next : State) → IsUnderWay w rows extra s → row ≡ [] → one ≡ [] →
+    next ≡ t → SameHistory s t → Facts t → IsUnderWay w (rows ++ row) (extra ++ one) next
+quiet_on w rows row extra one s t next u none no_name e same f = rw (
+  none,
+  no_name,
+  append-nil,
+  append-nil,
+) (subst (IsUnderWay w rows extra) (sym e) (same_under_way w rows extra s t u same f))
+
+-- a command opens what it opens
+opens_more : (w : World) (rows : List Row) (extra names new : List Name) (row : Row) → Opens w rows extra names →
+    opened_by (replayed w rows) row.mutator row.command ≡ new → Opens w (rows ++ row ∷ []) extra (names ++ new)
+opens_more w rows extra names new row h e name =
+    let is : opened w (rows ++ row ∷ []) ≡ opened w rows ++ new = rw (opened-push w rows row, e) refl in (
+      λ c. elim (Contains-append_cases names new name c) [
+        | inl old ↦ elim ((h name).0 old) [ inl a ↦ inl (rw is (Contains-append_left (opened w rows) new name a)) | inr b ↦ inr b ]
+        | inr k ↦ inl (rw is (Contains-append_right (opened w rows) new name k))
+      ],
+      λ c. elim c [
+        | inl a ↦ elim (Contains-append_cases (opened w rows) new name (rw is at a)) [
+          | inl old ↦
+              Contains-append_left names new name ((h name).1 (inl old))
+          | inr k ↦ Contains-append_right names new name k
+        ]
+        | inr b ↦ Contains-append_left names new name ((h name).1 (inr b))
+      ],
+    )
+
+-- a command of a run that is under way
+given_on : (w : World) (rows : List Row) (extra : List Name) (s next : State) (m : ℕ) (c : Command) (answer : Reply) → IsUnderWay w rows extra s →
+    IsGiven s m c next → (step s.world m c).1 ≡ answer → IsUnderWay w (rows ++ (record { mutator = m; command = c; reply = answer }) ∷ []) extra next
+given_on w rows extra s next m c answer u g says =
+    let row : Row = record { mutator = m; command = c; reply = answer } in
+    let t : State = after_owing s m c g.names in
+    let f : Facts t = subst Facts g.next_is (given_keeps s next u.facts u.world m c g) in
+    let now : replayed w rows ≡ s.world = sym u.now in
+    let by : opened_by (replayed w rows) m c ≡ opened_by s.world m c = rw now refl in
+    subst (IsUnderWay w (rows ++ row ∷ []) extra) (sym g.next_is) (record {
+      facts = f;
+      world = step_keeps_world s.world m c u.world g.can;
+      legal = legal_push w rows row u.legal (subst (λ (v : World). (step v m c).1 ≡ answer) u.now says);
+      snapshot = u.snapshot;
+      now = subst (λ (v : World). (step s.world m c).0 ≡ (step v m c).0) u.now refl ∙ sym (replayed-push w rows row);
+      opened_is = opens_more w rows extra s.opened (opened_by s.world m c) row u.opened_is by;
+      finalised_is = rw (u.finalised_is, finalised-push w rows row, now) refl;
+    })
+
+-- a push of whatever in a run that is under way
+float_on : (w : World) (rows : List Row) (extra : List Name) (s next : State) (name : Name) → IsUnderWay w rows extra s → IsFloated s name next →
+    IsUnderWay w rows (extra ++ name ∷ []) next
+float_on w rows extra s next name u h =
+    subst (IsUnderWay w rows (extra ++ name ∷ [])) (sym h.next_is) (record {
+      facts = floated_facts s u.facts h.m h.place name;
+      world = u.world;
+      legal = u.legal;
+      snapshot = u.snapshot;
+      now = u.now;
+      opened_is = λ n. (
+        λ c. elim (Contains-append_cases s.opened (name ∷ []) n c) [
+          | inl old ↦ elim ((u.opened_is n).0 old) [ inl a ↦ inl a | inr b ↦ inr (Contains-append_left extra (name ∷ []) n b) ]
+          | inr k ↦ inr (Contains-append_right extra (name ∷ []) n k)
+        ],
+        λ c. elim c [
+          | inl a ↦ Contains-append_left s.opened (name ∷ []) n ((u.opened_is n).1 (inl a))
+          | inr b ↦ elim (Contains-append_cases extra (name ∷ []) n b) [
+            | inl old ↦
+                Contains-append_left s.opened (name ∷ []) n ((u.opened_is n).1 (inr old))
+            | inr k ↦ Contains-append_right s.opened (name ∷ []) n k
+          ]
+        ],
+      );
+      finalised_is = u.finalised_is;
+    })
+
+row_on : (w : World) (rows row : List Row) (extra one : List Name) (s next : State) → IsUnderWay w rows extra s → LaxRow s next row one →
+    IsUnderWay w (rows ++ row) (extra ++ one) next
+row_on w rows row extra one s next u (lax.command m c answer g says e no_name) = rw (e, no_name, append-nil) (given_on w rows extra s next m c answer u g says)
+row_on w rows row extra one s next u (lax.quiet h none no_name) =
+    quiet_on w rows row extra one s (record s {
+      queue = next.queue;
+      owed = next.owed;
+      pushed = next.pushed;
+    }) next u none no_name h.rest (shuffled_history s next) (shuffled_facts s u.facts next h)
+row_on w rows row extra one s next u (lax.float name h none e) = rw (none, e, append-nil) (float_on w rows extra s next name u h)
+row_on w rows row extra one s next u (lax.mark name may e none no_name) =
+    quiet_on w rows row extra one s (mark_name s name) next u none no_name e (mark_history s name) (mark_facts s name u.facts may)
+row_on w rows row extra one s next u (lax.scan e none no_name) =
+    quiet_on w rows row extra one s (after_scan s s.queue) next u none no_name e (scan_history s s.queue) (scan_facts s u.facts u.world s.queue refl)
+
+opens : (w : World) → IsWorld w → IsUnderWay w [] [] (opening w)
+opens w h =
+    let start : SameHistory (unmarked w) (opening w) = values_history (unmarked w) (root_values w) in
+    record {
+      facts = opening_facts w h;
+      world = subst IsWorld (sym start.world) h;
+      legal = tt;
+      snapshot = start.snapshot;
+      now = start.world;
+      opened_is = λ name. (
+        λ c. absurd (nothing_in name (rw start.opened at c)),
+        λ c. elim c [ inl a ↦ absurd (nothing_in name a) | inr b ↦ absurd (nothing_in name b) ],
+      );
+      finalised_is = start.finalised;
+    }
+
+under_way : (w : World) → IsWorld w → (rows : List Row) (extra : List Name) (s : State) → LaxRuns (opening w) rows extra s → IsUnderWay w rows extra s
+under_way w h rows extra s lax.start = opens w h
+under_way w h rows extra s (lax.more before row names one mid next runs last) = row_on w before row names one mid s (under_way w h before names mid runs) last
+
+-- the snapshot theorem, for the lax relation
+pub lax_theorem : LaxTheorem
+lax_theorem w h rows extra s runs =
+    let u : IsUnderWay w rows extra s = under_way w h rows extra s runs in
+    record {
+      legal = u.legal;
+      snapshot = u.snapshot;
+      world = u.now;
+      opened = u.opened_is;
+      finalised = u.finalised_is;
+      live = live_from w s u.facts u.snapshot;
+      exact = λ next possible closing. closing_is_exact s next u.facts possible closing;
+    }

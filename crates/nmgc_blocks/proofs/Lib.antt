@@ -1,2 +1,0 @@
-mod RoomLaws
-mod YoungHeap

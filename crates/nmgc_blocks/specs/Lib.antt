@@ -1,9 +1,0 @@
-pub mod Nurseries
-pub mod Occupied
-pub mod Promoted
-pub mod Remembers
-pub mod Room
-pub mod Samples
-pub mod Stopped
-pub mod Strong
-pub mod laws

@@ -1,0 +1,12 @@
+pub mod Cycle
+pub mod Nurseries
+pub mod Occupied
+pub mod Placed
+pub mod Promoted
+pub mod Remembers
+pub mod Room
+pub mod Samples
+pub mod Stopped
+pub mod Strong
+pub mod Waiting
+pub mod laws

@@ -1,0 +1,45 @@
+-- Promotion: which objects of a round get a block at its stop, and where.
+use Rattle.std.specs.Prelude.{ℕ, ◌≡◌, ◌⊎◌, List, [], ◌∷◌, Some, None, IsSome}
+use Rattle.nmgc_world_spec.specs.declared.value.Name.{Name}
+use Rattle.nmgc_world_spec.specs.declared.node.Node.{Node}
+use Rattle.nmgc_world_spec.specs.declared.node.Parts.{Parts}
+use Rattle.nmgc_world_spec.specs.World.{World, node_of}
+use Rattle.nmgc_world_spec.specs.Reach.{IsReached, IsRoot, RefersTo, IsAlive}
+use Rattle.nmgc_object.specs.Size.{IsClassOf}
+use Rattle.nmgc_object.specs.declared.layout.Layout.{Layout}
+use Rattle.nmgc_heap_spec.specs.Shape.{size_of}
+use Rattle.nmgc_world_spec.specs.Wide.{IsOfWeak}
+use Rattle.nmgc_alloc.specs.AllocState.{AllocState, Places}
+
+-- a young name: the round made it
+abbrev pub IsYoung : World → World → Name → Type 0
+IsYoung began w name = (node_of began name ≡ None) × IsSome (node_of w name)
+
+-- a name that isn't young, and refers to this one
+abbrev pub IsHeldByOld : World → World → Name → Type 0
+IsHeldByOld began w name = (holder : Name) × IsSome (node_of began holder) × RefersTo w holder name
+
+-- a young weak pointer that is alive, or one of its parts refers to this name
+abbrev pub IsOfYoungWeak : World → World → Name → Type 0
+IsOfYoungWeak began w name = (weak : Name) × (parts : Parts) × IsYoung began w weak × IsAlive w weak parts × IsOfWeak weak parts name
+
+-- where the search for what is promoted begins
+abbrev pub IsFirstPromoted : World → World → Name → Type 0
+IsFirstPromoted began w name = IsRoot w name ⊎ (IsHeldByOld began w name ⊎ IsOfYoungWeak began w name)
+
+-- a young name that is promoted
+abbrev pub IsPromoted : World → World → Name → Type 0
+IsPromoted began w name = IsYoung began w name × IsReached w (IsFirstPromoted began w) name
+
+-- the object of the name is placed, for its maker and its class
+pub record PlacesObject (layout : Layout) (w : World) (old new : AllocState) (name : Name) : Type 0 where
+  pub node : Node
+  pub there : node_of w name ≡ Some node
+  pub class : ℕ
+  pub fits : IsClassOf (size_of node) class
+  pub places : Places layout old new name.maker class name
+
+-- the objects of the names are placed, one after the other
+abbrev pub PlacesEach : Layout → World → AllocState → List Name → AllocState → Type 0
+PlacesEach layout w old [] new = new ≡ old
+PlacesEach layout w old (name ∷ names) new = (next : AllocState) × PlacesObject layout w old next name × PlacesEach layout w next names new

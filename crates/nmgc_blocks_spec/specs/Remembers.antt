@@ -1,0 +1,27 @@
+-- What a round leaves for the stop after it: the fields of older objects that it wrote, and its weak pointers.
+use Rattle.std.specs.Prelude.{ℕ, ◌≡◌, ◌≢◌, ◌+◌, ◌<◌, ◌≤◌, List, slice_get, Contains, Option, Some}
+use Rattle.nmgc_world_spec.specs.declared.value.Name.{Name}
+use Rattle.nmgc_world_spec.specs.declared.value.Value.TheVariants.{Ref}
+use Rattle.nmgc_limits.specs.declared.mutators.TheConstants.{SHARED_MAKER}
+use Rattle.nmgc_world_spec.specs.declared.node.Node.{Node}
+use Rattle.nmgc_world_spec.specs.declared.node.Node.TheVariants.{Weak}
+use Rattle.nmgc_world_spec.specs.declared.node.Parts.{Parts}
+use Rattle.nmgc_world_spec.specs.World.{World, node_of}
+use Rattle.nmgc_world_spec.specs.Reach.{IsAlive}
+use Rattle.nmgc_object.specs.declared.size.TheConstants.{HEADER_WORDS}
+use Rattle.nmgc_heap_spec.specs.Shape.{Slot, holds, untold, slots_of}
+use Rattle.nmgc_heap_spec.specs.Tracked.{IsTracked}
+use Rattle.nmgc_heap_spec.specs.Places.{Place}
+
+-- recorded places are of told fields of tracked objects outside the nurseries, and each of these that refers to a
+-- young object is recorded; the weak pointers are the young ones, alive or not
+pub record Remembers (base : ℕ) (earlier : List World) (places : List Place) (w : World) (recorded weaks : List ℕ) : Type 0 where
+  pub fields : (at : ℕ) → Contains recorded at → (p : Place) × (node : Node) × (i : ℕ) × (slot : Slot) × Contains places p ×
+      IsTracked w earlier p.name × (node_of w p.name ≡ Some node) × (slice_get (slots_of node) i ≡ Some slot) × (slot ≢ untold) ×
+      (at ≡ p.at + HEADER_WORDS + i) × (p.at < base)
+  pub all_fields : (p q : Place) (node : Node) (i : ℕ) → Contains places p → p.at < base → p.name.maker ≢ SHARED_MAKER →
+      IsTracked w earlier p.name → node_of w p.name ≡ Some node → slice_get (slots_of node) i ≡ Some (holds (Ref q.name)) → Contains places q →
+      base ≤ q.at → Contains recorded (p.at + HEADER_WORDS + i)
+  pub weak_places : (at : ℕ) → Contains weaks at → (name : Name) × (parts : Option Parts) × Contains places (record { at = at; name = name }) ×
+      (base ≤ at) × (node_of w name ≡ Some (Weak parts))
+  pub all_weaks : (p : Place) (parts : Parts) → Contains places p → base ≤ p.at → IsAlive w p.name parts → Contains weaks p.at

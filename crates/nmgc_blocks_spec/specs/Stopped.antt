@@ -1,0 +1,76 @@
+-- The heap at a stop, as its promotion begins and once it is done.
+--
+-- Until the promotion is done the collector speaks of the world as the round began too: the recorded
+-- fields are of objects that the mutators may have dropped in the round. What the words stand for is told
+-- with the places, and with the worlds of which the collector speaks.
+use Rattle.std.specs.Prelude.{ℕ, ◌≡◌, ◌<◌, ◌≤◌, ◌⊎◌, ◌↔◌, List, ◌∷◌, map, Contains, None, IsSome}
+use Rattle.nmgc_world_spec.specs.declared.value.Name.{Name}
+use Rattle.nmgc_world_spec.specs.declared.node.Parts.{Parts}
+use Rattle.nmgc_world_spec.specs.World.{World, node_of, IsWorld}
+use Rattle.nmgc_world_spec.specs.Reach.{RefersTo, IsAlive, Lists}
+use Rattle.nmgc_object.specs.Places.{nursery_place, reserve_count}
+use Rattle.nmgc_object.specs.declared.layout.Nursery.{Nursery}
+use Rattle.nmgc_alloc.specs.Numbered.{Segments}
+use Rattle.nmgc_alloc.specs.Segments.{IsSegments}
+use Rattle.nmgc_alloc.specs.Reserve.{free_count}
+use Rattle.nmgc_heap_spec.specs.Tracked.{IsTracked}
+use Rattle.nmgc_heap_spec.specs.Places.{Place}
+use Rattle.nmgc_heap_spec.specs.Represents.{Represents, NoNode, IsEarlier}
+use Rattle.nmgc_heap_spec.specs.Roots.{RepresentsRoots}
+use Rattle.nmgc_heap_spec.specs.Moves.{Moved, old_place, settled}
+use Rattle.nmgc_blocks_spec.specs.Nurseries.{AreUsed, LieInOrder, AreEmpty}
+use Rattle.nmgc_blocks_spec.specs.Occupied.{AreBlocks}
+use Rattle.nmgc_blocks_spec.specs.Promoted.{IsPromoted}
+use Rattle.nmgc_blocks_spec.specs.Remembers.{Remembers}
+
+-- the world at a stop, the world as the round began, the earlier worlds of which the collector speaks afterwards too,
+-- the places of objects, and the next serials
+pub record Stopped : Type 0 where
+  pub world : World
+  pub began : World
+  pub later : List World
+  pub places : List Place
+  pub serials : List ℕ
+
+-- the earlier worlds of which the collector speaks until the promotion is done
+abbrev pub earlier_of : Stopped → List World
+earlier_of t = t.began ∷ t.later
+
+-- the word at which the nurseries begin
+abbrev pub young_base : Segments → ℕ
+young_base s = nursery_place s.layout 0
+
+-- what the round did to the world: earlier worlds have the same objects; of later snapshots no object lies in a
+-- nursery; young places are those of the names that it made; an object that isn't young and refers to a young one is
+-- tracked; a weak pointer that isn't young and is alive has the parts that it had as the round began
+pub record IsRoundOf (base : ℕ) (t : Stopped) : Type 0 where
+  pub past : (e : World) → Contains (earlier_of t) e → IsEarlier e t.world
+  pub outside : (e : World) (p : Place) → Contains t.later e → Contains t.places p → IsSome (node_of e p.name) → p.at < base
+  pub young : (p : Place) → Contains t.places p → (base ≤ p.at) ↔ (node_of t.began p.name ≡ None)
+  pub changed : (holder name : Name) → IsSome (node_of t.began holder) → node_of t.began name ≡ None → RefersTo t.world holder name →
+      IsTracked t.world (earlier_of t) holder
+  pub parts : (weak : Name) (parts : Parts) → IsSome (node_of t.began weak) → IsAlive t.world weak parts → IsAlive t.began weak parts
+
+-- words, segments, nurseries, roots and what the round left stand for it; the reserve is free, or the nurseries are empty
+pub record IsStopped (t : Stopped) (s : Segments) (words : List ℕ) (nurseries : List Nursery) (registers : List ℕ) (queues : List (List ℕ))
+    (recorded weaks : List ℕ) : Type 0 where
+  pub world : IsWorld t.world
+  pub round : IsRoundOf (young_base s) t
+  pub represents : Represents s.layout (earlier_of t) NoNode t.places t.world words
+  pub roots : RepresentsRoots t.places t.world registers queues t.serials
+  pub segments : IsSegments s
+  pub blocks : AreBlocks s (young_base s) t.places t.world
+  pub used : AreUsed s.layout (young_base s) t.places t.world nurseries
+  pub order : LieInOrder (young_base s) t.places
+  pub left : Remembers (young_base s) (earlier_of t) t.places t.world recorded weaks
+  pub reserve : (reserve_count s.layout ≤ free_count s.segments) ⊎ AreEmpty nurseries
+
+-- the same world once objects moved: exactly the promoted ones, in order of names, out of the nurseries; words, roots
+-- and blocks in use have the new places, and the collector no longer speaks of the world as the round began
+pub record IsSettled (t : Stopped) (s : Segments) (words : List ℕ) (registers : List ℕ) (queues : List (List ℕ)) (moves : List Moved) : Type 0 where
+  pub promoted : Lists (IsPromoted t.began t.world) (map (λ (m : Moved). m.name) moves)
+  pub moved : (m : Moved) → Contains moves m → Contains t.places (old_place m)
+  pub low : (m : Moved) → Contains moves m → m.to < young_base s
+  pub represents : Represents s.layout t.later NoNode (settled (young_base s) moves t.places) t.world words
+  pub roots : RepresentsRoots (settled (young_base s) moves t.places) t.world registers queues t.serials
+  pub blocks : AreBlocks s (young_base s) (settled (young_base s) moves t.places) t.world

@@ -1,0 +1,32 @@
+-- The strong fields of an object, as its words show them: what a search through the words follows.
+use Rattle.std.specs.Prelude.{ℕ, ◌≡◌, ◌+◌, ◌<◌, ◌≤◌, Bool, true, false, List, slice_index, ◌==◌}
+use Rattle.nmgc_world_spec.specs.declared.node.Kind.{Kind}
+use Rattle.nmgc_world_spec.specs.declared.node.Kind.TheVariants.{Con, Var, Arr, Thunk, Weak, Stack}
+use Rattle.nmgc_object.specs.Words.{header_word, IsHeader}
+use Rattle.nmgc_object.specs.declared.words.Header.{Header}
+use Rattle.nmgc_object.specs.declared.size.TheConstants.{HEADER_WORDS}
+
+-- which of so many fields are strong, from the first number up to the second, which is left out: a thunk whose result
+-- is set no longer holds its free variables, and a weak pointer holds nothing
+abbrev pub strong_part : Kind → ℕ → Bool → ℕ × ℕ
+strong_part Con count unset = (0, count)
+strong_part Var count unset = (0, count)
+strong_part Arr count unset = (0, count)
+strong_part Thunk count true = (1, count)
+strong_part Thunk count false = (0, 1)
+strong_part Weak count unset = (0, 0)
+strong_part Stack count unset = (0, count)
+
+-- the part of the object at a place that is strong, with this header
+abbrev pub strong_of : List ℕ → ℕ → Header → ℕ × ℕ
+strong_of words at header = strong_part header.kind header.fields (slice_index words (at + HEADER_WORDS) == 0)
+
+-- the object at the place has a strong field with the word
+pub record HasStrong (words : List ℕ) (at word : ℕ) : Type 0 where
+  pub header : Header
+  pub valid : IsHeader header
+  pub read : slice_index words at ≡ header_word header
+  pub index : ℕ
+  pub from : (strong_of words at header).0 ≤ index
+  pub before : index < (strong_of words at header).1
+  pub is : slice_index words (at + HEADER_WORDS + index) ≡ word

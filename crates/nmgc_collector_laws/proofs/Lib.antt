@@ -1,0 +1,3 @@
+pub mod cycles
+pub mod rounds
+pub mod runs

@@ -1,0 +1,309 @@
+-- Where no command owes anything, what is marked is what strong fields reach from the roots of the snapshot.
+use Rattle.std.proofs.Common.{◌≡◌, ◌<◌, ℕ, zero, suc, Bool, true, false, List, [], ◌∷◌, ◌++◌, length, refl, sym, ap, subst, ◌∙◌, arith, inl, inr, Option, Some, None}
+use Rattle.std.specs.Prelude.{IsSome, IfSome, All, Contains, is_some, not}
+use Rattle.std.specs.List.{flat_map}
+use Rattle.std.proofs.lemmas.Bool.{and_parts}
+use Rattle.std.proofs.lemmas.List.Elements.{All-nil, All-append, All-head, All-tail, All-contains, Contains-append_left, Contains-append_right, Contains-append_cases}
+use Rattle.std.proofs.lemmas.Option.{get_or_from_slice_get}
+use Rattle.nmgc_world_spec.specs.declared.command.Command.{Command}
+use Rattle.nmgc_world_spec.specs.declared.command.Reply.{Reply}
+use Rattle.nmgc_world_spec.specs.declared.mutator_state.MutatorState.{MutatorState}
+use Rattle.nmgc_world_spec.specs.declared.node.Node.{Node}
+use Rattle.nmgc_world_spec.specs.declared.node.Node.TheVariants.{Con, Var, Arr, Thunk, Weak, Stack}
+use Rattle.nmgc_world_spec.specs.declared.value.Name.{Name}
+use Rattle.nmgc_world_spec.specs.declared.value.Value.{Value}
+use Rattle.nmgc_world_spec.specs.declared.value.Value.TheVariants as value
+use Rattle.nmgc_world_spec.specs.World.{World, IsWorld, node_of, state_of, no_mutator}
+use Rattle.nmgc_world_spec.specs.Step.{CanApply, next_name, shared_name, step}
+use Rattle.nmgc_world_spec.specs.History.{Row}
+use Rattle.nmgc_world_spec.specs.Reach.{IsReached, IsRoot, RefersTo, strong_fields}
+use Rattle.nmgc_lists.specs.laws.Items.{contains_head, contains_tail, at_some, is_some_of, nothing_in, one_is, place_of}
+use Rattle.nmgc_world_laws.specs.laws.Worlds.{not_shared}
+use Rattle.nmgc_world_laws.specs.Holds.{Names, Fields, CoversReach, has_result, strong_at, free_of}
+use Rattle.nmgc_world_spec.specs.Owed.{owed_by}
+use Rattle.nmgc_world_laws.specs.laws.Barrier.{field_at_place}
+use Rattle.nmgc_world_laws.specs.laws.HeldSteps.{some_of}
+use Rattle.nmgc_world_laws.specs.laws.WeakMoves.{all_moves, opened_owed}
+use Rattle.nmgc_snapshot_laws.specs.declared.event.Entry.{Entry}
+use Rattle.nmgc_snapshot_laws.specs.declared.event.Event.{Event}
+use Rattle.nmgc_snapshot_laws.specs.declared.event.Event.TheVariants as event
+use Rattle.nmgc_snapshot_laws.specs.Facts.{Facts, IsSafe, IsAhead, marked, owed, pushed, unmarked, queued}
+use Rattle.nmgc_snapshot_laws.specs.Machine.{Passes, after_scan, advanced}
+use Rattle.nmgc_snapshot_laws.specs.Run.{Runs}
+use Rattle.nmgc_snapshot_laws.specs.Scan.{read_at, field_at}
+use Rattle.nmgc_snapshot_laws.specs.State.{State, names_of, is_listed, mark_name, mark_read, mark_values, opening, root_values, unmarked as first_state}
+use Rattle.nmgc_snapshot_laws.specs.laws.Commands.{next_absent}
+use Rattle.nmgc_snapshot_laws.specs.laws.Listed.{all_from_contains, each_names}
+use Rattle.nmgc_snapshot_laws.specs.laws.Lives.{live_there, stands}
+use Rattle.nmgc_snapshot_laws.specs.laws.Marking.{mark_cases}
+use Rattle.nmgc_snapshot_laws.specs.laws.Runs.{event_keeps_facts, opening_has_facts, opening_world, snapshot_theorem}
+use Rattle.nmgc_snapshot_laws.specs.laws.ScanReads.{read_cases}
+use Rattle.nmgc_round.specs.laws.Common.{world_scanned}
+use Rattle.nmgc_run_spec.specs.Closing.{owed as owed_along}
+use Rattle.nmgc_snapshot_laws.specs.laws.MarkedOnce.{stays_closed}
+use Rattle.nmgc_collector_laws.proofs.cycles.Beginning.{IsBegun, begun}
+use Rattle.nmgc_snapshot_laws.specs.laws.Openings.{no_names as none_at_first}
+use Rattle.nmgc_collector_laws.proofs.cycles.Going.{Leaves, leaves_scan, owed_scan}
+use Rattle.nmgc_snapshot_laws.specs.laws.Scans.{has_free as thunk_free}
+
+-- both parts of a list without items have none
+none_first : (xs ys : List Name) → xs ++ ys ≡ [] → xs ≡ []
+none_first [] ys e = refl
+none_first (x ∷ xs) ys e = absurd cc
+
+none_last : (xs ys : List Name) → xs ++ ys ≡ [] → ys ≡ []
+none_last [] ys e = e
+none_last (x ∷ xs) ys e = absurd cc
+
+waiting_thunk : (node : Node) (free : List Value) → has_result node ≡ false → free_of node ≡ Some free → node ≡ Thunk free None
+waiting_thunk (Con tag values) free none e = absurd cc
+waiting_thunk (Var v) free none e = absurd cc
+waiting_thunk (Arr values) free none e = absurd cc
+waiting_thunk (Thunk own None) free none e = let same : own ≡ free = cc in ap (λ (l : List Value). Thunk l None) same
+waiting_thunk (Thunk own (Some result)) free none e = absurd cc
+waiting_thunk (Weak parts) free none e = absurd cc
+waiting_thunk (Stack size values) free none e = absurd cc
+
+module _ (S : World) (is : IsWorld S) where
+  -- reached in the snapshot, by strong fields alone
+  abbrev pub Strong : Name → Type 0
+  Strong n = IsReached S (IsRoot S) n
+
+  -- or made since
+  abbrev Kept : Name → Type 0
+  Kept n = IsSome (node_of S n) → Strong n
+
+  -- what the snapshot's roots and reached objects hold
+  held_fields : (name : Name) → Kept name → (o : Option Node) → node_of S name ≡ o → IfSome o (Fields (Names Kept))
+  held_fields name k None e = tt
+  held_fields name k (Some node) e = all_from_contains Kept (strong_fields node) (λ target c there.
+      IsReached.field name target (k (some_of (node_of S name) node e)) (node, e, c))
+
+  snapshot_holds : CoversReach Kept S
+  snapshot_holds = record {
+    registers = λ m. all_from_contains Kept (state_of S m).registers (λ n c there.
+        IsReached.start n (inr (m, Contains-append_left (state_of S m).registers (state_of S m).queue (value.Ref n) c)));
+    queues = λ m. all_from_contains Kept (state_of S m).queue (λ n c there.
+        IsReached.start n (inr (m, Contains-append_right (state_of S m).registers (state_of S m).queue (value.Ref n) c)));
+    fields = λ name k. held_fields name k (node_of S name) refl;
+  }
+
+  shared_kept : Kept shared_name
+  shared_kept there = IsReached.start shared_name (inl refl)
+
+  each_flat : (f : MutatorState → List Value) (states : List MutatorState) → ((m : MutatorState) → Contains states m → All (Names Kept) (f m)) →
+      All (Names Kept) (flat_map f states)
+  each_flat f [] g = All-nil (Names Kept)
+  each_flat f (m ∷ states) g = All-append (Names Kept) (f m) (flat_map f states) (g m (contains_head m states)) (each_flat f states (λ t c.
+      g t (contains_tail m states t c)))
+
+  roots_kept : All (Names Kept) (root_values S)
+  roots_kept =
+      All-append (Names Kept) (flat_map (λ (m : MutatorState). m.registers) S.mutators) _
+      (each_flat (λ (m : MutatorState). m.registers) S.mutators (λ m c. let p = place_of S.mutators m c in
+      subst (λ (t : MutatorState). All (Names Kept) t.registers) (get_or_from_slice_get S.mutators p.0 m no_mutator p.1) (snapshot_holds.registers p.0)))
+      (All-append (Names Kept) (flat_map (λ (m : MutatorState). m.queue) S.mutators) (strong_fields S.shared)
+      (each_flat (λ (m : MutatorState). m.queue) S.mutators (λ m c. let p = place_of S.mutators m c in
+      subst (λ (t : MutatorState). All (Names Kept) t.queue) (get_or_from_slice_get S.mutators p.0 m no_mutator p.1) (snapshot_holds.queues p.0)))
+      (held_fields shared_name shared_kept (Some S.shared) refl))
+
+  -- what is marked is reached so
+  abbrev AreStrong : State → Type 0
+  AreStrong s = (n : Name) → Contains s.marked n → Strong n
+
+  strong_name : (s : State) (name : Name) → s.snapshot ≡ S → Kept name → AreStrong s → AreStrong (mark_name s name)
+  strong_name s name same kept h = mark_cases AreStrong s name
+      (λ new n c. elim (Contains-append_cases s.marked (name ∷ []) n c) [
+        | inl old ↦ h n old
+        | inr last ↦ subst Strong (one_is name n last) (kept (subst (λ (w : World).
+            IsSome (node_of w name)) same (and_parts (is_some (node_of s.snapshot name)) (not (is_listed name s.marked)) new).0))
+      ])
+      (λ old. h)
+
+  strong_values : (s : State) (values : List Value) → s.snapshot ≡ S → All (Names Kept) values → AreStrong s → AreStrong (mark_values s values)
+  strong_values s [] same kept h = h
+  strong_values s (value.Nil ∷ values) same kept h = strong_values s values same (All-tail (Names Kept) value.Nil values kept) h
+  strong_values s (value.Number n ∷ values) same kept h = strong_values s values same (All-tail (Names Kept) (value.Number n) values kept) h
+  strong_values s (value.Ref name ∷ values) same kept h =
+      strong_values (mark_name s name) values (mark_cases (λ (t : State). t.snapshot ≡ S) s name (λ e. same) (λ e.
+      same)) (All-tail (Names Kept) (value.Ref name) values kept)
+      (strong_name s name same (All-head (Names Kept) (value.Ref name) values kept) h)
+
+  -- a state of the machine so far, in which nothing was ever owed
+  pub record IsStrongSo (s : State) : Type 0 where
+    pub facts : Facts s
+    pub world : IsWorld s.world
+    pub snapshot_is : s.snapshot ≡ S
+    pub holds : CoversReach Kept s.world
+    pub none_owed : (m : ℕ) → names_of s.owed m ≡ []
+    pub none_pushed : (m : ℕ) → names_of s.pushed m ≡ []
+    pub strong : AreStrong s
+
+  -- what a scan reads of the snapshot is reached so
+  module _ (s : State) (h : IsStrongSo s) (entry : Entry) (waits : Contains s.queue entry) where
+    entry_strong : Strong entry.name
+    entry_strong = h.strong entry.name (h.facts.base.queued entry waits)
+
+    entry_there : IsSome (node_of S entry.name)
+    entry_there = subst (λ (w : World).
+        IsSome (node_of w entry.name)) h.snapshot_is (live_there s.snapshot s.opened h.facts.base.snapshot entry.name
+        (h.facts.base.live entry.name (h.facts.base.queued entry waits)))
+
+    read_field : (node : Node) (i : ℕ) (n : Name) → node_of s.world entry.name ≡ Some node → entry.position ≡ suc i →
+        field_at node i ≡ Some (value.Ref n) → Kept n
+    read_field node i n e at reads = elim (read_cases node i (value.Ref n) reads) [
+      | inl st ↦ All-contains (Names Kept) (strong_fields node) (value.Ref n)
+          (at_some (node_of s.world entry.name) node (Fields (Names Kept)) e (h.holds.fields entry.name (λ there.
+          entry_strong))) (field_at_place node i (value.Ref n) st)
+      | inr (has, one, frees) ↦
+          let before = is_some_of (node_of S entry.name) entry_there in
+          let there : node_of s.snapshot entry.name ≡ Some before.0 = ap (λ (w : World). node_of w entry.name) h.snapshot_is ∙ before.1 in
+          let later = h.facts.base.later entry.name before.0 there in
+          let both : Some later.node ≡ Some node = sym later.node_is ∙ e in
+          let same : later.node ≡ node = cc in
+          let free = thunk_free node has in
+          let was : free_of before.0 ≡ Some free.0 = sym later.later.free ∙ ap (λ (x : Node). free_of x) same ∙ free.1 in
+          let none : has_result before.0 ≡ false = elim (h.facts.base.passed entry waits) [ inl low ↦ absurd (omega arith) | inr p ↦ p before.0 there ] in
+          let thunk : before.0 ≡ Thunk free.0 None = waiting_thunk before.0 free.0 none was in
+          let st : strong_at before.0 i ≡ Some (value.Ref n) = ap (λ (x : Node). strong_at x i) thunk ∙ frees free.0 free.1 in
+          (λ known. IsReached.field entry.name n entry_strong (before.0, before.1, field_at_place before.0 i (value.Ref n) st))
+    ]
+
+    read_kept : (o : Option Node) (position : ℕ) (n : Name) → node_of s.world entry.name ≡ o → entry.position ≡ position →
+        read_at o position ≡ Some (value.Ref n) → Kept n
+    read_kept None position n e at reads = absurd cc
+    read_kept (Some node) zero n e at reads = absurd cc
+    read_kept (Some node) (suc i) n e at reads = read_field node i n e at reads
+
+    strong_read : (v : Option Value) → read_at (node_of s.world entry.name) entry.position ≡ v → AreStrong (mark_read s v)
+    strong_read None e = h.strong
+    strong_read (Some value.Nil) e = h.strong
+    strong_read (Some (value.Number n)) e = h.strong
+    strong_read (Some (value.Ref n)) e = strong_name s n h.snapshot_is (read_kept (node_of s.world entry.name) entry.position n refl refl e) h.strong
+
+  strong_advanced : (s : State) (queue : List Entry) → AreStrong s → AreStrong (advanced s queue)
+  strong_advanced s [] h = h
+  strong_advanced s (entry ∷ rest) h = h
+
+  strong_scan : (s : State) (queue : List Entry) → IsStrongSo s → s.queue ≡ queue → AreStrong (after_scan s queue)
+  strong_scan s [] h e = h.strong
+  strong_scan s (entry ∷ rest) h e =
+      let v : Option Value = read_at (node_of s.world entry.name) entry.position in
+      let t : State = mark_read s v in
+      strong_advanced t t.queue (strong_read s h entry (subst (λ (l : List Entry). Contains l entry) (sym e) (contains_head entry rest)) v refl)
+
+  -- each event keeps it, where the command owes nothing
+  strong_command : (s next : State) (m : ℕ) (c : Command) (answer : Reply) → IsStrongSo s → Passes s (event.Command m c answer) true next →
+      next.is_closed ≡ false → owed_by s.world m c ≡ [] → IsStrongSo next
+  strong_command s next m c answer h p running none =
+      let kept : Facts next × IsWorld next.world = event_keeps_facts s next (event.Command m c answer) h.facts h.world p running in
+      let can : CanApply s.world m c = p.0.1 in
+      let own = not_shared s.world m h.world can.mutator in
+      let name : Name = next_name (state_of s.world m) m in
+      let fresh : Kept name = λ there. absurd (next_absent s m h.facts.base own (subst (λ (w : World). IsSome (node_of w name)) (sym h.snapshot_is) there)) in
+      let moves = all_moves Kept s.world m c can.mutator own shared_kept fresh (λ n d.
+      absurd (nothing_in n (subst (λ (l : List Name). Contains l n) none (opened_owed s.world m c n d)))) h.holds in
+      let place : m < length s.owed = let a = h.facts.base.owed_lists in let b = can.mutator in omega arith in
+      let empty : names_of s.owed m ++ owed_by s.world m c ≡ [] = ap (λ (l : List Name). l ++ owed_by s.world m c) (h.none_owed m) ∙ none in
+      subst IsStrongSo (sym p.1) (record {
+        facts = subst Facts p.1 kept.0;
+        world = subst (λ (t : State). IsWorld t.world) p.1 kept.1;
+        snapshot_is = h.snapshot_is;
+        holds = moves.holds;
+        none_owed = each_names (λ (l : List Name). l ≡ []) s.owed m (names_of s.owed m ++ owed_by s.world m c) place empty h.none_owed;
+        none_pushed = h.none_pushed;
+        strong = h.strong;
+      })
+
+  strong_scanned : (s next : State) → IsStrongSo s → Passes s event.Scan true next → next.is_closed ≡ false → IsStrongSo next
+  strong_scanned s next h p running =
+      let kept : Facts next × IsWorld next.world = event_keeps_facts s next event.Scan h.facts h.world p running in
+      let left : Leaves s (after_scan s s.queue) = leaves_scan s s.queue in
+      subst IsStrongSo (sym p.1) (record {
+        facts = subst Facts p.1 kept.0;
+        world = subst (λ (t : State). IsWorld t.world) p.1 kept.1;
+        snapshot_is = left.snapshot ∙ h.snapshot_is;
+        holds = subst (λ (w : World). CoversReach Kept w) (sym (world_scanned s s.queue)) h.holds;
+        none_owed = λ m. ap (λ (l : List (List Name)). names_of l m) (owed_scan s s.queue) ∙ h.none_owed m;
+        none_pushed = λ m. ap (λ (l : List (List Name)). names_of l m) left.pushed ∙ h.none_pushed m;
+        strong = strong_scan s s.queue h refl;
+      })
+
+  open_before : (s : State) (es : List Event) (rows : List Row) (t : State) → Runs s es rows t → t.is_closed ≡ false → s.is_closed ≡ false
+  open_before s es rows t h running = by_test s.is_closed refl
+    where
+      by_test : (b : Bool) → s.is_closed ≡ b → s.is_closed ≡ false
+      by_test true e = absurd (let bad : true ≡ false = sym (stays_closed s es rows t h e) ∙ running in cc)
+      by_test false e = e
+
+  -- and so does a run whose commands owe nothing
+  strong_runs : (s : State) (es : List Event) (rows : List Row) (t : State) → Runs s es rows t → t.is_closed ≡ false →
+      owed_along s.world rows ≡ [] → IsStrongSo s → IsStrongSo t
+  strong_runs s [] rows t h running none so = subst IsStrongSo (sym h.1) so
+  strong_runs s (e ∷ es) rows t (false, next, rest, first, same, later) running none so =
+      strong_runs next es rest t later running (subst (λ (y : World × List Row). owed_along y.0 y.1 ≡ []) (λ i. (
+        (sym first.1 i).world,
+        same i,
+      )) none) (subst IsStrongSo (sym first.1) so)
+  strong_runs s (event.Command m c answer ∷ es) rows t (true, next, rest, first, same, later) running none so =
+      let own : owed_by s.world m c ++ owed_along (step s.world m c).0 rest ≡ [] = ap (λ (l : List Row). owed_along s.world l) (sym same) ∙ none in
+      strong_runs next es rest t later running
+      (subst (λ (w : World). owed_along w rest ≡ []) (ap (λ (x : State).
+      x.world) (sym first.1)) (none_last (owed_by s.world m c) (owed_along (step s.world m c).0 rest) own))
+      (strong_command s next m c answer so first (open_before next es rest t later running)
+      (none_first (owed_by s.world m c) (owed_along (step s.world m c).0 rest) own))
+  strong_runs s (event.Push m ∷ es) rows t (true, next, rest, first, same, later) running none so = absurd (first.0.1 (so.none_owed m))
+  strong_runs s (event.Take m ∷ es) rows t (true, next, rest, first, same, later) running none so = absurd (first.0.1 (so.none_pushed m))
+  strong_runs s (event.Scan ∷ es) rows t (true, next, rest, first, same, later) running none so =
+      strong_runs next es rest t later running
+      (subst (λ (y : World × List Row). owed_along y.0 y.1 ≡ []) (λ i. (sym (ap (λ (x : State). x.world) first.1 ∙ world_scanned s s.queue) i, same i)) none)
+      (strong_scanned s next so first (open_before next es rest t later running))
+  strong_runs s (event.Close ∷ es) rows t (true, next, rest, first, same, later) running none so =
+      absurd (let on : next.is_closed ≡ true = ap (λ (x : State). x.is_closed) first.1.rest in let off = open_before next es rest t later running in
+      let bad : true ≡ false = sym on ∙ off in cc)
+
+  -- as marking begins
+  strong_opening : IsStrongSo (opening S)
+  strong_opening =
+      let b : IsBegun S (opening S) = begun S in
+      record {
+        facts = opening_has_facts S is;
+        world = subst IsWorld (sym b.world_is) is;
+        snapshot_is = ((snapshot_theorem S is [] [] (opening S) (refl, refl)).before b.open_yet).snapshot;
+        holds = subst (λ (w : World). CoversReach Kept w) (sym b.world_is) snapshot_holds;
+        none_owed = λ m. ap (λ (l : List (List Name)). names_of l m) b.owed_is ∙ none_at_first (length S.mutators) m;
+        none_pushed = λ m. ap (λ (l : List (List Name)). names_of l m) b.pushed_is ∙ none_at_first (length S.mutators) m;
+        strong = strong_values (first_state S) (root_values S) refl roots_kept (λ n c.
+            subst Strong (one_is shared_name n c) (IsReached.start shared_name (inl refl)));
+      }
+
+  -- where nothing waits, all that is reached so is marked, and nothing else
+  pub record IsExactlyStrong (core : State) : Type 0 where
+    pub sound : (n : Name) → Contains core.marked n → Strong n
+    pub complete : (n : Name) → Strong n → Contains core.marked n
+
+  pub exactly_strong : (es : List Event) (rows : List Row) (core : State) → Runs (opening S) es rows core → core.is_closed ≡ false →
+      owed_along S rows ≡ [] → core.queue ≡ [] → IsExactlyStrong core
+  exactly_strong es rows core runs running none empty =
+      let so : IsStrongSo core = strong_runs (opening S) es rows core runs running (subst (λ (w : World). owed_along w rows ≡
+      []) (sym (opening_world S)) none) strong_opening in
+      record { sound = so.strong; complete = all_marked so }
+    where
+      all_marked : IsStrongSo core → (n : Name) → Strong n → Contains core.marked n
+      all_marked so n (IsReached.start _ root) = so.facts.roots n (subst (λ (w : World). IsRoot w n) (sym so.snapshot_is) root)
+      all_marked so n (IsReached.field from _ reached refers) =
+          let st = stands core.snapshot from n (subst (λ (w : World). RefersTo w from n) (sym so.snapshot_is) refers) in
+          let here : Contains core.marked from = all_marked so from reached in
+          elim (so.facts.kept from st.0 n st.1) [
+            | inl safe ↦ by_safe safe
+            | inr ahead ↦ by_ahead st.0 here ahead.1
+          ]
+        where
+          by_safe : IsSafe core n → Contains core.marked n
+          by_safe (marked c) = c
+          by_safe (owed m c) = absurd (nothing_in n (subst (λ (l : List Name). Contains l n) (so.none_owed m) c))
+          by_safe (pushed m c) = absurd (nothing_in n (subst (λ (l : List Name). Contains l n) (so.none_pushed m) c))
+
+          by_ahead : (i : ℕ) → Contains core.marked from → IsAhead core from i → Contains core.marked n
+          by_ahead i here (unmarked not) = absurd (not here)
+          by_ahead i here (queued entry c is le) = absurd (nothing_in entry (subst (λ (l : List Entry). Contains l entry) empty c))

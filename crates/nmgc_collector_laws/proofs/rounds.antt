@@ -1,0 +1,15 @@
+pub mod Along
+pub mod Born
+pub mod Depths
+pub mod Histories
+pub mod Names
+pub mod Noted
+pub mod Opens
+pub mod Puts
+pub mod Recorded
+pub mod Remembered
+pub mod RootsLeft
+pub mod RowRegisters
+pub mod Slots
+pub mod Stops
+pub mod Weaks

@@ -1,0 +1,76 @@
+-- A heap at rest opens a round: what its mutators have stands for what they have in the world.
+use Rattle.std.proofs.Common.{◌≡◌, ℕ, ◌<◌, List, [], length, get_or, refl, sym, ap, subst, ◌∙◌, arith, inl}
+use Rattle.std.specs.Prelude.{Contains}
+use Rattle.std.proofs.lemmas.Bool.{false≢true}
+use Rattle.std.proofs.lemmas.List.{length-map, length-replicate}
+use Rattle.std.proofs.lemmas.Option.{get_or_from_slice_get}
+use Rattle.nmgc_world_spec.specs.World.{World, state_of}
+use Rattle.nmgc_object.specs.Places.{nursery_place}
+use Rattle.nmgc_alloc.specs.Numbered.{Segments}
+use Rattle.nmgc_heap_spec.specs.Places.{Place}
+use Rattle.nmgc_lists.specs.laws.Items.{item_map, item}
+use Rattle.nmgc_round.specs.View.{Hand, Opening, no_hand}
+use Rattle.nmgc_round.specs.Rule.{IsOpening}
+use Rattle.nmgc_round.specs.Own.{old_stacks}
+use Rattle.nmgc_round.specs.Starting.{HandStands, CanOpen}
+use Rattle.nmgc_mutator.specs.declared.mutator.Mutator.{Mutator}
+use Rattle.nmgc_collector_laws.specs.Rest.{IsAtRest, hand_of, opening_at}
+use Rattle.nmgc_collector_laws.specs.Turn.{RestOpens}
+use Rattle.nmgc_collector_laws.specs.laws.Registers.{HaveAll, own_mean}
+use Rattle.nmgc_snapshot_laws.specs.laws.Openings.{no_names as none_owed}
+
+module _ (s : Segments) (places : List Place) (w : World) (words : List ℕ) (mutators : List Mutator) (h : IsAtRest s places w words mutators) where
+  abbrev o : Opening
+  o = opening_at s.layout w places mutators
+
+  as_many : length w.mutators ≡ s.layout.mutators
+  as_many = sym h.roots.mutators.0 ∙ length-map mutators (λ (m : Mutator). m.queue.words) ∙ h.count
+
+  all_whole : HaveAll mutators
+  all_whole k m e = (h.mutators_are k m e).whole.size
+
+  -- a place is below every nursery
+  below : (p : Place) → Contains places p → (m : ℕ) → p.at < nursery_place s.layout m
+  below p c m = let low = h.low p c in omega arith
+
+  is_opening : IsOpening o
+  is_opening = record {
+    layout = h.sound.layout;
+    not_closed = refl;
+    mutators = as_many;
+    owed = length-replicate (length w.mutators) [] ∙ as_many;
+    snapshot = λ m. omega arith;
+    wide = λ on x old there. absurd (false≢true on);
+    in_segments = λ p c m lt. inl (below p c m);
+  }
+
+  -- so many words of the one list as a mutator has registers are its own
+  hand_at : (m : ℕ) → m < s.layout.mutators → HandStands o m (get_or o.hands m no_hand)
+  hand_at m lt =
+      let many = h.count in
+      let n = item mutators m (omega arith) in
+      let is : get_or o.hands m no_hand ≡ hand_of w places n.0 =
+      get_or_from_slice_get o.hands m (hand_of w places n.0) no_hand (item_map (hand_of w places) mutators m n.0 n.1) in
+      let exists : m < length w.mutators = subst (λ (k : ℕ). m < k) (sym as_many) lt in
+      subst (λ (x : Hand). HandStands o m x) (sym is) (record {
+        registers = own_mean (Contains places) mutators all_whole m n.0 n.1 (state_of w m).registers (h.world.registers m exists) (h.roots.held m exists);
+        queue = h.roots.queued m n.0.queue.words (item_map (λ (x : Mutator). x.queue.words) mutators m n.0 n.1);
+        serial = h.roots.next m n.0.serial (item_map (λ (x : Mutator). x.serial) mutators m n.0 n.1);
+        stacks = ap (λ (k : ℕ). old_stacks places w k) (h.mutators_are m n.0 n.1).number_is;
+      })
+
+  opens : CanOpen o words
+  opens = record {
+    is = is_opening;
+    world = h.world;
+    unmarked_is = λ off. refl;
+    represents = h.represents;
+    count = length-map mutators (hand_of w places) ∙ h.count;
+    hands = hand_at;
+    older = λ x before was now. absurd (false≢true was.marking);
+    owed = none_owed (length w.mutators);
+    queued = λ entry c. absurd (let lt = c.1 in omega arith);
+  }
+
+pub rest_opens : RestOpens
+rest_opens s places w words mutators h = opens s places w words mutators h

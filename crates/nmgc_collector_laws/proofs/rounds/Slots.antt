@@ -1,0 +1,81 @@
+-- What is said of a field, by its place.
+use Rattle.std.proofs.Common.{◌≡◌, ◌≢◌, ◌⊎◌, ℕ, zero, suc, ◌+◌, ◌-◌, ◌<◌, List, [], ◌∷◌, ◌++◌, get_or, length, map, replicate, refl, sym, ap, subst, ◌∙◌, arith, Some, None, inl, inr}
+use Rattle.std.specs.Prelude.{slice_get, Contains}
+use Rattle.std.proofs.lemmas.Option.{slice_get-get_or}
+use Rattle.std.proofs.lemmas.Bool.{cases_lt}
+use Rattle.std.proofs.lemmas.List.{length-map}
+use Rattle.nmgc_world_spec.specs.declared.value.Value.{Value}
+use Rattle.nmgc_world_spec.specs.declared.value.Value.TheVariants as value
+use Rattle.nmgc_world_spec.specs.declared.node.Node.{Node}
+use Rattle.nmgc_world_spec.specs.declared.node.Node.TheVariants.{Con, Var, Arr, Thunk, Weak, Stack}
+use Rattle.nmgc_world_spec.specs.declared.node.Parts.{Parts}
+use Rattle.nmgc_world_spec.specs.World.{held_by}
+use Rattle.nmgc_world_laws.specs.Holds.{strong_at}
+use Rattle.nmgc_lists.specs.laws.Items.{contains_at, item_map, slice_get-append as item_left}
+use Rattle.nmgc_heap_spec.specs.Shape.{Slot, holds, unset, untold, slots_of}
+use Rattle.nmgc_heap_spec.specs.laws.Kinds.{map_item, item_right, item_all}
+use Rattle.nmgc_collector_laws.proofs.rounds.Recorded.{IsField}
+
+-- each slot of a stack is told
+stack_slot : (values : List Value) (size index : ℕ) → index < size → (slot : Slot) ×
+    (slice_get (map holds values ++ replicate (size - length values) unset) index ≡ Some slot) × (slot ≢ untold)
+stack_slot values size index lt =
+    let n : ℕ = size - length values in
+    let front : List Slot = map holds values in
+    let long = length-map values holds in
+    elim (cases_lt index (length values)) [
+      | inl l ↦ let v : Value = get_or values index value.Nil in
+          (holds v, item_left front (replicate n unset) index (holds v) (item_map holds values index v (slice_get-get_or values index value.Nil l)), λ e. cc)
+      | inr le ↦
+          let j : ℕ = index - length values in
+          let place : length front + j ≡ index = omega arith in (
+            unset,
+            subst (λ k. slice_get (front ++ replicate n unset) k ≡
+                Some unset) place (item_right front (replicate n unset) j unset (item_all n j unset (omega arith))),
+            λ e. cc,
+          )
+    ]
+
+-- a field that a command writes is told
+pub told_slot : (node : Node) (index : ℕ) → IsField node index → (slot : Slot) × (slice_get (slots_of node) index ≡ Some slot) × (slot ≢ untold)
+told_slot (Con tag values) index f = absurd f.written
+told_slot (Var old) zero f = (holds old, refl, λ e. cc)
+told_slot (Var old) (suc index) f = absurd (let lt = f.within in omega arith)
+told_slot (Arr values) index f = let v : Value = get_or values index value.Nil in
+    (holds v, item_map holds values index v (slice_get-get_or values index value.Nil f.within), λ e. cc)
+told_slot (Thunk free None) zero f = (unset, refl, λ e. cc)
+told_slot (Thunk free (Some result)) zero f = (holds result, refl, λ e. cc)
+told_slot (Thunk free result) (suc index) f = absurd (let z = f.written in omega arith)
+told_slot (Weak parts) index f = absurd f.written
+told_slot (Stack size values) index f = stack_slot values size index f.within
+
+held_item : (values : List Value) (i : ℕ) (v : Value) → slice_get (map holds values) i ≡ Some (holds v) → slice_get values i ≡ Some v
+held_item values i v h = let t = map_item holds values i (holds v) h in let same : v ≡ t.0 = let e = t.2 in cc in t.1 ∙ ap (λ x. Some x) (sym same)
+
+none_held : (n : ℕ) (slot : Slot) (i : ℕ) (v : Value) → slot ≢ holds v → slice_get (replicate n slot) i ≡ Some (holds v) → ⊥
+none_held zero slot i v ne h = cc
+none_held (suc n) slot zero v ne h = ne cc
+none_held (suc n) slot (suc i) v ne h = none_held n slot i v ne h
+
+stack_item : (values : List Value) (n i : ℕ) (v : Value) → slice_get (map holds values ++ replicate n unset) i ≡ Some (holds v) → slice_get values i ≡ Some v
+stack_item [] n i v h = absurd (none_held n unset i v (λ e. cc) h)
+stack_item (x ∷ values) n zero v h = cc
+stack_item (x ∷ values) n (suc i) v h = stack_item values n i v h
+
+-- a value that a field holds is that of a strong field, or a part of an alive weak pointer
+pub held_at : (node : Node) (i : ℕ) (v : Value) → slice_get (slots_of node) i ≡ Some (holds v) → (strong_at node i ≡ Some v) ⊎
+    ((parts : Parts) × (node ≡ Weak (Some parts)) × Contains (held_by (Weak (Some parts))) v)
+held_at (Con tag values) i v h = inl (held_item values i v h)
+held_at (Var old) i v h = inl (held_item (old ∷ []) i v h)
+held_at (Arr values) i v h = inl (held_item values i v h)
+held_at (Thunk free None) zero v h = absurd cc
+held_at (Thunk free None) (suc i) v h = inl (held_item free i v h)
+held_at (Thunk free (Some result)) zero v h = inl cc
+held_at (Thunk free (Some result)) (suc i) v h = absurd (none_held (length free) untold i v (λ e. cc) h)
+held_at (Weak None) zero v h = absurd cc
+held_at (Weak None) (suc zero) v h = absurd cc
+held_at (Weak None) (suc (suc zero)) v h = absurd cc
+held_at (Weak None) (suc (suc (suc i))) v h = absurd cc
+held_at (Weak (Some parts)) i v h = let all : List Value = parts.key ∷ parts.value ∷ parts.finaliser ∷ [] in
+    inr (parts, refl, contains_at all i v (held_item all i v h))
+held_at (Stack size values) i v h = inl (stack_item values (size - length values) i v h)

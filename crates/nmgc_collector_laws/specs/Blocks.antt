@@ -1,0 +1,41 @@
+-- The tie by places is the tie by blocks of a run: where the places are those of the blocks.
+use Rattle.std.specs.Prelude.{ℕ, ◌≡◌, ◌⊎◌, ◌↔◌, List, Contains, IsSome}
+use Rattle.nmgc_world_spec.specs.declared.value.Name.{Name}
+use Rattle.nmgc_world_spec.specs.World.{node_of}
+use Rattle.nmgc_world_spec.specs.Step.{shared_name}
+use Rattle.nmgc_snapshot_laws.specs.State.{State}
+use Rattle.nmgc_alloc.specs.Numbered.{Segments, block_place}
+use Rattle.nmgc_alloc.specs.Segments.{IsSegments}
+use Rattle.nmgc_alloc.specs.AllocState.{AllocState, LiesIn, cells}
+use Rattle.nmgc_alloc.specs.Stands.{StandsFor}
+use Rattle.nmgc_heap_spec.specs.Places.{Place, shared_place}
+use Rattle.nmgc_round.specs.View.{Opening}
+use Rattle.nmgc_round.specs.Marking.{marks_of}
+use Rattle.nmgc_blocks_spec.specs.Cycle.{Cycle}
+use Rattle.nmgc_blocks_spec.specs.Placed.{IsBlockPlace}
+use Rattle.nmgc_segment.specs.Marks.{epoch_of}
+use Rattle.nmgc_collector_laws.specs.Marker.{IsTied as IsTiedByBlocks}
+use Rattle.nmgc_mark.specs.Seen.{MarkerSeen}
+use Rattle.nmgc_mark.specs.Tie.{AreApart, IsTied}
+
+-- each block with a name has its place, and so has g; a place whose name is one of the snapshot is one of these. So
+-- it is at a stop, and after a round, whose own objects are in no snapshot. And the machine marks names of the
+-- snapshot alone, g among them
+pub record AreOfBlocks (o : Opening) (c : Cycle) (s : Segments) (words : List ℕ) (allocation : AllocState) (core : State) : Type 0 where
+  pub sound : IsSegments s
+  pub stands : StandsFor s words allocation
+  pub layout : s.layout ≡ o.layout
+  pub cycle : c.snapshot ≡ o.core.snapshot
+  pub apart : AreApart o.layout o.places
+  pub shared : Contains o.places shared_place
+  pub blocks : (number block : ℕ) (name : Name) → LiesIn allocation number block name →
+      Contains o.places (record { at = block_place o.layout number (cells allocation number).class block; name = name })
+  pub named : (p : Place) → Contains o.places p → IsSome (node_of o.core.snapshot p.name) → (p ≡ shared_place) ⊎ IsBlockPlace o.layout allocation p
+  pub marked : (name : Name) → Contains core.marked name → IsSome (node_of o.core.snapshot name)
+  pub shared_marked : Contains core.marked shared_name
+
+-- the two ties are one
+abbrev pub TiesAgree : Type 0
+TiesAgree = (o : Opening) (c : Cycle) (s : Segments) (words : List ℕ) (allocation : AllocState) (core : State) (marker : MarkerSeen) →
+    AreOfBlocks o c s words allocation core → IsTiedByBlocks c allocation s o.places marker core ↔
+    ((marker.epoch ≡ epoch_of c.number) × IsTied o (marks_of core) s marker)

@@ -1,0 +1,72 @@
+-- The marker's calls, by their own contracts, and what a collector then keeps of the cycle.
+use Rattle.std.specs.Prelude.{ℕ, ◌≡◌, ◌+◌, ◌≤◌, List, length}
+use Rattle.std.specs.List.{flat_map}
+use Rattle.nmgc_world_spec.specs.World.{IsWorld}
+use Rattle.nmgc_world_laws.specs.Reachable.{IsSound}
+use Rattle.nmgc_object.specs.declared.layout.Layout.{Layout}
+use Rattle.nmgc_snapshot_laws.specs.State.{State as Core, opening}
+use Rattle.nmgc_alloc.specs.Numbered.{Segments}
+use Rattle.nmgc_alloc.specs.Segments.{IsSegments}
+use Rattle.nmgc_heap_spec.specs.Places.{Place}
+use Rattle.nmgc_journal.specs.declared.report.MutatorEnd.{MutatorEnd}
+use Rattle.nmgc_round.specs.Events.{rows_in}
+use Rattle.nmgc_round.specs.Finishing.{IsFinished, places_then}
+use Rattle.nmgc_round.specs.Rule.{now}
+use Rattle.nmgc_round.specs.Seat.{RoundSeat}
+use Rattle.nmgc_round.specs.View.{Opening, Scan}
+use Rattle.nmgc_round.specs.Marking.{Marks, marks_of, marks_after}
+use Rattle.nmgc_mutator.specs.declared.mutator.Mutator.{Mutator}
+use Rattle.nmgc_collector_laws.specs.Worked.{Done}
+use Rattle.nmgc_blocks_spec.specs.Cycle.{interval_of, Cycle}
+use Rattle.nmgc_collector_laws.specs.Collector.{EachMutator, IsMarking}
+use Rattle.nmgc_weak.specs.Queues.{weak_count}
+use Rattle.nmgc_run_spec.specs.Heap.{HoldsAtStop}
+use Rattle.nmgc_sweep.specs.Sweeping.{HasListedNothing, HasNoted}
+use Rattle.nmgc_segment.specs.Marks.{epoch_of}
+use Rattle.nmgc_collector_laws.specs.Seen.{Seen, MutatorSeen}
+use Rattle.nmgc_run_spec.specs.State.{State, next_cycle, cycle_started}
+use Rattle.nmgc_mark.specs.Marker.{HasMarked, blank}
+use Rattle.nmgc_mark.specs.Tie.{IsTied as IsTiedByPlaces, with_places}
+use Rattle.nmgc_collector_laws.specs.Prepares.{all_prepared}
+use Rattle.nmgc_collector_laws.specs.Keeps.{HasLeft, NoneRemember, ShowEntries}
+use Rattle.nmgc_collector_laws.specs.Owed.{GoesOn, IsGathered, gathered}
+use Rattle.nmgc_collector_laws.specs.RestMarking.{with_rows}
+
+-- the places that mutators remember, one mutator after the other
+abbrev pub all_entries : List MutatorSeen → List ℕ
+all_entries mutators = flat_map (λ (m : MutatorSeen). m.entries) mutators
+
+-- a marker took the snapshot of a heap at a stop: a cycle marks
+abbrev pub SnapshotIsMarking : Type 0
+SnapshotIsMarking = (layout : Layout) (s : State) (words : List ℕ) (old : Segments) (new : Seen) (ends : List MutatorEnd) (weaks : List Place)
+    (o : Opening) (spare : ℕ) → (h : HoldsAtStop layout s words old ends weaks) → IsWorld s.world → IsSegments new.segments
+    → o.layout ≡ layout → o.places ≡ h.places → o.core.snapshot ≡ s.world
+    → HasMarked (all_prepared old) new.segments (blank (epoch_of (s.begun + 1)) spare) new.marker 0 →
+    IsTiedByPlaces o (marks_of (opening o.core.snapshot)) new.segments new.marker
+    → EachMutator new (λ m mutator. weak_count s.world m new.weaks ≤ mutator.queue.spare) → NoneRemember new → new.cycle.from ≡ s.number →
+    HasNoted (next_cycle s) new.sweeper → HasListedNothing new.sweeper
+    → IsMarking (next_cycle s) (cycle_started s) new h.places
+
+-- it worked beside the slices of a round, after which its marks are those of the collector's scans: it marks on, with
+-- the rows of the round and what the mutators remember of it
+abbrev pub RoundIsMarking : Type 0
+RoundIsMarking = (layout : Layout) (c : Cycle) (s t : State) (old new : Seen) (before after : List ℕ) (ends : List MutatorEnd) (weaks : List Place)
+    (o : Opening) (scans : List Scan) (seats : List RoundSeat) (mutators : List Mutator) (done : List (List Done)) (core : Core) (scanned : ℕ) →
+    (h : HoldsAtStop layout s before old.segments ends weaks) → (f : IsFinished o after (gathered o scans seats)) → IsSegments new.segments →
+    IsSound (interval_of (with_rows c (rows_in f.events))) → IsMarking c s old h.places
+    → o.layout ≡ layout → o.places ≡ h.places → o.core.snapshot ≡ c.snapshot → t.world ≡ (now o f.events).world → t.allocation ≡ s.allocation
+    → IsGathered o scans seats mutators done → GoesOn c o after (gathered o scans seats) f mutators core
+    → HasMarked old.segments new.segments old.marker new.marker scanned → IsTiedByPlaces o (marks_after o scans) new.segments new.marker →
+    HasLeft c old new → ShowEntries new mutators
+    → IsMarking (with_rows c (rows_in f.events)) t new (places_then o f.born)
+
+-- it added all that the mutators remembered: it marks on, and nothing is remembered
+abbrev pub AddIsMarking : Type 0
+AddIsMarking = (layout : Layout) (c : Cycle) (s : State) (old new : Seen) (words : List ℕ) (ends : List MutatorEnd) (weaks : List Place) →
+    (h : HoldsAtStop layout s words old.segments ends weaks) → IsSegments old.segments → IsSegments new.segments → IsSound (interval_of c) →
+    length old.mutators ≡ length s.world.mutators → IsMarking c s old h.places
+    → HasMarked old.segments new.segments old.marker new.marker 0 →
+    ((o : Opening) (m : Marks) → IsTiedByPlaces o m old.segments old.marker →
+    IsTiedByPlaces o (with_places o m (all_entries old.mutators)) new.segments new.marker)
+    → HasLeft c old new → NoneRemember new
+    → IsMarking c s new h.places

@@ -1,0 +1,48 @@
+-- A cycle that closes with weak pointers, in the words of a run: when it may, and what it keeps.
+use Rattle.std.specs.Prelude.{ℕ, ◌≡◌, true, List, [], ◌↔◌}
+use Rattle.nmgc_world_spec.specs.declared.value.Name.{Name}
+use Rattle.nmgc_world_spec.specs.Reach.{Lists, closed}
+use Rattle.nmgc_world_spec.specs.Listing.{Counts}
+use Rattle.nmgc_world_laws.specs.Reachable.{IsSound}
+use Rattle.nmgc_snapshot_laws.specs.Machine.{AreEmpty}
+use Rattle.nmgc_segment.specs.Segment.{IsMarked}
+use Rattle.nmgc_segment.specs.Marks.{epoch_of}
+use Rattle.nmgc_alloc.specs.Numbered.{Segments, nth}
+use Rattle.nmgc_alloc.specs.AllocState.{LiesIn}
+use Rattle.nmgc_heap_spec.specs.Changes.{AreEarlier}
+use Rattle.nmgc_heap_spec.specs.Places.{Place}
+use Rattle.nmgc_heap_spec.specs.Roots.{ListsWeaks}
+use Rattle.nmgc_round.specs.Objects.{earlier}
+use Rattle.nmgc_round.specs.View.{Opening}
+use Rattle.nmgc_blocks_spec.specs.Cycle.{interval_of, Cycle, IsDeadIn, IsKeptIn, IsKeptObject}
+use Rattle.nmgc_run_spec.specs.Closing.{Closes}
+use Rattle.nmgc_run_spec.specs.State.{State, sweeping}
+use Rattle.nmgc_collector_laws.specs.Marker.{IsCoreOf}
+use Rattle.nmgc_mark.specs.Seen.{MarkerSeen}
+use Rattle.nmgc_mark.specs.Stopped.{IsReady}
+use Rattle.nmgc_weak.specs.Resolve.{CanResolve, HasResolved}
+use Rattle.nmgc_collector_laws.specs.Blocks.{AreOfBlocks}
+use Rattle.nmgc_weak.specs.declared.weaks.Death.{Death}
+use Rattle.nmgc_weak.specs.declared.weaks.OldWeak.{OldWeak}
+
+-- at a stop of a cycle where nothing waits, is owed or is pushed, with a marker that is ready and the list of weak pointers, the closing may resolve it
+abbrev pub CycleMayResolve : Type 0
+CycleMayResolve = (c : Cycle) (o : Opening) (words : List ℕ) (s : Segments) (marker : MarkerSeen) (weaks : List Place) → IsSound (interval_of c) →
+    IsCoreOf c o.core.world o.core → AreEmpty o.core.pushed → o.core.queue ≡ [] → o.marking ≡ true → AreEarlier (earlier o) o.core.world →
+    IsReady o words s marker → ListsWeaks o.layout o.places o.core.world weaks → CanResolve o words s marker weaks
+
+-- the cycle is closed at this stop: these weak pointers die; of the names in blocks exactly those are marked that the
+-- cycle keeps, and the marker has counted them
+pub record HasClosed (c : Cycle) (s : State) (dead : List Name) (segments : Segments) (marker : MarkerSeen) : Type 0 where
+  pub lists : Lists (IsDeadIn c) dead
+  pub closes : Closes c s (record s { world = closed s.world dead; progress = sweeping c s.number })
+  pub kept : Counts (IsKeptObject c) marker.marked
+  pub exact : (number block : ℕ) (name : Name) → LiesIn s.allocation number block name →
+      IsMarked (nth segments.segments number) marker.epoch block ↔ IsKeptIn c name
+
+-- once its weak pointers are resolved, it closes so
+abbrev pub CycleCloses : Type 0
+CycleCloses = (c : Cycle) (s : State) (o : Opening) (before words : List ℕ) (segments : Segments) (marker : MarkerSeen) (list : List OldWeak)
+    (deaths : List Death) → IsSound (interval_of c) → IsCoreOf c s.world o.core → AreEmpty o.core.pushed → o.core.queue ≡ [] →
+    AreOfBlocks o c segments before s.allocation o.core → marker.epoch ≡ epoch_of c.number → (r : HasResolved o words segments marker list deaths) →
+    HasClosed c s r.closing.dead segments marker

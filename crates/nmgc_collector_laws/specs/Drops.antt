@@ -1,0 +1,93 @@
+-- What a sweep leaves of a heap: the places of freed names are gone, and nobody speaks of these names.
+--
+-- A round or a stop whose collector sweeps is first one whose segments stay as they are, with all places that it had. Then
+-- the freed places go, and segments and words stand for what is left.
+use Rattle.std.specs.Prelude.{ℕ, ◌≡◌, ◌≢◌, ◌≤◌, List, [], ◌∷◌, Contains, IsSome, Some}
+use Rattle.nmgc_world_spec.specs.declared.command.Reply.{Reply}
+use Rattle.nmgc_world_spec.specs.declared.node.Node.{Node}
+use Rattle.nmgc_world_spec.specs.declared.value.Name.{Name}
+use Rattle.nmgc_world_spec.specs.declared.value.Value.TheVariants.{Ref}
+use Rattle.nmgc_world_spec.specs.World.{World, node_of}
+use Rattle.nmgc_world_spec.specs.Step.{shared_name}
+use Rattle.nmgc_world_spec.specs.History.{Row}
+use Rattle.nmgc_segment.specs.declared.state.State.TheVariants as stands
+use Rattle.nmgc_object.specs.Places.{nursery_place}
+use Rattle.nmgc_object.specs.declared.layout.Layout.{Layout}
+use Rattle.nmgc_alloc.specs.Numbered.{Segments}
+use Rattle.nmgc_alloc.specs.Segments.{IsSegments}
+use Rattle.nmgc_alloc.specs.AllocState.{AllocState, SweepsSome, LiesIn, LieOnce, LiesNowhere, HasBlock, cells, count_in}
+use Rattle.nmgc_alloc.specs.Stands.{StandsFor}
+use Rattle.nmgc_heap_spec.specs.Places.{Place}
+use Rattle.nmgc_heap_spec.specs.Shape.{holds, free_slots}
+use Rattle.nmgc_heap_spec.specs.Tracked.{IsTracked}
+use Rattle.nmgc_blocks_spec.specs.Nurseries.{LieInOrder}
+use Rattle.nmgc_blocks_spec.specs.Remembers.{Remembers}
+use Rattle.nmgc_journal.specs.declared.report.MutatorEnd.{MutatorEnd}
+use Rattle.nmgc_object.specs.declared.layout.Nursery.{Nursery}
+use Rattle.nmgc_blocks_spec.specs.Cycle.{IsKeptIn, Cycle}
+use Rattle.nmgc_collector_laws.specs.Collector.{AreNurseries}
+use Rattle.nmgc_run_spec.specs.Heap.{HoldsAtStop, HoldsAfterRound, snapshots}
+use Rattle.nmgc_run_spec.specs.Round.{IsRound}
+use Rattle.nmgc_run_spec.specs.Run.{Run, IsRun, last_state}
+use Rattle.nmgc_run_laws.specs.Sound.{AreSoundBlocks, IsAfterClosing, IsRunnable, LieKnown, WaitKnown}
+use Rattle.nmgc_run_spec.specs.State.{Plan, State, sweeping}
+
+-- a sweep left names in their blocks, among them all of which anybody may speak, but g and what the round made; no
+-- free variable that an earlier world knows refers to a name of which nobody may
+pub record FreesUntracked (earlier : List World) (began w : World) (allocation swept : AllocState) : Type 0 where
+  pub once : LieOnce allocation
+  pub shared : LiesNowhere allocation shared_name
+  pub known : LieKnown began allocation
+  pub lies : (number block : ℕ) (name : Name) → LiesIn swept number block name → LiesIn allocation number block name ×
+      ((cells swept number).class ≡ (cells allocation number).class)
+  pub tracked : (name : Name) → IsTracked w earlier name → name ≢ shared_name → IsSome (node_of began name) → HasBlock swept name
+  pub free : (e : World) (name n : Name) (before : Node) → Contains earlier e → IsTracked w earlier name → node_of e name ≡ Some before →
+      Contains (free_slots before) (holds (Ref n)) → IsTracked w earlier n
+
+-- a round of a run beside which a closed cycle sweeps frees such names alone
+abbrev pub RoundFreesUntracked : Type 0
+RoundFreesUntracked = (plan : Plan) (run : Run) (c : Cycle) (closed : ℕ) (replies : List (List Reply)) (rows : List Row) (t : State) →
+    IsRunnable plan → IsRun plan run → IsRound plan.config (last_state run) replies rows t → (last_state run).progress ≡ sweeping c closed →
+    FreesUntracked ((last_state run).world ∷ []) (last_state run).world t.world (last_state run).allocation t.allocation
+
+-- and so does a sweep at a stop
+abbrev pub StopFreesUntracked : Type 0
+StopFreesUntracked = (layout : Layout) (c : Cycle) (w : World) (allocation swept : AllocState) (count : ℕ) → AreSoundBlocks layout allocation →
+    LieKnown w allocation → IsAfterClosing c w → WaitKnown c allocation →
+    ((name : Name) → IsTracked w [] name → name ≢ shared_name → HasBlock allocation name) → SweepsSome (IsKeptIn c) count allocation swept →
+    FreesUntracked [] w w allocation swept
+
+-- and it leaves no fewer segments free: the reserve stays
+abbrev pub FreeGrows : Type 0
+FreeGrows = (c : Cycle) (count : ℕ) (old new : AllocState) → SweepsSome (IsKeptIn c) count old new → count_in stands.Free old ≤ count_in stands.Free new
+
+-- of the places those of tracked names are left, and those in nurseries
+pub record DropsFreed (layout : Layout) (earlier : List World) (w : World) (places fewer : List Place) : Type 0 where
+  pub old : (p : Place) → Contains fewer p → Contains places p
+  pub tracked : (p : Place) → Contains places p → IsTracked w earlier p.name → Contains fewer p
+  pub young : (p : Place) → Contains places p → nursery_place layout 0 ≤ p.at → Contains fewer p
+
+-- words, and segments that were swept, stand for the state after the round at fewer places, where no listed weak pointer was freed
+abbrev pub SweptHoldsAfterRound : Type 0
+SweptHoldsAfterRound =
+    (layout : Layout) (s t : State) (swept : AllocState) (places : List Place) (words : List ℕ) (old new : Segments) (ends : List MutatorEnd)
+    (weaks : List Place) → HoldsAfterRound layout s t places words old ends weaks → IsSegments old →
+    FreesUntracked (s.world ∷ snapshots t.progress) s.world t.world t.allocation swept
+    → StandsFor new words swept → new.layout ≡ layout → ((p : Place) → Contains weaks p → HasBlock swept p.name)
+    → (fewer : List Place) × HoldsAfterRound layout s (record t { allocation = swept }) fewer words new ends weaks ×
+    DropsFreed layout (s.world ∷ snapshots t.progress) t.world places fewer
+
+-- and so they do at a stop
+abbrev pub SweptHoldsAtStop : Type 0
+SweptHoldsAtStop = (layout : Layout) (s : State) (swept : AllocState) (words : List ℕ) (old new : Segments) (ends : List MutatorEnd)
+    (weaks : List Place) → (h : HoldsAtStop layout s words old ends weaks) → IsSegments old →
+    FreesUntracked (snapshots s.progress) s.world s.world s.allocation swept
+    → StandsFor new words swept → new.layout ≡ layout → ((p : Place) → Contains weaks p → HasBlock swept p.name)
+    → (k : HoldsAtStop layout (record s { allocation = swept }) words new ends weaks) × DropsFreed layout (snapshots s.progress) s.world h.places k.places
+
+-- at fewer places nurseries and their order are as before, and so is what a round leaves for its promotion
+abbrev pub DropKeepsRound : Type 0
+DropKeepsRound = (layout : Layout) (earlier : List World) (w : World) (places fewer : List Place) (nurseries : List Nursery)
+    (recorded weaks : List ℕ) → DropsFreed layout earlier w places fewer → AreNurseries layout places w nurseries →
+    LieInOrder (nursery_place layout 0) places → Remembers (nursery_place layout 0) earlier places w recorded weaks →
+    AreNurseries layout fewer w nurseries × LieInOrder (nursery_place layout 0) fewer × Remembers (nursery_place layout 0) earlier fewer w recorded weaks

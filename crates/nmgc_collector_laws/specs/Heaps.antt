@@ -1,0 +1,129 @@
+-- The heap of a marking cycle in the words of a run: at a stop it is at rest, and what a round and its promotion leave of it.
+use Rattle.std.specs.Prelude.{ℕ, ◌≡◌, ◌-◌, List, [], ◌∷◌, map, replicate, slice_get, Some, All, refl}
+use Rattle.std.specs.Ptr.{null_ptr}
+use Rattle.std.proofs.Common.{lit<, lit≤}
+use Rattle.nmgc_world_spec.specs.World.{World}
+use Rattle.nmgc_limits.specs.declared.mutators.TheConstants.{REGISTERS}
+use Rattle.nmgc_object.specs.declared.layout.Layout.{Layout}
+use Rattle.nmgc_snapshot_laws.specs.State.{State as Core}
+use Rattle.nmgc_alloc.specs.Stands.{StandsFor}
+use Rattle.nmgc_alloc.specs.Numbered.{Segments}
+use Rattle.nmgc_alloc.specs.Segments.{IsSegments}
+use Rattle.nmgc_heap_spec.specs.Places.{Place}
+use Rattle.nmgc_lists.specs.declared.list.Place.{Place as ListPlace}
+use Rattle.nmgc_heap_spec.specs.Roots.{RepresentsRoots}
+use Rattle.nmgc_journal.specs.declared.report.MutatorEnd.{MutatorEnd}
+use Rattle.nmgc_round.specs.View.{Opening, Seen as View}
+use Rattle.nmgc_round.specs.Objects.{earlier}
+use Rattle.nmgc_round.specs.Rule.{now}
+use Rattle.nmgc_round.specs.Starting.{CanOpen}
+use Rattle.nmgc_round.specs.Finishing.{Leaves, places_then}
+use Rattle.nmgc_mutator.specs.declared.mutator.Mutator.{Mutator}
+use Rattle.nmgc_mutator.specs.Ready.{IsWhole}
+use Rattle.nmgc_mutator.specs.Does.{remembered}
+use Rattle.nmgc_mutator.specs.Records.{numbers}
+use Rattle.nmgc_collector_laws.specs.Collector.{AreAtRest, IsMarking}
+use Rattle.nmgc_run_spec.specs.Heap.{HoldsAtStop, HoldsAfterRound, HasAllRegisters, registers_of, queues_of, serials_of, snapshots}
+use Rattle.nmgc_collector_laws.specs.Life.{array_layout, marking_seen}
+use Rattle.nmgc_collector_laws.specs.Seen.{Seen, MutatorSeen, ends_of}
+use Rattle.nmgc_run_laws.specs.Sound.{IsSoundState, LieKnown}
+use Rattle.nmgc_run_spec.specs.State.{Plan, State, marking, layout_of}
+use Rattle.nmgc_blocks_spec.specs.Cycle.{Cycle}
+use Rattle.nmgc_mark.specs.Stopped.{IsReady}
+use Rattle.nmgc_collector_laws.specs.RestMarking.{IsAtRest, opening_beside}
+
+-- a mutator as contracts of a collector see it
+abbrev pub seen_mutator : Mutator → MutatorSeen
+seen_mutator m = record {
+  registers = m.registers;
+  queue = m.queue;
+  serial = m.serial;
+  nursery = m.nursery;
+  recorded = numbers m.recorded.items;
+  young_weaks = numbers m.young_weaks.items;
+  entries = remembered m;
+}
+
+-- these are the mutators of a collector, by their numbers, each with all its registers
+pub record AreShown (layout : Layout) (seen : Seen) (mutators : List Mutator) : Type 0 where
+  pub are : seen.mutators ≡ map seen_mutator mutators
+  pub each : (k : ℕ) (m : Mutator) → slice_get mutators k ≡ Some m → (m.number ≡ k) × (m.layout ≡ layout) × IsWhole m
+
+-- the heap of a sound state at a stop, also before the stop has answered, is at rest beside a cycle that marks, where
+-- nothing is left of the mutators' round; so the marker may finish there
+abbrev pub HeapRests : Type 0
+HeapRests = (plan : Plan) (s : State) (seen : Seen) (c : Cycle) (mutators : List Mutator) → IsSoundState plan s →
+    (h : HoldsAtStop (layout_of plan) s seen.words seen.segments (ends_of seen) seen.weaks) → AreAtRest (layout_of plan) h.places s.world seen →
+    s.progress ≡ marking c → (k : IsMarking c s seen h.places) → IsSegments seen.segments → AreShown seen.segments.layout seen mutators →
+    IsAtRest c k.core seen.segments h.places s.world seen.words mutators seen.marker.queue ×
+    IsReady (opening_beside seen.segments.layout k.core h.places mutators) seen.words seen.segments seen.marker
+
+-- a round that began with the heap of a stop: what it left, and what its mutators have in hand; the segments stand
+-- for what they stood for, whatever blocks the marker marked
+pub record IsRoundFrom (layout : Layout) (s t : State) (o : Opening) (before after : List ℕ) (v : View) (old new : Segments)
+    (ends later : List MutatorEnd) (weaks : List Place) : Type 0 where
+  pub heap : HoldsAtStop layout s before old ends weaks
+  pub known : LieKnown s.world s.allocation
+  pub can : CanOpen o before
+  pub layout_is : o.layout ≡ layout
+  pub places_are : o.places ≡ heap.places
+  pub began : o.core.world ≡ s.world
+  pub left : Leaves o after v
+  pub world_is : t.world ≡ (now o left.0.events).world
+  pub earlier_is : snapshots t.progress ≡ earlier o
+  pub allocation_is : t.allocation ≡ s.allocation
+  pub new_layout : new.layout ≡ layout
+  pub stands : StandsFor new before s.allocation
+  pub registers : All HasAllRegisters later
+  pub roots : RepresentsRoots (places_then o left.0.born) t.world (registers_of later) (queues_of later) (serials_of later)
+
+-- words and segments then stand for the state after the round
+abbrev pub RoundHolds : Type 0
+RoundHolds = (layout : Layout) (s t : State) (o : Opening) (before after : List ℕ) (v : View) (old new : Segments) (ends later : List MutatorEnd)
+    (weaks : List Place) → (r : IsRoundFrom layout s t o before after v old new ends later weaks) →
+    HoldsAfterRound layout s t (places_then o r.left.0.born) after new later weaks
+
+-- segments of which blocks were marked stand for the same heap
+abbrev pub MarkedHolds : Type 0
+MarkedHolds = (layout : Layout) (s : State) (words : List ℕ) (old new : Segments) (ends : List MutatorEnd) (weaks : List Place)
+    (h : HoldsAtStop layout s words old ends weaks) → new.layout ≡ layout → StandsFor new words s.allocation →
+    (k : HoldsAtStop layout s words new ends weaks) × (k.places ≡ h.places)
+
+-- a place for a list, as one is made: its vector is empty and has no memory
+abbrev pub empty_place : ListPlace ℕ
+empty_place = record {
+  vector = record {
+    ptr = null_ptr;
+    alloc = record { memory = record { seal = tt } };
+    value = record { ptr = null_ptr; len = 0; cap = 0; alloc = record { memory = record { seal = tt } }; items = []; ok = (refl, lit≤ tt); small = lit< tt };
+  };
+}
+
+-- the one mutator of the array script, at the stop at which its cycle began
+abbrev pub marking_mutator : Mutator
+marking_mutator = record {
+  number = 0;
+  layout = array_layout;
+  registers = 64 ∷ replicate (REGISTERS - 1) 1;
+  queue = record { words = []; spare = 0 };
+  queue_place = empty_place;
+  nursery = record { base = 320; top = 320; end = 336 };
+  serial = 1;
+  turns = 0;
+  replies = record { items = []; spare = 0 };
+  recorded = record { items = []; spare = 0 };
+  young_weaks = record { items = []; spare = 0 };
+  updrem = record { items = []; spare = 0 };
+  sender = record {
+    ring = record { words = null_ptr; slots = null_ptr; names = (0, (0, 0)); heap = record { memory = record { seal = tt } } };
+    before = [];
+    since = [];
+    free = 0;
+  };
+}
+
+-- its collector has a heap at rest beside the cycle: so there is one
+abbrev pub SmallLifeRests : Type 0
+SmallLifeRests = AreShown array_layout marking_seen (marking_mutator ∷ []) ×
+    ((c : Cycle) × (core : Core) × (places : List Place) × (w : World) ×
+    IsAtRest c core marking_seen.segments places w marking_seen.words (marking_mutator ∷ []) marking_seen.marker.queue)

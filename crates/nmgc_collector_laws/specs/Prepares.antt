@@ -1,0 +1,36 @@
+-- What a heap at a stop becomes as a cycle begins there: its segments are prepared, and the collector speaks of the world as the snapshot from then on.
+use Rattle.std.specs.Prelude.{ℕ, ◌≡◌, ◌+◌, List, map}
+use Rattle.nmgc_world_spec.specs.World.{IsWorld}
+use Rattle.nmgc_segment.specs.declared.state.State.TheVariants as stands
+use Rattle.nmgc_object.specs.FinQueue.{FinQueue}
+use Rattle.nmgc_object.specs.declared.layout.Layout.{Layout}
+use Rattle.nmgc_alloc.specs.Numbered.{Segments}
+use Rattle.nmgc_alloc.specs.Segments.{IsSegments}
+use Rattle.nmgc_alloc.specs.AllocState.{IsIn, NoneIs}
+use Rattle.nmgc_alloc.specs.CycleSteps.{prepared}
+use Rattle.nmgc_heap_spec.specs.Places.{Place}
+use Rattle.nmgc_journal.specs.declared.report.MutatorEnd.{MutatorEnd}
+use Rattle.nmgc_round.specs.View.{Opening}
+use Rattle.nmgc_run_spec.specs.Heap.{HoldsAtStop, registers_of, queues_of}
+use Rattle.nmgc_alloc.specs.Settled.{AreSettled}
+use Rattle.nmgc_segment.specs.Marks.{epoch_of}
+use Rattle.nmgc_run_spec.specs.State.{State, cycle_started}
+use Rattle.nmgc_mark.specs.Beginning.{IsPrepared}
+
+-- the segments as a cycle begins
+abbrev pub all_prepared : Segments → Segments
+all_prepared s = record s { segments = map prepared s.segments; fresh = 0 }
+
+-- where no segment waits and marks are settled, the heap with prepared segments is one with which marking begins: no byte is the epoch of the next cycle
+abbrev pub StopIsPrepared : Type 0
+StopIsPrepared = (layout : Layout) (s : State) (words : List ℕ) (segments : Segments) (ends : List MutatorEnd) (weaks : List Place)
+    (queues : List FinQueue) (o : Opening) → (h : HoldsAtStop layout s words segments ends weaks) → IsWorld s.world → IsSegments segments →
+    IsSegments (all_prepared segments) → NoneIs (IsIn stands.Sweeping) s.allocation → AreSettled s.begun segments
+    → queues_of ends ≡ map (λ (q : FinQueue). q.words) queues → o.layout ≡ layout → o.places ≡ h.places → o.core.snapshot ≡ s.world
+    → IsPrepared o (all_prepared segments) (epoch_of (s.begun + 1)) words (registers_of ends) queues
+
+-- words and prepared segments stand for the state with which the cycle begins, at the same places
+abbrev pub StopBegins : Type 0
+StopBegins = (layout : Layout) (s : State) (words : List ℕ) (segments : Segments) (ends : List MutatorEnd) (weaks : List Place) →
+    (h : HoldsAtStop layout s words segments ends weaks) →
+    (k : HoldsAtStop layout (cycle_started s) words (all_prepared segments) ends weaks) × (k.places ≡ h.places)

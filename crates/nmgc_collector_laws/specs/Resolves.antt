@@ -1,0 +1,110 @@
+-- A closing by its calls: the marker finishes, the weak pointers are resolved, and the finalisers of those that die
+-- join their makers' queues. In the words of a run the cycle is closed then, and words, roots and list stand for the
+-- closed world.
+use Rattle.std.specs.Prelude.{ℕ, ◌≡◌, List, [], map, All}
+use Rattle.nmgc_world_spec.specs.declared.value.Name.{Name}
+use Rattle.nmgc_world_spec.specs.Reach.{closed}
+use Rattle.nmgc_object.specs.FinQueue.{FinQueue}
+use Rattle.nmgc_object.specs.declared.layout.Layout.{Layout}
+use Rattle.nmgc_alloc.specs.Stands.{StandsFor}
+use Rattle.nmgc_alloc.specs.Numbered.{Segments}
+use Rattle.nmgc_alloc.specs.Segments.{IsSegments}
+use Rattle.nmgc_journal.specs.declared.report.MutatorEnd.{MutatorEnd}
+use Rattle.nmgc_round.specs.View.{Opening}
+use Rattle.nmgc_round.specs.Rule.{now}
+use Rattle.nmgc_mutator.specs.declared.mutator.Mutator.{Mutator}
+use Rattle.nmgc_collector_laws.specs.Collector.{IsMarking}
+use Rattle.nmgc_run_laws.specs.Course.{IsLastBegun, WaitsWhole}
+use Rattle.nmgc_run_spec.specs.Heap.{HoldsAtStop, HasAllRegisters, registers_of, queues_of, serials_of}
+use Rattle.nmgc_alloc.specs.Settled.{AreSettled}
+use Rattle.nmgc_sweep.specs.Sweeping.{HasNoted, IsSweeping}
+use Rattle.nmgc_segment.specs.Marks.{epoch_of}
+use Rattle.nmgc_sweep.specs.Seen.{CycleSeen, SweeperSeen}
+use Rattle.nmgc_collector_laws.specs.Seen.{Seen, ends_of}
+use Rattle.nmgc_mark.specs.Seen.{MarkerSeen}
+use Rattle.nmgc_blocks_spec.specs.Cycle.{Cycle}
+use Rattle.nmgc_run_spec.specs.State.{State, sweeping}
+use Rattle.nmgc_mark.specs.Marker.{HasMarked}
+use Rattle.nmgc_mark.specs.Stopped.{HasFinished}
+use Rattle.nmgc_weak.specs.declared.weaks.Death.{Death}
+use Rattle.nmgc_weak.specs.declared.weaks.OldWeak.{OldWeak}
+use Rattle.nmgc_collector_laws.specs.CycleCloses.{HasClosed}
+use Rattle.nmgc_weak.specs.Queues.{AllJoin}
+use Rattle.nmgc_weak.specs.Resolve.{CanResolve, HasResolved}
+use Rattle.nmgc_weak.specs.Weaks.{places_of}
+use Rattle.nmgc_collector_laws.specs.RestMarking.{IsAtRest, opening_beside}
+use Rattle.nmgc_collector_laws.specs.Sweeps.{all_carried}
+
+-- the opening, with the machine as it is once the marker has finished
+abbrev pub finished_on : (o : Opening) (s : Segments) (marker : MarkerSeen) → HasFinished o s marker → Opening
+finished_on o s marker f = record o { core = now o f.events }
+
+-- the heap at a stop while a cycle marks, where nothing is remembered: at rest, with the machine to which the marker is tied
+pub record IsStopOf (layout : Layout) (c : Cycle) (s : State) (seen : Seen) (mutators : List Mutator) : Type 0 where
+  pub heap : HoldsAtStop layout s seen.words seen.segments (ends_of seen) seen.weaks
+  pub kept : IsMarking c s seen heap.places
+  pub rest : IsAtRest c kept.core seen.segments heap.places s.world seen.words mutators seen.marker.queue
+
+-- the round that could begin there
+abbrev pub stop_opening : (layout : Layout) (c : Cycle) (s : State) (seen : Seen) (mutators : List Mutator) → IsStopOf layout c s seen mutators → Opening
+stop_opening layout c s seen mutators h = opening_beside seen.segments.layout h.kept.core h.heap.places mutators
+
+-- once the marker has finished, the weak pointers may be resolved
+abbrev pub FinishMayResolve : Type 0
+FinishMayResolve = (layout : Layout) (c : Cycle) (s : State) (seen : Seen) (mutators : List Mutator) (marked : Segments) (marker : MarkerSeen) →
+    (h : IsStopOf layout c s seen mutators) → (f : HasFinished (stop_opening layout c s seen mutators h) marked marker) →
+    CanResolve (finished_on (stop_opening layout c s seen mutators h) marked marker f) seen.words marked marker seen.weaks
+
+-- the marker finished there, and the weak pointers were resolved, with this list and these deaths
+pub record IsClosingOf (layout : Layout) (c : Cycle) (s : State) (seen : Seen) (mutators : List Mutator) (words : List ℕ) (marked : Segments)
+    (marker : MarkerSeen) (list : List OldWeak) (deaths : List Death) : Type 0 where
+  pub stop : IsStopOf layout c s seen mutators
+  pub between : Segments
+  pub finisher : MarkerSeen
+  pub first : (scanned : ℕ) × HasMarked seen.segments between seen.marker finisher scanned
+  pub second : (scanned : ℕ) × HasMarked between marked finisher marker scanned
+  pub finished : HasFinished (stop_opening layout c s seen mutators stop) between finisher
+  pub resolved : HasResolved (finished_on (stop_opening layout c s seen mutators stop) between finisher finished) words marked marker list deaths
+  pub sound : IsSegments marked
+
+-- so the cycle is closed, and these die
+abbrev pub ResolveCloses : Type 0
+ResolveCloses = (layout : Layout) (c : Cycle) (s : State) (seen : Seen) (mutators : List Mutator) (words : List ℕ) (marked : Segments)
+    (marker : MarkerSeen) (list : List OldWeak) (deaths : List Death) → (k : IsClosingOf layout c s seen mutators words marked marker list deaths) →
+    HasClosed c s k.resolved.closing.dead marked marker
+
+-- the world closed with these, while the cycle sweeps
+abbrev pub closed_state : Cycle → State → List Name → State
+closed_state c s dead = record s { world = closed s.world dead; progress = sweeping c s.number }
+
+-- what the mutators have in hand once the finalisers have joined: the queues are longer, and registers and serials as they were
+pub record FinalisersInHand (seen : Seen) (deaths : List Death) (queues : List FinQueue) (ends : List MutatorEnd) : Type 0 where
+  pub old : List FinQueue
+  pub old_are : queues_of (ends_of seen) ≡ map (λ (q : FinQueue). q.words) old
+  pub joined : AllJoin deaths old queues
+  pub queues_are : queues_of ends ≡ map (λ (q : FinQueue). q.words) queues
+  pub registers : registers_of ends ≡ registers_of (ends_of seen)
+  pub serials : serials_of ends ≡ serials_of (ends_of seen)
+  pub whole : All HasAllRegisters ends
+
+-- words, roots and list then stand for the closed world, at the same places; no snapshot is tracked any more
+abbrev pub ClosedHolds : Type 0
+ClosedHolds = (layout : Layout) (c : Cycle) (s : State) (seen : Seen) (mutators : List Mutator) (words : List ℕ) (marked : Segments)
+    (marker : MarkerSeen) (list : List OldWeak) (deaths : List Death) (queues : List FinQueue) (ends : List MutatorEnd) →
+    (k : IsClosingOf layout c s seen mutators words marked marker list deaths) → FinalisersInHand seen deaths queues ends →
+    (g : HoldsAtStop layout (closed_state c s k.resolved.closing.dead) words marked ends (places_of list)) × (g.places ≡ k.stop.heap.places)
+
+-- what contracts see of a cycle that was closed at this stop, where these died
+pub record TellsDeaths (c : Cycle) (closed : ℕ) (dead : List Name) (marker : MarkerSeen) (cycle : CycleSeen) : Type 0 where
+  pub from_is : cycle.from ≡ c.from
+  pub closed_is : cycle.closed ≡ closed
+  pub dead_is : cycle.dead ≡ dead
+  pub kept_is : cycle.kept ≡ marker.marked
+
+-- a cycle that closes while all of its segments wait begins to sweep, and nothing was listed or freed yet
+abbrev pub ClosedCycleSweeps : Type 0
+ClosedCycleSweeps = (c : Cycle) (s : State) (dead : List Name) (words : List ℕ) (segments : Segments) (marker : MarkerSeen) (cycle : CycleSeen)
+    (sweeper : SweeperSeen) → IsSegments segments → StandsFor segments words s.allocation → IsLastBegun c s.number s.begun → WaitsWhole c s.allocation
+    → HasClosed c s dead segments marker → marker.epoch ≡ epoch_of c.number → TellsDeaths c s.number dead marker cycle → HasNoted c sweeper →
+    sweeper.had ≡ [] → sweeper.freed ≡ []
+    → IsSweeping c s.number s.allocation (all_carried marker.epoch segments) cycle sweeper × AreSettled s.begun (all_carried marker.epoch segments)

@@ -1,0 +1,45 @@
+-- What stands for a world between two rounds, and the opening of the next one.
+use Rattle.std.specs.Prelude.{ℕ, ◌≡◌, ◌<◌, false, List, [], length, map, slice_get, Contains, Some}
+use Rattle.nmgc_world_spec.specs.World.{World, IsWorld}
+use Rattle.nmgc_object.specs.declared.layout.Layout.{Layout}
+use Rattle.nmgc_snapshot_laws.specs.State.{unmarked}
+use Rattle.nmgc_alloc.specs.Numbered.{Segments}
+use Rattle.nmgc_alloc.specs.Segments.{IsSegments}
+use Rattle.nmgc_heap_spec.specs.Places.{Place}
+use Rattle.nmgc_heap_spec.specs.Represents.{Represents, NoNode}
+use Rattle.nmgc_heap_spec.specs.Roots.{RepresentsRoots}
+use Rattle.nmgc_blocks_spec.specs.Occupied.{AreBlocks}
+use Rattle.nmgc_blocks_spec.specs.Stopped.{young_base}
+use Rattle.nmgc_round.specs.View.{Hand, Opening}
+use Rattle.nmgc_round.specs.Own.{old_stacks}
+use Rattle.nmgc_mutator.specs.declared.mutator.Mutator.{Mutator}
+use Rattle.nmgc_mutator.specs.Ready.{IsWhole, IsUnused}
+use Rattle.nmgc_collector_laws.specs.Worked.{registers_of, queues_of, serials_of}
+
+-- what a mutator has outside the heap, as a round of this world with objects at these places sees it
+abbrev pub hand_of : World → List Place → Mutator → Hand
+hand_of w places m = record { registers = m.registers; queue = m.queue.words; serial = m.serial; stacks = old_stacks places w m.number }
+
+-- a mutator at a stop: all its registers, an unused nursery, and no recorded field and no young weak pointer left for the stop
+pub record IsResting (layout : Layout) (number : ℕ) (m : Mutator) : Type 0 where
+  pub number_is : m.number ≡ number
+  pub layout_is : m.layout ≡ layout
+  pub whole : IsWhole m
+  pub unused : IsUnused m
+  pub no_recorded : m.recorded.items ≡ []
+  pub no_weaks : m.young_weaks.items ≡ []
+
+-- words, blocks and mutators stand for the world while no cycle marks and the nurseries are empty
+pub record IsAtRest (s : Segments) (places : List Place) (w : World) (words : List ℕ) (mutators : List Mutator) : Type 0 where
+  pub world : IsWorld w
+  pub sound : IsSegments s
+  pub represents : Represents s.layout [] NoNode places w words
+  pub roots : RepresentsRoots places w (registers_of mutators) (queues_of mutators) (serials_of mutators)
+  pub blocks : AreBlocks s (young_base s) places w
+  pub low : (p : Place) → Contains places p → p.at < young_base s
+  pub count : length mutators ≡ s.layout.mutators
+  pub mutators_are : (k : ℕ) (m : Mutator) → slice_get mutators k ≡ Some m → IsResting s.layout k m
+
+-- the opening of a round that begins there
+abbrev pub opening_at : Layout → World → List Place → List Mutator → Opening
+opening_at layout w places mutators = record { layout = layout; marking = false; core = unmarked w; places = places; hands = map (hand_of w places) mutators }

@@ -1,0 +1,67 @@
+-- What stands for a world between two rounds of a marking cycle, and the opening of the next round.
+use Rattle.std.specs.Prelude.{ℕ, ◌≡◌, ◌<◌, true, List, [], ◌∷◌, ◌++◌, length, map, slice_get, Contains, Some, All}
+use Rattle.nmgc_world_spec.specs.World.{World, IsWorld}
+use Rattle.nmgc_world_spec.specs.History.{Row}
+use Rattle.nmgc_world_laws.specs.Reachable.{IsSound}
+use Rattle.nmgc_object.specs.declared.layout.Layout.{Layout}
+use Rattle.nmgc_snapshot_laws.specs.declared.event.Entry.{Entry}
+use Rattle.nmgc_snapshot_laws.specs.Machine.{AreEmpty}
+use Rattle.nmgc_snapshot_laws.specs.State.{State as Core}
+use Rattle.nmgc_alloc.specs.Numbered.{Segments}
+use Rattle.nmgc_alloc.specs.Segments.{IsSegments}
+use Rattle.nmgc_heap_spec.specs.Places.{Place}
+use Rattle.nmgc_heap_spec.specs.Changes.{AreEarlier}
+use Rattle.nmgc_heap_spec.specs.Represents.{Represents, NoNode}
+use Rattle.nmgc_heap_spec.specs.Roots.{RepresentsRoots}
+use Rattle.nmgc_blocks_spec.specs.Occupied.{AreBlocks}
+use Rattle.nmgc_blocks_spec.specs.Stopped.{young_base}
+use Rattle.nmgc_round.specs.View.{Opening}
+use Rattle.nmgc_round.specs.Objects.{earlier}
+use Rattle.nmgc_round.specs.Starting.{CanOpen}
+use Rattle.nmgc_mutator.specs.declared.mutator.Mutator.{Mutator}
+use Rattle.nmgc_collector_laws.specs.Rest.{hand_of, IsResting}
+use Rattle.nmgc_collector_laws.specs.Worked.{registers_of, queues_of, serials_of}
+use Rattle.nmgc_blocks_spec.specs.Cycle.{interval_of, Cycle}
+use Rattle.nmgc_collector_laws.specs.Marker.{AreAt, IsCoreOf, IsFresh}
+
+-- the cycle, with more rows since its snapshot
+abbrev pub with_rows : Cycle → List Row → Cycle
+with_rows c rows = record c { rows = c.rows ++ rows }
+
+-- the machine of a cycle at a stop: its rows lead from the snapshot to the world, nothing is owed, all that was
+-- pushed was taken, and of what waits nothing was read yet
+pub record IsMachineAtRest (c : Cycle) (w : World) (core : Core) : Type 0 where
+  pub sound : IsSound (interval_of c)
+  pub machine : IsCoreOf c w core
+  pub none_pushed : AreEmpty core.pushed
+  pub fresh : All IsFresh core.queue
+
+-- words, blocks and mutators stand for the world and speak of the snapshot too, the nurseries are empty, and what waits to be scanned is at these places
+pub record IsAtRest (c : Cycle) (core : Core) (s : Segments) (places : List Place) (w : World) (words : List ℕ) (mutators : List Mutator)
+    (queue : List ℕ) : Type 0 where
+  pub world : IsWorld w
+  pub machine : IsMachineAtRest c w core
+  pub sound : IsSegments s
+  pub represents : Represents s.layout (c.snapshot ∷ []) NoNode places w words
+  pub roots : RepresentsRoots places w (registers_of mutators) (queues_of mutators) (serials_of mutators)
+  pub blocks : AreBlocks s (young_base s) places w
+  pub low : (p : Place) → Contains places p → p.at < young_base s
+  pub count : length mutators ≡ s.layout.mutators
+  pub mutators_are : (k : ℕ) (m : Mutator) → slice_get mutators k ≡ Some m → IsResting s.layout k m
+  pub waits : AreAt places queue (map (λ (entry : Entry). entry.name) core.queue)
+
+-- the opening of a round that begins there
+abbrev pub opening_beside : Layout → Core → List Place → List Mutator → Opening
+opening_beside layout core places mutators = record {
+  layout = layout;
+  marking = true;
+  core = core;
+  places = places;
+  hands = map (hand_of core.world places) mutators;
+}
+
+-- a heap at rest opens a round, and the collector may speak of the snapshot there
+abbrev pub RestOpens : Type 0
+RestOpens = (c : Cycle) (core : Core) (s : Segments) (places : List Place) (w : World) (words : List ℕ) (mutators : List Mutator) (queue : List ℕ) →
+    IsAtRest c core s places w words mutators queue →
+    let o = opening_beside s.layout core places mutators in CanOpen o words × AreEarlier (earlier o) o.core.world

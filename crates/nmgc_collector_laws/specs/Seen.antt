@@ -1,0 +1,64 @@
+-- What contracts see of a collector: all that its report would hold now, and what it has besides between
+-- two calls.
+use Rattle.std.specs.Prelude.{ℕ, List, map, flat_map, Bool, Option}
+use Rattle.nmgc_object.specs.declared.layout.Nursery.{Nursery}
+use Rattle.nmgc_object.specs.FinQueue.{FinQueue}
+use Rattle.nmgc_alloc.specs.Numbered.{Segments}
+use Rattle.nmgc_heap_spec.specs.Places.{Place}
+use Rattle.nmgc_journal.specs.declared.report.RoundRows.{RoundRows}
+use Rattle.nmgc_journal.specs.declared.report.Phase.{Phase}
+use Rattle.nmgc_journal.specs.declared.report.StopRow.{StopRow}
+use Rattle.nmgc_journal.specs.declared.report.CycleRow.{CycleRow}
+use Rattle.nmgc_journal.specs.declared.report.MutatorEnd.{MutatorEnd}
+use Rattle.nmgc_journal.specs.declared.report.End.{End}
+use Rattle.nmgc_mark.specs.Seen.{MarkerSeen, WorkSeen}
+use Rattle.nmgc_sweep.specs.Seen.{SweeperSeen, CycleSeen}
+
+-- a mutator: its roots and next serial, its nursery, and what the round left for the stop: places of recorded fields
+-- and of young weak pointers, and the remembered entries
+pub record MutatorSeen : Type 0 where
+  pub registers : List ℕ
+  pub queue : FinQueue
+  pub serial : ℕ
+  pub nursery : Nursery
+  pub recorded : List ℕ
+  pub young_weaks : List ℕ
+  pub entries : List ℕ
+
+-- the whole collector; marker, sweeper and cycle mean something while a cycle is in progress
+pub record Seen : Type 0 where
+  pub rounds : List RoundRows
+  pub stops : List StopRow
+  pub cycles : List CycleRow
+  pub words : List ℕ
+  pub segments : Segments
+  pub mutators : List MutatorSeen
+  pub weaks : List Place
+  pub phase : Phase
+  pub begun : ℕ
+  pub collect : Bool
+  pub full : Bool
+  pub answered : Option End
+  pub work : WorkSeen
+  pub marker : MarkerSeen
+  pub sweeper : SweeperSeen
+  pub cycle : CycleSeen
+
+-- what a report would tell of a mutator now
+abbrev pub end_of : MutatorSeen → MutatorEnd
+end_of m = record { registers = m.registers; queue = m.queue.words; serial = m.serial }
+
+abbrev pub ends_of : Seen → List MutatorEnd
+ends_of seen = map end_of seen.mutators
+
+-- the nurseries of all mutators
+abbrev pub nurseries_of : Seen → List Nursery
+nurseries_of seen = map (λ (m : MutatorSeen). m.nursery) seen.mutators
+
+-- the places of the fields that the round recorded
+abbrev pub recorded_in : Seen → List ℕ
+recorded_in seen = flat_map (λ (m : MutatorSeen). m.recorded) seen.mutators
+
+-- the places of the weak pointers that the round made
+abbrev pub young_weaks_in : Seen → List ℕ
+young_weaks_in seen = flat_map (λ (m : MutatorSeen). m.young_weaks) seen.mutators

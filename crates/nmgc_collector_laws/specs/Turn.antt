@@ -1,0 +1,109 @@
+-- From a stop to the promotion of the next one: statements of laws.
+use Rattle.std.specs.Prelude.{ℕ, ◌≡◌, ◌≤◌, ◌⊎◌, List, [], ◌∷◌, length, map, slice_get, slice_index_or, Some, All}
+use Rattle.nmgc_world_spec.specs.World.{World, IsWorld}
+use Rattle.nmgc_world_spec.specs.History.{Row, IsLegal, rows_of, replayed}
+use Rattle.nmgc_object.specs.Places.{nursery_place, reserve_count}
+use Rattle.nmgc_alloc.specs.Numbered.{Segments}
+use Rattle.nmgc_alloc.specs.Segments.{IsSegments}
+use Rattle.nmgc_alloc.specs.Reserve.{free_count}
+use Rattle.nmgc_heap_spec.specs.Places.{Place}
+use Rattle.nmgc_heap_spec.specs.Changes.{AreEarlier}
+use Rattle.nmgc_heap_spec.specs.Roots.{RepresentsRoots}
+use Rattle.nmgc_heap_spec.specs.Moves.{Moved, settled}
+use Rattle.nmgc_blocks_spec.specs.Nurseries.{AreUsed, LieInOrder, AreEmpty}
+use Rattle.nmgc_blocks_spec.specs.Occupied.{AreBlocks}
+use Rattle.nmgc_blocks_spec.specs.Remembers.{Remembers}
+use Rattle.nmgc_blocks_spec.specs.Stopped.{Stopped, IsStopped, IsSettled, young_base}
+use Rattle.nmgc_round.specs.declared.table.Round.{Round}
+use Rattle.nmgc_round.specs.Events.{rows_in}
+use Rattle.nmgc_round.specs.View.{Opening, Seen, whole}
+use Rattle.nmgc_round.specs.Rule.{now}
+use Rattle.nmgc_round.specs.Objects.{earlier}
+use Rattle.nmgc_round.specs.Seat.{RoundSeat, IsAt, seen}
+use Rattle.nmgc_round.specs.Seating.{alone, collecting, all_together}
+use Rattle.nmgc_round.specs.Starting.{CanOpen}
+use Rattle.nmgc_round.specs.Finishing.{IsFinished, HasAll, Leaves, places_then}
+use Rattle.nmgc_mutator.specs.declared.mutator.Mutator.{Mutator}
+use Rattle.nmgc_mutator.specs.Does.{HasDone}
+use Rattle.nmgc_collector_laws.specs.Worked.{Done, HaveWorked, registers_of, queues_of, serials_of, nurseries_of, recorded_of, weaks_of}
+use Rattle.nmgc_collector_laws.specs.Rest.{IsAtRest, IsResting, opening_at}
+
+-- a heap at rest opens a round
+abbrev pub RestOpens : Type 0
+RestOpens = (s : Segments) (places : List Place) (w : World) (words : List ℕ) (mutators : List Mutator) → IsAtRest s places w words mutators →
+    CanOpen (opening_at s.layout w places mutators) words
+
+-- seats and mutators after the slices of a round, by their numbers: each mutator did its commands from its own seat on
+pub record SlicesAreDone (o : Opening) (round : Round) (old mutators : List Mutator) (seats : List RoundSeat) (done : List (List Done)) : Type 0 where
+  pub mutators_are : (length old ≡ o.layout.mutators) × (length mutators ≡ o.layout.mutators)
+  pub seats_are : length seats ≡ o.layout.mutators
+  pub done_are : length done ≡ o.layout.mutators
+  pub resting : (k : ℕ) (m : Mutator) → slice_get old k ≡ Some m → IsResting o.layout k m
+  pub each : (k : ℕ) (m n : Mutator) (seat : RoundSeat) (d : List Done) → slice_get old k ≡ Some m → slice_get mutators k ≡ Some n →
+      slice_get seats k ≡ Some seat → slice_get done k ≡ Some d → HasDone round (alone o k) seat m n d
+
+-- so the seats together have every part, and the mutators have worked as their parts say
+abbrev pub SlicesAreGathered : Type 0
+SlicesAreGathered = (o : Opening) (before : List ℕ) (round : Round) (old mutators : List Mutator) (seats : List RoundSeat)
+    (done : List (List Done)) → CanOpen o before → SlicesAreDone o round old mutators seats done →
+    let v = all_together (collecting (whole o)) (map seen seats) in HasAll v × All (IsAt round) seats × HaveWorked o v.parts mutators done
+
+-- the commands of a finished round have one legal order, in which each mutator's are those that it did, with their
+-- replies; and the world after the round is the one after them
+abbrev pub RoundIsHistory : Type 0
+RoundIsHistory = (o : Opening) (words : List ℕ) (v : Seen) (mutators : List Mutator) (done : List (List Done)) → (h : IsFinished o words v) →
+    HaveWorked o v.parts mutators done →
+    IsLegal o.core.world (rows_in h.events) × ((m : ℕ) → map (λ (row : Row). (row.command, row.reply)) (rows_of m (rows_in h.events)) ≡
+    slice_index_or done m []) × ((now o h.events).world ≡ replayed o.core.world (rows_in h.events))
+
+-- the heap after a round, as its promotion finds it
+abbrev pub stop_after : (o : Opening) (words : List ℕ) (v : Seen) → IsFinished o words v → List Mutator → Stopped
+stop_after o words v h mutators = record {
+  world = (now o h.events).world;
+  began = o.core.world;
+  later = earlier o;
+  places = places_then o h.born;
+  serials = serials_of mutators;
+}
+
+-- registers, queues and serials of the mutators stand for the roots of the world after the round
+abbrev pub RootsAreLeft : Type 0
+RootsAreLeft = (o : Opening) (words : List ℕ) (v : Seen) (mutators : List Mutator) (done : List (List Done)) → (h : IsFinished o words v) →
+    HaveWorked o v.parts mutators done →
+    RepresentsRoots (places_then o h.born) (now o h.events).world (registers_of mutators) (queues_of mutators) (serials_of mutators)
+
+-- what was born lies in the used parts of the nurseries, in the order of names
+abbrev pub BirthsAreInOrder : Type 0
+BirthsAreInOrder = (o : Opening) (before words : List ℕ) (v : Seen) (mutators : List Mutator) (done : List (List Done)) → CanOpen o before →
+    (h : IsFinished o words v) → HaveWorked o v.parts mutators done →
+    LieInOrder (nursery_place o.layout 0) (places_then o h.born) ×
+    AreUsed o.layout (nursery_place o.layout 0) (places_then o h.born) (now o h.events).world (nurseries_of mutators)
+
+-- the fields that the mutators recorded are told fields of tracked objects in segments, and all of these that refer
+-- to a young object; the weak pointers are those that the round made
+abbrev pub RoundIsRemembered : Type 0
+RoundIsRemembered = (o : Opening) (before words : List ℕ) (v : Seen) (mutators : List Mutator) (done : List (List Done)) → CanOpen o before →
+    (h : IsFinished o words v) → HaveWorked o v.parts mutators done →
+    Remembers (nursery_place o.layout 0) (o.core.world ∷ earlier o) (places_then o h.born) (now o h.events).world (recorded_of mutators) (weaks_of mutators)
+
+-- what a round leaves is what a promotion asks
+abbrev pub RoundIsStopped : Type 0
+RoundIsStopped = (o : Opening) (before words : List ℕ) (v : Seen) (mutators : List Mutator) (done : List (List Done)) (s : Segments) →
+    CanOpen o before → AreEarlier (earlier o) o.core.world → s.layout ≡ o.layout → IsSegments s → AreBlocks s (young_base s) o.places o.core.world
+    → (left : Leaves o words v) → HaveWorked o v.parts mutators done → (reserve_count s.layout ≤ free_count s.segments) ⊎ AreEmpty (nurseries_of mutators)
+    → IsStopped (stop_after o words v left.0 mutators) s words (nurseries_of mutators) (registers_of mutators) (queues_of mutators)
+    (recorded_of mutators) (weaks_of mutators)
+
+-- once the promotion is done, what the mutators have is forwarded, their nurseries are empty, and nothing is left
+pub record AreForwarded (s : Segments) (registers : List ℕ) (queues : List (List ℕ)) (serials : List ℕ) (mutators : List Mutator) : Type 0 where
+  pub registers_are : registers_of mutators ≡ registers
+  pub queues_are : queues_of mutators ≡ queues
+  pub serials_are : serials_of mutators ≡ serials
+  pub count : length mutators ≡ s.layout.mutators
+  pub each : (k : ℕ) (m : Mutator) → slice_get mutators k ≡ Some m → IsResting s.layout k m
+
+-- and where the collector speaks of no earlier world, the heap is at rest again
+abbrev pub SettledIsAtRest : Type 0
+SettledIsAtRest = (t : Stopped) (s : Segments) (words registers : List ℕ) (queues : List (List ℕ)) (moves : List Moved) (mutators : List Mutator) →
+    t.later ≡ [] → IsWorld t.world → IsSegments s → IsSettled t s words registers queues moves →
+    AreForwarded s registers queues t.serials mutators → IsAtRest s (settled (young_base s) moves t.places) t.world words mutators

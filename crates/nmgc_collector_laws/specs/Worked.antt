@@ -1,0 +1,62 @@
+-- What the mutators of a round did, as their parts of a view and they themselves tell it.
+--
+-- A part knows rows with answers as words. The mutator has what these rows leave, the replies by name, and the
+-- places of the fields that they gave a young object and of the weak pointers that they made. All laws of a round's end speak of these facts, which
+-- `nmgc_mutator` promises of a slice.
+use Rattle.std.specs.Prelude.{ℕ, ◌≡◌, List, length, map, slice_get, Some}
+use Rattle.std.specs.List.{flat_map}
+use Rattle.nmgc_limits.specs.declared.mutators.TheConstants.{REGISTERS}
+use Rattle.nmgc_world_spec.specs.declared.command.Command.{Command}
+use Rattle.nmgc_world_spec.specs.declared.command.Reply.{Reply}
+use Rattle.nmgc_object.specs.declared.layout.Nursery.{Nursery}
+use Rattle.nmgc_round.specs.View.{Opening, Part, hand_of, hand_now}
+use Rattle.nmgc_round.specs.Naming.{AllReply}
+use Rattle.nmgc_mutator.specs.declared.mutator.Mutator.{Mutator}
+use Rattle.nmgc_mutator.specs.Ready.{IsNursery, HasHand, words_by}
+use Rattle.nmgc_mutator.specs.Records.{numbers, all_recorded, all_weaks}
+
+-- a command, and the reply to it
+abbrev pub Done : Type 0
+Done = Command × Reply
+
+-- the mutator did these commands with these replies in the round that began so, and its part of the view says the same
+pub record HasWorked (o : Opening) (p : Part) (m : Mutator) (done : List Done) : Type 0 where
+  pub number : p.number ≡ m.number
+  pub layout : m.layout ≡ o.layout
+  pub size : length m.registers ≡ REGISTERS
+  pub holds : HasHand (hand_now o p) m
+  pub nursery : IsNursery m.layout m.number p.rows m.nursery
+  pub used : p.used ≡ words_by p.rows
+  pub replied : AllReply p.fixed p.rows done
+  pub recorded : numbers m.recorded.items ≡ all_recorded m.layout (hand_of o.hands p.number) p.rows
+  pub weaks : numbers m.young_weaks.items ≡ all_weaks p.rows
+
+-- all mutators, by their numbers: each with its part of the view, and with what it did
+pub record HaveWorked (o : Opening) (parts : List Part) (mutators : List Mutator) (done : List (List Done)) : Type 0 where
+  pub parts_are : length parts ≡ o.layout.mutators
+  pub mutators_are : length mutators ≡ o.layout.mutators
+  pub done_are : length done ≡ o.layout.mutators
+  pub numbers_are : (k : ℕ) (m : Mutator) → slice_get mutators k ≡ Some m → m.number ≡ k
+  pub each : (k : ℕ) (p : Part) (m : Mutator) (d : List Done) → slice_get parts k ≡ Some p → slice_get mutators k ≡ Some m →
+      slice_get done k ≡ Some d → HasWorked o p m d
+
+-- the registers of all mutators, one after another, their queues and serials, and their nurseries
+abbrev pub registers_of : List Mutator → List ℕ
+registers_of mutators = flat_map (λ (m : Mutator). m.registers) mutators
+
+abbrev pub queues_of : List Mutator → List (List ℕ)
+queues_of mutators = map (λ (m : Mutator). m.queue.words) mutators
+
+abbrev pub serials_of : List Mutator → List ℕ
+serials_of mutators = map (λ (m : Mutator). m.serial) mutators
+
+abbrev pub nurseries_of : List Mutator → List Nursery
+nurseries_of mutators = map (λ (m : Mutator). m.nursery) mutators
+
+-- the places of all fields that they recorded
+abbrev pub recorded_of : List Mutator → List ℕ
+recorded_of mutators = flat_map (λ (m : Mutator). numbers m.recorded.items) mutators
+
+-- the places of all weak pointers that they made
+abbrev pub weaks_of : List Mutator → List ℕ
+weaks_of mutators = flat_map (λ (m : Mutator). numbers m.young_weaks.items) mutators

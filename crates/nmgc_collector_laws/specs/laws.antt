@@ -1,0 +1,10 @@
+pub mod Common
+pub mod Gathered
+pub mod Openings
+pub mod Placed
+pub mod Reading
+pub mod Registers
+pub mod Remembering
+pub mod Replays
+pub mod Rests
+pub mod Workers

@@ -1,0 +1,11 @@
+-- Items of lists: the two ways to read one say the same.
+use Rattle.std.proofs.Common.{◌≡◌, ℕ, zero, suc, List, [], ◌∷◌, ap, Some}
+use Rattle.std.specs.Prelude.{slice_get}
+use mathlib.Core.Option.{some}
+use lib.ListN.{get_elem?}
+
+-- what one way finds, the other finds
+pub item_found : {A : Type 0} (xs : List A) (k : ℕ) (x : A) → slice_get xs k ≡ Some x → get_elem? xs k ≡ some x
+item_found [] k x e = absurd cc
+item_found (y ∷ xs) zero x e = let same : y ≡ x = cc in ap (λ z. some z) same
+item_found (y ∷ xs) (suc k) x e = item_found xs k x e

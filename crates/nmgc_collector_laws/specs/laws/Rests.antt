@@ -1,0 +1,33 @@
+-- After its promotion the heap is at rest.
+use Rattle.std.proofs.Common.{◌<◌, ℕ, List, inl, inr, sym, subst}
+use Rattle.std.specs.Prelude.{Contains}
+use Rattle.nmgc_world_spec.specs.World.{World}
+use Rattle.nmgc_alloc.specs.Numbered.{Segments}
+use Rattle.nmgc_heap_spec.specs.Moves.{Moved, settled}
+use Rattle.nmgc_heap_spec.specs.Places.{Place}
+use Rattle.nmgc_heap_spec.specs.Represents.{Represents, NoNode}
+use Rattle.nmgc_heap_spec.specs.Roots.{RepresentsRoots}
+use Rattle.nmgc_heap_spec.specs.laws.Moving.{settled_cases}
+use Rattle.nmgc_blocks_spec.specs.Stopped.{Stopped, IsSettled, young_base}
+use Rattle.nmgc_collector_laws.specs.Turn.{SettledIsAtRest}
+
+-- what moved lies in segments, and what didn't lay there
+pub settled_low : (t : Stopped) (s : Segments) (words registers : List ℕ) (queues : List (List ℕ)) (moves : List Moved) →
+    IsSettled t s words registers queues moves → (p : Place) → Contains (settled (young_base s) moves t.places) p → p.at < young_base s
+settled_low t s words registers queues moves h p c = elim (settled_cases (young_base s) moves t.places p c) [
+  | inl x ↦ subst (λ (q : Place). q.at < young_base s) (sym x.2) (h.low x.0 x.1)
+  | inr x ↦ x.1
+]
+
+pub rests : SettledIsAtRest
+rests t s words registers queues moves mutators none world sound h forwarded = record {
+  world = world;
+  sound = sound;
+  represents = subst (λ (l : List World). Represents s.layout l NoNode (settled (young_base s) moves t.places) t.world words) none h.represents;
+  roots = subst (λ (y : List ℕ × List (List ℕ) × List ℕ). RepresentsRoots (settled (young_base s) moves t.places) t.world y.0 y.1 y.2) (λ i.
+      (sym forwarded.registers_are i, sym forwarded.queues_are i, sym forwarded.serials_are i)) h.roots;
+  blocks = h.blocks;
+  low = settled_low t s words registers queues moves h;
+  count = forwarded.count;
+  mutators_are = forwarded.each;
+}

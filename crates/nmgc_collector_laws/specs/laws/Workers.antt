@@ -1,0 +1,39 @@
+-- A mutator of a round by its number: its part of the view, itself, and what it did.
+use Rattle.std.proofs.Common.{◌≡◌, ℕ, ◌<◌, List, ◌∙◌, arith, Some}
+use Rattle.std.specs.Prelude.{slice_get}
+use mathlib.Core.Option.{some}
+use lib.ListN.{get_elem?}
+use Rattle.nmgc_round.specs.View.{Opening, Part}
+use Rattle.nmgc_mutator.specs.declared.mutator.Mutator.{Mutator}
+use Rattle.nmgc_collector_laws.specs.Worked.{Done, HasWorked, HaveWorked}
+use Rattle.nmgc_lists.specs.laws.Items.{item}
+use Rattle.nmgc_collector_laws.specs.laws.Reading.{item_found}
+
+pub record Worker (o : Opening) (parts : List Part) (mutators : List Mutator) (done : List (List Done)) (k : ℕ) : Type 0 where
+  pub part : Part
+  pub mutator : Mutator
+  pub own : List Done
+  pub part_there : get_elem? parts k ≡ some part
+  pub mutator_there : slice_get mutators k ≡ Some mutator
+  pub own_there : slice_get done k ≡ Some own
+  pub number : part.number ≡ k
+  pub worked : HasWorked o part mutator own
+
+pub worker_at : (o : Opening) (parts : List Part) (mutators : List Mutator) (done : List (List Done)) → HaveWorked o parts mutators done → (k : ℕ) →
+    k < o.layout.mutators → Worker o parts mutators done k
+worker_at o parts mutators done all k lt =
+    let a = all.parts_are in let b = all.mutators_are in let c = all.done_are in
+    let p = item parts k (omega arith) in
+    let m = item mutators k (omega arith) in
+    let d = item done k (omega arith) in
+    let worked = all.each k p.0 m.0 d.0 p.1 m.1 d.1 in
+    record {
+      part = p.0;
+      mutator = m.0;
+      own = d.0;
+      part_there = item_found parts k p.0 p.1;
+      mutator_there = m.1;
+      own_there = d.1;
+      number = worked.number ∙ all.numbers_are k m.0 m.1;
+      worked = worked;
+    }

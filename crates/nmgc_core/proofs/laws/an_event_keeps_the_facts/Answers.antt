@@ -1,5 +1,0 @@
-use Rattle.nmgc_core.specs.laws.Runs.{event_keeps_facts}
-use Rattle.nmgc_core.proofs.laws.an_event_keeps_the_facts.Goals as goal
-
-pub returns : goal.returns
-returns c = event_keeps_facts

@@ -1,5 +1,0 @@
-use Rattle.nmgc_core.specs.laws.Runs.{opening_has_facts}
-use Rattle.nmgc_core.proofs.laws.an_opening_has_the_facts.Goals as goal
-
-pub returns : goal.returns
-returns c = opening_has_facts

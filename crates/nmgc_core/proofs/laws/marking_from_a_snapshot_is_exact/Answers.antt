@@ -1,5 +1,0 @@
-use Rattle.nmgc_core.specs.laws.Runs.{snapshot_theorem}
-use Rattle.nmgc_core.proofs.laws.marking_from_a_snapshot_is_exact.Goals as goal
-
-pub returns : goal.returns
-returns c = snapshot_theorem

@@ -1,0 +1,14 @@
+pub mod Beginning
+pub mod Closing
+pub mod Ending
+pub mod Filing
+pub mod FinishingLeads
+pub mod FullCycle
+pub mod Pacing
+pub mod PreparedSegments
+pub mod QueueLists
+pub mod QueueRoom
+pub mod Queued
+pub mod StartingLeads
+pub mod StepReady
+pub mod SweepingRest

@@ -1,0 +1,170 @@
+-- The end of a cycle at a stop: its row tells its census, and the collector stands for the state in which none is in progress.
+use Rattle.std.proofs.Common.{ℕ, ◌≡◌, List, [], ◌∷◌, ◌++◌, refl, sym, ap, subst, ◌∙◌, inl, inr, append-nil}
+use Rattle.nmgc_world_spec.specs.World.{World}
+use Rattle.nmgc_alloc.specs.Segments.{HasNone}
+use Rattle.nmgc_alloc.specs.declared.search.Sought.TheVariants as sought
+use Rattle.nmgc_alloc.specs.laws.Sweeping.{none_to_sweep}
+use Rattle.nmgc_heap_spec.specs.Represents.{Represents, NoNode}
+use Rattle.nmgc_heap_spec.specs.Tracked.{IsTracked}
+use Rattle.nmgc_journal.specs.declared.report.CycleRow.{CycleRow}
+use Rattle.nmgc_journal.specs.declared.report.Phase.TheVariants as phase
+use Rattle.nmgc_run_spec.specs.Stop.{IsCensus, EndsOrWaits, IsSwept}
+use Rattle.nmgc_collector_laws.specs.Collector.{HoldsInCycle, IsPacedAtStop}
+use Rattle.nmgc_run_laws.specs.Course.{IsInCourse}
+use Rattle.nmgc_run_spec.specs.Heap.{HoldsAtStop, snapshots}
+use Rattle.nmgc_collector_laws.specs.Seen.{ends_of}
+use Rattle.nmgc_run_laws.specs.Sound.{IsSoundState}
+use Rattle.nmgc_run_spec.specs.State.{State, Plan, Progress, idle, marking, sweeping, phase_of, plan_of, layout_of}
+use Rattle.nmgc_blocks_spec.specs.Cycle.{Cycle}
+use Rattle.nmgc_script.specs.declared.script.Script.{Script}
+use Rattle.nmgc_sweep.specs.Statements.{EndTellsCensus, TellsCensus}
+use Rattle.nmgc_sweep.specs.Work.{IsAtWork}
+use Rattle.std.proofs.lemmas.List.{map-append}
+use Rattle.nmgc_cycle.specs.declared.collector.Collector.{Collector}
+use Rattle.nmgc_cycle.specs.declared.progress.Progress.{Progress as Doing}
+use Rattle.nmgc_cycle.specs.declared.progress.Progress.TheVariants as doing
+use Rattle.nmgc_cycle.specs.declared.progress.Sweeping.{Sweeping}
+use Rattle.nmgc_cycle.specs.Cycles.{row_of, Ends}
+use Rattle.nmgc_cycle.specs.Keeps.{Sweeps}
+use Rattle.nmgc_cycle.specs.Shown.{seen, sweeper_in, cycle_in, phase_in, died, told_row, told_cycles}
+use Rattle.nmgc_cycle.specs.Steps.{StandsAt, EndLeads}
+use Rattle.nmgc_lists.specs.laws.Items.{nothing_in}
+use Rattle.nmgc_cycle.proofs.cycles.StepReady.{none_back}
+use Rattle.nmgc_cycle.proofs.stops.Telling.{kept_told}
+
+-- the collector once the cycle has ended, and its state
+abbrev pub ended : Collector → ℕ → ℕ → CycleRow → Collector
+ended c turns upper row = record c { progress = doing.Idle; turns = turns; upper_turns = upper; cycles = c.cycles ++ row ∷ [] }
+
+abbrev pub idled : State → State
+idled s = record s { progress = idle }
+
+module _ (script : Script) (c : Collector) (s : State) (h : StandsAt script c s) (w : Sweeping) (at : c.progress ≡
+    doing.Sweeping w) (k : Cycle) (closed : ℕ) (is : s.progress ≡ sweeping k closed) where
+  abbrev plan : Plan
+  plan = plan_of script
+
+  none : snapshots s.progress ≡ []
+  none = ap snapshots is
+
+  sound : IsSoundState plan (idled s)
+  sound = record {
+    world = h.sound.world;
+    able = record { programs = h.sound.able.programs; mutators = h.sound.able.mutators; registers = h.sound.able.registers; serials = h.sound.able.serials };
+    sound_blocks = h.sound.sound_blocks;
+    known = h.sound.known;
+    cycle = tt;
+    earlier = λ e there. absurd (nothing_in e there);
+    blocks = λ name tracked other. h.sound.blocks name (subst (λ (l : List World). IsTracked s.world l name) (sym none) tracked) other;
+  }
+
+  heap : HoldsAtStop (layout_of plan) (idled s) (seen c).words c.segments (ends_of (seen c)) (seen c).weaks
+  heap = record {
+    places = h.heap.places;
+    all = h.heap.all;
+    holds = record {
+      fit = h.heap.holds.fit;
+      represents = subst (λ (l : List World). Represents (layout_of plan) l NoNode h.heap.places s.world (seen c).words) none h.heap.holds.represents;
+      registers = h.heap.holds.registers;
+      roots = h.heap.holds.roots;
+      layout_is = h.heap.holds.layout_is;
+      stands = h.heap.holds.stands;
+    };
+    listed = h.heap.listed;
+  }
+
+  swept_by : Sweeps (sweeping k closed) s c
+  swept_by = subst (λ (q : Progress). Sweeps q s c) is h.sweeper
+
+  work : IsAtWork k closed (seen c).words s.allocation c.segments (cycle_in (doing.Sweeping w) (died c.weaks.deaths)) w.sweeper
+  work = subst (λ (p : Doing). IsAtWork k closed (seen c).words s.allocation c.segments (cycle_in p (died c.weaks.deaths)) (sweeper_in p)) at swept_by.1
+
+  course : IsInCourse (sweeping k closed) s.number s.begun s.allocation
+  course = subst (λ (q : Progress). IsInCourse q s.number s.begun s.allocation) is h.course
+
+  abbrev pub row : CycleRow
+  row = row_of c.begun s.number w (died c.weaks.deaths)
+
+  census : EndTellsCensus → IsSwept s → IsCensus k closed s.number (told_row row)
+  census law swept =
+      let told : TellsCensus k w.sweeper =
+      law k closed (seen c).words s.allocation c.segments (cycle_in (doing.Sweeping w) (died c.weaks.deaths)) w.sweeper work swept in
+      record {
+        number = h.matches.begun ∙ sym course.0.number_is;
+        from = work.sweeping.from_is;
+        closed_at = work.sweeping.closed_is;
+        ended_at = refl;
+        swept = told.swept;
+        had = told.had;
+        freed = told.freed;
+        dead = work.sweeping.dead;
+        kept = work.sweeping.kept;
+      }
+
+  stands_then : (turns upper : ℕ) → IsSwept s → StandsAt script (ended c turns upper row) (idled s)
+  unfolding heap
+  stands_then turns upper swept = record {
+    kept = kept_told script c (ended c turns upper row) refl h.kept;
+    sound = sound;
+    course = swept;
+    matches = record { phase = refl; begun = h.matches.begun; collect = h.matches.collect; full = h.matches.full };
+    heap = heap;
+    nurseries = h.nurseries;
+    empty = h.empty;
+    rest = h.rest;
+    cycle = (subst (λ (q : Progress). HoldsInCycle (λ (r : Cycle). IsPacedAtStop script.config.quota r s (seen c)) q s (seen c) h.heap.places) is h.cycle).1;
+    sweeper = tt;
+    named = h.named;
+  }
+
+  -- the cycle ended
+  pub ends_now : EndTellsCensus → (new : Collector) → HasNone sought.Sweeping c.segments → new ≡ ended c w.sweeper.turns w.sweeper.upper_turns row →
+      (t : State) × (rows : List CycleRow) × EndsOrWaits s.progress s t rows × (told_cycles new ≡ told_cycles c ++ rows) × StandsAt script new t
+  ends_now law new waits new_is =
+      let swept : IsSwept s = none_to_sweep c.segments (seen c).words s.allocation h.heap.holds.stands waits in (
+        idled s,
+        told_row row ∷ [],
+        subst (λ (q : Progress). EndsOrWaits q s (idled s) (told_row row ∷ [])) (sym is) (inl (
+          swept,
+          record { row = told_row row; census = census law swept; told = refl; rest = refl },
+        )),
+        ap told_cycles new_is ∙ map-append told_row c.cycles (row ∷ []),
+        subst (λ (x : Collector). StandsAt script x (idled s)) (sym new_is) (stands_then w.sweeper.turns w.sweeper.upper_turns swept),
+      )
+
+module _ (law : EndTellsCensus) (script : Script) (old new : Collector) (s : State) (h : StandsAt script old s) where
+  abbrev Leads : Type 0
+  Leads = (t : State) × (rows : List CycleRow) × EndsOrWaits s.progress s t rows × (told_cycles new ≡ told_cycles old ++ rows) × StandsAt script new t
+
+  stays : (q : Progress) → s.progress ≡ q → EndsOrWaits q s s [] → new ≡ old → Leads
+  stays q is waits same = (
+    s,
+    [],
+    subst (λ (p : Progress). EndsOrWaits p s s []) (sym is) waits,
+    ap told_cycles same ∙ sym (append-nil (told_cycles old)),
+    subst (λ (x : Collector). StandsAt script x s) (sym same) h,
+  )
+
+  by_case : (p : Doing) (q : Progress) → old.progress ≡ p → s.progress ≡ q → phase_in p ≡ phase_of q → Ends s.number p old new → Leads
+  by_case doing.Idle idle at is e step = stays idle is (refl, refl) step
+  by_case doing.Idle (marking k) at is e step = absurd (let bad : phase.Idle ≡ phase.Marking = e in cc)
+  by_case doing.Idle (sweeping k closed) at is e step = absurd (let bad : phase.Idle ≡ phase.Sweeping = e in cc)
+  by_case (doing.Marking m) idle at is e step = absurd (let bad : phase.Marking ≡ phase.Idle = e in cc)
+  by_case (doing.Marking m) (marking k) at is e step = stays (marking k) is (refl, refl) step
+  by_case (doing.Marking m) (sweeping k closed) at is e step = absurd (let bad : phase.Marking ≡ phase.Sweeping = e in cc)
+  by_case (doing.Sweeping w) idle at is e step = absurd (let bad : phase.Sweeping ≡ phase.Idle = e in cc)
+  by_case (doing.Sweeping w) (marking k) at is e step = absurd (let bad : phase.Sweeping ≡ phase.Marking = e in cc)
+  by_case (doing.Sweeping w) (sweeping k closed) at is e step = elim step [
+    | inl x ↦ ends_now script old s h w at k closed is law new x.0 x.1
+    | inr x ↦ stays (sweeping k closed) is (inr (
+      (λ swept. x.0 (none_back old.segments (seen old).words s.allocation h.heap.holds.stands swept)),
+      refl,
+      refl,
+    )) x.1
+  ]
+
+-- so it is at every stop
+pub end_leads : EndTellsCensus → EndLeads
+end_leads law script old new s limits h step =
+    let phases : phase_in old.progress ≡ phase_of s.progress = h.matches.phase in
+    by_case law script old new s h old.progress s.progress refl refl phases step

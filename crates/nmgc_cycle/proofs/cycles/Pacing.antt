@@ -1,0 +1,45 @@
+-- The pace of marking within a stop.
+use Rattle.std.proofs.Common.{ℕ, ◌≡◌, ◌+◌, ◌≤◌, List, sym, ap, ◌∙◌, arith, inl, inr}
+use Rattle.std.proofs.lemmas.Bool.{cases_lt}
+use Rattle.nmgc_alloc.specs.AllocState.{AllocState}
+use Rattle.nmgc_collector_laws.specs.Closes.{ClosingIsSoon, ClosingIsPaced}
+use Rattle.nmgc_collector_laws.specs.Keeps.{PaceAtStop, Scans}
+use Rattle.nmgc_snapshot_laws.specs.State.{State as Core}
+use Rattle.nmgc_world_laws.specs.Reachable.{IsSound}
+use Rattle.nmgc_heap_spec.specs.Places.{Place}
+use Rattle.nmgc_blocks_spec.specs.Cycle.{IsKeptObject, interval_of, Cycle}
+use Rattle.nmgc_run_spec.specs.Closing.{IsSoon}
+use Rattle.nmgc_collector_laws.specs.Collector.{IsPacedAfterRound, IsPacedAtStop}
+use Rattle.nmgc_world_spec.specs.Listing.{Counts}
+use Rattle.nmgc_collector_laws.specs.Marker.{IsCoreOf, IsTied}
+use Rattle.nmgc_collector_laws.specs.Seen.{Seen}
+use Rattle.nmgc_mark.specs.Seen.{WorkSeen}
+use Rattle.nmgc_run_spec.specs.State.{State}
+use Rattle.nmgc_run_laws.specs.laws.Closings.{one_more}
+use Rattle.nmgc_cycle.specs.Steps.{IsPacedWithin}
+use Rattle.nmgc_lists.specs.laws.Items.{some_wait}
+
+-- what the round left is in pace, and what was added since only waits behind it
+pub paced_within : ClosingIsSoon → ClosingIsPaced → PaceAtStop →
+    (quota : ℕ) (c : Cycle) (t : State) (old new : Seen) (allocation : AllocState) (places : List Place) (core : Core) → IsSound (interval_of c) →
+    IsCoreOf c t.world core → IsTied c allocation old.segments places old.marker core → c.from + 1 ≤ t.number → IsPacedAfterRound quota c t old →
+    Scans old.marker new.marker 0 → old.marker.marked ≤ new.marker.marked → new.work ≡ old.work → IsPacedWithin quota c t new
+paced_within soon paced at_stop quota c t old new allocation places core sound is_core tied after pace scans grows same = record {
+  goes_on = λ left. at_stop quota c t old new pace (omega (arith, after)) (sym (ap (λ (w : WorkSeen). w.empty) same) ∙ left) scans grows;
+  closes = λ none kept le counts. (
+    soon quota c t old kept pace (omega (arith, grows, le)) counts,
+    paced quota c t old allocation places core sound is_core tied after pace (sym (ap (λ (w : WorkSeen). w.empty) same) ∙ none),
+  );
+}
+
+-- a closing by force isn't too late: each round since the snapshot scanned its quota, and something waits still
+pub forced_soon : (quota : ℕ) (c : Cycle) (s : State) (seen : Seen) (kept : ℕ) → IsPacedAtStop quota c s seen → seen.marker.marked ≤ kept →
+    Counts (IsKeptObject c) kept → IsSoon quota c s.number
+forced_soon quota c s seen kept paced more counts = elim (cases_lt c.from s.number) [
+  | inr first ↦ inl (omega (arith, first))
+  | inl later ↦
+      let scanned = paced.scanned in
+      let rounds = one_more s.number c.from quota (omega (arith, later)) in
+      let waits = some_wait seen.marker.queue (paced.not_done later) in
+      inr (kept, counts, omega (arith, scanned, rounds, waits, more))
+]

@@ -1,0 +1,28 @@
+-- Segments whose snapshot was taken are segments still.
+use Rattle.std.proofs.Common.{ℕ, ◌<◌, length, sym, subst, ◌∙◌, arith}
+use Rattle.std.proofs.Math.ListN.{length-map}
+use Rattle.nmgc_segment.specs.Segment.{Segment}
+use Rattle.nmgc_alloc.specs.Numbered.{nth, Segments}
+use Rattle.nmgc_alloc.specs.Segments.{IsMember, IsSegments, IsCurrent, IsOwn}
+use Rattle.nmgc_alloc.specs.CycleSteps.{prepared}
+use Rattle.nmgc_alloc.specs.laws.Numbers.{nth-map}
+use Rattle.nmgc_collector_laws.specs.Prepares.{all_prepared}
+use Rattle.nmgc_alloc.specs.laws.Common.{prepared_current, prepared_in}
+
+own_before : (s : Segments) (m c number : ℕ) → IsOwn (all_prepared s) m c number → IsOwn s m c number
+own_before s m c number h =
+    let there : number < length s.segments = rw length-map at h.exists in
+    let t : Segment = nth s.segments number in
+    record { exists = there; is = prepared_current t t.state m c (subst (λ (x : Segment). IsCurrent m c x) (nth-map prepared s.segments number there) h.is) }
+
+pub prepared_sound : (s : Segments) → IsSegments s → IsSegments (all_prepared s)
+prepared_sound s h = record {
+  layout = h.layout;
+  count = length-map s.segments prepared ∙ h.count;
+  members = λ number exists.
+      let there : number < length s.segments = rw length-map at exists in
+      let t : Segment = nth s.segments number in
+      subst (λ (x : Segment). IsMember s.layout x) (sym (nth-map prepared s.segments number there)) (prepared_in s.layout t t.state (h.members number there));
+  one_current = λ m c a b first second. h.one_current m c a b (own_before s m c a first) (own_before s m c b second);
+  fresh = omega arith;
+}

@@ -1,0 +1,22 @@
+-- Loops over the mutators' queues: what one more step leaves.
+use Rattle.std.proofs.Common.{ℕ, ◌≡◌, ◌+◌, ◌<◌, ◌≤◌, List, length, get_or, slice_index_or, arith, subst, ◌∙◌}
+use Rattle.std.specs.Prelude.{slice_set}
+use Rattle.std.proofs.lemmas.List.{get_or_default}
+use Rattle.nmgc_mutator.specs.declared.mutator.Mutator.{Mutator}
+use Rattle.nmgc_weak.specs.declared.weaks.OldWeak.{OldWeak}
+use Rattle.nmgc_cycle.specs.Listed.{HasQueueRoom, count_made_by}
+use Rattle.nmgc_cycle.proofs.rounds.Reserving.{up_to}
+
+-- one queue more has room
+pub room_more : (list : List OldWeak) (was now : List Mutator) (n : ℕ) (m next : Mutator) → n < length was → length now ≡ length was →
+    m ≡ get_or now n m → ((k : ℕ) (d : Mutator) → k < n →
+    HasQueueRoom (count_made_by (slice_index_or was k d).number list) (slice_index_or was k d) (slice_index_or now k d)) →
+    ((k : ℕ) (d : Mutator) → n ≤ k → slice_index_or now k d ≡ slice_index_or was k d) → HasQueueRoom (count_made_by m.number list) m next →
+    (k : ℕ) (d : Mutator) → k < n + 1 →
+    HasQueueRoom (count_made_by (slice_index_or was k d).number list) (slice_index_or was k d) (slice_index_or (slice_set now n next) k d)
+room_more list was now n m next lt count read before after own k d le =
+    let there : n < length now = omega (arith, lt, count) in
+    let old : m ≡ slice_index_or was n d = read ∙ get_or_default now n m d there ∙ after n d (omega arith) in
+    up_to (λ (i : ℕ) (x : Mutator).
+    HasQueueRoom (count_made_by (slice_index_or was i d).number list) (slice_index_or was i d) x) now n next d there k le (λ less.
+    before k d less) (subst (λ (x : Mutator). HasQueueRoom (count_made_by x.number list) x next) old own)

@@ -1,0 +1,275 @@
+-- A cycle that was started where one is due is the run's next cycle.
+use Rattle.std.proofs.Common.{ℕ, ◌≡◌, ◌≢◌, ◌+◌, ◌≤◌, List, [], false, refl, sym, ap, subst, ◌∙◌, arith, Option, Some, inl, inr}
+use Rattle.std.specs.Prelude.{slice_get}
+use Rattle.nmgc_world_spec.specs.declared.value.Name.{Name}
+use Rattle.nmgc_world_spec.specs.World.{World}
+use Rattle.nmgc_world_spec.specs.Step.{shared_name}
+use Rattle.nmgc_lists.specs.laws.Items.{contains_cases, nothing_in}
+use Rattle.nmgc_object.specs.declared.layout.Layout.{Layout}
+use Rattle.nmgc_object.specs.declared.layout.Nursery.{Nursery}
+use Rattle.nmgc_segment.specs.declared.state.State.TheVariants as stands
+use Rattle.nmgc_alloc.specs.Stands.{StandsFor}
+use Rattle.nmgc_alloc.specs.AllocState.{HasBlock, NoneIs, IsIn, cycle_begun}
+use Rattle.nmgc_alloc.specs.Numbered.{Segments}
+use Rattle.nmgc_alloc.specs.laws.Cells.{begun_names}
+use Rattle.nmgc_collector_laws.specs.Calls.{SnapshotIsMarking}
+use Rattle.nmgc_collector_laws.specs.Heaps.{MarkedHolds}
+use Rattle.nmgc_collector_laws.specs.Keeps.{PaceBegins}
+use Rattle.nmgc_collector_laws.specs.Prepares.{StopIsPrepared, StopBegins, all_prepared}
+use Rattle.nmgc_collector_laws.specs.Sweeps.{MarkedWait}
+use Rattle.nmgc_blocks_spec.specs.Nurseries.{AreEmpty}
+use Rattle.nmgc_heap_spec.specs.Places.{Place}
+use Rattle.nmgc_heap_spec.specs.Represents.{IsEarlier}
+use Rattle.nmgc_heap_spec.specs.Tracked.{IsTracked}
+use Rattle.nmgc_heap_spec.specs.laws.CommandLaws.{world_is_earlier}
+use Rattle.nmgc_heap_spec.specs.laws.Kinds.{map_item}
+use Rattle.nmgc_journal.specs.declared.report.MutatorEnd.{MutatorEnd}
+use Rattle.nmgc_mark.specs.Beginning.{most_blocks}
+use Rattle.nmgc_mark.specs.Marker.{HasMarked, blank}
+use Rattle.nmgc_minor.specs.Promotion.{IsFor}
+use Rattle.nmgc_mutator.specs.declared.mutator.Mutator.{Mutator}
+use Rattle.nmgc_round.specs.View.{Opening}
+use Rattle.nmgc_collector_laws.specs.Collector.{AreNurseries, EachMutator, IsAtRest, IsMarking, IsPacedAtStop}
+use Rattle.nmgc_weak.specs.Queues.{weak_count}
+use Rattle.nmgc_run_laws.specs.Course.{CyclesBeginInCourse}
+use Rattle.nmgc_run_spec.specs.Heap.{HoldsAtStop, snapshots}
+use Rattle.nmgc_segment.specs.Marks.{epoch_of}
+use Rattle.nmgc_collector_laws.specs.Seen.{MutatorSeen, ends_of, nurseries_of}
+use Rattle.nmgc_run_laws.specs.Sound.{IsSoundState}
+use Rattle.nmgc_run_spec.specs.State.{State, next_cycle, cycle_started, plan_of, layout_of}
+use Rattle.nmgc_blocks_spec.specs.Cycle.{Cycle}
+use Rattle.nmgc_run_laws.specs.laws.Filing.{begun_filed}
+use Rattle.nmgc_run_laws.specs.laws.Tracks.{tracked_fewer, tracked_itself}
+use Rattle.nmgc_script.specs.declared.script.Script.{Script}
+use Rattle.nmgc_sweep.specs.Statements.{StartIsNoted, LeftStays}
+use Rattle.nmgc_sweep.specs.Sweeper.{AreLeft, HasNotes}
+use Rattle.nmgc_sweep.specs.Work.{HasBegun}
+use Rattle.nmgc_sweep.specs.laws.Names.{named_begun}
+use Rattle.nmgc_sweep.specs.Names.{HaveEntries}
+use Rattle.nmgc_cycle.specs.declared.collector.Collector.{Collector}
+use Rattle.nmgc_cycle.specs.declared.progress.Marking.{Marking}
+use Rattle.nmgc_cycle.specs.declared.progress.Progress.TheVariants as doing
+use Rattle.nmgc_cycle.specs.Cycles.{StartsMarking, next_epoch}
+use Rattle.nmgc_cycle.specs.Keeps.{IsWellFormed, IsOwn}
+use Rattle.nmgc_cycle.specs.Listed.{HasQueueRoom, count_made_by}
+use Rattle.nmgc_cycle.specs.Shown.{seen, seen_mutator, words_in}
+use Rattle.nmgc_cycle.specs.Steps.{StandsAt, StartingLeads}
+use Rattle.nmgc_cycle.proofs.cycles.Closing.{words_same}
+use Rattle.nmgc_cycle.proofs.cycles.QueueRoom.{counted, one_room, room_ends, room_nurseries}
+use Rattle.nmgc_cycle.proofs.lists.RootLists.{seen_at}
+use Rattle.nmgc_cycle.proofs.cycles.StepReady.{PreparedBegins, none, snapshot_opening, beginning, prepared_shown}
+
+-- the laws on which a beginning rests
+pub record BeginningLaws : Type 0 where
+  pub prepares : StopIsPrepared
+  pub begins : PreparedBegins
+  pub stop : StopBegins
+  pub marked : MarkedHolds
+  pub marks : SnapshotIsMarking
+  pub noted : StartIsNoted
+  pub left : LeftStays
+  pub waits : MarkedWait
+  pub pace : PaceBegins
+  pub course : CyclesBeginInCourse
+
+module _ (laws : BeginningLaws) (script : Script) (c : Collector) (s : State) (h : StandsAt script c s) (at : c.progress ≡ doing.Idle)
+    (before : Collector) (mk : Marking) (st : StartsMarking s.number c before mk) where
+  abbrev plan : Layout
+  plan = layout_of (plan_of script)
+
+  abbrev words : List ℕ
+  words = words_in c.words
+
+  abbrev k : Cycle
+  k = next_cycle s
+
+  abbrev t : State
+  t = record (cycle_started s) { collect = false }
+
+  abbrev segments : Segments
+  segments = before.segments
+
+  abbrev next : Collector
+  next = record c { segments = before.segments; mutators = before.mutators; progress = doing.Marking mk; begun = c.begun + 1; collect = false }
+
+  no_wait : NoneIs (IsIn stands.Sweeping) s.allocation
+  no_wait = none laws.prepares laws.begins script c s h at
+
+  -- the mutators are as they were, but for the room in their queues
+
+  ends_same : ends_of (seen next) ≡ ends_of (seen c)
+  ends_same = room_ends c.weaks.list c.mutators.items before.mutators.items st.queue_room
+
+  nurseries_same : nurseries_of (seen next) ≡ nurseries_of (seen c)
+  nurseries_same = room_nurseries c.weaks.list c.mutators.items before.mutators.items st.queue_room
+
+  -- one of them, without the room
+  was : (n : ℕ) (m : Mutator) → slice_get before.mutators.items n ≡ Some m → (b : Mutator) × (slice_get c.mutators.items n ≡ Some b) ×
+      HasQueueRoom (count_made_by b.number c.weaks.list) b m
+  was n m e = one_room c.weaks.list c.mutators.items before.mutators.items st.queue_room n m e
+
+  layout_is : segments.layout ≡ c.segments.layout
+  layout_is = st.marked.layout
+
+  own_then : (n : ℕ) (m : Mutator) → slice_get before.mutators.items n ≡ Some m → IsOwn next n m
+  own_then n m e =
+      let b = was n m e in
+      let own = h.kept.own n b.0 b.1 in
+      subst (λ (x : Mutator). IsOwn next n x) (sym b.2.rest) (record {
+        number = own.number;
+        layout = own.layout ∙ sym layout_is;
+        whole = record { layout = own.whole.layout; number = own.whole.number; size = own.whole.size };
+        no_replies = own.no_replies;
+        line = own.line;
+      })
+
+  rest_then : EachMutator (seen next) (λ n mutator. IsAtRest mutator)
+  rest_then n mutator e =
+      let x = map_item seen_mutator before.mutators.items n mutator e in
+      let b = was n x.0 x.1 in
+      let left : IsAtRest (seen_mutator b.0) = h.rest n (seen_mutator b.0) (seen_at c.mutators.items n b.0 b.1) in
+      subst IsAtRest (sym (x.2 ∙ ap seen_mutator b.2.rest)) (record { recorded = left.recorded; young_weaks = left.young_weaks; entries = left.entries })
+
+  queue_room_then : EachMutator (seen next) (λ n mutator. weak_count s.world n (seen next).weaks ≤ mutator.queue.spare)
+  queue_room_then n mutator e =
+      let x = map_item seen_mutator before.mutators.items n mutator e in
+      let b = was n x.0 x.1 in
+      let own = own_then n x.0 x.1 in
+      let number : b.0.number ≡ n = sym (ap (λ (y : Mutator). y.number) b.2.rest) ∙ own.number in
+      let room : count_made_by n c.weaks.list ≤ x.0.queue.spare = subst (λ (i : ℕ). count_made_by i c.weaks.list ≤ x.0.queue.spare) number b.2.room in
+      let few : weak_count s.world n (seen c).weaks ≤ count_made_by n c.weaks.list = counted s.world n c.weaks.list in
+      let enough : weak_count s.world n (seen c).weaks ≤ x.0.queue.spare = omega (arith, few, room) in
+      subst (λ (y : MutatorSeen). weak_count s.world n (seen c).weaks ≤ y.queue.spare) (sym x.2) enough
+
+  still_kept : IsWellFormed script next
+  still_kept = record {
+    layout = layout_is ∙ h.kept.layout;
+    sound = st.sound;
+    lists = subst (λ (l : Layout). IsFor l c.promotion) (sym layout_is) h.kept.lists;
+    entries = subst (λ (l : Layout). HaveEntries l c.names) (sym layout_is) h.kept.entries;
+    has_words = h.kept.has_words;
+    count = st.queue_room.count ∙ h.kept.count;
+    own = own_then;
+    inbox = h.kept.inbox;
+    positions_are = h.kept.positions_are;
+    positions = h.kept.positions;
+    no_ends = h.kept.no_ends;
+    room = h.kept.room;
+    workers = h.kept.workers;
+  }
+
+  -- the state is sound
+
+  sound_then : IsSoundState (plan_of script) t
+  sound_then = record {
+    world = h.sound.world;
+    able = record { programs = h.sound.able.programs; mutators = h.sound.able.mutators; registers = h.sound.able.registers; serials = h.sound.able.serials };
+    sound_blocks = begun_filed plan s.allocation h.sound.sound_blocks;
+    known = λ number block n lies. h.sound.known number block n ((begun_names s.allocation number block n).0 lies);
+    cycle = (
+      record { world = h.sound.world; rows = tt },
+      refl,
+      λ number block n is lies. h.sound.known number block n ((begun_names s.allocation number block n).0 lies),
+    );
+    earlier = λ e held. elim (contains_cases s.world [] e held) [
+      | inl is ↦ subst (λ (x : World). IsEarlier x s.world) is (world_is_earlier s.world h.sound.world)
+      | inr nowhere ↦ absurd (nothing_in e nowhere)
+    ];
+    blocks = λ n tracked other. let has = has_block n (tracked_itself s.world n tracked) other in
+        (has.0, has.1, (begun_names s.allocation has.0 has.1 n).1 has.2);
+  }
+    where
+      has_block : (n : Name) → IsTracked s.world [] n → n ≢ shared_name → HasBlock s.allocation n
+      has_block n tracked other = h.sound.blocks n (tracked_fewer s.world (snapshots s.progress) n tracked) other
+
+  -- words and segments stand for it
+
+  stands_then : StandsFor segments words (cycle_begun s.allocation)
+  stands_then = st.marked.stands words (cycle_begun s.allocation) (prepared_shown laws.prepares laws.begins script c s h at)
+
+  heap_as : (g : HoldsAtStop plan t words segments (ends_of (seen c)) (seen c).weaks) × (g.places ≡ h.heap.places)
+  heap_as =
+      let begun = laws.stop plan s words c.segments (ends_of (seen c)) (seen c).weaks h.heap in
+      let on = laws.marked plan (cycle_started s) words (all_prepared c.segments) segments (ends_of (seen c)) (seen c).weaks begun.0 (layout_is ∙
+      h.kept.layout) stands_then in
+      (record { places = on.0.places; all = on.0.all; holds = on.0.holds; listed = on.0.listed }, on.1 ∙ begun.1)
+
+  heap : (g : HoldsAtStop plan t words segments (ends_of (seen next)) (seen next).weaks) × (g.places ≡ h.heap.places)
+  heap = subst (λ (es : List MutatorEnd). (g : HoldsAtStop plan t words segments es (seen c).weaks) × (g.places ≡ h.heap.places)) (sym ends_same) heap_as
+
+  -- the cycle marks
+
+  epoch_is : next_epoch c ≡ epoch_of (s.begun + 1)
+  epoch_is = ap (λ (n : ℕ). epoch_of (n + 1)) h.matches.begun
+
+  marked_then : HasMarked (all_prepared c.segments) segments (blank (epoch_of (s.begun + 1)) (most_blocks c.segments.layout)) mk.marker 0
+  marked_then = subst (λ (n : ℕ). HasMarked (all_prepared c.segments) segments (blank n (most_blocks c.segments.layout)) mk.marker 0) epoch_is st.marked
+
+  begun_then : HasBegun (all_prepared c.segments) (epoch_of (s.begun + 1)) mk.sweeper
+  begun_then = subst (λ (n : ℕ). HasBegun (all_prepared c.segments) n mk.sweeper) epoch_is st.sweeper
+
+  notes : HasNotes k mk.sweeper
+  notes = laws.noted k words (all_prepared c.segments) (epoch_of (s.begun + 1)) mk.sweeper
+      (prepared_shown laws.prepares laws.begins script c s h at) no_wait h.sound.sound_blocks.once refl begun_then
+
+  left_then : AreLeft segments mk.sweeper
+  left_then = laws.left (all_prepared c.segments) segments mk.sweeper
+      (laws.waits (all_prepared c.segments) segments words words (cycle_begun s.allocation)
+      (prepared_shown laws.prepares laws.begins script c s h at) stands_then) layout_is begun_then.left
+
+  is_marking : (places : List Place) → places ≡ h.heap.places → IsMarking k t (seen next) places
+  is_marking places same_places =
+      let o : Opening = snapshot_opening laws.prepares laws.begins script c s h at in
+      let tied = st.tied o (beginning laws.prepares laws.begins script c s h at) in
+      let m = laws.marks plan s words c.segments (seen next) (ends_of (seen c)) (seen c).weaks o (most_blocks c.segments.layout) h.heap
+      h.sound.world st.sound refl refl refl marked_then tied
+      queue_room_then (λ n mutator e. (rest_then n mutator e).entries) st.from_is notes.noted (begun_then.had, begun_then.freed) in
+      subst (λ (l : List Place). IsMarking k t (seen next) l) (sym same_places) (record {
+        core = m.core;
+        machine = m.machine;
+        tied = m.tied;
+        remembered = m.remembered;
+        low = m.low;
+        room = m.room;
+        queue_room = m.queue_room;
+        from_is = m.from_is;
+        noted = m.noted;
+        nothing_listed = m.nothing_listed;
+      })
+
+  in_pace : IsPacedAtStop script.config.quota k t (seen next)
+  in_pace = laws.pace script.config.quota k t (seen next) refl (let pace = st.marked.scanned.pace in omega (arith, pace))
+
+  pub leads : StandsAt script next t
+  leads = record {
+    kept = still_kept;
+    sound = sound_then;
+    course = laws.course s no_wait;
+    matches = record { phase = refl; begun = ap (λ (n : ℕ). n + 1) h.matches.begun; collect = refl; full = h.matches.full };
+    heap = heap.0;
+    nurseries = subst (λ (y : List Place × List Nursery). AreNurseries plan y.0 s.world y.1) (λ i. (sym heap.1 i, sym nurseries_same i)) h.nurseries;
+    empty = subst AreEmpty (sym nurseries_same) h.empty;
+    rest = rest_then;
+    cycle = (is_marking heap.0.places heap.1, in_pace);
+    sweeper = (record { notes = notes; left = left_then }, begun_then.swept, begun_then.had, begun_then.freed);
+    named = named_begun plan c.names s.allocation h.named;
+  }
+
+pub starting_leads : BeginningLaws → StartingLeads
+starting_leads laws script old new s limits h idle started =
+    let st = started.starts in
+    let words : started.marked.words ≡ old.words = words_same started.marked.words old.words st.words.1 h.kept.has_words st.words.0 in
+    let before : started.marked ≡ record old { segments = started.marked.segments; mutators = started.marked.mutators } =
+    st.rest ∙ ap (λ (x : Option (List ℕ)). record old { words = x; segments = started.marked.segments; mutators = started.marked.mutators }) words in
+    let next : new ≡ record old {
+      segments = started.marked.segments;
+      mutators = started.marked.mutators;
+      progress = doing.Marking started.marking;
+      begun = old.begun + 1;
+      collect = false;
+    } =
+    started.is ∙ ap (λ (x : Collector). record x { progress = doing.Marking started.marking; begun = old.begun + 1; collect = false }) before in
+    subst (λ (x : Collector). StandsAt script x (record (cycle_started s) {
+      collect =
+          false;
+    })) (sym next) (leads laws script old s h idle started.marked started.marking st)

@@ -1,0 +1,229 @@
+-- What the closing of a cycle and its beginning ask for holds at a stop.
+use Rattle.std.proofs.Common.{ℕ, ◌≡◌, ◌+◌, ◌≤◌, List, [], length, map, refl, sym, ap, subst, ◌∙◌, arith, true, Some}
+use Rattle.std.specs.Prelude.{slice_get}
+use Rattle.std.proofs.lemmas.List.{length-map}
+use Rattle.nmgc_collector_laws.specs.Resolves.{FinishMayResolve, IsStopOf, finished_on, stop_opening}
+use Rattle.nmgc_collector_laws.specs.Tie.{CoreHasSnapshot}
+use Rattle.nmgc_snapshot_laws.specs.State.{State as Core, unmarked}
+use Rattle.nmgc_world_spec.specs.World.{World}
+use Rattle.nmgc_heap_spec.specs.laws.Kinds.{map_item}
+use Rattle.nmgc_lists.specs.laws.Items.{item_map}
+use Rattle.nmgc_journal.specs.declared.report.MutatorEnd.{MutatorEnd}
+use Rattle.nmgc_mutator.specs.declared.mutator.Mutator.{Mutator}
+use Rattle.nmgc_weak.specs.Queues.{weak_count}
+use Rattle.nmgc_mark.specs.Marker.{HasRoomToMark}
+use Rattle.nmgc_mark.specs.Seen.{MarkerSeen}
+use Rattle.nmgc_collector_laws.specs.Seen.{end_of, Seen, ends_of}
+use Rattle.nmgc_weak.specs.Closes.{DeathsHaveRoom}
+use Rattle.nmgc_weak.specs.declared.weaks.OldWeak.{OldWeak}
+use Rattle.nmgc_cycle.specs.declared.progress.Marking.{Marking}
+use Rattle.nmgc_cycle.specs.Shown.{seen_mutator, seen, words_in, phase_in, marker_in}
+use Rattle.nmgc_alloc.specs.AllocState.{AllocState, NoneIs, IsIn, cycle_begun}
+use Rattle.nmgc_alloc.specs.Stands.{StandsFor}
+use Rattle.nmgc_alloc.specs.Numbered.{Segments}
+use Rattle.nmgc_alloc.specs.Segments.{HasNone}
+use Rattle.nmgc_alloc.specs.declared.search.Sought.TheVariants as sought
+use Rattle.nmgc_alloc.specs.laws.Turning.{prepared_stands}
+use Rattle.nmgc_collector_laws.specs.Heaps.{AreShown, HeapRests}
+use Rattle.nmgc_collector_laws.specs.Prepares.{StopIsPrepared, all_prepared}
+use Rattle.nmgc_collector_laws.specs.RestMarking.{IsAtRest as RestsBeside, opening_beside}
+use Rattle.nmgc_journal.specs.declared.report.Phase.TheVariants as phase
+use Rattle.nmgc_mark.specs.Beginning.{IsBeginning, IsPrepared}
+use Rattle.nmgc_mark.specs.Stopped.{IsReady}
+use Rattle.nmgc_object.specs.FinQueue.{FinQueue}
+use Rattle.nmgc_round.specs.View.{Opening}
+use Rattle.nmgc_collector_laws.specs.Collector.{AreAtRest, HoldsInCycle, IsAtRest, IsMarking, IsPacedAtStop}
+use Rattle.nmgc_run_laws.specs.Course.{IsInCourse}
+use Rattle.nmgc_run_spec.specs.Heap as run
+use Rattle.nmgc_alloc.specs.Settled.{AreSettled}
+use Rattle.nmgc_segment.specs.Marks.{epoch_of}
+use Rattle.nmgc_run_spec.specs.State.{State, Progress, idle, marking, sweeping, phase_of, plan_of, layout_of}
+use Rattle.nmgc_blocks_spec.specs.Cycle.{Cycle}
+use Rattle.nmgc_script.specs.declared.script.Script.{Script}
+use Rattle.nmgc_segment.specs.declared.state.State.TheVariants as stands
+use Rattle.nmgc_collector_laws.specs.Worked.{registers_of}
+use Rattle.nmgc_cycle.specs.declared.collector.Collector.{Collector}
+use Rattle.nmgc_cycle.specs.declared.progress.Progress.{Progress as Doing}
+use Rattle.nmgc_cycle.specs.declared.progress.Progress.TheVariants as doing
+use Rattle.nmgc_cycle.specs.Cycles.{CanClose, IsReadyToClose, CanBegin, next_epoch}
+use Rattle.nmgc_cycle.specs.Roots.{queues_in}
+use Rattle.nmgc_cycle.specs.Full.{CanCloseNow}
+use Rattle.nmgc_cycle.specs.FullLaws.{CloseNowReady}
+use Rattle.nmgc_cycle.specs.Steps.{StandsForState, StandsAt, IsPacedWithin, CloseReady, BeginReady}
+use Rattle.nmgc_cycle.proofs.lists.MutatorLists.{words_of_queues}
+use Rattle.nmgc_cycle.proofs.cycles.PreparedSegments.{prepared_sound}
+use Rattle.nmgc_cycle.proofs.lists.Views.{registers_seen, queues_seen}
+
+-- Closing
+
+-- what is known of the pace doesn't matter
+abbrev pub StandsInPace : (Cycle → State → Seen → Type 0) → Script → Collector → State → Type 0
+StandsInPace Paced script c s = StandsForState Paced IsAtRest script c s
+
+-- the mutators are shown as the collector has them
+pub are_shown : (Paced : Cycle → State → Seen → Type 0) (script : Script) (c : Collector) (s : State) → StandsInPace Paced script c s →
+    AreShown c.segments.layout (seen c) c.mutators.items
+are_shown Paced script c s h = record {
+  are = refl;
+  each = λ k m e. let own = h.kept.own k m e in (own.number, own.layout, own.whole);
+}
+
+-- while a cycle marks, its marker may finish, with the heap at rest
+module _ (Paced : Cycle → State → Seen →
+    Type 0) (rests : HeapRests) (script : Script) (c : Collector) (s : State) (h : StandsInPace Paced script c s) (k : Cycle) (is : s.progress ≡
+    marking k) where
+  abbrev pub marks : IsMarking k s (seen c) h.heap.places × Paced k s (seen c)
+  marks = subst (λ (q : Progress). HoldsInCycle (λ (r : Cycle). Paced r s (seen c)) q s (seen c) h.heap.places) is h.cycle
+
+  pub at_rest : AreAtRest (layout_of (plan_of script)) h.heap.places s.world (seen c)
+  at_rest = record { nurseries = h.nurseries; empty = h.empty; nothing = h.rest }
+
+  pub rests_there : RestsBeside k marks.0.core c.segments h.heap.places s.world (seen c).words c.mutators.items (seen c).marker.queue ×
+      IsReady (opening_beside c.segments.layout marks.0.core h.heap.places c.mutators.items) (seen c).words c.segments (seen c).marker
+  rests_there = rests (plan_of script) s (seen c) k c.mutators.items h.sound h.heap at_rest is marks.0 h.kept.sound (are_shown Paced script c s h)
+
+  -- the heap of the stop, with the machine
+  abbrev pub stop : IsStopOf (layout_of (plan_of script)) k s (seen c) c.mutators.items
+  stop = record { heap = h.heap; kept = marks.0; rest = rests_there.0 }
+
+module _ (Paced : Cycle → State → Seen →
+    Type 0) (rests : HeapRests) (core_snapshot : CoreHasSnapshot) (may : FinishMayResolve) (deaths_room : DeathsHaveRoom) (script : Script)
+    (c : Collector) (s : State) (h : StandsInPace Paced script c s) (k : Cycle) (is : s.progress ≡ marking k) where
+  abbrev now : IsMarking k s (seen c) h.heap.places × Paced k s (seen c)
+  now = marks Paced rests script c s h k is
+
+  abbrev there : RestsBeside k now.0.core c.segments h.heap.places s.world (seen c).words c.mutators.items (seen c).marker.queue ×
+      IsReady (opening_beside c.segments.layout now.0.core h.heap.places c.mutators.items) (seen c).words c.segments (seen c).marker
+  there = rests_there Paced rests script c s h k is
+
+  abbrev here : IsStopOf (layout_of (plan_of script)) k s (seen c) c.mutators.items
+  here = stop Paced rests script c s h k is
+
+  -- each queue has room for the listed weak pointers of the snapshot that its mutator made
+  own_room : (m : ℕ) (queue : FinQueue) → slice_get (queues_in c.mutators.items) m ≡ Some queue → weak_count now.0.core.snapshot m (seen c).weaks ≤ queue.spare
+  own_room m queue is =
+      let own = map_item (λ (x : Mutator). x.queue) c.mutators.items m queue is in
+      let same = core_snapshot k s.world now.0.core there.0.machine.sound now.0.machine in
+      subst (λ (y : World × FinQueue). weak_count y.0 m (seen c).weaks ≤ y.1.spare) (λ i. (
+        sym same i,
+        sym own.2 i,
+      )) (now.0.queue_room m (seen_mutator own.0) (item_map seen_mutator c.mutators.items m own.0 own.1))
+
+  many_queues : length (queues_in c.mutators.items) ≡ length now.0.core.world.mutators
+  many_queues = length-map c.mutators.items (λ (x : Mutator). x.queue) ∙ sym (length-map c.mutators.items seen_mutator) ∙
+      sym (length-map (map seen_mutator c.mutators.items) end_of) ∙ sym (length-map (ends_of (seen c)) (λ (m : MutatorEnd). m.queue)) ∙
+      h.heap.holds.roots.mutators.0 ∙ ap (λ (w : World). length w.mutators) (sym now.0.machine.world_is)
+
+  pub ready : (m : Marking) → m.marker ≡ (seen c).marker →
+      IsReadyToClose (words_in c.words) c.segments c.weaks.list (queues_in c.mutators.items) m
+  ready m marker = record {
+    room = subst (HasRoomToMark c.segments) (sym marker) now.0.room;
+    opening = stop_opening (layout_of (plan_of script)) k s (seen c) c.mutators.items here;
+    ready = subst (λ (x : MarkerSeen).
+        IsReady (stop_opening (layout_of (plan_of script)) k s (seen c) c.mutators.items here) (words_in c.words) c.segments x) (sym marker) there.1;
+    resolves = λ between finisher f. may (layout_of (plan_of script)) k s (seen c) c.mutators.items between finisher here f;
+    queue_room = λ between marked finisher then after list deaths f r.
+        deaths_room (finished_on (stop_opening (layout_of (plan_of script)) k s (seen c) c.mutators.items here) between finisher f) after
+        (words_in c.words) between marked finisher then (seen c).weaks list deaths (queues_in c.mutators.items)
+        (may (layout_of (plan_of script)) k s (seen c) c.mutators.items between finisher here f) r
+        (many_queues ∙ ap (λ (x : Core). length x.world.mutators) (sym f.rest))
+        (λ m queue is. subst (λ (w : World). weak_count w m (seen c).weaks ≤ queue.spare) (ap (λ (x : Core). x.snapshot) (sym f.rest)) (own_room m queue is));
+  }
+
+module _ (Paced : Cycle → State → Seen →
+    Type 0) (rests : HeapRests) (core_snapshot : CoreHasSnapshot) (may : FinishMayResolve) (deaths_room : DeathsHaveRoom) (script : Script)
+    (c : Collector) (s : State) (h : StandsInPace Paced script c s) where
+  now_by : (p : Doing) (q : Progress) → c.progress ≡ p → s.progress ≡ q → phase_in p ≡ phase_of q →
+      CanCloseNow (words_in c.words) c.segments c.weaks.list (queues_in c.mutators.items) p
+  now_by doing.Idle q at is e = tt
+  now_by (doing.Marking m) idle at is e = absurd (let bad : phase.Marking ≡ phase.Idle = e in cc)
+  now_by (doing.Marking m) (marking k) at is e =
+      ready Paced rests core_snapshot may deaths_room script c s h k is m (sym (ap marker_in at))
+  now_by (doing.Marking m) (sweeping k closed) at is e = absurd (let bad : phase.Marking ≡ phase.Sweeping = e in cc)
+  now_by (doing.Sweeping w) q at is e = tt
+
+  -- a marker may finish, whatever its last work left
+  pub can_close_now : CanCloseNow (words_in c.words) c.segments c.weaks.list (queues_in c.mutators.items) c.progress
+  can_close_now = now_by c.progress s.progress refl refl h.matches.phase
+
+-- so may one whose last work left nothing
+close_by : (words : List ℕ) (segments : Segments) (weaks : List OldWeak) (queues : List FinQueue) (p : Doing) →
+    CanCloseNow words segments weaks queues p → CanClose words segments weaks queues p
+close_by words segments weaks queues doing.Idle can = tt
+close_by words segments weaks queues (doing.Marking m) can = λ none. can
+close_by words segments weaks queues (doing.Sweeping w) can = tt
+
+pub close_ready : HeapRests → CoreHasSnapshot → FinishMayResolve → DeathsHaveRoom → CloseReady
+close_ready rests core_snapshot may deaths_room script c s limits h =
+    close_by (words_in c.words) c.segments c.weaks.list (queues_in c.mutators.items) c.progress
+    (can_close_now (IsPacedWithin script.config.quota) rests core_snapshot may deaths_room script c s h)
+
+-- so may any where the pace is that of a stop
+pub close_now_ready : HeapRests → CoreHasSnapshot → FinishMayResolve → DeathsHaveRoom → CloseNowReady
+close_now_ready rests core_snapshot may deaths_room script c s h =
+    can_close_now (IsPacedAtStop script.config.quota) rests core_snapshot may deaths_room script c s h
+
+-- Beginning
+
+-- a heap whose segments were just prepared is one with which marking begins
+abbrev pub PreparedBegins : Type 0
+PreparedBegins = (o : Opening) (s : Segments) (epoch : ℕ) (words registers : List ℕ) (queues : List FinQueue) →
+    IsPrepared o s epoch words registers queues → IsBeginning o s epoch words registers queues
+
+-- the state of an idle collector is idle
+pub idle_state : (q : Progress) → phase.Idle ≡ phase_of q → q ≡ idle
+idle_state idle e = refl
+idle_state (marking k) e = absurd (let bad : phase.Idle ≡ phase.Marking = e in cc)
+idle_state (sweeping k closed) e = absurd (let bad : phase.Idle ≡ phase.Sweeping = e in cc)
+
+-- where no segment waits by the allocation state, none does
+pub none_back : (segments : Segments) (words : List ℕ) (a : AllocState) → StandsFor segments words a → NoneIs (IsIn stands.Sweeping) a →
+    HasNone sought.Sweeping segments
+none_back segments words a st none i lt waits = none i (let count = st.count in omega (arith, count, lt)) ((st.shows i lt).state ∙ waits)
+
+module _ (prepares : StopIsPrepared) (begins : PreparedBegins) (script : Script) (c : Collector) (s : State) (h : StandsAt script c s)
+    (at : c.progress ≡ doing.Idle) where
+  pub quiet : s.progress ≡ idle
+  quiet = idle_state s.progress (sym (ap phase_in at) ∙ h.matches.phase)
+
+  pub none : NoneIs (IsIn stands.Sweeping) s.allocation
+  none = subst (λ (q : Progress). IsInCourse q s.number s.begun s.allocation) quiet h.course
+
+  pub settled : AreSettled s.begun c.segments
+  settled = subst (λ (q : Progress). HoldsInCycle (λ (r : Cycle). IsPacedAtStop script.config.quota r s (seen c)) q s (seen c) h.heap.places) quiet h.cycle
+
+  -- the opening with the heap of the stop, and its world as the snapshot
+  abbrev pub snapshot_opening : Opening
+  snapshot_opening = record { layout = layout_of (plan_of script); marking = true; core = unmarked s.world; places = h.heap.places; hands = [] }
+
+  queues : run.queues_of (ends_of (seen c)) ≡ map (λ (q : FinQueue). q.words) (queues_in c.mutators.items)
+  queues = queues_seen c ∙ sym (words_of_queues c.mutators.items)
+
+  pub prepared_there : IsPrepared snapshot_opening (all_prepared c.segments) (epoch_of (s.begun + 1)) (words_in c.words)
+      (run.registers_of (ends_of (seen c))) (queues_in c.mutators.items)
+  prepared_there = prepares (layout_of (plan_of script)) s (words_in c.words) c.segments (ends_of (seen c)) (seen c).weaks
+      (queues_in c.mutators.items) snapshot_opening h.heap h.sound.world h.kept.sound (prepared_sound c.segments h.kept.sound) none settled queues
+      refl refl refl
+
+  pub beginning : IsBeginning snapshot_opening (all_prepared c.segments) (next_epoch c) (words_in c.words) (registers_of c.mutators.items)
+      (queues_in c.mutators.items)
+  beginning =
+      let there = begins snapshot_opening (all_prepared c.segments) (epoch_of (s.begun + 1)) (words_in c.words)
+      (run.registers_of (ends_of (seen c))) (queues_in c.mutators.items) prepared_there in
+      subst (λ (l : List ℕ).
+      IsBeginning snapshot_opening (all_prepared c.segments) (next_epoch c) (words_in c.words) l (queues_in c.mutators.items)) (registers_seen c)
+      (subst (λ (n : ℕ). IsBeginning snapshot_opening (all_prepared c.segments) (epoch_of (n + 1)) (words_in c.words)
+      (run.registers_of (ends_of (seen c))) (queues_in c.mutators.items)) (sym h.matches.begun) there)
+
+  pub prepared_shown : StandsFor (all_prepared c.segments) (words_in c.words) (cycle_begun s.allocation)
+  prepared_shown = prepared_stands c.segments (words_in c.words) s.allocation h.heap.holds.stands
+
+  can_begin : CanBegin c
+  can_begin = record {
+    none_waits = none_back c.segments (words_in c.words) s.allocation h.heap.holds.stands none;
+    stood = (cycle_begun s.allocation, prepared_shown);
+    begins = (snapshot_opening, beginning);
+  }
+
+pub begin_ready : StopIsPrepared → PreparedBegins → BeginReady
+begin_ready prepares begins script c s limits h none_yet = can_begin prepares begins script c s h none_yet

@@ -1,0 +1,238 @@
+-- At a stop all that waits is swept: the places of freed names are gone, and the collector stands for what is left.
+use Rattle.std.proofs.Common.{ℕ, ◌≡◌, ◌≢◌, List, [], length, refl, sym, ap, subst, ◌∙◌, inl, inr, Some}
+use Rattle.std.specs.Prelude.{Contains, IsSome}
+use Rattle.nmgc_world_spec.specs.declared.node.Node.TheVariants.{Weak}
+use Rattle.nmgc_world_spec.specs.declared.value.Name.{Name}
+use Rattle.nmgc_world_spec.specs.Reach.{IsAliveWeak, start}
+use Rattle.nmgc_world_spec.specs.Step.{shared_name}
+use Rattle.nmgc_world_spec.specs.World.{World, IsWorld, node_of}
+use Rattle.nmgc_object.specs.declared.layout.Layout.{Layout}
+use Rattle.nmgc_alloc.specs.AllocState.{AllocState, HasBlock, SweepsSome}
+use Rattle.nmgc_alloc.specs.Numbered.{Segments}
+use Rattle.nmgc_collector_laws.specs.Drops.{DropsFreed, FreesUntracked, StopFreesUntracked, SweptHoldsAtStop}
+use Rattle.nmgc_heap_spec.specs.Places.{Place}
+use Rattle.nmgc_heap_spec.specs.Tracked.{IsTracked}
+use Rattle.nmgc_heap_spec.specs.laws.Roots.{tracked_wide, wide_tracked}
+use Rattle.nmgc_journal.specs.declared.report.Phase.TheVariants as phase
+use Rattle.nmgc_minor.specs.Promotion.{IsFor}
+use Rattle.nmgc_blocks_spec.specs.Cycle.{IsKeptIn, Cycle}
+use Rattle.nmgc_collector_laws.specs.Collector.{AreNurseries}
+use Rattle.nmgc_run_spec.specs.Heap.{HoldsAtStop}
+use Rattle.nmgc_alloc.specs.Settled.{AreSettled}
+use Rattle.nmgc_collector_laws.specs.Seen.{Seen, ends_of, nurseries_of}
+use Rattle.nmgc_run_laws.specs.Sound.{IsOfSnapshot, IsSoundState}
+use Rattle.nmgc_run_spec.specs.State.{State, Progress, idle, marking, sweeping, phase_of, plan_of, layout_of, waiting_count}
+use Rattle.nmgc_run_spec.specs.Stop.{SweepsRest}
+use Rattle.nmgc_run_laws.specs.laws.Filing.{each_filed}
+use Rattle.nmgc_run_laws.specs.laws.Sweeps.{each_waits, each_lie, sweeps_keep}
+use Rattle.nmgc_script.specs.declared.script.Script.{Script}
+use Rattle.nmgc_sweep.specs.Statements.{LeftIsCounted}
+use Rattle.nmgc_sweep.specs.Sweeper.{AreLeft}
+use Rattle.nmgc_sweep.specs.Work.{IsAtWork}
+use Rattle.nmgc_sweep.specs.Names.{AreNamed, HaveEntries}
+use Rattle.nmgc_sweep.specs.laws.Names.{named_swept}
+use Rattle.nmgc_cycle.specs.declared.collector.Collector.{Collector}
+use Rattle.nmgc_cycle.specs.declared.progress.Progress.{Progress as Doing}
+use Rattle.nmgc_cycle.specs.declared.progress.Progress.TheVariants as doing
+use Rattle.nmgc_cycle.specs.declared.progress.Sweeping.{Sweeping}
+use Rattle.nmgc_cycle.specs.Full.{CanSweepRest, HasSweptAll, SweepsRest as SweepsRestBy}
+use Rattle.nmgc_cycle.specs.FullLaws.{SweepingRestLeads, SweepRestReady}
+use Rattle.nmgc_cycle.specs.Keeps.{IsWellFormed, Sweeps}
+use Rattle.nmgc_cycle.specs.Shown.{died, seen, words_in, sweeper_in, cycle_in, phase_in}
+use Rattle.nmgc_cycle.specs.Steps.{StandsAt}
+use Rattle.nmgc_world_laws.specs.laws.Weaks.{not_array as no_weak}
+
+-- the laws on which a sweep at a stop rests
+pub record SweepingLaws : Type 0 where
+  pub counted : LeftIsCounted
+  pub frees : StopFreesUntracked
+  pub holds : SweptHoldsAtStop
+
+-- a weak pointer that is alive may still be spoken of
+alive_tracked : (w : World) (earlier : List World) (weak : Name) → IsAliveWeak w weak → IsTracked w earlier weak
+alive_tracked w earlier weak alive = wide_tracked w earlier weak (start weak (inr (weak, alive.0, alive.1, inl refl)))
+
+alive_other : (w : World) → IsWorld w → (weak : Name) → IsAliveWeak w weak → weak ≢ shared_name
+alive_other w world weak alive is =
+    let at : Some w.shared ≡ Some (Weak (Some alive.0)) = subst (λ (n : Name). node_of w n ≡ Some (Weak (Some alive.0))) is alive.1 in
+    let node : w.shared ≡ Weak (Some alive.0) = cc in
+    no_weak w.shared (Some alive.0) world.shared node
+
+-- of fewer places no more are in nurseries
+pub fewer_nurseries : (layout : Layout) (s : State) (earlier : List World) (places fewer : List Place) (seen : Seen) →
+    DropsFreed layout earlier s.world places fewer → AreNurseries layout places s.world (nurseries_of seen) →
+    AreNurseries layout fewer s.world (nurseries_of seen)
+fewer_nurseries layout s earlier places fewer seen drops h = record {
+  used = record {
+    count = h.used.count;
+    places_are = h.used.places_are;
+    tops = h.used.tops;
+    used = λ p node there high e. h.used.used p node (drops.old p there) high e;
+  };
+  ends = h.ends;
+}
+
+module _ (laws : SweepingLaws) (script : Script) (c : Collector) (st : State) (k : Cycle) (since : ℕ) (w v : Sweeping)
+    (h : StandsAt script (record c { progress = doing.Sweeping w }) (record st { progress = sweeping k since }))
+    (new : Segments) (sw : HasSweptAll c.segments new c.names w v) where
+  abbrev old : Collector
+  old = record c { progress = doing.Sweeping w }
+
+  abbrev s : State
+  s = record st { progress = sweeping k since }
+
+  abbrev layout : Layout
+  layout = layout_of (plan_of script)
+
+  abbrev words : List ℕ
+  words = words_in c.words
+
+  -- the sweeper went through all that is left
+
+  pub swept : (b : AllocState) × SweepsSome (IsKeptIn k) (length w.sweeper.left) st.allocation b ×
+      IsAtWork k since words b new (cycle_in (doing.Sweeping w) (died c.weaks.deaths)) v.sweeper
+  swept = sw.swept.sweeps k since words st.allocation (cycle_in (doing.Sweeping w) (died c.weaks.deaths)) (subst (λ (l : Layout).
+      AreNamed l c.names st.allocation) (sym h.kept.layout) h.named) h.sweeper.1
+
+  abbrev pub b : AllocState
+  b = swept.0
+
+  abbrev t : State
+  t = record st { progress = sweeping k since; allocation = b }
+
+  abbrev next : Collector
+  next = record c { segments = new; progress = doing.Sweeping (record w { sweeper = v.sweeper }) }
+
+  rest : SweepsSome (IsKeptIn k) (waiting_count st.allocation) st.allocation b
+  rest = subst (λ (count : ℕ).
+      SweepsSome (IsKeptIn k) count st.allocation b) (sym (laws.counted words st.allocation c.segments w.sweeper h.heap.holds.stands h.sweeper.0)) swept.1
+
+  frees : FreesUntracked [] st.world st.world st.allocation b
+  frees = laws.frees layout k st.world st.allocation b (waiting_count st.allocation) h.sound.sound_blocks h.sound.known h.sound.cycle.0
+      h.sound.cycle.1 h.sound.blocks rest
+
+  layout_is : new.layout ≡ layout
+  layout_is = sw.swept.layout ∙ h.kept.layout
+
+  -- weak pointers of the list are alive, and so they have their blocks still
+  listed_stay : (p : Place) → Contains (seen old).weaks p → HasBlock b p.name
+  listed_stay p there =
+      let alive = (h.heap.listed.sound p there).1 in
+      frees.tracked p.name (alive_tracked st.world [] p.name alive) (alive_other st.world h.sound.world p.name alive) (subst IsSome (sym alive.1) refl)
+
+  heap : (g : HoldsAtStop layout t words new (ends_of (seen next)) (seen next).weaks) × DropsFreed layout [] st.world h.heap.places g.places
+  heap = laws.holds layout s b words c.segments new (ends_of (seen old)) (seen old).weaks h.heap h.kept.sound frees swept.2.stands layout_is listed_stay
+
+  sound_then : IsSoundState (plan_of script) t
+  sound_then = record {
+    world = h.sound.world;
+    able = record { programs = h.sound.able.programs; mutators = h.sound.able.mutators; registers = h.sound.able.registers; serials = h.sound.able.serials };
+    sound_blocks = each_filed layout (IsKeptIn k) st.allocation b rest.numbers rest.sweeps h.sound.sound_blocks;
+    known = each_lie (IsKeptIn k) (λ n. IsSome (node_of st.world n)) st.allocation b rest.numbers rest.sweeps h.sound.known;
+    cycle = (h.sound.cycle.0, each_waits (IsKeptIn k) (IsOfSnapshot k) st.allocation b rest.numbers rest.sweeps h.sound.cycle.1);
+    earlier = h.sound.earlier;
+    blocks = λ n tracked other.
+        sweeps_keep k st.world st.allocation b (waiting_count st.allocation) rest h.sound.cycle.0 h.sound.cycle.1 n
+        (tracked_wide st.world n tracked) (h.sound.blocks n tracked other);
+  }
+
+  still_kept : IsWellFormed script next
+  still_kept = record {
+    layout = layout_is;
+    sound = sw.sound;
+    lists = subst (λ (l : Layout). IsFor l c.promotion) (sym sw.swept.layout) h.kept.lists;
+    entries = subst (λ (l : Layout). HaveEntries l c.names) (sym sw.swept.layout) h.kept.entries;
+    has_words = h.kept.has_words;
+    count = h.kept.count;
+    own = λ n x e. let own = h.kept.own n x e in record {
+      number = own.number;
+      layout = own.layout ∙ sym sw.swept.layout;
+      whole = own.whole;
+      no_replies = own.no_replies;
+      line = own.line;
+    };
+    inbox = h.kept.inbox;
+    positions_are = h.kept.positions_are;
+    positions = h.kept.positions;
+    no_ends = h.kept.no_ends;
+    room = h.kept.room;
+    workers = h.kept.workers;
+  }
+
+  pub stands_then : StandsAt script next t
+  stands_then = record {
+    kept = still_kept;
+    sound = sound_then;
+    course = (h.course.0, swept.2.sweeping.as_noted);
+    matches = record { phase = refl; begun = h.matches.begun; collect = h.matches.collect; full = h.matches.full };
+    heap = heap.0;
+    nurseries = fewer_nurseries layout s [] h.heap.places heap.0.places (seen old) heap.1 h.nurseries;
+    empty = h.empty;
+    rest = h.rest;
+    cycle = (swept.2.sweeping, subst (λ (n : ℕ). AreSettled n new) h.course.0.number_is swept.2.settled);
+    sweeper = (record { numbers = sw.swept.left.numbers; room = sw.swept.left.room }, swept.2);
+    named = named_swept layout c.names (IsKeptIn k) (length w.sweeper.left) st.allocation b swept.1 h.named;
+  }
+
+  pub sweeps_rest : SweepsRest (sweeping k since) st.allocation b
+  sweeps_rest = rest
+
+module _ (laws : SweepingLaws) (script : Script) (old new : Collector) (s : State) (h : StandsAt script old s) (segments_are : new ≡
+    record old { segments = new.segments; progress = new.progress }) where
+  abbrev Leads : Type 0
+  Leads = (b : AllocState) × SweepsRest s.progress s.allocation b × StandsAt script new (record s { allocation = b })
+
+  stays : (p : Doing) (q : Progress) → old.progress ≡ p → s.progress ≡ q → SweepsRest q s.allocation s.allocation → new.progress ≡ p →
+      new.segments ≡ old.segments → Leads
+  stays p q at is swept_by after same_segments =
+      let same : new ≡ old = segments_are ∙ ap (λ (g : Segments). record old { segments = g; progress = new.progress }) same_segments ∙
+      ap (λ (x : Doing). record old { progress = x }) (after ∙ sym at) in (
+        s.allocation,
+        subst (λ (x : Progress). SweepsRest x s.allocation s.allocation) (sym is) swept_by,
+        subst (λ (x : Collector). StandsAt script x s) (sym same) h,
+      )
+
+  by_case : (p : Doing) (q : Progress) → old.progress ≡ p → s.progress ≡ q → phase_in p ≡ phase_of q →
+      SweepsRestBy old.segments new.segments old.names p new.progress → Leads
+  by_case doing.Idle idle at is e step = stays doing.Idle idle at is refl step.0 step.1
+  by_case doing.Idle (marking k) at is e step = absurd (let bad : phase.Idle ≡ phase.Marking = e in cc)
+  by_case doing.Idle (sweeping k since) at is e step = absurd (let bad : phase.Idle ≡ phase.Sweeping = e in cc)
+  by_case (doing.Marking m) idle at is e step = absurd (let bad : phase.Marking ≡ phase.Idle = e in cc)
+  by_case (doing.Marking m) (marking k) at is e step = stays (doing.Marking m) (marking k) at is refl step.0 step.1
+  by_case (doing.Marking m) (sweeping k since) at is e step = absurd (let bad : phase.Marking ≡ phase.Sweeping = e in cc)
+  by_case (doing.Sweeping w) idle at is e step = absurd (let bad : phase.Sweeping ≡ phase.Idle = e in cc)
+  by_case (doing.Sweeping w) (marking k) at is e step = absurd (let bad : phase.Sweeping ≡ phase.Marking = e in cc)
+  by_case (doing.Sweeping w) (sweeping k since) at is e step =
+      let v : Sweeping = step.0 in
+      let was : old ≡ record old { progress = doing.Sweeping w } = ap (λ (p : Doing). record old { progress = p }) at in
+      let state : s ≡ record s { progress = sweeping k since } = ap (λ (q : Progress). record s { progress = q }) is in
+      let stood : StandsAt script (record old { progress = doing.Sweeping w }) (record s { progress = sweeping k since }) =
+      subst (λ (x : Collector). StandsAt script x (record s { progress = sweeping k since })) was (subst (λ (y : State).
+      StandsAt script old y) state h) in
+      let there = stands_then laws script old s k since w v stood new.segments step.2 in
+      let a : AllocState = b laws script old s k since w v stood new.segments step.2 in
+      let next : new ≡ record old { segments = new.segments; progress = doing.Sweeping (record w { sweeper = v.sweeper }) } = segments_are ∙
+      ap (λ (p : Doing). record old { segments = new.segments; progress = p }) (step.1 ∙ ap doing.Sweeping step.2.rest) in (
+        a,
+        subst (λ (q : Progress). SweepsRest q s.allocation a) (sym is) (sweeps_rest laws script old s k since w v stood new.segments step.2),
+        subst (λ (q : Progress). StandsAt script new (record s { progress = q; allocation = a })) (sym is) (subst (λ (x : Collector).
+            StandsAt script x (record s { progress = sweeping k since; allocation = a })) (sym next) there),
+      )
+
+pub sweeping_rest_leads : SweepingLaws → SweepingRestLeads
+sweeping_rest_leads laws script old new s limits h swept =
+    by_case laws script old new s h swept.rest old.progress s.progress refl refl h.matches.phase swept.sweeps
+
+-- a sweeper at a stop has all left that waits
+ready_by : (script : Script) (c : Collector) (s : State) → StandsAt script c s → (p : Doing) (q : Progress) → c.progress ≡ p → s.progress ≡ q →
+    phase_in p ≡ phase_of q → CanSweepRest c.segments c.names p
+ready_by script c s h doing.Idle q at is e = tt
+ready_by script c s h (doing.Marking m) q at is e = tt
+ready_by script c s h (doing.Sweeping w) idle at is e = absurd (let bad : phase.Sweeping ≡ phase.Idle = e in cc)
+ready_by script c s h (doing.Sweeping w) (marking k) at is e = absurd (let bad : phase.Sweeping ≡ phase.Marking = e in cc)
+ready_by script c s h (doing.Sweeping w) (sweeping k since) at is e =
+    let held : Sweeps (sweeping k since) s c = subst (λ (q : Progress). Sweeps q s c) is h.sweeper in
+    (subst (λ (p : Doing). AreLeft c.segments (sweeper_in p)) at held.0, h.kept.entries)
+
+pub sweep_rest_ready : SweepRestReady
+sweep_rest_ready script c s h = ready_by script c s h c.progress s.progress refl refl h.matches.phase

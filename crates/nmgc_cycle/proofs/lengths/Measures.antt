@@ -1,0 +1,155 @@
+-- How many commands are left, and that a round answers one where any is.
+use Rattle.std.proofs.Common.{ℕ, zero, suc, ◌≡◌, ◌+◌, ◌-◌, ◌*◌, ◌<◌, ◌≤◌, List, [], ◌∷◌, ◌++◌, length, drop, refl, sym, ap, subst, ◌∙◌, arith, Bool, true, slice_index_or, inl, inr}
+use Rattle.std.specs.Prelude.{All, ◌&&◌, nat_lt, nat_le, if◌then◌else◌}
+use Rattle.std.proofs.lemmas.Bool.{le-leb, lt-ltb, cases_lt}
+use Rattle.std.proofs.lemmas.List.{length-drop}
+use Rattle.std.proofs.lemmas.List.Elements.{All-drop, All-head, All-tail}
+use Rattle.nmgc_world_spec.specs.Command.{Fits, words_made}
+use Rattle.nmgc_world_spec.specs.History.{Row}
+use Rattle.nmgc_world_spec.specs.declared.command.Command.{Command}
+use Rattle.nmgc_world_spec.specs.declared.command.Reply.{Reply}
+use Rattle.nmgc_limits.specs.Limits.{most_script_bytes}
+use Rattle.nmgc_journal.specs.declared.report.RoundRows.{RoundRows}
+use Rattle.nmgc_script.specs.declared.script.Config.{Config}
+use Rattle.nmgc_script.specs.declared.script.Script.{Script}
+use Rattle.nmgc_run_spec.specs.Round.{IsRound}
+use Rattle.nmgc_run_spec.specs.Slice.{slice, slice_of, is_next, ends_slice, program_of}
+use Rattle.nmgc_run_spec.specs.State.{Plan, State, plan_of}
+use Rattle.nmgc_run_laws.specs.Statements.{answered_count}
+use Rattle.nmgc_run_laws.specs.laws.Lefts.{slice_count}
+use Rattle.nmgc_run_laws.specs.laws.Limits.{scripts_have_good_plans}
+use Rattle.nmgc_cycle.specs.Bound.{left_from, commands_left}
+use Rattle.nmgc_script.specs.Limits.{IsInLimits}
+
+-- where more were answered of each, no more are left
+no_more : (old new : ℕ → ℕ) (m : ℕ) (programs : List (List Command)) → ((k : ℕ) → old k ≤ new k) → left_from new m programs ≤ left_from old m programs
+no_more old new m [] more = omega arith
+no_more old new m (program ∷ programs) more =
+    let first = more m in
+    let rest = no_more old new (m + 1) programs more in
+    omega arith
+
+-- and where more were answered of one that had some left, fewer are left
+fewer : (old new : ℕ → ℕ) (m j k : ℕ) (programs : List (List Command)) → k ≡ m + j → ((n : ℕ) → old n ≤ new n) →
+    old k < length (program_of programs j) → old k < new k → left_from new m programs < left_from old m programs
+fewer old new m j k [] at more some rose = absurd (omega (arith, some))
+fewer old new m zero k (program ∷ programs) at more some rose =
+    let same : k ≡ m = omega arith in
+    let some_here = subst (λ (n : ℕ). old n < length program) same some in
+    let rose_here = subst (λ (n : ℕ). old n < new n) same rose in
+    let rest = no_more old new (m + 1) programs more in
+    omega arith
+fewer old new m (suc j) k (program ∷ programs) at more some rose =
+    let first = more m in
+    let rest = fewer old new (m + 1) j k programs (omega arith) more some rose in
+    omega arith
+
+-- where some are left, some program has some left
+some_left : (answered : ℕ → ℕ) (m : ℕ) (programs : List (List Command)) → 1 ≤ left_from answered m programs → (j : ℕ) × (k : ℕ) × (k ≡ m + j) ×
+    (answered k < length (program_of programs j))
+some_left answered m [] some = absurd (omega (arith, some))
+some_left answered m (program ∷ programs) some = elim (cases_lt (answered m) (length program)) [
+  | inl lt ↦ (0, m, omega arith, lt)
+  | inr le ↦
+      let rest = some_left answered (m + 1) programs (omega (arith, some, le)) in
+      let at = rest.2 in
+      (suc rest.0, rest.1, omega (arith, at), rest.3)
+]
+
+-- where none are left, none of any program are
+none_left : (answered : ℕ → ℕ) (m : ℕ) (programs : List (List Command)) → left_from answered m programs ≡ 0 → (j k : ℕ) → k ≡ m + j →
+    length (program_of programs j) ≤ answered k
+none_left answered m [] none j k at = omega arith
+none_left answered m (program ∷ programs) none zero k at =
+    let here : length program ≤ answered m = omega (arith, none) in
+    subst (λ (n : ℕ). length program ≤ answered n) (let e : m ≡ k = omega arith in e) here
+none_left answered m (program ∷ programs) none (suc j) k at = none_left answered (m + 1) programs (omega (arith, none)) j k (omega arith)
+
+-- no more are left than there are
+pub left_most : (answered : ℕ → ℕ) (m : ℕ) (programs : List (List Command)) → All (λ program. length program ≤ most_script_bytes) programs →
+    left_from answered m programs ≤ length programs * most_script_bytes
+left_most answered m [] each = omega arith
+left_most answered m (program ∷ programs) each =
+    let first = All-head (λ program. length program ≤ most_script_bytes) program programs each in
+    let rest = left_most answered (m + 1) programs (All-tail (λ program. length program ≤ most_script_bytes) program programs each) in
+    omega arith
+
+-- one round more was answered
+pub answered_more : (rounds : List RoundRows) (rows : RoundRows) (m : ℕ) →
+    answered_count (rounds ++ rows ∷ []) m ≡ answered_count rounds m + length (slice_index_or rows.replies m [])
+answered_more [] rows m = omega arith
+answered_more (first ∷ rounds) rows m = let rest = answered_more rounds rows m in omega arith
+
+-- a program that isn't used up has a slice, where its objects fit a nursery
+has_slice : (config : Config) (program : List Command) → 1 ≤ config.slice → config.words ≤ config.nursery → All (Fits config.words) program →
+    0 < length program → 0 < length (slice_of config program)
+has_slice config [] some fit each left = absurd (omega arith)
+has_slice config (c ∷ program) some fit each left =
+    let size = (All-head (Fits config.words) c program each).size in
+    let may : nat_lt 0 config.slice ≡ true = lt-ltb 0 config.slice some in
+    let room : nat_le (words_made c) config.nursery ≡ true = le-leb (words_made c) config.nursery (omega arith) in
+    let next : is_next config.slice config.nursery c ≡ true = ap (λ (b : Bool). b && nat_le (words_made c) config.nursery) may ∙ room in
+    let rest = if ends_slice c then [] else slice (config.slice - 1) (config.nursery - words_made c) program in
+    subst (λ (b : Bool). 0 < length (if b then c ∷ rest else [])) (sym next) (omega arith)
+
+-- what is left of the programs, by how many commands of each were answered
+abbrev pub AreLeft : Plan → State → (ℕ → ℕ) → Type 0
+AreLeft plan s answered = (m : ℕ) → program_of s.left m ≡ drop (answered m) (program_of plan.threads m)
+
+-- where none are left, nothing of any program is
+pub nothing_left : (plan : Plan) (s : State) (answered : ℕ → ℕ) → AreLeft plan s answered → left_from answered 0 plan.threads ≡ 0 → (m : ℕ) →
+    length (program_of s.left m) ≡ 0
+nothing_left plan s answered left none m =
+    let all : length (program_of plan.threads m) ≤ answered m = none_left answered 0 plan.threads none m m (omega arith) in
+    let rest = length-drop (answered m) (program_of plan.threads m) in
+    let same = ap (λ (commands : List Command). length commands) (left m) in
+    omega (arith, all, rest, same)
+
+-- where some are left, a round leaves fewer
+pub round_falls : (script : Script) (s t : State) (replies : List (List Reply)) (rows : List Row) (answered : ℕ → ℕ) → IsInLimits script →
+    IsRound script.config s replies rows t → AreLeft (plan_of script) s answered → 1 ≤ left_from answered 0 script.threads →
+    left_from (λ m. answered m + length (slice_index_or replies m [])) 0 script.threads < left_from answered 0 script.threads
+round_falls script s t replies rows answered limits round left some =
+    let one = some_left answered 0 script.threads some in
+    let j : ℕ = one.0 in
+    let at : one.1 ≡ j = (let e = one.2 in omega (arith, e)) in
+    let has : answered j < length (program_of script.threads j) = subst (λ (k : ℕ). answered k < length (program_of script.threads j)) at one.3 in
+    let dropped = length-drop (answered j) (program_of script.threads j) in
+    let same = ap (λ (commands : List Command). length commands) (left j) in
+    let own : All (Fits script.config.words) (program_of s.left j) =
+    subst (All (Fits script.config.words)) (sym (left j))
+    (All-drop (Fits script.config.words) (answered j) (program_of script.threads j) ((scripts_have_good_plans script limits.fits).fit j)) in
+    let done = has_slice script.config (program_of s.left j) limits.fits.config.some_slice limits.fits.config.some_nursery own (omega (
+      arith,
+      has,
+      dropped,
+      same,
+    )) in
+    let count = slice_count script.config s t replies rows j round in
+    let rose : answered j < answered j + length (slice_index_or replies j []) = omega (arith, done, count) in
+    fewer answered (λ m. answered m + length (slice_index_or replies m [])) 0 j j script.threads (omega arith) (λ m. omega arith) has rose
+
+-- after one round more no more are left than by the replies of that round
+pub left_then : (threads : List (List Command)) (rounds : List RoundRows) (rows : RoundRows) →
+    commands_left threads (rounds ++ rows ∷ []) ≤ left_from (λ m. answered_count rounds m + length (slice_index_or rows.replies m [])) 0 threads
+unfolding commands_left
+left_then threads rounds rows =
+    no_more (λ m. answered_count rounds m + length (slice_index_or rows.replies m [])) (answered_count (rounds ++ rows ∷ [])) 0 threads (λ m.
+    let e = answered_more rounds rows m in omega (arith, e))
+
+-- and no more than before it
+pub left_less : (threads : List (List Command)) (rounds : List RoundRows) (rows : RoundRows) →
+    commands_left threads (rounds ++ rows ∷ []) ≤ commands_left threads rounds
+unfolding commands_left
+left_less threads rounds rows =
+    no_more (answered_count rounds) (answered_count (rounds ++ rows ∷ [])) 0 threads (λ m. let e = answered_more rounds rows m in omega (arith, e))
+
+pub left_is : (threads : List (List Command)) (rounds : List RoundRows) → commands_left threads rounds ≡ left_from (answered_count rounds) 0 threads
+unfolding commands_left
+left_is threads rounds = refl
+
+-- a run has no more commands than these
+pub commands_most : (script : Script) → IsInLimits script → (rounds : List RoundRows) →
+    commands_left script.threads rounds ≤ length script.threads * most_script_bytes
+unfolding commands_left
+commands_most script limits rounds = left_most (answered_count rounds) 0 script.threads limits.few

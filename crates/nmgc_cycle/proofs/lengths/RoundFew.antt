@@ -1,0 +1,193 @@
+-- A round leaves fewer rounds to follow.
+use Rattle.std.proofs.Common.{ℕ, ◌≡◌, ◌+◌, ◌<◌, ◌≤◌, ◌⊎◌, List, [], ◌∷◌, ◌++◌, length, refl, sym, ap, subst, ◌∙◌, arith, Bool, true, false, None, inl, inr}
+use Rattle.std.specs.Prelude.{◌&&◌, not, nat_lt, if◌then◌else◌, Some}
+use Rattle.std.proofs.lemmas.Bool.{cases_lt}
+use Rattle.nmgc_alloc.specs.Numbered.{Segments}
+use Rattle.nmgc_world_spec.specs.History.{Row}
+use Rattle.nmgc_world_spec.specs.declared.command.Reply.{Reply}
+use Rattle.nmgc_journal.specs.declared.report.End.{End}
+use Rattle.nmgc_journal.specs.declared.report.End.TheVariants.{Done, HeapFull}
+use Rattle.nmgc_journal.specs.declared.report.Phase.TheVariants as phase
+use Rattle.nmgc_journal.specs.declared.report.RoundRows.{RoundRows}
+use Rattle.nmgc_journal.specs.declared.report.StopRow.{StopRow}
+use Rattle.nmgc_round.specs.declared.table.Round.{Round}
+use Rattle.nmgc_round.specs.Seat.{RoundSeat}
+use Rattle.nmgc_script.specs.declared.script.Script.{Script}
+use Rattle.nmgc_collector_laws.specs.Collector.{IsAfterRound}
+use Rattle.nmgc_run_spec.specs.Run.{Run, last_state}
+use Rattle.nmgc_run_spec.specs.Slice.{has_left, program_of}
+use Rattle.nmgc_run_spec.specs.State.{Plan, State, Progress, idle, marking, sweeping, phase_of, is_idle, plan_of, free_count, reserve_of}
+use Rattle.nmgc_run_laws.specs.Statements.{answered_count}
+use Rattle.nmgc_run_spec.specs.Stop.{answer_of}
+use Rattle.nmgc_run_laws.specs.laws.Lefts.{left_is_told}
+use Rattle.nmgc_world_spec.specs.declared.value.Name.{Name}
+use Rattle.nmgc_cycle.specs.declared.collector.Collector.{Collector}
+use Rattle.nmgc_cycle.specs.declared.progress.Marking.{Marking}
+use Rattle.nmgc_cycle.specs.declared.progress.Progress.{Progress as Doing}
+use Rattle.nmgc_cycle.specs.declared.progress.Progress.TheVariants as doing
+use Rattle.nmgc_cycle.specs.declared.progress.Sweeping.{Sweeping}
+use Rattle.nmgc_cycle.specs.Bound.{commands_left, cycle_most, heap_of, most_stops, phase_left, MayFollow, AreFewBeforeStop, HasMore, NoneIsDue, commands, one_cycle, no_cycle}
+use Rattle.nmgc_cycle.specs.Cycles.{HasHelped, HasScanned, HasSweptSome}
+use Rattle.nmgc_cycle.specs.Keeps.{IsAfterStop}
+use Rattle.nmgc_cycle.specs.Shown.{seen, phase_in, told_cycles}
+use Rattle.nmgc_script.specs.Limits.{IsInLimits}
+use Rattle.nmgc_cycle.proofs.lengths.Measures.{AreLeft, nothing_left, round_falls, left_then, left_less, left_is}
+use Rattle.nmgc_cycle.proofs.rounds.NoneLeft.{DoesNothing, nothing_done, none_has}
+
+-- The collector's part
+
+module _ (segments quota : ℕ) (round : Round) (from seat : RoundSeat) (old new : Segments) (names : List Name) (some : 1 ≤ quota) where
+  -- scanning leaves less of a cycle that marks
+  scanned_falls : (m n : Marking) → m.last.empty ≡ false → HasScanned round quota from seat old new m n →
+      phase_left segments (doing.Marking n) < phase_left segments (doing.Marking m)
+  scanned_falls m n goes h =
+      let was : phase_left segments (doing.Marking m) ≡ m.marker.spare + length m.marker.queue + segments + 2 =
+      ap (λ (b : Bool). if b then segments + 1 else m.marker.spare + length m.marker.queue + segments + 2) goes in
+      by n.last.empty refl was
+    where
+      by : (b : Bool) → n.last.empty ≡ b → phase_left segments (doing.Marking m) ≡ m.marker.spare + length m.marker.queue + segments + 2 →
+          phase_left segments (doing.Marking n) < phase_left segments (doing.Marking m)
+      by true is was =
+          let now : phase_left segments (doing.Marking n) ≡ segments + 1 =
+          ap (λ (b : Bool). if b then segments + 1 else n.marker.spare + length n.marker.queue + segments + 2) is in
+          omega (arith, was, now)
+      by false is was =
+          let now : phase_left segments (doing.Marking n) ≡ n.marker.spare + length n.marker.queue + segments + 2 =
+          ap (λ (b : Bool). if b then segments + 1 else n.marker.spare + length n.marker.queue + segments + 2) is in
+          let pace = h.worked.marked.scanned.pace in
+          let room = h.worked.marked.scanned.room in
+          elim (cases_lt n.last.scanned quota) [
+            | inl less ↦ absurd (let bad : true ≡ false = sym (h.empty.1 (h.least less)) ∙ is in cc)
+            | inr all ↦ omega (arith, was, now, pace, room, all)
+          ]
+
+  -- and so does sweeping
+  swept_falls : (w v : Sweeping) → 1 ≤ length w.sweeper.left → HasSweptSome quota old new names w v →
+      phase_left segments (doing.Sweeping v) < phase_left segments (doing.Sweeping w)
+  swept_falls w v more h =
+      let count = h.swept.fewer in
+      elim (cases_lt h.count quota) [
+        | inl less ↦ let none = ap (λ (l : List ℕ). length l) (h.least less) in omega (arith, none, more)
+        | inr all ↦ omega (arith, count, all)
+      ]
+
+  -- where the collector did its part there is less left to do, unless there was none
+  helped : (p q : Doing) → HasMore p → HasHelped round quota from seat old new names p q → ((p ≡ doing.Idle) × (q ≡ doing.Idle)) ⊎
+      (phase_left segments q < phase_left segments p)
+  helped doing.Idle q more h = inl (refl, h.2)
+  helped (doing.Marking m) q more h = inr (subst (λ (x : Doing).
+      phase_left segments x < phase_left segments (doing.Marking m)) (sym h.1) (scanned_falls m h.0 more h.2))
+  helped (doing.Sweeping w) q more h = inr (subst (λ (x : Doing).
+      phase_left segments x < phase_left segments (doing.Sweeping w)) (sym h.1) (swept_falls w h.0 more h.3))
+
+-- a run goes on where commands are left, or a cycle is in progress
+busy : (plan : Plan) (s : State) → has_left s.left ≡ false → answer_of plan s ≡ None → is_idle s.progress ≡ false
+busy plan s none e = by (has_left s.left) (nat_lt (free_count s) (reserve_of plan)) (is_idle s.progress) (HeapFull (free_count s) (reserve_of plan)) none e
+  where
+    by : (left few quiet : Bool) (full : End) → left ≡ false →
+        (if left && few then Some full else (if not left && quiet then Some Done else None)) ≡ None → quiet ≡ false
+    by true few quiet full is e = absurd cc
+    by false few false full is e = refl
+    by false few true full is e = absurd cc
+
+not_idle : (p : Doing) (q : Progress) → phase_in p ≡ phase_of q → is_idle q ≡ false → p ≡ doing.Idle → ⊥
+not_idle p idle e not is = let bad : true ≡ false = not in cc
+not_idle p (marking k) e not is = let bad : phase.Idle ≡ phase.Marking = ap phase_in (sym is) ∙ e in cc
+not_idle p (sweeping k closed) e not is = let bad : phase.Idle ≡ phase.Sweeping = ap phase_in (sym is) ∙ e in cc
+
+module _ (script : Script) (old new : Collector) (run : Run) (replies : List (List Reply)) (history : List Row) (worked : State)
+    (limits : IsInLimits script) (still : IsAfterStop script old run) (after : IsAfterRound (plan_of script) run replies history worked (seen new))
+    (round : Round) (from seat : RoundSeat) (help : HasHelped round script.config.quota from seat old.segments new.segments old.names old.progress
+    new.progress) where
+  abbrev s : State
+  s = last_state run
+
+  abbrev told : RoundRows
+  told = record { replies = replies }
+
+  same_stops : new.stops ≡ old.stops
+  same_stops = after.tells.stops_are ∙ sym still.at_stop.tells.stops_are
+
+  rounds_are : new.rounds ≡ old.rounds ++ told ∷ []
+  rounds_are = after.rounds ∙ ap (λ (r : List RoundRows). r ++ told ∷ []) (after.tells.rounds_are ∙ sym still.at_stop.tells.rounds_are)
+
+  left : AreLeft (plan_of script) s (answered_count old.rounds)
+  left = left_is_told (plan_of script) run old.rounds old.stops (told_cycles old) still.at_stop.is_run still.at_stop.tells
+
+  part : ((old.progress ≡ doing.Idle) × (new.progress ≡ doing.Idle)) ⊎
+      (phase_left script.config.segments new.progress < phase_left script.config.segments old.progress)
+  part = helped script.config.segments script.config.quota round from seat old.segments new.segments old.names limits.fits.config.some_quota
+      old.progress new.progress still.few.more help
+
+  no_longer : phase_left script.config.segments new.progress ≤ phase_left script.config.segments old.progress
+  no_longer = elim part [
+    | inl quiet ↦ (let a = ap (phase_left script.config.segments) quiet.0 in let b = ap (phase_left script.config.segments) quiet.1 in omega (arith, a, b))
+    | inr falls ↦ omega (arith, falls)
+  ]
+
+  fewer_left : 1 ≤ commands_left script.threads old.rounds → commands_left script.threads new.rounds < commands_left script.threads old.rounds
+  fewer_left some =
+      let is = left_is script.threads old.rounds in
+      let falls = round_falls script s worked replies history (answered_count old.rounds) limits after.round left (omega (arith, some, is)) in
+      let after_it = left_then script.threads old.rounds told in
+      let now = ap (λ (r : List RoundRows). commands_left script.threads r) rounds_are in
+      omega (arith, falls, after_it, now, is)
+
+  -- where no command is left
+  module _ (none : commands_left script.threads old.rounds ≡ 0) where
+    nothing : (m : ℕ) → length (program_of s.left m) ≡ 0
+    nothing = nothing_left (plan_of script) s (answered_count old.rounds) left (sym (left_is script.threads old.rounds) ∙ none)
+
+    leaves : DoesNothing s worked
+    leaves = nothing_done script.config s worked replies history after.round nothing
+
+    none_now : commands_left script.threads new.rounds ≡ 0
+    none_now = let less = left_less script.threads old.rounds told in
+        let now = ap (λ (r : List RoundRows). commands_left script.threads r) rounds_are in omega (arith, less, now, none)
+
+    less : phase_left script.config.segments new.progress < phase_left script.config.segments old.progress
+    less = elim part [
+      | inl quiet ↦ absurd (not_idle old.progress s.progress still.at_stop.matches.phase
+          (busy (plan_of script) s (none_has s.left nothing) after.goes_on) quiet.0)
+      | inr falls ↦ falls
+    ]
+
+    not_due : NoneIsDue script.config.trigger old → NoneIsDue script.config.trigger new
+    not_due undue = record {
+      not_asked = after.matches.collect ∙ leaves.collect ∙ sym still.at_stop.matches.collect ∙ undue.not_asked;
+      not_filled = λ some.
+          let was = still.at_stop.heap.holds.stands.fresh in
+          let now = after.heap.holds.stands.fresh in
+          let same = leaves.fresh in
+          let few = undue.not_filled some in
+          omega (arith, was, now, same, few);
+    }
+
+    cycle_more : length old.stops + phase_left script.config.segments old.progress + cycle_most (heap_of script) ≤ most_stops script →
+        MayFollow (worked.world ≡ s.world) script new (length old.stops + 1)
+    cycle_more h = one_cycle none_now (omega (arith, h, less))
+
+  follows : MayFollow (Unit {0}) script old (length old.stops) → MayFollow (worked.world ≡ s.world) script new (length old.stops + 1)
+  follows (commands h) = elim (cases_lt 0 (commands_left script.threads old.rounds)) [
+    | inl some ↦ (let less = fewer_left (omega (arith, some)) in commands (omega (arith, h, less)))
+    | inr zero_left ↦ (let short = still.few.few.phase in cycle_more (omega (arith, zero_left)) (omega (arith, h, short)))
+  ]
+  follows (one_cycle none h) = cycle_more none h
+  follows (no_cycle none first undue h) = no_cycle (none_now none) (leaves none).world (not_due none undue) (let falls = less none in omega (arith, h, falls))
+
+  -- the field of what a round keeps
+  pub round_few : AreFewBeforeStop script new s.world worked.world
+  round_few =
+      let many : length new.stops ≡ length old.stops = ap (λ (stops : List StopRow). length stops) same_stops in
+      let count : length old.stops + 1 ≡ length new.stops + 1 = omega (arith, many) in
+      let begun = still.few.begun in
+      let was = still.at_stop.matches.begun in
+      let now = after.matches.begun in
+      let kept = ap (λ (x : State). x.begun) after.round.rest in
+      record {
+        few = record {
+          follow = subst (λ (n : ℕ). MayFollow (worked.world ≡ s.world) script new n) count (follows still.few.few.follow);
+          phase = (let most = still.few.few.phase in let shorter = no_longer in omega (arith, most, shorter));
+        };
+        begun = omega (arith, begun, was, now, kept, many);
+      }

@@ -1,0 +1,45 @@
+-- What contracts see of the mutators of a collector, read in the words of a run and in those of a turn.
+use Rattle.std.proofs.Common.{ℕ, ◌≡◌, List, [], ◌∷◌, ◌++◌, map, refl, ap, ◌∙◌, Some}
+use Rattle.std.specs.Prelude.{flat_map, slice_get, option_map}
+use Rattle.std.proofs.lemmas.Option.{slice_get-map}
+use Rattle.nmgc_object.specs.declared.layout.Nursery.{Nursery}
+use Rattle.nmgc_mutator.specs.declared.mutator.Mutator.{Mutator}
+use Rattle.nmgc_mutator.specs.Records.{numbers}
+use Rattle.nmgc_collector_laws.specs.Worked as turn
+use Rattle.nmgc_run_spec.specs.Heap.{registers_of, queues_of, serials_of}
+use Rattle.nmgc_collector_laws.specs.Seen.{MutatorSeen, end_of}
+use Rattle.nmgc_cycle.specs.Shown.{seen_mutator}
+
+pub same_registers : (ms : List Mutator) → registers_of (map end_of (map seen_mutator ms)) ≡ turn.registers_of ms
+same_registers [] = refl
+same_registers (m ∷ ms) = ap (λ (l : List ℕ). m.registers ++ l) (same_registers ms)
+
+pub same_queues : (ms : List Mutator) → queues_of (map end_of (map seen_mutator ms)) ≡ turn.queues_of ms
+same_queues [] = refl
+same_queues (m ∷ ms) = ap (λ (l : List (List ℕ)). m.queue.words ∷ l) (same_queues ms)
+
+pub same_serials : (ms : List Mutator) → serials_of (map end_of (map seen_mutator ms)) ≡ turn.serials_of ms
+same_serials [] = refl
+same_serials (m ∷ ms) = ap (λ (l : List ℕ). m.serial ∷ l) (same_serials ms)
+
+pub same_nurseries : (ms : List Mutator) → map (λ (m : MutatorSeen). m.nursery) (map seen_mutator ms) ≡ turn.nurseries_of ms
+same_nurseries [] = refl
+same_nurseries (m ∷ ms) = ap (λ (l : List Nursery). m.nursery ∷ l) (same_nurseries ms)
+
+pub same_recorded : (ms : List Mutator) → flat_map (λ (m : MutatorSeen). m.recorded) (map seen_mutator ms) ≡ turn.recorded_of ms
+same_recorded [] = refl
+same_recorded (m ∷ ms) = ap (λ (l : List ℕ). numbers m.recorded.items ++ l) (same_recorded ms)
+
+pub same_weaks : (ms : List Mutator) → flat_map (λ (m : MutatorSeen). m.young_weaks) (map seen_mutator ms) ≡ turn.weaks_of ms
+same_weaks [] = refl
+same_weaks (m ∷ ms) = ap (λ (l : List ℕ). numbers m.young_weaks.items ++ l) (same_weaks ms)
+
+-- a mutator is seen by its number
+pub seen_at : (ms : List Mutator) (k : ℕ) (m : Mutator) → slice_get ms k ≡ Some m → slice_get (map seen_mutator ms) k ≡ Some (seen_mutator m)
+seen_at ms k m e = slice_get-map seen_mutator ms k ∙ ap (option_map seen_mutator) e
+
+-- and so is its next serial
+pub serial_seen : (ms : List Mutator) (k : ℕ) (m : Mutator) → slice_get ms k ≡ Some m →
+    slice_get (serials_of (map end_of (map seen_mutator ms))) k ≡ Some m.serial
+serial_seen ms k m e = ap (λ (l : List ℕ). slice_get l k) (same_serials ms) ∙ slice_get-map (λ (n : Mutator). n.serial) ms k ∙
+    ap (option_map (λ (n : Mutator). n.serial)) e

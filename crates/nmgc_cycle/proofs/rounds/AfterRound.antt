@@ -1,0 +1,54 @@
+-- After a round the collector has what the run says of it.
+use Rattle.std.proofs.Common.{◌≡◌, ◌≤◌, refl, sym, subst, inl, inr, arith}
+use Rattle.nmgc_object.specs.Places.{reserve_count}
+use Rattle.nmgc_object.specs.declared.layout.Layout.{Layout}
+use Rattle.nmgc_alloc.specs.Reserve as reserve
+use Rattle.nmgc_blocks_spec.specs.Nurseries.{AreEmpty}
+use Rattle.nmgc_round.specs.View.{Opening}
+use Rattle.nmgc_script.specs.declared.script.Script.{Script}
+use Rattle.nmgc_collector_laws.specs.Collector.{HasReserve, IsAfterRound}
+use Rattle.nmgc_run_spec.specs.State.{Progress, idle, marking, sweeping}
+use Rattle.nmgc_cycle.specs.declared.collector.Collector.{Collector}
+use Rattle.nmgc_cycle.proofs.stops.EnoughFree.{went_on}
+use Rattle.nmgc_cycle.proofs.rounds.GoneOn.{HasLaws, HasGoneOn}
+use Rattle.nmgc_cycle.proofs.rounds.MarkedBeside.{idled, marked_on}
+use Rattle.nmgc_cycle.proofs.rounds.Over.{IsOver, plan, s, t, rows, told, shown}
+use Rattle.nmgc_cycle.proofs.lists.RootLists.{same_nurseries}
+use Rattle.nmgc_cycle.proofs.rounds.RoundOver.{layout, has_reserve}
+use Rattle.nmgc_cycle.proofs.rounds.Rounded.{is_round, matches}
+use Rattle.nmgc_cycle.proofs.rounds.SweptBeside.{swept_on}
+
+module _ (laws : HasLaws) (script : Script) (c new : Collector) (o : Opening) (x : IsOver script c new o) where
+  by_phase : (p : Progress) → (s script c new o x).progress ≡ p → HasGoneOn script c new o x
+  by_phase idle e = idled laws script c new o x e
+  by_phase (marking k) e = marked_on laws script c new o x k e
+  by_phase (sweeping k closed) e = swept_on laws script c new o x k closed e
+
+  pub gone_on : HasGoneOn script c new o x
+  gone_on = by_phase (s script c new o x).progress refl
+
+  has_reserve_then : (g : HasGoneOn script c new o x) → HasReserve (layout script c new o x) (shown script c new o x)
+  has_reserve_then g = elim (has_reserve script c new o x) [
+    | inl more ↦ inl (subst (λ (l : Layout). reserve_count l ≤ reserve.free_count new.segments.segments) x.still.kept.layout (let free = g.free in
+        omega (arith, more, free)))
+    | inr empty ↦ inr (subst AreEmpty (sym (same_nurseries new.mutators.items)) empty)
+  ]
+
+  pub is_after : (g : HasGoneOn script c new o x) →
+      IsAfterRound (plan script c new o x) x.run (told script c new o x) (rows script c new o x) (t script c new o x g.blocks) (shown script c new o x)
+  is_after g = record {
+    is_run = x.still.at_stop.is_run;
+    goes_on = went_on script c x.run x.still x.goes_on;
+    round = is_round script c new o x laws.history g.blocks g.swept;
+    before = c.rounds;
+    tells = x.still.at_stop.tells;
+    rounds = refl;
+    matches = matches script c new o x g.blocks g.phase;
+    places = g.at;
+    heap = g.heap;
+    nurseries = g.nurseries;
+    ordered = g.ordered;
+    left = g.remembers;
+    reserve = has_reserve_then g;
+    cycle = g.cycle;
+  }

@@ -1,0 +1,310 @@
+-- A round beside which a cycle marked, or no cycle was in progress: blocks and places are those of the stop, and what was born.
+use Rattle.std.proofs.Common.{◌≡◌, ◌≤◌, ◌⊎◌, ◌↔◌, List, [], refl, sym, ap, subst, ◌∙◌, inl, inr, arith, true}
+use Rattle.std.proofs.lemmas.Bool.{cases_lt}
+use Rattle.nmgc_snapshot_laws.specs.State.{State as Core}
+use Rattle.nmgc_world_laws.specs.Reachable.{IsSound}
+use Rattle.nmgc_heap_spec.specs.laws.Kinds.{map_item}
+use Rattle.nmgc_world_spec.specs.declared.value.Name.{Name}
+use Rattle.nmgc_world_spec.specs.World.{World}
+use Rattle.nmgc_segment.specs.declared.state.State.TheVariants as stands
+use Rattle.nmgc_alloc.specs.Stands.{StandsFor}
+use Rattle.nmgc_alloc.specs.Reserve as reserve
+use Rattle.nmgc_alloc.specs.Numbered.{Segments}
+use Rattle.nmgc_alloc.specs.laws.Keeping.{counts_stand}
+use Rattle.nmgc_mark.specs.Marker.{HasMarked}
+use Rattle.nmgc_mark.specs.Tie.{IsTied as IsTiedByPlaces}
+use Rattle.nmgc_mark.specs.Work.{marks_seen}
+use Rattle.nmgc_round.specs.Marking.{marks_after}
+use Rattle.nmgc_round.specs.View.{Opening, Seen as View}
+use Rattle.nmgc_script.specs.declared.script.Script.{Script}
+use Rattle.nmgc_collector_laws.specs.Keeps.{HasLeft, ShowEntries}
+use Rattle.nmgc_collector_laws.specs.Owed.{GoesOn}
+use Rattle.nmgc_collector_laws.specs.RestMarking.{IsMachineAtRest, with_rows}
+use Rattle.nmgc_sweep.specs.Sweeper.{Sweeper, HasNotes, AreLeft}
+use Rattle.nmgc_blocks_spec.specs.Cycle.{interval_of, Cycle}
+use Rattle.nmgc_collector_laws.specs.Collector.{HoldsInCycle, IsMarking, IsPacedAtStop, IsPacedAfterRound}
+use Rattle.nmgc_run_laws.specs.Course.{IsInCourse, IsLastBegun}
+use Rattle.nmgc_alloc.specs.Settled.{AreSettled}
+use Rattle.nmgc_run_spec.specs.Round.{noted, SweepsBeside}
+use Rattle.nmgc_mark.specs.Seen.{MarkerSeen, WorkSeen}
+use Rattle.nmgc_collector_laws.specs.Seen.{MutatorSeen, ends_of}
+use Rattle.nmgc_run_laws.specs.Sound.{IsInCycle}
+use Rattle.nmgc_run_spec.specs.State.{Progress, idle, marking, phase_of}
+use Rattle.nmgc_run_laws.specs.laws.Course.{runs_are}
+use Rattle.nmgc_run_laws.specs.laws.Runs.{rounds_are_sound}
+use Rattle.nmgc_cycle.specs.declared.collector.Collector.{Collector}
+use Rattle.nmgc_cycle.specs.declared.progress.Marking as held_marking
+use Rattle.nmgc_cycle.specs.declared.progress.Progress as held
+use Rattle.nmgc_cycle.specs.declared.progress.Progress.TheVariants as doing
+use Rattle.nmgc_cycle.specs.Cycles.{HasHelped, HasScanned}
+use Rattle.nmgc_cycle.specs.Keeps.{Sweeps}
+use Rattle.nmgc_cycle.specs.Shown.{seen, seen_mutator, died, phase_in, marker_in, work_in, sweeper_in, cycle_in}
+use Rattle.nmgc_cycle.specs.Working.{OpensIn}
+use Rattle.nmgc_cycle.proofs.rounds.GoneOn.{HasLaws, HasGoneOn}
+use Rattle.nmgc_cycle.proofs.rounds.Opened.{in_cycle, rests_beside}
+use Rattle.nmgc_cycle.proofs.rounds.Over.{IsOver, plan, s, w, t, rows, places, told, last, shown, view, worked, can, queue_kept}
+use Rattle.nmgc_cycle.proofs.lists.Phases.{when_idle, when_marking}
+use Rattle.nmgc_cycle.proofs.lists.Plans.{sound_state}
+use Rattle.nmgc_cycle.proofs.rounds.RoundOver.{layout, opening_layout, nurseries_left, in_order, remembered, round_from}
+use Rattle.nmgc_cycle.proofs.rounds.Rounded.{is_round}
+
+module _ (laws : HasLaws) (script : Script) (c new : Collector) (o : Opening) (x : IsOver script c new o) where
+  -- the phase of the stop's state tells what the collector has
+  pub phase_with : (p : Progress) → (s script c new o x).progress ≡ p → phase_in c.progress ≡ phase_of p
+  phase_with p e = x.still.at_stop.matches.phase ∙ ap phase_of e
+
+  pub helped_as : (q : held.Progress) → c.progress ≡ q →
+      HasHelped x.did.helped.round script.config.quota x.did.helped.from x.did.helped.seat c.segments new.segments c.names q new.progress
+  helped_as q e = subst (λ (r : held.Progress).
+      HasHelped x.did.helped.round script.config.quota x.did.helped.from x.did.helped.seat c.segments new.segments c.names r new.progress) e x.did.helped.helped
+
+  -- as many segments are free where they stand for the same blocks
+  same_free : StandsFor new.segments (seen c).words (s script c new o x).allocation →
+      reserve.free_count c.segments.segments ≤ reserve.free_count new.segments.segments
+  same_free after =
+      let before = counts_stand c.segments (seen c).words (s script c new o x).allocation stands.Free x.still.at_stop.heap.holds.stands in
+      let now = counts_stand new.segments (seen c).words (s script c new o x).allocation stands.Free after in
+      omega (arith, before, now)
+
+  -- no cycle in progress: the segments are as they were
+  module _ (e : (s script c new o x).progress ≡ idle) where
+    is_idle : c.progress ≡ doing.Idle
+    is_idle = when_idle c.progress (phase_with idle e)
+
+    nothing : HasHelped x.did.helped.round script.config.quota x.did.helped.from x.did.helped.seat c.segments new.segments c.names doing.Idle new.progress
+    nothing = helped_as doing.Idle is_idle
+
+    pub idled : HasGoneOn script c new o x
+    idled = record {
+      blocks = (s script c new o x).allocation;
+      swept = subst (λ (p : Progress). SweepsBeside script.config.quota p (s script c new o x).allocation (s script c new o x).allocation) (sym e) refl;
+      phase = ap phase_in (nothing.2 ∙ sym is_idle);
+      at = places script c new o x;
+      heap = laws.holds (layout script c new o x) (s script c new o x) (t script c new o x (s script c new o x).allocation) o (seen c).words
+          x.did.words (view script c new o x) c.segments new.segments (ends_of (seen c)) (ends_of (shown script c new o x)) (seen c).weaks
+          (round_from script c new o x laws.stopped new.segments same_layout stands_still);
+      nurseries = nurseries_left script c new o x laws.stopped;
+      ordered = in_order script c new o x laws.stopped;
+      remembers = remembered script c new o x laws.stopped;
+      free = same_free stands_still;
+      cycle = subst (λ (p : Progress). HoldsInCycle (λ (k : Cycle).
+          IsPacedAfterRound script.config.quota k (t script c new o x (s script c new o x).allocation) (shown script c new o x))
+          (noted p (rows script c new o x)) (t script c new o x (s script c new o x).allocation) (shown script c new o x) (places script c new o x))
+          (sym e) settled;
+      sweeper = subst (λ (p : Progress).
+          Sweeps (noted p (rows script c new o x)) (t script c new o x (s script c new o x).allocation) (last script c new o x)) (sym e) tt;
+      named = x.still.named;
+    }
+      where
+        same_layout : new.segments.layout ≡ layout script c new o x
+        same_layout = ap (λ (g : Segments). g.layout) nothing.1 ∙ x.still.kept.layout
+
+        stands_still : StandsFor new.segments (seen c).words (s script c new o x).allocation
+        stands_still = subst (λ (g : Segments). StandsFor g (seen c).words (s script c new o x).allocation) (sym nothing.1) x.still.at_stop.heap.holds.stands
+
+        settled : AreSettled (s script c new o x).begun new.segments
+        settled = subst (AreSettled (s script c new o x).begun) (sym nothing.1) (subst (λ (p : Progress).
+            HoldsInCycle (λ (k : Cycle).
+            IsPacedAtStop script.config.quota k (s script c new o x) (seen c)) p (s script c new o x) (seen c) x.still.at_stop.heap.places) e
+            x.still.at_stop.cycle)
+
+  -- a cycle marks
+  module _ (k : Cycle) (e : (s script c new o x).progress ≡ marking k) where
+    before : (m : held_marking.Marking) × (c.progress ≡ doing.Marking m)
+    before = when_marking c.progress (phase_with (marking k) e)
+
+    abbrev m : held_marking.Marking
+    m = before.0
+
+    did : (n : held_marking.Marking) × (new.progress ≡ doing.Marking n) ×
+        HasScanned x.did.helped.round script.config.quota x.did.helped.from x.did.helped.seat c.segments new.segments m n
+    did = helped_as (doing.Marking m) before.1
+
+    abbrev n : held_marking.Marking
+    n = did.0
+
+    -- what contracts see of marker, work, sweeper and cycle
+    marker_was : (seen c).marker ≡ m.marker
+    marker_was = ap marker_in before.1
+
+    marker_now : (shown script c new o x).marker ≡ n.marker
+    marker_now = ap marker_in did.1
+
+    work_now : (shown script c new o x).work ≡ record { scanned = n.last.scanned; empty = n.last.empty }
+    work_now = ap work_in did.1
+
+    same_sweeper : sweeper_in new.progress ≡ sweeper_in c.progress
+    same_sweeper = ap sweeper_in did.1 ∙ ap (λ (y : held_marking.Marking). y.sweeper) did.2.rest ∙ sym (ap sweeper_in before.1)
+
+    same_cycle : (shown script c new o x).cycle ≡ (seen c).cycle
+    same_cycle =
+        let dead : List Name = died c.weaks.deaths in
+        ap (λ (q : held.Progress). cycle_in q dead) did.1 ∙ ap (λ (y : held_marking.Marking). cycle_in (doing.Marking y) dead) did.2.rest ∙
+        sym (ap (λ (q : held.Progress). cycle_in q dead) before.1)
+
+    marked : HasMarked c.segments new.segments (seen c).marker (shown script c new o x).marker n.last.scanned
+    marked =
+        subst (λ (y : MarkerSeen). HasMarked c.segments new.segments y (shown script c new o x).marker n.last.scanned) (sym marker_was)
+        (subst (λ (y : MarkerSeen). HasMarked c.segments new.segments m.marker y n.last.scanned) (sym marker_now) did.2.worked.marked)
+
+    tied : IsTiedByPlaces o (marks_after o x.did.scans) new.segments (shown script c new o x).marker
+    tied =
+        subst (λ (y : MarkerSeen). IsTiedByPlaces o (marks_after o x.did.scans) new.segments y) (sym marker_now)
+        (subst (λ (v : View). IsTiedByPlaces v.opening (marks_seen v) new.segments n.marker) x.did.helped.knows did.2.worked.tied)
+
+    -- segments and words stand for what they stood for
+    same_layout : new.segments.layout ≡ layout script c new o x
+    same_layout = marked.layout ∙ x.still.kept.layout
+
+    stands_still : StandsFor new.segments (seen c).words (s script c new o x).allocation
+    stands_still = marked.stands (seen c).words (s script c new o x).allocation x.still.at_stop.heap.holds.stands
+
+    -- the opening has the machine of the cycle
+    opens : OpensIn (marking k) (s script c new o x) c x.still.at_stop.heap.places o
+    opens = subst (λ (p : Progress). OpensIn p (s script c new o x) c x.still.at_stop.heap.places o) e x.opens
+
+    abbrev was_marking : IsMarking k (s script c new o x) (seen c) x.still.at_stop.heap.places
+    was_marking = opens.0
+
+    same_core : o.core ≡ opens.0.core
+    same_core = ap (λ (y : Opening). y.core) opens.1
+
+    at_rest : IsMachineAtRest k o.core.world o.core
+    at_rest =
+        subst (λ (core : Core). IsMachineAtRest k core.world core) (sym same_core)
+        (subst (λ (world : World).
+        IsMachineAtRest k world opens.0.core) (sym opens.0.machine.world_is) (rests_beside laws.opens script c x.run x.limits x.still k e opens.0).machine)
+
+    goes_on : (core : Core) × GoesOn k o x.did.words (view script c new o x) x.did.leaves.0 new.mutators.items core
+    goes_on = laws.goes_on k o x.before x.did.words (view script c new o x) new.mutators.items x.did.done (ap (λ (y : Opening).
+        y.marking) opens.1) (can script c new o x) at_rest x.did.leaves.0 (worked script c new o x) x.did.owed
+
+    snapshot : o.core.snapshot ≡ k.snapshot
+    snapshot = ap (λ (core : Core). core.snapshot) same_core ∙
+        laws.opens.snapshot k (s script c new o x).world opens.0.core (in_cycle laws.opens script c x.run x.limits x.still (marking k) e).0 opens.0.machine
+
+    swept_none : SweepsBeside script.config.quota (s script c new o x).progress (s script c new o x).allocation (s script c new o x).allocation
+    swept_none = subst (λ (p : Progress). SweepsBeside script.config.quota p (s script c new o x).allocation (s script c new o x).allocation) (sym e) refl
+
+    sound : IsSound (interval_of (with_rows k (rows script c new o x)))
+    sound =
+        let h = rounds_are_sound (plan script c new o x) (s script c new o x) (t script c new o x (s script c new o x).allocation)
+        (told script c new o x) (rows script c new o x) (sound_state script c x.run x.limits x.still)
+        (is_round script c new o x laws.history (s script c new o x).allocation swept_none) in
+        (subst (λ (p : Progress). IsInCycle (noted p (rows script c new o x)) (w script c new o x) (s script c new o x).allocation) e h.cycle).0
+
+    left_as : HasLeft k (seen c) (shown script c new o x)
+    left_as = record {
+      cycle = same_cycle;
+      sweeper = ap (λ (y : Sweeper). y.seen) same_sweeper;
+      queue_room = λ i mutator is.
+          let h = queue_kept script c new o x i mutator is in
+          let before = was_marking.queue_room i (seen_mutator h.0) h.1 in
+          let kept = h.2 in
+          omega (arith, before, kept);
+    }
+
+    entries : ShowEntries (shown script c new o x) new.mutators.items
+    entries i mutator is = let h = map_item seen_mutator new.mutators.items i mutator is in (h.0, h.1, ap (λ (y : MutatorSeen). y.entries) h.2)
+
+    marks_on : IsMarking (with_rows k (rows script c new o x)) (t script c new o x (s script c new o x).allocation) (shown script c new o x)
+        (places script c new o x)
+    marks_on = laws.is_marking (layout script c new o x) k (s script c new o x) (t script c new o x (s script c new o x).allocation) (seen c)
+        (shown script c new o x) (seen c).words x.did.words (ends_of (seen c)) (seen c).weaks o x.did.scans x.did.seats new.mutators.items
+        x.did.done goes_on.0 n.last.scanned x.still.at_stop.heap x.did.leaves.0 x.did.sound sound opens.0 (opening_layout script c new o x)
+        x.op.places_are snapshot refl refl x.did.gathers goes_on.1 marked tied left_as entries
+
+    -- the pace
+    paced_before : IsPacedAtStop script.config.quota k (s script c new o x) (seen c)
+    paced_before = (subst (λ (p : Progress). HoldsInCycle (λ (j : Cycle).
+        IsPacedAtStop script.config.quota j (s script c new o x) (seen c)) p (s script c new o x) (seen c) x.still.at_stop.heap.places) e
+        x.still.at_stop.cycle).1
+
+    course : IsLastBegun k (s script c new o x).number (s script c new o x).begun
+    course = (subst (λ (p : Progress).
+        IsInCourse p (s script c new o x).number (s script c new o x).begun (s script c new o x).allocation) e
+        (runs_are (plan script c new o x) x.run x.still.at_stop.is_run)).0
+
+    scanned_is : (shown script c new o x).work.scanned ≡ n.last.scanned
+    scanned_is = ap (λ (y : WorkSeen). y.scanned) work_now
+
+    empty_is : (shown script c new o x).work.empty ≡ n.last.empty
+    empty_is = ap (λ (y : WorkSeen). y.empty) work_now
+
+    queue_is : (shown script c new o x).marker.queue ≡ n.marker.queue
+    queue_is = ap (λ (y : MarkerSeen). y.queue) marker_now
+
+    all_or_none : ((shown script c new o x).work.scanned ≡ script.config.quota) ⊎ ((shown script c new o x).work.empty ≡ true)
+    all_or_none = elim (cases_lt n.last.scanned script.config.quota) [
+      | inl less ↦ inr (empty_is ∙ did.2.empty.1 (did.2.least less))
+      | inr more ↦ inl (let most = did.2.most in omega (arith, scanned_is, more, most))
+    ]
+
+    empty_where : ((shown script c new o x).work.empty ≡ true) ↔ ((shown script c new o x).marker.queue ≡ [])
+    empty_where = (λ y. queue_is ∙ did.2.empty.0 (sym empty_is ∙ y), λ y. empty_is ∙ did.2.empty.1 (sym queue_is ∙ y))
+
+    paced : IsPacedAfterRound script.config.quota k (t script c new o x (s script c new o x).allocation) (shown script c new o x)
+    paced =
+        let some = x.limits.fits.config.some_quota in
+        let most = did.2.most in
+        let pace = marked.scanned.pace in
+        laws.pace script.config.quota k (s script c new o x) (t script c new o x (s script c new o x).allocation) (seen c) (shown script c new o x)
+        some paced_before course.from_before refl (omega (arith, pace, scanned_is)) marked.scanned.grows (omega (
+          arith,
+          scanned_is,
+          most,
+        )) all_or_none empty_where
+
+    paced_on : IsPacedAfterRound script.config.quota (with_rows k (rows script c new o x)) (t script c new o x (s script c new o x).allocation)
+        (shown script c new o x)
+    paced_on = record { scanned = paced.scanned; most = paced.most; some = paced.some; quota_or_done = paced.quota_or_done; empty = paced.empty }
+
+    -- the sweeper is as it was, and the same segments wait
+    sweeps_before : Sweeps (marking k) (s script c new o x) c
+    sweeps_before = subst (λ (p : Progress). Sweeps p (s script c new o x) c) e x.still.sweeper
+
+    notes_on : HasNotes (with_rows k (rows script c new o x)) (sweeper_in c.progress)
+    notes_on =
+        let h = sweeps_before.0.notes in
+        record {
+          noted = record { epoch = h.noted.epoch; swept = h.noted.swept };
+          once = h.once;
+        }
+
+    left_on : AreLeft new.segments (sweeper_in c.progress)
+    left_on = laws.left c.segments new.segments (sweeper_in c.progress)
+        (laws.waits c.segments new.segments (seen c).words (seen c).words (s script c new o x).allocation x.still.at_stop.heap.holds.stands
+        stands_still) marked.layout sweeps_before.0.left
+
+    sweeps_on : Sweeps (marking (with_rows k (rows script c new o x))) (t script c new o x (s script c new o x).allocation) (last script c new o x)
+    sweeps_on = (
+      record {
+        notes = subst (HasNotes (with_rows k (rows script c new o x))) (sym same_sweeper) notes_on;
+        left = subst (λ (y : Sweeper). AreLeft new.segments y) (sym same_sweeper) left_on;
+      },
+      subst (λ (y : Sweeper). y.seen.swept ≡ y.left) (sym same_sweeper) sweeps_before.1,
+      subst (λ (y : Sweeper). y.seen.had ≡ []) (sym same_sweeper) sweeps_before.2,
+      subst (λ (y : Sweeper). y.seen.freed ≡ []) (sym same_sweeper) sweeps_before.3,
+    )
+
+    pub marked_on : HasGoneOn script c new o x
+    marked_on = record {
+      blocks = (s script c new o x).allocation;
+      swept = swept_none;
+      phase = ap phase_in did.1 ∙ sym (ap phase_in before.1);
+      at = places script c new o x;
+      heap = laws.holds (layout script c new o x) (s script c new o x) (t script c new o x (s script c new o x).allocation) o (seen c).words
+          x.did.words (view script c new o x) c.segments new.segments (ends_of (seen c)) (ends_of (shown script c new o x)) (seen c).weaks
+          (round_from script c new o x laws.stopped new.segments same_layout stands_still);
+      nurseries = nurseries_left script c new o x laws.stopped;
+      ordered = in_order script c new o x laws.stopped;
+      remembers = remembered script c new o x laws.stopped;
+      free = same_free stands_still;
+      cycle = subst (λ (p : Progress). HoldsInCycle (λ (j : Cycle).
+          IsPacedAfterRound script.config.quota j (t script c new o x (s script c new o x).allocation) (shown script c new o x))
+          (noted p (rows script c new o x)) (t script c new o x (s script c new o x).allocation) (shown script c new o x) (places script c new o x))
+          (sym e) (marks_on, paced_on);
+      sweeper = subst (λ (p : Progress).
+          Sweeps (noted p (rows script c new o x)) (t script c new o x (s script c new o x).allocation) (last script c new o x)) (sym e) sweeps_on;
+      named = x.still.named;
+    }

@@ -1,0 +1,151 @@
+-- A round that is over: what it began with, what it did, and the state of the run after it.
+use Rattle.std.proofs.Common.{ℕ, ◌≡◌, ◌+◌, ◌≤◌, List, [], ◌∷◌, ◌++◌, length, map, sym, ap, ◌∙◌, arith, Some, None}
+use Rattle.std.specs.Prelude.{slice_get, ◌||◌}
+use Rattle.std.proofs.lemmas.Option.{slice_get_within}
+use Rattle.nmgc_heap_spec.specs.laws.Kinds.{map_item}
+use Rattle.nmgc_world_spec.specs.World.{World}
+use Rattle.nmgc_world_spec.specs.History.{Row}
+use Rattle.nmgc_world_spec.specs.declared.command.Reply.{Reply}
+use Rattle.nmgc_object.specs.declared.layout.Layout.{Layout}
+use Rattle.nmgc_alloc.specs.AllocState.{AllocState}
+use Rattle.nmgc_heap_spec.specs.Places.{Place}
+use Rattle.nmgc_round.specs.Events.{rows_in}
+use Rattle.nmgc_round.specs.Finishing.{IsFinished, places_then}
+use Rattle.nmgc_round.specs.Rule.{now}
+use Rattle.nmgc_round.specs.Starting.{CanOpen}
+use Rattle.nmgc_round.specs.View.{Opening, Seen}
+use Rattle.nmgc_mutator.specs.declared.mutator.Mutator.{Mutator}
+use Rattle.nmgc_collector_laws.specs.Worked.{Done, HaveWorked}
+use Rattle.nmgc_script.specs.declared.script.Script.{Script}
+use Rattle.nmgc_collector_laws.specs.Owed.{gathered}
+use Rattle.nmgc_run_spec.specs.Round.{noted}
+use Rattle.nmgc_run_spec.specs.Run.{Run, last_state}
+use Rattle.nmgc_collector_laws.specs.Seen as run
+use Rattle.nmgc_run_spec.specs.Slice.{slices, rest_of, some_asks, is_collect, is_full}
+use Rattle.nmgc_run_spec.specs.State.{State, Plan, plan_of}
+use Rattle.nmgc_cycle.specs.declared.collector.Collector.{Collector}
+use Rattle.nmgc_cycle.specs.Keeps.{IsAfterStop}
+use Rattle.nmgc_cycle.specs.Shown.{seen, seen_mutator}
+use Rattle.nmgc_script.specs.Limits.{IsInLimits}
+use Rattle.nmgc_cycle.specs.Working.{OpensIn, DidSlice, DidSlices, replies_of}
+use Rattle.nmgc_lists.specs.laws.Items.{item}
+use Rattle.nmgc_cycle.proofs.rounds.Opened.{IsOpened}
+use Rattle.nmgc_cycle.proofs.lists.RootLists.{seen_at}
+
+-- a round after this stop is over, and may be followed by a stop
+pub record IsOver (script : Script) (c new : Collector) (o : Opening) : Type 0 where
+  pub limits : IsInLimits script
+  pub run : Run
+  pub still : IsAfterStop script c run
+  pub goes_on : c.answered ≡ None
+  pub opens : OpensIn (last_state run).progress (last_state run) c still.at_stop.heap.places o
+  pub op : IsOpened script c run still o
+  pub before : List ℕ
+  pub before_are : c.words ≡ Some before
+  pub did : DidSlices script o c new
+
+module _ (script : Script) (c new : Collector) (o : Opening) (x : IsOver script c new o) where
+  abbrev pub plan : Plan
+  plan = plan_of script
+
+  -- the state of the stop before
+  abbrev pub s : State
+  s = last_state x.run
+
+  -- what all seats know
+  abbrev pub view : Seen
+  view = gathered o x.did.scans x.did.seats
+
+  abbrev pub finished : IsFinished o x.did.words (gathered o x.did.scans x.did.seats)
+  finished = x.did.leaves.0
+
+  pub can : CanOpen o x.before
+  can = x.op.can x.before x.before_are
+
+  -- the order of all commands, the world after them, and where its objects lie
+  abbrev pub rows : List Row
+  rows = rows_in x.did.leaves.0.events
+
+  abbrev pub w : World
+  w = (now o x.did.leaves.0.events).world
+
+  abbrev pub places : List Place
+  places = places_then o x.did.leaves.0.born
+
+  -- the state after the round, whose world is this one, with these blocks
+  abbrev pub with_world : World → AllocState → State
+  with_world world allocation = record s {
+    number = s.number + 1;
+    world = world;
+    allocation = allocation;
+    progress = noted s.progress rows;
+    collect = s.collect || some_asks is_collect (slices script.config s.left);
+    full = s.full || some_asks is_full (slices script.config s.left);
+    left = map (rest_of script.config) s.left;
+  }
+
+  abbrev pub t : AllocState → State
+  t allocation = with_world w allocation
+
+  -- the collector once the replies are told, and what contracts see of it
+  abbrev pub told : List (List Reply)
+  told = replies_of new.mutators.items
+
+  abbrev pub last : Collector
+  last = record c {
+    words = Some x.did.words;
+    segments = new.segments;
+    progress = new.progress;
+    collect = new.collect;
+    full = new.full;
+    inbox = new.inbox;
+    mutators = new.mutators;
+    positions = new.positions;
+    rounds = c.rounds ++ record { replies = told } ∷ [];
+  }
+
+  abbrev pub shown : run.Seen
+  shown = seen last
+
+  pub worked : HaveWorked o (gathered o x.did.scans x.did.seats).parts new.mutators.items x.did.done
+  worked = x.did.gathers.worked
+
+  -- there is a mutator and a list of what it did for each program
+  pub done_count : length x.did.done ≡ length script.threads
+  done_count = worked.done_are ∙ ap (λ (l : Layout). l.mutators) (x.op.layout_is ∙ x.still.kept.layout)
+
+  pub mutators_count : length new.mutators.items ≡ length script.threads
+  mutators_count = worked.mutators_are ∙ ap (λ (l : Layout). l.mutators) (x.op.layout_is ∙ x.still.kept.layout)
+
+  -- what one mutator did
+  pub one : (k : ℕ) (d : List Done) → slice_get x.did.done k ≡ Some d → (m : Mutator) × (n : Mutator) × (slice_get c.mutators.items k ≡ Some m) ×
+      (slice_get new.mutators.items k ≡ Some n) × DidSlice script c new k m n d
+  one k d e =
+      let within = slice_get_within x.did.done k d e in
+      let m = item c.mutators.items k (let count = x.still.kept.count in omega (arith, within, done_count, count)) in
+      let n = item new.mutators.items k (omega (arith, within, done_count, mutators_count)) in
+      (m.0, n.0, m.1, n.1, x.did.each k m.0 n.0 d m.1 n.1 e)
+
+  -- no finaliser queue has less room than at the stop
+  pub queue_kept : (k : ℕ) (mutator : run.MutatorSeen) → slice_get shown.mutators k ≡ Some mutator → (m : Mutator) ×
+      (slice_get (seen c).mutators k ≡ Some (seen_mutator m)) × (m.queue.spare ≤ mutator.queue.spare)
+  queue_kept k mutator e =
+      let n = map_item seen_mutator new.mutators.items k mutator e in
+      let d = item x.did.done k (let within = slice_get_within new.mutators.items k n.0 n.1 in omega (arith, within, done_count, mutators_count)) in
+      let h = one k d.0 d.1 in
+      let there = h.3 in
+      let here = n.1 in
+      let same : n.0 ≡ h.1 = cc (there, here) in
+      let now : mutator.queue.spare ≡ h.1.queue.spare = ap (λ (y : run.MutatorSeen). y.queue.spare) n.2 ∙ ap (λ (own : Mutator). own.queue.spare) same in
+      let room = h.4.queue_room in
+      (h.0, seen_at c.mutators.items k h.0 h.2, omega (arith, now, room))
+
+  -- all its replies are of this round
+  pub replied : (k : ℕ) (n : Mutator) (d : List Done) → slice_get new.mutators.items k ≡ Some n → slice_get x.did.done k ≡ Some d →
+      n.replies.items ≡ map (λ (y : Done). y.1) d
+  replied k n d e f =
+      let h = one k d f in
+      let there = h.3 in
+      let same : h.1 ≡ n = cc (there, e) in
+      ap (λ (m : Mutator). m.replies.items) (sym same) ∙ h.4.replies ∙
+      ap (λ (l : List Reply). l ++ map (λ (y : Done). y.1) d) (x.still.kept.own k h.0 h.2).no_replies

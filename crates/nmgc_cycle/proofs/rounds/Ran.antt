@@ -1,0 +1,82 @@
+-- A round, from its beginning to the end of its slices.
+use Rattle.std.proofs.Common.{ℕ, ◌≡◌, List, length, map, ◌∙◌, Some}
+use Rattle.std.specs.Prelude.{All}
+use Rattle.nmgc_round.specs.declared.table.Round.{Round}
+use Rattle.nmgc_round.specs.View.{Opening}
+use Rattle.nmgc_round.specs.Seat.{RoundSeat, IsAt}
+use Rattle.nmgc_round.specs.Starting.{CanOpen}
+use Rattle.nmgc_collector_laws.specs.Turn.{SlicesAreDone, SlicesAreGathered}
+use Rattle.nmgc_script.specs.declared.script.Script.{Script}
+use Rattle.nmgc_run_spec.specs.Run.{Run, last_state}
+use Rattle.nmgc_cycle.specs.declared.collector.Collector.{Collector}
+use Rattle.nmgc_cycle.specs.declared.worker.Worker.{Worker}
+use Rattle.nmgc_cycle.specs.Keeps.{IsAfterStop}
+use Rattle.nmgc_script.specs.Limits.{IsInLimits}
+use Rattle.nmgc_cycle.specs.Working.{OpensAt, OpensIn, HaveSliceRoom, CanAllWork, HaveAllWorked, workers_of, mutator_of, seat_of}
+use Rattle.nmgc_cycle.proofs.rounds.Gathering.{AllDid, all_did, slices_done}
+use Rattle.nmgc_cycle.proofs.rounds.Opened.{CanOpenRounds, IsOpened, opened}
+use Rattle.nmgc_cycle.proofs.rounds.Readiness.{BeginReady, HasSeats, can_all_work, seats_counted, workers_count}
+
+-- the round after a stop may begin
+pub record MayBegin (script : Script) (c : Collector) (o : Opening) : Type 0 where
+  pub limits : IsInLimits script
+  pub run : Run
+  pub still : IsAfterStop script c run
+  pub opens : OpensIn (last_state run).progress (last_state run) c still.at_stop.heap.places o
+  pub op : IsOpened script c run still o
+  pub words : List ℕ
+  pub words_are : c.words ≡ Some words
+
+abbrev pub may_begin : CanOpenRounds → (script : Script) (c : Collector) (o : Opening) (words : List ℕ) → IsInLimits script → OpensAt script c o →
+    c.words ≡ Some words → MayBegin script c o
+may_begin laws script c o words limits h is = record {
+  limits = limits;
+  run = h.0;
+  still = h.1;
+  opens = h.2;
+  op = opened laws script c o limits h;
+  words = words;
+  words_are = is;
+}
+
+pub can_open : (script : Script) (c : Collector) (o : Opening) (m : MayBegin script c o) → CanOpen o m.words
+can_open script c o m = m.op.can m.words m.words_are
+
+-- a round of the collector that has begun: the seats are those of its opening
+pub record HasBegun (script : Script) (c : Collector) (o : Opening) (round : Round) (seats : List RoundSeat) : Type 0 where
+  pub may : MayBegin script c o
+  pub has : HasSeats o round seats
+
+pub seats_are : (script : Script) (c : Collector) (o : Opening) (round : Round) (seats : List RoundSeat) → HasBegun script c o round seats →
+    length seats ≡ length c.mutators.items
+seats_are script c o round seats b = seats_counted c.mutators.items o b.may.op.hands_are round seats b.has
+
+-- the workers may do their slices
+pub may_work : (begin : BeginReady) (script : Script) (c : Collector) (o : Opening) (round : Round) (seats : List RoundSeat) →
+    HasBegun script c o round seats → HaveSliceRoom script c → CanAllWork round script c.positions.items (workers_of c.mutators.items seats)
+may_work begin script c o round seats b room =
+    can_all_work begin script c b.may.run b.may.limits b.may.still o b.may.op b.may.words (can_open script c o b.may) round seats b.has room
+
+pub workers_are : (script : Script) (c : Collector) (o : Opening) (round : Round) (seats : List RoundSeat) → HasBegun script c o round seats →
+    length (workers_of c.mutators.items seats) ≡ length c.mutators.items
+workers_are script c o round seats b = workers_count c.mutators.items seats (seats_are script c o round seats b)
+
+-- once all did their slices
+pub record HasRun (script : Script) (c : Collector) (o : Opening) (round : Round) (new : List Worker) : Type 0 where
+  pub count : length new ≡ length c.mutators.items
+  pub did : AllDid script c round o new
+  pub slices : SlicesAreDone o round c.mutators.items (map mutator_of new) (map seat_of new) did.done
+  pub at : All (IsAt round) (map seat_of new)
+
+pub has_run : (gather : SlicesAreGathered) (script : Script) (c : Collector) (o : Opening) (round : Round) (seats : List RoundSeat)
+    (new : List Worker) → HasBegun script c o round seats → HaveAllWorked round script c.positions.items (workers_of c.mutators.items seats) new →
+    HasRun script c o round new
+has_run gather script c o round seats new b worked =
+    let did : AllDid script c round o new = all_did script c b.may.run b.may.limits b.may.still o b.may.op round seats b.has new worked in
+    let slices = slices_done script c b.may.run b.may.limits b.may.still o b.may.op round seats b.has new worked did in
+    record {
+      count = worked.count ∙ workers_are script c o round seats b;
+      did = did;
+      slices = slices;
+      at = (gather o b.may.words round c.mutators.items (map mutator_of new) (map seat_of new) did.done (can_open script c o b.may) slices).1;
+    }

@@ -1,0 +1,136 @@
+-- As a round begins, each mutator with its seat may do its slice.
+use Rattle.std.proofs.Common.{ℕ, zero, suc, ◌≡◌, ◌+◌, ◌<◌, List, [], ◌∷◌, length, map, slice_index, slice_index_or, refl, sym, ap, subst, ◌∙◌, arith, Some}
+use Rattle.std.specs.Prelude.{All, slice_get, option_map}
+use Rattle.std.proofs.lemmas.List.{length-map}
+use Rattle.std.proofs.lemmas.List.Elements.{All-drop}
+use Rattle.std.proofs.lemmas.Option.{slice_get-map, slice_get_within, get_or_from_slice_get}
+use Rattle.nmgc_world_spec.specs.Command.{Fits}
+use Rattle.nmgc_object.specs.declared.layout.Layout.{Layout}
+use Rattle.nmgc_round.specs.declared.table.Round.{Round}
+use Rattle.nmgc_round.specs.View.{Hand, Opening, Seen, no_hand, hand_of}
+use Rattle.nmgc_round.specs.Seat.{RoundSeat, IsAt, seen, opening_of}
+use Rattle.nmgc_round.specs.Seating.{alone, alones}
+use Rattle.nmgc_round.specs.Starting.{CanOpen}
+use Rattle.nmgc_mutator.specs.declared.mutator.Mutator.{Mutator}
+use Rattle.nmgc_mutator.specs.Ready.{IsReady, IsWhole, IsUnused, HasHand}
+use Rattle.nmgc_collector_laws.specs.Rest as rest
+use Rattle.nmgc_script.specs.declared.script.Script.{Script}
+use Rattle.nmgc_run_spec.specs.Run.{Run}
+use Rattle.nmgc_run_spec.specs.Slice.{program_of}
+use Rattle.nmgc_cycle.specs.declared.collector.Collector.{Collector}
+use Rattle.nmgc_cycle.specs.declared.worker.Worker.{Worker}
+use Rattle.nmgc_cycle.specs.Keeps.{IsAfterStop}
+use Rattle.nmgc_script.specs.Limits.{IsInLimits}
+use Rattle.nmgc_cycle.specs.Working.{left_at, CanWork, CanAllWork, worker_of, workers_of, HaveSliceRoom}
+use Rattle.nmgc_lists.specs.laws.Items.{item, of_item}
+use Rattle.nmgc_cycle.proofs.rounds.Opened.{IsOpened}
+use Rattle.nmgc_cycle.proofs.lists.Plans.{good_plan}
+use Rattle.nmgc_cycle.proofs.rounds.Positions.{position_within}
+use Rattle.nmgc_cycle.proofs.rounds.Resting.{resting}
+use Rattle.nmgc_round.specs.laws.Common.{alones_count}
+
+-- the law of mutators that this rests on
+abbrev pub BeginReady : Type 0
+BeginReady = (o : Opening) (words : List ℕ) (round : Round) (seat : RoundSeat) (m : Mutator) → CanOpen o words → opening_of round ≡ o →
+    IsAt round seat → seen seat ≡ alone o m.number → o.layout ≡ m.layout → IsWhole m → IsUnused m → HasHand (hand_of o.hands m.number) m → IsReady round seat m
+
+-- the seats that a round begins with, by their numbers
+alones_at : (o : Opening) (m : ℕ) (hands : List Hand) (k : ℕ) → k < length hands → slice_get (alones o m hands) k ≡ Some (alone o (m + k))
+alones_at o m [] k lt = absurd (omega arith)
+alones_at o m (h ∷ hands) zero lt = ap (λ (n : ℕ). Some (alone o n)) (omega arith)
+alones_at o m (h ∷ hands) (suc k) lt = alones_at o (suc m) hands k (omega arith) ∙ ap (λ (n : ℕ). Some (alone o n)) (omega arith)
+
+-- the worker of a number
+pub workers_at : (ms : List Mutator) (seats : List RoundSeat) (k : ℕ) (m : Mutator) (seat : RoundSeat) → slice_get ms k ≡ Some m →
+    slice_get seats k ≡ Some seat → slice_get (workers_of ms seats) k ≡ Some (worker_of (m, seat))
+workers_at [] seats k m seat e f = absurd cc
+workers_at (n ∷ ms) [] k m seat e f = absurd cc
+workers_at (n ∷ ms) (s ∷ seats) zero m seat e f = let same : n ≡ m = cc in let also : s ≡ seat = cc in
+    ap (λ (x : Mutator). Some (worker_of (x, s))) same ∙ ap (λ (x : RoundSeat). Some (worker_of (m, x))) also
+workers_at (n ∷ ms) (s ∷ seats) (suc k) m seat e f = workers_at ms seats k m seat e f
+
+pub workers_count : (ms : List Mutator) (seats : List RoundSeat) → length seats ≡ length ms → length (workers_of ms seats) ≡ length ms
+workers_count [] seats e = refl
+workers_count (m ∷ ms) [] e = absurd (omega arith)
+workers_count (m ∷ ms) (s ∷ seats) e = let rest = workers_count ms seats (omega arith) in omega (arith, rest)
+
+-- the commands that are left fit a segment
+left_fits : (script : Script) (limits : IsInLimits script) (positions : List ℕ) (k : ℕ) → All (Fits script.config.words) (left_at script positions k)
+left_fits script limits positions k =
+    All-drop (Fits script.config.words) (slice_index positions k) (program_of script.threads k) ((good_plan script limits).fit k)
+
+pub record HasSeats (o : Opening) (round : Round) (seats : List RoundSeat) : Type 0 where
+  pub opened : opening_of round ≡ o
+  pub seen_are : map seen seats ≡ alones o 0 o.hands
+  pub at : All (IsAt round) seats
+
+module _ (ms : List Mutator) (o : Opening) (hands_are : o.hands ≡
+    map (rest.hand_of o.core.world o.places) ms) (round : Round) (seats : List RoundSeat) (has : HasSeats o round seats) where
+  hands_counted : length o.hands ≡ length ms
+  hands_counted = ap length hands_are ∙ length-map ms (rest.hand_of o.core.world o.places)
+
+  pub seats_counted : length seats ≡ length ms
+  seats_counted = sym (length-map seats seen) ∙ ap length has.seen_are ∙ alones_count o 0 o.hands ∙ hands_counted
+
+  pub seat_alone : (k : ℕ) (seat : RoundSeat) → slice_get seats k ≡ Some seat → seen seat ≡ alone o k
+  seat_alone k seat e =
+      let within = slice_get_within seats k seat e in
+      let here : slice_get (map seen seats) k ≡ Some (seen seat) = slice_get-map seen seats k ∙ ap (option_map seen) e in
+      let there : slice_get (map seen seats) k ≡ Some (alone o (0 + k)) = ap (λ (l : List Seen). slice_get l k) has.seen_are ∙
+      alones_at o 0 o.hands k (omega (arith, within, hands_counted, seats_counted)) in
+      let zero_first : 0 + k ≡ k = omega arith in
+      let same : seen seat ≡ alone o (0 + k) = cc (here, there) in
+      same ∙ ap (alone o) zero_first
+
+module _ (begin : BeginReady) (script : Script) (c : Collector) (run : Run) (limits : IsInLimits script) (still : IsAfterStop script c run)
+    (o : Opening) (op : IsOpened script c run still o) (words : List ℕ) (can : CanOpen o words) (round : Round) (seats : List RoundSeat)
+    (has : HasSeats o round seats) where
+  -- what a mutator has as the round begins
+  abbrev own_hand : Mutator → Hand
+  own_hand = rest.hand_of o.core.world o.places
+
+  hands : o.hands ≡ map own_hand c.mutators.items
+  hands = op.hands_are
+
+  count_is : length seats ≡ length c.mutators.items
+  count_is = seats_counted c.mutators.items o hands round seats has
+
+  pub is_ready : (k : ℕ) (m : Mutator) (seat : RoundSeat) → slice_get c.mutators.items k ≡ Some m → slice_get seats k ≡ Some seat → IsReady round seat m
+  is_ready k m seat e f =
+      let r = resting script c run limits still k m e in
+      let hand : hand_of o.hands m.number ≡ own_hand m = ap (λ (hs : List Hand). hand_of hs m.number) hands ∙
+      ap (hand_of (map own_hand c.mutators.items)) r.number_is ∙
+      get_or_from_slice_get (map own_hand c.mutators.items) k (own_hand m) no_hand (slice_get-map own_hand c.mutators.items k ∙
+      ap (option_map own_hand) e) in
+      let place : IsAt round seat = of_item (IsAt round) seats k seat has.at f in
+      begin o words round seat m can has.opened place (seat_alone c.mutators.items o hands round seats has k seat f ∙
+      ap (alone o) (sym r.number_is)) (op.layout_is ∙ sym r.layout_is) r.whole r.unused (subst (λ (h : Hand).
+      HasHand h m) (sym hand) (record { registers = refl; queue = refl; serial = refl }))
+
+  pub can_all_work : HaveSliceRoom script c → CanAllWork round script c.positions.items (workers_of c.mutators.items seats)
+  can_all_work room = record {
+    threads_are = sym (count ∙ still.kept.count);
+    positions_are = still.kept.positions_are ∙ sym (count ∙ still.kept.count);
+    within = λ k lt. position_within script c run still k (omega (arith, lt, count, still.kept.count));
+    each = λ k d lt. each k d (omega (arith, lt, count));
+  }
+    where
+      count : length (workers_of c.mutators.items seats) ≡ length c.mutators.items
+      count = workers_count c.mutators.items seats count_is
+
+      each : (k : ℕ) (d : Worker) → k < length c.mutators.items →
+          CanWork round script.config.slice (left_at script c.positions.items k) (slice_index_or (workers_of c.mutators.items seats) k d)
+      each k d lt =
+          let m = item c.mutators.items k lt in
+          let seat = item seats k (omega (arith, lt, count_is)) in
+          let r = resting script c run limits still k m.0 m.1 in
+          let words_are : m.0.layout.words ≡ script.config.words = ap (λ (l : Layout). l.words) (r.layout_is ∙ still.kept.layout) in
+          subst (CanWork round script.config.slice (left_at script c.positions.items k))
+          (sym (get_or_from_slice_get (workers_of c.mutators.items seats) k (worker_of (
+            m.0,
+            seat.0,
+          )) d (workers_at c.mutators.items seats k m.0 seat.0 m.1 seat.1))) (record {
+            ready = is_ready k m.0 seat.0 m.1 seat.1;
+            program_is = subst (λ (n : ℕ). All (Fits n) (left_at script c.positions.items k)) (sym words_are) (left_fits script limits c.positions.items k);
+            room = room k m.0 m.1;
+          })

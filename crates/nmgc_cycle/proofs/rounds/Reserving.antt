@@ -1,0 +1,53 @@
+-- A step of the loop that makes room in the lists of the mutators.
+use Rattle.std.proofs.Common.{ℕ, ◌≡◌, ◌+◌, ◌-◌, ◌<◌, ◌≤◌, List, [], length, min, get_or, slice_index, slice_index_or, inl, inr, sym, ap, subst, ◌∙◌, arith}
+use Rattle.std.specs.Prelude.{slice_set}
+use Rattle.std.proofs.lemmas.Bool.{cases_lt}
+use Rattle.std.proofs.lemmas.List.{length-drop, get_or_default, get_or-set_same, get_or-set_other}
+use Rattle.nmgc_world_spec.specs.declared.command.Command.{Command}
+use Rattle.nmgc_mutator.specs.declared.mutator.Mutator.{Mutator}
+use Rattle.nmgc_mutator.specs.Ready.{Reserves}
+use Rattle.nmgc_script.specs.declared.script.Script.{Script}
+use Rattle.nmgc_run_spec.specs.Slice.{program_of}
+use Rattle.nmgc_cycle.specs.Working.{left_at, HasLists}
+
+-- what holds of the new item and of those before it holds of all up to it
+pub up_to : {A : Type 0} (P : ℕ → A → Type 0) (xs : List A) (n : ℕ) (x d : A) → n < length xs → (k : ℕ) → k < n + 1 →
+    (k < n → P k (slice_index_or xs k d)) → P n x → P k (slice_index_or (slice_set xs n x) k d)
+up_to P xs n x d lt k le before own = elim (cases_lt k n) [
+  | inl less ↦ subst (P k) (sym (get_or-set_other xs n k x d (λ (e : k ≡ n). omega (arith, e, less)))) (before less)
+  | inr more ↦
+      let here : k ≡ n = omega (arith, le, more) in
+      subst (λ (i : ℕ). P i (slice_index_or (slice_set xs n x) i d)) (sym here) (subst (P n) (sym (get_or-set_same xs n x d lt)) own)
+]
+
+-- so many commands the next slice may have
+pub slice_left : (script : Script) (positions : List ℕ) (n size : ℕ) (program : List Command) → n < length script.threads →
+    program ≡ get_or script.threads n program → size ≡ min (length program - slice_index positions n) script.config.slice →
+    size ≡ min script.config.slice (length (left_at script positions n))
+slice_left script positions n size program lt is e =
+    let own : program ≡ program_of script.threads n = is ∙ get_or_default script.threads n program [] lt in
+    let left : length (left_at script positions n) ≡ length program - slice_index positions n =
+    length-drop (slice_index positions n) (program_of script.threads n) ∙ sym (ap (λ (l : List Command). length l - slice_index positions n) own) in
+    omega (arith, e, left)
+
+module _ (was now : List Mutator) (n : ℕ) (m next : Mutator) (lt : n < length was) (count : length now ≡ length was) where
+  pub kept_more : ((k : ℕ) (d : Mutator) → k < n → k < length was → Reserves (slice_index_or was k d) (slice_index_or now k d)) →
+      ((k : ℕ) (d : Mutator) → n ≤ k → slice_index_or now k d ≡ slice_index_or was k d) → Reserves (get_or now n m) next → (k : ℕ) (d : Mutator) →
+      k < n + 1 → k < length was → Reserves (slice_index_or was k d) (slice_index_or (slice_set now n next) k d)
+  kept_more before after own k d le here =
+      let there : n < length now = omega (arith, lt, count) in
+      let old : get_or now n m ≡ slice_index_or was n d = get_or_default now n m d there ∙ after n d (omega arith) in
+      up_to (λ (i : ℕ) (x : Mutator). Reserves (slice_index_or was i d) x) now n next d there k le (λ less.
+      before k d less here) (subst (λ (x : Mutator). Reserves x next) old own)
+
+  pub room_more : (count_at : ℕ → ℕ) → ((k : ℕ) (d : Mutator) → k < n → k < length was → HasLists (count_at k) (slice_index_or now k d)) →
+      HasLists (count_at n) next → (k : ℕ) (d : Mutator) → k < n + 1 → k < length was → HasLists (count_at k) (slice_index_or (slice_set now n next) k d)
+  room_more count_at before own k d le here = up_to (λ (i : ℕ) (x : Mutator). HasLists (count_at i) x) now n next d (omega (
+    arith,
+    lt,
+    count,
+  )) k le (λ less. before k d less here) own
+
+  pub after_more : ((k : ℕ) (d : Mutator) → n ≤ k → slice_index_or now k d ≡ slice_index_or was k d) → (k : ℕ) (d : Mutator) → n + 1 ≤ k →
+      slice_index_or (slice_set now n next) k d ≡ slice_index_or was k d
+  after_more after k d more = get_or-set_other now n k next d (λ (e : k ≡ n). omega (arith, e, more)) ∙ after k d (omega (arith, more))

@@ -1,0 +1,195 @@
+-- What a round leaves for the promotion of its stop, whatever the collector did beside it.
+use Rattle.std.proofs.Common.{ℕ, suc, ◌≡◌, ◌+◌, ◌<◌, ◌≤◌, ◌⊎◌, List, [], ◌∷◌, length, map, refl, sym, ap, subst, ◌∙◌, inl, inr, arith, Some}
+use Rattle.std.specs.Prelude.{All, slice_get, option_map}
+use Rattle.std.proofs.lemmas.Bool.{cases_lt}
+use Rattle.std.proofs.lemmas.List.{get_or_past, length-map}
+use Rattle.std.proofs.lemmas.List.Elements.{All-nil, All-cons}
+use Rattle.std.proofs.lemmas.Option.{slice_get-map, get_or_from_slice_get}
+use Rattle.nmgc_world_spec.specs.World.{World}
+use Rattle.nmgc_object.specs.Places.{nursery_place, reserve_count}
+use Rattle.nmgc_object.specs.declared.layout.Layout.{Layout}
+use Rattle.nmgc_object.specs.declared.layout.Nursery.{Nursery}
+use Rattle.nmgc_alloc.specs.Stands.{StandsFor}
+use Rattle.nmgc_alloc.specs.Reserve as reserve
+use Rattle.nmgc_alloc.specs.Numbered.{Segments}
+use Rattle.nmgc_heap_spec.specs.Places.{Place}
+use Rattle.nmgc_heap_spec.specs.Roots.{RepresentsRoots}
+use Rattle.nmgc_blocks_spec.specs.Nurseries.{AreUsed, AreEmpty, LieInOrder, nursery_at}
+use Rattle.nmgc_blocks_spec.specs.Occupied.{AreBlocks}
+use Rattle.nmgc_blocks_spec.specs.Remembers.{Remembers}
+use Rattle.nmgc_blocks_spec.specs.Stopped.{IsStopped, young_base}
+use Rattle.nmgc_mutator.specs.declared.mutator.Mutator.{Mutator}
+use Rattle.nmgc_mutator.specs.Ready.{words_by}
+use Rattle.nmgc_round.specs.Naming.{AllReply}
+use Rattle.nmgc_round.specs.Objects.{earlier}
+use Rattle.nmgc_round.specs.Starting.{CanOpen}
+use Rattle.nmgc_round.specs.View.{FixedWord, Opening, Row}
+use Rattle.nmgc_collector_laws.specs.Turn.{RoundIsStopped, stop_after}
+use Rattle.nmgc_collector_laws.specs.Worked as turn
+use Rattle.nmgc_collector_laws.specs.Worked.{Done}
+use Rattle.nmgc_script.specs.declared.script.Script.{Script}
+use Rattle.nmgc_collector_laws.specs.Heaps.{IsRoundFrom}
+use Rattle.nmgc_collector_laws.specs.Collector.{AreNurseries}
+use Rattle.nmgc_run_spec.specs.Heap.{HasAllRegisters, snapshots, registers_of, queues_of, serials_of}
+use Rattle.nmgc_collector_laws.specs.Seen.{end_of, ends_of, nurseries_of, recorded_in, young_weaks_in}
+use Rattle.nmgc_run_spec.specs.Slice.{slice_of, program_of}
+use Rattle.nmgc_run_spec.specs.State.{layout_of}
+use Rattle.nmgc_cycle.specs.declared.collector.Collector.{Collector}
+use Rattle.nmgc_cycle.specs.Roots.{HasRegisters}
+use Rattle.nmgc_cycle.specs.Shown.{seen, seen_mutator, words_in}
+use Rattle.nmgc_cycle.proofs.stops.EnoughFree.{reserve_free}
+use Rattle.nmgc_lists.specs.laws.Items.{item}
+use Rattle.nmgc_cycle.proofs.rounds.Over.{IsOver, plan, s, w, t, rows, places, shown, view, worked, can, mutators_count, one}
+use Rattle.nmgc_cycle.proofs.lists.Phases.{noted_snapshots}
+use Rattle.nmgc_cycle.proofs.lists.Plans.{sound_state}
+use Rattle.nmgc_cycle.proofs.rounds.Positions.{left_is}
+use Rattle.nmgc_cycle.proofs.rounds.Resting.{blocks_there}
+use Rattle.nmgc_cycle.proofs.lists.RootLists.{same_registers, same_queues, same_serials, same_nurseries, same_recorded, same_weaks}
+use Rattle.nmgc_cycle.proofs.rounds.Rounded.{one_did}
+use Rattle.nmgc_cycle.proofs.rounds.Slicing.{commands_of}
+
+-- each has all its registers
+pub all_registers : (ms : List Mutator) → ((k : ℕ) (m : Mutator) → slice_get ms k ≡ Some m → HasRegisters m) →
+    All HasAllRegisters (map end_of (map seen_mutator ms))
+all_registers [] h = All-nil HasAllRegisters
+all_registers (m ∷ ms) h =
+    All-cons HasAllRegisters (end_of (seen_mutator m)) (map end_of (map seen_mutator ms)) (h 0 m refl) (all_registers ms (λ k n e. h (suc k) n e))
+
+-- the roots, as a run reads them
+pub told_roots : (places : List Place) (w : World) (ms : List Mutator) →
+    RepresentsRoots places w (turn.registers_of ms) (turn.queues_of ms) (turn.serials_of ms) →
+    RepresentsRoots places w (registers_of (map end_of (map seen_mutator ms))) (queues_of (map end_of (map seen_mutator ms)))
+    (serials_of (map end_of (map seen_mutator ms)))
+told_roots places w ms r =
+    subst (λ (l : List ℕ).
+    RepresentsRoots places w l (queues_of (map end_of (map seen_mutator ms))) (serials_of (map end_of (map seen_mutator ms)))) (sym (same_registers ms))
+    (subst (λ (l : List (List ℕ)). RepresentsRoots places w (turn.registers_of ms) l (serials_of (map end_of (map seen_mutator ms)))) (sym (same_queues ms))
+    (subst (λ (l : List ℕ). RepresentsRoots places w (turn.registers_of ms) (turn.queues_of ms) l) (sym (same_serials ms)) r))
+
+-- who did nothing made nothing
+none_done : (d : List Done) → commands_of d ≡ [] → d ≡ []
+none_done [] e = refl
+none_done (x ∷ d) e = absurd (let count : length (commands_of (x ∷ d)) ≡ 0 = ap length e in omega arith)
+
+none_made : (fixed : List FixedWord) (own : List Row) → AllReply fixed own [] → words_by own ≡ 0
+none_made fixed [] h = refl
+none_made fixed (r ∷ rest) h = absurd h
+
+module _ (script : Script) (c new : Collector) (o : Opening) (x : IsOver script c new o) where
+  abbrev pub layout : Layout
+  layout = layout_of (plan script c new o x)
+
+  pub opening_layout : o.layout ≡ layout
+  opening_layout = x.op.layout_is ∙ x.still.kept.layout
+
+  -- the nursery of a mutator, by its number
+  nursery_is : (k : ℕ) (m : Mutator) → slice_get new.mutators.items k ≡ Some m → nursery_at (turn.nurseries_of new.mutators.items) k ≡ m.nursery
+  nursery_is k m e = get_or_from_slice_get (turn.nurseries_of new.mutators.items) k m.nursery _ (slice_get-map (λ (n : Mutator).
+      n.nursery) new.mutators.items k ∙ ap (option_map (λ (n : Mutator). n.nursery)) e)
+
+  -- where no commands were left, nothing was made
+  empty : ((m : ℕ) → program_of (s script c new o x).left m ≡ []) → AreEmpty (turn.nurseries_of new.mutators.items)
+  empty none maker = elim (cases_lt maker (length new.mutators.items)) [
+    | inl lt ↦
+        let m = item new.mutators.items maker lt in
+        let d = one_did script c new o x maker m.0 m.1 in
+        let exists : maker < length script.threads = let count = mutators_count script c new o x in omega (arith, lt, count) in
+        let nothing : d.1.0 ≡ [] = none_done d.1.0 ((one script c new o x maker d.1.0 d.1.1).4.commands ∙
+        ap (slice_of script.config) (sym (left_is script c x.run x.still maker exists) ∙ none maker)) in
+        let made : words_by d.0.rows ≡ 0 = none_made d.0.fixed d.0.rows (subst (AllReply d.0.fixed d.0.rows) nothing d.1.2.replied) in
+        let top = d.1.2.nursery.top in
+        let is = nursery_is maker m.0 m.1 in
+        ap (λ (n : Nursery). n.top) is ∙ omega (arith, top, made) ∙ sym (ap (λ (n : Nursery). n.base) is)
+    | inr past ↦
+        let none : nursery_at (turn.nurseries_of new.mutators.items) maker ≡ record { base = 0; top = 0; end = 0 } =
+        get_or_past (turn.nurseries_of new.mutators.items) maker (record {
+          base = 0;
+          top = 0;
+          end = 0;
+        }) (let count = length-map new.mutators.items (λ (n : Mutator). n.nursery) in omega (arith, count, past)) in
+        ap (λ (n : Nursery). n.top) none ∙ sym (ap (λ (n : Nursery). n.base) none)
+  ]
+
+  pub has_reserve : (reserve_count c.segments.layout ≤ reserve.free_count c.segments.segments) ⊎ AreEmpty (turn.nurseries_of new.mutators.items)
+  has_reserve = elim (reserve_free script c x.run x.still x.goes_on) [
+    | inl none ↦ inr (empty none)
+    | inr more ↦ inl (subst (λ (l : Layout). reserve_count l ≤ reserve.free_count c.segments.segments) (sym x.still.kept.layout) more)
+  ]
+
+  module _ (law : RoundIsStopped) where
+    blocks : AreBlocks c.segments (young_base c.segments) o.places o.core.world
+    blocks =
+        subst (λ (l : List Place). AreBlocks c.segments (young_base c.segments) l o.core.world) (sym x.op.places_are)
+        (subst (AreBlocks c.segments (young_base c.segments) x.still.at_stop.heap.places) (sym x.op.world_is) (blocks_there script c x.run x.limits x.still))
+
+    pub stopped : IsStopped (stop_after o x.did.words (view script c new o x) x.did.leaves.0 new.mutators.items) c.segments x.did.words
+        (turn.nurseries_of new.mutators.items) (turn.registers_of new.mutators.items) (turn.queues_of new.mutators.items)
+        (turn.recorded_of new.mutators.items) (turn.weaks_of new.mutators.items)
+    stopped = law o x.before x.did.words (view script c new o x) new.mutators.items x.did.done c.segments (can script c new o x) x.op.past
+        (sym x.op.layout_is) x.still.kept.sound blocks x.did.leaves (worked script c new o x) has_reserve
+
+    -- the nurseries are whole
+    whole : (maker : ℕ) → maker < layout.mutators → (nursery_at (turn.nurseries_of new.mutators.items) maker).end ≡
+        (nursery_at (turn.nurseries_of new.mutators.items) maker).base + layout.nursery
+    whole maker lt =
+        let m = item new.mutators.items maker (let count = mutators_count script c new o x in omega (arith, count, lt)) in
+        let did = (one_did script c new o x maker m.0 m.1).1.2 in
+        let at = nursery_is maker m.0 m.1 in
+        ap (λ (n : Nursery). n.end) at
+        ∙ did.nursery.end
+        ∙ ap (λ (l : Layout). m.0.nursery.base + l.nursery) (did.layout ∙ opening_layout)
+        ∙ sym (ap (λ (n : Nursery). n.base + layout.nursery) at)
+
+    pub nurseries_left : AreNurseries layout (places script c new o x) (w script c new o x) (nurseries_of (shown script c new o x))
+    nurseries_left = subst (λ (l : List Nursery).
+        AreNurseries layout (places script c new o x) (w script c new o x) l) (sym (same_nurseries new.mutators.items)) (record {
+          used = subst (λ (l : Layout).
+              AreUsed l (nursery_place l 0) (places script c new o x) (w script c new o x) (turn.nurseries_of new.mutators.items)) x.still.kept.layout stopped.used;
+          ends = whole;
+        })
+
+    pub in_order : LieInOrder (nursery_place layout 0) (places script c new o x)
+    in_order = subst (λ (l : Layout). LieInOrder (nursery_place l 0) (places script c new o x)) x.still.kept.layout stopped.order
+
+    -- the worlds of which the collector speaks
+    pub spoken : earlier o ≡ snapshots (t script c new o x (s script c new o x).allocation).progress
+    spoken = x.op.spoken ∙ sym (noted_snapshots (s script c new o x).progress (rows script c new o x))
+
+    pub remembered : Remembers (nursery_place layout 0) ((s script c new o x).world ∷
+        snapshots (t script c new o x (s script c new o x).allocation).progress) (places script c new o x) (w script c new o x)
+        (recorded_in (shown script c new o x)) (young_weaks_in (shown script c new o x))
+    remembered =
+        subst (λ (weaks : List ℕ). Remembers (nursery_place layout 0) ((s script c new o x).world ∷
+        snapshots (t script c new o x (s script c new o x).allocation).progress) (places script c new o x) (w script c new o x)
+        (recorded_in (shown script c new o x)) weaks) (sym (same_weaks new.mutators.items))
+        (subst (λ (recorded : List ℕ). Remembers (nursery_place layout 0) ((s script c new o x).world ∷
+        snapshots (t script c new o x (s script c new o x).allocation).progress) (places script c new o x) (w script c new o x) recorded
+        (turn.weaks_of new.mutators.items)) (sym (same_recorded new.mutators.items))
+        (subst (λ (later : List World). Remembers (nursery_place layout 0) ((s script c new o x).world ∷
+        later) (places script c new o x) (w script c new o x) (turn.recorded_of new.mutators.items) (turn.weaks_of new.mutators.items)) spoken
+        (subst (λ (began : World). Remembers (nursery_place layout 0) (began ∷
+        earlier o) (places script c new o x) (w script c new o x) (turn.recorded_of new.mutators.items) (turn.weaks_of new.mutators.items)) x.op.world_is
+        (subst (λ (l : Layout). Remembers (nursery_place l 0) (o.core.world ∷
+        earlier o) (places script c new o x) (w script c new o x) (turn.recorded_of new.mutators.items) (turn.weaks_of new.mutators.items))
+        x.still.kept.layout stopped.left))))
+
+    -- with segments that stand for the same blocks, the round began with the heap of the stop
+    abbrev pub round_from : (segments : Segments) → segments.layout ≡ layout → StandsFor segments (seen c).words (s script c new o x).allocation →
+        IsRoundFrom layout (s script c new o x) (t script c new o x (s script c new o x).allocation) o (seen c).words x.did.words
+        (view script c new o x) c.segments segments (ends_of (seen c)) (ends_of (shown script c new o x)) (seen c).weaks
+    round_from segments same stands = record {
+      heap = x.still.at_stop.heap;
+      known = (sound_state script c x.run x.limits x.still).known;
+      can = subst (CanOpen o) (sym (ap words_in x.before_are)) (can script c new o x);
+      layout_is = opening_layout;
+      places_are = x.op.places_are;
+      began = x.op.world_is;
+      left = x.did.leaves;
+      world_is = refl;
+      earlier_is = sym spoken;
+      allocation_is = refl;
+      new_layout = same;
+      stands = stands;
+      registers = all_registers new.mutators.items (λ k m e. (one_did script c new o x k m e).1.2.size);
+      roots = told_roots (places script c new o x) (w script c new o x) new.mutators.items stopped.roots;
+    }

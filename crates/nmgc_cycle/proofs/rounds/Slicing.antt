@@ -1,0 +1,104 @@
+-- What the slices of a round leave: each mutator did the slice of the rule, and the seats have every part.
+use Rattle.std.proofs.Common.{ℕ, ◌≡◌, ◌+◌, ◌-◌, ◌≤◌, List, [], ◌∷◌, length, map, take, refl, sym, ap, subst, ◌∙◌, arith}
+use Rattle.std.specs.List.{list_any}
+use Rattle.std.proofs.lemmas.List.{length-map, length-take-le}
+use Rattle.std.proofs.lemmas.Option.{slice_get_within}
+use Rattle.nmgc_world_spec.specs.declared.command.Command.{Command}
+use Rattle.nmgc_world_spec.specs.Command.{words_made}
+use Rattle.nmgc_object.specs.declared.layout.Layout.{Layout}
+use Rattle.nmgc_round.specs.declared.table.Round.{Round}
+use Rattle.nmgc_round.specs.View.{Opening, Row, FixedWord}
+use Rattle.nmgc_round.specs.Naming.{AllReply}
+use Rattle.nmgc_round.specs.Seat.{RoundSeat, seen}
+use Rattle.nmgc_round.specs.Seating.{alone}
+use Rattle.nmgc_mutator.specs.declared.mutator.Mutator.{Mutator}
+use Rattle.nmgc_mutator.specs.declared.mutator.SliceEnd.{SliceEnd}
+use Rattle.nmgc_mutator.specs.declared.mutator.SliceEnd.TheVariants as ending
+use Rattle.nmgc_mutator.specs.Ready.{words_by, rows_of}
+use Rattle.nmgc_mutator.specs.Does.{HasDone}
+use Rattle.nmgc_round.specs.Gate.{passed}
+use Rattle.nmgc_mutator.specs.Slice.{Ended, tried}
+use Rattle.nmgc_collector_laws.specs.Worked.{Done}
+use Rattle.nmgc_script.specs.declared.script.Config.{Config}
+use Rattle.nmgc_run_spec.specs.Slice.{slice_of, is_collect, is_full}
+use Rattle.nmgc_cycle.specs.declared.worker.Worker.{Worker}
+use Rattle.nmgc_cycle.specs.Working.{HasWorkedOn, worker_of}
+use Rattle.nmgc_cycle.proofs.rounds.Asking.{asks_by_end, full_by_end}
+use Rattle.nmgc_cycle.proofs.rounds.SliceRule.{all_made, slice_rule}
+
+-- the commands that were done
+abbrev pub commands_of : List Done → List Command
+commands_of done = map (λ (d : Done). d.0) done
+
+-- rows make as many words as their commands
+made_by : (fixed : List FixedWord) (rows : List Row) (done : List Done) → AllReply fixed rows done → words_by rows ≡ all_made (commands_of done)
+made_by fixed [] [] h = refl
+made_by fixed [] (d ∷ done) h = absurd h
+made_by fixed (r ∷ rows) [] h = absurd h
+made_by fixed (r ∷ rows) (d ∷ done) h =
+    let first : words_made r.command ≡ words_made d.0 = ap words_made h.0.0 in
+    let rest = made_by fixed rows done h.1 in
+    omega (arith, first, rest)
+
+-- a slice does no more commands than there are
+ended_within : (program : List Command) (most done : ℕ) (n : Mutator) (end : SliceEnd) → Ended program most done n end → done ≤ length program
+ended_within program most done n ending.Slice h = let less = h.2 in omega (arith, less)
+ended_within program most done n ending.Program h = let is = h.1 in omega (arith, is)
+ended_within program most done n ending.Yield h = let within = slice_get_within program h.0 _ h.3 in let is = h.1 in omega (arith, within, is)
+ended_within program most done n ending.Collect h = let within = slice_get_within program h.0 _ h.3 in let is = h.1 in omega (arith, within, is)
+ended_within program most done n ending.Full h = let within = slice_get_within program h.0 _ h.3 in let is = h.1 in omega (arith, within, is)
+ended_within program most done n (ending.Nursery need left) h = let within = slice_get_within program done _ h.2.1 in omega (arith, within)
+
+-- what one mutator did in a round that began with its seat alone
+pub record IsSlice (config : Config) (round : Round) (o : Opening) (k : ℕ) (left : List Command) (m : Mutator) (new : Worker) (done : List Done) : Type 0 where
+  pub commands : commands_of done ≡ slice_of config left
+  pub first : commands_of done ≡ take new.done left
+  pub count : length done ≡ new.done
+  pub within : new.done ≤ length left
+  pub did : HasDone round (alone o k) new.seat m new.mutator done
+  pub end : SliceEnd
+  pub ended : Ended left config.slice new.done new.mutator end
+  pub turns : new.mutator.turns ≡ passed m.turns (tried new.done end)
+  pub asks : new.asks ≡ list_any is_collect (commands_of done)
+  pub asks_full : new.asks_full ≡ list_any is_full (commands_of done)
+
+pub slice_done : (config : Config) (round : Round) (o : Opening) (k : ℕ) (left : List Command) (m : Mutator) (seat : RoundSeat) (new : Worker) →
+    seen seat ≡ alone o k → m.layout.nursery ≡ config.nursery → HasWorkedOn round config.slice left (worker_of (m, seat)) new → (done : List Done) ×
+    IsSlice config round o k left m new done
+slice_done config round o k left m seat new is nursery h =
+    let done : List Done = h.run.0 in
+    let did : HasDone round (alone o k) new.seat m new.mutator done = subst (λ v. HasDone round v new.seat m new.mutator done) is h.run.2 in
+    let within : new.done ≤ length left = ended_within left config.slice new.done new.mutator h.end h.ended in
+    let first : commands_of done ≡ take new.done left = h.run.1 in
+    let rows : rows_of (seen new.seat) ≡ did.rows = did.went.added in
+    let made : words_by (rows_of (seen new.seat)) ≡ all_made (take new.done left) = ap words_by rows ∙ made_by _ did.rows done did.replied ∙
+    ap all_made first in
+    let place = did.ready.nursery in
+    let top = place.top in
+    let end = place.end in
+    let fits = place.within in
+    let size : new.mutator.layout.nursery ≡ config.nursery = ap (λ (l : Layout). l.nursery) did.layout ∙ nursery in
+    let room : all_made (take new.done left) + (new.mutator.nursery.end - new.mutator.nursery.top) ≡ config.nursery = omega (
+      arith,
+      made,
+      top,
+      end,
+      fits,
+      size,
+    ) in (
+      done,
+      record {
+        commands = first ∙ sym (slice_rule left config.slice config.nursery new.done new.mutator h.end h.ended h.most room);
+        first = first;
+        count = sym (length-map done (λ (d : Done). d.0)) ∙ ap length first ∙ length-take-le new.done left within;
+        within = within;
+        did = did;
+        end = h.end;
+        ended = h.ended;
+        turns = h.turns;
+        asks = asks_by_end left config.slice new.done new.mutator h.end new.asks h.ended h.asks ∙
+            sym (ap (λ (cs : List Command). list_any is_collect cs) first);
+        asks_full = full_by_end left config.slice new.done new.mutator h.end new.asks_full h.ended h.asks_full ∙
+            sym (ap (λ (cs : List Command). list_any is_full cs) first);
+      },
+    )

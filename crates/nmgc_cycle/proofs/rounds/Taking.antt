@@ -1,0 +1,27 @@
+-- A step of the loop that takes the replies off the mutators.
+use Rattle.std.proofs.Common.{◌≡◌, ℕ, ◌+◌, ◌<◌, List, [], ◌∷◌, ◌++◌, length, map, take, drop, set, get_or, ap, ◌∙◌, arith}
+use Rattle.std.proofs.lemmas.List.{get_or_default, take_more}
+use Rattle.std.proofs.lemmas.List.Edits.{map_over_more}
+use Rattle.std.proofs.lemmas.Grind.{common_steps}
+use Rattle.nmgc_world_spec.specs.declared.command.Reply.{Reply}
+use Rattle.nmgc_mutator.specs.declared.mutator.Mutator.{Mutator}
+use Rattle.nmgc_cycle.specs.Working.{cleared, replies_of}
+
+-- the rest of the list is as it was
+rest_is : (was now : List Mutator) (i : ℕ) (m : Mutator) → i < length was → now ≡ map cleared (take i was) ++ drop i was → get_or now i m ≡ get_or was i m
+rest_is was now i m lt e = grind (arith, common_steps)
+
+replies_more : (was : List Mutator) (i : ℕ) (m : Mutator) → i < length was → m ≡ get_or was i m →
+    replies_of (take i was) ++ m.replies.items ∷ [] ≡ replies_of (take (i + 1) was)
+replies_more was i m lt e = grind (arith, common_steps, take_more was i m lt)
+
+pub taken_more : (was now : List Mutator) (told : List (List Reply)) (i : ℕ) (d : Mutator) → i < length was → length now ≡ length was →
+    told ≡ replies_of (take i was) → now ≡ map cleared (take i was) ++ drop i was →
+    (told ++ (get_or now i d).replies.items ∷ [] ≡ replies_of (take (i + 1) was)) ×
+    (set now i (cleared (get_or now i d)) ≡ map cleared (take (i + 1) was) ++ drop (i + 1) was)
+taken_more was now told i d lt count e f =
+    let m = get_or now i d in
+    let is : m ≡ get_or now i m = get_or_default now i d m (omega arith) in (
+      ap (λ (l : List (List Reply)). l ++ m.replies.items ∷ []) e ∙ replies_more was i m lt (is ∙ rest_is was now i m lt f),
+      map_over_more cleared was now i m lt f is,
+    )

@@ -1,0 +1,15 @@
+-- Lists that grow by one item at their end.
+use Rattle.std.proofs.Common.{ℕ, ◌≡◌, List, [], ◌∷◌, ◌++◌, length, sym, subst, ◌∙◌, inl, inr, Some}
+use Rattle.std.specs.Prelude.{slice_get}
+use Rattle.nmgc_world_laws.specs.laws.NodeLaws.{get-append_cases}
+
+-- what holds of each item by its place, and of one more, holds of all of them
+pub each_pushed : {A : Type 0} (P : ℕ → A → Type 0) (xs : List A) (x : A) → ((k : ℕ) (a : A) → slice_get xs k ≡ Some a → P k a) → P (length xs) x →
+    (k : ℕ) (a : A) → slice_get (xs ++ x ∷ []) k ≡ Some a → P k a
+each_pushed {A} P xs x old new k a e = elim (get-append_cases xs x k) [
+  | inl last ↦
+      let some : Some x ≡ Some a = sym last.1 ∙ e in
+      let same : x ≡ a = cc in
+      subst (λ (j : ℕ). P j a) (sym last.0) (subst (P (length xs)) same new)
+  | inr before ↦ old k a (sym before ∙ e)
+]

@@ -1,0 +1,77 @@
+-- The nurseries of new mutators are unused, and nothing is left for a stop.
+use Rattle.std.proofs.Common.{ℕ, zero, suc, ◌≡◌, ◌+◌, ◌<◌, List, [], ◌∷◌, ◌++◌, length, map, arith, refl, sym, ap, subst, ◌∙◌, inl, inr, Some}
+use Rattle.std.specs.Prelude.{slice_get}
+use Rattle.std.proofs.Math.ListN.{length-map}
+use Rattle.std.proofs.lemmas.Bool.{cases_lt}
+use Rattle.std.proofs.lemmas.List.{get_or_past}
+use Rattle.nmgc_lists.specs.laws.Items.{contains_cases}
+use Rattle.nmgc_world_spec.specs.World.{World}
+use Rattle.nmgc_object.specs.declared.layout.Layout.{Layout}
+use Rattle.nmgc_object.specs.declared.layout.Nursery.{Nursery}
+use Rattle.nmgc_object.specs.Places.{nursery_place}
+use Rattle.nmgc_blocks_spec.specs.Nurseries.{nursery_at, AreEmpty}
+use Rattle.nmgc_heap_spec.specs.Places.{Place, shared_place}
+use Rattle.nmgc_mutator.specs.declared.mutator.Mutator.{Mutator}
+use Rattle.nmgc_mutator.specs.Records.{numbers}
+use Rattle.nmgc_collector_laws.specs.Collector.{IsAtRest, AreNurseries}
+use Rattle.nmgc_collector_laws.specs.Seen.{MutatorSeen}
+use Rattle.nmgc_cycle.specs.Shown.{seen_mutator}
+use Rattle.nmgc_cycle.proofs.starts.News.{AreNew}
+use Rattle.nmgc_object.specs.declared.words.Address.{Address}
+
+-- the nurseries of mutators
+abbrev pub nurseries : List Mutator → List Nursery
+nurseries mutators = map (λ (m : MutatorSeen). m.nursery) (map seen_mutator mutators)
+
+-- what holds of each mutator's nursery holds of each nursery
+each_nursery : (P : ℕ → Nursery → Type 0) (mutators : List Mutator) → ((k : ℕ) (m : Mutator) → slice_get mutators k ≡ Some m → P k m.nursery) →
+    (k : ℕ) → k < length mutators → P k (nursery_at (nurseries mutators) k)
+each_nursery P [] each k lt = absurd (omega arith)
+each_nursery P (m ∷ mutators) each zero lt = each zero m refl
+each_nursery P (m ∷ mutators) each (suc k) lt = each_nursery (λ (j : ℕ). P (suc j)) mutators (λ j n e. each (suc j) n e) k (omega arith)
+
+-- and of each as contracts see it
+each_seen : (P : MutatorSeen → Type 0) (mutators : List Mutator) → ((k : ℕ) (m : Mutator) → slice_get mutators k ≡ Some m → P (seen_mutator m)) →
+    (k : ℕ) (s : MutatorSeen) → slice_get (map seen_mutator mutators) k ≡ Some s → P s
+each_seen P [] each k s e = absurd cc
+each_seen P (m ∷ mutators) each zero s e = let same : seen_mutator m ≡ s = cc in subst P same (each zero m refl)
+each_seen P (m ∷ mutators) each (suc k) s e = each_seen P mutators (λ j n is. each (suc j) n is) k s e
+
+as_many : (mutators : List Mutator) → length (nurseries mutators) ≡ length mutators
+as_many mutators = length-map (map seen_mutator mutators) (λ (m : MutatorSeen). m.nursery) ∙ length-map mutators seen_mutator
+
+module _ (layout : Layout) (mutators : List Mutator) (new : AreNew layout mutators) where
+  pub are_empty : AreEmpty (nurseries mutators)
+  are_empty k = elim (cases_lt k (length mutators)) [
+    | inl lt ↦ each_nursery (λ (j : ℕ) (n : Nursery). n.top ≡ n.base) mutators (λ j m e. (new j m e).unused.top) k lt
+    | inr ge ↦
+        let many = as_many mutators in
+        let none : Nursery = record { base = 0; top = 0; end = 0 } in
+        let past = get_or_past (nurseries mutators) k none (omega arith) in
+        ap (λ (n : Nursery). n.top) past ∙ sym (ap (λ (n : Nursery). n.base) past)
+  ]
+
+  pub are_nurseries : (w : World) → length mutators ≡ layout.mutators → AreNurseries layout (shared_place ∷ []) w (nurseries mutators)
+  are_nurseries w count = record {
+    used = record {
+      count = as_many mutators ∙ count;
+      places_are = λ maker lt. each_nursery (λ (j : ℕ) (n : Nursery). n.base ≡ nursery_place layout j) mutators (λ j m e. let is = new j m e in
+          is.unused.base ∙ ap (λ (l : Layout). nursery_place l m.number) is.layout_is ∙
+          ap (λ (n : ℕ). nursery_place layout n) is.number_is) maker (omega arith);
+      tops = λ maker lt. let top = are_empty maker in (omega arith, omega arith);
+      used = λ p node c low there. elim (contains_cases shared_place [] p c) [
+        | inl e ↦ let at = ap (λ (q : Place). q.at) e in absurd (omega arith)
+        | inr none ↦ absurd (omega (arith, none.1))
+      ];
+    };
+    ends = λ maker lt. each_nursery (λ (j : ℕ) (n : Nursery). n.end ≡ n.base + layout.nursery) mutators (λ j m e. let is = new j m e in
+        is.unused.end ∙ ap (λ (l : Layout). m.nursery.base + l.nursery) is.layout_is) maker (omega arith);
+  }
+
+  pub nothing_left : ((k : ℕ) (m : Mutator) → slice_get mutators k ≡ Some m → m.sender.since ≡ []) → (k : ℕ) (s : MutatorSeen) →
+      slice_get (map seen_mutator mutators) k ≡ Some s → IsAtRest s
+  nothing_left unsent = each_seen IsAtRest mutators (λ k m e. record {
+    recorded = ap numbers (new k m e).recorded;
+    young_weaks = ap numbers (new k m e).young_weaks;
+    entries = ap (λ (l : List Address). numbers (l ++ m.updrem.items)) (unsent k m e) ∙ ap numbers (new k m e).updrem;
+  })

@@ -1,0 +1,163 @@
+-- How often the collector passed the gate: a stop's steps leave it, and a round adds what was scanned or swept.
+use Rattle.std.proofs.Common.{ℕ, ◌≡◌, ◌∙◌, ◌-◌, ◌/◌, Bool, inl, inr, List, refl, sym, ap, subst, arith}
+use Rattle.nmgc_alloc.specs.Numbered.{Segments}
+use Rattle.nmgc_round.specs.declared.table.Round.{Round}
+use Rattle.nmgc_round.specs.Gate.{passed}
+use Rattle.nmgc_round.specs.Seat.{RoundSeat}
+use Rattle.nmgc_round.specs.View.{Opening}
+use Rattle.nmgc_script.specs.declared.script.Script.{Script}
+use Rattle.nmgc_world_spec.specs.declared.value.Name.{Name}
+use Rattle.nmgc_cycle.specs.declared.collector.Collector.{Collector}
+use Rattle.nmgc_cycle.specs.declared.progress.Marking.{Marking}
+use Rattle.nmgc_cycle.specs.declared.progress.Progress.{Progress as Doing}
+use Rattle.nmgc_cycle.specs.declared.progress.Progress.TheVariants as doing
+use Rattle.nmgc_cycle.specs.declared.progress.Sweeping.{Sweeping}
+use Rattle.nmgc_cycle.specs.Cycles.{AddsTo, HasTaken, IsClosed, Closes, Ends, HasStarted, Begins, HasHelped, remembered_by, swept_beside, worked_on, upper_worked_on}
+use Rattle.nmgc_cycle.specs.Full.{ClosesNow, SweepsRest, HasSweptRest, HasFinished, HasDoneFull, Proceeds, with_all_retired}
+use Rattle.nmgc_cycle.specs.Shown.{turns_by, turns_of, upper_turns_by, upper_turns_of, words_in}
+use Rattle.nmgc_cycle.specs.Working.{DidSlices}
+use Rattle.nmgc_cycle.proofs.cycles.FullCycle.{finished_idle}
+use Rattle.nmgc_cycle.proofs.stops.StopEnds.{IsStepped}
+
+-- both counts: of what the collector does, and of the upper halves of its sweeps
+abbrev counts_by : Doing → ℕ → ℕ → ℕ × ℕ
+counts_by p turns upper = (turns_by p turns, upper_turns_by p upper)
+
+abbrev counts_of : Collector → ℕ × ℕ
+counts_of c = counts_by c.progress c.turns c.upper_turns
+
+both : {a b x y : ℕ} → a ≡ b → x ≡ y → ◌≡◌ {A = ℕ × ℕ} (a, x) (b, y)
+both p q = λ i. (p i, q i)
+
+-- A stop
+
+-- what was remembered was added
+taken : (old new : Collector) → HasTaken old new → counts_of new ≡ counts_of old
+taken old new h = by old.progress h.adds
+  where
+    same : ◌≡◌ {A = ℕ × ℕ} (new.turns, new.upper_turns) (old.turns, old.upper_turns)
+    same = ap (λ (c : Collector). let counts : ℕ × ℕ = (c.turns, c.upper_turns) in counts) h.rest
+
+    by : (p : Doing) → AddsTo (remembered_by old.mutators.items) old.segments new.segments p new.progress →
+        counts_by new.progress new.turns new.upper_turns ≡ counts_by p old.turns old.upper_turns
+    by doing.Idle a = ap (λ (q : Doing). counts_by q new.turns new.upper_turns) a.0 ∙ same
+    by (doing.Marking m) a = ap (λ (q : Doing). counts_by q new.turns new.upper_turns) a.1 ∙
+        ap (λ (n : ℕ). let counts : ℕ × ℕ = (n, m.sweeper.upper_turns) in counts) a.2.turns
+    by (doing.Sweeping w) a = ap (λ (q : Doing). counts_by q new.turns new.upper_turns) a.0
+
+-- the cycle was closed
+module _ (stop : ℕ) (old new : Collector) where
+  done : (m : Marking) (w : Sweeping) → old.progress ≡ doing.Marking m → new.progress ≡ doing.Sweeping w →
+      IsClosed stop (words_in old.words) (words_in new.words) old.segments new.segments old.weaks new.weaks old.mutators.items new.mutators.items m
+      w → counts_of new ≡ counts_of old
+  done m w is at h = ap (λ (q : Doing). counts_by q new.turns new.upper_turns) at ∙
+      ap (λ (v : Sweeping). let counts : ℕ × ℕ = (v.sweeper.turns, v.sweeper.upper_turns) in counts) h.is ∙
+      sym (ap (λ (q : Doing). counts_by q old.turns old.upper_turns) is)
+
+  closes : (p : Doing) → old.progress ≡ p → Closes stop p old new → counts_of new ≡ counts_of old
+  closes doing.Idle is h = ap counts_of h
+  closes (doing.Marking m) is (inl h) = done m h.1.0 is h.1.1 h.1.2
+  closes (doing.Marking m) is (inr h) = ap counts_of h.1
+  closes (doing.Sweeping w) is h = ap counts_of h
+
+  closes_now : (p : Doing) → old.progress ≡ p → ClosesNow stop p old new → counts_of new ≡ counts_of old
+  closes_now doing.Idle is h = ap counts_of h
+  closes_now (doing.Marking m) is h = done m h.0 is h.1 h.2
+  closes_now (doing.Sweeping w) is h = ap counts_of h
+
+  ends : (p : Doing) → old.progress ≡ p → Ends stop p old new → counts_of new ≡ counts_of old
+  ends doing.Idle is h = ap counts_of h
+  ends (doing.Marking m) is h = ap counts_of h
+  ends (doing.Sweeping w) is (inl h) = ap counts_of h.1 ∙ sym (ap (λ (q : Doing). counts_by q old.turns old.upper_turns) is)
+  ends (doing.Sweeping w) is (inr h) = ap counts_of h.1
+
+  -- the next one began
+  starts : old.progress ≡ doing.Idle → HasStarted stop old new → counts_of new ≡ counts_of old
+  starts is h = ap counts_of h.is ∙ both h.starts.turns.0 h.starts.turns.2 ∙ sym (ap (λ (q : Doing). counts_by q old.turns old.upper_turns) is)
+
+  begins : (trigger : ℕ) → Begins trigger stop old new → counts_of new ≡ counts_of old
+  begins trigger (inl h) = starts h.0.0 h.1
+  begins trigger (inr h) = ap counts_of h.1
+
+-- a full cycle was done
+swept : (old new : Collector) → HasSweptRest old new → counts_of new ≡ counts_of old
+swept old new h = by old.progress h.sweeps
+  where
+    same : ◌≡◌ {A = ℕ × ℕ} (new.turns, new.upper_turns) (old.turns, old.upper_turns)
+    same = ap (λ (c : Collector). let counts : ℕ × ℕ = (c.turns, c.upper_turns) in counts) h.rest
+
+    by : (p : Doing) → SweepsRest old.segments new.segments old.names p new.progress →
+        counts_by new.progress new.turns new.upper_turns ≡ counts_by p old.turns old.upper_turns
+    by doing.Idle a = ap (λ (q : Doing). counts_by q new.turns new.upper_turns) a.0 ∙ same
+    by (doing.Marking m) a = ap (λ (q : Doing). counts_by q new.turns new.upper_turns) a.0
+    by (doing.Sweeping w) a = ap (λ (q : Doing). counts_by q new.turns new.upper_turns) a.1 ∙ both a.2.turns.0 a.2.turns.1
+
+finished : (stop : ℕ) (old new : Collector) → HasFinished stop old new → counts_of new ≡ counts_of old
+finished stop old new h = ends stop h.swept new h.swept.progress refl h.ends ∙ swept h.closed h.swept h.sweeps ∙
+    closes_now stop old h.closed old.progress refl h.closes.closes
+
+full : (stop : ℕ) (old new : Collector) → HasDoneFull stop old new → counts_of new ≡ counts_of old
+full stop old new h =
+    ap counts_of h.is ∙ finished stop h.started h.last h.again
+    ∙ starts stop (with_all_retired h.idled) h.started (finished_idle stop old h.idled h.first) h.starts
+    ∙ finished stop old h.idled h.first
+
+proceeds : (trigger : ℕ) (left : Bool) (stop : ℕ) (old new : Collector) → Proceeds trigger left stop old new → counts_of new ≡ counts_of old
+proceeds trigger left stop old new (inl h) = full stop old new h.1
+proceeds trigger left stop old new (inr h) = begins stop old new trigger h.1
+
+stepped_counts : (script : Script) (old new : Collector) → IsStepped script old new → counts_of new ≡ counts_of old
+stepped_counts script old new x =
+    proceeds script.config.trigger x.some x.number x.ended new x.proceeds
+    ∙ ends x.number x.closed x.ended x.closed.progress refl x.ends
+    ∙ closes x.number x.added x.closed x.added.progress refl x.closes.closes
+    ∙ taken x.promoted x.added x.adds
+    ∙ ap counts_of x.promotes.rest
+
+pub stop_counts : (script : Script) (old new : Collector) → IsStepped script old new → turns_of new ≡ turns_of old
+stop_counts script old new x = ap (λ (n : ℕ × ℕ). n.0) (stepped_counts script old new x)
+
+pub stop_counts_upper : (script : Script) (old new : Collector) → IsStepped script old new → upper_turns_of new ≡ upper_turns_of old
+stop_counts_upper script old new x = ap (λ (n : ℕ × ℕ). n.1) (stepped_counts script old new x)
+
+-- A round
+
+helped : (round : Round) (quota : ℕ) (from seat : RoundSeat) (old new : Segments) (names : List Name) (p q : Doing) (s t : ℕ) → t ≡ s →
+    HasHelped round quota from seat old new names p q → turns_by q t ≡ passed (turns_by p s) (worked_on p q)
+helped round quota from seat old new names doing.Idle q s t same h =
+    subst (λ (x : Doing). turns_by x t ≡ passed (turns_by doing.Idle s) (worked_on doing.Idle x)) (sym h.2) same
+helped round quota from seat old new names (doing.Marking m) q s t same h =
+    subst (λ (x : Doing). turns_by x t ≡ passed (turns_by (doing.Marking m) s) (worked_on (doing.Marking m) x)) (sym h.1) h.2.turns
+helped round quota from seat old new names (doing.Sweeping w) q s t same h =
+    let done = h.3 in
+    let count : done.count ≡ swept_beside w h.0 = (let fewer = done.swept.fewer in omega (arith, fewer)) in
+    subst (λ (x : Doing). turns_by x t ≡ passed (turns_by (doing.Sweeping w) s) (worked_on (doing.Sweeping w) x)) (sym h.1) (done.turns ∙
+    ap (λ (n : ℕ). passed w.sweeper.turns (n - n / 2)) count)
+
+helped_upper : (round : Round) (quota : ℕ) (from seat : RoundSeat) (old new : Segments) (names : List Name) (p q : Doing) (s t : ℕ) → t ≡ s →
+    HasHelped round quota from seat old new names p q → upper_turns_by q t ≡ passed (upper_turns_by p s) (upper_worked_on p q)
+helped_upper round quota from seat old new names doing.Idle q s t same h =
+    subst (λ (x : Doing). upper_turns_by x t ≡ passed (upper_turns_by doing.Idle s) (upper_worked_on doing.Idle x)) (sym h.2) same
+helped_upper round quota from seat old new names (doing.Marking m) q s t same h =
+    subst (λ (x : Doing). upper_turns_by x t ≡
+    passed (upper_turns_by (doing.Marking m) s) (upper_worked_on (doing.Marking m) x)) (sym h.1) (ap (λ (n : Marking). n.sweeper.upper_turns) h.2.rest)
+helped_upper round quota from seat old new names (doing.Sweeping w) q s t same h =
+    let done = h.3 in
+    let count : done.count ≡ swept_beside w h.0 = (let fewer = done.swept.fewer in omega (arith, fewer)) in
+    subst (λ (x : Doing). upper_turns_by x t ≡
+    passed (upper_turns_by (doing.Sweeping w) s) (upper_worked_on (doing.Sweeping w) x)) (sym h.1) (done.upper_turns ∙
+    ap (λ (n : ℕ). passed w.sweeper.upper_turns (n / 2)) count)
+
+pub round_counts : (script : Script) (o : Opening) (old new : Collector) → DidSlices script o old new →
+    turns_of new ≡ passed (turns_of old) (worked_on old.progress new.progress)
+round_counts script o old new h =
+    let beside = h.helped in
+    helped beside.round script.config.quota beside.from beside.seat old.segments new.segments old.names old.progress new.progress old.turns
+    new.turns (ap (λ (c : Collector). c.turns) h.rest) beside.helped
+
+pub round_counts_upper : (script : Script) (o : Opening) (old new : Collector) → DidSlices script o old new →
+    upper_turns_of new ≡ passed (upper_turns_of old) (upper_worked_on old.progress new.progress)
+round_counts_upper script o old new h =
+    let beside = h.helped in
+    helped_upper beside.round script.config.quota beside.from beside.seat old.segments new.segments old.names old.progress new.progress
+    old.upper_turns new.upper_turns (ap (λ (c : Collector). c.upper_turns) h.rest) beside.helped

@@ -1,0 +1,311 @@
+-- The list of weak pointers over the promotion of a stop: those that were finalised leave it, and those that moved and are alive join it.
+use Rattle.std.proofs.Common.{ℕ, ◌≡◌, ◌≢◌, ◌^◌, ◌<◌, ◌≤◌, ◌⊎◌, List, [], ◌∷◌, Bool, true, false, cond, eq-eqb, ne_eqb, length, map, refl, sym, ap, subst, ◌∙◌, arith, inl, inr, slice_index}
+use Rattle.std.specs.Prelude.{Contains, filter, not, ◌==◌, ◌&&◌}
+use Rattle.std.specs.List.{count_by}
+use Rattle.std.proofs.lemmas.Bool.{and_parts}
+use Rattle.std.proofs.lemmas.List.{length-map}
+use Rattle.std.proofs.lemmas.List.Sums.{length-filter, count_by-le-length}
+use Rattle.nmgc_world_spec.specs.declared.value.Name.{Name}
+use Rattle.nmgc_limits.specs.declared.mutators.TheConstants.{SHARED_MAKER}
+use Rattle.nmgc_world_spec.specs.declared.node.Node.TheVariants.{Weak}
+use Rattle.nmgc_world_spec.specs.Reach.{IsBefore, IsInOrder, IsReached}
+use Rattle.nmgc_world_spec.specs.World.{node_of}
+use Rattle.nmgc_lists.specs.laws.Items.{contains_head, contains_tail, is_some_of, contains_map, map_contains, filter_contains as filter_had, contains_filter as filter_keeps}
+use Rattle.nmgc_world_spec.specs.laws.Orders.{in_order_cons, in_order_first, in_order_rest}
+use Rattle.nmgc_object.specs.Words.{header_word}
+use Rattle.nmgc_object.specs.declared.layout.Layout.{Layout}
+use Rattle.nmgc_alloc.specs.Stands.{StandsFor}
+use Rattle.nmgc_alloc.specs.Numbered.{Segments}
+use Rattle.nmgc_alloc.specs.Segments.{IsSegments}
+use Rattle.nmgc_blocks_spec.specs.Occupied.{KeepsMarks}
+use Rattle.nmgc_blocks_spec.specs.Promoted.{PlacesEach}
+use Rattle.nmgc_heap_spec.specs.Moves.{Moved, new_place, old_place, settled}
+use Rattle.nmgc_minor.specs.Promotion.{IsFor}
+use Rattle.nmgc_sweep.specs.Names.{HaveNoted}
+use Rattle.nmgc_cycle.specs.Roots.{promoted_by}
+use Rattle.nmgc_heap_spec.specs.Places.{Place}
+use Rattle.nmgc_heap_spec.specs.Roots.{ListsWeaks}
+use Rattle.nmgc_heap_spec.specs.Tracked.{IsTracked}
+use Rattle.nmgc_heap_spec.specs.laws.Changes.{lies_within}
+use Rattle.nmgc_heap_spec.specs.laws.Moving.{settled_comes}
+use Rattle.nmgc_blocks_spec.specs.Stopped.{Stopped, IsStopped, IsSettled, earlier_of, young_base}
+use Rattle.nmgc_blocks_spec.specs.laws.Blocks.{is_block}
+use Rattle.nmgc_collector_laws.specs.Joins.{JoiningLists, JoinersAreNew, HaveMoved, HaveJoinedList, IsAliveAt, weak_header}
+use Rattle.nmgc_minor.specs.Placing.{moved_of}
+use Rattle.nmgc_minor.specs.declared.placing.Move.{Move}
+use Rattle.nmgc_weak.specs.declared.weaks.OldWeak.{OldWeak}
+use Rattle.nmgc_weak.specs.Closes.{LeavingLists}
+use Rattle.nmgc_weak.specs.Weaks.{AreInside, Weaks, is_alive, names_of, place_of, places_of, value_place}
+use Rattle.nmgc_collector_laws.specs.Worked.{registers_of, queues_of, nurseries_of, recorded_of}
+use Rattle.nmgc_cycle.specs.declared.collector.Collector.{Collector}
+use Rattle.nmgc_cycle.specs.Listed.{CanJoin, FinalisedLeft, MovedJoined, is_alive_at, listed_move, moved_weaks}
+use Rattle.nmgc_cycle.specs.Shown.{words_in}
+use Rattle.nmgc_cycle.specs.Stopping.{CanList, HasListed, HasPromoted, StandsStopped, moves_of, young_weaks_of}
+use Rattle.nmgc_lists.specs.laws.Truths.{eq_true as true_eq}
+use Rattle.nmgc_weak.specs.laws.Common.{of_place as of_places, names_same}
+use Rattle.nmgc_minor.specs.laws.Common.{names_twice as names_moved}
+
+false_ne : (a : ℕ) → not (a == 0) ≡ true → a ≢ 0
+false_ne a e is = let t : (a == 0) ≡ true = eq-eqb a 0 is in let bad : not true ≡ true = sym (ap not t) ∙ e in cc
+
+tested : (words : List ℕ) (at : ℕ) → is_alive_at words at ≡ true → IsAliveAt words at
+tested words at e =
+    let both = and_parts (slice_index words at == header_word weak_header) (not (slice_index words (value_place at) == 0)) e in
+    record { header = true_eq (slice_index words at) (header_word weak_header) both.0; value = false_ne (slice_index words (value_place at)) both.1 }
+
+tests : (words : List ℕ) (at : ℕ) → IsAliveAt words at → is_alive_at words at ≡ true
+tests words at a =
+    let h : (slice_index words at == header_word weak_header) ≡ true = eq-eqb (slice_index words at) (header_word weak_header) a.header in
+    let v : (slice_index words (value_place at) == 0) ≡ false = ne_eqb (slice_index words (value_place at)) 0 a.value in
+    ap (λ (y : Bool × Bool). y.0 && not y.1) (λ i. (h i, v i))
+
+-- those that moved and are alive: no more than moved, in order, and new
+
+pub moved_few : (words : List ℕ) (moves : List Move) → length (moved_weaks words moves) ≤ length moves
+moved_few words moves =
+    let test : Move → Bool = λ (m : Move). is_alive_at words m.to.0 in
+    let all : length (moved_weaks words moves) ≡ length (filter test moves) = length-map (filter test moves) listed_move in
+    let counted : length (filter test moves) ≡ count_by test moves = length-filter test moves in
+    let most : count_by test moves ≤ length moves = count_by-le-length test moves in
+    omega (arith, all, counted, most)
+
+-- each is one that moved
+one_moved : (words : List ℕ) (moves : List Move) (weak : OldWeak) → Contains (moved_weaks words moves) weak → (m : Move) × Contains moves m ×
+    (listed_move m ≡ weak) × (is_alive_at words m.to.0 ≡ true)
+one_moved words moves weak c =
+    let test : Move → Bool = λ (m : Move). is_alive_at words m.to.0 in
+    let r = map_contains listed_move (filter test moves) weak c in
+    let f = filter_had test moves r.0 r.1 in
+    (r.0, f.0, sym r.2, f.1)
+
+name_moved : (words : List ℕ) (moves : List Move) (n : Name) → Contains (names_of (moved_weaks words moves)) n → Contains (map (λ (m : Move). m.name) moves) n
+name_moved words moves n c =
+    let r = map_contains (λ (w : OldWeak). w.weak) (moved_weaks words moves) n c in
+    let m = one_moved words moves r.0 r.1 in
+    subst (λ (k : Name). Contains (map (λ (x : Move). x.name) moves) k) (ap (λ (w : OldWeak). w.weak) m.2 ∙
+    sym r.2) (contains_map (λ (x : Move). x.name) moves m.0 m.1)
+
+order_kept : (b : Bool) (m : Move) (kept : List Move) → IsInOrder (names_of (map listed_move kept)) →
+    ((n : Name) → Contains (names_of (map listed_move kept)) n → IsBefore m.name n) → IsInOrder (names_of (map listed_move (cond b (m ∷ kept) kept)))
+order_kept true m kept h first = in_order_cons m.name (names_of (map listed_move kept)) h first
+order_kept false m kept h first = h
+
+pub moved_ordered : (words : List ℕ) (moves : List Move) → IsInOrder (map (λ (m : Move). m.name) moves) → IsInOrder (names_of (moved_weaks words moves))
+moved_ordered words [] h = tt
+moved_ordered words (m ∷ moves) h =
+    order_kept (is_alive_at words m.to.0) m (filter (λ (x : Move). is_alive_at words x.to.0) moves)
+    (moved_ordered words moves (in_order_rest m.name (map (λ (x : Move). x.name) moves) h))
+    (λ n c. in_order_first m.name (map (λ (x : Move). x.name) moves) h n (name_moved words moves n c))
+
+pub moved_new : (words : List ℕ) (list : List OldWeak) (moves : List Move) → CanJoin words list moves → (one other : OldWeak) →
+    Contains (moved_weaks words moves) one → Contains list other → other.weak ≢ one.weak
+moved_new words list moves can one other c d =
+    let m = one_moved words moves one c in
+    λ e. can.new m.0 other m.1 d (e ∙ sym (ap (λ (w : OldWeak). w.weak) m.2))
+
+module _ (old a : Collector) (l : FinalisedLeft old a) where
+  -- those that leave change nothing of the heap
+  pub stopped_then : (t : Stopped) → StandsStopped t old → StandsStopped t a
+  stopped_then t h =
+      let words : IsStopped t old.segments (words_in a.words) (nurseries_of old.mutators.items) (registers_of old.mutators.items)
+      (queues_of old.mutators.items) (recorded_of old.mutators.items) (young_weaks_of old.mutators.items) =
+      subst (λ (w : List ℕ).
+      IsStopped t old.segments w (nurseries_of old.mutators.items) (registers_of old.mutators.items) (queues_of old.mutators.items)
+      (recorded_of old.mutators.items) (young_weaks_of old.mutators.items)) (sym l.words.0) h in
+      subst (λ (x : Collector).
+      IsStopped t x.segments (words_in a.words) (nurseries_of x.mutators.items) (registers_of x.mutators.items) (queues_of x.mutators.items)
+      (recorded_of x.mutators.items) (young_weaks_of x.mutators.items)) (sym l.rest) words
+
+  pub segments_same : a.segments ≡ old.segments
+  segments_same = ap (λ (x : Collector). x.segments) l.rest
+
+module _ (left : LeavingLists) (joining : JoiningLists) (fresh : JoinersAreNew) (old a b new : Collector) (l : FinalisedLeft old a)
+    (p : HasPromoted a b) (same : b.weaks ≡ a.weaks) where
+  module _ (t : Stopped) (h : StandsStopped t old) (can : CanList t old) where
+    -- the list once some have left
+    left_listed : ListsWeaks a.segments.layout t.places t.world (places_of a.weaks.list)
+    left_listed =
+        let then = left old.segments.layout t.later t.places t.began t.world (words_in old.words) old.weaks.list can.began h.world h.represents
+        can.listed can.old in
+        let kept = subst (λ (list : List OldWeak). ListsWeaks old.segments.layout t.places t.world (places_of list)) (sym l.list) then in
+        subst (λ (y : Layout). ListsWeaks y t.places t.world (places_of a.weaks.list)) (ap (λ (s : Collector). s.segments.layout) (sym l.rest)) kept
+
+    settled_there : IsSettled t b.segments (words_in b.words) (registers_of b.mutators.items) (queues_of b.mutators.items) (moves_of b)
+    settled_there = p.settled t (stopped_then old a l t h)
+
+    moved_there : (m : Move) → Contains b.promotion.moves m → Contains (moves_of b) (moved_of m)
+    moved_there m c = contains_map moved_of b.promotion.moves m c
+
+    -- what moved isn't g
+    is_other : (m : Moved) → Contains (moves_of b) m → m.name.maker ≢ SHARED_MAKER
+    is_other m c =
+        let k = settled_there in
+        let young = (k.promoted.sound m.name (contains_map (λ (x : Moved). x.name) (moves_of b) m c)).0.0 in
+        let high = (h.round.young (old_place m) (k.moved m c)).1 young in
+        elim (h.represents.named (old_place m) (k.moved m c)).lies [
+          | inl g ↦ let at = g.1 in absurd (omega (arith, at, high))
+          | inr own ↦ own.0
+        ]
+
+    -- its header and its value word are among the heap's words
+    inside : (m : Move) → Contains b.promotion.moves m → value_place m.to.0 < length (words_in b.words)
+    inside m c =
+        let k = settled_there in
+        let moved = moved_there m c in
+        let there = settled_comes (young_base b.segments) (moves_of b) t.places (moved_of m) moved in
+        let node = is_some_of (node_of t.world m.name) (k.represents.named (new_place (moved_of m)) there).known in
+        let low = k.low (moved_of m) moved in
+        let o = k.blocks.held (new_place (moved_of m)) node.0 there low (is_other (moved_of m) moved) node.1 in
+        let block = is_block b.segments (young_base b.segments) m.to.0 o.0 p.sound refl o.1 in
+        let four = block.four in
+        let below = block.below in
+        let total = k.represents.total in
+        omega (arith, four, below, total)
+
+    pub can_join : length b.promotion.moves < 2 ^ 32 → CanJoin (words_in b.words) b.weaks.list b.promotion.moves
+    can_join few = record {
+      inside = inside;
+      ordered = subst IsInOrder (names_moved b.promotion.moves) settled_there.promoted.ordered;
+      new = λ m other c d.
+          let d_then : Contains a.weaks.list other = subst (λ (list : List OldWeak). Contains list other) (ap (λ (w : Weaks). w.list) same) d in
+          fresh t a.segments b.segments (words_in a.words) (words_in b.words) (nurseries_of a.mutators.items) (registers_of a.mutators.items)
+          (registers_of b.mutators.items) (queues_of a.mutators.items) (queues_of b.mutators.items) (recorded_of a.mutators.items)
+          (young_weaks_of a.mutators.items) (moves_of b) (places_of a.weaks.list)
+          (stopped_then old a l t h) settled_there left_listed (moved_of m) (place_of other) (moved_there m c)
+          (contains_map place_of a.weaks.list other d_then);
+      few = few;
+    }
+
+  module _ (j : MovedJoined b new) where
+    old_list : (weak : OldWeak) → Contains b.weaks.list weak → Contains a.weaks.list weak
+    old_list weak c = subst (λ (w : Weaks). Contains w.list weak) same c
+
+    -- one that joined is one that moved, and is alive by its words
+    joiner : (weak : OldWeak) → Contains (moved_weaks (words_in b.words) b.promotion.moves) weak → (m : Move) × Contains b.promotion.moves m ×
+        (listed_move m ≡ weak) × IsAliveAt (words_in b.words) m.to.0
+    joiner weak c =
+        let m = one_moved (words_in b.words) b.promotion.moves weak c in
+        (m.0, m.1, m.2, tested (words_in b.words) m.0.to.0 m.3)
+
+    came_from : (weak : OldWeak) → Contains new.weaks.list weak → Contains a.weaks.list weak ⊎ Contains (moved_weaks (words_in b.words) b.promotion.moves) weak
+    came_from weak c = elim ((j.joins.list weak).0 c) [ inl was ↦ inl (old_list weak was) | inr more ↦ inr more ]
+
+    -- so the list is joined
+    joined_list : HaveJoinedList (words_in b.words) (moves_of b) (places_of a.weaks.list) (places_of new.weaks.list)
+    joined_list = record {
+      ordered = subst IsInOrder (sym (names_same new.weaks.list)) j.joins.ordered;
+      from = λ q c.
+          let x = of_places new.weaks.list q c in
+          elim (came_from x.0 x.1) [
+            | inl was ↦ inl (subst (λ (y : Place). Contains (places_of a.weaks.list) y) x.2 (contains_map place_of a.weaks.list x.0 was))
+            | inr more ↦ let m = joiner x.0 more in inr (moved_of m.0, contains_map moved_of b.promotion.moves m.0 m.1, sym x.2 ∙ ap place_of (sym m.2), m.3)
+          ];
+      old_stay = λ q c.
+          let x = of_places a.weaks.list q c in
+          let in_b : Contains b.weaks.list x.0 = subst (λ (w : Weaks). Contains w.list x.0) (sym same) x.1 in
+          subst (λ (y : Place). Contains (places_of new.weaks.list) y) x.2 (contains_map place_of new.weaks.list x.0 ((j.joins.list x.0).1 (inl in_b)));
+      new_join = λ m c alive.
+          let x = map_contains moved_of b.promotion.moves m c in
+          let at : IsAliveAt (words_in b.words) x.0.to.0 = subst (λ (y : Moved). IsAliveAt (words_in b.words) y.to) x.2 alive in
+          let found = contains_map listed_move (filter (λ (z : Move).
+          is_alive_at (words_in b.words) z.to.0) b.promotion.moves) x.0 (filter_keeps (λ (z : Move).
+          is_alive_at (words_in b.words) z.to.0) b.promotion.moves x.0 x.1 (tests (words_in b.words) x.0.to.0 at)) in
+          subst (λ (y : Moved).
+          Contains (places_of new.weaks.list) (new_place y)) (sym x.2)
+          (contains_map place_of new.weaks.list (listed_move x.0) ((j.joins.list (listed_move x.0)).1 (inr found)));
+    }
+
+    -- all of the collector as after the joining
+    new_is : new ≡ record b { words = new.words; weaks = new.weaks }
+    new_is = j.rest
+
+    same_moves : moves_of new ≡ moves_of b
+    same_moves = ap moves_of new_is
+
+    pub listed : HasListed old new
+    listed = record {
+      from = λ weak c. elim (came_from weak c) [
+        | inl was ↦ inl (filter_had (is_alive (words_in old.words)) old.weaks.list weak (subst (λ (list : List OldWeak). Contains list weak) l.list was)).0
+        | inr more ↦ let m = joiner weak more in inr (
+          moved_of m.0,
+          subst (λ (list : List Moved). Contains list (moved_of m.0)) (sym same_moves) (contains_map moved_of b.promotion.moves m.0 m.1),
+          ap (λ (w : OldWeak). w.weak) (sym m.2),
+        )
+      ];
+      lists = λ t h can.
+          let then = joining t a.segments b.segments (words_in a.words) (words_in b.words) (nurseries_of a.mutators.items)
+          (registers_of a.mutators.items) (registers_of b.mutators.items) (queues_of a.mutators.items) (queues_of b.mutators.items)
+          (recorded_of a.mutators.items) (young_weaks_of a.mutators.items) (moves_of b) (places_of a.weaks.list)
+          (places_of new.weaks.list) (stopped_then old a l t h) (settled_there t h can) p.layout p.copied (left_listed t h can) joined_list in
+          subst (λ (x : Collector).
+          ListsWeaks x.segments.layout (settled (young_base x.segments) (moves_of x) t.places) t.world (places_of new.weaks.list)) (sym new_is) then;
+      deaths = j.deaths ∙ ap (λ (w : Weaks). w.deaths) same ∙ l.deaths;
+    }
+
+    -- and the promotion is that of the whole step
+    pub promoted : HasPromoted old new
+    promoted = record {
+      rest = new_is ∙ ap (λ (x : Collector). record x { words = new.words; weaks = new.weaks }) p.rest ∙
+          ap (λ (x : Collector). record x {
+            words = new.words;
+            segments = b.segments;
+            promotion = b.promotion;
+            names = b.names;
+            mutators = b.mutators;
+            weaks = new.weaks;
+          }) l.rest
+          ∙ sym (ap (λ (x : Collector). record old {
+            words = new.words;
+            segments = x.segments;
+            promotion = x.promotion;
+            names = x.names;
+            mutators = x.mutators;
+            weaks = new.weaks;
+          }) new_is);
+      has_words = j.words.1;
+      noted = subst (λ (y : Collector × Collector). HaveNoted (moves_of y.1) y.0.names y.1.names) (λ i. (l.rest i, sym new_is i)) p.noted;
+      forward = p.forward;
+      held = ap (λ (x : Collector). x.mutators.items) new_is ∙ p.held ∙
+          ap (λ (x : Collector). map (promoted_by p.forward) x.mutators.items) l.rest;
+      settled = λ t h. subst (λ (y : Collector × List ℕ).
+          IsSettled t y.0.segments y.1 (registers_of y.0.mutators.items) (queues_of y.0.mutators.items) (moves_of y.0)) (λ i. (
+            sym new_is i,
+            sym j.words.0 i,
+          )) (p.settled t (stopped_then old a l t h));
+      places = λ t h x shown.
+          let shown_then : StandsFor a.segments (words_in a.words) x =
+          subst (λ (y : Segments × List ℕ). StandsFor y.0 y.1 x) (λ i. (sym (segments_same old a l) i, sym l.words.0 i)) shown in
+          let r = p.places t (stopped_then old a l t h) x shown_then in (
+            r.0,
+            subst (λ (y : Collector × Collector). PlacesEach y.0.segments.layout t.world x (map (λ (m : Moved).
+                m.name) (moves_of y.1)) r.0) (λ i. (l.rest i, sym new_is i)) r.1,
+            subst (λ (y : Collector × List ℕ). StandsFor y.0.segments y.1 r.0) (λ i. (sym new_is i, sym j.words.0 i)) r.2,
+          );
+      sound = subst (λ (x : Collector). IsSegments x.segments) (sym new_is) p.sound;
+      marks = subst (λ (y : Collector × Collector). KeepsMarks y.0.segments y.1.segments) (λ i. (l.rest i, sym new_is i)) p.marks;
+      layout = ap (λ (x : Collector). x.segments.layout) new_is ∙ p.layout ∙ ap (λ (x : Collector). x.segments.layout) l.rest;
+      lists = subst (λ (y : Collector × Collector). IsFor y.0.segments.layout y.1.promotion) (λ i. (l.rest i, sym new_is i)) p.lists;
+      copied = subst (λ (y : Collector × Collector × List ℕ × List ℕ). HaveMoved (young_base y.0.segments) (moves_of y.1) y.2 y.3) (λ i. (
+        l.rest i,
+        sym new_is i,
+        l.words.0 i,
+        sym j.words.0 i,
+      )) p.copied;
+    }
+
+-- those of the list lie within the heap's words
+pub lists_inside : (t : Stopped) (c : Collector) → StandsStopped t c → CanList t c → AreInside (words_in c.words) c.weaks.list
+lists_inside t c h can weak d =
+    let l = can.listed.sound (place_of weak) (contains_map place_of c.weaks.list weak d) in
+    let now = can.old.weak weak.weak l.1.0 l.1.1 in
+    let tracked : IsTracked t.world (earlier_of t) weak.weak = IsReached.start weak.weak (
+      t.began,
+      contains_tail t.world (earlier_of t) t.began (contains_head t.began t.later),
+      IsReached.start weak.weak (inr (weak.weak, l.1.0, l.1.1, inl refl)),
+    ) in
+    let placed = h.represents.tracked weak.weak (Weak now.0) tracked now.1 in
+    let same = h.represents.one (record { at = placed.at; name = weak.weak }) (place_of weak) placed.there l.0 (inl refl) in
+    let e : placed.at ≡ weak.at.0 = ap (λ (q : Place). q.at) same in
+    let within = lies_within c.segments.layout (record { at = placed.at; name = weak.weak }) 5 (omega arith) placed.object.lies in
+    let total = h.represents.total in
+    omega (arith, e, within, total)

@@ -1,0 +1,27 @@
+-- The names of what moved are noted, one move after the other.
+use Rattle.std.proofs.Common.{ℕ, ◌≡◌, ◌+◌, ◌<◌, ◌∙◌, List, [], ◌∷◌, ◌++◌, length, map, take, get_or, sym, ap, subst, slice_set}
+use Rattle.std.specs.Prelude.{Contains}
+use Rattle.std.proofs.lemmas.List.{map-append, take_more}
+use Rattle.std.proofs.lemmas.List.Elements.{Contains-get_or}
+use Rattle.nmgc_world_spec.specs.declared.value.Name.{Name}
+use Rattle.nmgc_heap_spec.specs.Moves.{Moved}
+use Rattle.nmgc_minor.specs.Placing.{moved_of}
+use Rattle.nmgc_minor.specs.declared.placing.Move.{Move}
+use Rattle.nmgc_sweep.specs.Names.{HaveNoted, entry_of}
+use Rattle.nmgc_sweep.specs.laws.Names.{one_noted}
+
+-- the entry of a move exists
+pub entry_exists : (moves : List Move) (i : ℕ) (d : Move) (names now : List Name) → i < length moves → length now ≡ length names →
+    ((m : Move) → Contains moves m → entry_of m.to.0 < length names) → entry_of (get_or moves i d).to.0 < length now
+entry_exists moves i d names now low count all = subst (λ (n : ℕ).
+    entry_of (get_or moves i d).to.0 < n) (sym count) (all (get_or moves i d) (Contains-get_or moves i d low))
+
+-- one move more
+pub noted_more : (moves : List Move) (i : ℕ) (d : Move) (old mid new : List Name) → i < length moves →
+    entry_of (get_or moves i d).to.0 < length mid → new ≡ slice_set mid (entry_of (get_or moves i d).to.0) (get_or moves i d).name
+    → HaveNoted (map moved_of (take i moves)) old mid → HaveNoted (map moved_of (take (i + 1) moves)) old new
+noted_more moves i d old mid new low there set h =
+    let m : Move = get_or moves i d in
+    let told : map moved_of (take (i + 1) moves) ≡ map moved_of (take i moves) ++ moved_of m ∷ [] =
+    ap (λ (l : List Move). map moved_of l) (take_more moves i d low) ∙ map-append moved_of (take i moves) (m ∷ []) in
+    subst (λ (l : List Moved). HaveNoted l old new) (sym told) (one_noted (map moved_of (take i moves)) (moved_of m) old mid new there set h)

@@ -1,0 +1,103 @@
+-- What a collector has once a stop has answered.
+use Rattle.std.proofs.Common.{ℕ, ◌≡◌, ◌<◌, ◌≤◌, List, [], ◌∷◌, ◌++◌, refl, sym, ap, subst, ◌∙◌, true, false, Option, Some, None}
+use Rattle.nmgc_journal.specs.declared.report.CycleRow.{CycleRow}
+use Rattle.nmgc_journal.specs.declared.report.End.{End}
+use Rattle.nmgc_journal.specs.declared.report.End.TheVariants as end
+use Rattle.nmgc_journal.specs.declared.report.RoundRows.{RoundRows}
+use Rattle.nmgc_journal.specs.declared.report.StopRow.{StopRow}
+use Rattle.nmgc_script.specs.declared.script.Script.{Script}
+use Rattle.nmgc_run_spec.specs.Run.{Tells, last_state}
+use Rattle.nmgc_run_spec.specs.Slice.{has_left}
+use Rattle.nmgc_run_spec.specs.State.{Plan, State, is_idle, plan_of, free_count, reserve_of}
+use Rattle.nmgc_run_spec.specs.Stop.{IsStop, stop_row, answer_of}
+use Rattle.nmgc_cycle.specs.Shown.{told_cycles}
+use Rattle.nmgc_cycle.specs.declared.collector.Collector.{Collector}
+use Rattle.nmgc_cycle.specs.Bound.{AreFewAtStop}
+use Rattle.nmgc_cycle.specs.Keeps.{IsAfterStop}
+use Rattle.nmgc_cycle.specs.Steps.{StandsAt}
+use Rattle.nmgc_cycle.proofs.stops.Begins.{Begins, IsToldBut}
+use Rattle.nmgc_cycle.proofs.lengths.StopFew.{few_at_stop}
+use Rattle.nmgc_cycle.proofs.stops.StopSteps.{IsLed}
+use Rattle.nmgc_cycle.proofs.stops.Stopped.{is_short_by, is_enough_by, answers_done, answers_on, answers_none, answers_full}
+use Rattle.nmgc_cycle.proofs.stops.Telling.{stands_told}
+use Rattle.nmgc_cycle.proofs.stops.WholeStop.{whole_stop}
+
+-- with a run that came to a state for which it stands, a collector is still
+still : (script : Script) (c : Collector) (rounds : List RoundRows) (stops : List StopRow) (cycles : List CycleRow) (row : StopRow) (t : State) →
+    c.rounds ≡ rounds → c.stops ≡ stops ++ row ∷ [] → told_cycles c ≡ cycles → (told : IsToldBut (plan_of script) rounds stops cycles row t) →
+    StandsAt script c t → AreFewAtStop script c → c.answered ≡ answer_of (plan_of script) t → IsAfterStop script c told.run
+still script c rounds stops cycles row t rounds_are stops_are cycles_are told stands few answers =
+    let at : StandsAt script c (last_state told.run) = subst (λ (s : State). StandsAt script c s) (sym told.last) stands in
+    record {
+      kept = at.kept;
+      at_stop = record {
+        is_run = told.is_run;
+        tells =
+            subst (λ (r : List RoundRows). Tells told.run r c.stops (told_cycles c)) (sym rounds_are)
+            (subst (λ (r : List StopRow). Tells told.run rounds r (told_cycles c)) (sym stops_are)
+            (subst (λ (r : List CycleRow). Tells told.run rounds (stops ++ row ∷ []) r) (sym cycles_are) told.tells));
+        matches = at.matches;
+        answered = answers ∙ ap (λ (s : State). answer_of (plan_of script) s) (sym told.last);
+        heap = at.heap;
+        at_rest = record { nurseries = at.nurseries; empty = at.empty; nothing = at.rest };
+        cycle = at.cycle;
+      };
+      sweeper = at.sweeper;
+      named = at.named;
+      few = few;
+    }
+
+module _ (script : Script) (old new : Collector) (b : Begins script old) (many : ℕ) (led : IsLed script b.began b.state many old new)
+    (rounds_are : new.rounds ≡ old.rounds)
+    (stops : List StopRow) (answered : Option End) (row : StopRow)
+    (stops_are : stops ≡ old.stops ++ row ∷ [])
+    (row_is : row ≡ stop_row led.state many) where
+  abbrev plan : Plan
+  plan = plan_of script
+
+  -- the state that the stop came to
+  abbrev t : State
+  t = led.state
+
+  -- the collector, once its row was told
+  abbrev pub last : Collector
+  last = record new { stops = stops; answered = answered }
+
+  stands : StandsAt script last t
+  stands = stands_told script new last t t refl refl led.stands.matches.collect led.stands.matches.full led.stands
+
+  few : AreFewAtStop script last
+  few = subst (λ (rows : List StopRow). AreFewAtStop script (record new {
+    stops = rows;
+    answered = answered;
+  })) (sym stops_are) (few_at_stop script new old.stops row answered led.few led.begun led.more)
+
+  -- the stop is one of the run, and for the run with it the collector stands
+  abbrev pub Goes : Type 0
+  Goes = (rows : List CycleRow) × (stop : IsStop plan b.began b.state t row rows) × IsAfterStop script last (b.goes_on t row rows stop).run
+
+  goes : answered ≡ answer_of plan t → Goes
+  goes answers =
+      let rows : List CycleRow = led.first ++ led.own in
+      let stop : IsStop plan b.began b.state t row rows =
+      whole_stop plan b.began b.state led.promoted led.closed led.ended t many led.first led.own row led.promotes led.closes led.ends
+      led.proceeds row_is in
+      let told = b.goes_on t row rows stop in
+      (rows, stop, still script last old.rounds old.stops (told_cycles old ++ rows) row t rounds_are stops_are led.cycles told stands few answers)
+
+  -- the end of the run
+  pub done : has_left t.left ≡ false → is_idle t.progress ≡ true → answered ≡ Some end.Done → Goes
+  done none quiet is = goes (is ∙ answers_done plan t none quiet)
+
+  -- a round follows, since a cycle is in progress
+  pub on : has_left t.left ≡ false → is_idle t.progress ≡ false → answered ≡ None → Goes
+  on none busy is = goes (is ∙ answers_on plan t none busy)
+
+  module _ (free reserve : ℕ) (some : has_left t.left ≡ true) (free_is : free ≡ free_count t) (reserve_is : reserve ≡ reserve_of plan) where
+    -- a round follows, since commands are left
+    pub goes_on : reserve ≤ free → answered ≡ None → Goes
+    goes_on more is = goes (is ∙ answers_none plan t some (is_enough_by plan t free reserve some free_is reserve_is more))
+
+    -- short of segments
+    pub full : free < reserve → answered ≡ Some (end.HeapFull free reserve) → Goes
+    full less is = goes (is ∙ answers_full plan t free reserve free_is reserve_is (is_short_by plan t free reserve some free_is reserve_is less))

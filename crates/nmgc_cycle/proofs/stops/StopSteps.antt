@@ -1,0 +1,240 @@
+-- The steps of a stop, one after another, from what it begins with: after each the collector stands for a state of the run at this stop.
+use Rattle.std.proofs.Common.{ℕ, ◌≡◌, ◌↔◌, ◌+◌, ◌<◌, ◌≤◌, List, ◌++◌, length, sym, ap, subst, ◌∙◌, arith, inl, inr, Bool, IsTrue, append_assoc}
+use Rattle.std.specs.Prelude.{slice_index}
+use Rattle.nmgc_world_spec.specs.World.{World}
+use Rattle.nmgc_journal.specs.declared.report.CycleRow.{CycleRow}
+use Rattle.nmgc_journal.specs.declared.report.RoundRows.{RoundRows}
+use Rattle.nmgc_journal.specs.declared.report.StopRow.{StopRow}
+use Rattle.nmgc_script.specs.declared.script.Script.{Script}
+use Rattle.nmgc_sweep.specs.Sweeper.{AreLeft}
+use Rattle.nmgc_journal.specs.declared.report.Phase.TheVariants as phase
+use Rattle.nmgc_object.specs.declared.layout.Layout.{Layout}
+use Rattle.nmgc_run_spec.specs.Closing.{ClosesOrWaits}
+use Rattle.nmgc_run_spec.specs.Stop.{Promotes, EndsOrWaits, Proceeds}
+use Rattle.nmgc_run_spec.specs.Slice.{has_left}
+use Rattle.nmgc_run_spec.specs.State.{State, Progress, idle, marking, sweeping, phase_of, plan_of, layout_of}
+use Rattle.nmgc_run_laws.specs.Statements.{answered_count}
+use Rattle.nmgc_cycle.specs.declared.collector.Collector.{Collector}
+use Rattle.nmgc_cycle.specs.declared.progress.Marking.{Marking}
+use Rattle.nmgc_cycle.specs.declared.progress.Sweeping.{Sweeping}
+use Rattle.nmgc_cycle.specs.declared.progress.Progress.{Progress as Doing}
+use Rattle.nmgc_cycle.specs.declared.progress.Progress.TheVariants as doing
+use Rattle.nmgc_cycle.specs.Cycles.{HasTaken, Closes, HasClosed, Ends, Begins as BeginsThen}
+use Rattle.nmgc_cycle.specs.Bound.{AreFew, HasMore}
+use Rattle.nmgc_cycle.specs.Full.{HasFinished, Proceeds as ProceedsThen}
+use Rattle.nmgc_cycle.specs.FullLaws.{StandsAtStop}
+use Rattle.nmgc_cycle.specs.Keeps.{CanStop, IsWellFormed, Sweeps}
+use Rattle.nmgc_cycle.specs.Shown.{seen, words_in, phase_in, sweeper_in, told_cycles}
+use Rattle.nmgc_script.specs.Limits.{IsInLimits}
+use Rattle.nmgc_cycle.specs.Steps.{StandsPromoted, StandsWithin, StandsAt}
+use Rattle.nmgc_cycle.specs.StopLaws.{HasStopLaws}
+use Rattle.nmgc_cycle.specs.Stopping.{HasPromoted, HasListed, SomeIsLeft}
+use Rattle.nmgc_cycle.proofs.stops.AfterPromotion as after
+use Rattle.nmgc_cycle.proofs.stops.Begins.{Begins, begins}
+use Rattle.nmgc_cycle.proofs.cycles.FullCycle.{full_due, proceeding_keeps}
+use Rattle.nmgc_cycle.proofs.lengths.FullFew.{fresh_where_due, proceeding_few, proceeding_begun, proceeding_more}
+use Rattle.nmgc_cycle.proofs.stops.Promoting as promoting
+use Rattle.nmgc_cycle.proofs.lengths.StopFew.{promoting_few, taking_few, closing_few, closing_goes, ending_few, ending_more}
+use Rattle.nmgc_cycle.proofs.rounds.WhatIsLeft.{left_is}
+use Rattle.nmgc_cycle.proofs.stops.WholeStop.{KeepsOn, closing_keeps, ending_keeps}
+
+-- what a stop tells of rounds and stops, and of how many commands were answered: of that its steps change nothing
+abbrev pub told : Collector → List RoundRows × List StopRow × List ℕ
+told c = (c.rounds, c.stops, c.positions.items)
+
+-- the end changes nothing but the cycle and its row
+ends_told : (stop : ℕ) (p : Doing) (old new : Collector) → Ends stop p old new → (told new ≡ told old) × (new.begun ≡ old.begun)
+ends_told stop doing.Idle old new h = (ap told h, ap (λ (x : Collector). x.begun) h)
+ends_told stop (doing.Marking m) old new h = (ap told h, ap (λ (x : Collector). x.begun) h)
+ends_told stop (doing.Sweeping w) old new (inl h) = (ap told h.1, ap (λ (x : Collector). x.begun) h.1)
+ends_told stop (doing.Sweeping w) old new (inr h) = (ap told h.1, ap (λ (x : Collector). x.begun) h.1)
+
+begins_told : (trigger stop : ℕ) (old new : Collector) → BeginsThen trigger stop old new → told new ≡ told old
+begins_told trigger stop old new (inl h) = ap told h.1.is ∙ ap told h.1.starts.rest
+begins_told trigger stop old new (inr h) = ap told h.1
+
+-- and so through a finish and a full cycle
+
+finished_told : (stop : ℕ) (old new : Collector) → HasFinished stop old new → told new ≡ told old
+finished_told stop old new f = (ends_told stop f.swept.progress f.swept new f.ends).0 ∙ ap told f.sweeps.rest ∙ ap told f.closes.rest
+
+pub proceeds_told : (trigger : ℕ) (some : Bool) (stop : ℕ) (old new : Collector) → ProceedsThen trigger some stop old new → told new ≡ told old
+proceeds_told trigger some stop old new (inl x) =
+    let d = x.1 in
+    ap told d.is ∙ finished_told stop d.started d.last d.again ∙ ap told d.starts.is ∙ ap told d.starts.starts.rest ∙ finished_told stop old d.idled d.first
+proceeds_told trigger some stop old new (inr x) = begins_told trigger stop old new x.1
+
+-- the steps of a stop in the run, and the state to which they lead
+pub record IsLed (script : Script) (began : World) (s : State) (many : ℕ) (old new : Collector) : Type 0 where
+  pub promoted : State
+  pub promotes : Promotes (layout_of (plan_of script)) began s promoted many
+  pub closed : State
+  pub closes : ClosesOrWaits script.config.quota promoted.progress promoted closed
+  pub ended : State
+  pub first : List CycleRow
+  pub ends : EndsOrWaits closed.progress closed ended first
+  pub state : State
+  pub own : List CycleRow
+  pub proceeds : Proceeds (plan_of script) ended state own
+  pub cycles : told_cycles new ≡ told_cycles old ++ (first ++ own)
+  pub stands : StandsAt script new state
+  pub number : state.number ≡ s.number
+  pub left : state.left ≡ s.left
+  pub few : AreFew (Unit {0}) script new (length old.stops + 1)
+  pub begun : new.begun ≤ length old.stops + 1
+  pub more : HasMore new.progress
+
+-- while a cycle is in progress, its sweeper has all segments left that wait
+left_marking : (s : State) (c : Collector) (q : Progress) → phase_in c.progress ≡ phase_of q → Sweeps q s c → (m : Marking) →
+    c.progress ≡ doing.Marking m → AreLeft c.segments m.sweeper
+left_marking s c idle e h m is = absurd (let bad : phase.Marking ≡ phase.Idle = ap phase_in (sym is) ∙ e in cc)
+left_marking s c (marking k) e h m is = subst (λ (p : Doing). AreLeft c.segments (sweeper_in p)) is h.0.left
+left_marking s c (sweeping k closed) e h m is = subst (λ (p : Doing). AreLeft c.segments (sweeper_in p)) is h.0
+
+left_sweeping : (s : State) (c : Collector) (q : Progress) → phase_in c.progress ≡ phase_of q → Sweeps q s c → (w : Sweeping) →
+    c.progress ≡ doing.Sweeping w → AreLeft c.segments w.sweeper
+left_sweeping s c idle e h w is = absurd (let bad : phase.Sweeping ≡ phase.Idle = ap phase_in (sym is) ∙ e in cc)
+left_sweeping s c (marking k) e h w is = subst (λ (p : Doing). AreLeft c.segments (sweeper_in p)) is h.0.left
+left_sweeping s c (sweeping k closed) e h w is = subst (λ (p : Doing). AreLeft c.segments (sweeper_in p)) is h.0
+
+module _ (laws : HasStopLaws) (script : Script) (old p : Collector) (limits : IsInLimits script) (can : CanStop script old) (h : HasPromoted old p)
+    (listed : HasListed old p) where
+  abbrev b : Begins script old
+  b = begins script old limits can
+
+  abbrev kept : IsWellFormed script old
+  kept = after.kept_of script old can
+
+  -- the state that the promotion left
+  abbrev pub first : State
+  first = promoting.t laws.promotion script old p kept b h
+
+  pub stands_first : StandsPromoted script p first
+  stands_first = promoting.promoted_stands laws.promotion script old p kept b h listed
+
+  -- few rounds follow
+  few_first : AreFew (Unit {0}) script p (length old.stops + 1)
+  few_first = promoting_few script old p (length old.stops + 1) (layout_of (plan_of script)) b.began b.state first (length p.promotion.moves)
+      (seen old).words (words_in p.words) h (after.promotes script old p kept b h) b.stands stands_first.heap.holds.stands b.few
+
+  module _ (a : Collector) (taken : HasTaken p a) where
+    pub stands_within : StandsWithin script a first
+    stands_within = laws.adding script p a first limits stands_first taken
+
+    few_within : AreFew (Unit {0}) script a (length old.stops + 1)
+    few_within = taking_few script p a (length old.stops + 1) (words_in p.words) first.allocation stands_first.heap.holds.stands taken few_first
+
+    module _ (number : ℕ) (number_is : number ≡ length old.stops) (c : Collector) (closed : HasClosed Closes number a c) where
+      pub close_led : (t : State) × ClosesOrWaits script.config.quota first.progress first t × StandsAt script c t
+      close_led = laws.closing script a c first limits stands_within (subst (λ (n : ℕ). HasClosed Closes n a c) (number_is ∙ sym b.number) closed)
+
+      closed_on : KeepsOn first close_led.0 × (close_led.0.allocation ≡ first.allocation)
+      closed_on = closing_keeps script.config.quota first.progress first close_led.0 close_led.1
+
+      few_closed : AreFew (Unit {0}) script c (length old.stops + 1)
+      few_closed =
+          let count : length a.segments.segments ≡ script.config.segments = stands_within.kept.sound.count ∙
+          ap (λ (l : Layout). l.segments) stands_within.kept.layout in
+          closing_few script a c (length old.stops + 1) number (words_in a.words) first.allocation stands_within.heap.holds.stands count
+          (left_marking first a first.progress stands_within.matches.phase stands_within.sweeper) closed few_within
+
+      module _ (e : Collector) (ends : Ends number c.progress c e) where
+        pub end_led : (t : State) × (rows : List CycleRow) × EndsOrWaits close_led.0.progress close_led.0 t rows ×
+            (told_cycles e ≡ told_cycles c ++ rows) × StandsAt script e t
+        end_led = laws.ending script c e close_led.0 limits close_led.2 (subst (λ (n : ℕ). Ends n c.progress c e) (number_is ∙ sym b.number ∙
+            sym closed_on.0.number) ends)
+
+        ended_on : KeepsOn close_led.0 end_led.0 × (end_led.0.allocation ≡ close_led.0.allocation)
+        ended_on = ending_keeps close_led.0.progress close_led.0 end_led.0 end_led.1 end_led.2
+
+        -- where the next cycle may begin
+        abbrev pub last_ended : State
+        last_ended = end_led.0
+
+        pub stands_ended : StandsAt script e last_ended
+        stands_ended = end_led.4
+
+        -- no cycle began yet
+        pub begun_is : e.begun ≡ old.begun
+        begun_is = (ends_told number c.progress c e ends).1 ∙ ap (λ (x : Collector). x.begun) closed.rest ∙
+            ap (λ (x : Collector). x.begun) taken.rest ∙ ap (λ (x : Collector). x.begun) h.rest
+
+        few_ended : AreFew (Unit {0}) script e (length old.stops + 1)
+        few_ended = ending_few script c e (length old.stops + 1) number ends few_closed
+
+        more_ended : HasMore e.progress
+        more_ended = ending_more script c e (length old.stops + 1) number ends (closing_goes number a c closed)
+            (left_sweeping close_led.0 c close_led.0.progress close_led.2.matches.phase close_led.2.sweeper)
+
+        -- nothing was told yet
+        ended_told : told e ≡ told old
+        ended_told = (ends_told number c.progress c e ends).0 ∙ ap told closed.rest ∙ ap told taken.rest ∙ ap told h.rest
+
+        left_on : last_ended.left ≡ b.state.left
+        left_on = ended_on.0.left ∙ closed_on.0.left
+
+        number_on : last_ended.number ≡ b.state.number
+        number_on = ended_on.0.number ∙ closed_on.0.number
+
+        -- the collector stands for a state at this stop
+        pub at_this_stop : StandsAtStop number e
+        at_this_stop = (script, last_ended, limits, number_on ∙ b.number ∙ sym number_is, stands_ended)
+
+        module _ (n : Collector) (some : Bool) (some_is : IsTrue some ↔
+            SomeIsLeft script.threads e.positions.items) (proceeds : ProceedsThen script.config.trigger some number e n) where
+          -- commands are left, by what was answered of each program
+          left_told : some ≡ has_left b.state.left
+          left_told =
+              let positions : (k : ℕ) → k < length script.threads →
+              slice_index e.positions.items k ≡ answered_count old.rounds k = λ k lt. stands_ended.kept.positions k lt ∙
+              ap (λ (x : List RoundRows × List StopRow × List ℕ). answered_count x.0 k) ended_told in
+              sym (left_is script old.rounds b.state.left e.positions.items b.left positions some some_is)
+
+          left_ended : some ≡ has_left last_ended.left
+          left_ended = left_told ∙ ap has_left (sym left_on)
+
+          proceed_led : (t : State) × (rows : List CycleRow) × Proceeds (plan_of script) last_ended t rows ×
+              (told_cycles n ≡ told_cycles e ++ rows) × StandsAt script n t
+          proceed_led = laws.proceeding script e n last_ended some limits stands_ended left_ended (subst (λ (k : ℕ).
+              ProceedsThen script.config.trigger some k e n) (number_is ∙ sym b.number ∙ sym number_on) proceeds)
+
+          proceeded_on : KeepsOn last_ended proceed_led.0
+          proceeded_on = proceeding_keeps (plan_of script) last_ended proceed_led.0 proceed_led.1 proceed_led.2
+
+          proceeded_told : told n ≡ told e
+          proceeded_told = proceeds_told script.config.trigger some number e n proceeds
+
+          pub rounds_are : n.rounds ≡ old.rounds
+          rounds_are = ap (λ (x : List RoundRows × List StopRow × List ℕ). x.0) (proceeded_told ∙ ended_told)
+
+          pub stops_are : n.stops ≡ old.stops
+          stops_are = ap (λ (x : List RoundRows × List StopRow × List ℕ). x.1) (proceeded_told ∙ ended_told)
+
+          pub led : IsLed script b.began b.state (length p.promotion.moves) old n
+          led = record {
+            promoted = first;
+            promotes = after.promotes script old p kept b h;
+            closed = close_led.0;
+            closes = close_led.1;
+            ended = last_ended;
+            first = end_led.1;
+            ends = end_led.2;
+            state = proceed_led.0;
+            own = proceed_led.1;
+            proceeds = proceed_led.2;
+            cycles =
+                let before : told_cycles c ≡ told_cycles old = ap told_cycles closed.rest ∙ ap told_cycles taken.rest ∙ ap told_cycles h.rest in
+                let ended_cycles : told_cycles e ≡ told_cycles old ++ end_led.1 = end_led.3 ∙ ap (λ (rows : List CycleRow). rows ++ end_led.1) before in
+                proceed_led.3 ∙ ap (λ (rows : List CycleRow). rows ++ proceed_led.1) ended_cycles ∙ append_assoc (told_cycles old) end_led.1 proceed_led.1;
+            stands = proceed_led.4;
+            number = proceeded_on.number ∙ number_on;
+            left = proceeded_on.left ∙ left_on;
+            few = proceeding_few script e n (length old.stops + 1) number some proceed_led.0 stands_ended.kept.layout (λ none.
+                (laws.begin_ready script e last_ended limits stands_ended none).stood) (words_in n.words) proceed_led.4.heap.holds.stands proceeds
+                few_ended (ap (λ (x : List RoundRows × List StopRow × List ℕ). x.0) proceeded_told) (λ due.
+                fresh_where_due (plan_of script) last_ended proceed_led.0 proceed_led.1 proceed_led.2
+                (full_due script e last_ended some stands_ended left_ended due));
+            begun = (let own_begun = proceeding_begun script.config.trigger some number e n proceeds in let before = begun_is in
+                let few = b.begun in omega (arith, own_begun, before, few));
+            more = proceeding_more script.config.trigger some number e n proceeds more_ended;
+          }

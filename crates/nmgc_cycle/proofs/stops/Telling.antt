@@ -1,0 +1,107 @@
+-- What a collector tells, what is asked of it and what it answered say nothing of heap and cycle: with others in
+-- their place it stands for the same state still.
+use Rattle.std.proofs.Common.{◌≡◌, List, refl, sym, subst}
+use Rattle.nmgc_heap_spec.specs.Places.{Place}
+use Rattle.nmgc_script.specs.declared.script.Script.{Script}
+use Rattle.nmgc_collector_laws.specs.Collector.{HoldsInCycle, IsPacedAtStop}
+use Rattle.nmgc_run_laws.specs.Sound.{IsSoundState}
+use Rattle.nmgc_run_spec.specs.State.{State, Progress, idle, marking, sweeping, plan_of}
+use Rattle.nmgc_blocks_spec.specs.Cycle.{Cycle}
+use Rattle.nmgc_cycle.specs.declared.collector.Collector.{Collector}
+use Rattle.nmgc_cycle.specs.Keeps.{IsWellFormed, Sweeps}
+use Rattle.nmgc_cycle.specs.Shown.{seen}
+use Rattle.nmgc_cycle.specs.Steps.{StandsAt}
+
+-- its parts are as they are to be, wherever its cycle stands
+pub kept_told : (script : Script) (old new : Collector) → new ≡ record old {
+  stops = new.stops;
+  cycles = new.cycles;
+  progress = new.progress;
+  collect = new.collect;
+  full = new.full;
+  turns = new.turns;
+  upper_turns = new.upper_turns;
+  answered = new.answered;
+} → IsWellFormed script old →
+    IsWellFormed script new
+kept_told script old new rest k = subst (λ (x : Collector). IsWellFormed script x) (sym rest) (record {
+  layout = k.layout;
+  sound = k.sound;
+  lists = k.lists;
+  entries = k.entries;
+  has_words = k.has_words;
+  count = k.count;
+  own = λ n m e. let o = k.own n m e in record { number = o.number; layout = o.layout; whole = o.whole; no_replies = o.no_replies; line = o.line };
+  inbox = k.inbox;
+  positions_are = k.positions_are;
+  positions = k.positions;
+  no_ends = k.no_ends;
+  room = k.room;
+  workers = k.workers;
+})
+
+module _ (script : Script) (old new : Collector) (s t : State) where
+  abbrev told : Collector
+  told = record old { stops = new.stops; collect = new.collect; full = new.full; answered = new.answered }
+
+  abbrev then_state : State
+  then_state = record s { collect = t.collect; full = t.full }
+
+  sound_told : IsSoundState (plan_of script) s → IsSoundState (plan_of script) then_state
+  sound_told h = record {
+    world = h.world;
+    able = record { programs = h.able.programs; mutators = h.able.mutators; registers = h.able.registers; serials = h.able.serials };
+    sound_blocks = h.sound_blocks;
+    known = h.known;
+    cycle = h.cycle;
+    earlier = h.earlier;
+    blocks = h.blocks;
+  }
+
+  cycle_told : (q : Progress) (places : List Place) → HoldsInCycle (λ (k : Cycle).
+      IsPacedAtStop script.config.quota k s (seen old)) q s (seen old) places →
+      HoldsInCycle (λ (k : Cycle). IsPacedAtStop script.config.quota k then_state (seen told)) q then_state (seen told) places
+  cycle_told idle places h = h
+  cycle_told (marking k) places h = (
+    record {
+      core = h.0.core;
+      machine = h.0.machine;
+      tied = h.0.tied;
+      remembered = h.0.remembered;
+      low = h.0.low;
+      room = h.0.room;
+      queue_room = h.0.queue_room;
+      from_is = h.0.from_is;
+      noted = h.0.noted;
+      nothing_listed = h.0.nothing_listed;
+    },
+    record { scanned = h.1.scanned; not_done = h.1.not_done },
+  )
+  cycle_told (sweeping k closed) places h = h
+
+  sweeper_told : (q : Progress) → Sweeps q s old → Sweeps q then_state told
+  sweeper_told idle h = tt
+  sweeper_told (marking k) h = (record { notes = h.0.notes; left = h.0.left }, h.1, h.2, h.3)
+  sweeper_told (sweeping k closed) h = h
+
+  stands_there : new.collect ≡ t.collect → new.full ≡ t.full → StandsAt script old s → StandsAt script told then_state
+  stands_there collect full h = record {
+    kept = kept_told script old told refl h.kept;
+    sound = sound_told h.sound;
+    course = h.course;
+    matches = record { phase = h.matches.phase; begun = h.matches.begun; collect = collect; full = full };
+    heap = record { places = h.heap.places; all = h.heap.all; holds = h.heap.holds; listed = h.heap.listed };
+    nurseries = h.nurseries;
+    empty = h.empty;
+    rest = h.rest;
+    cycle = cycle_told s.progress h.heap.places h.cycle;
+    sweeper = sweeper_told s.progress h.sweeper;
+    named = h.named;
+  }
+
+  -- a state of which the same is asked
+  pub stands_told : new ≡ told → t ≡ then_state → new.collect ≡ t.collect → new.full ≡ t.full → StandsAt script old s → StandsAt script new t
+  stands_told new_is state_is collect full h = subst (λ (z : Collector × State). StandsAt script z.0 z.1) (λ i. (
+    sym new_is i,
+    sym state_is i,
+  )) (stands_there collect full h)

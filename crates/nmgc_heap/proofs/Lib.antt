@@ -1,2 +1,0 @@
-mod SmallHeaps
-mod Stood

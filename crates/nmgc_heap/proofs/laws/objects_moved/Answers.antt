@@ -1,9 +1,0 @@
-use Rattle.nmgc_heap.specs.laws.Moving.{represents_moved}
-use Rattle.nmgc_heap.specs.laws.Roots.{roots_moved}
-use Rattle.nmgc_heap.proofs.laws.objects_moved.Goals as goal
-
-pub returns : goal.returns
-returns g c = record {
-  words = λ layout base later earlier. represents_moved layout base later earlier g.K.KnownNodes.knows;
-  roots = λ layout base later earlier. roots_moved layout base later earlier g.K.KnownNodes.knows;
-}

@@ -1,9 +1,0 @@
-use Rattle.nmgc_heap.specs.laws.Changes.{places_added}
-use Rattle.nmgc_heap.specs.laws.Roots.{roots_added}
-use Rattle.nmgc_heap.proofs.laws.places_added.Goals as goal
-
-pub returns : goal.returns
-returns g c = record {
-  words = λ layout earlier. places_added layout earlier g.K.KnownNodes.knows;
-  roots = roots_added;
-}

@@ -1,0 +1,2 @@
+pub mod SmallHeaps
+pub mod Stood

@@ -1,0 +1,43 @@
+-- What is written for a node, in the terms of its shape and of the parts of an object: statements of laws.
+use Rattle.std.specs.Prelude.{ℕ, ◌≡◌, ◌≢◌, ◌≤◌, List, slice_index, slice_get, Contains, Some}
+use Rattle.nmgc_world_spec.specs.declared.value.Name.{Name}
+use Rattle.nmgc_world_spec.specs.declared.node.Node.{Node}
+use Rattle.nmgc_world_spec.specs.World.{World, node_of, IsWorld}
+use Rattle.nmgc_world_spec.specs.Step.{shared_name}
+use Rattle.nmgc_world_laws.specs.Shape.{kind_of, tag_of, part_count, words_of}
+use Rattle.nmgc_world_laws.specs.Limits.{IsNodeWithin, IsWithin}
+use Rattle.nmgc_object.specs.Size.{header_place, name_place, field_place, object_size}
+use Rattle.nmgc_object.specs.Places.{IsSegmentSize}
+use Rattle.nmgc_object.specs.Words.{header_word, name_word, IsHeader}
+use Rattle.nmgc_object.specs.declared.layout.Layout.{Layout}
+use Rattle.nmgc_heap_spec.specs.Shape.{Slot, header_of, size_of, slots_of}
+use Rattle.nmgc_heap_spec.specs.Tracked.{IsTracked}
+use Rattle.nmgc_heap_spec.specs.Places.{Place, Fills, LiesWell}
+use Rattle.nmgc_heap_spec.specs.Represents.{Represents}
+
+-- the header of a node is its shape, and its object has as many words as the header says, and as the shape has
+abbrev pub HeaderIsShape : Type 0
+HeaderIsShape = (node : Node) → ((header_of node).kind ≡ kind_of node) × ((header_of node).tag ≡ tag_of node) ×
+    ((header_of node).fields ≡ part_count node) × (size_of node ≡ object_size (header_of node)) × (size_of node ≡ words_of node)
+
+-- a node within the limits of a script, but for g, has a header that can be written, and an object no larger than a segment
+abbrev pub NodeIsWritten : Type 0
+NodeIsWritten = (words : ℕ) (name : Name) (node : Node) → IsSegmentSize words → name ≢ shared_name → IsNodeWithin words name node →
+    IsHeader (header_of node) × (size_of node ≤ words)
+
+-- in a world within them every node has such a header, and every object but g is no larger than a segment
+abbrev pub WorldIsWritten : Type 0
+WorldIsWritten = (words : ℕ) (w : World) → IsSegmentSize words → IsWorld w → IsWithin words w → (name : Name) (node : Node) →
+    node_of w name ≡ Some node → IsHeader (header_of node) × (name ≢ shared_name → size_of node ≤ words)
+
+-- the parts of an object in words that represent a world lie where the parts of an object lie: its name, and of a
+-- tracked one its header, each field of which something is said, and its extent
+pub record IsWritten (layout : Layout) (places : List Place) (words : List ℕ) (p : Place) (node : Node) : Type 0 where
+  pub header : slice_index words (header_place p.at) ≡ header_word (header_of node)
+  pub fields : (i : ℕ) (slot : Slot) → slice_get (slots_of node) i ≡ Some slot → Fills (Contains places) (slice_index words (field_place p.at i)) slot
+  pub lies : LiesWell layout p (object_size (header_of node))
+
+abbrev pub PartsAreWritten : (Name → Node → Type 0) → Type 0
+PartsAreWritten K = (layout : Layout) (earlier : List World) (places : List Place) (w : World) (words : List ℕ) →
+    Represents layout earlier K places w words → (p : Place) → Contains places p → (slice_index words (name_place p.at) ≡ name_word p.name) ×
+    ((node : Node) → IsTracked w earlier p.name → node_of w p.name ≡ Some node → IsWritten layout places words p node)

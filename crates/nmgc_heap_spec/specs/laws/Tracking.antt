@@ -1,0 +1,79 @@
+-- Which names are tracked, where worlds are fewer or a world changes.
+use Rattle.std.proofs.Common.{◌≡◌, List, [], ◌∷◌, inl, inr, sym, subst, Some}
+use Rattle.std.specs.Prelude.{Contains}
+use Rattle.nmgc_world_spec.specs.declared.value.Name.{Name}
+use Rattle.nmgc_world_spec.specs.declared.value.Value.TheVariants.{Ref}
+use Rattle.nmgc_world_spec.specs.declared.node.Node.{Node}
+use Rattle.nmgc_world_spec.specs.declared.node.Node.TheVariants.{Weak}
+use Rattle.nmgc_world_spec.specs.World.{World, node_of}
+use Rattle.nmgc_world_spec.specs.Reach.{RefersTo, IsReached, start, field}
+use Rattle.nmgc_lists.specs.laws.Items.{contains_head, contains_tail, contains_cases, nothing_in as no_more}
+use Rattle.nmgc_world_spec.specs.Wide.{IsWide, IsWideRoot, IsOfWeak}
+use Rattle.nmgc_heap_spec.specs.Shape.{holds, slots_of, free_slots}
+use Rattle.nmgc_heap_spec.specs.Tracked.{IsTracked, IsWideIn}
+use Rattle.nmgc_heap_spec.specs.laws.Slots.{slot_held, free_held}
+
+-- what more names reach is more
+pub reached_more : (w : World) (P Q : Name → Type 0) → ((n : Name) → P n → Q n) → (name : Name) → IsReached w P name → IsReached w Q name
+reached_more w P Q more name (start n p) = start n (more n p)
+reached_more w P Q more name (field n target r to) = field n target (reached_more w P Q more n r) to
+
+-- what is reached has what the first names have and strong fields keep
+pub reached_in : (w : World) (P Q : Name → Type 0) → ((n : Name) → P n → Q n) → ((n target : Name) → Q n → RefersTo w n target → Q target) →
+    (name : Name) → IsReached w P name → Q name
+reached_in w P Q first next name (start n p) = first n p
+reached_in w P Q first next name (field n target r to) = next n target (reached_in w P Q first next n r) to
+
+-- of fewer earlier worlds, fewer names are tracked; the world itself is no further one
+pub tracked_more : (w : World) (later earlier : List World) → ((e : World) → Contains later e → Contains (w ∷ earlier) e) → (name : Name) →
+    IsTracked w later name → IsTracked w earlier name
+tracked_more w later earlier more name t =
+    reached_more w (IsWideIn (w ∷ later)) (IsWideIn (w ∷ earlier))
+    (λ n i. (
+      i.0,
+      elim (contains_cases w later i.0 i.1) [
+        | inl e ↦ subst (λ (x : World). Contains (w ∷ earlier) x) e (contains_head w earlier)
+        | inr c ↦ more i.0 c
+      ],
+      i.2,
+    ))
+    name t
+
+-- tracked names have what the wide reach of the world has, if that of each earlier one has it and strong fields keep it
+pub tracked_in : (w : World) (earlier : List World) (Q : Name → Type 0) → ((n : Name) → IsWideRoot w n → Q n) →
+    ((e : World) (n : Name) → Contains earlier e → IsWide e n → Q n) → ((n target : Name) → Q n → RefersTo w n target → Q target) → (name : Name) →
+    IsTracked w earlier name → Q name
+tracked_in w earlier Q root past next name t =
+    reached_in w (IsWideIn (w ∷ earlier)) Q
+    (λ n i. elim (contains_cases w earlier i.0 i.1) [
+      | inl e ↦ reached_in w (IsWideRoot w) Q root next n (subst (λ (x : World). IsWide x n) (sym e) i.2)
+      | inr c ↦ past i.0 n c i.2
+    ])
+    next name t
+
+-- what a slot of a tracked name refers to is tracked
+pub slot_tracked : (w : World) (earlier : List World) (name : Name) (node : Node) (n : Name) → IsTracked w earlier name →
+    node_of w name ≡ Some node → Contains (slots_of node) (holds (Ref n)) → IsTracked w earlier n
+slot_tracked w earlier name node n t e c = elim (slot_held node (Ref n) c) [
+  | inl s ↦ field name n t (node, e, s)
+  | inr p ↦
+      let alive : node_of w name ≡ Some (Weak (Some p.0)) = cc in
+      let of : IsOfWeak name p.0 n = elim (contains_cases p.0.key (p.0.value ∷ p.0.finaliser ∷ []) (Ref n) p.2) [
+        | inl a ↦ inr (inl a)
+        | inr d ↦ elim (contains_cases p.0.value (p.0.finaliser ∷ []) (Ref n) d) [
+          | inl a ↦ inr (inr (inl a))
+          | inr f ↦ elim (contains_cases p.0.finaliser [] (Ref n) f) [ inl a ↦ inr (inr (inr a)) | inr g ↦ absurd (no_more (Ref n) g) ]
+        ]
+      ] in
+      let wide : IsWideRoot w n = inr (name, p.0, alive, of) in
+      start n (w, contains_head w earlier, start n wide)
+]
+
+-- a free variable in an earlier world of a name of its wide reach refers to a tracked one
+pub free_tracked : (w e : World) (earlier : List World) (name : Name) (before : Node) (n : Name) → Contains earlier e → IsWide e name →
+    node_of e name ≡ Some before → Contains (free_slots before) (holds (Ref n)) → IsTracked w earlier n
+free_tracked w e earlier name before n c wide was held = start n (
+  e,
+  contains_tail w earlier e c,
+  field name n wide (before, was, free_held before (Ref n) held),
+)

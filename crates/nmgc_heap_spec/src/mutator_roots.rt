@@ -1,0 +1,110 @@
+//! What a mutator has outside the words, where it lies.
+//!
+//! At a stop registers and finaliser queues are roots, for promotion and for the snapshot of a cycle; a closing adds to
+//! the queues. With the nursery come the lists that the round left. All of it lies in the mutators, which stand above this
+//! crate. So whoever reads or changes it does so over this trait, one mutator after the other, and nothing is taken off
+//! a mutator and given back.
+//!
+//! Easy to get wrong: to change the registers is not to change the queue, and neither changes what the round left. The
+//! laws say so, and without them a caller that knows nothing of the mutator would know nothing of one part once another
+//! was changed.
+ghost use Rattle.std.specs.Prelude.{◌≡◌, ℕ, List, [], length};
+ghost use Rattle.std.specs.Borrow.{sem, Lends, Array, u64};
+ghost use Rattle.nmgc_object.specs.FinQueue.{FinQueue as Queue};
+ghost use Rattle.nmgc_object.specs.contracts.fin_queue.FinQueue as queues;
+ghost use Rattle.nmgc_object.specs.declared.layout.Nursery.{Nursery as NurserySeen};
+ghost use Rattle.nmgc_object.specs.declared.words.Address.{Address as Place};
+ghost use Rattle.nmgc_heap_spec.specs.Emptied.{emptied};
+
+use nmgc_object::{Address, FinQueue, Nursery};
+
+/// A mutator at a stop, as far as the collector reads and changes it. No call takes memory.
+pub trait MutatorRoots {
+    // What the calls below answer.
+    ghost registers: { Self → List ℕ };
+
+    ghost queue: { Self → Queue };
+
+    ghost nursery: { Self → NurserySeen };
+
+    ghost recorded: { Self → List Place };
+
+    ghost young_weaks: { Self → List Place };
+
+    // The mutator with other words in its registers.
+    ghost with_registers: { Self → List ℕ → Self };
+
+    // The mutator with another queue.
+    ghost with_queue: { Self → Queue → Self };
+
+    // The mutator whose nursery and lists of the round were emptied.
+    ghost after_stop: { Self → Self };
+
+    /// The field words of its registers.
+    fn registers(&self) -> &[u64]
+        ensures { result.now ≡ registers self.now };
+
+    /// The same, to be changed.
+    fn registers_mut(&mut self) -> &mut [u64]
+        ensures* writes_back { sem 𝓛 (Lends Self.row (Array u64 0) self.entry result (with_registers self.entry.now)) }
+        ensures value { result.now ≡ registers self.old };
+
+    /// The queue of its finalisers.
+    fn queue(&self) -> &FinQueue
+        ensures { result.now ≡ queue self.now };
+
+    /// The same, to be changed.
+    fn queue_mut(&mut self) -> &mut FinQueue
+        ensures* writes_back { sem 𝓛 (Lends Self.row queues.the_row self.entry result (with_queue self.entry.now)) }
+        ensures value { result.now ≡ queue self.old };
+
+    /// Its nursery.
+    fn nursery(&self) -> Nursery
+        ensures { result ≡ nursery self.now };
+
+    /// The places of the fields that it recorded in the round.
+    fn recorded(&self) -> &[Address]
+        ensures { result.now ≡ recorded self.now };
+
+    /// The places of the weak pointers that it made in the round.
+    fn young_weaks(&self) -> &[Address]
+        ensures { result.now ≡ young_weaks self.now };
+
+    /// Its nursery is empty, and nothing of the round is recorded any more.
+    fn empty(&mut self)
+        ensures { self.new ≡ after_stop self.old };
+
+    ghost own_registers: { (m : Self) (words : List ℕ) → length words ≡ length (registers m) → registers (with_registers m words) ≡ words };
+
+    ghost own_queue: { (m : Self) (q : Queue) → queue (with_queue m q) ≡ q };
+
+    ghost same_queue: { (m : Self) → with_queue m (queue m) ≡ m };
+
+    ghost last_queue: { (m : Self) (first last : Queue) → with_queue (with_queue m first) last ≡ with_queue m last };
+
+    ghost registers_apart: { (m : Self) (words : List ℕ) → queue (with_registers m words) ≡ queue m };
+
+    ghost queue_apart: { (m : Self) (q : Queue) → registers (with_queue m q) ≡ registers m };
+
+    ghost registers_nursery: { (m : Self) (words : List ℕ) → nursery (with_registers m words) ≡ nursery m };
+
+    ghost queue_nursery: { (m : Self) (q : Queue) → nursery (with_queue m q) ≡ nursery m };
+
+    ghost registers_recorded: { (m : Self) (words : List ℕ) → recorded (with_registers m words) ≡ recorded m };
+
+    ghost registers_young: { (m : Self) (words : List ℕ) → young_weaks (with_registers m words) ≡ young_weaks m };
+
+    ghost queue_recorded: { (m : Self) (q : Queue) → recorded (with_queue m q) ≡ recorded m };
+
+    ghost queue_young: { (m : Self) (q : Queue) → young_weaks (with_queue m q) ≡ young_weaks m };
+
+    ghost registers_stay: { (m : Self) → registers (after_stop m) ≡ registers m };
+
+    ghost queue_stays: { (m : Self) → queue (after_stop m) ≡ queue m };
+
+    ghost nursery_empties: { (m : Self) → nursery (after_stop m) ≡ emptied (nursery m) };
+
+    ghost none_recorded: { (m : Self) → recorded (after_stop m) ≡ [] };
+
+    ghost none_young: { (m : Self) → young_weaks (after_stop m) ≡ [] };
+}

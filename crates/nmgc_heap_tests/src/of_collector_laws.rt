@@ -1,0 +1,43 @@
+//! Each law is called once, so that it is seen to ask nothing.
+use nmgc_collector_laws::{idle, leaving, marking, samples, ties};
+
+#[test]
+fn laws_ask_nothing(rt: HostRuntime) {
+    let _ = &rt;
+    idle::a_rest_opens_a_round();
+    idle::slices_are_gathered();
+    idle::a_round_is_a_history();
+    idle::roots_are_left();
+    idle::births_are_in_order();
+    idle::a_round_is_remembered();
+    idle::a_round_is_stopped();
+    idle::a_promotion_rests();
+    leaving::round_is_remembered();
+    leaving::round_is_forgotten();
+    marking::a_rest_opens_a_round();
+    marking::slices_are_owed();
+    marking::the_machine_goes_on();
+    marking::a_heap_ties_by_blocks();
+    marking::a_stop_is_prepared();
+    marking::the_marker_leads_a_cycle();
+    marking::a_resolved_cycle_is_closed();
+    marking::the_list_is_joined();
+    marking::a_closed_cycle_sweeps();
+    marking::freed_places_go();
+    marking::a_closing_is_in_bounds();
+    marking::marking_goes_on();
+    marking::the_pace_is_kept();
+    marking::the_heap_goes_on();
+    marking::a_small_life_rests();
+    samples::empty_script();
+    samples::one_object();
+    samples::one_object_in_words();
+    samples::one_object_seen();
+    samples::full_cycle();
+    samples::cycle_by_marking();
+    samples::one_life_seen();
+    samples::texts();
+    samples::reserves();
+    ties::ties_agree();
+    ties::a_cycle_closes();
+}

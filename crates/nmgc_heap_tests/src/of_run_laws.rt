@@ -1,0 +1,19 @@
+//! Each law is called once, so that it is seen to ask nothing.
+use nmgc_run_laws::laws;
+
+#[test]
+fn laws_ask_nothing(rt: HostRuntime) {
+    let _ = &rt;
+    laws::classes_are_counted();
+    laws::run_goes_on();
+    laws::left_is_told();
+    laws::counts_are_real();
+    laws::version_is_nothing();
+    laws::each_cycle_has_its_row();
+    laws::closings_are_soon();
+    laws::places_are_blocks();
+    laws::tracked_names_have_blocks();
+    laws::cycles_are_in_course();
+    laws::limits_stay();
+    laws::lawful_are_of_runs();
+}

@@ -1,5 +1,0 @@
-use Rattle.nmgc_lax.specs.laws.LaxRuns.{lax_keeps_facts}
-use Rattle.nmgc_lax.proofs.laws.a_lax_step_keeps_the_facts.Goals as goal
-
-pub returns : goal.returns
-returns c = lax_keeps_facts

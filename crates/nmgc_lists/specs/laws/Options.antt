@@ -1,0 +1,20 @@
+-- Options: what is there, and that nothing is not something.
+use Rattle.std.proofs.Common.{◌≡◌, ap, Option, Some, None, Bor}
+use Rattle.std.specs.Prelude.{option_copied, is_some, IsSome}
+
+-- a reference is there exactly where what it points to is
+pub copied_is_some : {A : Type 0} (r : Option (Bor A)) (o : Option A) → option_copied r ≡ o → is_some r ≡ is_some o
+copied_is_some None o e = ap is_some e
+copied_is_some (Some x) o e = ap is_some e
+
+-- what is there is one thing
+pub some_is : {A : Type 0} (a b : A) → Some a ≡ Some b → a ≡ b
+some_is {A} a b e = ap (λ (o : Option A). or_first o) e
+  where
+    or_first : Option A → A
+    or_first (Some x) = x
+    or_first None = a
+
+pub not_none : {A : Type 0} (o : Option A) → o ≡ None → IsSome o → ⊥
+not_none None e some = cc
+not_none (Some x) e some = cc

@@ -1,0 +1,16 @@
+//! Each law is called once, so that it is seen to ask nothing.
+use nmgc_world_laws::laws;
+
+#[test]
+fn laws_ask_nothing(rt: HostRuntime) {
+    let _ = &rt;
+    laws::worlds_stay();
+    laws::hands_stay();
+    laws::nothing_else_is_held();
+    laws::what_is_lost_stays_lost();
+    laws::only_the_live_is_held();
+    laws::nothing_reachable_is_freed();
+    laws::young_is_stored();
+    laws::shapes_stay();
+    laws::limits_stay();
+}

@@ -1,0 +1,42 @@
+-- Lemmas that crates above need too.
+use Rattle.std.proofs.Common.{◌≡◌, ◌*◌, ◌+◌, ◌/◌, ◌%◌, ◌<◌, ◌≤◌, ◌&&◌, ℕ, true, eqb, leb, arith, eq-eqb, le-leb, List, [], ◌∷◌, refl, ◌∙◌, subst, sym, false, ne_eqb}
+use Rattle.std.proofs.lemmas.Bool.{and_from}
+use Rattle.nmgc_object.specs.declared.layout.Layout.{Layout}
+use Rattle.nmgc_object.specs.declared.layout.TheConstants.{FIRST_PLACE}
+use Rattle.nmgc_object.specs.Places.{nursery_place}
+use Rattle.nmgc_object.specs.declared.words.Address.{Address}
+use Rattle.nmgc_mutator.specs.Records.{is_old, numbers}
+use Rattle.nmgc_mutator.specs.declared.mutator.Mutator.{Mutator}
+use Rattle.nmgc_mutator.specs.Ready.{IsNew, Reserves}
+
+-- a word of an object in a segment
+pub old_word : (layout : Layout) (at : ℕ) → FIRST_PLACE ≤ at → at < nursery_place layout 0 → is_old layout (2 * at) ≡ true
+old_word layout at above low =
+    let half : 2 * at / 2 ≡ at = omega arith in
+    and_from (eqb (2 * at % 2) 0) (leb FIRST_PLACE (2 * at / 2) && leb (2 * at / 2 + 1) (nursery_place layout 0)) (eq-eqb (2 * at % 2) 0 (omega arith))
+    (and_from (leb FIRST_PLACE (2 * at / 2)) (leb (2 * at / 2 + 1) (nursery_place layout 0)) (le-leb FIRST_PLACE (2 * at / 2) (omega arith))
+    (le-leb (2 * at / 2 + 1) (nursery_place layout 0) (omega arith)))
+
+-- no places are told
+pub none_told : (l : List Address) → numbers l ≡ [] → l ≡ []
+none_told [] e = refl
+none_told (a ∷ l) e = absurd cc
+
+-- a new mutator with room in its lists
+pub reserved : (number : ℕ) (layout : Layout) (old m : Mutator) → IsNew number layout old → Reserves old m → IsNew number layout m
+reserved number layout old m h r = subst (λ (x : Mutator). IsNew number layout x) (sym r.rest) (record {
+  number_is = h.number_is;
+  layout_is = h.layout_is;
+  registers = h.registers;
+  queue = h.queue;
+  unused = record { base = h.unused.base; top = h.unused.top; end = h.unused.end };
+  serial = h.serial;
+  turns = h.turns;
+  replies = r.replies.items ∙ h.replies;
+  recorded = r.recorded.items ∙ h.recorded;
+  young_weaks = r.young_weaks.items ∙ h.young_weaks;
+  updrem = r.updrem.items ∙ h.updrem;
+})
+
+pub old_odd : (layout : Layout) (w : ℕ) → w % 2 ≡ 1 → is_old layout w ≡ false
+old_odd layout w odd = let e : eqb (w % 2) 0 ≡ false = ne_eqb (w % 2) 0 (omega (arith, odd)) in rw e refl

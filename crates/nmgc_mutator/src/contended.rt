@@ -1,0 +1,242 @@
+//! The commands on words that several threads change: `cas`, `update`, `force`, `deref` and `finalise`.
+//!
+//! Each is one step of the round, with loads of words that never change before and after it.
+//!
+//! Easy to get wrong: what `update` and `finalise` owe beside the word of that step is owed from that very step on.
+//! So a thunk's free variables and a weak pointer's finaliser are loaded before it: by then the seat must name them.
+ghost use Rattle.std.specs.Prelude.{◌≡◌, ◌+◌, length, ◌-◌, ◌^◌, ◌<◌, ◌≤◌, []};
+ghost use Rattle.nmgc_world_spec.specs.Command.{IsOperand, IsRegister, Fits};
+ghost use Rattle.nmgc_world_spec.specs.declared.command.Command.TheVariants.{Cas, Deref, Finalise, Force, Update};
+ghost use Rattle.nmgc_world_spec.specs.declared.node.Kind.TheVariants.{Thunk};
+ghost use Rattle.nmgc_object.specs.declared.words.Header.{Header};
+ghost use Rattle.nmgc_object.specs.declared.size.TheConstants.{HEADER_WORDS};
+ghost use Rattle.nmgc_object.specs.declared.words.TheConstants.{WEAK_FIELDS};
+ghost use Rattle.nmgc_round.specs.Ready.{Names};
+ghost use Rattle.nmgc_mutator.specs.declared.mutator.TheConstants.{MOST_PUSHED};
+ghost use Rattle.nmgc_mutator.specs.Thunks.{AreLoaded};
+ghost use Rattle.nmgc_round.specs.View.{plain, hand_now, leaves};
+ghost use Rattle.nmgc_round.specs.Told.{told_by, CanTell};
+ghost use Rattle.nmgc_round.specs.Seat.{seen, word_count};
+ghost use Rattle.nmgc_mutator.specs.Ready.{IsReady, part_of, hand_in};
+ghost use Rattle.nmgc_mutator.specs.Records.{recorded_by, noted_by, weaks_by};
+ghost use Rattle.nmgc_mutator.specs.Acts.{Acts, most_pushed};
+
+use crate::mutator::Mutator;
+use nmgc_object::{Address, FieldWord, HEADER_WORDS};
+use nmgc_round::{Exchanged, MutatorSeat, Round};
+use nmgc_world_spec::{Command, Kind, Operand, Reply};
+
+impl Mutator {
+    // Refuses a command, at the header of g.
+    pub(crate) fn refuse(
+        &self,
+        round: &Round,
+        seat: &mut MutatorSeat,
+        command: &Command,
+        reply: Reply,
+    ) -> Reply
+        requires ready { IsReady round.now seat.old self.now }
+        requires told { CanTell (seen seat.old).opening (part_of (seen seat.old)) command.now }
+        requires reply { told_by (hand_now (seen seat.old).opening (part_of (seen seat.old))) (part_of (seen seat.old)).fixed command.now ≡ plain reply }
+        requires left { leaves (hand_now (seen seat.old).opening (part_of (seen seat.old))) command.now (plain reply) ≡
+            hand_now (seen seat.old).opening (part_of (seen seat.old)) }
+        requires unrecorded { recorded_by self.now.layout self.now.registers command.now (plain reply) ≡ [] }
+        requires unnoted { noted_by self.now.layout (hand_in (seen seat.old)) command.now (plain reply) ≡ [] }
+        requires no_weak { (weaks_by command.now (plain reply) ≡ []) × (1 ≤ most_pushed command.now) }
+        ensures does { Acts round.now (seen seat.old) seat.new self.now self.now command.now reply }
+        ensures reply { result ≡ reply }
+    {
+        self.tell(round, seat, command, reply)
+    }
+
+    // Compares a field of a variable or an array, and writes it where it has the expected value.
+    pub(crate) fn cas(
+        &mut self,
+        round: &Round,
+        seat: &mut MutatorSeat,
+        object: Operand,
+        index: u32,
+        expected: Operand,
+        value: Operand,
+        command: &Command,
+    ) -> Reply
+        requires ready { IsReady round.now seat.old self.old }
+        requires serial { self.old.serial < 2 ^ 32 - 1 }
+        requires fits { Fits self.old.layout.words command.now }
+        requires command { command.now ≡ Cas object index expected value }
+        requires registers { IsOperand object × IsOperand expected × IsOperand value }
+        requires room { (0 < self.old.recorded.spare) × (0 < self.old.updrem.spare) }
+        ensures { Acts round.now (seen seat.old) seat.new self.old self.new command.now result }
+    {
+        let Some((at, header)) = self.object(round, seat, object) else {
+            return self.refuse(round, seat, command, Reply::NoPointer);
+        };
+        match header.kind {
+            Kind::Var | Kind::Arr => {}
+            Kind::Con => return self.refuse(round, seat, command, Reply::Fixed),
+            _ => return self.refuse(round, seat, command, Reply::WrongKind),
+        }
+        if index >= header.fields {
+            return self.refuse(round, seat, command, Reply::NoField);
+        }
+        let word = self.word(value);
+        let before = self.word(expected);
+        match round.exchange_field(seat, at, index, before, word, command) {
+            Exchanged::No { .. } => Reply::No,
+            Exchanged::Yes => {
+                self.record(at, index, word);
+                self.push(round.is_marking(), before);
+                Reply::Yes
+            }
+        }
+    }
+
+    // Reads the result of a thunk.
+    pub(crate) fn force(
+        &mut self,
+        round: &Round,
+        seat: &mut MutatorSeat,
+        dest: u8,
+        object: Operand,
+        command: &Command,
+    ) -> Reply
+        requires ready { IsReady round.now seat.old self.old }
+        requires serial { self.old.serial < 2 ^ 32 - 1 }
+        requires fits { Fits self.old.layout.words command.now }
+        requires command { command.now ≡ Force dest object }
+        requires registers { IsRegister dest × IsOperand object }
+        ensures { Acts round.now (seen seat.old) seat.new self.old self.new command.now result }
+    {
+        let Some((at, header)) = self.object(round, seat, object) else {
+            return self.refuse(round, seat, command, Reply::NoPointer);
+        };
+        match header.kind {
+            Kind::Thunk => {}
+            _ => return self.refuse(round, seat, command, Reply::WrongKind),
+        }
+        let word = round.load_result(seat, at, command);
+        if word == 0 {
+            return Reply::Nothing;
+        }
+        self.hold(dest, word);
+        Reply::Given(self.value(round, seat, Operand::Register(dest)))
+    }
+
+    // Reads the value of a weak pointer, which it owes.
+    pub(crate) fn deref(
+        &mut self,
+        round: &Round,
+        seat: &mut MutatorSeat,
+        dest: u8,
+        object: Operand,
+        command: &Command,
+    ) -> Reply
+        requires ready { IsReady round.now seat.old self.old }
+        requires serial { self.old.serial < 2 ^ 32 - 1 }
+        requires fits { Fits self.old.layout.words command.now }
+        requires command { command.now ≡ Deref dest object }
+        requires registers { IsRegister dest × IsOperand object }
+        requires room { 0 < self.old.updrem.spare }
+        ensures { Acts round.now (seen seat.old) seat.new self.old self.new command.now result }
+    {
+        let Some((at, header)) = self.object(round, seat, object) else {
+            return self.refuse(round, seat, command, Reply::NoPointer);
+        };
+        match header.kind {
+            Kind::Weak => {}
+            _ => return self.refuse(round, seat, command, Reply::WrongKind),
+        }
+        let word = round.load_weak(seat, at, command);
+        if word == 0 {
+            return Reply::Dead;
+        }
+        self.hold(dest, word);
+        self.push(round.is_marking(), word);
+        Reply::Given(self.value(round, seat, Operand::Register(dest)))
+    }
+
+    // Kills a weak pointer, and takes its finaliser. It owes the weak pointer, its value and its finaliser.
+    pub(crate) fn finalise(
+        &mut self,
+        round: &Round,
+        seat: &mut MutatorSeat,
+        dest: u8,
+        object: Operand,
+        command: &Command,
+    ) -> Reply
+        requires ready { IsReady round.now seat.old self.old }
+        requires serial { self.old.serial < 2 ^ 32 - 1 }
+        requires fits { Fits self.old.layout.words command.now }
+        requires command { command.now ≡ Finalise dest object }
+        requires registers { IsRegister dest × IsOperand object }
+        requires room { WEAK_FIELDS ≤ self.old.updrem.spare }
+        ensures { Acts round.now (seen seat.old) seat.new self.old self.new command.now result }
+    {
+        let Some((at, header)) = self.object(round, seat, object) else {
+            return self.refuse(round, seat, command, Reply::NoPointer);
+        };
+        match header.kind {
+            Kind::Weak => {}
+            _ => return self.refuse(round, seat, command, Reply::WrongKind),
+        }
+        let finaliser = round.load_fixed(seat, at, HEADER_WORDS + 2, None);
+        let word = round.swap_weak(seat, at, command);
+        if word == 0 {
+            return Reply::Dead;
+        }
+        self.hold(dest, finaliser);
+        let owed = [FieldWord::of_place(at.0).0, word, finaliser];
+        self.push_words(round.is_marking(), &owed);
+        Reply::Given(self.value(round, seat, Operand::Register(dest)))
+    }
+
+    // Loads the free variables of a thunk. They never change, and the seat names them from then on.
+    fn load_free(&self, round: &Round, seat: &mut MutatorSeat, at: Address, free: &mut [u64])
+        requires ready { IsReady round.now seat.old self.now }
+        requires thunk { (header : Header) × Names (part_of (seen seat.old)) at.0 header × (header.kind ≡ Thunk) ×
+            (length free.old + 1 ≡ header.fields) × (at.0 + HEADER_WORDS + header.fields ≤ word_count round.now) }
+        ensures { AreLoaded round.now (seen seat.old) seat.new self.now at.0 free.new (length free.new) }
+    {
+        for index in 0..free.len() {
+            free[index] = round.load_fixed(seat, at, HEADER_WORDS + 1 + index as u32, None);
+        }
+    }
+
+    // Gives a thunk a result, where it has none. It owes the thunk's free variables.
+    pub(crate) fn update(
+        &mut self,
+        round: &Round,
+        seat: &mut MutatorSeat,
+        object: Operand,
+        value: Operand,
+        command: &Command,
+    ) -> Reply
+        requires ready { IsReady round.now seat.old self.old }
+        requires serial { self.old.serial < 2 ^ 32 - 1 }
+        requires fits { Fits self.old.layout.words command.now }
+        requires command { command.now ≡ Update object value }
+        requires registers { IsOperand object × IsOperand value }
+        requires room { (0 < self.old.recorded.spare) × (MOST_PUSHED ≤ self.old.updrem.spare) }
+        ensures { Acts round.now (seen seat.old) seat.new self.old self.new command.now result }
+    {
+        let Some((at, header)) = self.object(round, seat, object) else {
+            return self.refuse(round, seat, command, Reply::NoPointer);
+        };
+        match header.kind {
+            Kind::Thunk => {}
+            _ => return self.refuse(round, seat, command, Reply::WrongKind),
+        }
+        let mut words = [0u64; 8];
+        let free = &mut words[..header.fields as usize - 1];
+        self.load_free(round, seat, at, free);
+        let word = self.word(value);
+        match round.exchange_result(seat, at, word, command) {
+            Exchanged::No { .. } => Reply::Already,
+            Exchanged::Yes => {
+                self.record(at, 0, word);
+                self.push_words(round.is_marking(), free);
+                Reply::Updated
+            }
+        }
+    }
+}

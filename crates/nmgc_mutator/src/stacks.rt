@@ -1,0 +1,160 @@
+//! The commands on what is a mutator's own: `push` and `pop` on the stacks that it made, and `nextfin` on its
+//! queue of finalisers.
+//!
+//! Nobody else writes there. So the depth of a stack is learned by loads of its slots, which have no place in the
+//! order, and one swap is the place of the command; the queue is outside the heap, and its first word leads
+//! where the load that is the command's place tells.
+//!
+//! Easy to get wrong: a stack's depth stands nowhere. It is the number of the slots before the first 0, so a `pop`
+//! has to leave 0.
+ghost use Rattle.std.specs.Prelude.{◌≡◌, ◌≢◌, ◌+◌, ◌-◌, ◌^◌, ◌<◌, ◌≤◌, [], IfOk, IfErr};
+ghost use Rattle.nmgc_world_spec.specs.Command.{IsOperand, IsRegister, Fits};
+ghost use Rattle.nmgc_world_spec.specs.declared.command.Command.TheVariants.{NextFin, Pop, Push};
+ghost use Rattle.nmgc_object.specs.declared.size.TheConstants.{HEADER_WORDS};
+ghost use Rattle.nmgc_round.specs.Seat.{IsAt, Knows, seen, word_count};
+ghost use Rattle.nmgc_mutator.specs.Ready.{IsReady, hand_in};
+ghost use Rattle.nmgc_mutator.specs.Does.{Went};
+ghost use Rattle.nmgc_mutator.specs.Acts.{Acts};
+ghost use Rattle.nmgc_mutator.specs.Stacks.{Owns, HasNoStack, IsOwnStack, HasDepth};
+
+use crate::mutator::Mutator;
+use nmgc_object::{Address, HEADER_WORDS, NAME_OFFSET, SHARED_PLACE, decode_name};
+use nmgc_round::{MutatorSeat, Round};
+use nmgc_world_spec::{Command, Kind, Operand, Reply};
+
+// How many values a stack of this mutator has: its slots from the bottom up to the first that has none.
+fn depth(round: &Round, seat: &mut MutatorSeat, at: Address, slots: u32) -> u32
+    requires seat { IsAt round.now seat.old }
+    requires own { IsOwnStack (seen seat.old) at.0 slots }
+    requires within { at.0 + HEADER_WORDS + slots ≤ word_count round.now }
+    ensures view { Knows round.now seat.old seat.new (seen seat.old) }
+    ensures depth { 0 < slots → HasDepth (seen seat.old) at.0 result }
+    ensures most { result ≤ slots }
+{
+    for slot in 0..slots {
+        let word = round.load_slot(seat, at, slot);
+        if word == 0 {
+            return slot;
+        }
+    }
+    slots
+}
+
+impl Mutator {
+    // The stack of this mutator that an operand refers to, and how many slots it has; or the refusal, where there
+    // is none.
+    fn own_stack(
+        &self,
+        round: &Round,
+        seat: &mut MutatorSeat,
+        operand: Operand,
+    ) -> Result<(Address, u32), Reply>
+        requires ready { IsReady round.now seat.old self.now }
+        requires operand { IsOperand operand }
+        ensures ready { IsReady round.now seat.new self.now }
+        ensures went { Went (seen seat.old) (seen seat.new) [] [] }
+        ensures found { IfOk result (λ s. Owns round.now (seen seat.new) self.now operand s.0.0 s.1) }
+        ensures none { IfErr result (λ reply. HasNoStack (seen seat.new) operand reply) }
+    {
+        let Some((at, header)) = self.object(round, seat, operand) else {
+            return Err(Reply::NoPointer);
+        };
+        match header.kind {
+            Kind::Stack => {}
+            _ => return Err(Reply::WrongKind),
+        }
+        let name = decode_name(round.load_fixed(seat, at, NAME_OFFSET, None));
+        match name {
+            Some(name) if name.maker == self.number => Ok((at, header.fields)),
+            _ => Err(Reply::NotOwner),
+        }
+    }
+
+    // Puts a value on top of a stack.
+    pub(crate) fn push_value(
+        &mut self,
+        round: &Round,
+        seat: &mut MutatorSeat,
+        object: Operand,
+        value: Operand,
+        command: &Command,
+    ) -> Reply
+        requires ready { IsReady round.now seat.old self.old }
+        requires serial { self.old.serial < 2 ^ 32 - 1 }
+        requires fits { Fits self.old.layout.words command.now }
+        requires command { command.now ≡ Push object value }
+        requires registers { IsOperand object × IsOperand value }
+        requires room { 0 < self.old.recorded.spare }
+        ensures { Acts round.now (seen seat.old) seat.new self.old self.new command.now result }
+    {
+        let (at, slots) = match self.own_stack(round, seat, object) {
+            Ok(stack) => stack,
+            Err(reply) => return self.refuse(round, seat, command, reply),
+        };
+        let depth = depth(round, seat, at, slots);
+        if depth == slots {
+            round.refuse_slot(seat, command);
+            return Reply::StackFull;
+        }
+        let word = self.word(value);
+        round.swap_slot(seat, at, depth, word, command);
+        self.record(at, depth, word);
+        Reply::Fine
+    }
+
+    // Takes the value on top of a stack, which it owes.
+    pub(crate) fn pop_value(
+        &mut self,
+        round: &Round,
+        seat: &mut MutatorSeat,
+        dest: u8,
+        object: Operand,
+        command: &Command,
+    ) -> Reply
+        requires ready { IsReady round.now seat.old self.old }
+        requires serial { self.old.serial < 2 ^ 32 - 1 }
+        requires fits { Fits self.old.layout.words command.now }
+        requires command { command.now ≡ Pop dest object }
+        requires registers { IsRegister dest × IsOperand object }
+        requires room { 0 < self.old.updrem.spare }
+        ensures { Acts round.now (seen seat.old) seat.new self.old self.new command.now result }
+    {
+        let (at, slots) = match self.own_stack(round, seat, object) {
+            Ok(stack) => stack,
+            Err(reply) => return self.refuse(round, seat, command, reply),
+        };
+        let depth = depth(round, seat, at, slots);
+        if depth == 0 {
+            round.refuse_slot(seat, command);
+            return Reply::StackEmpty;
+        }
+        let word = round.swap_slot(seat, at, depth - 1, 0, command);
+        self.hold(dest, word);
+        self.push(round.is_marking(), word);
+        Reply::Given(self.value(round, seat, Operand::Register(dest)))
+    }
+
+    // Takes the first of the finalisers that wait for this mutator.
+    pub(crate) fn next_fin(
+        &mut self,
+        round: &Round,
+        seat: &mut MutatorSeat,
+        dest: u8,
+        command: &Command,
+    ) -> Reply
+        requires ready { IsReady round.now seat.old self.old }
+        requires serial { self.old.serial < 2 ^ 32 - 1 }
+        requires fits { Fits self.old.layout.words command.now }
+        requires command { command.now ≡ NextFin dest }
+        requires registers { IsRegister dest }
+        ensures { Acts round.now (seen seat.old) seat.new self.old self.new command.now result }
+    {
+        let Some(word) = self.queue.words().first().copied() else {
+            return self.refuse(round, seat, command, Reply::Nothing);
+        };
+        round.load_fixed(seat, Address(SHARED_PLACE), 0, Some(command));
+        let _ = self.queue.take_first();
+        self.hold(dest, word);
+        Reply::Given(self.value(round, seat, Operand::Register(dest)))
+    }
+}

@@ -1,0 +1,12 @@
+-- Lemmas that crates above need too.
+use Rattle.std.proofs.Common.{ℕ, ◌+◌, ◌*◌, ◌<◌, ◌≤◌, arith, mul-le-mul_right}
+use Rattle.nmgc_object.specs.Places.{InSegment, nursery_place}
+use Rattle.nmgc_object.specs.declared.layout.Layout.{Layout}
+
+-- a place in a segment is below the nurseries
+pub in_segment_low : (layout : Layout) (segment at : ℕ) → InSegment layout segment at → at < nursery_place layout 0
+in_segment_low layout segment at i =
+    let up : (segment + 1) * layout.words ≤ layout.segments * layout.words =
+    let e : segment + 1 ≤ layout.segments = let x = i.exists in omega (arith, x) in mul-le-mul_right layout.words e in
+    let high = i.before in
+    omega (arith, high, up)

@@ -1,6 +1,0 @@
-use Rattle.nmgc_reach.specs.laws.Keeps.{step_leaves_others}
-use Rattle.nmgc_reach.specs.laws.Deaths.{closing_leaves_hands}
-use Rattle.nmgc_reach.proofs.laws.hands_stay.Goals as goal
-
-pub returns : goal.returns
-returns c = record { step = step_leaves_others; closing = closing_leaves_hands }

@@ -1,5 +1,0 @@
-use Rattle.nmgc_reach.specs.laws.Shapes.{step_keeps_shapes, rows_keep_shapes, closing_keeps_shapes}
-use Rattle.nmgc_reach.proofs.laws.shapes_stay.Goals as goal
-
-pub returns : goal.returns
-returns c = record { step = step_keeps_shapes; rows = rows_keep_shapes; closing = closing_keeps_shapes }

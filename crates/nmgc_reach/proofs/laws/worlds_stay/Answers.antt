@@ -1,8 +1,0 @@
-use Rattle.nmgc_graph.specs.laws.NewWorlds.{new_is_world}
-use Rattle.nmgc_reach.specs.laws.WorldSteps.{step_keeps_world}
-use Rattle.nmgc_reach.specs.laws.LiveRows.{world_after}
-use Rattle.nmgc_reach.specs.laws.Deaths.{closed_world}
-use Rattle.nmgc_reach.proofs.laws.worlds_stay.Goals as goal
-
-pub returns : goal.returns
-returns c = record { new = new_is_world; step = step_keeps_world; rows = world_after; closing = closed_world }

@@ -1,9 +1,0 @@
-pub mod Holds
-pub mod Leaves
-pub mod Limits
-pub mod Owed
-pub mod Reachable
-pub mod Shape
-pub mod Stored
-pub mod Wide
-pub mod laws

@@ -1,5 +1,0 @@
-use Rattle.nmgc_run.specs.laws.Closings.{closings_are_soon}
-use Rattle.nmgc_run.proofs.laws.closings_are_soon.Goals as goal
-
-pub returns : goal.returns
-returns c = closings_are_soon

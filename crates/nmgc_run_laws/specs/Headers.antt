@@ -1,0 +1,10 @@
+-- No command changes the header of an object.
+use Rattle.std.specs.Prelude.{List}
+use Rattle.nmgc_world_spec.specs.World.{World, IsWorld}
+use Rattle.nmgc_world_spec.specs.History.{Row, replayed}
+use Rattle.nmgc_world_laws.specs.Reachable.{CanReplay}
+use Rattle.nmgc_heap_spec.specs.Represents.{IsEarlier}
+
+-- no command changes the header of an object
+abbrev pub RowsKeepHeaders : Type 0
+RowsKeepHeaders = (w : World) (rows : List Row) → IsWorld w → CanReplay w rows → IsEarlier w (replayed w rows)

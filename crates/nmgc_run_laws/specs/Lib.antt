@@ -1,0 +1,7 @@
+pub mod Course
+pub mod Headers
+pub mod Limits
+pub mod Places
+pub mod Sound
+pub mod Statements
+pub mod laws

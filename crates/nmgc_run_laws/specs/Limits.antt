@@ -1,0 +1,44 @@
+-- What the limits of a script give its runs: a layout, and numbers and objects within the limits at every state.
+use Rattle.std.specs.Prelude.{ℕ, ◌-◌, ◌<◌, ◌^◌, List, length, All}
+use Rattle.nmgc_world_spec.specs.declared.command.Command.{Command}
+use Rattle.nmgc_world_spec.specs.declared.command.Reply.{Reply}
+use Rattle.nmgc_world_spec.specs.Command.{Fits}
+use Rattle.nmgc_world_spec.specs.History.{Row}
+use Rattle.nmgc_world_laws.specs.Limits.{IsWithin}
+use Rattle.nmgc_object.specs.Places.{IsLayout}
+use Rattle.nmgc_script.specs.Limits.{FitsScript}
+use Rattle.nmgc_script.specs.declared.script.Script.{Script}
+use Rattle.nmgc_run_spec.specs.Round.{IsRound}
+use Rattle.nmgc_run_spec.specs.Run.{Run, IsRun, last_state}
+use Rattle.nmgc_run_spec.specs.Slice.{program_of}
+use Rattle.nmgc_run_laws.specs.Sound.{IsRunnable, IsSoundState}
+use Rattle.nmgc_run_spec.specs.State.{Plan, State, plan_of, layout_of}
+
+-- each command of the programs is one that a script may have
+abbrev pub AreFitting : Plan → List (List Command) → Type 0
+AreFitting plan programs = (m : ℕ) → All (Fits plan.config.words) (program_of programs m)
+
+-- the world is within the limits, and what is left of the programs
+pub record IsWithinLimits (plan : Plan) (s : State) : Type 0 where
+  pub world : IsWithin plan.config.words s.world
+  pub left : AreFitting plan s.left
+
+-- a script within the limits has a layout, and commands that fit; its plan is runnable where its programs are short
+-- enough for serials, as any that can be read are
+pub record HasGoodPlan (script : Script) : Type 0 where
+  pub layout : IsLayout (layout_of (plan_of script))
+  pub fit : AreFitting (plan_of script) script.threads
+  pub runnable : ((m : ℕ) → length (program_of script.threads m) < 2 ^ 32 - 1) → IsRunnable (plan_of script)
+
+-- each script within the limits has one
+abbrev pub ScriptsHaveGoodPlans : Type 0
+ScriptsHaveGoodPlans = (script : Script) → FitsScript script → HasGoodPlan script
+
+-- every state of a run is within the limits
+abbrev pub StatesAreWithin : Type 0
+StatesAreWithin = (plan : Plan) (run : Run) → IsRunnable plan → AreFitting plan plan.threads → IsRun plan run → IsWithinLimits plan (last_state run)
+
+-- and so is every round from such a state
+abbrev pub RoundsAreWithin : Type 0
+RoundsAreWithin = (plan : Plan) (s t : State) (replies : List (List Reply)) (rows : List Row) → IsSoundState plan s → IsWithinLimits plan s →
+    IsRound plan.config s replies rows t → All (λ (row : Row). Fits plan.config.words row.command) rows × IsWithinLimits plan t

@@ -1,0 +1,192 @@
+-- A run that ends as heap full: its last stop did a full cycle, and is crowded.
+use Rattle.std.proofs.Common.{ℕ, ◌≡◌, ◌+◌, ◌<◌, ◌≤◌, List, [], ◌∷◌, ◌++◌, length, arith, refl, sym, ap, subst, ◌∙◌, Bool, true, Some, None, inl, inr}
+use Rattle.std.specs.Prelude.{nat_lt, ◌&&◌, if◌then◌else◌}
+use Rattle.std.proofs.lemmas.Bool.{ltb-true, cases_lt}
+use Rattle.std.proofs.lemmas.List.{get_or_past}
+use Rattle.std.proofs.lemmas.List.Elements.{All-get_or}
+use Rattle.nmgc_world_spec.specs.declared.command.Command.{Command}
+use Rattle.nmgc_world_spec.specs.World.{World}
+use Rattle.nmgc_alloc.specs.laws.Cells.{all_swept}
+use Rattle.nmgc_journal.specs.declared.report.CycleRow.{CycleRow}
+use Rattle.nmgc_journal.specs.declared.report.Report.{Report}
+use Rattle.nmgc_journal.specs.declared.report.End.{End}
+use Rattle.nmgc_journal.specs.declared.report.End.TheVariants.{Done, HeapFull}
+use Rattle.nmgc_limits.specs.Limits.{most_script_bytes}
+use Rattle.nmgc_script.specs.Limits.{FitsScript, HasFewCommands}
+use Rattle.nmgc_script.specs.declared.script.Script.{Script}
+use Rattle.nmgc_blocks_spec.specs.Cycle.{IsKeptIn, Cycle}
+use Rattle.nmgc_run_spec.specs.Crowded.{StopInRun, opening_stop, next_stop, last_after, last_stop, IsKeptOf, IsCrowded, LeavesHeapFull, IsHeapFull, IsRunOf}
+use Rattle.nmgc_run_laws.specs.Statements.{LawfulAreOfRuns}
+use Rattle.nmgc_run_spec.specs.Lawful.{IsLawfulFor}
+use Rattle.nmgc_world_spec.specs.Listing.{Counts}
+use Rattle.nmgc_run_spec.specs.Run.{Run, Turn, IsRun, AreTurns, state_after, last_state}
+use Rattle.nmgc_run_spec.specs.Slice.{has_left, program_of}
+use Rattle.nmgc_run_laws.specs.Sound.{IsRunnable}
+use Rattle.nmgc_run_spec.specs.State.{State, Plan, Progress, idle, marking, sweeping, free_count, reserve_of, cycle_started, next_cycle, plan_of}
+use Rattle.nmgc_journal.specs.Summary.{kept_count}
+use Rattle.nmgc_run_spec.specs.Stop.{EndsOrWaits, Finishes, DoesFullCycle, Proceeds, with_all_retired, is_short, is_done, answer_of, SweepsRest}
+use Rattle.nmgc_run_laws.specs.laws.CycleCounts.{free_kept}
+use Rattle.nmgc_run_laws.specs.laws.FullHeaps.{full_crowded, full_short, short_free, kept_last, full_heap_is_crowded}
+use Rattle.nmgc_run_laws.specs.laws.Limits.{scripts_have_good_plans}
+use Rattle.nmgc_run_laws.specs.laws.Programs.{HasPrograms}
+use Rattle.nmgc_run_laws.specs.laws.Runs.{round_holds, turn_holds, opening_worked, opening_holds}
+use Rattle.nmgc_run_laws.specs.laws.States.{IsSoundHere, Worked, lefts}
+use Rattle.nmgc_run_laws.specs.laws.Stops.{stop_holds}
+
+-- what a full cycle keeps
+
+-- the end of a cycle leaves the world
+ended_world : (p : Progress) (s t : State) (cycles : List CycleRow) → EndsOrWaits p s t cycles → t.world ≡ s.world
+ended_world idle s t cycles e = ap (λ (x : State). x.world) e.0
+ended_world (marking c) s t cycles e = ap (λ (x : State). x.world) e.0
+ended_world (sweeping c number) s t cycles (inl e) = ap (λ (x : State). x.world) e.1.rest
+ended_world (sweeping c number) s t cycles (inr e) = ap (λ (x : State). x.world) e.1
+
+-- a finished cycle leaves the world of its closing
+finished_world : (s t : State) (cycles : List CycleRow) (f : Finishes s t cycles) → t.world ≡ f.closed.world
+finished_world s t cycles f = ended_world f.swept.progress f.swept t cycles f.ends ∙ ap (λ (x : State). x.world) f.others
+
+-- of a full cycle that leaves too few segments free: the world with which it began keeps more objects than there are segments above the reserve
+record KeepsMuch (plan : Plan) (w : World) : Type 0 where
+  kept : ℕ
+  counts : Counts (IsKeptOf w) kept
+  more : plan.config.segments < kept + reserve_of plan
+
+full_keeps : (plan : Plan) (s t : State) (cycles : List CycleRow) (f : DoesFullCycle s t cycles) → IsSoundHere plan s →
+    free_count t < reserve_of plan → KeepsMuch plan f.idled.world
+full_keeps plan s t cycles f h few =
+    let c : Cycle = next_cycle (with_all_retired f.idled) in
+    let g : State = cycle_started (with_all_retired f.idled) in
+    let closed_progress : f.again.closed.progress ≡ sweeping c g.number = ap (λ (x : State). x.progress) f.again.closes.rest in
+    let sweeps = subst (λ (p : Progress). SweepsRest p f.again.closed.allocation f.again.swept.allocation) closed_progress f.again.sweeps in
+    let none = all_swept (IsKeptIn c) f.again.closed.allocation f.again.swept.allocation sweeps in
+    let progress : f.again.swept.progress ≡ sweeping c g.number = ap (λ (x : State). x.progress) f.again.others ∙ closed_progress in
+    let ends = subst (λ (p : Progress). EndsOrWaits p f.again.swept f.last f.own) progress f.again.ends in
+    let crowd = full_crowded plan s t cycles f h in
+    elim ends [
+      | inl e ↦
+          let told : cycles ≡ f.before ++ e.1.row ∷ [] = f.told ∙ ap (λ (rows : List CycleRow). f.before ++ rows) e.1.told in
+          let same : crowd.1.kept ≡ e.1.row.kept = sym (kept_last crowd.0 crowd.1) ∙ ap kept_count (sym crowd.2 ∙ told) ∙ kept_last f.before e.1.row in
+          let many : plan.config.segments ≤ crowd.1.kept + free_count t = crowd.3 in
+          record { kept = e.1.row.kept; counts = e.1.census.kept; more = omega (arith, many, same, few) }
+      | inr waits ↦ absurd (waits.0 none)
+    ]
+
+-- a stop: where the heap is short after it, it did a full cycle
+
+-- what is claimed of a stop
+abbrev Claim : (plan : Plan) → StopInRun plan → Type 0
+Claim plan stop = is_short plan stop.stop.state ≡ true → LeavesHeapFull plan stop × IsCrowded plan stop
+
+proceeds_claim : (plan : Plan) (stop : StopInRun plan) → IsSoundHere plan stop.is.ended → Proceeds plan stop.is.ended stop.stop.state stop.is.more →
+    Claim plan stop
+proceeds_claim plan stop h (inl f) short =
+    let s : State = stop.is.ended in
+    let t : State = stop.stop.state in
+    let few : free_count t < reserve_of plan =
+    ltb-true (free_count t) (reserve_of plan) (short_free (has_left t.left) (nat_lt (free_count t) (reserve_of plan)) short) in
+    let much : KeepsMuch plan f.1.idled.world = full_keeps plan s t stop.is.more f.1 h few in (
+      record { cycle = f.1; short = short },
+      record {
+        world = f.1.idled.world;
+        begins = (f.1.finishes.closed, f.1.finishes.closes, finished_world s f.1.idled f.1.before f.1.finishes);
+        kept = much.kept;
+        counts = much.counts;
+        more = much.more;
+      },
+    )
+proceeds_claim plan stop h (inr (not, inr b, none)) short = absurd (not (inr (sym (ap (λ (x : State). is_short plan x) b.1) ∙ short)))
+proceeds_claim plan stop h (inr (not, inl b, none)) short =
+    let s : State = stop.is.ended in
+    let t : State = stop.stop.state in
+    let same : is_short plan t ≡ is_short plan s = ap (λ (x : State). is_short plan x) b.1 ∙
+    ap (λ (count : ℕ). has_left s.left && nat_lt count (reserve_of plan)) (free_kept s.allocation.segments) in
+    absurd (not (inr (sym same ∙ short)))
+
+stop_claim : (plan : Plan) (stop : StopInRun plan) →
+    Worked plan (lefts stop.worked) stop.began stop.worked.world stop.worked.allocation stop.worked.progress → Claim plan stop
+stop_claim plan stop h =
+    proceeds_claim plan stop (stop_holds plan stop.began stop.worked stop.stop.state stop.stop.row stop.stop.cycles stop.is h).ended stop.is.proceeds
+
+-- the run
+
+turns_claim : (plan : Plan) (before : StopInRun plan) (turns : List Turn) (i : AreTurns plan before.stop.state turns) →
+    HasPrograms plan before.stop.state → IsSoundHere plan before.stop.state → Claim plan before → Claim plan (last_after plan before turns i)
+turns_claim plan before [] i able h claim = claim
+turns_claim plan before (turn ∷ turns) i able h claim =
+    let s : State = before.stop.state in
+    let next = turn_holds plan s turn i.0 able h in
+    let worked = round_holds plan s turn.worked turn.replies.replies turn.history i.0.round able h in
+    let stop : StopInRun plan = next_stop plan before turn i.0 in
+    turns_claim plan stop turns i.1 next.0 next.1 (stop_claim plan stop worked)
+
+run_claim : (plan : Plan) (run : Run) (i : IsRun plan run) → IsRunnable plan → Claim plan (last_stop plan run i)
+run_claim plan run i runnable =
+    let opened = opening_holds plan run runnable i in
+    let first : StopInRun plan = opening_stop plan run i in
+    turns_claim plan first run.turns i.turns opened.0 opened.1 (stop_claim plan first (opening_worked plan runnable))
+
+-- the last stop leaves the last state
+turns_last : (plan : Plan) (before : StopInRun plan) (turns : List Turn) (i : AreTurns plan before.stop.state turns) →
+    (last_after plan before turns i).stop.state ≡ state_after before.stop.state turns
+turns_last plan before [] i = refl
+turns_last plan before (turn ∷ turns) i = turns_last plan (next_stop plan before turn i.0) turns i.1
+
+run_last : (plan : Plan) (run : Run) (i : IsRun plan run) → (last_stop plan run i).stop.state ≡ last_state run
+run_last plan run i = turns_last plan (opening_stop plan run i) run.turns i.turns
+
+-- the end
+
+-- an end that is heap full comes from a short heap
+end_short : (plan : Plan) (s : State) (end : End) → answer_of plan s ≡ Some end → IsHeapFull end → is_short plan s ≡ true
+end_short plan s Done e full = absurd full
+end_short plan s (HeapFull free reserve) e full = full_short (is_short plan s) (is_done s) (HeapFull (free_count s) (reserve_of plan)) free reserve e
+
+-- and a short heap is such an end
+short_end : (plan : Plan) (s : State) (end : End) → answer_of plan s ≡ Some end → is_short plan s ≡ true → IsHeapFull end
+short_end plan s end e short =
+    let A : Bool → Type 0 = λ (b : Bool).
+    (if b then Some (HeapFull (free_count s) (reserve_of plan)) else (if is_done s then Some Done else None)) ≡ Some end in
+    of_some end (subst A short e)
+  where
+    of_some : (end : End) → Some (HeapFull (free_count s) (reserve_of plan)) ≡ Some end → IsHeapFull end
+    of_some Done e = absurd cc
+    of_some (HeapFull free reserve) e = tt
+
+kept_many : (plan : Plan) (report : Report) (end : End) (lawful : IsLawfulFor plan report) → IsRunnable plan →
+    answer_of plan (last_state lawful.run) ≡ Some end → IsHeapFull end → plan.config.segments < kept_count report.cycles + reserve_of plan
+kept_many plan report Done lawful runnable e full = absurd full
+kept_many plan report (HeapFull free reserve) lawful runnable e full =
+    full_heap_is_crowded plan lawful.run report.rounds report.stops report.cycles free reserve runnable lawful.is_run lawful.tells e
+
+-- a program has no more commands than a script may have bytes, and so it is short enough for serials
+pub few_in_each : (script : Script) → HasFewCommands script → (m : ℕ) → length (program_of script.threads m) ≤ most_script_bytes
+few_in_each script few m = elim (cases_lt m (length script.threads)) [
+  | inl lt ↦ All-get_or (λ (program : List Command). length program ≤ most_script_bytes) script.threads m [] lt few
+  | inr past ↦ let none : length (program_of script.threads m) ≡ 0 = ap length (get_or_past script.threads m [] past) in omega arith
+]
+
+pub runnable_of : (script : Script) → FitsScript script → HasFewCommands script → IsRunnable (plan_of script)
+runnable_of script fits few = (scripts_have_good_plans script fits).runnable (λ m. let short = few_in_each script few m in omega (arith, short))
+
+-- a lawful report of a script within the limits is one of its run, the one for which it is lawful
+pub lawful_are_of_runs : LawfulAreOfRuns
+lawful_are_of_runs script report fits few lawful =
+    let plan : Plan = plan_of script in
+    let run : Run = lawful.run in
+    let runnable : IsRunnable plan = runnable_of script fits few in
+    let last : (last_stop plan run lawful.is_run).stop.state ≡ last_state run = run_last plan run lawful.is_run in
+    let claim : Claim plan (last_stop plan run lawful.is_run) = run_claim plan run lawful.is_run runnable in
+    let short : IsHeapFull report.end → is_short plan (last_stop plan run lawful.is_run).stop.state ≡ true = λ full.
+    ap (λ (s : State). is_short plan s) last ∙ end_short plan (last_state run) report.end lawful.end_is full in
+    let of_run : IsRunOf script report = record {
+      lawful = lawful;
+      full = (
+        λ full. (claim (short full)).0,
+        λ is. short_end plan (last_state run) report.end lawful.end_is (sym (ap (λ (s : State).
+            is_short plan s) last) ∙ is.short),
+      );
+      kept = λ full. kept_many plan report report.end lawful runnable lawful.end_is full;
+      crowded = λ full. (claim (short full)).1;
+    } in
+    (of_run, refl)

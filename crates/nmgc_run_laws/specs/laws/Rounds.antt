@@ -1,0 +1,108 @@
+-- What a round leaves of the fact that a run keeps.
+use Rattle.std.proofs.Common.{ℕ, ◌+◌, ◌-◌, ◌<◌, ◌^◌, List, [], ◌∷◌, ◌++◌, sym, ap, subst, ◌∙◌}
+use Rattle.std.specs.Prelude.{IsSome}
+use Rattle.nmgc_world_spec.specs.World.{World, serial_of, node_of}
+use Rattle.nmgc_world_spec.specs.History.{Row, replayed}
+use Rattle.nmgc_world_spec.specs.Reach.{closed}
+use Rattle.nmgc_world_laws.specs.Reachable.{CanReplay}
+use Rattle.nmgc_lists.specs.laws.Items.{nothing_in}
+use Rattle.nmgc_world_laws.specs.laws.LiveRows.{world_after, replayed_names}
+use Rattle.nmgc_alloc.specs.AllocState.{AllocState, HasBlock}
+use Rattle.nmgc_heap_spec.specs.laws.Roots.{tracked_wide}
+use Rattle.nmgc_blocks_spec.specs.Cycle.{IsKeptIn, Cycle}
+use Rattle.nmgc_run_spec.specs.Round.{noted, SweepsBeside}
+use Rattle.nmgc_run_laws.specs.Sound.{IsOfSnapshot, IsAfterClosing, WaitKnown, LieKnown, AreSoundBlocks}
+use Rattle.nmgc_run_spec.specs.State.{Plan, Progress, idle, marking, sweeping, layout_of}
+use Rattle.nmgc_run_laws.specs.laws.Filing.{each_filed}
+use Rattle.nmgc_run_laws.specs.laws.Serials.{rows_mutators}
+use Rattle.nmgc_run_laws.specs.laws.States.{IsSoundWith, Worked, replayed_more, can_more, known_then}
+use Rattle.nmgc_run_laws.specs.laws.Sweeps.{each_waits, each_lie, sweeps_keep}
+use Rattle.nmgc_run_laws.specs.laws.Tracks.{tracked_before, tracked_young, tracked_known}
+
+-- a closed cycle after rows
+closing_more : (c : Cycle) (w : World) (rows : List Row) → IsAfterClosing c w → CanReplay w rows → IsAfterClosing c (replayed w rows)
+closing_more c w rows after can =
+    let first : World = closed (replayed c.snapshot c.rows) after.dead in
+    record {
+      sound = after.sound;
+      dead = after.dead;
+      lists = after.lists;
+      since = after.since ++ rows;
+      can = can_more first after.since rows after.can (subst (λ (x : World). CanReplay x rows) after.world_is can);
+      world_is = ap (λ (x : World). replayed x rows) after.world_is ∙ sym (replayed_more first after.since rows);
+    }
+
+lie_more : (w : World) (rows : List Row) (a : AllocState) → CanReplay w rows → LieKnown w a → LieKnown (replayed w rows) a
+lie_more w rows a can lie number block n lies = replayed_names w rows can n (lie number block n lies)
+
+module _ (plan : Plan) (left after_left : ℕ →
+    ℕ) (quota : ℕ) (w : World) (a b : AllocState) (rows : List Row) (can : CanReplay w rows) (made : (m : ℕ) →
+    serial_of (replayed w rows) m + after_left m < 2 ^ 32 - 1) where
+  round_idle : IsSoundWith plan left w a idle → SweepsBeside quota idle a b → Worked plan after_left w (replayed w rows) b idle
+  round_idle h same =
+      let known : LieKnown w b = subst (LieKnown w) (sym same) h.known in
+      record {
+        world = world_after w rows h.world can;
+        mutators = rows_mutators w rows can ∙ h.mutators;
+        made = made;
+        sound_blocks = subst (AreSoundBlocks (layout_of plan)) (sym same) h.sound_blocks;
+        old_known = known;
+        known = lie_more w rows b can known;
+        cycle = tt;
+        old = λ n tracked other there. subst (λ (x : AllocState).
+            HasBlock x n) (sym same) (h.blocks n (tracked_before w [] rows h.world can n tracked there) other);
+        young = tracked_young w rows h.world can [] (λ e held n wide. absurd (nothing_in e held));
+        there = tracked_known (replayed w rows) [] (world_after w rows h.world can) (λ e held n wide. absurd (nothing_in e held));
+      }
+
+  round_marking : (c : Cycle) → IsSoundWith plan left w a (marking c) → SweepsBeside quota (marking c) a b →
+      Worked plan after_left w (replayed w rows) b (noted (marking c) rows)
+  round_marking c h same =
+      let all : List Row = c.rows ++ rows in
+      let more : CanReplay c.snapshot all = can_more c.snapshot c.rows rows h.cycle.0.rows (subst (λ (x : World). CanReplay x rows) h.cycle.1 can) in
+      let known_names = known_then w a (marking c) h.cycle in
+      let known : LieKnown w b = subst (LieKnown w) (sym same) h.known in
+      record {
+        world = world_after w rows h.world can;
+        mutators = rows_mutators w rows can ∙ h.mutators;
+        made = made;
+        sound_blocks = subst (AreSoundBlocks (layout_of plan)) (sym same) h.sound_blocks;
+        old_known = known;
+        known = lie_more w rows b can known;
+        cycle = (
+          record { world = h.cycle.0.world; rows = more },
+          ap (λ (x : World). replayed x rows) h.cycle.1 ∙
+              sym (replayed_more c.snapshot c.rows rows),
+          subst (WaitKnown c) (sym same) h.cycle.2,
+        );
+        old = λ n tracked other there. subst (λ (x : AllocState).
+            HasBlock x n) (sym same) (h.blocks n (tracked_before w (c.snapshot ∷ []) rows h.world can n tracked there) other);
+        young = tracked_young w rows h.world can (c.snapshot ∷ []) known_names;
+        there = tracked_known (replayed w rows) (c.snapshot ∷ []) (world_after w rows h.world can) (λ e held n wide.
+            replayed_names w rows can n (known_names e held n wide));
+      }
+
+  round_sweeping : (c : Cycle) (number : ℕ) → IsSoundWith plan left w a (sweeping c number) → SweepsBeside quota (sweeping c number) a b →
+      Worked plan after_left w (replayed w rows) b (sweeping c number)
+  round_sweeping c number h s =
+      let after : IsAfterClosing c (replayed w rows) = closing_more c w rows h.cycle.0 can in
+      let known : LieKnown w b = each_lie (IsKeptIn c) (λ n. IsSome (node_of w n)) a b s.numbers s.sweeps h.known in
+      record {
+        world = world_after w rows h.world can;
+        mutators = rows_mutators w rows can ∙ h.mutators;
+        made = made;
+        sound_blocks = each_filed (layout_of plan) (IsKeptIn c) a b s.numbers s.sweeps h.sound_blocks;
+        old_known = known;
+        known = lie_more w rows b can known;
+        cycle = (after, each_waits (IsKeptIn c) (IsOfSnapshot c) a b s.numbers s.sweeps h.cycle.1);
+        old = λ n tracked other there.
+            sweeps_keep c (replayed w rows) a b _ s after h.cycle.1 n (tracked_wide (replayed w rows) n tracked)
+            (h.blocks n (tracked_before w [] rows h.world can n tracked there) other);
+        young = tracked_young w rows h.world can [] (λ e held n wide. absurd (nothing_in e held));
+        there = tracked_known (replayed w rows) [] (world_after w rows h.world can) (λ e held n wide. absurd (nothing_in e held));
+      }
+
+  pub round_worked : (p : Progress) → IsSoundWith plan left w a p → SweepsBeside quota p a b → Worked plan after_left w (replayed w rows) b (noted p rows)
+  round_worked idle h same = round_idle h same
+  round_worked (marking c) h same = round_marking c h same
+  round_worked (sweeping c number) h s = round_sweeping c number h s

@@ -1,0 +1,100 @@
+-- What the states of a run keep: the fact that an induction over a run hands on, at a stop and after a round.
+use Rattle.std.proofs.Common.{ℕ, ◌≡◌, ◌≢◌, ◌+◌, ◌-◌, ◌<◌, ◌^◌, List, [], ◌∷◌, ◌++◌, length, refl, sym, subst, inl, inr}
+use Rattle.std.specs.Prelude.{IsSome, Contains}
+use Rattle.nmgc_world_spec.specs.declared.value.Name.{Name}
+use Rattle.nmgc_world_spec.specs.World.{World, IsWorld, serial_of, node_of}
+use Rattle.nmgc_world_spec.specs.Step.{shared_name, step}
+use Rattle.nmgc_world_spec.specs.History.{Row, replayed}
+use Rattle.nmgc_world_spec.specs.Reach.{IsReached}
+use Rattle.nmgc_lists.specs.laws.Items.{contains_cases, nothing_in}
+use Rattle.nmgc_world_spec.specs.Wide.{IsWide}
+use Rattle.nmgc_world_laws.specs.Reachable.{CanReplay}
+use Rattle.nmgc_world_laws.specs.laws.LiveRows.{replayed_names}
+use Rattle.nmgc_world_laws.specs.laws.Reached.{wide_known}
+use Rattle.nmgc_alloc.specs.AllocState.{AllocState, HasBlock}
+use Rattle.nmgc_heap_spec.specs.Represents.{IsEarlier}
+use Rattle.nmgc_heap_spec.specs.Tracked.{IsTracked}
+use Rattle.nmgc_blocks_spec.specs.Promoted.{IsYoung, IsFirstPromoted}
+use Rattle.nmgc_run_spec.specs.Heap.{snapshots}
+use Rattle.nmgc_run_laws.specs.Sound.{IsInCycle, AreSoundBlocks, LieKnown, left_of}
+use Rattle.nmgc_run_spec.specs.State.{Plan, State, Progress, idle, marking, sweeping, layout_of}
+use Rattle.nmgc_run_laws.specs.laws.Leaving.{rows_keep_headers}
+
+-- rows after rows
+
+pub replayed_more : (w : World) (a b : List Row) → replayed w (a ++ b) ≡ replayed (replayed w a) b
+replayed_more w [] b = refl
+replayed_more w (row ∷ a) b = replayed_more (step w row.mutator row.command).0 a b
+
+pub can_more : (w : World) (a b : List Row) → CanReplay w a → CanReplay (replayed w a) b → CanReplay w (a ++ b)
+can_more w [] b can more = more
+can_more w (row ∷ a) b can more = (can.0, can_more (step w row.mutator row.command).0 a b can.1 more)
+
+-- a sound state by its parts, so that a step can exchange one of them: what IsSoundState says of a world, an
+-- allocation state and what the collector does, where each mutator has so many commands left. It leaves out that
+-- their registers exist, which no stop can change, and that the collector may still speak of the snapshot, which
+-- follows (earlier_then)
+pub record IsSoundWith (plan : Plan) (left : ℕ → ℕ) (w : World) (a : AllocState) (p : Progress) : Type 0 where
+  pub world : IsWorld w
+  pub mutators : length w.mutators ≡ length plan.threads
+  pub made : (m : ℕ) → serial_of w m + left m < 2 ^ 32 - 1
+  pub sound_blocks : AreSoundBlocks (layout_of plan) a
+  pub known : LieKnown w a
+  pub cycle : IsInCycle p w a
+  pub blocks : (n : Name) → IsTracked w (snapshots p) n → n ≢ shared_name → HasBlock a n
+
+-- how many commands a mutator has left
+abbrev pub lefts : State → ℕ → ℕ
+lefts s m = length (left_of s m)
+
+-- this state's parts are so; where its programs can be done too, it is a sound state (sound_of, sound_holds)
+abbrev pub IsSoundHere : Plan → State → Type 0
+IsSoundHere plan s = IsSoundWith plan (lefts s) s.world s.allocation s.progress
+
+-- what holds after a round that began with a world: an old tracked name has its block, and a young one is to be promoted
+pub record Worked (plan : Plan) (left : ℕ → ℕ) (began w : World) (a : AllocState) (p : Progress) : Type 0 where
+  pub world : IsWorld w
+  pub mutators : length w.mutators ≡ length plan.threads
+  pub made : (m : ℕ) → serial_of w m + left m < 2 ^ 32 - 1
+  pub sound_blocks : AreSoundBlocks (layout_of plan) a
+  pub old_known : LieKnown began a
+  pub known : LieKnown w a
+  pub cycle : IsInCycle p w a
+  pub old : (n : Name) → IsTracked w (snapshots p) n → n ≢ shared_name → IsSome (node_of began n) → HasBlock a n
+  pub young : (n : Name) → IsTracked w (snapshots p) n → IsYoung began w n → IsReached w (IsFirstPromoted began w) n
+  pub there : (n : Name) → IsTracked w (snapshots p) n → IsSome (node_of w n)
+
+-- the worlds of which the collector still speaks have no name that the world hasn't
+pub snapshot_known : (w : World) (a : AllocState) (p : Progress) → IsInCycle p w a → (e : World) → Contains (snapshots p) e → (n : Name) →
+    IsSome (node_of e n) → IsSome (node_of w n)
+snapshot_known w a idle h e held n there = absurd (nothing_in e held)
+snapshot_known w a (marking c) h e held n there = elim (contains_cases c.snapshot [] e held) [
+  | inl same ↦ subst (λ (x : World). IsSome (node_of x n)) (sym h.1) (replayed_names c.snapshot c.rows h.0.rows n (subst (λ (x : World).
+      IsSome (node_of x n)) (sym same) there))
+  | inr none ↦ absurd (nothing_in e none)
+]
+snapshot_known w a (sweeping c closed) h e held n there = absurd (nothing_in e held)
+
+-- each of them is a world
+pub snapshot_world : (w : World) (a : AllocState) (p : Progress) → IsInCycle p w a → (e : World) → Contains (snapshots p) e → IsWorld e
+snapshot_world w a idle h e held = absurd (nothing_in e held)
+snapshot_world w a (marking c) h e held = elim (contains_cases c.snapshot [] e held) [
+  | inl same ↦ subst IsWorld same h.0.world
+  | inr none ↦ absurd (nothing_in e none)
+]
+snapshot_world w a (sweeping c closed) h e held = absurd (nothing_in e held)
+
+-- and of the names in its wide reach
+pub known_then : (w : World) (a : AllocState) (p : Progress) → IsInCycle p w a → (e : World) → Contains (snapshots p) e → (n : Name) → IsWide e n →
+    IsSome (node_of w n)
+known_then w a p h e held n wide = snapshot_known w a p h e held n (wide_known e (snapshot_world w a p h e held) n wide)
+
+-- the collector may still speak of them
+pub earlier_then : (w : World) (a : AllocState) (p : Progress) → IsInCycle p w a → (e : World) → Contains (snapshots p) e → IsEarlier e w
+earlier_then w a idle h e held = absurd (nothing_in e held)
+earlier_then w a (marking c) h e held = elim (contains_cases c.snapshot [] e held) [
+  | inl same ↦ subst (λ (x : World). IsEarlier x w) same (subst (λ (x : World).
+      IsEarlier c.snapshot x) (sym h.1) (rows_keep_headers c.snapshot c.rows h.0.world h.0.rows))
+  | inr none ↦ absurd (nothing_in e none)
+]
+earlier_then w a (sweeping c closed) h e held = absurd (nothing_in e held)

@@ -1,0 +1,85 @@
+-- When a run ends as heap full, and what it kept then.
+--
+-- A stop does a full cycle before it gives the run up. Such a cycle begins with some world and is closed at
+-- once, so what it keeps is what can be reached in that world, by the weak-pointer rule. A segment that it
+-- leaves in use has an object that it kept. So where too few segments are free after it, it kept more objects
+-- than there are segments above the reserve.
+use Rattle.std.specs.Prelude.{ℕ, ◌≡◌, ◌≢◌, ◌+◌, ◌<◌, ◌↔◌, List, [], ◌∷◌, length, true}
+use Rattle.nmgc_world_spec.specs.declared.value.Name.{Name}
+use Rattle.nmgc_world_spec.specs.World.{World, new_world}
+use Rattle.nmgc_world_spec.specs.Step.{shared_name}
+use Rattle.nmgc_world_spec.specs.Reach.{IsKept}
+use Rattle.nmgc_journal.specs.declared.report.Report.{Report}
+use Rattle.nmgc_journal.specs.declared.report.End.{End}
+use Rattle.nmgc_journal.specs.declared.report.End.TheVariants.{Done, HeapFull}
+use Rattle.nmgc_script.specs.declared.script.Script.{Script}
+use Rattle.nmgc_run_spec.specs.Closing.{ClosesNow}
+use Rattle.nmgc_run_spec.specs.Lawful.{IsLawful}
+use Rattle.nmgc_world_spec.specs.Listing.{Counts}
+use Rattle.nmgc_run_spec.specs.Run.{Run, Stop, Turn, IsRun, IsTurn, AreTurns}
+use Rattle.nmgc_run_spec.specs.State.{Plan, State, plan_of, reserve_of, start}
+use Rattle.nmgc_journal.specs.Summary.{kept_count}
+use Rattle.nmgc_run_spec.specs.Stop.{IsStop, DoesFullCycle, is_short}
+
+-- a stop in a run: the world as the round before it began, the state after that round, and what the stop did
+pub record StopInRun (plan : Plan) : Type 0 where
+  pub began : World
+  pub worked : State
+  pub stop : Stop
+  pub is : IsStop plan began worked stop.state stop.row stop.cycles
+
+-- the opening stop
+abbrev pub opening_stop : (plan : Plan) (run : Run) → IsRun plan run → StopInRun plan
+opening_stop plan run i = record { began = new_world (length plan.threads); worked = start plan; stop = run.opening; is = i.opening }
+
+-- the stop of a turn
+abbrev pub next_stop : (plan : Plan) (before : StopInRun plan) (turn : Turn) → IsTurn plan before.stop.state turn → StopInRun plan
+next_stop plan before turn i = record { began = before.stop.state.world; worked = turn.worked; stop = turn.stop; is = i.stop }
+
+-- after a stop and turns, the stop of the last turn; the stop itself where there is none
+abbrev pub last_after : (plan : Plan) (before : StopInRun plan) (turns : List Turn) → AreTurns plan before.stop.state turns → StopInRun plan
+last_after plan before [] i = before
+last_after plan before (turn ∷ turns) i = last_after plan (next_stop plan before turn i.0) turns i.1
+
+-- the last stop of a run
+abbrev pub last_stop : (plan : Plan) (run : Run) → IsRun plan run → StopInRun plan
+last_stop plan run i = last_after plan (opening_stop plan run i) run.turns i.turns
+
+-- the world with which a full cycle begins at a stop, or would begin: a cycle that is still marking is closed before, and its dead weak pointers die
+abbrev pub BeginsFullWith : (plan : Plan) → StopInRun plan → World → Type 0
+BeginsFullWith plan stop w = (closed : State) × ClosesNow stop.is.ended.progress stop.is.ended closed × (w ≡ closed.world)
+
+-- an object that a cycle keeps which begins with this world and is closed at once: nothing was opened or finalised since; g is none
+abbrev pub IsKeptOf : World → Name → Type 0
+IsKeptOf w name = IsKept w [] [] name × (name ≢ shared_name)
+
+-- a stop is crowded: the world with which a full cycle would begin at it keeps more objects than there are segments above the reserve
+pub record IsCrowded (plan : Plan) (stop : StopInRun plan) : Type 0 where
+  pub world : World
+  pub begins : BeginsFullWith plan stop world
+  pub kept : ℕ
+  pub counts : Counts (IsKeptOf world) kept
+  pub more : plan.config.segments < kept + reserve_of plan
+
+-- a stop leaves the heap full: although it did a full cycle, it leaves fewer segments free than the reserve, and commands are left
+pub record LeavesHeapFull (plan : Plan) (stop : StopInRun plan) : Type 0 where
+  pub cycle : DoesFullCycle stop.is.ended stop.stop.state stop.is.more
+  pub short : is_short plan stop.stop.state ≡ true
+
+-- the end is heap full
+abbrev pub IsHeapFull : End → Type 0
+IsHeapFull Done = ⊥
+IsHeapFull (HeapFull free reserve) = Unit {0}
+
+-- a report of a script's run: it is lawful, and its end is heap full exactly where the last stop leaves the heap
+-- full. Then the last cycle kept more objects than there are segments above the reserve, and the last stop is crowded
+pub record IsRunOf (script : Script) (report : Report) : Type 0 where
+  pub lawful : IsLawful script report
+  pub full : IsHeapFull report.end ↔ LeavesHeapFull (plan_of script) (last_stop (plan_of script) lawful.run lawful.is_run)
+  pub kept : IsHeapFull report.end → script.config.segments < kept_count report.cycles + reserve_of (plan_of script)
+  pub crowded : IsHeapFull report.end → IsCrowded (plan_of script) (last_stop (plan_of script) lawful.run lawful.is_run)
+
+-- a run of a report left the heap full by its cause: its last stop did a full cycle, left fewer segments free than the reserve, and is crowded
+abbrev pub IsFullRun : (script : Script) (report : Report) → IsRunOf script report → Type 0
+IsFullRun script report run = LeavesHeapFull (plan_of script) (last_stop (plan_of script) run.lawful.run run.lawful.is_run) ×
+    IsCrowded (plan_of script) (last_stop (plan_of script) run.lawful.run run.lawful.is_run)

@@ -1,0 +1,23 @@
+-- The lawful report: what the headline theorem says of a run.
+use Rattle.std.specs.Prelude.{◌≡◌, List, map, Some}
+use Rattle.nmgc_heap_spec.specs.Places.{Place}
+use Rattle.nmgc_journal.specs.declared.report.Report.{Report}
+use Rattle.nmgc_script.specs.declared.script.Script.{Script}
+use Rattle.nmgc_run_spec.specs.State.{Plan, plan_of, layout_of}
+use Rattle.nmgc_run_spec.specs.Stop.{answer_of}
+use Rattle.nmgc_run_spec.specs.Run.{Run, IsRun, Tells, last_state}
+use Rattle.nmgc_run_spec.specs.Heap.{HoldsAtStop}
+
+-- the report tells one run of the plan to its end, and what it left; of the listed weak pointers it tells the names
+pub record IsLawfulFor (plan : Plan) (report : Report) : Type 0 where
+  pub run : Run
+  pub is_run : IsRun plan run
+  pub tells : Tells run report.rounds report.stops report.cycles
+  pub end_is : answer_of plan (last_state run) ≡ Some report.end
+  pub weaks : List Place
+  pub weaks_are : report.weaks ≡ map (λ (p : Place). p.name) weaks
+  pub heap : HoldsAtStop (layout_of plan) (last_state run) report.words report.segments report.mutators weaks
+
+-- the report is lawful for the script
+abbrev pub IsLawful : Script → Report → Type 0
+IsLawful script report = IsLawfulFor (plan_of script) report

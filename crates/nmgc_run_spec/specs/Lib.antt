@@ -1,0 +1,9 @@
+pub mod Closing
+pub mod Crowded
+pub mod Heap
+pub mod Lawful
+pub mod Round
+pub mod Run
+pub mod Slice
+pub mod State
+pub mod Stop

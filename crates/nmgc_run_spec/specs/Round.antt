@@ -1,0 +1,50 @@
+-- A round: each mutator does a slice of its program, and the collector works beside them.
+use Rattle.std.specs.Prelude.{ℕ, ◌≡◌, ◌+◌, List, [], ◌∷◌, ◌++◌, length, map, slice_index_or, ◌||◌, min}
+use Rattle.nmgc_world_spec.specs.declared.command.Command.{Command}
+use Rattle.nmgc_world_spec.specs.declared.command.Reply.{Reply}
+use Rattle.nmgc_world_spec.specs.World.{World}
+use Rattle.nmgc_world_spec.specs.History.{Row, IsOrderOf, IsLegal, replayed}
+use Rattle.nmgc_script.specs.declared.script.Config.{Config}
+use Rattle.nmgc_run_spec.specs.Slice.{slices, rest_of, some_asks, is_collect, is_full}
+use Rattle.nmgc_run_spec.specs.State.{State, Progress, marking, sweeping, waiting_count}
+use Rattle.nmgc_alloc.specs.AllocState.{AllocState, SweepsSome}
+use Rattle.nmgc_blocks_spec.specs.Cycle.{IsKeptIn}
+
+-- the rows of a mutator's commands with their replies
+abbrev pub answered : ℕ → List Command → List Reply → List Row
+answered m (c ∷ commands) (reply ∷ replies) = record { mutator = m; command = c; reply = reply } ∷ answered m commands replies
+answered m _ _ = []
+
+-- what each mutator did in a round
+abbrev pub own_rows : List (List Command) → List (List Reply) → ℕ → List Row
+own_rows commands replies m = answered m (slice_index_or commands m []) (slice_index_or replies m [])
+
+-- the rows are the history of a round: one order of the commands, each with its reply, that is legal from this world
+pub record IsHistory (w : World) (commands : List (List Command)) (replies : List (List Reply)) (rows : List Row) : Type 0 where
+  pub lengths : map length replies ≡ map length commands
+  pub order : IsOrderOf (own_rows commands replies) rows
+  pub legal : IsLegal w rows
+
+-- a cycle that is marking takes note of the rows
+abbrev pub noted : Progress → List Row → Progress
+noted (marking c) rows = marking (record c { rows = c.rows ++ rows })
+noted progress rows = progress
+
+-- what the collector sweeps beside a round: at most so many of the segments that wait
+abbrev pub SweepsBeside : ℕ → Progress → AllocState → AllocState → Type 0
+SweepsBeside quota (sweeping c closed) old new = SweepsSome (IsKeptIn c) (min quota (waiting_count old)) old new
+SweepsBeside quota _ old new = new ≡ old
+
+-- a round, from one stop to the next
+pub record IsRound (config : Config) (s : State) (replies : List (List Reply)) (rows : List Row) (t : State) : Type 0 where
+  pub history : IsHistory s.world (slices config s.left) replies rows
+  pub swept : SweepsBeside config.quota s.progress s.allocation t.allocation
+  pub rest : t ≡ record s {
+    number = s.number + 1;
+    world = replayed s.world rows;
+    allocation = t.allocation;
+    progress = noted s.progress rows;
+    collect = s.collect || some_asks is_collect (slices config s.left);
+    full = s.full || some_asks is_full (slices config s.left);
+    left = map (rest_of config) s.left;
+  }

@@ -1,0 +1,56 @@
+-- What a mutator does of its program in one round.
+use Rattle.std.specs.Prelude.{ℕ, ◌-◌, List, [], ◌∷◌, length, map, drop, slice_index_or, Bool, true, false, ◌&&◌, nat_lt, nat_le, if◌then◌else◌}
+use Rattle.std.specs.List.{list_any}
+use Rattle.nmgc_world_spec.specs.declared.command.Command.{Command}
+use Rattle.nmgc_world_spec.specs.declared.command.Command.TheVariants.{Yield, Collect, Full}
+use Rattle.nmgc_world_spec.specs.Command.{words_made}
+use Rattle.nmgc_script.specs.declared.script.Config.{Config}
+
+abbrev pub is_collect : Command → Bool
+is_collect Collect = true
+is_collect _ = false
+
+abbrev pub is_full : Command → Bool
+is_full Full = true
+is_full _ = false
+
+-- a slice ends with the command
+abbrev pub ends_slice : Command → Bool
+ends_slice Yield = true
+ends_slice Collect = true
+ends_slice Full = true
+ends_slice _ = false
+
+-- the command still belongs to a slice with so many commands left, in a nursery with so many words left
+abbrev pub is_next : ℕ → ℕ → Command → Bool
+is_next commands words c = nat_lt 0 commands && nat_le (words_made c) words
+
+-- the slice of a program: up to the first command that ends it, or the first that no longer belongs to it
+abbrev pub slice : ℕ → ℕ → List Command → List Command
+slice commands words [] = []
+slice commands words (c ∷ program) = if is_next commands words c then c ∷
+    (if ends_slice c then [] else slice (commands - 1) (words - words_made c) program) else []
+
+-- what a mutator does of the commands that it has left
+abbrev pub slice_of : Config → List Command → List Command
+slice_of config left = slice config.slice config.nursery left
+
+-- what is left of them then
+abbrev pub rest_of : Config → List Command → List Command
+rest_of config left = drop (length (slice_of config left)) left
+
+-- a program, by its mutator
+abbrev pub program_of : List (List Command) → ℕ → List Command
+program_of programs m = slice_index_or programs m []
+
+-- the slices of all mutators
+abbrev pub slices : Config → List (List Command) → List (List Command)
+slices config left = map (slice_of config) left
+
+-- some slice has such a command
+abbrev pub some_asks : (Command → Bool) → List (List Command) → Bool
+some_asks such commands = list_any (list_any such) commands
+
+-- some program has commands left
+abbrev pub has_left : List (List Command) → Bool
+has_left left = list_any (λ program. nat_lt 0 (length program)) left

@@ -1,0 +1,89 @@
+-- The state of a run at a stop, or after a round.
+--
+-- It has the never-collected world and the allocation state: no words, no marks and no addresses. What
+-- the collector has marked so far isn't in it, since a cycle is judged by its closing alone.
+use Rattle.std.specs.Prelude.{ℕ, ◌+◌, List, [], length, Bool, true, false}
+use Rattle.nmgc_world_spec.specs.declared.command.Command.{Command}
+use Rattle.nmgc_world_spec.specs.World.{World, new_world}
+use Rattle.nmgc_segment.specs.declared.state.State.TheVariants as stands
+use Rattle.nmgc_object.specs.declared.layout.Layout.{Layout}
+use Rattle.nmgc_object.specs.Places.{reserve_count}
+use Rattle.nmgc_alloc.specs.AllocState.{AllocState, all_empty, cycle_begun, count_in}
+use Rattle.nmgc_script.specs.declared.script.Config.{Config}
+use Rattle.nmgc_script.specs.declared.script.Script.{Script}
+use Rattle.nmgc_journal.specs.declared.report.Phase.{Phase}
+use Rattle.nmgc_journal.specs.declared.report.Phase.TheVariants.{Idle, Marking, Sweeping}
+use Rattle.nmgc_blocks_spec.specs.Cycle.{Cycle}
+
+-- what a run is given: the sizes of the heap, and a program for each mutator
+pub record Plan : Type 0 where
+  pub config : Config
+  pub threads : List (List Command)
+
+-- the plan of a script: its version says nothing of its run
+abbrev pub plan_of : Script → Plan
+plan_of script = record { config = script.config; threads = script.threads }
+
+-- what the collector does: nothing, or it marks in a cycle, or it sweeps in a cycle that was closed at the stop of this number
+pub data Progress : Type 0 where
+  idle : Progress
+  marking : (c : Cycle) → Progress
+  sweeping : (c : Cycle) (closed : ℕ) → Progress
+
+-- the number of the stop (after a round that of the stop to come), the world, where its objects lie, what the
+-- collector does, how many cycles were begun, whether a cycle or a full cycle is asked for, and what is left of the
+-- programs
+pub record State : Type 0 where
+  pub number : ℕ
+  pub world : World
+  pub allocation : AllocState
+  pub progress : Progress
+  pub begun : ℕ
+  pub collect : Bool
+  pub full : Bool
+  pub left : List (List Command)
+
+abbrev pub phase_of : Progress → Phase
+phase_of idle = Idle
+phase_of (marking c) = Marking
+phase_of (sweeping c closed) = Sweeping
+
+abbrev pub is_idle : Progress → Bool
+is_idle idle = true
+is_idle _ = false
+
+-- how many segments are free, and how many wait to be swept
+abbrev pub free_count : State → ℕ
+free_count s = count_in stands.Free s.allocation
+
+abbrev pub waiting_count : AllocState → ℕ
+waiting_count allocation = count_in stands.Sweeping allocation
+
+-- the sizes of the heap, with the nurseries
+abbrev pub layout_of : Plan → Layout
+layout_of plan = record { segments = plan.config.segments; words = plan.config.words; nursery = plan.config.nursery; mutators = length plan.threads }
+
+-- how many segments must be free for a round to be sure of its promotion
+abbrev pub reserve_of : Plan → ℕ
+reserve_of plan = reserve_count (layout_of plan)
+
+-- before the first stop
+abbrev pub start : Plan → State
+start plan = record {
+  number = 0;
+  world = new_world (length plan.threads);
+  allocation = all_empty plan.config.segments;
+  progress = idle;
+  begun = 0;
+  collect = false;
+  full = false;
+  left = plan.threads;
+}
+
+-- the cycle that begins in this state
+abbrev pub next_cycle : State → Cycle
+next_cycle s = record { number = s.begun + 1; from = s.number; snapshot = s.world; heap = s.allocation; rows = [] }
+
+-- a cycle began: the world is its snapshot, and the filled segments wait to be swept
+abbrev pub cycle_started : State → State
+cycle_started s = record s { allocation = cycle_begun s.allocation; progress = marking (next_cycle s); begun = s.begun + 1 }

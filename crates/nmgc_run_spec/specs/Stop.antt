@@ -1,0 +1,139 @@
+-- A stop, step by step: promote; close; end; full cycle, or begin; and what the stop answers.
+use Rattle.std.specs.Prelude.{ℕ, ◌≡◌, ◌⊎◌, ◌≤◌, List, [], ◌∷◌, ◌++◌, Bool, true, false, not, ◌&&◌, nat_lt, Option, Some, None, if◌then◌else◌, length}
+use Rattle.nmgc_world_spec.specs.World.{World}
+use Rattle.nmgc_segment.specs.declared.state.State.TheVariants as stands
+use Rattle.nmgc_alloc.specs.AllocState.{IsIn, NoneIs, all_retired, count_in, AllocState, SweepsSome}
+use Rattle.nmgc_script.specs.declared.script.Config.{Config}
+use Rattle.nmgc_journal.specs.declared.report.StopRow.{StopRow}
+use Rattle.nmgc_journal.specs.declared.report.CycleRow.{CycleRow}
+use Rattle.nmgc_journal.specs.declared.report.End.{End}
+use Rattle.nmgc_journal.specs.declared.report.End.TheVariants.{Done, HeapFull}
+use Rattle.nmgc_run_spec.specs.Slice.{has_left}
+use Rattle.nmgc_run_spec.specs.State.{Plan, State, Progress, idle, sweeping, phase_of, is_idle, free_count, waiting_count, layout_of, reserve_of, cycle_started}
+use Rattle.nmgc_blocks_spec.specs.Cycle.{Cycle, IsDeadIn, IsSweptIn, IsHadIn, IsFreedIn, IsKeptObject, IsKeptIn}
+use Rattle.nmgc_run_spec.specs.Closing.{ClosesOrWaits, ClosesNow, IsForcedSoon}
+use Rattle.nmgc_world_spec.specs.Reach.{Lists}
+use Rattle.nmgc_world_spec.specs.Listing.{ListsNumbers, Counts}
+use Rattle.nmgc_world_spec.specs.declared.value.Name.{Name}
+use Rattle.nmgc_object.specs.declared.layout.Layout.{Layout}
+use Rattle.nmgc_blocks_spec.specs.Promoted.{IsPromoted, PlacesEach}
+
+-- no segment waits to be swept
+abbrev pub IsSwept : State → Type 0
+IsSwept s = NoneIs (IsIn stands.Sweeping) s.allocation
+
+-- the row tells the census of the cycle, which was closed and ended at these stops
+pub record IsCensus (c : Cycle) (closed ended : ℕ) (row : CycleRow) : Type 0 where
+  pub number : row.number ≡ c.number
+  pub from : row.from ≡ c.from
+  pub closed_at : row.closed ≡ closed
+  pub ended_at : row.ended ≡ ended
+  pub swept : ListsNumbers (IsSweptIn c) row.swept
+  pub had : Lists (IsHadIn c) row.had
+  pub freed : Lists (IsFreedIn c) row.freed
+  pub dead : Lists (IsDeadIn c) row.dead
+  pub kept : Counts (IsKeptObject c) row.kept
+
+-- the cycle ends: its row tells its census, and the collector is idle
+pub record Ends (c : Cycle) (closed : ℕ) (s t : State) (cycles : List CycleRow) : Type 0 where
+  pub row : CycleRow
+  pub census : IsCensus c closed s.number row
+  pub told : cycles ≡ row ∷ []
+  pub rest : t ≡ record s { progress = idle }
+
+-- a cycle that is sweeping ends where no segment waits, and else goes on
+abbrev pub EndsOrWaits : Progress → State → State → List CycleRow → Type 0
+EndsOrWaits (sweeping c closed) s t cycles = (IsSwept s × Ends c closed s t cycles) ⊎ ((IsSwept s → ⊥) × (t ≡ s) × (cycles ≡ []))
+EndsOrWaits _ s t cycles = (t ≡ s) × (cycles ≡ [])
+
+-- what a full cycle sweeps at a stop: all that wait
+abbrev pub SweepsRest : Progress → AllocState → AllocState → Type 0
+SweepsRest (sweeping c closed) old new = SweepsSome (IsKeptIn c) (waiting_count old) old new
+SweepsRest _ old new = new ≡ old
+
+-- a cycle in progress is closed, swept and ended at this stop
+pub record Finishes (s t : State) (cycles : List CycleRow) : Type 0 where
+  pub closed : State
+  pub closes : ClosesNow s.progress s closed
+  pub swept : State
+  pub sweeps : SweepsRest closed.progress closed.allocation swept.allocation
+  pub others : swept ≡ record closed { allocation = swept.allocation }
+  pub ends : EndsOrWaits swept.progress swept t cycles
+
+-- some program has commands left, and fewer segments are free than the reserve
+abbrev pub is_short : Plan → State → Bool
+is_short plan s = has_left s.left && nat_lt (free_count s) (reserve_of plan)
+
+-- a full cycle is due: it was asked for, or the heap is short of segments
+abbrev pub IsFullDue : Plan → State → Type 0
+IsFullDue plan s = (s.full ≡ true) ⊎ (is_short plan s ≡ true)
+
+-- current and active segments are filed as filled, so that the next cycle sweeps every segment
+abbrev pub with_all_retired : State → State
+with_all_retired s = record s { allocation = all_retired s.allocation }
+
+-- a full cycle: a cycle in progress is finished, and then another begins and is finished
+pub record DoesFullCycle (s t : State) (cycles : List CycleRow) : Type 0 where
+  pub idled : State
+  pub before : List CycleRow
+  pub finishes : Finishes s idled before
+  pub last : State
+  pub own : List CycleRow
+  pub again : Finishes (cycle_started (with_all_retired idled)) last own
+  pub told : cycles ≡ before ++ own
+  pub rest : t ≡ record last { collect = false; full = false }
+
+-- a cycle is due: none is in progress, and one was asked for, or enough segments were filled since the last one began
+abbrev pub IsCycleDue : Config → State → Type 0
+IsCycleDue config s = (is_idle s.progress ≡ true) × ((s.collect ≡ true) ⊎ ((1 ≤ config.trigger) × (config.trigger ≤ s.allocation.fresh)))
+
+-- a cycle begins where one is due
+abbrev pub BeginsOrWaits : Config → State → State → Type 0
+BeginsOrWaits config s t = (IsCycleDue config s × (t ≡ record (cycle_started s) { collect = false })) ⊎ ((IsCycleDue config s → ⊥) × (t ≡ s))
+
+-- a full cycle where one is due, which closes no cycle too late, else a cycle where one is due
+abbrev pub Proceeds : Plan → State → State → List CycleRow → Type 0
+Proceeds plan s t cycles = (IsFullDue plan s × DoesFullCycle s t cycles × IsForcedSoon plan.config.quota s.progress s.number) ⊎
+    ((IsFullDue plan s → ⊥) × BeginsOrWaits plan.config s t × (cycles ≡ []))
+
+-- the row of a stop that promoted so many objects
+abbrev pub stop_row : State → ℕ → StopRow
+stop_row s count = record {
+  number = s.number;
+  phase = phase_of s.progress;
+  free = free_count s;
+  filled = count_in stands.Filled s.allocation;
+  sweep = waiting_count s.allocation;
+  promoted = count;
+}
+
+-- the whole run is done
+abbrev pub is_done : State → Bool
+is_done s = not (has_left s.left) && is_idle s.progress
+
+-- what a stop answers: an end, or that the run goes on
+abbrev pub answer_of : Plan → State → Option End
+answer_of plan s = if is_short plan s then Some (HeapFull (free_count s) (reserve_of plan)) else (if is_done s then Some Done else None)
+
+-- the objects that the round made are promoted in order of names; the world as the round began tells which are young
+pub record Promotes (layout : Layout) (began : World) (s t : State) (count : ℕ) : Type 0 where
+  pub names : List Name
+  pub lists : Lists (IsPromoted began s.world) names
+  pub places : PlacesEach layout s.world s.allocation names t.allocation
+  pub many : count ≡ length names
+  pub rest : t ≡ record s { allocation = t.allocation }
+
+-- a stop after a round that began with this world: the state after it, its row, and the rows of the cycles that it ended
+pub record IsStop (plan : Plan) (began : World) (s t : State) (row : StopRow) (cycles : List CycleRow) : Type 0 where
+  pub promoted : State
+  pub count : ℕ
+  pub promotes : Promotes (layout_of plan) began s promoted count
+  pub closed : State
+  pub closes : ClosesOrWaits plan.config.quota promoted.progress promoted closed
+  pub ended : State
+  pub first : List CycleRow
+  pub ends : EndsOrWaits closed.progress closed ended first
+  pub more : List CycleRow
+  pub proceeds : Proceeds plan ended t more
+  pub told : cycles ≡ first ++ more
+  pub shown : row ≡ stop_row t count

@@ -1,0 +1,93 @@
+-- A run of the machine, and the snapshot theorem: what a run has marked.
+use Rattle.std.specs.Prelude.{◌≡◌, ◌↔◌, List, [], ◌∷◌, ◌++◌, Contains, Bool, true, false, if◌then◌else◌}
+use Rattle.nmgc_world_spec.specs.declared.value.Name.{Name}
+use Rattle.nmgc_world_spec.specs.World.{World, IsWorld}
+use Rattle.nmgc_world_spec.specs.History.{Row, replayed, IsLegal, opened, finalised}
+use Rattle.nmgc_world_spec.specs.Reach.{IsLive, IsDead, IsKept, Lists, closed}
+use Rattle.nmgc_snapshot_laws.specs.declared.event.Event.{Event}
+use Rattle.nmgc_snapshot_laws.specs.declared.event.Event.TheVariants as event
+use Rattle.nmgc_snapshot_laws.specs.State.{State, opening}
+use Rattle.nmgc_snapshot_laws.specs.Machine.{IsPossible, Passes}
+use Rattle.nmgc_snapshot_laws.specs.Facts.{Facts}
+use Rattle.nmgc_snapshot_laws.specs.Closing.{IsMarkedFirst, IsClosing}
+
+-- the row of an event that is a command
+abbrev pub row_of : Event → List Row
+row_of (event.Command m c answer) = (record { mutator = m; command = c; reply = answer }) ∷ []
+row_of (event.Push m) = []
+row_of event.Scan = []
+row_of (event.Take m) = []
+row_of event.Close = []
+
+-- the rows of an event, if it happened
+abbrev pub rows_if : Bool → Event → List Row
+rows_if done e = if done then row_of e else []
+
+-- from one state to another by events, each in turn, and the commands that happened
+abbrev pub Runs : State → List Event → List Row → State → Type 0
+Runs s [] rows last = (rows ≡ []) × (last ≡ s)
+Runs s (e ∷ es) rows last = (done : Bool) × (next : State) × (rest : List Row) × Passes s e done next × (rows ≡ rows_if done e ++ rest) × Runs next es rest last
+
+-- before the closing, after these rows: the world is their replay, and what is marked is live in the snapshot
+pub record IsMarking (w : World) (rows : List Row) (s : State) : Type 0 where
+  pub legal : IsLegal w rows
+  pub snapshot : s.snapshot ≡ w
+  pub world : s.world ≡ replayed w rows
+  pub opened : s.opened ≡ opened w rows
+  pub finalised : s.finalised ≡ finalised w rows
+  pub live : (name : Name) → Contains s.marked name → IsLive w s.opened name
+
+-- at the closing, from the state to which the events before it ran, where it could happen: what is marked is what is
+-- live, what dies is what is dead, and what is marked in the end is what is kept
+pub record IsExact (w : World) (events : List Event) (rows : List Row) (s : State) : Type 0 where
+  pub earlier : List Event
+  pub later : List Event
+  pub events_are : events ≡ earlier ++ event.Close ∷ later
+  pub before : State
+  pub runs : Runs (opening w) earlier rows before
+  pub possible : IsPossible before event.Close
+  pub marking : IsMarking w rows before
+  pub closing : IsClosing before s
+  pub live : (name : Name) → IsMarkedFirst before name ↔ IsLive w before.opened name
+  pub dead : Lists (IsDead w before.opened before.finalised) closing.dead
+  pub kept : (name : Name) → Contains s.marked name ↔ IsKept w before.opened before.finalised name
+  pub world : s.world ≡ closed (replayed w rows) closing.dead
+
+-- the snapshot theorem, for the state after these events and rows
+pub record IsSnapshotMarking (w : World) (events : List Event) (rows : List Row) (s : State) : Type 0 where
+  pub before : s.is_closed ≡ false → IsMarking w rows s
+  pub after : s.is_closed ≡ true → IsExact w events rows s
+
+-- the snapshot theorem, for every run from a closed world, by whomever its events were done
+abbrev pub SnapshotTheorem : Type 0
+SnapshotTheorem = (w : World) → IsWorld w → (events : List Event) (rows : List Row) (s : State) → Runs (opening w) events rows s →
+    IsSnapshotMarking w events rows s
+
+-- and until the closing, each state of such a run has the facts
+abbrev pub FactsAreKept : Type 0
+FactsAreKept = (w : World) → IsWorld w → (events : List Event) (rows : List Row) (s : State) → Runs (opening w) events rows s → s.is_closed ≡ false → Facts s
+
+-- the facts hold at the opening of every closed world
+abbrev pub OpeningHasFacts : Type 0
+OpeningHasFacts = (w : World) → IsWorld w → Facts (opening w)
+
+-- every event that happens and doesn't close keeps them, and keeps the world closed
+abbrev pub EventKeepsFacts : Type 0
+EventKeepsFacts = (s next : State) (e : Event) → Facts s → IsWorld s.world → Passes s e true next → next.is_closed ≡ false → Facts next × IsWorld next.world
+
+-- and where they hold, a closing is exact: what is marked first is what is live, what dies is what is dead, and what is marked in the end is what is kept
+pub record IsExactClosing (s next : State) (closing : IsClosing s next) : Type 0 where
+  pub live : (name : Name) → IsMarkedFirst s name ↔ IsLive s.snapshot s.opened name
+  pub dead : Lists (IsDead s.snapshot s.opened s.finalised) closing.dead
+  pub kept : (name : Name) → Contains next.marked name ↔ IsKept s.snapshot s.opened s.finalised name
+
+-- so it is with every closing from a state that has the facts
+abbrev pub ClosingIsExact : Type 0
+ClosingIsExact = (s next : State) → Facts s → IsPossible s event.Close → (closing : IsClosing s next) → IsExactClosing s next closing
+
+-- a run from a world: its end is what the machine does, each event in turn, and the snapshot theorem holds there
+pub record IsRun (w : World) (events : List Event) (s : State) : Type 0 where
+  pub rows : List Row
+  pub runs : Runs (opening w) events rows s
+  pub theorem : IsSnapshotMarking w events rows s
+  pub closed : IsWorld s.world

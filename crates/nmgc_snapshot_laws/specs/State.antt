@@ -1,0 +1,88 @@
+-- What contracts see of the core machine, and how a name is marked.
+use Rattle.std.specs.Prelude.{ℕ, List, [], ◌∷◌, ◌++◌, length, replicate, slice_index_or, Option, Some, None, is_some, Bool, false, not, ◌&&◌, ◌||◌, if◌then◌else◌}
+use Rattle.std.specs.List.{flat_map}
+use Rattle.nmgc_world_spec.specs.declared.value.Name.{Name}
+use Rattle.nmgc_world_spec.specs.declared.value.Value.{Value}
+use Rattle.nmgc_world_spec.specs.declared.value.Value.TheVariants as value
+use Rattle.nmgc_world_spec.specs.declared.mutator_state.MutatorState.{MutatorState}
+use Rattle.nmgc_world_spec.specs.World.{World, node_of}
+use Rattle.nmgc_world_spec.specs.Change.{is_same_name}
+use Rattle.nmgc_world_spec.specs.Step.{shared_name}
+use Rattle.nmgc_world_spec.specs.Reach.{strong_fields}
+use Rattle.nmgc_snapshot_laws.specs.declared.event.Entry.{Entry}
+
+-- the world as it is, the snapshot, what is marked in the order of marking, what waits to be scanned, and for each mutator what it owes and what it pushed
+pub record State : Type 0 where
+  pub world : World
+  pub snapshot : World
+  pub marked : List Name
+  pub queue : List Entry
+  pub owed : List (List Name)
+  pub pushed : List (List Name)
+  pub opened : List Name
+  pub finalised : List Name
+  pub is_closed : Bool
+
+-- the names of one mutator
+abbrev pub names_of : List (List Name) → ℕ → List Name
+names_of lists m = slice_index_or lists m []
+
+-- whether the name is in the list
+abbrev pub is_listed : Name → List Name → Bool
+is_listed name [] = false
+is_listed name (x ∷ xs) = is_same_name x name || is_listed name xs
+
+-- a name of the snapshot that isn't marked
+abbrev pub is_new : State → Name → Bool
+is_new s name = is_some (node_of s.snapshot name) && not (is_listed name s.marked)
+
+-- the entry of a name of which nothing was read
+abbrev pub entry_of : Name → Entry
+entry_of name = record { name = name; position = 0 }
+
+-- the name is marked and queued at the back
+abbrev pub with_mark : State → Name → State
+with_mark s name = record s { marked = s.marked ++ name ∷ []; queue = s.queue ++ entry_of name ∷ [] }
+
+-- a name of the snapshot that isn't marked is marked and queued; any other changes nothing
+abbrev pub mark_name : State → Name → State
+mark_name s name = if is_new s name then with_mark s name else s
+
+-- the same for what a value refers to
+abbrev pub mark_value : State → Value → State
+mark_value s value.Nil = s
+mark_value s (value.Number n) = s
+mark_value s (value.Ref name) = mark_name s name
+
+-- the same for what was read, if something was
+abbrev pub mark_read : State → Option Value → State
+mark_read s None = s
+mark_read s (Some v) = mark_value s v
+
+-- the same for each of the values in order
+abbrev pub mark_values : State → List Value → State
+mark_values s [] = s
+mark_values s (v ∷ vs) = mark_values (mark_value s v) vs
+
+-- what the roots hold: the registers, then the finaliser queues, then the slots of g
+abbrev pub root_values : World → List Value
+root_values w = flat_map (λ (state : MutatorState). state.registers) w.mutators ++
+    (flat_map (λ (state : MutatorState). state.queue) w.mutators ++ strong_fields w.shared)
+
+-- a world of which g alone is marked
+abbrev pub unmarked : World → State
+unmarked w = record {
+  world = w;
+  snapshot = w;
+  marked = shared_name ∷ [];
+  queue = [];
+  owed = replicate (length w.mutators) [];
+  pushed = replicate (length w.mutators) [];
+  opened = [];
+  finalised = [];
+  is_closed = false;
+}
+
+-- marking begins: the world is the snapshot, and its roots are marked and, but for g, queued
+abbrev pub opening : World → State
+opening w = mark_values (unmarked w) (root_values w)

@@ -1,0 +1,13 @@
+pub mod Commands
+pub mod Common
+pub mod Ending
+pub mod Handing
+pub mod Listed
+pub mod Lives
+pub mod MarkedOnce
+pub mod Marking
+pub mod Openings
+pub mod Runs
+pub mod ScanReads
+pub mod Scans
+pub mod Turns

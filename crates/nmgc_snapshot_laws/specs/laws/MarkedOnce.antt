@@ -1,0 +1,104 @@
+-- Each event of a run that isn't closed keeps what each event keeps; so no name is marked twice, and g stays the first.
+use Rattle.std.proofs.Common.{◌≡◌, ℕ, ◌++◌, true, false, List, [], ◌∷◌, refl, sym, ap, subst, ◌∙◌, Option, Some, None}
+use Rattle.std.specs.Prelude.{is_some, not}
+use Rattle.std.proofs.lemmas.Bool.{and_parts, not-true}
+use Rattle.nmgc_world_spec.specs.declared.value.Name.{Name}
+use Rattle.nmgc_world_spec.specs.declared.value.Value.{Value}
+use Rattle.nmgc_world_spec.specs.declared.value.Value.TheVariants as value
+use Rattle.nmgc_world_spec.specs.History.{Row}
+use Rattle.nmgc_world_spec.specs.World.{World, node_of}
+use Rattle.nmgc_world_spec.specs.Step.{shared_name}
+use Rattle.nmgc_lists.specs.laws.Items.{nothing_in}
+use Rattle.nmgc_snapshot_laws.specs.declared.event.Entry.{Entry}
+use Rattle.nmgc_snapshot_laws.specs.declared.event.Event.{Event}
+use Rattle.nmgc_snapshot_laws.specs.declared.event.Event.TheVariants as event
+use Rattle.nmgc_snapshot_laws.specs.Machine.{Passes, after_push, after_scan, after_take, advanced}
+use Rattle.nmgc_snapshot_laws.specs.Run.{Runs}
+use Rattle.nmgc_snapshot_laws.specs.Scan.{read_at}
+use Rattle.nmgc_snapshot_laws.specs.State.{State, names_of, is_listed, mark_name, mark_read, mark_values, opening, root_values, unmarked}
+use Rattle.nmgc_snapshot_laws.specs.laws.Listed.{not_listed}
+use Rattle.nmgc_snapshot_laws.specs.laws.Marking.{mark_cases}
+use Rattle.nmgc_world_spec.specs.Listing.{AreDistinct}
+use Rattle.nmgc_world_laws.specs.laws.Distinct.{distinct_push}
+
+-- a closed machine stays closed
+pub stays_closed : (s : State) (es : List Event) (rows : List Row) (t : State) → Runs s es rows t → s.is_closed ≡ true → t.is_closed ≡ true
+stays_closed s [] rows t h on = ap (λ (x : State). x.is_closed) h.1 ∙ on
+stays_closed s (e ∷ es) rows t (true, next, rest, first, is, later) on = absurd (let off : s.is_closed ≡ false = running e first in
+    let bad : true ≡ false = sym on ∙ off in cc)
+  where
+    running : (e : Event) → Passes s e true next → s.is_closed ≡ false
+    running (event.Command m c answer) p = p.0.0
+    running (event.Push m) p = p.0.0
+    running event.Scan p = p.0.0
+    running (event.Take m) p = p.0.0
+    running event.Close p = p.0.0
+stays_closed s (e ∷ es) rows t (false, next, rest, first, is, later) on = stays_closed next es rest t later (ap (λ (x : State). x.is_closed) first.1 ∙ on)
+
+-- the first names stay the first, and no name is marked twice
+pub record IsOnce (s : State) : Type 0 where
+  pub others : List Name
+  pub marked_are : s.marked ≡ shared_name ∷ others
+  pub once : AreDistinct s.marked
+
+once_name : (s : State) (name : Name) → IsOnce s → IsOnce (mark_name s name)
+once_name s name h = mark_cases IsOnce s name
+    (λ new. record {
+      others = h.others ++ name ∷ [];
+      marked_are = ap (λ (l : List Name). l ++ name ∷ []) h.marked_are;
+      once = distinct_push s.marked name h.once (not_listed name s.marked
+          (not-true (is_listed name s.marked) (and_parts (is_some (node_of s.snapshot name)) (not (is_listed name s.marked)) new).1));
+    })
+    (λ old. h)
+
+once_values : (s : State) (values : List Value) → IsOnce s → IsOnce (mark_values s values)
+once_values s [] h = h
+once_values s (value.Nil ∷ values) h = once_values s values h
+once_values s (value.Number n ∷ values) h = once_values s values h
+once_values s (value.Ref name ∷ values) h = once_values (mark_name s name) values (once_name s name h)
+
+once_read : (s : State) (v : Option Value) → IsOnce s → IsOnce (mark_read s v)
+once_read s None h = h
+once_read s (Some value.Nil) h = h
+once_read s (Some (value.Number n)) h = h
+once_read s (Some (value.Ref name)) h = once_name s name h
+
+-- other parts don't matter
+once_same : (s t : State) → t.marked ≡ s.marked → IsOnce s → IsOnce t
+once_same s t e h = record { others = h.others; marked_are = e ∙ h.marked_are; once = subst AreDistinct (sym e) h.once }
+
+once_advanced : (s : State) (queue : List Entry) → IsOnce s → IsOnce (advanced s queue)
+once_advanced s [] h = h
+once_advanced s (entry ∷ rest) h = once_same s (advanced s (entry ∷ rest)) refl h
+
+once_scan : (s : State) (queue : List Entry) → IsOnce s → IsOnce (after_scan s queue)
+once_scan s [] h = h
+once_scan s (entry ∷ rest) h =
+    let t : State = mark_read s (read_at (node_of s.world entry.name) entry.position) in
+    once_advanced t t.queue (once_read s (read_at (node_of s.world entry.name) entry.position) h)
+
+once_push : (s : State) (m : ℕ) (names : List Name) → IsOnce s → IsOnce (after_push s m names)
+once_push s m [] h = h
+once_push s m (name ∷ rest) h = once_same s (after_push s m (name ∷ rest)) refl h
+
+once_take : (s : State) (m : ℕ) (names : List Name) → IsOnce s → IsOnce (after_take s m names)
+once_take s m [] h = h
+once_take s m (name ∷ rest) h = once_name _ name (once_same s _ refl h)
+
+pub once_runs : (s : State) (es : List Event) (rows : List Row) (t : State) → Runs s es rows t → t.is_closed ≡ false → IsOnce s → IsOnce t
+once_runs s [] rows t h running once = subst IsOnce (sym h.1) once
+once_runs s (e ∷ es) rows t (false, next, rest, first, is, later) running once = once_runs next es rest t later running (subst IsOnce (sym first.1) once)
+once_runs s (event.Command m c answer ∷ es) rows t (true, next, rest, first, is, later) running once =
+    once_runs next es rest t later running (subst IsOnce (sym first.1) (once_same s _ refl once))
+once_runs s (event.Push m ∷ es) rows t (true, next, rest, first, is, later) running once =
+    once_runs next es rest t later running (subst IsOnce (sym first.1) (once_push s m (names_of s.owed m) once))
+once_runs s (event.Scan ∷ es) rows t (true, next, rest, first, is, later) running once =
+    once_runs next es rest t later running (subst IsOnce (sym first.1) (once_scan s s.queue once))
+once_runs s (event.Take m ∷ es) rows t (true, next, rest, first, is, later) running once =
+    once_runs next es rest t later running (subst IsOnce (sym first.1) (once_take s m (names_of s.pushed m) once))
+once_runs s (event.Close ∷ es) rows t (true, next, rest, first, is, later) running once =
+    let on : next.is_closed ≡ true = ap (λ (x : State). x.is_closed) first.1.rest in
+    absurd (let bad : true ≡ false = sym (stays_closed next es rest t later on) ∙ running in cc)
+
+pub once_opening : (w : World) → IsOnce (opening w)
+once_opening w = once_values (unmarked w) (root_values w) (record { others = []; marked_are = refl; once = (nothing_in shared_name, tt) })

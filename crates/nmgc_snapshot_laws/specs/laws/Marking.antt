@@ -1,0 +1,103 @@
+-- Marking a name keeps the facts.
+use Rattle.std.proofs.Common.{◌≡◌, ◌≤◌, ℕ, [], ◌∷◌, ◌++◌, subst, arith, true, false, not, inl, inr}
+use Rattle.std.specs.Prelude.{IsSome, Contains, is_some}
+use Rattle.std.proofs.lemmas.List.Elements.{Contains-append_left, Contains-push, Contains-push_cases}
+use Rattle.std.proofs.lemmas.Bool.{cond_both, and_parts, and_cases, not-false}
+use Rattle.nmgc_world_spec.specs.declared.value.Name.{Name}
+use Rattle.nmgc_world_spec.specs.declared.value.Value.TheVariants as value
+use Rattle.nmgc_world_spec.specs.declared.node.Parts.{Parts}
+use Rattle.nmgc_world_spec.specs.World.{node_of}
+use Rattle.nmgc_world_spec.specs.Reach.{IsRoot, IsAlive, IsKeptBy}
+use Rattle.nmgc_snapshot_laws.specs.declared.event.Entry.{Entry}
+use Rattle.nmgc_snapshot_laws.specs.State.{State, is_new, is_listed, with_mark, mark_name, entry_of}
+use Rattle.nmgc_snapshot_laws.specs.laws.Listed.{contains_listed}
+use Rattle.nmgc_world_spec.specs.laws.Orders.{name_cases}
+use Rattle.nmgc_world_laws.specs.Holds.{HasStrongField}
+use Rattle.nmgc_snapshot_laws.specs.Facts.{MayHold, IsLiveIn, IsSafe, IsAhead, Kept, Base, Facts, owed, pushed, queued, marked, unmarked}
+
+-- a name that is new is marked, and any other is left
+pub mark_cases : (R : State → Type 0) (s : State) (name : Name) → (is_new s name ≡ true → R (with_mark s name)) → (is_new s name ≡ false → R s) →
+    R (mark_name s name)
+mark_cases R s name new old = cond_both (is_new s name) (with_mark s name) s R new old
+
+pub new_there : (s : State) (name : Name) → is_new s name ≡ true → IsSome (node_of s.snapshot name)
+new_there s name e = (and_parts (is_some (node_of s.snapshot name)) (not (is_listed name s.marked)) e).0
+
+-- a name of the snapshot is marked afterwards
+pub marked_then : (s : State) (name : Name) → IsSome (node_of s.snapshot name) → Contains (mark_name s name).marked name
+marked_then s name there = mark_cases (λ t. Contains t.marked name) s name (λ e. Contains-push s.marked name) (λ e.
+    elim (and_cases (is_some (node_of s.snapshot name)) (not (is_listed name s.marked)) e) [
+      | inl a ↦ absurd (let k : is_some (node_of s.snapshot name) ≡ true = there in cc)
+      | inr b ↦ contains_listed name s.marked (not-false (is_listed name s.marked) b)
+    ])
+
+-- a marked name stays marked
+pub still_marked : (s : State) (name other : Name) → Contains s.marked other → Contains (mark_name s name).marked other
+still_marked s name other h = mark_cases (λ t. Contains t.marked other) s name (λ e. Contains-append_left s.marked (name ∷ []) other h) (λ e. h)
+
+-- a field that is looked after stays so
+ahead_then : (s : State) (name n : Name) (i : ℕ) → IsAhead s n i → IsAhead (with_mark s name) n i
+ahead_then s name n i (queued entry h e le) = queued entry (Contains-append_left s.queue (entry_of name ∷ []) entry h) e le
+ahead_then s name n i (unmarked not) = elim (name_cases name n) [
+  | inl e ↦ queued (entry_of name) (Contains-push s.queue (entry_of name)) e (omega arith)
+  | inr ne ↦ unmarked (λ h. elim (Contains-push_cases s.marked name n h) [ inl old ↦ not old | inr e ↦ ne e ])
+]
+
+safe_then : (s : State) (name target : Name) → IsSafe s target → IsSafe (with_mark s name) target
+safe_then s name target (marked h) = marked (Contains-append_left s.marked (name ∷ []) target h)
+safe_then s name target (owed m h) = owed m h
+safe_then s name target (pushed m h) = pushed m h
+
+pub kept_then : (s : State) (name n : Name) (i : ℕ) (target : Name) → Kept s n i target → Kept (mark_name s name) n i target
+kept_then s name n i target k = mark_cases (λ t. Kept t n i target) s name
+    (λ e. elim k [ inl a ↦ inl (safe_then s name target a) | inr b ↦ inr (b.0, ahead_then s name n i b.1) ])
+    (λ e. k)
+
+-- marking a name that may be held
+pub mark_base : (s : State) (name : Name) → Base s → MayHold s name → Base (mark_name s name)
+mark_base s name b may = mark_cases Base s name (λ e. record {
+  snapshot = b.snapshot;
+  mutators = b.mutators;
+  serials = b.serials;
+  owed_lists = b.owed_lists;
+  pushed_lists = b.pushed_lists;
+  holds = b.holds;
+  fields = b.fields;
+  weaks = b.weaks;
+  alive = b.alive;
+  owed = b.owed;
+  pushed = b.pushed;
+  others = b.others;
+  later = b.later;
+  live = λ n h. elim (Contains-push_cases s.marked name n h) [
+    | inl old ↦ b.live n old
+    | inr same ↦ subst (IsLiveIn s) same (may (new_there s name e))
+  ];
+  queued = λ entry h. elim (Contains-push_cases s.queue (entry_of name) entry h) [
+    | inl old ↦ Contains-append_left s.marked (name ∷ []) entry.name (b.queued entry old)
+    | inr same ↦ subst (λ (x : Entry). Contains (s.marked ++ name ∷ []) x.name) same (Contains-push s.marked name)
+  ];
+  passed = λ entry h. elim (Contains-push_cases s.queue (entry_of name) entry h) [
+    | inl old ↦ b.passed entry old
+    | inr same ↦ inl (subst (λ (x : Entry). x.position ≤ 1) same (omega arith))
+  ];
+}) (λ e. b)
+
+pub mark_facts : (s : State) (name : Name) → Facts s → MayHold s name → Facts (mark_name s name)
+mark_facts s name f may = record {
+  base = mark_base s name f.base may;
+  roots = mark_cases (λ t. (n : Name) → IsRoot t.snapshot n →
+      Contains t.marked n) s name (λ e n r. Contains-append_left s.marked (name ∷ []) n (f.roots n r)) (λ e n r. f.roots n r);
+  kept = mark_cases (λ t. (n : Name) (i : ℕ) (target : Name) → HasStrongField t.snapshot n i (value.Ref target) → Kept t n i target) s name
+      (λ e n i target h. elim (f.kept n i target h) [ inl a ↦ inl (safe_then s name target a) | inr b ↦ inr (b.0, ahead_then s name n i b.1) ])
+      (λ e n i target h. f.kept n i target h);
+  opened = mark_cases (λ t. (n : Name) → Contains t.opened n → IsSome (node_of t.snapshot n) →
+      IsSafe t n) s name (λ e n c there. safe_then s name n (f.opened n c there)) (λ e n c there. f.opened n c there);
+  ended = mark_cases (λ t. (weak : Name) → Contains t.finalised weak → IsSome (node_of t.snapshot weak) → IsSafe t weak) s name
+      (λ e weak c there. safe_then s name weak (f.ended weak c there))
+      (λ e weak c there. f.ended weak c there);
+  finalised = mark_cases (λ t. (weak target : Name) (parts : Parts) → Contains t.finalised weak → IsAlive t.snapshot weak parts →
+      IsKeptBy weak parts target → IsSafe t target) s name
+      (λ e weak target parts c alive kept. safe_then s name target (f.finalised weak target parts c alive kept))
+      (λ e weak target parts c alive kept. f.finalised weak target parts c alive kept);
+}

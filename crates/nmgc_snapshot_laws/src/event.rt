@@ -1,0 +1,53 @@
+//! Events, and entries of the mark queue.
+use nmgc_world_spec::{Command, Name, Reply};
+
+/// One thing that happens while marking runs. The order of events is any order: the mutators give
+/// commands, hand over what they owe, and the collector scans and takes, one event at a time.
+pub enum Event {
+    /// A mutator gave a command, and this was the answer. What the command took out of the reach of
+    /// the snapshot is owed from then on.
+    Command {
+        mutator: u8,
+        command: Command,
+        answer: Reply,
+    },
+    /// A mutator pushes the first name that it owes to its remembered set.
+    Push {
+        mutator: u8,
+    },
+    /// The collector reads one position of the first object in its queue.
+    Scan,
+    /// The collector takes the first name of a mutator's remembered set.
+    Take {
+        mutator: u8,
+    },
+    /// Marking ends.
+    Close,
+}
+
+// By hand, so that whoever lets go of one calls this: a derived one is written out, and proved, at each place.
+impl Drop for Event {
+    fn drop(self) {
+        match self {
+            Event::Command {
+                mutator: _,
+                command,
+                answer: _,
+            } => drop(command),
+            Event::Push { mutator: _ } => {}
+            Event::Scan => {}
+            Event::Take { mutator: _ } => {}
+            Event::Close => {}
+        }
+    }
+}
+
+/// An entry of the mark queue: a marked name, and the position that is read next.
+///
+/// Position 0 is the header, and position i + 1 is field i. The result of a thunk is its field 0,
+/// and its free variables follow.
+#[derive(Clone, Copy, Debug, PartialEq, Eq)]
+pub struct Entry {
+    pub name: Name,
+    pub position: usize,
+}

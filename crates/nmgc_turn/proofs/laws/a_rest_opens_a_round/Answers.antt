@@ -1,5 +1,0 @@
-use Rattle.nmgc_turn.proofs.Opens.{rest_opens}
-use Rattle.nmgc_turn.proofs.laws.a_rest_opens_a_round.Goals as goal
-
-pub returns : goal.returns
-returns c = rest_opens

@@ -1,4 +1,0 @@
-pub mod Rest
-pub mod Turn
-pub mod Worked
-pub mod laws

@@ -1,6 +1,0 @@
-use Rattle.std.proofs.Common.{◌≡◌, take}
-use Rattle.nmgc_reach.specs.Owed.{names_among}
-use Rattle.nmgc_watch.proofs.due.names_among.Given as goal
-
-abbrev pub invariant-loop-value : goal.invariant-loop-value
-invariant-loop-value l = l.names.items ≡ names_among (take l.value-index l.values)

@@ -1,0 +1,6 @@
+use Rattle.nmgc_world_laws.specs.laws.Keeps.{step_leaves_others}
+use Rattle.nmgc_world_laws.specs.laws.Deaths.{closing_leaves_hands}
+use Rattle.nmgc_world_laws.proofs.laws.hands_stay.Goals as goal
+
+pub returns : goal.returns
+returns c = record { step = step_leaves_others; closing = closing_leaves_hands }

@@ -1,0 +1,6 @@
+use Rattle.nmgc_world_laws.specs.laws.NewLimits.{new_is_within}
+use Rattle.nmgc_world_laws.specs.laws.LimitSteps.{step_keeps_limits, rows_keep_limits, closing_keeps_limits}
+use Rattle.nmgc_world_laws.proofs.laws.limits_stay.Goals as goal
+
+pub returns : goal.returns
+returns c = record { new = new_is_within; step = step_keeps_limits; rows = rows_keep_limits; closing = closing_keeps_limits }

@@ -1,0 +1,7 @@
+use Rattle.nmgc_world_laws.specs.Reachable.{Passes}
+use Rattle.nmgc_world_laws.specs.laws.HeldSteps.{step_holds_only}
+use Rattle.nmgc_world_laws.specs.laws.Reached.{closed_holds}
+use Rattle.nmgc_world_laws.proofs.laws.nothing_else_is_held.Goals as goal
+
+pub returns : goal.returns
+returns c = record { step = λ test. step_holds_only (Passes test); closing = λ test. closed_holds (Passes test) }

@@ -1,0 +1,58 @@
+-- A world within the limits that a script keeps: numbers that fit a field's word, and objects that fit a
+-- segment and whose headers can be written.
+use Rattle.std.specs.Prelude.{◌≢◌, ◌<◌, ◌≤◌, ◌^◌, ℕ, List, IfSome, All}
+use Rattle.nmgc_world_spec.specs.declared.value.Name.{Name}
+use Rattle.nmgc_world_spec.specs.declared.value.Value.{Value}
+use Rattle.nmgc_world_spec.specs.declared.value.Value.TheVariants as value
+use Rattle.nmgc_world_spec.specs.declared.node.Kind.{Kind}
+use Rattle.nmgc_world_spec.specs.declared.node.Kind.TheVariants as kind
+use Rattle.nmgc_world_spec.specs.declared.node.Node.{Node}
+use Rattle.nmgc_world_spec.specs.declared.command.Command.{Command}
+use Rattle.nmgc_world_spec.specs.Command.{Fits}
+use Rattle.nmgc_world_spec.specs.World.{World, state_of, node_of, new_world, held_by, IsWorld}
+use Rattle.nmgc_world_spec.specs.Step.{CanApply, shared_name, step}
+use Rattle.nmgc_world_spec.specs.History.{Row, replayed}
+use Rattle.nmgc_world_spec.specs.Reach.{closed}
+use Rattle.nmgc_world_laws.specs.Reachable.{CanReplay}
+use Rattle.nmgc_world_laws.specs.Shape.{kind_of, tag_of, part_count, words_of}
+
+-- a number is below 2^62
+abbrev pub IsSmall : Value → Type 0
+IsSmall (value.Number n) = n < 2 ^ 62
+IsSmall _ = Unit {0}
+
+-- an object of the kind may have this tag and so many fields: a thunk at most eight free variables beside its result
+abbrev pub HasLimits : Kind → ℕ → ℕ → Type 0
+HasLimits kind.Con tag parts = tag < 256
+HasLimits kind.Arr tag parts = parts < 65536
+HasLimits kind.Thunk tag parts = parts ≤ 9
+HasLimits kind.Stack tag parts = parts < 65536
+HasLimits _ tag parts = Unit {0}
+
+-- the node of a script's object: what it holds, its shape, and its size; g lies in no segment
+pub record IsNodeWithin (words : ℕ) (name : Name) (node : Node) : Type 0 where
+  pub held : All IsSmall (held_by node)
+  pub shape : HasLimits (kind_of node) (tag_of node) (part_count node)
+  pub size : name ≢ shared_name → words_of node ≤ words
+
+-- the world is within the limits, where a segment has so many words
+pub record IsWithin (words : ℕ) (w : World) : Type 0 where
+  pub registers : (m : ℕ) → All IsSmall (state_of w m).registers
+  pub queues : (m : ℕ) → All IsSmall (state_of w m).queue
+  pub nodes : (name : Name) → IfSome (node_of w name) (IsNodeWithin words name)
+
+-- a new world is within the limits
+abbrev pub NewIsWithin : Type 0
+NewIsWithin = (words mutators : ℕ) → IsWithin words (new_world mutators)
+
+-- commands that fit keep it so
+abbrev pub StepKeepsLimits : Type 0
+StepKeepsLimits = (words : ℕ) (w : World) (m : ℕ) (c : Command) → IsWorld w → CanApply w m c → Fits words c → IsWithin words w → IsWithin words (step w m c).0
+
+abbrev pub RowsKeepLimits : Type 0
+RowsKeepLimits = (words : ℕ) (w : World) (rows : List Row) → IsWorld w → CanReplay w rows → All (λ (row : Row). Fits words row.command) rows →
+    IsWithin words w → IsWithin words (replayed w rows)
+
+-- and closing does
+abbrev pub ClosingKeepsLimits : Type 0
+ClosingKeepsLimits = (words : ℕ) (w : World) (weaks : List Name) → IsWorld w → IsWithin words w → IsWithin words (closed w weaks)

@@ -1,0 +1,77 @@
+-- The shape of an object: its kind, its tag and how many fields it has. No command changes it, so an object
+-- never changes its size, and its header is written once.
+use Rattle.std.specs.Prelude.{◌≡◌, ◌+◌, ℕ, List, [], length, replicate, Option, Some, None}
+use Rattle.nmgc_world_spec.specs.declared.value.Name.{Name}
+use Rattle.nmgc_world_spec.specs.declared.node.Kind.{Kind}
+use Rattle.nmgc_world_spec.specs.declared.node.Kind.TheVariants as kind
+use Rattle.nmgc_world_spec.specs.declared.node.Node.{Node}
+use Rattle.nmgc_world_spec.specs.declared.node.Node.TheVariants.{Con, Var, Arr, Thunk, Weak, Stack}
+use Rattle.nmgc_world_spec.specs.declared.command.Command.{Command}
+use Rattle.nmgc_world_spec.specs.declared.command.Command.TheVariants as command
+use Rattle.nmgc_world_spec.specs.World.{World, node_of, IsWorld}
+use Rattle.nmgc_world_spec.specs.Step.{CanApply, value_for, values_for, step}
+use Rattle.nmgc_world_spec.specs.History.{Row, replayed}
+use Rattle.nmgc_world_spec.specs.Reach.{closed}
+use Rattle.nmgc_world_laws.specs.Reachable.{CanReplay}
+
+abbrev pub kind_of : Node → Kind
+kind_of (Con tag values) = kind.Con
+kind_of (Var v) = kind.Var
+kind_of (Arr values) = kind.Arr
+kind_of (Thunk free result) = kind.Thunk
+kind_of (Weak parts) = kind.Weak
+kind_of (Stack size values) = kind.Stack
+
+-- only a constructor has a tag
+abbrev pub tag_of : Node → ℕ
+tag_of (Con tag values) = tag
+tag_of _ = 0
+
+-- how many fields the object has: a thunk its result and its free variables, a weak pointer its three parts also once it is dead, a stack as many as its size
+abbrev pub part_count : Node → ℕ
+part_count (Con tag values) = length values
+part_count (Var v) = 1
+part_count (Arr values) = length values
+part_count (Thunk free result) = length free + 1
+part_count (Weak parts) = 3
+part_count (Stack size values) = size
+
+-- the words of an object: a header, a name, and a word for each field
+abbrev pub words_of : Node → ℕ
+words_of node = 2 + part_count node
+
+-- one shape: kind, tag and number of parts are the same
+pub record SameShape (before after : Node) : Type 0 where
+  pub kind : kind_of after ≡ kind_of before
+  pub tag : tag_of after ≡ tag_of before
+  pub parts : part_count after ≡ part_count before
+
+-- each name that has a node keeps one of the same shape
+abbrev pub KeepsShapes : World → World → Type 0
+KeepsShapes w v = (name : Name) (before : Node) → node_of w name ≡ Some before → (after : Node) × (node_of v name ≡ Some after) × SameShape before after
+
+-- the node that a command makes, if it makes one
+abbrev pub made_by : World → ℕ → Command → Option Node
+made_by w m (command.Con dest tag fields) = Some (Con tag (values_for w m fields))
+made_by w m (command.Var dest v) = Some (Var (value_for w m v))
+made_by w m (command.Arr dest count v) = Some (Arr (replicate count (value_for w m v)))
+made_by w m (command.Thunk dest free) = Some (Thunk (values_for w m free) None)
+made_by w m (command.Weak dest key v finaliser) = Some (Weak (Some (record {
+  key = value_for w m key;
+  value = value_for w m v;
+  finaliser = value_for w m finaliser;
+})))
+made_by w m (command.Stack dest size) = Some (Stack size [])
+made_by w m _ = None
+
+-- no command changes the shape of an object
+abbrev pub StepKeepsShapes : Type 0
+StepKeepsShapes = (w : World) (m : ℕ) (c : Command) → IsWorld w → CanApply w m c → KeepsShapes w (step w m c).0
+
+-- no list of commands does
+abbrev pub RowsKeepShapes : Type 0
+RowsKeepShapes = (w : World) (rows : List Row) → IsWorld w → CanReplay w rows → KeepsShapes w (replayed w rows)
+
+-- and no closing
+abbrev pub ClosingKeepsShapes : Type 0
+ClosingKeepsShapes = (w : World) (weaks : List Name) → IsWorld w → KeepsShapes w (closed w weaks)

@@ -1,0 +1,73 @@
+-- Which commands put a value into an object that is there, and where it stands then.
+--
+-- A promotion looks for young objects from the roots, from old objects, and nowhere else. It needn't look
+-- through all old objects: a reference to a young object comes into an old one only where a command stores
+-- it, and that command reached the old object, so the object was in the wide reach as the round began. The
+-- parts of an old weak pointer never change, so they are old too.
+use Rattle.std.specs.Prelude.{◌≡◌, ◌⊎◌, ◌++◌, ℕ, List, ◌∷◌, length, Option, Some, None, IsSome}
+use Rattle.nmgc_world_spec.specs.declared.value.Name.{Name}
+use Rattle.nmgc_world_spec.specs.declared.value.Value.{Value}
+use Rattle.nmgc_world_spec.specs.declared.value.Value.TheVariants as value
+use Rattle.nmgc_world_spec.specs.declared.node.Parts.{Parts}
+use Rattle.nmgc_world_spec.specs.declared.node.Node.{Node}
+use Rattle.nmgc_world_spec.specs.declared.node.Node.TheVariants.{Stack}
+use Rattle.nmgc_world_spec.specs.declared.change.Change.{Change}
+use Rattle.nmgc_world_spec.specs.declared.change.Change.TheVariants as change
+use Rattle.nmgc_world_spec.specs.declared.command.Command.{Command}
+use Rattle.nmgc_world_spec.specs.World.{World, state_of, node_of, IsWorld}
+use Rattle.nmgc_world_spec.specs.Step.{CanApply, next_name, asked, step}
+use Rattle.nmgc_world_spec.specs.History.{Row, replayed}
+use Rattle.nmgc_world_spec.specs.Reach.{IsAlive}
+use Rattle.nmgc_world_laws.specs.Holds.{HasStrongField}
+use Rattle.nmgc_world_spec.specs.Wide.{IsWide}
+use Rattle.nmgc_world_laws.specs.Reachable.{CanReplay}
+
+-- the value that a change writes, if it writes one
+abbrev pub value_written : Change → Option Value
+value_written (change.Set index v) = Some v
+value_written (change.Exchange index expected v) = Some v
+value_written (change.Update v) = Some v
+value_written (change.Push m v) = Some v
+value_written _ = None
+
+-- the field that it writes: a thunk's result is field 0, and a stack's next value goes to its depth
+abbrev pub place_written : Change → Node → Option ℕ
+place_written (change.Set index v) node = Some index
+place_written (change.Exchange index expected v) node = Some index
+place_written (change.Update v) node = Some 0
+place_written (change.Push m v) (Stack size values) = Some (length values)
+place_written _ node = None
+
+-- the command asks to write the value into this field of the name's object
+pub record Stores (w : World) (m : ℕ) (c : Command) (name : Name) (field : ℕ) (v : Value) : Type 0 where
+  pub changes : Change
+  pub asks : asked w m c ≡ Some (value.Ref name, changes)
+  pub node : Node
+  pub there : node_of w name ≡ Some node
+  pub place : place_written changes node ≡ Some field
+  pub writes : value_written changes ≡ Some v
+
+-- what stands in a strong field after a command stood there before, or is in the object that the command makes, or the command stores it there
+abbrev pub StepStores : Type 0
+StepStores = (w : World) (m : ℕ) (c : Command) → IsWorld w → CanApply w m c → (name : Name) (field : ℕ) (v : Value) →
+    HasStrongField (step w m c).0 name field v → HasStrongField w name field v ⊎ ((name ≡ next_name (state_of w m) m) ⊎ Stores w m c name field v)
+
+-- one of the rows stores the value, in an object that was in the wide reach as the rows began
+pub record IsStored (began : World) (rows : List Row) (name : Name) (field : ℕ) (v : Value) : Type 0 where
+  pub before : List Row
+  pub row : Row
+  pub after : List Row
+  pub rows_are : rows ≡ before ++ row ∷ after
+  pub stores : Stores (replayed began before) row.mutator row.command name field v
+  pub wide : IsWide began name
+
+-- a strong field of an old object that refers to a young one was stored by one of the rows
+abbrev pub OldRefersToYoung : Type 0
+OldRefersToYoung = (began : World) (rows : List Row) → IsWorld began → CanReplay began rows → (name target : Name) (field : ℕ) →
+    IsSome (node_of began name) → (IsSome (node_of began target) → ⊥) → HasStrongField (replayed began rows) name field (value.Ref target) →
+    IsStored began rows name field (value.Ref target)
+
+-- a weak pointer that was there before the rows and is alive after them has the parts that it had
+abbrev pub OldWeaksStay : Type 0
+OldWeaksStay = (began : World) (rows : List Row) → IsWorld began → CanReplay began rows → (weak : Name) (parts : Parts) →
+    IsSome (node_of began weak) → IsAlive (replayed began rows) weak parts → IsAlive began weak parts

@@ -1,0 +1,80 @@
+-- A change leaves the shape of a node.
+use Rattle.std.proofs.Common.{ℕ, List, [], ◌∷◌, ◌++◌, length, set, refl, ◌∙◌, length-set, Some, None, Bool, true, false, eqb, ltb}
+use Rattle.std.specs.Prelude.{slice_get}
+use Rattle.nmgc_world_spec.specs.declared.command.Reply.TheVariants as reply
+use Rattle.nmgc_world_spec.specs.declared.change.Change.{Change}
+use Rattle.nmgc_world_spec.specs.declared.change.Change.TheVariants as change
+use Rattle.nmgc_world_spec.specs.declared.value.Value.{Value}
+use Rattle.nmgc_world_spec.specs.declared.node.Node.{Node}
+use Rattle.nmgc_world_spec.specs.declared.node.Node.TheVariants.{Con, Var, Arr, Thunk, Weak, Stack}
+use Rattle.nmgc_world_spec.specs.Change.{changed, stack_pushed, stack_popped}
+use Rattle.nmgc_world_laws.specs.Shape.{SameShape}
+use Rattle.nmgc_world_laws.specs.laws.Barrier.{two_nodes, exchanged_node}
+
+pub same_shape : (node : Node) → SameShape node node
+same_shape node = record { kind = refl; tag = refl; parts = refl }
+
+pub then_shape : (a b c : Node) → SameShape a b → SameShape b c → SameShape a c
+then_shape a b c p q = record { kind = q.kind ∙ p.kind; tag = q.tag ∙ p.tag; parts = q.parts ∙ p.parts }
+
+array_set : (values : List Value) (index : ℕ) (v : Value) → SameShape (Arr values) (Arr (set values index v))
+array_set values index v = record { kind = refl; tag = refl; parts = length-set values index v }
+
+-- a change leaves the shape
+pub changed_shape : (c : Change) (maker : ℕ) (node : Node) → SameShape node (changed c maker node).0
+changed_shape (change.Set index v) maker (Con tag values) = same_shape _
+changed_shape (change.Set index v) maker (Var old) =
+    two_nodes (SameShape (Var old)) (eqb index 0) (Var v) (Var old) reply.Fine reply.NoField (record { kind = refl; tag = refl; parts = refl }) (same_shape _)
+changed_shape (change.Set index v) maker (Arr values) =
+    two_nodes (SameShape (Arr values)) (ltb index (length values)) (Arr (set values index v)) (Arr values) reply.Fine reply.NoField
+    (array_set values index v) (same_shape _)
+changed_shape (change.Set index v) maker (Thunk free result) = same_shape _
+changed_shape (change.Set index v) maker (Weak parts) = same_shape _
+changed_shape (change.Set index v) maker (Stack size values) = same_shape _
+changed_shape (change.Exchange index expected v) maker (Con tag values) = same_shape _
+changed_shape (change.Exchange index expected v) maker (Var old) =
+    exchanged_node (SameShape (Var old)) (slice_get (old ∷ []) index) expected (Var old) (Var v) (record {
+      kind = refl;
+      tag = refl;
+      parts = refl;
+    }) (same_shape _)
+changed_shape (change.Exchange index expected v) maker (Arr values) =
+    exchanged_node (SameShape (Arr values)) (slice_get values index) expected (Arr values) (Arr (set values index v)) (array_set values index v) (same_shape _)
+changed_shape (change.Exchange index expected v) maker (Thunk free result) = same_shape _
+changed_shape (change.Exchange index expected v) maker (Weak parts) = same_shape _
+changed_shape (change.Exchange index expected v) maker (Stack size values) = same_shape _
+changed_shape (change.Update v) maker (Con tag values) = same_shape _
+changed_shape (change.Update v) maker (Var old) = same_shape _
+changed_shape (change.Update v) maker (Arr values) = same_shape _
+changed_shape (change.Update v) maker (Thunk free None) = record { kind = refl; tag = refl; parts = refl }
+changed_shape (change.Update v) maker (Thunk free (Some result)) = same_shape _
+changed_shape (change.Update v) maker (Weak parts) = same_shape _
+changed_shape (change.Update v) maker (Stack size values) = same_shape _
+changed_shape (change.Push m v) maker (Con tag values) = same_shape _
+changed_shape (change.Push m v) maker (Var old) = same_shape _
+changed_shape (change.Push m v) maker (Arr values) = same_shape _
+changed_shape (change.Push m v) maker (Thunk free result) = same_shape _
+changed_shape (change.Push m v) maker (Weak parts) = same_shape _
+changed_shape (change.Push m v) maker (Stack size values) = pushed (eqb maker m)
+  where
+    pushed : (own : Bool) → SameShape (Stack size values) (stack_pushed own (Stack size values) v).0
+    pushed true = two_nodes (SameShape (Stack size values)) (ltb (length values) size) (Stack size (values ++ v ∷
+        [])) (Stack size values) reply.Fine reply.StackFull (record { kind = refl; tag = refl; parts = refl }) (same_shape _)
+    pushed false = same_shape _
+changed_shape (change.Pop m) maker (Con tag values) = same_shape _
+changed_shape (change.Pop m) maker (Var old) = same_shape _
+changed_shape (change.Pop m) maker (Arr values) = same_shape _
+changed_shape (change.Pop m) maker (Thunk free result) = same_shape _
+changed_shape (change.Pop m) maker (Weak parts) = same_shape _
+changed_shape (change.Pop m) maker (Stack size values) = popped (eqb maker m)
+  where
+    popped : (own : Bool) → SameShape (Stack size values) (stack_popped own (Stack size values)).0
+    popped true = record { kind = refl; tag = refl; parts = refl }
+    popped false = same_shape _
+changed_shape change.Finalise maker (Con tag values) = same_shape _
+changed_shape change.Finalise maker (Var old) = same_shape _
+changed_shape change.Finalise maker (Arr values) = same_shape _
+changed_shape change.Finalise maker (Thunk free result) = same_shape _
+changed_shape change.Finalise maker (Weak None) = same_shape _
+changed_shape change.Finalise maker (Weak (Some parts)) = record { kind = refl; tag = refl; parts = refl }
+changed_shape change.Finalise maker (Stack size values) = same_shape _

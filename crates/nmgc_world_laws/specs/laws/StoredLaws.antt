@@ -1,0 +1,258 @@
+-- What a command puts into an object that is there.
+use Rattle.std.proofs.Common.{◌≡◌, ◌≢◌, ◌<◌, ◌-◌, ◌⊎◌, ℕ, zero, suc, List, [], ◌∷◌, ◌++◌, length, set, take, refl, sym, ap, subst, ◌∙◌, arith, Option, Some, None, Bool, true, false, cond, eqb, ltb, inl, inr}
+use Rattle.std.specs.Prelude.{slice_get, IsSome, Contains}
+use Rattle.std.proofs.lemmas.List.{get_or_past, set_past}
+use Rattle.std.proofs.lemmas.List.Elements.{Contains-append_left, Contains-get_or}
+use Rattle.std.proofs.lemmas.Bool.{ne_eqb, cases_lt, cases_eq}
+use Rattle.nmgc_world_spec.specs.declared.command.Operand.{Operand}
+use Rattle.nmgc_world_spec.specs.declared.command.Operand.TheVariants.{Register, Shared}
+use Rattle.nmgc_world_spec.specs.declared.command.Command.{Command}
+use Rattle.nmgc_world_spec.specs.declared.command.Command.TheVariants as command
+use Rattle.nmgc_world_spec.specs.declared.command.Reply.{Reply}
+use Rattle.nmgc_world_spec.specs.declared.command.Reply.TheVariants as reply
+use Rattle.nmgc_world_spec.specs.declared.change.Change.{Change}
+use Rattle.nmgc_world_spec.specs.declared.change.Change.TheVariants as change
+use Rattle.nmgc_limits.specs.declared.mutators.TheConstants.{SHARED_MAKER}
+use Rattle.nmgc_world_spec.specs.declared.value.Name.{Name}
+use Rattle.nmgc_world_spec.specs.declared.value.Value.{Value}
+use Rattle.nmgc_world_spec.specs.declared.value.Value.TheVariants as value
+use Rattle.nmgc_world_spec.specs.declared.node.Node.{Node}
+use Rattle.nmgc_world_spec.specs.declared.node.Node.TheVariants.{Con, Var, Arr, Thunk, Weak, Stack}
+use Rattle.nmgc_world_spec.specs.World.{World, IsWorld, state_of, node_of}
+use Rattle.nmgc_world_spec.specs.Change.{exchanged_at, changed, stack_pushed, stack_popped}
+use Rattle.nmgc_world_spec.specs.Step.{shared_name, value_for, next_name, asked, step}
+use Rattle.nmgc_world_spec.specs.History.{Row, replayed, opened}
+use Rattle.nmgc_world_spec.specs.Reach.{IsReached, IsRoot}
+use Rattle.nmgc_world_laws.specs.laws.Growth.{step_grows}
+use Rattle.nmgc_world_laws.specs.laws.Worlds.{not_shared}
+use Rattle.nmgc_lists.specs.laws.Items.{slice_get-set_same, slice_get-set_other}
+use Rattle.nmgc_world_laws.specs.Holds.{HasStrongField, strong_at}
+use Rattle.nmgc_world_laws.specs.Reachable.{CanReplay}
+use Rattle.nmgc_world_laws.specs.Stored.{value_written, place_written, Stores, IsStored, StepStores, OldRefersToYoung, OldWeaksStay}
+use Rattle.nmgc_world_laws.specs.laws.Barrier.{field_at_place, two_nodes, exchanged_node}
+use Rattle.nmgc_world_laws.specs.laws.NodeLaws.{get-append_cases, node_born, next_is_new, node_cases}
+use Rattle.nmgc_world_laws.specs.laws.WorldSteps.{step_keeps_world}
+use Rattle.nmgc_world_laws.specs.laws.HeldSteps.{alive_has, absent, some_of}
+use Rattle.nmgc_world_laws.specs.laws.LiveRows.{AsThen, LiveHeld, live_after}
+use Rattle.nmgc_world_laws.specs.laws.Reached.{step_adds_one, world_holds}
+use Rattle.nmgc_world_laws.specs.laws.Steps.{Object, Stepped}
+use Rattle.nmgc_world_laws.specs.laws.Keeps.{Any, stepped, still_there, hand_nodes}
+
+-- what stands in a field after a change stood there before, or the change wrote it there
+abbrev Put : Change → Node → ℕ → Value → Type 0
+Put c node i x = (strong_at node i ≡ Some x) ⊎ ((place_written c node ≡ Some i) × (value_written c ≡ Some x))
+
+-- an item after a write
+put_item : {R : Type 0} (values : List Value) (index : ℕ) (v : Value) (i : ℕ) (x : Value) → (i ≡ index → Some v ≡ Some x → R) →
+    (slice_get values i ≡ Some x → R) → slice_get (set values index v) i ≡ Some x → R
+put_item values index v i x new old h = elim (cases_eq i index) [
+  | inl e ↦ elim (cases_lt index (length values)) [
+    | inl lt ↦ new e (sym (slice_get-set_same values index v lt) ∙ subst (λ (j : ℕ). slice_get (set values index v) j ≡ Some x) e h)
+    | inr le ↦ old (subst (λ (xs : List Value). slice_get xs i ≡ Some x) (set_past values index v le) h)
+  ]
+  | inr ne ↦ old (sym (slice_get-set_other values index i v ne) ∙ h)
+]
+
+put_var : (old : Value) (index i : ℕ) (v x : Value) → strong_at (cond {A = Node × Reply} (eqb index 0) (Var v, reply.Fine) (
+  Var old,
+  reply.NoField,
+)).0 i ≡ Some x → Put (change.Set index v) (Var old) i x
+put_var old zero zero v x h = inr (refl, h)
+put_var old zero (suc i) v x h = absurd cc
+put_var old (suc index) i v x h = let e : eqb (suc index) 0 ≡ false = ne_eqb (suc index) 0 (λ z. absurd (omega arith)) in inl (rw e at h)
+
+exchange_var : (old : Value) (index i : ℕ) (expected v x : Value) →
+    strong_at (exchanged_at (slice_get (old ∷ []) index) expected (Var old) (Var v)).0 i ≡ Some x → Put (change.Exchange index expected v) (Var old) i x
+exchange_var old zero i expected v x h = exchanged_node (λ n. strong_at n i ≡ Some x →
+    Put (change.Exchange zero expected v) (Var old) i x) (Some old) expected (Var old) (Var v) (written i) (λ k. inl k) h
+  where
+    written : (i : ℕ) → strong_at (Var v) i ≡ Some x → Put (change.Exchange zero expected v) (Var old) i x
+    written zero k = inr (refl, k)
+    written (suc i) k = absurd cc
+exchange_var old (suc index) i expected v x h = inl h
+
+get-take_has : {A : Type 0} (n : ℕ) (xs : List A) (i : ℕ) (x : A) → slice_get (take n xs) i ≡ Some x → slice_get xs i ≡ Some x
+get-take_has zero xs i x h = absurd cc
+get-take_has (suc n) [] i x h = h
+get-take_has (suc n) (y ∷ xs) zero x h = h
+get-take_has (suc n) (y ∷ xs) (suc i) x h = get-take_has n xs i x h
+
+changed_put : (c : Change) (maker : ℕ) (node : Node) (i : ℕ) (x : Value) → strong_at (changed c maker node).0 i ≡ Some x → Put c node i x
+changed_put (change.Set index v) maker (Con tag values) i x h = inl h
+changed_put (change.Set index v) maker (Var old) i x h = put_var old index i v x h
+changed_put (change.Set index v) maker (Arr values) i x h = two_nodes (λ n. strong_at n i ≡ Some x →
+    Put (change.Set index v) (Arr values) i x) (ltb index (length values)) (Arr (set values index v)) (Arr values) reply.Fine reply.NoField
+    (put_item values index v i x (λ e k. inr (ap (λ j. Some j) (sym e), k)) (λ k. inl k)) (λ k. inl k) h
+changed_put (change.Set index v) maker (Thunk free result) i x h = inl h
+changed_put (change.Set index v) maker (Weak parts) i x h = inl h
+changed_put (change.Set index v) maker (Stack size values) i x h = inl h
+changed_put (change.Exchange index expected v) maker (Con tag values) i x h = inl h
+changed_put (change.Exchange index expected v) maker (Var old) i x h = exchange_var old index i expected v x h
+changed_put (change.Exchange index expected v) maker (Arr values) i x h = exchanged_node (λ n. strong_at n i ≡ Some x →
+    Put (change.Exchange index expected v) (Arr values) i x) (slice_get values index) expected (Arr values) (Arr (set values index v))
+    (put_item values index v i x (λ e k. inr (ap (λ j. Some j) (sym e), k)) (λ k. inl k)) (λ k. inl k) h
+changed_put (change.Exchange index expected v) maker (Thunk free result) i x h = inl h
+changed_put (change.Exchange index expected v) maker (Weak parts) i x h = inl h
+changed_put (change.Exchange index expected v) maker (Stack size values) i x h = inl h
+changed_put (change.Update v) maker (Con tag values) i x h = inl h
+changed_put (change.Update v) maker (Var old) i x h = inl h
+changed_put (change.Update v) maker (Arr values) i x h = inl h
+changed_put (change.Update v) maker (Thunk free None) zero x h = inr (refl, h)
+changed_put (change.Update v) maker (Thunk free None) (suc i) x h = absurd cc
+changed_put (change.Update v) maker (Thunk free (Some result)) i x h = inl h
+changed_put (change.Update v) maker (Weak parts) i x h = inl h
+changed_put (change.Update v) maker (Stack size values) i x h = inl h
+changed_put (change.Push m v) maker (Con tag values) i x h = inl h
+changed_put (change.Push m v) maker (Var old) i x h = inl h
+changed_put (change.Push m v) maker (Arr values) i x h = inl h
+changed_put (change.Push m v) maker (Thunk free result) i x h = inl h
+changed_put (change.Push m v) maker (Weak parts) i x h = inl h
+changed_put (change.Push m v) maker (Stack size values) i x h = pushed (eqb maker m) h
+  where
+    pushed : (own : Bool) → strong_at (stack_pushed own (Stack size values) v).0 i ≡ Some x → Put (change.Push m v) (Stack size values) i x
+    pushed true = two_nodes (λ n. strong_at n i ≡ Some x →
+        Put (change.Push m v) (Stack size values) i x) (ltb (length values) size) (Stack size (values ++ v ∷
+        [])) (Stack size values) reply.Fine reply.StackFull (λ k. elim (get-append_cases values v i) [
+          | inl e ↦ inr (ap (λ j. Some j) (sym e.0), sym e.1 ∙ k)
+          | inr e ↦ inl (sym e ∙ k)
+        ]) (λ k. inl k)
+    pushed false = λ k. inl k
+changed_put (change.Pop m) maker (Con tag values) i x h = inl h
+changed_put (change.Pop m) maker (Var old) i x h = inl h
+changed_put (change.Pop m) maker (Arr values) i x h = inl h
+changed_put (change.Pop m) maker (Thunk free result) i x h = inl h
+changed_put (change.Pop m) maker (Weak parts) i x h = inl h
+changed_put (change.Pop m) maker (Stack size values) i x h = popped (eqb maker m) h
+  where
+    popped : (own : Bool) → strong_at (stack_popped own (Stack size values)).0 i ≡ Some x → Put (change.Pop m) (Stack size values) i x
+    popped true = λ k. inl (get-take_has (length values - 1) values i x k)
+    popped false = λ k. inl k
+changed_put change.Finalise maker (Con tag values) i x h = inl h
+changed_put change.Finalise maker (Var old) i x h = inl h
+changed_put change.Finalise maker (Arr values) i x h = inl h
+changed_put change.Finalise maker (Thunk free result) i x h = inl h
+changed_put change.Finalise maker (Weak None) i x h = inl h
+changed_put change.Finalise maker (Weak (Some parts)) i x h = absurd cc
+changed_put change.Finalise maker (Stack size values) i x h = inl h
+
+-- a command that makes nothing of a name: what stands there afterwards
+module _ (w : World) (m : ℕ) (c : Command) (name : Name) (i : ℕ) (x : Value) (lt : m < length w.mutators) (own : m ≢ SHARED_MAKER) where
+  abbrev Source : Type 0
+  Source = HasStrongField w name i x ⊎ ((name ≡ next_name (state_of w m) m) ⊎ Stores w m c name i x)
+
+  object_stores : (v : World) → Object Any w m c v → HasStrongField v name i x → Source
+  object_stores v (Object.same e) s = inl (subst (λ (u : World). HasStrongField u name i x) e s)
+  object_stores v (Object.birth register made is e) s = elim (node_born w m register made lt own name) [
+    | inl b ↦ inr (inl b.0)
+    | inr b ↦ inl (record { node = s.node; node_is = sym b ∙ ap (λ (u : World). node_of u name) (sym e) ∙ s.node_is; field = s.field })
+  ]
+  object_stores v (Object.write at found ch there asks q e) s = elim (node_cases w at found (changed ch at.maker found).0 there name) [
+    | inl is ↦
+        let both : Some (changed ch at.maker found).0 ≡ Some s.node = sym is.1 ∙ ap (λ (u : World). node_of u name) (sym e) ∙ s.node_is in
+        let node : (changed ch at.maker found).0 ≡ s.node = cc in
+        let here : node_of w name ≡ Some found = ap (λ (n : Name). node_of w n) is.0 ∙ there in
+        elim (changed_put ch at.maker found i x (subst (λ (n : Node). strong_at n i ≡ Some x) (sym node) s.field)) [
+          | inl old ↦ inl (record { node = found; node_is = here; field = old })
+          | inr new ↦ inr (inr (record {
+            changes = ch;
+            asks = asks ∙ ap (λ (n : Name). Some (value.Ref n, ch)) (sym is.0);
+            node = found;
+            there = here;
+            place = new.0;
+            writes = new.1;
+          }))
+        ]
+    | inr other ↦ inl (record { node = s.node; node_is = sym other.1 ∙ ap (λ (u : World). node_of u name) (sym e) ∙ s.node_is; field = s.field })
+  ]
+
+pub step_stores : StepStores
+step_stores w m c is can name i x stands =
+    let s : Stepped Any w m c (step w m c).0 = stepped w m c in
+    let same : node_of (step w m c).0 name ≡ node_of s.between name =
+    hand_nodes Any s.between m (step w m c).0 (still_there Any w m c (step w m c).0 can.mutator s) s.hand name in
+    object_stores w m c name i x can.mutator (not_shared w m is can.mutator) s.between s.object (record {
+      node = stands.node;
+      node_is = sym same ∙
+          stands.node_is;
+      field = stands.field;
+    })
+
+-- what a command asks to change, its mutator holds
+operand_root : (w : World) (m : ℕ) (o : Operand) (name : Name) → value_for w m o ≡ value.Ref name → IsRoot w name
+operand_root w m (Register r) name e = elim (cases_lt r (length (state_of w m).registers)) [
+  | inl lt ↦ inr (
+    m,
+    Contains-append_left (state_of w m).registers (state_of w m).queue (value.Ref name) (subst (λ (v : Value).
+        Contains (state_of w m).registers v) e (Contains-get_or (state_of w m).registers r value.Nil lt)),
+  )
+  | inr le ↦ absurd (let none : value.Nil ≡ value.Ref name = sym (get_or_past (state_of w m).registers r value.Nil le) ∙ e in cc)
+]
+operand_root w m Shared name e = inl (let both : value.Ref shared_name ≡ value.Ref name = e in cc)
+
+-- the value that refers to the object
+abbrev asked_value : Option (Value × Change) → Value
+asked_value None = value.Nil
+asked_value (Some p) = p.0
+
+asked_root : (w : World) (m : ℕ) (c : Command) (name : Name) (ch : Change) → asked w m c ≡ Some (value.Ref name, ch) → IsRoot w name
+asked_root w m (command.Set object index v) name ch e = operand_root w m object name (ap asked_value e)
+asked_root w m (command.Cas object index expected v) name ch e = operand_root w m object name (ap asked_value e)
+asked_root w m (command.Update object v) name ch e = operand_root w m object name (ap asked_value e)
+asked_root w m (command.Push object v) name ch e = operand_root w m object name (ap asked_value e)
+asked_root w m (command.Pop dest object) name ch e = operand_root w m object name (ap asked_value e)
+asked_root w m (command.Finalise dest object) name ch e = operand_root w m object name (ap asked_value e)
+asked_root w m _ name ch e = absurd cc
+
+-- where it stood at the beginning, or one of the rows stored it
+rows_stored : (w : World) (rows : List Row) → IsWorld w → CanReplay w rows → (name : Name) (i : ℕ) (x : Value) → IsSome (node_of w name) →
+    HasStrongField (replayed w rows) name i x → HasStrongField w name i x ⊎ IsStored w rows name i x
+rows_stored w [] is can name i x there s = inl s
+rows_stored w (row ∷ rows) is can name i x there s =
+    let v : World = (step w row.mutator row.command).0 in
+    let next : Name = next_name (state_of w row.mutator) row.mutator in
+    let new : name ≡ next →
+    ⊥ = λ e. absent (node_of w next) (next_is_new w row.mutator (not_shared w row.mutator is can.0.mutator)) (subst (λ (n : Name).
+    IsSome (node_of w n)) e there) in
+    elim (rows_stored v rows (step_keeps_world w row.mutator row.command is can.0) can.1 name i x
+    ((step_grows w row.mutator row.command can.0.mutator).names name there) s) [
+      | inl then ↦ elim (step_stores w row.mutator row.command is can.0 name i x then) [
+        | inl was ↦ inl was
+        | inr more ↦ elim more [
+          | inl e ↦ absurd (new e)
+          | inr stores ↦ inr (record {
+            before = [];
+            row = row;
+            after = rows;
+            rows_are = refl;
+            stores = stores;
+            wide = IsReached.start name (inl (asked_root w row.mutator row.command name stores.changes stores.asks));
+          })
+        ]
+      ]
+      | inr stored ↦ inr (record {
+        before = row ∷ stored.before;
+        row = stored.row;
+        after = stored.after;
+        rows_are = ap (λ (xs : List Row). row ∷ xs) stored.rows_are;
+        stores = stored.stores;
+        wide = elim (step_adds_one w row.mutator row.command is can.0 name stored.wide) [ inl wide ↦ wide | inr e ↦ absurd (new e) ];
+      })
+    ]
+
+pub old_refers_to_young : OldRefersToYoung
+old_refers_to_young w rows is can name target i there young s = elim (rows_stored w rows is can name i (value.Ref target) there s) [
+  | inl was ↦ absurd (young (known was))
+  | inr stored ↦ stored
+]
+  where
+    known : HasStrongField w name i (value.Ref target) → IsSome (node_of w target)
+    known was = (world_holds w is).fields name target (some_of (node_of w name) was.node was.node_is) (
+      was.node,
+      was.node_is,
+      field_at_place was.node i (value.Ref target) was.field,
+    )
+
+pub old_weaks_stay : OldWeaksStay
+old_weaks_stay w rows is can weak parts there alive =
+    let h : LiveHeld w (opened w rows) (replayed w rows) = live_after w rows is can in
+    (alive_has (AsThen w (opened w rows)) (replayed w rows) h.alive weak parts alive).0 there

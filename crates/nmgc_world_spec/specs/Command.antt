@@ -1,0 +1,96 @@
+-- Which commands a mutator may give.
+--
+-- `World::apply` needs the registers alone. The other limits are those of a script, which the
+-- layouts of words rest on.
+use Rattle.std.specs.Prelude.{ℕ, ◌+◌, ◌<◌, ◌≤◌, ◌^◌, length, All}
+use Rattle.nmgc_limits.specs.declared.mutators.TheConstants.{REGISTERS}
+use Rattle.nmgc_world_spec.specs.declared.command.Operand.{Operand}
+use Rattle.nmgc_world_spec.specs.declared.command.Operand.TheVariants.{Register, Shared}
+use Rattle.nmgc_world_spec.specs.declared.command.Command.{Command}
+use Rattle.nmgc_world_spec.specs.declared.command.Command.TheVariants.{Num, Nil, Mov, Con, Var, Arr, Thunk, Weak, Stack, Get, Set, Cas, Update, Force, Push, Pop, Deref, Finalise, NextFin, Show, Same, Yield, Collect, Full}
+
+-- the register is one of so many
+abbrev pub IsRegisterBelow : ℕ → ℕ → Type 0
+IsRegisterBelow bound r = r < bound
+
+-- the operand's register is one of so many, if it has one
+abbrev pub IsOperandBelow : ℕ → Operand → Type 0
+IsOperandBelow bound (Register r) = IsRegisterBelow bound r
+IsOperandBelow bound Shared = Unit {0}
+
+-- the registers that a command names are among so many
+abbrev pub HasRegistersBelow : ℕ → Command → Type 0
+HasRegistersBelow b (Num dest number) = IsRegisterBelow b dest
+HasRegistersBelow b (Nil dest) = IsRegisterBelow b dest
+HasRegistersBelow b (Mov dest value) = IsRegisterBelow b dest × IsOperandBelow b value
+HasRegistersBelow b (Con dest tag fields) = IsRegisterBelow b dest × All (IsOperandBelow b) fields
+HasRegistersBelow b (Var dest value) = IsRegisterBelow b dest × IsOperandBelow b value
+HasRegistersBelow b (Arr dest count value) = IsRegisterBelow b dest × IsOperandBelow b value
+HasRegistersBelow b (Thunk dest free) = IsRegisterBelow b dest × All (IsOperandBelow b) free
+HasRegistersBelow b (Weak dest key value finaliser) = IsRegisterBelow b dest × IsOperandBelow b key × IsOperandBelow b value × IsOperandBelow b finaliser
+HasRegistersBelow b (Stack dest size) = IsRegisterBelow b dest
+HasRegistersBelow b (Get dest object index) = IsRegisterBelow b dest × IsOperandBelow b object
+HasRegistersBelow b (Set object index value) = IsOperandBelow b object × IsOperandBelow b value
+HasRegistersBelow b (Cas object index expected value) = IsOperandBelow b object × IsOperandBelow b expected × IsOperandBelow b value
+HasRegistersBelow b (Update object value) = IsOperandBelow b object × IsOperandBelow b value
+HasRegistersBelow b (Force dest object) = IsRegisterBelow b dest × IsOperandBelow b object
+HasRegistersBelow b (Push object value) = IsOperandBelow b object × IsOperandBelow b value
+HasRegistersBelow b (Pop dest object) = IsRegisterBelow b dest × IsOperandBelow b object
+HasRegistersBelow b (Deref dest object) = IsRegisterBelow b dest × IsOperandBelow b object
+HasRegistersBelow b (Finalise dest object) = IsRegisterBelow b dest × IsOperandBelow b object
+HasRegistersBelow b (NextFin dest) = IsRegisterBelow b dest
+HasRegistersBelow b (Show value) = IsOperandBelow b value
+HasRegistersBelow b (Same left right) = IsOperandBelow b left × IsOperandBelow b right
+HasRegistersBelow b Yield = Unit {0}
+HasRegistersBelow b Collect = Unit {0}
+HasRegistersBelow b Full = Unit {0}
+
+-- the register exists
+abbrev pub IsRegister : ℕ → Type 0
+IsRegister = IsRegisterBelow REGISTERS
+
+-- the operand's register exists, if it has one
+abbrev pub IsOperand : Operand → Type 0
+IsOperand = IsOperandBelow REGISTERS
+
+-- the registers of a command exist
+abbrev pub HasRegisters : Command → Type 0
+HasRegisters = HasRegistersBelow REGISTERS
+
+-- the numbers of a command are within their limits
+abbrev pub HasNumbers : Command → Type 0
+HasNumbers (Num dest number) = number < 2 ^ 62
+HasNumbers (Con dest tag fields) = tag < 256
+HasNumbers (Arr dest count value) = count < 65536
+HasNumbers (Thunk dest free) = length free ≤ 8
+HasNumbers (Stack dest size) = size < 65536
+HasNumbers (Get dest object index) = index < 65536
+HasNumbers (Set object index value) = index < 65536
+HasNumbers (Cas object index expected value) = index < 65536
+HasNumbers _ = Unit {0}
+
+-- how many words the object that a command makes has: a header, a name, and a word for each part
+abbrev pub words_made : Command → ℕ
+words_made (Con dest tag fields) = 2 + length fields
+words_made (Var dest value) = 3
+words_made (Arr dest count value) = 2 + count
+words_made (Thunk dest free) = 3 + length free
+words_made (Weak dest key value finaliser) = 5
+words_made (Stack dest size) = 2 + size
+words_made _ = 0
+
+-- a script may have the command, where a segment has so many words
+pub record Fits (words : ℕ) (c : Command) : Type 0 where
+  pub registers : HasRegisters c
+  pub numbers : HasNumbers c
+  pub size : words_made c ≤ words
+
+-- the command makes an object
+abbrev pub IsMaking : Command → Type 0
+IsMaking (Con dest tag fields) = Unit {0}
+IsMaking (Var dest value) = Unit {0}
+IsMaking (Arr dest count value) = Unit {0}
+IsMaking (Thunk dest free) = Unit {0}
+IsMaking (Weak dest key value finaliser) = Unit {0}
+IsMaking (Stack dest size) = Unit {0}
+IsMaking _ = ⊥

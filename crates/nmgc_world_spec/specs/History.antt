@@ -1,0 +1,79 @@
+-- The history of a round: which commands its mutators gave, in one order, and what each answered.
+use Rattle.std.specs.Prelude.{◌≡◌, ℕ, ◌==◌, List, [], ◌∷◌, ◌++◌, filter, Option, Some}
+use Rattle.nmgc_world_spec.specs.declared.value.Name.{Name}
+use Rattle.nmgc_world_spec.specs.declared.value.Value.{Value}
+use Rattle.nmgc_world_spec.specs.declared.value.Value.TheVariants as value
+use Rattle.nmgc_world_spec.specs.declared.node.Node.{Node}
+use Rattle.nmgc_world_spec.specs.declared.node.Node.TheVariants.{Weak}
+use Rattle.nmgc_world_spec.specs.declared.command.Command.{Command}
+use Rattle.nmgc_world_spec.specs.declared.command.Command.TheVariants.{Deref, Finalise}
+use Rattle.nmgc_world_spec.specs.declared.command.Reply.{Reply}
+use Rattle.nmgc_world_spec.specs.declared.command.Reply.TheVariants.{Given}
+use Rattle.nmgc_world_spec.specs.World.{World}
+use Rattle.nmgc_world_spec.specs.Step.{value_for, object_of, step}
+
+-- a command that a mutator gave, and its reply
+pub record Row : Type 0 where
+  pub mutator : ℕ
+  pub command : Command
+  pub reply : Reply
+
+-- the world after rows, in their order
+abbrev pub replayed : World → List Row → World
+replayed w [] = w
+replayed w (row ∷ rows) = replayed (step w row.mutator row.command).0 rows
+
+-- a legal history: every reply is the one that the world gives at that place
+abbrev pub IsLegal : World → List Row → Type 0
+IsLegal w [] = Unit {0}
+IsLegal w (row ∷ rows) = ((step w row.mutator row.command).1 ≡ row.reply) × IsLegal (step w row.mutator row.command).0 rows
+
+-- the rows of one mutator, in its own order
+abbrev pub rows_of : ℕ → List Row → List Row
+rows_of m rows = filter (λ row. row.mutator == m) rows
+
+-- the rows are one order of what each mutator did
+abbrev pub IsOrderOf : (ℕ → List Row) → List Row → Type 0
+IsOrderOf own rows = (m : ℕ) → rows_of m rows ≡ own m
+
+-- the name that a value refers to, if it refers to one
+abbrev pub name_in : Value → List Name
+name_in value.Nil = []
+name_in (value.Number n) = []
+name_in (value.Ref name) = name ∷ []
+
+-- the names that finalising a node opens: the value and the finaliser of an alive weak pointer
+abbrev pub opened_in : Option Node → List Name
+opened_in (Some (Weak (Some parts))) = name_in parts.value ++ name_in parts.finaliser
+opened_in _ = []
+
+-- the name that finalising a node makes dead
+abbrev pub finalised_in : Value → Option Node → List Name
+finalised_in v (Some (Weak (Some parts))) = name_in v
+finalised_in v _ = []
+
+-- what a reply gives, where it gives a reference
+abbrev pub given_name : Reply → List Name
+given_name (Given v) = name_in v
+given_name _ = []
+
+-- the names that a command opens: what `deref` answered, or the value and the finaliser of what `finalise` made dead
+abbrev pub opened_by : World → ℕ → Command → List Name
+opened_by w m (Deref dest object) = given_name (step w m (Deref dest object)).1
+opened_by w m (Finalise dest object) = opened_in (object_of w (value_for w m object))
+opened_by w m _ = []
+
+-- the weak pointer that a command made dead
+abbrev pub finalised_by : World → ℕ → Command → List Name
+finalised_by w m (Finalise dest object) = finalised_in (value_for w m object) (object_of w (value_for w m object))
+finalised_by w m _ = []
+
+-- opened names of a history that begins with this world
+abbrev pub opened : World → List Row → List Name
+opened w [] = []
+opened w (row ∷ rows) = opened_by w row.mutator row.command ++ opened (step w row.mutator row.command).0 rows
+
+-- finalised names of a history that begins with this world
+abbrev pub finalised : World → List Row → List Name
+finalised w [] = []
+finalised w (row ∷ rows) = finalised_by w row.mutator row.command ++ finalised (step w row.mutator row.command).0 rows

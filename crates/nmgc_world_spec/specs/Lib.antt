@@ -1,0 +1,12 @@
+pub mod Change
+pub mod Command
+pub mod History
+pub mod Interval
+pub mod Listing
+pub mod Order
+pub mod Owed
+pub mod Reach
+pub mod Step
+pub mod Wide
+pub mod World
+pub mod laws

@@ -1,0 +1,25 @@
+-- What lists of numbers and of names list.
+use Rattle.std.specs.Prelude.{ℕ, ◌≡◌, ◌<◌, List, [], ◌∷◌, length, Contains}
+use Rattle.nmgc_world_spec.specs.declared.value.Name.{Name}
+use Rattle.nmgc_world_spec.specs.Reach.{Lists}
+
+-- each number is less than the one that follows
+abbrev pub Ascends : List ℕ → Type 0
+Ascends [] = Unit {0}
+Ascends (n ∷ []) = Unit {0}
+Ascends (n ∷ next ∷ ns) = (n < next) × Ascends (next ∷ ns)
+
+-- the numbers are exactly those with P, in order
+pub record ListsNumbers (P : ℕ → Type 0) (numbers : List ℕ) : Type 0 where
+  pub ordered : Ascends numbers
+  pub sound : (n : ℕ) → Contains numbers n → P n
+  pub complete : (n : ℕ) → P n → Contains numbers n
+
+-- no name of the list is among those that follow
+abbrev pub AreDistinct : List Name → Type 0
+AreDistinct [] = Unit {0}
+AreDistinct (name ∷ names) = (Contains names name → ⊥) × AreDistinct names
+
+-- so many names have P
+abbrev pub Counts : (Name → Type 0) → ℕ → Type 0
+Counts P count = (names : List Name) × Lists P names × (count ≡ length names)

@@ -1,0 +1,86 @@
+-- What a command owes: the values that it took out of an object, or read out of a weak pointer.
+-- The deletion barrier is this table.
+use Rattle.std.specs.Prelude.{ℕ, List, [], ◌∷◌, slice_get, Option, Some, None, Bool, true, if◌then◌else◌, ◌==◌, flat_map, option_to_list}
+use Rattle.nmgc_world_spec.specs.declared.value.Name.{Name}
+use Rattle.nmgc_world_spec.specs.declared.value.Value.{Value}
+use Rattle.nmgc_world_spec.specs.declared.value.Value.TheVariants as value
+use Rattle.nmgc_world_spec.specs.declared.node.Node.{Node}
+use Rattle.nmgc_world_spec.specs.declared.node.Node.TheVariants.{Var, Arr, Thunk, Weak, Stack}
+use Rattle.nmgc_world_spec.specs.declared.change.Change.{Change}
+use Rattle.nmgc_world_spec.specs.declared.change.Change.TheVariants as change
+use Rattle.nmgc_world_spec.specs.declared.command.Command.{Command}
+use Rattle.nmgc_world_spec.specs.declared.command.Command.TheVariants.{Deref}
+use Rattle.nmgc_world_spec.specs.World.{World, node_of}
+use Rattle.nmgc_world_spec.specs.Change.{is_same, last_of}
+use Rattle.nmgc_world_spec.specs.Step.{value_for, object_of, asked}
+use Rattle.nmgc_world_spec.specs.History.{name_in}
+
+-- the field of a variable or an array, which can be written
+abbrev pub field_held : Node → ℕ → Option Value
+field_held (Var v) index = slice_get (v ∷ []) index
+field_held (Arr values) index = slice_get values index
+field_held _ index = None
+
+-- the value, if it is the expected one
+abbrev pub if_same : Value → Option Value → List Value
+if_same expected None = []
+if_same expected (Some v) = if is_same v expected then v ∷ [] else []
+
+-- the free variables of a thunk without a result
+abbrev pub free_held : Node → List Value
+free_held (Thunk free None) = free
+free_held _ = []
+
+-- the top of an own stack
+abbrev pub top_held : Bool → Node → List Value
+top_held true (Stack size values) = option_to_list (last_of values)
+top_held _ _ = []
+
+-- an alive weak pointer, its value and its finaliser
+abbrev pub weak_held : Name → Node → List Value
+weak_held weak (Weak (Some parts)) = value.Ref weak ∷ parts.value ∷ parts.finaliser ∷ []
+weak_held weak _ = []
+
+-- the value of an alive weak pointer
+abbrev pub value_held : Option Node → List Value
+value_held (Some (Weak (Some parts))) = parts.value ∷ []
+value_held _ = []
+
+-- what a change of the node of a name owes: the old value of a field that is written, the free variables of a thunk
+-- that is updated, what is popped, and what a finalised weak pointer kept
+abbrev pub owed_in : Change → Name → Node → List Value
+owed_in (change.Set index v) name node = option_to_list (field_held node index)
+owed_in (change.Exchange index expected v) name node = if_same expected (field_held node index)
+owed_in (change.Update v) name node = free_held node
+owed_in (change.Push m v) name node = []
+owed_in (change.Pop m) name node = top_held (name.maker == m) node
+owed_in change.Finalise name node = weak_held name node
+
+-- the same where the name has a node
+abbrev pub owed_at : Change → Name → Option Node → List Value
+owed_at c name None = []
+owed_at c name (Some node) = owed_in c name node
+
+-- what a change of the object that a value refers to owes
+abbrev pub owed_of : World → Value → Change → List Value
+owed_of w value.Nil c = []
+owed_of w (value.Number n) c = []
+owed_of w (value.Ref name) c = owed_at c name (node_of w name)
+
+-- what the change that was asked for owes, if one was
+abbrev pub owed_asked : World → Option (Value × Change) → List Value
+owed_asked w None = []
+owed_asked w (Some (object, c)) = owed_of w object c
+
+-- what a command owes in a world, as values: the value of a weak pointer that is read, or what a change owes
+abbrev pub values_owed : World → ℕ → Command → List Value
+values_owed w m (Deref dest object) = value_held (object_of w (value_for w m object))
+values_owed w m c = owed_asked w (asked w m c)
+
+-- the references among values
+abbrev pub names_among : List Value → List Name
+names_among values = flat_map name_in values
+
+-- what a command owes in a world
+abbrev pub owed_by : World → ℕ → Command → List Name
+owed_by w m c = names_among (values_owed w m c)

@@ -1,0 +1,184 @@
+-- What a command does to a world: the next world, and the reply. It is the whole behaviour of a heap
+-- that is never collected.
+use Rattle.std.specs.Prelude.{ℕ, ◌-◌, ◌<◌, ◌^◌, List, [], ◌∷◌, ◌++◌, length, map, drop, replicate, slice_get, slice_index_or, slice_set, Option, Some, None, if◌then◌else◌, ◌==◌}
+use Rattle.nmgc_world_spec.specs.World.{World, state_of, serial_of, node_of}
+use Rattle.nmgc_world_spec.specs.Command.{HasRegisters}
+use Rattle.nmgc_world_spec.specs.Change.{is_same, given_or, field_read, result_read, value_read, changed}
+use Rattle.nmgc_limits.specs.declared.mutators.TheConstants.{SHARED_MAKER}
+use Rattle.nmgc_world_spec.specs.declared.value.Name.{Name}
+use Rattle.nmgc_world_spec.specs.declared.value.Value.{Value}
+use Rattle.nmgc_world_spec.specs.declared.value.Value.TheVariants as value
+use Rattle.nmgc_world_spec.specs.declared.node.Node.{Node}
+use Rattle.nmgc_world_spec.specs.declared.node.Node.TheVariants as node
+use Rattle.nmgc_world_spec.specs.declared.change.Change.{Change}
+use Rattle.nmgc_world_spec.specs.declared.change.Change.TheVariants as change
+use Rattle.nmgc_world_spec.specs.declared.mutator_state.MutatorState.{MutatorState}
+use Rattle.nmgc_world_spec.specs.declared.command.Operand.{Operand}
+use Rattle.nmgc_world_spec.specs.declared.command.Operand.TheVariants.{Register, Shared}
+use Rattle.nmgc_world_spec.specs.declared.command.Command.{Command}
+use Rattle.nmgc_world_spec.specs.declared.command.Command.TheVariants.{Num, Nil, Mov, Con, Var, Arr, Thunk, Weak, Stack, Get, Set, Cas, Update, Force, Push, Pop, Deref, Finalise, NextFin, Show, Same, Yield, Collect, Full}
+use Rattle.nmgc_world_spec.specs.declared.command.Reply.{Reply}
+use Rattle.nmgc_world_spec.specs.declared.command.Reply.TheVariants.{Fine, Yes, No, Given, NoPointer, Nothing}
+
+-- a world takes a command: the mutator and the registers exist, and one more object still has a serial
+pub record CanApply (w : World) (m : ℕ) (c : Command) : Type 0 where
+  pub mutator : m < length w.mutators
+  pub registers : HasRegisters c
+  pub serial : serial_of w m < 2 ^ 32 - 1
+
+-- the name of the shared array
+abbrev pub shared_name : Name
+shared_name = record { maker = SHARED_MAKER; serial = 0 }
+
+-- the value of an operand, with these registers
+abbrev pub value_of : List Value → Operand → Value
+value_of registers (Register r) = slice_index_or registers r value.Nil
+value_of registers Shared = value.Ref shared_name
+
+-- the value that an operand has for a mutator
+abbrev pub value_for : World → ℕ → Operand → Value
+value_for w m operand = value_of (state_of w m).registers operand
+
+-- the values that operands have for a mutator
+abbrev pub values_for : World → ℕ → List Operand → List Value
+values_for w m operands = map (value_of (state_of w m).registers) operands
+
+-- the world with another state of a mutator
+abbrev pub with_state : World → ℕ → MutatorState → World
+with_state w m state = record w { mutators = slice_set w.mutators m state }
+
+-- a register holds the value
+abbrev pub holding : MutatorState → ℕ → Value → MutatorState
+holding state register v = record state { registers = slice_set state.registers register v }
+
+-- a register holds the value, if there is one
+abbrev pub holding_given : MutatorState → ℕ → Option Value → MutatorState
+holding_given state register None = state
+holding_given state register (Some v) = holding state register v
+
+-- a register of the mutator takes the value
+abbrev pub with_register : World → ℕ → ℕ → Value → World
+with_register w m register v = with_state w m (holding (state_of w m) register v)
+
+-- the register takes the value that was given, if one was
+abbrev pub keeping : World → ℕ → ℕ → Reply → World
+keeping w m register (Given v) = with_register w m register v
+keeping w m register _ = w
+
+-- the next name that a mutator gives
+abbrev pub next_name : MutatorState → ℕ → Name
+next_name state m = record { maker = m; serial = length state.nodes }
+
+-- a new node, whose reference a register holds
+abbrev pub with_new : MutatorState → ℕ → ℕ → Node → MutatorState
+with_new state m register made = record state {
+  registers = slice_set state.registers register (value.Ref (next_name state m));
+  nodes = state.nodes ++ made ∷ [];
+}
+
+-- a new node: its reference goes into a register, and its name is the answer
+abbrev pub born : World → ℕ → ℕ → Node → World × Reply
+born w m register made = (with_state w m (with_new (state_of w m) m register made), Given (value.Ref (next_name (state_of w m) m)))
+
+-- the object at a serial is another node
+abbrev pub with_nth : MutatorState → ℕ → Node → MutatorState
+with_nth state serial made = record state { nodes = slice_set state.nodes serial made }
+
+-- the world in which a name has another node
+abbrev pub with_node : World → Name → Node → World
+with_node w name made = if name.maker == SHARED_MAKER then record w {
+  shared =
+      made;
+} else with_state w name.maker (with_nth (state_of w name.maker) name.serial made)
+
+-- the object that a value refers to
+abbrev pub object_of : World → Value → Option Node
+object_of w value.Nil = None
+object_of w (value.Number n) = None
+object_of w (value.Ref name) = node_of w name
+
+-- what reading an object answers
+abbrev pub read_object : Option Node → (Node → Reply) → Reply
+read_object None read = NoPointer
+read_object (Some found) read = read found
+
+-- a change of the node of a name
+abbrev pub change_node : World → Name → Option Node → Change → World × Reply
+change_node w name None c = (w, NoPointer)
+change_node w name (Some found) c = (with_node w name (changed c name.maker found).0, (changed c name.maker found).1)
+
+-- a change of the object that a value refers to
+abbrev pub change_object : World → Value → Change → World × Reply
+change_object w value.Nil c = (w, NoPointer)
+change_object w (value.Number n) c = (w, NoPointer)
+change_object w (value.Ref name) c = change_node w name (node_of w name) c
+
+-- the write of a field that a command asks for, with the value that refers to the object
+abbrev pub asked_write : World → ℕ → Command → Option (Value × Change)
+asked_write w m (Set object index v) = Some (value_for w m object, change.Set index (value_for w m v))
+asked_write w m (Cas object index expected v) = Some (value_for w m object, change.Exchange index (value_for w m expected) (value_for w m v))
+asked_write w m _ = None
+
+-- the change that a command asks for, with the value that refers to the object
+abbrev pub asked : World → ℕ → Command → Option (Value × Change)
+asked w m (Update object v) = Some (value_for w m object, change.Update (value_for w m v))
+asked w m (Push object v) = Some (value_for w m object, change.Push m (value_for w m v))
+asked w m (Pop dest object) = Some (value_for w m object, change.Pop m)
+asked w m (Finalise dest object) = Some (value_for w m object, change.Finalise)
+asked w m c = asked_write w m c
+
+-- the change that was asked for, if one was
+abbrev pub change_asked : World → Option (Value × Change) → World × Reply
+change_asked w None = (w, Fine)
+change_asked w (Some (object, c)) = change_object w object c
+
+-- the register takes the value that was read, if one was
+abbrev pub read_into : World → ℕ → ℕ → Reply → World × Reply
+read_into w m dest reply = (keeping w m dest reply, reply)
+
+-- the register takes the value that a change gave, if it gave one
+abbrev pub change_into : ℕ → ℕ → World × Reply → World × Reply
+change_into m dest r = (keeping r.0 m dest r.1, r.1)
+
+-- the first of the finaliser queue, if there is one, went off into a register
+abbrev pub with_finaliser : MutatorState → ℕ → MutatorState
+with_finaliser state register = holding_given (record state { queue = drop 1 state.queue }) register (slice_get state.queue 0)
+
+-- `nextfin`: the first of the queue goes off into the register
+abbrev pub next_finaliser : World → ℕ → ℕ → World × Reply
+next_finaliser w m dest = (with_state w m (with_finaliser (state_of w m) dest), given_or Nothing (slice_get (state_of w m).queue 0))
+
+-- `same`
+abbrev pub same_reply : Value → Value → Reply
+same_reply a b = if is_same a b then Yes else No
+
+-- the next world, and the reply
+abbrev pub step : World → ℕ → Command → World × Reply
+step w m (Num dest number) = (with_register w m dest (value.Number number), Fine)
+step w m (Nil dest) = (with_register w m dest value.Nil, Fine)
+step w m (Mov dest v) = (with_register w m dest (value_for w m v), Fine)
+step w m (Con dest tag fields) = born w m dest (node.Con tag (values_for w m fields))
+step w m (Var dest v) = born w m dest (node.Var (value_for w m v))
+step w m (Arr dest count v) = born w m dest (node.Arr (replicate count (value_for w m v)))
+step w m (Thunk dest free) = born w m dest (node.Thunk (values_for w m free) None)
+step w m (Weak dest key v finaliser) = born w m dest (node.Weak (Some (record {
+  key = value_for w m key;
+  value = value_for w m v;
+  finaliser = value_for w m finaliser;
+})))
+step w m (Stack dest size) = born w m dest (node.Stack size [])
+step w m (Get dest object index) = read_into w m dest (read_object (object_of w (value_for w m object)) (λ found. field_read found index))
+step w m (Set object index v) = change_object w (value_for w m object) (change.Set index (value_for w m v))
+step w m (Cas object index expected v) = change_object w (value_for w m object) (change.Exchange index (value_for w m expected) (value_for w m v))
+step w m (Update object v) = change_object w (value_for w m object) (change.Update (value_for w m v))
+step w m (Force dest object) = read_into w m dest (read_object (object_of w (value_for w m object)) result_read)
+step w m (Push object v) = change_object w (value_for w m object) (change.Push m (value_for w m v))
+step w m (Pop dest object) = change_into m dest (change_object w (value_for w m object) (change.Pop m))
+step w m (Deref dest object) = read_into w m dest (read_object (object_of w (value_for w m object)) value_read)
+step w m (Finalise dest object) = change_into m dest (change_object w (value_for w m object) change.Finalise)
+step w m (NextFin dest) = next_finaliser w m dest
+step w m (Show v) = (w, Given (value_for w m v))
+step w m (Same left right) = (w, same_reply (value_for w m left) (value_for w m right))
+step w m Yield = (w, Fine)
+step w m Collect = (w, Fine)
+step w m Full = (w, Fine)

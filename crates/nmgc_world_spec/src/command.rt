@@ -1,0 +1,251 @@
+//! Commands, and what they answer.
+ghost use Rattle.std.specs.Prelude.{◌≡◌, ◌<◌};
+ghost use Rattle.nmgc_world_spec.specs.Command.{IsMaking, words_made};
+
+use crate::Value;
+use nmgc_lists::List;
+
+/// Where a command takes a value from: a register, or the reference to the shared array.
+#[derive(Clone, Copy, Debug, PartialEq, Eq)]
+pub enum Operand {
+    Register(u8),
+    Shared,
+}
+
+/// What a mutator is asked to do. `dest` is the register that takes the value.
+pub enum Command {
+    /// Takes a number.
+    Num {
+        dest: u8,
+        number: u64,
+    },
+    /// Takes nil.
+    Nil {
+        dest: u8,
+    },
+    /// Takes a value.
+    Mov {
+        dest: u8,
+        value: Operand,
+    },
+    /// Makes a constructor.
+    Con {
+        dest: u8,
+        tag: u8,
+        fields: List<Operand>,
+    },
+    /// Makes a variable.
+    Var {
+        dest: u8,
+        value: Operand,
+    },
+    /// Makes an array of so many copies of a value.
+    Arr {
+        dest: u8,
+        count: u32,
+        value: Operand,
+    },
+    /// Makes a thunk without a result.
+    Thunk {
+        dest: u8,
+        free: List<Operand>,
+    },
+    /// Makes a weak pointer, alive.
+    Weak {
+        dest: u8,
+        key: Operand,
+        value: Operand,
+        finaliser: Operand,
+    },
+    /// Makes an empty stack for at most `size` values.
+    Stack {
+        dest: u8,
+        size: u32,
+    },
+    /// Reads a field of a constructor, a variable or an array.
+    Get {
+        dest: u8,
+        object: Operand,
+        index: u32,
+    },
+    /// Writes a field of a variable or an array.
+    Set {
+        object: Operand,
+        index: u32,
+        value: Operand,
+    },
+    /// Writes a field of a variable or an array where it equals `expected`.
+    Cas {
+        object: Operand,
+        index: u32,
+        expected: Operand,
+        value: Operand,
+    },
+    /// Gives a thunk its result, unless it has one.
+    Update {
+        object: Operand,
+        value: Operand,
+    },
+    /// Reads a thunk's result.
+    Force {
+        dest: u8,
+        object: Operand,
+    },
+    /// Puts a value on a stack that this mutator made.
+    Push {
+        object: Operand,
+        value: Operand,
+    },
+    /// Takes the top off a stack that this mutator made.
+    Pop {
+        dest: u8,
+        object: Operand,
+    },
+    /// Reads the value of an alive weak pointer.
+    Deref {
+        dest: u8,
+        object: Operand,
+    },
+    /// Makes an alive weak pointer dead, and takes its finaliser.
+    Finalise {
+        dest: u8,
+        object: Operand,
+    },
+    /// Takes the first finaliser off the mutator's queue.
+    NextFin {
+        dest: u8,
+    },
+    /// Answers a value.
+    Show {
+        value: Operand,
+    },
+    /// Answers whether two values are the same.
+    Same {
+        left: Operand,
+        right: Operand,
+    },
+    /// Ends the slice.
+    Yield,
+    /// Ends the slice and asks for a cycle.
+    Collect,
+    /// Ends the slice and asks for a full cycle.
+    Full,
+}
+
+// By hand, so that whoever lets go of one calls this: a derived one is written out, and proved, at each place.
+impl Drop for Command {
+    fn drop(self) {
+        match self {
+            Command::Num { dest: _, number: _ } => {}
+            Command::Nil { dest: _ } => {}
+            Command::Mov { dest: _, value: _ } => {}
+            Command::Con {
+                dest: _,
+                tag: _,
+                fields,
+            } => drop(fields),
+            Command::Var { dest: _, value: _ } => {}
+            Command::Arr {
+                dest: _,
+                count: _,
+                value: _,
+            } => {}
+            Command::Thunk { dest: _, free } => drop(free),
+            Command::Weak {
+                dest: _,
+                key: _,
+                value: _,
+                finaliser: _,
+            } => {}
+            Command::Stack { dest: _, size: _ } => {}
+            Command::Get {
+                dest: _,
+                object: _,
+                index: _,
+            } => {}
+            Command::Set {
+                object: _,
+                index: _,
+                value: _,
+            } => {}
+            Command::Cas {
+                object: _,
+                index: _,
+                expected: _,
+                value: _,
+            } => {}
+            Command::Update {
+                object: _,
+                value: _,
+            } => {}
+            Command::Force { dest: _, object: _ } => {}
+            Command::Push {
+                object: _,
+                value: _,
+            } => {}
+            Command::Pop { dest: _, object: _ } => {}
+            Command::Deref { dest: _, object: _ } => {}
+            Command::Finalise { dest: _, object: _ } => {}
+            Command::NextFin { dest: _ } => {}
+            Command::Show { value: _ } => {}
+            Command::Same { left: _, right: _ } => {}
+            Command::Yield => {}
+            Command::Collect => {}
+            Command::Full => {}
+        }
+    }
+}
+
+impl Command {
+    /// How many words the object has that the command makes: a header, a name, and a word for each
+    /// part; none where it makes no object. Takes no memory, and constant time.
+    pub fn words_made(&self) -> usize
+        ensures words { result ≡ words_made self.now }
+        ensures making { 0 < result → IsMaking self.now }
+    {
+        match self {
+            Command::Con { fields, .. } => 2 + fields.items().len(),
+            Command::Var { .. } => 3,
+            Command::Arr { count, .. } => 2 + *count as usize,
+            Command::Thunk { free, .. } => 3 + free.items().len(),
+            Command::Weak { .. } => 5,
+            Command::Stack { size, .. } => 2 + *size as usize,
+            _ => 0,
+        }
+    }
+}
+
+/// What a command answered. A refusal changed nothing.
+#[derive(Clone, Copy, Debug, PartialEq, Eq)]
+pub enum Reply {
+    /// It was done.
+    Fine,
+    /// `cas` wrote; the values are the same.
+    Yes,
+    /// `cas` found another value; the values differ.
+    No,
+    /// The thunk has its result now.
+    Updated,
+    /// Refused: the thunk had a result.
+    Already,
+    /// The value asked for, or the name of what was made.
+    Given(Value),
+    /// Refused: the object operand is nil or a number.
+    NoPointer,
+    /// Refused: the object has no such field.
+    NoField,
+    /// Refused: the object is of another kind.
+    WrongKind,
+    /// Refused: another mutator made the stack.
+    NotOwner,
+    /// Refused: a constructor never changes.
+    Fixed,
+    /// Refused: the weak pointer is dead.
+    Dead,
+    /// Refused: there is no result, or no finaliser is queued.
+    Nothing,
+    /// Refused: the stack is full.
+    StackFull,
+    /// Refused: the stack is empty.
+    StackEmpty,
+}
