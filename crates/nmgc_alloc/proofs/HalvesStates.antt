@@ -15,7 +15,7 @@ use Rattle.nmgc_alloc.proofs.TallyLaws.{tally_read}
 use Rattle.nmgc_alloc.specs.declared.tally.Tally.{Tally}
 use Rattle.nmgc_alloc.specs.Numbered.{nth, is, Segments, HasNumber}
 use Rattle.nmgc_alloc.specs.Search.{Is, IsTally, NoneBelow, tally_place, is_for, is_sought}
-use Rattle.nmgc_alloc.specs.Segments.{IsSegments, IsMember, IsCurrent, Leads, Tells, filled_count}
+use Rattle.nmgc_alloc.specs.Segments.{IsSegments, IsMember, IsCurrent, Leads, HaveTallies, filled_count}
 use Rattle.nmgc_alloc.specs.Halves.{SweptWaiting, FirstSwept}
 use Rattle.nmgc_alloc.proofs.HalvesLaws.{bytes_words, waits_or_not}
 use Rattle.nmgc_alloc.specs.laws.Counts.{one_if}
@@ -72,7 +72,7 @@ same_tally w xs ys t h told = record {
   between = λ i from to is. told.between i from to (is_same w (nth xs i) (nth ys i) (h.state i) (h.class i) is);
 }
 
-pub same_tells : (xs ys : List Segment) (tallies : List Tally) (filled : ℕ) → SameStates xs ys → Tells xs tallies filled → Tells ys tallies filled
+pub same_tells : (xs ys : List Segment) (tallies : List Tally) (filled : ℕ) → SameStates xs ys → HaveTallies xs tallies filled → HaveTallies ys tallies filled
 same_tells xs ys tallies filled h told = record {
   kinds = told.kinds;
   tally = λ w kind. same_tally w xs ys _ h (told.tally w kind);
@@ -108,8 +108,8 @@ swept_member layout epoch x y h m = elim (waits_or_not x) [
 ]
 
 pub first_segments : (s : Segments) (epoch count filled : ℕ) (new : List Segment) (current : List ℕ) (tallies : List Tally) →
-    FirstSwept epoch count s.segments new → IsSegments s × Leads s.segments current × Tells s.segments tallies filled →
-    IsSegments (record s { segments = new }) × Leads new current × Tells new tallies filled
+    FirstSwept epoch count s.segments new → IsSegments s × Leads s.segments current × HaveTallies s.segments tallies filled →
+    IsSegments (record s { segments = new }) × Leads new current × HaveTallies new tallies filled
 first_segments s epoch count filled new current tallies h sound =
     let same : SameStates s.segments new = first_same epoch count s.segments new h in
     let after : Segments = record s { segments = new } in
@@ -134,17 +134,17 @@ first_segments s epoch count filled new current tallies h sound =
 -- as the code's loan of them leaves the list
 pub first_to : (s : Segments) (epoch count filled len : ℕ) (slice new : List Segment) (current : List ℕ) (tallies : List Tally) →
     slice ≡ s.segments → length slice ≡ len → FirstSwept epoch count slice new → IsSegments s × Leads s.segments current ×
-    Tells s.segments tallies filled → IsSegments (record s { segments = take len (new ++ drop (length new) s.segments) }) ×
-    Leads (take len (new ++ drop (length new) s.segments)) current × Tells (take len (new ++ drop (length new) s.segments)) tallies filled
+    HaveTallies s.segments tallies filled → IsSegments (record s { segments = take len (new ++ drop (length new) s.segments) }) ×
+    Leads (take len (new ++ drop (length new) s.segments)) current × HaveTallies (take len (new ++ drop (length new) s.segments)) tallies filled
 first_to s epoch count filled len slice new current tallies is long h sound =
     let here : FirstSwept epoch count s.segments new = subst (λ (xs : List Segment). FirstSwept epoch count xs new) is h in
     let whole : take len (new ++ drop (length new) s.segments) ≡ new = take_at new (drop (length new) s.segments) len (h.size ∙ long) in
     subst (λ (xs : List Segment). IsSegments (record s { segments = xs }) × Leads xs current ×
-    Tells xs tallies filled) (sym whole) (first_segments s epoch count filled new current tallies here sound)
+    HaveTallies xs tallies filled) (sym whole) (first_segments s epoch count filled new current tallies here sound)
 
 -- where the search for one that waits begins
 pub search_begins : (s now : Segments) (at filled : ℕ) (t : Tally) (slice : List Segment) (current : List ℕ) (tallies : List Tally) → s ≡ now →
-    IsSegments s × Leads s.segments current × Tells s.segments tallies filled → at ≡ tally_place Sweeping → t ≡ slice_index_or tallies at t →
+    IsSegments s × Leads s.segments current × HaveTallies s.segments tallies filled → at ≡ tally_place Sweeping → t ≡ slice_index_or tallies at t →
     slice ≡ s.segments → (t.from ≤ length slice) × NoneBelow Sweeping slice t.from
 search_begins s now at filled t slice current tallies seen h place read is =
     let found = tally_read Sweeping tallies at t tt h.2.kinds place read in
@@ -154,7 +154,7 @@ search_begins s now at filled t slice current tallies seen h place read is =
 
 -- so none waits below it
 pub none_waits_below : (s now : Segments) (at filled : ℕ) (t : Tally) (current : List ℕ) (tallies : List Tally) → s ≡ now → IsSegments s ×
-    Leads s.segments current × Tells s.segments tallies filled → at ≡ tally_place Sweeping → t ≡ slice_index_or tallies at t →
+    Leads s.segments current × HaveTallies s.segments tallies filled → at ≡ tally_place Sweeping → t ≡ slice_index_or tallies at t →
     NoneBelow Sweeping now.segments t.from
 none_waits_below s now at filled t current tallies seen h place read =
     subst (λ (x : Segments). NoneBelow Sweeping x.segments t.from) seen (search_begins s now at filled t s.segments current tallies seen h place read refl).1

@@ -44,7 +44,7 @@ pub struct Segments {
 
 impl Model for Segments {
     ghost use Rattle.nmgc_alloc.specs.Numbered.{Segments as Shown};
-    ghost use Rattle.nmgc_alloc.specs.Segments.{IsSegments, Leads, Tells};
+    ghost use Rattle.nmgc_alloc.specs.Segments.{IsSegments, Leads, HaveTallies};
 
     ghost Value = { Shown };
 
@@ -58,7 +58,7 @@ impl Model for Segments {
       layout = s.layout;
       segments = s.segments.items;
       fresh = s.fresh;
-    } in IsSegments shown × Leads s.segments.items s.current.items × Tells s.segments.items s.tallies.items s.filled };
+    } in IsSegments shown × Leads s.segments.items s.current.items × HaveTallies s.segments.items s.tallies.items s.filled };
 }
 
 // The number of the segment with a word, and how far the word lies from the segment's first: of its distance from the
@@ -101,7 +101,7 @@ fn first_tallies(alloc: Global, segments: u32) -> Result<Vec<Tally>, NoMemory>
 }
 
 impl Segments {
-    ghost use Rattle.nmgc_alloc.specs.Segments.{all_free, IsMutator, IsClass, IsCurrent, HasRoom, HasNone, HasNoneIn, HasNoCurrent, Allocates, SweepsNext, IsBlockAt, IsSegments, IsOwn, IsLeast, IsOpen, CountsFilled, TakesBlock, IsChosen, SweepsSegment, Marks, MarksIfBlock, IsToMark, as_current, marked_if};
+    ghost use Rattle.nmgc_alloc.specs.Segments.{all_free, IsMutator, IsClass, IsCurrent, HasRoom, HasNone, HasNoneIn, HasNoCurrent, Allocates, SweepsNext, IsBlockAt, IsSegments, IsOwn, IsLeast, IsOpen, CountsFilled, TakesBlock, IsChosen, SweepsSegment, MarksBlock, MarksIfBlock, IsToMark, as_current, marked_if};
     ghost use Rattle.nmgc_alloc.specs.Numbered.{HasNumber, block_place};
 
     /// All segments of a layout, free.
@@ -324,7 +324,7 @@ impl Segments {
     pub fn mark_at(&mut self, at: Address, epoch: u8) -> bool
         requires epoch { IsEpoch epoch }
         requires begins { (number : ℕ) × (block : ℕ) × IsBlockAt self.old number block at.0 }
-        ensures marks { Marks self.old self.new at.0 epoch result }
+        ensures marks { MarksBlock self.old self.new at.0 epoch result }
         ensures sound { IsSegments self.new }
     {
         match self.block_at(at) {

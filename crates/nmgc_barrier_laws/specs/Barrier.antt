@@ -13,7 +13,7 @@ use Rattle.nmgc_snapshot_laws.specs.Closing.{IsClosing}
 use Rattle.nmgc_snapshot_laws.specs.Facts.{MayHold}
 use Rattle.nmgc_barrier_laws.specs.declared.debt.Debt.{Debt}
 use Rattle.nmgc_barrier_laws.specs.Lax.{after_owing, IsShuffled}
-use Rattle.nmgc_barrier_laws.specs.Cycle.{Cycle, watching, IsWatched, IsPushed, IsTook, Marks}
+use Rattle.nmgc_barrier_laws.specs.Cycle.{Cycle, watching, IsWatched, IsPushed, IsTook, MarksName}
 
 -- the names of debts
 abbrev pub names_in : List Debt → List Name
@@ -60,7 +60,7 @@ pub data Beside (w : World) : Cycle → State → Type 0 where
 -- wherever the marker is: without debts nothing is owed, and an end marks exactly what the commands and the pushes keep
 pub record IsBarrierExact (h : Cycle) (s : State) : Type 0 where
   pub owes : h.debts ≡ [] → (m : ℕ) → names_of s.owed m ≡ []
-  pub marks : (next : State) → IsPossible s event.Close → IsClosing s next → (name : Name) → Contains next.marked name ↔ Marks h name
+  pub marks : (next : State) → IsPossible s event.Close → IsClosing s next → (name : Name) → Contains next.marked name ↔ MarksName h name
 
 -- the theorem of the watched barrier
 abbrev pub BarrierTheorem : Type 0
@@ -74,7 +74,7 @@ pub record HasFinished (s : State) : Type 0 where
 -- marking can end, and each end has marked exactly what the commands and the pushes keep, and lets exactly those weak pointers die that are dead by them
 pub record EndsExactly (h : Cycle) (s : State) : Type 0 where
   pub possible : IsPossible s event.Close
-  pub marks : (next : State) → IsClosing s next → (name : Name) → Contains next.marked name ↔ Marks h name
+  pub marks : (next : State) → IsClosing s next → (name : Name) → Contains next.marked name ↔ MarksName h name
   pub dies : (next : State) (closing : IsClosing s next) → Lists (IsDead h.snapshot (h.opened ++ h.remembered) h.finalised) closing.dead
   pub world : (next : State) (closing : IsClosing s next) → next.world ≡ closed h.world closing.dead
 

@@ -88,8 +88,8 @@ abbrev pub IsDeadTold : Cycle → List Name → Name → Type 0
 IsDeadTold h dead weak = (keys : List Name) × AreKeysLeft h dead keys × IsDead h.snapshot (h.opened ++ keys) h.finalised weak
 
 -- what a collector keeps that marks all that was remembered: the same, and what floats
-abbrev pub Marks : Cycle → Name → Type 0
-Marks h name = IsKept h.snapshot (h.opened ++ h.remembered) h.finalised name
+abbrev pub MarksName : Cycle → Name → Type 0
+MarksName h name = IsKept h.snapshot (h.opened ++ h.remembered) h.finalised name
 
 -- the end can come: nothing is due or on its way to the marker; these weak pointers die
 pub record IsEnd (h : Cycle) (dead : List Name) (next : World) : Type 0 where

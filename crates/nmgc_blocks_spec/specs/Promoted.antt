@@ -9,7 +9,7 @@ use Rattle.nmgc_object.specs.Size.{IsClassOf}
 use Rattle.nmgc_object.specs.declared.layout.Layout.{Layout}
 use Rattle.nmgc_heap_spec.specs.Shape.{size_of}
 use Rattle.nmgc_world_spec.specs.Wide.{IsOfWeak}
-use Rattle.nmgc_alloc.specs.AllocState.{AllocState, Places}
+use Rattle.nmgc_alloc.specs.AllocState.{AllocState, PlacesName}
 
 -- a young name: the round made it
 abbrev pub IsYoung : World → World → Name → Type 0
@@ -37,7 +37,7 @@ pub record PlacesObject (layout : Layout) (w : World) (old new : AllocState) (na
   pub there : node_of w name ≡ Some node
   pub class : ℕ
   pub fits : IsClassOf (size_of node) class
-  pub places : Places layout old new name.maker class name
+  pub places : PlacesName layout old new name.maker class name
 
 -- the objects of the names are placed, one after the other
 abbrev pub PlacesEach : Layout → World → AllocState → List Name → AllocState → Type 0

@@ -4,7 +4,7 @@ use Rattle.std.specs.Io.KnownBytes.{Consumes, Appends, Keeps, IsAtEnd}
 use Rattle.nmgc_io.specs.Counts.{Takes, TakesUpTo, AppendsFront}
 use Rattle.nmgc_script.specs.Limits.{upgraded, IsInLimits}
 use Rattle.nmgc_script.specs.Spelling.{Spells, plain}
-use Rattle.nmgc_script.specs.Faults.{Tells}
+use Rattle.nmgc_script.specs.Faults.{TellsFault}
 use Rattle.nmgc_script.specs.Text.{kept_lines, end_of}
 use Rattle.nmgc_script.specs.declared.script.Script.{Script}
 use Rattle.nmgc_script.specs.declared.fault.Cause.{Cause}
@@ -68,7 +68,7 @@ pub record SpellsOnly (bytes : List ℕ) (script : Script) : Type 0 where
 -- the bytes spell no script, and this is the first bad line with its cause
 pub record SpellsNone (bytes : List ℕ) (line : ℕ) (c : Cause) : Type 0 where
   pub none : (script : Script) → Spells bytes script → ⊥
-  pub fault : Tells (end_of bytes) (kept_lines bytes) line c
+  pub fault : TellsFault (end_of bytes) (kept_lines bytes) line c
 
 -- what is told is the plain spelling of the script's upgrade
 pub record IsUpgraded (script : Script) (outcome : Outcome) : Type 0 where

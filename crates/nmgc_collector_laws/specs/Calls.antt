@@ -23,7 +23,7 @@ use Rattle.nmgc_weak.specs.Queues.{weak_count}
 use Rattle.nmgc_run_spec.specs.Heap.{HoldsAtStop}
 use Rattle.nmgc_sweep.specs.Sweeping.{HasListedNothing, HasNoted}
 use Rattle.nmgc_segment.specs.Marks.{epoch_of}
-use Rattle.nmgc_collector_laws.specs.Seen.{Seen, MutatorSeen}
+use Rattle.nmgc_collector_laws.specs.Seen.{CollectorSeen, MutatorSeen}
 use Rattle.nmgc_run_spec.specs.State.{State, next_cycle, cycle_started}
 use Rattle.nmgc_mark.specs.Marker.{HasMarked, blank}
 use Rattle.nmgc_mark.specs.Tie.{IsTied as IsTiedByPlaces, with_places}
@@ -38,7 +38,7 @@ all_entries mutators = flat_map (λ (m : MutatorSeen). m.entries) mutators
 
 -- a marker took the snapshot of a heap at a stop: a cycle marks
 abbrev pub SnapshotIsMarking : Type 0
-SnapshotIsMarking = (layout : Layout) (s : State) (words : List ℕ) (old : Segments) (new : Seen) (ends : List MutatorEnd) (weaks : List Place)
+SnapshotIsMarking = (layout : Layout) (s : State) (words : List ℕ) (old : Segments) (new : CollectorSeen) (ends : List MutatorEnd) (weaks : List Place)
     (o : Opening) (spare : ℕ) → (h : HoldsAtStop layout s words old ends weaks) → IsWorld s.world → IsSegments new.segments
     → o.layout ≡ layout → o.places ≡ h.places → o.core.snapshot ≡ s.world
     → HasMarked (all_prepared old) new.segments (blank (epoch_of (s.begun + 1)) spare) new.marker 0 →
@@ -50,7 +50,7 @@ SnapshotIsMarking = (layout : Layout) (s : State) (words : List ℕ) (old : Segm
 -- it worked beside the slices of a round, after which its marks are those of the collector's scans: it marks on, with
 -- the rows of the round and what the mutators remember of it
 abbrev pub RoundIsMarking : Type 0
-RoundIsMarking = (layout : Layout) (c : Cycle) (s t : State) (old new : Seen) (before after : List ℕ) (ends : List MutatorEnd) (weaks : List Place)
+RoundIsMarking = (layout : Layout) (c : Cycle) (s t : State) (old new : CollectorSeen) (before after : List ℕ) (ends : List MutatorEnd) (weaks : List Place)
     (o : Opening) (scans : List Scan) (seats : List RoundSeat) (mutators : List Mutator) (done : List (List Done)) (core : Core) (scanned : ℕ) →
     (h : HoldsAtStop layout s before old.segments ends weaks) → (f : IsFinished o after (gathered o scans seats)) → IsSegments new.segments →
     IsSound (interval_of (with_rows c (rows_in f.events))) → IsMarking c s old h.places
@@ -62,7 +62,7 @@ RoundIsMarking = (layout : Layout) (c : Cycle) (s t : State) (old new : Seen) (b
 
 -- it added all that the mutators remembered: it marks on, and nothing is remembered
 abbrev pub AddIsMarking : Type 0
-AddIsMarking = (layout : Layout) (c : Cycle) (s : State) (old new : Seen) (words : List ℕ) (ends : List MutatorEnd) (weaks : List Place) →
+AddIsMarking = (layout : Layout) (c : Cycle) (s : State) (old new : CollectorSeen) (words : List ℕ) (ends : List MutatorEnd) (weaks : List Place) →
     (h : HoldsAtStop layout s words old.segments ends weaks) → IsSegments old.segments → IsSegments new.segments → IsSound (interval_of c) →
     length old.mutators ≡ length s.world.mutators → IsMarking c s old h.places
     → HasMarked old.segments new.segments old.marker new.marker 0 →

@@ -9,12 +9,12 @@ use Rattle.nmgc_run_spec.specs.Closing.{IsSoon, IsPaced}
 use Rattle.nmgc_collector_laws.specs.Collector.{IsPacedAfterRound}
 use Rattle.nmgc_world_spec.specs.Listing.{Counts}
 use Rattle.nmgc_collector_laws.specs.Marker.{IsCoreOf, IsTied}
-use Rattle.nmgc_collector_laws.specs.Seen.{Seen}
+use Rattle.nmgc_collector_laws.specs.Seen.{CollectorSeen}
 use Rattle.nmgc_run_spec.specs.State.{State}
 
 -- it isn't too late: each round before the last one scanned its quota, and the last one something unless it was the first
 abbrev pub ClosingIsSoon : Type 0
-ClosingIsSoon = (quota : ℕ) (c : Cycle) (t : State) (seen : Seen) (kept : ℕ) → IsPacedAfterRound quota c t seen → seen.marker.marked ≤ kept →
+ClosingIsSoon = (quota : ℕ) (c : Cycle) (t : State) (seen : CollectorSeen) (kept : ℕ) → IsPacedAfterRound quota c t seen → seen.marker.marked ≤ kept →
     Counts (IsKeptObject c) kept → IsSoon quota c t.number
 
 -- so it comes within as many rounds as scan one object less than is kept, and one more
@@ -24,6 +24,6 @@ ClosingComes = (quota : ℕ) (c : Cycle) (closed kept : ℕ) → 1 ≤ quota →
 
 -- nor too early: after a round whose work answered that nothing is left, all that the snapshot's roots reach was scanned in some round, where nothing was owed
 abbrev pub ClosingIsPaced : Type 0
-ClosingIsPaced = (quota : ℕ) (c : Cycle) (t : State) (seen : Seen) (allocation : AllocState) (places : List Place) (core : Core) →
+ClosingIsPaced = (quota : ℕ) (c : Cycle) (t : State) (seen : CollectorSeen) (allocation : AllocState) (places : List Place) (core : Core) →
     IsSound (interval_of c) → IsCoreOf c t.world core → IsTied c allocation seen.segments places seen.marker core → c.from + 1 ≤ t.number →
     IsPacedAfterRound quota c t seen → seen.work.empty ≡ true → IsPaced quota c t.number

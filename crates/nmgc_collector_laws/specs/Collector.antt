@@ -2,7 +2,7 @@
 -- segments, marker and sweeper stand for the state of that run.
 --
 -- It holds of a new collector's opening stop, of every stop after a round, and between the two, for the
--- same run. `Seen` is what contracts see of the collector.
+-- same run. `CollectorSeen` is what contracts see of the collector.
 use Rattle.std.specs.Prelude.{ℕ, ◌≡◌, ◌≢◌, ◌⊎◌, ◌↔◌, ◌+◌, ◌-◌, ◌*◌, ◌<◌, ◌≤◌, List, [], ◌∷◌, ◌++◌, length, slice_get, Contains, Some, None, true}
 use Rattle.nmgc_world_spec.specs.declared.command.Reply.{Reply}
 use Rattle.nmgc_world_spec.specs.World.{World}
@@ -22,7 +22,7 @@ use Rattle.nmgc_run_spec.specs.Round.{IsRound}
 use Rattle.nmgc_run_spec.specs.Stop.{answer_of}
 use Rattle.nmgc_run_spec.specs.Run.{Run, IsRun, Tells, last_state}
 use Rattle.nmgc_run_spec.specs.Heap.{HoldsAtStop, HoldsAfterRound, snapshots}
-use Rattle.nmgc_collector_laws.specs.Seen.{Seen, MutatorSeen, ends_of, nurseries_of, recorded_in, young_weaks_in}
+use Rattle.nmgc_collector_laws.specs.Seen.{CollectorSeen, MutatorSeen, ends_of, nurseries_of, recorded_in, young_weaks_in}
 use Rattle.nmgc_mark.specs.Seen.{MarkerSeen}
 use Rattle.nmgc_alloc.specs.Settled.{AreSettled}
 use Rattle.nmgc_sweep.specs.Sweeping.{HasListedNothing, HasNoted, IsSweeping}
@@ -31,7 +31,7 @@ use Rattle.nmgc_mark.specs.Marker.{HasRoomToMark}
 use Rattle.nmgc_weak.specs.Queues.{weak_count}
 
 -- the state tells the phase, the requests and how many cycles were begun
-pub record Matches (seen : Seen) (s : State) : Type 0 where
+pub record Matches (seen : CollectorSeen) (s : State) : Type 0 where
   pub phase : seen.phase ≡ phase_of s.progress
   pub begun : seen.begun ≡ s.begun
   pub collect : seen.collect ≡ s.collect
@@ -43,20 +43,20 @@ pub record AreNurseries (layout : Layout) (places : List Place) (w : World) (nur
   pub ends : (maker : ℕ) → maker < layout.mutators → (nursery_at nurseries maker).end ≡ (nursery_at nurseries maker).base + layout.nursery
 
 -- each mutator has P
-abbrev pub EachMutator : Seen → (ℕ → MutatorSeen → Type 0) → Type 0
+abbrev pub EachMutator : CollectorSeen → (ℕ → MutatorSeen → Type 0) → Type 0
 EachMutator seen P = (m : ℕ) (mutator : MutatorSeen) → slice_get seen.mutators m ≡ Some mutator → P m mutator
 
 -- of a mutator nothing is left for the next stop
-pub record IsAtRest (mutator : MutatorSeen) : Type 0 where
+pub record IsEmptied (mutator : MutatorSeen) : Type 0 where
   pub recorded : mutator.recorded ≡ []
   pub young_weaks : mutator.young_weaks ≡ []
   pub entries : mutator.entries ≡ []
 
 -- all mutators at a stop: the nurseries are empty, and nothing is left
-pub record AreAtRest (layout : Layout) (places : List Place) (w : World) (seen : Seen) : Type 0 where
+pub record AreAtRest (layout : Layout) (places : List Place) (w : World) (seen : CollectorSeen) : Type 0 where
   pub nurseries : AreNurseries layout places w (nurseries_of seen)
   pub empty : AreEmpty (nurseries_of seen)
-  pub nothing : EachMutator seen (λ m mutator. IsAtRest mutator)
+  pub nothing : EachMutator seen (λ m mutator. IsEmptied mutator)
 
 -- so many objects were scanned: those that are marked, without those that wait
 abbrev pub HasScanned : MarkerSeen → ℕ → Type 0
@@ -65,7 +65,7 @@ HasScanned marker count = marker.marked ≡ count + length marker.queue
 -- a cycle that is marking: its marker is a core machine's, with the entries, which are places below the nurseries, as
 -- what was pushed, and there is room for what the closing needs; its sweeper noted what it is to sweep, and has
 -- listed nothing yet
-pub record IsMarking (c : Cycle) (s : State) (seen : Seen) (places : List Place) : Type 0 where
+pub record IsMarking (c : Cycle) (s : State) (seen : CollectorSeen) (places : List Place) : Type 0 where
   pub core : Core
   pub machine : IsCoreOf c s.world core
   pub tied : IsTied c s.allocation seen.segments places seen.marker core
@@ -78,13 +78,13 @@ pub record IsMarking (c : Cycle) (s : State) (seen : Seen) (places : List Place)
   pub nothing_listed : HasListedNothing seen.sweeper
 
 -- the pace of marking at a stop: each round since the snapshot scanned its quota, and the marker isn't done
-pub record IsPacedAtStop (quota : ℕ) (c : Cycle) (s : State) (seen : Seen) : Type 0 where
+pub record IsPacedAtStop (quota : ℕ) (c : Cycle) (s : State) (seen : CollectorSeen) : Type 0 where
   pub scanned : HasScanned seen.marker ((s.number - c.from) * quota)
   pub not_done : c.from < s.number → seen.marker.queue ≢ []
 
 -- the pace after a round: the rounds before scanned their quota, and this one did unless nothing was left; the first
 -- round aside, something waited at the stop before, and so something was scanned
-pub record IsPacedAfterRound (quota : ℕ) (c : Cycle) (t : State) (seen : Seen) : Type 0 where
+pub record IsPacedAfterRound (quota : ℕ) (c : Cycle) (t : State) (seen : CollectorSeen) : Type 0 where
   pub scanned : HasScanned seen.marker ((t.number - c.from - 1) * quota + seen.work.scanned)
   pub most : seen.work.scanned ≤ quota
   pub some : c.from + 1 < t.number → 1 ≤ seen.work.scanned
@@ -92,13 +92,13 @@ pub record IsPacedAfterRound (quota : ℕ) (c : Cycle) (t : State) (seen : Seen)
   pub empty : (seen.work.empty ≡ true) ↔ (seen.marker.queue ≡ [])
 
 -- what the cycle in progress asks of the marker, the sweeper and the marks
-abbrev pub HoldsInCycle : (Cycle → Type 0) → Progress → State → Seen → List Place → Type 0
+abbrev pub HoldsInCycle : (Cycle → Type 0) → Progress → State → CollectorSeen → List Place → Type 0
 HoldsInCycle Paced idle s seen places = AreSettled s.begun seen.segments
 HoldsInCycle Paced (marking c) s seen places = IsMarking c s seen places × Paced c
 HoldsInCycle Paced (sweeping c closed) s seen places = IsSweeping c closed s.allocation seen.segments seen.cycle seen.sweeper × AreSettled s.begun seen.segments
 
 -- after a stop of a run of the plan
-pub record IsAtStop (plan : Plan) (run : Run) (seen : Seen) : Type 0 where
+pub record IsAtStop (plan : Plan) (run : Run) (seen : CollectorSeen) : Type 0 where
   pub is_run : IsRun plan run
   pub tells : Tells run seen.rounds seen.stops seen.cycles
   pub matches : Matches seen (last_state run)
@@ -108,13 +108,13 @@ pub record IsAtStop (plan : Plan) (run : Run) (seen : Seen) : Type 0 where
   pub cycle : HoldsInCycle (λ c. IsPacedAtStop plan.config.quota c (last_state run) seen) (last_state run).progress (last_state run) seen heap.places
 
 -- the reserve is free, or nothing was born
-abbrev pub HasReserve : Layout → Seen → Type 0
+abbrev pub HasReserve : Layout → CollectorSeen → Type 0
 HasReserve layout seen = (reserve_count layout ≤ free_count seen.segments.segments) ⊎ AreEmpty (nurseries_of seen)
 
 -- after a round that follows the last stop of a run of the plan, with these replies and this history; what was born
 -- lies in the used part of its maker's nursery, in the order of names, and the mutators have left for the stop what
 -- its promotion asks
-pub record IsAfterRound (plan : Plan) (run : Run) (replies : List (List Reply)) (history : List Row) (t : State) (seen : Seen) : Type 0 where
+pub record IsAfterRound (plan : Plan) (run : Run) (replies : List (List Reply)) (history : List Row) (t : State) (seen : CollectorSeen) : Type 0 where
   pub is_run : IsRun plan run
   pub goes_on : answer_of plan (last_state run) ≡ None
   pub round : IsRound plan.config (last_state run) replies history t
@@ -132,7 +132,7 @@ pub record IsAfterRound (plan : Plan) (run : Run) (replies : List (List Reply)) 
   pub cycle : HoldsInCycle (λ c. IsPacedAfterRound plan.config.quota c t seen) t.progress t seen places
 
 -- a new collector: nothing was done yet, and no mark was set
-pub record IsNew (plan : Plan) (seen : Seen) : Type 0 where
+pub record IsNew (plan : Plan) (seen : CollectorSeen) : Type 0 where
   pub nothing : (seen.rounds ≡ []) × (seen.stops ≡ []) × (seen.cycles ≡ [])
   pub matches : Matches seen (start plan)
   pub heap : HoldsAtStop (layout_of plan) (start plan) seen.words seen.segments (ends_of seen) seen.weaks

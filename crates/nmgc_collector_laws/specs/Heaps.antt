@@ -10,7 +10,7 @@ use Rattle.nmgc_alloc.specs.Stands.{StandsFor}
 use Rattle.nmgc_alloc.specs.Numbered.{Segments}
 use Rattle.nmgc_alloc.specs.Segments.{IsSegments}
 use Rattle.nmgc_heap_spec.specs.Places.{Place}
-use Rattle.nmgc_lists.specs.declared.list.Place.{Place as ListPlace}
+use Rattle.nmgc_lists.specs.declared.list.ListMemory.{ListMemory as ListPlace}
 use Rattle.nmgc_heap_spec.specs.Roots.{RepresentsRoots}
 use Rattle.nmgc_journal.specs.declared.report.MutatorEnd.{MutatorEnd}
 use Rattle.nmgc_round.specs.View.{Opening, Seen as View}
@@ -25,12 +25,12 @@ use Rattle.nmgc_mutator.specs.Records.{numbers}
 use Rattle.nmgc_collector_laws.specs.Collector.{AreAtRest, IsMarking}
 use Rattle.nmgc_run_spec.specs.Heap.{HoldsAtStop, HoldsAfterRound, HasAllRegisters, registers_of, queues_of, serials_of, snapshots}
 use Rattle.nmgc_collector_laws.specs.Life.{array_layout, marking_seen}
-use Rattle.nmgc_collector_laws.specs.Seen.{Seen, MutatorSeen, ends_of}
+use Rattle.nmgc_collector_laws.specs.Seen.{CollectorSeen, MutatorSeen, ends_of}
 use Rattle.nmgc_run_laws.specs.Sound.{IsSoundState, LieKnown}
 use Rattle.nmgc_run_spec.specs.State.{Plan, State, marking, layout_of}
 use Rattle.nmgc_blocks_spec.specs.Cycle.{Cycle}
 use Rattle.nmgc_mark.specs.Stopped.{IsReady}
-use Rattle.nmgc_collector_laws.specs.RestMarking.{IsAtRest, opening_beside}
+use Rattle.nmgc_collector_laws.specs.RestMarking.{IsAtRestMarking, opening_beside}
 
 -- a mutator as contracts of a collector see it
 abbrev pub seen_mutator : Mutator → MutatorSeen
@@ -45,17 +45,17 @@ seen_mutator m = record {
 }
 
 -- these are the mutators of a collector, by their numbers, each with all its registers
-pub record AreShown (layout : Layout) (seen : Seen) (mutators : List Mutator) : Type 0 where
+pub record AreShown (layout : Layout) (seen : CollectorSeen) (mutators : List Mutator) : Type 0 where
   pub are : seen.mutators ≡ map seen_mutator mutators
   pub each : (k : ℕ) (m : Mutator) → slice_get mutators k ≡ Some m → (m.number ≡ k) × (m.layout ≡ layout) × IsWhole m
 
 -- the heap of a sound state at a stop, also before the stop has answered, is at rest beside a cycle that marks, where
 -- nothing is left of the mutators' round; so the marker may finish there
 abbrev pub HeapRests : Type 0
-HeapRests = (plan : Plan) (s : State) (seen : Seen) (c : Cycle) (mutators : List Mutator) → IsSoundState plan s →
+HeapRests = (plan : Plan) (s : State) (seen : CollectorSeen) (c : Cycle) (mutators : List Mutator) → IsSoundState plan s →
     (h : HoldsAtStop (layout_of plan) s seen.words seen.segments (ends_of seen) seen.weaks) → AreAtRest (layout_of plan) h.places s.world seen →
     s.progress ≡ marking c → (k : IsMarking c s seen h.places) → IsSegments seen.segments → AreShown seen.segments.layout seen mutators →
-    IsAtRest c k.core seen.segments h.places s.world seen.words mutators seen.marker.queue ×
+    IsAtRestMarking c k.core seen.segments h.places s.world seen.words mutators seen.marker.queue ×
     IsReady (opening_beside seen.segments.layout k.core h.places mutators) seen.words seen.segments seen.marker
 
 -- a round that began with the heap of a stop: what it left, and what its mutators have in hand; the segments stand
@@ -126,4 +126,4 @@ marking_mutator = record {
 abbrev pub SmallLifeRests : Type 0
 SmallLifeRests = AreShown array_layout marking_seen (marking_mutator ∷ []) ×
     ((c : Cycle) × (core : Core) × (places : List Place) × (w : World) ×
-    IsAtRest c core marking_seen.segments places w marking_seen.words (marking_mutator ∷ []) marking_seen.marker.queue)
+    IsAtRestMarking c core marking_seen.segments places w marking_seen.words (marking_mutator ∷ []) marking_seen.marker.queue)

@@ -9,29 +9,29 @@ use Rattle.nmgc_mutator.specs.Does.{remembered as remembered_of}
 use Rattle.nmgc_blocks_spec.specs.Cycle.{interval_of, Cycle}
 use Rattle.nmgc_collector_laws.specs.Collector.{IsMarking, EachMutator, IsPacedAtStop, IsPacedAfterRound}
 use Rattle.nmgc_weak.specs.Queues.{weak_count}
-use Rattle.nmgc_collector_laws.specs.Seen.{Seen, MutatorSeen}
+use Rattle.nmgc_collector_laws.specs.Seen.{CollectorSeen, MutatorSeen}
 use Rattle.nmgc_mark.specs.Seen.{MarkerSeen}
 use Rattle.nmgc_run_spec.specs.State.{State}
 use Rattle.nmgc_collector_laws.specs.Stays.{HasPromoted, places_after}
 
 -- no mutator remembers anything
-abbrev pub NoneRemember : Seen → Type 0
+abbrev pub NoneRemember : CollectorSeen → Type 0
 NoneRemember seen = EachMutator seen (λ m mutator. mutator.entries ≡ [])
 
 -- a step leaves the cycle and what the sweeper noted as they were, and the finaliser queues have room for what may die
-pub record HasLeft (c : Cycle) (old new : Seen) : Type 0 where
+pub record HasLeft (c : Cycle) (old new : CollectorSeen) : Type 0 where
   pub cycle : new.cycle ≡ old.cycle
   pub sweeper : new.sweeper ≡ old.sweeper
   pub queue_room : EachMutator new (λ m mutator. weak_count c.snapshot m new.weaks ≤ mutator.queue.spare)
 
 -- what contracts see of the mutators: their remembered places
-abbrev pub ShowEntries : Seen → List Mutator → Type 0
+abbrev pub ShowEntries : CollectorSeen → List Mutator → Type 0
 ShowEntries seen mutators = EachMutator seen (λ k mutator. (m : Mutator) × (slice_get mutators k ≡ Some m) × (mutator.entries ≡ remembered_of m))
 
 -- over a promotion: the marker and what is remembered stay as they are
 abbrev pub PromotionKeepsMarking : Type 0
 PromotionKeepsMarking =
-    (c : Cycle) (s : State) (old new : Seen) (t : Stopped) (words after registers : List ℕ) (queues : List (List ℕ)) (moves : List Moved)
+    (c : Cycle) (s : State) (old new : CollectorSeen) (t : Stopped) (words after registers : List ℕ) (queues : List (List ℕ)) (moves : List Moved)
     (placed : AllocState) → IsSound (interval_of c) → t.world ≡ s.world → IsMarking c s old t.places →
     HasPromoted c t old.segments new.segments words after registers queues moves s.allocation placed
     → new.marker ≡ old.marker → HasLeft c old new → EachMutator new (λ m mutator. (before : MutatorSeen) ×
@@ -44,17 +44,17 @@ Scans old new count = new.marked + length old.queue ≡ old.marked + length new.
 
 -- the pace over a round, of which the marker did as much as its work tells
 abbrev pub PaceAfterRound : Type 0
-PaceAfterRound = (quota : ℕ) (c : Cycle) (s t : State) (old new : Seen) → 1 ≤ quota → IsPacedAtStop quota c s old → c.from ≤ s.number →
+PaceAfterRound = (quota : ℕ) (c : Cycle) (s t : State) (old new : CollectorSeen) → 1 ≤ quota → IsPacedAtStop quota c s old → c.from ≤ s.number →
     t.number ≡ s.number + 1 → Scans old.marker new.marker new.work.scanned → old.marker.marked ≤ new.marker.marked → new.work.scanned ≤ quota →
     (new.work.scanned ≡ quota) ⊎ (new.work.empty ≡ true) → ((new.work.empty ≡ true) ↔ (new.marker.queue ≡ []))
     → IsPacedAfterRound quota c t new
 
 -- and over the stop after it, where the cycle goes on: what was added waits behind what waited
 abbrev pub PaceAtStop : Type 0
-PaceAtStop = (quota : ℕ) (c : Cycle) (t : State) (old new : Seen) → IsPacedAfterRound quota c t old → c.from < t.number → old.work.empty ≡ false →
+PaceAtStop = (quota : ℕ) (c : Cycle) (t : State) (old new : CollectorSeen) → IsPacedAfterRound quota c t old → c.from < t.number → old.work.empty ≡ false →
     Scans old.marker new.marker 0 → old.marker.marked ≤ new.marker.marked → IsPacedAtStop quota c t new
 
 -- as the cycle begins nothing was scanned yet
 abbrev pub PaceBegins : Type 0
-PaceBegins = (quota : ℕ) (c : Cycle) (s : State) (seen : Seen) → c.from ≡ s.number → seen.marker.marked ≡ length seen.marker.queue →
+PaceBegins = (quota : ℕ) (c : Cycle) (s : State) (seen : CollectorSeen) → c.from ≡ s.number → seen.marker.marked ≡ length seen.marker.queue →
     IsPacedAtStop quota c s seen

@@ -10,13 +10,13 @@ use Rattle.nmgc_heap_spec.specs.Moves.{StillSpoken}
 use Rattle.nmgc_blocks_spec.specs.Stopped.{Stopped, IsStopped}
 use Rattle.nmgc_run_spec.specs.State.{State, Plan, layout_of}
 use Rattle.nmgc_run_spec.specs.Run.{Run, last_state}
-use Rattle.nmgc_collector_laws.specs.Seen.{Seen, ends_of, nurseries_of, recorded_in, young_weaks_in}
+use Rattle.nmgc_collector_laws.specs.Seen.{CollectorSeen, ends_of, nurseries_of, recorded_in, young_weaks_in}
 use Rattle.nmgc_run_laws.specs.Sound.{IsRunnable}
 use Rattle.nmgc_run_spec.specs.Heap.{registers_of, queues_of, serials_of, snapshots}
 use Rattle.nmgc_collector_laws.specs.Collector.{IsAfterRound}
 
 -- the heap at a stop, as a round from one state to another left it
-abbrev pub stopped_after : State → State → List Place → Seen → Stopped
+abbrev pub stopped_after : State → State → List Place → CollectorSeen → Stopped
 stopped_after s t places seen = record {
   world = t.world;
   began = s.world;
@@ -27,13 +27,13 @@ stopped_after s t places seen = record {
 
 -- after a round the collector has what its promotion asks
 abbrev pub RoundIsRemembered : Type 0
-RoundIsRemembered = (plan : Plan) (run : Run) (replies : List (List Reply)) (history : List Row) (t : State) (seen : Seen) → IsRunnable plan →
+RoundIsRemembered = (plan : Plan) (run : Run) (replies : List (List Reply)) (history : List Row) (t : State) (seen : CollectorSeen) → IsRunnable plan →
     (h : IsAfterRound plan run replies history t seen) → IsSegments seen.segments →
     IsStopped (stopped_after (last_state run) t h.places seen) seen.segments seen.words (nurseries_of seen) (registers_of (ends_of seen))
     (queues_of (ends_of seen)) (recorded_in seen) (young_weaks_in seen)
 
 -- once the round is forgotten, the collector speaks of the snapshot alone, which has nothing of what was born
 abbrev pub RoundIsForgotten : Type 0
-RoundIsForgotten = (plan : Plan) (run : Run) (replies : List (List Reply)) (history : List Row) (t : State) (seen : Seen) → IsRunnable plan →
+RoundIsForgotten = (plan : Plan) (run : Run) (replies : List (List Reply)) (history : List Row) (t : State) (seen : CollectorSeen) → IsRunnable plan →
     (h : IsAfterRound plan run replies history t seen) → IsSegments seen.segments →
     StillSpoken (nursery_place (layout_of plan) 0) (snapshots t.progress) ((last_state run).world ∷ snapshots t.progress) h.places t.world

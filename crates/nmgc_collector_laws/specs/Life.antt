@@ -26,7 +26,7 @@ use Rattle.nmgc_script.specs.declared.script.Script.{Script}
 use Rattle.nmgc_run_spec.specs.State.{Plan, State, plan_of, layout_of}
 use Rattle.nmgc_run_spec.specs.Run.{Run}
 use Rattle.nmgc_collector_laws.specs.Samples.{object_name}
-use Rattle.nmgc_collector_laws.specs.Seen.{Seen, MutatorSeen}
+use Rattle.nmgc_collector_laws.specs.Seen.{CollectorSeen, MutatorSeen}
 use Rattle.nmgc_collector_laws.specs.Collector.{IsNew, IsAtStop, IsAfterRound}
 
 -- 18 segments of 16 words, and a nursery as large as a segment; an array of seven fields fills a segment's only block of its class
@@ -95,7 +95,7 @@ abbrev pub replied : List Reply → RoundRows
 replied replies = record { replies = replies ∷ [] }
 
 -- a new collector
-abbrev pub new_seen : Seen
+abbrev pub new_seen : CollectorSeen
 new_seen = record {
   rounds = [];
   stops = [];
@@ -116,15 +116,15 @@ new_seen = record {
 }
 
 -- after its opening stop
-abbrev pub opened_seen : Seen
+abbrev pub opened_seen : CollectorSeen
 opened_seen = record new_seen { stops = array_stop 0 Idle 18 0 0 0 ∷ [] }
 
 -- after the first round: the array was born
-abbrev pub born_seen : Seen
+abbrev pub born_seen : CollectorSeen
 born_seen = record opened_seen { rounds = replied array_replies ∷ []; words = young_words; mutators = hand 640 1 329 ∷ []; collect = true }
 
 -- after the first stop: the array was promoted, and a cycle began, which has marked the array and is to scan it
-abbrev pub marking_seen : Seen
+abbrev pub marking_seen : CollectorSeen
 marking_seen = record born_seen {
   stops = array_stop 0 Idle 18 0 0 0 ∷ array_stop 1 Marking 17 0 1 1 ∷ [];
   words = old_words;
@@ -139,7 +139,7 @@ marking_seen = record born_seen {
 }
 
 -- after the second round: the array was scanned
-abbrev pub scanned_seen : Seen
+abbrev pub scanned_seen : CollectorSeen
 scanned_seen = record marking_seen {
   rounds = replied array_replies ∷ replied [] ∷ [];
   work = record { scanned = 1; empty = true };
@@ -147,7 +147,7 @@ scanned_seen = record marking_seen {
 }
 
 -- after the second stop: the cycle was closed, and keeps the array
-abbrev pub closed_seen : Seen
+abbrev pub closed_seen : CollectorSeen
 closed_seen = record scanned_seen {
   stops = array_stop 0 Idle 18 0 0 0 ∷ array_stop 1 Marking 17 0 1 1 ∷ array_stop 2 Sweeping 17 0 1 0 ∷ [];
   phase = Sweeping;
@@ -155,7 +155,7 @@ closed_seen = record scanned_seen {
 }
 
 -- after the third round: the segment was swept, and the array listed
-abbrev pub swept_seen : Seen
+abbrev pub swept_seen : CollectorSeen
 swept_seen = record closed_seen {
   rounds = replied array_replies ∷ replied [] ∷ replied [] ∷ [];
   segments = segments_of swept_segment;
@@ -167,7 +167,7 @@ abbrev pub array_row : CycleRow
 array_row = record { number = 1; from = 1; closed = 2; ended = 3; swept = 0 ∷ []; had = object_name ∷ []; freed = []; dead = []; kept = 1 }
 
 -- after the third stop: the cycle has ended, and the run is done
-abbrev pub ended_seen : Seen
+abbrev pub ended_seen : CollectorSeen
 ended_seen = record swept_seen {
   stops = array_stop 0 Idle 18 0 0 0 ∷ array_stop 1 Marking 17 0 1 1 ∷ array_stop 2 Sweeping 17 0 1 0 ∷ array_stop 3 Idle 17 1 0 0 ∷ [];
   cycles = array_row ∷ [];
@@ -176,10 +176,10 @@ ended_seen = record swept_seen {
 }
 
 -- what it is to have after a stop, and after a round, of some run of the script
-abbrev pub IsAtSomeStop : Seen → Type 0
+abbrev pub IsAtSomeStop : CollectorSeen → Type 0
 IsAtSomeStop seen = (run : Run) × IsAtStop array_plan run seen
 
-abbrev pub IsAfterSomeRound : Seen → Type 0
+abbrev pub IsAfterSomeRound : CollectorSeen → Type 0
 IsAfterSomeRound seen = (run : Run) × (replies : List (List Reply)) × (history : List Row) × (t : State) × IsAfterRound array_plan run replies history t seen
 
 -- at each of its stops, and after each of its rounds, the collector has what it is to have

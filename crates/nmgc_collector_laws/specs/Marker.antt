@@ -47,8 +47,8 @@ AreMarked core allocation segments epoch = (number block : ℕ) (name : Name) �
     IsMarked (nth segments.segments number) epoch block ↔ Contains core.marked name
 
 -- the entry is that of an object of which nothing was read yet
-abbrev pub IsFresh : Entry → Type 0
-IsFresh entry = entry.position ≡ 0
+abbrev pub IsUnread : Entry → Type 0
+IsUnread entry = entry.position ≡ 0
 
 -- the marker has the marks and the queue of the machine; g counts as marked there, and has no block
 pub record IsTied (c : Cycle) (allocation : AllocState) (segments : Segments) (places : List Place) (marker : MarkerSeen) (core : Core) : Type 0 where
@@ -56,5 +56,5 @@ pub record IsTied (c : Cycle) (allocation : AllocState) (segments : Segments) (p
   pub snapshot : IsRightSnapshot c allocation segments
   pub marks : AreMarked core allocation segments marker.epoch
   pub queue : AreAt places marker.queue (map (λ (entry : Entry). entry.name) core.queue)
-  pub fresh : All IsFresh core.queue
+  pub fresh : All IsUnread core.queue
   pub count : marker.marked + 1 ≡ length core.marked

@@ -20,7 +20,7 @@ use Rattle.nmgc_alloc.specs.Settled.{AreSettled}
 use Rattle.nmgc_sweep.specs.Sweeping.{HasNoted, IsSweeping}
 use Rattle.nmgc_segment.specs.Marks.{epoch_of}
 use Rattle.nmgc_sweep.specs.Seen.{CycleSeen, SweeperSeen}
-use Rattle.nmgc_collector_laws.specs.Seen.{Seen, ends_of}
+use Rattle.nmgc_collector_laws.specs.Seen.{CollectorSeen, ends_of}
 use Rattle.nmgc_mark.specs.Seen.{MarkerSeen}
 use Rattle.nmgc_blocks_spec.specs.Cycle.{Cycle}
 use Rattle.nmgc_run_spec.specs.State.{State, sweeping}
@@ -32,7 +32,7 @@ use Rattle.nmgc_collector_laws.specs.CycleCloses.{HasClosed}
 use Rattle.nmgc_weak.specs.Queues.{AllJoin}
 use Rattle.nmgc_weak.specs.Resolve.{CanResolve, HasResolved}
 use Rattle.nmgc_weak.specs.Weaks.{places_of}
-use Rattle.nmgc_collector_laws.specs.RestMarking.{IsAtRest, opening_beside}
+use Rattle.nmgc_collector_laws.specs.RestMarking.{IsAtRestMarking, opening_beside}
 use Rattle.nmgc_collector_laws.specs.Sweeps.{all_carried}
 
 -- the opening, with the machine as it is once the marker has finished
@@ -40,23 +40,23 @@ abbrev pub finished_on : (o : Opening) (s : Segments) (marker : MarkerSeen) → 
 finished_on o s marker f = record o { core = now o f.events }
 
 -- the heap at a stop while a cycle marks, where nothing is remembered: at rest, with the machine to which the marker is tied
-pub record IsStopOf (layout : Layout) (c : Cycle) (s : State) (seen : Seen) (mutators : List Mutator) : Type 0 where
+pub record IsStopOf (layout : Layout) (c : Cycle) (s : State) (seen : CollectorSeen) (mutators : List Mutator) : Type 0 where
   pub heap : HoldsAtStop layout s seen.words seen.segments (ends_of seen) seen.weaks
   pub kept : IsMarking c s seen heap.places
-  pub rest : IsAtRest c kept.core seen.segments heap.places s.world seen.words mutators seen.marker.queue
+  pub rest : IsAtRestMarking c kept.core seen.segments heap.places s.world seen.words mutators seen.marker.queue
 
 -- the round that could begin there
-abbrev pub stop_opening : (layout : Layout) (c : Cycle) (s : State) (seen : Seen) (mutators : List Mutator) → IsStopOf layout c s seen mutators → Opening
+abbrev pub stop_opening : (layout : Layout) (c : Cycle) (s : State) (seen : CollectorSeen) (mutators : List Mutator) → IsStopOf layout c s seen mutators → Opening
 stop_opening layout c s seen mutators h = opening_beside seen.segments.layout h.kept.core h.heap.places mutators
 
 -- once the marker has finished, the weak pointers may be resolved
 abbrev pub FinishMayResolve : Type 0
-FinishMayResolve = (layout : Layout) (c : Cycle) (s : State) (seen : Seen) (mutators : List Mutator) (marked : Segments) (marker : MarkerSeen) →
+FinishMayResolve = (layout : Layout) (c : Cycle) (s : State) (seen : CollectorSeen) (mutators : List Mutator) (marked : Segments) (marker : MarkerSeen) →
     (h : IsStopOf layout c s seen mutators) → (f : HasFinished (stop_opening layout c s seen mutators h) marked marker) →
     CanResolve (finished_on (stop_opening layout c s seen mutators h) marked marker f) seen.words marked marker seen.weaks
 
 -- the marker finished there, and the weak pointers were resolved, with this list and these deaths
-pub record IsClosingOf (layout : Layout) (c : Cycle) (s : State) (seen : Seen) (mutators : List Mutator) (words : List ℕ) (marked : Segments)
+pub record IsClosingOf (layout : Layout) (c : Cycle) (s : State) (seen : CollectorSeen) (mutators : List Mutator) (words : List ℕ) (marked : Segments)
     (marker : MarkerSeen) (list : List OldWeak) (deaths : List Death) : Type 0 where
   pub stop : IsStopOf layout c s seen mutators
   pub between : Segments
@@ -69,7 +69,7 @@ pub record IsClosingOf (layout : Layout) (c : Cycle) (s : State) (seen : Seen) (
 
 -- so the cycle is closed, and these die
 abbrev pub ResolveCloses : Type 0
-ResolveCloses = (layout : Layout) (c : Cycle) (s : State) (seen : Seen) (mutators : List Mutator) (words : List ℕ) (marked : Segments)
+ResolveCloses = (layout : Layout) (c : Cycle) (s : State) (seen : CollectorSeen) (mutators : List Mutator) (words : List ℕ) (marked : Segments)
     (marker : MarkerSeen) (list : List OldWeak) (deaths : List Death) → (k : IsClosingOf layout c s seen mutators words marked marker list deaths) →
     HasClosed c s k.resolved.closing.dead marked marker
 
@@ -78,7 +78,7 @@ abbrev pub closed_state : Cycle → State → List Name → State
 closed_state c s dead = record s { world = closed s.world dead; progress = sweeping c s.number }
 
 -- what the mutators have in hand once the finalisers have joined: the queues are longer, and registers and serials as they were
-pub record FinalisersInHand (seen : Seen) (deaths : List Death) (queues : List FinQueue) (ends : List MutatorEnd) : Type 0 where
+pub record FinalisersInHand (seen : CollectorSeen) (deaths : List Death) (queues : List FinQueue) (ends : List MutatorEnd) : Type 0 where
   pub old : List FinQueue
   pub old_are : queues_of (ends_of seen) ≡ map (λ (q : FinQueue). q.words) old
   pub joined : AllJoin deaths old queues
@@ -89,7 +89,7 @@ pub record FinalisersInHand (seen : Seen) (deaths : List Death) (queues : List F
 
 -- words, roots and list then stand for the closed world, at the same places; no snapshot is tracked any more
 abbrev pub ClosedHolds : Type 0
-ClosedHolds = (layout : Layout) (c : Cycle) (s : State) (seen : Seen) (mutators : List Mutator) (words : List ℕ) (marked : Segments)
+ClosedHolds = (layout : Layout) (c : Cycle) (s : State) (seen : CollectorSeen) (mutators : List Mutator) (words : List ℕ) (marked : Segments)
     (marker : MarkerSeen) (list : List OldWeak) (deaths : List Death) (queues : List FinQueue) (ends : List MutatorEnd) →
     (k : IsClosingOf layout c s seen mutators words marked marker list deaths) → FinalisersInHand seen deaths queues ends →
     (g : HoldsAtStop layout (closed_state c s k.resolved.closing.dead) words marked ends (places_of list)) × (g.places ≡ k.stop.heap.places)

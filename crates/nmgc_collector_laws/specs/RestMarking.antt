@@ -22,7 +22,7 @@ use Rattle.nmgc_mutator.specs.declared.mutator.Mutator.{Mutator}
 use Rattle.nmgc_collector_laws.specs.Rest.{hand_of, IsResting}
 use Rattle.nmgc_collector_laws.specs.Worked.{registers_of, queues_of, serials_of}
 use Rattle.nmgc_blocks_spec.specs.Cycle.{interval_of, Cycle}
-use Rattle.nmgc_collector_laws.specs.Marker.{AreAt, IsCoreOf, IsFresh}
+use Rattle.nmgc_collector_laws.specs.Marker.{AreAt, IsCoreOf, IsUnread}
 
 -- the cycle, with more rows since its snapshot
 abbrev pub with_rows : Cycle → List Row → Cycle
@@ -34,10 +34,10 @@ pub record IsMachineAtRest (c : Cycle) (w : World) (core : Core) : Type 0 where
   pub sound : IsSound (interval_of c)
   pub machine : IsCoreOf c w core
   pub none_pushed : AreEmpty core.pushed
-  pub fresh : All IsFresh core.queue
+  pub fresh : All IsUnread core.queue
 
 -- words, blocks and mutators stand for the world and speak of the snapshot too, the nurseries are empty, and what waits to be scanned is at these places
-pub record IsAtRest (c : Cycle) (core : Core) (s : Segments) (places : List Place) (w : World) (words : List ℕ) (mutators : List Mutator)
+pub record IsAtRestMarking (c : Cycle) (core : Core) (s : Segments) (places : List Place) (w : World) (words : List ℕ) (mutators : List Mutator)
     (queue : List ℕ) : Type 0 where
   pub world : IsWorld w
   pub machine : IsMachineAtRest c w core
@@ -63,5 +63,5 @@ opening_beside layout core places mutators = record {
 -- a heap at rest opens a round, and the collector may speak of the snapshot there
 abbrev pub RestOpens : Type 0
 RestOpens = (c : Cycle) (core : Core) (s : Segments) (places : List Place) (w : World) (words : List ℕ) (mutators : List Mutator) (queue : List ℕ) →
-    IsAtRest c core s places w words mutators queue →
+    IsAtRestMarking c core s places w words mutators queue →
     let o = opening_beside s.layout core places mutators in CanOpen o words × AreEarlier (earlier o) o.core.world

@@ -23,7 +23,7 @@ use Rattle.nmgc_alloc.specs.Numbered.{Segments}
 use Rattle.nmgc_journal.specs.declared.report.MutatorEnd.{MutatorEnd}
 use Rattle.nmgc_journal.specs.declared.report.Report.{Report}
 use Rattle.nmgc_run_spec.specs.State.{Plan, plan_of, layout_of, reserve_of}
-use Rattle.nmgc_collector_laws.specs.Seen.{Seen}
+use Rattle.nmgc_collector_laws.specs.Seen.{CollectorSeen}
 use Rattle.nmgc_collector_laws.specs.Collector.{IsAtStop}
 use Rattle.nmgc_run_spec.specs.Lawful.{IsLawful}
 use Rattle.nmgc_journal.specs.Text.{report_text, stop_line, cycle_text, end_text}
@@ -31,7 +31,7 @@ use Rattle.nmgc_run_spec.specs.Stop.{answer_of}
 use Rattle.nmgc_run_spec.specs.Run.{Run, IsRun, Tells, last_state}
 
 -- some run of the plan has these rounds, stops, cycles and end
-pub record IsTold (plan : Plan) (rounds : List RoundRows) (stops : List StopRow) (cycles : List CycleRow) (end : End) : Type 0 where
+pub record IsSomeRun (plan : Plan) (rounds : List RoundRows) (stops : List StopRow) (cycles : List CycleRow) (end : End) : Type 0 where
   pub run : Run
   pub is_run : IsRun plan run
   pub tells : Tells run rounds stops cycles
@@ -98,7 +98,7 @@ abbrev pub ObjectIsLawful : Type 0
 ObjectIsLawful = IsLawful (small_script object_program) object_report
 
 -- what contracts see of a collector that has just told that report
-abbrev pub object_seen : Seen
+abbrev pub object_seen : CollectorSeen
 object_seen = record {
   rounds = object_report.rounds;
   stops = object_report.stops;
@@ -132,11 +132,11 @@ ObjectIsSeen = (run : Run) × IsAtStop (plan_of (small_script object_program)) r
 
 -- a run of no commands is one stop
 abbrev pub NothingIsTold : Type 0
-NothingIsTold = IsTold (small_plan []) [] (quiet_stop 0 32 0 ∷ []) [] Done
+NothingIsTold = IsSomeRun (small_plan []) [] (quiet_stop 0 32 0 ∷ []) [] Done
 
 -- a run of that program is one round, at whose stop the object is promoted
 abbrev pub ObjectIsTold : Type 0
-ObjectIsTold = IsTold (small_plan object_program) (record { replies = object_replies ∷ [] } ∷ []) (quiet_stop 0 32 0 ∷ quiet_stop 1 31 1 ∷ []) [] Done
+ObjectIsTold = IsSomeRun (small_plan object_program) (record { replies = object_replies ∷ [] } ∷ []) (quiet_stop 0 32 0 ∷ quiet_stop 1 31 1 ∷ []) [] Done
 
 -- two objects are made, one is dropped, and a full cycle is asked for
 abbrev pub cycle_program : List Command
@@ -167,7 +167,7 @@ full_row = record {
 
 -- a run of that program is two rounds, and the whole cycle is done at the last stop
 abbrev pub CycleIsTold : Type 0
-CycleIsTold = IsTold (small_plan cycle_program) (record { replies = first_replies ∷ [] } ∷ record { replies = second_replies ∷ [] } ∷
+CycleIsTold = IsSomeRun (small_plan cycle_program) (record { replies = first_replies ∷ [] } ∷ record { replies = second_replies ∷ [] } ∷
     []) (quiet_stop 0 32 0 ∷ quiet_stop 1 31 2 ∷ quiet_stop 2 31 0 ∷ []) (full_row ∷ []) Done
 
 -- one object is made, and a cycle is asked for
@@ -187,7 +187,7 @@ asking_replies = Given (Ref object_name) ∷ Fine ∷ []
 
 -- a run of that program begins the cycle at the first stop, and closes and ends it at the next, after a round without commands
 abbrev pub MarkingIsTold : Type 0
-MarkingIsTold = IsTold (small_plan asking_program) (record { replies = asking_replies ∷ [] } ∷ record { replies = [] ∷ [] } ∷
+MarkingIsTold = IsSomeRun (small_plan asking_program) (record { replies = asking_replies ∷ [] } ∷ record { replies = [] ∷ [] } ∷
     []) (quiet_stop 0 32 0 ∷ marking_stop ∷ quiet_stop 2 31 0 ∷ []) (marked_row ∷ []) Done
 
 -- the text of the report of `object_program`

@@ -26,7 +26,7 @@ pub record MutatorSeen : Type 0 where
   pub entries : List ℕ
 
 -- the whole collector; marker, sweeper and cycle mean something while a cycle is in progress
-pub record Seen : Type 0 where
+pub record CollectorSeen : Type 0 where
   pub rounds : List RoundRows
   pub stops : List StopRow
   pub cycles : List CycleRow
@@ -48,17 +48,17 @@ pub record Seen : Type 0 where
 abbrev pub end_of : MutatorSeen → MutatorEnd
 end_of m = record { registers = m.registers; queue = m.queue.words; serial = m.serial }
 
-abbrev pub ends_of : Seen → List MutatorEnd
+abbrev pub ends_of : CollectorSeen → List MutatorEnd
 ends_of seen = map end_of seen.mutators
 
 -- the nurseries of all mutators
-abbrev pub nurseries_of : Seen → List Nursery
+abbrev pub nurseries_of : CollectorSeen → List Nursery
 nurseries_of seen = map (λ (m : MutatorSeen). m.nursery) seen.mutators
 
 -- the places of the fields that the round recorded
-abbrev pub recorded_in : Seen → List ℕ
+abbrev pub recorded_in : CollectorSeen → List ℕ
 recorded_in seen = flat_map (λ (m : MutatorSeen). m.recorded) seen.mutators
 
 -- the places of the weak pointers that the round made
-abbrev pub young_weaks_in : Seen → List ℕ
+abbrev pub young_weaks_in : CollectorSeen → List ℕ
 young_weaks_in seen = flat_map (λ (m : MutatorSeen). m.young_weaks) seen.mutators

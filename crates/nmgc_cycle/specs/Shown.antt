@@ -5,7 +5,7 @@ use Rattle.nmgc_journal.specs.declared.report.Phase.TheVariants as phase
 use Rattle.nmgc_journal.specs.declared.report.CycleRow.{CycleRow}
 use Rattle.nmgc_journal.specs.declared.report.Report.{Report}
 use Rattle.nmgc_journal.specs.declared.report.End.{End}
-use Rattle.nmgc_collector_laws.specs.Seen.{Seen, ends_of}
+use Rattle.nmgc_collector_laws.specs.Seen.{CollectorSeen, ends_of}
 use Rattle.nmgc_mark.specs.Seen.{MarkerSeen, WorkSeen}
 use Rattle.nmgc_sweep.specs.Seen.{CycleSeen}
 pub use Rattle.nmgc_collector_laws.specs.Heaps.{seen_mutator}
@@ -97,7 +97,7 @@ abbrev pub told_cycles : Collector → List CycleRow
 told_cycles c = map told_row c.cycles
 
 -- the collector, as `IsAtStop` and `IsAfterRound` speak of it
-abbrev pub seen : Collector → Seen
+abbrev pub seen : Collector → CollectorSeen
 seen c = record {
   rounds = c.rounds;
   stops = c.stops;

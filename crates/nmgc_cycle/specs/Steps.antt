@@ -5,11 +5,11 @@
 use Rattle.std.specs.Prelude.{ℕ, ◌≡◌, ◌+◌, ◌++◌, ◌≤◌, List, [], true, false}
 use Rattle.nmgc_blocks_spec.specs.Cycle.{IsKeptObject, Cycle}
 use Rattle.nmgc_run_spec.specs.Closing.{Closes, ClosesOrWaits, MayClose}
-use Rattle.nmgc_collector_laws.specs.Collector.{Matches, AreNurseries, EachMutator, IsAtRest, HoldsInCycle, IsPacedAtStop, IsPacedAfterRound}
+use Rattle.nmgc_collector_laws.specs.Collector.{Matches, AreNurseries, EachMutator, IsEmptied, HoldsInCycle, IsPacedAtStop, IsPacedAfterRound}
 use Rattle.nmgc_run_laws.specs.Course.{IsStateInCourse}
 use Rattle.nmgc_run_spec.specs.Heap.{HoldsAtStop}
 use Rattle.nmgc_world_spec.specs.Listing.{Counts}
-use Rattle.nmgc_collector_laws.specs.Seen.{Seen, MutatorSeen, ends_of, nurseries_of}
+use Rattle.nmgc_collector_laws.specs.Seen.{CollectorSeen, MutatorSeen, ends_of, nurseries_of}
 use Rattle.nmgc_run_laws.specs.Sound.{IsSoundState}
 use Rattle.nmgc_run_spec.specs.State.{State, marking, cycle_started, plan_of, layout_of}
 use Rattle.nmgc_run_spec.specs.Stop.{EndsOrWaits, BeginsOrWaits}
@@ -28,12 +28,12 @@ use Rattle.nmgc_cycle.specs.Shown.{seen, told_cycles, words_in}
 use Rattle.nmgc_script.specs.Limits.{IsInLimits}
 
 -- the pace of marking once what was remembered was added: where the last work left something the cycle goes on in pace, and else it may be closed
-pub record IsPacedWithin (quota : ℕ) (c : Cycle) (s : State) (seen : Seen) : Type 0 where
+pub record IsPacedWithin (quota : ℕ) (c : Cycle) (s : State) (seen : CollectorSeen) : Type 0 where
   pub goes_on : seen.work.empty ≡ false → IsPacedAtStop quota c s seen
   pub closes : seen.work.empty ≡ true → (kept : ℕ) → seen.marker.marked ≤ kept → Counts (IsKeptObject c) kept → MayClose quota c s.number
 
 -- the pace of marking after the promotion is that after the round, which came after the snapshot
-pub record IsPacedPromoted (quota : ℕ) (c : Cycle) (s : State) (seen : Seen) : Type 0 where
+pub record IsPacedPromoted (quota : ℕ) (c : Cycle) (s : State) (seen : CollectorSeen) : Type 0 where
   pub paced : IsPacedAfterRound quota c s seen
   pub later : c.from + 1 ≤ s.number
 
@@ -43,7 +43,7 @@ pub record HasOnlyEntries (mutator : MutatorSeen) : Type 0 where
   pub young_weaks : mutator.young_weaks ≡ []
 
 -- words, segments, mutators, marker and sweeper of the collector stand for a state at a stop
-pub record StandsForState (Paced : Cycle → State → Seen → Type 0) (Rests : MutatorSeen → Type 0) (script : Script) (c : Collector) (s : State) : Type 0 where
+pub record StandsForState (Paced : Cycle → State → CollectorSeen → Type 0) (Rests : MutatorSeen → Type 0) (script : Script) (c : Collector) (s : State) : Type 0 where
   pub kept : IsWellFormed script c
   pub sound : IsSoundState (plan_of script) s
   pub course : IsStateInCourse s
@@ -61,10 +61,10 @@ abbrev pub StandsPromoted : Script → Collector → State → Type 0
 StandsPromoted script c s = StandsForState (IsPacedPromoted script.config.quota) HasOnlyEntries script c s
 
 abbrev pub StandsWithin : Script → Collector → State → Type 0
-StandsWithin script c s = StandsForState (IsPacedWithin script.config.quota) IsAtRest script c s
+StandsWithin script c s = StandsForState (IsPacedWithin script.config.quota) IsEmptied script c s
 
 abbrev pub StandsAt : Script → Collector → State → Type 0
-StandsAt script c s = StandsForState (IsPacedAtStop script.config.quota) IsAtRest script c s
+StandsAt script c s = StandsForState (IsPacedAtStop script.config.quota) IsEmptied script c s
 
 -- Each step leads from one to the next, by the rule of the run
 

@@ -41,7 +41,7 @@ use crate::worker::WorkerRoom;
 use nmgc_alloc::Segments;
 use nmgc_journal::{CycleRow, End, FinalWords, MutatorEnd, Report, RoundRows, StopRow};
 use nmgc_limits::SHARED_SLOTS;
-use nmgc_lists::{List, NoMemory, Place, Placed};
+use nmgc_lists::{List, NoMemory, ListMemory, Placed};
 use nmgc_minor::Promotion;
 use nmgc_mutator::mutator::{MOST_PUSHED, Mutator};
 use nmgc_object::layout::SHARED_PLACE;
@@ -98,21 +98,21 @@ pub struct Collector {
     // Empty, with room for what each mutator has in hand in the end.
     pub(crate) ends: Vec<MutatorEnd>,
     // Where the report's lists will lie.
-    pub(crate) places: Places,
+    pub(crate) places: ReportMemory,
 }
 
 // Where those lists of a report will lie that are made as the run ends, when no memory may be taken.
 #[derive(Drop)]
-pub(crate) struct Places {
-    mutators: Place<MutatorEnd>,
-    weaks: Place<Name>,
+pub(crate) struct ReportMemory {
+    mutators: ListMemory<MutatorEnd>,
+    weaks: ListMemory<Name>,
 }
 
-impl Places {
-    fn new(alloc: Global) -> Result<Places, NoMemory> {
-        Ok(Places {
-            mutators: Place::new(alloc)?,
-            weaks: Place::new(alloc)?,
+impl ReportMemory {
+    fn new(alloc: Global) -> Result<ReportMemory, NoMemory> {
+        Ok(ReportMemory {
+            mutators: ListMemory::new(alloc)?,
+            weaks: ListMemory::new(alloc)?,
         })
     }
 }
@@ -181,7 +181,7 @@ fn new_mutators(
     ensures unsent { IfOk result (λ made. (k : ℕ) (m : MutatorShown) → slice_get made.0.items k ≡ Some m → m.sender.since ≡ []) }
 {
     let mut mutators = Vec::with_capacity(alloc, layout.mutators as usize)?;
-    let place = Place::new(alloc)?;
+    let place = ListMemory::new(alloc)?;
     let mut receivers = Vec::with_capacity(alloc, layout.mutators as usize)?;
     for number in 0..layout.mutators {
         let commands = first_slice(script, number);
@@ -239,7 +239,7 @@ impl Collector {
         let workers = WorkerRoom::reserve(alloc, count)?;
         let positions = vec![in alloc; 0u32; count]?;
         let ends = Vec::with_capacity(alloc, count)?;
-        let places = Places::new(alloc)?;
+        let places = ReportMemory::new(alloc)?;
         Ok(Collector {
             alloc,
             words: Some(words),

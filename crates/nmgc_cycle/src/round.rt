@@ -45,7 +45,7 @@ use nmgc_collector_laws::marking::{
 };
 use nmgc_journal::{Replies, RoundRows};
 use nmgc_limits::MAKERS;
-use nmgc_lists::{List, NoMemory, Place};
+use nmgc_lists::{List, NoMemory, ListMemory};
 use nmgc_mutator::laws::a_round_finds_mutators_ready;
 use nmgc_mutator::mutator::{MOST_PUSHED, Mutator};
 use nmgc_round::chosen::Wanted;
@@ -63,8 +63,8 @@ use std::thread::Threads;
 struct Lists {
     room: Vec<MutatorSeat>,
     seats: Vec<MutatorSeat>,
-    given: Place<MutatorSeat>,
-    taken: Place<MutatorSeat>,
+    given: ListMemory<MutatorSeat>,
+    taken: ListMemory<MutatorSeat>,
 }
 
 impl Lists {
@@ -75,8 +75,8 @@ impl Lists {
         Ok(Lists {
             room: Vec::with_capacity(alloc, count)?,
             seats: Vec::with_capacity(alloc, count)?,
-            given: Place::new(alloc)?,
-            taken: Place::new(alloc)?,
+            given: ListMemory::new(alloc)?,
+            taken: ListMemory::new(alloc)?,
         })
     }
 }

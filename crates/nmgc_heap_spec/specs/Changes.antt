@@ -26,8 +26,8 @@ abbrev pub HaveHeaders : (Name → Node → Type 0) → World → Type 0
 HaveHeaders K w = (name : Name) (before now : Node) → K name before → node_of w name ≡ Some now → header_of before ≡ header_of now
 
 -- header and extent of the object at the place are told: its name is tracked, or it was born in a nursery
-abbrev pub IsTold : Layout → List World → World → Place → Type 0
-IsTold layout earlier w p = IsTracked w earlier p.name ⊎ InNursery layout p.name.maker p.at
+abbrev pub IsSpokenOf : Layout → List World → World → Place → Type 0
+IsSpokenOf layout earlier w p = IsTracked w earlier p.name ⊎ InNursery layout p.name.maker p.at
 
 -- another world with the same nodes, as far as the words tell: at every place, and of every tracked name
 pub record IsSameHeap (earlier : List World) (places : List Place) (w v : World) : Type 0 where
@@ -43,14 +43,14 @@ pub record Remembers (w : World) (earlier later : List World) (K L : Name → No
 pub record AgreeWhereTold (layout : Layout) (earlier : List World) (places : List Place) (w : World) (old new : List ℕ) : Type 0 where
   pub total : length new ≡ length old
   pub names : (p : Place) → Contains places p → slice_index new (p.at + NAME_OFFSET) ≡ slice_index old (p.at + NAME_OFFSET)
-  pub objects : (p : Place) (node : Node) (i : ℕ) → Contains places p → IsTold layout earlier w p → node_of w p.name ≡ Some node → p.at ≤ i →
+  pub objects : (p : Place) (node : Node) (i : ℕ) → Contains places p → IsSpokenOf layout earlier w p → node_of w p.name ≡ Some node → p.at ≤ i →
       i < p.at + size_of node → slice_index new i ≡ slice_index old i
   pub between : (at : ℕ) → IsBetween at → slice_index new at ≡ slice_index old at
 
 -- a word that is no name, in no object that is told, and not beside g
 pub record IsUnborn (layout : Layout) (earlier : List World) (places : List Place) (w : World) (i : ℕ) : Type 0 where
   pub names : (p : Place) → Contains places p → i ≢ p.at + NAME_OFFSET
-  pub objects : (p : Place) (node : Node) → Contains places p → IsTold layout earlier w p → node_of w p.name ≡ Some node → (i < p.at) ⊎
+  pub objects : (p : Place) (node : Node) → Contains places p → IsSpokenOf layout earlier w p → node_of w p.name ≡ Some node → (i < p.at) ⊎
       (p.at + size_of node ≤ i)
   pub owned : IsBetween i → ⊥
 
@@ -81,7 +81,7 @@ pub record AddsPlace (places more : List Place) (x : Place) : Type 0 where
 -- so many words from a place on are apart from every name and header, and from every object that is told
 pub record IsApart (layout : Layout) (earlier : List World) (places : List Place) (w : World) (at size : ℕ) : Type 0 where
   pub names : (p : Place) → Contains places p → (p.at + HEADER_WORDS ≤ at) ⊎ (at + size ≤ p.at)
-  pub objects : (p : Place) (node : Node) → Contains places p → IsTold layout earlier w p → node_of w p.name ≡ Some node →
+  pub objects : (p : Place) (node : Node) → Contains places p → IsSpokenOf layout earlier w p → node_of w p.name ≡ Some node →
       (p.at + size_of node ≤ at) ⊎ (at + size ≤ p.at)
 
 -- an object is born: its name and its fields stand there already, nobody knew the name, and nothing else changes but what refers to it
@@ -114,7 +114,7 @@ pub record AddsPlaces (layout : Layout) (earlier : List World) (places more : Li
   pub old : (p : Place) → Contains places p → Contains more p
   pub one : (p q : Place) → Contains more p → Contains more q → (p.name ≡ q.name) ⊎ (p.at ≡ q.at) → p ≡ q
   pub named : (p : Place) → Contains more p → IsNamed layout w words p
-  pub alone : (p q : Place) (node : Node) → Contains places p → IsTold layout earlier w p → node_of w p.name ≡ Some node → Contains more q →
+  pub alone : (p q : Place) (node : Node) → Contains places p → IsSpokenOf layout earlier w p → node_of w p.name ≡ Some node → Contains more q →
       (q.at ≤ p.at) ⊎ (p.at + size_of node ≤ q.at)
   pub born : (p : Place) (node : Node) → Contains more p → InNursery layout p.name.maker p.at → node_of w p.name ≡ Some node →
       IsObject layout more words p node × (node ≡ Weak None → slice_index words (p.at + HEADER_WORDS + 1) ≡ 0)

@@ -48,7 +48,7 @@ pub record Copies (forward : ℕ → ℕ) (old new : List ℕ) (from to count : 
   pub fields : (i : ℕ) → i < count → slice_index new (to + HEADER_WORDS + i) ≡ forward (slice_index old (from + HEADER_WORDS + i))
 
 -- an object that stays has its header, and of its fields each is forwarded or unchanged; one that refers to an object of the emptied part is forwarded
-pub record Keeps (base : ℕ) (places : List Place) (forward : ℕ → ℕ) (old new : List ℕ) (at : ℕ) (node : Node) : Type 0 where
+pub record KeepsObject (base : ℕ) (places : List Place) (forward : ℕ → ℕ) (old new : List ℕ) (at : ℕ) (node : Node) : Type 0 where
   pub header : slice_index new at ≡ slice_index old at
   pub fields : (i : ℕ) → i < (header_of node).fields → (slice_index new (at + HEADER_WORDS + i) ≡
       forward (slice_index old (at + HEADER_WORDS + i))) ⊎ ((slice_index new (at + HEADER_WORDS + i) ≡ slice_index old (at + HEADER_WORDS + i)) ×
@@ -73,7 +73,7 @@ pub record Moves (layout : Layout) (base : ℕ) (later : List World) (places : L
   pub copied : (m : Moved) (node : Node) → Contains moves m → IsTracked w later m.name → node_of w m.name ≡ Some node →
       Copies forward old new m.from m.to (header_of node).fields
   pub changed : (p : Place) (node : Node) → Contains places p → p.at < base → IsTracked w later p.name → node_of w p.name ≡ Some node →
-      Keeps base places forward old new p.at node
+      KeepsObject base places forward old new p.at node
   pub between : (at : ℕ) → IsBetween at → slice_index new at ≡ slice_index old at
 
 -- the earlier worlds of which the collector still speaks afterwards: none had anything of what stood in the emptied part

@@ -8,7 +8,7 @@ ghost use Rattle.nmgc_round.specs.Empty.{IsEmptyHeap, first_opening};
 ghost use Rattle.nmgc_round.specs.Ready.{HasPart};
 
 use nmgc_limits::SHARED_SLOTS;
-use nmgc_lists::{NoMemory, Place};
+use nmgc_lists::{NoMemory, ListMemory};
 use nmgc_object::{Address, Layout, encode_name};
 use nmgc_round::chosen::Wanted;
 use nmgc_round::{Chosen, Gate, MutatorSeat, OpenGate, Opened, Round, Started, Words, laws};
@@ -128,7 +128,7 @@ fn worked<R: Threads + Sync>(
     words: Words,
     layout: Layout,
     room: Vec<MutatorSeat>,
-    place: Place<MutatorSeat>,
+    place: ListMemory<MutatorSeat>,
 ) -> (Words, bool)
     requires layout { IsLayout layout }
     requires few { layout.mutators ≤ SHARED_SLOTS }
@@ -192,7 +192,7 @@ fn what_each_mutator_did_stands_in_the_words(rt: HostRuntime) -> Result<(), Fail
         let layout = small(mutators);
         let words = empty_heap(rt.alloc(), &layout)?;
         let room = Vec::with_capacity(rt.alloc(), usize::from(mutators))?;
-        let place = Place::new(rt.alloc())?;
+        let place = ListMemory::new(rt.alloc())?;
         let (mut words, marking) = worked(&rt, words, layout, room, place);
         assert!(rt; !marking);
         words.store(0, 5);

@@ -10,7 +10,7 @@ use Rattle.nmgc_image.specs.declared.fault.ImageFault.TheVariants as fault
 use Rattle.nmgc_image.specs.Faults.{IsFirstBad, IsToldOf}
 use Rattle.nmgc_image.specs.Spelling.{ended, Spells}
 use Rattle.nmgc_image.specs.Text.{words_of, cut}
-use Rattle.nmgc_image.specs.Reading.{line_at, start, run, image_of, Tells, AreRead, IsAnswer}
+use Rattle.nmgc_image.specs.Reading.{line_at, start, run, image_of, FindsDeclared, AreRead, IsAnswer}
 use Rattle.nmgc_image.proofs.Cutting.{cut_is_text}
 use Rattle.nmgc_image.proofs.Steps.{line_there, none_after, runs_all, taken_is}
 use Rattle.nmgc_image.proofs.Told.{only, found, told, not_spelled}
@@ -19,7 +19,7 @@ pub lost_answer : (bytes : List ℕ) → IsAnswer bytes (Err fault.NoMemory)
 lost_answer bytes = record { found = tt; only = λ image s. refl; told = tt }
 
 module _ (bytes : List ℕ) (d : Name →
-    Bool) (tells : Tells d (cut bytes).lines) (r : Reader) (number : ℕ) (rest : List ℕ) (read : AreRead d bytes r number rest) where
+    Bool) (tells : FindsDeclared d (cut bytes).lines) (r : Reader) (number : ℕ) (rest : List ℕ) (read : AreRead d bytes r number rest) where
   bad_next : (line : List ℕ) → slice_get (cut bytes).lines read.taken.before ≡ Some line → line_at d r (words_of line) ≡ None
   bad_next line at =
       let there = line_there (cut bytes).lines read.taken.before line at in

@@ -21,7 +21,7 @@ use Rattle.nmgc_image.specs.declared.image.Entry.{Entry}
 use Rattle.nmgc_image.specs.declared.reader.Reader.{Reader}
 use Rattle.nmgc_image.specs.Spelling.{first_words, mutator_lines, entry_words, last_words}
 use Rattle.nmgc_image.specs.Text.{words_of, cut}
-use Rattle.nmgc_image.specs.Reading.{is_declared, begun, is_open, is_full, first_at, mutator_at, is_above, is_nil, register_at, queue_at, is_after, is_owned, entry_at, next_at, end_at, line_at, start, run, key_of, key_in, keys_in, keys_of, keys_beside, has_key, HaveSame, Tells, AreTaken, AreRead, AreMentionsIn}
+use Rattle.nmgc_image.specs.Reading.{is_declared, begun, is_open, is_full, first_at, mutator_at, is_above, is_nil, register_at, queue_at, is_after, is_owned, entry_at, next_at, end_at, line_at, start, run, key_of, key_in, keys_in, keys_of, keys_beside, has_key, HaveSame, FindsDeclared, AreTaken, AreRead, AreMentionsIn}
 use Rattle.nmgc_image.proofs.NodeLaws.{IsSpellable, line_again}
 use Rattle.nmgc_image.proofs.Machine.{run_step}
 use Rattle.nmgc_image.proofs.Taken.{spellable, front_runs}
@@ -227,7 +227,7 @@ module _ (d : Name → Bool) where
         ∙ ap (λ (l : List ℕ). l ++ keys_of (drop t.before lines)) ours
         ∙ ap (λ (l : List (List ℕ)). map (λ (entry : Entry). key_of entry.name) r.nodes ++ keys_of l) t.lines_are
 
-    pub taken_tell : (keys : List ℕ) → HaveSame keys (keys_beside r.nodes (cut rest).lines) → Tells (has_key keys) (cut bytes).lines
+    pub taken_tell : (keys : List ℕ) → HaveSame keys (keys_beside r.nodes (cut rest).lines) → FindsDeclared (has_key keys) (cut bytes).lines
     taken_tell keys same =
         let lines = (cut bytes).lines in
         tells_same (has_key keys) (has_key (keys_of lines)) lines (λ name. same name ∙ ap (λ (ks : List ℕ). has_key ks name) (sym taken_keys)) (keys_tell lines)

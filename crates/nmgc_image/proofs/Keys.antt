@@ -20,7 +20,7 @@ use Rattle.nmgc_image.specs.Names.{TellsNames}
 use Rattle.nmgc_image.specs.Spelling.{spaced, entry_words}
 use Rattle.nmgc_image.specs.Text.{words_of}
 use Rattle.nmgc_image.specs.Faults.{IsDeclared}
-use Rattle.nmgc_image.specs.Reading.{node_line_at, key_of, has_key, key_in, keys_in, keys_of, Tells}
+use Rattle.nmgc_image.specs.Reading.{node_line_at, key_of, has_key, key_in, keys_in, keys_of, FindsDeclared}
 use Rattle.nmgc_image.proofs.NodeLaws.{IsSpellable, line_takes, line_again}
 use Rattle.nmgc_image.proofs.LineLaws.{spaced-words_of, words_of-line, entry_line}
 
@@ -95,11 +95,11 @@ module _ (lines : List (List ℕ)) where
       let all : Contains (keys_of lines) (key_of entry.name) = contains_flat (λ l. keys_in (words_of l)) lines line (key_of entry.name) h.3 one in
       has_any (keys_of lines) (key_of name) (subst (λ (n : Name). Contains (keys_of lines) (key_of n)) h.2 all)
 
-  pub keys_tell : Tells (has_key (keys_of lines)) lines
+  pub keys_tell : FindsDeclared (has_key (keys_of lines)) lines
   keys_tell = record { sound = sound; complete = complete }
 
 -- and so does a test that is the same
-pub tells_same : (d e : Name → Bool) (lines : List (List ℕ)) → ((name : Name) → d name ≡ e name) → Tells e lines → Tells d lines
+pub tells_same : (d e : Name → Bool) (lines : List (List ℕ)) → ((name : Name) → d name ≡ e name) → FindsDeclared e lines → FindsDeclared d lines
 tells_same d e lines same tells = record {
   sound = λ name valid h. tells.sound name valid (sym (same name) ∙ h);
   complete = λ name h. same name ∙ tells.complete name h;

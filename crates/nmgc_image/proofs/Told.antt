@@ -26,7 +26,7 @@ use Rattle.nmgc_image.specs.Image.{IsHeld, IsMutator, names_of, values_of, value
 use Rattle.nmgc_image.specs.Spelling.{spaced, ended, first_words, mutator_words, register_words, queue_words, entry_words, own_lines, mutator_lines, last_words, image_lines, Spells}
 use Rattle.nmgc_image.specs.Text.{words_of, Cut, cut}
 use Rattle.nmgc_image.specs.Faults.{IsWritable, IsDeclared, Begins, IsFirstBad}
-use Rattle.nmgc_image.specs.Reading.{node_line_at, line_at, start, image_of, Tells, run}
+use Rattle.nmgc_image.specs.Reading.{node_line_at, line_at, start, image_of, FindsDeclared, run}
 use Rattle.nmgc_image.proofs.NodeLaws.{IsSpellable, line_again}
 use Rattle.nmgc_image.proofs.LineLaws.{MakeLine, spaced-lines, words_of-line, words_of-lines, made_lines, first_line, mutator_line, register_line, queue_line, entry_line, end_line}
 use Rattle.nmgc_image.proofs.Cutting.{cut_ended, cut_is_text}
@@ -232,7 +232,7 @@ shared_valid = (omega arith, omega arith, λ same. refl)
 
 -- A TEXT
 
-module _ (bytes : List ℕ) (d : Name → Bool) (tells : Tells d (cut bytes).lines) where
+module _ (bytes : List ℕ) (d : Name → Bool) (tells : FindsDeclared d (cut bytes).lines) where
   -- the text of an image is cut into its lines
   spelled_lines : (image : Image) → Spells bytes image → ((cut bytes).lines ≡ map spaced (image_lines image)) × ((cut bytes).rest ≡ []) ×
       (map words_of (cut bytes).lines ≡ image_lines image)

@@ -3,7 +3,7 @@ ghost use Rattle.std.specs.Prelude.{◌≡◌, ◌↔◌, ℕ, ◌≤◌, ◌^�
 ghost use Rattle.nmgc_world_spec.specs.declared.value.Name.{Name as NameOf};
 ghost use Rattle.nmgc_image.specs.Faults.{IsToldOf};
 ghost use Rattle.nmgc_image.specs.Known.{test_of};
-ghost use Rattle.nmgc_image.specs.Reading.{AreRead, IsAnswer, image_of, Tells};
+ghost use Rattle.nmgc_image.specs.Reading.{AreRead, IsAnswer, image_of, FindsDeclared};
 ghost use Rattle.nmgc_image.specs.Spelling.{Spells};
 ghost use Rattle.nmgc_image.specs.Text.{cut};
 ghost use Rattle.nmgc_image.specs.declared.image.Image.{Image as Spelled};
@@ -60,7 +60,7 @@ fn read(alloc: Global, bytes: &[u8]) -> Result<Image, ImageFault>
 // Reads an image, where it is known which names have node lines.
 fn read_again(alloc: Global, known: &Known, bytes: &[u8]) -> Result<Image, ImageFault>
     requires small { length bytes.now ≤ 2 ^ 31 }
-    requires tells { Tells (test_of known.now) (cut bytes.now).lines }
+    requires tells { FindsDeclared (test_of known.now) (cut bytes.now).lines }
     ensures { IsAnswer bytes.now result }
 {
     let mut lines = Lines::new(bytes);
@@ -70,7 +70,7 @@ fn read_again(alloc: Global, known: &Known, bytes: &[u8]) -> Result<Image, Image
 
 // What is answered of a text whose lines were read as far as they can be taken.
 fn answer(reader: Reader, lines: &Lines) -> Result<Image, ImageFault>
-    ensures { (bytes : List ℕ) (d : NameOf → Bool) → Tells d (cut bytes).lines → AreRead d bytes reader lines.now.number lines.now.rest.now →
+    ensures { (bytes : List ℕ) (d : NameOf → Bool) → FindsDeclared d (cut bytes).lines → AreRead d bytes reader lines.now.number lines.now.rest.now →
         IsAnswer bytes result }
 {
     if !is_whole(&reader, lines.rest) {

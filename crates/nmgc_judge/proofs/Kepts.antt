@@ -20,7 +20,7 @@ use Rattle.nmgc_judge.specs.declared.progress.Progress.TheVariants as progress
 use Rattle.nmgc_judge.specs.declared.verdict.Verdict.{Verdict}
 use Rattle.nmgc_judge.specs.declared.verdict.Verdict.TheVariants as verdict
 use Rattle.nmgc_judge.specs.Trace.{Can, Comes, IsAnswered, Scans}
-use Rattle.nmgc_judge.specs.Verdicts.{IsTold, refusal_of}
+use Rattle.nmgc_judge.specs.Verdicts.{IsVerdictAfter, refusal_of}
 use Rattle.nmgc_judge.specs.Kept.{rows_in, IsKeptTold, TellsKept}
 use Rattle.nmgc_snapshot_laws.specs.laws.Common.{runs_join}
 
@@ -181,12 +181,12 @@ kept_marking lines s names c over listed = elim (begun lines (progress.Marking s
 not_this : (names : List Name) → verdict.Closed names ≡ verdict.Unmarked → ⊥
 not_this names e = cc
 
-kept_told : (lines : List Line) (p : Progress) (names : List Name) → Comes progress.Nothing lines p → IsTold p (verdict.Closed names) → IsKeptTold lines names
+kept_told : (lines : List Line) (p : Progress) (names : List Name) → Comes progress.Nothing lines p → IsVerdictAfter p (verdict.Closed names) → IsKeptTold lines names
 kept_told lines progress.Nothing names c t = absurd (not_this names t)
 kept_told lines (progress.Building w) names c t = absurd (not_this names t)
 kept_told lines (progress.Marking s) names c t = kept_marking lines s names c t.0 t.1
 
-pub tells_kept : (lines : List Line) (p : Progress) (told : Verdict) → Comes progress.Nothing lines p → IsTold p told → TellsKept lines told
+pub tells_kept : (lines : List Line) (p : Progress) (told : Verdict) → Comes progress.Nothing lines p → IsVerdictAfter p told → TellsKept lines told
 tells_kept lines p (verdict.Bad n) c t = tt
 tells_kept lines p (verdict.Refused n) c t = tt
 tells_kept lines p verdict.Unmarked c t = tt

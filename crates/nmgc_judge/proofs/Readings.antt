@@ -26,7 +26,7 @@ use Rattle.nmgc_judge.specs.Outcomes.{is_refused, is_refused_there, AreWatchedLi
 use Rattle.nmgc_judge.specs.Reports.{Comes, Happens, IsRefusal, IsReport, report_of}
 use Rattle.nmgc_judge.specs.Said.{texts_of, ahead, AreSaid, IsNextLine, Says, SaysLine}
 use Rattle.nmgc_judge.specs.Trace as trace
-use Rattle.nmgc_judge.specs.Verdicts.{IsTold, refusal_of}
+use Rattle.nmgc_judge.specs.Verdicts.{IsVerdictAfter, refusal_of}
 use Rattle.nmgc_judge.specs.Whole.{TellsWhole}
 use Rattle.nmgc_judge.proofs.Kepts.{refusal_tells, tells_kept}
 use Rattle.nmgc_judge.proofs.Tellings as tellings
@@ -251,7 +251,7 @@ module _ (known : Option (List ℕ)) (is_there : Bool) (first : List ℕ) (n : �
     all = λ fine. refl;
   }
 
-  pub judged_ended : (v : Verdict) → goes_on ≡ false → IsTold p v → IsMarked known is_there first v
+  pub judged_ended : (v : Verdict) → goes_on ≡ false → IsVerdictAfter p v → IsMarked known is_there first v
   judged_ended v over is = (
     s.lines,
     judged_all known v over s.judged,

@@ -8,7 +8,7 @@ use Rattle.nmgc_judge.specs.declared.progress.Progress.TheVariants as progress
 use Rattle.nmgc_judge.specs.declared.verdict.Verdict.{Verdict}
 use Rattle.nmgc_judge.specs.declared.verdict.Verdict.TheVariants as verdict
 use Rattle.nmgc_judge.specs.Trace.{Can, Comes, IsNext}
-use Rattle.nmgc_judge.specs.Verdicts.{EndsAtLine, IsTold, IsVerdict, refusal_of}
+use Rattle.nmgc_judge.specs.Verdicts.{EndsAtLine, IsVerdictAfter, IsVerdict, refusal_of}
 
 -- one more line at the end
 pub comes_push : (p q r : Progress) (ls : List Line) (l : Line) → Comes p ls q → Can q l r → Comes p (ls ++ l ∷ []) r
@@ -71,18 +71,18 @@ ends_here lines l q told c cannot e =
     let P : Verdict → Type 0 = IsVerdict (lines ++ l ∷ []) in
     subst P (sym e) (refusal_verdict (lines ++ l ∷ []) l (length lines + 1) ends)
 
-not_bad : (p : Progress) (n : ℕ) → IsTold p (verdict.Bad n) → ⊥
+not_bad : (p : Progress) (n : ℕ) → IsVerdictAfter p (verdict.Bad n) → ⊥
 not_bad progress.Nothing n t = cc
 not_bad (progress.Building w) n t = cc
 not_bad (progress.Marking s) n t = t
 
-not_refused : (p : Progress) (n : ℕ) → IsTold p (verdict.Refused n) → ⊥
+not_refused : (p : Progress) (n : ℕ) → IsVerdictAfter p (verdict.Refused n) → ⊥
 not_refused progress.Nothing n t = cc
 not_refused (progress.Building w) n t = cc
 not_refused (progress.Marking s) n t = t
 
 -- a trace whose lines can all happen
-pub ends_well : (lines : List Line) (p : Progress) (told : Verdict) → Comes progress.Nothing lines p → IsTold p told → IsVerdict lines told
+pub ends_well : (lines : List Line) (p : Progress) (told : Verdict) → Comes progress.Nothing lines p → IsVerdictAfter p told → IsVerdict lines told
 ends_well lines p (verdict.Bad n) c t = absurd (not_bad p n t)
 ends_well lines p (verdict.Refused n) c t = absurd (not_refused p n t)
 ends_well lines p verdict.Unmarked c t = record { last = p; comes = c; told_is = t }

@@ -4,7 +4,7 @@ use Rattle.std.proofs.lemmas.List.{length-append}
 use Rattle.nmgc_world_spec.specs.declared.command.Command.{Command}
 use Rattle.nmgc_world_spec.specs.World.{World}
 use Rattle.nmgc_world_spec.specs.Reach.{Lists}
-use Rattle.nmgc_barrier_laws.specs.Cycle.{Cycle, Marks}
+use Rattle.nmgc_barrier_laws.specs.Cycle.{Cycle, MarksName}
 use Rattle.nmgc_barrier_laws.specs.laws.Beside.{barrier_theorem, joint_theorem}
 use Rattle.nmgc_barrier_laws.specs.laws.Finishing.{some_finisher}
 use Rattle.nmgc_watch.specs.declared.event.Event.{Event}
@@ -61,15 +61,15 @@ rows_marking : (n m : ℕ) (cs : List Command) (h : Cycle) (after : Watch) → A
 rows_marking n m cs h after done = rows_stay n m cs (watch.Marking h) after done tt
 
 -- only a close ends a cycle, and what it leaves lists what the pushes and the commands keep
-kept_by : (n : ℕ) (h : Cycle) (e : Event) (left : Left) → Can n (watch.Marking h) e (watch.Ended left) → Lists (Marks h) left.kept
+kept_by : (n : ℕ) (h : Cycle) (e : Event) (left : Left) → Can n (watch.Marking h) e (watch.Ended left) → Lists (MarksName h) left.kept
 kept_by n h (event.Given m c answer) left can = absurd (not_marking left can.0 can.2)
 kept_by n h (event.Rows m commands) left can = absurd (rows_marking n m commands h (watch.Ended left) can.1)
 kept_by n h event.Mark left can = absurd can
 kept_by n h (event.Push name) left can = absurd (not_marking left can.0 can.2)
 kept_by n h (event.Settle m) left can = absurd (not_marking left h can.1)
 kept_by n h (event.Take name) left can = absurd (not_marking left can.0 can.2)
-kept_by n h event.Close left can = subst (λ (l : Left). Lists (Marks h) l.kept) (sym (ap (left_in left) can.2)) can.1.kept
-kept_by n h (event.CloseTold dead) left can = subst (λ (l : Left). Lists (Marks h) l.kept) (sym (ap (left_in left) can.2)) can.1.kept
+kept_by n h event.Close left can = subst (λ (l : Left). Lists (MarksName h) l.kept) (sym (ap (left_in left) can.2)) can.1.kept
+kept_by n h (event.CloseTold dead) left can = subst (λ (l : Left). Lists (MarksName h) l.kept) (sym (ap (left_in left) can.2)) can.1.kept
 kept_by n h (event.Marked names) left can = absurd can
 kept_by n h (event.Freed names) left can = absurd can
 kept_by n h event.Stop left can = absurd can
@@ -92,7 +92,7 @@ exact : (lines : List Told) (h : Cycle) (left : Left) → Closes lines h left �
 exact lines h left c =
     let t : Stood h = stood_at c.earlier h c.comes in
     let paid : h.debts ≡ [] = paid_by (length c.earlier + 1) h c.close left c.ends in
-    let kept : Lists (Marks h) left.kept = kept_by (length c.earlier + 1) h c.close left c.ends in
+    let kept : Lists (MarksName h) left.kept = kept_by (length c.earlier + 1) h c.close left c.ends in
     record {
       begins = t.begins;
       is_world = t.is;

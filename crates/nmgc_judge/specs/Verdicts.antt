@@ -48,16 +48,16 @@ IsToldOf s (verdict.Open names) = (s.is_closed ≡ false) × Lists (Contains s.m
 IsToldOf s (verdict.Closed names) = (s.is_closed ≡ true) × Lists (Contains s.marked) names
 
 -- what is told in the end of a trace that has come so far
-abbrev pub IsTold : Progress → Verdict → Type 0
-IsTold progress.Nothing told = told ≡ verdict.Unmarked
-IsTold (progress.Building w) told = told ≡ verdict.Unmarked
-IsTold (progress.Marking s) told = IsToldOf s told
+abbrev pub IsVerdictAfter : Progress → Verdict → Type 0
+IsVerdictAfter progress.Nothing told = told ≡ verdict.Unmarked
+IsVerdictAfter (progress.Building w) told = told ≡ verdict.Unmarked
+IsVerdictAfter (progress.Marking s) told = IsToldOf s told
 
 -- each line can happen, and this is told in the end
 pub record EndsWell (lines : List Line) (told : Verdict) : Type 0 where
   pub last : Progress
   pub comes : Comes progress.Nothing lines last
-  pub told_is : IsTold last told
+  pub told_is : IsVerdictAfter last told
 
 -- the verdict on a trace
 abbrev pub IsVerdict : List Line → Verdict → Type 0

@@ -1,7 +1,7 @@
 //! What a trace comes to: the first line that can't happen, or what is marked in the end.
 ghost use Rattle.std.specs.Prelude.{List, ◌≡◌, IfOk};
 ghost use Rattle.nmgc_judge.specs.Kept.{TellsKept};
-ghost use Rattle.nmgc_judge.specs.Verdicts.{IsVerdict, IsTold, refusal_of};
+ghost use Rattle.nmgc_judge.specs.Verdicts.{IsVerdict, IsVerdictAfter, refusal_of};
 
 use crate::line::Line;
 use crate::progress::Progress;
@@ -104,7 +104,7 @@ pub(crate) fn refusal(line: &Line, number: usize) -> Verdict
 
 /// What is told of a trace in the end. It lets go of the progress by a call (see `progress`).
 pub(crate) fn told_in_the_end(progress: Progress) -> Result<Verdict, NoMemory>
-    ensures { IfOk result (IsTold progress) }
+    ensures { IfOk result (IsVerdictAfter progress) }
 {
     let told = told_of(&progress);
     drop(progress);
@@ -113,7 +113,7 @@ pub(crate) fn told_in_the_end(progress: Progress) -> Result<Verdict, NoMemory>
 
 // What is told of a trace that has come so far.
 fn told_of(progress: &Progress) -> Result<Verdict, NoMemory>
-    ensures { IfOk result (IsTold progress.now) }
+    ensures { IfOk result (IsVerdictAfter progress.now) }
 {
     let Progress::Marking(core) = progress else {
         return Ok(Verdict::Unmarked);

@@ -12,7 +12,7 @@ pub mod placed;
 pub mod queue;
 pub mod room;
 
-pub use list::{List, Place};
+pub use list::{List, ListMemory};
 pub use memory::NoMemory;
 pub use placed::Placed;
 pub use queue::Queue;

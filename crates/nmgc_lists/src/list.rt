@@ -25,14 +25,14 @@ pub struct List<T> {
 
 /// Memory for the vector of one list, for who may take none once there are items. Contracts see nothing of it.
 #[derive(Drop)]
-pub struct Place<T> {
+pub struct ListMemory<T> {
     vector: Box<Vec<T>>,
 }
 
-impl<T: Drop> Place<T> {
+impl<T: Drop> ListMemory<T> {
     /// Takes memory for one value of type `Vec`.
     pub fn new(alloc: Global) -> Result<Self, NoMemory> {
-        Ok(Place {
+        Ok(ListMemory {
             vector: Box::new(alloc, Vec::new(alloc))?,
         })
     }
@@ -286,12 +286,12 @@ impl<T> List<T> {
     }
 
     /// The list of a vector's items, in a place that was made before. Takes no memory, and constant time.
-    pub fn in_place(items: Vec<T>, place: Place<T>) -> Self
+    pub fn in_place(items: Vec<T>, place: ListMemory<T>) -> Self
     where
         T: Drop,
         ensures { result ≡ items.items }
     {
-        let Place { mut vector } = place;
+        let ListMemory { mut vector } = place;
         let _ = Box::replace(&mut vector, items);
         List {
             items: Items::Many(vector),

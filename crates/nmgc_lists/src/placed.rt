@@ -7,14 +7,14 @@
 //! Easy to get wrong: nothing can be added. What has to grow is a `Room`.
 ghost use Rattle.std.specs.Prelude.{◌≡◌};
 
-use crate::list::{List, Place};
+use crate::list::{List, ListMemory};
 use std::marker::Model;
 
 /// A list whose items lie in a vector of its own. Contracts see it as that list.
 #[derive(Drop)]
 pub struct Placed<T> {
     items: Vec<T>,
-    place: Place<T>,
+    place: ListMemory<T>,
 }
 
 impl<T> Model for Placed<T> {
@@ -30,7 +30,7 @@ impl<T> Placed<T> {
     ghost use Rattle.nmgc_lists.specs.PlacedLends.{LendsItems};
 
     /// The list of a vector's items. `place` is where it will lie as a `List`. Takes no memory.
-    pub fn of(items: Vec<T>, place: Place<T>) -> Self
+    pub fn of(items: Vec<T>, place: ListMemory<T>) -> Self
         ensures { result ≡ items.items }
     {
         Placed { items, place }

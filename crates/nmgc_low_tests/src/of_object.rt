@@ -1,6 +1,6 @@
 //! Worked numbers of words, sizes and places, and a queue from end to end.
 use nmgc_limits::MAKERS;
-use nmgc_lists::Place;
+use nmgc_lists::ListMemory;
 use nmgc_object::{
     Address, Field, FinQueue, Header, Layout, Nursery, block_words, class_of, decode_header,
     decode_name, decode_value, encode_header, encode_name, encode_value, fields_of, header_of, laws,
@@ -145,7 +145,7 @@ fn finalisers(rt: HostRuntime) -> Result<(), Fail> {
     queue.add(66);
     queue.add(13);
     assert!(rt; queue.take_first() == Some(66));
-    assert!(rt; queue.into_list(Place::new(rt.alloc())?).items() == [13].as_slice());
+    assert!(rt; queue.into_list(ListMemory::new(rt.alloc())?).items() == [13].as_slice());
     Ok(())
 }
 

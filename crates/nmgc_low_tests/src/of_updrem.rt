@@ -2,7 +2,7 @@
 ghost use Rattle.std.specs.Prelude.{◌≡◌, ◌+◌, ◌<◌, ◌≤◌, length, IfOk};
 ghost use Rattle.nmgc_updrem.specs.Rings.{IsPair};
 
-use nmgc_lists::{NoMemory, Place, Placed};
+use nmgc_lists::{NoMemory, ListMemory, Placed};
 use nmgc_object::Address;
 use nmgc_updrem::*;
 use std::alloc::Global;
@@ -145,7 +145,7 @@ fn inbox_of(alloc: Global, first: UpdReceiver, second: UpdReceiver) -> Result<In
     let mut receivers = Vec::new(alloc);
     receivers.push(first)?;
     receivers.push(second)?;
-    let place = Place::new(alloc)?;
+    let place = ListMemory::new(alloc)?;
     Ok(Inbox::new(Placed::of(receivers, place)))
 }
 

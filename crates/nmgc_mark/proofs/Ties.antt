@@ -11,7 +11,7 @@ use Rattle.nmgc_snapshot_laws.specs.declared.event.Entry.{Entry}
 use Rattle.nmgc_snapshot_laws.specs.State.{is_listed, entry_of}
 use Rattle.nmgc_snapshot_laws.specs.laws.Listed.{contains_listed, not_listed}
 use Rattle.nmgc_alloc.specs.Numbered.{Segments}
-use Rattle.nmgc_alloc.specs.Segments.{IsSegments, IsBlockAt, Marks as MarksBlock}
+use Rattle.nmgc_alloc.specs.Segments.{IsSegments, IsBlockAt, MarksBlock}
 use Rattle.nmgc_alloc.specs.Blocks.{MarksPlace, IsSnapshotAt, IsMarkedAt}
 use Rattle.nmgc_alloc.specs.laws.Blocks.{marks_place}
 use Rattle.nmgc_alloc.specs.laws.Keeping.{marked_stands}

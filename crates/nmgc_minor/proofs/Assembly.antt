@@ -21,7 +21,7 @@ use Rattle.nmgc_heap_spec.specs.Shape.{header_of, size_of, slots_of}
 use Rattle.nmgc_heap_spec.specs.Tracked.{IsTracked}
 use Rattle.nmgc_heap_spec.specs.Places.{Place, IsBetween}
 use Rattle.nmgc_heap_spec.specs.Represents.{Represents, NoNode}
-use Rattle.nmgc_heap_spec.specs.Moves.{Moved, Moves, Keeps, Forwards, StillSpoken, new_place, old_place, settled}
+use Rattle.nmgc_heap_spec.specs.Moves.{Moved, Moves, KeepsObject, Forwards, StillSpoken, new_place, old_place, settled}
 use Rattle.nmgc_heap_spec.specs.laws.Changes.{not_between}
 use Rattle.nmgc_heap_spec.specs.laws.Slots.{slot_count}
 use Rattle.nmgc_heap_spec.specs.laws.Tracking.{tracked_more}
@@ -179,7 +179,7 @@ module _ (layout : Layout) (base : ℕ) (later earlier : List World) (places : L
       ]
 
   keeps : (p : Place) (node : Node) → Contains places p → p.at < base → IsTracked w later p.name → node_of w p.name ≡ Some node →
-      Keeps base places forward old new p.at node
+      KeepsObject base places forward old new p.at node
   keeps p node c l t e = record {
     header = subst (λ (k : ℕ). slice_index new k ≡ slice_index old k) (let z : p.at + 0 ≡ p.at = omega arith in z) (unchanged p 0 c l (omega arith));
     fields = λ i lt.

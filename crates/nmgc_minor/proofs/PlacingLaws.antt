@@ -17,7 +17,7 @@ use Rattle.nmgc_object.specs.Words.{name_word, IsName}
 use Rattle.nmgc_segment.specs.Segment.{Segment}
 use Rattle.nmgc_alloc.specs.Numbered.{nth, Segments, block_place}
 use Rattle.nmgc_alloc.specs.Segments.{IsSegments, IsClass, HasRoom}
-use Rattle.nmgc_alloc.specs.AllocState.{AllocState, Places}
+use Rattle.nmgc_alloc.specs.AllocState.{AllocState, PlacesName}
 use Rattle.nmgc_alloc.specs.Stands.{StandsFor, Writes}
 use Rattle.nmgc_alloc.specs.Reserve.{KeepsReserve}
 use Rattle.nmgc_alloc.specs.laws.Placing.{placed_stands}
@@ -162,7 +162,7 @@ stands_one s new words maker m sound after p names old long h =
     } in
     let placed = placed_stands s new names (set names (m.to.0 + 1) (name_word m.name)) old maker p.class m.to.0 m.name p.valid sound after h
     p.allocates writes in
-    let step = subst (λ (k : ℕ). (step : Places s.layout old placed.0 k p.class m.name) ×
+    let step = subst (λ (k : ℕ). (step : PlacesName s.layout old placed.0 k p.class m.name) ×
     (m.to.0 ≡ block_place s.layout step.number p.class step.block)) (sym p.made) (placed.1, placed.2) in
     (placed.0, (placed.0, p.class, step.0, p.class_is, step.1, refl), placed.3)
 

@@ -12,7 +12,7 @@ use Rattle.nmgc_object.specs.declared.layout.TheConstants.{SHARED_PLACE}
 use Rattle.nmgc_object.specs.declared.size.TheConstants.{HEADER_WORDS, NAME_OFFSET}
 use Rattle.nmgc_alloc.specs.Numbered.{Segments, block_place}
 use Rattle.nmgc_alloc.specs.Segments.{Allocates}
-use Rattle.nmgc_alloc.specs.AllocState.{AllocState, Places}
+use Rattle.nmgc_alloc.specs.AllocState.{AllocState, PlacesName}
 use Rattle.nmgc_alloc.specs.Stands.{StandsFor}
 use Rattle.nmgc_alloc.specs.Reserve.{KeepsReserve}
 use Rattle.nmgc_blocks_spec.specs.Nurseries.{nursery_at}
@@ -92,7 +92,7 @@ with_names words (m ∷ moves) = with_names (slice_set words (m.to.0 + NAME_OFFS
 abbrev pub PlacesEach : Layout → List ℕ → AllocState → List Move → AllocState → Type 0
 PlacesEach layout words old [] new = old ≡ new
 PlacesEach layout words old (m ∷ moves) new =
-    (mid : AllocState) × (class : ℕ) × (step : Places layout old mid m.name.maker class m.name)
+    (mid : AllocState) × (class : ℕ) × (step : PlacesName layout old mid m.name.maker class m.name)
     × IsClassAt words m.from.0 class × (m.to.0 ≡ block_place layout step.number class step.block) × PlacesEach layout words mid moves new
 
 -- segments that stood for an allocation state stand for the one after the placings, once the new blocks have their names

@@ -10,7 +10,7 @@
 //! Easy to get wrong: places count from the first word that is left, and not from the first that was ever added.
 ghost use Rattle.std.specs.Prelude.{◌≡◌, ◌+◌, ◌-◌, ◌<◌, ◌≤◌, [], ◌∷◌, ◌++◌, length, drop, slice_get, slice_set, OnOk, OnErr};
 
-use nmgc_lists::{List, NoMemory, Place};
+use nmgc_lists::{List, NoMemory, ListMemory};
 use std::alloc::Global;
 use std::marker::Model;
 
@@ -105,7 +105,7 @@ impl FinQueue {
     }
 
     /// The words in order, as a list, which lies in `place`. Takes no memory.
-    pub fn into_list(self, place: Place<u64>) -> List<u64>
+    pub fn into_list(self, place: ListMemory<u64>) -> List<u64>
         ensures { result ≡ self.words }
     {
         let FinQueue { words, first } = self;

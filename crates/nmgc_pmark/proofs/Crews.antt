@@ -14,7 +14,7 @@ use Rattle.nmgc_lists.specs.Room.{Room}
 use Rattle.nmgc_object.specs.declared.words.Address.{Address}
 use Rattle.nmgc_pmark.specs.declared.table.ClaimTable.{ClaimTable}
 use Rattle.nmgc_pmark.specs.declared.marker.Marker.{Marker}
-use Rattle.nmgc_pmark.specs.View.{Part, Seen, blank, blanks, whole, together, keeps_rest, gives_first}
+use Rattle.nmgc_pmark.specs.View.{Part, ClaimsSeen, blank, blanks, whole, together, keeps_rest, gives_first}
 use Rattle.nmgc_pmark.specs.Rule.{CanSplit, HasAll, IsShared}
 use Rattle.nmgc_pmark.specs.Seat.{seen, bounds_of}
 use Rattle.nmgc_pmark.specs.Found.{IsFound, IsIn, block_index, blocks_of, CanMark}
@@ -28,7 +28,7 @@ blanks_above n zero j k q h e = absurd (some-ne-none q (sym e))
 blanks_above n (suc m) j zero q h e = subst (λ (r : Part). j < r.number) (some-injective (blank n) q e) h
 blanks_above n (suc m) j (suc k) q h e = blanks_above (suc n) m j k q (omega (arith, h)) e
 
-abbrev pub rest_from : ℕ → ℕ → Seen
+abbrev pub rest_from : ℕ → ℕ → ClaimsSeen
 rest_from n m = record { parts = blanks n m; others = [] }
 
 pub can_split : (n m : ℕ) → CanSplit (rest_from n (suc m))
@@ -65,7 +65,7 @@ module _ {A : Type 0} where
   at_mapped f (x ∷ xs) (suc k) y e = at_mapped f xs k y e
 
 -- a seat with the parts of these markers, which knows what each of them found claimed
-pub record Gathers (v : Seen) (ms : List Marker) : Type 0 where
+pub record Gathers (v : ClaimsSeen) (ms : List Marker) : Type 0 where
   pub has : (k : ℕ) (m : Marker) → slice_get ms k ≡ Some m → (i : ℕ) × (get_elem? v.parts i ≡ some (part_of m))
   pub only : (i : ℕ) (p : Part) → get_elem? v.parts i ≡ some p → (k : ℕ) × (m : Marker) × (slice_get ms k ≡ Some m) × (p ≡ part_of m)
   pub others : (k : ℕ) (m : Marker) (b : ℕ) → slice_get ms k ≡ Some m → Contains (seen m.seat).others b → Contains v.others b
@@ -90,10 +90,10 @@ gathers_one m alone = record {
     others_one zero x b e c = let same : m ≡ x = cc in subst (λ (y : Marker). Contains (seen y.seat).others b) (sym same) c
     others_one (suc k) x b e c = absurd (cc)
 
-pub gathers_more : (v : Seen) (ms : List Marker) (m : Marker) → Gathers v ms → (seen m.seat).parts ≡ part_of m ∷ [] →
+pub gathers_more : (v : ClaimsSeen) (ms : List Marker) (m : Marker) → Gathers v ms → (seen m.seat).parts ≡ part_of m ∷ [] →
     Gathers (together v (seen m.seat)) (ms ++ m ∷ [])
 gathers_more v ms m g alone =
-    let w : Seen = seen m.seat in
+    let w : ClaimsSeen = seen m.seat in
     record {
       has = λ k x e. elim (at_push ms m x k e) [
         | inl old ↦ let t = g.has k x old in (t.0, at_longer v.parts w.parts t.0 (part_of x) t.1)
@@ -122,7 +122,7 @@ first_last xs x m (suc k) e = (k, at_front xs (x ∷ []) m k e)
 pub numbered : (crew : List Marker) → AreNumbered crew → (k : ℕ) (m : Marker) → slice_get crew k ≡ Some m → m.number ≡ k
 numbered crew numbers k m e = subst (λ (x : Marker). x.number ≡ k) (get_or_from_slice_get crew k m m e) (numbers k m (slice_get_within crew k m e))
 
-module _ (crew xs : List Marker) (x : Marker) (is : crew ≡ xs ++ x ∷ []) (v : Seen) (g : Gathers v (x ∷ xs)) where
+module _ (crew xs : List Marker) (x : Marker) (is : crew ≡ xs ++ x ∷ []) (v : ClaimsSeen) (g : Gathers v (x ∷ xs)) where
   -- the gathered seat has every part
   pub has_all : (markers : ℕ) → AreNumbered crew → length crew ≡ markers → HasAll markers v
   has_all markers numbers count m lt =
@@ -228,17 +228,17 @@ module _ (t : ClaimTable) (words starts : List ℕ) (markers : ℕ) (crew : List
 pub first_rest : (markers : ℕ) → 1 ≤ markers → whole markers ≡ rest_from 0 (suc (markers - 1))
 first_rest markers some_ = let e : markers ≡ suc (markers - 1) = omega (arith, some_) in ap (λ (m : ℕ). rest_from 0 m) e
 
-pub next_rest : (v : Seen) (n m n' m' : ℕ) → v ≡ rest_from n (suc m) → n' ≡ suc n → suc m' ≡ m → keeps_rest v ≡ rest_from n' (suc m')
+pub next_rest : (v : ClaimsSeen) (n m n' m' : ℕ) → v ≡ rest_from n (suc m) → n' ≡ suc n → suc m' ≡ m → keeps_rest v ≡ rest_from n' (suc m')
 next_rest v n m n' m' is e f = ap keeps_rest is ∙ ap (λ (k : ℕ). rest_from k m) (sym e) ∙ ap (λ (k : ℕ). rest_from n' k) (sym f)
 
-pub first_blank : (v : Seen) (n m : ℕ) → v ≡ rest_from n (suc m) → (gives_first v).parts ≡ blank n ∷ []
-first_blank v n m is = ap (λ (w : Seen). (gives_first w).parts) is
+pub first_blank : (v : ClaimsSeen) (n m : ℕ) → v ≡ rest_from n (suc m) → (gives_first v).parts ≡ blank n ∷ []
+first_blank v n m is = ap (λ (w : ClaimsSeen). (gives_first w).parts) is
 
-pub last_blank : (v : Seen) (n m : ℕ) → v ≡ rest_from n (suc m) → m ≡ 0 → v.parts ≡ blank n ∷ []
-last_blank v n m is none = ap (λ (w : Seen). w.parts) is ∙ ap (λ (k : ℕ). blanks n (suc k)) none
+pub last_blank : (v : ClaimsSeen) (n m : ℕ) → v ≡ rest_from n (suc m) → m ≡ 0 → v.parts ≡ blank n ∷ []
+last_blank v n m is none = ap (λ (w : ClaimsSeen). w.parts) is ∙ ap (λ (k : ℕ). blanks n (suc k)) none
 
-pub split_rest : (v : Seen) (n m : ℕ) → v ≡ rest_from n (suc m) → CanSplit v
-split_rest v n m is = subst (λ (w : Seen). CanSplit w) (sym is) (can_split n m)
+pub split_rest : (v : ClaimsSeen) (n m : ℕ) → v ≡ rest_from n (suc m) → CanSplit v
+split_rest v n m is = subst (λ (w : ClaimsSeen). CanSplit w) (sym is) (can_split n m)
 
 -- the marker that comes is one of them
 module _ (all before : List Marker) (last : Marker) (is : all ≡ before ++ last ∷ []) where

@@ -10,8 +10,8 @@ use prog.Atomic.{either}
 use Rattle.atomic_table.specs.Table.{State, Me, Allows, Splits, Joins, Final, Seen as SeenIn, keeps}
 use Rattle.atomic_table.proofs.Lists.{at_set, set_here, set_else, at_longer, at_last}
 use Rattle.nmgc_pmark.specs.declared.bounds.Bounds.{Bounds}
-use Rattle.nmgc_pmark.specs.View.{Part, Seen, claiming, first_changed, tried, claimed_in, claimed_by, blank, blanks, whole, nobody, but_first, first_alone, keeps_rest, gives_first, together}
-use Rattle.nmgc_pmark.specs.Rule.{IsListed, Agrees, Keeps, IsMarker, CanSplit, HasAll, IsShared}
+use Rattle.nmgc_pmark.specs.View.{Part, ClaimsSeen, claiming, first_changed, tried, claimed_in, claimed_by, blank, blanks, whole, nobody, but_first, first_alone, keeps_rest, gives_first, together}
+use Rattle.nmgc_pmark.specs.Rule.{IsListed, Agrees, KeepsClaims, IsMarker, CanSplit, HasAll, IsShared}
 use Rattle.nmgc_lists.specs.laws.Items.{nothing_in as nothing, word_again}
 
 module _ {A : Type 0} where
@@ -50,18 +50,18 @@ is_old : (a b x y : ℕ) → a ≢ b → cond (eqb a b) x y ≡ y
 is_old a b x y n = ap (λ t. cond t x y) (ne_eqb a b n)
 
 module _ (bounds : Bounds) where
-  abbrev pub holds : State (Unit {0}) Seen → Type 0
-  holds s = Keeps bounds s.words s.views
+  abbrev pub holds : State (Unit {0}) ClaimsSeen → Type 0
+  holds s = KeepsClaims bounds s.words s.views
 
   -- a seat with no part agrees with everything
   nobody_agrees : (words : List ℕ) (owner : ℕ → ℕ) (id : ℕ) → Agrees bounds words owner id nobody
   nobody_agrees words owner id = record { parts = λ k p e. absurd (some-ne-none p (sym e)); others = λ b c. absurd (nothing b c) }
 
   -- the same view at the same seat
-  one_view : (views : List Seen) (i j : ℕ) (v w : Seen) → get_elem? views i ≡ some v → get_elem? views j ≡ some w → j ≡ i → w ≡ v
+  one_view : (views : List ClaimsSeen) (i j : ℕ) (v w : ClaimsSeen) → get_elem? views i ≡ some v → get_elem? views j ≡ some w → j ≡ i → w ≡ v
   one_view views i j v w e f s = some-injective w v (sym f ∙ ap (λ k. get_elem? views k) s ∙ e)
 
-  module _ (words : List ℕ) (views : List Seen) (h : Keeps bounds words views) (id : ℕ) (v : Seen) (here : get_elem? views id ≡
+  module _ (words : List ℕ) (views : List ClaimsSeen) (h : KeepsClaims bounds words views) (id : ℕ) (v : ClaimsSeen) (here : get_elem? views id ≡
       some v) (p : Part) (alone : v.parts ≡ p ∷ []) (i : ℕ) where
     mine : (h.owner p.number ≡ id) × (p.number < bounds.markers) × ((b : ℕ) → Contains p.claimed b → slice_index words b ≡ p.number + 1)
     mine = (h.agrees id v here).parts 0 p (ap (λ l. get_elem? l 0) alone)
@@ -84,7 +84,7 @@ module _ (bounds : Bounds) where
       abbrev taken : Part
       taken = claiming i p
 
-      abbrev after : Seen
+      abbrev after : ClaimsSeen
       after = tried v i true
 
       same_word : (b : ℕ) → slice_index words b ≢ 0 → slice_index now_ b ≡ slice_index words b
@@ -117,7 +117,7 @@ module _ (bounds : Bounds) where
       at_seat : get_elem? (set views id after) id ≡ some after
       at_seat = set_here views id after (inside views id v here)
 
-      listed_now : (b number : ℕ) → slice_index now_ b ≡ number + 1 → (j : ℕ) × (x : Seen) × (get_elem? (set views id after) j ≡ some x) × IsListed x number b
+      listed_now : (b number : ℕ) → slice_index now_ b ≡ number + 1 → (j : ℕ) × (x : ClaimsSeen) × (get_elem? (set views id after) j ≡ some x) × IsListed x number b
       listed_now b number e = ⊎_elim
           (λ (s : b ≡ i).
           let f : slice_index now_ b ≡ slice_index now_ i = ap (λ k. slice_index now_ k) s in
@@ -128,19 +128,19 @@ module _ (bounds : Bounds) where
           let old = h.listed b number (sym (get_or-set_other words i b (p.number + 1) 0 n) ∙ e) in
           ⊎_elim
           (λ (s : old.0 ≡ id).
-          let l : IsListed v number b = subst (λ (x : Seen). IsListed x number b) (one_view views id old.0 v old.1 here old.2 s) old.3 in
+          let l : IsListed v number b = subst (λ (x : ClaimsSeen). IsListed x number b) (one_view views id old.0 v old.1 here old.2 s) old.3 in
           let o = own number b l in
           (id, after, at_seat, after_lists number b o.0 (Contains-append_left p.claimed (i ∷ []) b o.1)))
           (λ (m : old.0 ≢ id). (old.0, old.1, set_else views id old.0 after m ∙ old.2, old.3))
           (cases_eq old.0 id))
           (cases_eq b i)
 
-      pub claimed_keeps : Keeps bounds now_ (set views id after)
+      pub claimed_keeps : KeepsClaims bounds now_ (set views id after)
       claimed_keeps = record {
         size = length-set words i (p.number + 1) ∙ h.size;
         owner = h.owner;
         agrees = λ j u at. ⊎_elim
-            (λ (t : (j ≡ id) × (after ≡ u)). subst (λ (y : ℕ × Seen). Agrees bounds now_ h.owner y.0 y.1) (λ k. (sym t.0 k, t.1 k)) after_agrees)
+            (λ (t : (j ≡ id) × (after ≡ u)). subst (λ (y : ℕ × ClaimsSeen). Agrees bounds now_ h.owner y.0 y.1) (λ k. (sym t.0 k, t.1 k)) after_agrees)
             (λ (t : (j ≢ id) × (get_elem? views j ≡ some u)). let f = h.agrees j u t.1 in record {
               parts = λ k r e. let g = f.parts k r e in (g.0, g.1, λ b c. kept b r.number (g.2 b c));
               others = λ b c z. let ne = f.others b c in ne (sym (same_word b ne) ∙ z);
@@ -151,18 +151,18 @@ module _ (bounds : Bounds) where
 
     -- somebody had it
     module _ (had : slice_index words i ≢ 0) where
-      abbrev refused : Seen
+      abbrev refused : ClaimsSeen
       refused = tried v i false
 
       refused_at : get_elem? (set views id refused) id ≡ some refused
       refused_at = set_here views id refused (inside views id v here)
 
-      pub refused_keeps : Keeps bounds words (set views id refused)
+      pub refused_keeps : KeepsClaims bounds words (set views id refused)
       refused_keeps = record {
         size = h.size;
         owner = h.owner;
         agrees = λ j u at. ⊎_elim
-            (λ (t : (j ≡ id) × (refused ≡ u)). subst (λ (y : ℕ × Seen). Agrees bounds words h.owner y.0 y.1) (λ k. (sym t.0 k, t.1 k)) (record {
+            (λ (t : (j ≡ id) × (refused ≡ u)). subst (λ (y : ℕ × ClaimsSeen). Agrees bounds words h.owner y.0 y.1) (λ k. (sym t.0 k, t.1 k)) (record {
               parts = (h.agrees id v here).parts;
               others = λ b c. ⊎_elim (λ (d : Contains v.others b). (h.agrees id v here).others b d) (λ (e : i ≡ b) z.
                   had (ap (λ k. slice_index words k) e ∙ z)) (Contains-push_cases v.others i b c);
@@ -173,26 +173,26 @@ module _ (bounds : Bounds) where
             let old = h.listed b number e in
             ⊎_elim
             (λ (s : old.0 ≡ id).
-            let l : IsListed v number b = subst (λ (x : Seen). IsListed x number b) (one_view views id old.0 v old.1 here old.2 s) old.3 in
+            let l : IsListed v number b = subst (λ (x : ClaimsSeen). IsListed x number b) (one_view views id old.0 v old.1 here old.2 s) old.3 in
             (id, refused, refused_at, record { place = l.place; part = l.part; there = l.there; is = l.is; claimed = l.claimed }))
             (λ (m : old.0 ≢ id). (old.0, old.1, set_else views id old.0 refused m ∙ old.2, old.3))
             (cases_eq old.0 id);
       }
 
   -- a block's word is compared with 0 and exchanged
-  module _ (slots id : ℕ) (me : Me (Unit {0}) Seen) (bare : me.1 ≡ []) (marker i : ℕ) (is : IsMarker me.0 marker) (within : i < bounds.blocks) where
-    step_as : (s : State (Unit {0}) Seen) → holds s → get_elem? s.views id ≡ some me.0 → (hit : Bool) → eqb (slice_index s.words i) 0 ≡ hit →
-        Keeps bounds (set s.words i (either hit (marker + 1) (slice_index s.words i))) (set s.views id (tried me.0 i hit))
+  module _ (slots id : ℕ) (me : Me (Unit {0}) ClaimsSeen) (bare : me.1 ≡ []) (marker i : ℕ) (is : IsMarker me.0 marker) (within : i < bounds.blocks) where
+    step_as : (s : State (Unit {0}) ClaimsSeen) → holds s → get_elem? s.views id ≡ some me.0 → (hit : Bool) → eqb (slice_index s.words i) 0 ≡ hit →
+        KeepsClaims bounds (set s.words i (either hit (marker + 1) (slice_index s.words i))) (set s.views id (tried me.0 i hit))
     step_as s h here true e =
         let long = h.size in
-        subst (λ k. Keeps bounds (set s.words i (k + 1)) (set s.views id (tried me.0 i true))) is.2
+        subst (λ k. KeepsClaims bounds (set s.words i (k + 1)) (set s.views id (tried me.0 i true))) is.2
         (claimed_keeps s.words s.views h id me.0 here is.0 is.1 i (omega (arith, within, long)) (hit_is s.words e))
       where
         hit_is : (ws : List ℕ) → eqb (slice_index ws i) 0 ≡ true → slice_index ws i ≡ 0
         hit_is ws t = ⊎_elim (λ (z : slice_index ws i ≡ 0). z) (λ (n : slice_index ws i ≢ 0).
             absurd (true≢false (sym t ∙ ne_eqb (slice_index ws i) 0 n))) (cases_eq (slice_index ws i) 0)
     step_as s h here false e =
-        subst (λ (ws : List ℕ). Keeps bounds ws (set s.views id (tried me.0 i false))) (sym (word_again s.words i))
+        subst (λ (ws : List ℕ). KeepsClaims bounds ws (set s.views id (tried me.0 i false))) (sym (word_again s.words i))
         (refused_keeps s.words s.views h id me.0 here is.0 is.1 i (λ z. true≢false (sym (eq-eqb (slice_index s.words i) 0 z) ∙ e)))
 
     pub claim_allows : Allows holds slots id me i (λ n. either (eqb n 0) (marker + 1) n) (λ n m. ((m.0 ≡ tried me.0 i (eqb n 0)) ×
@@ -203,7 +203,7 @@ module _ (bounds : Bounds) where
         (tried me.0 i hit, keeps, tt, step_as s h here hit refl, ((refl, fresh s.words s.views h id me.0 here is.0 is.1 i), bare))
 
   -- a seat gives its first marker to a new seat
-  split_listed : (v : Seen) (p : Part) (ps : List Part) → v.parts ≡ p ∷ ps → (number b : ℕ) → IsListed v number b →
+  split_listed : (v : ClaimsSeen) (p : Part) (ps : List Part) → v.parts ≡ p ∷ ps → (number b : ℕ) → IsListed v number b →
       IsListed (gives_first v) number b ⊎ IsListed (keeps_rest v) number b
   split_listed v p ps e number b l = go l.place (ap (λ k. get_elem? k l.place) (sym e) ∙ l.there)
     where
@@ -211,7 +211,7 @@ module _ (bounds : Bounds) where
       go zero a = inl (record { place = 0; part = l.part; there = ap (λ q. get_elem? (first_alone q) 0) e ∙ a; is = l.is; claimed = l.claimed })
       go (suc k) a = inr (record { place = k; part = l.part; there = ap (λ q. get_elem? (but_first q) k) e ∙ a; is = l.is; claimed = l.claimed })
 
-  pub splits : (id : ℕ) (v : Seen) → CanSplit v → Splits holds id v (keeps_rest v) (gives_first v)
+  pub splits : (id : ℕ) (v : ClaimsSeen) → CanSplit v → Splits holds id v (keeps_rest v) (gives_first v)
   splits id v can s h here =
       let n : ℕ = length s.views in
       let p = can.0 in
@@ -227,7 +227,7 @@ module _ (bounds : Bounds) where
         owner = owner;
         agrees = λ j u at. ⊎_elim
             (λ (t : (j < length (set s.views id left)) × (get_elem? (set s.views id left) j ≡ some u)). ⊎_elim
-            (λ (x : (j ≡ id) × (left ≡ u)). subst (λ (y : ℕ × Seen). Agrees bounds s.words owner y.0 y.1) (λ i. (sym x.0 i, x.1 i)) (record {
+            (λ (x : (j ≡ id) × (left ≡ u)). subst (λ (y : ℕ × ClaimsSeen). Agrees bounds s.words owner y.0 y.1) (λ i. (sym x.0 i, x.1 i)) (record {
               parts = λ k q e.
                   let e' : get_elem? ps k ≡ some q = ap (λ l. get_elem? l k) (sym (ap but_first can.2)) ∙ e in
                   let f = g.parts (suc k) q (ap (λ l. get_elem? l (suc k)) can.2 ∙ e') in
@@ -245,7 +245,7 @@ module _ (bounds : Bounds) where
             })
             (at_set s.views id j left u t.1))
             (λ (t : (j ≡ length (set s.views id left)) × (right ≡ u)).
-            subst (λ (y : ℕ × Seen). Agrees bounds s.words owner y.0 y.1) (λ i. (sym (t.0 ∙ short) i, t.1 i)) (record {
+            subst (λ (y : ℕ × ClaimsSeen). Agrees bounds s.words owner y.0 y.1) (λ i. (sym (t.0 ∙ short) i, t.1 i)) (record {
               parts = λ k q e. only_one (λ (r : Part). (cond (eqb r.number p.number) n (h.owner r.number) ≡ n) × (r.number < bounds.markers) ×
                   ((b : ℕ) → Contains r.claimed b → slice_index s.words b ≡ r.number + 1)) p (
                     is_new p.number p.number n (h.owner p.number) refl,
@@ -259,7 +259,7 @@ module _ (bounds : Bounds) where
             let old = h.listed b number e in
             ⊎_elim
             (λ (x : old.0 ≡ id).
-            let l : IsListed v number b = subst (λ (y : Seen). IsListed y number b) (one_view s.views id old.0 v old.1 here old.2 x) old.3 in
+            let l : IsListed v number b = subst (λ (y : ClaimsSeen). IsListed y number b) (one_view s.views id old.0 v old.1 here old.2 x) old.3 in
             ⊎_elim
             (λ (f : IsListed right number b). (n, right, at_last (set s.views id left) right n short, f))
             (λ (f : IsListed left number b). (
@@ -275,9 +275,9 @@ module _ (bounds : Bounds) where
       }
 
   -- a seat takes in another's parts
-  pub joins : (id : ℕ) (v : Seen) (other : ℕ) (w : Seen) → Joins holds id v other w (together v w) nobody
+  pub joins : (id : ℕ) (v : ClaimsSeen) (other : ℕ) (w : ClaimsSeen) → Joins holds id v other w (together v w) nobody
   joins id v other w s h here apart at =
-      let both : Seen = together v w in
+      let both : ClaimsSeen = together v w in
       let there : get_elem? s.views other ≡ some w = ⊎_elim (λ (t : (other ≡ id) × (both ≡ w)). absurd (apart t.0)) (λ (t : (other ≢ id) ×
       (get_elem? s.views other ≡ some w)). t.1) (at_set s.views id other both w at) in
       let owner : ℕ → ℕ = λ k. cond (eqb (h.owner k) other) id (h.owner k) in
@@ -289,12 +289,12 @@ module _ (bounds : Bounds) where
         size = h.size;
         owner = owner;
         agrees = λ j u a. ⊎_elim
-            (λ (x : (j ≡ other) × (nobody ≡ u)). subst (λ (y : ℕ × Seen). Agrees bounds s.words owner y.0 y.1) (λ i. (
+            (λ (x : (j ≡ other) × (nobody ≡ u)). subst (λ (y : ℕ × ClaimsSeen). Agrees bounds s.words owner y.0 y.1) (λ i. (
               sym x.0 i,
               x.1 i,
             )) (nobody_agrees s.words owner other))
             (λ (x : (j ≢ other) × (get_elem? (set s.views id both) j ≡ some u)). ⊎_elim
-            (λ (y : (j ≡ id) × (both ≡ u)). subst (λ (z : ℕ × Seen). Agrees bounds s.words owner z.0 z.1) (λ i. (sym y.0 i, y.1 i)) (record {
+            (λ (y : (j ≡ id) × (both ≡ u)). subst (λ (z : ℕ × ClaimsSeen). Agrees bounds s.words owner z.0 z.1) (λ i. (sym y.0 i, y.1 i)) (record {
               parts = λ k q e. ⊎_elim
                   (λ (t : get_elem? v.parts k ≡ some q). let r = f.parts k q t in
                   (is_old (h.owner q.number) other id (h.owner q.number) (λ (e' : h.owner q.number ≡ other). apart (sym e' ∙ r.0)) ∙ r.0, r.1, r.2))
@@ -319,7 +319,7 @@ module _ (bounds : Bounds) where
             let old = h.listed b number e in
             ⊎_elim
             (λ (x : old.0 ≡ id).
-            let l : IsListed v number b = subst (λ (y : Seen). IsListed y number b) (one_view s.views id old.0 v old.1 here old.2 x) old.3 in (
+            let l : IsListed v number b = subst (λ (y : ClaimsSeen). IsListed y number b) (one_view s.views id old.0 v old.1 here old.2 x) old.3 in (
               id,
               both,
               mine,
@@ -333,7 +333,7 @@ module _ (bounds : Bounds) where
             ))
             (λ (m : old.0 ≢ id). ⊎_elim
             (λ (x : old.0 ≡ other).
-            let l : IsListed w number b = subst (λ (y : Seen). IsListed y number b) (one_view s.views other old.0 w old.1 there old.2 x) old.3 in
+            let l : IsListed w number b = subst (λ (y : ClaimsSeen). IsListed y number b) (one_view s.views other old.0 w old.1 there old.2 x) old.3 in
             let t = at_later v.parts w.parts l.place l.part l.there in
             (id, both, mine, record { place = t.0; part = l.part; there = t.1; is = l.is; claimed = l.claimed }))
             (λ (k : old.0 ≢ other). (old.0, old.1, set_else (set s.views id both) other old.0 nobody k ∙ set_else s.views id old.0 both m ∙ old.2, old.3))
@@ -352,7 +352,7 @@ module _ (bounds : Bounds) where
   blanks_at n (suc m) zero p e = subst (λ (q : Part). (q.number < n + suc m) × (q.claimed ≡ [])) (some-injective (blank n) p e) ((omega arith), refl)
   blanks_at n (suc m) (suc k) p e = let t = blanks_at (suc n) m k p e in let lt = t.0 in ((omega arith), t.1)
 
-  pub begins : Keeps bounds (replicate bounds.blocks 0) (whole bounds.markers ∷ [])
+  pub begins : KeepsClaims bounds (replicate bounds.blocks 0) (whole bounds.markers ∷ [])
   begins = record {
     size = length-replicate bounds.blocks 0;
     owner = λ k. 0;
@@ -360,8 +360,8 @@ module _ (bounds : Bounds) where
     listed = λ b number e. let z = zeros bounds.blocks b in absurd (omega (arith, e, z));
   }
     where
-      first : (id : ℕ) (v : Seen) → get_elem? (whole bounds.markers ∷ []) id ≡ some v → Agrees bounds (replicate bounds.blocks 0) (λ k. 0) id v
-      first zero v e = subst (λ (u : Seen). Agrees bounds (replicate bounds.blocks 0) (λ k. 0) 0 u) (some-injective (whole bounds.markers) v e) (record {
+      first : (id : ℕ) (v : ClaimsSeen) → get_elem? (whole bounds.markers ∷ []) id ≡ some v → Agrees bounds (replicate bounds.blocks 0) (λ k. 0) id v
+      first zero v e = subst (λ (u : ClaimsSeen). Agrees bounds (replicate bounds.blocks 0) (λ k. 0) 0 u) (some-injective (whole bounds.markers) v e) (record {
         parts = λ k p e'. let t = blanks_at 0 bounds.markers k p e' in
             (refl, (let lt = t.0 in omega arith), λ b c. absurd (nothing b (subst (λ (l : List ℕ). Contains l b) t.1 c)));
         others = λ b c. absurd (nothing b c);
@@ -369,7 +369,7 @@ module _ (bounds : Bounds) where
       first (suc id) v e = absurd (some-ne-none v (sym e))
 
   -- a seat with every part knows where each block is
-  module _ (s : State (Unit {0}) Seen) (h : holds s) (id : ℕ) (v : Seen) (here : get_elem? s.views id ≡ some v) (all : HasAll bounds.markers v) where
+  module _ (s : State (Unit {0}) ClaimsSeen) (h : holds s) (id : ℕ) (v : ClaimsSeen) (here : get_elem? s.views id ≡ some v) (all : HasAll bounds.markers v) where
     all_here : (number b : ℕ) → slice_index s.words b ≡ number + 1 → (k : ℕ) × (p : Part) × (get_elem? v.parts k ≡ some p) × Contains p.claimed b
     all_here number b e =
         let old = h.listed b number e in
@@ -378,7 +378,7 @@ module _ (bounds : Bounds) where
         let t = all l.part.number r.1 in
         let q = (h.agrees id v here).parts t.0 t.1 t.2 in
         let same : old.0 ≡ id = sym r.0 ∙ ap h.owner (sym t.3) ∙ q.0 in
-        let k : IsListed v number b = subst (λ (y : Seen). IsListed y number b) (one_view s.views id old.0 v old.1 here old.2 same) l in
+        let k : IsListed v number b = subst (λ (y : ClaimsSeen). IsListed y number b) (one_view s.views id old.0 v old.1 here old.2 same) l in
         (k.place, k.part, k.there, k.claimed)
 
     pub shared : IsShared v
@@ -393,5 +393,5 @@ module _ (bounds : Bounds) where
           omega arith) (cases_eq (slice_index s.words b) 0));
     }
 
-  pub final : (id : ℕ) (v : Seen) (words : List ℕ) (slots : List (Unit {0})) → HasAll bounds.markers v → Final (SeenIn holds id v) words slots → IsShared v
+  pub final : (id : ℕ) (v : ClaimsSeen) (words : List ℕ) (slots : List (Unit {0})) → HasAll bounds.markers v → Final (SeenIn holds id v) words slots → IsShared v
   final id v words slots all f = shared f.0 f.1.0 id v f.1.1 all

@@ -13,7 +13,7 @@ use Rattle.nmgc_object.specs.Words.{header_word, IsHeader}
 use Rattle.nmgc_blocks_spec.specs.Strong.{HasStrong, strong_of}
 use Rattle.nmgc_pmark.specs.declared.table.ClaimTable.{ClaimTable}
 use Rattle.nmgc_pmark.specs.declared.marker.Marker.{Marker}
-use Rattle.nmgc_pmark.specs.View.{Part, Seen, claiming, first_changed, tried, claimed_in, claimed_by}
+use Rattle.nmgc_pmark.specs.View.{Part, ClaimsSeen, claiming, first_changed, tried, claimed_in, claimed_by}
 use Rattle.nmgc_pmark.specs.Rule.{IsMarker}
 use Rattle.nmgc_pmark.specs.Seat.{seen, bounds_of, IsAt}
 use Rattle.nmgc_pmark.specs.Found.{block_index, blocks_of, IsStrongRange, IsAmong}
@@ -188,7 +188,7 @@ module _ (t : ClaimTable) where
         record {
           sound = record {
             seat = seat;
-            alone = ap (λ (v : Seen). v.parts) view ∙ ap (first_changed (claiming b)) h.alone ∙ ap one_part (λ i. (sym number i, sym blocks i));
+            alone = ap (λ (v : ClaimsSeen). v.parts) view ∙ ap (first_changed (claiming b)) h.alone ∙ ap one_part (λ i. (sym number i, sym blocks i));
             once = subst (λ (l : List ℕ). AreDistinct l) (sym blocks) (distinct_push (blocks_of m.found.items) b h.once (λ c.
                 fresh (subst (λ (l : List ℕ). Contains l b) (sym own) c)));
             below = λ k c. elim (Contains-push_cases (blocks_of m.found.items) b k (subst (λ (l : List ℕ). Contains l k) blocks c)) [
@@ -204,7 +204,7 @@ module _ (t : ClaimTable) where
           waits = waiting;
           kept = λ k i. elim i [
             | inl d ↦ inl (subst (λ (l : List ℕ). Contains l k) (sym blocks) (Contains-append_left (blocks_of m.found.items) (b ∷ []) k d))
-            | inr d ↦ inr (subst (λ (v : Seen). Contains v.others k) (sym view) d)
+            | inr d ↦ inr (subst (λ (v : ClaimsSeen). Contains v.others k) (sym view) d)
           ];
           given = λ a c. elim (Contains-push_cases m.found.items new (record { 0 = a }) (subst (λ (xs : List Address).
               Contains xs (record { 0 = a })) found c)) [
@@ -228,7 +228,7 @@ module _ (t : ClaimTable) where
         record {
           sound = record {
             seat = seat;
-            alone = ap (λ (v : Seen). v.parts) view ∙ h.alone ∙ ap one_part (λ i. (sym number i, blocks_of (sym items i)));
+            alone = ap (λ (v : ClaimsSeen). v.parts) view ∙ h.alone ∙ ap one_part (λ i. (sym number i, blocks_of (sym items i)));
             once = subst (λ (xs : List Address). AreDistinct (blocks_of xs)) (sym items) h.once;
             below = λ k c. h.below k (subst (λ (xs : List Address). Contains (blocks_of xs) k) items c);
             room = let r = h.room in omega (arith, r, longs, spares);
@@ -240,11 +240,11 @@ module _ (t : ClaimTable) where
           waits = wait ∙ sym (append-nil m.waiting.items);
           kept = λ k i. elim i [
             | inl d ↦ inl (subst (λ (xs : List Address). Contains (blocks_of xs) k) (sym items) d)
-            | inr d ↦ inr (subst (λ (v : Seen). Contains v.others k) (sym view) (Contains-append_left (seen m.seat).others (b ∷ []) k d))
+            | inr d ↦ inr (subst (λ (v : ClaimsSeen). Contains v.others k) (sym view) (Contains-append_left (seen m.seat).others (b ∷ []) k d))
           ];
           given = λ a c. inl (subst (λ (xs : List Address). Contains xs (record { 0 = a })) items c);
           taken = λ a l e. let s : at ≡ a = omega (arith, e) in
-              inr (subst (λ (j : ℕ). Contains (seen n.seat).others (block_index j)) s (subst (λ (v : Seen).
+              inr (subst (λ (j : ℕ). Contains (seen n.seat).others (block_index j)) s (subst (λ (v : ClaimsSeen).
               Contains v.others b) (sym view) (Contains-push (seen m.seat).others b)));
           conserved = omega (arith, longs, spares);
         }

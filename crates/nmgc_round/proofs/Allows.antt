@@ -13,7 +13,7 @@ use Rattle.nmgc_round.specs.Marking.{marks_after}
 use Rattle.nmgc_round.specs.Rule.{Keeps}
 use Rattle.nmgc_round.specs.Added.{Stays, AddsCommand, AddsIfMet}
 use Rattle.nmgc_round.specs.Ready.{IsMutator, CanScan, scanned_by, first_of, Mutates, CanLoad, CanSwap, CanStore, CanBear}
-use Rattle.nmgc_round.specs.Told.{CanFix, CanTake, taken, Tells, TellsField, TellsQueue, TellsEntry, TellsScan, IsSafe}
+use Rattle.nmgc_round.specs.Told.{CanFix, CanTake, taken, TellsFixed, TellsField, TellsQueue, TellsEntry, TellsScan, IsSafe}
 use Rattle.nmgc_round.proofs.Fixes.{fix_keeps, fix_room, take_keeps, take_safe, queue_safe, load_safe, swap_safe}
 use Rattle.nmgc_round.proofs.Scans.{scan_keeps, scan_tells}
 use Rattle.nmgc_round.proofs.Moves.{load_keeps, swap_keeps, store_keeps, birth_keeps}
@@ -147,7 +147,7 @@ module _ (o : Opening) where
         )
 
     pub fix_allows : (at offset : ℕ) → Mutates (λ o p. CanFix o p at offset) me.0 →
-        Steps (at + offset) (λ n. n) (λ n w. (w ≡ loaded me.0 at offset n) × Tells me.0.opening at offset n)
+        Steps (at + offset) (λ n. n) (λ n w. (w ≡ loaded me.0 at offset n) × TellsFixed me.0.opening at offset n)
     fix_allows at offset can s h len here small =
         let n : ℕ = slice_index s.words (at + offset) in
         let is = (h.agrees id me.0 here).opening (acts me.0 can.0 can.1) in
@@ -156,7 +156,7 @@ module _ (o : Opening) where
           keeps,
           tt,
           unchanged s.words (set s.views id (loaded me.0 at offset n)) (at + offset) (fix_keeps o s.words s.views h id me.0 here can.0 can.1 at offset can').0,
-          ((refl, subst (λ (y : Opening). Tells y at offset n) (sym is) (fix_room o s.words s.views h id me.0 here can.0 can.1 at offset can')), bare),
+          ((refl, subst (λ (y : Opening). TellsFixed y at offset n) (sym is) (fix_room o s.words s.views h id me.0 here can.0 can.1 at offset can')), bare),
         )
 
     pub take_allows : (at offset : ℕ) (c : Command) → Mutates (λ o p. CanTake o p at offset c) me.0 →

@@ -20,7 +20,7 @@ use Rattle.nmgc_round.specs.Rule.{now, IsFixed, Rests, Keeps}
 use Rattle.nmgc_round.specs.Added.{Stays, AddsCommand}
 use Rattle.nmgc_round.specs.Events.{Happening}
 use Rattle.nmgc_round.specs.Ready.{IsMutator, IsReadable, IsWritable, CanLoad, CanSwap, Names}
-use Rattle.nmgc_round.specs.Told.{TellsHeader, TellsName, CanFix, CanTake, taken, told, told_by, Tells, TellsField, TellsQueue, IsSafe}
+use Rattle.nmgc_round.specs.Told.{TellsHeader, TellsName, CanFix, CanTake, taken, told, told_by, TellsFixed, TellsField, TellsQueue, IsSafe}
 use Rattle.nmgc_round.proofs.Standing.{placed}
 use Rattle.nmgc_heap_spec.specs.laws.Headers.{same_header}
 use Rattle.nmgc_round.proofs.Lists.{pointer_means, word_means}
@@ -88,7 +88,7 @@ module _ (o : Opening) (words : List ℕ) (views : List Seen) (h : Keeps o words
   pub fix_keeps : (at offset : ℕ) → CanFix o p at offset → Stays o words views h words (set views id (loaded v at offset (slice_index words (at + offset))))
   fix_keeps at offset can = fixed_keeps o words views h id v here p is at offset (is_fixed at offset can)
 
-  pub fix_room : (at offset : ℕ) → CanFix o p at offset → Tells o at offset (slice_index words (at + offset))
+  pub fix_room : (at offset : ℕ) → CanFix o p at offset → TellsFixed o at offset (slice_index words (at + offset))
   fix_room at offset can = (λ first. header_told first, λ second. name_told second)
     where
       header_told : offset ≡ 0 → TellsHeader o at (slice_index words (at + offset))

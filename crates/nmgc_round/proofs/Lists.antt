@@ -14,7 +14,7 @@ use Rattle.nmgc_object.specs.declared.words.TheConstants.{NIL_WORD}
 use Rattle.nmgc_world_spec.specs.Owed.{names_among}
 use Rattle.nmgc_snapshot_laws.specs.declared.event.Entry.{Entry}
 use Rattle.nmgc_heap_spec.specs.Places.{Place, Means, ListMeans}
-use Rattle.nmgc_round.specs.View.{Answer, plain, word, Row, Scan, word_of}
+use Rattle.nmgc_round.specs.View.{Answer, plain, word, DoneRow, Scan, word_of}
 use Rattle.nmgc_round.specs.Rule.{Answers, AllAnswer, IsRead, AllRead, AreOwed}
 use Rattle.nmgc_round.proofs.Fields.{means_more, list_more}
 
@@ -53,7 +53,7 @@ module _ (P : Place → Type 0) where
   list_append (w ∷ ws) us [] xs h k = absurd h
   list_append (w ∷ ws) us (v ∷ vs) xs h k = (h.0, list_append ws us vs xs h.1 k)
 
-  pub answer_push : (rs : List Row) (xs : List (Command × Reply)) (c : Command) (a : Answer) (r : Reply) → AllAnswer P rs xs → Answers P a r →
+  pub answer_push : (rs : List DoneRow) (xs : List (Command × Reply)) (c : Command) (a : Answer) (r : Reply) → AllAnswer P rs xs → Answers P a r →
       AllAnswer P (rs ++ record { command = c; answer = a } ∷ []) (xs ++ (c, r) ∷ [])
   answer_push [] [] c a r h k = ((refl, k), tt)
   answer_push [] (x ∷ xs) c a r h k = absurd h
@@ -89,7 +89,7 @@ module _ (P Q : Place → Type 0) (more : (p : Place) → P p → Q p) where
   answer_more (plain s) r h = h
   answer_more (word w) r h = (h.0, h.1, means_more P Q more w h.0 h.2)
 
-  pub answers_more : (rs : List Row) (xs : List (Command × Reply)) → AllAnswer P rs xs → AllAnswer Q rs xs
+  pub answers_more : (rs : List DoneRow) (xs : List (Command × Reply)) → AllAnswer P rs xs → AllAnswer Q rs xs
   answers_more [] [] h = tt
   answers_more [] (x ∷ xs) h = absurd h
   answers_more (r ∷ rs) [] h = absurd h

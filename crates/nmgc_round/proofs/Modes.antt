@@ -12,7 +12,7 @@ use Rattle.nmgc_round.specs.Rule.{IsActive, IsIdle, Keeps, Stopped, Holding}
 use Rattle.nmgc_round.specs.Starting.{CanOpen}
 use Rattle.nmgc_round.specs.Finishing.{HasAll, Ended}
 use Rattle.nmgc_round.specs.Ready.{CanScan, scanned_by, Mutates, CanLoad, CanSwap, CanStore, CanBear}
-use Rattle.nmgc_round.specs.Told.{CanFix, CanTake, taken, Tells, TellsField, TellsQueue, TellsScan, IsSafe}
+use Rattle.nmgc_round.specs.Told.{CanFix, CanTake, taken, TellsFixed, TellsField, TellsQueue, TellsScan, IsSafe}
 use Rattle.nmgc_round.proofs.Allows as allows
 use Rattle.nmgc_lists.specs.laws.Items.{word_again as set_again}
 use Rattle.nmgc_round.proofs.Keeping.{acts}
@@ -116,9 +116,9 @@ module _ (slots id : ℕ) (me : Me (Unit {0}) Seen) (bare : me.1 ≡ []) where
       allows.meet_birth_allows o slots id me bare at header c can)
 
   pub fix_allows : (at offset : ℕ) → Mutates (λ o p. CanFix o p at offset) me.0 →
-      Steps (at + offset) (λ n. n) (λ n w. (w ≡ loaded me.0 at offset n) × Tells me.0.opening at offset n)
+      Steps (at + offset) (λ n. n) (λ n w. (w ≡ loaded me.0 at offset n) × TellsFixed me.0.opening at offset n)
   fix_allows at offset can = within (at + offset) (λ n. n) (λ n w. (w ≡ loaded me.0 at offset n) ×
-      Tells me.0.opening at offset n) (acts me.0 can.0 can.1) (λ o. allows.fix_allows o slots id me bare at offset can)
+      TellsFixed me.0.opening at offset n) (acts me.0 can.0 can.1) (λ o. allows.fix_allows o slots id me bare at offset can)
 
   pub take_allows : (at offset : ℕ) (c : Command) → Mutates (λ o p. CanTake o p at offset c) me.0 →
       Steps (at + offset) (λ n. n) (λ n w. (w ≡ taken me.0 at offset c n) × TellsField me.0.opening offset n × Mutates TellsQueue me.0)

@@ -14,7 +14,7 @@ use Rattle.nmgc_world_spec.specs.World.{World}
 use Rattle.nmgc_object.specs.Words.{name_word}
 use Rattle.nmgc_heap_spec.specs.Places.{Place, Means}
 use Rattle.nmgc_round.specs.Events.{done_by}
-use Rattle.nmgc_round.specs.View.{Answer, plain, word, Row, Opening, Part, Seen}
+use Rattle.nmgc_round.specs.View.{Answer, plain, word, DoneRow, Opening, Part, Seen}
 use Rattle.nmgc_round.specs.Objects.{Object, IsIn, place_of}
 use Rattle.nmgc_round.specs.Rule.{now, Answers, AllAnswer}
 use Rattle.nmgc_round.specs.Finishing.{IsFinished}
@@ -54,7 +54,7 @@ module _ (o : Opening) (words : List ℕ) (v : Seen) (h : IsFinished o words v) 
   same_reply (plain x) r s m n = sym m ∙ n.0
   same_reply (word w) r s m n = sym m.1 ∙ ap (λ y. Given y) (same_value w m.0 n.0 m.2 n.2) ∙ n.1
 
-  all_same : (rows : List Row) (xs ys : List (Command × Reply)) → AllAnswer P rows xs → AllReply p.fixed rows ys → xs ≡ ys
+  all_same : (rows : List DoneRow) (xs ys : List (Command × Reply)) → AllAnswer P rows xs → AllReply p.fixed rows ys → xs ≡ ys
   all_same [] [] [] m n = refl
   all_same [] [] (y ∷ ys) m n = absurd n
   all_same [] (x ∷ xs) ys m n = absurd m

@@ -19,7 +19,7 @@ use Rattle.nmgc_world_spec.specs.Owed.{names_among}
 use Rattle.nmgc_heap_spec.specs.Shape.{header_of, size_of, MayChange}
 use Rattle.nmgc_heap_spec.specs.Places.{Place, Means, ListMeans}
 use Rattle.nmgc_round.specs.Events.{Happening, replay, IsLegal, done_by, scans_in}
-use Rattle.nmgc_round.specs.View.{Answer, plain, word, Row, Hand, FixedWord, UnbornWord, Scan, Opening, Part, Seen, exclusive, hand_now}
+use Rattle.nmgc_round.specs.View.{Answer, plain, word, DoneRow, Hand, FixedWord, UnbornWord, Scan, Opening, Part, Seen, exclusive, hand_now}
 use Rattle.nmgc_snapshot_laws.specs.Scan.{fields_of}
 use Rattle.nmgc_world_laws.specs.Holds.{has_result}
 use Rattle.nmgc_heap_spec.specs.Tracked.{IsTracked}
@@ -38,7 +38,7 @@ Answers P (plain r) reply = r ≡ reply
 Answers P (word w) reply = (v : Value) × (Given v ≡ reply) × Means P w v
 
 -- rows say what happened, one by one
-abbrev pub AllAnswer : (Place → Type 0) → List Row → List (Command × Reply) → Type 0
+abbrev pub AllAnswer : (Place → Type 0) → List DoneRow → List (Command × Reply) → Type 0
 AllAnswer P [] [] = Unit {0}
 AllAnswer P [] (x ∷ xs) = ⊥
 AllAnswer P (r ∷ rs) [] = ⊥

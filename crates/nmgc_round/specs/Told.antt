@@ -1,6 +1,6 @@
 -- Commands that take their place at a fixed load of word 1: what they answer, by what the seat knows (`told_by`,
--- `IsTold`, `CanTell`). They read no word that changes. A refusal rests on the header of its object, or on the maker in
--- its name. And what loads tell their caller of the word that they find (`Tells` and what begins so).
+-- `TakesPlace`, `CanTell`). They read no word that changes. A refusal rests on the header of its object, or on the maker in
+-- its name. And what loads tell their caller of the word that they find (`TellsFixed` and what begins so).
 use Rattle.std.specs.Prelude.{◌≡◌, ◌≢◌, ◌⊎◌, ℕ, zero, suc, ◌+◌, ◌<◌, ◌*◌, ◌/◌, ◌%◌, ◌≤◌, ◌==◌, ◌&&◌, nat_le, List, [], ◌∷◌, Contains, Some, slice_get, if◌then◌else◌}
 use Rattle.nmgc_world_spec.specs.declared.value.Name.{Name}
 use Rattle.nmgc_world_spec.specs.declared.node.Node.{Node}
@@ -82,31 +82,31 @@ pub record IsForeign (o : Opening) (p : Part) (object : Operand) : Type 0 where
   pub other : name.maker ≢ p.number
 
 -- a command takes its place there
-abbrev pub IsTold : Opening → Part → Command → Type 0
-IsTold o p (Num dest n) = Unit {0}
-IsTold o p (Nil dest) = Unit {0}
-IsTold o p (Mov dest v) = Unit {0}
-IsTold o p (Get dest object index) = IsRefused o p object (λ header. IsReadable header.kind → header.fields ≤ index)
-IsTold o p (Set object index v) = IsRefused o p object (λ header. IsWritable header.kind → header.fields ≤ index)
-IsTold o p (Cas object index expected v) = IsRefused o p object (λ header. IsWritable header.kind → header.fields ≤ index)
-IsTold o p (Update object v) = IsRefused o p object (λ header. header.kind ≡ kind.Thunk → ⊥)
-IsTold o p (Force dest object) = IsRefused o p object (λ header. header.kind ≡ kind.Thunk → ⊥)
-IsTold o p (Push object v) = IsRefused o p object (λ header. header.kind ≡ kind.Stack → ⊥) ⊎ IsForeign o p object
-IsTold o p (Pop dest object) = IsRefused o p object (λ header. header.kind ≡ kind.Stack → ⊥) ⊎ IsForeign o p object
-IsTold o p (Deref dest object) = IsRefused o p object (λ header. header.kind ≡ kind.Weak → ⊥)
-IsTold o p (Finalise dest object) = IsRefused o p object (λ header. header.kind ≡ kind.Weak → ⊥)
-IsTold o p (NextFin dest) = Unit {0}
-IsTold o p (Show v) = Unit {0}
-IsTold o p (Same left right) = Unit {0}
-IsTold o p Yield = Unit {0}
-IsTold o p Collect = Unit {0}
-IsTold o p Full = Unit {0}
-IsTold o p _ = ⊥
+abbrev pub TakesPlace : Opening → Part → Command → Type 0
+TakesPlace o p (Num dest n) = Unit {0}
+TakesPlace o p (Nil dest) = Unit {0}
+TakesPlace o p (Mov dest v) = Unit {0}
+TakesPlace o p (Get dest object index) = IsRefused o p object (λ header. IsReadable header.kind → header.fields ≤ index)
+TakesPlace o p (Set object index v) = IsRefused o p object (λ header. IsWritable header.kind → header.fields ≤ index)
+TakesPlace o p (Cas object index expected v) = IsRefused o p object (λ header. IsWritable header.kind → header.fields ≤ index)
+TakesPlace o p (Update object v) = IsRefused o p object (λ header. header.kind ≡ kind.Thunk → ⊥)
+TakesPlace o p (Force dest object) = IsRefused o p object (λ header. header.kind ≡ kind.Thunk → ⊥)
+TakesPlace o p (Push object v) = IsRefused o p object (λ header. header.kind ≡ kind.Stack → ⊥) ⊎ IsForeign o p object
+TakesPlace o p (Pop dest object) = IsRefused o p object (λ header. header.kind ≡ kind.Stack → ⊥) ⊎ IsForeign o p object
+TakesPlace o p (Deref dest object) = IsRefused o p object (λ header. header.kind ≡ kind.Weak → ⊥)
+TakesPlace o p (Finalise dest object) = IsRefused o p object (λ header. header.kind ≡ kind.Weak → ⊥)
+TakesPlace o p (NextFin dest) = Unit {0}
+TakesPlace o p (Show v) = Unit {0}
+TakesPlace o p (Same left right) = Unit {0}
+TakesPlace o p Yield = Unit {0}
+TakesPlace o p Collect = Unit {0}
+TakesPlace o p Full = Unit {0}
+TakesPlace o p _ = ⊥
 
 -- a mutator may give the command, and it takes its place there
 pub record CanTell (o : Opening) (p : Part) (c : Command) : Type 0 where
   pub gives : CanGive o p c
-  pub told : IsTold o p c
+  pub told : TakesPlace o p c
 
 -- the view after it
 abbrev pub told : Seen → Command → Seen
@@ -145,8 +145,8 @@ pub record TellsName (w : ℕ) : Type 0 where
   pub word_is : w ≡ name_word name
 
 -- what a load of a word that never changes tells of it
-abbrev pub Tells : Opening → ℕ → ℕ → ℕ → Type 0
-Tells o at offset w = (offset ≡ 0 → TellsHeader o at w) × (offset ≡ 1 → TellsName w)
+abbrev pub TellsFixed : Opening → ℕ → ℕ → ℕ → Type 0
+TellsFixed o at offset w = (offset ≡ 0 → TellsHeader o at w) × (offset ≡ 1 → TellsName w)
 
 -- where the word is a pointer, a header and a name are there within the words
 abbrev pub IsSafe : Opening → ℕ → Type 0

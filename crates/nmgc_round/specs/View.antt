@@ -26,7 +26,7 @@ pub data Answer : Type 0 where
   word : ℕ → Answer
 
 -- a command that a mutator did, with its answer
-pub record Row : Type 0 where
+pub record DoneRow : Type 0 where
   pub command : Command
   pub answer : Answer
 
@@ -69,7 +69,7 @@ pub record Opening : Type 0 where
 -- one mutator's part of a view: how many words of its nursery are objects, the words that its swaps found, and those of them that it owes
 pub record Part : Type 0 where
   pub number : ℕ
-  pub rows : List Row
+  pub rows : List DoneRow
   pub found : List ℕ
   pub owed : List ℕ
   pub used : ℕ
@@ -155,7 +155,7 @@ leaves h Yield a = h
 leaves h Collect a = h
 leaves h Full a = h
 
-abbrev pub rows_leave : Hand → List Row → Hand
+abbrev pub rows_leave : Hand → List DoneRow → Hand
 rows_leave h [] = h
 rows_leave h (r ∷ rs) = rows_leave (leaves h r.command r.answer) rs
 

@@ -9,7 +9,7 @@ ghost use Rattle.nmgc_world_spec.specs.declared.command.Command.{Command};
 ghost use Rattle.nmgc_world_spec.specs.declared.command.Command.TheVariants.{Yield};
 ghost use Rattle.nmgc_round.specs.View.{Opening, no_opening, word, answered, swapped, met, met_at_birth, stored, loaded, gave_birth, whole, exclusive, nobody};
 ghost use Rattle.nmgc_round.specs.Ready.{Mutates, scanned_by};
-ghost use Rattle.nmgc_round.specs.Told.{taken, Tells, TellsField, TellsQueue, TellsScan, IsSafe};
+ghost use Rattle.nmgc_round.specs.Told.{taken, TellsFixed, TellsField, TellsQueue, TellsScan, IsSafe};
 ghost use Rattle.nmgc_round.specs.Seating.{keeps_rest, gives_first, mutates, collecting, together};
 ghost use Rattle.nmgc_round.specs.Rule.{Holding};
 ghost use Rattle.nmgc_round.specs.Finishing.{Ended};
@@ -105,7 +105,7 @@ pub struct Fixes<A> {
 }
 
 impl<A: Located> Play<(), View> for Fixes<A> {
-    ghost then = { λ s m n w. ((w.0 ≡ loaded m.0 A.at A.offset n) × Tells m.0.opening A.at A.offset n) × (w.1 ≡ []) };
+    ghost then = { λ s m n w. ((w.0 ≡ loaded m.0 A.at A.offset n) × TellsFixed m.0.opening A.at A.offset n) × (w.1 ≡ []) };
 }
 
 /// A word that never changes is loaded by a command.

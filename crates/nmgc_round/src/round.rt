@@ -19,7 +19,7 @@ use crate::plays::{Begun, Ends, Opens};
 use crate::table::{CollectorSeat, Finished, MutatorSeat, Round, Shared, Started};
 use crate::view::Opened;
 use crate::words::Words;
-use nmgc_lists::{List, Place};
+use nmgc_lists::{List, ListMemory};
 use nmgc_object::Layout;
 use std::marker::Brand;
 
@@ -75,7 +75,7 @@ impl Round {
         marking: bool,
         opening: &Chosen<Opened>,
         room: Vec<MutatorSeat>,
-        place: Place<MutatorSeat>,
+        place: ListMemory<MutatorSeat>,
     ) -> Started
         requires opens { CanOpen opening.now.value words }
         requires layout { layout ≡ opening.now.value.layout }

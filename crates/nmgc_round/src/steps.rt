@@ -19,7 +19,7 @@ ghost use Rattle.std.specs.Prelude.{◌≡◌, ◌+◌, ◌<◌, MatchOption, If
 ghost use Rattle.nmgc_object.specs.declared.size.TheConstants.{HEADER_WORDS};
 ghost use Rattle.nmgc_round.specs.View.{word, loaded, answered, swapped, met, met_at_birth, stored, gave_birth};
 ghost use Rattle.nmgc_round.specs.Ready.{Mutates, CanScan, scanned_by, CanLoad, CanSwap, CanStore, CanBear};
-ghost use Rattle.nmgc_round.specs.Told.{CanFix, CanTake, taken, Tells, TellsField, TellsQueue, TellsScan, IsSafe};
+ghost use Rattle.nmgc_round.specs.Told.{CanFix, CanTake, taken, TellsFixed, TellsField, TellsQueue, TellsScan, IsSafe};
 ghost use Rattle.nmgc_round.specs.Seat.{IsAt, Knows, seen, word_count};
 
 use crate::plays::{
@@ -38,7 +38,7 @@ impl Round {
         requires ready { Mutates (λ o p. CanFix o p at.0 offset) (seen seat.old) }
         requires within { at.0 + offset < word_count self.now }
         ensures view { Knows self.now seat.old seat.new (loaded (seen seat.old) at.0 offset result) }
-        ensures room { Tells (seen seat.old).opening at.0 offset result }
+        ensures room { TellsFixed (seen seat.old).opening at.0 offset result }
     {
         self.table
             .shared
@@ -88,7 +88,7 @@ impl Round {
         requires within { at.0 + offset < word_count self.now }
         ensures view { MatchOption command.entry (Knows self.now seat.old seat.new (loaded (seen seat.old) at.0 offset result)) (λ c.
             Knows self.now seat.old seat.new (taken (seen seat.old) at.0 offset c.now result)) }
-        ensures room { IfNone command.entry (Tells (seen seat.old).opening at.0 offset result) }
+        ensures room { IfNone command.entry (TellsFixed (seen seat.old).opening at.0 offset result) }
         ensures safe { IfSome command.entry (λ c. TellsField (seen seat.old).opening offset result) }
         ensures queue { IfSome command.entry (λ c. Mutates TellsQueue (seen seat.old)) }
     {

@@ -20,7 +20,7 @@ use Rattle.nmgc_script.specs.laws.Versions.{IsUsable, usable_version, registers_
 use Rattle.nmgc_script.specs.Limits.{IsVersion, total_words, version_1, version_2}
 use Rattle.nmgc_script.specs.Spelling.{spaced, verb_name, command_words, heap_words, section_words, version_words}
 use Rattle.nmgc_script.specs.Text.{words_of, kept_lines, end_of}
-use Rattle.nmgc_script.specs.Faults.{first_of, HasArity, HasToBegin, HasFault, order_of, IsFirstFault, IsFaultless, begun_with, TellsRest, TellsHeap, Tells, IsToldOf}
+use Rattle.nmgc_script.specs.Faults.{first_of, HasArity, HasToBegin, HasFault, order_of, IsFirstFault, IsFaultless, begun_with, TellsRest, TellsHeap, TellsFault, IsToldOf}
 use Rattle.nmgc_script.specs.Reading.{◌>>=◌, or_cause, verb_at, operands_at, sized, command_at, thread_at, section_at, is_section, entry_at, begun_after, with_entry, rest_at, programs_at, threads_at, version_at, heap_words_at, numbers_at, heap_at, script_at, at_line, GivesAt}
 use Rattle.nmgc_script.proofs.WordLaws.{FailsBy, fails_choose, bind_ok, ok_is}
 use Rattle.nmgc_lists.specs.laws.Truths.{chosen}
@@ -470,7 +470,7 @@ script_after end v = heap_at end v.1 >>= λ heap. threads_at v.0 end heap.0 heap
     Ok (let made : Script = record { version = v.0.number; config = heap.0; threads = threads } in made)
 
 version_told : (ver : Version) → IsVersion ver → (end : ℕ) (line : ℕ × List ℕ) (lines : List (ℕ × List ℕ)) (number : ℕ) (c : Cause) →
-    line.1 ≡ spaced (version_words ver.number) → script_after end (ver, lines) ≡ Err (number, c) → Tells end (line ∷ lines) number c
+    line.1 ≡ spaced (version_words ver.number) → script_after end (ver, lines) ≡ Err (number, c) → TellsFault end (line ∷ lines) number c
 version_told ver known end line lines number c is h = inr (
   ver,
   known,
@@ -480,7 +480,7 @@ version_told ver known end line lines number c is h = inr (
       made) (number, c) h),
 )
 
-script_told : (end : ℕ) (lines : List (ℕ × List ℕ)) (number : ℕ) (c : Cause) → script_at end lines ≡ Err (number, c) → Tells end lines number c
+script_told : (end : ℕ) (lines : List (ℕ × List ℕ)) (number : ℕ) (c : Cause) → script_at end lines ≡ Err (number, c) → TellsFault end lines number c
 unfolding script_at version_at
 script_told end [] number c bad =
     let same : ◌≡◌ {A = ℕ × Cause} (end, cause.Version) (number, c) = err_is {A = Script} (end, cause.Version) (number, c) bad in
@@ -500,7 +500,7 @@ script_told end (line ∷ lines) number c bad = go (bytes_eq line.1 (codes "nmgc
         (cond b (versioned version_1 lines) (cond d (versioned version_2 lines) (Err (line.0, cause.Version))) >>= script_after end) ≡ Err (
           number,
           c,
-        ) → Tells end (line ∷ lines) number c
+        ) → TellsFault end (line ∷ lines) number c
     go true d is also h = version_told version_1 (inl refl) end line lines number c ((bytes_eq-Decides line.1 (codes "nmgc 1")).0 is ∙ sym first_line) h
     go false true is also h = version_told version_2 (inr refl) end line lines number c ((bytes_eq-Decides line.1 (codes "nmgc 2")).0 also ∙ sym second_line) h
     go false false is also h =

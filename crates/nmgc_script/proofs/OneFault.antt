@@ -11,7 +11,7 @@ use Rattle.nmgc_script.specs.laws.Versions.{IsUsable, usable_version}
 use Rattle.nmgc_script.specs.Limits.{FitsConfig, IsVersion}
 use Rattle.nmgc_script.specs.Spelling.{spaced, heap_words, version_words, Spells}
 use Rattle.nmgc_script.specs.Text.{words_of, kept_lines, end_of}
-use Rattle.nmgc_script.specs.Faults.{order_of, IsFirstFault, begun_with, TellsRest, TellsHeap, Tells}
+use Rattle.nmgc_script.specs.Faults.{order_of, IsFirstFault, begun_with, TellsRest, TellsHeap, TellsFault}
 use Rattle.nmgc_script.specs.Reading.{heap_words_at, section_at, entry_at, begun_after, at_line, rest_at, programs_at, threads_at, version_at, heap_at, script_at}
 use Rattle.nmgc_script.proofs.WordLaws.{bind_ok, ok_is}
 use Rattle.nmgc_script.proofs.ConfigLaws.{heap_takes, heap_again}
@@ -99,7 +99,7 @@ one_version line v w (inr a) (inr b) e f = a ∙ sym b
 one_version line v w (inl a) (inr b) e f = absurd (numbers_differ (sym (e ∙ ap text_of a ∙ first_line) ∙ f ∙ ap text_of b ∙ second_line))
 one_version line v w (inr a) (inl b) e f = absurd (numbers_differ (sym (f ∙ ap text_of b ∙ first_line) ∙ e ∙ ap text_of a ∙ second_line))
 
-pub one_fault : (end : ℕ) (lines : List (ℕ × List ℕ)) (a : ℕ) (c : Cause) (b : ℕ) (d : Cause) → Tells end lines a c → Tells end lines b d → Same a c b d
+pub one_fault : (end : ℕ) (lines : List (ℕ × List ℕ)) (a : ℕ) (c : Cause) (b : ℕ) (d : Cause) → TellsFault end lines a c → TellsFault end lines b d → Same a c b d
 one_fault end [] a c b d p q = (p.0 ∙ sym q.0, p.1 ∙ sym q.1)
 one_fault end (line ∷ lines) a c b d (inl p) (inl q) = (p.0 ∙ sym q.0, p.1 ∙ sym q.1)
 one_fault end (line ∷ lines) a c b d (inl p) (inr q) = absurd (p.2 q.0 q.1 q.2)
@@ -164,7 +164,7 @@ no_version end p good = absurd cc
 
 version_good : (end : ℕ) (lines : List (ℕ × List ℕ)) (p : Version × List (ℕ × List ℕ)) (h : Config ×
     List (ℕ × List ℕ)) (threads : List (List Command)) (a : ℕ) (c : Cause) → version_at end lines ≡ Ok p → heap_at end p.1 ≡ Ok h →
-    threads_at p.0 end h.0 h.1 ≡ Ok threads → Tells end lines a c → ⊥
+    threads_at p.0 end h.0 h.1 ≡ Ok threads → TellsFault end lines a c → ⊥
 version_good end [] p h threads a c good heap more t = no_version end p good
 version_good end (line ∷ lines) p h threads a c good heap more t =
     let f = version_found end line lines p good in
@@ -175,7 +175,7 @@ version_good end (line ∷ lines) p h threads a c good heap more t =
     ]
 
 -- lines that are read as a script have no fault to tell
-pub none_told : (end : ℕ) (lines : List (ℕ × List ℕ)) (s : Script) (a : ℕ) (c : Cause) → script_at end lines ≡ Ok s → Tells end lines a c → ⊥
+pub none_told : (end : ℕ) (lines : List (ℕ × List ℕ)) (s : Script) (a : ℕ) (c : Cause) → script_at end lines ≡ Ok s → TellsFault end lines a c → ⊥
 unfolding script_at
 none_told end lines s a c good t =
     let b = bind_ok (version_at end lines) _ s good in
@@ -184,5 +184,5 @@ none_told end lines s a c good t =
     version_good end lines b.0 h.0 p.0 a c b.1 h.1 p.1 t
 
 -- bytes that spell a script have no fault to tell
-pub never_both : (bytes : List ℕ) (s : Script) (a : ℕ) (c : Cause) → Spells bytes s → Tells (end_of bytes) (kept_lines bytes) a c → ⊥
+pub never_both : (bytes : List ℕ) (s : Script) (a : ℕ) (c : Cause) → Spells bytes s → TellsFault (end_of bytes) (kept_lines bytes) a c → ⊥
 never_both bytes s a c h t = none_told (end_of bytes) (kept_lines bytes) s a c (script_again (end_of bytes) (kept_lines bytes) s h.fits h.lines) t

@@ -83,13 +83,13 @@ TellsHeap v end (line ∷ lines) number c =
     ((h : Config) × FitsConfig h × (line.1 ≡ spaced (heap_words h)) × TellsRest v h 0 end lines number c)
 
 -- the same, of a whole text
-abbrev pub Tells : ℕ → List (ℕ × List ℕ) → ℕ → Cause → Type 0
-Tells end [] number c = (number ≡ end) × (c ≡ cause.Version)
-Tells end (line ∷ lines) number c =
+abbrev pub TellsFault : ℕ → List (ℕ × List ℕ) → ℕ → Cause → Type 0
+TellsFault end [] number c = (number ≡ end) × (c ≡ cause.Version)
+TellsFault end (line ∷ lines) number c =
     ((number ≡ line.0) × (c ≡ cause.Version) × ((v : Version) → IsVersion v → line.1 ≢ spaced (version_words v.number))) ⊎
     ((v : Version) × IsVersion v × (line.1 ≡ spaced (version_words v.number)) × TellsHeap v end lines number c)
 
 -- what is told of bytes that spell no script: the first bad line and its first cause
 abbrev pub IsToldOf : List ℕ → ScriptFault → Type 0
 IsToldOf bytes script_fault.NoMemory = Unit {0}
-IsToldOf bytes (script_fault.Bad line c) = Tells (end_of bytes) (kept_lines bytes) line c
+IsToldOf bytes (script_fault.Bad line c) = TellsFault (end_of bytes) (kept_lines bytes) line c

@@ -5,7 +5,7 @@
 //! is told. Easy to get wrong: where the text ends before the first section, the line told is the one
 //! after the last, counting those that were passed over.
 ghost use Rattle.std.specs.Prelude.{◌≡◌, ℕ, ◌+◌, ◌<◌, ◌≤◌, ◌^◌, length, sum_by, IfErr, IfOk, MatchResult};
-ghost use Rattle.nmgc_script.specs.Faults.{IsToldOf, Tells};
+ghost use Rattle.nmgc_script.specs.Faults.{IsToldOf, TellsFault};
 ghost use Rattle.nmgc_script.specs.Limits.{FitsConfig};
 ghost use Rattle.nmgc_script.specs.Reading.{GivesAt, at_line, version_at, heap_at, programs_at, threads_at, script_at, placed};
 ghost use Rattle.nmgc_script.specs.Spelling.{Spells};
@@ -51,9 +51,9 @@ pub fn parse(alloc: Global, bytes: &[u8]) -> Result<Script, ScriptFault>
 /// both. It does nothing: its contract is the law.
 pub fn spells_one_script(bytes: &[u8])
     ensures script { (one other : Spelled) → Spells bytes.now one → Spells bytes.now other → one ≡ other }
-    ensures fault { (m n : ℕ) (c d : Why) → Tells (end_of bytes.now) (kept_lines bytes.now) m c →
-        Tells (end_of bytes.now) (kept_lines bytes.now) n d → (m ≡ n) × (c ≡ d) }
-    ensures never_both { (one : Spelled) (n : ℕ) (c : Why) → Spells bytes.now one → Tells (end_of bytes.now) (kept_lines bytes.now) n c → ⊥ }
+    ensures fault { (m n : ℕ) (c d : Why) → TellsFault (end_of bytes.now) (kept_lines bytes.now) m c →
+        TellsFault (end_of bytes.now) (kept_lines bytes.now) n d → (m ≡ n) × (c ≡ d) }
+    ensures never_both { (one : Spelled) (n : ℕ) (c : Why) → Spells bytes.now one → TellsFault (end_of bytes.now) (kept_lines bytes.now) n c → ⊥ }
 {}
 
 // Reads a script.

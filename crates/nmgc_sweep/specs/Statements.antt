@@ -6,7 +6,7 @@ use Rattle.nmgc_object.specs.declared.layout.Layout.{Layout}
 use Rattle.nmgc_segment.specs.Segment.{mark_of}
 use Rattle.nmgc_alloc.specs.Numbered.{nth, Segments}
 use Rattle.nmgc_alloc.specs.Segments.{Allocates, IsWaiting}
-use Rattle.nmgc_alloc.specs.AllocState.{AllocState, LieOnce, NoneIs, IsIn, count_in, cycle_begun, cells, Places}
+use Rattle.nmgc_alloc.specs.AllocState.{AllocState, LieOnce, NoneIs, IsIn, count_in, cycle_begun, cells, PlacesName}
 use Rattle.nmgc_alloc.specs.Stands.{StandsFor}
 use Rattle.nmgc_segment.specs.declared.state.State.TheVariants as stands
 use Rattle.nmgc_blocks_spec.specs.Cycle.{IsDeadIn, IsKeptObject, IsSweptIn, IsHadIn, IsFreedIn, Cycle}
@@ -89,4 +89,4 @@ WorkGoesOn = (c : Cycle) (closed : ℕ) (words after : List ℕ) (a b : AllocSta
 -- a placing is such a change
 abbrev pub PlacingKeepsWaiting : Type 0
 PlacingKeepsWaiting = (layout : Layout) (old new : Segments) (a b : AllocState) (mutator class at : ℕ) (name : Name) →
-    Allocates old new mutator class at → Places layout a b mutator class name → KeepsWaiting old new a b
+    Allocates old new mutator class at → PlacesName layout a b mutator class name → KeepsWaiting old new a b

@@ -7,7 +7,7 @@ use Rattle.nmgc_world_spec.specs.declared.value.Name.{Name}
 use Rattle.nmgc_world_spec.specs.World.{World, IsWorld}
 use Rattle.nmgc_world_spec.specs.Reach.{IsLive, IsDead, IsKept, Lists}
 use Rattle.nmgc_world_spec.specs.Reach as reach
-use Rattle.nmgc_barrier_laws.specs.Cycle.{Cycle, IsKeyLeft, Needs, Marks}
+use Rattle.nmgc_barrier_laws.specs.Cycle.{Cycle, IsKeyLeft, Needs, MarksName}
 use Rattle.nmgc_watch.specs.declared.left.Left.{Left}
 use Rattle.nmgc_watch.specs.Watching.{IsLeft, KeptIsMarked, NeededIsKept}
 use Rattle.nmgc_watch.proofs.Deciding.{Decided}

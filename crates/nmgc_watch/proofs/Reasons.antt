@@ -9,7 +9,7 @@ use Rattle.nmgc_world_spec.specs.Step.{CanApply, step}
 use Rattle.nmgc_world_spec.specs.Reach.{Lists}
 use Rattle.nmgc_lists.specs.laws.Items.{nothing_in}
 use Rattle.nmgc_barrier_laws.specs.declared.debt.Debt.{Debt}
-use Rattle.nmgc_barrier_laws.specs.Cycle.{Cycle, Marks, IsAllTaken}
+use Rattle.nmgc_barrier_laws.specs.Cycle.{Cycle, MarksName, IsAllTaken}
 use Rattle.nmgc_barrier_laws.specs.laws.Beside.{barrier_theorem}
 use Rattle.nmgc_watch.specs.declared.event.Event.{Event}
 use Rattle.nmgc_watch.specs.declared.event.Event.TheVariants as event
@@ -125,5 +125,5 @@ reasons_refuse line p event.Stop y next h g = no_stop p y next h g
 pub closed_is_exact : ClosedIsExact
 closed_is_exact h left l w is s next b possible closing name =
     let e = (barrier_theorem w is h s b).marks next possible closing name in
-    let kept : Lists (Marks h) left.kept = elim l [ inl a ↦ a.kept | inr p ↦ p.1.kept ] in
+    let kept : Lists (MarksName h) left.kept = elim l [ inl a ↦ a.kept | inr p ↦ p.1.kept ] in
     (λ m. kept.complete name (e.0 m), λ c. e.1 (kept.sound name c))

@@ -13,7 +13,7 @@ use Rattle.nmgc_snapshot_laws.specs.State.{State}
 use Rattle.nmgc_snapshot_laws.specs.Machine.{IsPossible}
 use Rattle.nmgc_snapshot_laws.specs.Closing.{IsClosing}
 use Rattle.nmgc_barrier_laws.specs.declared.debt.Debt.{Debt}
-use Rattle.nmgc_barrier_laws.specs.Cycle.{Cycle, watching, IsWatched, IsPushed, IsTook, IsAllTaken, IsEnd, IsEndTold, IsDeadTold, Needs, Marks}
+use Rattle.nmgc_barrier_laws.specs.Cycle.{Cycle, watching, IsWatched, IsPushed, IsTook, IsAllTaken, IsEnd, IsEndTold, IsDeadTold, Needs, MarksName}
 use Rattle.nmgc_barrier_laws.specs.Barrier.{Beside}
 use Rattle.nmgc_watch.specs.declared.event.Event.{Event}
 use Rattle.nmgc_watch.specs.declared.event.Event.TheVariants as event
@@ -188,7 +188,7 @@ AreSerials w serials = serials ≡ map (λ (own : MutatorState). length own.node
 pub record IsLeft (h : Cycle) (left : Left) : Type 0 where
   pub dead : List Name
   pub ends : IsEnd h dead left.world
-  pub kept : Lists (Marks h) left.kept
+  pub kept : Lists (MarksName h) left.kept
   pub needed : Lists (Needs h dead) left.needed
   pub old : AreSerials h.snapshot left.old
 
@@ -196,7 +196,7 @@ pub record IsLeft (h : Cycle) (left : Left) : Type 0 where
 pub record IsLeftTold (h : Cycle) (told : List Name) (left : Left) : Type 0 where
   pub dead : List Name
   pub ends : IsEndTold h told dead left.world
-  pub kept : Lists (Marks h) left.kept
+  pub kept : Lists (MarksName h) left.kept
   pub needed : Lists (Needs h told) left.needed
   pub old : AreSerials h.snapshot left.old
 
@@ -404,7 +404,7 @@ EveryEventIsJudged = (line : ℕ) (p : Watch) (e : Event) → AreClosed p → ((
 
 -- what the commands alone keep each marker has to mark
 abbrev pub KeptIsMarked : Type 0
-KeptIsMarked = (h : Cycle) → IsWorld h.snapshot → (name : Name) → IsKept h.snapshot h.opened h.finalised name → Marks h name
+KeptIsMarked = (h : Cycle) → IsWorld h.snapshot → (name : Name) → IsKept h.snapshot h.opened h.finalised name → MarksName h name
 
 -- of a close that isn't told what dies: what may not be freed is among what each marker has to mark
 abbrev pub NeededIsKept : Type 0

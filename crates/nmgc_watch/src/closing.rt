@@ -24,7 +24,7 @@ use std::alloc::Global;
 
 impl Cycle {
     ghost use Rattle.nmgc_world_spec.specs.Reach.{IsDead, Lists};
-    ghost use Rattle.nmgc_barrier_laws.specs.Cycle.{Marks as HasToMark, Needs, IsAllTaken};
+    ghost use Rattle.nmgc_barrier_laws.specs.Cycle.{MarksName as HasToMark, Needs, IsAllTaken};
     ghost use Rattle.nmgc_watch.specs.Cycles.{IsOpenedWith};
     ghost use Rattle.nmgc_watch.specs.Watching.{IsEnding, IsEndingTold, IsAgainstIf, IsDeadIf, IsLeft, IsLeftTold};
 

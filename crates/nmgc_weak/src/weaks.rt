@@ -21,7 +21,7 @@ ghost use Rattle.nmgc_weak.specs.Weaks.{AreInside, HaveLostValues, alive_of, nam
 use crate::resolve::{clear_values, find_dying, revive, save_finalisers};
 use nmgc_alloc::Segments;
 use nmgc_heap_spec::HeapWords;
-use nmgc_lists::{List, NoMemory, Place};
+use nmgc_lists::{List, NoMemory, ListMemory};
 use nmgc_mark::Marker;
 use nmgc_object::{Address, HEADER_WORDS};
 use nmgc_world_spec::Name;
@@ -234,7 +234,7 @@ impl Weaks {
     }
 
     /// The names of the list, in order, as a list which lies in `place`. Takes no memory.
-    pub fn into_names(self, place: Place<Name>) -> List<Name>
+    pub fn into_names(self, place: ListMemory<Name>) -> List<Name>
         ensures { result ≡ names_of self.list }
     {
         let Weaks {

@@ -27,7 +27,7 @@ use Rattle.nmgc_snapshot_laws.specs.laws.Runs.{closing_is_exact}
 use Rattle.nmgc_snapshot_laws.specs.Run.{IsExactClosing}
 use Rattle.nmgc_barrier_laws.specs.Lax.{IsShuffled}
 use Rattle.nmgc_barrier_laws.specs.declared.debt.Debt.{Debt}
-use Rattle.nmgc_barrier_laws.specs.Cycle.{Cycle, Owes, IsPushed, IsTook, Marks, watching}
+use Rattle.nmgc_barrier_laws.specs.Cycle.{Cycle, Owes, IsPushed, IsTook, MarksName, watching}
 use Rattle.nmgc_snapshot_laws.specs.laws.Openings.{opening_facts, no_names}
 use Rattle.nmgc_barrier_laws.specs.laws.Floating.{floated, floated_facts}
 use Rattle.nmgc_barrier_laws.specs.laws.Laxer.{shuffled_facts}
@@ -251,9 +251,9 @@ opened_both h s t n there = (
   λ k. (t.opened n there).1 (Contains-append_cases h.opened h.remembered n k),
 )
 
--- an end from a tied state marks exactly `Marks`
+-- an end from a tied state marks exactly `MarksName`
 pub tied_end : (h : Cycle) (s next : State) → IsTied h s → IsPossible s event.Close → IsClosing s next → (name : Name) → Contains next.marked name ↔
-    Marks h name
+    MarksName h name
 tied_end h s next t possible c name =
     let x : IsExactClosing s next c = closing_is_exact s next t.facts possible c in
     let a : (n : Name) → IsSome (node_of s.snapshot n) → Contains s.opened n ↔ Contains (h.opened ++ h.remembered) n = opened_both h s t in (

@@ -16,7 +16,7 @@ use Rattle.nmgc_alloc.specs.Numbered.{nth, Segments, HasNumber}
 use Rattle.nmgc_alloc.specs.AllocState.{NoneIs, IsIn}
 use Rattle.nmgc_alloc.specs.Stands.{StandsFor}
 use Rattle.nmgc_alloc.specs.Settled.{AreSettled}
-use Rattle.nmgc_collector_laws.specs.Marker.{IsFresh}
+use Rattle.nmgc_collector_laws.specs.Marker.{IsUnread}
 use Rattle.nmgc_run_spec.specs.State.{State as RunState, next_cycle}
 use Rattle.nmgc_collector_laws.specs.RestMarking.{IsMachineAtRest}
 use Rattle.nmgc_collector_laws.proofs.cycles.Pushing.{all_empty}
@@ -68,7 +68,7 @@ pub record IsBegun (w : World) (s : State) : Type 0 where
   pub owed_is : s.owed ≡ replicate (length w.mutators) []
   pub pushed_is : s.pushed ≡ replicate (length w.mutators) []
   pub open_yet : s.is_closed ≡ false
-  pub fresh : All IsFresh s.queue
+  pub fresh : All IsUnread s.queue
 
 begun_name : (w : World) (s : State) (name : Name) → IsBegun w s → IsBegun w (mark_name s name)
 begun_name w s name h = mark_cases (IsBegun w) s name
@@ -77,7 +77,7 @@ begun_name w s name h = mark_cases (IsBegun w) s name
       owed_is = h.owed_is;
       pushed_is = h.pushed_is;
       open_yet = h.open_yet;
-      fresh = All-append IsFresh s.queue (entry_of name ∷ []) h.fresh (All-cons IsFresh (entry_of name) [] refl (All-nil IsFresh));
+      fresh = All-append IsUnread s.queue (entry_of name ∷ []) h.fresh (All-cons IsUnread (entry_of name) [] refl (All-nil IsUnread));
     })
     (λ old. h)
 
@@ -88,7 +88,7 @@ begun_values w s (value.Number n ∷ values) h = begun_values w s values h
 begun_values w s (value.Ref name ∷ values) h = begun_values w (mark_name s name) values (begun_name w s name h)
 
 pub begun : (w : World) → IsBegun w (opening w)
-begun w = begun_values w (unmarked w) (root_values w) (record { world_is = refl; owed_is = refl; pushed_is = refl; open_yet = refl; fresh = All-nil IsFresh })
+begun w = begun_values w (unmarked w) (root_values w) (record { world_is = refl; owed_is = refl; pushed_is = refl; open_yet = refl; fresh = All-nil IsUnread })
 
 -- the machine that has marked the roots is at rest
 pub opening_rests : (s : RunState) → IsWorld s.world → IsMachineAtRest (next_cycle s) s.world (opening s.world)

@@ -25,24 +25,24 @@ use Rattle.nmgc_round.specs.View.{Opening}
 use Rattle.nmgc_round.specs.Marking.{marks_of}
 use Rattle.nmgc_blocks_spec.specs.Cycle.{Cycle}
 use Rattle.nmgc_segment.specs.Marks.{epoch_of}
-use Rattle.nmgc_collector_laws.specs.Marker.{AreAt, IsFresh, IsTied as IsTiedByBlocks, IsRightSnapshot as IsRightByBlocks}
+use Rattle.nmgc_collector_laws.specs.Marker.{AreAt, IsUnread, IsTied as IsTiedByBlocks, IsRightSnapshot as IsRightByBlocks}
 use Rattle.nmgc_mark.specs.Seen.{MarkerSeen}
 use Rattle.nmgc_collector_laws.specs.Blocks.{AreOfBlocks, TiesAgree}
 use Rattle.nmgc_mark.specs.Tie.{AreQueued, IsTied}
 
 to_queued : (places : List Place) (ats : List ℕ) (entries : List Entry) → AreAt places ats (map (λ (e : Entry). e.name) entries) →
-    All IsFresh entries → AreQueued places ats entries
+    All IsUnread entries → AreQueued places ats entries
 to_queued places [] [] h f = tt
 to_queued places [] (e ∷ es) h f = absurd h
 to_queued places (at ∷ ats) [] h f = absurd h
-to_queued places (at ∷ ats) (e ∷ es) h f = ((h.0, All-head IsFresh e es f), to_queued places ats es h.1 (All-tail IsFresh e es f))
+to_queued places (at ∷ ats) (e ∷ es) h f = ((h.0, All-head IsUnread e es f), to_queued places ats es h.1 (All-tail IsUnread e es f))
 
 from_queued : (places : List Place) (ats : List ℕ) (entries : List Entry) → AreQueued places ats entries →
-    AreAt places ats (map (λ (e : Entry). e.name) entries) × All IsFresh entries
-from_queued places [] [] h = (tt, All-nil IsFresh)
+    AreAt places ats (map (λ (e : Entry). e.name) entries) × All IsUnread entries
+from_queued places [] [] h = (tt, All-nil IsUnread)
 from_queued places [] (e ∷ es) h = absurd h
 from_queued places (at ∷ ats) [] h = absurd h
-from_queued places (at ∷ ats) (e ∷ es) h = let r = from_queued places ats es h.1 in ((h.0.0, r.0), All-cons IsFresh e es h.0.1 r.1)
+from_queued places (at ∷ ats) (e ∷ es) h = let r = from_queued places ats es h.1 in ((h.0.0, r.0), All-cons IsUnread e es h.0.1 r.1)
 
 some_epoch : (number : ℕ) → 1 ≤ epoch_of number
 some_epoch number = by ((number % 2) == 0)

@@ -7,7 +7,7 @@ use Rattle.nmgc_snapshot_laws.specs.Machine.{AreEmpty, after_scan}
 use Rattle.nmgc_snapshot_laws.specs.Run.{Runs}
 use Rattle.nmgc_snapshot_laws.specs.State.{State, opening}
 use Rattle.nmgc_round.specs.Events.{Happening, IsLegal, did, scanned, event_of, replay, rows_in}
-use Rattle.nmgc_collector_laws.specs.Marker.{IsFresh}
+use Rattle.nmgc_collector_laws.specs.Marker.{IsUnread}
 use Rattle.nmgc_blocks_spec.specs.Cycle.{Cycle}
 use Rattle.nmgc_round.specs.laws.Common.{world_scanned}
 use Rattle.nmgc_mark.specs.Stopped.{AreScans}
@@ -23,7 +23,7 @@ no_rows (scanned entry v ∷ hs) alone = no_rows hs alone
 
 -- the machine at a stop goes on by scans alone, and is at rest again where it scanned whole objects
 pub machine_scans : (c : Cycle) (w : World) (core : State) (events : List Happening) → IsMachineAtRest c w core → IsLegal core events →
-    AreScans events → All IsFresh (replay core events).queue → IsMachineAtRest c w (replay core events)
+    AreScans events → All IsUnread (replay core events).queue → IsMachineAtRest c w (replay core events)
 machine_scans c w core events h legal scans fresh =
     let none : rows_in events ≡ [] = no_rows events scans in
     let t : State = replay core events in

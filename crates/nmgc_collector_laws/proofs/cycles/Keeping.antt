@@ -27,7 +27,7 @@ use Rattle.nmgc_collector_laws.specs.Marker.{AreAt, AreRemembered, IsCoreOf, IsT
 use Rattle.nmgc_mark.specs.Marker.{HasRoomToMark}
 use Rattle.nmgc_sweep.specs.Sweeping.{HasListedNothing, HasNoted}
 use Rattle.nmgc_segment.specs.Marks.{epoch_of}
-use Rattle.nmgc_collector_laws.specs.Seen.{Seen, MutatorSeen}
+use Rattle.nmgc_collector_laws.specs.Seen.{CollectorSeen, MutatorSeen}
 use Rattle.nmgc_sweep.specs.Seen.{CycleSeen, SweeperSeen}
 use Rattle.nmgc_mark.specs.Seen.{MarkerSeen}
 use Rattle.nmgc_run_spec.specs.State.{State, next_cycle, cycle_started}
@@ -55,12 +55,12 @@ none_pushed c places entries pushed none r =
     sym r.counted ∙ ap (λ (l : List Name). filter (is_pushed_in c.snapshot) l) names
 
 -- nor is any place
-none_low : (seen : Seen) → NoneRemember seen → (k : ℕ) (mutator : MutatorSeen) → slice_get seen.mutators k ≡ Some mutator → (at : ℕ) →
+none_low : (seen : CollectorSeen) → NoneRemember seen → (k : ℕ) (mutator : MutatorSeen) → slice_get seen.mutators k ≡ Some mutator → (at : ℕ) →
     Contains mutator.entries at → at < nursery_place seen.segments.layout 0
 none_low seen nothing k mutator there at d = absurd (nothing_in at (subst (λ (l : List ℕ). Contains l at) (nothing k mutator there) d))
 
 -- a cycle begins: the marker has marked what the machine marks of the roots, and the sweeper has noted what it is to sweep
-pub cycle_is_marking : (s : State) (seen : Seen) (places : List Place) → IsWorld s.world →
+pub cycle_is_marking : (s : State) (seen : CollectorSeen) (places : List Place) → IsWorld s.world →
     IsTied (next_cycle s) (cycle_begun s.allocation) seen.segments places seen.marker (opening s.world) → HasRoomToMark seen.segments seen.marker
     → EachMutator seen (λ m mutator. weak_count s.world m seen.weaks ≤ mutator.queue.spare) → NoneRemember seen → seen.cycle.from ≡ s.number →
     HasNoted (next_cycle s) seen.sweeper → HasListedNothing seen.sweeper
@@ -91,7 +91,7 @@ cycle_is_marking s seen places world tied room queue_room nothing from noted not
     }
 
 -- at a stop the machine is at rest, and what it is to scan is at the places in the marker's queue
-pub stop_is_at_rest : (c : Cycle) (s : State) (seen : Seen) (places : List Place) (h : IsMarking c s seen places) → IsSound (interval_of c) →
+pub stop_is_at_rest : (c : Cycle) (s : State) (seen : CollectorSeen) (places : List Place) (h : IsMarking c s seen places) → IsSound (interval_of c) →
     length seen.mutators ≡ length s.world.mutators → NoneRemember seen →
     IsMachineAtRest c s.world h.core × AreAt places seen.marker.queue (map (λ (entry : Entry). entry.name) h.core.queue)
 stop_is_at_rest c s seen places h sound many nothing =
@@ -121,7 +121,7 @@ still_nothing : (old new : SweeperSeen) → new ≡ old → HasListedNothing old
 still_nothing old new same n = subst HasListedNothing (sym same) n
 
 -- over a round: with the machine as it goes on, and a marker that is tied to it and has room
-pub round_keeps_marking : (c : Cycle) (s t : State) (old new : Seen) (o : Opening) (words : List ℕ) (v : View) (h : IsFinished o words v)
+pub round_keeps_marking : (c : Cycle) (s t : State) (old new : CollectorSeen) (o : Opening) (words : List ℕ) (v : View) (h : IsFinished o words v)
     (mutators : List Mutator) (core : Core) → IsMarking c s old o.places → GoesOn c o words v h mutators core → t.world ≡ (now o h.events).world
     → IsTied (with_rows c (rows_in h.events)) t.allocation new.segments (places_then o h.born) new.marker core →
     HasRoomToMark new.segments new.marker → new.segments.layout ≡ o.layout → HasLeft c old new → ShowEntries new mutators
@@ -171,7 +171,7 @@ promotion_keeps_marking c s old new t words after registers queues moves placed 
     }
 
 -- once the marker has added what was remembered, which the machine took: nothing is remembered any more
-pub add_keeps_marking : (c : Cycle) (s : State) (old new : Seen) (places : List Place) (names : List Name) (core : Core)
+pub add_keeps_marking : (c : Cycle) (s : State) (old new : CollectorSeen) (places : List Place) (names : List Name) (core : Core)
     (h : IsMarking c s old places) → HasTaken c s.world h.core names core → IsTied c s.allocation new.segments places new.marker core →
     HasRoomToMark new.segments new.marker → HasLeft c old new → NoneRemember new →
     IsMarking c s new places

@@ -22,7 +22,7 @@ use Rattle.nmgc_collector_laws.specs.Worked.{registers_of, queues_of, serials_of
 use Rattle.nmgc_collector_laws.specs.laws.Registers.{HaveAll, own_mean}
 use Rattle.nmgc_collector_laws.specs.Marker.{AreAt}
 use Rattle.nmgc_blocks_spec.specs.Cycle.{Cycle}
-use Rattle.nmgc_collector_laws.specs.RestMarking.{IsAtRest, opening_beside, RestOpens}
+use Rattle.nmgc_collector_laws.specs.RestMarking.{IsAtRestMarking, opening_beside, RestOpens}
 use Rattle.nmgc_snapshot_laws.specs.laws.Ending.{none_of as each_empty}
 use Rattle.nmgc_collector_laws.proofs.cycles.Snapshots.{IsReachedBy, reached_by, tracked_wide, marked_there, marked_tracked, queued_marked, are_earlier, node_later, fresh_at}
 
@@ -37,7 +37,7 @@ at_found places (at ∷ ats) (first ∷ entries) entry h c = elim (contains_case
 ]
 
 module _ (c : Cycle) (core : State) (s : Segments) (places : List Place) (w : World) (words : List ℕ) (mutators : List Mutator) (queue : List ℕ)
-    (h : IsAtRest c core s places w words mutators queue) where
+    (h : IsAtRestMarking c core s places w words mutators queue) where
   abbrev o : Opening
   o = opening_beside s.layout core places mutators
 

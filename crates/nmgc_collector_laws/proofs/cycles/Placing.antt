@@ -8,11 +8,11 @@ use Rattle.nmgc_world_spec.specs.World.{World}
 use Rattle.nmgc_lists.specs.laws.Items.{contains_head, contains_tail}
 use Rattle.nmgc_object.specs.declared.layout.Layout.{Layout}
 use Rattle.nmgc_segment.specs.declared.state.State.TheVariants.{Free}
-use Rattle.nmgc_alloc.specs.AllocState.{AllocState, Cells, Exists, IsIn, IsTarget, LiesIn, Places, cells, no_cells, with_cells}
+use Rattle.nmgc_alloc.specs.AllocState.{AllocState, Cells, Exists, IsIn, IsTarget, LiesIn, PlacesName, cells, no_cells, with_cells}
 use Rattle.nmgc_alloc.specs.laws.Cells.{AreFreeEmpty, placed_stays, placed_where, placed_free}
 use Rattle.nmgc_blocks_spec.specs.Promoted.{PlacesEach}
 
-module _ (layout : Layout) (a b : AllocState) (m class : ℕ) (name : Name) (p : Places layout a b m class name) where
+module _ (layout : Layout) (a b : AllocState) (m class : ℕ) (name : Name) (p : PlacesName layout a b m class name) where
   exists : IsTarget a m class p.number → Exists a p.number
   exists (inl one) = one.0
   exists (inr (none, inl first)) = first.is.0

@@ -30,9 +30,9 @@ use Rattle.nmgc_round.specs.View.{Opening}
 use Rattle.nmgc_mutator.specs.declared.mutator.Mutator.{Mutator}
 use Rattle.nmgc_collector_laws.specs.Rest.{hand_of}
 use Rattle.nmgc_run_spec.specs.Heap.{FitBlocks, HoldsAtStop, registers_of, queues_of, serials_of}
-use Rattle.nmgc_collector_laws.specs.Marker.{AreAt, IsCoreOf, IsFresh}
+use Rattle.nmgc_collector_laws.specs.Marker.{AreAt, IsCoreOf, IsUnread}
 use Rattle.nmgc_segment.specs.Marks.{epoch_of}
-use Rattle.nmgc_collector_laws.specs.Seen.{Seen, ends_of}
+use Rattle.nmgc_collector_laws.specs.Seen.{CollectorSeen, ends_of}
 use Rattle.nmgc_mark.specs.Seen.{MarkerSeen}
 use Rattle.nmgc_blocks_spec.specs.Cycle.{Cycle}
 use Rattle.nmgc_run_spec.specs.State.{State}
@@ -46,7 +46,7 @@ use Rattle.nmgc_weak.specs.Closes.{QueuesClose}
 use Rattle.nmgc_weak.specs.Resolve.{CanResolve}
 use Rattle.nmgc_weak.specs.Weaks.{places_of}
 use Rattle.nmgc_collector_laws.specs.Resolves.{FinishMayResolve, ResolveCloses, ClosedHolds, IsStopOf, IsClosingOf, FinalisersInHand, stop_opening, finished_on, closed_state}
-use Rattle.nmgc_collector_laws.specs.RestMarking.{IsAtRest, IsMachineAtRest}
+use Rattle.nmgc_collector_laws.specs.RestMarking.{IsAtRestMarking, IsMachineAtRest}
 use Rattle.nmgc_collector_laws.proofs.cycles.Closing.{machine_scans}
 use Rattle.nmgc_collector_laws.proofs.cycles.Opens.{rest_opens}
 use Rattle.nmgc_collector_laws.proofs.cycles.Preparing.{no_snapshot}
@@ -55,7 +55,7 @@ use Rattle.nmgc_collector_laws.proofs.cycles.Tying.{MarksLaw, core_snapshot, hea
 
 -- the machine once the marker has finished
 
-module _ (layout : Layout) (c : Cycle) (s : State) (seen : Seen) (mutators : List Mutator) (h : IsStopOf layout c s seen mutators)
+module _ (layout : Layout) (c : Cycle) (s : State) (seen : CollectorSeen) (mutators : List Mutator) (h : IsStopOf layout c s seen mutators)
     (marked : Segments) (marker : MarkerSeen) (f : HasFinished (stop_opening layout c s seen mutators h) marked marker) where
   abbrev places : List Place
   places = h.heap.places
@@ -77,9 +77,9 @@ module _ (layout : Layout) (c : Cycle) (s : State) (seen : Seen) (mutators : Lis
 
   at_rest : IsMachineAtRest c s.world core
   at_rest = machine_scans c s.world h.kept.core f.events h.rest.machine f.legal f.scans (subst (λ (l : List Entry).
-      All IsFresh l) (sym empty) (All-nil IsFresh))
+      All IsUnread l) (sym empty) (All-nil IsUnread))
 
-  rests : IsAtRest c core seen.segments places s.world seen.words mutators []
+  rests : IsAtRestMarking c core seen.segments places s.world seen.words mutators []
   rests = record {
     world = h.rest.world;
     machine = at_rest;
@@ -137,7 +137,7 @@ finish_may_resolve may layout c s seen mutators marked marker h f = can_resolve 
 
 -- the closed cycle, and the heap then
 
-module _ (layout : Layout) (c : Cycle) (s : State) (seen : Seen) (mutators : List Mutator) (words : List ℕ) (marked : Segments)
+module _ (layout : Layout) (c : Cycle) (s : State) (seen : CollectorSeen) (mutators : List Mutator) (words : List ℕ) (marked : Segments)
     (marker : MarkerSeen) (list : List OldWeak) (deaths : List Death) (k : IsClosingOf layout c s seen mutators words marked marker list deaths) where
   abbrev stood : List Place
   stood = k.stop.heap.places

@@ -18,14 +18,14 @@ use Rattle.nmgc_mutator.specs.Ready.{IsWhole}
 use Rattle.nmgc_collector_laws.specs.Collector.{HoldsInCycle, IsAtStop, IsMarking, IsPacedAtStop}
 use Rattle.nmgc_collector_laws.specs.Life.{LifeIsSeen, array_layout, array_plan, marking_seen, waiting_segment}
 use Rattle.nmgc_run_spec.specs.Run.{Run, last_state}
-use Rattle.nmgc_collector_laws.specs.Seen.{Seen}
+use Rattle.nmgc_collector_laws.specs.Seen.{CollectorSeen}
 use Rattle.nmgc_run_spec.specs.Slice.{program_of}
 use Rattle.nmgc_run_laws.specs.Sound.{IsRunnable}
 use Rattle.nmgc_run_spec.specs.State.{Plan, State, Progress, idle, marking, sweeping, phase_of}
 use Rattle.nmgc_blocks_spec.specs.Cycle.{Cycle}
 use Rattle.nmgc_run_laws.specs.laws.Runs.{states_are_sound}
 use Rattle.nmgc_collector_laws.specs.Heaps.{AreShown, SmallLifeRests, marking_mutator}
-use Rattle.nmgc_collector_laws.specs.RestMarking.{IsAtRest}
+use Rattle.nmgc_collector_laws.specs.RestMarking.{IsAtRestMarking}
 use Rattle.nmgc_collector_laws.proofs.cycles.Stopping.{rests}
 
 -- a progress whose phase is marking
@@ -138,10 +138,10 @@ are_shown : AreShown array_layout marking_seen (marking_mutator ∷ [])
 are_shown = record { are = refl; each = each_shown }
 
 -- the heap at a stop of a run is at rest, with the machine to which the marker is tied
-stop_rests : (plan : Plan) (run : Run) (seen : Seen) (c : Cycle) (mutators : List Mutator) → IsRunnable plan → (h : IsAtStop plan run seen) →
+stop_rests : (plan : Plan) (run : Run) (seen : CollectorSeen) (c : Cycle) (mutators : List Mutator) → IsRunnable plan → (h : IsAtStop plan run seen) →
     (last_state run).progress ≡ marking c → IsSegments seen.segments → AreShown seen.segments.layout seen mutators →
     (k : IsMarking c (last_state run) seen h.heap.places) ×
-    IsAtRest c k.core seen.segments h.heap.places (last_state run).world seen.words mutators seen.marker.queue
+    IsAtRestMarking c k.core seen.segments h.heap.places (last_state run).world seen.words mutators seen.marker.queue
 stop_rests plan run seen c mutators runnable h marks segments are =
     let s : State = last_state run in
     let both : IsMarking c s seen h.heap.places × IsPacedAtStop plan.config.quota c s seen =

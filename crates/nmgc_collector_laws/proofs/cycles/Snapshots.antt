@@ -33,7 +33,7 @@ use Rattle.nmgc_heap_spec.specs.Tracked.{IsTracked}
 use Rattle.nmgc_heap_spec.specs.laws.CommandLaws.{held_tracked, past_tracked}
 use Rattle.nmgc_round.specs.Objects.{free_of, IsLater}
 use Rattle.nmgc_blocks_spec.specs.Cycle.{interval_of, Cycle}
-use Rattle.nmgc_collector_laws.specs.Marker.{IsCoreOf, IsFresh}
+use Rattle.nmgc_collector_laws.specs.Marker.{IsCoreOf, IsUnread}
 use Rattle.nmgc_run_laws.specs.laws.Leaving.{rows_keep_headers}
 use Rattle.nmgc_collector_laws.specs.RestMarking.{IsMachineAtRest}
 use Rattle.nmgc_world_spec.specs.laws.Common.{of_weak as of_kept}
@@ -160,5 +160,5 @@ module _ (S : World) (rows : List Row) (core : State) (h : IsReachedBy S rows co
           let both : Some before ≡ Some (Weak (Some parts)) = sym was ∙ then in cc
 
 -- nothing was read yet of what waits
-pub fresh_at : (queue : List Entry) → All IsFresh queue → (entry : Entry) → Contains queue entry → entry.position ≡ 0
-fresh_at queue fresh entry c = All-contains IsFresh queue entry fresh c
+pub fresh_at : (queue : List Entry) → All IsUnread queue → (entry : Entry) → Contains queue entry → entry.position ≡ 0
+fresh_at queue fresh entry c = All-contains IsUnread queue entry fresh c

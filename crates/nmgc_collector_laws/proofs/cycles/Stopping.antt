@@ -23,7 +23,7 @@ use Rattle.nmgc_collector_laws.specs.Rest.{IsResting}
 use Rattle.nmgc_collector_laws.specs.Worked as turn
 use Rattle.nmgc_collector_laws.specs.Collector.{AreAtRest, IsMarking}
 use Rattle.nmgc_run_spec.specs.Heap.{HoldsAtStop, registers_of, queues_of, serials_of, snapshots}
-use Rattle.nmgc_collector_laws.specs.Seen.{Seen, MutatorSeen, end_of, ends_of, nurseries_of}
+use Rattle.nmgc_collector_laws.specs.Seen.{CollectorSeen, MutatorSeen, end_of, ends_of, nurseries_of}
 use Rattle.nmgc_run_laws.specs.Sound.{IsSoundState, IsInCycle}
 use Rattle.nmgc_run_spec.specs.State.{Plan, State, Progress, marking, layout_of}
 use Rattle.nmgc_blocks_spec.specs.Cycle.{Cycle}
@@ -31,7 +31,7 @@ use Rattle.nmgc_run_laws.specs.laws.Places.{blocks_at_stop, block_used}
 use Rattle.nmgc_round.specs.View.{Opening}
 use Rattle.nmgc_collector_laws.specs.Blocks.{AreOfBlocks, TiesAgree}
 use Rattle.nmgc_collector_laws.specs.Heaps.{seen_mutator, AreShown, HeapRests}
-use Rattle.nmgc_collector_laws.specs.RestMarking.{IsAtRest, opening_beside}
+use Rattle.nmgc_collector_laws.specs.RestMarking.{IsAtRestMarking, opening_beside}
 use Rattle.nmgc_collector_laws.proofs.cycles.Keeping.{stop_is_at_rest}
 use Rattle.nmgc_collector_laws.proofs.cycles.Opens.{rest_opens}
 use Rattle.nmgc_collector_laws.proofs.cycles.Tying.{MarksLaw, core_snapshot, heap_of_blocks}
@@ -53,7 +53,7 @@ same_serials : (ms : List Mutator) → serials_of (map end_of (map seen_mutator 
 same_serials [] = refl
 same_serials (m ∷ ms) = ap (λ (l : List ℕ). m.serial ∷ l) (same_serials ms)
 
-module _ (plan : Plan) (s : State) (seen : Seen) (c : Cycle) (mutators : List Mutator) (sound : IsSoundState plan s)
+module _ (plan : Plan) (s : State) (seen : CollectorSeen) (c : Cycle) (mutators : List Mutator) (sound : IsSoundState plan s)
     (heap : HoldsAtStop (layout_of plan) s seen.words seen.segments (ends_of seen) seen.weaks)
     (at_rest : AreAtRest (layout_of plan) heap.places s.world seen) (marks : s.progress ≡
     marking c) (kept : IsMarking c s seen heap.places) (segments : IsSegments seen.segments) (are : AreShown seen.segments.layout seen mutators) where
@@ -126,7 +126,7 @@ module _ (plan : Plan) (s : State) (seen : Seen) (c : Cycle) (mutators : List Mu
         no_weaks = none_told m.young_weaks.items nothing.young_weaks;
       }
 
-  pub rests : IsAtRest c kept.core seen.segments places s.world seen.words mutators seen.marker.queue
+  pub rests : IsAtRestMarking c kept.core seen.segments places s.world seen.words mutators seen.marker.queue
   rests =
       let length_seen : length seen.mutators ≡ length s.world.mutators = ap (λ (l : List MutatorSeen). length l) are.are ∙
       length-map mutators seen_mutator ∙ many in

@@ -15,7 +15,7 @@ use Rattle.nmgc_snapshot_laws.specs.State.{State}
 use Rattle.nmgc_snapshot_laws.specs.Machine.{after_command, after_scan}
 use Rattle.nmgc_heap_spec.specs.Places.{Place, ListMeans}
 use Rattle.nmgc_round.specs.Events.{Happening, did, scanned, IsLegal, done_by, rows_in}
-use Rattle.nmgc_round.specs.View.{Answer, plain, word, FixedWord, Hand, leaves, Row as OwnRow}
+use Rattle.nmgc_round.specs.View.{Answer, plain, word, FixedWord, Hand, leaves, DoneRow as OwnRow}
 use Rattle.nmgc_round.specs.Naming.{AllReply, Replies}
 use Rattle.nmgc_round.specs.Rule.{Answers, AllAnswer}
 use Rattle.nmgc_collector_laws.specs.Worked.{Done}

@@ -24,7 +24,7 @@ use Rattle.nmgc_object.specs.declared.layout.Layout.{Layout}
 use Rattle.nmgc_blocks_spec.specs.Nurseries.{nursery_at, AreUsed, LieInOrder}
 use Rattle.nmgc_heap_spec.specs.Shape.{size_of}
 use Rattle.nmgc_heap_spec.specs.Places.{Place, Means}
-use Rattle.nmgc_round.specs.View.{Answer, word, Row, Opening, Seen}
+use Rattle.nmgc_round.specs.View.{Answer, word, DoneRow, Opening, Seen}
 use Rattle.nmgc_round.specs.Objects.{Object, place_of, end_of, IsIn}
 use Rattle.nmgc_round.specs.Rule.{now, Answers, AllAnswer}
 use Rattle.nmgc_round.specs.Events.{done_by}
@@ -53,7 +53,7 @@ given_at P at name h =
     subst (λ a. P (record { at = a; name = name })) same m.2
 
 -- rows say where, and replies which
-made_from : (P : Place → Type 0) (m at serial : ℕ) (rows : List Row) (ds : List Done) → AllAnswer P rows ds → LieFrom at rows →
+made_from : (P : Place → Type 0) (m at serial : ℕ) (rows : List DoneRow) (ds : List Done) → AllAnswer P rows ds → LieFrom at rows →
     NamedFrom m serial ds → MadeFrom P m at serial ds
 made_from P m at serial [] [] a l n = tt
 made_from P m at serial [] (d ∷ ds) a l n = absurd a

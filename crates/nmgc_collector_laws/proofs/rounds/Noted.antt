@@ -15,7 +15,7 @@ use Rattle.nmgc_object.specs.declared.layout.Layout.{Layout}
 use Rattle.nmgc_object.specs.Places.{nursery_place}
 use Rattle.nmgc_lists.specs.laws.Items.{contains_one}
 use Rattle.nmgc_heap_spec.specs.Places.{Place, Means}
-use Rattle.nmgc_round.specs.View.{Answer, plain, Hand, word_of, leaves, Row as OwnRow}
+use Rattle.nmgc_round.specs.View.{Answer, plain, Hand, word_of, leaves, DoneRow as OwnRow}
 use Rattle.nmgc_round.specs.Rule.{Answers}
 use Rattle.nmgc_mutator.specs.Records.{is_old, is_young, recorded_at, noted_by, all_recorded, depth_of}
 use Rattle.nmgc_round.specs.Own.{slots_at}

@@ -43,7 +43,7 @@ use Rattle.nmgc_world_laws.specs.laws.Shapes.{rows_keep_shapes}
 use Rattle.nmgc_world_laws.specs.laws.WorldSteps.{step_keeps_world}
 use Rattle.nmgc_heap_spec.specs.Places.{Place, Means}
 use Rattle.nmgc_heap_spec.specs.laws.Roots.{root_wide}
-use Rattle.nmgc_round.specs.View.{Answer, plain, word, Hand, word_of, leaves, Row as OwnRow}
+use Rattle.nmgc_round.specs.View.{Answer, plain, word, Hand, word_of, leaves, DoneRow as OwnRow}
 use Rattle.nmgc_round.specs.Rule.{Answers}
 use Rattle.nmgc_mutator.specs.Records.{is_old, is_young, recorded_at, noted_by, all_recorded, depth_of}
 use Rattle.nmgc_round.specs.Own.{slots_at}

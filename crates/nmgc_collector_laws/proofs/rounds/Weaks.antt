@@ -30,7 +30,7 @@ use Rattle.nmgc_world_laws.specs.laws.WorldSteps.{step_keeps_world}
 use Rattle.nmgc_world_laws.specs.laws.Steps.{Object, Stepped}
 use Rattle.nmgc_world_laws.specs.laws.Keeps.{Any, stepped, hand_nodes, still_there}
 use Rattle.nmgc_heap_spec.specs.Places.{Place, Means}
-use Rattle.nmgc_round.specs.View.{Answer, plain, word, Row as OwnRow, Hand, leaves}
+use Rattle.nmgc_round.specs.View.{Answer, plain, word, DoneRow as OwnRow, Hand, leaves}
 use Rattle.nmgc_round.specs.Rule.{Answers}
 use Rattle.nmgc_mutator.specs.Records.{weaks_by, all_weaks}
 use Rattle.nmgc_collector_laws.proofs.rounds.RowRegisters.{IsPlain}

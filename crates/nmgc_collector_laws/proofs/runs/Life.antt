@@ -38,17 +38,17 @@ use Rattle.nmgc_blocks_spec.specs.Promoted.{IsYoung}
 use Rattle.nmgc_blocks_spec.specs.Remembers.{Remembers}
 use Rattle.nmgc_journal.specs.declared.report.MutatorEnd.{MutatorEnd}
 use Rattle.nmgc_blocks_spec.specs.Cycle.{IsKeptIn, IsKeptObject, IsSweptIn, IsDeadIn}
-use Rattle.nmgc_collector_laws.specs.Collector.{AreNurseries, AreAtRest, IsAtRest, IsMarking, IsAtStop, IsAfterRound, IsNew}
+use Rattle.nmgc_collector_laws.specs.Collector.{AreNurseries, AreAtRest, IsEmptied, IsMarking, IsAtStop, IsAfterRound, IsNew}
 use Rattle.nmgc_blocks_spec.specs.Placed.{IsPlaceAtStop}
 use Rattle.nmgc_run_spec.specs.Heap.{IsPlaceAfterRound, HasAllRegisters, HoldsAtStop, HoldsAfterRound, HeapStandsFor, snapshots}
 use Rattle.nmgc_collector_laws.specs.Life.{LifeIsSeen, array_plan, array_layout, array_replies, new_words, old_words, young_words, segments_of, waiting_segment, swept_segment, hand, new_seen, opened_seen, born_seen, marking_seen, scanned_seen, closed_seen, swept_seen, ended_seen, replied}
-use Rattle.nmgc_collector_laws.specs.Marker.{IsRightSnapshot, AreMarked, AreRemembered, IsFresh}
+use Rattle.nmgc_collector_laws.specs.Marker.{IsRightSnapshot, AreMarked, AreRemembered, IsUnread}
 use Rattle.nmgc_mark.specs.Marker.{HasRoomToMark}
 use Rattle.nmgc_alloc.specs.Settled.{AreSettled}
 use Rattle.nmgc_sweep.specs.Sweeping.{HasNoted, AreKeptMarked, IsHadSoFar, IsFreedSoFar, IsSweeping}
 use Rattle.nmgc_blocks_spec.specs.Waiting.{AreAsNoted}
 use Rattle.nmgc_collector_laws.specs.Samples.{object_name}
-use Rattle.nmgc_collector_laws.specs.Seen.{Seen, MutatorSeen}
+use Rattle.nmgc_collector_laws.specs.Seen.{CollectorSeen, MutatorSeen}
 use Rattle.nmgc_mark.specs.Seen.{MarkerSeen}
 use Rattle.nmgc_run_spec.specs.State.{State}
 use Rattle.nmgc_collector_laws.proofs.runs.Array.{opened, born, begun, scanned, was_closed, swept, ended, c, rows, held, no_weak, only_filled, only_block, only_had, had_one, dead_none, kept_is, object_kept, not_g, young_is, run_of, first_turn, second_turn, third_turn, no_turn, one_turn, two_turns, three_turns, is_first, is_second, is_third}
@@ -204,21 +204,21 @@ low_nurseries : (places : List Place) (w : World) → AreLow places → AreNurse
 low_nurseries places w low = are_nurseries 320 (lit≤ tt) (lit≤ tt) places w (λ p node d high there. absurd (low p d high))
 
 -- at a stop the mutator is at rest
-at_rest : (word serial : ℕ) (places : List Place) (w : World) → AreLow places → (seen : Seen) → seen.mutators ≡ hand word serial 320 ∷ [] →
+at_rest : (word serial : ℕ) (places : List Place) (w : World) → AreLow places → (seen : CollectorSeen) → seen.mutators ≡ hand word serial 320 ∷ [] →
     AreAtRest array_layout places w seen
 at_rest word serial places w low seen e = record {
   nurseries = subst (λ (ms : List MutatorSeen). AreNurseries array_layout places w (map (λ (m : MutatorSeen).
       m.nursery) ms)) (sym e) (low_nurseries places w low);
   empty = subst (λ (ms : List MutatorSeen). NurseriesEmpty (map (λ (m : MutatorSeen). m.nursery) ms)) (sym e) empty;
-  nothing = subst (λ (ms : List MutatorSeen). (m : ℕ) (mutator : MutatorSeen) → slice_get ms m ≡ Some mutator → IsAtRest mutator) (sym e) nothing;
+  nothing = subst (λ (ms : List MutatorSeen). (m : ℕ) (mutator : MutatorSeen) → slice_get ms m ≡ Some mutator → IsEmptied mutator) (sym e) nothing;
 }
   where
     empty : NurseriesEmpty (record { base = 320; top = 320; end = 336 } ∷ [])
     empty zero = refl
     empty (suc maker) = refl
 
-    nothing : (m : ℕ) (mutator : MutatorSeen) → slice_get (hand word serial 320 ∷ []) m ≡ Some mutator → IsAtRest mutator
-    nothing zero mutator is = subst IsAtRest (some_is (hand word serial 320) mutator is) (record { recorded = refl; young_weaks = refl; entries = refl })
+    nothing : (m : ℕ) (mutator : MutatorSeen) → slice_get (hand word serial 320 ∷ []) m ≡ Some mutator → IsEmptied mutator
+    nothing zero mutator is = subst IsEmptied (some_is (hand word serial 320) mutator is) (record { recorded = refl; young_weaks = refl; entries = refl })
     nothing (suc m) mutator is = absurd cc
 
 -- the beginning
@@ -469,7 +469,7 @@ marking_first = record {
     snapshot = right_snapshot;
     marks = marked_names first_core refl;
     queue = (array_in 32, tt);
-    fresh = All-cons IsFresh _ [] refl (All-nil IsFresh);
+    fresh = All-cons IsUnread _ [] refl (All-nil IsUnread);
     count = refl;
   };
   remembered = λ m mutator_seen e.
@@ -559,7 +559,7 @@ marking_last = record {
     snapshot = right_snapshot;
     marks = marked_names last_core refl;
     queue = tt;
-    fresh = All-nil IsFresh;
+    fresh = All-nil IsUnread;
     count = refl;
   };
   remembered = λ m mutator_seen e.

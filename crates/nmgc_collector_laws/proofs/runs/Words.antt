@@ -23,7 +23,7 @@ use Rattle.std.proofs.lemmas.List.Elements.{All-cons, All-nil}
 use Rattle.std.proofs.lemmas.Bool.{eqb-true, cases_lt}
 use Rattle.std.proofs.Math.ListN.{get_or-eq_default}
 use Rattle.nmgc_blocks_spec.specs.Nurseries.{AreUsed, AreEmpty, nursery_at}
-use Rattle.nmgc_collector_laws.specs.Collector.{EachMutator, IsAtRest}
+use Rattle.nmgc_collector_laws.specs.Collector.{EachMutator, IsEmptied}
 use Rattle.nmgc_collector_laws.specs.Seen.{nurseries_of}
 use Rattle.nmgc_alloc.specs.Stands.{StandsFor, Shows}
 use Rattle.nmgc_alloc.specs.AllocState.{LiesIn, AreNames, all_empty, cells, no_cells, name_in}
@@ -348,6 +348,6 @@ object_is_seen new = (
     empty zero = refl
     empty (suc maker) = refl
 
-    nothing : EachMutator object_seen (λ m mutator. IsAtRest mutator)
-    nothing zero mutator e = subst IsAtRest (some_is _ mutator e) (record { recorded = refl; young_weaks = refl; entries = refl })
+    nothing : EachMutator object_seen (λ m mutator. IsEmptied mutator)
+    nothing zero mutator e = subst IsEmptied (some_is _ mutator e) (record { recorded = refl; young_weaks = refl; entries = refl })
     nothing (suc m) mutator e = absurd cc

@@ -6,7 +6,7 @@ use Rattle.std.proofs.lemmas.Option.{slice_get-get_or, slice_get_within}
 use Rattle.nmgc_lists.specs.laws.Items.{item_map, item}
 use Rattle.nmgc_heap_spec.specs.laws.Kinds.{map_item}
 use Rattle.nmgc_round.specs.declared.table.Round.{Round}
-use Rattle.nmgc_round.specs.View.{Row, Opening, Part, Seen, whole, hand_of, hand_now}
+use Rattle.nmgc_round.specs.View.{DoneRow, Opening, Part, Seen, whole, hand_of, hand_now}
 use Rattle.nmgc_round.specs.Naming.{AllReply}
 use Rattle.nmgc_round.specs.Seat.{RoundSeat, IsAt, seen}
 use Rattle.nmgc_round.specs.Seating.{alone, collecting, together, all_together}
@@ -69,7 +69,7 @@ module _ (o : Opening) (before : List ℕ) (round : Round) (old mutators : List 
         holds = subst (λ (y : Opening). HasHand (hand_now y (own_part seat)) s.n) w.opening ready.holds;
         nursery = ready.nursery;
         used = ready.used;
-        replied = subst (λ (rows : List Row). AllReply (own_part seat).fixed rows s.d) (sym w.added) s.did.replied;
+        replied = subst (λ (rows : List DoneRow). AllReply (own_part seat).fixed rows s.d) (sym w.added) s.did.replied;
         recorded = s.did.recorded ∙ ap (λ l. numbers l ++ all_recorded s.m.layout (hand_of o.hands k) s.did.rows) s.resting.no_recorded ∙
             (λ i. all_recorded (sym s.did.layout i) (hand_of o.hands (sym w.number i)) (sym w.added i));
         weaks = s.did.weaks ∙ ap (λ l. numbers l ++ all_weaks s.did.rows) s.resting.no_weaks ∙ (λ i. all_weaks (sym w.added i));

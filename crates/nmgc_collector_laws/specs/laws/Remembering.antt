@@ -28,14 +28,14 @@ use Rattle.nmgc_collector_laws.specs.Collector.{HasReserve}
 use Rattle.nmgc_run_spec.specs.Heap.{HoldsAfterRound, snapshots}
 use Rattle.nmgc_collector_laws.specs.Leaving.{RoundIsRemembered, RoundIsForgotten, stopped_after}
 use Rattle.nmgc_run_spec.specs.Run.{last_state}
-use Rattle.nmgc_collector_laws.specs.Seen.{Seen, ends_of, nurseries_of, recorded_in, young_weaks_in}
+use Rattle.nmgc_collector_laws.specs.Seen.{CollectorSeen, ends_of, nurseries_of, recorded_in, young_weaks_in}
 use Rattle.nmgc_run_laws.specs.Sound.{IsSoundRound}
 use Rattle.nmgc_run_spec.specs.State.{State, Plan, layout_of}
 use Rattle.nmgc_run_laws.specs.laws.Leaving.{block_low, born_high, old_low, rows_keep_headers}
 use Rattle.nmgc_run_laws.specs.laws.Places.{blocks_after_round}
 use Rattle.nmgc_run_laws.specs.laws.Runs.{states_are_sound, rounds_are_sound}
 
-module _ (plan : Plan) (s t : State) (rows : List Row) (places : List Place) (seen : Seen)
+module _ (plan : Plan) (s t : State) (rows : List Row) (places : List Place) (seen : CollectorSeen)
     (is : IsWorld s.world)
     (sound : IsSoundRound plan s rows t)
     (world_is : t.world ≡ replayed s.world rows)

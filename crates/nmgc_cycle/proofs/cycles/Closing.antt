@@ -5,7 +5,7 @@ use Rattle.nmgc_heap_spec.specs.Places.{Place}
 use Rattle.nmgc_journal.specs.declared.report.Phase.TheVariants as phase
 use Rattle.nmgc_run_spec.specs.Closing.{ClosesOrWaits}
 use Rattle.nmgc_collector_laws.specs.Collector.{HoldsInCycle, IsPacedAtStop}
-use Rattle.nmgc_collector_laws.specs.Seen.{Seen}
+use Rattle.nmgc_collector_laws.specs.Seen.{CollectorSeen}
 use Rattle.nmgc_run_spec.specs.State.{State, Progress, idle, marking, sweeping, phase_of}
 use Rattle.nmgc_blocks_spec.specs.Cycle.{Cycle}
 use Rattle.nmgc_script.specs.declared.script.Script.{Script}
@@ -23,7 +23,7 @@ words_same (Some a) None some other e = absurd cc
 words_same (Some a) (Some b) some other e = ap Some e
 
 -- a cycle that goes on in pace
-in_pace : (quota : ℕ) (s : State) (shown : Seen) (places : List Place) (q : Progress) →
+in_pace : (quota : ℕ) (s : State) (shown : CollectorSeen) (places : List Place) (q : Progress) →
     ((k : Cycle) → q ≡ marking k → IsPacedWithin quota k s shown → IsPacedAtStop quota k s shown) →
     HoldsInCycle (λ (k : Cycle). IsPacedWithin quota k s shown) q s shown places → HoldsInCycle (λ (k : Cycle). IsPacedAtStop quota k s shown) q s shown places
 in_pace quota s shown places idle goes h = h

@@ -32,13 +32,13 @@ use Rattle.nmgc_world_laws.specs.laws.Deaths.{closed_world, closed_names, closed
 use Rattle.nmgc_round.specs.View.{Opening}
 use Rattle.nmgc_blocks_spec.specs.Cycle.{IsKeptObject, Cycle}
 use Rattle.nmgc_run_spec.specs.Closing.{Closes, ClosesNow, IsForcedSoon, IsSoon}
-use Rattle.nmgc_collector_laws.specs.Collector.{AreNurseries, EachMutator, IsAtRest, IsMarking, IsPacedAtStop}
+use Rattle.nmgc_collector_laws.specs.Collector.{AreNurseries, EachMutator, IsEmptied, IsMarking, IsPacedAtStop}
 use Rattle.nmgc_run_spec.specs.Heap.{HoldsAtStop}
 use Rattle.nmgc_world_spec.specs.Listing.{Counts}
 use Rattle.nmgc_alloc.specs.Settled.{AreSettled}
 use Rattle.nmgc_sweep.specs.Sweeping.{IsSweeping}
 use Rattle.nmgc_segment.specs.Marks.{epoch_of, IsEpoch}
-use Rattle.nmgc_collector_laws.specs.Seen.{Seen, ends_of, nurseries_of}
+use Rattle.nmgc_collector_laws.specs.Seen.{CollectorSeen, ends_of, nurseries_of}
 use Rattle.nmgc_run_laws.specs.Sound.{IsSoundState, left_of}
 use Rattle.nmgc_run_spec.specs.State.{State, Progress, idle, marking, sweeping, phase_of, plan_of, layout_of}
 use Rattle.nmgc_run_laws.specs.laws.Tracks.{tracked_fewer}
@@ -89,7 +89,7 @@ died_are o [] (death ∷ deaths) h = absurd h
 died_are o (weak ∷ dead) [] h = absurd h
 died_are o (weak ∷ dead) (death ∷ deaths) h = ap (λ (n : Name). n ∷ died deaths) h.0.0 ∙ ap (λ (l : List Name). weak ∷ l) (died_are o dead deaths h.1)
 
-module _ (Paced : Cycle → State → Seen → Type 0) (laws : ClosingLaws) (script : Script) (c : Collector) (st : State) (k : Cycle) (m : Marking)
+module _ (Paced : Cycle → State → CollectorSeen → Type 0) (laws : ClosingLaws) (script : Script) (c : Collector) (st : State) (k : Cycle) (m : Marking)
     (h : StandsInPace Paced script (record c { progress = doing.Marking m }) (record st { progress = marking k }))
     (n : Collector) (some : IsSome n.words) (w : Sweeping)
     (cl : IsClosed st.number (words_in c.words) (words_in n.words) c.segments n.segments c.weaks n.weaks c.mutators.items n.mutators.items m w) where
@@ -334,13 +334,13 @@ module _ (Paced : Cycle → State → Seen → Type 0) (laws : ClosingLaws) (scr
     ends = h.nurseries.ends;
   }
 
-  rest_then : EachMutator (seen next) (λ i mutator. IsAtRest mutator)
+  rest_then : EachMutator (seen next) (λ i mutator. IsEmptied mutator)
   rest_then i x e =
       let new_one = map_item seen_mutator later i x e in
       let was = one_with cl.joined.queues c.mutators.items later queue_count cl.joined.have i new_one.0 new_one.1 in
       let rest = h.rest i (seen_mutator was.0) (item_map seen_mutator c.mutators.items i was.0 was.1) in
       let is : x ≡ seen_mutator (record was.0 { queue = new_one.0.queue }) = new_one.2 ∙ ap seen_mutator was.2 in
-      subst IsAtRest (sym is) (record { recorded = rest.recorded; young_weaks = rest.young_weaks; entries = rest.entries })
+      subst IsEmptied (sym is) (record { recorded = rest.recorded; young_weaks = rest.young_weaks; entries = rest.entries })
 
   pub leads : Closes k s t × StandsAt script next t
   leads = (
@@ -364,7 +364,7 @@ module _ (Paced : Cycle → State → Seen → Type 0) (laws : ClosingLaws) (scr
   )
 
 -- whatever is known of its pace, a marker that finished closes its cycle
-module _ (Paced : Cycle → State → Seen →
+module _ (Paced : Cycle → State → CollectorSeen →
     Type 0) (laws : ClosingLaws) (script : Script) (old new : Collector) (s : State) (k : Cycle) (m : Marking) (w : Sweeping)
     (h : StandsInPace Paced script old s) (is : s.progress ≡ marking k) (at : old.progress ≡ doing.Marking m) (progress : new.progress ≡ doing.Sweeping w)
     (rest : new ≡ record old { words = new.words; segments = new.segments; progress = new.progress; weaks = new.weaks; mutators = new.mutators })
@@ -420,7 +420,7 @@ module _ (Paced : Cycle → State → Seen →
 
 pub finishing_leads : ClosingLaws → FinishingLeads
 finishing_leads laws script old new s k m w limits h is at none_left progress closing cl =
-    let P : Cycle → State → Seen → Type 0 = IsPacedWithin script.config.quota in
+    let P : Cycle → State → CollectorSeen → Type 0 = IsPacedWithin script.config.quota in
     let there = closes_there P laws script old new s k m w h is at progress closing.rest closing.has_words cl in
     let paced : IsPacedWithin script.config.quota k (record s { progress = marking k }) (seen (record old { progress = doing.Marking m })) =
     paced_there P laws script old new s k m w h is at progress closing.rest closing.has_words cl in
@@ -448,7 +448,7 @@ module _ (laws : ClosingLaws) (script : Script) (old new : Collector) (s : State
   by_case doing.Idle (sweeping k since) at is e step = absurd (let bad : phase.Idle ≡ phase.Sweeping = e in cc)
   by_case (doing.Marking m) idle at is e step = absurd (let bad : phase.Marking ≡ phase.Idle = e in cc)
   by_case (doing.Marking m) (marking k) at is e step =
-      let P : Cycle → State → Seen → Type 0 = IsPacedAtStop script.config.quota in
+      let P : Cycle → State → CollectorSeen → Type 0 = IsPacedAtStop script.config.quota in
       let t = closes_there P laws script old new s k m step.0 h is at step.1 closing.rest closing.has_words step.2 in
       let paced : IsPacedAtStop script.config.quota k (record s { progress = marking k }) (seen (record old { progress = doing.Marking m })) =
       paced_there P laws script old new s k m step.0 h is at step.1 closing.rest closing.has_words step.2 in

@@ -12,7 +12,7 @@ use Rattle.nmgc_run_spec.specs.Closing.{IsSoon}
 use Rattle.nmgc_collector_laws.specs.Collector.{IsPacedAfterRound, IsPacedAtStop}
 use Rattle.nmgc_world_spec.specs.Listing.{Counts}
 use Rattle.nmgc_collector_laws.specs.Marker.{IsCoreOf, IsTied}
-use Rattle.nmgc_collector_laws.specs.Seen.{Seen}
+use Rattle.nmgc_collector_laws.specs.Seen.{CollectorSeen}
 use Rattle.nmgc_mark.specs.Seen.{WorkSeen}
 use Rattle.nmgc_run_spec.specs.State.{State}
 use Rattle.nmgc_run_laws.specs.laws.Closings.{one_more}
@@ -21,7 +21,7 @@ use Rattle.nmgc_lists.specs.laws.Items.{some_wait}
 
 -- what the round left is in pace, and what was added since only waits behind it
 pub paced_within : ClosingIsSoon → ClosingIsPaced → PaceAtStop →
-    (quota : ℕ) (c : Cycle) (t : State) (old new : Seen) (allocation : AllocState) (places : List Place) (core : Core) → IsSound (interval_of c) →
+    (quota : ℕ) (c : Cycle) (t : State) (old new : CollectorSeen) (allocation : AllocState) (places : List Place) (core : Core) → IsSound (interval_of c) →
     IsCoreOf c t.world core → IsTied c allocation old.segments places old.marker core → c.from + 1 ≤ t.number → IsPacedAfterRound quota c t old →
     Scans old.marker new.marker 0 → old.marker.marked ≤ new.marker.marked → new.work ≡ old.work → IsPacedWithin quota c t new
 paced_within soon paced at_stop quota c t old new allocation places core sound is_core tied after pace scans grows same = record {
@@ -33,7 +33,7 @@ paced_within soon paced at_stop quota c t old new allocation places core sound i
 }
 
 -- a closing by force isn't too late: each round since the snapshot scanned its quota, and something waits still
-pub forced_soon : (quota : ℕ) (c : Cycle) (s : State) (seen : Seen) (kept : ℕ) → IsPacedAtStop quota c s seen → seen.marker.marked ≤ kept →
+pub forced_soon : (quota : ℕ) (c : Cycle) (s : State) (seen : CollectorSeen) (kept : ℕ) → IsPacedAtStop quota c s seen → seen.marker.marked ≤ kept →
     Counts (IsKeptObject c) kept → IsSoon quota c s.number
 forced_soon quota c s seen kept paced more counts = elim (cases_lt c.from s.number) [
   | inr first ↦ inl (omega (arith, first))

@@ -29,7 +29,7 @@ use Rattle.nmgc_mark.specs.Marker.{HasMarked, blank}
 use Rattle.nmgc_minor.specs.Promotion.{IsFor}
 use Rattle.nmgc_mutator.specs.declared.mutator.Mutator.{Mutator}
 use Rattle.nmgc_round.specs.View.{Opening}
-use Rattle.nmgc_collector_laws.specs.Collector.{AreNurseries, EachMutator, IsAtRest, IsMarking, IsPacedAtStop}
+use Rattle.nmgc_collector_laws.specs.Collector.{AreNurseries, EachMutator, IsEmptied, IsMarking, IsPacedAtStop}
 use Rattle.nmgc_weak.specs.Queues.{weak_count}
 use Rattle.nmgc_run_laws.specs.Course.{CyclesBeginInCourse}
 use Rattle.nmgc_run_spec.specs.Heap.{HoldsAtStop, snapshots}
@@ -123,12 +123,12 @@ module _ (laws : BeginningLaws) (script : Script) (c : Collector) (s : State) (h
         line = own.line;
       })
 
-  rest_then : EachMutator (seen next) (λ n mutator. IsAtRest mutator)
+  rest_then : EachMutator (seen next) (λ n mutator. IsEmptied mutator)
   rest_then n mutator e =
       let x = map_item seen_mutator before.mutators.items n mutator e in
       let b = was n x.0 x.1 in
-      let left : IsAtRest (seen_mutator b.0) = h.rest n (seen_mutator b.0) (seen_at c.mutators.items n b.0 b.1) in
-      subst IsAtRest (sym (x.2 ∙ ap seen_mutator b.2.rest)) (record { recorded = left.recorded; young_weaks = left.young_weaks; entries = left.entries })
+      let left : IsEmptied (seen_mutator b.0) = h.rest n (seen_mutator b.0) (seen_at c.mutators.items n b.0 b.1) in
+      subst IsEmptied (sym (x.2 ∙ ap seen_mutator b.2.rest)) (record { recorded = left.recorded; young_weaks = left.young_weaks; entries = left.entries })
 
   queue_room_then : EachMutator (seen next) (λ n mutator. weak_count s.world n (seen next).weaks ≤ mutator.queue.spare)
   queue_room_then n mutator e =

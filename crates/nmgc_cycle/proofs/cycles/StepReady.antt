@@ -13,7 +13,7 @@ use Rattle.nmgc_mutator.specs.declared.mutator.Mutator.{Mutator}
 use Rattle.nmgc_weak.specs.Queues.{weak_count}
 use Rattle.nmgc_mark.specs.Marker.{HasRoomToMark}
 use Rattle.nmgc_mark.specs.Seen.{MarkerSeen}
-use Rattle.nmgc_collector_laws.specs.Seen.{end_of, Seen, ends_of}
+use Rattle.nmgc_collector_laws.specs.Seen.{end_of, CollectorSeen, ends_of}
 use Rattle.nmgc_weak.specs.Closes.{DeathsHaveRoom}
 use Rattle.nmgc_weak.specs.declared.weaks.OldWeak.{OldWeak}
 use Rattle.nmgc_cycle.specs.declared.progress.Marking.{Marking}
@@ -26,13 +26,13 @@ use Rattle.nmgc_alloc.specs.declared.search.Sought.TheVariants as sought
 use Rattle.nmgc_alloc.specs.laws.Turning.{prepared_stands}
 use Rattle.nmgc_collector_laws.specs.Heaps.{AreShown, HeapRests}
 use Rattle.nmgc_collector_laws.specs.Prepares.{StopIsPrepared, all_prepared}
-use Rattle.nmgc_collector_laws.specs.RestMarking.{IsAtRest as RestsBeside, opening_beside}
+use Rattle.nmgc_collector_laws.specs.RestMarking.{IsAtRestMarking as RestsBeside, opening_beside}
 use Rattle.nmgc_journal.specs.declared.report.Phase.TheVariants as phase
 use Rattle.nmgc_mark.specs.Beginning.{IsBeginning, IsPrepared}
 use Rattle.nmgc_mark.specs.Stopped.{IsReady}
 use Rattle.nmgc_object.specs.FinQueue.{FinQueue}
 use Rattle.nmgc_round.specs.View.{Opening}
-use Rattle.nmgc_collector_laws.specs.Collector.{AreAtRest, HoldsInCycle, IsAtRest, IsMarking, IsPacedAtStop}
+use Rattle.nmgc_collector_laws.specs.Collector.{AreAtRest, HoldsInCycle, IsEmptied, IsMarking, IsPacedAtStop}
 use Rattle.nmgc_run_laws.specs.Course.{IsInCourse}
 use Rattle.nmgc_run_spec.specs.Heap as run
 use Rattle.nmgc_alloc.specs.Settled.{AreSettled}
@@ -57,11 +57,11 @@ use Rattle.nmgc_cycle.proofs.lists.Views.{registers_seen, queues_seen}
 -- Closing
 
 -- what is known of the pace doesn't matter
-abbrev pub StandsInPace : (Cycle → State → Seen → Type 0) → Script → Collector → State → Type 0
-StandsInPace Paced script c s = StandsForState Paced IsAtRest script c s
+abbrev pub StandsInPace : (Cycle → State → CollectorSeen → Type 0) → Script → Collector → State → Type 0
+StandsInPace Paced script c s = StandsForState Paced IsEmptied script c s
 
 -- the mutators are shown as the collector has them
-pub are_shown : (Paced : Cycle → State → Seen → Type 0) (script : Script) (c : Collector) (s : State) → StandsInPace Paced script c s →
+pub are_shown : (Paced : Cycle → State → CollectorSeen → Type 0) (script : Script) (c : Collector) (s : State) → StandsInPace Paced script c s →
     AreShown c.segments.layout (seen c) c.mutators.items
 are_shown Paced script c s h = record {
   are = refl;
@@ -69,7 +69,7 @@ are_shown Paced script c s h = record {
 }
 
 -- while a cycle marks, its marker may finish, with the heap at rest
-module _ (Paced : Cycle → State → Seen →
+module _ (Paced : Cycle → State → CollectorSeen →
     Type 0) (rests : HeapRests) (script : Script) (c : Collector) (s : State) (h : StandsInPace Paced script c s) (k : Cycle) (is : s.progress ≡
     marking k) where
   abbrev pub marks : IsMarking k s (seen c) h.heap.places × Paced k s (seen c)
@@ -86,7 +86,7 @@ module _ (Paced : Cycle → State → Seen →
   abbrev pub stop : IsStopOf (layout_of (plan_of script)) k s (seen c) c.mutators.items
   stop = record { heap = h.heap; kept = marks.0; rest = rests_there.0 }
 
-module _ (Paced : Cycle → State → Seen →
+module _ (Paced : Cycle → State → CollectorSeen →
     Type 0) (rests : HeapRests) (core_snapshot : CoreHasSnapshot) (may : FinishMayResolve) (deaths_room : DeathsHaveRoom) (script : Script)
     (c : Collector) (s : State) (h : StandsInPace Paced script c s) (k : Cycle) (is : s.progress ≡ marking k) where
   abbrev now : IsMarking k s (seen c) h.heap.places × Paced k s (seen c)
@@ -130,7 +130,7 @@ module _ (Paced : Cycle → State → Seen →
         (λ m queue is. subst (λ (w : World). weak_count w m (seen c).weaks ≤ queue.spare) (ap (λ (x : Core). x.snapshot) (sym f.rest)) (own_room m queue is));
   }
 
-module _ (Paced : Cycle → State → Seen →
+module _ (Paced : Cycle → State → CollectorSeen →
     Type 0) (rests : HeapRests) (core_snapshot : CoreHasSnapshot) (may : FinishMayResolve) (deaths_room : DeathsHaveRoom) (script : Script)
     (c : Collector) (s : State) (h : StandsInPace Paced script c s) where
   now_by : (p : Doing) (q : Progress) → c.progress ≡ p → s.progress ≡ q → phase_in p ≡ phase_of q →

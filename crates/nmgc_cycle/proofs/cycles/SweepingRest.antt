@@ -19,7 +19,7 @@ use Rattle.nmgc_blocks_spec.specs.Cycle.{IsKeptIn, Cycle}
 use Rattle.nmgc_collector_laws.specs.Collector.{AreNurseries}
 use Rattle.nmgc_run_spec.specs.Heap.{HoldsAtStop}
 use Rattle.nmgc_alloc.specs.Settled.{AreSettled}
-use Rattle.nmgc_collector_laws.specs.Seen.{Seen, ends_of, nurseries_of}
+use Rattle.nmgc_collector_laws.specs.Seen.{CollectorSeen, ends_of, nurseries_of}
 use Rattle.nmgc_run_laws.specs.Sound.{IsOfSnapshot, IsSoundState}
 use Rattle.nmgc_run_spec.specs.State.{State, Progress, idle, marking, sweeping, phase_of, plan_of, layout_of, waiting_count}
 use Rattle.nmgc_run_spec.specs.Stop.{SweepsRest}
@@ -59,7 +59,7 @@ alive_other w world weak alive is =
     no_weak w.shared (Some alive.0) world.shared node
 
 -- of fewer places no more are in nurseries
-pub fewer_nurseries : (layout : Layout) (s : State) (earlier : List World) (places fewer : List Place) (seen : Seen) →
+pub fewer_nurseries : (layout : Layout) (s : State) (earlier : List World) (places fewer : List Place) (seen : CollectorSeen) →
     DropsFreed layout earlier s.world places fewer → AreNurseries layout places s.world (nurseries_of seen) →
     AreNurseries layout fewer s.world (nurseries_of seen)
 fewer_nurseries layout s earlier places fewer seen drops h = record {

@@ -163,7 +163,7 @@ module _ (script : Script) (c : Collector) (inbox : List Receiver) (mutators : V
     replies = w.replies;
     history = w.history;
     worked = w.worked;
-    after = subst (λ (s : run.Seen). IsAfterRound (plan_of script) w.run w.replies w.history w.worked s) same_seen w.after;
+    after = subst (λ (s : run.CollectorSeen). IsAfterRound (plan_of script) w.run w.replies w.history w.worked s) same_seen w.after;
     sweeper = sweeps_both w.worked.progress w.worked c inbox mutators w.sweeper;
     named = w.named;
     few = few_before script c inbox mutators (last_state w.run).world w.worked.world w.few;

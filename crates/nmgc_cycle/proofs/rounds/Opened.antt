@@ -86,7 +86,7 @@ module _ (laws : CanOpenRounds) (script : Script) (c : Collector) (run : Run) (l
 
   -- and where one does
   pub rests_beside : (k : Cycle) → (last_state run).progress ≡ marking k → (h : IsMarking k (last_state run) (seen c) still.at_stop.heap.places) →
-      beside.IsAtRest k h.core c.segments still.at_stop.heap.places (last_state run).world (seen c).words c.mutators.items (seen c).marker.queue
+      beside.IsAtRestMarking k h.core c.segments still.at_stop.heap.places (last_state run).world (seen c).words c.mutators.items (seen c).marker.queue
   rests_beside k e h = (laws.rests (plan_of script) (last_state run) (seen c) k c.mutators.items (sound_state script c run limits still)
       still.at_stop.heap still.at_stop.at_rest e h still.kept.sound shown_are).0
 

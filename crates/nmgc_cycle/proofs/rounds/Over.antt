@@ -104,7 +104,7 @@ module _ (script : Script) (c new : Collector) (o : Opening) (x : IsOver script 
     rounds = c.rounds ++ record { replies = told } ∷ [];
   }
 
-  abbrev pub shown : run.Seen
+  abbrev pub shown : run.CollectorSeen
   shown = seen last
 
   pub worked : HaveWorked o (gathered o x.did.scans x.did.seats).parts new.mutators.items x.did.done

@@ -23,7 +23,7 @@ use Rattle.nmgc_mutator.specs.Ready.{words_by}
 use Rattle.nmgc_round.specs.Naming.{AllReply}
 use Rattle.nmgc_round.specs.Objects.{earlier}
 use Rattle.nmgc_round.specs.Starting.{CanOpen}
-use Rattle.nmgc_round.specs.View.{FixedWord, Opening, Row}
+use Rattle.nmgc_round.specs.View.{FixedWord, Opening, DoneRow}
 use Rattle.nmgc_collector_laws.specs.Turn.{RoundIsStopped, stop_after}
 use Rattle.nmgc_collector_laws.specs.Worked as turn
 use Rattle.nmgc_collector_laws.specs.Worked.{Done}
@@ -71,7 +71,7 @@ none_done : (d : List Done) → commands_of d ≡ [] → d ≡ []
 none_done [] e = refl
 none_done (x ∷ d) e = absurd (let count : length (commands_of (x ∷ d)) ≡ 0 = ap length e in omega arith)
 
-none_made : (fixed : List FixedWord) (own : List Row) → AllReply fixed own [] → words_by own ≡ 0
+none_made : (fixed : List FixedWord) (own : List DoneRow) → AllReply fixed own [] → words_by own ≡ 0
 none_made fixed [] h = refl
 none_made fixed (r ∷ rest) h = absurd h
 

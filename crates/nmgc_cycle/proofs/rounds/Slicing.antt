@@ -7,7 +7,7 @@ use Rattle.nmgc_world_spec.specs.declared.command.Command.{Command}
 use Rattle.nmgc_world_spec.specs.Command.{words_made}
 use Rattle.nmgc_object.specs.declared.layout.Layout.{Layout}
 use Rattle.nmgc_round.specs.declared.table.Round.{Round}
-use Rattle.nmgc_round.specs.View.{Opening, Row, FixedWord}
+use Rattle.nmgc_round.specs.View.{Opening, DoneRow, FixedWord}
 use Rattle.nmgc_round.specs.Naming.{AllReply}
 use Rattle.nmgc_round.specs.Seat.{RoundSeat, seen}
 use Rattle.nmgc_round.specs.Seating.{alone}
@@ -31,7 +31,7 @@ abbrev pub commands_of : List Done → List Command
 commands_of done = map (λ (d : Done). d.0) done
 
 -- rows make as many words as their commands
-made_by : (fixed : List FixedWord) (rows : List Row) (done : List Done) → AllReply fixed rows done → words_by rows ≡ all_made (commands_of done)
+made_by : (fixed : List FixedWord) (rows : List DoneRow) (done : List Done) → AllReply fixed rows done → words_by rows ≡ all_made (commands_of done)
 made_by fixed [] [] h = refl
 made_by fixed [] (d ∷ done) h = absurd h
 made_by fixed (r ∷ rows) [] h = absurd h

@@ -19,16 +19,16 @@ use Rattle.nmgc_blocks_spec.specs.Remembers.{Remembers}
 use Rattle.nmgc_blocks_spec.specs.Stopped.{Stopped, IsStopped, IsRoundOf}
 use Rattle.nmgc_collector_laws.specs.Collector.{AreAtRest}
 use Rattle.nmgc_run_spec.specs.Heap.{HoldsAtStop, registers_of, queues_of, serials_of, snapshots}
-use Rattle.nmgc_collector_laws.specs.Seen.{Seen, MutatorSeen, ends_of, nurseries_of, recorded_in, young_weaks_in}
+use Rattle.nmgc_collector_laws.specs.Seen.{CollectorSeen, MutatorSeen, ends_of, nurseries_of, recorded_in, young_weaks_in}
 use Rattle.nmgc_run_spec.specs.State.{Plan, State, start, layout_of}
 use Rattle.nmgc_run_laws.specs.laws.Places.{blocks_at_stop}
 use Rattle.nmgc_run_laws.specs.laws.Common.{places_low}
 
 -- the heap of a state, at a stop that follows this world
-abbrev pub stopped_in : World → State → List Place → Seen → Stopped
+abbrev pub stopped_in : World → State → List Place → CollectorSeen → Stopped
 stopped_in began s places seen = record { world = s.world; began = began; later = snapshots s.progress; places = places; serials = serials_of (ends_of seen) }
 
-module _ (plan : Plan) (seen : Seen)
+module _ (plan : Plan) (seen : CollectorSeen)
     (is : IsWorld (start plan).world)
     (segments : IsSegments seen.segments)
     (h : HoldsAtStop (layout_of plan) (start plan) seen.words seen.segments (ends_of seen) seen.weaks)

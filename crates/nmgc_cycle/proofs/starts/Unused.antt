@@ -13,7 +13,7 @@ use Rattle.nmgc_blocks_spec.specs.Nurseries.{nursery_at, AreEmpty}
 use Rattle.nmgc_heap_spec.specs.Places.{Place, shared_place}
 use Rattle.nmgc_mutator.specs.declared.mutator.Mutator.{Mutator}
 use Rattle.nmgc_mutator.specs.Records.{numbers}
-use Rattle.nmgc_collector_laws.specs.Collector.{IsAtRest, AreNurseries}
+use Rattle.nmgc_collector_laws.specs.Collector.{IsEmptied, AreNurseries}
 use Rattle.nmgc_collector_laws.specs.Seen.{MutatorSeen}
 use Rattle.nmgc_cycle.specs.Shown.{seen_mutator}
 use Rattle.nmgc_cycle.proofs.starts.News.{AreNew}
@@ -69,8 +69,8 @@ module _ (layout : Layout) (mutators : List Mutator) (new : AreNew layout mutato
   }
 
   pub nothing_left : ((k : ℕ) (m : Mutator) → slice_get mutators k ≡ Some m → m.sender.since ≡ []) → (k : ℕ) (s : MutatorSeen) →
-      slice_get (map seen_mutator mutators) k ≡ Some s → IsAtRest s
-  nothing_left unsent = each_seen IsAtRest mutators (λ k m e. record {
+      slice_get (map seen_mutator mutators) k ≡ Some s → IsEmptied s
+  nothing_left unsent = each_seen IsEmptied mutators (λ k m e. record {
     recorded = ap numbers (new k m e).recorded;
     young_weaks = ap numbers (new k m e).young_weaks;
     entries = ap (λ (l : List Address). numbers (l ++ m.updrem.items)) (unsent k m e) ∙ ap numbers (new k m e).updrem;

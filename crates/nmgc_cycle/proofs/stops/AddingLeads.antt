@@ -20,7 +20,7 @@ use Rattle.nmgc_mutator.specs.declared.mutator.Mutator.{Mutator}
 use Rattle.nmgc_mutator.specs.Records.{numbers}
 use Rattle.nmgc_updrem.specs.Rings.{Receiver}
 use Rattle.nmgc_script.specs.declared.script.Script.{Script}
-use Rattle.nmgc_collector_laws.specs.Collector.{AreNurseries, EachMutator, HoldsInCycle, IsAtRest, IsMarking}
+use Rattle.nmgc_collector_laws.specs.Collector.{AreNurseries, EachMutator, HoldsInCycle, IsEmptied, IsMarking}
 use Rattle.nmgc_weak.specs.Queues.{weak_count}
 use Rattle.nmgc_run_spec.specs.Heap.{HoldsAtStop, HasAllRegisters, registers_of, queues_of, serials_of}
 use Rattle.nmgc_mark.specs.Marker.{HasRoomToMark}
@@ -93,13 +93,13 @@ module _ (script : Script) (old : Collector) (s : State) (h : StandsPromoted scr
       let x = item old.mutators.items k (omega (arith, within, count)) in
       (x.0, x.1, forgot.each k x.0 m x.1 e)
 
-  pub at_rest : (k : ℕ) (m : MutatorSeen) → slice_get (seen then).mutators k ≡ Some m → IsAtRest m
+  pub at_rest : (k : ℕ) (m : MutatorSeen) → slice_get (seen then).mutators k ≡ Some m → IsEmptied m
   at_rest k m e =
       let x = map_item seen_mutator mutators.items k m e in
       let was = one_forgot k x.0 x.1 in
       let left = h.rest k (seen_mutator was.0) (seen_at old.mutators.items k was.0 was.1) in
       let f = was.2 in
-      subst IsAtRest (sym x.2) (record {
+      subst IsEmptied (sym x.2) (record {
         recorded = ap (λ (y : Mutator). numbers y.recorded.items) f.rest ∙ left.recorded;
         young_weaks = ap (λ (y : Mutator). numbers y.young_weaks.items) f.rest ∙ left.young_weaks;
         entries = f.nothing;

@@ -13,7 +13,7 @@ use Rattle.nmgc_heap_spec.specs.Shape.{Slot, unset, header_of, size_of, slots_of
 use Rattle.nmgc_heap_spec.specs.Tracked.{IsTracked}
 use Rattle.nmgc_heap_spec.specs.Places.{Place, Fills, HasSlots, LiesWell, IsBetween}
 use Rattle.nmgc_heap_spec.specs.Represents.{IsNamed, IsObject, IsPlaced, Represents}
-use Rattle.nmgc_heap_spec.specs.Changes.{AreEarlier, HaveHeaders, IsTold, IsBorn}
+use Rattle.nmgc_heap_spec.specs.Changes.{AreEarlier, HaveHeaders, IsSpokenOf, IsBorn}
 use Rattle.nmgc_heap_spec.specs.laws.Slots.{fixed_own, slots_more}
 use Rattle.nmgc_heap_spec.specs.laws.Changes.{lies_within, not_between, still_object, still_placed}
 
@@ -94,7 +94,7 @@ module _ (layout : Layout) (earlier : List World) (K L : Name → Node →
   }
 
   -- an object that is told has no further place among its words
-  alone_still : (p : Place) (node : Node) → Contains places p → IsTold layout earlier w p → node_of w p.name ≡ Some node →
+  alone_still : (p : Place) (node : Node) → Contains places p → IsSpokenOf layout earlier w p → node_of w p.name ≡ Some node →
       IsObject layout places words p node → (q : Place) → Contains more q → (q.at ≤ p.at) ⊎ (p.at + size_of node ≤ q.at)
   alone_still p node c t is o q d = elim (b.place.no_other q d) [
     | inl old ↦ o.alone q old
@@ -105,7 +105,7 @@ module _ (layout : Layout) (earlier : List World) (K L : Name → Node →
     ])
   ]
 
-  same_words : (p : Place) (node : Node) → Contains places p → IsTold layout earlier w p → node_of w p.name ≡ Some node → (i : ℕ) → p.at ≤ i →
+  same_words : (p : Place) (node : Node) → Contains places p → IsSpokenOf layout earlier w p → node_of w p.name ≡ Some node → (i : ℕ) → p.at ≤ i →
       i < p.at + size_of node → slice_index us i ≡ slice_index words i
   same_words p node c t is i lo hi = away i (λ e. elim (b.apart.objects p node c t is) [ inl l ↦ omega arith | inr l ↦ omega arith ])
 

@@ -23,7 +23,7 @@ use Rattle.nmgc_heap_spec.specs.Shape.{Slot, holds, unset, untold, header_of, sl
 use Rattle.nmgc_heap_spec.specs.Tracked.{IsTracked}
 use Rattle.nmgc_heap_spec.specs.Places.{Place, AllMean, ListMeans, Fills, HasSlots, LiesWell}
 use Rattle.nmgc_heap_spec.specs.Represents.{NoNode, IsNamed, IsObject, IsPlaced, Represents}
-use Rattle.nmgc_heap_spec.specs.Moves.{Moved, Moves, StillSpoken, Copies, Keeps, new_place, old_place, settled}
+use Rattle.nmgc_heap_spec.specs.Moves.{Moved, Moves, StillSpoken, Copies, KeepsObject, new_place, old_place, settled}
 use Rattle.nmgc_heap_spec.specs.laws.Slots.{slot_count, free_count, free_held, strong_held}
 use Rattle.nmgc_heap_spec.specs.laws.Tracking.{slot_tracked, tracked_more}
 
@@ -133,7 +133,7 @@ module _ (layout : Layout) (base : ℕ) (later earlier : List World) (K : Name �
 
   -- the fields of a tracked object that stays
   fields_kept : (name : Name) (node : Node) (at : ℕ) → IsTracked w later name → node_of w name ≡ Some node →
-      Keeps base places forward old new at node → HasSlots (Contains places) old (at + HEADER_WORDS) (slots_of node) →
+      KeepsObject base places forward old new at node → HasSlots (Contains places) old (at + HEADER_WORDS) (slots_of node) →
       HasSlots (Contains (settled base moves places)) new (at + HEADER_WORDS) (slots_of node)
   fields_kept name node at t is keeps has i slot e =
       let few = sized name node is in
@@ -146,7 +146,7 @@ module _ (layout : Layout) (base : ℕ) (later earlier : List World) (K : Name �
             ap Some s) there) (has i slot e))
       ]
 
-  free_after : (name : Name) (node : Node) (at : ℕ) → node_of w name ≡ Some node → Keeps base places forward old new at node →
+  free_after : (name : Name) (node : Node) (at : ℕ) → node_of w name ≡ Some node → KeepsObject base places forward old new at node →
       ((e : World) (before : Node) → Contains earlier e → node_of e name ≡ Some before →
       HasSlots (Contains places) old (at + HEADER_WORDS) (free_slots before)) → (e : World) (before : Node) → Contains later e →
       node_of e name ≡ Some before → HasSlots (Contains (settled base moves places)) new (at + HEADER_WORDS) (free_slots before)

@@ -12,7 +12,7 @@ ghost use Rattle.nmgc_heap_tests.specs.Checked.{IsYoungMutator};
 use nmgc_alloc::Segments;
 use nmgc_blocks_spec::laws::one_young_object;
 use nmgc_limits::REGISTERS;
-use nmgc_lists::{List, Place, Placed};
+use nmgc_lists::{List, ListMemory, Placed};
 use nmgc_minor::{Move, Promotion};
 use nmgc_mutator::Mutator;
 use nmgc_object::{Address, FinQueue, Layout, Nursery};
@@ -86,7 +86,7 @@ fn young_mutator(alloc: Global, small: Layout) -> Result<Mutator, Fail>
     let mut registers = Vec::from_elem(alloc, NIL, REGISTERS as usize)?;
     registers[0] = 4160;
     registers[1] = 13;
-    mutator.registers = Placed::of(registers, Place::new(alloc)?);
+    mutator.registers = Placed::of(registers, ListMemory::new(alloc)?);
     mutator.queue = FinQueue::new(alloc);
     mutator.nursery = Nursery {
         base: 2080,

@@ -11,7 +11,7 @@ ghost use Rattle.nmgc_round.specs.Ready.{HasPart, scanned_by};
 ghost use Rattle.nmgc_heap_tests.specs.Sample.{snapshot_opening, IsSnapshotHeap, IsSnapshotMutator, IsBegun};
 
 use nmgc_limits::REGISTERS;
-use nmgc_lists::{List, NoMemory, Place, Placed};
+use nmgc_lists::{List, NoMemory, ListMemory, Placed};
 use nmgc_mutator::{Mutator, Step, laws};
 use nmgc_object::{Address, Layout};
 use nmgc_round::chosen::Wanted;
@@ -85,7 +85,7 @@ pub(super) fn mutator_with(
     registers[0] = 72;
     registers[1] = 13;
     registers[3] = 184;
-    mutator.registers = Placed::of(registers, Place::new(alloc)?);
+    mutator.registers = Placed::of(registers, ListMemory::new(alloc)?);
     mutator.serial = 16;
     Ok(mutator)
 }
@@ -110,7 +110,7 @@ pub(super) struct Begun {
 pub(super) fn begin(
     words: Words,
     room: Vec<MutatorSeat>,
-    place: Place<MutatorSeat>,
+    place: ListMemory<MutatorSeat>,
 ) -> Option<Begun>
     requires heap { IsSnapshotHeap words }
     requires room { (room.items ≡ []) × (1 ≤ vec_capacity room) }
@@ -229,7 +229,7 @@ fn read_first(
     words: Words,
     mutator: &mut Mutator,
     room: Vec<MutatorSeat>,
-    place: Place<MutatorSeat>,
+    place: ListMemory<MutatorSeat>,
     last: Vec<MutatorSeat>,
 ) -> Option<Outcome>
     requires heap { IsSnapshotHeap words }
@@ -260,7 +260,7 @@ fn written_first(
     words: Words,
     mutator: &mut Mutator,
     room: Vec<MutatorSeat>,
-    place: Place<MutatorSeat>,
+    place: ListMemory<MutatorSeat>,
     last: Vec<MutatorSeat>,
 ) -> Option<Outcome>
     requires heap { IsSnapshotHeap words }
@@ -291,7 +291,7 @@ fn compared(
     words: Words,
     mutator: &mut Mutator,
     room: Vec<MutatorSeat>,
-    place: Place<MutatorSeat>,
+    place: ListMemory<MutatorSeat>,
     last: Vec<MutatorSeat>,
 ) -> Option<Outcome>
     requires heap { IsSnapshotHeap words }
@@ -323,7 +323,7 @@ fn a_comparison_that_fails_changes_nothing(rt: HostRuntime) -> Result<(), Fail> 
     let alloc = rt.alloc();
     let words = snapshot_heap(alloc)?;
     let room = Vec::with_capacity(alloc, 1)?;
-    let place = Place::new(alloc)?;
+    let place = ListMemory::new(alloc)?;
     let mut mutator = mutator_at(alloc)?;
     let outcome = compared(words, &mut mutator, room, place, Vec::new(alloc));
     assert!(rt;
@@ -344,7 +344,7 @@ fn an_overwritten_reference_is_pushed(rt: HostRuntime) -> Result<(), Fail> {
     let alloc = rt.alloc();
     let words = snapshot_heap(alloc)?;
     let room = Vec::with_capacity(alloc, 1)?;
-    let place = Place::new(alloc)?;
+    let place = ListMemory::new(alloc)?;
     let mut mutator = mutator_at(alloc)?;
     let outcome = read_first(words, &mut mutator, room, place, Vec::new(alloc));
     assert!(rt;
@@ -358,7 +358,7 @@ fn an_overwritten_reference_is_pushed(rt: HostRuntime) -> Result<(), Fail> {
     assert!(rt; mutator.updrem.entries() == [Address(32)].as_slice());
     let words = snapshot_heap(alloc)?;
     let room = Vec::with_capacity(alloc, 1)?;
-    let place = Place::new(alloc)?;
+    let place = ListMemory::new(alloc)?;
     let mut mutator = mutator_at(alloc)?;
     let outcome = written_first(words, &mut mutator, room, place, Vec::new(alloc));
     assert!(rt;

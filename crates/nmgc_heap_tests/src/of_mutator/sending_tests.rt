@@ -4,7 +4,7 @@ ghost use Rattle.nmgc_round.specs.Seat.{IsAt, seen};
 ghost use Rattle.nmgc_round.specs.Seating.{alone};
 ghost use Rattle.nmgc_heap_tests.specs.Sample.{snapshot_opening, IsSnapshotHeap, IsSnapshotMutator};
 
-use nmgc_lists::Place;
+use nmgc_lists::ListMemory;
 use nmgc_mutator::{Mutator, Step, laws};
 use nmgc_object::Address;
 use nmgc_round::{MutatorSeat, Round, Words};
@@ -44,7 +44,7 @@ fn overwritten(
     words: Words,
     mutator: &mut Mutator,
     room: Vec<MutatorSeat>,
-    place: Place<MutatorSeat>,
+    place: ListMemory<MutatorSeat>,
 ) -> bool
     requires heap { IsSnapshotHeap words }
     requires mutator { IsSnapshotMutator mutator.old }
@@ -71,7 +71,7 @@ fn full_blocks_wait_in_the_ring(rt: HostRuntime) -> Result<(), Fail> {
     let alloc = rt.alloc();
     let words = snapshot_heap(alloc)?;
     let room = Vec::with_capacity(alloc, 1)?;
-    let place = Place::new(alloc)?;
+    let place = ListMemory::new(alloc)?;
     let (sender, mut receiver) = link(alloc)?;
     let mut mutator = mutator_with(alloc, TIMES, sender)?;
     assert!(rt; overwritten(words, &mut mutator, room, place));

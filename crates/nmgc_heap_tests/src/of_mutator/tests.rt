@@ -12,7 +12,7 @@ ghost use Rattle.nmgc_mutator.specs.Slice.{HasRoom};
 
 use crate::of_round::empty_heap;
 use nmgc_limits::MAKERS;
-use nmgc_lists::{List, NoMemory, Place};
+use nmgc_lists::{List, NoMemory, ListMemory};
 use nmgc_mutator::{Mutator, Slice, SliceEnd};
 use nmgc_object::Layout;
 use nmgc_round::chosen::Wanted;
@@ -101,7 +101,7 @@ fn slice_on(
     program: &[Command],
     slice: u32,
     room: Vec<MutatorSeat>,
-    place: Place<MutatorSeat>,
+    place: ListMemory<MutatorSeat>,
 ) -> Option<(Slice, Mutator)>
     requires layout { IsLayout layout × (layout.mutators ≡ 1) }
     requires heap { IsEmptyHeap layout words }
@@ -143,7 +143,7 @@ fn slice_of(
     let layout = small(nursery);
     let words = empty_heap(alloc, &layout)?;
     let room = Vec::with_capacity(alloc, 1)?;
-    let place = Place::new(alloc)?;
+    let place = ListMemory::new(alloc)?;
     let (sender, _receiver) = link(alloc)?;
     let mut mutator = Mutator::new(alloc, 0, layout, sender)?;
     mutator.reserve(slice)?;
@@ -583,7 +583,7 @@ fn worked<R: Threads + Sync, G: Gate>(
     words: Words,
     layout: Layout,
     room: Vec<MutatorSeat>,
-    place: Place<MutatorSeat>,
+    place: ListMemory<MutatorSeat>,
     read: &Read,
     gate: &G,
 )
@@ -623,7 +623,7 @@ fn both<R: Threads + Sync, G: Gate>(
     let layout = two();
     let words = empty_heap(alloc, &layout)?;
     let room = Vec::with_capacity(alloc, 2)?;
-    let place = Place::new(alloc)?;
+    let place = ListMemory::new(alloc)?;
     let read = Read::new();
     worked(rt, alloc, words, layout, room, place, &read, gate);
     Ok((

@@ -16,7 +16,7 @@ use Rattle.nmgc_snapshot_laws.specs.Machine.{advanced, after_scan, after_command
 use Rattle.nmgc_snapshot_laws.specs.Scan.{read_at}
 use Rattle.nmgc_object.specs.declared.layout.Layout.{Layout}
 use Rattle.nmgc_heap_spec.specs.Places.{Place}
-use Rattle.nmgc_round.specs.View.{Hand, Seen, Opening, Scan, Row, leaves, rows_leave, Answer, plain, word}
+use Rattle.nmgc_round.specs.View.{Hand, Seen, Opening, Scan, DoneRow, leaves, rows_leave, Answer, plain, word}
 use Rattle.nmgc_round.specs.Seat.{RoundSeat, seen, IsAt}
 use Rattle.nmgc_round.specs.Seating.{alone, alones}
 use Rattle.nmgc_round.specs.Empty.{first_opening, new_hand}
@@ -72,7 +72,7 @@ folded_more o m [] s = refl
 folded_more o m (x ∷ ss) s = folded_more o (after_word o m x) ss s
 
 -- what several rows leave
-pub leave_more : (h : Hand) (rs : List Row) (r : Row) → rows_leave h (rs ++ r ∷ []) ≡ leaves (rows_leave h rs) r.command r.answer
+pub leave_more : (h : Hand) (rs : List DoneRow) (r : DoneRow) → rows_leave h (rs ++ r ∷ []) ≡ leaves (rows_leave h rs) r.command r.answer
 leave_more h [] r = refl
 leave_more h (s ∷ rs) r = leave_more (leaves h s.command s.answer) rs r
 

@@ -8,7 +8,7 @@ use Rattle.nmgc_world_spec.specs.History.{Row}
 use Rattle.nmgc_segment.specs.declared.state.State.{State as Stands}
 use Rattle.nmgc_segment.specs.declared.state.State.TheVariants as stands
 use Rattle.nmgc_object.specs.declared.layout.Layout.{Layout}
-use Rattle.nmgc_alloc.specs.AllocState.{prepared_state, retired_state, AllocState, Cells, Exists, IsIn, IsTarget, NoneIs, Places, Sweeps, SweepsEach, HoldsKept, cells, no_cells, all_retired}
+use Rattle.nmgc_alloc.specs.AllocState.{prepared_state, retired_state, AllocState, Cells, Exists, IsIn, IsTarget, NoneIs, PlacesName, Sweeps, SweepsEach, HoldsKept, cells, no_cells, all_retired}
 use Rattle.nmgc_alloc.specs.laws.Cells.{begun_cells, retired_cells, swept_other, all_swept}
 use Rattle.nmgc_alloc.specs.laws.OneState.{first_cells}
 use Rattle.nmgc_alloc.specs.laws.Sound.{used_exists}
@@ -35,7 +35,7 @@ pub record SameWait (a b : AllocState) : Type 0 where
   pub same : (number : ℕ) → IsIn stands.Sweeping (cells a number) → cells b number ≡ cells a number
   pub back : (number : ℕ) → IsIn stands.Sweeping (cells b number) → cells b number ≡ cells a number
 
-module _ (layout : Layout) (a b : AllocState) (m class : ℕ) (name : Name) (p : Places layout a b m class name) where
+module _ (layout : Layout) (a b : AllocState) (m class : ℕ) (name : Name) (p : PlacesName layout a b m class name) where
   target_is : IsTarget a m class p.number → Exists a p.number × (IsIn stands.Sweeping (cells a p.number) → ⊥)
   target_is (inl one) = (one.0, λ is. let bad = sym is ∙ one.1.0 in cc)
   target_is (inr (none, inl first)) = (first.is.0, λ is. let bad = sym is ∙ first.is.1.0 in cc)

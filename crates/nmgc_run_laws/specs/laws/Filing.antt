@@ -17,7 +17,7 @@ use Rattle.nmgc_world_spec.specs.laws.Orders.{in_order_first, in_order_rest, not
 use Rattle.nmgc_object.specs.Size.{block_size}
 use Rattle.nmgc_object.specs.Words.{IsName}
 use Rattle.nmgc_object.specs.declared.layout.Layout.{Layout}
-use Rattle.nmgc_alloc.specs.AllocState.{AllocState, IsAllocState, Places, Opens, IsTarget, Sweeps, SweepsEach, HoldsKept, LiesNowhere, cells, cycle_begun, all_retired, all_empty, name_in}
+use Rattle.nmgc_alloc.specs.AllocState.{AllocState, IsAllocState, PlacesName, Opens, IsTarget, Sweeps, SweepsEach, HoldsKept, LiesNowhere, cells, cycle_begun, all_retired, all_empty, name_in}
 use Rattle.nmgc_alloc.specs.laws.Cells.{none_some, placed_where, placed_once, swept_back, swept_once, begun_names, begun_once, retired_names, retired_once, first_once}
 use Rattle.nmgc_alloc.specs.laws.OneState.{first_cells}
 use Rattle.nmgc_alloc.specs.laws.Steps.{first_sound, placed_sound, swept_sound, begun_sound, retired_sound}
@@ -48,7 +48,7 @@ world_name w world n node e = elim (cases_eq n.maker SHARED_MAKER) [
 ]
 
 -- a block of a class in which something is placed fits the segment
-pub placed_fits : (layout : Layout) (a b : AllocState) (m class : ℕ) (name : Name) → IsAllocState layout a → Places layout a b m class name →
+pub placed_fits : (layout : Layout) (a b : AllocState) (m class : ℕ) (name : Name) → IsAllocState layout a → PlacesName layout a b m class name →
     block_size class ≤ layout.words
 placed_fits layout a b m class name h p = by_opens p.opens
   where

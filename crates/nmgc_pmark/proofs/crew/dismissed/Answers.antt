@@ -4,7 +4,7 @@ use Rattle.std.specs.Vec.Iter.{into_iter_items}
 use Rattle.nmgc_lists.specs.Room.{Room}
 use Rattle.nmgc_object.specs.declared.words.Address.{Address}
 use Rattle.nmgc_pmark.specs.declared.marker.Marker.{Marker}
-use Rattle.nmgc_pmark.specs.View.{Seen}
+use Rattle.nmgc_pmark.specs.View.{ClaimsSeen}
 use Rattle.nmgc_pmark.specs.Seat.{seen, bounds_of}
 use Rattle.nmgc_pmark.specs.Crew.{found_of}
 use Rattle.nmgc_pmark.proofs.Crews.{Gathers, gathers_one, gathers_more, at_pushed, comes_at, sound_at, mapped_more, has_all, shared_among, none_left}
@@ -50,7 +50,7 @@ loop-marker-preserved c =
     record {
       all = append_assoc ms (m ∷ []) rest ∙ all;
       seat_at = c.join.ensures.seat;
-      gathers = subst (λ (v : Seen). Gathers v (c.in-Some.last ∷
+      gathers = subst (λ (v : ClaimsSeen). Gathers v (c.in-Some.last ∷
           (ms ++ m ∷ []))) (sym c.join.ensures.both) (gathers_more (seen c.loop-marker.last.seat) (c.in-Some.last ∷
           ms) m c.loop-marker.invariant.gathers sound.alone);
       lists_are = c.in_ok-push.ensures.items ∙ ap (λ (l : List (Room Address)). l ++ m.found ∷ []) c.loop-marker.invariant.lists_are ∙ sym (mapped_more ms m);

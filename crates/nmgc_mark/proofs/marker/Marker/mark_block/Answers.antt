@@ -1,6 +1,6 @@
 use Rattle.std.proofs.Common.{IsTrue, sym, subst}
 use Rattle.nmgc_segment.specs.Marks.{IsEpoch}
-use Rattle.nmgc_alloc.specs.Segments.{Marks}
+use Rattle.nmgc_alloc.specs.Segments.{MarksBlock}
 use Rattle.nmgc_lists.specs.laws.Truths.{never}
 use Rattle.nmgc_mark.proofs.Ties.{room_done, done_then, done_else, place_marked, place_turns, tied_at}
 use Rattle.nmgc_mark.proofs.marker.Marker.mark_block.Goals as goal
@@ -16,7 +16,7 @@ mark-requires-clause-block c = c.requires.begins.within
 
 pub queue-requires : goal.queue-requires
 queue-requires c =
-    let done : Marks c.args.segments.now c.mark.new.self c.args.at.0 c.epoch-epoch.result c.mark.result = record {
+    let done : MarksBlock c.args.segments.now c.mark.new.self c.args.at.0 c.epoch-epoch.result c.mark.result = record {
       number = c.args.number;
       block = c.args.block;
       begins = c.requires.begins;
@@ -32,7 +32,7 @@ returns-then-mark c =
     let t = c.mark.new.self in
     let m = c.args.self.now in
     let n = c.queue.new.self in
-    let done : Marks s t c.args.at.0 c.epoch-epoch.result c.mark.result = record {
+    let done : MarksBlock s t c.args.at.0 c.epoch-epoch.result c.mark.result = record {
       number = c.args.number;
       block = c.args.block;
       begins = c.requires.begins;
@@ -52,7 +52,7 @@ returns-else-mark c =
     let s = c.args.segments.now in
     let t = c.mark.new.self in
     let m = c.args.self.now in
-    let done : Marks s t c.args.at.0 c.epoch-epoch.result c.mark.result = record {
+    let done : MarksBlock s t c.args.at.0 c.epoch-epoch.result c.mark.result = record {
       number = c.args.number;
       block = c.args.block;
       begins = c.requires.begins;
