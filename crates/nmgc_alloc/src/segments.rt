@@ -1,5 +1,8 @@
 //! All segments, by number.
 //!
+//! The placing rule is `Allocates` in `specs/Segments.antt`; by names, as a run tells it, it is `PlacesName` in
+//! `specs/AllocState.antt`.
+//!
 //! Placing must take constant time but for the search within one segment, so nothing here looks
 //! through all segments for each object. A table has the number of each mutator's current segment of
 //! each class. Another has a tally of each kind of segment that is searched for: the free ones, the

@@ -146,7 +146,7 @@ pub fn the_heap_goes_on()
     ties_agree();
 }
 
-/// There is a heap at rest beside a cycle: the small life that `nmgc_run_spec` tells has one, at the stop where its cycle
+/// There is a heap at rest beside a cycle: the small life of `specs/Life.antt` has one, at the stop where its cycle
 /// begins to mark.
 pub fn a_small_life_rests()
     ensures { SmallLifeRests }

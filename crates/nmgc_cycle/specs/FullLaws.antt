@@ -7,7 +7,6 @@ use Rattle.nmgc_run_spec.specs.Closing as run_closing
 use Rattle.nmgc_run_spec.specs.Slice.{has_left}
 use Rattle.nmgc_run_spec.specs.State.{State, plan_of}
 use Rattle.nmgc_run_spec.specs.Stop as run
-use Rattle.nmgc_run_spec.specs.Stop as run_sweep
 use Rattle.nmgc_script.specs.declared.script.Script.{Script}
 use Rattle.nmgc_cycle.specs.declared.collector.Collector.{Collector}
 use Rattle.nmgc_cycle.specs.declared.progress.Progress.TheVariants as doing
@@ -31,7 +30,7 @@ FinishingNowLeads = (script : Script) (old new : Collector) (s : State) → IsIn
 -- what waits is swept
 abbrev pub SweepingRestLeads : Type 0
 SweepingRestLeads = (script : Script) (old new : Collector) (s : State) → IsInLimits script → StandsAt script old s → HasSweptRest old new →
-    (b : AllocState) × run_sweep.SweepsRest s.progress s.allocation b × StandsAt script new (record s { allocation = b })
+    (b : AllocState) × run.SweepsRest s.progress s.allocation b × StandsAt script new (record s { allocation = b })
 
 -- so a cycle in progress is finished, not too late, and then none is in progress
 abbrev pub FinishLeads : Type 0

@@ -41,7 +41,7 @@ use crate::worker::WorkerRoom;
 use nmgc_alloc::Segments;
 use nmgc_journal::{CycleRow, End, FinalWords, MutatorEnd, Report, RoundRows, StopRow};
 use nmgc_limits::SHARED_SLOTS;
-use nmgc_lists::{List, NoMemory, ListMemory, Placed};
+use nmgc_lists::{List, ListMemory, NoMemory, Placed};
 use nmgc_minor::Promotion;
 use nmgc_mutator::mutator::{MOST_PUSHED, Mutator};
 use nmgc_object::layout::SHARED_PLACE;

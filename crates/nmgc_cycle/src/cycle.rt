@@ -1,7 +1,9 @@
 //! The steps of a stop that lead a cycle on: it is closed, it ends, the next one begins.
 //!
 //! They come after the promotion, in this order, so at one stop a cycle may be closed and end, and another begin. All
-//! that takes memory here may fail, since the words are back from the round.
+//! that takes memory here may fail, since the words are back from the round. When a cycle may be closed, and what its
+//! closing does to the world, is said in `nmgc_run_spec`'s `specs/Closing.antt`; what the calls here do is said in
+//! `specs/Cycles.antt`, in part by the same names, and `specs/Steps.antt` leads from the one to the other.
 //!
 //! What a mutator remembers is in three places: what was taken out of its ring, then the ring, then what it keeps. In this
 //! order it goes to the marker; then all three are empty, whether a cycle marks or not, so that the two ends of the ring

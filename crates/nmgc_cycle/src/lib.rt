@@ -18,7 +18,7 @@
 //! the mutators, and ends at a stop (`progress`, `cycle`). `specs/Cycles.antt` says what each of these calls does, and
 //! `specs/Steps.antt` what it leads to in the run. A full cycle is done at one stop (`full`, `specs/Full.antt`,
 //! `specs/FullLaws.antt`). Each stop notes the name of what moved at its new place, for the sweeper (`names`).
-//! `specs/Limits.antt` says which scripts may run.
+//! `nmgc_script`'s `specs/Limits.antt` says which scripts may run.
 //!
 //! Easy to get wrong: the words of a round are with its seats, and an error between its start and its end would
 //! lose them. So all that can fail comes before the words are taken, or after they are back. After `NoMemory` no

@@ -45,7 +45,7 @@ use nmgc_collector_laws::marking::{
 };
 use nmgc_journal::{Replies, RoundRows};
 use nmgc_limits::MAKERS;
-use nmgc_lists::{List, NoMemory, ListMemory};
+use nmgc_lists::{List, ListMemory, NoMemory};
 use nmgc_mutator::laws::a_round_finds_mutators_ready;
 use nmgc_mutator::mutator::{MOST_PUSHED, Mutator};
 use nmgc_round::chosen::Wanted;

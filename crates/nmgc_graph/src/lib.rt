@@ -23,7 +23,7 @@ pub mod world;
 
 pub use marks::Marks;
 pub use nmgc_limits::{MAKERS, REGISTERS, SHARED_MAKER, SHARED_SLOTS};
-pub use nmgc_lists::{List, NoMemory, ListMemory, Placed, Queue, Room};
+pub use nmgc_lists::{List, ListMemory, NoMemory, Placed, Queue, Room};
 pub use nmgc_world_spec::{
     Change, Command, Kind, MutatorState, Name, Node, Operand, Parts, Reply, Value,
 };

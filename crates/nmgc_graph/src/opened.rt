@@ -15,11 +15,7 @@ use nmgc_world_spec::{Command, Name, Operand, Parts, Value};
 use std::alloc::Global;
 
 /// The names that a command opens, if the world took it.
-pub fn opened_by(
-    world: &World,
-    mutator: u8,
-    command: &Command,
-) -> Result<Vec<Name>, NoMemory>
+pub fn opened_by(world: &World, mutator: u8, command: &Command) -> Result<Vec<Name>, NoMemory>
     requires mutator { mutator < length world.now.mutators }
     requires registers { HasRegisters command.now }
     ensures { IfOk result (λ names. names.items ≡ opened_by world.now mutator command.now) }
@@ -39,11 +35,7 @@ pub fn opened_by(
 }
 
 /// The weak pointer that a command makes dead, if the world took it and it makes one dead.
-pub fn finalised_by(
-    world: &World,
-    mutator: u8,
-    command: &Command,
-) -> Result<Vec<Name>, NoMemory>
+pub fn finalised_by(world: &World, mutator: u8, command: &Command) -> Result<Vec<Name>, NoMemory>
     requires mutator { mutator < length world.now.mutators }
     requires registers { HasRegisters command.now }
     ensures { IfOk result (λ names. names.items ≡ finalised_by world.now mutator command.now) }

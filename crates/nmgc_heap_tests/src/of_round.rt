@@ -8,7 +8,7 @@ ghost use Rattle.nmgc_round.specs.Empty.{IsEmptyHeap, first_opening};
 ghost use Rattle.nmgc_round.specs.Ready.{HasPart};
 
 use nmgc_limits::SHARED_SLOTS;
-use nmgc_lists::{NoMemory, ListMemory};
+use nmgc_lists::{ListMemory, NoMemory};
 use nmgc_object::{Address, Layout, encode_name};
 use nmgc_round::chosen::Wanted;
 use nmgc_round::{Chosen, Gate, MutatorSeat, OpenGate, Opened, Round, Started, Words, laws};

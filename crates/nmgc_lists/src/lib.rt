@@ -2,6 +2,8 @@
 //!
 //! These are the small types that all crates share. `List`, `Placed` and `Queue` are lists to contracts; a `Room` has items and
 //! room for more, so that what mustn't fail in a round can't.
+//!
+//! `specs/laws` is the one home of lemmas on lists, options and truths that several crates need.
 #![tactic(auto)]
 
 mod cells;

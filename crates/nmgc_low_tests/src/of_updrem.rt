@@ -2,7 +2,7 @@
 ghost use Rattle.std.specs.Prelude.{◌≡◌, ◌+◌, ◌<◌, ◌≤◌, length, IfOk};
 ghost use Rattle.nmgc_updrem.specs.Rings.{IsPair};
 
-use nmgc_lists::{NoMemory, ListMemory, Placed};
+use nmgc_lists::{ListMemory, NoMemory, Placed};
 use nmgc_object::Address;
 use nmgc_updrem::*;
 use std::alloc::Global;

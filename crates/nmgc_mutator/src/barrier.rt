@@ -4,7 +4,9 @@
 //! takes out of an object, or reads out of a weak pointer, goes to the mutator's own remembered set (`push`, `push_words`)
 //! before the command ends, where it refers to an object in a segment. The swap that takes it out is one step of the round,
 //! so the marker, however late it comes, misses nothing. Whoever overwrites calls it: `set`, `cas`, `update`, `pop_value`; and
-//! `deref` and `finalise`, which read what the marker doesn't follow. It asks for no mark, and takes no memory.
+//! `deref` and `finalise`, which read what the marker doesn't follow. It asks for no mark, and takes no memory. What each
+//! command owes is the table `owed_by` of `nmgc_world_spec`'s `specs/Owed.antt`; that nothing is lost by it is the theorem
+//! of `nmgc_snapshot_laws`.
 //!
 //! The other barrier is for promotion, from old to young: a field of an object in a segment that was given a young object is
 //! recorded (`record`), since a promotion doesn't look through the segments. `set`, `cas`, `update` and `push_value` call it.

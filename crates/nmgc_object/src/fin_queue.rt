@@ -10,7 +10,7 @@
 //! Easy to get wrong: places count from the first word that is left, and not from the first that was ever added.
 ghost use Rattle.std.specs.Prelude.{◌≡◌, ◌+◌, ◌-◌, ◌<◌, ◌≤◌, [], ◌∷◌, ◌++◌, length, drop, slice_get, slice_set, OnOk, OnErr};
 
-use nmgc_lists::{List, NoMemory, ListMemory};
+use nmgc_lists::{List, ListMemory, NoMemory};
 use std::alloc::Global;
 use std::marker::Model;
 

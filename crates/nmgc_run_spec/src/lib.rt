@@ -6,7 +6,8 @@
 //! `specs/` says it from the bottom up:
 //! - `State`: the never-collected world, the allocation state, what the collector does, and what is left of
 //!   the programs. `Slice`, `Round`: what a mutator does of its program, and how a round leads on.
-//! - `Promotion`, `Census`, `Closing`, `Sweep`, `Stop`: the rules of a stop, and what a cycle found.
+//! - `Closing`, `Stop`: the rules of a stop. Which objects are promoted, and what a cycle has to judge and finds, is said
+//!   below (`nmgc_blocks_spec`'s `Promoted` and `Cycle`), by the world and the allocation state alone.
 //! - `Run`, `Heap`, `Lawful`: a whole run and what is told of it; when words, segments and roots stand for
 //!   a state; and the lawful report, of which the headline theorem speaks. `Crowded`: when a run ends as heap full.
 //!

@@ -1,7 +1,7 @@
 //! What holds of every run of the machine, whoever does its events.
 //!
 //! Each function here does nothing; its contract is a law over the definitions of `specs/`. So threads that
-//! do such events, and keep no `Core`, have the law too: whoever shows that a run of its own is a list of
+//! do such events, and keep no machine, have the law too: whoever shows that a run of its own is a list of
 //! events may cite the theorem, and whoever goes event by event may cite the facts. The lemmas stand in
 //! `specs/laws/`, for lemmas of the crates above.
 ghost use Rattle.nmgc_snapshot_laws.specs.Run.{SnapshotTheorem, FactsAreKept, OpeningHasFacts, EventKeepsFacts, ClosingIsExact};

@@ -8,7 +8,8 @@
 //!
 //! The snapshot theorem (`laws`): until the end, all that is marked is live in the snapshot; at the end, exactly what is
 //! live there is marked, and then exactly what is kept. The world is at each moment the replay of the commands that
-//! happened, so marking disturbs no mutator. `Facts` is the induction. The machine that runs is `nmgc_core`'s.
+//! happened, so marking disturbs no mutator. `Facts` is the induction. The machine that runs is `nmgc_core`'s, and
+//! the head of its `core_machine` tells the argument at length.
 #![tactic(auto)]
 
 pub mod event;

@@ -1,4 +1,4 @@
--- A cycle that closes with weak pointers, in the words of a run: when it may, what it keeps, and what the mutators' queues and the list are then.
+-- What the queues of finalisers are once a cycle was closed with its weak pointers, and what the list is after a round.
 use Rattle.std.specs.Prelude.{Option, ℕ, ◌≡◌, ◌≤◌, List, ◌∷◌, length, map, Some, slice_get, Contains, IsSome}
 use Rattle.nmgc_world_spec.specs.declared.value.Name.{Name}
 use Rattle.nmgc_world_spec.specs.declared.node.Parts.{Parts}

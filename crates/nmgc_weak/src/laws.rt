@@ -1,4 +1,4 @@
-//! A cycle that closes with weak pointers, in the words of a run.
+//! The queues of finalisers once a cycle was closed, and the list of weak pointers after a round.
 //!
 //! Each function here does nothing; its contract is the law, over what the calls of this crate ensure.
 ghost use Rattle.nmgc_weak.specs.Closes.{DeathsHaveRoom, QueuesClose, LeavingLists};

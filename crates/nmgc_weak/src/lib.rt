@@ -7,7 +7,8 @@
 //!
 //! The promise is that the closing is the core machine's (`specs/Resolve.antt`): the marks are exactly those of what
 //! the cycle keeps, the deaths exactly the dead weak pointers, and words and list stand for the closed world. `laws`
-//! says so in the words of a run.
+//! says the same of the queues, and of the list after a round; that the closing is a run's is said above
+//! (`nmgc_collector_laws`).
 //!
 //! Nothing here takes memory but `reserve`, so a closing can't fail.
 #![tactic(auto)]

@@ -21,7 +21,7 @@ ghost use Rattle.nmgc_weak.specs.Weaks.{AreInside, HaveLostValues, alive_of, nam
 use crate::resolve::{clear_values, find_dying, revive, save_finalisers};
 use nmgc_alloc::Segments;
 use nmgc_heap_spec::HeapWords;
-use nmgc_lists::{List, NoMemory, ListMemory};
+use nmgc_lists::{List, ListMemory, NoMemory};
 use nmgc_mark::Marker;
 use nmgc_object::{Address, HEADER_WORDS};
 use nmgc_world_spec::Name;

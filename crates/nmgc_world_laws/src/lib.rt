@@ -1,9 +1,9 @@
 //! What commands and closings do to what can be reached: laws over worlds and histories alone.
 //!
-//! Nothing here runs. `specs/` has the wide reach, what is held, the shape of a node and the limits of a
-//! script, which the crates above cite. `laws` has the laws, and `specs/laws` the lemmas, which other
-//! crates' lemmas cite: a lemma can't call a function. Everything rests on `nmgc_graph` alone, so
-//! `nmgc_core`, `nmgc_heap_spec`, `nmgc_round` and whatever else speaks of worlds cite one copy.
+//! Nothing here runs. `specs/` has what is held, the shape of a node and the limits of a script, which the crates above
+//! cite. `laws` has the laws, and `specs/laws` the lemmas, which other crates' lemmas cite: a lemma can't call a function.
+//! Everything rests on `nmgc_world_spec` alone, so `nmgc_snapshot_laws`, `nmgc_heap_spec`, `nmgc_round` and whatever else
+//! speaks of worlds cite one copy.
 //!
 //! The argument that matters most is in `specs/Reachable.antt`: why nothing reachable is freed.
 #![tactic(auto)]

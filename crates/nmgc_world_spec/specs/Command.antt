@@ -1,6 +1,6 @@
 -- Which commands a mutator may give.
 --
--- `World::apply` needs the registers alone. The other limits are those of a script, which the
+-- The world that runs (`nmgc_graph`) needs the registers alone. The other limits are those of a script, which the
 -- layouts of words rest on.
 use Rattle.std.specs.Prelude.{ℕ, ◌+◌, ◌<◌, ◌≤◌, ◌^◌, length, All}
 use Rattle.nmgc_limits.specs.declared.mutators.TheConstants.{REGISTERS}

@@ -1,7 +1,6 @@
 //! Whether the registers of a command exist.
 //!
-//! A script never asks for a register that isn't there, or for more objects than there are serials. A
-//! caller that gets its commands from elsewhere has to ask.
+//! A script never asks for a register that isn't there. A caller that gets its commands from elsewhere has to ask.
 ghost use Rattle.std.specs.Prelude.{◌↔◌, IsTrue, All};
 ghost use Rattle.nmgc_world_spec.specs.Command.{HasRegisters, IsOperand, IsRegister};
 

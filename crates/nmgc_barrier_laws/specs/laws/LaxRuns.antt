@@ -1,4 +1,4 @@
--- What a lax run does to the history. (The lemmas of Runs in nmgc_core, which are not public there.)
+-- What a lax run does to the history. (The lemmas of Runs in nmgc_snapshot_laws, which are not public there.)
 use Rattle.std.proofs.Common.{◌≡◌, ℕ, List, [], ◌∷◌, ◌++◌, refl, sym, subst, ◌∙◌, append-nil, Option, Some, None, inl, inr}
 use Rattle.std.specs.Prelude.{Contains, All, ◌↔◌, ◌⊎◌}
 use Rattle.nmgc_world_spec.specs.declared.value.Name.{Name}

@@ -1,4 +1,4 @@
--- The small life of `nmgc_run_spec` has a heap at rest beside a marking cycle.
+-- The small life of `specs/Life.antt` has a heap at rest beside a marking cycle.
 use Rattle.std.proofs.Common.{◌≡◌, ◌<◌, ◌≤◌, ◌^◌, ◌-◌, ℕ, zero, suc, List, [], ◌∷◌, length, replicate, refl, sym, ap, subst, ◌∙◌, arith, lit<, lit≤, Some}
 use Rattle.std.specs.Prelude.{All, slice_get, slice_index}
 use Rattle.std.proofs.lemmas.List.Elements.{All-nil, All-cons}

@@ -11,7 +11,7 @@ ghost use Rattle.nmgc_round.specs.Ready.{HasPart, scanned_by};
 ghost use Rattle.nmgc_heap_tests.specs.Sample.{snapshot_opening, IsSnapshotHeap, IsSnapshotMutator, IsBegun};
 
 use nmgc_limits::REGISTERS;
-use nmgc_lists::{List, NoMemory, ListMemory, Placed};
+use nmgc_lists::{List, ListMemory, NoMemory, Placed};
 use nmgc_mutator::{Mutator, Step, laws};
 use nmgc_object::{Address, Layout};
 use nmgc_round::chosen::Wanted;

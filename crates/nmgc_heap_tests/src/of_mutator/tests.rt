@@ -12,7 +12,7 @@ ghost use Rattle.nmgc_mutator.specs.Slice.{HasRoom};
 
 use crate::of_round::empty_heap;
 use nmgc_limits::MAKERS;
-use nmgc_lists::{List, NoMemory, ListMemory};
+use nmgc_lists::{List, ListMemory, NoMemory};
 use nmgc_mutator::{Mutator, Slice, SliceEnd};
 use nmgc_object::Layout;
 use nmgc_round::chosen::Wanted;
