@@ -44,8 +44,8 @@ HasMore (progress.Sweeping w) = 1 ≤ length w.sweeper.left
 
 -- no cycle is due once that in progress has ended, unless more is promoted or asked for
 pub record NoneIsDue (trigger : ℕ) (c : Collector) : Type 0 where
-  pub not_asked : c.collect ≡ false
-  pub not_filled : 1 ≤ trigger → c.segments.fresh < trigger
+  pub not_asked : c.cycle.collect ≡ false
+  pub not_filled : 1 ≤ trigger → c.heap.segments.fresh < trigger
 
 -- the sizes of a script's heap
 abbrev pub heap_of : Script → Layout
@@ -58,24 +58,24 @@ most_stops script = commands_left script.threads [] + 2 * cycle_most (heap_of sc
 -- so many stops were counted, and few enough rounds may follow: commands are left; or none, and one cycle may begin;
 -- or nothing was born since the last stop, and none may
 pub data MayFollow (Nothing : Type 0) (script : Script) (c : Collector) (stops : ℕ) : Type 0 where
-  commands : stops + commands_left script.threads c.rounds + 2 * cycle_most (heap_of script) ≤ most_stops script → MayFollow Nothing script c stops
-  one_cycle : commands_left script.threads c.rounds ≡ 0 →
-      stops + phase_left script.config.segments c.progress + cycle_most (heap_of script) ≤ most_stops script → MayFollow Nothing script c stops
-  no_cycle : commands_left script.threads c.rounds ≡ 0 → Nothing → NoneIsDue script.config.trigger c →
-      stops + phase_left script.config.segments c.progress ≤ most_stops script → MayFollow Nothing script c stops
+  commands : stops + commands_left script.threads c.rows.rounds + 2 * cycle_most (heap_of script) ≤ most_stops script → MayFollow Nothing script c stops
+  one_cycle : commands_left script.threads c.rows.rounds ≡ 0 →
+      stops + phase_left script.config.segments c.cycle.progress + cycle_most (heap_of script) ≤ most_stops script → MayFollow Nothing script c stops
+  no_cycle : commands_left script.threads c.rows.rounds ≡ 0 → Nothing → NoneIsDue script.config.trigger c →
+      stops + phase_left script.config.segments c.cycle.progress ≤ most_stops script → MayFollow Nothing script c stops
 
 -- few rounds may follow, and the cycle in progress takes no more than one cycle may
 pub record AreFew (Nothing : Type 0) (script : Script) (c : Collector) (stops : ℕ) : Type 0 where
   pub follow : MayFollow Nothing script c stops
-  pub phase : phase_left script.config.segments c.progress ≤ cycle_most (heap_of script)
+  pub phase : phase_left script.config.segments c.cycle.progress ≤ cycle_most (heap_of script)
 
 -- after a stop: no more cycles were begun than there were stops, and the one in progress goes on
 pub record AreFewAtStop (script : Script) (c : Collector) : Type 0 where
-  pub few : AreFew (Unit {0}) script c (length c.stops)
-  pub begun : c.begun ≤ length c.stops
-  pub more : HasMore c.progress
+  pub few : AreFew (Unit {0}) script c (length c.rows.stops)
+  pub begun : c.cycle.begun ≤ length c.rows.stops
+  pub more : HasMore c.cycle.progress
 
 -- before a stop, which counts as done: the world as the last round began is known
 pub record AreFewBeforeStop (script : Script) (c : Collector) (began w : World) : Type 0 where
-  pub few : AreFew (w ≡ began) script c (length c.stops + 1)
-  pub begun : c.begun ≤ length c.stops
+  pub few : AreFew (w ≡ began) script c (length c.rows.stops + 1)
+  pub begun : c.cycle.begun ≤ length c.rows.stops

@@ -122,11 +122,12 @@ AddsTo entries old new p after = (after ≡ p) × (new ≡ old)
 
 -- what the mutators remember was added to the marker, and they remember nothing: the inbox and the rings are empty
 pub record HasTaken (old new : Collector) : Type 0 where
-  pub rest : new ≡ record old { segments = new.segments; progress = new.progress; inbox = new.inbox; mutators = new.mutators }
+  pub rest : new ≡ record old { heap = record old.heap { segments = new.heap.segments }; cycle = record old.cycle { progress = new.cycle.progress };
+      inbox = new.inbox; mutators = new.mutators }
   pub inbox : length new.inbox ≡ length old.inbox
   pub mutators : HaveForgotten old.mutators.items new.mutators.items
   pub lines : (k : ℕ) (n : Mutator) → slice_get new.mutators.items k ≡ Some n → IsLined new.inbox k n.sender
-  pub adds : AddsTo (remembered_by old.mutators.items) old.segments new.segments old.progress new.progress
+  pub adds : AddsTo (remembered_by old.mutators.items) old.heap.segments new.heap.segments old.cycle.progress new.cycle.progress
 
 -- a marker may finish: it has room, and its marks and its queue are those of a state that opens a round on these
 -- words. After that the weak pointers of the list may be resolved, and the finalisers of those that die have room in
@@ -166,16 +167,17 @@ pub record IsClosed (stop : ℕ) (words after : List ℕ) (old new : Segments) (
 -- a cycle is closed where the marker's last work left nothing
 abbrev pub Closes : ℕ → Progress → Collector → Collector → Type 0
 Closes stop (progress.Marking m) old new = ((m.last.empty ≡ true) ×
-    ((w : Sweeping) × (new.progress ≡ progress.Sweeping w) ×
-    IsClosed stop (words_in old.words) (words_in new.words) old.segments new.segments old.weaks new.weaks old.mutators.items new.mutators.items m
-    w)) ⊎ ((m.last.empty ≡ false) × (new ≡ old))
+    ((w : Sweeping) × (new.cycle.progress ≡ progress.Sweeping w) ×
+    IsClosed stop (words_in old.heap.words) (words_in new.heap.words) old.heap.segments new.heap.segments old.heap.weaks new.heap.weaks old.mutators.items
+        new.mutators.items m w)) ⊎ ((m.last.empty ≡ false) × (new ≡ old))
 Closes stop p old new = new ≡ old
 
 -- by this rule a cycle was closed, or none: of the collector words, segments, list and queues are those that this left
 pub record HasClosed (Rule : ℕ → Progress → Collector → Collector → Type 0) (stop : ℕ) (old new : Collector) : Type 0 where
-  pub rest : new ≡ record old { words = new.words; segments = new.segments; progress = new.progress; weaks = new.weaks; mutators = new.mutators }
-  pub has_words : IsSome new.words
-  pub closes : Rule stop old.progress old new
+  pub rest : new ≡ record old { heap = record old.heap { words = new.heap.words; segments = new.heap.segments; weaks = new.heap.weaks };
+      cycle = record old.cycle { progress = new.cycle.progress }; mutators = new.mutators }
+  pub has_words : IsSome new.heap.words
+  pub closes : Rule stop old.cycle.progress old new
 
 -- the row of a cycle that ends at this stop, at whose closing these died
 abbrev pub row_of : ℕ → ℕ → Sweeping → List Name → CycleRow
@@ -193,31 +195,29 @@ row_of number stop w dead = record {
 
 -- a cycle sweeps, and no segment waits any more
 abbrev pub IsSwept : Collector → Type 0
-IsSwept c = (w : Sweeping) × (c.progress ≡ progress.Sweeping w) × HasNone sought.Sweeping c.segments
+IsSwept c = (w : Sweeping) × (c.cycle.progress ≡ progress.Sweeping w) × HasNone sought.Sweeping c.heap.segments
 
 -- a cycle that sweeps ends where no segment waits; the collector keeps the sweeper's counts of the gate's passes
 abbrev pub Ends : ℕ → Progress → Collector → Collector → Type 0
-Ends stop (progress.Sweeping w) old new = (HasNone sought.Sweeping old.segments ×
+Ends stop (progress.Sweeping w) old new = (HasNone sought.Sweeping old.heap.segments ×
     (new ≡ record old {
-      progress = progress.Idle;
-      turns = w.sweeper.turns;
-      upper_turns = w.sweeper.upper_turns;
-      cycles = old.cycles ++ row_of old.begun stop w (died old.weaks.deaths) ∷ [];
-    })) ⊎ ((HasNone sought.Sweeping old.segments → ⊥) × (new ≡ old))
+        cycle = record old.cycle { progress = progress.Idle; turns = w.sweeper.turns; upper_turns = w.sweeper.upper_turns };
+        rows = record old.rows { cycles = old.rows.cycles ++ row_of old.cycle.begun stop w (died old.heap.weaks.deaths) ∷ [] };
+      })) ⊎ ((HasNone sought.Sweeping old.heap.segments → ⊥) × (new ≡ old))
 Ends stop _ old new = new ≡ old
 
 -- where the same cycle marks on, only its marker changed: what its last work answered is kept as it was
 abbrev pub MarksOn : Collector → Collector → Type 0
-MarksOn old new = (m n : Marking) → old.progress ≡ progress.Marking m → new.progress ≡ progress.Marking n → new.begun ≡ old.begun →
+MarksOn old new = (m n : Marking) → old.cycle.progress ≡ progress.Marking m → new.cycle.progress ≡ progress.Marking n → new.cycle.begun ≡ old.cycle.begun →
     n ≡ record m { marker = n.marker }
 
 -- a cycle is due: none is in progress, and one was asked for, or enough segments were filled since the last one began
 abbrev pub IsDue : ℕ → Collector → Type 0
-IsDue trigger c = (c.progress ≡ progress.Idle) × ((c.collect ≡ true) ⊎ ((1 ≤ trigger) × (trigger ≤ c.segments.fresh)))
+IsDue trigger c = (c.cycle.progress ≡ progress.Idle) × ((c.cycle.collect ≡ true) ⊎ ((1 ≤ trigger) × (trigger ≤ c.heap.segments.fresh)))
 
 -- the next cycle's epoch
 abbrev pub next_epoch : Collector → ℕ
-next_epoch c = epoch_of (c.begun + 1)
+next_epoch c = epoch_of (c.cycle.begun + 1)
 
 -- segments and words stand for some allocation state
 abbrev pub HasStood : Segments → List ℕ → Type 0
@@ -225,34 +225,34 @@ HasStood segments words = (a : AllocState) × StandsFor segments words a
 
 -- where a cycle is due, no segment waits any more, words and segments stand for an allocation state, and marking begins with the roots that the mutators have
 pub record CanBegin (c : Collector) : Type 0 where
-  pub none_waits : HasNone sought.Sweeping c.segments
-  pub stood : HasStood (all_prepared c.segments) (words_in c.words)
+  pub none_waits : HasNone sought.Sweeping c.heap.segments
+  pub stood : HasStood (all_prepared c.heap.segments) (words_in c.heap.words)
   pub begins : (o : Opening) ×
-      IsBeginning o (all_prepared c.segments) (next_epoch c) (words_in c.words) (registers_of c.mutators.items) (queues_in c.mutators.items)
+      IsBeginning o (all_prepared c.heap.segments) (next_epoch c) (words_in c.heap.words) (registers_of c.mutators.items) (queues_in c.mutators.items)
 
 -- a marking cycle was started at this stop: the segments were prepared, the sweeper noted which segments wait, and
 -- the marker marked what the roots refer to, both with the collector's count of the gate's passes; the mutators'
 -- queues have room for what the closing adds
 pub record StartsMarking (stop : ℕ) (old new : Collector) (marking : Marking) : Type 0 where
-  pub rest : new ≡ record old { words = new.words; segments = new.segments; mutators = new.mutators }
+  pub rest : new ≡ record old { heap = record old.heap { words = new.heap.words; segments = new.heap.segments }; mutators = new.mutators }
   pub from_is : marking.from ≡ stop
   pub last : marking.last ≡ record { scanned = 0; empty = false }
-  pub words : (words_in new.words ≡ words_in old.words) × IsSome new.words
-  pub sound : IsSegments new.segments
-  pub queue_room : HaveQueueRoom old.weaks.list old.mutators.items new.mutators.items
-  pub sweeper : HasBegun (all_prepared old.segments) (next_epoch old) marking.sweeper
-  pub turns : (marking.marker.turns ≡ old.turns) × (marking.sweeper.turns ≡ old.turns) × (marking.sweeper.upper_turns ≡ old.upper_turns)
-  pub marked : HasMarked (all_prepared old.segments) new.segments (blank (next_epoch old) (most_blocks old.segments.layout)) marking.marker 0
+  pub words : (words_in new.heap.words ≡ words_in old.heap.words) × IsSome new.heap.words
+  pub sound : IsSegments new.heap.segments
+  pub queue_room : HaveQueueRoom old.heap.weaks.list old.mutators.items new.mutators.items
+  pub sweeper : HasBegun (all_prepared old.heap.segments) (next_epoch old) marking.sweeper
+  pub turns : (marking.marker.turns ≡ old.cycle.turns) × (marking.sweeper.turns ≡ old.cycle.turns) × (marking.sweeper.upper_turns ≡ old.cycle.upper_turns)
+  pub marked : HasMarked (all_prepared old.heap.segments) new.heap.segments (blank (next_epoch old) (most_blocks old.heap.segments.layout)) marking.marker 0
   pub tied : (o : Opening) →
-      IsBeginning o (all_prepared old.segments) (next_epoch old) (words_in old.words) (registers_of old.mutators.items)
-      (queues_in old.mutators.items) → IsTied o (marks_of (opening o.core.snapshot)) new.segments marking.marker
+      IsBeginning o (all_prepared old.heap.segments) (next_epoch old) (words_in old.heap.words) (registers_of old.mutators.items)
+      (queues_in old.mutators.items) → IsTied o (marks_of (opening o.core.snapshot)) new.heap.segments marking.marker
 
 -- so a cycle began: the roots were marked, and then the collector's progress set
 pub record HasStarted (stop : ℕ) (old new : Collector) : Type 0 where
   pub marking : Marking
   pub marked : Collector
   pub starts : StartsMarking stop old marked marking
-  pub is : new ≡ record marked { progress = progress.Marking marking; begun = old.begun + 1; collect = false }
+  pub is : new ≡ record marked { cycle = record marked.cycle { progress = progress.Marking marking; begun = old.cycle.begun + 1; collect = false } }
 
 -- a cycle begins where one is due
 abbrev pub Begins : ℕ → ℕ → Collector → Collector → Type 0

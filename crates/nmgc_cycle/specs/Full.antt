@@ -20,11 +20,11 @@ use Rattle.nmgc_cycle.specs.Shown.{words_in}
 
 -- commands are left, and fewer segments are free than the reserve
 abbrev pub is_short_of : Bool → Collector → Bool
-is_short_of left c = left && nat_lt (free_count c.segments.segments) (reserve_count c.segments.layout)
+is_short_of left c = left && nat_lt (free_count c.heap.segments.segments) (reserve_count c.heap.segments.layout)
 
 -- a full cycle is due: it was asked for, or the heap is short of segments
 abbrev pub IsFullDue : Bool → Collector → Type 0
-IsFullDue left c = (c.full ≡ true) ⊎ (is_short_of left c ≡ true)
+IsFullDue left c = (c.cycle.full ≡ true) ⊎ (is_short_of left c ≡ true)
 
 -- a marker may finish, whatever its last work left
 abbrev pub CanCloseNow : List ℕ → Segments → List OldWeak → List FinQueue → Progress → Type 0
@@ -33,8 +33,9 @@ CanCloseNow words segments weaks queues _ = Unit {0}
 
 -- a cycle that marks was closed
 abbrev pub ClosesNow : ℕ → Progress → Collector → Collector → Type 0
-ClosesNow stop (progress.Marking m) old new = (w : Sweeping) × (new.progress ≡ progress.Sweeping w) ×
-    IsClosed stop (words_in old.words) (words_in new.words) old.segments new.segments old.weaks new.weaks old.mutators.items new.mutators.items m w
+ClosesNow stop (progress.Marking m) old new = (w : Sweeping) × (new.cycle.progress ≡ progress.Sweeping w) ×
+    IsClosed stop (words_in old.heap.words) (words_in new.heap.words) old.heap.segments new.heap.segments old.heap.weaks new.heap.weaks old.mutators.items
+        new.mutators.items m w
 ClosesNow stop p old new = new ≡ old
 
 -- a sweeper has all segments left that wait, and there is an entry of the array of names for each block
@@ -57,8 +58,8 @@ SweepsRest old new names p after = (after ≡ p) × (new ≡ old)
 
 -- nothing else of the collector changed
 pub record HasSweptRest (old new : Collector) : Type 0 where
-  pub rest : new ≡ record old { segments = new.segments; progress = new.progress }
-  pub sweeps : SweepsRest old.segments new.segments old.names old.progress new.progress
+  pub rest : new ≡ record old { heap = record old.heap { segments = new.heap.segments }; cycle = record old.cycle { progress = new.cycle.progress } }
+  pub sweeps : SweepsRest old.heap.segments new.heap.segments old.heap.names old.cycle.progress new.cycle.progress
 
 -- the cycle in progress was closed, swept and ended at this stop
 pub record HasFinished (stop : ℕ) (old new : Collector) : Type 0 where
@@ -66,22 +67,22 @@ pub record HasFinished (stop : ℕ) (old new : Collector) : Type 0 where
   pub closes : HasClosed ClosesNow stop old closed
   pub swept : Collector
   pub sweeps : HasSweptRest closed swept
-  pub ends : Ends stop swept.progress swept new
+  pub ends : Ends stop swept.cycle.progress swept new
 
 -- current and active segments are filed as filled
 abbrev pub with_all_retired : Collector → Collector
-with_all_retired c = record c { segments = record c.segments { segments = map retired c.segments.segments } }
+with_all_retired c = record c { heap = record c.heap { segments = record c.heap.segments { segments = map retired c.heap.segments.segments } } }
 
 -- a full cycle: the cycle in progress was finished, and then another began and was finished; nothing is asked for any more
 pub record HasDoneFull (stop : ℕ) (old new : Collector) : Type 0 where
   pub idled : Collector
   pub first : HasFinished stop old idled
-  pub sound : IsSegments (with_all_retired idled).segments
+  pub sound : IsSegments (with_all_retired idled).heap.segments
   pub started : Collector
   pub starts : HasStarted stop (with_all_retired idled) started
   pub last : Collector
   pub again : HasFinished stop started last
-  pub is : new ≡ record last { collect = false; full = false }
+  pub is : new ≡ record last { cycle = record last.cycle { collect = false; full = false } }
 
 -- a full cycle where one is due, else a cycle where one is due
 abbrev pub Proceeds : ℕ → Bool → ℕ → Collector → Collector → Type 0

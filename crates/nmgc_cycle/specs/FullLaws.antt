@@ -36,12 +36,12 @@ SweepingRestLeads = (script : Script) (old new : Collector) (s : State) → IsIn
 abbrev pub FinishLeads : Type 0
 FinishLeads = (script : Script) (old new : Collector) (s : State) → IsInLimits script → StandsAt script old s → HasFinished s.number old new →
     (t : State) × (rows : List CycleRow) × run.Finishes s t rows × (told_cycles new ≡ told_cycles old ++ rows) × StandsAt script new t ×
-    (new.progress ≡ doing.Idle) × run_closing.IsForcedSoon script.config.quota s.progress s.number
+    (new.cycle.progress ≡ doing.Idle) × run_closing.IsForcedSoon script.config.quota s.progress s.number
 
 -- segments that are filed stand for the state with them filed
 abbrev pub FilingLeads : Type 0
-FilingLeads = (script : Script) (c : Collector) (s : State) → IsInLimits script → StandsAt script c s → c.progress ≡ doing.Idle →
-    IsSegments (with_all_retired c).segments → StandsAt script (with_all_retired c) (run.with_all_retired s)
+FilingLeads = (script : Script) (c : Collector) (s : State) → IsInLimits script → StandsAt script c s → c.cycle.progress ≡ doing.Idle →
+    IsSegments (with_all_retired c).heap.segments → StandsAt script (with_all_retired c) (run.with_all_retired s)
 
 -- the whole full cycle
 abbrev pub FullLeads : Type 0
@@ -60,8 +60,8 @@ ProceedingLeads = (script : Script) (old new : Collector) (s : State) (left : Bo
 -- a cycle that marks may be closed, whatever its last work left
 abbrev pub CloseNowReady : Type 0
 CloseNowReady = (script : Script) (c : Collector) (s : State) → StandsAt script c s →
-    CanCloseNow (words_in c.words) c.segments c.weaks.list (queues_in c.mutators.items) c.progress
+    CanCloseNow (words_in c.heap.words) c.heap.segments c.heap.weaks.list (queues_in c.mutators.items) c.cycle.progress
 
 -- what waits may be swept
 abbrev pub SweepRestReady : Type 0
-SweepRestReady = (script : Script) (c : Collector) (s : State) → StandsAt script c s → CanSweepRest c.segments c.names c.progress
+SweepRestReady = (script : Script) (c : Collector) (s : State) → StandsAt script c s → CanSweepRest c.heap.segments c.heap.names c.cycle.progress

@@ -26,21 +26,21 @@ use Rattle.nmgc_cycle.specs.Shown.{seen, sweeper_in}
 
 -- the sweeper of a cycle that marks: it noted the segments that are to be swept, and all that wait are left
 pub record HasSweeper (k : Cycle) (c : Collector) : Type 0 where
-  pub notes : HasNotes k (sweeper_in c.progress)
-  pub left : AreLeft c.segments (sweeper_in c.progress)
+  pub notes : HasNotes k (sweeper_in c.cycle.progress)
+  pub left : AreLeft c.heap.segments (sweeper_in c.cycle.progress)
 
 -- while a cycle marks, its sweeper has swept nothing; once it was closed, the sweeper is at work, and all that wait are left still
 abbrev pub Sweeps : Progress → State → Collector → Type 0
 Sweeps idle s c = Unit {0}
-Sweeps (marking k) s c = HasSweeper k c × ((sweeper_in c.progress).seen.swept ≡ (sweeper_in c.progress).left) ×
-    ((sweeper_in c.progress).seen.had ≡ []) × ((sweeper_in c.progress).seen.freed ≡ [])
-Sweeps (sweeping k closed) s c = AreLeft c.segments (sweeper_in c.progress) ×
-    IsAtWork k closed (seen c).words s.allocation c.segments (seen c).cycle (sweeper_in c.progress)
+Sweeps (marking k) s c = HasSweeper k c × ((sweeper_in c.cycle.progress).seen.swept ≡ (sweeper_in c.cycle.progress).left) ×
+    ((sweeper_in c.cycle.progress).seen.had ≡ []) × ((sweeper_in c.cycle.progress).seen.freed ≡ [])
+Sweeps (sweeping k closed) s c = AreLeft c.heap.segments (sweeper_in c.cycle.progress) ×
+    IsAtWork k closed (seen c).words s.allocation c.heap.segments (seen c).cycle (sweeper_in c.cycle.progress)
 
 -- a mutator between two calls: it has its number and the layout of the heap, its replies were told, and the inbox has the other end of its ring
 pub record IsOwn (c : Collector) (k : ℕ) (m : Mutator) : Type 0 where
   pub number : m.number ≡ k
-  pub layout : m.layout ≡ c.segments.layout
+  pub layout : m.layout ≡ c.heap.segments.layout
   pub whole : IsWhole m
   pub no_replies : m.replies.items ≡ []
   pub line : IsLined c.inbox k m.sender
@@ -48,18 +48,18 @@ pub record IsOwn (c : Collector) (k : ℕ) (m : Mutator) : Type 0 where
 -- what is true of a collector whatever its run: its parts are for one layout, with an entry of the array of names for
 -- each block, it knows how many commands of each program were answered, and has room for a worker for each
 pub record IsWellFormed (script : Script) (c : Collector) : Type 0 where
-  pub layout : c.segments.layout ≡ layout_of (plan_of script)
-  pub sound : IsSegments c.segments
-  pub lists : IsFor c.segments.layout c.promotion
-  pub entries : HaveEntries c.segments.layout c.names
-  pub has_words : IsSome c.words
+  pub layout : c.heap.segments.layout ≡ layout_of (plan_of script)
+  pub sound : IsSegments c.heap.segments
+  pub lists : IsFor c.heap.segments.layout c.heap.promotion
+  pub entries : HaveEntries c.heap.segments.layout c.heap.names
+  pub has_words : IsSome c.heap.words
   pub count : length c.mutators.items ≡ length script.threads
   pub own : (k : ℕ) (m : Mutator) → slice_get c.mutators.items k ≡ Some m → IsOwn c k m
   pub inbox : length c.inbox ≡ length script.threads
   pub positions_are : length c.positions.items ≡ length script.threads
-  pub positions : (k : ℕ) → k < length script.threads → slice_index c.positions.items k ≡ answered_count c.rounds k
-  pub no_ends : c.ends.items ≡ []
-  pub room : length script.threads ≤ vec_capacity c.ends
+  pub positions : (k : ℕ) → k < length script.threads → slice_index c.positions.items k ≡ answered_count c.rows.rounds k
+  pub no_ends : c.report.ends.items ≡ []
+  pub room : length script.threads ≤ vec_capacity c.report.ends
   pub workers : length script.threads ≤ c.workers
 
 -- a new collector
@@ -73,7 +73,7 @@ pub record IsAfterStop (script : Script) (c : Collector) (run : Run) : Type 0 wh
   pub kept : IsWellFormed script c
   pub at_stop : IsAtStop (plan_of script) run (seen c)
   pub sweeper : Sweeps (last_state run).progress (last_state run) c
-  pub named : AreNamed (layout_of (plan_of script)) c.names (last_state run).allocation
+  pub named : AreNamed (layout_of (plan_of script)) c.heap.names (last_state run).allocation
   pub few : AreFewAtStop script c
 
 -- after a stop
@@ -90,7 +90,7 @@ pub record HasWorked (script : Script) (c : Collector) : Type 0 where
   pub worked : State
   pub after : IsAfterRound (plan_of script) run replies history worked (seen c)
   pub sweeper : Sweeps worked.progress worked c
-  pub named : AreNamed (layout_of (plan_of script)) c.names worked.allocation
+  pub named : AreNamed (layout_of (plan_of script)) c.heap.names worked.allocation
   pub few : AreFewBeforeStop script c (last_state run).world worked.world
 
 -- the collector after did a round, and the one before stood after the last stop of the same run

@@ -44,17 +44,17 @@ pub record IsMergeOf (old fresh new : List OldWeak) : Type 0 where
 
 -- those that are dead by now have left the list
 pub record FinalisedLeft (old new : Collector) : Type 0 where
-  pub rest : new ≡ record old { words = new.words; weaks = new.weaks }
-  pub words : (words_in new.words ≡ words_in old.words) × IsSome new.words
-  pub list : new.weaks.list ≡ alive_of (words_in old.words) old.weaks.list
-  pub deaths : new.weaks.deaths ≡ old.weaks.deaths
+  pub rest : new ≡ record old { heap = record old.heap { words = new.heap.words; weaks = new.heap.weaks } }
+  pub words : (words_in new.heap.words ≡ words_in old.heap.words) × IsSome new.heap.words
+  pub list : new.heap.weaks.list ≡ alive_of (words_in old.heap.words) old.heap.weaks.list
+  pub deaths : new.heap.weaks.deaths ≡ old.heap.weaks.deaths
 
 -- those that moved and are alive have joined it
 pub record MovedJoined (old new : Collector) : Type 0 where
-  pub rest : new ≡ record old { words = new.words; weaks = new.weaks }
-  pub words : (words_in new.words ≡ words_in old.words) × IsSome new.words
-  pub joins : IsMergeOf old.weaks.list (moved_weaks (words_in old.words) old.promotion.moves) new.weaks.list
-  pub deaths : new.weaks.deaths ≡ old.weaks.deaths
+  pub rest : new ≡ record old { heap = record old.heap { words = new.heap.words; weaks = new.heap.weaks } }
+  pub words : (words_in new.heap.words ≡ words_in old.heap.words) × IsSome new.heap.words
+  pub joins : IsMergeOf old.heap.weaks.list (moved_weaks (words_in old.heap.words) old.heap.promotion.moves) new.heap.weaks.list
+  pub deaths : new.heap.weaks.deaths ≡ old.heap.weaks.deaths
 
 -- how many weak pointers of the list a mutator made
 abbrev pub count_made_by : ℕ → List OldWeak → ℕ

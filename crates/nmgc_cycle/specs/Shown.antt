@@ -69,7 +69,7 @@ turns_by (progress.Sweeping w) turns = w.sweeper.turns
 
 -- how often the collector passed the gate so far
 abbrev pub turns_of : Collector → ℕ
-turns_of c = turns_by c.progress c.turns
+turns_of c = turns_by c.cycle.progress c.cycle.turns
 
 -- how often its second sweeping half did: the sweeper of a cycle in progress counts it
 abbrev pub upper_turns_by : Progress → ℕ → ℕ
@@ -79,7 +79,7 @@ upper_turns_by (progress.Sweeping w) turns = w.sweeper.upper_turns
 
 -- how often its second sweeping half did so far
 abbrev pub upper_turns_of : Collector → ℕ
-upper_turns_of c = upper_turns_by c.progress c.upper_turns
+upper_turns_of c = upper_turns_by c.cycle.progress c.cycle.upper_turns
 
 -- how often each mutator passed the gate so far
 abbrev pub turns_in : List Mutator → List ℕ
@@ -94,38 +94,38 @@ told_row row = record row { had = in_order row.had; freed = in_order row.freed }
 
 -- the rows as a report tells them
 abbrev pub told_cycles : Collector → List CycleRow
-told_cycles c = map told_row c.cycles
+told_cycles c = map told_row c.rows.cycles
 
 -- the collector, as `IsAtStop` and `IsAfterRound` speak of it
 abbrev pub seen : Collector → CollectorSeen
 seen c = record {
-  rounds = c.rounds;
-  stops = c.stops;
+  rounds = c.rows.rounds;
+  stops = c.rows.stops;
   cycles = told_cycles c;
-  words = words_in c.words;
-  segments = c.segments;
+  words = words_in c.heap.words;
+  segments = c.heap.segments;
   mutators = map seen_mutator c.mutators.items;
-  weaks = places_of c.weaks.list;
-  phase = phase_in c.progress;
-  begun = c.begun;
-  collect = c.collect;
-  full = c.full;
+  weaks = places_of c.heap.weaks.list;
+  phase = phase_in c.cycle.progress;
+  begun = c.cycle.begun;
+  collect = c.cycle.collect;
+  full = c.cycle.full;
   answered = c.answered;
-  work = work_in c.progress;
-  marker = marker_in c.progress;
-  sweeper = (sweeper_in c.progress).seen;
-  cycle = cycle_in c.progress (died c.weaks.deaths);
+  work = work_in c.cycle.progress;
+  marker = marker_in c.cycle.progress;
+  sweeper = (sweeper_in c.cycle.progress).seen;
+  cycle = cycle_in c.cycle.progress (died c.heap.weaks.deaths);
 }
 
 -- the report that tells what a collector has, with this end
 abbrev pub report_of : Collector → End → Report
 report_of c end = record {
-  rounds = c.rounds;
-  stops = c.stops;
+  rounds = c.rows.rounds;
+  stops = c.rows.stops;
   cycles = told_cycles c;
   words = (seen c).words;
-  segments = c.segments;
+  segments = c.heap.segments;
   mutators = ends_of (seen c);
-  weaks = names_of c.weaks.list;
+  weaks = names_of c.heap.weaks.list;
   end = end;
 }

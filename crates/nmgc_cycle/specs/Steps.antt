@@ -48,13 +48,13 @@ pub record StandsForState (Paced : Cycle → State → CollectorSeen → Type 0)
   pub sound : IsSoundState (plan_of script) s
   pub course : IsStateInCourse s
   pub matches : Matches (seen c) s
-  pub heap : HoldsAtStop (layout_of (plan_of script)) s (seen c).words c.segments (ends_of (seen c)) (seen c).weaks
+  pub heap : HoldsAtStop (layout_of (plan_of script)) s (seen c).words c.heap.segments (ends_of (seen c)) (seen c).weaks
   pub nurseries : AreNurseries (layout_of (plan_of script)) heap.places s.world (nurseries_of (seen c))
   pub empty : AreEmpty (nurseries_of (seen c))
   pub rest : EachMutator (seen c) (λ m mutator. Rests mutator)
   pub cycle : HoldsInCycle (λ k. Paced k s (seen c)) s.progress s (seen c) heap.places
   pub sweeper : Sweeps s.progress s c
-  pub named : AreNamed (layout_of (plan_of script)) c.names s.allocation
+  pub named : AreNamed (layout_of (plan_of script)) c.heap.names s.allocation
 
 -- after the promotion; once what was remembered was added; and from the closing on
 abbrev pub StandsPromoted : Script → Collector → State → Type 0
@@ -76,10 +76,10 @@ AddingLeads = (script : Script) (old new : Collector) (s : State) → IsInLimits
 -- a marker that finished closes its cycle, within the bounds
 abbrev pub FinishingLeads : Type 0
 FinishingLeads = (script : Script) (old new : Collector) (s : State) (k : Cycle) (m : Marking) (w : Sweeping) → IsInLimits script →
-    StandsWithin script old s → s.progress ≡ marking k → old.progress ≡ doing.Marking m → m.last.empty ≡ true → new.progress ≡ doing.Sweeping w →
+    StandsWithin script old s → s.progress ≡ marking k → old.cycle.progress ≡ doing.Marking m → m.last.empty ≡ true → new.cycle.progress ≡ doing.Sweeping w →
     HasClosed ClosesThen s.number old new →
-    IsClosed s.number (words_in old.words) (words_in new.words) old.segments new.segments old.weaks new.weaks old.mutators.items new.mutators.items
-    m w → (t : State) × Closes k s t × MayClose script.config.quota k s.number × StandsAt script new t
+    IsClosed s.number (words_in old.heap.words) (words_in new.heap.words) old.heap.segments new.heap.segments old.heap.weaks new.heap.weaks
+        old.mutators.items new.mutators.items m w → (t : State) × Closes k s t × MayClose script.config.quota k s.number × StandsAt script new t
 
 -- a closing comes within its bounds
 abbrev pub ClosingLeads : Type 0
@@ -88,12 +88,12 @@ ClosingLeads = (script : Script) (old new : Collector) (s : State) → IsInLimit
 
 -- a cycle's row tells its census
 abbrev pub EndLeads : Type 0
-EndLeads = (script : Script) (old new : Collector) (s : State) → IsInLimits script → StandsAt script old s → Ends s.number old.progress old new →
+EndLeads = (script : Script) (old new : Collector) (s : State) → IsInLimits script → StandsAt script old s → Ends s.number old.cycle.progress old new →
     (t : State) × (rows : List CycleRow) × EndsOrWaits s.progress s t rows × (told_cycles new ≡ told_cycles old ++ rows) × StandsAt script new t
 
 -- where none is in progress, what was started is the next cycle
 abbrev pub StartingLeads : Type 0
-StartingLeads = (script : Script) (old new : Collector) (s : State) → IsInLimits script → StandsAt script old s → old.progress ≡ doing.Idle →
+StartingLeads = (script : Script) (old new : Collector) (s : State) → IsInLimits script → StandsAt script old s → old.cycle.progress ≡ doing.Idle →
     HasStarted s.number old new → StandsAt script new (record (cycle_started s) { collect = false })
 
 -- a cycle begins where one is due
@@ -106,8 +106,8 @@ BeginningLeads = (script : Script) (old new : Collector) (s : State) → IsInLim
 -- a marker whose last work left nothing may finish
 abbrev pub CloseReady : Type 0
 CloseReady = (script : Script) (c : Collector) (s : State) → IsInLimits script → StandsWithin script c s →
-    CanClose (words_in c.words) c.segments c.weaks.list (queues_in c.mutators.items) c.progress
+    CanClose (words_in c.heap.words) c.heap.segments c.heap.weaks.list (queues_in c.mutators.items) c.cycle.progress
 
 -- where none is in progress, one may begin
 abbrev pub BeginReady : Type 0
-BeginReady = (script : Script) (c : Collector) (s : State) → IsInLimits script → StandsAt script c s → c.progress ≡ doing.Idle → CanBegin c
+BeginReady = (script : Script) (c : Collector) (s : State) → IsInLimits script → StandsAt script c s → c.cycle.progress ≡ doing.Idle → CanBegin c

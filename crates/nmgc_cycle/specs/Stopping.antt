@@ -34,54 +34,48 @@ use Rattle.nmgc_cycle.specs.Shown.{words_in}
 
 -- words, segments and mutators of the collector stand for the heap at a stop
 abbrev pub StandsStopped : Stopped → Collector → Type 0
-StandsStopped t c = IsStopped t c.segments (words_in c.words) (nurseries_of c.mutators.items) (registers_of c.mutators.items)
+StandsStopped t c = IsStopped t c.heap.segments (words_in c.heap.words) (nurseries_of c.mutators.items) (registers_of c.mutators.items)
     (queues_of c.mutators.items) (recorded_of c.mutators.items) (young_weaks_of c.mutators.items)
 
 -- what the last promotion moved
 abbrev pub moves_of : Collector → List Moved
-moves_of c = map moved_of c.promotion.moves
+moves_of c = map moved_of c.heap.promotion.moves
 
 -- the names of what it moved
 abbrev pub moved_names : Collector → List Name
 moved_names c = map (λ (m : Moved). m.name) (moves_of c)
 
--- what the round made was promoted: of the collector only words, segments, names of objects in them, what mutators
--- hold and the list of weak pointers changed, and what moved is told and noted
+-- what the round made was promoted: of the collector only its heap and what mutators hold changed, and what moved is told
+-- and noted
 pub record HasPromoted (old new : Collector) : Type 0 where
-  pub rest : new ≡ record old {
-    words = new.words;
-    segments = new.segments;
-    promotion = new.promotion;
-    names = new.names;
-    mutators = new.mutators;
-    weaks = new.weaks;
-  }
-  pub has_words : IsSome new.words
-  pub noted : HaveNoted (moves_of new) old.names new.names
+  pub rest : new ≡ record old { heap = new.heap; mutators = new.mutators }
+  pub has_words : IsSome new.heap.words
+  pub noted : HaveNoted (moves_of new) old.heap.names new.heap.names
   pub forward : ℕ → ℕ
   pub held : new.mutators.items ≡ map (promoted_by forward) old.mutators.items
   pub settled : (t : Stopped) → StandsStopped t old →
-      IsSettled t new.segments (words_in new.words) (registers_of new.mutators.items) (queues_of new.mutators.items) (moves_of new)
-  pub places : (t : Stopped) → StandsStopped t old → (a : AllocState) → StandsFor old.segments (words_in old.words) a → (b : AllocState) ×
-      PlacesEach old.segments.layout t.world a (moved_names new) b × StandsFor new.segments (words_in new.words) b
-  pub sound : IsSegments new.segments
-  pub marks : KeepsMarks old.segments new.segments
-  pub layout : new.segments.layout ≡ old.segments.layout
-  pub lists : IsFor old.segments.layout new.promotion
-  pub copied : HaveMoved (young_base old.segments) (moves_of new) (words_in old.words) (words_in new.words)
+      IsSettled t new.heap.segments (words_in new.heap.words) (registers_of new.mutators.items) (queues_of new.mutators.items) (moves_of new)
+  pub places : (t : Stopped) → StandsStopped t old → (a : AllocState) → StandsFor old.heap.segments (words_in old.heap.words) a → (b : AllocState) ×
+      PlacesEach old.heap.segments.layout t.world a (moved_names new) b × StandsFor new.heap.segments (words_in new.heap.words) b
+  pub sound : IsSegments new.heap.segments
+  pub marks : KeepsMarks old.heap.segments new.heap.segments
+  pub layout : new.heap.segments.layout ≡ old.heap.segments.layout
+  pub lists : IsFor old.heap.segments.layout new.heap.promotion
+  pub copied : HaveMoved (young_base old.heap.segments) (moves_of new) (words_in old.heap.words) (words_in new.heap.words)
 
 -- the list is that of the weak pointers that were alive as the round began, and the round made none of these anew
 pub record CanList (t : Stopped) (c : Collector) : Type 0 where
   pub began : IsWorld t.began
-  pub listed : ListsWeaks c.segments.layout t.places t.began (places_of c.weaks.list)
-  pub old : KeepsOldWeaks c.segments.layout t.places t.began t.world
+  pub listed : ListsWeaks c.heap.segments.layout t.places t.began (places_of c.heap.weaks.list)
+  pub old : KeepsOldWeaks c.heap.segments.layout t.places t.began t.world
 
 -- those that were finalised have left the list, and those that moved and are alive have joined it
 pub record HasListed (old new : Collector) : Type 0 where
-  pub from : (weak : OldWeak) → Contains new.weaks.list weak → Contains old.weaks.list weak ⊎ ((m : Moved) × Contains (moves_of new) m × (weak.weak ≡ m.name))
+  pub from : (weak : OldWeak) → Contains new.heap.weaks.list weak → Contains old.heap.weaks.list weak ⊎
+      ((m : Moved) × Contains (moves_of new) m × (weak.weak ≡ m.name))
   pub lists : (t : Stopped) → StandsStopped t old → CanList t old →
-      ListsWeaks new.segments.layout (settled (young_base new.segments) (moves_of new) t.places) t.world (places_of new.weaks.list)
-  pub deaths : new.weaks.deaths ≡ old.weaks.deaths
+      ListsWeaks new.heap.segments.layout (settled (young_base new.heap.segments) (moves_of new) t.places) t.world (places_of new.heap.weaks.list)
+  pub deaths : new.heap.weaks.deaths ≡ old.heap.weaks.deaths
 
 -- some program is longer than what was done of it
 abbrev pub SomeIsLeft : List (List Command) → List ℕ → Type 0
@@ -89,13 +83,13 @@ SomeIsLeft programs positions = (k : ℕ) × (k < length programs) × (slice_ind
 
 -- no command is left, and no cycle is in progress
 abbrev pub IsDone : Script → Collector → Type 0
-IsDone script c = (SomeIsLeft script.threads c.positions.items → ⊥) × (c.progress ≡ doing.Idle)
+IsDone script c = (SomeIsLeft script.threads c.positions.items → ⊥) × (c.cycle.progress ≡ doing.Idle)
 
 -- commands are left, and so many segments are free, fewer than the reserve
 pub record IsHeapFullAt (script : Script) (c : Collector) (free reserve : ℕ) : Type 0 where
   pub left : SomeIsLeft script.threads c.positions.items
-  pub free_is : free ≡ free_count c.segments.segments
-  pub reserve_is : reserve ≡ reserve_count c.segments.layout
+  pub free_is : free ≡ free_count c.heap.segments.segments
+  pub reserve_is : reserve ≡ reserve_count c.heap.segments.layout
   pub less : free < reserve
 
 -- the end of the run that a stop's answer is, if it is one

@@ -142,8 +142,8 @@ pub record AreReserved (old new : List Mutator) : Type 0 where
 
 -- how a round opens after a stop: while a cycle marks with its machine, and else with the world alone
 abbrev pub OpensIn : Progress → State → Collector → List Place → Opening → Type 0
-OpensIn (marking k) s c places o = (h : IsMarking k s (collector_seen c) places) × (o ≡ opening_beside c.segments.layout h.core places c.mutators.items)
-OpensIn _ s c places o = o ≡ opening_at c.segments.layout s.world places c.mutators.items
+OpensIn (marking k) s c places o = (h : IsMarking k s (collector_seen c) places) × (o ≡ opening_beside c.heap.segments.layout h.core places c.mutators.items)
+OpensIn _ s c places o = o ≡ opening_at c.heap.segments.layout s.world places c.mutators.items
 
 -- the round that begins after a stop opens with the state of that stop
 abbrev pub OpensAt : Script → Collector → Opening → Type 0
@@ -168,7 +168,7 @@ pub record HasHelpedBeside (quota : ℕ) (o : Opening) (scans : List Scan) (old 
   pub seat : RoundSeat
   pub began : seen from ≡ collecting (whole o)
   pub knows : seen seat ≡ record (collecting (whole o)) { scans = scans }
-  pub helped : HasHelped round quota from seat old.segments new.segments old.names old.progress new.progress
+  pub helped : HasHelped round quota from seat old.heap.segments new.heap.segments old.heap.names old.cycle.progress new.cycle.progress
 
 -- what was done, without the replies
 abbrev pub commands_in : List (List Done) → List (List Command)
@@ -179,17 +179,14 @@ commands_in done = map (λ (d : List Done). map (λ (x : Done). x.0) d) done
 -- a slice asked for one
 pub record DidSlices (script : Script) (o : Opening) (old new : Collector) : Type 0 where
   pub rest : new ≡ record old {
-    words = new.words;
-    segments = new.segments;
-    progress = new.progress;
-    collect = new.collect;
-    full = new.full;
-    inbox = new.inbox;
-    mutators = new.mutators;
-    positions = new.positions;
-  }
+      heap = record old.heap { words = new.heap.words; segments = new.heap.segments };
+      cycle = record old.cycle { progress = new.cycle.progress; collect = new.cycle.collect; full = new.cycle.full };
+      inbox = new.inbox;
+      mutators = new.mutators;
+      positions = new.positions;
+    }
   pub words : List ℕ
-  pub words_are : new.words ≡ Some words
+  pub words_are : new.heap.words ≡ Some words
   pub scans : List Scan
   pub seats : List RoundSeat
   pub leaves : Leaves o words (gathered o scans seats)
@@ -197,10 +194,10 @@ pub record DidSlices (script : Script) (o : Opening) (old new : Collector) : Typ
   pub gathers : IsGathered o scans seats new.mutators.items done
   pub owed : HaveOwed o (gathered o scans seats).parts new.mutators.items
   pub helped : HasHelpedBeside script.config.quota o scans old new
-  pub sound : IsSegments new.segments
+  pub sound : IsSegments new.heap.segments
   pub polled : HavePolled old.inbox new.inbox
-  pub collect : new.collect ≡ (old.collect || some_asks is_collect (commands_in done))
-  pub full : new.full ≡ (old.full || some_asks is_full (commands_in done))
+  pub collect : new.cycle.collect ≡ (old.cycle.collect || some_asks is_collect (commands_in done))
+  pub full : new.cycle.full ≡ (old.cycle.full || some_asks is_full (commands_in done))
   pub positions_are : length new.positions.items ≡ length old.positions.items
   pub each : (k : ℕ) (m n : Mutator) (d : List Done) → slice_get old.mutators.items k ≡ Some m → slice_get new.mutators.items k ≡ Some n →
       slice_get done k ≡ Some d → DidSlice script old new k m n d

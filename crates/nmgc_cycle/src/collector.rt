@@ -1,5 +1,10 @@
 //! A collector: how a run begins, how it goes on, and what it tells in the end.
 //!
+//! What it has is in groups: the heap (`Heap`), the state of its cycles (`CycleState`), and the rows that the report will
+//! have (`Rows`). Beside them are the mutators, with the other ends of their rings and how far each program has come, and
+//! what the last stop answered. What the report takes as the run ends is kept for it from the beginning
+//! (`ReportMemory`).
+//!
 //! Here is the memory that grows with the heap, and most of it is taken at the beginning: the words in their table,
 //! the segments, the array of names beside them, and the lists of promotion. The table is made from a list of as many
 //! words, which is given back at once, so that its pages serve what is filled later. Room that may never be filled is taken
@@ -62,14 +67,7 @@ use std::thread::Threads;
 #[derive(Drop)]
 pub struct Collector {
     pub(crate) alloc: Global,
-    // The words of the heap. They are away only within a round.
-    pub(crate) words: Option<Words>,
-    pub(crate) segments: Segments,
-    pub(crate) promotion: Promotion,
-    // Of each object in a segment, by its place.
-    pub(crate) names: Names,
-    // The weak pointers that are alive and have a block.
-    pub(crate) weaks: Weaks,
+    pub(crate) heap: Heap,
     // By their numbers.
     pub(crate) mutators: Vec<Mutator>,
     // Room for the workers of a round, one for each mutator.
@@ -78,10 +76,29 @@ pub struct Collector {
     pub(crate) inbox: Inbox,
     // How many commands of each program were answered.
     pub(crate) positions: Vec<u32>,
-    pub(crate) rounds: List<RoundRows>,
-    pub(crate) stops: List<StopRow>,
-    // Of the cycles that ended.
-    pub(crate) cycles: List<CycleRow>,
+    pub(crate) rows: Rows,
+    pub(crate) cycle: CycleState,
+    // The end that the last stop answered, if it was one.
+    pub(crate) answered: Option<End>,
+    pub(crate) report: ReportMemory,
+}
+
+// The heap: its words, its segments with the names of what lies in them, the lists of a promotion, and the weak pointers.
+#[derive(Drop)]
+pub(crate) struct Heap {
+    // The words of the heap. They are away only within a round.
+    pub(crate) words: Option<Words>,
+    pub(crate) segments: Segments,
+    pub(crate) promotion: Promotion,
+    // Of each object in a segment, by its place.
+    pub(crate) names: Names,
+    // The weak pointers that are alive and have a block.
+    pub(crate) weaks: Weaks,
+}
+
+// The cycle in progress, if one is, and what lasts from one cycle to the next.
+#[derive(Drop)]
+pub(crate) struct CycleState {
     pub(crate) progress: Progress,
     // How many cycles were begun.
     pub(crate) begun: u32,
@@ -93,24 +110,35 @@ pub struct Collector {
     pub(crate) turns: u64,
     // And how often its second sweeping half did.
     pub(crate) upper_turns: u64,
-    // The end that the last stop answered, if it was one.
-    pub(crate) answered: Option<End>,
-    // Empty, with room for what each mutator has in hand in the end.
-    pub(crate) ends: Vec<MutatorEnd>,
-    // Where the report's lists will lie.
-    pub(crate) places: ReportMemory,
 }
 
-// Where those lists of a report will lie that are made as the run ends, when no memory may be taken.
+// What the report will tell of the rounds, the stops and the cycles.
+#[derive(Drop)]
+pub(crate) struct Rows {
+    pub(crate) rounds: List<RoundRows>,
+    pub(crate) stops: List<StopRow>,
+    // Of the cycles that ended.
+    pub(crate) cycles: List<CycleRow>,
+}
+
+// What a report takes as the run ends, when no memory may be taken.
 #[derive(Drop)]
 pub(crate) struct ReportMemory {
+    // Empty, with room for what each mutator has in hand in the end.
+    pub(crate) ends: Vec<MutatorEnd>,
+    // Where the lists of mutators and of weak pointers will lie.
     mutators: ListMemory<MutatorEnd>,
     weaks: ListMemory<Name>,
 }
 
 impl ReportMemory {
-    fn new(alloc: Global) -> Result<ReportMemory, NoMemory> {
+    // With room for so many mutators.
+    fn new(alloc: Global, count: usize) -> Result<ReportMemory, NoMemory>
+        ensures empty { IfOk result (λ report. report.ends.items ≡ []) }
+        ensures room { IfOk result (λ report. count ≤ vec_capacity report.ends) }
+    {
         Ok(ReportMemory {
+            ends: Vec::with_capacity(alloc, count)?,
             mutators: ListMemory::new(alloc)?,
             weaks: ListMemory::new(alloc)?,
         })
@@ -238,32 +266,8 @@ impl Collector {
         let count = layout.mutators as usize;
         let workers = WorkerRoom::reserve(alloc, count)?;
         let positions = vec![in alloc; 0u32; count]?;
-        let ends = Vec::with_capacity(alloc, count)?;
-        let places = ReportMemory::new(alloc)?;
-        Ok(Collector {
-            alloc,
-            words: Some(words),
-            segments,
-            promotion,
-            names,
-            weaks: Weaks::new(alloc),
-            mutators,
-            workers,
-            inbox,
-            positions,
-            rounds: List::new(alloc),
-            stops: List::new(alloc),
-            cycles: List::new(alloc),
-            progress: Progress::Idle,
-            begun: 0,
-            collect: false,
-            full: false,
-            turns: 0,
-            upper_turns: 0,
-            answered: None,
-            ends,
-            places,
-        })
+        let report = ReportMemory::new(alloc, count)?;
+        Ok(Collector { alloc, heap: Heap { words: Some(words), segments, promotion, names, weaks: Weaks::new(alloc) }, mutators, workers, inbox, positions, rows: Rows { rounds: List::new(alloc), stops: List::new(alloc), cycles: List::new(alloc) }, cycle: CycleState { progress: Progress::Idle, begun: 0, collect: false, full: false, turns: 0, upper_turns: 0 }, answered: None, report })
     }
 
     /// A whole run of a script: a stop, and then rounds, each with a stop after it, until a stop answers an end.
@@ -318,32 +322,10 @@ impl Collector {
         ensures parts { result ≡ report_of self end }
         ensures told { (script : ScriptSeen) → HasEnded script self end → IsLawful script result }
     {
-        let Collector {
-            alloc: _,
-            words,
-            segments,
-            promotion: _,
-            names: _,
-            weaks,
-            mutators,
-            workers: _,
-            inbox: _,
-            positions: _,
-            rounds,
-            stops,
-            mut cycles,
-            progress: _,
-            begun: _,
-            collect: _,
-            full: _,
-            turns: _,
-            upper_turns: _,
-            answered: _,
-            ends,
-            places,
-        } = self;
+        let Collector { alloc: _, heap, mutators, workers: _, inbox: _, positions: _, rows, cycle: _, answered: _, report } = self;
+            let Heap { words, segments, promotion: _, names: _, weaks } = heap; let Rows { rounds, stops, mut cycles } = rows;
         let words = words.unwrap().close();
-        let ends = all_ends(mutators, ends);
+        let ends = all_ends(mutators, report.ends);
         put_rows_in_order(cycles.items_mut());
         Report {
             rounds,
@@ -351,8 +333,8 @@ impl Collector {
             cycles,
             words: FinalWords::of_table(words),
             segments,
-            mutators: List::in_place(ends, places.mutators),
-            weaks: weaks.into_names(places.weaks),
+            mutators: List::in_place(ends, report.mutators),
+            weaks: weaks.into_names(report.weaks),
             end,
         }
     }

@@ -127,15 +127,15 @@ fn forget_all(inbox: &mut Inbox, mutators: &mut [Mutator])
 impl Collector {
     // What the mutators remember goes to the marker, if one marks, and is cleared.
     pub(crate) fn add_remembered(&mut self)
-        requires can { CanAdd self.old.segments self.old.progress }
+        requires can { CanAdd self.old.heap.segments self.old.cycle.progress }
         requires lines { HaveLines self.old.inbox self.old.mutators.items }
         ensures { HasTaken self.old self.new }
     {
         let mutators = self.mutators.as_mut_slice();
-        if let Progress::Marking(marking) = &mut self.progress {
+        if let Progress::Marking(marking) = &mut self.cycle.progress {
             add_all(
                 &mut marking.marker,
-                &mut self.segments,
+                &mut self.heap.segments,
                 &mut self.inbox,
                 mutators,
             );
@@ -146,11 +146,12 @@ impl Collector {
 
     // The cycle is closed where the marker's last work left nothing.
     pub(crate) fn close(&mut self, stop: u32)
-        requires words { IsSome self.old.words }
-        requires can { CanClose (words_in self.old.words) self.old.segments self.old.weaks.list (queues_in self.old.mutators.items) self.old.progress }
+        requires words { IsSome self.old.heap.words }
+        requires can { CanClose (words_in self.old.heap.words) self.old.heap.segments self.old.heap.weaks.list (queues_in self.old.mutators.items)
+            self.old.cycle.progress }
         ensures { HasClosed Closes stop self.old self.new }
     {
-        self.progress = match mem::replace(&mut self.progress, Progress::Idle) {
+        self.cycle.progress = match mem::replace(&mut self.cycle.progress, Progress::Idle) {
             Progress::Marking(marking) => {
                 if marking.last.empty {
                     Progress::Sweeping(self.closed(marking, stop))
@@ -164,17 +165,16 @@ impl Collector {
 
     // Marking is finished, and the marks of segments that aren't to be swept are carried.
     pub(crate) fn closed(&mut self, marking: Marking, stop: u32) -> Sweeping
-        requires words { IsSome self.old.words }
-        requires ready { IsReadyToClose (words_in self.old.words) self.old.segments self.old.weaks.list (queues_in self.old.mutators.items) marking }
+        requires words { IsSome self.old.heap.words }
+        requires ready { IsReadyToClose (words_in self.old.heap.words) self.old.heap.segments self.old.heap.weaks.list (queues_in self.old.mutators.items)
+            marking }
         ensures rest { self.new ≡ record self.old {
-          words = self.new.words;
-          segments = self.new.segments;
-          weaks = self.new.weaks;
-          mutators = self.new.mutators;
-        } }
-        ensures words { IsSome self.new.words }
-        ensures closed { IsClosed stop (words_in self.old.words) (words_in self.new.words) self.old.segments self.new.segments self.old.weaks
-            self.new.weaks self.old.mutators.items self.new.mutators.items marking result }
+            heap = record self.old.heap { words = self.new.heap.words; segments = self.new.heap.segments; weaks = self.new.heap.weaks };
+            mutators = self.new.mutators;
+          } }
+        ensures words { IsSome self.new.heap.words }
+        ensures closed { IsClosed stop (words_in self.old.heap.words) (words_in self.new.heap.words) self.old.heap.segments self.new.heap.segments
+            self.old.heap.weaks self.new.heap.weaks self.old.mutators.items self.new.mutators.items marking result }
     {
         let Marking {
             from,
@@ -182,14 +182,14 @@ impl Collector {
             last: _,
             mut sweeper,
         } = marking;
-        let Some(words) = &mut self.words else {
+        let Some(words) = &mut self.heap.words else {
             unreachable!()
         };
-        marker.finish(words, &mut self.segments);
-        self.weaks.resolve(&mut marker, words, &mut self.segments);
-        weaks::queue_all(self.weaks.deaths(), self.mutators.as_mut_slice());
-        let _ = self.segments.layout();
-        self.segments.carry(marker.epoch());
+        marker.finish(words, &mut self.heap.segments);
+        self.heap.weaks.resolve(&mut marker, words, &mut self.heap.segments);
+        weaks::queue_all(self.heap.weaks.deaths(), self.mutators.as_mut_slice());
+        let _ = self.heap.segments.layout();
+        self.heap.segments.carry(marker.epoch());
         sweeper.turns = marker.turns;
         Sweeping {
             from,
@@ -203,27 +203,27 @@ impl Collector {
     fn is_swept(&self) -> bool
         ensures { IsTrue result ↔ IsSwept self.now }
     {
-        match self.progress {
-            Progress::Sweeping(_) => self.segments.sweep_count() == 0,
+        match self.cycle.progress {
+            Progress::Sweeping(_) => self.heap.segments.sweep_count() == 0,
             Progress::Idle | Progress::Marking(_) => false,
         }
     }
 
     // A cycle that is sweeping ends where no segment waits: its row is told, and the collector is idle.
     pub(crate) fn end(&mut self, stop: u32) -> Result<(), NoMemory>
-        ensures { OnOk result (Ends stop self.old.progress self.old self.new) }
+        ensures { OnOk result (Ends stop self.old.cycle.progress self.old self.new) }
     {
         if !self.is_swept() {
             return Ok(());
         }
-        let dead = weaks::dead_names(self.alloc, self.weaks.deaths())?;
-        let Progress::Sweeping(sweeping) = mem::replace(&mut self.progress, Progress::Idle) else {
+        let dead = weaks::dead_names(self.alloc, self.heap.weaks.deaths())?;
+        let Progress::Sweeping(sweeping) = mem::replace(&mut self.cycle.progress, Progress::Idle) else {
             unreachable!();
         };
-        self.turns = sweeping.sweeper.turns;
-        self.upper_turns = sweeping.sweeper.upper_turns;
-        let row = row_of(self.begun, sweeping, dead, stop)?;
-        self.cycles.push(row)
+        self.cycle.turns = sweeping.sweeper.turns;
+        self.cycle.upper_turns = sweeping.sweeper.upper_turns;
+        let row = row_of(self.cycle.begun, sweeping, dead, stop)?;
+        self.rows.cycles.push(row)
     }
 
     // Whether a cycle is due: none is in progress, and one was asked for, or enough segments were filled since the
@@ -231,17 +231,17 @@ impl Collector {
     fn is_due(&self, trigger: u32) -> bool
         ensures { IsTrue result ↔ IsDue trigger self.now }
     {
-        match self.progress {
-            Progress::Idle => self.collect || (trigger != 0 && self.segments.fresh() >= trigger),
+        match self.cycle.progress {
+            Progress::Idle => self.cycle.collect || (trigger != 0 && self.heap.segments.fresh() >= trigger),
             Progress::Marking(_) | Progress::Sweeping(_) => false,
         }
     }
 
     // A cycle begins where one is due.
     pub(crate) fn begin(&mut self, trigger: u32, stop: u32) -> Result<(), NoMemory>
-        requires words { IsSome self.old.words }
-        requires inside { FIRST_PLACE ≤ length (words_in self.old.words) }
-        requires number { self.old.begun + 1 < 2 ^ 32 }
+        requires words { IsSome self.old.heap.words }
+        requires inside { FIRST_PLACE ≤ length (words_in self.old.heap.words) }
+        requires number { self.old.cycle.begun + 1 < 2 ^ 32 }
         requires can { IsDue trigger self.old → CanBegin self.old }
         ensures { OnOk result (Begins trigger stop self.old self.new) }
     {
@@ -253,45 +253,45 @@ impl Collector {
 
     // A cycle begins.
     pub(crate) fn start(&mut self, stop: u32) -> Result<(), NoMemory>
-        requires words { IsSome self.old.words }
-        requires inside { FIRST_PLACE ≤ length (words_in self.old.words) }
-        requires number { self.old.begun + 1 < 2 ^ 32 }
+        requires words { IsSome self.old.heap.words }
+        requires inside { FIRST_PLACE ≤ length (words_in self.old.heap.words) }
+        requires number { self.old.cycle.begun + 1 < 2 ^ 32 }
         requires can { CanBegin self.old }
         ensures { OnOk result (HasStarted stop self.old self.new) }
     {
         let marking = self.start_marking(stop)?;
-        self.begun += 1;
-        self.collect = false;
-        self.progress = Progress::Marking(marking);
+        self.cycle.begun += 1;
+        self.cycle.collect = false;
+        self.cycle.progress = Progress::Marking(marking);
         Ok(())
     }
 
     // Which segments are to be swept is noted, and what the roots refer to is marked.
     fn start_marking(&mut self, stop: u32) -> Result<Marking, NoMemory>
-        requires words { IsSome self.old.words }
-        requires inside { FIRST_PLACE ≤ length (words_in self.old.words) }
-        requires number { self.old.begun + 1 < 2 ^ 32 }
+        requires words { IsSome self.old.heap.words }
+        requires inside { FIRST_PLACE ≤ length (words_in self.old.heap.words) }
+        requires number { self.old.cycle.begun + 1 < 2 ^ 32 }
         requires can { CanBegin self.old }
         ensures { IfOk result (λ marking. StartsMarking stop self.old self.new marking) }
     {
-        let epoch = epoch_of(self.begun + 1);
-        self.segments.prepare();
-        let Some(words) = &mut self.words else {
+        let epoch = epoch_of(self.cycle.begun + 1);
+        self.heap.segments.prepare();
+        let Some(words) = &mut self.heap.words else {
             unreachable!()
         };
-        let mut sweeper = Sweeper::start(self.alloc, &self.segments, epoch)?;
+        let mut sweeper = Sweeper::start(self.alloc, &self.heap.segments, epoch)?;
         let mut marker = Marker::snapshot(
             self.alloc,
             words,
-            &mut self.segments,
+            &mut self.heap.segments,
             self.mutators.as_slice(),
             epoch,
         )?;
-        let _ = self.segments.layout();
-        weaks::reserve_queues(self.mutators.as_mut_slice(), self.weaks.list())?;
-        marker.turns = self.turns;
-        sweeper.turns = self.turns;
-        sweeper.upper_turns = self.upper_turns;
+        let _ = self.heap.segments.layout();
+        weaks::reserve_queues(self.mutators.as_mut_slice(), self.heap.weaks.list())?;
+        marker.turns = self.cycle.turns;
+        sweeper.turns = self.cycle.turns;
+        sweeper.upper_turns = self.cycle.upper_turns;
         Ok(Marking {
             from: stop,
             marker,

@@ -26,23 +26,24 @@ impl Collector {
     fn is_short(&self, left: bool) -> bool
         ensures { result ≡ is_short_of left self.now }
     {
-        left && self.segments.free_count() < self.segments.layout().reserve()
+        left && self.heap.segments.free_count() < self.heap.segments.layout().reserve()
     }
 
     // Whether a full cycle is due: it was asked for, or the heap is short of segments.
     fn is_full_due(&self, left: bool) -> bool
         ensures { IsTrue result ↔ IsFullDue left self.now }
     {
-        self.full || self.is_short(left)
+        self.cycle.full || self.is_short(left)
     }
 
     // The cycle is closed, if one marks.
     fn close_now(&mut self, stop: u32)
-        requires words { IsSome self.old.words }
-        requires can { CanCloseNow (words_in self.old.words) self.old.segments self.old.weaks.list (queues_in self.old.mutators.items) self.old.progress }
+        requires words { IsSome self.old.heap.words }
+        requires can { CanCloseNow (words_in self.old.heap.words) self.old.heap.segments self.old.heap.weaks.list (queues_in self.old.mutators.items)
+            self.old.cycle.progress }
         ensures { HasClosed ClosesNow stop self.old self.new }
     {
-        self.progress = match mem::replace(&mut self.progress, Progress::Idle) {
+        self.cycle.progress = match mem::replace(&mut self.cycle.progress, Progress::Idle) {
             Progress::Marking(marking) => Progress::Sweeping(self.closed(marking, stop)),
             progress => progress,
         };
@@ -50,13 +51,13 @@ impl Collector {
 
     // All segments that wait are swept.
     fn sweep_rest<R: Threads + Sync>(&mut self, rt: &R)
-        requires can { CanSweepRest self.old.segments self.old.names self.old.progress }
+        requires can { CanSweepRest self.old.heap.segments self.old.heap.names self.old.cycle.progress }
         ensures { HasSweptRest self.old self.new }
     {
-        if let Progress::Sweeping(sweeping) = &mut self.progress {
-            sweeping.sweeper.finish(rt, &mut self.segments, &self.names);
+        if let Progress::Sweeping(sweeping) = &mut self.cycle.progress {
+            sweeping.sweeper.finish(rt, &mut self.heap.segments, &self.heap.names);
             // What is true of all segments is true of these.
-            let _ = self.segments.layout();
+            let _ = self.heap.segments.layout();
         }
     }
 
@@ -75,16 +76,16 @@ impl Collector {
     // A full cycle is done at this stop, and nothing is asked for any more.
     fn full_cycle<R: Threads + Sync>(&mut self, rt: &R, stop: u32) -> Result<(), NoMemory>
         requires stands { StandsAtStop stop self.old }
-        requires number { self.old.begun + 1 < 2 ^ 32 }
+        requires number { self.old.cycle.begun + 1 < 2 ^ 32 }
         ensures { OnOk result (HasDoneFull stop self.old self.new) }
     {
         a_full_cycle_leads();
         self.finish_cycle(rt, stop)?;
-        self.segments.retire_all();
+        self.heap.segments.retire_all();
         self.start(stop)?;
         self.finish_cycle(rt, stop)?;
-        self.collect = false;
-        self.full = false;
+        self.cycle.collect = false;
+        self.cycle.full = false;
         Ok(())
     }
 
@@ -97,7 +98,7 @@ impl Collector {
         stop: u32,
     ) -> Result<(), NoMemory>
         requires stands { StandsAtStop stop self.old }
-        requires number { self.old.begun + 1 < 2 ^ 32 }
+        requires number { self.old.cycle.begun + 1 < 2 ^ 32 }
         ensures { OnOk result (Proceeds trigger left stop self.old self.new) }
     {
         a_full_cycle_leads();

@@ -119,11 +119,12 @@ impl Collector {
         requires limits { IsInLimits script.now }
         requires stopped { HasStopped script.now self.old × (self.old.answered ≡ None) }
         ensures worked { OnOk result (DidRound script.now self.old self.new) }
-        ensures told { OnOk result ((rows : RoundRows) × (self.new.rounds ≡ self.old.rounds ++ rows ∷ [])) }
-        ensures stops { OnOk result (self.new.stops ≡ self.old.stops) }
+        ensures told { OnOk result ((rows : RoundRows) × (self.new.rows.rounds ≡ self.old.rows.rounds ++ rows ∷ [])) }
+        ensures stops { OnOk result (self.new.rows.stops ≡ self.old.rows.stops) }
         ensures mutator_turns { OnOk result (HaveTried script.now self.old self.new) }
-        ensures turns { OnOk result (turns_of self.new ≡ passed (turns_of self.old) (worked_on self.old.progress self.new.progress)) }
-        ensures upper_turns { OnOk result (upper_turns_of self.new ≡ passed (upper_turns_of self.old) (upper_worked_on self.old.progress self.new.progress)) }
+        ensures turns { OnOk result (turns_of self.new ≡ passed (turns_of self.old) (worked_on self.old.cycle.progress self.new.cycle.progress)) }
+        ensures upper_turns { OnOk result (upper_turns_of self.new ≡
+            passed (upper_turns_of self.old) (upper_worked_on self.old.cycle.progress self.new.cycle.progress)) }
         ensures remembered { OnOk result (RememberInOrder self.new.inbox self.new.mutators.items) }
     {
         self.play(rt, script, gate)?;
@@ -150,11 +151,12 @@ impl Collector {
         requires limits { IsInLimits script.now }
         requires stopped { HasStopped script.now self.old × (self.old.answered ≡ None) }
         ensures worked { OnOk result (DidRound script.now self.old self.new) }
-        ensures told { OnOk result ((rows : RoundRows) × (self.new.rounds ≡ self.old.rounds ++ rows ∷ [])) }
-        ensures stops { OnOk result (self.new.stops ≡ self.old.stops) }
+        ensures told { OnOk result ((rows : RoundRows) × (self.new.rows.rounds ≡ self.old.rows.rounds ++ rows ∷ [])) }
+        ensures stops { OnOk result (self.new.rows.stops ≡ self.old.rows.stops) }
         ensures mutator_turns { OnOk result (HaveTried script.now self.old self.new) }
-        ensures turns { OnOk result (turns_of self.new ≡ passed (turns_of self.old) (worked_on self.old.progress self.new.progress)) }
-        ensures upper_turns { OnOk result (upper_turns_of self.new ≡ passed (upper_turns_of self.old) (upper_worked_on self.old.progress self.new.progress)) }
+        ensures turns { OnOk result (turns_of self.new ≡ passed (turns_of self.old) (worked_on self.old.cycle.progress self.new.cycle.progress)) }
+        ensures upper_turns { OnOk result (upper_turns_of self.new ≡
+            passed (upper_turns_of self.old) (upper_worked_on self.old.cycle.progress self.new.cycle.progress)) }
     {
         a_rest_opens_a_round();
         opens_beside();
@@ -174,7 +176,7 @@ impl Collector {
         let opening = opening_of(script, self);
         self.do_slices(rt, script, gate, &opening, lists);
         let rows = taken(self.alloc, self.mutators.as_mut_slice())?;
-        self.rounds.push(rows)
+        self.rows.rounds.push(rows)
     }
 
     // Makes room for what the mutators note in the round.
@@ -198,9 +200,9 @@ impl Collector {
         requires stopped { HasStopped script.now self.old }
         ensures rest { OnOk result (self.new ≡ record self.old { inbox = self.new.inbox }) }
         ensures lists { OnOk result (HavePolled self.old.inbox self.new.inbox) }
-        ensures room { OnOk result (is_marking_in self.old.progress ≡ true → HasInboxRoom script.now self.old.positions.items self.new.inbox) }
+        ensures room { OnOk result (is_marking_in self.old.cycle.progress ≡ true → HasInboxRoom script.now self.old.positions.items self.new.inbox) }
     {
-        if !self.progress.is_marking() {
+        if !self.cycle.progress.is_marking() {
             return Ok(());
         }
         reserve_inbox(&mut self.inbox, script, self.positions.as_slice())
@@ -218,7 +220,7 @@ impl Collector {
         requires limits { IsInLimits script.now }
         requires opens { OpensAt script.now self.old opening.now.value }
         requires room { HaveSliceRoom script.now self.old }
-        requires inbox { is_marking_in self.old.progress ≡ true → HasInboxRoom script.now self.old.positions.items self.old.inbox }
+        requires inbox { is_marking_in self.old.cycle.progress ≡ true → HasInboxRoom script.now self.old.positions.items self.old.inbox }
         requires lists { HaveRoom (length self.old.mutators.items) lists }
         ensures { DidSlices script.now opening.now.value self.old self.new }
     {
@@ -235,9 +237,9 @@ impl Collector {
             given: given_place,
             taken: taken_place,
         } = lists;
-        let words = self.words.take().unwrap();
-        let layout = self.segments.layout();
-        let marking = self.progress.is_marking();
+        let words = self.heap.words.take().unwrap();
+        let layout = self.heap.segments.layout();
+        let marking = self.cycle.progress.is_marking();
         let Started {
             round,
             mutators: given,
@@ -258,7 +260,7 @@ impl Collector {
         let left = unseated(workers, &mut self.mutators, &mut seats);
         self.workers.give_back(left);
         let Finished { words } = round.finish(List::in_place(seats, taken_place), collector);
-        self.words = Some(words);
+        self.heap.words = Some(words);
     }
 
     // The workers do their slices, and the collector its part beside them; what the slices ask for is noted.
@@ -271,40 +273,38 @@ impl Collector {
         script: &Script,
         gate: &G,
     )
-        requires inbox { self.old.segments.layout.mutators ≤ length self.old.inbox }
-        requires collector { CanHelp round.now seat.old self.old.segments self.old.names self.old.progress }
+        requires inbox { self.old.heap.segments.layout.mutators ≤ length self.old.inbox }
+        requires collector { CanHelp round.now seat.old self.old.heap.segments self.old.heap.names self.old.cycle.progress }
         requires mutators { CanAllWork round.now script.now self.old.positions.items workers.old }
         ensures rest { self.new ≡ record self.old {
-          segments = self.new.segments;
-          progress = self.new.progress;
-          collect = self.new.collect;
-          full = self.new.full;
-          inbox = self.new.inbox;
-        } }
-        ensures collector { HasHelped round.now script.now.config.quota seat.old seat.new self.old.segments self.new.segments self.old.names
-            self.old.progress self.new.progress }
+            heap = record self.old.heap { segments = self.new.heap.segments };
+            cycle = record self.old.cycle { progress = self.new.cycle.progress; collect = self.new.cycle.collect; full = self.new.cycle.full };
+            inbox = self.new.inbox;
+          } }
+        ensures collector { HasHelped round.now script.now.config.quota seat.old seat.new self.old.heap.segments self.new.heap.segments self.old.heap.names
+            self.old.cycle.progress self.new.cycle.progress }
         ensures mutators { HaveAllWorked round.now script.now self.old.positions.items workers.old workers.new }
         ensures polled { HavePolled self.old.inbox self.new.inbox }
-        ensures sound { IsSegments self.new.segments }
-        ensures collect { self.new.collect ≡ (self.old.collect || list_any asks_of workers.new) }
-        ensures full { self.new.full ≡ (self.old.full || list_any asks_full_of workers.new) }
+        ensures sound { IsSegments self.new.heap.segments }
+        ensures collect { self.new.cycle.collect ≡ (self.old.cycle.collect || list_any asks_of workers.new) }
+        ensures full { self.new.cycle.full ≡ (self.old.cycle.full || list_any asks_full_of workers.new) }
     {
         work_beside(
             rt,
             round,
-            &mut self.progress,
+            &mut self.cycle.progress,
             seat,
-            &mut self.segments,
-            &self.names,
+            &mut self.heap.segments,
+            &self.heap.names,
             &mut self.inbox,
             workers,
             script,
             self.positions.as_slice(),
             gate,
         );
-        sound(&self.segments);
-        self.collect = is_asked(self.collect, some_asks(workers));
-        self.full = is_asked(self.full, some_ask_full(workers));
+        sound(&self.heap.segments);
+        self.cycle.collect = is_asked(self.cycle.collect, some_asks(workers));
+        self.cycle.full = is_asked(self.cycle.full, some_ask_full(workers));
     }
 }
 

@@ -73,34 +73,34 @@ impl Collector {
         ensures done { IfOk result (λ end. (end ≡ answer.Done) ↔ IsDone script.now self.new) }
         ensures full { IfOk result (λ end. (free reserve : ℕ) → (end ≡ answer.HeapFull free reserve) ↔ IsHeapFullAt script.now self.new free reserve) }
         ensures marks_on { OnOk result (MarksOn self.old self.new) }
-        ensures rounds { OnOk result (self.new.rounds ≡ self.old.rounds) }
-        ensures stops { OnOk result ((row : StopRow) × (self.new.stops ≡ self.old.stops ++ row ∷ [])) }
+        ensures rounds { OnOk result (self.new.rows.rounds ≡ self.old.rows.rounds) }
+        ensures stops { OnOk result ((row : StopRow) × (self.new.rows.stops ≡ self.old.rows.stops ++ row ∷ [])) }
         ensures mutator_turns { OnOk result (mutator_turns_of self.new ≡ mutator_turns_of self.old) }
         ensures turns { OnOk result (turns_of self.new ≡ turns_of self.old) }
         ensures upper_turns { OnOk result (upper_turns_of self.new ≡ upper_turns_of self.old) }
     {
         a_stop_leads();
-        let number = self.stops.items().len() as u32;
+        let number = self.rows.stops.items().len() as u32;
         let promoted = self.promote()?;
         self.add_remembered();
         self.close(number);
         self.end(number)?;
         let left = self.has_left(script);
         self.proceed(rt, left, script.config.trigger, number)?;
-        let free = self.segments.free_count();
+        let free = self.heap.segments.free_count();
         let row = StopRow {
             number,
-            phase: self.progress.phase(),
+            phase: self.cycle.progress.phase(),
             free,
-            filled: self.segments.filled_count(),
-            sweep: self.segments.sweep_count(),
+            filled: self.heap.segments.filled_count(),
+            sweep: self.heap.segments.sweep_count(),
             promoted,
         };
-        self.stops.push(row)?;
-        let reserve = self.segments.layout().reserve();
+        self.rows.stops.push(row)?;
+        let reserve = self.heap.segments.layout().reserve();
         let end = if left && free < reserve {
             StopEnd::HeapFull { free, reserve }
-        } else if !left && self.progress.phase() == Phase::Idle {
+        } else if !left && self.cycle.progress.phase() == Phase::Idle {
             StopEnd::Done
         } else {
             StopEnd::GoOn
@@ -120,38 +120,38 @@ impl Collector {
     // Promotes what the round made, and answers how many objects moved. Weak pointers that were finalised in the round leave
     // the list, and those that moved and are alive join it.
     fn promote(&mut self) -> Result<u32, NoMemory>
-        requires words { IsSome self.old.words }
-        requires lists { IsFor self.old.segments.layout self.old.promotion }
-        requires entries { HaveEntries self.old.segments.layout self.old.names }
+        requires words { IsSome self.old.heap.words }
+        requires lists { IsFor self.old.heap.segments.layout self.old.heap.promotion }
+        requires entries { HaveEntries self.old.heap.segments.layout self.old.heap.names }
         requires stopped { (t : Stopped) × StandsStopped t self.old × CanList t self.old }
         ensures promoted { OnOk result (HasPromoted self.old self.new) }
         ensures listed { OnOk result (HasListed self.old self.new) }
-        ensures many { IfOk result (λ count. count ≡ length self.new.promotion.moves) }
+        ensures many { IfOk result (λ count. count ≡ length self.new.heap.promotion.moves) }
     {
         the_list_is_left();
         the_list_is_joined();
         self.leave();
         self.move_promoted();
         self.join()?;
-        Ok(self.promotion.moves().len() as u32)
+        Ok(self.heap.promotion.moves().len() as u32)
     }
 
     // Moves what is promoted, and notes its names. Takes no memory.
     fn move_promoted(&mut self)
-        requires words { IsSome self.old.words }
-        requires lists { IsFor self.old.segments.layout self.old.promotion }
-        requires entries { HaveEntries self.old.segments.layout self.old.names }
+        requires words { IsSome self.old.heap.words }
+        requires lists { IsFor self.old.heap.segments.layout self.old.heap.promotion }
+        requires entries { HaveEntries self.old.heap.segments.layout self.old.heap.names }
         requires stopped { (t : Stopped) × StandsStopped t self.old }
         ensures promoted { HasPromoted self.old self.new }
-        ensures weaks { self.new.weaks ≡ self.old.weaks }
-        ensures few { length self.new.promotion.moves < 2 ^ 32 }
+        ensures weaks { self.new.heap.weaks ≡ self.old.heap.weaks }
+        ensures few { length self.new.heap.promotion.moves < 2 ^ 32 }
     {
-        let Some(words) = &mut self.words else {
+        let Some(words) = &mut self.heap.words else {
             unreachable!()
         };
-        self.promotion
-            .promote(words, &mut self.segments, self.mutators.as_mut_slice());
-        note_moves(&mut self.names, self.promotion.moves());
+        self.heap.promotion
+            .promote(words, &mut self.heap.segments, self.mutators.as_mut_slice());
+        note_moves(&mut self.heap.names, self.heap.promotion.moves());
     }
 }
 

@@ -79,28 +79,28 @@ fn join_all(weaks: &mut Weaks, fresh: &[OldWeak])
 impl Collector {
     // Those leave the list of weak pointers that are dead by now.
     pub(crate) fn leave(&mut self)
-        requires words { IsSome self.old.words }
-        requires inside { AreInside (words_in self.old.words) self.old.weaks.list }
+        requires words { IsSome self.old.heap.words }
+        requires inside { AreInside (words_in self.old.heap.words) self.old.heap.weaks.list }
         ensures { FinalisedLeft self.old self.new }
     {
-        let Some(words) = &mut self.words else {
+        let Some(words) = &mut self.heap.words else {
             unreachable!()
         };
-        self.weaks.leave(words);
+        self.heap.weaks.leave(words);
     }
 
     // Those join it that were promoted and are alive.
     pub(crate) fn join(&mut self) -> Result<(), NoMemory>
-        requires words { IsSome self.old.words }
-        requires can { CanJoin (words_in self.old.words) self.old.weaks.list self.old.promotion.moves }
+        requires words { IsSome self.old.heap.words }
+        requires can { CanJoin (words_in self.old.heap.words) self.old.heap.weaks.list self.old.heap.promotion.moves }
         ensures { OnOk result (MovedJoined self.old self.new) }
     {
-        let Some(words) = &mut self.words else {
+        let Some(words) = &mut self.heap.words else {
             unreachable!()
         };
-        let fresh = gather_moved(self.alloc, self.promotion.moves(), words)?;
-        self.weaks.reserve(fresh.len() as u32)?;
-        join_all(&mut self.weaks, fresh.as_slice());
+        let fresh = gather_moved(self.alloc, self.heap.promotion.moves(), words)?;
+        self.heap.weaks.reserve(fresh.len() as u32)?;
+        join_all(&mut self.heap.weaks, fresh.as_slice());
         Ok(())
     }
 }

@@ -29,7 +29,7 @@ idle_back (doing.Sweeping w) (sweeping k closed) e is = absurd (let bad : false 
 module _ (script : Script) (c : Collector) (s : State) (h : StandsAt script c s) where
   pub due_then : IsDue script.config.trigger c → IsCycleDue script.config s
   due_then due = (
-    idle_then c.progress s.progress h.matches.phase due.0,
+    idle_then c.cycle.progress s.progress h.matches.phase due.0,
     elim due.1 [
       | inl asked ↦ inl (sym h.matches.collect ∙ asked)
       | inr filled ↦ inr (filled.0, (let fresh = h.heap.holds.stands.fresh in let many = filled.1 in omega (arith, fresh, many)))
@@ -38,7 +38,7 @@ module _ (script : Script) (c : Collector) (s : State) (h : StandsAt script c s)
 
   pub due_back : IsCycleDue script.config s → IsDue script.config.trigger c
   due_back due = (
-    idle_back c.progress s.progress h.matches.phase due.0,
+    idle_back c.cycle.progress s.progress h.matches.phase due.0,
     elim due.1 [
       | inl asked ↦ inl (h.matches.collect ∙ asked)
       | inr filled ↦ inr (filled.0, (let fresh = h.heap.holds.stands.fresh in let many = filled.1 in omega (arith, fresh, many)))

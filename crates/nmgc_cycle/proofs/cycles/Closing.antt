@@ -51,7 +51,7 @@ module _ (law : FinishingLeads) (script : Script) (old new : Collector) (s : Sta
   abbrev Leads : Type 0
   Leads = (t : State) × ClosesOrWaits script.config.quota s.progress s t × StandsAt script new t
 
-  stays : (p : Doing) (q : Progress) → old.progress ≡ p → s.progress ≡ q → ClosesOrWaits script.config.quota q s s →
+  stays : (p : Doing) (q : Progress) → old.cycle.progress ≡ p → s.progress ≡ q → ClosesOrWaits script.config.quota q s s →
       ((k : Cycle) → s.progress ≡ marking k → IsPacedWithin script.config.quota k s (seen old) → IsPacedAtStop script.config.quota k s (seen old)) →
       new ≡ old → Leads
   stays p q at is waits goes same = (
@@ -64,7 +64,7 @@ module _ (law : FinishingLeads) (script : Script) (old new : Collector) (s : Sta
       IsPacedWithin script.config.quota k s (seen old) → IsPacedAtStop script.config.quota k s (seen old)
   no_marking q is never k marks paced = absurd (never k (sym is ∙ marks))
 
-  by_case : (p : Doing) (q : Progress) → old.progress ≡ p → s.progress ≡ q → phase_in p ≡ phase_of q → Closes s.number p old new → Leads
+  by_case : (p : Doing) (q : Progress) → old.cycle.progress ≡ p → s.progress ≡ q → phase_in p ≡ phase_of q → Closes s.number p old new → Leads
   by_case doing.Idle idle at is e step = stays doing.Idle idle at is refl (no_marking idle is (λ k bad. cc)) step
   by_case doing.Idle (marking k) at is e step = absurd (let bad : phase.Idle ≡ phase.Marking = e in cc)
   by_case doing.Idle (sweeping k since) at is e step = absurd (let bad : phase.Idle ≡ phase.Sweeping = e in cc)
@@ -83,5 +83,5 @@ module _ (law : FinishingLeads) (script : Script) (old new : Collector) (s : Sta
 
 pub closing_leads : FinishingLeads → ClosingLeads
 closing_leads law script old new s limits h closed =
-    let phases : phase_in old.progress ≡ phase_of s.progress = h.matches.phase in
-    by_case law script old new s limits h closed old.progress s.progress refl refl phases closed.closes
+    let phases : phase_in old.cycle.progress ≡ phase_of s.progress = h.matches.phase in
+    by_case law script old new s limits h closed old.cycle.progress s.progress refl refl phases closed.closes

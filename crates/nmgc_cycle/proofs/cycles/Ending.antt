@@ -34,12 +34,13 @@ use Rattle.nmgc_cycle.proofs.stops.Telling.{kept_told}
 
 -- the collector once the cycle has ended, and its state
 abbrev pub ended : Collector → ℕ → ℕ → CycleRow → Collector
-ended c turns upper row = record c { progress = doing.Idle; turns = turns; upper_turns = upper; cycles = c.cycles ++ row ∷ [] }
+ended c turns upper row = record c { cycle = record c.cycle { progress = doing.Idle; turns = turns; upper_turns = upper };
+    rows = record c.rows { cycles = c.rows.cycles ++ row ∷ [] } }
 
 abbrev pub idled : State → State
 idled s = record s { progress = idle }
 
-module _ (script : Script) (c : Collector) (s : State) (h : StandsAt script c s) (w : Sweeping) (at : c.progress ≡
+module _ (script : Script) (c : Collector) (s : State) (h : StandsAt script c s) (w : Sweeping) (at : c.cycle.progress ≡
     doing.Sweeping w) (k : Cycle) (closed : ℕ) (is : s.progress ≡ sweeping k closed) where
   abbrev plan : Plan
   plan = plan_of script
@@ -58,7 +59,7 @@ module _ (script : Script) (c : Collector) (s : State) (h : StandsAt script c s)
     blocks = λ name tracked other. h.sound.blocks name (subst (λ (l : List World). IsTracked s.world l name) (sym none) tracked) other;
   }
 
-  heap : HoldsAtStop (layout_of plan) (idled s) (seen c).words c.segments (ends_of (seen c)) (seen c).weaks
+  heap : HoldsAtStop (layout_of plan) (idled s) (seen c).words c.heap.segments (ends_of (seen c)) (seen c).weaks
   heap = record {
     places = h.heap.places;
     all = h.heap.all;
@@ -76,19 +77,20 @@ module _ (script : Script) (c : Collector) (s : State) (h : StandsAt script c s)
   swept_by : Sweeps (sweeping k closed) s c
   swept_by = subst (λ (q : Progress). Sweeps q s c) is h.sweeper
 
-  work : IsAtWork k closed (seen c).words s.allocation c.segments (cycle_in (doing.Sweeping w) (died c.weaks.deaths)) w.sweeper
-  work = subst (λ (p : Doing). IsAtWork k closed (seen c).words s.allocation c.segments (cycle_in p (died c.weaks.deaths)) (sweeper_in p)) at swept_by.1
+  work : IsAtWork k closed (seen c).words s.allocation c.heap.segments (cycle_in (doing.Sweeping w) (died c.heap.weaks.deaths)) w.sweeper
+  work = subst (λ (p : Doing). IsAtWork k closed (seen c).words s.allocation c.heap.segments (cycle_in p (died c.heap.weaks.deaths)) (sweeper_in p)) at
+      swept_by.1
 
   course : IsInCourse (sweeping k closed) s.number s.begun s.allocation
   course = subst (λ (q : Progress). IsInCourse q s.number s.begun s.allocation) is h.course
 
   abbrev pub row : CycleRow
-  row = row_of c.begun s.number w (died c.weaks.deaths)
+  row = row_of c.cycle.begun s.number w (died c.heap.weaks.deaths)
 
   census : EndTellsCensus → IsSwept s → IsCensus k closed s.number (told_row row)
   census law swept =
       let told : TellsCensus k w.sweeper =
-      law k closed (seen c).words s.allocation c.segments (cycle_in (doing.Sweeping w) (died c.weaks.deaths)) w.sweeper work swept in
+      law k closed (seen c).words s.allocation c.heap.segments (cycle_in (doing.Sweeping w) (died c.heap.weaks.deaths)) w.sweeper work swept in
       record {
         number = h.matches.begun ∙ sym course.0.number_is;
         from = work.sweeping.from_is;
@@ -118,17 +120,17 @@ module _ (script : Script) (c : Collector) (s : State) (h : StandsAt script c s)
   }
 
   -- the cycle ended
-  pub ends_now : EndTellsCensus → (new : Collector) → HasNone sought.Sweeping c.segments → new ≡ ended c w.sweeper.turns w.sweeper.upper_turns row →
+  pub ends_now : EndTellsCensus → (new : Collector) → HasNone sought.Sweeping c.heap.segments → new ≡ ended c w.sweeper.turns w.sweeper.upper_turns row →
       (t : State) × (rows : List CycleRow) × EndsOrWaits s.progress s t rows × (told_cycles new ≡ told_cycles c ++ rows) × StandsAt script new t
   ends_now law new waits new_is =
-      let swept : IsSwept s = none_to_sweep c.segments (seen c).words s.allocation h.heap.holds.stands waits in (
+      let swept : IsSwept s = none_to_sweep c.heap.segments (seen c).words s.allocation h.heap.holds.stands waits in (
         idled s,
         told_row row ∷ [],
         subst (λ (q : Progress). EndsOrWaits q s (idled s) (told_row row ∷ [])) (sym is) (inl (
           swept,
           record { row = told_row row; census = census law swept; told = refl; rest = refl },
         )),
-        ap told_cycles new_is ∙ map-append told_row c.cycles (row ∷ []),
+        ap told_cycles new_is ∙ map-append told_row c.rows.cycles (row ∷ []),
         subst (λ (x : Collector). StandsAt script x (idled s)) (sym new_is) (stands_then w.sweeper.turns w.sweeper.upper_turns swept),
       )
 
@@ -145,7 +147,7 @@ module _ (law : EndTellsCensus) (script : Script) (old new : Collector) (s : Sta
     subst (λ (x : Collector). StandsAt script x s) (sym same) h,
   )
 
-  by_case : (p : Doing) (q : Progress) → old.progress ≡ p → s.progress ≡ q → phase_in p ≡ phase_of q → Ends s.number p old new → Leads
+  by_case : (p : Doing) (q : Progress) → old.cycle.progress ≡ p → s.progress ≡ q → phase_in p ≡ phase_of q → Ends s.number p old new → Leads
   by_case doing.Idle idle at is e step = stays idle is (refl, refl) step
   by_case doing.Idle (marking k) at is e step = absurd (let bad : phase.Idle ≡ phase.Marking = e in cc)
   by_case doing.Idle (sweeping k closed) at is e step = absurd (let bad : phase.Idle ≡ phase.Sweeping = e in cc)
@@ -157,7 +159,7 @@ module _ (law : EndTellsCensus) (script : Script) (old new : Collector) (s : Sta
   by_case (doing.Sweeping w) (sweeping k closed) at is e step = elim step [
     | inl x ↦ ends_now script old s h w at k closed is law new x.0 x.1
     | inr x ↦ stays (sweeping k closed) is (inr (
-      (λ swept. x.0 (none_back old.segments (seen old).words s.allocation h.heap.holds.stands swept)),
+      (λ swept. x.0 (none_back old.heap.segments (seen old).words s.allocation h.heap.holds.stands swept)),
       refl,
       refl,
     )) x.1
@@ -166,5 +168,5 @@ module _ (law : EndTellsCensus) (script : Script) (old new : Collector) (s : Sta
 -- so it is at every stop
 pub end_leads : EndTellsCensus → EndLeads
 end_leads law script old new s limits h step =
-    let phases : phase_in old.progress ≡ phase_of s.progress = h.matches.phase in
-    by_case law script old new s h old.progress s.progress refl refl phases step
+    let phases : phase_in old.cycle.progress ≡ phase_of s.progress = h.matches.phase in
+    by_case law script old new s h old.cycle.progress s.progress refl refl phases step

@@ -73,12 +73,12 @@ settled_then begun s settled number block exists other =
     subst (λ (x : Segment). IsSettledByte begun (mark_of x block)) (sym is) (settled number block there (λ waits.
     other (ap (λ (x : Segment). x.state) is ∙ ap retired_state waits)))
 
-module _ (script : Script) (c : Collector) (st : State) (h : StandsAt script (record c { progress = doing.Idle }) (record st {
+module _ (script : Script) (c : Collector) (st : State) (h : StandsAt script (record c { cycle = record c.cycle { progress = doing.Idle } }) (record st {
   progress =
       idle;
-})) (sound : IsSegments (filed_by c).segments) where
+})) (sound : IsSegments (filed_by c).heap.segments) where
   abbrev old : Collector
-  old = record c { progress = doing.Idle }
+  old = record c { cycle = record c.cycle { progress = doing.Idle } }
 
   abbrev s : State
   s = record st { progress = idle }
@@ -92,7 +92,7 @@ module _ (script : Script) (c : Collector) (st : State) (h : StandsAt script (re
   abbrev t : State
   t = with_all_retired s
 
-  heap : HoldsAtStop layout t (words_in c.words) next.segments (ends_of (seen next)) (seen next).weaks
+  heap : HoldsAtStop layout t (words_in c.heap.words) next.heap.segments (ends_of (seen next)) (seen next).weaks
   heap = record {
     places = h.heap.places;
     all = λ p. ((λ there. place_then layout st.allocation p ((h.heap.all p).0 there)), (λ lies. (h.heap.all p).1 (place_back layout st.allocation p lies)));
@@ -102,7 +102,7 @@ module _ (script : Script) (c : Collector) (st : State) (h : StandsAt script (re
       registers = h.heap.holds.registers;
       roots = h.heap.holds.roots;
       layout_is = h.heap.holds.layout_is;
-      stands = retired_stands c.segments (words_in c.words) st.allocation h.heap.holds.stands;
+      stands = retired_stands c.heap.segments (words_in c.heap.words) st.allocation h.heap.holds.stands;
     };
     listed = h.heap.listed;
   }
@@ -146,19 +146,19 @@ module _ (script : Script) (c : Collector) (st : State) (h : StandsAt script (re
     nurseries = h.nurseries;
     empty = h.empty;
     rest = h.rest;
-    cycle = settled_then st.begun c.segments h.cycle;
+    cycle = settled_then st.begun c.heap.segments h.cycle;
     sweeper = tt;
-    named = named_retired layout c.names st.allocation h.named;
+    named = named_retired layout c.heap.names st.allocation h.named;
   }
 
 pub filing_leads : FilingLeads
 filing_leads script c s limits h at sound =
     let quiet : s.progress ≡ idle = idle_state s.progress (sym (ap phase_in at) ∙ h.matches.phase) in
-    let was : c ≡ record c { progress = doing.Idle } = ap (λ (p : Doing). record c { progress = p }) at in
+    let was : c ≡ record c { cycle = record c.cycle { progress = doing.Idle } } = ap (λ (p : Doing). record c { cycle = record c.cycle { progress = p } }) at in
     let state : s ≡ record s { progress = idle } = ap (λ (q : Progress). record s { progress = q }) quiet in
-    let stood : StandsAt script (record c { progress = doing.Idle }) (record s { progress = idle }) =
+    let stood : StandsAt script (record c { cycle = record c.cycle { progress = doing.Idle } }) (record s { progress = idle }) =
     subst (λ (x : Collector). StandsAt script x (record s { progress = idle })) was (subst (λ (y : State). StandsAt script c y) state h) in
-    let there : StandsAt script (filed_by (record c { progress = doing.Idle })) (with_all_retired (record s { progress = idle })) =
+    let there : StandsAt script (filed_by (record c { cycle = record c.cycle { progress = doing.Idle } })) (with_all_retired (record s { progress = idle })) =
     stands_filed script c s stood sound in
     subst (λ (x : Collector). StandsAt script (filed_by x) (with_all_retired s)) (sym was) (subst (λ (y : State).
-    StandsAt script (filed_by (record c { progress = doing.Idle })) (with_all_retired y)) (sym state) there)
+    StandsAt script (filed_by (record c { cycle = record c.cycle { progress = doing.Idle } })) (with_all_retired y)) (sym state) there)

@@ -90,23 +90,24 @@ died_are o (weak ∷ dead) [] h = absurd h
 died_are o (weak ∷ dead) (death ∷ deaths) h = ap (λ (n : Name). n ∷ died deaths) h.0.0 ∙ ap (λ (l : List Name). weak ∷ l) (died_are o dead deaths h.1)
 
 module _ (Paced : Cycle → State → CollectorSeen → Type 0) (laws : ClosingLaws) (script : Script) (c : Collector) (st : State) (k : Cycle) (m : Marking)
-    (h : StandsInPace Paced script (record c { progress = doing.Marking m }) (record st { progress = marking k }))
-    (n : Collector) (some : IsSome n.words) (w : Sweeping)
-    (cl : IsClosed st.number (words_in c.words) (words_in n.words) c.segments n.segments c.weaks n.weaks c.mutators.items n.mutators.items m w) where
+    (h : StandsInPace Paced script (record c { cycle = record c.cycle { progress = doing.Marking m } }) (record st { progress = marking k }))
+    (n : Collector) (some : IsSome n.heap.words) (w : Sweeping)
+    (cl : IsClosed st.number (words_in c.heap.words) (words_in n.heap.words) c.heap.segments n.heap.segments c.heap.weaks n.heap.weaks c.mutators.items
+        n.mutators.items m w) where
   abbrev old : Collector
-  old = record c { progress = doing.Marking m }
+  old = record c { cycle = record c.cycle { progress = doing.Marking m } }
 
   abbrev s : State
   s = record st { progress = marking k }
 
   abbrev before : List ℕ
-  before = words_in c.words
+  before = words_in c.heap.words
 
   abbrev words : List ℕ
-  words = words_in n.words
+  words = words_in n.heap.words
 
   abbrev weaks : Weaks
-  weaks = n.weaks
+  weaks = n.heap.weaks
 
   abbrev later : List Mutator
   later = n.mutators.items
@@ -178,7 +179,8 @@ module _ (Paced : Cycle → State → CollectorSeen → Type 0) (laws : ClosingL
   with_queues = are_with cl.joined.queues c.mutators.items later queue_count cl.joined.have
 
   abbrev next : Collector
-  next = record c { words = n.words; segments = segments; progress = doing.Sweeping work; weaks = n.weaks; mutators = n.mutators }
+  next = record c { heap = record c.heap { words = n.heap.words; segments = segments; weaks = n.heap.weaks };
+      cycle = record c.cycle { progress = doing.Sweeping work }; mutators = n.mutators }
 
   joined : HaveJoinedInRun (seen old) weaks.deaths cl.joined.queues (ends_of (seen next))
   joined = record {
@@ -206,7 +208,7 @@ module _ (Paced : Cycle → State → CollectorSeen → Type 0) (laws : ClosingL
   stands_then : StandsFor segments words st.allocation
   stands_then = carried_stands cl.marked words st.allocation cl.marker.epoch (subst IsEpoch (sym epoch_is) (epoch_sound k.number)) closed_heap.0.holds.stands
 
-  marked_layout : cl.marked.layout ≡ c.segments.layout
+  marked_layout : cl.marked.layout ≡ c.heap.segments.layout
   marked_layout = cl.second.1.layout ∙ cl.first.1.layout
 
   layout_is : segments.layout ≡ layout
@@ -232,7 +234,7 @@ module _ (Paced : Cycle → State → CollectorSeen → Type 0) (laws : ClosingL
       h.course.1 closed_by epoch_is tells now.0.noted h.sweeper.2 h.sweeper.3
 
   left_then : AreLeft segments m.sweeper
-  left_then = laws.left c.segments segments m.sweeper (laws.waits c.segments segments before words st.allocation h.heap.holds.stands stands_then)
+  left_then = laws.left c.heap.segments segments m.sweeper (laws.waits c.heap.segments segments before words st.allocation h.heap.holds.stands stands_then)
       marked_layout h.sweeper.0.left
 
   left_turned : AreLeft segments (turned m.sweeper m.marker.turns)
@@ -263,8 +265,8 @@ module _ (Paced : Cycle → State → CollectorSeen → Type 0) (laws : ClosingL
   still_kept = record {
     layout = layout_is;
     sound = subst (λ (g : Segments). IsSegments g) cl.carried cl.sound.1;
-    lists = subst (λ (l : Layout). IsFor l c.promotion) (sym marked_layout) h.kept.lists;
-    entries = subst (λ (l : Layout). HaveEntries l c.names) (sym marked_layout) h.kept.entries;
+    lists = subst (λ (l : Layout). IsFor l c.heap.promotion) (sym marked_layout) h.kept.lists;
+    entries = subst (λ (l : Layout). HaveEntries l c.heap.names) (sym marked_layout) h.kept.entries;
     has_words = some;
     count = cl.joined.have.count ∙ h.kept.count;
     own = λ i x e.
@@ -366,19 +368,21 @@ module _ (Paced : Cycle → State → CollectorSeen → Type 0) (laws : ClosingL
 -- whatever is known of its pace, a marker that finished closes its cycle
 module _ (Paced : Cycle → State → CollectorSeen →
     Type 0) (laws : ClosingLaws) (script : Script) (old new : Collector) (s : State) (k : Cycle) (m : Marking) (w : Sweeping)
-    (h : StandsInPace Paced script old s) (is : s.progress ≡ marking k) (at : old.progress ≡ doing.Marking m) (progress : new.progress ≡ doing.Sweeping w)
-    (rest : new ≡ record old { words = new.words; segments = new.segments; progress = new.progress; weaks = new.weaks; mutators = new.mutators })
-    (some : IsSome new.words)
-    (cl : IsClosed s.number (words_in old.words) (words_in new.words) old.segments new.segments old.weaks new.weaks old.mutators.items
-    new.mutators.items m w) where
-  stood : StandsInPace Paced script (record old { progress = doing.Marking m }) (record s { progress = marking k })
+    (h : StandsInPace Paced script old s) (is : s.progress ≡ marking k) (at : old.cycle.progress ≡ doing.Marking m) (progress : new.cycle.progress ≡
+        doing.Sweeping w)
+    (rest : new ≡ record old { heap = record old.heap { words = new.heap.words; segments = new.heap.segments; weaks = new.heap.weaks };
+        cycle = record old.cycle { progress = new.cycle.progress }; mutators = new.mutators }) (some : IsSome new.heap.words)
+    (cl : IsClosed s.number (words_in old.heap.words) (words_in new.heap.words) old.heap.segments new.heap.segments old.heap.weaks new.heap.weaks
+        old.mutators.items new.mutators.items m w) where
+  stood : StandsInPace Paced script (record old { cycle = record old.cycle { progress = doing.Marking m } }) (record s { progress = marking k })
   stood =
-      let was : old ≡ record old { progress = doing.Marking m } = ap (λ (p : Doing). record old { progress = p }) at in
+      let was : old ≡ record old { cycle = record old.cycle { progress = doing.Marking m } } =
+          ap (λ (p : Doing). record old { cycle = record old.cycle { progress = p } }) at in
       let state : s ≡ record s { progress = marking k } = ap (λ (q : Progress). record s { progress = q }) is in
       subst (λ (x : Collector). StandsInPace Paced script x (record s { progress = marking k })) was (subst (λ (y : State).
       StandsInPace Paced script old y) state h)
 
-  pub paced_there : Paced k (record s { progress = marking k }) (seen (record old { progress = doing.Marking m }))
+  pub paced_there : Paced k (record s { progress = marking k }) (seen (record old { cycle = record old.cycle { progress = doing.Marking m } }))
   paced_there = in_pace Paced laws script old s k m stood new some w cl
 
   pub counts_kept : Counts (IsKeptObject k) cl.marker.marked
@@ -393,26 +397,23 @@ module _ (Paced : Cycle → State → CollectorSeen →
       let t : State = closed_state k s (resolved Paced laws script old s k m stood new some w cl).closing.dead in
       let carried : Segments = all_carried cl.marker.epoch cl.marked in
       let next : new ≡ record old {
-        words = new.words;
-        segments = carried;
-        progress = doing.Sweeping (record {
+          heap = record old.heap { words = new.heap.words; segments = carried; weaks = new.heap.weaks };
+          cycle = record old.cycle { progress = doing.Sweeping (record {
           from = m.from;
           closed = s.number;
           kept = cl.marker.marked;
           sweeper = turned m.sweeper m.marker.turns;
-        });
-        weaks = new.weaks;
-        mutators = new.mutators;
-      } =
+        }) };
+          mutators = new.mutators;
+        } =
       rest
-      ∙ ap (λ (g : Segments). record old { words = new.words; segments = g; progress = new.progress; weaks = new.weaks; mutators = new.mutators }) cl.carried
+      ∙ ap (λ (g : Segments). record old { heap = record old.heap { words = new.heap.words; segments = g; weaks = new.heap.weaks };
+          cycle = record old.cycle { progress = new.cycle.progress }; mutators = new.mutators }) cl.carried
       ∙ ap (λ (p : Doing). record old {
-        words = new.words;
-        segments = carried;
-        progress = p;
-        weaks = new.weaks;
-        mutators = new.mutators;
-      }) (progress ∙ ap doing.Sweeping cl.is) in (
+          heap = record old.heap { words = new.heap.words; segments = carried; weaks = new.heap.weaks };
+          cycle = record old.cycle { progress = p };
+          mutators = new.mutators;
+        }) (progress ∙ ap doing.Sweeping cl.is) in (
         t,
         subst (λ (q : Progress). Closes k (record s { progress = q }) t) (sym is) all.0,
         subst (λ (x : Collector). StandsAt script x t) (sym next) all.1,
@@ -422,7 +423,8 @@ pub finishing_leads : ClosingLaws → FinishingLeads
 finishing_leads laws script old new s k m w limits h is at none_left progress closing cl =
     let P : Cycle → State → CollectorSeen → Type 0 = IsPacedWithin script.config.quota in
     let there = closes_there P laws script old new s k m w h is at progress closing.rest closing.has_words cl in
-    let paced : IsPacedWithin script.config.quota k (record s { progress = marking k }) (seen (record old { progress = doing.Marking m })) =
+    let paced : IsPacedWithin script.config.quota k (record s { progress = marking k })
+        (seen (record old { cycle = record old.cycle { progress = doing.Marking m } })) =
     paced_there P laws script old new s k m w h is at progress closing.rest closing.has_words cl in
     let counted = counts_kept P laws script old new s k m w h is at progress closing.rest closing.has_words cl in
     let more = marks_more P laws script old new s k m w h is at progress closing.rest closing.has_words cl in
@@ -442,7 +444,7 @@ module _ (laws : ClosingLaws) (script : Script) (old new : Collector) (s : State
     subst (λ (x : Progress). IsForcedSoon script.config.quota x s.number) (sym is) soon,
   )
 
-  by_case : (p : Doing) (q : Progress) → old.progress ≡ p → s.progress ≡ q → phase_in p ≡ phase_of q → ClosesNowBy s.number p old new → Leads
+  by_case : (p : Doing) (q : Progress) → old.cycle.progress ≡ p → s.progress ≡ q → phase_in p ≡ phase_of q → ClosesNowBy s.number p old new → Leads
   by_case doing.Idle idle at is e step = stays idle is refl tt step
   by_case doing.Idle (marking k) at is e step = absurd (let bad : phase.Idle ≡ phase.Marking = e in cc)
   by_case doing.Idle (sweeping k since) at is e step = absurd (let bad : phase.Idle ≡ phase.Sweeping = e in cc)
@@ -450,13 +452,14 @@ module _ (laws : ClosingLaws) (script : Script) (old new : Collector) (s : State
   by_case (doing.Marking m) (marking k) at is e step =
       let P : Cycle → State → CollectorSeen → Type 0 = IsPacedAtStop script.config.quota in
       let t = closes_there P laws script old new s k m step.0 h is at step.1 closing.rest closing.has_words step.2 in
-      let paced : IsPacedAtStop script.config.quota k (record s { progress = marking k }) (seen (record old { progress = doing.Marking m })) =
+      let paced : IsPacedAtStop script.config.quota k (record s { progress = marking k })
+          (seen (record old { cycle = record old.cycle { progress = doing.Marking m } })) =
       paced_there P laws script old new s k m step.0 h is at step.1 closing.rest closing.has_words step.2 in
       let counted = counts_kept P laws script old new s k m step.0 h is at step.1 closing.rest closing.has_words step.2 in
       let more = marks_more P laws script old new s k m step.0 h is at step.1 closing.rest closing.has_words step.2 in
       let soon : IsSoon script.config.quota k s.number =
-      forced_soon script.config.quota k (record s { progress = marking k }) (seen (record old { progress = doing.Marking m })) step.2.marker.marked
-      paced more counted in (
+      forced_soon script.config.quota k (record s { progress = marking k }) (seen (record old { cycle = record old.cycle { progress = doing.Marking m } }))
+          step.2.marker.marked paced more counted in (
         t.0,
         subst (λ (q : Progress). ClosesNow q s t.0) (sym is) t.1,
         t.2,
@@ -469,4 +472,4 @@ module _ (laws : ClosingLaws) (script : Script) (old new : Collector) (s : State
 
 pub finishing_now_leads : ClosingLaws → FinishingNowLeads
 finishing_now_leads laws script old new s limits h closing =
-    by_case laws script old new s h closing old.progress s.progress refl refl h.matches.phase closing.closes
+    by_case laws script old new s h closing old.cycle.progress s.progress refl refl h.matches.phase closing.closes

@@ -86,12 +86,12 @@ module _ (v : Bool) where
 
 -- What a finish does with the collector: none is in progress then
 
-no_marking : (stop : ℕ) (p : Doing) (old new : Collector) → old.progress ≡ p → full.ClosesNow stop p old new → (m : Marking) →
-    new.progress ≡ doing.Marking m → ⊥
-no_marking stop doing.Idle old new at h m is = let bad : doing.Idle ≡ doing.Marking m = sym at ∙ sym (ap (λ (x : Collector). x.progress) h) ∙ is in cc
+no_marking : (stop : ℕ) (p : Doing) (old new : Collector) → old.cycle.progress ≡ p → full.ClosesNow stop p old new → (m : Marking) →
+    new.cycle.progress ≡ doing.Marking m → ⊥
+no_marking stop doing.Idle old new at h m is = let bad : doing.Idle ≡ doing.Marking m = sym at ∙ sym (ap (λ (x : Collector). x.cycle.progress) h) ∙ is in cc
 no_marking stop (doing.Marking n) old new at h m is = let bad : doing.Sweeping h.0 ≡ doing.Marking m = sym h.1 ∙ is in cc
 no_marking stop (doing.Sweeping w) old new at h m is =
-    let bad : doing.Sweeping w ≡ doing.Marking m = sym at ∙ sym (ap (λ (x : Collector). x.progress) h) ∙ is in cc
+    let bad : doing.Sweeping w ≡ doing.Marking m = sym at ∙ sym (ap (λ (x : Collector). x.cycle.progress) h) ∙ is in cc
 
 still_no_marking : (a b : Segments) (names : List Name) (p after : Doing) → full.SweepsRest a b names p after →
     ((m : Marking) → p ≡ doing.Marking m → ⊥) → (m : Marking) → after ≡ doing.Marking m → ⊥
@@ -110,19 +110,19 @@ none_left a b names doing.Idle after h w is = absurd (let bad : doing.Idle ≡ d
 none_left a b names (doing.Marking n) after h w is = absurd (let bad : doing.Marking n ≡ doing.Sweeping w = sym h.0 ∙ is in cc)
 none_left a b names (doing.Sweeping v) after h w is = none_waits b h.0.sweeper h.2.swept.left (ap (λ (l : List ℕ). length l) h.2.none)
 
-ended_idle : (stop : ℕ) (p : Doing) (old new : Collector) → old.progress ≡ p → Ends stop p old new → ((m : Marking) → p ≡ doing.Marking m → ⊥) →
-    ((w : Sweeping) → p ≡ doing.Sweeping w → HasNone sought.Sweeping old.segments) → new.progress ≡ doing.Idle
-ended_idle stop doing.Idle old new is h never none = ap (λ (x : Collector). x.progress) h ∙ is
+ended_idle : (stop : ℕ) (p : Doing) (old new : Collector) → old.cycle.progress ≡ p → Ends stop p old new → ((m : Marking) → p ≡ doing.Marking m → ⊥) →
+    ((w : Sweeping) → p ≡ doing.Sweeping w → HasNone sought.Sweeping old.heap.segments) → new.cycle.progress ≡ doing.Idle
+ended_idle stop doing.Idle old new is h never none = ap (λ (x : Collector). x.cycle.progress) h ∙ is
 ended_idle stop (doing.Marking m) old new is h never none = absurd (never m refl)
-ended_idle stop (doing.Sweeping w) old new is (inl h) never none = ap (λ (x : Collector). x.progress) h.1
+ended_idle stop (doing.Sweeping w) old new is (inl h) never none = ap (λ (x : Collector). x.cycle.progress) h.1
 ended_idle stop (doing.Sweeping w) old new is (inr h) never none = absurd (h.0 (none w refl))
 
-pub finished_idle : (stop : ℕ) (old new : Collector) → HasFinished stop old new → new.progress ≡ doing.Idle
+pub finished_idle : (stop : ℕ) (old new : Collector) → HasFinished stop old new → new.cycle.progress ≡ doing.Idle
 finished_idle stop old new f =
-    let never = still_no_marking f.closed.segments f.swept.segments f.closed.names f.closed.progress f.swept.progress f.sweeps.sweeps
-    (no_marking stop old.progress old f.closed refl f.closes.closes) in
-    ended_idle stop f.swept.progress f.swept new refl f.ends never
-    (none_left f.closed.segments f.swept.segments f.closed.names f.closed.progress f.swept.progress f.sweeps.sweeps)
+    let never = still_no_marking f.closed.heap.segments f.swept.heap.segments f.closed.heap.names f.closed.cycle.progress f.swept.cycle.progress f.sweeps.sweeps
+    (no_marking stop old.cycle.progress old f.closed refl f.closes.closes) in
+    ended_idle stop f.swept.cycle.progress f.swept new refl f.ends never
+    (none_left f.closed.heap.segments f.swept.heap.segments f.closed.heap.names f.closed.cycle.progress f.swept.cycle.progress f.sweeps.sweeps)
 
 pub finish_leads : FinishingNowLeads → SweepingRestLeads → EndLeads → FinishLeads
 finish_leads closing sweeping_rest ending script old new s limits h f =
@@ -130,7 +130,7 @@ finish_leads closing sweeping_rest ending script old new s limits h f =
     let rest = sweeping_rest script f.closed f.swept first.0 limits first.2 f.sweeps in
     let swept : State = record first.0 { allocation = rest.0 } in
     let number : first.0.number ≡ s.number = (closing_now_keeps s.progress s first.0 first.1).number in
-    let last = ending script f.swept new swept limits rest.2 (subst (λ (n : ℕ). Ends n f.swept.progress f.swept new) (sym number) f.ends) in
+    let last = ending script f.swept new swept limits rest.2 (subst (λ (n : ℕ). Ends n f.swept.cycle.progress f.swept new) (sym number) f.ends) in
     let before : told_cycles f.swept ≡ told_cycles old = ap told_cycles f.sweeps.rest ∙ ap told_cycles f.closes.rest in (
       last.0,
       last.1,
@@ -186,10 +186,7 @@ full_leads finish filing starting script old new s limits h d =
       subst (λ (x : Collector). StandsAt script x (record again.0 {
         collect = false;
         full = false;
-      })) (sym d.is) (stands_told script d.last (record d.last {
-        collect = false;
-        full = false;
-      }) again.0 (record again.0 {
+      })) (sym d.is) (stands_told script d.last (record d.last { cycle = record d.last.cycle { collect = false; full = false } }) again.0 (record again.0 {
         collect = false;
         full = false;
       }) refl (refl {a = record again.0 { collect = false; full = false }}) refl refl again.4),
@@ -201,10 +198,10 @@ full_leads finish filing starting script old new s limits h d =
 module _ (script : Script) (c : Collector) (s : State) (left : Bool) (h : StandsAt script c s) (left_is : left ≡ has_left s.left) where
   short_same : full.is_short_of left c ≡ is_short (plan_of script) s
   short_same =
-      let free : reserve.free_count c.segments.segments ≡ free_count s =
-      counts_stand c.segments (words_in c.words) s.allocation stands.Free h.heap.holds.stands in
-      ap (λ (b : Bool). b && nat_lt (reserve.free_count c.segments.segments) (reserve_count c.segments.layout)) left_is
-      ∙ ap (λ (n : ℕ). has_left s.left && nat_lt n (reserve_count c.segments.layout)) free
+      let free : reserve.free_count c.heap.segments.segments ≡ free_count s =
+      counts_stand c.heap.segments (words_in c.heap.words) s.allocation stands.Free h.heap.holds.stands in
+      ap (λ (b : Bool). b && nat_lt (reserve.free_count c.heap.segments.segments) (reserve_count c.heap.segments.layout)) left_is
+      ∙ ap (λ (n : ℕ). has_left s.left && nat_lt n (reserve_count c.heap.segments.layout)) free
       ∙ ap (λ (l : Layout). has_left s.left && nat_lt (free_count s) (reserve_count l)) h.kept.layout
 
   pub full_due : full.IsFullDue left c → IsFullDue (plan_of script) s
@@ -236,15 +233,15 @@ proceeding_keeps plan s t rows (inr x) = beginning_keeps plan.config s t x.1
 -- What the calls of a full cycle ask for
 
 -- a finish begins no cycle
-pub finished_begun : (stop : ℕ) (old new : Collector) → HasFinished stop old new → new.begun ≡ old.begun
-finished_begun stop old new f = ends_begun stop f.swept.progress f.swept new f.ends ∙ ap (λ (x : Collector). x.begun) f.sweeps.rest ∙
-    ap (λ (x : Collector). x.begun) f.closes.rest
+pub finished_begun : (stop : ℕ) (old new : Collector) → HasFinished stop old new → new.cycle.begun ≡ old.cycle.begun
+finished_begun stop old new f = ends_begun stop f.swept.cycle.progress f.swept new f.ends ∙ ap (λ (x : Collector). x.cycle.begun) f.sweeps.rest ∙
+    ap (λ (x : Collector). x.cycle.begun) f.closes.rest
   where
-    ends_begun : (stop : ℕ) (p : Doing) (a b : Collector) → Ends stop p a b → b.begun ≡ a.begun
-    ends_begun stop doing.Idle a b h = ap (λ (x : Collector). x.begun) h
-    ends_begun stop (doing.Marking m) a b h = ap (λ (x : Collector). x.begun) h
-    ends_begun stop (doing.Sweeping w) a b (inl h) = ap (λ (x : Collector). x.begun) h.1
-    ends_begun stop (doing.Sweeping w) a b (inr h) = ap (λ (x : Collector). x.begun) h.1
+    ends_begun : (stop : ℕ) (p : Doing) (a b : Collector) → Ends stop p a b → b.cycle.begun ≡ a.cycle.begun
+    ends_begun stop doing.Idle a b h = ap (λ (x : Collector). x.cycle.begun) h
+    ends_begun stop (doing.Marking m) a b h = ap (λ (x : Collector). x.cycle.begun) h
+    ends_begun stop (doing.Sweeping w) a b (inl h) = ap (λ (x : Collector). x.cycle.begun) h.1
+    ends_begun stop (doing.Sweeping w) a b (inr h) = ap (λ (x : Collector). x.cycle.begun) h.1
 
 -- once the cycle in progress was closed, the collector stands for a state at the same stop
 pub closed_at : FinishingNowLeads → (stop : ℕ) (old new : Collector) → StandsAtStop stop old → HasClosed full.ClosesNow stop old new →
@@ -255,18 +252,18 @@ closed_at closing stop old new (script, s, limits, number, h) closed =
 
 -- once it was finished, none is in progress there
 pub finished_at : FinishLeads → (stop : ℕ) (old new : Collector) → StandsAtStop stop old → HasFinished stop old new → StandsAtStop stop new ×
-    (new.progress ≡ doing.Idle) × (new.begun ≡ old.begun)
+    (new.cycle.progress ≡ doing.Idle) × (new.cycle.begun ≡ old.cycle.begun)
 finished_at finish stop old new (script, s, limits, number, h) f =
     let led = finish script old new s limits h (subst (λ (n : ℕ). HasFinished n old new) (sym number) f) in
     ((script, led.0, limits, (finishing_keeps s led.0 led.1 led.2).number ∙ number, led.4), led.5, finished_begun stop old new f)
 
 -- with all segments filed, too
-pub filed_at : FilingLeads → (stop : ℕ) (c : Collector) → StandsAtStop stop c → c.progress ≡ doing.Idle →
-    IsSegments (full.with_all_retired c).segments → StandsAtStop stop (full.with_all_retired c)
+pub filed_at : FilingLeads → (stop : ℕ) (c : Collector) → StandsAtStop stop c → c.cycle.progress ≡ doing.Idle →
+    IsSegments (full.with_all_retired c).heap.segments → StandsAtStop stop (full.with_all_retired c)
 filed_at filing stop c (script, s, limits, number, h) none sound = (script, with_all_retired s, limits, number, filing script c s limits h none sound)
 
 -- and once the next began
-pub started_at : StartingLeads → (stop : ℕ) (old new : Collector) → StandsAtStop stop old → old.progress ≡ doing.Idle → HasStarted stop old new →
+pub started_at : StartingLeads → (stop : ℕ) (old new : Collector) → StandsAtStop stop old → old.cycle.progress ≡ doing.Idle → HasStarted stop old new →
     StandsAtStop stop new
 started_at starting stop old new (script, s, limits, number, h) none started = (
   script,
@@ -278,9 +275,9 @@ started_at starting stop old new (script, s, limits, number, h) none started = (
 
 -- what a beginning asks for
 pub record BeginsAt (c : Collector) : Type 0 where
-  pub words : IsSome c.words
-  pub inside : FIRST_PLACE ≤ length (words_in c.words)
-  pub can : c.progress ≡ doing.Idle → CanBegin c
+  pub words : IsSome c.heap.words
+  pub inside : FIRST_PLACE ≤ length (words_in c.heap.words)
+  pub can : c.cycle.progress ≡ doing.Idle → CanBegin c
 
 pub begins_at : BeginReady → (stop : ℕ) (c : Collector) → StandsAtStop stop c → BeginsAt c
 begins_at ready stop c (script, s, limits, number, h) = record {
@@ -292,20 +289,21 @@ begins_at ready stop c (script, s, limits, number, h) = record {
 -- the collector once it was finished and filed, and what a beginning then asks for
 pub record IsFiledAt (stop : ℕ) (old idled filed : Collector) : Type 0 where
   pub is : filed ≡ full.with_all_retired idled
-  pub sound : IsSegments (full.with_all_retired idled).segments
+  pub sound : IsSegments (full.with_all_retired idled).heap.segments
   pub stands : StandsAtStop stop filed
-  pub none : filed.progress ≡ doing.Idle
-  pub begun : filed.begun ≡ old.begun
+  pub none : filed.cycle.progress ≡ doing.Idle
+  pub begun : filed.cycle.begun ≡ old.cycle.begun
   pub begins : BeginsAt filed
 
 pub is_filed_at : FinishLeads → FilingLeads → BeginReady → (stop : ℕ) (old idled : Collector) (segments : Segments) → StandsAtStop stop old →
-    HasFinished stop old idled → segments ≡ (full.with_all_retired idled).segments → IsSegments segments →
-    IsFiledAt stop old idled (record idled { segments = segments })
+    HasFinished stop old idled → segments ≡ (full.with_all_retired idled).heap.segments → IsSegments segments →
+    IsFiledAt stop old idled (record idled { heap = record idled.heap { segments = segments } })
 is_filed_at finish filing ready stop old idled segments h f is sound =
     let at = finished_at finish stop old idled h f in
-    let filed_is : record idled { segments = segments } ≡ full.with_all_retired idled = ap (λ (g : Segments). record idled { segments = g }) is in
-    let sound_there : IsSegments (full.with_all_retired idled).segments = subst IsSegments is sound in
-    let stands : StandsAtStop stop (record idled { segments = segments }) =
+    let filed_is : record idled { heap = record idled.heap { segments = segments } } ≡ full.with_all_retired idled =
+        ap (λ (g : Segments). record idled { heap = record idled.heap { segments = g } }) is in
+    let sound_there : IsSegments (full.with_all_retired idled).heap.segments = subst IsSegments is sound in
+    let stands : StandsAtStop stop (record idled { heap = record idled.heap { segments = segments } }) =
     subst (λ (x : Collector). StandsAtStop stop x) (sym filed_is) (filed_at filing stop idled at.0 at.1 sound_there) in
     record {
       is = filed_is;
@@ -313,5 +311,5 @@ is_filed_at finish filing ready stop old idled segments h f is sound =
       stands = stands;
       none = at.1;
       begun = at.2;
-      begins = begins_at ready stop (record idled { segments = segments }) stands;
+      begins = begins_at ready stop (record idled { heap = record idled.heap { segments = segments } }) stands;
     }

@@ -72,13 +72,13 @@ pub record BeginningLaws : Type 0 where
   pub pace : PaceBegins
   pub course : CyclesBeginInCourse
 
-module _ (laws : BeginningLaws) (script : Script) (c : Collector) (s : State) (h : StandsAt script c s) (at : c.progress ≡ doing.Idle)
+module _ (laws : BeginningLaws) (script : Script) (c : Collector) (s : State) (h : StandsAt script c s) (at : c.cycle.progress ≡ doing.Idle)
     (before : Collector) (mk : Marking) (st : StartsMarking s.number c before mk) where
   abbrev plan : Layout
   plan = layout_of (plan_of script)
 
   abbrev words : List ℕ
-  words = words_in c.words
+  words = words_in c.heap.words
 
   abbrev k : Cycle
   k = next_cycle s
@@ -87,10 +87,11 @@ module _ (laws : BeginningLaws) (script : Script) (c : Collector) (s : State) (h
   t = record (cycle_started s) { collect = false }
 
   abbrev segments : Segments
-  segments = before.segments
+  segments = before.heap.segments
 
   abbrev next : Collector
-  next = record c { segments = before.segments; mutators = before.mutators; progress = doing.Marking mk; begun = c.begun + 1; collect = false }
+  next = record c { heap = record c.heap { segments = before.heap.segments }; mutators = before.mutators;
+      cycle = record c.cycle { progress = doing.Marking mk; begun = c.cycle.begun + 1; collect = false } }
 
   no_wait : NoneIs (IsIn stands.Sweeping) s.allocation
   no_wait = none laws.prepares laws.begins script c s h at
@@ -98,17 +99,17 @@ module _ (laws : BeginningLaws) (script : Script) (c : Collector) (s : State) (h
   -- the mutators are as they were, but for the room in their queues
 
   ends_same : ends_of (seen next) ≡ ends_of (seen c)
-  ends_same = room_ends c.weaks.list c.mutators.items before.mutators.items st.queue_room
+  ends_same = room_ends c.heap.weaks.list c.mutators.items before.mutators.items st.queue_room
 
   nurseries_same : nurseries_of (seen next) ≡ nurseries_of (seen c)
-  nurseries_same = room_nurseries c.weaks.list c.mutators.items before.mutators.items st.queue_room
+  nurseries_same = room_nurseries c.heap.weaks.list c.mutators.items before.mutators.items st.queue_room
 
   -- one of them, without the room
   was : (n : ℕ) (m : Mutator) → slice_get before.mutators.items n ≡ Some m → (b : Mutator) × (slice_get c.mutators.items n ≡ Some b) ×
-      HasQueueRoom (count_made_by b.number c.weaks.list) b m
-  was n m e = one_room c.weaks.list c.mutators.items before.mutators.items st.queue_room n m e
+      HasQueueRoom (count_made_by b.number c.heap.weaks.list) b m
+  was n m e = one_room c.heap.weaks.list c.mutators.items before.mutators.items st.queue_room n m e
 
-  layout_is : segments.layout ≡ c.segments.layout
+  layout_is : segments.layout ≡ c.heap.segments.layout
   layout_is = st.marked.layout
 
   own_then : (n : ℕ) (m : Mutator) → slice_get before.mutators.items n ≡ Some m → IsOwn next n m
@@ -136,8 +137,8 @@ module _ (laws : BeginningLaws) (script : Script) (c : Collector) (s : State) (h
       let b = was n x.0 x.1 in
       let own = own_then n x.0 x.1 in
       let number : b.0.number ≡ n = sym (ap (λ (y : Mutator). y.number) b.2.rest) ∙ own.number in
-      let room : count_made_by n c.weaks.list ≤ x.0.queue.spare = subst (λ (i : ℕ). count_made_by i c.weaks.list ≤ x.0.queue.spare) number b.2.room in
-      let few : weak_count s.world n (seen c).weaks ≤ count_made_by n c.weaks.list = counted s.world n c.weaks.list in
+      let room : count_made_by n c.heap.weaks.list ≤ x.0.queue.spare = subst (λ (i : ℕ). count_made_by i c.heap.weaks.list ≤ x.0.queue.spare) number b.2.room in
+      let few : weak_count s.world n (seen c).weaks ≤ count_made_by n c.heap.weaks.list = counted s.world n c.heap.weaks.list in
       let enough : weak_count s.world n (seen c).weaks ≤ x.0.queue.spare = omega (arith, few, room) in
       subst (λ (y : MutatorSeen). weak_count s.world n (seen c).weaks ≤ y.queue.spare) (sym x.2) enough
 
@@ -145,8 +146,8 @@ module _ (laws : BeginningLaws) (script : Script) (c : Collector) (s : State) (h
   still_kept = record {
     layout = layout_is ∙ h.kept.layout;
     sound = st.sound;
-    lists = subst (λ (l : Layout). IsFor l c.promotion) (sym layout_is) h.kept.lists;
-    entries = subst (λ (l : Layout). HaveEntries l c.names) (sym layout_is) h.kept.entries;
+    lists = subst (λ (l : Layout). IsFor l c.heap.promotion) (sym layout_is) h.kept.lists;
+    entries = subst (λ (l : Layout). HaveEntries l c.heap.names) (sym layout_is) h.kept.entries;
     has_words = h.kept.has_words;
     count = st.queue_room.count ∙ h.kept.count;
     own = own_then;
@@ -189,8 +190,8 @@ module _ (laws : BeginningLaws) (script : Script) (c : Collector) (s : State) (h
 
   heap_as : (g : HoldsAtStop plan t words segments (ends_of (seen c)) (seen c).weaks) × (g.places ≡ h.heap.places)
   heap_as =
-      let begun = laws.stop plan s words c.segments (ends_of (seen c)) (seen c).weaks h.heap in
-      let on = laws.marked plan (cycle_started s) words (all_prepared c.segments) segments (ends_of (seen c)) (seen c).weaks begun.0 (layout_is ∙
+      let begun = laws.stop plan s words c.heap.segments (ends_of (seen c)) (seen c).weaks h.heap in
+      let on = laws.marked plan (cycle_started s) words (all_prepared c.heap.segments) segments (ends_of (seen c)) (seen c).weaks begun.0 (layout_is ∙
       h.kept.layout) stands_then in
       (record { places = on.0.places; all = on.0.all; holds = on.0.holds; listed = on.0.listed }, on.1 ∙ begun.1)
 
@@ -202,26 +203,27 @@ module _ (laws : BeginningLaws) (script : Script) (c : Collector) (s : State) (h
   epoch_is : next_epoch c ≡ epoch_of (s.begun + 1)
   epoch_is = ap (λ (n : ℕ). epoch_of (n + 1)) h.matches.begun
 
-  marked_then : HasMarked (all_prepared c.segments) segments (blank (epoch_of (s.begun + 1)) (most_blocks c.segments.layout)) mk.marker 0
-  marked_then = subst (λ (n : ℕ). HasMarked (all_prepared c.segments) segments (blank n (most_blocks c.segments.layout)) mk.marker 0) epoch_is st.marked
+  marked_then : HasMarked (all_prepared c.heap.segments) segments (blank (epoch_of (s.begun + 1)) (most_blocks c.heap.segments.layout)) mk.marker 0
+  marked_then = subst (λ (n : ℕ). HasMarked (all_prepared c.heap.segments) segments (blank n (most_blocks c.heap.segments.layout)) mk.marker 0) epoch_is
+      st.marked
 
-  begun_then : HasBegun (all_prepared c.segments) (epoch_of (s.begun + 1)) mk.sweeper
-  begun_then = subst (λ (n : ℕ). HasBegun (all_prepared c.segments) n mk.sweeper) epoch_is st.sweeper
+  begun_then : HasBegun (all_prepared c.heap.segments) (epoch_of (s.begun + 1)) mk.sweeper
+  begun_then = subst (λ (n : ℕ). HasBegun (all_prepared c.heap.segments) n mk.sweeper) epoch_is st.sweeper
 
   notes : HasNotes k mk.sweeper
-  notes = laws.noted k words (all_prepared c.segments) (epoch_of (s.begun + 1)) mk.sweeper
+  notes = laws.noted k words (all_prepared c.heap.segments) (epoch_of (s.begun + 1)) mk.sweeper
       (prepared_shown laws.prepares laws.begins script c s h at) no_wait h.sound.sound_blocks.once refl begun_then
 
   left_then : AreLeft segments mk.sweeper
-  left_then = laws.left (all_prepared c.segments) segments mk.sweeper
-      (laws.waits (all_prepared c.segments) segments words words (cycle_begun s.allocation)
+  left_then = laws.left (all_prepared c.heap.segments) segments mk.sweeper
+      (laws.waits (all_prepared c.heap.segments) segments words words (cycle_begun s.allocation)
       (prepared_shown laws.prepares laws.begins script c s h at) stands_then) layout_is begun_then.left
 
   is_marking : (places : List Place) → places ≡ h.heap.places → IsMarking k t (seen next) places
   is_marking places same_places =
       let o : Opening = snapshot_opening laws.prepares laws.begins script c s h at in
       let tied = st.tied o (beginning laws.prepares laws.begins script c s h at) in
-      let m = laws.marks plan s words c.segments (seen next) (ends_of (seen c)) (seen c).weaks o (most_blocks c.segments.layout) h.heap
+      let m = laws.marks plan s words c.heap.segments (seen next) (ends_of (seen c)) (seen c).weaks o (most_blocks c.heap.segments.layout) h.heap
       h.sound.world st.sound refl refl refl marked_then tied
       queue_room_then (λ n mutator e. (rest_then n mutator e).entries) st.from_is notes.noted (begun_then.had, begun_then.freed) in
       subst (λ (l : List Place). IsMarking k t (seen next) l) (sym same_places) (record {
@@ -252,23 +254,23 @@ module _ (laws : BeginningLaws) (script : Script) (c : Collector) (s : State) (h
     rest = rest_then;
     cycle = (is_marking heap.0.places heap.1, in_pace);
     sweeper = (record { notes = notes; left = left_then }, begun_then.swept, begun_then.had, begun_then.freed);
-    named = named_begun plan c.names s.allocation h.named;
+    named = named_begun plan c.heap.names s.allocation h.named;
   }
 
 pub starting_leads : BeginningLaws → StartingLeads
 starting_leads laws script old new s limits h idle started =
     let st = started.starts in
-    let words : started.marked.words ≡ old.words = words_same started.marked.words old.words st.words.1 h.kept.has_words st.words.0 in
-    let before : started.marked ≡ record old { segments = started.marked.segments; mutators = started.marked.mutators } =
-    st.rest ∙ ap (λ (x : Option (List ℕ)). record old { words = x; segments = started.marked.segments; mutators = started.marked.mutators }) words in
+    let words : started.marked.heap.words ≡ old.heap.words = words_same started.marked.heap.words old.heap.words st.words.1 h.kept.has_words st.words.0 in
+    let before : started.marked ≡ record old { heap = record old.heap { segments = started.marked.heap.segments }; mutators = started.marked.mutators } =
+    st.rest ∙ ap (λ (x : Option (List ℕ)). record old { heap = record old.heap { words = x; segments = started.marked.heap.segments };
+        mutators = started.marked.mutators }) words in
     let next : new ≡ record old {
-      segments = started.marked.segments;
-      mutators = started.marked.mutators;
-      progress = doing.Marking started.marking;
-      begun = old.begun + 1;
-      collect = false;
-    } =
-    started.is ∙ ap (λ (x : Collector). record x { progress = doing.Marking started.marking; begun = old.begun + 1; collect = false }) before in
+        heap = record old.heap { segments = started.marked.heap.segments };
+        mutators = started.marked.mutators;
+        cycle = record old.cycle { progress = doing.Marking started.marking; begun = old.cycle.begun + 1; collect = false };
+      } =
+    started.is ∙ ap (λ (x : Collector). record x { cycle = record x.cycle { progress = doing.Marking started.marking; begun = old.cycle.begun + 1;
+        collect = false } }) before in
     subst (λ (x : Collector). StandsAt script x (record (cycle_started s) {
       collect =
           false;

@@ -62,7 +62,7 @@ StandsInPace Paced script c s = StandsForState Paced IsEmptied script c s
 
 -- the mutators are shown as the collector has them
 pub are_shown : (Paced : Cycle → State → CollectorSeen → Type 0) (script : Script) (c : Collector) (s : State) → StandsInPace Paced script c s →
-    AreShown c.segments.layout (seen c) c.mutators.items
+    AreShown c.heap.segments.layout (seen c) c.mutators.items
 are_shown Paced script c s h = record {
   are = refl;
   each = λ k m e. let own = h.kept.own k m e in (own.number, own.layout, own.whole);
@@ -78,8 +78,8 @@ module _ (Paced : Cycle → State → CollectorSeen →
   pub at_rest : AreAtRest (layout_of (plan_of script)) h.heap.places s.world (seen c)
   at_rest = record { nurseries = h.nurseries; empty = h.empty; nothing = h.rest }
 
-  pub rests_there : RestsBeside k marks.0.core c.segments h.heap.places s.world (seen c).words c.mutators.items (seen c).marker.queue ×
-      IsReady (opening_beside c.segments.layout marks.0.core h.heap.places c.mutators.items) (seen c).words c.segments (seen c).marker
+  pub rests_there : RestsBeside k marks.0.core c.heap.segments h.heap.places s.world (seen c).words c.mutators.items (seen c).marker.queue ×
+      IsReady (opening_beside c.heap.segments.layout marks.0.core h.heap.places c.mutators.items) (seen c).words c.heap.segments (seen c).marker
   rests_there = rests (plan_of script) s (seen c) k c.mutators.items h.sound h.heap at_rest is marks.0 h.kept.sound (are_shown Paced script c s h)
 
   -- the heap of the stop, with the machine
@@ -92,8 +92,8 @@ module _ (Paced : Cycle → State → CollectorSeen →
   abbrev now : IsMarking k s (seen c) h.heap.places × Paced k s (seen c)
   now = marks Paced rests script c s h k is
 
-  abbrev there : RestsBeside k now.0.core c.segments h.heap.places s.world (seen c).words c.mutators.items (seen c).marker.queue ×
-      IsReady (opening_beside c.segments.layout now.0.core h.heap.places c.mutators.items) (seen c).words c.segments (seen c).marker
+  abbrev there : RestsBeside k now.0.core c.heap.segments h.heap.places s.world (seen c).words c.mutators.items (seen c).marker.queue ×
+      IsReady (opening_beside c.heap.segments.layout now.0.core h.heap.places c.mutators.items) (seen c).words c.heap.segments (seen c).marker
   there = rests_there Paced rests script c s h k is
 
   abbrev here : IsStopOf (layout_of (plan_of script)) k s (seen c) c.mutators.items
@@ -115,16 +115,16 @@ module _ (Paced : Cycle → State → CollectorSeen →
       h.heap.holds.roots.mutators.0 ∙ ap (λ (w : World). length w.mutators) (sym now.0.machine.world_is)
 
   pub ready : (m : Marking) → m.marker ≡ (seen c).marker →
-      IsReadyToClose (words_in c.words) c.segments c.weaks.list (queues_in c.mutators.items) m
+      IsReadyToClose (words_in c.heap.words) c.heap.segments c.heap.weaks.list (queues_in c.mutators.items) m
   ready m marker = record {
-    room = subst (HasRoomToMark c.segments) (sym marker) now.0.room;
+    room = subst (HasRoomToMark c.heap.segments) (sym marker) now.0.room;
     opening = stop_opening (layout_of (plan_of script)) k s (seen c) c.mutators.items here;
     ready = subst (λ (x : MarkerSeen).
-        IsReady (stop_opening (layout_of (plan_of script)) k s (seen c) c.mutators.items here) (words_in c.words) c.segments x) (sym marker) there.1;
+        IsReady (stop_opening (layout_of (plan_of script)) k s (seen c) c.mutators.items here) (words_in c.heap.words) c.heap.segments x) (sym marker) there.1;
     resolves = λ between finisher f. may (layout_of (plan_of script)) k s (seen c) c.mutators.items between finisher here f;
     queue_room = λ between marked finisher then after list deaths f r.
         deaths_room (finished_on (stop_opening (layout_of (plan_of script)) k s (seen c) c.mutators.items here) between finisher f) after
-        (words_in c.words) between marked finisher then (seen c).weaks list deaths (queues_in c.mutators.items)
+        (words_in c.heap.words) between marked finisher then (seen c).weaks list deaths (queues_in c.mutators.items)
         (may (layout_of (plan_of script)) k s (seen c) c.mutators.items between finisher here f) r
         (many_queues ∙ ap (λ (x : Core). length x.world.mutators) (sym f.rest))
         (λ m queue is. subst (λ (w : World). weak_count w m (seen c).weaks ≤ queue.spare) (ap (λ (x : Core). x.snapshot) (sym f.rest)) (own_room m queue is));
@@ -133,8 +133,8 @@ module _ (Paced : Cycle → State → CollectorSeen →
 module _ (Paced : Cycle → State → CollectorSeen →
     Type 0) (rests : HeapRests) (core_snapshot : CoreHasSnapshot) (may : FinishMayResolve) (deaths_room : DeathsHaveRoom) (script : Script)
     (c : Collector) (s : State) (h : StandsInPace Paced script c s) where
-  now_by : (p : Doing) (q : Progress) → c.progress ≡ p → s.progress ≡ q → phase_in p ≡ phase_of q →
-      CanCloseNow (words_in c.words) c.segments c.weaks.list (queues_in c.mutators.items) p
+  now_by : (p : Doing) (q : Progress) → c.cycle.progress ≡ p → s.progress ≡ q → phase_in p ≡ phase_of q →
+      CanCloseNow (words_in c.heap.words) c.heap.segments c.heap.weaks.list (queues_in c.mutators.items) p
   now_by doing.Idle q at is e = tt
   now_by (doing.Marking m) idle at is e = absurd (let bad : phase.Marking ≡ phase.Idle = e in cc)
   now_by (doing.Marking m) (marking k) at is e =
@@ -143,8 +143,8 @@ module _ (Paced : Cycle → State → CollectorSeen →
   now_by (doing.Sweeping w) q at is e = tt
 
   -- a marker may finish, whatever its last work left
-  pub can_close_now : CanCloseNow (words_in c.words) c.segments c.weaks.list (queues_in c.mutators.items) c.progress
-  can_close_now = now_by c.progress s.progress refl refl h.matches.phase
+  pub can_close_now : CanCloseNow (words_in c.heap.words) c.heap.segments c.heap.weaks.list (queues_in c.mutators.items) c.cycle.progress
+  can_close_now = now_by c.cycle.progress s.progress refl refl h.matches.phase
 
 -- so may one whose last work left nothing
 close_by : (words : List ℕ) (segments : Segments) (weaks : List OldWeak) (queues : List FinQueue) (p : Doing) →
@@ -155,7 +155,7 @@ close_by words segments weaks queues (doing.Sweeping w) can = tt
 
 pub close_ready : HeapRests → CoreHasSnapshot → FinishMayResolve → DeathsHaveRoom → CloseReady
 close_ready rests core_snapshot may deaths_room script c s limits h =
-    close_by (words_in c.words) c.segments c.weaks.list (queues_in c.mutators.items) c.progress
+    close_by (words_in c.heap.words) c.heap.segments c.heap.weaks.list (queues_in c.mutators.items) c.cycle.progress
     (can_close_now (IsPacedWithin script.config.quota) rests core_snapshot may deaths_room script c s h)
 
 -- so may any where the pace is that of a stop
@@ -182,14 +182,14 @@ pub none_back : (segments : Segments) (words : List ℕ) (a : AllocState) → St
 none_back segments words a st none i lt waits = none i (let count = st.count in omega (arith, count, lt)) ((st.shows i lt).state ∙ waits)
 
 module _ (prepares : StopIsPrepared) (begins : PreparedBegins) (script : Script) (c : Collector) (s : State) (h : StandsAt script c s)
-    (at : c.progress ≡ doing.Idle) where
+    (at : c.cycle.progress ≡ doing.Idle) where
   pub quiet : s.progress ≡ idle
   quiet = idle_state s.progress (sym (ap phase_in at) ∙ h.matches.phase)
 
   pub none : NoneIs (IsIn stands.Sweeping) s.allocation
   none = subst (λ (q : Progress). IsInCourse q s.number s.begun s.allocation) quiet h.course
 
-  pub settled : AreSettled s.begun c.segments
+  pub settled : AreSettled s.begun c.heap.segments
   settled = subst (λ (q : Progress). HoldsInCycle (λ (r : Cycle). IsPacedAtStop script.config.quota r s (seen c)) q s (seen c) h.heap.places) quiet h.cycle
 
   -- the opening with the heap of the stop, and its world as the snapshot
@@ -199,28 +199,28 @@ module _ (prepares : StopIsPrepared) (begins : PreparedBegins) (script : Script)
   queues : run.queues_of (ends_of (seen c)) ≡ map (λ (q : FinQueue). q.words) (queues_in c.mutators.items)
   queues = queues_seen c ∙ sym (words_of_queues c.mutators.items)
 
-  pub prepared_there : IsPrepared snapshot_opening (all_prepared c.segments) (epoch_of (s.begun + 1)) (words_in c.words)
+  pub prepared_there : IsPrepared snapshot_opening (all_prepared c.heap.segments) (epoch_of (s.begun + 1)) (words_in c.heap.words)
       (run.registers_of (ends_of (seen c))) (queues_in c.mutators.items)
-  prepared_there = prepares (layout_of (plan_of script)) s (words_in c.words) c.segments (ends_of (seen c)) (seen c).weaks
-      (queues_in c.mutators.items) snapshot_opening h.heap h.sound.world h.kept.sound (prepared_sound c.segments h.kept.sound) none settled queues
+  prepared_there = prepares (layout_of (plan_of script)) s (words_in c.heap.words) c.heap.segments (ends_of (seen c)) (seen c).weaks
+      (queues_in c.mutators.items) snapshot_opening h.heap h.sound.world h.kept.sound (prepared_sound c.heap.segments h.kept.sound) none settled queues
       refl refl refl
 
-  pub beginning : IsBeginning snapshot_opening (all_prepared c.segments) (next_epoch c) (words_in c.words) (registers_of c.mutators.items)
+  pub beginning : IsBeginning snapshot_opening (all_prepared c.heap.segments) (next_epoch c) (words_in c.heap.words) (registers_of c.mutators.items)
       (queues_in c.mutators.items)
   beginning =
-      let there = begins snapshot_opening (all_prepared c.segments) (epoch_of (s.begun + 1)) (words_in c.words)
+      let there = begins snapshot_opening (all_prepared c.heap.segments) (epoch_of (s.begun + 1)) (words_in c.heap.words)
       (run.registers_of (ends_of (seen c))) (queues_in c.mutators.items) prepared_there in
       subst (λ (l : List ℕ).
-      IsBeginning snapshot_opening (all_prepared c.segments) (next_epoch c) (words_in c.words) l (queues_in c.mutators.items)) (registers_seen c)
-      (subst (λ (n : ℕ). IsBeginning snapshot_opening (all_prepared c.segments) (epoch_of (n + 1)) (words_in c.words)
+      IsBeginning snapshot_opening (all_prepared c.heap.segments) (next_epoch c) (words_in c.heap.words) l (queues_in c.mutators.items)) (registers_seen c)
+      (subst (λ (n : ℕ). IsBeginning snapshot_opening (all_prepared c.heap.segments) (epoch_of (n + 1)) (words_in c.heap.words)
       (run.registers_of (ends_of (seen c))) (queues_in c.mutators.items)) (sym h.matches.begun) there)
 
-  pub prepared_shown : StandsFor (all_prepared c.segments) (words_in c.words) (cycle_begun s.allocation)
-  prepared_shown = prepared_stands c.segments (words_in c.words) s.allocation h.heap.holds.stands
+  pub prepared_shown : StandsFor (all_prepared c.heap.segments) (words_in c.heap.words) (cycle_begun s.allocation)
+  prepared_shown = prepared_stands c.heap.segments (words_in c.heap.words) s.allocation h.heap.holds.stands
 
   can_begin : CanBegin c
   can_begin = record {
-    none_waits = none_back c.segments (words_in c.words) s.allocation h.heap.holds.stands none;
+    none_waits = none_back c.heap.segments (words_in c.heap.words) s.allocation h.heap.holds.stands none;
     stood = (cycle_begun s.allocation, prepared_shown);
     begins = (snapshot_opening, beginning);
   }

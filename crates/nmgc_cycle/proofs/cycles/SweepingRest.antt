@@ -73,10 +73,10 @@ fewer_nurseries layout s earlier places fewer seen drops h = record {
 }
 
 module _ (laws : SweepingLaws) (script : Script) (c : Collector) (st : State) (k : Cycle) (since : ℕ) (w v : Sweeping)
-    (h : StandsAt script (record c { progress = doing.Sweeping w }) (record st { progress = sweeping k since }))
-    (new : Segments) (sw : HasSweptAll c.segments new c.names w v) where
+    (h : StandsAt script (record c { cycle = record c.cycle { progress = doing.Sweeping w } }) (record st { progress = sweeping k since }))
+    (new : Segments) (sw : HasSweptAll c.heap.segments new c.heap.names w v) where
   abbrev old : Collector
-  old = record c { progress = doing.Sweeping w }
+  old = record c { cycle = record c.cycle { progress = doing.Sweeping w } }
 
   abbrev s : State
   s = record st { progress = sweeping k since }
@@ -85,14 +85,14 @@ module _ (laws : SweepingLaws) (script : Script) (c : Collector) (st : State) (k
   layout = layout_of (plan_of script)
 
   abbrev words : List ℕ
-  words = words_in c.words
+  words = words_in c.heap.words
 
   -- the sweeper went through all that is left
 
   pub swept : (b : AllocState) × SweepsSome (IsKeptIn k) (length w.sweeper.left) st.allocation b ×
-      IsAtWork k since words b new (cycle_in (doing.Sweeping w) (died c.weaks.deaths)) v.sweeper
-  swept = sw.swept.sweeps k since words st.allocation (cycle_in (doing.Sweeping w) (died c.weaks.deaths)) (subst (λ (l : Layout).
-      AreNamed l c.names st.allocation) (sym h.kept.layout) h.named) h.sweeper.1
+      IsAtWork k since words b new (cycle_in (doing.Sweeping w) (died c.heap.weaks.deaths)) v.sweeper
+  swept = sw.swept.sweeps k since words st.allocation (cycle_in (doing.Sweeping w) (died c.heap.weaks.deaths)) (subst (λ (l : Layout).
+      AreNamed l c.heap.names st.allocation) (sym h.kept.layout) h.named) h.sweeper.1
 
   abbrev pub b : AllocState
   b = swept.0
@@ -101,11 +101,11 @@ module _ (laws : SweepingLaws) (script : Script) (c : Collector) (st : State) (k
   t = record st { progress = sweeping k since; allocation = b }
 
   abbrev next : Collector
-  next = record c { segments = new; progress = doing.Sweeping (record w { sweeper = v.sweeper }) }
+  next = record c { heap = record c.heap { segments = new }; cycle = record c.cycle { progress = doing.Sweeping (record w { sweeper = v.sweeper }) } }
 
   rest : SweepsSome (IsKeptIn k) (waiting_count st.allocation) st.allocation b
   rest = subst (λ (count : ℕ).
-      SweepsSome (IsKeptIn k) count st.allocation b) (sym (laws.counted words st.allocation c.segments w.sweeper h.heap.holds.stands h.sweeper.0)) swept.1
+      SweepsSome (IsKeptIn k) count st.allocation b) (sym (laws.counted words st.allocation c.heap.segments w.sweeper h.heap.holds.stands h.sweeper.0)) swept.1
 
   frees : FreesUntracked [] st.world st.world st.allocation b
   frees = laws.frees layout k st.world st.allocation b (waiting_count st.allocation) h.sound.sound_blocks h.sound.known h.sound.cycle.0
@@ -121,7 +121,7 @@ module _ (laws : SweepingLaws) (script : Script) (c : Collector) (st : State) (k
       frees.tracked p.name (alive_tracked st.world [] p.name alive) (alive_other st.world h.sound.world p.name alive) (subst IsSome (sym alive.1) refl)
 
   heap : (g : HoldsAtStop layout t words new (ends_of (seen next)) (seen next).weaks) × DropsFreed layout [] st.world h.heap.places g.places
-  heap = laws.holds layout s b words c.segments new (ends_of (seen old)) (seen old).weaks h.heap h.kept.sound frees swept.2.stands layout_is listed_stay
+  heap = laws.holds layout s b words c.heap.segments new (ends_of (seen old)) (seen old).weaks h.heap h.kept.sound frees swept.2.stands layout_is listed_stay
 
   sound_then : IsSoundState (plan_of script) t
   sound_then = record {
@@ -140,8 +140,8 @@ module _ (laws : SweepingLaws) (script : Script) (c : Collector) (st : State) (k
   still_kept = record {
     layout = layout_is;
     sound = sw.sound;
-    lists = subst (λ (l : Layout). IsFor l c.promotion) (sym sw.swept.layout) h.kept.lists;
-    entries = subst (λ (l : Layout). HaveEntries l c.names) (sym sw.swept.layout) h.kept.entries;
+    lists = subst (λ (l : Layout). IsFor l c.heap.promotion) (sym sw.swept.layout) h.kept.lists;
+    entries = subst (λ (l : Layout). HaveEntries l c.heap.names) (sym sw.swept.layout) h.kept.entries;
     has_words = h.kept.has_words;
     count = h.kept.count;
     own = λ n x e. let own = h.kept.own n x e in record {
@@ -171,29 +171,30 @@ module _ (laws : SweepingLaws) (script : Script) (c : Collector) (st : State) (k
     rest = h.rest;
     cycle = (swept.2.sweeping, subst (λ (n : ℕ). AreSettled n new) h.course.0.number_is swept.2.settled);
     sweeper = (record { numbers = sw.swept.left.numbers; room = sw.swept.left.room }, swept.2);
-    named = named_swept layout c.names (IsKeptIn k) (length w.sweeper.left) st.allocation b swept.1 h.named;
+    named = named_swept layout c.heap.names (IsKeptIn k) (length w.sweeper.left) st.allocation b swept.1 h.named;
   }
 
   pub sweeps_rest : SweepsRest (sweeping k since) st.allocation b
   sweeps_rest = rest
 
 module _ (laws : SweepingLaws) (script : Script) (old new : Collector) (s : State) (h : StandsAt script old s) (segments_are : new ≡
-    record old { segments = new.segments; progress = new.progress }) where
+    record old { heap = record old.heap { segments = new.heap.segments }; cycle = record old.cycle { progress = new.cycle.progress } }) where
   abbrev Leads : Type 0
   Leads = (b : AllocState) × SweepsRest s.progress s.allocation b × StandsAt script new (record s { allocation = b })
 
-  stays : (p : Doing) (q : Progress) → old.progress ≡ p → s.progress ≡ q → SweepsRest q s.allocation s.allocation → new.progress ≡ p →
-      new.segments ≡ old.segments → Leads
+  stays : (p : Doing) (q : Progress) → old.cycle.progress ≡ p → s.progress ≡ q → SweepsRest q s.allocation s.allocation → new.cycle.progress ≡ p →
+      new.heap.segments ≡ old.heap.segments → Leads
   stays p q at is swept_by after same_segments =
-      let same : new ≡ old = segments_are ∙ ap (λ (g : Segments). record old { segments = g; progress = new.progress }) same_segments ∙
-      ap (λ (x : Doing). record old { progress = x }) (after ∙ sym at) in (
+      let same : new ≡ old = segments_are ∙ ap (λ (g : Segments). record old { heap = record old.heap { segments = g };
+          cycle = record old.cycle { progress = new.cycle.progress } }) same_segments ∙
+      ap (λ (x : Doing). record old { cycle = record old.cycle { progress = x } }) (after ∙ sym at) in (
         s.allocation,
         subst (λ (x : Progress). SweepsRest x s.allocation s.allocation) (sym is) swept_by,
         subst (λ (x : Collector). StandsAt script x s) (sym same) h,
       )
 
-  by_case : (p : Doing) (q : Progress) → old.progress ≡ p → s.progress ≡ q → phase_in p ≡ phase_of q →
-      SweepsRestBy old.segments new.segments old.names p new.progress → Leads
+  by_case : (p : Doing) (q : Progress) → old.cycle.progress ≡ p → s.progress ≡ q → phase_in p ≡ phase_of q →
+      SweepsRestBy old.heap.segments new.heap.segments old.heap.names p new.cycle.progress → Leads
   by_case doing.Idle idle at is e step = stays doing.Idle idle at is refl step.0 step.1
   by_case doing.Idle (marking k) at is e step = absurd (let bad : phase.Idle ≡ phase.Marking = e in cc)
   by_case doing.Idle (sweeping k since) at is e step = absurd (let bad : phase.Idle ≡ phase.Sweeping = e in cc)
@@ -204,35 +205,38 @@ module _ (laws : SweepingLaws) (script : Script) (old new : Collector) (s : Stat
   by_case (doing.Sweeping w) (marking k) at is e step = absurd (let bad : phase.Sweeping ≡ phase.Marking = e in cc)
   by_case (doing.Sweeping w) (sweeping k since) at is e step =
       let v : Sweeping = step.0 in
-      let was : old ≡ record old { progress = doing.Sweeping w } = ap (λ (p : Doing). record old { progress = p }) at in
+      let was : old ≡ record old { cycle = record old.cycle { progress = doing.Sweeping w } } =
+          ap (λ (p : Doing). record old { cycle = record old.cycle { progress = p } }) at in
       let state : s ≡ record s { progress = sweeping k since } = ap (λ (q : Progress). record s { progress = q }) is in
-      let stood : StandsAt script (record old { progress = doing.Sweeping w }) (record s { progress = sweeping k since }) =
+      let stood : StandsAt script (record old { cycle = record old.cycle { progress = doing.Sweeping w } }) (record s { progress = sweeping k since }) =
       subst (λ (x : Collector). StandsAt script x (record s { progress = sweeping k since })) was (subst (λ (y : State).
       StandsAt script old y) state h) in
-      let there = stands_then laws script old s k since w v stood new.segments step.2 in
-      let a : AllocState = b laws script old s k since w v stood new.segments step.2 in
-      let next : new ≡ record old { segments = new.segments; progress = doing.Sweeping (record w { sweeper = v.sweeper }) } = segments_are ∙
-      ap (λ (p : Doing). record old { segments = new.segments; progress = p }) (step.1 ∙ ap doing.Sweeping step.2.rest) in (
+      let there = stands_then laws script old s k since w v stood new.heap.segments step.2 in
+      let a : AllocState = b laws script old s k since w v stood new.heap.segments step.2 in
+      let next : new ≡ record old { heap = record old.heap { segments = new.heap.segments };
+          cycle = record old.cycle { progress = doing.Sweeping (record w { sweeper = v.sweeper }) } } = segments_are ∙
+      ap (λ (p : Doing). record old { heap = record old.heap { segments = new.heap.segments }; cycle = record old.cycle { progress = p } })
+          (step.1 ∙ ap doing.Sweeping step.2.rest) in (
         a,
-        subst (λ (q : Progress). SweepsRest q s.allocation a) (sym is) (sweeps_rest laws script old s k since w v stood new.segments step.2),
+        subst (λ (q : Progress). SweepsRest q s.allocation a) (sym is) (sweeps_rest laws script old s k since w v stood new.heap.segments step.2),
         subst (λ (q : Progress). StandsAt script new (record s { progress = q; allocation = a })) (sym is) (subst (λ (x : Collector).
             StandsAt script x (record s { progress = sweeping k since; allocation = a })) (sym next) there),
       )
 
 pub sweeping_rest_leads : SweepingLaws → SweepingRestLeads
 sweeping_rest_leads laws script old new s limits h swept =
-    by_case laws script old new s h swept.rest old.progress s.progress refl refl h.matches.phase swept.sweeps
+    by_case laws script old new s h swept.rest old.cycle.progress s.progress refl refl h.matches.phase swept.sweeps
 
 -- a sweeper at a stop has all left that waits
-ready_by : (script : Script) (c : Collector) (s : State) → StandsAt script c s → (p : Doing) (q : Progress) → c.progress ≡ p → s.progress ≡ q →
-    phase_in p ≡ phase_of q → CanSweepRest c.segments c.names p
+ready_by : (script : Script) (c : Collector) (s : State) → StandsAt script c s → (p : Doing) (q : Progress) → c.cycle.progress ≡ p → s.progress ≡ q →
+    phase_in p ≡ phase_of q → CanSweepRest c.heap.segments c.heap.names p
 ready_by script c s h doing.Idle q at is e = tt
 ready_by script c s h (doing.Marking m) q at is e = tt
 ready_by script c s h (doing.Sweeping w) idle at is e = absurd (let bad : phase.Sweeping ≡ phase.Idle = e in cc)
 ready_by script c s h (doing.Sweeping w) (marking k) at is e = absurd (let bad : phase.Sweeping ≡ phase.Marking = e in cc)
 ready_by script c s h (doing.Sweeping w) (sweeping k since) at is e =
     let held : Sweeps (sweeping k since) s c = subst (λ (q : Progress). Sweeps q s c) is h.sweeper in
-    (subst (λ (p : Doing). AreLeft c.segments (sweeper_in p)) at held.0, h.kept.entries)
+    (subst (λ (p : Doing). AreLeft c.heap.segments (sweeper_in p)) at held.0, h.kept.entries)
 
 pub sweep_rest_ready : SweepRestReady
-sweep_rest_ready script c s h = ready_by script c s h c.progress s.progress refl refl h.matches.phase
+sweep_rest_ready script c s h = ready_by script c s h c.cycle.progress s.progress refl refl h.matches.phase

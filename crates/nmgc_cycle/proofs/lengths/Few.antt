@@ -27,15 +27,15 @@ stops_fit script limits =
     omega arith
 
 -- a step that leaves the commands as they are, and no more for the cycle in progress
-pub leaves_few : (N M : Type 0) (script : Script) (c d : Collector) (stops : ℕ) → d.rounds ≡ c.rounds →
-    phase_left script.config.segments d.progress ≤ phase_left script.config.segments c.progress →
+pub leaves_few : (N M : Type 0) (script : Script) (c d : Collector) (stops : ℕ) → d.rows.rounds ≡ c.rows.rounds →
+    phase_left script.config.segments d.cycle.progress ≤ phase_left script.config.segments c.cycle.progress →
     (N → NoneIsDue script.config.trigger c → M × NoneIsDue script.config.trigger d) → AreFew N script c stops → AreFew M script d stops
 leaves_few N M script c d stops rounds fewer due few = record {
   follow = by few.follow;
   phase = (let most = few.phase in omega (arith, fewer, most));
 }
   where
-    same : commands_left script.threads d.rounds ≡ commands_left script.threads c.rounds
+    same : commands_left script.threads d.rows.rounds ≡ commands_left script.threads c.rows.rounds
     same = ap (λ (r : List RoundRows). commands_left script.threads r) rounds
 
     by : MayFollow N script c stops → MayFollow M script d stops
@@ -44,8 +44,8 @@ leaves_few N M script c d stops rounds fewer due few = record {
     by (no_cycle none nothing not h) = let both = due nothing not in no_cycle (same ∙ none) both.0 both.1 (omega (arith, h, fewer))
 
 -- nothing changed that is counted
-pub same_few : (N : Type 0) (script : Script) (c d : Collector) (stops : ℕ) → d.rounds ≡ c.rounds → d.progress ≡ c.progress →
-    d.collect ≡ c.collect → d.segments.fresh ≡ c.segments.fresh → AreFew N script c stops → AreFew N script d stops
+pub same_few : (N : Type 0) (script : Script) (c d : Collector) (stops : ℕ) → d.rows.rounds ≡ c.rows.rounds → d.cycle.progress ≡ c.cycle.progress →
+    d.cycle.collect ≡ c.cycle.collect → d.heap.segments.fresh ≡ c.heap.segments.fresh → AreFew N script c stops → AreFew N script d stops
 same_few N script c d stops rounds progress collect fresh few =
     let same = ap (phase_left script.config.segments) progress in
     leaves_few N N script c d stops rounds (omega (arith, same)) (λ nothing not. (
@@ -57,26 +57,28 @@ same_few N script c d stops rounds progress collect fresh few =
     )) few
 
 -- before the first stop
-pub fresh_few : (N : Type 0) (script : Script) (c : Collector) → IsFresh script c → AreFew N script c (length c.stops + 1)
+pub fresh_few : (N : Type 0) (script : Script) (c : Collector) → IsFresh script c → AreFew N script c (length c.rows.stops + 1)
 fresh_few N script c fresh =
-    let no_stops : length c.stops ≡ 0 = ap (λ (stops : List StopRow). length stops) fresh.new.nothing.1 in
-    let left : commands_left script.threads c.rounds ≡ commands_left script.threads [] =
+    let no_stops : length c.rows.stops ≡ 0 = ap (λ (stops : List StopRow). length stops) fresh.new.nothing.1 in
+    let left : commands_left script.threads c.rows.rounds ≡ commands_left script.threads [] =
     ap (λ (r : List RoundRows). commands_left script.threads r) fresh.new.nothing.0 in
-    let idle : phase_left script.config.segments c.progress ≡ 0 = ap (phase_left script.config.segments) (when_idle c.progress fresh.new.matches.phase) in
+    let idle : phase_left script.config.segments c.cycle.progress ≡ 0 =
+        ap (phase_left script.config.segments) (when_idle c.cycle.progress fresh.new.matches.phase) in
     record { follow = commands (omega (arith, no_stops, left)); phase = omega (arith, idle) }
 
-pub fresh_begun : (script : Script) (c : Collector) → IsFresh script c → c.begun ≤ length c.stops
+pub fresh_begun : (script : Script) (c : Collector) → IsFresh script c → c.cycle.begun ≤ length c.rows.stops
 fresh_begun script c fresh = let none = fresh.new.matches.begun in omega (arith, none)
 
 -- before any stop few follow, and its number and that of a cycle that it begins fit 32 bits
 pub record Fit (script : Script) (c : Collector) : Type 0 where
-  pub within : length c.stops + 1 ≤ most_stops script
-  pub number : length c.stops + 1 < 2 ^ 32
-  pub begun : c.begun + 1 < 2 ^ 32
+  pub within : length c.rows.stops + 1 ≤ most_stops script
+  pub number : length c.rows.stops + 1 < 2 ^ 32
+  pub begun : c.cycle.begun + 1 < 2 ^ 32
 
-fits : (N : Type 0) (script : Script) (c : Collector) → IsInLimits script → AreFew N script c (length c.stops + 1) → c.begun ≤ length c.stops → Fit script c
+fits : (N : Type 0) (script : Script) (c : Collector) → IsInLimits script → AreFew N script c (length c.rows.stops + 1) →
+    c.cycle.begun ≤ length c.rows.stops → Fit script c
 fits N script c limits few begun =
-    let most = within N script c (length c.stops + 1) few.follow in
+    let most = within N script c (length c.rows.stops + 1) few.follow in
     let small = stops_fit script limits in
     record { within = most; number = omega (arith, most, small); begun = omega (arith, most, small, begun) }
 

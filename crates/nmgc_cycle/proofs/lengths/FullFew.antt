@@ -42,15 +42,15 @@ full_fresh : (s t : State) (rows : List CycleRow) → DoesFullCycle s t rows →
 full_fresh s t rows d = ap (λ (x : State). x.allocation.fresh) d.rest ∙ finishing_fresh (cycle_started (with_all_retired d.idled)) d.last d.own d.again
 
 -- none is in progress, and none is due
-module _ (script : Script) (old new : Collector) (stops : ℕ) (rounds : new.rounds ≡ old.rounds) (none : new.progress ≡
-    doing.Idle) (not_asked : new.collect ≡ false) (fresh : new.segments.fresh ≡ 0) where
+module _ (script : Script) (old new : Collector) (stops : ℕ) (rounds : new.rows.rounds ≡ old.rows.rounds) (none : new.cycle.progress ≡
+    doing.Idle) (not_asked : new.cycle.collect ≡ false) (fresh : new.heap.segments.fresh ≡ 0) where
   none_due : NoneIsDue script.config.trigger new
   none_due = record { not_asked = not_asked; not_filled = λ some. omega (arith, fresh, some) }
 
-  none_left : phase_left script.config.segments new.progress ≡ 0
+  none_left : phase_left script.config.segments new.cycle.progress ≡ 0
   none_left = ap (phase_left script.config.segments) none
 
-  same_left : commands_left script.threads new.rounds ≡ commands_left script.threads old.rounds
+  same_left : commands_left script.threads new.rows.rounds ≡ commands_left script.threads old.rows.rounds
   same_left = ap (λ (r : List RoundRows). commands_left script.threads r) rounds
 
   follow : MayFollow (Unit {0}) script old stops → MayFollow (Unit {0}) script new stops
@@ -61,37 +61,38 @@ module _ (script : Script) (old new : Collector) (stops : ℕ) (rounds : new.rou
   pub idle_few : AreFew (Unit {0}) script old stops → AreFew (Unit {0}) script new stops
   idle_few few = record { follow = follow few.follow; phase = (let phase = none_left in omega (arith, phase)) }
 
-full_idle : (stop : ℕ) (old new : Collector) → HasDoneFull stop old new → new.progress ≡ doing.Idle
-full_idle stop old new d = ap (λ (x : Collector). x.progress) d.is ∙ finished_idle stop d.started d.last d.again
+full_idle : (stop : ℕ) (old new : Collector) → HasDoneFull stop old new → new.cycle.progress ≡ doing.Idle
+full_idle stop old new d = ap (λ (x : Collector). x.cycle.progress) d.is ∙ finished_idle stop d.started d.last d.again
 
 -- a full cycle that is due leaves none filled
 pub fresh_where_due : (plan : Plan) (s t : State) (rows : List CycleRow) → Proceeds plan s t rows → IsFullDue plan s → t.allocation.fresh ≡ 0
 fresh_where_due plan s t rows (inl x) due = full_fresh s t rows x.1
 fresh_where_due plan s t rows (inr x) due = absurd (x.0 due)
 
-pub proceeding_few : (script : Script) (old new : Collector) (stops stop : ℕ) (some : Bool) (t : State) → old.segments.layout ≡ heap_of script →
-    (old.progress ≡ doing.Idle → HasStood (all_prepared old.segments) (words_in old.words)) → (words : List ℕ) →
-    StandsFor new.segments words t.allocation → ProceedsThen script.config.trigger some stop old new → AreFew (Unit {0}) script old stops →
-    new.rounds ≡ old.rounds → (IsDueBy some old → t.allocation.fresh ≡ 0) → AreFew (Unit {0}) script new stops
+pub proceeding_few : (script : Script) (old new : Collector) (stops stop : ℕ) (some : Bool) (t : State) → old.heap.segments.layout ≡ heap_of script →
+    (old.cycle.progress ≡ doing.Idle → HasStood (all_prepared old.heap.segments) (words_in old.heap.words)) → (words : List ℕ) →
+    StandsFor new.heap.segments words t.allocation → ProceedsThen script.config.trigger some stop old new → AreFew (Unit {0}) script old stops →
+    new.rows.rounds ≡ old.rows.rounds → (IsDueBy some old → t.allocation.fresh ≡ 0) → AreFew (Unit {0}) script new stops
 proceeding_few script old new stops stop some t layout stood words stands (inl x) few rounds fresh =
-    idle_few script old new stops rounds (full_idle stop old new x.1) (ap (λ (y : Collector). y.collect) x.1.is) (sym stands.fresh ∙ fresh x.0) few
+    idle_few script old new stops rounds (full_idle stop old new x.1) (ap (λ (y : Collector). y.cycle.collect) x.1.is) (sym stands.fresh ∙ fresh x.0) few
 proceeding_few script old new stops stop some t layout stood words stands (inr x) few rounds fresh =
     beginning_few script old new stops stop layout (λ due. stood due.0) x.1 few
 
 -- one cycle more at most was begun
 
-pub proceeding_begun : (trigger : ℕ) (some : Bool) (stop : ℕ) (old new : Collector) → ProceedsThen trigger some stop old new → new.begun ≤ old.begun + 1
+pub proceeding_begun : (trigger : ℕ) (some : Bool) (stop : ℕ) (old new : Collector) → ProceedsThen trigger some stop old new →
+    new.cycle.begun ≤ old.cycle.begun + 1
 proceeding_begun trigger some stop old new (inl x) =
     let d = x.1 in
     let first = finished_begun stop old d.idled d.first in
-    let started = ap (λ (c : Collector). c.begun) d.starts.is in
+    let started = ap (λ (c : Collector). c.cycle.begun) d.starts.is in
     let again = finished_begun stop d.started d.last d.again in
-    let is = ap (λ (c : Collector). c.begun) d.is in
+    let is = ap (λ (c : Collector). c.cycle.begun) d.is in
     omega (arith, first, started, again, is)
 proceeding_begun trigger some stop old new (inr x) = beginning_begun trigger stop old new x.1
 
 -- what goes on has something left
-pub proceeding_more : (trigger : ℕ) (some : Bool) (stop : ℕ) (old new : Collector) → ProceedsThen trigger some stop old new → HasMore old.progress →
-    HasMore new.progress
+pub proceeding_more : (trigger : ℕ) (some : Bool) (stop : ℕ) (old new : Collector) → ProceedsThen trigger some stop old new → HasMore old.cycle.progress →
+    HasMore new.cycle.progress
 proceeding_more trigger some stop old new (inl x) more = subst HasMore (sym (full_idle stop old new x.1)) tt
 proceeding_more trigger some stop old new (inr x) more = beginning_more trigger stop old new x.1 more

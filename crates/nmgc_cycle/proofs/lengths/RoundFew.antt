@@ -97,57 +97,57 @@ not_idle p (sweeping k closed) e not is = let bad : phase.Idle ≡ phase.Sweepin
 
 module _ (script : Script) (old new : Collector) (run : Run) (replies : List (List Reply)) (history : List Row) (worked : State)
     (limits : IsInLimits script) (still : IsAfterStop script old run) (after : IsAfterRound (plan_of script) run replies history worked (seen new))
-    (round : Round) (from seat : RoundSeat) (help : HasHelped round script.config.quota from seat old.segments new.segments old.names old.progress
-    new.progress) where
+    (round : Round) (from seat : RoundSeat) (help : HasHelped round script.config.quota from seat old.heap.segments new.heap.segments old.heap.names
+        old.cycle.progress new.cycle.progress) where
   abbrev s : State
   s = last_state run
 
   abbrev told : RoundRows
   told = record { replies = replies }
 
-  same_stops : new.stops ≡ old.stops
+  same_stops : new.rows.stops ≡ old.rows.stops
   same_stops = after.tells.stops_are ∙ sym still.at_stop.tells.stops_are
 
-  rounds_are : new.rounds ≡ old.rounds ++ told ∷ []
+  rounds_are : new.rows.rounds ≡ old.rows.rounds ++ told ∷ []
   rounds_are = after.rounds ∙ ap (λ (r : List RoundRows). r ++ told ∷ []) (after.tells.rounds_are ∙ sym still.at_stop.tells.rounds_are)
 
-  left : AreLeft (plan_of script) s (answered_count old.rounds)
-  left = left_is_told (plan_of script) run old.rounds old.stops (told_cycles old) still.at_stop.is_run still.at_stop.tells
+  left : AreLeft (plan_of script) s (answered_count old.rows.rounds)
+  left = left_is_told (plan_of script) run old.rows.rounds old.rows.stops (told_cycles old) still.at_stop.is_run still.at_stop.tells
 
-  part : ((old.progress ≡ doing.Idle) × (new.progress ≡ doing.Idle)) ⊎
-      (phase_left script.config.segments new.progress < phase_left script.config.segments old.progress)
-  part = helped script.config.segments script.config.quota round from seat old.segments new.segments old.names limits.fits.config.some_quota
-      old.progress new.progress still.few.more help
+  part : ((old.cycle.progress ≡ doing.Idle) × (new.cycle.progress ≡ doing.Idle)) ⊎
+      (phase_left script.config.segments new.cycle.progress < phase_left script.config.segments old.cycle.progress)
+  part = helped script.config.segments script.config.quota round from seat old.heap.segments new.heap.segments old.heap.names limits.fits.config.some_quota
+      old.cycle.progress new.cycle.progress still.few.more help
 
-  no_longer : phase_left script.config.segments new.progress ≤ phase_left script.config.segments old.progress
+  no_longer : phase_left script.config.segments new.cycle.progress ≤ phase_left script.config.segments old.cycle.progress
   no_longer = elim part [
     | inl quiet ↦ (let a = ap (phase_left script.config.segments) quiet.0 in let b = ap (phase_left script.config.segments) quiet.1 in omega (arith, a, b))
     | inr falls ↦ omega (arith, falls)
   ]
 
-  fewer_left : 1 ≤ commands_left script.threads old.rounds → commands_left script.threads new.rounds < commands_left script.threads old.rounds
+  fewer_left : 1 ≤ commands_left script.threads old.rows.rounds → commands_left script.threads new.rows.rounds < commands_left script.threads old.rows.rounds
   fewer_left some =
-      let is = left_is script.threads old.rounds in
-      let falls = round_falls script s worked replies history (answered_count old.rounds) limits after.round left (omega (arith, some, is)) in
-      let after_it = left_then script.threads old.rounds told in
+      let is = left_is script.threads old.rows.rounds in
+      let falls = round_falls script s worked replies history (answered_count old.rows.rounds) limits after.round left (omega (arith, some, is)) in
+      let after_it = left_then script.threads old.rows.rounds told in
       let now = ap (λ (r : List RoundRows). commands_left script.threads r) rounds_are in
       omega (arith, falls, after_it, now, is)
 
   -- where no command is left
-  module _ (none : commands_left script.threads old.rounds ≡ 0) where
+  module _ (none : commands_left script.threads old.rows.rounds ≡ 0) where
     nothing : (m : ℕ) → length (program_of s.left m) ≡ 0
-    nothing = nothing_left (plan_of script) s (answered_count old.rounds) left (sym (left_is script.threads old.rounds) ∙ none)
+    nothing = nothing_left (plan_of script) s (answered_count old.rows.rounds) left (sym (left_is script.threads old.rows.rounds) ∙ none)
 
     leaves : DoesNothing s worked
     leaves = nothing_done script.config s worked replies history after.round nothing
 
-    none_now : commands_left script.threads new.rounds ≡ 0
-    none_now = let less = left_less script.threads old.rounds told in
+    none_now : commands_left script.threads new.rows.rounds ≡ 0
+    none_now = let less = left_less script.threads old.rows.rounds told in
         let now = ap (λ (r : List RoundRows). commands_left script.threads r) rounds_are in omega (arith, less, now, none)
 
-    less : phase_left script.config.segments new.progress < phase_left script.config.segments old.progress
+    less : phase_left script.config.segments new.cycle.progress < phase_left script.config.segments old.cycle.progress
     less = elim part [
-      | inl quiet ↦ absurd (not_idle old.progress s.progress still.at_stop.matches.phase
+      | inl quiet ↦ absurd (not_idle old.cycle.progress s.progress still.at_stop.matches.phase
           (busy (plan_of script) s (none_has s.left nothing) after.goes_on) quiet.0)
       | inr falls ↦ falls
     ]
@@ -163,12 +163,12 @@ module _ (script : Script) (old new : Collector) (run : Run) (replies : List (Li
           omega (arith, was, now, same, few);
     }
 
-    cycle_more : length old.stops + phase_left script.config.segments old.progress + cycle_most (heap_of script) ≤ most_stops script →
-        MayFollow (worked.world ≡ s.world) script new (length old.stops + 1)
+    cycle_more : length old.rows.stops + phase_left script.config.segments old.cycle.progress + cycle_most (heap_of script) ≤ most_stops script →
+        MayFollow (worked.world ≡ s.world) script new (length old.rows.stops + 1)
     cycle_more h = one_cycle none_now (omega (arith, h, less))
 
-  follows : MayFollow (Unit {0}) script old (length old.stops) → MayFollow (worked.world ≡ s.world) script new (length old.stops + 1)
-  follows (commands h) = elim (cases_lt 0 (commands_left script.threads old.rounds)) [
+  follows : MayFollow (Unit {0}) script old (length old.rows.stops) → MayFollow (worked.world ≡ s.world) script new (length old.rows.stops + 1)
+  follows (commands h) = elim (cases_lt 0 (commands_left script.threads old.rows.rounds)) [
     | inl some ↦ (let less = fewer_left (omega (arith, some)) in commands (omega (arith, h, less)))
     | inr zero_left ↦ (let short = still.few.few.phase in cycle_more (omega (arith, zero_left)) (omega (arith, h, short)))
   ]
@@ -178,8 +178,8 @@ module _ (script : Script) (old new : Collector) (run : Run) (replies : List (Li
   -- the field of what a round keeps
   pub round_few : AreFewBeforeStop script new s.world worked.world
   round_few =
-      let many : length new.stops ≡ length old.stops = ap (λ (stops : List StopRow). length stops) same_stops in
-      let count : length old.stops + 1 ≡ length new.stops + 1 = omega (arith, many) in
+      let many : length new.rows.stops ≡ length old.rows.stops = ap (λ (stops : List StopRow). length stops) same_stops in
+      let count : length old.rows.stops + 1 ≡ length new.rows.stops + 1 = omega (arith, many) in
       let begun = still.few.begun in
       let was = still.at_stop.matches.begun in
       let now = after.matches.begun in

@@ -29,7 +29,7 @@ module _ (laws : HasLaws) (script : Script) (c new : Collector) (o : Opening) (x
 
   has_reserve_then : (g : HasGoneOn script c new o x) → HasReserve (layout script c new o x) (shown script c new o x)
   has_reserve_then g = elim (has_reserve script c new o x) [
-    | inl more ↦ inl (subst (λ (l : Layout). reserve_count l ≤ reserve.free_count new.segments.segments) x.still.kept.layout (let free = g.free in
+    | inl more ↦ inl (subst (λ (l : Layout). reserve_count l ≤ reserve.free_count new.heap.segments.segments) x.still.kept.layout (let free = g.free in
         omega (arith, more, free)))
     | inr empty ↦ inr (subst AreEmpty (sym (same_nurseries new.mutators.items)) empty)
   ]
@@ -40,7 +40,7 @@ module _ (laws : HasLaws) (script : Script) (c new : Collector) (o : Opening) (x
     is_run = x.still.at_stop.is_run;
     goes_on = went_on script c x.run x.still x.goes_on;
     round = is_round script c new o x laws.history g.blocks g.swept;
-    before = c.rounds;
+    before = c.rows.rounds;
     tells = x.still.at_stop.tells;
     rounds = refl;
     matches = matches script c new o x g.blocks g.phase;

@@ -80,7 +80,7 @@ module _ (script : Script) (c : Collector) (run : Run) (limits : IsInLimits scri
     each = each;
   }
     where
-      layout : o.layout ≡ c.segments.layout
+      layout : o.layout ≡ c.heap.segments.layout
       layout = op.layout_is
 
       count : length c.mutators.items ≡ o.layout.mutators

@@ -42,7 +42,7 @@ follow_both Nothing script c inbox mutators count (no_cycle none same undue h) =
 few_stop : (script : Script) (c : Collector) (inbox : List Receiver) (mutators : Vec Mutator Global) → AreFewAtStop script c →
     AreFewAtStop script (record c { inbox = inbox; mutators = mutators })
 few_stop script c inbox mutators h = record {
-  few = record { follow = follow_both (Unit {0}) script c inbox mutators (length c.stops) h.few.follow; phase = h.few.phase };
+  few = record { follow = follow_both (Unit {0}) script c inbox mutators (length c.rows.stops) h.few.follow; phase = h.few.phase };
   begun = h.begun;
   more = h.more;
 }
@@ -50,7 +50,7 @@ few_stop script c inbox mutators h = record {
 few_before : (script : Script) (c : Collector) (inbox : List Receiver) (mutators : Vec Mutator Global) (began w : World) →
     AreFewBeforeStop script c began w → AreFewBeforeStop script (record c { inbox = inbox; mutators = mutators }) began w
 few_before script c inbox mutators began w h = record {
-  few = record { follow = follow_both (w ≡ began) script c inbox mutators (length c.stops + 1) h.few.follow; phase = h.few.phase };
+  few = record { follow = follow_both (w ≡ began) script c inbox mutators (length c.rows.stops + 1) h.few.follow; phase = h.few.phase };
   begun = h.begun;
 }
 

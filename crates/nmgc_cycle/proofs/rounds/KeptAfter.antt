@@ -60,14 +60,14 @@ module _ (laws : HasLaws) (script : Script) (c new : Collector) (o : Opening) (x
   same_count = ap (λ (l : List Mutator). length l) mutators_are ∙ length-map new.mutators.items cleared ∙ mutators_count script c new o x ∙
       sym x.still.kept.count
 
-  same_layout : new.segments.layout ≡ c.segments.layout
+  same_layout : new.heap.segments.layout ≡ c.heap.segments.layout
   same_layout = (gone_on laws script c new o x).heap.holds.layout_is ∙ sym x.still.kept.layout
 
   own : (k : ℕ) (m : Mutator) → slice_get mutators.items k ≡ Some m → IsOwn after k m
   own k m e =
       let was = map_item cleared new.mutators.items k m (ap (λ (l : List Mutator). slice_get l k) (sym mutators_are) ∙ e) in
       let did = (one_did script c new o x k was.0 was.1).1.2 in
-      let same : was.0.layout ≡ c.segments.layout = did.layout ∙ x.op.layout_is in
+      let same : was.0.layout ≡ c.heap.segments.layout = did.layout ∙ x.op.layout_is in
       let number = (worked script c new o x).numbers_are k was.0 was.1 in
       subst (IsOwn after k) (sym was.2) (record {
         number = number;
@@ -92,7 +92,7 @@ module _ (laws : HasLaws) (script : Script) (c new : Collector) (o : Opening) (x
             (x.still.kept.own k h.0 h.2).line);
       })
 
-  position_is : (k : ℕ) → k < length script.threads → slice_index new.positions.items k ≡ answered_count (c.rounds ++ row ∷ []) k
+  position_is : (k : ℕ) → k < length script.threads → slice_index new.positions.items k ≡ answered_count (c.rows.rounds ++ row ∷ []) k
   position_is k lt =
       let d = item x.did.done k (let n = done_count script c new o x in omega (arith, lt, n)) in
       let own : slice_index_or x.did.done k [] ≡ d.0 = get_or_from_slice_get x.did.done k d.0 [] d.1 in
@@ -102,15 +102,15 @@ module _ (laws : HasLaws) (script : Script) (c new : Collector) (o : Opening) (x
       length-map d.0 (λ (y : Done). y.1) in
       let before = x.still.kept.positions k lt in
       let now = (one script c new o x k d.0 d.1).4.position in
-      let more = answered_more c.rounds row k in
+      let more = answered_more c.rows.rounds row k in
       omega (arith, many, before, now, more)
 
   kept : IsWellFormed script after
   kept = record {
     layout = same_layout ∙ x.still.kept.layout;
     sound = x.did.sound;
-    lists = subst (λ (l : Layout). IsFor l c.promotion) (sym same_layout) x.still.kept.lists;
-    entries = subst (λ (l : Layout). HaveEntries l c.names) (sym same_layout) x.still.kept.entries;
+    lists = subst (λ (l : Layout). IsFor l c.heap.promotion) (sym same_layout) x.still.kept.lists;
+    entries = subst (λ (l : Layout). HaveEntries l c.heap.names) (sym same_layout) x.still.kept.entries;
     has_words = refl;
     count = same_count ∙ x.still.kept.count;
     own = own;

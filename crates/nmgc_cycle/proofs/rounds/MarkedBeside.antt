@@ -50,28 +50,30 @@ use Rattle.nmgc_cycle.proofs.rounds.Rounded.{is_round}
 
 module _ (laws : HasLaws) (script : Script) (c new : Collector) (o : Opening) (x : IsOver script c new o) where
   -- the phase of the stop's state tells what the collector has
-  pub phase_with : (p : Progress) → (s script c new o x).progress ≡ p → phase_in c.progress ≡ phase_of p
+  pub phase_with : (p : Progress) → (s script c new o x).progress ≡ p → phase_in c.cycle.progress ≡ phase_of p
   phase_with p e = x.still.at_stop.matches.phase ∙ ap phase_of e
 
-  pub helped_as : (q : held.Progress) → c.progress ≡ q →
-      HasHelped x.did.helped.round script.config.quota x.did.helped.from x.did.helped.seat c.segments new.segments c.names q new.progress
+  pub helped_as : (q : held.Progress) → c.cycle.progress ≡ q →
+      HasHelped x.did.helped.round script.config.quota x.did.helped.from x.did.helped.seat c.heap.segments new.heap.segments c.heap.names q new.cycle.progress
   helped_as q e = subst (λ (r : held.Progress).
-      HasHelped x.did.helped.round script.config.quota x.did.helped.from x.did.helped.seat c.segments new.segments c.names r new.progress) e x.did.helped.helped
+      HasHelped x.did.helped.round script.config.quota x.did.helped.from x.did.helped.seat c.heap.segments new.heap.segments c.heap.names r
+          new.cycle.progress) e x.did.helped.helped
 
   -- as many segments are free where they stand for the same blocks
-  same_free : StandsFor new.segments (seen c).words (s script c new o x).allocation →
-      reserve.free_count c.segments.segments ≤ reserve.free_count new.segments.segments
+  same_free : StandsFor new.heap.segments (seen c).words (s script c new o x).allocation →
+      reserve.free_count c.heap.segments.segments ≤ reserve.free_count new.heap.segments.segments
   same_free after =
-      let before = counts_stand c.segments (seen c).words (s script c new o x).allocation stands.Free x.still.at_stop.heap.holds.stands in
-      let now = counts_stand new.segments (seen c).words (s script c new o x).allocation stands.Free after in
+      let before = counts_stand c.heap.segments (seen c).words (s script c new o x).allocation stands.Free x.still.at_stop.heap.holds.stands in
+      let now = counts_stand new.heap.segments (seen c).words (s script c new o x).allocation stands.Free after in
       omega (arith, before, now)
 
   -- no cycle in progress: the segments are as they were
   module _ (e : (s script c new o x).progress ≡ idle) where
-    is_idle : c.progress ≡ doing.Idle
-    is_idle = when_idle c.progress (phase_with idle e)
+    is_idle : c.cycle.progress ≡ doing.Idle
+    is_idle = when_idle c.cycle.progress (phase_with idle e)
 
-    nothing : HasHelped x.did.helped.round script.config.quota x.did.helped.from x.did.helped.seat c.segments new.segments c.names doing.Idle new.progress
+    nothing : HasHelped x.did.helped.round script.config.quota x.did.helped.from x.did.helped.seat c.heap.segments new.heap.segments c.heap.names doing.Idle
+        new.cycle.progress
     nothing = helped_as doing.Idle is_idle
 
     pub idled : HasGoneOn script c new o x
@@ -81,8 +83,8 @@ module _ (laws : HasLaws) (script : Script) (c new : Collector) (o : Opening) (x
       phase = ap phase_in (nothing.2 ∙ sym is_idle);
       at = places script c new o x;
       heap = laws.holds (layout script c new o x) (s script c new o x) (t script c new o x (s script c new o x).allocation) o (seen c).words
-          x.did.words (view script c new o x) c.segments new.segments (ends_of (seen c)) (ends_of (shown script c new o x)) (seen c).weaks
-          (round_from script c new o x laws.stopped new.segments same_layout stands_still);
+          x.did.words (view script c new o x) c.heap.segments new.heap.segments (ends_of (seen c)) (ends_of (shown script c new o x)) (seen c).weaks
+          (round_from script c new o x laws.stopped new.heap.segments same_layout stands_still);
       nurseries = nurseries_left script c new o x laws.stopped;
       ordered = in_order script c new o x laws.stopped;
       remembers = remembered script c new o x laws.stopped;
@@ -96,13 +98,13 @@ module _ (laws : HasLaws) (script : Script) (c new : Collector) (o : Opening) (x
       named = x.still.named;
     }
       where
-        same_layout : new.segments.layout ≡ layout script c new o x
+        same_layout : new.heap.segments.layout ≡ layout script c new o x
         same_layout = ap (λ (g : Segments). g.layout) nothing.1 ∙ x.still.kept.layout
 
-        stands_still : StandsFor new.segments (seen c).words (s script c new o x).allocation
+        stands_still : StandsFor new.heap.segments (seen c).words (s script c new o x).allocation
         stands_still = subst (λ (g : Segments). StandsFor g (seen c).words (s script c new o x).allocation) (sym nothing.1) x.still.at_stop.heap.holds.stands
 
-        settled : AreSettled (s script c new o x).begun new.segments
+        settled : AreSettled (s script c new o x).begun new.heap.segments
         settled = subst (AreSettled (s script c new o x).begun) (sym nothing.1) (subst (λ (p : Progress).
             HoldsInCycle (λ (k : Cycle).
             IsPacedAtStop script.config.quota k (s script c new o x) (seen c)) p (s script c new o x) (seen c) x.still.at_stop.heap.places) e
@@ -110,14 +112,14 @@ module _ (laws : HasLaws) (script : Script) (c new : Collector) (o : Opening) (x
 
   -- a cycle marks
   module _ (k : Cycle) (e : (s script c new o x).progress ≡ marking k) where
-    before : (m : held_marking.Marking) × (c.progress ≡ doing.Marking m)
-    before = when_marking c.progress (phase_with (marking k) e)
+    before : (m : held_marking.Marking) × (c.cycle.progress ≡ doing.Marking m)
+    before = when_marking c.cycle.progress (phase_with (marking k) e)
 
     abbrev m : held_marking.Marking
     m = before.0
 
-    did : (n : held_marking.Marking) × (new.progress ≡ doing.Marking n) ×
-        HasScanned x.did.helped.round script.config.quota x.did.helped.from x.did.helped.seat c.segments new.segments m n
+    did : (n : held_marking.Marking) × (new.cycle.progress ≡ doing.Marking n) ×
+        HasScanned x.did.helped.round script.config.quota x.did.helped.from x.did.helped.seat c.heap.segments new.heap.segments m n
     did = helped_as (doing.Marking m) before.1
 
     abbrev n : held_marking.Marking
@@ -133,30 +135,30 @@ module _ (laws : HasLaws) (script : Script) (c new : Collector) (o : Opening) (x
     work_now : (shown script c new o x).work ≡ record { scanned = n.last.scanned; empty = n.last.empty }
     work_now = ap work_in did.1
 
-    same_sweeper : sweeper_in new.progress ≡ sweeper_in c.progress
+    same_sweeper : sweeper_in new.cycle.progress ≡ sweeper_in c.cycle.progress
     same_sweeper = ap sweeper_in did.1 ∙ ap (λ (y : held_marking.Marking). y.sweeper) did.2.rest ∙ sym (ap sweeper_in before.1)
 
     same_cycle : (shown script c new o x).cycle ≡ (seen c).cycle
     same_cycle =
-        let dead : List Name = died c.weaks.deaths in
+        let dead : List Name = died c.heap.weaks.deaths in
         ap (λ (q : held.Progress). cycle_in q dead) did.1 ∙ ap (λ (y : held_marking.Marking). cycle_in (doing.Marking y) dead) did.2.rest ∙
         sym (ap (λ (q : held.Progress). cycle_in q dead) before.1)
 
-    marked : HasMarked c.segments new.segments (seen c).marker (shown script c new o x).marker n.last.scanned
+    marked : HasMarked c.heap.segments new.heap.segments (seen c).marker (shown script c new o x).marker n.last.scanned
     marked =
-        subst (λ (y : MarkerSeen). HasMarked c.segments new.segments y (shown script c new o x).marker n.last.scanned) (sym marker_was)
-        (subst (λ (y : MarkerSeen). HasMarked c.segments new.segments m.marker y n.last.scanned) (sym marker_now) did.2.worked.marked)
+        subst (λ (y : MarkerSeen). HasMarked c.heap.segments new.heap.segments y (shown script c new o x).marker n.last.scanned) (sym marker_was)
+        (subst (λ (y : MarkerSeen). HasMarked c.heap.segments new.heap.segments m.marker y n.last.scanned) (sym marker_now) did.2.worked.marked)
 
-    tied : IsTiedByPlaces o (marks_after o x.did.scans) new.segments (shown script c new o x).marker
+    tied : IsTiedByPlaces o (marks_after o x.did.scans) new.heap.segments (shown script c new o x).marker
     tied =
-        subst (λ (y : MarkerSeen). IsTiedByPlaces o (marks_after o x.did.scans) new.segments y) (sym marker_now)
-        (subst (λ (v : View). IsTiedByPlaces v.opening (marks_seen v) new.segments n.marker) x.did.helped.knows did.2.worked.tied)
+        subst (λ (y : MarkerSeen). IsTiedByPlaces o (marks_after o x.did.scans) new.heap.segments y) (sym marker_now)
+        (subst (λ (v : View). IsTiedByPlaces v.opening (marks_seen v) new.heap.segments n.marker) x.did.helped.knows did.2.worked.tied)
 
     -- segments and words stand for what they stood for
-    same_layout : new.segments.layout ≡ layout script c new o x
+    same_layout : new.heap.segments.layout ≡ layout script c new o x
     same_layout = marked.layout ∙ x.still.kept.layout
 
-    stands_still : StandsFor new.segments (seen c).words (s script c new o x).allocation
+    stands_still : StandsFor new.heap.segments (seen c).words (s script c new o x).allocation
     stands_still = marked.stands (seen c).words (s script c new o x).allocation x.still.at_stop.heap.holds.stands
 
     -- the opening has the machine of the cycle
@@ -263,7 +265,7 @@ module _ (laws : HasLaws) (script : Script) (c new : Collector) (o : Opening) (x
     sweeps_before : Sweeps (marking k) (s script c new o x) c
     sweeps_before = subst (λ (p : Progress). Sweeps p (s script c new o x) c) e x.still.sweeper
 
-    notes_on : HasNotes (with_rows k (rows script c new o x)) (sweeper_in c.progress)
+    notes_on : HasNotes (with_rows k (rows script c new o x)) (sweeper_in c.cycle.progress)
     notes_on =
         let h = sweeps_before.0.notes in
         record {
@@ -271,16 +273,16 @@ module _ (laws : HasLaws) (script : Script) (c new : Collector) (o : Opening) (x
           once = h.once;
         }
 
-    left_on : AreLeft new.segments (sweeper_in c.progress)
-    left_on = laws.left c.segments new.segments (sweeper_in c.progress)
-        (laws.waits c.segments new.segments (seen c).words (seen c).words (s script c new o x).allocation x.still.at_stop.heap.holds.stands
+    left_on : AreLeft new.heap.segments (sweeper_in c.cycle.progress)
+    left_on = laws.left c.heap.segments new.heap.segments (sweeper_in c.cycle.progress)
+        (laws.waits c.heap.segments new.heap.segments (seen c).words (seen c).words (s script c new o x).allocation x.still.at_stop.heap.holds.stands
         stands_still) marked.layout sweeps_before.0.left
 
     sweeps_on : Sweeps (marking (with_rows k (rows script c new o x))) (t script c new o x (s script c new o x).allocation) (last script c new o x)
     sweeps_on = (
       record {
         notes = subst (HasNotes (with_rows k (rows script c new o x))) (sym same_sweeper) notes_on;
-        left = subst (λ (y : Sweeper). AreLeft new.segments y) (sym same_sweeper) left_on;
+        left = subst (λ (y : Sweeper). AreLeft new.heap.segments y) (sym same_sweeper) left_on;
       },
       subst (λ (y : Sweeper). y.seen.swept ≡ y.left) (sym same_sweeper) sweeps_before.1,
       subst (λ (y : Sweeper). y.seen.had ≡ []) (sym same_sweeper) sweeps_before.2,
@@ -294,8 +296,8 @@ module _ (laws : HasLaws) (script : Script) (c new : Collector) (o : Opening) (x
       phase = ap phase_in did.1 ∙ sym (ap phase_in before.1);
       at = places script c new o x;
       heap = laws.holds (layout script c new o x) (s script c new o x) (t script c new o x (s script c new o x).allocation) o (seen c).words
-          x.did.words (view script c new o x) c.segments new.segments (ends_of (seen c)) (ends_of (shown script c new o x)) (seen c).weaks
-          (round_from script c new o x laws.stopped new.segments same_layout stands_still);
+          x.did.words (view script c new o x) c.heap.segments new.heap.segments (ends_of (seen c)) (ends_of (shown script c new o x)) (seen c).weaks
+          (round_from script c new o x laws.stopped new.heap.segments same_layout stands_still);
       nurseries = nurseries_left script c new o x laws.stopped;
       ordered = in_order script c new o x laws.stopped;
       remembers = remembered script c new o x laws.stopped;

@@ -41,7 +41,7 @@ pub record IsOver (script : Script) (c new : Collector) (o : Opening) : Type 0 w
   pub opens : OpensIn (last_state run).progress (last_state run) c still.at_stop.heap.places o
   pub op : IsOpened script c run still o
   pub before : List ℕ
-  pub before_are : c.words ≡ Some before
+  pub before_are : c.heap.words ≡ Some before
   pub did : DidSlices script o c new
 
 module _ (script : Script) (c new : Collector) (o : Opening) (x : IsOver script c new o) where
@@ -93,16 +93,13 @@ module _ (script : Script) (c new : Collector) (o : Opening) (x : IsOver script 
 
   abbrev pub last : Collector
   last = record c {
-    words = Some x.did.words;
-    segments = new.segments;
-    progress = new.progress;
-    collect = new.collect;
-    full = new.full;
-    inbox = new.inbox;
-    mutators = new.mutators;
-    positions = new.positions;
-    rounds = c.rounds ++ record { replies = told } ∷ [];
-  }
+      heap = record c.heap { words = Some x.did.words; segments = new.heap.segments };
+      cycle = record c.cycle { progress = new.cycle.progress; collect = new.cycle.collect; full = new.cycle.full };
+      inbox = new.inbox;
+      mutators = new.mutators;
+      positions = new.positions;
+      rows = record c.rows { rounds = c.rows.rounds ++ record { replies = told } ∷ [] };
+    }
 
   abbrev pub shown : run.CollectorSeen
   shown = seen last

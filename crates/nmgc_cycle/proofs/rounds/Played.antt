@@ -114,22 +114,19 @@ module _ (script : Script) (c : Collector) (o : Opening) (may : MayBegin script 
   module _ (own : owed.SlicesAreGathered) (owes : owed.SlicesAreOwed) (from : RoundSeat) (began : seen from ≡
       collecting (whole o)) (opened : opening_of round ≡
       o) (segments : Segments) (sound : IsSegments segments) (progress : held.Progress)
-      (helped : HasHelped round script.config.quota from seat c.segments segments c.names c.progress progress) where
+      (helped : HasHelped round script.config.quota from seat c.heap.segments segments c.heap.names c.cycle.progress progress) where
     pub did_slices : (seats : List RoundSeat) → seats ≡ map seat_of new → (words : List ℕ) →
         Leaves (opening_of round) words (all_together (seen seat) (map seen seats)) → (collect asked : Bool) →
-        collect ≡ (c.collect || list_any asks_of new) → asked ≡ (c.full || list_any asks_full_of new) → (inbox : List Receiver) →
+        collect ≡ (c.cycle.collect || list_any asks_of new) → asked ≡ (c.cycle.full || list_any asks_full_of new) → (inbox : List Receiver) →
         HavePolled c.inbox inbox → (mutators : Vec Mutator Global) (positions : Vec ℕ Global) → mutators.items ≡ map mutator_of new →
         length positions.items ≡ length c.positions.items → HaveMoved c.positions.items (map done_by new) positions.items →
         DidSlices script o c (record c {
-          words = Some words;
-          segments = segments;
-          progress = progress;
-          collect = collect;
-          full = asked;
-          inbox = inbox;
-          mutators = mutators;
-          positions = positions;
-        })
+            heap = record c.heap { words = Some words; segments = segments };
+            cycle = record c.cycle { progress = progress; collect = collect; full = asked };
+            inbox = inbox;
+            mutators = mutators;
+            positions = positions;
+          })
     did_slices seats seats_are words leaves collect asked collects askeds inbox polled mutators positions same size moved = record {
       rest = refl;
       words = words;
@@ -148,8 +145,8 @@ module _ (script : Script) (c : Collector) (o : Opening) (may : MayBegin script 
       helped = record { round = round; from = from; seat = seat; began = began; knows = has.knows; helped = helped };
       sound = sound;
       polled = polled;
-      collect = collects ∙ ap (λ (b : Bool). c.collect || b) (asks_told script c may.run may.limits may.still o round new ran.count ran.did);
-      full = askeds ∙ ap (λ (b : Bool). c.full || b) (asks_full_told script c may.run may.limits may.still o round new ran.count ran.did);
+      collect = collects ∙ ap (λ (b : Bool). c.cycle.collect || b) (asks_told script c may.run may.limits may.still o round new ran.count ran.did);
+      full = askeds ∙ ap (λ (b : Bool). c.cycle.full || b) (asks_full_told script c may.run may.limits may.still o round new ran.count ran.did);
       positions_are = size;
       each = each_did script c may.run may.limits may.still o round new ran.count ran.did (Some words) segments progress collect asked inbox
           mutators positions same moved;

@@ -41,14 +41,14 @@ turns_count plan s (turn ∷ turns) m h =
 module _ (script : Script) (c : Collector) (run : Run) (still : IsAfterStop script c run) (k : ℕ) (exists : k < length script.threads) where
   -- what is left of a program in the run
   pub left_is : program_of (last_state run).left k ≡ left_at script c.positions.items k
-  left_is = left_is_told (plan_of script) run c.rounds c.stops (told_cycles c) still.at_stop.is_run still.at_stop.tells k ∙
+  left_is = left_is_told (plan_of script) run c.rows.rounds c.rows.stops (told_cycles c) still.at_stop.is_run still.at_stop.tells k ∙
       ap (λ (n : ℕ). drop n (program_of script.threads k)) (sym (still.kept.positions k exists))
 
   -- a position lies within its program
   pub position_within : slice_index c.positions.items k ≤ length (program_of script.threads k)
   position_within =
       let plan : Plan = plan_of script in
-      let turns : answered_count c.rounds k + length (program_of (last_state run).left k) ≡ length (program_of run.opening.state.left k) =
+      let turns : answered_count c.rows.rounds k + length (program_of (last_state run).left k) ≡ length (program_of run.opening.state.left k) =
       ap (λ (rows : List RoundRows). answered_count rows k + length (program_of (last_state run).left k)) still.at_stop.tells.rounds_are ∙
       turns_count plan run.opening.state run.turns k still.at_stop.is_run.turns in
       let opening : length (program_of run.opening.state.left k) ≡ length (program_of script.threads k) =

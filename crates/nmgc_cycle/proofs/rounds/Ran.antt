@@ -25,10 +25,10 @@ pub record MayBegin (script : Script) (c : Collector) (o : Opening) : Type 0 whe
   pub opens : OpensIn (last_state run).progress (last_state run) c still.at_stop.heap.places o
   pub op : IsOpened script c run still o
   pub words : List ℕ
-  pub words_are : c.words ≡ Some words
+  pub words_are : c.heap.words ≡ Some words
 
 abbrev pub may_begin : CanOpenRounds → (script : Script) (c : Collector) (o : Opening) (words : List ℕ) → IsInLimits script → OpensAt script c o →
-    c.words ≡ Some words → MayBegin script c o
+    c.heap.words ≡ Some words → MayBegin script c o
 may_begin laws script c o words limits h is = record {
   limits = limits;
   run = h.0;

@@ -82,7 +82,7 @@ follow_on Nothing script c mutators count (no_cycle none same undue h) =
 
 few_on : (script : Script) (c : Collector) (mutators : Vec Mutator Global) → AreFewAtStop script c → AreFewAtStop script (record c { mutators = mutators })
 few_on script c mutators h = record {
-  few = record { follow = follow_on (Unit {0}) script c mutators (length c.stops) h.few.follow; phase = h.few.phase };
+  few = record { follow = follow_on (Unit {0}) script c mutators (length c.rows.stops) h.few.follow; phase = h.few.phase };
   begun = h.begun;
   more = h.more;
 }
@@ -154,7 +154,7 @@ still_before script old new run kept rest reserved still =
         mutators =
             new.mutators;
       }) old.mutators (subst (Sweeps (last_state run).progress (last_state run)) rest still.sweeper);
-      named = subst (λ (x : Collector). AreNamed (layout_of (plan_of script)) x.names (last_state run).allocation) rest still.named;
+      named = subst (λ (x : Collector). AreNamed (layout_of (plan_of script)) x.heap.names (last_state run).allocation) rest still.named;
       few = few_on script (record old { mutators = new.mutators }) old.mutators (subst (AreFewAtStop script) rest still.few);
     }
 

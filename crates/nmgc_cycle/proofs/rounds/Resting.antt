@@ -59,14 +59,14 @@ nursery_seen ms k m e = slice_get-map (λ (n : MutatorSeen). n.nursery) (map see
 
 module _ (script : Script) (c : Collector) (run : Run) (limits : IsInLimits script) (still : IsAfterStop script c run) where
   -- a place lies below the nurseries
-  pub rest_low : (p : Place) → Contains still.at_stop.heap.places p → p.at < young_base c.segments
+  pub rest_low : (p : Place) → Contains still.at_stop.heap.places p → p.at < young_base c.heap.segments
   rest_low p held = elim ((still.at_stop.heap.all p).0 held) [
     | inl g ↦ let at : p.at ≡ SHARED_PLACE = ap (λ (q : Place). q.at) g in omega (arith, at)
     | inr b ↦
         let heap = still.at_stop.heap in
-        let used = block_used (layout_of (plan_of script)) (last_state run).allocation (seen c).words c.segments heap.holds.layout_is
+        let used = block_used (layout_of (plan_of script)) (last_state run).allocation (seen c).words c.heap.segments heap.holds.layout_is
         heap.holds.stands b.number b.block p.name b.lies in
-        let lies = is_block c.segments (young_base c.segments)
+        let lies = is_block c.heap.segments (young_base c.heap.segments)
         (block_place (layout_of (plan_of script)) b.number (cells (last_state run).allocation b.number).class b.block)
         (block_size (cells (last_state run).allocation b.number).class) still.kept.sound refl used in
         let four = lies.four in
@@ -76,8 +76,8 @@ module _ (script : Script) (c : Collector) (run : Run) (limits : IsInLimits scri
   ]
 
   -- the nursery of a mutator is unused
-  unused : (k : ℕ) (m : Mutator) → slice_get c.mutators.items k ≡ Some m → k < c.segments.layout.mutators → m.number ≡ k →
-      m.layout ≡ c.segments.layout → IsUnused m
+  unused : (k : ℕ) (m : Mutator) → slice_get c.mutators.items k ≡ Some m → k < c.heap.segments.layout.mutators → m.number ≡ k →
+      m.layout ≡ c.heap.segments.layout → IsUnused m
   unused k m e exists number layout =
       let rest = still.at_stop.at_rest in
       let at : nursery_at (nurseries_of (seen c)) k ≡ m.nursery =
@@ -93,10 +93,10 @@ module _ (script : Script) (c : Collector) (run : Run) (limits : IsInLimits scri
       }
 
   -- there are as many mutators as the layout has
-  pub mutators_counted : length c.mutators.items ≡ c.segments.layout.mutators
+  pub mutators_counted : length c.mutators.items ≡ c.heap.segments.layout.mutators
   mutators_counted = still.kept.count ∙ sym (ap (λ (l : Layout). l.mutators) still.kept.layout)
 
-  pub resting : (k : ℕ) (m : Mutator) → slice_get c.mutators.items k ≡ Some m → IsResting c.segments.layout k m
+  pub resting : (k : ℕ) (m : Mutator) → slice_get c.mutators.items k ≡ Some m → IsResting c.heap.segments.layout k m
   resting k m e =
       let own = still.kept.own k m e in
       let nothing = still.at_stop.at_rest.nothing k (seen_mutator m) (seen_at c.mutators.items k m e) in
@@ -109,18 +109,18 @@ module _ (script : Script) (c : Collector) (run : Run) (limits : IsInLimits scri
         no_weaks = none_noted m.young_weaks.items nothing.young_weaks;
       }
 
-  pub blocks_there : AreBlocks c.segments (young_base c.segments) still.at_stop.heap.places (last_state run).world
+  pub blocks_there : AreBlocks c.heap.segments (young_base c.heap.segments) still.at_stop.heap.places (last_state run).world
   blocks_there = subst (λ (l : Layout).
-      AreBlocks c.segments (nursery_place l 0) still.at_stop.heap.places (last_state run).world) (sym still.kept.layout)
-      (blocks_at_stop (layout_of (plan_of script)) (last_state run) (seen c).words c.segments (ends_of (seen c)) (seen c).weaks still.at_stop.heap)
+      AreBlocks c.heap.segments (nursery_place l 0) still.at_stop.heap.places (last_state run).world) (sym still.kept.layout)
+      (blocks_at_stop (layout_of (plan_of script)) (last_state run) (seen c).words c.heap.segments (ends_of (seen c)) (seen c).weaks still.at_stop.heap)
 
-  pub still_rests : snapshots (last_state run).progress ≡ [] → (words : List ℕ) → c.words ≡ Some words →
-      IsAtRest c.segments still.at_stop.heap.places (last_state run).world words c.mutators.items
+  pub still_rests : snapshots (last_state run).progress ≡ [] → (words : List ℕ) → c.heap.words ≡ Some words →
+      IsAtRest c.heap.segments still.at_stop.heap.places (last_state run).world words c.mutators.items
   still_rests none words is =
       let heap = still.at_stop.heap in
       let holds = heap.holds in
       let w = (last_state run).world in
-      let same : layout_of (plan_of script) ≡ c.segments.layout = sym still.kept.layout in
+      let same : layout_of (plan_of script) ≡ c.heap.segments.layout = sym still.kept.layout in
       record {
         world = (sound_state script c run limits still).world;
         sound = still.kept.sound;

@@ -110,22 +110,23 @@ module _ (script : Script) (c new : Collector) (o : Opening) (x : IsOver script 
         ap (λ (n : Nursery). n.top) none ∙ sym (ap (λ (n : Nursery). n.base) none)
   ]
 
-  pub has_reserve : (reserve_count c.segments.layout ≤ reserve.free_count c.segments.segments) ⊎ AreEmpty (turn.nurseries_of new.mutators.items)
+  pub has_reserve : (reserve_count c.heap.segments.layout ≤ reserve.free_count c.heap.segments.segments) ⊎ AreEmpty (turn.nurseries_of new.mutators.items)
   has_reserve = elim (reserve_free script c x.run x.still x.goes_on) [
     | inl none ↦ inr (empty none)
-    | inr more ↦ inl (subst (λ (l : Layout). reserve_count l ≤ reserve.free_count c.segments.segments) (sym x.still.kept.layout) more)
+    | inr more ↦ inl (subst (λ (l : Layout). reserve_count l ≤ reserve.free_count c.heap.segments.segments) (sym x.still.kept.layout) more)
   ]
 
   module _ (law : RoundIsStopped) where
-    blocks : AreBlocks c.segments (young_base c.segments) o.places o.core.world
+    blocks : AreBlocks c.heap.segments (young_base c.heap.segments) o.places o.core.world
     blocks =
-        subst (λ (l : List Place). AreBlocks c.segments (young_base c.segments) l o.core.world) (sym x.op.places_are)
-        (subst (AreBlocks c.segments (young_base c.segments) x.still.at_stop.heap.places) (sym x.op.world_is) (blocks_there script c x.run x.limits x.still))
+        subst (λ (l : List Place). AreBlocks c.heap.segments (young_base c.heap.segments) l o.core.world) (sym x.op.places_are)
+        (subst (AreBlocks c.heap.segments (young_base c.heap.segments) x.still.at_stop.heap.places) (sym x.op.world_is)
+            (blocks_there script c x.run x.limits x.still))
 
-    pub stopped : IsStopped (stop_after o x.did.words (view script c new o x) x.did.leaves.0 new.mutators.items) c.segments x.did.words
+    pub stopped : IsStopped (stop_after o x.did.words (view script c new o x) x.did.leaves.0 new.mutators.items) c.heap.segments x.did.words
         (turn.nurseries_of new.mutators.items) (turn.registers_of new.mutators.items) (turn.queues_of new.mutators.items)
         (turn.recorded_of new.mutators.items) (turn.weaks_of new.mutators.items)
-    stopped = law o x.before x.did.words (view script c new o x) new.mutators.items x.did.done c.segments (can script c new o x) x.op.past
+    stopped = law o x.before x.did.words (view script c new o x) new.mutators.items x.did.done c.heap.segments (can script c new o x) x.op.past
         (sym x.op.layout_is) x.still.kept.sound blocks x.did.leaves (worked script c new o x) has_reserve
 
     -- the nurseries are whole
@@ -176,7 +177,7 @@ module _ (script : Script) (c new : Collector) (o : Opening) (x : IsOver script 
     -- with segments that stand for the same blocks, the round began with the heap of the stop
     abbrev pub round_from : (segments : Segments) → segments.layout ≡ layout → StandsFor segments (seen c).words (s script c new o x).allocation →
         IsRoundFrom layout (s script c new o x) (t script c new o x (s script c new o x).allocation) o (seen c).words x.did.words
-        (view script c new o x) c.segments segments (ends_of (seen c)) (ends_of (shown script c new o x)) (seen c).weaks
+        (view script c new o x) c.heap.segments segments (ends_of (seen c)) (ends_of (shown script c new o x)) (seen c).weaks
     round_from segments same stands = record {
       heap = x.still.at_stop.heap;
       known = (sound_state script c x.run x.limits x.still).known;

@@ -100,19 +100,20 @@ module _ (script : Script) (c new : Collector) (o : Opening) (x : IsOver script 
     }
 
   -- a cycle, or a full one, is asked for by the slices
-  asked : new.collect ≡ ((s script c new o x).collect || some_asks is_collect (slices script.config (s script c new o x).left))
+  asked : new.cycle.collect ≡ ((s script c new o x).collect || some_asks is_collect (slices script.config (s script c new o x).left))
   asked =
       x.did.collect
       ∙ ap (λ (b : Bool). b || some_asks is_collect (map commands_of x.did.done)) x.still.at_stop.matches.collect
       ∙ ap (λ (l : List (List Command)). (s script c new o x).collect || some_asks is_collect l) (sym slices_are)
 
-  full_asked : new.full ≡ ((s script c new o x).full || some_asks is_full (slices script.config (s script c new o x).left))
+  full_asked : new.cycle.full ≡ ((s script c new o x).full || some_asks is_full (slices script.config (s script c new o x).left))
   full_asked =
       x.did.full
       ∙ ap (λ (b : Bool). b || some_asks is_full (map commands_of x.did.done)) x.still.at_stop.matches.full
       ∙ ap (λ (l : List (List Command)). (s script c new o x).full || some_asks is_full l) (sym slices_are)
 
-  pub matches : (allocation : AllocState) → phase_in new.progress ≡ phase_in c.progress → Matches (shown script c new o x) (t script c new o x allocation)
+  pub matches : (allocation : AllocState) → phase_in new.cycle.progress ≡ phase_in c.cycle.progress →
+      Matches (shown script c new o x) (t script c new o x allocation)
   matches allocation same = record {
     phase = same ∙ x.still.at_stop.matches.phase ∙ sym (noted_phase (s script c new o x).progress (rows script c new o x));
     begun = x.still.at_stop.matches.begun;

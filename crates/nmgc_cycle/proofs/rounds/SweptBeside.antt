@@ -57,22 +57,22 @@ swept_min quota count before after e most least = elim (cases_lt count quota) [
 
 module _ (laws : HasLaws) (script : Script) (c new : Collector) (o : Opening) (x : IsOver script c new o) (k : Cycle) (closed : ℕ)
     (e : (s script c new o x).progress ≡ sweeping k closed) where
-  before : (v : held_sweeping.Sweeping) × (c.progress ≡ doing.Sweeping v)
-  before = when_sweeping c.progress (phase_with laws script c new o x (sweeping k closed) e)
+  before : (v : held_sweeping.Sweeping) × (c.cycle.progress ≡ doing.Sweeping v)
+  before = when_sweeping c.cycle.progress (phase_with laws script c new o x (sweeping k closed) e)
 
-  did : (v : held_sweeping.Sweeping) × (new.progress ≡ doing.Sweeping v) × (x.did.helped.seat ≡ x.did.helped.from) ×
-      HasSweptSome script.config.quota c.segments new.segments c.names before.0 v
+  did : (v : held_sweeping.Sweeping) × (new.cycle.progress ≡ doing.Sweeping v) × (x.did.helped.seat ≡ x.did.helped.from) ×
+      HasSweptSome script.config.quota c.heap.segments new.heap.segments c.heap.names before.0 v
   did = helped_as laws script c new o x (doing.Sweeping before.0) before.1
 
-  sweeper_was : sweeper_in c.progress ≡ before.0.sweeper
+  sweeper_was : sweeper_in c.cycle.progress ≡ before.0.sweeper
   sweeper_was = ap sweeper_in before.1
 
-  sweeper_now : sweeper_in new.progress ≡ did.0.sweeper
+  sweeper_now : sweeper_in new.cycle.progress ≡ did.0.sweeper
   sweeper_now = ap sweeper_in did.1
 
   same_cycle : (shown script c new o x).cycle ≡ (seen c).cycle
   same_cycle =
-      let dead : List Name = died c.weaks.deaths in
+      let dead : List Name = died c.heap.weaks.deaths in
       ap (λ (q : held.Progress). cycle_in q dead) did.1 ∙ ap (λ (y : held_sweeping.Sweeping). cycle_in (doing.Sweeping y) dead) did.3.rest ∙
       sym (ap (λ (q : held.Progress). cycle_in q dead) before.1)
 
@@ -81,31 +81,31 @@ module _ (laws : HasLaws) (script : Script) (c new : Collector) (o : Opening) (x
 
   -- with the segments of before, all stands for what it stood for
   whole : HoldsAfterRound (layout script c new o x) (s script c new o x) (t script c new o x (s script c new o x).allocation)
-      (places script c new o x) x.did.words c.segments (ends_of (shown script c new o x)) (seen c).weaks
+      (places script c new o x) x.did.words c.heap.segments (ends_of (shown script c new o x)) (seen c).weaks
   whole = laws.holds (layout script c new o x) (s script c new o x) (t script c new o x (s script c new o x).allocation) o (seen c).words
-      x.did.words (view script c new o x) c.segments c.segments (ends_of (seen c)) (ends_of (shown script c new o x)) (seen c).weaks
-      (round_from script c new o x laws.stopped c.segments x.still.kept.layout x.still.at_stop.heap.holds.stands)
+      x.did.words (view script c new o x) c.heap.segments c.heap.segments (ends_of (seen c)) (ends_of (shown script c new o x)) (seen c).weaks
+      (round_from script c new o x laws.stopped c.heap.segments x.still.kept.layout x.still.at_stop.heap.holds.stands)
 
-  stands_then : StandsFor c.segments x.did.words (s script c new o x).allocation
+  stands_then : StandsFor c.heap.segments x.did.words (s script c new o x).allocation
   stands_then = whole.holds.stands
 
   -- so the sweeper went on from there
-  at_work : IsAtWork k closed x.did.words (s script c new o x).allocation c.segments (seen c).cycle before.0.sweeper
+  at_work : IsAtWork k closed x.did.words (s script c new o x).allocation c.heap.segments (seen c).cycle before.0.sweeper
   at_work =
-      let h = subst (IsAtWork k closed (seen c).words (s script c new o x).allocation c.segments (seen c).cycle) sweeper_was sweeps_before.1 in
+      let h = subst (IsAtWork k closed (seen c).words (s script c new o x).allocation c.heap.segments (seen c).cycle) sweeper_was sweeps_before.1 in
       record { stands = stands_then; notes = h.notes; sweeping = h.sweeping; settled = h.settled; begun = h.begun }
 
   swept : (b : AllocState) × SweepsSome (IsKeptIn k) did.3.count (s script c new o x).allocation b ×
-      IsAtWork k closed x.did.words b new.segments (seen c).cycle did.0.sweeper
+      IsAtWork k closed x.did.words b new.heap.segments (seen c).cycle did.0.sweeper
   swept = did.3.swept.sweeps k closed x.did.words (s script c new o x).allocation (seen c).cycle (subst (λ (l : Layout).
-      AreNamed l c.names (s script c new o x).allocation) (sym x.still.kept.layout) x.still.named) at_work
+      AreNamed l c.heap.names (s script c new o x).allocation) (sym x.still.kept.layout) x.still.named) at_work
 
-  left_before : AreLeft c.segments before.0.sweeper
-  left_before = subst (λ (y : Sweeper). AreLeft c.segments y) sweeper_was sweeps_before.0
+  left_before : AreLeft c.heap.segments before.0.sweeper
+  left_before = subst (λ (y : Sweeper). AreLeft c.heap.segments y) sweeper_was sweeps_before.0
 
   as_many : did.3.count ≡ min script.config.quota (waiting_count (s script c new o x).allocation)
   as_many =
-      let waits = laws.counted x.did.words (s script c new o x).allocation c.segments before.0.sweeper stands_then left_before in
+      let waits = laws.counted x.did.words (s script c new o x).allocation c.heap.segments before.0.sweeper stands_then left_before in
       let fewer = did.3.swept.fewer in
       swept_min script.config.quota did.3.count (waiting_count (s script c new o x).allocation) (length did.0.sweeper.left) (omega (
         arith,
@@ -120,7 +120,7 @@ module _ (laws : HasLaws) (script : Script) (c new : Collector) (o : Opening) (x
   round : IsRound script.config (s script c new o x) (told script c new o x) (rows script c new o x) (t script c new o x swept.0)
   round = is_round script c new o x laws.history swept.0 beside
 
-  same_layout : new.segments.layout ≡ layout script c new o x
+  same_layout : new.heap.segments.layout ≡ layout script c new o x
   same_layout = did.3.swept.layout ∙ x.still.kept.layout
 
   -- nobody may speak of what was freed, and no weak pointer of the list was
@@ -145,11 +145,11 @@ module _ (laws : HasLaws) (script : Script) (c new : Collector) (o : Opening) (x
 
   -- the freed places are gone
   fewer : (fewer : List Place) ×
-      HoldsAfterRound (layout script c new o x) (s script c new o x) (t script c new o x swept.0) fewer x.did.words new.segments
+      HoldsAfterRound (layout script c new o x) (s script c new o x) (t script c new o x swept.0) fewer x.did.words new.heap.segments
       (ends_of (shown script c new o x)) (seen c).weaks × DropsFreed (layout script c new o x) ((s script c new o x).world ∷
       snapshots (t script c new o x swept.0).progress) (w script c new o x) (places script c new o x) fewer
   fewer = laws.swept_holds (layout script c new o x) (s script c new o x) (t script c new o x (s script c new o x).allocation) swept.0
-      (places script c new o x) x.did.words c.segments new.segments (ends_of (shown script c new o x)) (seen c).weaks whole x.still.kept.sound frees
+      (places script c new o x) x.did.words c.heap.segments new.heap.segments (ends_of (shown script c new o x)) (seen c).weaks whole x.still.kept.sound frees
       swept.2.stands same_layout listed
 
   kept_on : AreNurseries (layout script c new o x) fewer.0 (w script c new o x) (nurseries_of (shown script c new o x)) ×
@@ -162,10 +162,10 @@ module _ (laws : HasLaws) (script : Script) (c new : Collector) (o : Opening) (x
       (nurseries_of (shown script c new o x)) (recorded_in (shown script c new o x)) (young_weaks_in (shown script c new o x)) fewer.2
       (nurseries_left script c new o x laws.stopped) (in_order script c new o x laws.stopped) (remembered script c new o x laws.stopped)
 
-  more_free : reserve.free_count c.segments.segments ≤ reserve.free_count new.segments.segments
+  more_free : reserve.free_count c.heap.segments.segments ≤ reserve.free_count new.heap.segments.segments
   more_free =
-      let was = counts_stand c.segments x.did.words (s script c new o x).allocation stands.Free stands_then in
-      let now = counts_stand new.segments x.did.words swept.0 stands.Free swept.2.stands in
+      let was = counts_stand c.heap.segments x.did.words (s script c new o x).allocation stands.Free stands_then in
+      let now = counts_stand new.heap.segments x.did.words swept.0 stands.Free swept.2.stands in
       let more = laws.grows k did.3.count (s script c new o x).allocation swept.0 swept.1 in
       omega (arith, was, now, more)
 
@@ -175,16 +175,16 @@ module _ (laws : HasLaws) (script : Script) (c new : Collector) (o : Opening) (x
       (runs_are (plan script c new o x) x.run x.still.at_stop.is_run)).0
 
   -- the cycle sweeps on
-  work_on : IsAtWork k closed x.did.words swept.0 new.segments (shown script c new o x).cycle (sweeper_in new.progress)
+  work_on : IsAtWork k closed x.did.words swept.0 new.heap.segments (shown script c new o x).cycle (sweeper_in new.cycle.progress)
   work_on =
-      subst (λ (y : CycleSeen). IsAtWork k closed x.did.words swept.0 new.segments y (sweeper_in new.progress)) (sym same_cycle)
-      (subst (IsAtWork k closed x.did.words swept.0 new.segments (seen c).cycle) (sym sweeper_now) swept.2)
+      subst (λ (y : CycleSeen). IsAtWork k closed x.did.words swept.0 new.heap.segments y (sweeper_in new.cycle.progress)) (sym same_cycle)
+      (subst (IsAtWork k closed x.did.words swept.0 new.heap.segments (seen c).cycle) (sym sweeper_now) swept.2)
 
   sweeps_on : Sweeps (sweeping k closed) (t script c new o x swept.0) (last script c new o x)
-  sweeps_on = (subst (λ (y : Sweeper). AreLeft new.segments y) (sym sweeper_now) did.3.swept.left, work_on)
+  sweeps_on = (subst (λ (y : Sweeper). AreLeft new.heap.segments y) (sym sweeper_now) did.3.swept.left, work_on)
 
-  settled : AreSettled (s script c new o x).begun new.segments
-  settled = subst (λ (number : ℕ). AreSettled number new.segments) course.number_is work_on.settled
+  settled : AreSettled (s script c new o x).begun new.heap.segments
+  settled = subst (λ (number : ℕ). AreSettled number new.heap.segments) course.number_is work_on.settled
 
   pub swept_on : HasGoneOn script c new o x
   swept_on = record {
@@ -201,5 +201,5 @@ module _ (laws : HasLaws) (script : Script) (c new : Collector) (o : Opening) (x
         IsPacedAfterRound script.config.quota j (t script c new o x swept.0) (shown script c new o x)) (noted p (rows script c new o x))
         (t script c new o x swept.0) (shown script c new o x) fewer.0) (sym e) (work_on.sweeping, settled);
     sweeper = subst (λ (p : Progress). Sweeps (noted p (rows script c new o x)) (t script c new o x swept.0) (last script c new o x)) (sym e) sweeps_on;
-    named = named_swept (layout script c new o x) c.names (IsKeptIn k) did.3.count (s script c new o x).allocation swept.0 swept.1 x.still.named;
+    named = named_swept (layout script c new o x) c.heap.names (IsKeptIn k) did.3.count (s script c new o x).allocation swept.0 swept.1 x.still.named;
   }

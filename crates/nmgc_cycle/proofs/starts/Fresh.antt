@@ -43,25 +43,25 @@ use Rattle.nmgc_cycle.specs.Lined.{IsLined}
 -- what a new collector is made of
 pub record IsMade (layout : Layout) (script : Script) (c : Collector) : Type 0 where
   pub lawful : IsLayout layout
-  pub nothing : (c.rounds ≡ []) × (c.stops ≡ []) × (c.cycles ≡ [])
-  pub idle : (c.progress ≡ progress.Idle) × (c.begun ≡ 0) × (c.collect ≡ false) × (c.full ≡ false)
+  pub nothing : (c.rows.rounds ≡ []) × (c.rows.stops ≡ []) × (c.rows.cycles ≡ [])
+  pub idle : (c.cycle.progress ≡ progress.Idle) × (c.cycle.begun ≡ 0) × (c.cycle.collect ≡ false) × (c.cycle.full ≡ false)
   pub goes_on : c.answered ≡ None
-  pub weakless : c.weaks.list ≡ []
-  pub has_words : IsSome c.words
+  pub weakless : c.heap.weaks.list ≡ []
+  pub has_words : IsSome c.heap.words
   pub total : length (seen c).words ≡ word_total layout
   pub opens : CanOpen (first_opening layout) (seen c).words
-  pub segments : c.segments ≡ all_free layout
-  pub sound : IsSegments c.segments
-  pub promotion : IsFor layout c.promotion
-  pub entries : HaveEntries layout c.names
+  pub segments : c.heap.segments ≡ all_free layout
+  pub sound : IsSegments c.heap.segments
+  pub promotion : IsFor layout c.heap.promotion
+  pub entries : HaveEntries layout c.heap.names
   pub count : length c.mutators.items ≡ layout.mutators
   pub new : AreNew layout c.mutators.items
   pub inbox : length c.inbox ≡ layout.mutators
   pub lines : (k : ℕ) (m : Mutator) → slice_get c.mutators.items k ≡ Some m → IsLined c.inbox k m.sender
   pub unsent : (k : ℕ) (m : Mutator) → slice_get c.mutators.items k ≡ Some m → m.sender.since ≡ []
   pub positions : c.positions.items ≡ replicate layout.mutators 0
-  pub no_ends : c.ends.items ≡ []
-  pub room : layout.mutators ≤ vec_capacity c.ends
+  pub no_ends : c.report.ends.items ≡ []
+  pub room : layout.mutators ≤ vec_capacity c.report.ends
   pub workers : layout.mutators ≤ c.workers
 
 module _ (script : Script) (c : Collector) (made : IsMade (layout_of (plan_of script)) script c) where
@@ -74,7 +74,7 @@ module _ (script : Script) (c : Collector) (made : IsMade (layout_of (plan_of sc
   all_new : ends ≡ replicate (length script.threads) new_end
   all_new = ends_are sizes c.mutators.items made.new ∙ ap (λ (n : ℕ). replicate n new_end) made.count
 
-  same_layout : c.segments.layout ≡ sizes
+  same_layout : c.heap.segments.layout ≡ sizes
   same_layout = ap (λ (s : Segments). s.layout) made.segments
 
   own : (k : ℕ) (m : Mutator) → slice_get c.mutators.items k ≡ Some m → IsOwn c k m
@@ -100,8 +100,8 @@ module _ (script : Script) (c : Collector) (made : IsMade (layout_of (plan_of sc
   kept = record {
     layout = same_layout;
     sound = made.sound;
-    lists = subst (λ (l : Layout). IsFor l c.promotion) (sym same_layout) made.promotion;
-    entries = subst (λ (l : Layout). HaveEntries l c.names) (sym same_layout) made.entries;
+    lists = subst (λ (l : Layout). IsFor l c.heap.promotion) (sym same_layout) made.promotion;
+    entries = subst (λ (l : Layout). HaveEntries l c.heap.names) (sym same_layout) made.entries;
     has_words = made.has_words;
     count = made.count;
     own = own;
@@ -114,7 +114,7 @@ module _ (script : Script) (c : Collector) (made : IsMade (layout_of (plan_of sc
     workers = made.workers;
   }
 
-  holds : HeapStandsFor sizes [] (shared_place ∷ []) (new_world (length script.threads)) (all_empty script.config.segments) (seen c).words c.segments ends
+  holds : HeapStandsFor sizes [] (shared_place ∷ []) (new_world (length script.threads)) (all_empty script.config.segments) (seen c).words c.heap.segments ends
   holds = record {
     fit = fit_blocks (new_world (length script.threads)) script.config.segments;
     represents = made.opens.represents;

@@ -72,12 +72,12 @@ module _ (script : Script) (old : Collector) (s : State) (h : StandsPromoted scr
     (inbox_is : length inbox ≡ length old.inbox)
     (lines : (k : ℕ) (n : Mutator) → slice_get mutators.items k ≡ Some n → IsLined inbox k n.sender)
     (forgot : HaveForgotten old.mutators.items mutators.items)
-    (phases : phase_in p ≡ phase_in old.progress)
-    (layout : segments.layout ≡ old.segments.layout)
+    (phases : phase_in p ≡ phase_in old.cycle.progress)
+    (layout : segments.layout ≡ old.heap.segments.layout)
     (sound : IsSegments segments)
     (stands : StandsFor segments (seen old).words s.allocation) where
   abbrev then : Collector
-  then = record old { segments = segments; progress = p; inbox = inbox; mutators = mutators }
+  then = record old { heap = record old.heap { segments = segments }; cycle = record old.cycle { progress = p }; inbox = inbox; mutators = mutators }
 
   ends_are : ends_of (seen then) ≡ ends_of (seen old)
   ends_are = seen_forgot end_of (λ m n f. ap (λ (x : Mutator). end_of (seen_mutator x)) f.rest) old.mutators.items mutators.items forgot
@@ -137,8 +137,8 @@ module _ (script : Script) (old : Collector) (s : State) (h : StandsPromoted scr
   kept = record {
     layout = layout ∙ h.kept.layout;
     sound = sound;
-    lists = subst (λ (l : Layout). IsFor l old.promotion) (sym layout) h.kept.lists;
-    entries = subst (λ (l : Layout). HaveEntries l old.names) (sym layout) h.kept.entries;
+    lists = subst (λ (l : Layout). IsFor l old.heap.promotion) (sym layout) h.kept.lists;
+    entries = subst (λ (l : Layout). HaveEntries l old.heap.names) (sym layout) h.kept.entries;
     has_words = h.kept.has_words;
     count = many ∙ h.kept.count;
     own = own;
@@ -202,14 +202,16 @@ unmarked_sweeper old s inbox mutators (marking k) never h = absurd (never k refl
 unmarked_sweeper old s inbox mutators (sweeping k closed) never h = h
 
 module _ (script : Script) (old new : Collector) (s : State) (h : StandsPromoted script old s) (taken : HasTaken old new) where
-  unmarked : ((k : Cycle) → s.progress ≡ marking k → ⊥) → new.progress ≡ old.progress → new.segments ≡ old.segments → StandsWithin script new s
+  unmarked : ((k : Cycle) → s.progress ≡ marking k → ⊥) → new.cycle.progress ≡ old.cycle.progress → new.heap.segments ≡ old.heap.segments →
+      StandsWithin script new s
   unmarked never progress segments =
       let is : new ≡ record old { inbox = new.inbox; mutators = new.mutators } =
       taken.rest
-      ∙ ap (λ (g : Segments). record old { segments = g; progress = new.progress; inbox = new.inbox; mutators = new.mutators }) segments
-      ∙ ap (λ (d : Doing). record old { progress = d; inbox = new.inbox; mutators = new.mutators }) progress in
+      ∙ ap (λ (g : Segments). record old { heap = record old.heap { segments = g }; cycle = record old.cycle { progress = new.cycle.progress };
+          inbox = new.inbox; mutators = new.mutators }) segments
+      ∙ ap (λ (d : Doing). record old { cycle = record old.cycle { progress = d }; inbox = new.inbox; mutators = new.mutators }) progress in
       subst (λ (c : Collector). StandsWithin script c s) (sym is)
-      (stands_within script old s h old.segments old.progress new.inbox new.mutators taken.inbox taken.lines taken.mutators refl refl h.kept.sound
+      (stands_within script old s h old.heap.segments old.cycle.progress new.inbox new.mutators taken.inbox taken.lines taken.mutators refl refl h.kept.sound
       h.heap.holds.stands
       (unmarked_cycle script old s new.inbox new.mutators s.progress never h.heap.places h.cycle)
       (unmarked_sweeper old s new.inbox new.mutators s.progress never h.sweeper))
@@ -217,21 +219,22 @@ module _ (script : Script) (old new : Collector) (s : State) (h : StandsPromoted
 -- where one does
 
 module _ (laws : HasAddingLaws) (script : Script) (was : Collector) (r : State) (m : Marking) (k : Cycle)
-    (h : StandsPromoted script (record was { progress = doing.Marking m }) (record r { progress = marking k }))
+    (h : StandsPromoted script (record was { cycle = record was.cycle { progress = doing.Marking m } }) (record r { progress = marking k }))
     (segments : Segments) (marker : MarkerSeen) (inbox : List Receiver) (mutators : Vec Mutator Global)
     (inbox_is : length inbox ≡ length was.inbox)
     (lines : (k : ℕ) (n : Mutator) → slice_get mutators.items k ≡ Some n → IsLined inbox k n.sender)
     (forgot : HaveForgotten was.mutators.items mutators.items)
-    (added : HasAdded (remembered_by was.mutators.items) was.segments segments m.marker marker)
+    (added : HasAdded (remembered_by was.mutators.items) was.heap.segments segments m.marker marker)
     (sound : IsSegments segments) where
   abbrev old : Collector
-  old = record was { progress = doing.Marking m }
+  old = record was { cycle = record was.cycle { progress = doing.Marking m } }
 
   abbrev s : State
   s = record r { progress = marking k }
 
   abbrev c : Collector
-  c = record was { segments = segments; progress = doing.Marking (record m { marker = marker }); inbox = inbox; mutators = mutators }
+  c = record was { heap = record was.heap { segments = segments }; cycle = record was.cycle { progress = doing.Marking (record m { marker = marker }) };
+      inbox = inbox; mutators = mutators }
 
   stands : StandsFor segments (seen old).words s.allocation
   stands = added.marked.stands (seen old).words s.allocation h.heap.holds.stands
@@ -261,49 +264,49 @@ module _ (laws : HasAddingLaws) (script : Script) (was : Collector) (r : State) 
 
   marked : StandsWithin script c s
   marked =
-      let waits = laws.waits was.segments segments (seen old).words (seen old).words s.allocation h.heap.holds.stands stands in
+      let waits = laws.waits was.heap.segments segments (seen old).words (seen old).words s.allocation h.heap.holds.stands stands in
       stands_within script old s h segments (doing.Marking (record m {
         marker =
             marker;
       })) inbox mutators inbox_is lines forgot refl added.marked.layout sound stands
       (marks, paced) (
-        record { notes = h.sweeper.0.notes; left = laws.left was.segments segments m.sweeper waits added.marked.layout h.sweeper.0.left },
+        record { notes = h.sweeper.0.notes; left = laws.left was.heap.segments segments m.sweeper waits added.marked.layout h.sweeper.0.left },
         h.sweeper.1,
         h.sweeper.2,
         h.sweeper.3,
       )
 
 module _ (laws : HasAddingLaws) (script : Script) (old new : Collector) (s : State) (h : StandsPromoted script old s) (taken : HasTaken old new) where
-  by_case : (p : Doing) (q : Progress) → old.progress ≡ p → s.progress ≡ q → phase_in p ≡ phase_of q →
-      AddsTo (remembered_by old.mutators.items) old.segments new.segments p new.progress → StandsWithin script new s
+  by_case : (p : Doing) (q : Progress) → old.cycle.progress ≡ p → s.progress ≡ q → phase_in p ≡ phase_of q →
+      AddsTo (remembered_by old.mutators.items) old.heap.segments new.heap.segments p new.cycle.progress → StandsWithin script new s
   by_case doing.Idle idle at is e step = unmarked script old new s h taken (λ k marks. let bad : idle ≡ marking k = sym is ∙ marks in cc) (step.0 ∙
       sym at) step.1
   by_case doing.Idle (marking k) at is e step = absurd (let bad : phase.Idle ≡ phase.Marking = e in cc)
   by_case doing.Idle (sweeping k closed) at is e step = absurd (let bad : phase.Idle ≡ phase.Sweeping = e in cc)
   by_case (doing.Marking m) idle at is e step = absurd (let bad : phase.Marking ≡ phase.Idle = e in cc)
   by_case (doing.Marking m) (marking k) at is e step =
-      let own : StandsPromoted script (record old { progress = doing.Marking m }) (record s { progress = marking k }) =
-      subst (λ (d : Doing). StandsPromoted script (record old { progress = d }) (record s { progress = marking k })) at
+      let own : StandsPromoted script (record old { cycle = record old.cycle { progress = doing.Marking m } }) (record s { progress = marking k }) =
+      subst (λ (d : Doing). StandsPromoted script (record old { cycle = record old.cycle { progress = d } }) (record s { progress = marking k })) at
       (subst (λ (q : Progress). StandsPromoted script old (record s { progress = q })) is h) in
-      let then = marked laws script old s m k own new.segments step.0 new.inbox new.mutators taken.inbox taken.lines taken.mutators step.2 step.3 in
+      let then = marked laws script old s m k own new.heap.segments step.0 new.inbox new.mutators taken.inbox taken.lines taken.mutators step.2 step.3 in
       let same : new ≡ record old {
-        segments = new.segments;
-        progress = doing.Marking (record m { marker = step.0 });
-        inbox = new.inbox;
-        mutators = new.mutators;
-      } = taken.rest ∙ ap (λ (d : Doing). record old {
-        segments = new.segments;
-        progress = d;
-        inbox = new.inbox;
-        mutators = new.mutators;
-      }) step.1 in
+          heap = record old.heap { segments = new.heap.segments };
+          cycle = record old.cycle { progress = doing.Marking (record m { marker = step.0 }) };
+          inbox = new.inbox;
+          mutators = new.mutators;
+        } = taken.rest ∙ ap (λ (d : Doing). record old {
+          heap = record old.heap { segments = new.heap.segments };
+          cycle = record old.cycle { progress = d };
+          inbox = new.inbox;
+          mutators = new.mutators;
+        }) step.1 in
       subst (λ (c : Collector). StandsWithin script c s) (sym same)
       (subst (λ (q : Progress). StandsWithin script (record old {
-        segments = new.segments;
-        progress = doing.Marking (record m { marker = step.0 });
-        inbox = new.inbox;
-        mutators = new.mutators;
-      }) (record s { progress = q })) (sym is) then)
+          heap = record old.heap { segments = new.heap.segments };
+          cycle = record old.cycle { progress = doing.Marking (record m { marker = step.0 }) };
+          inbox = new.inbox;
+          mutators = new.mutators;
+        }) (record s { progress = q })) (sym is) then)
   by_case (doing.Marking m) (sweeping k closed) at is e step = absurd (let bad : phase.Marking ≡ phase.Sweeping = e in cc)
   by_case (doing.Sweeping w) idle at is e step = absurd (let bad : phase.Sweeping ≡ phase.Idle = e in cc)
   by_case (doing.Sweeping w) (marking k) at is e step = absurd (let bad : phase.Sweeping ≡ phase.Marking = e in cc)
@@ -312,19 +315,19 @@ module _ (laws : HasAddingLaws) (script : Script) (old new : Collector) (s : Sta
 
 pub adding_leads : HasAddingLaws → AddingLeads
 adding_leads laws script old new s limits h taken =
-    let phases : phase_in old.progress ≡ phase_of s.progress = h.matches.phase in
-    by_case laws script old new s h taken old.progress s.progress refl refl phases taken.adds
+    let phases : phase_in old.cycle.progress ≡ phase_of s.progress = h.matches.phase in
+    by_case laws script old new s h taken old.cycle.progress s.progress refl refl phases taken.adds
 
 -- after the promotion a marker has room for what is to be added
-pub can_add : (script : Script) (c : Collector) (s : State) → StandsPromoted script c s → CanAdd c.segments c.progress
-can_add script c s h = by c.progress s.progress refl refl h.matches.phase
+pub can_add : (script : Script) (c : Collector) (s : State) → StandsPromoted script c s → CanAdd c.heap.segments c.cycle.progress
+can_add script c s h = by c.cycle.progress s.progress refl refl h.matches.phase
   where
-    by : (p : Doing) (q : Progress) → c.progress ≡ p → s.progress ≡ q → phase_in p ≡ phase_of q → CanAdd c.segments p
+    by : (p : Doing) (q : Progress) → c.cycle.progress ≡ p → s.progress ≡ q → phase_in p ≡ phase_of q → CanAdd c.heap.segments p
     by doing.Idle q at is e = tt
     by (doing.Marking m) idle at is e = absurd (let bad : phase.Marking ≡ phase.Idle = e in cc)
     by (doing.Marking m) (marking k) at is e =
         let cycle = subst (λ (q : Progress). HoldsInCycle (λ (r : Cycle).
         IsPacedPromoted script.config.quota r s (seen c)) q s (seen c) h.heap.places) is h.cycle in
-        subst (λ (d : Doing). HasRoomToMark c.segments (marker_in d)) at cycle.0.room
+        subst (λ (d : Doing). HasRoomToMark c.heap.segments (marker_in d)) at cycle.0.room
     by (doing.Marking m) (sweeping k closed) at is e = absurd (let bad : phase.Marking ≡ phase.Sweeping = e in cc)
     by (doing.Sweeping w) q at is e = tt

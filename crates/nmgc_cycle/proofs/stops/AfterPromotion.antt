@@ -61,11 +61,12 @@ module _ (script : Script) (old new : Collector) (kept : IsWellFormed script old
   w = b.state.world
 
   -- what the promotion settled, and the allocation state then
-  pub settled_heap : IsSettled at_stop new.segments (words_in new.words) (worked.registers_of new.mutators.items)
+  pub settled_heap : IsSettled at_stop new.heap.segments (words_in new.heap.words) (worked.registers_of new.mutators.items)
       (worked.queues_of new.mutators.items) (moves_of new)
   settled_heap = p.settled at_stop b.stopped
 
-  abbrev pub placed : (a : AllocState) × PlacesEach old.segments.layout w b.state.allocation (moved_names new) a × StandsFor new.segments (words_in new.words) a
+  abbrev pub placed : (a : AllocState) × PlacesEach old.heap.segments.layout w b.state.allocation (moved_names new) a ×
+      StandsFor new.heap.segments (words_in new.heap.words) a
   placed = p.places at_stop b.stopped b.state.allocation b.stands
 
   -- the state after the promotion
@@ -74,20 +75,20 @@ module _ (script : Script) (old new : Collector) (kept : IsWellFormed script old
 
   -- how many objects moved
   abbrev pub count : ℕ
-  count = length new.promotion.moves
+  count = length new.heap.promotion.moves
 
   -- where they are
   abbrev pub places : List Place
-  places = settled (young_base new.segments) (moves_of new) b.places
+  places = settled (young_base new.heap.segments) (moves_of new) b.places
 
-  low : (q : Place) → Contains places q → q.at < young_base new.segments
-  low q c = elim (settled_cases (young_base new.segments) (moves_of new) b.places q c) [
-    | inl x ↦ subst (λ (r : Place). r.at < young_base new.segments) (sym x.2) (settled_heap.low x.0 x.1)
+  low : (q : Place) → Contains places q → q.at < young_base new.heap.segments
+  low q c = elim (settled_cases (young_base new.heap.segments) (moves_of new) b.places q c) [
+    | inl x ↦ subst (λ (r : Place). r.at < young_base new.heap.segments) (sym x.2) (settled_heap.low x.0 x.1)
     | inr x ↦ x.1
   ]
 
   -- the sizes of the heap are those of the plan
-  pub layout_is : new.segments.layout ≡ layout_of plan
+  pub layout_is : new.heap.segments.layout ≡ layout_of plan
   layout_is = p.layout ∙ kept.layout
 
   pub promotes : Promotes (layout_of plan) b.began b.state promoted count
@@ -95,7 +96,7 @@ module _ (script : Script) (old new : Collector) (kept : IsWellFormed script old
     names = moved_names new;
     lists = settled_heap.promoted;
     places = subst (λ (l : Layout). PlacesEach l w b.state.allocation (moved_names new) placed.0) kept.layout placed.1;
-    many = sym (length-map (moves_of new) (λ (m : Moved). m.name) ∙ length-map new.promotion.moves moved_of);
+    many = sym (length-map (moves_of new) (λ (m : Moved). m.name) ∙ length-map new.heap.promotion.moves moved_of);
     rest = refl;
   }
 
@@ -146,9 +147,9 @@ module _ (script : Script) (old new : Collector) (kept : IsWellFormed script old
   base_at : (maker : ℕ) → (nursery_at (nurseries_of (seen new)) maker).base ≡ (nursery_at (nurseries_of (seen old)) maker).base
   base_at maker = ap (λ (n : Nursery). n.base) (emptied_at maker)
 
-  own_nurseries : AreNurseries new.segments.layout places w (nurseries_of (seen new))
+  own_nurseries : AreNurseries new.heap.segments.layout places w (nurseries_of (seen new))
   own_nurseries =
-      let before : AreNurseries new.segments.layout b.places w (nurseries_of (seen old)) =
+      let before : AreNurseries new.heap.segments.layout b.places w (nurseries_of (seen old)) =
       subst (λ (l : Layout). AreNurseries l b.places w (nurseries_of (seen old))) (sym layout_is) b.nurseries in
       record {
         used = record {
@@ -159,7 +160,7 @@ module _ (script : Script) (old new : Collector) (kept : IsWellFormed script old
         };
         ends = λ maker lt.
             let end = ap (λ (n : Nursery). n.end) (emptied_at maker) in
-            end ∙ before.ends maker lt ∙ ap (λ (n : ℕ). n + new.segments.layout.nursery) (sym (base_at maker));
+            end ∙ before.ends maker lt ∙ ap (λ (n : ℕ). n + new.heap.segments.layout.nursery) (sym (base_at maker));
       }
 
   pub are_nurseries : AreNurseries (layout_of plan) places w (nurseries_of (seen new))
@@ -191,21 +192,22 @@ module _ (script : Script) (old new : Collector) (kept : IsWellFormed script old
 
   -- the heap at the stop
   module _ (back : BlocksArePlaces) (l : HasListed old new) where
-    pub told : FitBlocks w placed.0 × ((q : Place) → Contains places q ↔ IsPlaceAtStop new.segments.layout placed.0 q)
-    told = back new.segments.layout (snapshots b.state.progress) places w placed.0 (words_in new.words) new.segments settled_heap.represents p.sound
-        refl placed.2 low settled_heap.blocks
+    pub told : FitBlocks w placed.0 × ((q : Place) → Contains places q ↔ IsPlaceAtStop new.heap.segments.layout placed.0 q)
+    told = back new.heap.segments.layout (snapshots b.state.progress) places w placed.0 (words_in new.heap.words) new.heap.segments settled_heap.represents
+        p.sound refl placed.2 low settled_heap.blocks
 
     -- listed are those that are alive and have a block
-    pub listed : ListsWeaks new.segments.layout places w (seen new).weaks
+    pub listed : ListsWeaks new.heap.segments.layout places w (seen new).weaks
     listed = l.lists at_stop b.stopped b.can_list
 
-    abbrev pub heap : HoldsAtStop (layout_of plan) promoted (words_in new.words) new.segments (ends_of (seen new)) (seen new).weaks
+    abbrev pub heap : HoldsAtStop (layout_of plan) promoted (words_in new.heap.words) new.heap.segments (ends_of (seen new)) (seen new).weaks
     heap = record {
       places = places;
       all = subst (λ (l : Layout). (q : Place) → Contains places q ↔ IsPlaceAtStop l placed.0 q) layout_is told.1;
       holds = record {
         fit = told.0;
-        represents = subst (λ (l : Layout). Represents l (snapshots b.state.progress) NoNode places w (words_in new.words)) layout_is settled_heap.represents;
+        represents = subst (λ (l : Layout). Represents l (snapshots b.state.progress) NoNode places w (words_in new.heap.words)) layout_is
+            settled_heap.represents;
         registers = whole_seen new (λ k d lt. (own k (slice_index_or new.mutators.items k d) (slice_get-get_or new.mutators.items k d lt)).0.whole.size);
         roots = roots;
         layout_is = layout_is;

@@ -91,29 +91,29 @@ pub record Begins (script : Script) (c : Collector) : Type 0 where
   pub places : List Place
   pub stopped : StandsStopped (stopped_in began state places (seen c)) c
   pub can_list : CanList (stopped_in began state places (seen c)) c
-  pub stands : StandsFor c.segments (seen c).words state.allocation
+  pub stands : StandsFor c.heap.segments (seen c).words state.allocation
   pub nurseries : AreNurseries (layout_of (plan_of script)) places state.world (nurseries_of (seen c))
   pub matches : Matches (seen c) state
   pub cycle : HoldsInCycle (λ (k : Cycle). IsPacedAfterRound script.config.quota k state (seen c)) state.progress state (seen c) places
   pub later : (k : Cycle) → state.progress ≡ marking k → k.from + 1 ≤ state.number
   pub sweeper : Sweeps state.progress state c
-  pub named : AreNamed (layout_of (plan_of script)) c.names state.allocation
+  pub named : AreNamed (layout_of (plan_of script)) c.heap.names state.allocation
   pub low : (p : Place) → Contains places p → p.at < nursery_place (layout_of (plan_of script)) 0 →
       IsPlaceAtStop (layout_of (plan_of script)) state.allocation p
   pub sound : IsSoundBefore (plan_of script) began state
   pub course : IsStateInCourse state
-  pub number : state.number ≡ length c.stops
-  pub few : AreFew (state.world ≡ began) script c (length c.stops + 1)
-  pub begun : c.begun ≤ length c.stops
-  pub left : IsLeft script c.rounds state.left
+  pub number : state.number ≡ length c.rows.stops
+  pub few : AreFew (state.world ≡ began) script c (length c.rows.stops + 1)
+  pub begun : c.cycle.begun ≤ length c.rows.stops
+  pub left : IsLeft script c.rows.rounds state.left
   pub goes_on : (t : State) (row : StopRow) (cycles : List CycleRow) → IsStop (plan_of script) began state t row cycles →
-      IsToldBut (plan_of script) c.rounds c.stops (told_cycles c ++ cycles) row t
+      IsToldBut (plan_of script) c.rows.rounds c.rows.stops (told_cycles c ++ cycles) row t
 
 -- the heap at a stop, by the mutators themselves
 stands_of : (t : Stopped) (c : Collector) →
-    IsStopped t c.segments (seen c).words (nurseries_of (seen c)) (registers_of (ends_of (seen c))) (queues_of (ends_of (seen c)))
+    IsStopped t c.heap.segments (seen c).words (nurseries_of (seen c)) (registers_of (ends_of (seen c))) (queues_of (ends_of (seen c)))
     (recorded_in (seen c)) (young_weaks_in (seen c)) → StandsStopped t c
-stands_of t c h = same_stopped t c.segments (seen c).words (seen c).words _ _ _ _ _ _ _ _ _ _ refl (nurseries_seen c) (registers_seen c)
+stands_of t c h = same_stopped t c.heap.segments (seen c).words (seen c).words _ _ _ _ _ _ _ _ _ _ refl (nurseries_seen c) (registers_seen c)
     (queues_seen c) (recorded_seen c) (young_seen c) h
 
 -- a node with the header of a weak pointer is one
@@ -131,7 +131,7 @@ known_or_none None = inl refl
 known_or_none (Some node) = inr refl
 
 -- the list was that of the world as the round began, and the round made none of these anew
-can_list_of : (t : Stopped) (c : Collector) → StandsStopped t c → ListsWeaks c.segments.layout t.places t.began (places_of c.weaks.list) → CanList t c
+can_list_of : (t : Stopped) (c : Collector) → StandsStopped t c → ListsWeaks c.heap.segments.layout t.places t.began (places_of c.heap.weaks.list) → CanList t c
 can_list_of t c h listed =
     let past = h.round.past t.began (contains_head t.began t.later) in
     record {
@@ -139,7 +139,7 @@ can_list_of t c h listed =
       listed = listed;
       old = record {
         blocks = λ p there inside. elim (known_or_none (node_of t.began p.name)) [
-          | inl none ↦ absurd (let high = (h.round.young p there).1 none in let low = segment_low c.segments.layout inside.0 p.at inside.1 in
+          | inl none ↦ absurd (let high = (h.round.young p there).1 none in let low = segment_low c.heap.segments.layout inside.0 p.at inside.1 in
               omega (arith, high, low))
           | inr known ↦ known
         ];
@@ -158,8 +158,8 @@ new_begins script c limits f =
     let plan : Plan = plan_of script in
     let runnable = is_runnable script limits in
     let count : ℕ = length script.threads in
-    let none : (c.rounds ≡ []) × (c.stops ≡ []) × (told_cycles c ≡ []) = f.new.nothing in
-    let no_stops : length c.stops ≡ 0 = ap (λ (stops : List StopRow). length stops) none.1 in
+    let none : (c.rows.rounds ≡ []) × (c.rows.stops ≡ []) × (told_cycles c ≡ []) = f.new.nothing in
+    let no_stops : length c.rows.stops ≡ 0 = ap (λ (stops : List StopRow). length stops) none.1 in
     let opening = opening_worked plan runnable in
     let able = start_programs plan runnable in
     let stopped : StandsStopped (stopped_in (new_world count) (start plan) f.new.heap.places (seen c)) c =
@@ -178,7 +178,7 @@ new_begins script c limits f =
       cycle = f.new.settled;
       later = λ k e. absurd (let bad : idle ≡ marking k = e in cc);
       sweeper = tt;
-      named = named_first (layout_of plan) c.names script.config.segments;
+      named = named_first (layout_of plan) c.heap.names script.config.segments;
       low = λ p there at. (f.new.heap.all p).0 there;
       sound = record {
         world = opening.world;
@@ -239,18 +239,18 @@ module _ (script : Script) (c : Collector) (limits : IsInLimits script) (h : Has
   can_list = can_list_of (stopped_in before.world h.worked h.after.places (seen c)) c stopped (subst (λ (l : Layout).
       ListsWeaks l h.after.places before.world (seen c).weaks) (sym h.kept.layout) h.after.heap.listed)
 
-  numbers : h.worked.number ≡ length c.stops
+  numbers : h.worked.number ≡ length c.rows.stops
   numbers =
-      let n = run_number plan h.run h.after.before c.stops (told_cycles c) h.after.is_run h.after.tells in
+      let n = run_number plan h.run h.after.before c.rows.stops (told_cycles c) h.after.is_run h.after.tells in
       let more : h.worked.number ≡ before.number + 1 = ap (λ (x : State). x.number) h.after.round.rest in
       omega (arith, n.0, n.1, more)
 
-  left : IsLeft script c.rounds h.worked.left
+  left : IsLeft script c.rows.rounds h.worked.left
   left = record {
     count = ap (λ (x : State). length x.left) h.after.round.rest ∙ length-map before.left _ ∙
         (states_are_sound plan h.run (is_runnable script limits) h.after.is_run).able.programs;
     each = λ m.
-        let told = left_is_told plan h.run h.after.before c.stops (told_cycles c) h.after.is_run h.after.tells m in
+        let told = left_is_told plan h.run h.after.before c.rows.stops (told_cycles c) h.after.is_run h.after.tells m in
         let count : ℕ = length (slice_index_or h.replies m []) in
         round_left plan.config before h.worked h.replies h.history m h.after.round
         ∙ ap (λ (program : List Command). drop count program) told
@@ -274,16 +274,16 @@ module _ (script : Script) (c : Collector) (limits : IsInLimits script) (h : Has
       omega (arith, number, from)
 
   goes_on : (t : State) (row : StopRow) (cycles : List CycleRow) → IsStop plan before.world h.worked t row cycles →
-      IsToldBut plan c.rounds c.stops (told_cycles c ++ cycles) row t
+      IsToldBut plan c.rows.rounds c.rows.stops (told_cycles c ++ cycles) row t
   goes_on t row cycles stop =
       let turn : Turn = record { replies = rows; history = h.history; worked = h.worked; stop = record { state = t; row = row; cycles = cycles } } in
       let is : IsTurn plan before turn = record { goes_on = h.after.goes_on; round = h.after.round; stop = stop } in
-      let told : Tells (with_turn h.run turn) (h.after.before ++ rows ∷ []) (c.stops ++ row ∷ []) (told_cycles c ++ cycles) =
-      tells_one_more h.run turn h.after.before c.stops (told_cycles c) h.after.tells in
+      let told : Tells (with_turn h.run turn) (h.after.before ++ rows ∷ []) (c.rows.stops ++ row ∷ []) (told_cycles c ++ cycles) =
+      tells_one_more h.run turn h.after.before c.rows.stops (told_cycles c) h.after.tells in
       record {
         run = with_turn h.run turn;
         is_run = run_goes_on plan h.run turn h.after.is_run is;
-        tells = subst (λ (r : List RoundRows). Tells (with_turn h.run turn) r (c.stops ++ row ∷ []) (told_cycles c ++ cycles)) (sym h.after.rounds) told;
+        tells = subst (λ (r : List RoundRows). Tells (with_turn h.run turn) r (c.rows.stops ++ row ∷ []) (told_cycles c ++ cycles)) (sym h.after.rounds) told;
         last = last_is_of_turn h.run turn;
       }
 

@@ -45,10 +45,11 @@ module _ (script : Script) (c : Collector) (run : Run) (still : IsAfterStop scri
   pub went_on : answer_of (plan_of script) (last_state run) ≡ None
   went_on = sym still.at_stop.answered ∙ goes_on
 
-  pub reserve_free : ((m : ℕ) → program_of (last_state run).left m ≡ []) ⊎ (reserve_count (layout_of (plan_of script)) ≤ reserve.free_count c.segments.segments)
+  pub reserve_free : ((m : ℕ) → program_of (last_state run).left m ≡ []) ⊎
+      (reserve_count (layout_of (plan_of script)) ≤ reserve.free_count c.heap.segments.segments)
   reserve_free = elim (enough (plan_of script) (last_state run) went_on) [
     | inl none ↦ inl (none_left (last_state run).left none)
     | inr more ↦
-        let same = counts_stand c.segments (seen c).words (last_state run).allocation stands.Free still.at_stop.heap.holds.stands in
+        let same = counts_stand c.heap.segments (seen c).words (last_state run).allocation stands.Free still.at_stop.heap.holds.stands in
         inr (omega (arith, more, same))
   ]

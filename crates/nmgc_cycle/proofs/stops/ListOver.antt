@@ -107,34 +107,34 @@ module _ (old a : Collector) (l : FinalisedLeft old a) where
   -- those that leave change nothing of the heap
   pub stopped_then : (t : Stopped) → StandsStopped t old → StandsStopped t a
   stopped_then t h =
-      let words : IsStopped t old.segments (words_in a.words) (nurseries_of old.mutators.items) (registers_of old.mutators.items)
+      let words : IsStopped t old.heap.segments (words_in a.heap.words) (nurseries_of old.mutators.items) (registers_of old.mutators.items)
       (queues_of old.mutators.items) (recorded_of old.mutators.items) (young_weaks_of old.mutators.items) =
       subst (λ (w : List ℕ).
-      IsStopped t old.segments w (nurseries_of old.mutators.items) (registers_of old.mutators.items) (queues_of old.mutators.items)
+      IsStopped t old.heap.segments w (nurseries_of old.mutators.items) (registers_of old.mutators.items) (queues_of old.mutators.items)
       (recorded_of old.mutators.items) (young_weaks_of old.mutators.items)) (sym l.words.0) h in
       subst (λ (x : Collector).
-      IsStopped t x.segments (words_in a.words) (nurseries_of x.mutators.items) (registers_of x.mutators.items) (queues_of x.mutators.items)
+      IsStopped t x.heap.segments (words_in a.heap.words) (nurseries_of x.mutators.items) (registers_of x.mutators.items) (queues_of x.mutators.items)
       (recorded_of x.mutators.items) (young_weaks_of x.mutators.items)) (sym l.rest) words
 
-  pub segments_same : a.segments ≡ old.segments
-  segments_same = ap (λ (x : Collector). x.segments) l.rest
+  pub segments_same : a.heap.segments ≡ old.heap.segments
+  segments_same = ap (λ (x : Collector). x.heap.segments) l.rest
 
 module _ (left : LeavingLists) (joining : JoiningLists) (fresh : JoinersAreNew) (old a b new : Collector) (l : FinalisedLeft old a)
-    (p : HasPromoted a b) (same : b.weaks ≡ a.weaks) where
+    (p : HasPromoted a b) (same : b.heap.weaks ≡ a.heap.weaks) where
   module _ (t : Stopped) (h : StandsStopped t old) (can : CanList t old) where
     -- the list once some have left
-    left_listed : ListsWeaks a.segments.layout t.places t.world (places_of a.weaks.list)
+    left_listed : ListsWeaks a.heap.segments.layout t.places t.world (places_of a.heap.weaks.list)
     left_listed =
-        let then = left old.segments.layout t.later t.places t.began t.world (words_in old.words) old.weaks.list can.began h.world h.represents
+        let then = left old.heap.segments.layout t.later t.places t.began t.world (words_in old.heap.words) old.heap.weaks.list can.began h.world h.represents
         can.listed can.old in
-        let kept = subst (λ (list : List OldWeak). ListsWeaks old.segments.layout t.places t.world (places_of list)) (sym l.list) then in
-        subst (λ (y : Layout). ListsWeaks y t.places t.world (places_of a.weaks.list)) (ap (λ (s : Collector). s.segments.layout) (sym l.rest)) kept
+        let kept = subst (λ (list : List OldWeak). ListsWeaks old.heap.segments.layout t.places t.world (places_of list)) (sym l.list) then in
+        subst (λ (y : Layout). ListsWeaks y t.places t.world (places_of a.heap.weaks.list)) (ap (λ (s : Collector). s.heap.segments.layout) (sym l.rest)) kept
 
-    settled_there : IsSettled t b.segments (words_in b.words) (registers_of b.mutators.items) (queues_of b.mutators.items) (moves_of b)
+    settled_there : IsSettled t b.heap.segments (words_in b.heap.words) (registers_of b.mutators.items) (queues_of b.mutators.items) (moves_of b)
     settled_there = p.settled t (stopped_then old a l t h)
 
-    moved_there : (m : Move) → Contains b.promotion.moves m → Contains (moves_of b) (moved_of m)
-    moved_there m c = contains_map moved_of b.promotion.moves m c
+    moved_there : (m : Move) → Contains b.heap.promotion.moves m → Contains (moves_of b) (moved_of m)
+    moved_there m c = contains_map moved_of b.heap.promotion.moves m c
 
     -- what moved isn't g
     is_other : (m : Moved) → Contains (moves_of b) m → m.name.maker ≢ SHARED_MAKER
@@ -148,75 +148,79 @@ module _ (left : LeavingLists) (joining : JoiningLists) (fresh : JoinersAreNew) 
         ]
 
     -- its header and its value word are among the heap's words
-    inside : (m : Move) → Contains b.promotion.moves m → value_place m.to.0 < length (words_in b.words)
+    inside : (m : Move) → Contains b.heap.promotion.moves m → value_place m.to.0 < length (words_in b.heap.words)
     inside m c =
         let k = settled_there in
         let moved = moved_there m c in
-        let there = settled_comes (young_base b.segments) (moves_of b) t.places (moved_of m) moved in
+        let there = settled_comes (young_base b.heap.segments) (moves_of b) t.places (moved_of m) moved in
         let node = is_some_of (node_of t.world m.name) (k.represents.named (new_place (moved_of m)) there).known in
         let low = k.low (moved_of m) moved in
         let o = k.blocks.held (new_place (moved_of m)) node.0 there low (is_other (moved_of m) moved) node.1 in
-        let block = is_block b.segments (young_base b.segments) m.to.0 o.0 p.sound refl o.1 in
+        let block = is_block b.heap.segments (young_base b.heap.segments) m.to.0 o.0 p.sound refl o.1 in
         let four = block.four in
         let below = block.below in
         let total = k.represents.total in
         omega (arith, four, below, total)
 
-    pub can_join : length b.promotion.moves < 2 ^ 32 → CanJoin (words_in b.words) b.weaks.list b.promotion.moves
+    pub can_join : length b.heap.promotion.moves < 2 ^ 32 → CanJoin (words_in b.heap.words) b.heap.weaks.list b.heap.promotion.moves
     can_join few = record {
       inside = inside;
-      ordered = subst IsInOrder (names_moved b.promotion.moves) settled_there.promoted.ordered;
+      ordered = subst IsInOrder (names_moved b.heap.promotion.moves) settled_there.promoted.ordered;
       new = λ m other c d.
-          let d_then : Contains a.weaks.list other = subst (λ (list : List OldWeak). Contains list other) (ap (λ (w : Weaks). w.list) same) d in
-          fresh t a.segments b.segments (words_in a.words) (words_in b.words) (nurseries_of a.mutators.items) (registers_of a.mutators.items)
+          let d_then : Contains a.heap.weaks.list other = subst (λ (list : List OldWeak). Contains list other) (ap (λ (w : Weaks). w.list) same) d in
+          fresh t a.heap.segments b.heap.segments (words_in a.heap.words) (words_in b.heap.words) (nurseries_of a.mutators.items)
+              (registers_of a.mutators.items)
           (registers_of b.mutators.items) (queues_of a.mutators.items) (queues_of b.mutators.items) (recorded_of a.mutators.items)
-          (young_weaks_of a.mutators.items) (moves_of b) (places_of a.weaks.list)
+          (young_weaks_of a.mutators.items) (moves_of b) (places_of a.heap.weaks.list)
           (stopped_then old a l t h) settled_there left_listed (moved_of m) (place_of other) (moved_there m c)
-          (contains_map place_of a.weaks.list other d_then);
+          (contains_map place_of a.heap.weaks.list other d_then);
       few = few;
     }
 
   module _ (j : MovedJoined b new) where
-    old_list : (weak : OldWeak) → Contains b.weaks.list weak → Contains a.weaks.list weak
+    old_list : (weak : OldWeak) → Contains b.heap.weaks.list weak → Contains a.heap.weaks.list weak
     old_list weak c = subst (λ (w : Weaks). Contains w.list weak) same c
 
     -- one that joined is one that moved, and is alive by its words
-    joiner : (weak : OldWeak) → Contains (moved_weaks (words_in b.words) b.promotion.moves) weak → (m : Move) × Contains b.promotion.moves m ×
-        (listed_move m ≡ weak) × IsAliveAt (words_in b.words) m.to.0
+    joiner : (weak : OldWeak) → Contains (moved_weaks (words_in b.heap.words) b.heap.promotion.moves) weak → (m : Move) × Contains b.heap.promotion.moves m ×
+        (listed_move m ≡ weak) × IsAliveAt (words_in b.heap.words) m.to.0
     joiner weak c =
-        let m = one_moved (words_in b.words) b.promotion.moves weak c in
-        (m.0, m.1, m.2, tested (words_in b.words) m.0.to.0 m.3)
+        let m = one_moved (words_in b.heap.words) b.heap.promotion.moves weak c in
+        (m.0, m.1, m.2, tested (words_in b.heap.words) m.0.to.0 m.3)
 
-    came_from : (weak : OldWeak) → Contains new.weaks.list weak → Contains a.weaks.list weak ⊎ Contains (moved_weaks (words_in b.words) b.promotion.moves) weak
+    came_from : (weak : OldWeak) → Contains new.heap.weaks.list weak → Contains a.heap.weaks.list weak ⊎
+        Contains (moved_weaks (words_in b.heap.words) b.heap.promotion.moves) weak
     came_from weak c = elim ((j.joins.list weak).0 c) [ inl was ↦ inl (old_list weak was) | inr more ↦ inr more ]
 
     -- so the list is joined
-    joined_list : HaveJoinedList (words_in b.words) (moves_of b) (places_of a.weaks.list) (places_of new.weaks.list)
+    joined_list : HaveJoinedList (words_in b.heap.words) (moves_of b) (places_of a.heap.weaks.list) (places_of new.heap.weaks.list)
     joined_list = record {
-      ordered = subst IsInOrder (sym (names_same new.weaks.list)) j.joins.ordered;
+      ordered = subst IsInOrder (sym (names_same new.heap.weaks.list)) j.joins.ordered;
       from = λ q c.
-          let x = of_places new.weaks.list q c in
+          let x = of_places new.heap.weaks.list q c in
           elim (came_from x.0 x.1) [
-            | inl was ↦ inl (subst (λ (y : Place). Contains (places_of a.weaks.list) y) x.2 (contains_map place_of a.weaks.list x.0 was))
-            | inr more ↦ let m = joiner x.0 more in inr (moved_of m.0, contains_map moved_of b.promotion.moves m.0 m.1, sym x.2 ∙ ap place_of (sym m.2), m.3)
+            | inl was ↦ inl (subst (λ (y : Place). Contains (places_of a.heap.weaks.list) y) x.2 (contains_map place_of a.heap.weaks.list x.0 was))
+            | inr more ↦ let m = joiner x.0 more in inr (moved_of m.0, contains_map moved_of b.heap.promotion.moves m.0 m.1, sym x.2 ∙ ap place_of (sym m.2),
+                m.3)
           ];
       old_stay = λ q c.
-          let x = of_places a.weaks.list q c in
-          let in_b : Contains b.weaks.list x.0 = subst (λ (w : Weaks). Contains w.list x.0) (sym same) x.1 in
-          subst (λ (y : Place). Contains (places_of new.weaks.list) y) x.2 (contains_map place_of new.weaks.list x.0 ((j.joins.list x.0).1 (inl in_b)));
+          let x = of_places a.heap.weaks.list q c in
+          let in_b : Contains b.heap.weaks.list x.0 = subst (λ (w : Weaks). Contains w.list x.0) (sym same) x.1 in
+          subst (λ (y : Place). Contains (places_of new.heap.weaks.list) y) x.2
+              (contains_map place_of new.heap.weaks.list x.0 ((j.joins.list x.0).1 (inl in_b)));
       new_join = λ m c alive.
-          let x = map_contains moved_of b.promotion.moves m c in
-          let at : IsAliveAt (words_in b.words) x.0.to.0 = subst (λ (y : Moved). IsAliveAt (words_in b.words) y.to) x.2 alive in
+          let x = map_contains moved_of b.heap.promotion.moves m c in
+          let at : IsAliveAt (words_in b.heap.words) x.0.to.0 = subst (λ (y : Moved). IsAliveAt (words_in b.heap.words) y.to) x.2 alive in
           let found = contains_map listed_move (filter (λ (z : Move).
-          is_alive_at (words_in b.words) z.to.0) b.promotion.moves) x.0 (filter_keeps (λ (z : Move).
-          is_alive_at (words_in b.words) z.to.0) b.promotion.moves x.0 x.1 (tests (words_in b.words) x.0.to.0 at)) in
+          is_alive_at (words_in b.heap.words) z.to.0) b.heap.promotion.moves) x.0 (filter_keeps (λ (z : Move).
+          is_alive_at (words_in b.heap.words) z.to.0) b.heap.promotion.moves x.0 x.1 (tests (words_in b.heap.words) x.0.to.0 at)) in
           subst (λ (y : Moved).
-          Contains (places_of new.weaks.list) (new_place y)) (sym x.2)
-          (contains_map place_of new.weaks.list (listed_move x.0) ((j.joins.list (listed_move x.0)).1 (inr found)));
+          Contains (places_of new.heap.weaks.list) (new_place y)) (sym x.2)
+          (contains_map place_of new.heap.weaks.list (listed_move x.0) ((j.joins.list (listed_move x.0)).1 (inr found)));
     }
 
     -- all of the collector as after the joining
-    new_is : new ≡ record b { words = new.words; weaks = new.weaks }
+    new_is : new ≡ record b { heap = record b.heap { words = new.heap.words; weaks = new.heap.weaks } }
     new_is = j.rest
 
     same_moves : moves_of new ≡ moves_of b
@@ -225,67 +229,55 @@ module _ (left : LeavingLists) (joining : JoiningLists) (fresh : JoinersAreNew) 
     pub listed : HasListed old new
     listed = record {
       from = λ weak c. elim (came_from weak c) [
-        | inl was ↦ inl (filter_had (is_alive (words_in old.words)) old.weaks.list weak (subst (λ (list : List OldWeak). Contains list weak) l.list was)).0
+        | inl was ↦ inl (filter_had (is_alive (words_in old.heap.words)) old.heap.weaks.list weak
+            (subst (λ (list : List OldWeak). Contains list weak) l.list was)).0
         | inr more ↦ let m = joiner weak more in inr (
           moved_of m.0,
-          subst (λ (list : List Moved). Contains list (moved_of m.0)) (sym same_moves) (contains_map moved_of b.promotion.moves m.0 m.1),
+          subst (λ (list : List Moved). Contains list (moved_of m.0)) (sym same_moves) (contains_map moved_of b.heap.promotion.moves m.0 m.1),
           ap (λ (w : OldWeak). w.weak) (sym m.2),
         )
       ];
       lists = λ t h can.
-          let then = joining t a.segments b.segments (words_in a.words) (words_in b.words) (nurseries_of a.mutators.items)
+          let then = joining t a.heap.segments b.heap.segments (words_in a.heap.words) (words_in b.heap.words) (nurseries_of a.mutators.items)
           (registers_of a.mutators.items) (registers_of b.mutators.items) (queues_of a.mutators.items) (queues_of b.mutators.items)
-          (recorded_of a.mutators.items) (young_weaks_of a.mutators.items) (moves_of b) (places_of a.weaks.list)
-          (places_of new.weaks.list) (stopped_then old a l t h) (settled_there t h can) p.layout p.copied (left_listed t h can) joined_list in
+          (recorded_of a.mutators.items) (young_weaks_of a.mutators.items) (moves_of b) (places_of a.heap.weaks.list)
+          (places_of new.heap.weaks.list) (stopped_then old a l t h) (settled_there t h can) p.layout p.copied (left_listed t h can) joined_list in
           subst (λ (x : Collector).
-          ListsWeaks x.segments.layout (settled (young_base x.segments) (moves_of x) t.places) t.world (places_of new.weaks.list)) (sym new_is) then;
+          ListsWeaks x.heap.segments.layout (settled (young_base x.heap.segments) (moves_of x) t.places) t.world (places_of new.heap.weaks.list))
+              (sym new_is) then;
       deaths = j.deaths ∙ ap (λ (w : Weaks). w.deaths) same ∙ l.deaths;
     }
 
     -- and the promotion is that of the whole step
     pub promoted : HasPromoted old new
     promoted = record {
-      rest = new_is ∙ ap (λ (x : Collector). record x { words = new.words; weaks = new.weaks }) p.rest ∙
-          ap (λ (x : Collector). record x {
-            words = new.words;
-            segments = b.segments;
-            promotion = b.promotion;
-            names = b.names;
-            mutators = b.mutators;
-            weaks = new.weaks;
-          }) l.rest
-          ∙ sym (ap (λ (x : Collector). record old {
-            words = new.words;
-            segments = x.segments;
-            promotion = x.promotion;
-            names = x.names;
-            mutators = x.mutators;
-            weaks = new.weaks;
-          }) new_is);
+      rest = new_is ∙ ap (λ (x : Collector). record x { heap = record x.heap { words = new.heap.words; weaks = new.heap.weaks } }) p.rest ∙
+          ap (λ (x : Collector). record x { heap = record b.heap { words = new.heap.words; weaks = new.heap.weaks }; mutators = b.mutators }) l.rest
+          ∙ sym (ap (λ (x : Collector). record old { heap = record x.heap { words = new.heap.words; weaks = new.heap.weaks }; mutators = x.mutators }) new_is);
       has_words = j.words.1;
-      noted = subst (λ (y : Collector × Collector). HaveNoted (moves_of y.1) y.0.names y.1.names) (λ i. (l.rest i, sym new_is i)) p.noted;
+      noted = subst (λ (y : Collector × Collector). HaveNoted (moves_of y.1) y.0.heap.names y.1.heap.names) (λ i. (l.rest i, sym new_is i)) p.noted;
       forward = p.forward;
       held = ap (λ (x : Collector). x.mutators.items) new_is ∙ p.held ∙
           ap (λ (x : Collector). map (promoted_by p.forward) x.mutators.items) l.rest;
       settled = λ t h. subst (λ (y : Collector × List ℕ).
-          IsSettled t y.0.segments y.1 (registers_of y.0.mutators.items) (queues_of y.0.mutators.items) (moves_of y.0)) (λ i. (
+          IsSettled t y.0.heap.segments y.1 (registers_of y.0.mutators.items) (queues_of y.0.mutators.items) (moves_of y.0)) (λ i. (
             sym new_is i,
             sym j.words.0 i,
           )) (p.settled t (stopped_then old a l t h));
       places = λ t h x shown.
-          let shown_then : StandsFor a.segments (words_in a.words) x =
+          let shown_then : StandsFor a.heap.segments (words_in a.heap.words) x =
           subst (λ (y : Segments × List ℕ). StandsFor y.0 y.1 x) (λ i. (sym (segments_same old a l) i, sym l.words.0 i)) shown in
           let r = p.places t (stopped_then old a l t h) x shown_then in (
             r.0,
-            subst (λ (y : Collector × Collector). PlacesEach y.0.segments.layout t.world x (map (λ (m : Moved).
+            subst (λ (y : Collector × Collector). PlacesEach y.0.heap.segments.layout t.world x (map (λ (m : Moved).
                 m.name) (moves_of y.1)) r.0) (λ i. (l.rest i, sym new_is i)) r.1,
-            subst (λ (y : Collector × List ℕ). StandsFor y.0.segments y.1 r.0) (λ i. (sym new_is i, sym j.words.0 i)) r.2,
+            subst (λ (y : Collector × List ℕ). StandsFor y.0.heap.segments y.1 r.0) (λ i. (sym new_is i, sym j.words.0 i)) r.2,
           );
-      sound = subst (λ (x : Collector). IsSegments x.segments) (sym new_is) p.sound;
-      marks = subst (λ (y : Collector × Collector). KeepsMarks y.0.segments y.1.segments) (λ i. (l.rest i, sym new_is i)) p.marks;
-      layout = ap (λ (x : Collector). x.segments.layout) new_is ∙ p.layout ∙ ap (λ (x : Collector). x.segments.layout) l.rest;
-      lists = subst (λ (y : Collector × Collector). IsFor y.0.segments.layout y.1.promotion) (λ i. (l.rest i, sym new_is i)) p.lists;
-      copied = subst (λ (y : Collector × Collector × List ℕ × List ℕ). HaveMoved (young_base y.0.segments) (moves_of y.1) y.2 y.3) (λ i. (
+      sound = subst (λ (x : Collector). IsSegments x.heap.segments) (sym new_is) p.sound;
+      marks = subst (λ (y : Collector × Collector). KeepsMarks y.0.heap.segments y.1.heap.segments) (λ i. (l.rest i, sym new_is i)) p.marks;
+      layout = ap (λ (x : Collector). x.heap.segments.layout) new_is ∙ p.layout ∙ ap (λ (x : Collector). x.heap.segments.layout) l.rest;
+      lists = subst (λ (y : Collector × Collector). IsFor y.0.heap.segments.layout y.1.heap.promotion) (λ i. (l.rest i, sym new_is i)) p.lists;
+      copied = subst (λ (y : Collector × Collector × List ℕ × List ℕ). HaveMoved (young_base y.0.heap.segments) (moves_of y.1) y.2 y.3) (λ i. (
         l.rest i,
         sym new_is i,
         l.words.0 i,
@@ -294,9 +286,9 @@ module _ (left : LeavingLists) (joining : JoiningLists) (fresh : JoinersAreNew) 
     }
 
 -- those of the list lie within the heap's words
-pub lists_inside : (t : Stopped) (c : Collector) → StandsStopped t c → CanList t c → AreInside (words_in c.words) c.weaks.list
+pub lists_inside : (t : Stopped) (c : Collector) → StandsStopped t c → CanList t c → AreInside (words_in c.heap.words) c.heap.weaks.list
 lists_inside t c h can weak d =
-    let l = can.listed.sound (place_of weak) (contains_map place_of c.weaks.list weak d) in
+    let l = can.listed.sound (place_of weak) (contains_map place_of c.heap.weaks.list weak d) in
     let now = can.old.weak weak.weak l.1.0 l.1.1 in
     let tracked : IsTracked t.world (earlier_of t) weak.weak = IsReached.start weak.weak (
       t.began,
@@ -306,6 +298,6 @@ lists_inside t c h can weak d =
     let placed = h.represents.tracked weak.weak (Weak now.0) tracked now.1 in
     let same = h.represents.one (record { at = placed.at; name = weak.weak }) (place_of weak) placed.there l.0 (inl refl) in
     let e : placed.at ≡ weak.at.0 = ap (λ (q : Place). q.at) same in
-    let within = lies_within c.segments.layout (record { at = placed.at; name = weak.weak }) 5 (omega arith) placed.object.lies in
+    let within = lies_within c.heap.segments.layout (record { at = placed.at; name = weak.weak }) 5 (omega arith) placed.object.lies in
     let total = h.represents.total in
     omega (arith, e, within, total)

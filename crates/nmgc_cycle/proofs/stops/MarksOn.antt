@@ -21,7 +21,7 @@ added entries a b m (doing.Marking k) q is h =
     (h.0, h.1 ∙ ap (λ (y : Marking). doing.Marking (record y { marker = h.0 })) same)
 added entries a b m (doing.Sweeping w) q is h = absurd (let bad : doing.Sweeping w ≡ doing.Marking m = is in cc)
 
-module _ (stop : ℕ) (old new : Collector) (n : Marking) (marks : new.progress ≡ doing.Marking n) where
+module _ (stop : ℕ) (old new : Collector) (n : Marking) (marks : new.cycle.progress ≡ doing.Marking n) where
   -- a cycle that was closed marks no more
   open_still : (p : Doing) → Closes stop p old new → new ≡ old
   open_still doing.Idle h = h
@@ -34,36 +34,38 @@ module _ (stop : ℕ) (old new : Collector) (n : Marking) (marks : new.progress 
   in_progress doing.Idle h = h
   in_progress (doing.Marking m) h = h
   in_progress (doing.Sweeping w) (inl h) =
-      absurd (let bad : doing.Idle ≡ doing.Marking n = sym (ap (λ (c : Collector). c.progress) h.1) ∙ marks in cc)
+      absurd (let bad : doing.Idle ≡ doing.Marking n = sym (ap (λ (c : Collector). c.cycle.progress) h.1) ∙ marks in cc)
   in_progress (doing.Sweeping w) (inr h) = h.1
 
   -- where none began, nothing was done
-  none_begun : (trigger : ℕ) (left : Bool) → new.begun ≡ old.begun → Proceeds trigger left stop old new → new ≡ old
+  none_begun : (trigger : ℕ) (left : Bool) → new.cycle.begun ≡ old.cycle.begun → Proceeds trigger left stop old new → new ≡ old
   none_begun trigger left begun (inl h) =
-      let idle : new.progress ≡ doing.Idle = ap (λ (c : Collector). c.progress) h.1.is ∙ finished_idle stop h.1.started h.1.last h.1.again in
+      let idle : new.cycle.progress ≡ doing.Idle = ap (λ (c : Collector). c.cycle.progress) h.1.is ∙ finished_idle stop h.1.started h.1.last h.1.again in
       absurd (let bad : doing.Idle ≡ doing.Marking n = sym idle ∙ marks in cc)
   none_begun trigger left begun (inr (undue, inl h)) =
-      let one_more : new.begun ≡ old.begun + 1 = ap (λ (c : Collector). c.begun) h.1.is in absurd (omega (arith, begun, one_more))
+      let one_more : new.cycle.begun ≡ old.cycle.begun + 1 = ap (λ (c : Collector). c.cycle.begun) h.1.is in absurd (omega (arith, begun, one_more))
   none_begun trigger left begun (inr (undue, inr h)) = h.1
 
-ends_begun : (stop : ℕ) (p : Doing) (old new : Collector) → Ends stop p old new → new.begun ≡ old.begun
-ends_begun stop doing.Idle old new h = ap (λ (c : Collector). c.begun) h
-ends_begun stop (doing.Marking m) old new h = ap (λ (c : Collector). c.begun) h
-ends_begun stop (doing.Sweeping w) old new (inl h) = ap (λ (c : Collector). c.begun) h.1
-ends_begun stop (doing.Sweeping w) old new (inr h) = ap (λ (c : Collector). c.begun) h.1
+ends_begun : (stop : ℕ) (p : Doing) (old new : Collector) → Ends stop p old new → new.cycle.begun ≡ old.cycle.begun
+ends_begun stop doing.Idle old new h = ap (λ (c : Collector). c.cycle.begun) h
+ends_begun stop (doing.Marking m) old new h = ap (λ (c : Collector). c.cycle.begun) h
+ends_begun stop (doing.Sweeping w) old new (inl h) = ap (λ (c : Collector). c.cycle.begun) h.1
+ends_begun stop (doing.Sweeping w) old new (inr h) = ap (λ (c : Collector). c.cycle.begun) h.1
 
 pub marks_on : (script : Script) (old new : Collector) → IsStepped script old new → MarksOn old new
 marks_on script old new x = λ m n was marks begun.
-    let same : x.ended.begun ≡ old.begun = ends_begun x.number x.closed.progress x.closed x.ended x.ends ∙
-    ap (λ (c : Collector). c.begun) x.closes.rest ∙ ap (λ (c : Collector). c.begun) x.adds.rest ∙ ap (λ (c : Collector). c.begun) x.promotes.rest in
+    let same : x.ended.cycle.begun ≡ old.cycle.begun = ends_begun x.number x.closed.cycle.progress x.closed x.ended x.ends ∙
+    ap (λ (c : Collector). c.cycle.begun) x.closes.rest ∙ ap (λ (c : Collector). c.cycle.begun) x.adds.rest ∙
+        ap (λ (c : Collector). c.cycle.begun) x.promotes.rest in
     let last : new ≡ x.ended = none_begun x.number x.ended new n marks script.config.trigger x.some (begun ∙ sym same) x.proceeds in
-    let third : x.ended.progress ≡ doing.Marking n = sym (ap (λ (c : Collector). c.progress) last) ∙ marks in
-    let ended : x.ended ≡ x.closed = in_progress x.number x.closed x.ended n third x.closed.progress x.ends in
-    let second : x.closed.progress ≡ doing.Marking n = sym (ap (λ (c : Collector). c.progress) ended) ∙ third in
-    let closed : x.closed ≡ x.added = open_still x.number x.added x.closed n second x.added.progress x.closes.closes in
-    let first : x.added.progress ≡ doing.Marking n = sym (ap (λ (c : Collector). c.progress) closed) ∙ second in
-    let from : x.promoted.progress ≡ doing.Marking m = ap (λ (c : Collector). c.progress) x.promotes.rest ∙ was in
-    let add = added (remembered_by x.promoted.mutators.items) x.promoted.segments x.added.segments m x.promoted.progress x.added.progress from x.adds.adds in
+    let third : x.ended.cycle.progress ≡ doing.Marking n = sym (ap (λ (c : Collector). c.cycle.progress) last) ∙ marks in
+    let ended : x.ended ≡ x.closed = in_progress x.number x.closed x.ended n third x.closed.cycle.progress x.ends in
+    let second : x.closed.cycle.progress ≡ doing.Marking n = sym (ap (λ (c : Collector). c.cycle.progress) ended) ∙ third in
+    let closed : x.closed ≡ x.added = open_still x.number x.added x.closed n second x.added.cycle.progress x.closes.closes in
+    let first : x.added.cycle.progress ≡ doing.Marking n = sym (ap (λ (c : Collector). c.cycle.progress) closed) ∙ second in
+    let from : x.promoted.cycle.progress ≡ doing.Marking m = ap (λ (c : Collector). c.cycle.progress) x.promotes.rest ∙ was in
+    let add = added (remembered_by x.promoted.mutators.items) x.promoted.heap.segments x.added.heap.segments m x.promoted.cycle.progress
+        x.added.cycle.progress from x.adds.adds in
     let both : doing.Marking n ≡ doing.Marking (record m { marker = add.0 }) = sym first ∙ add.1 in
     let is : n ≡ record m { marker = add.0 } = cc in
     is ∙ ap (λ (marker : MarkerSeen). record m { marker = marker }) (sym (ap (λ (y : Marking). y.marker) is))

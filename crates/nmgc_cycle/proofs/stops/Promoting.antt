@@ -81,14 +81,14 @@ module _ (laws : HasPromotionLaws) (script : Script) (old new : Collector) (kept
 
   -- the collector, by what the promotion changed
   abbrev mid : Collector
-  mid = record old { words = new.words; segments = new.segments; promotion = new.promotion; names = new.names; mutators = new.mutators; weaks = new.weaks }
+  mid = record old { heap = new.heap; mutators = new.mutators }
 
   same_waits : SameWait s.allocation t.allocation
-  same_waits = all_placing_waits old.segments.layout s.world s.allocation t.allocation (moved_names new) (after.placed script old new kept b p).1
+  same_waits = all_placing_waits old.heap.segments.layout s.world s.allocation t.allocation (moved_names new) (after.placed script old new kept b p).1
 
-  placed : HasPlaced old.segments new.segments (seen old).words (words_in new.words) s.allocation t.allocation
+  placed : HasPlaced old.heap.segments new.heap.segments (seen old).words (words_in new.heap.words) s.allocation t.allocation
   placed = record {
-    layout = old.segments.layout;
+    layout = old.heap.segments.layout;
     world = s.world;
     names = moved_names new;
     stood = b.stands;
@@ -97,9 +97,9 @@ module _ (laws : HasPromotionLaws) (script : Script) (old new : Collector) (kept
     marks = p.marks;
   }
 
-  keeps : KeepsWaiting old.segments new.segments s.allocation t.allocation
+  keeps : KeepsWaiting old.heap.segments new.heap.segments s.allocation t.allocation
   keeps = record {
-    waits = laws.waits old.segments new.segments (seen old).words (words_in new.words) s.allocation t.allocation placed;
+    waits = laws.waits old.heap.segments new.heap.segments (seen old).words (words_in new.heap.words) s.allocation t.allocation placed;
     marks = λ number block. ap (λ (marks : List ℕ). slice_index marks block) (p.marks.marks number);
     names = λ number is. ap (λ (x : Cells). x.names) (same_waits.same number is);
     count =
@@ -123,7 +123,7 @@ module _ (laws : HasPromotionLaws) (script : Script) (old new : Collector) (kept
 
   -- the list of weak pointers is that of the heap
   module _ (l : HasListed old new) where
-    abbrev heap : HoldsAtStop (layout_of plan) t (words_in new.words) new.segments (ends_of (seen new)) (seen new).weaks
+    abbrev heap : HoldsAtStop (layout_of plan) t (words_in new.heap.words) new.heap.segments (ends_of (seen new)) (seen new).weaks
     heap = after.heap script old new kept b p laws.back l
 
     -- the state is sound
@@ -167,7 +167,7 @@ module _ (laws : HasPromotionLaws) (script : Script) (old new : Collector) (kept
     -- the cycle in progress
 
     was_promoted : (c : Cycle) → snapshots s.progress ≡ c.snapshot ∷ [] →
-        beside.HasPromoted c (after.at_stop script old new kept b p) old.segments new.segments (seen old).words (words_in new.words)
+        beside.HasPromoted c (after.at_stop script old new kept b p) old.heap.segments new.heap.segments (seen old).words (words_in new.heap.words)
         (worked.registers_of new.mutators.items) (worked.queues_of new.mutators.items) (moves_of new) s.allocation t.allocation
     was_promoted c later = record {
       later_is = later;
@@ -185,15 +185,15 @@ module _ (laws : HasPromotionLaws) (script : Script) (old new : Collector) (kept
 
     -- what died at the last closing is what had died
     cycle_same : (seen mid).cycle ≡ (seen old).cycle
-    cycle_same = ap (λ (deaths : List Death). cycle_in old.progress (died deaths)) l.deaths
+    cycle_same = ap (λ (deaths : List Death). cycle_in old.cycle.progress (died deaths)) l.deaths
 
     -- a listed weak pointer of the snapshot was listed before
-    was_listed : (c : Cycle) → snapshots s.progress ≡ c.snapshot ∷ [] → (q : Place) → Contains (places_of new.weaks.list) q →
-        IsSome (node_of c.snapshot q.name) → Contains (places_of old.weaks.list) q
+    was_listed : (c : Cycle) → snapshots s.progress ≡ c.snapshot ∷ [] → (q : Place) → Contains (places_of new.heap.weaks.list) q →
+        IsSome (node_of c.snapshot q.name) → Contains (places_of old.heap.weaks.list) q
     was_listed c spoken q there known =
-        let x = of_places new.weaks.list q there in
+        let x = of_places new.heap.weaks.list q there in
         elim (l.from x.0 x.1) [
-          | inl was ↦ subst (λ (y : Place). Contains (places_of old.weaks.list) y) x.2 (contains_map place_of old.weaks.list x.0 was)
+          | inl was ↦ subst (λ (y : Place). Contains (places_of old.heap.weaks.list) y) x.2 (contains_map place_of old.heap.weaks.list x.0 was)
           | inr m ↦
               let name : q.name ≡ m.0.name = sym (ap (λ (y : Place). y.name) x.2) ∙ m.2 in
               absurd (not_of_snapshot c spoken m.0 m.1 (subst (λ (n : Name). IsSome (node_of c.snapshot n)) name known))
@@ -218,9 +218,10 @@ module _ (laws : HasPromotionLaws) (script : Script) (old new : Collector) (kept
         ((k : Cycle) → q ≡ marking k → k.from + 1 ≤ s.number) →
         HoldsInCycle (λ (k : Cycle). IsPacedAfterRound script.config.quota k s (seen old)) q s (seen old) b.places →
         HoldsInCycle (λ (k : Cycle). IsPacedPromoted script.config.quota k t (seen mid)) q t (seen mid) heap.places
-    cycle idle spoken is later h = laws.settled s.begun old.segments new.segments (seen old).words (words_in new.words) s.allocation t.allocation placed h
+    cycle idle spoken is later h = laws.settled s.begun old.heap.segments new.heap.segments (seen old).words (words_in new.heap.words) s.allocation
+        t.allocation placed h
     cycle (marking c) spoken is later h = (
-      laws.marking c s (seen old) (seen mid) (after.at_stop script old new kept b p) (seen old).words (words_in new.words)
+      laws.marking c s (seen old) (seen mid) (after.at_stop script old new kept b p) (seen old).words (words_in new.heap.words)
           (worked.registers_of new.mutators.items) (worked.queues_of new.mutators.items) (moves_of new) t.allocation is.0 refl h.0
           (was_promoted c spoken) refl (left_of c spoken h.0.queue_room)
           (after.remembers script old new kept b p),
@@ -231,26 +232,26 @@ module _ (laws : HasPromotionLaws) (script : Script) (old new : Collector) (kept
     )
     cycle (sweeping c closed) spoken is later h = (
       subst (λ (x : CycleSeen).
-          IsSweeping c closed t.allocation new.segments x (seen old).sweeper) (sym cycle_same)
-          (laws.sweeping c closed old.segments new.segments (seen old).words (words_in new.words) s.allocation t.allocation (seen old).cycle
+          IsSweeping c closed t.allocation new.heap.segments x (seen old).sweeper) (sym cycle_same)
+          (laws.sweeping c closed old.heap.segments new.heap.segments (seen old).words (words_in new.heap.words) s.allocation t.allocation (seen old).cycle
           (seen old).sweeper placed h.0),
-      laws.settled s.begun old.segments new.segments (seen old).words (words_in new.words) s.allocation t.allocation placed h.1,
+      laws.settled s.begun old.heap.segments new.heap.segments (seen old).words (words_in new.heap.words) s.allocation t.allocation placed h.1,
     )
 
     sweeper : (q : Progress) → Sweeps q s old → Sweeps q t mid
     sweeper idle h = tt
     sweeper (marking k) h = (
-      record { notes = h.0.notes; left = laws.left old.segments new.segments (sweeper_in old.progress) keeps.waits p.layout h.0.left },
+      record { notes = h.0.notes; left = laws.left old.heap.segments new.heap.segments (sweeper_in old.cycle.progress) keeps.waits p.layout h.0.left },
       h.1,
       h.2,
       h.3,
     )
     sweeper (sweeping k closed) h =
-        let work = laws.work k closed (seen old).words (words_in new.words) s.allocation t.allocation old.segments new.segments (seen old).cycle
-        (sweeper_in old.progress) h.1 h.0 (after.placed script old new kept b p).2 keeps in (
+        let work = laws.work k closed (seen old).words (words_in new.heap.words) s.allocation t.allocation old.heap.segments new.heap.segments (seen old).cycle
+        (sweeper_in old.cycle.progress) h.1 h.0 (after.placed script old new kept b p).2 keeps in (
           work.1,
           subst (λ (x : CycleSeen).
-              IsAtWork k closed (words_in new.words) t.allocation new.segments x (sweeper_in old.progress)) (sym cycle_same) work.0,
+              IsAtWork k closed (words_in new.heap.words) t.allocation new.heap.segments x (sweeper_in old.cycle.progress)) (sym cycle_same) work.0,
         )
 
     -- what moved was noted, and the rest has its entries
@@ -262,38 +263,39 @@ module _ (laws : HasPromotionLaws) (script : Script) (old new : Collector) (kept
         ((after.settled_heap script old new kept b p).promoted.sound m.name (contains_map (λ (x : Moved). x.name) (moves_of new) m there)).0.0).1
 
     moved_lies : (m : Moved) → Contains (moves_of new) m → (number : ℕ) × (block : ℕ) × LiesIn t.allocation number block m.name ×
-        (m.to ≡ block_place new.segments.layout number (cells t.allocation number).class block)
+        (m.to ≡ block_place new.heap.segments.layout number (cells t.allocation number).class block)
     moved_lies m there = elim (((after.told script old new kept b p laws.back l).1 (new_place m)).0
-        (settled_comes (young_base new.segments) (moves_of new) b.places m there)) [
+        (settled_comes (young_base new.heap.segments) (moves_of new) b.places m there)) [
           | inl g ↦ absurd (moved_other m there (ap (λ (q : Place). q.name) g))
           | inr x ↦ (x.number, x.block, x.lies, x.at)
         ]
 
-    same_base : young_base new.segments ≡ nursery_place (layout_of plan) 0
+    same_base : young_base new.heap.segments ≡ nursery_place (layout_of plan) 0
     same_base = ap (λ (y : Layout). nursery_place y 0) (after.layout_is script old new kept b p)
 
     -- an old place in a segment has its entry
-    old_named : (q : Place) → Contains b.places q → q.at < young_base new.segments → q.name ≢ shared_name → slice_get old.names (entry_of q.at) ≡ Some q.name
+    old_named : (q : Place) → Contains b.places q → q.at < young_base new.heap.segments → q.name ≢ shared_name → slice_get old.heap.names (entry_of q.at) ≡
+        Some q.name
     old_named q there low other = elim (b.low q there (let e = same_base in omega (arith, low, e))) [
       | inl g ↦ absurd (other (ap (λ (x : Place). x.name) g))
-      | inr x ↦ ap (λ (at : ℕ). slice_get old.names (entry_of at)) x.at ∙ b.named x.number x.block q.name x.lies
+      | inr x ↦ ap (λ (at : ℕ). slice_get old.heap.names (entry_of at)) x.at ∙ b.named x.number x.block q.name x.lies
     ]
 
     came : (number block : ℕ) (name : Name) → LiesIn t.allocation number block name →
-        ((m : Moved) × Contains (moves_of new) m × (m.to ≡ block_place new.segments.layout number (cells t.allocation number).class block)) ⊎
-        (named_at new.segments.layout old.names number (cells t.allocation number).class block ≡ Some name)
+        ((m : Moved) × Contains (moves_of new) m × (m.to ≡ block_place new.heap.segments.layout number (cells t.allocation number).class block)) ⊎
+        (named_at new.heap.segments.layout old.heap.names number (cells t.allocation number).class block ≡ Some name)
     came number block name lies =
-        let q : Place = record { at = block_place new.segments.layout number (cells t.allocation number).class block; name = name } in
+        let q : Place = record { at = block_place new.heap.segments.layout number (cells t.allocation number).class block; name = name } in
         let there = ((after.told script old new kept b p laws.back l).1 q).1 (inr (record { number = number; block = block; lies = lies; at = refl })) in
-        elim (settled_cases (young_base new.segments) (moves_of new) b.places q there) [
+        elim (settled_cases (young_base new.heap.segments) (moves_of new) b.places q there) [
           | inl x ↦ inl (x.0, x.1, sym (ap (λ (y : Place). y.at) x.2))
           | inr x ↦ inr (old_named q x.0 x.1 (λ g. sound.sound_blocks.shared number block (subst (λ (n : Name). LiesIn t.allocation number block n) g lies)))
         ]
 
-    named_then : AreNamed (layout_of plan) new.names t.allocation
+    named_then : AreNamed (layout_of plan) new.heap.names t.allocation
     named_then = subst (λ (y : Layout).
-        AreNamed y new.names t.allocation) (after.layout_is script old new kept b p)
-        (named_noted new.segments (words_in new.words) t.allocation (moves_of new) old.names new.names p.sound
+        AreNamed y new.heap.names t.allocation) (after.layout_is script old new kept b p)
+        (named_noted new.heap.segments (words_in new.heap.words) t.allocation (moves_of new) old.heap.names new.heap.names p.sound
         (after.placed script old new kept b p).2 p.noted moved_lies came)
 
     -- what is kept
@@ -302,7 +304,7 @@ module _ (laws : HasPromotionLaws) (script : Script) (old new : Collector) (kept
     still_kept = record {
       layout = after.layout_is script old new kept b p;
       sound = p.sound;
-      lists = subst (λ (l : Layout). IsFor l new.promotion) (sym p.layout) p.lists;
+      lists = subst (λ (l : Layout). IsFor l new.heap.promotion) (sym p.layout) p.lists;
       entries = subst (λ (y : Layout × ℕ). y.0.segments * y.0.words ≤ MIN_BLOCK_WORDS * y.1) (λ i. (sym p.layout i, sym p.noted.count i)) kept.entries;
       has_words = p.has_words;
       count = ap (λ (l : List Mutator). length l) p.held ∙ length-map old.mutators.items (promoted_by p.forward) ∙ kept.count;

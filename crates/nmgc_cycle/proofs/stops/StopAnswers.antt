@@ -24,7 +24,7 @@ use Rattle.nmgc_cycle.proofs.stops.WholeStop.{whole_stop}
 
 -- with a run that came to a state for which it stands, a collector is still
 still : (script : Script) (c : Collector) (rounds : List RoundRows) (stops : List StopRow) (cycles : List CycleRow) (row : StopRow) (t : State) →
-    c.rounds ≡ rounds → c.stops ≡ stops ++ row ∷ [] → told_cycles c ≡ cycles → (told : IsToldBut (plan_of script) rounds stops cycles row t) →
+    c.rows.rounds ≡ rounds → c.rows.stops ≡ stops ++ row ∷ [] → told_cycles c ≡ cycles → (told : IsToldBut (plan_of script) rounds stops cycles row t) →
     StandsAt script c t → AreFewAtStop script c → c.answered ≡ answer_of (plan_of script) t → IsAfterStop script c told.run
 still script c rounds stops cycles row t rounds_are stops_are cycles_are told stands few answers =
     let at : StandsAt script c (last_state told.run) = subst (λ (s : State). StandsAt script c s) (sym told.last) stands in
@@ -33,7 +33,7 @@ still script c rounds stops cycles row t rounds_are stops_are cycles_are told st
       at_stop = record {
         is_run = told.is_run;
         tells =
-            subst (λ (r : List RoundRows). Tells told.run r c.stops (told_cycles c)) (sym rounds_are)
+            subst (λ (r : List RoundRows). Tells told.run r c.rows.stops (told_cycles c)) (sym rounds_are)
             (subst (λ (r : List StopRow). Tells told.run rounds r (told_cycles c)) (sym stops_are)
             (subst (λ (r : List CycleRow). Tells told.run rounds (stops ++ row ∷ []) r) (sym cycles_are) told.tells));
         matches = at.matches;
@@ -48,9 +48,9 @@ still script c rounds stops cycles row t rounds_are stops_are cycles_are told st
     }
 
 module _ (script : Script) (old new : Collector) (b : Begins script old) (many : ℕ) (led : IsLed script b.began b.state many old new)
-    (rounds_are : new.rounds ≡ old.rounds)
+    (rounds_are : new.rows.rounds ≡ old.rows.rounds)
     (stops : List StopRow) (answered : Option End) (row : StopRow)
-    (stops_are : stops ≡ old.stops ++ row ∷ [])
+    (stops_are : stops ≡ old.rows.stops ++ row ∷ [])
     (row_is : row ≡ stop_row led.state many) where
   abbrev plan : Plan
   plan = plan_of script
@@ -61,16 +61,14 @@ module _ (script : Script) (old new : Collector) (b : Begins script old) (many :
 
   -- the collector, once its row was told
   abbrev pub last : Collector
-  last = record new { stops = stops; answered = answered }
+  last = record new { rows = record new.rows { stops = stops }; answered = answered }
 
   stands : StandsAt script last t
   stands = stands_told script new last t t refl refl led.stands.matches.collect led.stands.matches.full led.stands
 
   few : AreFewAtStop script last
-  few = subst (λ (rows : List StopRow). AreFewAtStop script (record new {
-    stops = rows;
-    answered = answered;
-  })) (sym stops_are) (few_at_stop script new old.stops row answered led.few led.begun led.more)
+  few = subst (λ (rows : List StopRow). AreFewAtStop script (record new { rows = record new.rows { stops = rows }; answered = answered })) (sym stops_are)
+      (few_at_stop script new old.rows.stops row answered led.few led.begun led.more)
 
   -- the stop is one of the run, and for the run with it the collector stands
   abbrev pub Goes : Type 0
@@ -83,7 +81,7 @@ module _ (script : Script) (old new : Collector) (b : Begins script old) (many :
       whole_stop plan b.began b.state led.promoted led.closed led.ended t many led.first led.own row led.promotes led.closes led.ends
       led.proceeds row_is in
       let told = b.goes_on t row rows stop in
-      (rows, stop, still script last old.rounds old.stops (told_cycles old ++ rows) row t rounds_are stops_are led.cycles told stands few answers)
+      (rows, stop, still script last old.rows.rounds old.rows.stops (told_cycles old ++ rows) row t rounds_are stops_are led.cycles told stands few answers)
 
   -- the end of the run
   pub done : has_left t.left ≡ false → is_idle t.progress ≡ true → answered ≡ Some end.Done → Goes

@@ -39,7 +39,7 @@ use Rattle.nmgc_cycle.proofs.rounds.WhatIsLeft.{left_is}
 -- what the calls of a stop did, one after another
 pub record IsStepped (script : Script) (old new : Collector) : Type 0 where
   pub number : ℕ
-  pub number_is : number ≡ length old.stops
+  pub number_is : number ≡ length old.rows.stops
   pub promoted : Collector
   pub promotes : HasPromoted old promoted
   pub lists : HasListed old promoted
@@ -48,7 +48,7 @@ pub record IsStepped (script : Script) (old new : Collector) : Type 0 where
   pub closed : Collector
   pub closes : HasClosed Closes number added closed
   pub ended : Collector
-  pub ends : Ends number closed.progress closed ended
+  pub ends : Ends number closed.cycle.progress closed ended
   pub some : Bool
   pub some_is : IsTrue some ↔ SomeIsLeft script.threads ended.positions.items
   pub proceeds : ProceedsThen script.config.trigger some number ended new
@@ -58,15 +58,15 @@ pub record IsRead (script : Script) (c : Collector) : Type 0 where
   pub left : Bool
   pub left_is : IsTrue left ↔ SomeIsLeft script.threads c.positions.items
   pub phase : Phase
-  pub phase_is : phase ≡ phase_in c.progress
+  pub phase_is : phase ≡ phase_in c.cycle.progress
   pub free : ℕ
-  pub free_is : free ≡ count_by (λ (segment : Segment). is segment.state stands.Free) c.segments.segments
+  pub free_is : free ≡ count_by (λ (segment : Segment). is segment.state stands.Free) c.heap.segments.segments
   pub filled : ℕ
-  pub filled_is : filled ≡ count_by (λ (segment : Segment). is segment.state stands.Filled) c.segments.segments
+  pub filled_is : filled ≡ count_by (λ (segment : Segment). is segment.state stands.Filled) c.heap.segments.segments
   pub sweep : ℕ
-  pub sweep_is : sweep ≡ count_by (λ (segment : Segment). is segment.state stands.Sweeping) c.segments.segments
+  pub sweep_is : sweep ≡ count_by (λ (segment : Segment). is segment.state stands.Sweeping) c.heap.segments.segments
   pub reserve : ℕ
-  pub reserve_is : reserve ≡ reserve_count c.segments.layout
+  pub reserve_is : reserve ≡ reserve_count c.heap.segments.layout
 
 -- commands are left where they were before the last step of the stop
 pub some_left_then : (script : Script) (old new : Collector) (trigger stop : ℕ) (some : Bool) → ProceedsThen trigger some stop old new →
@@ -79,8 +79,8 @@ some_left_then script old new trigger stop some proceeds is =
 -- why it answers so
 abbrev pub Why : (script : Script) (c : Collector) → IsRead script c → StopEnd → Type 0
 Why script c r (answer.HeapFull free reserve) = (free ≡ r.free) × (reserve ≡ r.reserve) × (r.left ≡ true) × (r.free < r.reserve)
-Why script c r answer.Done = (r.left ≡ false) × (phase_in c.progress ≡ phase.Idle)
-Why script c r answer.GoOn = ((r.left ≡ true) × (r.reserve ≤ r.free)) ⊎ ((r.left ≡ false) × (phase_in c.progress ≡ phase.Idle → ⊥))
+Why script c r answer.Done = (r.left ≡ false) × (phase_in c.cycle.progress ≡ phase.Idle)
+Why script c r answer.GoOn = ((r.left ≡ true) × (r.reserve ≤ r.free)) ⊎ ((r.left ≡ false) × (phase_in c.cycle.progress ≡ phase.Idle → ⊥))
 
 -- the answer and its causes
 
@@ -103,7 +103,7 @@ module _ (script : Script) (c : Collector) (r : IsRead script c) where
       omega (arith, free_is, reserve_is, less, own, kept, more)
 
   pub done_where : (e : StopEnd) → Why script c r e → (e ≡ answer.Done) ↔ IsDone script c
-  done_where answer.Done why = ((λ e. (none_left why.0, when_idle c.progress why.1)), λ d. refl)
+  done_where answer.Done why = ((λ e. (none_left why.0, when_idle c.cycle.progress why.1)), λ d. refl)
   done_where (answer.HeapFull free reserve) why = (
     (λ e. absurd (let bad : answer.HeapFull free reserve ≡ answer.Done = e in cc)),
     λ d. absurd (some_left why.2 d.0),
@@ -147,64 +147,64 @@ module _ (script : Script) (c : Collector) (r : IsRead script c) where
 -- the run
 
 module _ (laws : HasStopLaws) (script : Script) (old new : Collector) (limits : IsInLimits script) (x : IsStepped script old new)
-    (r : IsRead script new) (many : ℕ) (many_is : many ≡ length x.promoted.promotion.moves) where
+    (r : IsRead script new) (many : ℕ) (many_is : many ≡ length x.promoted.heap.promotion.moves) where
   abbrev pub row : StopRow
   row = record { number = x.number; phase = r.phase; free = r.free; filled = r.filled; sweep = r.sweep; promoted = many }
 
-  module _ (stops : List StopRow) (answered : Option End) (pushed : stops ≡ new.stops ++ row ∷ []) where
+  module _ (stops : List StopRow) (answered : Option End) (pushed : stops ≡ new.rows.stops ++ row ∷ []) where
     abbrev pub after : Collector
-    after = record new { stops = stops; answered = answered }
+    after = record new { rows = record new.rows { stops = stops }; answered = answered }
 
     module _ (can : CanStop script old) where
       abbrev b : Begins script old
       b = begins script old limits can
 
-      led : IsLed script b.began b.state (length x.promoted.promotion.moves) old new
+      led : IsLed script b.began b.state (length x.promoted.heap.promotion.moves) old new
       led = steps.led laws script old x.promoted limits can x.promotes x.lists x.added x.adds x.number x.number_is x.closed x.closes x.ended x.ends
           new x.some x.some_is x.proceeds
 
-      pub rounds_are : new.rounds ≡ old.rounds
+      pub rounds_are : new.rows.rounds ≡ old.rows.rounds
       rounds_are = steps.rounds_are laws script old x.promoted limits can x.promotes x.lists x.added x.adds x.number x.number_is x.closed x.closes
           x.ended x.ends new x.some x.some_is x.proceeds
 
-      pub stops_are : stops ≡ old.stops ++ row ∷ []
+      pub stops_are : stops ≡ old.rows.stops ++ row ∷ []
       stops_are = pushed ∙ ap (λ (rows : List StopRow). rows ++ row ∷
           []) (steps.stops_are laws script old x.promoted limits can x.promotes x.lists x.added x.adds x.number x.number_is x.closed x.closes
           x.ended x.ends new x.some x.some_is x.proceeds)
 
-      told : row ≡ stop_row led.state (length x.promoted.promotion.moves)
-      told = row_is led.state (length x.promoted.promotion.moves) x.number r.free r.filled r.sweep many r.phase new.segments (words_in new.words)
+      told : row ≡ stop_row led.state (length x.promoted.heap.promotion.moves)
+      told = row_is led.state (length x.promoted.heap.promotion.moves) x.number r.free r.filled r.sweep many r.phase new.heap.segments (words_in new.heap.words)
           led.stands.heap.holds.stands (r.phase_is ∙ led.stands.matches.phase) (led.number ∙ b.number ∙
           sym x.number_is) r.free_is r.filled_is r.sweep_is many_is
 
       left : has_left led.state.left ≡ r.left
       left =
           let positions : (k : ℕ) → k < length script.threads →
-          slice_index new.positions.items k ≡ answered_count old.rounds k = λ k lt. led.stands.kept.positions k lt ∙
+          slice_index new.positions.items k ≡ answered_count old.rows.rounds k = λ k lt. led.stands.kept.positions k lt ∙
           ap (λ (rounds : List RoundRows). answered_count rounds k) rounds_are in
-          ap has_left led.left ∙ left_is script old.rounds b.state.left new.positions.items b.left positions r.left r.left_is
+          ap has_left led.left ∙ left_is script old.rows.rounds b.state.left new.positions.items b.left positions r.left r.left_is
 
       free_is : r.free ≡ run_free led.state
-      free_is = r.free_is ∙ counts_stand new.segments (words_in new.words) led.state.allocation stands.Free led.stands.heap.holds.stands
+      free_is = r.free_is ∙ counts_stand new.heap.segments (words_in new.heap.words) led.state.allocation stands.Free led.stands.heap.holds.stands
 
       reserve_is : r.reserve ≡ reserve_of (plan_of script)
       reserve_is = r.reserve_is ∙ ap reserve_count led.stands.kept.layout
 
       -- what it answers is what the run does
       result : (e : StopEnd) → Why script new r e → answered ≡ ended_by e →
-          Goes script old new b (length x.promoted.promotion.moves) led rounds_are stops answered row stops_are told
-      result answer.Done why is = done script old new b (length x.promoted.promotion.moves) led rounds_are stops answered row stops_are told (left ∙
+          Goes script old new b (length x.promoted.heap.promotion.moves) led rounds_are stops answered row stops_are told
+      result answer.Done why is = done script old new b (length x.promoted.heap.promotion.moves) led rounds_are stops answered row stops_are told (left ∙
           why.0) (quiet_then led.state.progress (sym led.stands.matches.phase ∙ why.1)) is
       result answer.GoOn (inl why) is =
-          goes_on script old new b (length x.promoted.promotion.moves) led rounds_are stops answered row stops_are told r.free r.reserve (left ∙
+          goes_on script old new b (length x.promoted.heap.promotion.moves) led rounds_are stops answered row stops_are told r.free r.reserve (left ∙
           why.0) free_is reserve_is why.1 is
       result answer.GoOn (inr why) is =
-          on script old new b (length x.promoted.promotion.moves) led rounds_are stops answered row stops_are told (left ∙
+          on script old new b (length x.promoted.heap.promotion.moves) led rounds_are stops answered row stops_are told (left ∙
           why.0) (busy_then led.state.progress (λ e. why.1 (led.stands.matches.phase ∙ e))) is
       result (answer.HeapFull free reserve) why is =
           let same : answered ≡ ended_by (answer.HeapFull r.free r.reserve) = is ∙ ap (λ (n : ℕ). ended_by (answer.HeapFull n reserve)) why.0 ∙
           ap (λ (n : ℕ). ended_by (answer.HeapFull r.free n)) why.1 in
-          full script old new b (length x.promoted.promotion.moves) led rounds_are stops answered row stops_are told r.free r.reserve (left ∙
+          full script old new b (length x.promoted.heap.promotion.moves) led rounds_are stops answered row stops_are told r.free r.reserve (left ∙
           why.2) free_is reserve_is why.3 same
 
       has_stopped : (e : StopEnd) → Why script new r e → answered ≡ ended_by e → HasStopped script after

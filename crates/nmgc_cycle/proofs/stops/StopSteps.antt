@@ -40,14 +40,14 @@ use Rattle.nmgc_cycle.proofs.stops.WholeStop.{KeepsOn, closing_keeps, ending_kee
 
 -- what a stop tells of rounds and stops, and of how many commands were answered: of that its steps change nothing
 abbrev pub told : Collector → List RoundRows × List StopRow × List ℕ
-told c = (c.rounds, c.stops, c.positions.items)
+told c = (c.rows.rounds, c.rows.stops, c.positions.items)
 
 -- the end changes nothing but the cycle and its row
-ends_told : (stop : ℕ) (p : Doing) (old new : Collector) → Ends stop p old new → (told new ≡ told old) × (new.begun ≡ old.begun)
-ends_told stop doing.Idle old new h = (ap told h, ap (λ (x : Collector). x.begun) h)
-ends_told stop (doing.Marking m) old new h = (ap told h, ap (λ (x : Collector). x.begun) h)
-ends_told stop (doing.Sweeping w) old new (inl h) = (ap told h.1, ap (λ (x : Collector). x.begun) h.1)
-ends_told stop (doing.Sweeping w) old new (inr h) = (ap told h.1, ap (λ (x : Collector). x.begun) h.1)
+ends_told : (stop : ℕ) (p : Doing) (old new : Collector) → Ends stop p old new → (told new ≡ told old) × (new.cycle.begun ≡ old.cycle.begun)
+ends_told stop doing.Idle old new h = (ap told h, ap (λ (x : Collector). x.cycle.begun) h)
+ends_told stop (doing.Marking m) old new h = (ap told h, ap (λ (x : Collector). x.cycle.begun) h)
+ends_told stop (doing.Sweeping w) old new (inl h) = (ap told h.1, ap (λ (x : Collector). x.cycle.begun) h.1)
+ends_told stop (doing.Sweeping w) old new (inr h) = (ap told h.1, ap (λ (x : Collector). x.cycle.begun) h.1)
 
 begins_told : (trigger stop : ℕ) (old new : Collector) → BeginsThen trigger stop old new → told new ≡ told old
 begins_told trigger stop old new (inl h) = ap told h.1.is ∙ ap told h.1.starts.rest
@@ -56,7 +56,7 @@ begins_told trigger stop old new (inr h) = ap told h.1
 -- and so through a finish and a full cycle
 
 finished_told : (stop : ℕ) (old new : Collector) → HasFinished stop old new → told new ≡ told old
-finished_told stop old new f = (ends_told stop f.swept.progress f.swept new f.ends).0 ∙ ap told f.sweeps.rest ∙ ap told f.closes.rest
+finished_told stop old new f = (ends_told stop f.swept.cycle.progress f.swept new f.ends).0 ∙ ap told f.sweeps.rest ∙ ap told f.closes.rest
 
 pub proceeds_told : (trigger : ℕ) (some : Bool) (stop : ℕ) (old new : Collector) → ProceedsThen trigger some stop old new → told new ≡ told old
 proceeds_told trigger some stop old new (inl x) =
@@ -80,22 +80,22 @@ pub record IsLed (script : Script) (began : World) (s : State) (many : ℕ) (old
   pub stands : StandsAt script new state
   pub number : state.number ≡ s.number
   pub left : state.left ≡ s.left
-  pub few : AreFew (Unit {0}) script new (length old.stops + 1)
-  pub begun : new.begun ≤ length old.stops + 1
-  pub more : HasMore new.progress
+  pub few : AreFew (Unit {0}) script new (length old.rows.stops + 1)
+  pub begun : new.cycle.begun ≤ length old.rows.stops + 1
+  pub more : HasMore new.cycle.progress
 
 -- while a cycle is in progress, its sweeper has all segments left that wait
-left_marking : (s : State) (c : Collector) (q : Progress) → phase_in c.progress ≡ phase_of q → Sweeps q s c → (m : Marking) →
-    c.progress ≡ doing.Marking m → AreLeft c.segments m.sweeper
+left_marking : (s : State) (c : Collector) (q : Progress) → phase_in c.cycle.progress ≡ phase_of q → Sweeps q s c → (m : Marking) →
+    c.cycle.progress ≡ doing.Marking m → AreLeft c.heap.segments m.sweeper
 left_marking s c idle e h m is = absurd (let bad : phase.Marking ≡ phase.Idle = ap phase_in (sym is) ∙ e in cc)
-left_marking s c (marking k) e h m is = subst (λ (p : Doing). AreLeft c.segments (sweeper_in p)) is h.0.left
-left_marking s c (sweeping k closed) e h m is = subst (λ (p : Doing). AreLeft c.segments (sweeper_in p)) is h.0
+left_marking s c (marking k) e h m is = subst (λ (p : Doing). AreLeft c.heap.segments (sweeper_in p)) is h.0.left
+left_marking s c (sweeping k closed) e h m is = subst (λ (p : Doing). AreLeft c.heap.segments (sweeper_in p)) is h.0
 
-left_sweeping : (s : State) (c : Collector) (q : Progress) → phase_in c.progress ≡ phase_of q → Sweeps q s c → (w : Sweeping) →
-    c.progress ≡ doing.Sweeping w → AreLeft c.segments w.sweeper
+left_sweeping : (s : State) (c : Collector) (q : Progress) → phase_in c.cycle.progress ≡ phase_of q → Sweeps q s c → (w : Sweeping) →
+    c.cycle.progress ≡ doing.Sweeping w → AreLeft c.heap.segments w.sweeper
 left_sweeping s c idle e h w is = absurd (let bad : phase.Sweeping ≡ phase.Idle = ap phase_in (sym is) ∙ e in cc)
-left_sweeping s c (marking k) e h w is = subst (λ (p : Doing). AreLeft c.segments (sweeper_in p)) is h.0.left
-left_sweeping s c (sweeping k closed) e h w is = subst (λ (p : Doing). AreLeft c.segments (sweeper_in p)) is h.0
+left_sweeping s c (marking k) e h w is = subst (λ (p : Doing). AreLeft c.heap.segments (sweeper_in p)) is h.0.left
+left_sweeping s c (sweeping k closed) e h w is = subst (λ (p : Doing). AreLeft c.heap.segments (sweeper_in p)) is h.0
 
 module _ (laws : HasStopLaws) (script : Script) (old p : Collector) (limits : IsInLimits script) (can : CanStop script old) (h : HasPromoted old p)
     (listed : HasListed old p) where
@@ -113,35 +113,35 @@ module _ (laws : HasStopLaws) (script : Script) (old p : Collector) (limits : Is
   stands_first = promoting.promoted_stands laws.promotion script old p kept b h listed
 
   -- few rounds follow
-  few_first : AreFew (Unit {0}) script p (length old.stops + 1)
-  few_first = promoting_few script old p (length old.stops + 1) (layout_of (plan_of script)) b.began b.state first (length p.promotion.moves)
-      (seen old).words (words_in p.words) h (after.promotes script old p kept b h) b.stands stands_first.heap.holds.stands b.few
+  few_first : AreFew (Unit {0}) script p (length old.rows.stops + 1)
+  few_first = promoting_few script old p (length old.rows.stops + 1) (layout_of (plan_of script)) b.began b.state first (length p.heap.promotion.moves)
+      (seen old).words (words_in p.heap.words) h (after.promotes script old p kept b h) b.stands stands_first.heap.holds.stands b.few
 
   module _ (a : Collector) (taken : HasTaken p a) where
     pub stands_within : StandsWithin script a first
     stands_within = laws.adding script p a first limits stands_first taken
 
-    few_within : AreFew (Unit {0}) script a (length old.stops + 1)
-    few_within = taking_few script p a (length old.stops + 1) (words_in p.words) first.allocation stands_first.heap.holds.stands taken few_first
+    few_within : AreFew (Unit {0}) script a (length old.rows.stops + 1)
+    few_within = taking_few script p a (length old.rows.stops + 1) (words_in p.heap.words) first.allocation stands_first.heap.holds.stands taken few_first
 
-    module _ (number : ℕ) (number_is : number ≡ length old.stops) (c : Collector) (closed : HasClosed Closes number a c) where
+    module _ (number : ℕ) (number_is : number ≡ length old.rows.stops) (c : Collector) (closed : HasClosed Closes number a c) where
       pub close_led : (t : State) × ClosesOrWaits script.config.quota first.progress first t × StandsAt script c t
       close_led = laws.closing script a c first limits stands_within (subst (λ (n : ℕ). HasClosed Closes n a c) (number_is ∙ sym b.number) closed)
 
       closed_on : KeepsOn first close_led.0 × (close_led.0.allocation ≡ first.allocation)
       closed_on = closing_keeps script.config.quota first.progress first close_led.0 close_led.1
 
-      few_closed : AreFew (Unit {0}) script c (length old.stops + 1)
+      few_closed : AreFew (Unit {0}) script c (length old.rows.stops + 1)
       few_closed =
-          let count : length a.segments.segments ≡ script.config.segments = stands_within.kept.sound.count ∙
+          let count : length a.heap.segments.segments ≡ script.config.segments = stands_within.kept.sound.count ∙
           ap (λ (l : Layout). l.segments) stands_within.kept.layout in
-          closing_few script a c (length old.stops + 1) number (words_in a.words) first.allocation stands_within.heap.holds.stands count
+          closing_few script a c (length old.rows.stops + 1) number (words_in a.heap.words) first.allocation stands_within.heap.holds.stands count
           (left_marking first a first.progress stands_within.matches.phase stands_within.sweeper) closed few_within
 
-      module _ (e : Collector) (ends : Ends number c.progress c e) where
+      module _ (e : Collector) (ends : Ends number c.cycle.progress c e) where
         pub end_led : (t : State) × (rows : List CycleRow) × EndsOrWaits close_led.0.progress close_led.0 t rows ×
             (told_cycles e ≡ told_cycles c ++ rows) × StandsAt script e t
-        end_led = laws.ending script c e close_led.0 limits close_led.2 (subst (λ (n : ℕ). Ends n c.progress c e) (number_is ∙ sym b.number ∙
+        end_led = laws.ending script c e close_led.0 limits close_led.2 (subst (λ (n : ℕ). Ends n c.cycle.progress c e) (number_is ∙ sym b.number ∙
             sym closed_on.0.number) ends)
 
         ended_on : KeepsOn close_led.0 end_led.0 × (end_led.0.allocation ≡ close_led.0.allocation)
@@ -155,20 +155,20 @@ module _ (laws : HasStopLaws) (script : Script) (old p : Collector) (limits : Is
         stands_ended = end_led.4
 
         -- no cycle began yet
-        pub begun_is : e.begun ≡ old.begun
-        begun_is = (ends_told number c.progress c e ends).1 ∙ ap (λ (x : Collector). x.begun) closed.rest ∙
-            ap (λ (x : Collector). x.begun) taken.rest ∙ ap (λ (x : Collector). x.begun) h.rest
+        pub begun_is : e.cycle.begun ≡ old.cycle.begun
+        begun_is = (ends_told number c.cycle.progress c e ends).1 ∙ ap (λ (x : Collector). x.cycle.begun) closed.rest ∙
+            ap (λ (x : Collector). x.cycle.begun) taken.rest ∙ ap (λ (x : Collector). x.cycle.begun) h.rest
 
-        few_ended : AreFew (Unit {0}) script e (length old.stops + 1)
-        few_ended = ending_few script c e (length old.stops + 1) number ends few_closed
+        few_ended : AreFew (Unit {0}) script e (length old.rows.stops + 1)
+        few_ended = ending_few script c e (length old.rows.stops + 1) number ends few_closed
 
-        more_ended : HasMore e.progress
-        more_ended = ending_more script c e (length old.stops + 1) number ends (closing_goes number a c closed)
+        more_ended : HasMore e.cycle.progress
+        more_ended = ending_more script c e (length old.rows.stops + 1) number ends (closing_goes number a c closed)
             (left_sweeping close_led.0 c close_led.0.progress close_led.2.matches.phase close_led.2.sweeper)
 
         -- nothing was told yet
         ended_told : told e ≡ told old
-        ended_told = (ends_told number c.progress c e ends).0 ∙ ap told closed.rest ∙ ap told taken.rest ∙ ap told h.rest
+        ended_told = (ends_told number c.cycle.progress c e ends).0 ∙ ap told closed.rest ∙ ap told taken.rest ∙ ap told h.rest
 
         left_on : last_ended.left ≡ b.state.left
         left_on = ended_on.0.left ∙ closed_on.0.left
@@ -186,9 +186,9 @@ module _ (laws : HasStopLaws) (script : Script) (old p : Collector) (limits : Is
           left_told : some ≡ has_left b.state.left
           left_told =
               let positions : (k : ℕ) → k < length script.threads →
-              slice_index e.positions.items k ≡ answered_count old.rounds k = λ k lt. stands_ended.kept.positions k lt ∙
+              slice_index e.positions.items k ≡ answered_count old.rows.rounds k = λ k lt. stands_ended.kept.positions k lt ∙
               ap (λ (x : List RoundRows × List StopRow × List ℕ). answered_count x.0 k) ended_told in
-              sym (left_is script old.rounds b.state.left e.positions.items b.left positions some some_is)
+              sym (left_is script old.rows.rounds b.state.left e.positions.items b.left positions some some_is)
 
           left_ended : some ≡ has_left last_ended.left
           left_ended = left_told ∙ ap has_left (sym left_on)
@@ -204,13 +204,13 @@ module _ (laws : HasStopLaws) (script : Script) (old p : Collector) (limits : Is
           proceeded_told : told n ≡ told e
           proceeded_told = proceeds_told script.config.trigger some number e n proceeds
 
-          pub rounds_are : n.rounds ≡ old.rounds
+          pub rounds_are : n.rows.rounds ≡ old.rows.rounds
           rounds_are = ap (λ (x : List RoundRows × List StopRow × List ℕ). x.0) (proceeded_told ∙ ended_told)
 
-          pub stops_are : n.stops ≡ old.stops
+          pub stops_are : n.rows.stops ≡ old.rows.stops
           stops_are = ap (λ (x : List RoundRows × List StopRow × List ℕ). x.1) (proceeded_told ∙ ended_told)
 
-          pub led : IsLed script b.began b.state (length p.promotion.moves) old n
+          pub led : IsLed script b.began b.state (length p.heap.promotion.moves) old n
           led = record {
             promoted = first;
             promotes = after.promotes script old p kept b h;
@@ -229,8 +229,8 @@ module _ (laws : HasStopLaws) (script : Script) (old p : Collector) (limits : Is
             stands = proceed_led.4;
             number = proceeded_on.number ∙ number_on;
             left = proceeded_on.left ∙ left_on;
-            few = proceeding_few script e n (length old.stops + 1) number some proceed_led.0 stands_ended.kept.layout (λ none.
-                (laws.begin_ready script e last_ended limits stands_ended none).stood) (words_in n.words) proceed_led.4.heap.holds.stands proceeds
+            few = proceeding_few script e n (length old.rows.stops + 1) number some proceed_led.0 stands_ended.kept.layout (λ none.
+                (laws.begin_ready script e last_ended limits stands_ended none).stood) (words_in n.heap.words) proceed_led.4.heap.holds.stands proceeds
                 few_ended (ap (λ (x : List RoundRows × List StopRow × List ℕ). x.0) proceeded_told) (λ due.
                 fresh_where_due (plan_of script) last_ended proceed_led.0 proceed_led.1 proceed_led.2
                 (full_due script e last_ended some stands_ended left_ended due));

@@ -14,15 +14,11 @@ use Rattle.nmgc_cycle.specs.Steps.{StandsAt}
 
 -- its parts are as they are to be, wherever its cycle stands
 pub kept_told : (script : Script) (old new : Collector) → new ≡ record old {
-  stops = new.stops;
-  cycles = new.cycles;
-  progress = new.progress;
-  collect = new.collect;
-  full = new.full;
-  turns = new.turns;
-  upper_turns = new.upper_turns;
-  answered = new.answered;
-} → IsWellFormed script old →
+    rows = record old.rows { stops = new.rows.stops; cycles = new.rows.cycles };
+    cycle = record old.cycle { progress = new.cycle.progress; collect = new.cycle.collect; full = new.cycle.full; turns = new.cycle.turns;
+        upper_turns = new.cycle.upper_turns };
+    answered = new.answered;
+  } → IsWellFormed script old →
     IsWellFormed script new
 kept_told script old new rest k = subst (λ (x : Collector). IsWellFormed script x) (sym rest) (record {
   layout = k.layout;
@@ -42,7 +38,8 @@ kept_told script old new rest k = subst (λ (x : Collector). IsWellFormed script
 
 module _ (script : Script) (old new : Collector) (s t : State) where
   abbrev told : Collector
-  told = record old { stops = new.stops; collect = new.collect; full = new.full; answered = new.answered }
+  told = record old { rows = record old.rows { stops = new.rows.stops }; cycle = record old.cycle { collect = new.cycle.collect; full = new.cycle.full };
+      answered = new.answered }
 
   abbrev then_state : State
   then_state = record s { collect = t.collect; full = t.full }
@@ -84,7 +81,7 @@ module _ (script : Script) (old new : Collector) (s t : State) where
   sweeper_told (marking k) h = (record { notes = h.0.notes; left = h.0.left }, h.1, h.2, h.3)
   sweeper_told (sweeping k closed) h = h
 
-  stands_there : new.collect ≡ t.collect → new.full ≡ t.full → StandsAt script old s → StandsAt script told then_state
+  stands_there : new.cycle.collect ≡ t.collect → new.cycle.full ≡ t.full → StandsAt script old s → StandsAt script told then_state
   stands_there collect full h = record {
     kept = kept_told script old told refl h.kept;
     sound = sound_told h.sound;
@@ -100,7 +97,7 @@ module _ (script : Script) (old new : Collector) (s t : State) where
   }
 
   -- a state of which the same is asked
-  pub stands_told : new ≡ told → t ≡ then_state → new.collect ≡ t.collect → new.full ≡ t.full → StandsAt script old s → StandsAt script new t
+  pub stands_told : new ≡ told → t ≡ then_state → new.cycle.collect ≡ t.collect → new.cycle.full ≡ t.full → StandsAt script old s → StandsAt script new t
   stands_told new_is state_is collect full h = subst (λ (z : Collector × State). StandsAt script z.0 z.1) (λ i. (
     sym new_is i,
     sym state_is i,

@@ -38,13 +38,13 @@ told script c end h =
       tells = at_stop.tells;
       end_is = sym at_stop.answered ∙ stopped.1;
       weaks = (seen c).weaks;
-      weaks_are = names_told c.weaks.list;
+      weaks_are = names_told c.heap.weaks.list;
       heap = at_stop.heap;
     }
 
 -- a report with these parts is the collector's
 pub same_parts : (c : Collector) (end : End) (cycles : List CycleRow) (words : List ℕ) (mutators : List MutatorEnd) (weaks : List Name) →
-    cycles ≡ told_cycles c → words ≡ (seen c).words → mutators ≡ ends_of (seen c) → weaks ≡ names_of c.weaks.list →
+    cycles ≡ told_cycles c → words ≡ (seen c).words → mutators ≡ ends_of (seen c) → weaks ≡ names_of c.heap.weaks.list →
     record (report_of c end) { cycles = cycles; words = words; mutators = mutators; weaks = weaks } ≡ report_of c end
 same_parts c end cycles words mutators weaks cycles_are words_are mutators_are weaks_are = sym (
     ap (λ (rows : List CycleRow). record (report_of c end) { cycles = rows }) (sym cycles_are)

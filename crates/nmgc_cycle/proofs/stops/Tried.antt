@@ -63,13 +63,13 @@ with_room list old new h = same_maps turns_by turns_by new old h.count (λ k n m
 module _ (stop : ℕ) (old new : Collector) where
   closes : (p : Doing) → Closes stop p old new → mutator_turns_of new ≡ mutator_turns_of old
   closes doing.Idle h = ap mutator_turns_of h
-  closes (doing.Marking m) (inl h) = queued new.weaks.deaths old.mutators.items new.mutators.items h.1.2.joined
+  closes (doing.Marking m) (inl h) = queued new.heap.weaks.deaths old.mutators.items new.mutators.items h.1.2.joined
   closes (doing.Marking m) (inr h) = ap mutator_turns_of h.1
   closes (doing.Sweeping w) h = ap mutator_turns_of h
 
   closes_now : (p : Doing) → ClosesNow stop p old new → mutator_turns_of new ≡ mutator_turns_of old
   closes_now doing.Idle h = ap mutator_turns_of h
-  closes_now (doing.Marking m) h = queued new.weaks.deaths old.mutators.items new.mutators.items h.2.joined
+  closes_now (doing.Marking m) h = queued new.heap.weaks.deaths old.mutators.items new.mutators.items h.2.joined
   closes_now (doing.Sweeping w) h = ap mutator_turns_of h
 
   ends : (p : Doing) → Ends stop p old new → mutator_turns_of new ≡ mutator_turns_of old
@@ -80,7 +80,7 @@ module _ (stop : ℕ) (old new : Collector) where
 
   -- the next one began
   starts : HasStarted stop old new → mutator_turns_of new ≡ mutator_turns_of old
-  starts h = ap mutator_turns_of h.is ∙ with_room old.weaks.list old.mutators.items h.marked.mutators.items h.starts.queue_room
+  starts h = ap mutator_turns_of h.is ∙ with_room old.heap.weaks.list old.mutators.items h.marked.mutators.items h.starts.queue_room
 
   begins : (trigger : ℕ) → Begins trigger stop old new → mutator_turns_of new ≡ mutator_turns_of old
   begins trigger (inl h) = starts h.1
@@ -88,8 +88,8 @@ module _ (stop : ℕ) (old new : Collector) where
 
 -- a full cycle was done
 finished : (stop : ℕ) (old new : Collector) → HasFinished stop old new → mutator_turns_of new ≡ mutator_turns_of old
-finished stop old new h = ends stop h.swept new h.swept.progress h.ends ∙ ap mutator_turns_of h.sweeps.rest ∙
-    closes_now stop old h.closed old.progress h.closes.closes
+finished stop old new h = ends stop h.swept new h.swept.cycle.progress h.ends ∙ ap mutator_turns_of h.sweeps.rest ∙
+    closes_now stop old h.closed old.cycle.progress h.closes.closes
 
 full : (stop : ℕ) (old new : Collector) → HasDoneFull stop old new → mutator_turns_of new ≡ mutator_turns_of old
 full stop old new h = ap mutator_turns_of h.is ∙ finished stop h.started h.last h.again ∙
@@ -103,8 +103,8 @@ proceeds trigger left stop old new (inr h) = begins stop old new trigger h.1
 pub stop_turns : (script : Script) (old new : Collector) → IsStepped script old new → mutator_turns_of new ≡ mutator_turns_of old
 stop_turns script old new x =
     proceeds script.config.trigger x.some x.number x.ended new x.proceeds
-    ∙ ends x.number x.closed x.ended x.closed.progress x.ends
-    ∙ closes x.number x.added x.closed x.added.progress x.closes.closes
+    ∙ ends x.number x.closed x.ended x.closed.cycle.progress x.ends
+    ∙ closes x.number x.added x.closed x.added.cycle.progress x.closes.closes
     ∙ forgotten x.promoted.mutators.items x.added.mutators.items x.adds.mutators
     ∙ ap turns_in x.promotes.held
     ∙ forwarded x.promotes.forward old.mutators.items
@@ -160,7 +160,7 @@ tried_from script old listed roomy new first reserved second h = λ k m n e f.
 -- the replies were taken
 tried_told : (script : Script) (old did : Collector) (mutators : Vec Mutator Global) (rounds : List RoundRows) →
     mutators.items ≡ map cleared did.mutators.items → HaveTried script old did →
-    HaveTried script old (record did { mutators = mutators; rounds = rounds })
+    HaveTried script old (record did { mutators = mutators; rows = record did.rows { rounds = rounds } })
 tried_told script old did mutators rounds same h = λ k m n e f.
     let x = map_item cleared did.mutators.items k n (ap (λ (l : List Mutator). slice_get l k) (sym same) ∙ f) in
     let t = h k m x.0 e x.1 in
@@ -175,7 +175,7 @@ tried_told script old did mutators rounds same h = λ k m n e f.
 pub played_tried : (script : Script) (o : Opening) (old listed roomy did : Collector) (mutators : Vec Mutator Global) (rounds : List RoundRows) →
     listed ≡ record old { mutators = listed.mutators } → AreReserved old.mutators.items listed.mutators.items →
     roomy ≡ record listed { inbox = roomy.inbox } → DidSlices script o roomy did → mutators.items ≡ map cleared did.mutators.items →
-    HaveTried script old (record did { mutators = mutators; rounds = rounds })
+    HaveTried script old (record did { mutators = mutators; rows = record did.rows { rounds = rounds } })
 played_tried script o old listed roomy did mutators rounds first reserved second slices same =
     tried_told script old did mutators rounds same (tried_from script old listed roomy did first reserved second (slices_tried script o roomy did slices))
 

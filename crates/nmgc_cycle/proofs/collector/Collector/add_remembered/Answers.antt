@@ -43,14 +43,14 @@ returns-in-Marking c =
     let h = c.add_all.ensures.forgot in
     let l = left own.mutators c.as_mut_slice-mutators.result.now c.add_all.new.mutators own.inbox c.add_all.new.inbox same h in
     let added = subst (λ (ms : List Mutator).
-    HasAdded (remembered_by ms) own.segments c.add_all.new.segments c.in-Marking.marking.marker c.add_all.new.marker) same c.add_all.ensures.added in
+    HasAdded (remembered_by ms) own.heap.segments c.add_all.new.segments c.in-Marking.marking.marker c.add_all.new.marker) same c.add_all.ensures.added in
     record {
       rest = refl;
       inbox = h.inbox_is;
       mutators = l.mutators;
       lines = l.lines;
       adds = subst (λ (p : Progress).
-          AddsTo (remembered_by own.mutators.items) own.segments c.add_all.new.segments p (doing.Marking (record c.in-Marking.marking {
+          AddsTo (remembered_by own.mutators.items) own.heap.segments c.add_all.new.segments p (doing.Marking (record c.in-Marking.marking {
             marker =
                 c.add_all.new.marker;
           }))) (sym c.in-Marking.is) (c.add_all.new.marker, refl, added, c.add_all.ensures.sound);
@@ -67,5 +67,5 @@ returns c =
       inbox = h.inbox_is;
       mutators = l.mutators;
       lines = l.lines;
-      adds = adds_none (remembered_by own.mutators.items) own.segments own.progress (λ m e. c.in_default.not-Marking m e);
+      adds = adds_none (remembered_by own.mutators.items) own.heap.segments own.cycle.progress (λ m e. c.in_default.not-Marking m e);
     }

@@ -28,8 +28,8 @@ same_sweeping m stop a b x z kept sweeper =
 pub finish-requires-clause-ready : goal.finish-requires-clause-ready
 finish-requires-clause-ready c =
     let ready = c.requires.ready in
-    let held : words_in c.args.self.now.words ≡ c.in-Some.words = ap words_in c.in-Some.is in
-    (ready.opening, subst (λ (l : List ℕ). IsReady ready.opening l c.args.self.now.segments c.args.marking.marker) held ready.ready)
+    let held : words_in c.args.self.now.heap.words ≡ c.in-Some.words = ap words_in c.in-Some.is in
+    (ready.opening, subst (λ (l : List ℕ). IsReady ready.opening l c.args.self.now.heap.segments c.args.marking.marker) held ready.ready)
 
 pub resolve-requires-clause-room : goal.resolve-requires-clause-room
 resolve-requires-clause-room c = c.finish.ensures.marked.1.room
@@ -37,26 +37,26 @@ resolve-requires-clause-room c = c.finish.ensures.marked.1.room
 pub resolve-requires-clause-can : goal.resolve-requires-clause-can
 resolve-requires-clause-can c =
     let ready = c.requires.ready in
-    let held : words_in c.args.self.now.words ≡ c.in-Some.words = ap words_in c.in-Some.is in
-    let words : c.finish.new.words ≡ words_in c.args.self.now.words = c.finish.ensures.words ∙ sym held in
+    let held : words_in c.args.self.now.heap.words ≡ c.in-Some.words = ap words_in c.in-Some.is in
+    let words : c.finish.new.words ≡ words_in c.args.self.now.heap.words = c.finish.ensures.words ∙ sym held in
     let f = c.finish.ensures.finished ready.opening (subst (λ (l : List ℕ).
-    IsReady ready.opening l c.args.self.now.segments c.args.marking.marker) held ready.ready) in (
+    IsReady ready.opening l c.args.self.now.heap.segments c.args.marking.marker) held ready.ready) in (
       finished_on ready.opening c.finish.new.segments c.finish.new.self f,
       subst (λ (l : List ℕ).
           CanResolve (finished_on ready.opening c.finish.new.segments c.finish.new.self f) l c.finish.new.segments c.finish.new.self
-          (places_of c.args.self.now.weaks.list)) (sym words) (ready.resolves c.finish.new.segments c.finish.new.self f),
+          (places_of c.args.self.now.heap.weaks.list)) (sym words) (ready.resolves c.finish.new.segments c.finish.new.self f),
     )
 
 pub queue_all-requires : goal.queue_all-requires
 queue_all-requires c =
     let ready = c.requires.ready in
-    let held : words_in c.args.self.now.words ≡ c.in-Some.words = ap words_in c.in-Some.is in
-    let words : c.finish.new.words ≡ words_in c.args.self.now.words = c.finish.ensures.words ∙ sym held in
+    let held : words_in c.args.self.now.heap.words ≡ c.in-Some.words = ap words_in c.in-Some.is in
+    let words : c.finish.new.words ≡ words_in c.args.self.now.heap.words = c.finish.ensures.words ∙ sym held in
     let f = c.finish.ensures.finished ready.opening (subst (λ (l : List ℕ).
-    IsReady ready.opening l c.args.self.now.segments c.args.marking.marker) held ready.ready) in
+    IsReady ready.opening l c.args.self.now.heap.segments c.args.marking.marker) held ready.ready) in
     let o = finished_on ready.opening c.finish.new.segments c.finish.new.self f in
     let can = subst (λ (l : List ℕ).
-    CanResolve o l c.finish.new.segments c.finish.new.self (places_of c.args.self.now.weaks.list)) (sym words)
+    CanResolve o l c.finish.new.segments c.finish.new.self (places_of c.args.self.now.heap.weaks.list)) (sym words)
     (ready.resolves c.finish.new.segments c.finish.new.self f) in
     let room : HaveRoom c.resolve.new.self.deaths (queues_in c.args.self.now.mutators.items) =
     ready.queue_room c.finish.new.segments c.resolve.new.segments c.finish.new.self c.resolve.new.marker c.resolve.new.words
@@ -66,8 +66,8 @@ queue_all-requires c =
 pub returns-clause-closed : goal.returns-clause-closed
 returns-clause-closed c =
     let v = c.args.self.now.mutators in
-    let held : words_in c.args.self.now.words ≡ c.in-Some.words = ap words_in c.in-Some.is in
-    let words : c.finish.new.words ≡ words_in c.args.self.now.words = c.finish.ensures.words ∙ sym held in
+    let held : words_in c.args.self.now.heap.words ≡ c.in-Some.words = ap words_in c.in-Some.is in
+    let words : c.finish.new.words ≡ words_in c.args.self.now.heap.words = c.finish.ensures.words ∙ sym held in
     let marked : Segments = c.resolve.new.segments in
     let was = c.as_mut_slice.ensures.value in
     let later : List Mutator = c.queue_all.new.mutators in
@@ -83,9 +83,9 @@ returns-clause-closed c =
       marked = marked;
       first = c.finish.ensures.marked;
       second = c.resolve.ensures.marked;
-      finished = λ o ready. c.finish.ensures.finished o (subst (λ (l : List ℕ). IsReady o l c.args.self.now.segments c.args.marking.marker) held ready);
+      finished = λ o ready. c.finish.ensures.finished o (subst (λ (l : List ℕ). IsReady o l c.args.self.now.heap.segments c.args.marking.marker) held ready);
       resolved = λ o can. c.resolve.ensures.resolved o (subst (λ (l : List ℕ).
-          CanResolve o l c.finish.new.segments c.finish.new.self (places_of c.args.self.now.weaks.list)) (sym words) can);
+          CanResolve o l c.finish.new.segments c.finish.new.self (places_of c.args.self.now.heap.weaks.list)) (sym words) can);
       joined = subst (λ (ms : List Mutator). FinalisersQueued c.resolve.new.self.deaths v.items ms) (sym (vec_back v later count)) joined;
       carried = c.carry.ensures.value ∙
           ap (λ (epoch : ℕ). let s : Segments = record marked { segments = map (carried_over epoch) marked.segments } in s) c.epoch.ensures.epoch;

@@ -220,8 +220,8 @@ finish-words-requires-clause-seats g c =
     let left = left_in c.seated.new.workers was new c.as_mut_slice.ensures.value c.work.ensures.mutators.count in
     let seat = c.work.new.seat in
     let after : Collector = c.work.new.self in
-    let has = scanned o round script.config.quota c.start-round.result.collector seat own.segments after.segments own.names own.progress
-    after.progress s.collector.0 s.collector.1 c.work.ensures.collector in
+    let has = scanned o round script.config.quota c.start-round.result.collector seat own.heap.segments after.heap.segments own.heap.names own.cycle.progress
+    after.cycle.progress s.collector.0 s.collector.1 c.work.ensures.collector in
     let seats : c.in_place.result ≡ map seat_of new = c.in_place.ensures ∙ c.unseated-left.ensures.seats ∙ ap (λ (l : List Worker). map seat_of l) left in
     (seats_at script own o may round new ran seat has c.in_place.result seats, has.at)
 
@@ -248,8 +248,8 @@ finish-words-requires-clause-all g c =
     let left = left_in c.seated.new.workers was new c.as_mut_slice.ensures.value c.work.ensures.mutators.count in
     let seat = c.work.new.seat in
     let after : Collector = c.work.new.self in
-    let has = scanned o round script.config.quota c.start-round.result.collector seat own.segments after.segments own.names own.progress
-    after.progress s.collector.0 s.collector.1 c.work.ensures.collector in
+    let has = scanned o round script.config.quota c.start-round.result.collector seat own.heap.segments after.heap.segments own.heap.names own.cycle.progress
+    after.cycle.progress s.collector.0 s.collector.1 c.work.ensures.collector in
     let seats : c.in_place.result ≡ map seat_of new = c.in_place.ensures ∙ c.unseated-left.ensures.seats ∙ ap (λ (l : List Worker). map seat_of l) left in
     has_all script own o may round new ran seat has c.slices_are_owed.ensures.gathered c.in_place.result seats
 
@@ -330,8 +330,8 @@ returns g c =
     let left = left_in c.seated.new.workers was new c.as_mut_slice.ensures.value c.work.ensures.mutators.count in
     let seat = c.work.new.seat in
     let after : Collector = c.work.new.self in
-    let has = scanned o round script.config.quota c.start-round.result.collector seat own.segments after.segments own.names own.progress
-    after.progress s.collector.0 s.collector.1 c.work.ensures.collector in
+    let has = scanned o round script.config.quota c.start-round.result.collector seat own.heap.segments after.heap.segments own.heap.names own.cycle.progress
+    after.cycle.progress s.collector.0 s.collector.1 c.work.ensures.collector in
     let seats : c.in_place.result ≡ map seat_of new = c.in_place.ensures ∙ c.unseated-left.ensures.seats ∙ ap (λ (l : List Worker). map seat_of l) left in
     let done : c.as_slice.result.now ≡ new = c.as_slice.ensures.value ∙ left in
     let positions : c.as_mut_slice-2.result.now ≡ own.positions.items = c.as_mut_slice-2.ensures.value ∙
@@ -345,21 +345,21 @@ returns g c =
     subst (λ (l : List ℕ). HaveMoved l (map done_by new) moved) positions (subst (λ (l : List Worker).
     HaveMoved c.as_mut_slice-2.result.now (map done_by l) moved) done c.advance.ensures.each) in
     let did = did_slices script own o may round new ran seat has c.slices_are_owed.ensures.gathered c.slices_are_owed.ensures.owed
-    c.start-round.result.collector s.collector.1 s.round.0 after.segments c.work.ensures.sound after.progress c.work.ensures.collector
-    c.in_place.result seats c.finish-words.result.words c.finish-words.ensures.leaves after.collect after.full c.work.ensures.collect
+    c.start-round.result.collector s.collector.1 s.round.0 after.heap.segments c.work.ensures.sound after.cycle.progress c.work.ensures.collector
+    c.in_place.result seats c.finish-words.result.words c.finish-words.ensures.leaves after.cycle.collect after.cycle.full c.work.ensures.collect
     c.work.ensures.full after.inbox c.work.ensures.polled c.unseated-left.new.mutators (with_items after.positions moved)
     (c.unseated-left.ensures.mutators ∙ ap (λ (l : List Worker). map mutator_of l) left) (ap (λ (l : List ℕ). length l) back ∙
     many) (subst (λ (l : List ℕ). HaveMoved own.positions.items (map done_by new) l) (sym back) move) in
     let room : c.give_back.new.self ≡ own.workers = c.give_back.ensures ∙ c.unseated-left.ensures.left.1 ∙ c.seated.ensures.room ∙
     c.lend-workers.ensures.room in
     subst (λ (n : ℕ). DidSlices script o own (record after {
-      words = Some c.finish-words.result.words;
-      mutators = c.unseated-left.new.mutators;
-      positions = with_items after.positions moved;
-      workers = n;
-    })) (sym room) (subst (λ (y : Collector). DidSlices script o own (record y {
-      words = Some c.finish-words.result.words;
-      mutators = c.unseated-left.new.mutators;
-      positions = with_items after.positions moved;
-      workers = own.workers;
-    })) (sym c.work.ensures.rest) did)
+        heap = record after.heap { words = Some c.finish-words.result.words };
+        mutators = c.unseated-left.new.mutators;
+        positions = with_items after.positions moved;
+        workers = n;
+      })) (sym room) (subst (λ (y : Collector). DidSlices script o own (record y {
+        heap = record y.heap { words = Some c.finish-words.result.words };
+        mutators = c.unseated-left.new.mutators;
+        positions = with_items after.positions moved;
+        workers = own.workers;
+      })) (sym c.work.ensures.rest) did)

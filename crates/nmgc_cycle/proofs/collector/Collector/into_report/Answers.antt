@@ -20,15 +20,15 @@ in_order_there rows lent new is told =
 pub returns-clause-parts : goal.returns-clause-parts
 returns-clause-parts c =
     same_parts c.args.self c.args.end _ _ _ _
-    (in_order_there c.args.self.cycles c.items_mut.result.now c.put_rows_in_order.new.rows c.items_mut.ensures.value c.put_rows_in_order.ensures)
-    (c.of_table.ensures ∙ c.close-words.ensures.words ∙ words_had c.args.self.words c.unwrap.result c.unwrap.ensures)
+    (in_order_there c.args.self.rows.cycles c.items_mut.result.now c.put_rows_in_order.new.rows c.items_mut.ensures.value c.put_rows_in_order.ensures)
+    (c.of_table.ensures ∙ c.close-words.ensures.words ∙ words_had c.args.self.heap.words c.unwrap.result c.unwrap.ensures)
     (c.in_place.ensures ∙ c.all_ends-ends.ensures)
     c.into_names.ensures
 
 pub returns-clause-told : goal.returns-clause-told
 returns-clause-told c = λ script ended.
     subst (IsLawful script) (sym (same_parts c.args.self c.args.end _ _ _ _
-    (in_order_there c.args.self.cycles c.items_mut.result.now c.put_rows_in_order.new.rows c.items_mut.ensures.value c.put_rows_in_order.ensures)
-    (c.of_table.ensures ∙ c.close-words.ensures.words ∙ words_had c.args.self.words c.unwrap.result c.unwrap.ensures)
+    (in_order_there c.args.self.rows.cycles c.items_mut.result.now c.put_rows_in_order.new.rows c.items_mut.ensures.value c.put_rows_in_order.ensures)
+    (c.of_table.ensures ∙ c.close-words.ensures.words ∙ words_had c.args.self.heap.words c.unwrap.result c.unwrap.ensures)
     (c.in_place.ensures ∙ c.all_ends-ends.ensures)
     c.into_names.ensures)) (told script c.args.self c.args.end ended)

@@ -11,7 +11,7 @@ use Rattle.nmgc_cycle.proofs.collector.Collector.join.Goals as goal
 
 pub gather_moved-requires : goal.gather_moved-requires
 gather_moved-requires c =
-    let held : words_in c.args.self.now.words ≡ c.in-Some.words = ap words_in c.in-Some.is in
+    let held : words_in c.args.self.now.heap.words ≡ c.in-Some.words = ap words_in c.in-Some.is in
     subst (λ (y : List ℕ × List Move). AreMovedInside y.0 y.1) (λ i. (held i, sym c.moves.ensures i)) c.requires.can.inside
 
 pub overflow_cast-len : goal.overflow_cast-len
@@ -26,16 +26,16 @@ overflow_cast-len c =
 
 pub join_all-requires-clause-ordered : goal.join_all-requires-clause-ordered
 join_all-requires-clause-ordered c =
-    let fresh : c.as_slice.result.now ≡ moved_weaks c.in-Some.words c.args.self.now.promotion.moves = c.as_slice.ensures.value ∙
+    let fresh : c.as_slice.result.now ≡ moved_weaks c.in-Some.words c.args.self.now.heap.promotion.moves = c.as_slice.ensures.value ∙
     c.in_ok-fresh.ensures.gathered ∙ ap (λ (l : List Move). moved_weaks c.in-Some.words l) c.moves.ensures in
-    subst (λ (l : List OldWeak). IsInOrder (names_of l)) (sym fresh) (moved_ordered c.in-Some.words c.args.self.now.promotion.moves c.requires.can.ordered)
+    subst (λ (l : List OldWeak). IsInOrder (names_of l)) (sym fresh) (moved_ordered c.in-Some.words c.args.self.now.heap.promotion.moves c.requires.can.ordered)
 
 pub join_all-requires-clause-new : goal.join_all-requires-clause-new
 join_all-requires-clause-new c = λ one other d e.
-    let held : words_in c.args.self.now.words ≡ c.in-Some.words = ap words_in c.in-Some.is in
-    let fresh : c.as_slice.result.now ≡ moved_weaks c.in-Some.words c.args.self.now.promotion.moves = c.as_slice.ensures.value ∙
+    let held : words_in c.args.self.now.heap.words ≡ c.in-Some.words = ap words_in c.in-Some.is in
+    let fresh : c.as_slice.result.now ≡ moved_weaks c.in-Some.words c.args.self.now.heap.promotion.moves = c.as_slice.ensures.value ∙
     c.in_ok-fresh.ensures.gathered ∙ ap (λ (l : List Move). moved_weaks c.in-Some.words l) c.moves.ensures in
-    let can : CanJoin c.in-Some.words c.args.self.now.weaks.list c.args.self.now.promotion.moves =
-    subst (λ (l : List ℕ). CanJoin l c.args.self.now.weaks.list c.args.self.now.promotion.moves) held c.requires.can in
-    moved_new c.in-Some.words c.args.self.now.weaks.list c.args.self.now.promotion.moves can one other (subst (λ (l : List OldWeak).
+    let can : CanJoin c.in-Some.words c.args.self.now.heap.weaks.list c.args.self.now.heap.promotion.moves =
+    subst (λ (l : List ℕ). CanJoin l c.args.self.now.heap.weaks.list c.args.self.now.heap.promotion.moves) held c.requires.can in
+    moved_new c.in-Some.words c.args.self.now.heap.weaks.list c.args.self.now.heap.promotion.moves can one other (subst (λ (l : List OldWeak).
     Contains l one) fresh d) (subst (λ (l : List OldWeak). Contains l other) c.in_ok-reserve.ensures.list e)

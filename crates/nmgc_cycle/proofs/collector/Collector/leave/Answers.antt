@@ -5,5 +5,5 @@ use Rattle.nmgc_cycle.proofs.collector.Collector.leave.Goals as goal
 
 pub leave-requires : goal.leave-requires
 leave-requires c =
-    let held : words_in c.args.self.now.words ≡ c.in-Some.words = ap words_in c.in-Some.is in
-    subst (λ (l : List ℕ). AreInside l c.args.self.now.weaks.list) held c.requires.inside
+    let held : words_in c.args.self.now.heap.words ≡ c.in-Some.words = ap words_in c.in-Some.is in
+    subst (λ (l : List ℕ). AreInside l c.args.self.now.heap.weaks.list) held c.requires.inside

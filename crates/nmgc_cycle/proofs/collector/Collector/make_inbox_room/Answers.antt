@@ -23,6 +23,6 @@ reserve_inbox-requires-clause-slice c = c.requires.limits.fits.config.slice
 
 pub returns-clause-room : goal.returns-clause-room
 returns-clause-room c =
-    subst (λ (positions : List ℕ). OnOk c.reserve_inbox.result (is_marking_in c.args.self.now.progress ≡ true →
+    subst (λ (positions : List ℕ). OnOk c.reserve_inbox.result (is_marking_in c.args.self.now.cycle.progress ≡ true →
     HasInboxRoom c.args.script.now positions c.reserve_inbox.new.inbox)) c.as_slice.ensures.value
     (on_ok c.reserve_inbox.result c.reserve_inbox.ensures.room (λ room marks. room))

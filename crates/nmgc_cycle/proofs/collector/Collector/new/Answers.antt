@@ -22,8 +22,8 @@ returns-clause-fresh c = is_fresh c.layout_of-layout.result c.args.script.now _ 
   lines = c.in_ok-mutators.ensures.lines;
   unsent = c.in_ok-mutators.ensures.unsent;
   positions = c.in_ok-positions.ensures.items_if_clones_equal (λ y e. e);
-  no_ends = c.in_ok-ends.ensures.items;
-  room = let room = c.in_ok-ends.ensures.exact in omega arith;
+  no_ends = c.in_ok-report.ensures.empty;
+  room = c.in_ok-report.ensures.room;
   workers = let room = c.in_ok-workers.ensures in omega arith;
 })
 

@@ -40,7 +40,7 @@ do_slices-requires-clause-inbox g c κs within = λ marks.
     let rest = c.in_ok-make_inbox_room.ensures.rest in
     subst (λ (x : Collector).
     HasInboxRoom c.args.script.now x.positions.items roomy.inbox) (sym rest) (c.in_ok-make_inbox_room.ensures.room (sym (ap (λ (x : Collector).
-    is_marking_in x.progress) rest) ∙ marks))
+    is_marking_in x.cycle.progress) rest) ∙ marks))
 
 pub returns-clause-worked : goal.returns-clause-worked
 returns-clause-worked g c =
@@ -84,14 +84,13 @@ returns-clause-worked g c =
       still_before script own listed d.0.run c.requires.stopped.0.1.kept c.in_ok-make_room.ensures.rest c.in_ok-make_room.ensures.mutators
           (inbox_before script listed roomy d.0.run stopped.1.kept c.in_ok-make_inbox_room.ensures.rest d.1),
     ) in
-    let worked : DidRound script roomy (record did { mutators = with_items did.mutators new; rounds = did.rounds ++ rows ∷ [] }) =
+    let worked : DidRound script roomy (record did { mutators = with_items did.mutators new;
+        rows = record did.rows { rounds = did.rows.rounds ++ rows ∷ [] } }) =
     worked_after laws script roomy did c.opening_of-opening.result.value c.requires.limits goes_on c.opening_of-opening.ensures
     c.do_slices.ensures (with_items did.mutators new) (vec_back did.mutators new many ∙ left) rows told in
     on_ok c.push.result c.push.ensures.ok (λ pushed. subst (λ (l : List RoundRows).
-    DidRound script own (record did {
-      mutators = with_items did.mutators new;
-      rounds = l;
-    })) (sym pushed) (before (record did { mutators = with_items did.mutators new; rounds = did.rounds ++ rows ∷ [] }) worked))
+    DidRound script own (record did { mutators = with_items did.mutators new; rows = record did.rows { rounds = l } })) (sym pushed)
+        (before (record did { mutators = with_items did.mutators new; rows = record did.rows { rounds = did.rows.rounds ++ rows ∷ [] } }) worked))
 
 pub returns-clause-mutator_turns : goal.returns-clause-mutator_turns
 returns-clause-mutator_turns g c =
@@ -101,7 +100,7 @@ returns-clause-mutator_turns g c =
     let left : new ≡ map cleared did.mutators.items = c.in_ok-rows.ensures.rest ∙ ap (λ (ms : List Mutator). map cleared ms) was in
     let many : length new ≡ length did.mutators.items = ap (λ (ms : List Mutator). length ms) left ∙ length-map did.mutators.items cleared in
     on_ok c.push.result c.push.ensures.ok (λ pushed. played_tried c.args.script.now c.opening_of-opening.result.value c.args.self.now c.make_room.new.self
-    c.make_inbox_room.new.self did (with_items did.mutators new) did.rounds c.in_ok-make_room.ensures.rest c.in_ok-make_room.ensures.mutators
+    c.make_inbox_room.new.self did (with_items did.mutators new) did.rows.rounds c.in_ok-make_room.ensures.rest c.in_ok-make_room.ensures.mutators
     c.in_ok-make_inbox_room.ensures.rest c.do_slices.ensures (vec_back did.mutators new many ∙ left))
 
 pub returns-clause-turns : goal.returns-clause-turns
@@ -110,7 +109,7 @@ returns-clause-turns g c =
     let did : Collector = c.do_slices.new.self in
     let counts = round_counts c.args.script.now c.opening_of-opening.result.value c.make_inbox_room.new.self did c.do_slices.ensures in
     on_ok c.push.result c.push.ensures.ok (λ pushed. subst (λ (x : Collector). turns_of did ≡
-    passed (turns_of x) (worked_on x.progress did.progress)) (c.in_ok-make_inbox_room.ensures.rest ∙
+    passed (turns_of x) (worked_on x.cycle.progress did.cycle.progress)) (c.in_ok-make_inbox_room.ensures.rest ∙
     ap (λ (x : Collector). record x { inbox = c.make_inbox_room.new.self.inbox }) c.in_ok-make_room.ensures.rest) counts)
 
 pub returns-clause-upper_turns : goal.returns-clause-upper_turns
@@ -119,5 +118,5 @@ returns-clause-upper_turns g c =
     let did : Collector = c.do_slices.new.self in
     let counts = round_counts_upper c.args.script.now c.opening_of-opening.result.value c.make_inbox_room.new.self did c.do_slices.ensures in
     on_ok c.push.result c.push.ensures.ok (λ pushed. subst (λ (x : Collector). upper_turns_of did ≡
-    passed (upper_turns_of x) (upper_worked_on x.progress did.progress)) (c.in_ok-make_inbox_room.ensures.rest ∙
+    passed (upper_turns_of x) (upper_worked_on x.cycle.progress did.cycle.progress)) (c.in_ok-make_inbox_room.ensures.rest ∙
     ap (λ (x : Collector). record x { inbox = c.make_inbox_room.new.self.inbox }) c.in_ok-make_room.ensures.rest) counts)

@@ -12,10 +12,11 @@ pub move_promoted-requires-clause-words : goal.move_promoted-requires-clause-wor
 move_promoted-requires-clause-words c = c.leave.ensures.words.1
 
 pub move_promoted-requires-clause-lists : goal.move_promoted-requires-clause-lists
-move_promoted-requires-clause-lists c = subst (λ (x : Collector). IsFor x.segments.layout x.promotion) (sym c.leave.ensures.rest) c.requires.lists
+move_promoted-requires-clause-lists c = subst (λ (x : Collector). IsFor x.heap.segments.layout x.heap.promotion) (sym c.leave.ensures.rest) c.requires.lists
 
 pub move_promoted-requires-clause-entries : goal.move_promoted-requires-clause-entries
-move_promoted-requires-clause-entries c = subst (λ (x : Collector). HaveEntries x.segments.layout x.names) (sym c.leave.ensures.rest) c.requires.entries
+move_promoted-requires-clause-entries c = subst (λ (x : Collector). HaveEntries x.heap.segments.layout x.heap.names) (sym c.leave.ensures.rest)
+    c.requires.entries
 
 pub move_promoted-requires-clause-stopped : goal.move_promoted-requires-clause-stopped
 move_promoted-requires-clause-stopped c = let h = c.requires.stopped in (h.0, stopped_then c.args.self.now c.leave.new.self c.leave.ensures h.0 h.1)

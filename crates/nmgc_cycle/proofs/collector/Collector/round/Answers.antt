@@ -17,10 +17,10 @@ returns-clause-worked g c =
     round_met c.args.script.now c.args.self.now c.play.new.self c.meet_all.new.self _ c.meet_all.ensures.rest c.meet_all.ensures.met c.in_ok-play.ensures.worked
 
 pub returns-clause-told : goal.returns-clause-told
-returns-clause-told g c = let t = c.in_ok-play.ensures.told in (t.0, ap (λ (x : Collector). x.rounds) c.meet_all.ensures.rest ∙ t.1)
+returns-clause-told g c = let t = c.in_ok-play.ensures.told in (t.0, ap (λ (x : Collector). x.rows.rounds) c.meet_all.ensures.rest ∙ t.1)
 
 pub returns-clause-stops : goal.returns-clause-stops
-returns-clause-stops g c = ap (λ (x : Collector). x.stops) c.meet_all.ensures.rest ∙ c.in_ok-play.ensures.stops
+returns-clause-stops g c = ap (λ (x : Collector). x.rows.stops) c.meet_all.ensures.rest ∙ c.in_ok-play.ensures.stops
 
 pub returns-clause-mutator_turns : goal.returns-clause-mutator_turns
 returns-clause-mutator_turns g c =
@@ -29,11 +29,11 @@ returns-clause-mutator_turns g c =
 
 pub returns-clause-turns : goal.returns-clause-turns
 returns-clause-turns g c = subst (λ (x : Collector). turns_of x ≡
-    passed (turns_of c.args.self.now) (worked_on c.args.self.now.progress x.progress)) (sym c.meet_all.ensures.rest) c.in_ok-play.ensures.turns
+    passed (turns_of c.args.self.now) (worked_on c.args.self.now.cycle.progress x.cycle.progress)) (sym c.meet_all.ensures.rest) c.in_ok-play.ensures.turns
 
 pub returns-clause-upper_turns : goal.returns-clause-upper_turns
 returns-clause-upper_turns g c = subst (λ (x : Collector). upper_turns_of x ≡
-    passed (upper_turns_of c.args.self.now) (upper_worked_on c.args.self.now.progress x.progress)) (sym c.meet_all.ensures.rest)
+    passed (upper_turns_of c.args.self.now) (upper_worked_on c.args.self.now.cycle.progress x.cycle.progress)) (sym c.meet_all.ensures.rest)
     c.in_ok-play.ensures.upper_turns
 
 pub returns-clause-remembered : goal.returns-clause-remembered

@@ -7,7 +7,7 @@ use Rattle.nmgc_cycle.proofs.collector.Collector.run.Goals as goal
 
 pub stops-smaller : goal.stops-smaller
 stops-smaller g c =
-    let before : List StopRow = c.stops.collector.stops in
+    let before : List StopRow = c.stops.collector.rows.stops in
     let fits = stop_fits c.args.script.now c.stops.collector c.requires c.stops.invariant in
     let most = fits.within in
     let told = c.in_ok-stop.ensures.stops in

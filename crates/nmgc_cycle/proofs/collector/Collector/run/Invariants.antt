@@ -8,4 +8,4 @@ invariant-stops g l = CanStop l.script l.collector
 
 -- each stop is one more of those that there can be
 abbrev pub decreases-stops : goal.decreases-stops
-decreases-stops g l = most_stops l.script - length l.collector.stops
+decreases-stops g l = most_stops l.script - length l.collector.rows.stops

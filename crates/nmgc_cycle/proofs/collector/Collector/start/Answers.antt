@@ -8,10 +8,11 @@ pub returns : goal.returns
 returns c =
     let before : Collector = c.start_marking.new.self in
     let starts : StartsMarking c.args.stop c.args.self.now before c.in_ok-marking.marking = c.in_ok-marking.ensures in
-    let begun : before.begun ≡ c.args.self.now.begun = ap (λ (x : Collector). x.begun) starts.rest in
+    let begun : before.cycle.begun ≡ c.args.self.now.cycle.begun = ap (λ (x : Collector). x.cycle.begun) starts.rest in
     record {
       marking = c.in_ok-marking.marking;
       marked = before;
       starts = starts;
-      is = ap (λ (n : ℕ). record before { progress = progress.Marking c.in_ok-marking.marking; begun = n + 1; collect = false }) begun;
+      is = ap (λ (n : ℕ). record before { cycle = record before.cycle { progress = progress.Marking c.in_ok-marking.marking; begun = n + 1;
+          collect = false } }) begun;
     }
