@@ -122,8 +122,12 @@ AddsTo entries old new p after = (after ≡ p) × (new ≡ old)
 
 -- what the mutators remember was added to the marker, and they remember nothing: the inbox and the rings are empty
 pub record HasTaken (old new : Collector) : Type 0 where
-  pub rest : new ≡ record old { heap = record old.heap { segments = new.heap.segments }; cycle = record old.cycle { progress = new.cycle.progress };
-      inbox = new.inbox; mutators = new.mutators }
+  pub rest : new ≡ record old {
+    heap = record old.heap { segments = new.heap.segments };
+    cycle = record old.cycle { progress = new.cycle.progress };
+    inbox = new.inbox;
+    mutators = new.mutators;
+  }
   pub inbox : length new.inbox ≡ length old.inbox
   pub mutators : HaveForgotten old.mutators.items new.mutators.items
   pub lines : (k : ℕ) (n : Mutator) → slice_get new.mutators.items k ≡ Some n → IsLined new.inbox k n.sender
@@ -169,13 +173,16 @@ abbrev pub Closes : ℕ → Progress → Collector → Collector → Type 0
 Closes stop (progress.Marking m) old new = ((m.last.empty ≡ true) ×
     ((w : Sweeping) × (new.cycle.progress ≡ progress.Sweeping w) ×
     IsClosed stop (words_in old.heap.words) (words_in new.heap.words) old.heap.segments new.heap.segments old.heap.weaks new.heap.weaks old.mutators.items
-        new.mutators.items m w)) ⊎ ((m.last.empty ≡ false) × (new ≡ old))
+    new.mutators.items m w)) ⊎ ((m.last.empty ≡ false) × (new ≡ old))
 Closes stop p old new = new ≡ old
 
 -- by this rule a cycle was closed, or none: of the collector words, segments, list and queues are those that this left
 pub record HasClosed (Rule : ℕ → Progress → Collector → Collector → Type 0) (stop : ℕ) (old new : Collector) : Type 0 where
-  pub rest : new ≡ record old { heap = record old.heap { words = new.heap.words; segments = new.heap.segments; weaks = new.heap.weaks };
-      cycle = record old.cycle { progress = new.cycle.progress }; mutators = new.mutators }
+  pub rest : new ≡ record old {
+    heap = record old.heap { words = new.heap.words; segments = new.heap.segments; weaks = new.heap.weaks };
+    cycle = record old.cycle { progress = new.cycle.progress };
+    mutators = new.mutators;
+  }
   pub has_words : IsSome new.heap.words
   pub closes : Rule stop old.cycle.progress old new
 
@@ -201,9 +208,9 @@ IsSwept c = (w : Sweeping) × (c.cycle.progress ≡ progress.Sweeping w) × HasN
 abbrev pub Ends : ℕ → Progress → Collector → Collector → Type 0
 Ends stop (progress.Sweeping w) old new = (HasNone sought.Sweeping old.heap.segments ×
     (new ≡ record old {
-        cycle = record old.cycle { progress = progress.Idle; turns = w.sweeper.turns; upper_turns = w.sweeper.upper_turns };
-        rows = record old.rows { cycles = old.rows.cycles ++ row_of old.cycle.begun stop w (died old.heap.weaks.deaths) ∷ [] };
-      })) ⊎ ((HasNone sought.Sweeping old.heap.segments → ⊥) × (new ≡ old))
+      cycle = record old.cycle { progress = progress.Idle; turns = w.sweeper.turns; upper_turns = w.sweeper.upper_turns };
+      rows = record old.rows { cycles = old.rows.cycles ++ row_of old.cycle.begun stop w (died old.heap.weaks.deaths) ∷ [] };
+    })) ⊎ ((HasNone sought.Sweeping old.heap.segments → ⊥) × (new ≡ old))
 Ends stop _ old new = new ≡ old
 
 -- where the same cycle marks on, only its marker changed: what its last work answered is kept as it was

@@ -35,7 +35,7 @@ CanCloseNow words segments weaks queues _ = Unit {0}
 abbrev pub ClosesNow : ℕ → Progress → Collector → Collector → Type 0
 ClosesNow stop (progress.Marking m) old new = (w : Sweeping) × (new.cycle.progress ≡ progress.Sweeping w) ×
     IsClosed stop (words_in old.heap.words) (words_in new.heap.words) old.heap.segments new.heap.segments old.heap.weaks new.heap.weaks old.mutators.items
-        new.mutators.items m w
+    new.mutators.items m w
 ClosesNow stop p old new = new ≡ old
 
 -- a sweeper has all segments left that wait, and there is an entry of the array of names for each block

@@ -79,7 +79,7 @@ FinishingLeads = (script : Script) (old new : Collector) (s : State) (k : Cycle)
     StandsWithin script old s → s.progress ≡ marking k → old.cycle.progress ≡ doing.Marking m → m.last.empty ≡ true → new.cycle.progress ≡ doing.Sweeping w →
     HasClosed ClosesThen s.number old new →
     IsClosed s.number (words_in old.heap.words) (words_in new.heap.words) old.heap.segments new.heap.segments old.heap.weaks new.heap.weaks
-        old.mutators.items new.mutators.items m w → (t : State) × Closes k s t × MayClose script.config.quota k s.number × StandsAt script new t
+    old.mutators.items new.mutators.items m w → (t : State) × Closes k s t × MayClose script.config.quota k s.number × StandsAt script new t
 
 -- a closing comes within its bounds
 abbrev pub ClosingLeads : Type 0

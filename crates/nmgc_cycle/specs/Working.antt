@@ -179,12 +179,12 @@ commands_in done = map (λ (d : List Done). map (λ (x : Done). x.0) d) done
 -- a slice asked for one
 pub record DidSlices (script : Script) (o : Opening) (old new : Collector) : Type 0 where
   pub rest : new ≡ record old {
-      heap = record old.heap { words = new.heap.words; segments = new.heap.segments };
-      cycle = record old.cycle { progress = new.cycle.progress; collect = new.cycle.collect; full = new.cycle.full };
-      inbox = new.inbox;
-      mutators = new.mutators;
-      positions = new.positions;
-    }
+    heap = record old.heap { words = new.heap.words; segments = new.heap.segments };
+    cycle = record old.cycle { progress = new.cycle.progress; collect = new.cycle.collect; full = new.cycle.full };
+    inbox = new.inbox;
+    mutators = new.mutators;
+    positions = new.positions;
+  }
   pub words : List ℕ
   pub words_are : new.heap.words ≡ Some words
   pub scans : List Scan

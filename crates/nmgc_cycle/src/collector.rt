@@ -267,7 +267,35 @@ impl Collector {
         let workers = WorkerRoom::reserve(alloc, count)?;
         let positions = vec![in alloc; 0u32; count]?;
         let report = ReportMemory::new(alloc, count)?;
-        Ok(Collector { alloc, heap: Heap { words: Some(words), segments, promotion, names, weaks: Weaks::new(alloc) }, mutators, workers, inbox, positions, rows: Rows { rounds: List::new(alloc), stops: List::new(alloc), cycles: List::new(alloc) }, cycle: CycleState { progress: Progress::Idle, begun: 0, collect: false, full: false, turns: 0, upper_turns: 0 }, answered: None, report })
+        Ok(Collector {
+            alloc,
+            heap: Heap {
+                words: Some(words),
+                segments,
+                promotion,
+                names,
+                weaks: Weaks::new(alloc),
+            },
+            mutators,
+            workers,
+            inbox,
+            positions,
+            rows: Rows {
+                rounds: List::new(alloc),
+                stops: List::new(alloc),
+                cycles: List::new(alloc),
+            },
+            cycle: CycleState {
+                progress: Progress::Idle,
+                begun: 0,
+                collect: false,
+                full: false,
+                turns: 0,
+                upper_turns: 0,
+            },
+            answered: None,
+            report,
+        })
     }
 
     /// A whole run of a script: a stop, and then rounds, each with a stop after it, until a stop answers an end.
@@ -322,8 +350,30 @@ impl Collector {
         ensures parts { result ≡ report_of self end }
         ensures told { (script : ScriptSeen) → HasEnded script self end → IsLawful script result }
     {
-        let Collector { alloc: _, heap, mutators, workers: _, inbox: _, positions: _, rows, cycle: _, answered: _, report } = self;
-            let Heap { words, segments, promotion: _, names: _, weaks } = heap; let Rows { rounds, stops, mut cycles } = rows;
+        let Collector {
+            alloc: _,
+            heap,
+            mutators,
+            workers: _,
+            inbox: _,
+            positions: _,
+            rows,
+            cycle: _,
+            answered: _,
+            report,
+        } = self;
+        let Heap {
+            words,
+            segments,
+            promotion: _,
+            names: _,
+            weaks,
+        } = heap;
+        let Rows {
+            rounds,
+            stops,
+            mut cycles,
+        } = rows;
         let words = words.unwrap().close();
         let ends = all_ends(mutators, report.ends);
         put_rows_in_order(cycles.items_mut());

@@ -169,9 +169,9 @@ impl Collector {
         requires ready { IsReadyToClose (words_in self.old.heap.words) self.old.heap.segments self.old.heap.weaks.list (queues_in self.old.mutators.items)
             marking }
         ensures rest { self.new ≡ record self.old {
-            heap = record self.old.heap { words = self.new.heap.words; segments = self.new.heap.segments; weaks = self.new.heap.weaks };
-            mutators = self.new.mutators;
-          } }
+          heap = record self.old.heap { words = self.new.heap.words; segments = self.new.heap.segments; weaks = self.new.heap.weaks };
+          mutators = self.new.mutators;
+        } }
         ensures words { IsSome self.new.heap.words }
         ensures closed { IsClosed stop (words_in self.old.heap.words) (words_in self.new.heap.words) self.old.heap.segments self.new.heap.segments
             self.old.heap.weaks self.new.heap.weaks self.old.mutators.items self.new.mutators.items marking result }
@@ -186,7 +186,9 @@ impl Collector {
             unreachable!()
         };
         marker.finish(words, &mut self.heap.segments);
-        self.heap.weaks.resolve(&mut marker, words, &mut self.heap.segments);
+        self.heap
+            .weaks
+            .resolve(&mut marker, words, &mut self.heap.segments);
         weaks::queue_all(self.heap.weaks.deaths(), self.mutators.as_mut_slice());
         let _ = self.heap.segments.layout();
         self.heap.segments.carry(marker.epoch());
@@ -217,7 +219,8 @@ impl Collector {
             return Ok(());
         }
         let dead = weaks::dead_names(self.alloc, self.heap.weaks.deaths())?;
-        let Progress::Sweeping(sweeping) = mem::replace(&mut self.cycle.progress, Progress::Idle) else {
+        let Progress::Sweeping(sweeping) = mem::replace(&mut self.cycle.progress, Progress::Idle)
+        else {
             unreachable!();
         };
         self.cycle.turns = sweeping.sweeper.turns;
@@ -232,7 +235,8 @@ impl Collector {
         ensures { IsTrue result ↔ IsDue trigger self.now }
     {
         match self.cycle.progress {
-            Progress::Idle => self.cycle.collect || (trigger != 0 && self.heap.segments.fresh() >= trigger),
+            Progress::Idle => self.cycle.collect
+                || (trigger != 0 && self.heap.segments.fresh() >= trigger),
             Progress::Marking(_) | Progress::Sweeping(_) => false,
         }
     }

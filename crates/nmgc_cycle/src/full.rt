@@ -55,7 +55,9 @@ impl Collector {
         ensures { HasSweptRest self.old self.new }
     {
         if let Progress::Sweeping(sweeping) = &mut self.cycle.progress {
-            sweeping.sweeper.finish(rt, &mut self.heap.segments, &self.heap.names);
+            sweeping
+                .sweeper
+                .finish(rt, &mut self.heap.segments, &self.heap.names);
             // What is true of all segments is true of these.
             let _ = self.heap.segments.layout();
         }

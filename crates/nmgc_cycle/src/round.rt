@@ -277,10 +277,10 @@ impl Collector {
         requires collector { CanHelp round.now seat.old self.old.heap.segments self.old.heap.names self.old.cycle.progress }
         requires mutators { CanAllWork round.now script.now self.old.positions.items workers.old }
         ensures rest { self.new ≡ record self.old {
-            heap = record self.old.heap { segments = self.new.heap.segments };
-            cycle = record self.old.cycle { progress = self.new.cycle.progress; collect = self.new.cycle.collect; full = self.new.cycle.full };
-            inbox = self.new.inbox;
-          } }
+          heap = record self.old.heap { segments = self.new.heap.segments };
+          cycle = record self.old.cycle { progress = self.new.cycle.progress; collect = self.new.cycle.collect; full = self.new.cycle.full };
+          inbox = self.new.inbox;
+        } }
         ensures collector { HasHelped round.now script.now.config.quota seat.old seat.new self.old.heap.segments self.new.heap.segments self.old.heap.names
             self.old.cycle.progress self.new.cycle.progress }
         ensures mutators { HaveAllWorked round.now script.now self.old.positions.items workers.old workers.new }

@@ -149,8 +149,7 @@ impl Collector {
         let Some(words) = &mut self.heap.words else {
             unreachable!()
         };
-        self.heap.promotion
-            .promote(words, &mut self.heap.segments, self.mutators.as_mut_slice());
+        self.heap.promotion.promote(words, &mut self.heap.segments, self.mutators.as_mut_slice());
         note_moves(&mut self.heap.names, self.heap.promotion.moves());
     }
 }

@@ -19,8 +19,8 @@ use nmgc_lists::{List, NoMemory};
 use nmgc_round::Gate;
 use std::alloc::Global;
 use std::sync::Wait;
-use std::thread::Threads;
 use std::thread;
+use std::thread::Threads;
 
 /// There may be so many workers.
 pub const MOST_WORKERS: u8 = 32;

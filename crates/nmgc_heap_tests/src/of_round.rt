@@ -15,8 +15,8 @@ use nmgc_round::{Chosen, Gate, MutatorSeat, OpenGate, Opened, Round, Started, Wo
 use nmgc_world_spec::{Command, Name, Operand};
 use std::alloc::Global;
 use std::test::Fail;
-use std::thread::Threads;
 use std::thread;
+use std::thread::Threads;
 
 // The opening of a run's first round.
 struct First;

@@ -3,8 +3,8 @@ use nmgc_limits::MAKERS;
 use nmgc_lists::ListMemory;
 use nmgc_object::{
     Address, Field, FinQueue, Header, Layout, Nursery, block_words, class_of, decode_header,
-    decode_name, decode_value, encode_header, encode_name, encode_value, fields_of, header_of, laws,
-    name_of, object_words, words_of,
+    decode_name, decode_value, encode_header, encode_name, encode_value, fields_of, header_of,
+    laws, name_of, object_words, words_of,
 };
 use nmgc_world_spec::{Kind, Name};
 use std::test::Fail;

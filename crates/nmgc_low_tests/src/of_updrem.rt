@@ -7,8 +7,8 @@ use nmgc_object::Address;
 use nmgc_updrem::*;
 use std::alloc::Global;
 use std::test::Fail;
-use std::thread::Threads;
 use std::thread;
+use std::thread::Threads;
 
 #[test]
 fn pushes_come_out_in_order(rt: HostRuntime) -> Result<(), Fail> {

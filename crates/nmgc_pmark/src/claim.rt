@@ -11,10 +11,10 @@ ghost use Rattle.nmgc_pmark.specs.View.{whole, tried, claimed_by, keeps_rest, gi
 ghost use Rattle.nmgc_pmark.specs.Rule.{IsMarker, CanSplit, HasAll, IsShared};
 ghost use Rattle.nmgc_pmark.specs.Seat.{seen, bounds_of, IsAt};
 
-use atomic_table::Table;
 use crate::bounds::Bounds;
 use crate::plays::{Both, FirstMarker, Tries};
 use crate::table::{ClaimSeat, ClaimTable};
+use atomic_table::Table;
 use nmgc_lists::NoMemory;
 use std::alloc::Global;
 

@@ -27,8 +27,8 @@ use nmgc_object::{
 use nmgc_round::Gate;
 use nmgc_world_spec::Name;
 use std::alloc::Global;
-use std::thread::Threads;
 use std::thread;
+use std::thread::Threads;
 
 /// For each marker, the names of the objects that it claimed, in order.
 #[derive(Drop)]

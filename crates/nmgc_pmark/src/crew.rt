@@ -19,8 +19,8 @@ use nmgc_lists::{NoMemory, Room};
 use nmgc_object::Address;
 use nmgc_round::Gate;
 use std::alloc::Global;
-use std::thread::Threads;
 use std::thread;
+use std::thread::Threads;
 
 /// There may be so many markers.
 pub const MOST_MARKERS: u8 = 8;

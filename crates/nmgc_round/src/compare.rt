@@ -8,10 +8,10 @@ ghost use Rattle.nmgc_round.specs.Ready.{Mutates};
 ghost use Rattle.nmgc_round.specs.Compare.{CanExchange, FoundOther, exchanged, wrote};
 ghost use Rattle.nmgc_round.specs.Seat.{IsAt, Knows, seen, word_count};
 
-use atomic_table::Play;
 use crate::plays::Asked;
 use crate::table::{MutatorSeat, Round};
 use crate::view::View;
+use atomic_table::Play;
 use nmgc_object::{Address, HEADER_WORDS};
 use nmgc_world_spec::Command;
 use std::marker::{Brand, PhantomData};

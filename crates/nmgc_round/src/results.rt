@@ -14,11 +14,11 @@ ghost use Rattle.nmgc_round.specs.Compare.{FoundOther, wrote};
 ghost use Rattle.nmgc_round.specs.Results.{CanForce, CanUpdate, forced, updated};
 ghost use Rattle.nmgc_round.specs.Seat.{IsAt, Knows, seen, word_count};
 
-use atomic_table::Play;
 use crate::compare::Exchanged;
 use crate::plays::{Asked, Located};
 use crate::table::{MutatorSeat, Round};
 use crate::view::View;
+use atomic_table::Play;
 use nmgc_object::{Address, HEADER_WORDS};
 use nmgc_world_spec::Command;
 use std::marker::{Brand, PhantomData};

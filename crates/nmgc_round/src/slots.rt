@@ -16,10 +16,10 @@ ghost use Rattle.nmgc_round.specs.Told.{IsSafe};
 ghost use Rattle.nmgc_round.specs.Stacks.{CanPeek, CanSlot, TellsSlot, slot_swapped, IsRefusedSlot, slot_refused};
 ghost use Rattle.nmgc_round.specs.Seat.{IsAt, Knows, seen, word_count};
 
-use atomic_table::Play;
 use crate::plays::{Asked, Located};
 use crate::table::{MutatorSeat, Round};
 use crate::view::View;
+use atomic_table::Play;
 use nmgc_object::{Address, HEADER_WORDS, SHARED_PLACE};
 use nmgc_world_spec::Command;
 use std::marker::{Brand, PhantomData};

@@ -6,11 +6,11 @@
 ghost use Rattle.std.specs.Prelude.{◌≡◌, ◌<◌};
 ghost use Rattle.nmgc_object.specs.Places.{word_total};
 
-use atomic_table::{Seat, Table};
 use crate::chosen::Chosen;
 use crate::plays::Rules;
 use crate::view::{Opened, Stored, View};
 use crate::words::Words;
+use atomic_table::{Seat, Table};
 use nmgc_lists::List;
 use std::alloc::Global;
 

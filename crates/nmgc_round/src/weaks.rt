@@ -13,10 +13,10 @@ ghost use Rattle.nmgc_round.specs.Told.{IsSafe};
 ghost use Rattle.nmgc_round.specs.Weaks.{CanDeref, CanFinalise, finaliser_named, weak_read, weak_taken};
 ghost use Rattle.nmgc_round.specs.Seat.{IsAt, Knows, seen, word_count};
 
-use atomic_table::Play;
 use crate::plays::{Asked, Located};
 use crate::table::{MutatorSeat, Round};
 use crate::view::View;
+use atomic_table::Play;
 use nmgc_object::{Address, HEADER_WORDS};
 use nmgc_world_spec::Command;
 use std::marker::{Brand, PhantomData};

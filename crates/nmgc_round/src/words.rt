@@ -11,11 +11,11 @@ ghost use Rattle.std.specs.Prelude.{◌≡◌, ◌<◌, IfOk, length, set, slice
 ghost use Rattle.std.specs.Slots.{slots_items, slots_len, IsFull};
 ghost use Rattle.nmgc_round.specs.Stop.{IsSole};
 
-use atomic_table::{Closed, Table};
 use crate::chosen::{Chosen, Wanted};
 use crate::plays::{Reads, Writes};
 use crate::table::{MutatorSeat, Shared};
 use crate::view::Stored;
+use atomic_table::{Closed, Table};
 use nmgc_heap_spec::HeapWords;
 use nmgc_lists::NoMemory;
 use std::alloc::Global;

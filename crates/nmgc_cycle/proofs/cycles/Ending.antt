@@ -34,8 +34,10 @@ use Rattle.nmgc_cycle.proofs.stops.Telling.{kept_told}
 
 -- the collector once the cycle has ended, and its state
 abbrev pub ended : Collector → ℕ → ℕ → CycleRow → Collector
-ended c turns upper row = record c { cycle = record c.cycle { progress = doing.Idle; turns = turns; upper_turns = upper };
-    rows = record c.rows { cycles = c.rows.cycles ++ row ∷ [] } }
+ended c turns upper row = record c {
+  cycle = record c.cycle { progress = doing.Idle; turns = turns; upper_turns = upper };
+  rows = record c.rows { cycles = c.rows.cycles ++ row ∷ [] };
+}
 
 abbrev pub idled : State → State
 idled s = record s { progress = idle }

@@ -93,7 +93,7 @@ module _ (Paced : Cycle → State → CollectorSeen → Type 0) (laws : ClosingL
     (h : StandsInPace Paced script (record c { cycle = record c.cycle { progress = doing.Marking m } }) (record st { progress = marking k }))
     (n : Collector) (some : IsSome n.heap.words) (w : Sweeping)
     (cl : IsClosed st.number (words_in c.heap.words) (words_in n.heap.words) c.heap.segments n.heap.segments c.heap.weaks n.heap.weaks c.mutators.items
-        n.mutators.items m w) where
+    n.mutators.items m w) where
   abbrev old : Collector
   old = record c { cycle = record c.cycle { progress = doing.Marking m } }
 
@@ -179,8 +179,11 @@ module _ (Paced : Cycle → State → CollectorSeen → Type 0) (laws : ClosingL
   with_queues = are_with cl.joined.queues c.mutators.items later queue_count cl.joined.have
 
   abbrev next : Collector
-  next = record c { heap = record c.heap { words = n.heap.words; segments = segments; weaks = n.heap.weaks };
-      cycle = record c.cycle { progress = doing.Sweeping work }; mutators = n.mutators }
+  next = record c {
+    heap = record c.heap { words = n.heap.words; segments = segments; weaks = n.heap.weaks };
+    cycle = record c.cycle { progress = doing.Sweeping work };
+    mutators = n.mutators;
+  }
 
   joined : HaveJoinedInRun (seen old) weaks.deaths cl.joined.queues (ends_of (seen next))
   joined = record {
@@ -369,15 +372,18 @@ module _ (Paced : Cycle → State → CollectorSeen → Type 0) (laws : ClosingL
 module _ (Paced : Cycle → State → CollectorSeen →
     Type 0) (laws : ClosingLaws) (script : Script) (old new : Collector) (s : State) (k : Cycle) (m : Marking) (w : Sweeping)
     (h : StandsInPace Paced script old s) (is : s.progress ≡ marking k) (at : old.cycle.progress ≡ doing.Marking m) (progress : new.cycle.progress ≡
-        doing.Sweeping w)
-    (rest : new ≡ record old { heap = record old.heap { words = new.heap.words; segments = new.heap.segments; weaks = new.heap.weaks };
-        cycle = record old.cycle { progress = new.cycle.progress }; mutators = new.mutators }) (some : IsSome new.heap.words)
+    doing.Sweeping w)
+    (rest : new ≡ record old {
+      heap = record old.heap { words = new.heap.words; segments = new.heap.segments; weaks = new.heap.weaks };
+      cycle = record old.cycle { progress = new.cycle.progress };
+      mutators = new.mutators;
+    }) (some : IsSome new.heap.words)
     (cl : IsClosed s.number (words_in old.heap.words) (words_in new.heap.words) old.heap.segments new.heap.segments old.heap.weaks new.heap.weaks
-        old.mutators.items new.mutators.items m w) where
+    old.mutators.items new.mutators.items m w) where
   stood : StandsInPace Paced script (record old { cycle = record old.cycle { progress = doing.Marking m } }) (record s { progress = marking k })
   stood =
       let was : old ≡ record old { cycle = record old.cycle { progress = doing.Marking m } } =
-          ap (λ (p : Doing). record old { cycle = record old.cycle { progress = p } }) at in
+      ap (λ (p : Doing). record old { cycle = record old.cycle { progress = p } }) at in
       let state : s ≡ record s { progress = marking k } = ap (λ (q : Progress). record s { progress = q }) is in
       subst (λ (x : Collector). StandsInPace Paced script x (record s { progress = marking k })) was (subst (λ (y : State).
       StandsInPace Paced script old y) state h)
@@ -397,23 +403,28 @@ module _ (Paced : Cycle → State → CollectorSeen →
       let t : State = closed_state k s (resolved Paced laws script old s k m stood new some w cl).closing.dead in
       let carried : Segments = all_carried cl.marker.epoch cl.marked in
       let next : new ≡ record old {
-          heap = record old.heap { words = new.heap.words; segments = carried; weaks = new.heap.weaks };
-          cycle = record old.cycle { progress = doing.Sweeping (record {
-          from = m.from;
-          closed = s.number;
-          kept = cl.marker.marked;
-          sweeper = turned m.sweeper m.marker.turns;
-        }) };
-          mutators = new.mutators;
-        } =
+        heap = record old.heap { words = new.heap.words; segments = carried; weaks = new.heap.weaks };
+        cycle = record old.cycle {
+          progress = doing.Sweeping (record {
+            from = m.from;
+            closed = s.number;
+            kept = cl.marker.marked;
+            sweeper = turned m.sweeper m.marker.turns;
+          });
+        };
+        mutators = new.mutators;
+      } =
       rest
-      ∙ ap (λ (g : Segments). record old { heap = record old.heap { words = new.heap.words; segments = g; weaks = new.heap.weaks };
-          cycle = record old.cycle { progress = new.cycle.progress }; mutators = new.mutators }) cl.carried
+      ∙ ap (λ (g : Segments). record old {
+        heap = record old.heap { words = new.heap.words; segments = g; weaks = new.heap.weaks };
+        cycle = record old.cycle { progress = new.cycle.progress };
+        mutators = new.mutators;
+      }) cl.carried
       ∙ ap (λ (p : Doing). record old {
-          heap = record old.heap { words = new.heap.words; segments = carried; weaks = new.heap.weaks };
-          cycle = record old.cycle { progress = p };
-          mutators = new.mutators;
-        }) (progress ∙ ap doing.Sweeping cl.is) in (
+        heap = record old.heap { words = new.heap.words; segments = carried; weaks = new.heap.weaks };
+        cycle = record old.cycle { progress = p };
+        mutators = new.mutators;
+      }) (progress ∙ ap doing.Sweeping cl.is) in (
         t,
         subst (λ (q : Progress). Closes k (record s { progress = q }) t) (sym is) all.0,
         subst (λ (x : Collector). StandsAt script x t) (sym next) all.1,
@@ -424,7 +435,7 @@ finishing_leads laws script old new s k m w limits h is at none_left progress cl
     let P : Cycle → State → CollectorSeen → Type 0 = IsPacedWithin script.config.quota in
     let there = closes_there P laws script old new s k m w h is at progress closing.rest closing.has_words cl in
     let paced : IsPacedWithin script.config.quota k (record s { progress = marking k })
-        (seen (record old { cycle = record old.cycle { progress = doing.Marking m } })) =
+    (seen (record old { cycle = record old.cycle { progress = doing.Marking m } })) =
     paced_there P laws script old new s k m w h is at progress closing.rest closing.has_words cl in
     let counted = counts_kept P laws script old new s k m w h is at progress closing.rest closing.has_words cl in
     let more = marks_more P laws script old new s k m w h is at progress closing.rest closing.has_words cl in
@@ -453,13 +464,13 @@ module _ (laws : ClosingLaws) (script : Script) (old new : Collector) (s : State
       let P : Cycle → State → CollectorSeen → Type 0 = IsPacedAtStop script.config.quota in
       let t = closes_there P laws script old new s k m step.0 h is at step.1 closing.rest closing.has_words step.2 in
       let paced : IsPacedAtStop script.config.quota k (record s { progress = marking k })
-          (seen (record old { cycle = record old.cycle { progress = doing.Marking m } })) =
+      (seen (record old { cycle = record old.cycle { progress = doing.Marking m } })) =
       paced_there P laws script old new s k m step.0 h is at step.1 closing.rest closing.has_words step.2 in
       let counted = counts_kept P laws script old new s k m step.0 h is at step.1 closing.rest closing.has_words step.2 in
       let more = marks_more P laws script old new s k m step.0 h is at step.1 closing.rest closing.has_words step.2 in
       let soon : IsSoon script.config.quota k s.number =
       forced_soon script.config.quota k (record s { progress = marking k }) (seen (record old { cycle = record old.cycle { progress = doing.Marking m } }))
-          step.2.marker.marked paced more counted in (
+      step.2.marker.marked paced more counted in (
         t.0,
         subst (λ (q : Progress). ClosesNow q s t.0) (sym is) t.1,
         t.2,

@@ -301,7 +301,7 @@ pub is_filed_at : FinishLeads → FilingLeads → BeginReady → (stop : ℕ) (o
 is_filed_at finish filing ready stop old idled segments h f is sound =
     let at = finished_at finish stop old idled h f in
     let filed_is : record idled { heap = record idled.heap { segments = segments } } ≡ full.with_all_retired idled =
-        ap (λ (g : Segments). record idled { heap = record idled.heap { segments = g } }) is in
+    ap (λ (g : Segments). record idled { heap = record idled.heap { segments = g } }) is in
     let sound_there : IsSegments (full.with_all_retired idled).heap.segments = subst IsSegments is sound in
     let stands : StandsAtStop stop (record idled { heap = record idled.heap { segments = segments } }) =
     subst (λ (x : Collector). StandsAtStop stop x) (sym filed_is) (filed_at filing stop idled at.0 at.1 sound_there) in

@@ -90,8 +90,11 @@ module _ (laws : BeginningLaws) (script : Script) (c : Collector) (s : State) (h
   segments = before.heap.segments
 
   abbrev next : Collector
-  next = record c { heap = record c.heap { segments = before.heap.segments }; mutators = before.mutators;
-      cycle = record c.cycle { progress = doing.Marking mk; begun = c.cycle.begun + 1; collect = false } }
+  next = record c {
+    heap = record c.heap { segments = before.heap.segments };
+    mutators = before.mutators;
+    cycle = record c.cycle { progress = doing.Marking mk; begun = c.cycle.begun + 1; collect = false };
+  }
 
   no_wait : NoneIs (IsIn stands.Sweeping) s.allocation
   no_wait = none laws.prepares laws.begins script c s h at
@@ -262,15 +265,22 @@ starting_leads laws script old new s limits h idle started =
     let st = started.starts in
     let words : started.marked.heap.words ≡ old.heap.words = words_same started.marked.heap.words old.heap.words st.words.1 h.kept.has_words st.words.0 in
     let before : started.marked ≡ record old { heap = record old.heap { segments = started.marked.heap.segments }; mutators = started.marked.mutators } =
-    st.rest ∙ ap (λ (x : Option (List ℕ)). record old { heap = record old.heap { words = x; segments = started.marked.heap.segments };
-        mutators = started.marked.mutators }) words in
+    st.rest ∙ ap (λ (x : Option (List ℕ)). record old {
+      heap = record old.heap { words = x; segments = started.marked.heap.segments };
+      mutators = started.marked.mutators;
+    }) words in
     let next : new ≡ record old {
-        heap = record old.heap { segments = started.marked.heap.segments };
-        mutators = started.marked.mutators;
-        cycle = record old.cycle { progress = doing.Marking started.marking; begun = old.cycle.begun + 1; collect = false };
-      } =
-    started.is ∙ ap (λ (x : Collector). record x { cycle = record x.cycle { progress = doing.Marking started.marking; begun = old.cycle.begun + 1;
-        collect = false } }) before in
+      heap = record old.heap { segments = started.marked.heap.segments };
+      mutators = started.marked.mutators;
+      cycle = record old.cycle { progress = doing.Marking started.marking; begun = old.cycle.begun + 1; collect = false };
+    } =
+    started.is ∙ ap (λ (x : Collector). record x {
+      cycle = record x.cycle {
+        progress = doing.Marking started.marking;
+        begun = old.cycle.begun + 1;
+        collect = false;
+      };
+    }) before in
     subst (λ (x : Collector). StandsAt script x (record (cycle_started s) {
       collect =
           false;

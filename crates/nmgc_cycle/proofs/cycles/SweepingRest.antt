@@ -185,8 +185,10 @@ module _ (laws : SweepingLaws) (script : Script) (old new : Collector) (s : Stat
   stays : (p : Doing) (q : Progress) → old.cycle.progress ≡ p → s.progress ≡ q → SweepsRest q s.allocation s.allocation → new.cycle.progress ≡ p →
       new.heap.segments ≡ old.heap.segments → Leads
   stays p q at is swept_by after same_segments =
-      let same : new ≡ old = segments_are ∙ ap (λ (g : Segments). record old { heap = record old.heap { segments = g };
-          cycle = record old.cycle { progress = new.cycle.progress } }) same_segments ∙
+      let same : new ≡ old = segments_are ∙ ap (λ (g : Segments). record old {
+        heap = record old.heap { segments = g };
+        cycle = record old.cycle { progress = new.cycle.progress };
+      }) same_segments ∙
       ap (λ (x : Doing). record old { cycle = record old.cycle { progress = x } }) (after ∙ sym at) in (
         s.allocation,
         subst (λ (x : Progress). SweepsRest x s.allocation s.allocation) (sym is) swept_by,
@@ -206,17 +208,19 @@ module _ (laws : SweepingLaws) (script : Script) (old new : Collector) (s : Stat
   by_case (doing.Sweeping w) (sweeping k since) at is e step =
       let v : Sweeping = step.0 in
       let was : old ≡ record old { cycle = record old.cycle { progress = doing.Sweeping w } } =
-          ap (λ (p : Doing). record old { cycle = record old.cycle { progress = p } }) at in
+      ap (λ (p : Doing). record old { cycle = record old.cycle { progress = p } }) at in
       let state : s ≡ record s { progress = sweeping k since } = ap (λ (q : Progress). record s { progress = q }) is in
       let stood : StandsAt script (record old { cycle = record old.cycle { progress = doing.Sweeping w } }) (record s { progress = sweeping k since }) =
       subst (λ (x : Collector). StandsAt script x (record s { progress = sweeping k since })) was (subst (λ (y : State).
       StandsAt script old y) state h) in
       let there = stands_then laws script old s k since w v stood new.heap.segments step.2 in
       let a : AllocState = b laws script old s k since w v stood new.heap.segments step.2 in
-      let next : new ≡ record old { heap = record old.heap { segments = new.heap.segments };
-          cycle = record old.cycle { progress = doing.Sweeping (record w { sweeper = v.sweeper }) } } = segments_are ∙
+      let next : new ≡ record old {
+        heap = record old.heap { segments = new.heap.segments };
+        cycle = record old.cycle { progress = doing.Sweeping (record w { sweeper = v.sweeper }) };
+      } = segments_are ∙
       ap (λ (p : Doing). record old { heap = record old.heap { segments = new.heap.segments }; cycle = record old.cycle { progress = p } })
-          (step.1 ∙ ap doing.Sweeping step.2.rest) in (
+      (step.1 ∙ ap doing.Sweeping step.2.rest) in (
         a,
         subst (λ (q : Progress). SweepsRest q s.allocation a) (sym is) (sweeps_rest laws script old s k since w v stood new.heap.segments step.2),
         subst (λ (q : Progress). StandsAt script new (record s { progress = q; allocation = a })) (sym is) (subst (λ (x : Collector).

@@ -63,7 +63,7 @@ fresh_few N script c fresh =
     let left : commands_left script.threads c.rows.rounds ≡ commands_left script.threads [] =
     ap (λ (r : List RoundRows). commands_left script.threads r) fresh.new.nothing.0 in
     let idle : phase_left script.config.segments c.cycle.progress ≡ 0 =
-        ap (phase_left script.config.segments) (when_idle c.cycle.progress fresh.new.matches.phase) in
+    ap (phase_left script.config.segments) (when_idle c.cycle.progress fresh.new.matches.phase) in
     record { follow = commands (omega (arith, no_stops, left)); phase = omega (arith, idle) }
 
 pub fresh_begun : (script : Script) (c : Collector) → IsFresh script c → c.cycle.begun ≤ length c.rows.stops

@@ -98,7 +98,7 @@ not_idle p (sweeping k closed) e not is = let bad : phase.Idle ≡ phase.Sweepin
 module _ (script : Script) (old new : Collector) (run : Run) (replies : List (List Reply)) (history : List Row) (worked : State)
     (limits : IsInLimits script) (still : IsAfterStop script old run) (after : IsAfterRound (plan_of script) run replies history worked (seen new))
     (round : Round) (from seat : RoundSeat) (help : HasHelped round script.config.quota from seat old.heap.segments new.heap.segments old.heap.names
-        old.cycle.progress new.cycle.progress) where
+    old.cycle.progress new.cycle.progress) where
   abbrev s : State
   s = last_state run
 

@@ -235,9 +235,9 @@ module _ (script : Script) (old new : Collector) (stops stop : ℕ) (ends : Ends
   more (doing.Sweeping w) is (inl h) goes left = subst HasMore (sym (ap (λ (c : Collector). c.cycle.progress) h.1)) tt
   more (doing.Sweeping w) is (inr h) goes left = subst HasMore (sym (ap (λ (c : Collector). c.cycle.progress) h.1 ∙ is))
       (elim (cases_lt 0 (length w.sweeper.left)) [
-    | inl some ↦ omega (arith, some)
-    | inr none ↦ absurd (h.0 (none_waits old.heap.segments w.sweeper (left w refl) (omega (arith, none))))
-  ])
+        | inl some ↦ omega (arith, some)
+        | inr none ↦ absurd (h.0 (none_waits old.heap.segments w.sweeper (left w refl) (omega (arith, none))))
+      ])
 
   -- a cycle that goes on has something left
   pub ending_more : ((m : Marking) → old.cycle.progress ≡ doing.Marking m → m.last.empty ≡ false) →

@@ -57,7 +57,7 @@ module _ (laws : HasLaws) (script : Script) (c new : Collector) (o : Opening) (x
       HasHelped x.did.helped.round script.config.quota x.did.helped.from x.did.helped.seat c.heap.segments new.heap.segments c.heap.names q new.cycle.progress
   helped_as q e = subst (λ (r : held.Progress).
       HasHelped x.did.helped.round script.config.quota x.did.helped.from x.did.helped.seat c.heap.segments new.heap.segments c.heap.names r
-          new.cycle.progress) e x.did.helped.helped
+      new.cycle.progress) e x.did.helped.helped
 
   -- as many segments are free where they stand for the same blocks
   same_free : StandsFor new.heap.segments (seen c).words (s script c new o x).allocation →

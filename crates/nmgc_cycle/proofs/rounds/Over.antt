@@ -93,13 +93,13 @@ module _ (script : Script) (c new : Collector) (o : Opening) (x : IsOver script 
 
   abbrev pub last : Collector
   last = record c {
-      heap = record c.heap { words = Some x.did.words; segments = new.heap.segments };
-      cycle = record c.cycle { progress = new.cycle.progress; collect = new.cycle.collect; full = new.cycle.full };
-      inbox = new.inbox;
-      mutators = new.mutators;
-      positions = new.positions;
-      rows = record c.rows { rounds = c.rows.rounds ++ record { replies = told } ∷ [] };
-    }
+    heap = record c.heap { words = Some x.did.words; segments = new.heap.segments };
+    cycle = record c.cycle { progress = new.cycle.progress; collect = new.cycle.collect; full = new.cycle.full };
+    inbox = new.inbox;
+    mutators = new.mutators;
+    positions = new.positions;
+    rows = record c.rows { rounds = c.rows.rounds ++ record { replies = told } ∷ [] };
+  }
 
   abbrev pub shown : run.CollectorSeen
   shown = seen last

@@ -121,12 +121,12 @@ module _ (script : Script) (c : Collector) (o : Opening) (may : MayBegin script 
         HavePolled c.inbox inbox → (mutators : Vec Mutator Global) (positions : Vec ℕ Global) → mutators.items ≡ map mutator_of new →
         length positions.items ≡ length c.positions.items → HaveMoved c.positions.items (map done_by new) positions.items →
         DidSlices script o c (record c {
-            heap = record c.heap { words = Some words; segments = segments };
-            cycle = record c.cycle { progress = progress; collect = collect; full = asked };
-            inbox = inbox;
-            mutators = mutators;
-            positions = positions;
-          })
+          heap = record c.heap { words = Some words; segments = segments };
+          cycle = record c.cycle { progress = progress; collect = collect; full = asked };
+          inbox = inbox;
+          mutators = mutators;
+          positions = positions;
+        })
     did_slices seats seats_are words leaves collect asked collects askeds inbox polled mutators positions same size moved = record {
       rest = refl;
       words = words;

@@ -121,7 +121,7 @@ module _ (script : Script) (c new : Collector) (o : Opening) (x : IsOver script 
     blocks =
         subst (λ (l : List Place). AreBlocks c.heap.segments (young_base c.heap.segments) l o.core.world) (sym x.op.places_are)
         (subst (AreBlocks c.heap.segments (young_base c.heap.segments) x.still.at_stop.heap.places) (sym x.op.world_is)
-            (blocks_there script c x.run x.limits x.still))
+        (blocks_there script c x.run x.limits x.still))
 
     pub stopped : IsStopped (stop_after o x.did.words (view script c new o x) x.did.leaves.0 new.mutators.items) c.heap.segments x.did.words
         (turn.nurseries_of new.mutators.items) (turn.registers_of new.mutators.items) (turn.queues_of new.mutators.items)

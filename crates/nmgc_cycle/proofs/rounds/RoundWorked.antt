@@ -25,7 +25,7 @@ on_ok (Err e) h f = tt
 pub worked_after : HasLaws → (script : Script) (c new : Collector) (o : Opening) → IsInLimits script → c.answered ≡ None → OpensAt script c o →
     DidSlices script o c new → (mutators : Vec Mutator Global) → mutators.items ≡ map cleared new.mutators.items → (rows : RoundRows) →
     rows.replies ≡ replies_of new.mutators.items → DidRound script c
-        (record new { mutators = mutators; rows = record new.rows { rounds = new.rows.rounds ++ rows ∷ [] } })
+    (record new { mutators = mutators; rows = record new.rows { rounds = new.rows.rounds ++ rows ∷ [] } })
 worked_after laws script c new o limits goes_on (run, still, is) did mutators same rows told =
     let before = is_some_of c.heap.words still.kept.has_words in
     let x : IsOver script c new o = record {
@@ -42,19 +42,19 @@ worked_after laws script c new o limits goes_on (run, still, is) did mutators sa
     let h = did_round laws script c new o x mutators same in
     let first = ap (λ (y : Collector). record y { mutators = mutators; rows = record y.rows { rounds = y.rows.rounds ++ rows ∷ [] } }) did.rest in
     let words = ap (λ (w : Option (List ℕ)). record c {
-        heap = record c.heap { words = w; segments = new.heap.segments };
-        cycle = record c.cycle { progress = new.cycle.progress; collect = new.cycle.collect; full = new.cycle.full };
-        inbox = new.inbox;
-        mutators = mutators;
-        positions = new.positions;
-        rows = record c.rows { rounds = c.rows.rounds ++ rows ∷ [] };
-      }) did.words_are in
+      heap = record c.heap { words = w; segments = new.heap.segments };
+      cycle = record c.cycle { progress = new.cycle.progress; collect = new.cycle.collect; full = new.cycle.full };
+      inbox = new.inbox;
+      mutators = mutators;
+      positions = new.positions;
+      rows = record c.rows { rounds = c.rows.rounds ++ rows ∷ [] };
+    }) did.words_are in
     let row = ap (λ (replies : List (List Reply)). record c {
-        heap = record c.heap { words = Some did.words; segments = new.heap.segments };
-        cycle = record c.cycle { progress = new.cycle.progress; collect = new.cycle.collect; full = new.cycle.full };
-        inbox = new.inbox;
-        mutators = mutators;
-        positions = new.positions;
-        rows = record c.rows { rounds = c.rows.rounds ++ record { replies = replies } ∷ [] };
-      }) told in
+      heap = record c.heap { words = Some did.words; segments = new.heap.segments };
+      cycle = record c.cycle { progress = new.cycle.progress; collect = new.cycle.collect; full = new.cycle.full };
+      inbox = new.inbox;
+      mutators = mutators;
+      positions = new.positions;
+      rows = record c.rows { rounds = c.rows.rounds ++ record { replies = replies } ∷ [] };
+    }) told in
     subst (DidRound script c) (sym (first ∙ words ∙ row)) h

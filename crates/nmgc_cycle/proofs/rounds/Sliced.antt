@@ -90,12 +90,12 @@ module _ (script : Script) (c : Collector) (run : Run) (limits : IsInLimits scri
       ((k : ℕ) → k < length c.positions.items → slice_index positions.items k ≡ slice_index c.positions.items k + slice_index (map done_by new) k) →
       (k : ℕ) (m n : Mutator) (d : List Done) → slice_get c.mutators.items k ≡ Some m → slice_get mutators.items k ≡ Some n →
       slice_get did.done k ≡ Some d → DidSlice script c (record c {
-          heap = record c.heap { words = words; segments = segments };
-          cycle = record c.cycle { progress = progress; collect = collect; full = asked };
-          inbox = inbox;
-          mutators = mutators;
-          positions = positions;
-        }) k m n d
+        heap = record c.heap { words = words; segments = segments };
+        cycle = record c.cycle { progress = progress; collect = collect; full = asked };
+        inbox = inbox;
+        mutators = mutators;
+        positions = positions;
+      }) k m n d
   each_did words segments progress collect asked inbox mutators positions same moved k m n d e f g =
       let x = map_item mutator_of new k n (ap (λ (l : List Mutator). slice_get l k) (sym same) ∙ f) in
       let h = did.each k x.0 d x.1 g in

@@ -207,8 +207,12 @@ module _ (script : Script) (old new : Collector) (s : State) (h : StandsPromoted
   unmarked never progress segments =
       let is : new ≡ record old { inbox = new.inbox; mutators = new.mutators } =
       taken.rest
-      ∙ ap (λ (g : Segments). record old { heap = record old.heap { segments = g }; cycle = record old.cycle { progress = new.cycle.progress };
-          inbox = new.inbox; mutators = new.mutators }) segments
+      ∙ ap (λ (g : Segments). record old {
+        heap = record old.heap { segments = g };
+        cycle = record old.cycle { progress = new.cycle.progress };
+        inbox = new.inbox;
+        mutators = new.mutators;
+      }) segments
       ∙ ap (λ (d : Doing). record old { cycle = record old.cycle { progress = d }; inbox = new.inbox; mutators = new.mutators }) progress in
       subst (λ (c : Collector). StandsWithin script c s) (sym is)
       (stands_within script old s h old.heap.segments old.cycle.progress new.inbox new.mutators taken.inbox taken.lines taken.mutators refl refl h.kept.sound
@@ -233,8 +237,12 @@ module _ (laws : HasAddingLaws) (script : Script) (was : Collector) (r : State) 
   s = record r { progress = marking k }
 
   abbrev c : Collector
-  c = record was { heap = record was.heap { segments = segments }; cycle = record was.cycle { progress = doing.Marking (record m { marker = marker }) };
-      inbox = inbox; mutators = mutators }
+  c = record was {
+    heap = record was.heap { segments = segments };
+    cycle = record was.cycle { progress = doing.Marking (record m { marker = marker }) };
+    inbox = inbox;
+    mutators = mutators;
+  }
 
   stands : StandsFor segments (seen old).words s.allocation
   stands = added.marked.stands (seen old).words s.allocation h.heap.holds.stands
@@ -290,23 +298,23 @@ module _ (laws : HasAddingLaws) (script : Script) (old new : Collector) (s : Sta
       (subst (λ (q : Progress). StandsPromoted script old (record s { progress = q })) is h) in
       let then = marked laws script old s m k own new.heap.segments step.0 new.inbox new.mutators taken.inbox taken.lines taken.mutators step.2 step.3 in
       let same : new ≡ record old {
-          heap = record old.heap { segments = new.heap.segments };
-          cycle = record old.cycle { progress = doing.Marking (record m { marker = step.0 }) };
-          inbox = new.inbox;
-          mutators = new.mutators;
-        } = taken.rest ∙ ap (λ (d : Doing). record old {
-          heap = record old.heap { segments = new.heap.segments };
-          cycle = record old.cycle { progress = d };
-          inbox = new.inbox;
-          mutators = new.mutators;
-        }) step.1 in
+        heap = record old.heap { segments = new.heap.segments };
+        cycle = record old.cycle { progress = doing.Marking (record m { marker = step.0 }) };
+        inbox = new.inbox;
+        mutators = new.mutators;
+      } = taken.rest ∙ ap (λ (d : Doing). record old {
+        heap = record old.heap { segments = new.heap.segments };
+        cycle = record old.cycle { progress = d };
+        inbox = new.inbox;
+        mutators = new.mutators;
+      }) step.1 in
       subst (λ (c : Collector). StandsWithin script c s) (sym same)
       (subst (λ (q : Progress). StandsWithin script (record old {
-          heap = record old.heap { segments = new.heap.segments };
-          cycle = record old.cycle { progress = doing.Marking (record m { marker = step.0 }) };
-          inbox = new.inbox;
-          mutators = new.mutators;
-        }) (record s { progress = q })) (sym is) then)
+        heap = record old.heap { segments = new.heap.segments };
+        cycle = record old.cycle { progress = doing.Marking (record m { marker = step.0 }) };
+        inbox = new.inbox;
+        mutators = new.mutators;
+      }) (record s { progress = q })) (sym is) then)
   by_case (doing.Marking m) (sweeping k closed) at is e step = absurd (let bad : phase.Marking ≡ phase.Sweeping = e in cc)
   by_case (doing.Sweeping w) idle at is e step = absurd (let bad : phase.Sweeping ≡ phase.Idle = e in cc)
   by_case (doing.Sweeping w) (marking k) at is e step = absurd (let bad : phase.Sweeping ≡ phase.Marking = e in cc)

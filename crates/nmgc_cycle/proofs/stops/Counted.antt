@@ -49,7 +49,7 @@ taken old new h = by old.cycle.progress h.adds
 module _ (stop : ℕ) (old new : Collector) where
   done : (m : Marking) (w : Sweeping) → old.cycle.progress ≡ doing.Marking m → new.cycle.progress ≡ doing.Sweeping w →
       IsClosed stop (words_in old.heap.words) (words_in new.heap.words) old.heap.segments new.heap.segments old.heap.weaks new.heap.weaks old.mutators.items
-          new.mutators.items m w → counts_of new ≡ counts_of old
+      new.mutators.items m w → counts_of new ≡ counts_of old
   done m w is at h = ap (λ (q : Doing). counts_by q new.cycle.turns new.cycle.upper_turns) at ∙
       ap (λ (v : Sweeping). let counts : ℕ × ℕ = (v.sweeper.turns, v.sweeper.upper_turns) in counts) h.is ∙
       sym (ap (λ (q : Doing). counts_by q old.cycle.turns old.cycle.upper_turns) is)
@@ -153,11 +153,11 @@ pub round_counts : (script : Script) (o : Opening) (old new : Collector) → Did
 round_counts script o old new h =
     let beside = h.helped in
     helped beside.round script.config.quota beside.from beside.seat old.heap.segments new.heap.segments old.heap.names old.cycle.progress new.cycle.progress
-        old.cycle.turns new.cycle.turns (ap (λ (c : Collector). c.cycle.turns) h.rest) beside.helped
+    old.cycle.turns new.cycle.turns (ap (λ (c : Collector). c.cycle.turns) h.rest) beside.helped
 
 pub round_counts_upper : (script : Script) (o : Opening) (old new : Collector) → DidSlices script o old new →
     upper_turns_of new ≡ passed (upper_turns_of old) (upper_worked_on old.cycle.progress new.cycle.progress)
 round_counts_upper script o old new h =
     let beside = h.helped in
     helped_upper beside.round script.config.quota beside.from beside.seat old.heap.segments new.heap.segments old.heap.names old.cycle.progress
-        new.cycle.progress old.cycle.upper_turns new.cycle.upper_turns (ap (λ (c : Collector). c.cycle.upper_turns) h.rest) beside.helped
+    new.cycle.progress old.cycle.upper_turns new.cycle.upper_turns (ap (λ (c : Collector). c.cycle.upper_turns) h.rest) beside.helped

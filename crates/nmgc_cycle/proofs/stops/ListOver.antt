@@ -169,7 +169,7 @@ module _ (left : LeavingLists) (joining : JoiningLists) (fresh : JoinersAreNew) 
       new = λ m other c d.
           let d_then : Contains a.heap.weaks.list other = subst (λ (list : List OldWeak). Contains list other) (ap (λ (w : Weaks). w.list) same) d in
           fresh t a.heap.segments b.heap.segments (words_in a.heap.words) (words_in b.heap.words) (nurseries_of a.mutators.items)
-              (registers_of a.mutators.items)
+          (registers_of a.mutators.items)
           (registers_of b.mutators.items) (queues_of a.mutators.items) (queues_of b.mutators.items) (recorded_of a.mutators.items)
           (young_weaks_of a.mutators.items) (moves_of b) (places_of a.heap.weaks.list)
           (stopped_then old a l t h) settled_there left_listed (moved_of m) (place_of other) (moved_there m c)
@@ -200,14 +200,18 @@ module _ (left : LeavingLists) (joining : JoiningLists) (fresh : JoinersAreNew) 
           let x = of_places new.heap.weaks.list q c in
           elim (came_from x.0 x.1) [
             | inl was ↦ inl (subst (λ (y : Place). Contains (places_of a.heap.weaks.list) y) x.2 (contains_map place_of a.heap.weaks.list x.0 was))
-            | inr more ↦ let m = joiner x.0 more in inr (moved_of m.0, contains_map moved_of b.heap.promotion.moves m.0 m.1, sym x.2 ∙ ap place_of (sym m.2),
-                m.3)
+            | inr more ↦ let m = joiner x.0 more in inr (
+              moved_of m.0,
+              contains_map moved_of b.heap.promotion.moves m.0 m.1,
+              sym x.2 ∙ ap place_of (sym m.2),
+              m.3,
+            )
           ];
       old_stay = λ q c.
           let x = of_places a.heap.weaks.list q c in
           let in_b : Contains b.heap.weaks.list x.0 = subst (λ (w : Weaks). Contains w.list x.0) (sym same) x.1 in
           subst (λ (y : Place). Contains (places_of new.heap.weaks.list) y) x.2
-              (contains_map place_of new.heap.weaks.list x.0 ((j.joins.list x.0).1 (inl in_b)));
+          (contains_map place_of new.heap.weaks.list x.0 ((j.joins.list x.0).1 (inl in_b)));
       new_join = λ m c alive.
           let x = map_contains moved_of b.heap.promotion.moves m c in
           let at : IsAliveAt (words_in b.heap.words) x.0.to.0 = subst (λ (y : Moved). IsAliveAt (words_in b.heap.words) y.to) x.2 alive in
@@ -244,7 +248,7 @@ module _ (left : LeavingLists) (joining : JoiningLists) (fresh : JoinersAreNew) 
           (places_of new.heap.weaks.list) (stopped_then old a l t h) (settled_there t h can) p.layout p.copied (left_listed t h can) joined_list in
           subst (λ (x : Collector).
           ListsWeaks x.heap.segments.layout (settled (young_base x.heap.segments) (moves_of x) t.places) t.world (places_of new.heap.weaks.list))
-              (sym new_is) then;
+          (sym new_is) then;
       deaths = j.deaths ∙ ap (λ (w : Weaks). w.deaths) same ∙ l.deaths;
     }
 

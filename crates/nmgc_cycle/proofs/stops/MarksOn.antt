@@ -56,7 +56,7 @@ pub marks_on : (script : Script) (old new : Collector) → IsStepped script old 
 marks_on script old new x = λ m n was marks begun.
     let same : x.ended.cycle.begun ≡ old.cycle.begun = ends_begun x.number x.closed.cycle.progress x.closed x.ended x.ends ∙
     ap (λ (c : Collector). c.cycle.begun) x.closes.rest ∙ ap (λ (c : Collector). c.cycle.begun) x.adds.rest ∙
-        ap (λ (c : Collector). c.cycle.begun) x.promotes.rest in
+    ap (λ (c : Collector). c.cycle.begun) x.promotes.rest in
     let last : new ≡ x.ended = none_begun x.number x.ended new n marks script.config.trigger x.some (begun ∙ sym same) x.proceeds in
     let third : x.ended.cycle.progress ≡ doing.Marking n = sym (ap (λ (c : Collector). c.cycle.progress) last) ∙ marks in
     let ended : x.ended ≡ x.closed = in_progress x.number x.closed x.ended n third x.closed.cycle.progress x.ends in
@@ -65,7 +65,7 @@ marks_on script old new x = λ m n was marks begun.
     let first : x.added.cycle.progress ≡ doing.Marking n = sym (ap (λ (c : Collector). c.cycle.progress) closed) ∙ second in
     let from : x.promoted.cycle.progress ≡ doing.Marking m = ap (λ (c : Collector). c.cycle.progress) x.promotes.rest ∙ was in
     let add = added (remembered_by x.promoted.mutators.items) x.promoted.heap.segments x.added.heap.segments m x.promoted.cycle.progress
-        x.added.cycle.progress from x.adds.adds in
+    x.added.cycle.progress from x.adds.adds in
     let both : doing.Marking n ≡ doing.Marking (record m { marker = add.0 }) = sym first ∙ add.1 in
     let is : n ≡ record m { marker = add.0 } = cc in
     is ∙ ap (λ (marker : MarkerSeen). record m { marker = marker }) (sym (ap (λ (y : Marking). y.marker) is))

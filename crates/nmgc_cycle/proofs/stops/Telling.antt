@@ -14,11 +14,16 @@ use Rattle.nmgc_cycle.specs.Steps.{StandsAt}
 
 -- its parts are as they are to be, wherever its cycle stands
 pub kept_told : (script : Script) (old new : Collector) → new ≡ record old {
-    rows = record old.rows { stops = new.rows.stops; cycles = new.rows.cycles };
-    cycle = record old.cycle { progress = new.cycle.progress; collect = new.cycle.collect; full = new.cycle.full; turns = new.cycle.turns;
-        upper_turns = new.cycle.upper_turns };
-    answered = new.answered;
-  } → IsWellFormed script old →
+  rows = record old.rows { stops = new.rows.stops; cycles = new.rows.cycles };
+  cycle = record old.cycle {
+    progress = new.cycle.progress;
+    collect = new.cycle.collect;
+    full = new.cycle.full;
+    turns = new.cycle.turns;
+    upper_turns = new.cycle.upper_turns;
+  };
+  answered = new.answered;
+} → IsWellFormed script old →
     IsWellFormed script new
 kept_told script old new rest k = subst (λ (x : Collector). IsWellFormed script x) (sym rest) (record {
   layout = k.layout;
@@ -38,8 +43,11 @@ kept_told script old new rest k = subst (λ (x : Collector). IsWellFormed script
 
 module _ (script : Script) (old new : Collector) (s t : State) where
   abbrev told : Collector
-  told = record old { rows = record old.rows { stops = new.rows.stops }; cycle = record old.cycle { collect = new.cycle.collect; full = new.cycle.full };
-      answered = new.answered }
+  told = record old {
+    rows = record old.rows { stops = new.rows.stops };
+    cycle = record old.cycle { collect = new.cycle.collect; full = new.cycle.full };
+    answered = new.answered;
+  }
 
   abbrev then_state : State
   then_state = record s { collect = t.collect; full = t.full }

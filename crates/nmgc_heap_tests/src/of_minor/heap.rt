@@ -3,6 +3,9 @@ ghost use Rattle.std.specs.Prelude.{◌≡◌, IfOk};
 ghost use Rattle.nmgc_object.specs.Places.{IsLayout};
 ghost use Rattle.nmgc_collector_laws.specs.Worked.{nurseries_of};
 
+use super::walk::{
+    check_lengths, check_mutators, check_nurseries, check_objects, check_room, check_words,
+};
 use nmgc_alloc::Segments;
 use nmgc_limits::{REGISTERS, SHARED_MAKER, SHARED_SLOTS};
 use nmgc_lists::{List, NoMemory, Room};
@@ -14,9 +17,6 @@ use std::alloc::Global;
 use std::marker::Model;
 use std::process::Abort;
 use std::test::Fail;
-use super::walk::{
-    check_lengths, check_mutators, check_nurseries, check_objects, check_room, check_words,
-};
 
 // The working lists of the passes, which rest between two promotions with what the last one found.
 #[derive(Drop)]

@@ -3,15 +3,15 @@
 //! There are 64 segments of 256 words, of which the first begins at word 32, and nurseries as large as a
 //! segment, of which the first begins at word `YOUNG`. A pointer is twice its word. Young objects lie in the
 //! order of the tables, so each place is a sum of sizes: two words, and one for each field.
+use super::heap::{
+    ARR, CON, Heap, NIL, STACK, THUNK, VAR, WEAK, create, held, hold, layout, make_heap, promote,
+    store, to, word,
+};
 use nmgc_limits::REGISTERS;
 use nmgc_object::Address;
 use std::alloc::Global;
 use std::process::Abort;
 use std::test::Fail;
-use super::heap::{
-    ARR, CON, Heap, NIL, STACK, THUNK, VAR, WEAK, create, held, hold, layout, make_heap, promote,
-    store, to, word,
-};
 
 // Where the nurseries of mutators 0 and 1 begin.
 const YOUNG: u64 = 16416;

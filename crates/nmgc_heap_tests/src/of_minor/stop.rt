@@ -9,6 +9,7 @@ ghost use Rattle.nmgc_blocks_spec.specs.Samples.{HoldsYoung};
 ghost use Rattle.nmgc_minor.specs.Promotion.{IsFor};
 ghost use Rattle.nmgc_heap_tests.specs.Checked.{IsYoungMutator};
 
+use super::heap::NIL;
 use nmgc_alloc::Segments;
 use nmgc_blocks_spec::laws::one_young_object;
 use nmgc_limits::REGISTERS;
@@ -21,7 +22,6 @@ use nmgc_world_spec::Name;
 use std::alloc::Global;
 use std::process::Abort;
 use std::test::Fail;
-use super::heap::NIL;
 
 // Whether the words that belong to nobody are 0.
 fn are_zeros(words: &[u64]) -> bool

@@ -10,6 +10,7 @@ ghost use Rattle.nmgc_round.specs.Seating.{alone, collecting};
 ghost use Rattle.nmgc_round.specs.Ready.{HasPart, scanned_by};
 ghost use Rattle.nmgc_heap_tests.specs.Sample.{snapshot_opening, IsSnapshotHeap, IsSnapshotMutator, IsBegun};
 
+use super::laws::a_marking_round_opens;
 use nmgc_limits::REGISTERS;
 use nmgc_lists::{List, ListMemory, NoMemory, Placed};
 use nmgc_mutator::{Mutator, Step, laws};
@@ -20,7 +21,6 @@ use nmgc_updrem::{UpdSender, link};
 use nmgc_world_spec::{Command, Operand, Reply};
 use std::alloc::Global;
 use std::test::Fail;
-use super::laws::a_marking_round_opens;
 
 // The opening of the round.
 struct AtSnapshot;

@@ -4,6 +4,8 @@ ghost use Rattle.nmgc_round.specs.Seat.{IsAt, seen};
 ghost use Rattle.nmgc_round.specs.Seating.{alone};
 ghost use Rattle.nmgc_heap_tests.specs.Sample.{snapshot_opening, IsSnapshotHeap, IsSnapshotMutator};
 
+use super::laws::a_marking_round_opens;
+use super::marking_tests::{Begun, begin, mutator_with, snapshot_heap};
 use nmgc_lists::ListMemory;
 use nmgc_mutator::{Mutator, Step, laws};
 use nmgc_object::Address;
@@ -11,8 +13,6 @@ use nmgc_round::{MutatorSeat, Round, Words};
 use nmgc_updrem::link;
 use nmgc_world_spec::{Command, Operand, Reply};
 use std::test::Fail;
-use super::laws::a_marking_round_opens;
-use super::marking_tests::{Begun, begin, mutator_with, snapshot_heap};
 
 // How often the variable is overwritten.
 const TIMES: u32 = 200;

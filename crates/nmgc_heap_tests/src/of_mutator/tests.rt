@@ -22,8 +22,8 @@ use nmgc_world_spec::{Command, Name, Operand, Reply, Value};
 use std::alloc::Global;
 use std::sync::atomic::{AtomicU64, Ordering};
 use std::test::Fail;
-use std::thread::Threads;
 use std::thread;
+use std::thread::Threads;
 
 // The opening of a run's first round.
 struct First;

@@ -1,6 +1,7 @@
 //! Small cycles, most of them with weak pointers, as a table: what one mutator did before marking began, what it does while
 //! marking runs, and what is marked, queued and answered in the end. One of them also as whole lists of events.
 
+use super::tests::{begin, drain, feed, give, marks, marks_kept, name, run};
 use nmgc_core::Core;
 use nmgc_graph::World;
 use nmgc_lists::List;
@@ -8,7 +9,6 @@ use nmgc_snapshot_laws::Event;
 use nmgc_world_spec::{Command, Name, Operand, Reply, Value};
 use std::alloc::Global;
 use std::test::Fail;
-use super::tests::{begin, drain, feed, give, marks, marks_kept, name, run};
 
 // A command over registers.
 #[derive(Clone, Copy)]

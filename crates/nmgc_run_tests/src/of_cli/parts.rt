@@ -1,4 +1,5 @@
 //! The parts of the top call, each alone: what words ask for, and what is answered of a script that is read, run and marked.
+use super::running::{ONE_OBJECT, ONE_OBJECT_REPORT, all_words, listed, script_of};
 use crate::of_cycle;
 use nmgc_cli::answer::{Outcome, Refusal};
 use nmgc_cli::marks::marks;
@@ -13,7 +14,6 @@ use std::alloc::Global;
 use std::process::Abort;
 use std::test::Fail;
 use std::thread::Threads;
-use super::running::{ONE_OBJECT, ONE_OBJECT_REPORT, all_words, listed, script_of};
 
 // Words, and what they ask for.
 const TASKS: [(&[&str], Option<Task>); 12] = [

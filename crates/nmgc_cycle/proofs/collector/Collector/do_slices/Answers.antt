@@ -353,13 +353,13 @@ returns g c =
     let room : c.give_back.new.self ≡ own.workers = c.give_back.ensures ∙ c.unseated-left.ensures.left.1 ∙ c.seated.ensures.room ∙
     c.lend-workers.ensures.room in
     subst (λ (n : ℕ). DidSlices script o own (record after {
-        heap = record after.heap { words = Some c.finish-words.result.words };
-        mutators = c.unseated-left.new.mutators;
-        positions = with_items after.positions moved;
-        workers = n;
-      })) (sym room) (subst (λ (y : Collector). DidSlices script o own (record y {
-        heap = record y.heap { words = Some c.finish-words.result.words };
-        mutators = c.unseated-left.new.mutators;
-        positions = with_items after.positions moved;
-        workers = own.workers;
-      })) (sym c.work.ensures.rest) did)
+      heap = record after.heap { words = Some c.finish-words.result.words };
+      mutators = c.unseated-left.new.mutators;
+      positions = with_items after.positions moved;
+      workers = n;
+    })) (sym room) (subst (λ (y : Collector). DidSlices script o own (record y {
+      heap = record y.heap { words = Some c.finish-words.result.words };
+      mutators = c.unseated-left.new.mutators;
+      positions = with_items after.positions moved;
+      workers = own.workers;
+    })) (sym c.work.ensures.rest) did)

@@ -23,8 +23,8 @@ finish_cycle-requires-2-clause-stands g c κs within =
     c.args.stop c.args.self.now c.finish_cycle.new.self c.retire_all.new.self c.requires.stands c.in_ok-finish_cycle.ensures
     c.retire_all.ensures.value c.retire_all.ensures.sound in
     started_at c.a_full_cycle_leads.ensures.starting c.args.stop
-        (record c.finish_cycle.new.self { heap = record c.finish_cycle.new.self.heap { segments = c.retire_all.new.self } }) c.start.new.self at.stands
-        at.none c.in_ok-start.ensures
+    (record c.finish_cycle.new.self { heap = record c.finish_cycle.new.self.heap { segments = c.retire_all.new.self } }) c.start.new.self at.stands
+    at.none c.in_ok-start.ensures
 
 pub returns : goal.returns
 returns g c =

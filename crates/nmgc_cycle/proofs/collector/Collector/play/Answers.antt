@@ -84,13 +84,15 @@ returns-clause-worked g c =
       still_before script own listed d.0.run c.requires.stopped.0.1.kept c.in_ok-make_room.ensures.rest c.in_ok-make_room.ensures.mutators
           (inbox_before script listed roomy d.0.run stopped.1.kept c.in_ok-make_inbox_room.ensures.rest d.1),
     ) in
-    let worked : DidRound script roomy (record did { mutators = with_items did.mutators new;
-        rows = record did.rows { rounds = did.rows.rounds ++ rows ∷ [] } }) =
+    let worked : DidRound script roomy (record did {
+      mutators = with_items did.mutators new;
+      rows = record did.rows { rounds = did.rows.rounds ++ rows ∷ [] };
+    }) =
     worked_after laws script roomy did c.opening_of-opening.result.value c.requires.limits goes_on c.opening_of-opening.ensures
     c.do_slices.ensures (with_items did.mutators new) (vec_back did.mutators new many ∙ left) rows told in
     on_ok c.push.result c.push.ensures.ok (λ pushed. subst (λ (l : List RoundRows).
     DidRound script own (record did { mutators = with_items did.mutators new; rows = record did.rows { rounds = l } })) (sym pushed)
-        (before (record did { mutators = with_items did.mutators new; rows = record did.rows { rounds = did.rows.rounds ++ rows ∷ [] } }) worked))
+    (before (record did { mutators = with_items did.mutators new; rows = record did.rows { rounds = did.rows.rounds ++ rows ∷ [] } }) worked))
 
 pub returns-clause-mutator_turns : goal.returns-clause-mutator_turns
 returns-clause-mutator_turns g c =

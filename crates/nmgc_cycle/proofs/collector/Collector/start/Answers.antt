@@ -13,6 +13,11 @@ returns c =
       marking = c.in_ok-marking.marking;
       marked = before;
       starts = starts;
-      is = ap (λ (n : ℕ). record before { cycle = record before.cycle { progress = progress.Marking c.in_ok-marking.marking; begun = n + 1;
-          collect = false } }) begun;
+      is = ap (λ (n : ℕ). record before {
+        cycle = record before.cycle {
+          progress = progress.Marking c.in_ok-marking.marking;
+          begun = n + 1;
+          collect = false;
+        };
+      }) begun;
     }
