@@ -1,0 +1,41 @@
+-- What sweeps do to the kinds of segments that are searched for: how many they make such ones.
+use Rattle.std.specs.Prelude.{ℕ, ◌≡◌, ◌+◌, ◌<◌, ◌≤◌, ◌⊎◌, List, length, slice_index}
+use Rattle.nmgc_limits.specs.Limits.{most_segments}
+use Rattle.nmgc_segment.specs.Segment.{Segment}
+use Rattle.nmgc_alloc.specs.declared.filing.Filed.{Filed}
+use Rattle.nmgc_alloc.specs.declared.search.Sought.{Sought}
+use Rattle.nmgc_alloc.specs.declared.search.Sought.TheVariants.{Free, Active, Sweeping}
+use Rattle.nmgc_alloc.specs.declared.tables.TheConstants.{CLASSES}
+use Rattle.nmgc_alloc.specs.declared.tally.Tally.{Tally}
+use Rattle.nmgc_alloc.specs.Numbered.{nth}
+use Rattle.nmgc_alloc.specs.Search.{Is, IsTally, sought_count}
+use Rattle.nmgc_alloc.specs.Segments.{filled_count}
+
+-- a kind that a sweep makes segments ones of
+abbrev pub IsOutcome : Sought → Type 0
+IsOutcome Free = Unit {0}
+IsOutcome (Active class) = class < CLASSES
+IsOutcome Sweeping = ⊥
+
+-- so many became such ones
+abbrev pub gained : Filed → Sought → ℕ
+gained filed Free = filed.free
+gained filed (Active class) = slice_index filed.active class
+gained filed Sweeping = 0
+
+-- none of the counts is above the number of segments that there may be
+pub record AreFew (filed : Filed) : Type 0 where
+  pub filled : filed.filled ≤ most_segments
+  pub gained : (sought : Sought) → IsOutcome sought → gained filed sought ≤ most_segments
+
+-- so many more are of each such kind, and so many more are filled
+pub record Files (gain : Sought → ℕ) (filled : ℕ) (old new : List Segment) : Type 0 where
+  pub gained : (sought : Sought) → IsOutcome sought → sought_count sought new ≡ sought_count sought old + gain sought
+  pub filled : filled_count new ≡ filled_count old + filled
+
+-- of two tallies: where the first is right, and then so many become such ones, from one number on and below another, and none stops being one, the second is right
+abbrev pub EntersMany : ℕ → ℕ → ℕ → Tally → Tally → Type 0
+EntersMany gain from end old new = (sought : Sought) (was now : List Segment) → length now ≡ length was → end ≤ length was → IsTally sought was old →
+    ((i : ℕ) → Is sought (nth was i) → Is sought (nth now i)) →
+    ((i : ℕ) → Is sought (nth now i) → Is sought (nth was i) ⊎ ((from ≤ i) × (i < end))) →
+    sought_count sought now ≡ sought_count sought was + gain → IsTally sought now new
