@@ -29,9 +29,9 @@ pub record AreFew (filed : Filed) : Type 0 where
   pub each : (sought : Sought) → IsOutcome sought → gained filed sought ≤ most_segments
 
 -- so many more are of each such kind, and so many more are filled
-pub record Files (gain : Sought → ℕ) (filled : ℕ) (old new : List Segment) : Type 0 where
+pub record Files (gain : Sought → ℕ) (many : ℕ) (old new : List Segment) : Type 0 where
   pub each : (sought : Sought) → IsOutcome sought → sought_count sought new ≡ sought_count sought old + gain sought
-  pub filled : filled_count new ≡ filled_count old + filled
+  pub filled : filled_count new ≡ filled_count old + many
 
 -- of two tallies: where the first is right, and then so many become such ones, from one number on and below another, and none stops being one, the second is right
 abbrev pub EntersMany : ℕ → ℕ → ℕ → Tally → Tally → Type 0

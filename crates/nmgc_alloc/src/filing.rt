@@ -10,6 +10,7 @@
 ghost use Rattle.std.specs.Prelude.{ℕ, ◌≡◌, ◌+◌, ◌<◌, ◌≤◌, length};
 ghost use Rattle.nmgc_limits.specs.Limits.{most_segments};
 ghost use Rattle.nmgc_alloc.specs.declared.tables.TheConstants.{CLASSES as classes, KINDS as kinds};
+ghost use Rattle.nmgc_segment.specs.declared.state.State.TheVariants as state;
 ghost use Rattle.nmgc_alloc.specs.declared.search.Sought.{Sought as Kind};
 ghost use Rattle.nmgc_alloc.specs.declared.search.Sought.TheVariants.{Sweeping as waiting};
 ghost use Rattle.nmgc_alloc.specs.Numbered.{is};
@@ -19,7 +20,7 @@ ghost use Rattle.nmgc_alloc.specs.Filing.{IsOutcome, gained, AreFew, EntersMany}
 ghost use Rattle.nmgc_alloc.specs.laws.Counts.{one_if};
 
 use crate::search::Sought;
-use crate::tables::{CLASSES, KINDS};
+use crate::tables::CLASSES;
 use crate::tally::Tally;
 use nmgc_segment::Swept;
 
@@ -29,4 +30,51 @@ pub struct Filed {
     pub free: u32,
     pub active: [u32; CLASSES],
     pub filled: u32,
+}
+
+impl Filed {
+    /// None.
+    pub fn none() -> Self
+        ensures counts { (sought : Kind) → IsOutcome sought → gained result sought ≡ 0 }
+        ensures filled { result.filled ≡ 0 }
+    {
+        Filed {
+            free: 0,
+            active: [0; CLASSES],
+            filled: 0,
+        }
+    }
+
+    /// One more was swept, of the class, and was put into this state.
+    pub fn note(&mut self, swept: Swept, class: u8)
+        requires class { class < classes }
+        requires few { AreFew self.old }
+        ensures counts { (sought : Kind) → IsOutcome sought →
+            gained self.new sought ≡ gained self.old sought + one_if (is_for sought (state_of swept) class) }
+        ensures filled { self.new.filled ≡ self.old.filled + one_if (is (state_of swept) state.Filled) }
+    {
+        match swept {
+            Swept::Free => self.free += 1,
+            Swept::Active => self.active[usize::from(class)] += 1,
+            Swept::Filled => self.filled += 1,
+        }
+    }
+}
+
+/// The tallies take up what two sweeps did to segments from one number on and below another.
+pub fn take_up(tallies: &mut [Tally], lower: &Filed, upper: &Filed, from: u32, end: u32)
+    requires kinds { length tallies.old ≡ kinds }
+    requires range { (from ≤ end) × (end ≤ most_segments) }
+    requires few { (sought : Kind) → IsOutcome sought →
+        (tally_of tallies.old sought).count + (gained lower.now sought + gained upper.now sought) ≤ most_segments }
+    ensures kinds { length tallies.new ≡ kinds }
+    ensures each { (sought : Kind) → IsOutcome sought →
+        EntersMany (gained lower.now sought + gained upper.now sought) from end (tally_of tallies.old sought) (tally_of tallies.new sought) }
+    ensures waiting { tally_of tallies.new waiting ≡ tally_of tallies.old waiting }
+{
+    tallies[Sought::Free.place()].enter_many(lower.free + upper.free, from, end);
+    for class in 0..CLASSES {
+        let gain = lower.active[class] + upper.active[class];
+        tallies[Sought::Active { class: class as u8 }.place()].enter_many(gain, from, end);
+    }
 }

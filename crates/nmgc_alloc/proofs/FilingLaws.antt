@@ -1,0 +1,188 @@
+-- What keeps the tallies right where many segments become ones of a kind at once.
+use Rattle.std.proofs.Common.{ℕ, zero, suc, ◌≡◌, ◌≢◌, ◌+◌, ◌<◌, ◌≤◌, ◌⊎◌, ◌∙◌, inl, inr, ap, subst, sym, arith, List, [], ◌∷◌, length, length-set, set, slice_index_or, min, max}
+use Rattle.std.proofs.lemmas.List.{get_or-set_same, get_or-set_other}
+use Rattle.std.proofs.lemmas.List.Sums.{sum_by-cons}
+use Rattle.std.proofs.lemmas.Bool.{cases_Bool, cases_eq, cases_lt}
+use Rattle.nmgc_limits.specs.Limits.{most_segments}
+use Rattle.nmgc_segment.specs.Segment.{Segment}
+use Rattle.nmgc_alloc.specs.declared.filing.Filed.{Filed}
+use Rattle.nmgc_alloc.specs.declared.search.Sought.{Sought}
+use Rattle.nmgc_alloc.specs.declared.search.Sought.TheVariants as sought
+use Rattle.nmgc_alloc.specs.declared.tables.TheConstants.{CLASSES, KINDS}
+use Rattle.nmgc_alloc.specs.declared.tally.Tally.{Tally}
+use Rattle.nmgc_alloc.specs.Numbered.{nth}
+use Rattle.nmgc_alloc.specs.Search.{Is, IsKind, IsTally, is_sought, sought_count, tally_from, tally_of, tally_place}
+use Rattle.nmgc_alloc.specs.Filing.{EntersMany, IsOutcome, gained}
+use Rattle.nmgc_alloc.specs.laws.Counts.{one_if}
+use Rattle.nmgc_alloc.proofs.TallyLaws.{passes, from_test, kind_place}
+
+-- one segment that stays such a one counts as much as before at least
+one_stays : (w : Sought) (x y : Segment) → (Is w x → Is w y) → one_if (is_sought w x) ≤ one_if (is_sought w y)
+one_stays w x y stays = elim (cases_Bool (is_sought w x)) [
+  | inl is_one ↦
+      let now : one_if (is_sought w y) ≡ 1 = ap one_if (passes w y (stays (from_test w x is_one))) in
+      let was : one_if (is_sought w x) ≡ 1 = ap one_if is_one in
+      omega (arith, now, was)
+  | inr other ↦ let was : one_if (is_sought w x) ≡ 0 = ap one_if other in omega (arith, was)
+]
+
+-- where none stops being one, no fewer are counted
+not_fewer : (w : Sought) (was now : List Segment) → length now ≡ length was → ((i : ℕ) → Is w (nth was i) → Is w (nth now i)) →
+    sought_count w was ≤ sought_count w now
+not_fewer w [] now size stays = omega arith
+not_fewer w (x ∷ xs) [] size stays = absurd (omega (arith, size))
+not_fewer w (x ∷ xs) (y ∷ ys) size stays =
+    let old = sum_by-cons (λ (t : Segment). one_if (is_sought w t)) x xs in
+    let new = sum_by-cons (λ (t : Segment). one_if (is_sought w t)) y ys in
+    let here = one_stays w x y (stays 0) in
+    let rest = not_fewer w xs ys (omega (arith, size)) (λ i. stays (suc i)) in
+    omega (arith, old, new, here, rest)
+
+-- and where as many are counted, none has become one
+pub none_new : (w : Sought) (was now : List Segment) → length now ≡ length was → ((i : ℕ) → Is w (nth was i) → Is w (nth now i)) →
+    sought_count w now ≡ sought_count w was → (i : ℕ) → Is w (nth now i) → Is w (nth was i)
+none_new w [] [] size stays same i is = is
+none_new w [] (y ∷ ys) size stays same i is = absurd (omega (arith, size))
+none_new w (x ∷ xs) [] size stays same i is = absurd (omega (arith, size))
+none_new w (x ∷ xs) (y ∷ ys) size stays same zero is =
+    let old = sum_by-cons (λ (t : Segment). one_if (is_sought w t)) x xs in
+    let new = sum_by-cons (λ (t : Segment). one_if (is_sought w t)) y ys in
+    let rest = not_fewer w xs ys (omega (arith, size)) (λ i. stays (suc i)) in
+    let now : one_if (is_sought w y) ≡ 1 = ap one_if (passes w y is) in
+    elim (cases_Bool (is_sought w x)) [
+      | inl is_one ↦ from_test w x is_one
+      | inr other ↦ let none : one_if (is_sought w x) ≡ 0 = ap one_if other in absurd (omega (arith, old, new, rest, now, none, same))
+    ]
+none_new w (x ∷ xs) (y ∷ ys) size stays same (suc i) is =
+    let old = sum_by-cons (λ (t : Segment). one_if (is_sought w t)) x xs in
+    let new = sum_by-cons (λ (t : Segment). one_if (is_sought w t)) y ys in
+    let here = one_stays w x y (stays 0) in
+    let long : length ys ≡ length xs = omega (arith, size) in
+    let rest = not_fewer w xs ys long (λ k. stays (suc k)) in
+    none_new w xs ys long (λ k. stays (suc k)) (omega (arith, old, new, here, rest, same)) i is
+
+-- a tally stays right where none becomes one
+pub none_entered : (from end : ℕ) (t : Tally) → EntersMany 0 from end t t
+none_entered from end t w was now size within h stays becomes count =
+    let same : sought_count w now ≡ sought_count w was = omega (arith, count) in
+    let back = none_new w was now size stays same in
+    let most = h.within.2 in
+    let told = h.counted in
+    record {
+      counted = omega (arith, told, same);
+      within = (h.within.0, h.within.1, omega (arith, size, most));
+      below = λ i low is. h.below i low (back i is);
+      between = λ i ge lt is. h.between i ge lt (back i is);
+    }
+
+-- where many became such ones from one number on and below another, and of the stretch what lies above them is kept
+pub entered : (gain from end : ℕ) (old new : Tally) → from ≤ end → new.count ≡ old.count + gain → new.from ≡ min old.from from →
+    ((old.from ≡ old.past) × (new.past ≡ end)) ⊎ (new.past ≡ max old.past end) → new.until ≡ max old.until new.past → EntersMany gain from end old new
+entered gain from end old new range counts starts past ends w was now size within h stays becomes count =
+    let low = h.within.0 in
+    let part = h.within.1 in
+    let most = h.within.2 in
+    let told = h.counted in
+    let above : end ≤ new.past = elim past [ inl a ↦ omega (arith, a.1) | inr b ↦ omega (arith, b) ] in
+    let inside : new.past ≤ length was = elim past [ inl a ↦ omega (arith, a.1, within) | inr b ↦ omega (arith, b, within, part, most) ] in
+    record {
+      counted = omega (arith, told, counts, count);
+      within = (omega (arith, starts, range, above), omega (arith, ends), omega (arith, ends, inside, most, size));
+      below = λ i lt is. elim (becomes i is) [
+        | inl before ↦ h.below i (omega (arith, lt, starts)) before
+        | inr high ↦ let ge = high.0 in absurd (omega (arith, ge, lt, starts))
+      ];
+      between = λ i ge lt is. elim (becomes i is) [
+        | inl before ↦
+            let until : i < old.until = omega (arith, ge, lt, ends) in
+            elim past [
+              | inl a ↦ elim (cases_lt i old.past) [
+                | inl under ↦ let none = a.0 in h.below i (omega (arith, under, none)) before
+                | inr over ↦ h.between i over until before
+              ]
+              | inr b ↦ h.between i (omega (arith, b, ge)) until before
+            ]
+        | inr high ↦ let end_of = high.1 in absurd (omega (arith, end_of, ge, above))
+      ];
+    }
+
+-- a table with another tally at one place
+pub tally-set_same : (w : Sought) (ts : List Tally) (at : ℕ) (t : Tally) → at ≡ tally_place w → at < length ts → tally_of (set ts at t) w ≡ t
+tally-set_same w ts at t place inside = ap (λ (k : ℕ). slice_index_or (set ts at t) k (tally_from 0 0)) (sym place) ∙
+    get_or-set_same ts at t (tally_from 0 0) inside
+
+pub tally-set_other : (w : Sought) (ts : List Tally) (at : ℕ) (t : Tally) → tally_place w ≢ at → tally_of (set ts at t) w ≡ tally_of ts w
+tally-set_other w ts at t other = get_or-set_other ts at (tally_place w) t (tally_from 0 0) other
+
+-- one that took up what was done
+pub enters_at : (gain from end : ℕ) (w : Sought) (ts : List Tally) (at : ℕ) (new : Tally) → IsKind w → length ts ≡ KINDS → at ≡ tally_place w →
+    EntersMany gain from end (slice_index_or ts at (tally_from 0 0)) new → EntersMany gain from end (tally_of ts w) (tally_of (set ts at new) w)
+enters_at gain from end w ts at new kind many place enters =
+    let low = kind_place w kind in
+    let now = tally-set_same w ts at new place (omega (arith, low, many, place)) in
+    let was : slice_index_or ts at (tally_from 0 0) ≡ tally_of ts w = ap (λ (k : ℕ). slice_index_or ts k (tally_from 0 0)) place in
+    subst (λ (t : Tally). EntersMany gain from end t (tally_of (set ts at new) w)) was
+    (subst (λ (t : Tally). EntersMany gain from end (slice_index_or ts at (tally_from 0 0)) t) (sym now) enters)
+
+-- the tallies of the free segments, and of the classes so far, took up what two sweeps did, and the others are as they were
+pub record TakenUp (lower upper : Filed) (from end classes : ℕ) (was now : List Tally) : Type 0 where
+  pub kinds : length now ≡ KINDS
+  pub free : EntersMany (gained lower sought.Free + gained upper sought.Free) from end (tally_of was sought.Free) (tally_of now sought.Free)
+  pub active : (class : ℕ) → class < classes → EntersMany (gained lower (sought.Active class) + gained upper (sought.Active class)) from end
+      (tally_of was (sought.Active class)) (tally_of now (sought.Active class))
+  pub rest : (class : ℕ) → classes ≤ class → tally_of now (sought.Active class) ≡ tally_of was (sought.Active class)
+  pub waiting : tally_of now sought.Sweeping ≡ tally_of was sought.Sweeping
+
+-- first that of the free ones
+pub taken_free : (lower upper : Filed) (from end : ℕ) (ts : List Tally) (at : ℕ) (new : Tally) → length ts ≡ KINDS → at ≡ tally_place sought.Free →
+    EntersMany (lower.free + upper.free) from end (slice_index_or ts at (tally_from 0 0)) new → TakenUp lower upper from end 0 ts (set ts at new)
+taken_free lower upper from end ts at new many place enters = record {
+  kinds = length-set ts at new ∙ many;
+  free = enters_at (lower.free + upper.free) from end sought.Free ts at new tt many place enters;
+  active = λ class lt. absurd (omega (arith, lt));
+  rest = λ class ge. tally-set_other (sought.Active class) ts at new (λ e. omega (arith, e, place));
+  waiting = tally-set_other sought.Sweeping ts at new (λ e. omega (arith, e, place));
+}
+
+-- then that of one class after the other
+pub taken_class : (lower upper : Filed) (from end class : ℕ) (was now : List Tally) (at : ℕ) (new : Tally) → class < CLASSES →
+    at ≡ tally_place (sought.Active class) →
+    EntersMany (gained lower (sought.Active class) + gained upper (sought.Active class)) from end (slice_index_or now at (tally_from 0 0)) new →
+    TakenUp lower upper from end class was now → TakenUp lower upper from end (class + 1) was (set now at new)
+taken_class lower upper from end class was now at new small place enters h =
+    let gain : ℕ → ℕ = λ k. gained lower (sought.Active k) + gained upper (sought.Active k) in
+    let here = enters_at (gain class) from end (sought.Active class) now at new small h.kinds place enters in
+    let same = h.rest class (omega arith) in
+    record {
+      kinds = length-set now at new ∙ h.kinds;
+      free = subst (λ (t : Tally). EntersMany (gained lower sought.Free + gained upper sought.Free) from end (tally_of was sought.Free) t)
+          (sym (tally-set_other sought.Free now at new (λ e. omega (arith, e, place)))) h.free;
+      active = λ k lt. elim (cases_eq k class) [
+        | inl e ↦
+            subst (λ (j : ℕ). EntersMany (gain j) from end (tally_of was (sought.Active j)) (tally_of (set now at new) (sought.Active j))) (sym e)
+            (subst (λ (t : Tally). EntersMany (gain class) from end t (tally_of (set now at new) (sought.Active class))) same here)
+        | inr ne ↦
+            subst (λ (t : Tally). EntersMany (gain k) from end (tally_of was (sought.Active k)) t)
+            (sym (tally-set_other (sought.Active k) now at new (λ e. ne (omega (arith, e, place))))) (h.active k (omega (arith, lt, ne)))
+      ];
+      rest = λ k ge. tally-set_other (sought.Active k) now at new (λ e. omega (arith, e, place, ge)) ∙ h.rest k (omega (arith, ge));
+      waiting = tally-set_other sought.Sweeping now at new (λ e. omega (arith, e, place)) ∙ h.waiting;
+    }
+
+-- at last all of them
+pub taken_all : (lower upper : Filed) (from end classes : ℕ) (was now : List Tally) → CLASSES ≤ classes → TakenUp lower upper from end classes was now →
+    (w : Sought) → IsOutcome w → EntersMany (gained lower w + gained upper w) from end (tally_of was w) (tally_of now w)
+taken_all lower upper from end classes was now all h sought.Free is = h.free
+taken_all lower upper from end classes was now all h (sought.Active class) is = h.active class (omega (arith, is, all))
+taken_all lower upper from end classes was now all h sought.Sweeping is = absurd is
+
+-- and no tally is too large for what it takes up
+pub few_taken : (lower upper : Filed) (from end class : ℕ) (was now : List Tally) (at : ℕ) → class < CLASSES → at ≡ tally_place (sought.Active class) →
+    TakenUp lower upper from end class was now →
+    ((w : Sought) → IsOutcome w → (tally_of was w).count + (gained lower w + gained upper w) ≤ most_segments) →
+    (slice_index_or now at (tally_from 0 0)).count + (gained lower (sought.Active class) + gained upper (sought.Active class)) ≤ most_segments
+few_taken lower upper from end class was now at small place h few =
+    let read : slice_index_or now at (tally_from 0 0) ≡ tally_of now (sought.Active class) = ap (λ (k : ℕ). slice_index_or now k (tally_from 0 0)) place in
+    let same = ap (λ (t : Tally). t.count) (read ∙ h.rest class (omega arith)) in
+    let most = few (sought.Active class) small in
+    omega (arith, same, most)
