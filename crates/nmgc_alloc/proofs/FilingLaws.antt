@@ -11,7 +11,7 @@ use Rattle.nmgc_alloc.specs.declared.search.Sought.TheVariants as sought
 use Rattle.nmgc_alloc.specs.declared.tables.TheConstants.{CLASSES, KINDS}
 use Rattle.nmgc_alloc.specs.declared.tally.Tally.{Tally}
 use Rattle.nmgc_alloc.specs.Numbered.{nth}
-use Rattle.nmgc_alloc.specs.Search.{Is, IsKind, IsTally, is_sought, sought_count, tally_from, tally_of, tally_place}
+use Rattle.nmgc_alloc.specs.Search.{Is, IsKind, is_sought, sought_count, tally_from, tally_of, tally_place}
 use Rattle.nmgc_alloc.specs.Filing.{EntersMany, IsOutcome, gained}
 use Rattle.nmgc_alloc.specs.laws.Counts.{one_if}
 use Rattle.nmgc_alloc.proofs.TallyLaws.{passes, from_test, kind_place}

@@ -33,7 +33,7 @@ pub struct Filed {
 }
 
 impl Filed {
-    /// None.
+    /// Nothing was swept yet.
     pub fn none() -> Self
         ensures counts { (sought : Kind) → IsOutcome sought → gained result sought ≡ 0 }
         ensures filled { result.filled ≡ 0 }

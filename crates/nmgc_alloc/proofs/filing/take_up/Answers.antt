@@ -1,6 +1,5 @@
-use Rattle.std.proofs.Common.{◌≡◌, ℕ, ap, arith, slice_index_or}
+use Rattle.std.proofs.Common.{ℕ, ap, arith, slice_index_or}
 use Rattle.nmgc_alloc.specs.declared.search.Sought.TheVariants as sought
-use Rattle.nmgc_alloc.specs.declared.tally.Tally.{Tally}
 use Rattle.nmgc_alloc.specs.Search.{tally_from}
 use Rattle.nmgc_alloc.proofs.FilingLaws.{taken_free, taken_class, taken_all, few_taken}
 use Rattle.nmgc_alloc.proofs.filing.take_up.Goals as goal
