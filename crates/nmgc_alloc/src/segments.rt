@@ -19,13 +19,13 @@ ghost use Rattle.nmgc_segment.specs.Marks.{IsEpoch};
 ghost use Rattle.nmgc_segment.specs.Segment.{free_segment, block_count};
 ghost use Rattle.nmgc_alloc.specs.CycleSteps.{prepared, carried_over, retired};
 ghost use Rattle.nmgc_alloc.specs.Numbered.{is, nth};
-ghost use Rattle.nmgc_alloc.specs.Search.{sought_count, Is, IsKind, NoneBelow, tally_from};
-ghost use Rattle.nmgc_alloc.specs.Halves.{IsInHalf, SweepsMany, IsSwept, FirstSwept, Settles, SettlesAt};
+ghost use Rattle.nmgc_alloc.specs.Search.{sought_count, IsKind, tally_from};
+ghost use Rattle.nmgc_alloc.specs.Halves.{IsInHalf, SweepsMany};
 
 use crate::search::{self, Sought};
 use crate::tables::{CLASSES, KINDS, PAIRS};
 use crate::tally::Tally;
-use crate::{cycle_steps, halves};
+use crate::{cycle_steps, filing, halves};
 use nmgc_limits::MAKERS;
 use nmgc_lists::NoMemory;
 use nmgc_object::{Address, FIRST_PLACE, Layout, block_words};
@@ -452,7 +452,7 @@ impl Segments {
     /// Sweeps the lesser of `quota` and the number of segments to be swept, those of least number, and answers how many
     /// these are: afterwards all is as so many calls of `sweep_next` leave it.
     ///
-    /// Their mark bytes are swept in two halves, in two threads; the lower half has one segment more where they are odd.
+    /// They are swept in two halves, in two threads; the lower half has one segment more where they are odd.
     /// Where a thread can't be started, and for a single segment, the caller does it. `before` is called before each,
     /// with the half, 0 or 1, and the number within it from 0. Takes no memory.
     pub fn sweep_many<R: Threads + Sync, F: Fn(u8, u32) + Sync>(
@@ -473,31 +473,8 @@ impl Segments {
             self.sweep_one(epoch, before);
             return count;
         }
-        self.sweep_bytes(rt, epoch, count, before);
-        let mut left = count;
-        for number in self.sweeping_from()..self.layout().segments {
-            if left == 0 {
-                return count;
-            }
-            left = self.settle_at(number, epoch, left);
-        }
+        self.sweep_halves(rt, epoch, count, before);
         count
-    }
-
-    // A number below which no segment is to be swept.
-    fn sweeping_from(&self) -> u32
-        ensures { NoneBelow Sought.Sweeping self.now.segments result }
-    {
-        let _ = &self.segments;
-        self.tallies[Sought::Sweeping.place()].from
-    }
-
-    // Whether a segment is to be swept.
-    fn waits_at(&self, number: u32) -> bool
-        requires { HasNumber self.now number }
-        ensures { IsTrue result ↔ Is Sought.Sweeping (nth self.now.segments number) }
-    {
-        self.segment(number).state() == State::Sweeping
     }
 
     // Sweeps the one segment that is to be swept.
@@ -514,8 +491,8 @@ impl Segments {
         };
     }
 
-    // Sweeps the mark bytes of so many segments that wait, the first of them.
-    fn sweep_bytes<R: Threads + Sync, F: Fn(u8, u32) + Sync>(
+    // Sweeps so many segments that wait, the first of them, and files them.
+    fn sweep_halves<R: Threads + Sync, F: Fn(u8, u32) + Sync>(
         &mut self,
         rt: &R,
         epoch: u8,
@@ -525,51 +502,29 @@ impl Segments {
         requires epoch { IsEpoch epoch }
         requires enough { count ≤ sought_count Sought.Sweeping self.old.segments }
         requires before { (half i : ℕ) → IsInHalf count half i → F.pre before.now half i }
-        ensures rest { self.new ≡ record self.old { segments = self.new.segments } }
-        ensures swept { FirstSwept epoch count self.old.segments self.new.segments }
+        ensures swept { SweepsMany epoch count self.old self.new }
         ensures sound { IsSegments self.new }
     {
-        let from = self.tallies[Sought::Sweeping.place()].from as usize;
-        halves::sweep_from(rt, before, epoch, count, from, self.segments.as_mut_slice());
-    }
-
-    // Puts a segment below which none waits into its state, if it waits itself; its bytes were swept then. Answers how many
-    // of so many are left.
-    fn settle_at(&mut self, number: u32, epoch: u8, left: u32) -> u32
-        requires epoch { IsEpoch epoch }
-        requires some { left ≢ 0 }
-        requires exists { HasNumber self.old number }
-        requires below { NoneBelow Sought.Sweeping self.old.segments number }
-        requires swept { Is Sought.Sweeping (nth self.old.segments number) → IsSwept epoch (nth self.old.segments number) }
-        ensures settles { SettlesAt self.old self.new number left result }
-        ensures sound { IsSegments self.new }
-    {
-        let _ = &self.segments;
-        if !self.waits_at(number) {
-            return left;
-        }
-        self.settle(number, epoch);
-        left - 1
-    }
-
-    // Puts a segment whose bytes were swept into its state, and notes it.
-    fn settle(&mut self, number: u32, epoch: u8)
-        requires epoch { IsEpoch epoch }
-        requires least { IsLeast Sought.Sweeping self.old number }
-        requires swept { IsSwept epoch (nth self.old.segments number) }
-        ensures settles { Settles (nth self.old.segments number) (nth self.new.segments number) }
-        ensures others { self.new ≡ record self.old { segments = slice_set self.old.segments number (nth self.new.segments number) } }
-        ensures sound { IsSegments self.new }
-    {
-        let segment = &mut self.segments[number as usize];
-        let class = segment.class();
-        let swept = cycle_steps::settle(segment);
-        self.tallies[Sought::Sweeping.place()].leave(number, self.layout.segments);
-        match swept {
-            Swept::Free => self.tallies[Sought::Free.place()].enter(number),
-            Swept::Active => self.tallies[Sought::Active { class }.place()].enter(number),
-            Swept::Filled => self.filled = self.filled + 1,
-        }
+        let waiting = self.tallies[Sought::Sweeping.place()];
+        let from = waiting.from as usize;
+        let swept = halves::sweep_from(
+            rt,
+            before,
+            epoch,
+            count,
+            from,
+            self.segments.as_mut_slice(),
+        );
+        let end = swept.end as u32;
+        filing::take_up(
+            self.tallies.as_mut_slice(),
+            &swept.lower,
+            &swept.upper,
+            waiting.from,
+            end,
+        );
+        self.tallies[Sought::Sweeping.place()] = Tally::starting(waiting.count - count, end);
+        self.filled += swept.lower.filled + swept.upper.filled;
     }
 
     // Sweeps a segment, and notes in which state it is now.

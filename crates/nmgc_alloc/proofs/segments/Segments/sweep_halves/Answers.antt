@@ -1,0 +1,37 @@
+use Rattle.std.proofs.Common.{◌≡◌, arith}
+use Rattle.nmgc_alloc.specs.declared.search.Sought.TheVariants.{Sweeping}
+use Rattle.nmgc_alloc.specs.Search.{sought_count}
+use Rattle.nmgc_alloc.proofs.CountLaws.{told_count}
+use Rattle.nmgc_alloc.proofs.HalvesTells.{search_begins, swept_few, swept_sweeps, swept_invariant}
+use Rattle.nmgc_alloc.proofs.segments.Segments.sweep_halves.Goals as goal
+
+pub sweep_from-swept-requires-clause-from : goal.sweep_from-swept-requires-clause-from
+sweep_from-swept-requires-clause-from g c κs within =
+    search_begins _ _ _ _ _ _ _ _ c.self.view_is c.self.invariant c.place.ensures c.index-waiting.ensures c.as_mut_slice.ensures.value
+
+pub take_up-requires-clause-few : goal.take_up-requires-clause-few
+take_up-requires-clause-few g c =
+    swept_few _ c.args.epoch c.args.count _ _ _ _ _ _ _ _ _ c.self.invariant c.as_mut_slice.ensures.value c.as_mut_slice-2.ensures.value
+    c.sweep_from-swept.ensures.swept c.sweep_from-swept.ensures.files
+
+pub overflow_sub-waiting : goal.overflow_sub-waiting
+overflow_sub-waiting g c =
+    let told : c.index-waiting.result.now.count ≡ sought_count Sweeping c.args.self.now.segments =
+    told_count Sweeping _ _ _ _ _ _ _ c.self.view_is c.self.invariant tt c.place.ensures c.index-waiting.ensures in
+    omega (arith, told, c.requires.enough)
+
+pub invariant_of-self : goal.invariant_of-self
+invariant_of-self g c =
+    swept_invariant _ c.args.epoch c.args.count _ _ _ _ _ _ _ _ _ _ _ _ _ _ _ _ c.self.invariant c.as_mut_slice.ensures.value c.as_mut_slice.ensures.len
+    c.as_mut_slice-2.ensures.value c.as_mut_slice-2.ensures.len c.sweep_from-swept.ensures.swept c.sweep_from-swept.ensures.files c.place.ensures
+    c.index-waiting.ensures c.take_up.ensures.kinds c.take_up.ensures.each c.place-2.ensures c.starting.ensures
+
+pub returns-clause-swept : goal.returns-clause-swept
+returns-clause-swept g c =
+    swept_sweeps _ _ c.args.epoch c.args.count _ _ _ _ c.self.view_is c.as_mut_slice.ensures.value c.as_mut_slice.ensures.len c.sweep_from-swept.ensures.swept
+
+pub returns-clause-sound : goal.returns-clause-sound
+returns-clause-sound g c =
+    (swept_invariant _ c.args.epoch c.args.count _ _ _ _ _ _ _ _ _ _ _ _ _ _ _ _ c.self.invariant c.as_mut_slice.ensures.value c.as_mut_slice.ensures.len
+    c.as_mut_slice-2.ensures.value c.as_mut_slice-2.ensures.len c.sweep_from-swept.ensures.swept c.sweep_from-swept.ensures.files c.place.ensures
+    c.index-waiting.ensures c.take_up.ensures.kinds c.take_up.ensures.each c.place-2.ensures c.starting.ensures).0
