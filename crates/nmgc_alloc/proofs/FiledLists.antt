@@ -1,49 +1,16 @@
 -- What sweeps make of segments, counted over a list: one after the other, and part by part.
-use Rattle.std.proofs.Common.{ℕ, ◌≡◌, ◌+◌, ◌<◌, ◌≤◌, ◌∙◌, ap, subst, sym, arith, List, ◌++◌, length, set, take, drop, take-append-drop}
+use Rattle.std.proofs.Common.{ℕ, ◌≡◌, ◌+◌, ◌<◌, ◌≤◌, ◌∙◌, subst, arith, List, ◌++◌, length, set, take, drop, take-append-drop}
 use Rattle.std.proofs.lemmas.List.Sums.{sum_by-append, count_by-le-length}
 use Rattle.nmgc_limits.specs.Limits.{most_segments}
 use Rattle.nmgc_segment.specs.Segment.{Segment}
-use Rattle.nmgc_segment.specs.declared.state.Swept.{Swept}
-use Rattle.nmgc_segment.specs.declared.state.State.{State}
-use Rattle.nmgc_segment.specs.declared.state.State.TheVariants as state
 use Rattle.nmgc_alloc.specs.declared.filing.Filed.{Filed}
 use Rattle.nmgc_alloc.specs.declared.search.Sought.{Sought}
-use Rattle.nmgc_alloc.specs.declared.search.Sought.TheVariants.{Free, Active, Sweeping}
-use Rattle.nmgc_alloc.specs.CycleSteps.{state_of}
 use Rattle.nmgc_alloc.specs.Filing.{IsOutcome, gained, AreFew, Files}
-use Rattle.nmgc_alloc.specs.Numbered.{nth, is}
-use Rattle.nmgc_alloc.specs.Search.{Is, is_for, is_sought, sought_count}
+use Rattle.nmgc_alloc.specs.Numbered.{nth}
+use Rattle.nmgc_alloc.specs.Search.{is_sought, sought_count}
 use Rattle.nmgc_alloc.specs.Segments.{filled_count}
-use Rattle.nmgc_alloc.specs.laws.Counts.{one_if, one_filled, one_not, filled-set, few_filled}
-use Rattle.nmgc_alloc.proofs.TallyLaws.{count-set, fails}
-
--- a segment that waits is of no kind that a sweep makes
-pub waits_no_outcome : (w : Sought) (x : Segment) → IsOutcome w → x.state ≡ state.Sweeping → Is w x → ⊥
-waits_no_outcome Free x outcome waits e = cc
-waits_no_outcome (Active class) x outcome waits e = let s = e.0 in cc
-waits_no_outcome Sweeping x outcome waits e = outcome
-
-waits_not_filled : (x : Segment) → x.state ≡ state.Sweeping → one_filled x.state ≡ 0
-waits_not_filled x waits = one_not x.state (λ e. cc)
-
--- one that waited was swept, and this was noted
-pub noted_each : (old new : Filed) (x y : Segment) (s : Swept) (class : ℕ) → x.state ≡ state.Sweeping → y.state ≡ state_of s → class ≡ y.class →
-    ((w : Sought) → IsOutcome w → gained new w ≡ gained old w + one_if (is_for w (state_of s) class)) → (w : Sought) → IsOutcome w →
-    gained new w + one_if (is_sought w x) ≡ gained old w + one_if (is_sought w y)
-noted_each old new x y s class waits to same counts w outcome =
-    let none : one_if (is_sought w x) ≡ 0 = ap one_if (fails w x (waits_no_outcome w x outcome waits)) in
-    let one : one_if (is_for w (state_of s) class) ≡ one_if (is_sought w y) = ap (λ (k : State). one_if (is_for w k class)) (sym to) ∙
-    ap (λ (k : ℕ). one_if (is_for w y.state k)) same in
-    let more = counts w outcome in
-    omega (arith, none, one, more)
-
-pub noted_filled : (old new : Filed) (x y : Segment) (s : Swept) → x.state ≡ state.Sweeping → y.state ≡ state_of s →
-    new.filled ≡ old.filled + one_if (is (state_of s) state.Filled) → new.filled + one_filled x.state ≡ old.filled + one_filled y.state
-noted_filled old new x y s waits to more =
-    let none = waits_not_filled x waits in
-    let one : one_filled (state_of s) ≡ one_filled y.state = ap one_filled (sym to) in
-    let same : new.filled ≡ old.filled + one_filled (state_of s) = more in
-    omega (arith, none, one, same)
+use Rattle.nmgc_alloc.specs.laws.Counts.{one_if, one_filled, filled-set, few_filled}
+use Rattle.nmgc_alloc.proofs.TallyLaws.{count-set}
 
 -- none was swept
 pub files_none : (filed : Filed) (xs : List Segment) → ((w : Sought) → IsOutcome w → gained filed w ≡ 0) → filed.filled ≡ 0 →

@@ -131,11 +131,11 @@ swept_parts epoch middle end lower_count upper_count count was front back low hi
     let whole : low ++ high ≡ take end was = (λ i. l i ++ h i) ∙ take-append-drop middle front ∙ f in
     let cut : take end was ≡ take middle was ++ take (end - middle) (drop middle was) =
     (let split : end ≡ middle + (end - middle) = omega (arith, order) in ap (λ (n : ℕ). take n was) split) ∙ take-add middle (end - middle) was in
-    let counted : sought_count Sweeping (take end was) ≡ count =
-    (let sum : sought_count Sweeping (take end was) ≡ sought_count Sweeping (take middle was) + sought_count Sweeping (take (end - middle) (drop middle was)) = ap (λ (xs : List Segment). sought_count Sweeping xs) cut ∙ count_both (take middle was) (take (end - middle) (drop middle was)) in
+    let sum : sought_count Sweeping (take end was) ≡ sought_count Sweeping (take middle was) + sought_count Sweeping (take (end - middle) (drop middle was)) =
+    ap (λ (xs : List Segment). sought_count Sweeping xs) cut ∙ count_both (take middle was) (take (end - middle) (drop middle was)) in
     let zero : middle - 0 ≡ middle = omega arith in
     let low_is : sought_count Sweeping (take middle was) ≡ lower_count = ap (λ (n : ℕ). sought_count Sweeping (take n was)) (sym zero) ∙ lower in
-    omega (arith, sum, low_is, upper, total)) in
+    let counted : sought_count Sweeping (take end was) ≡ count = omega (arith, sum, low_is, upper, total) in
     subst (λ (xs : List Segment). FirstSwept epoch count end was ((low_new ++ high_new) ++ xs)) (sym b)
     (first_from epoch end count was (low_new ++ high_new) within counted (subst (λ (xs : List Segment). AllSwept epoch xs (low_new ++ high_new)) whole both))
 

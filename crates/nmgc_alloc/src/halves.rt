@@ -45,7 +45,8 @@ fn sweep_waiting<F: Fn(u8, u32)>(
     requires before { segment.old.state ≡ state.Sweeping → F.pre before.now half count }
     ensures swept { SweptWaiting epoch segment.old segment.new }
     ensures count { result ≡ count + (if is_sought Sweeping segment.old then 1 else 0) }
-    ensures counts { (sought : Sought) → IsOutcome sought → gained filed.new sought + one_if (is_sought sought segment.old) ≡ gained filed.old sought + one_if (is_sought sought segment.new) }
+    ensures counts { (sought : Sought) → IsOutcome sought →
+        gained filed.new sought + one_if (is_sought sought segment.old) ≡ gained filed.old sought + one_if (is_sought sought segment.new) }
     ensures filled { filed.new.filled + one_if (is segment.old.state state.Filled) ≡ filed.old.filled + one_if (is segment.new.state state.Filled) }
 {
     if segment.state() != State::Sweeping {
@@ -145,7 +146,8 @@ fn sweep_first<R: Threads + Sync, F: Fn(u8, u32) + Sync>(
     requires enough { count ≤ sought_count Sweeping segments.old }
     requires before { (half i : ℕ) → IsInHalf count half i → F.pre before.now half i }
     ensures swept { FirstSwept epoch count result.end segments.old segments.new }
-    ensures files { Files (λ sought. gained result.lower sought + gained result.upper sought) (result.lower.filled + result.upper.filled) segments.old segments.new }
+    ensures files { Files (λ sought. gained result.lower sought + gained result.upper sought)
+        (result.lower.filled + result.upper.filled) segments.old segments.new }
 {
     let upper = count / 2;
     let middle = behind(segments, 0, count - upper);
@@ -172,7 +174,8 @@ pub fn sweep_from<R: Threads + Sync, F: Fn(u8, u32) + Sync>(
     requires enough { count ≤ sought_count Sweeping segments.old }
     requires before { (half i : ℕ) → IsInHalf count half i → F.pre before.now half i }
     ensures swept { FirstSwept epoch count result.end segments.old segments.new }
-    ensures files { Files (λ sought. gained result.lower sought + gained result.upper sought) (result.lower.filled + result.upper.filled) segments.old segments.new }
+    ensures files { Files (λ sought. gained result.lower sought + gained result.upper sought)
+        (result.lower.filled + result.upper.filled) segments.old segments.new }
     ensures from_on { from ≤ result.end }
 {
     let (_, waiting) = segments.split_at_mut(from);
