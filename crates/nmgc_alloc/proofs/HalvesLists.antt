@@ -1,7 +1,7 @@
 -- Segments swept part by part: parts put together, and counts of a list that is cut.
 use Rattle.std.proofs.Common.{ℕ, ◌≡◌, ◌+◌, ◌-◌, ◌<◌, ◌≤◌, ◌∙◌, inl, inr, refl, ap, subst, sym, arith, Bool, true, false, List, [], ◌∷◌, ◌++◌, length, length-set, set, take, drop, take-append-drop}
 use Rattle.std.proofs.lemmas.List.{get_or-take, get_or-drop, get_or_append_left, get_or-append_right, take_more, length-append, length-drop}
-use Rattle.std.proofs.lemmas.List.Sums.{sum_by-append, count_by-le-length}
+use Rattle.std.proofs.lemmas.List.Sums.{count_by-le-length}
 use Rattle.std.proofs.lemmas.Bool.{cases_eq, cases_lt}
 use Rattle.std.proofs.Math.Seq.{take-add}
 use lib.Seq.{length-take-le}
@@ -13,12 +13,13 @@ use Rattle.nmgc_alloc.specs.Search.{NoneBelow, is_sought, sought_count}
 use Rattle.nmgc_alloc.specs.Halves.{SweptWaiting, AllSwept, FirstSwept}
 use Rattle.nmgc_alloc.specs.laws.Counts.{one_if}
 use Rattle.nmgc_alloc.proofs.TallyLaws.{passes}
+use Rattle.nmgc_alloc.proofs.FiledLists.{count_parts}
 use Rattle.nmgc_alloc.proofs.HalvesLaws.{none_below_none}
 use Rattle.nmgc_alloc.specs.laws.Numbers.{nth-set_same, nth-set_other}
 
 -- counts of a list that is cut
 pub count_both : (xs ys : List Segment) → sought_count Sweeping (xs ++ ys) ≡ sought_count Sweeping xs + sought_count Sweeping ys
-count_both xs ys = sum_by-append (λ (t : Segment). one_if (is_sought Sweeping t)) xs ys
+count_both xs ys = count_parts Sweeping xs ys
 
 pub count_cut : (n : ℕ) (xs : List Segment) → sought_count Sweeping xs ≡ sought_count Sweeping (take n xs) + sought_count Sweeping (drop n xs)
 count_cut n xs = ap (λ (l : List Segment). sought_count Sweeping l) (sym (take-append-drop n xs)) ∙ count_both (take n xs) (drop n xs)
@@ -74,13 +75,6 @@ swept_next epoch i was now y inside h s = record {
   rest = λ j ge. nth-set_other now i j y (λ e. omega (arith, e, ge)) ∙ h.rest j (omega (arith, ge));
 }
 
-pub swept_all : (epoch i : ℕ) (was now : List Segment) → length now ≤ i → SweptSo epoch i was now → AllSwept epoch was now
-swept_all epoch i was now all h = record { size = h.size; each = λ j lt. h.each j (omega (arith, lt, all, h.size)) }
-
--- nothing to sweep
-pub swept_none : (epoch : ℕ) (was : List Segment) → length was ≡ 0 → AllSwept epoch was was
-swept_none epoch was none = record { size = refl; each = λ j lt. absurd (omega (arith, lt, none)) }
-
 -- two parts one after the other
 pub swept_both : (epoch : ℕ) (a b c d : List Segment) → AllSwept epoch a c → AllSwept epoch b d → AllSwept epoch (a ++ b) (c ++ d)
 swept_both epoch a b c d x y =
@@ -104,14 +98,13 @@ swept_both epoch a b c d x y =
 
 -- and others behind them that stay
 pub first_from : (epoch end count : ℕ) (was new : List Segment) → end ≤ length was → sought_count Sweeping (take end was) ≡ count →
-    AllSwept epoch (take end was) new → FirstSwept epoch count was (new ++ drop end was)
+    AllSwept epoch (take end was) new → FirstSwept epoch count end was (new ++ drop end was)
 first_from epoch end count was new within counted h =
     let size : length (take end was) ≡ end = length-take-le end was within in
     let long : length new ≡ end = h.size ∙ size in
     let all : length (new ++ drop end was) ≡ length new + length (drop end was) = length-append new (drop end was) in
     let left : length (drop end was) ≡ length was - end = length-drop end was in
     record {
-      end = end;
       within = within;
       counted = counted;
       size = omega (arith, all, left, long, within);
@@ -132,18 +125,18 @@ pub swept_parts : (epoch middle end lower_count upper_count count : ℕ) (was fr
     front ≡ take end was → back ≡ drop end was → low ≡ take middle front → high ≡ drop middle front → middle ≤ end → end ≤ length was →
     sought_count Sweeping (take (middle - 0) (drop 0 was)) ≡ lower_count →
     sought_count Sweeping (take (end - middle) (drop middle was)) ≡ upper_count → lower_count + upper_count ≡ count → AllSwept epoch low low_new →
-    AllSwept epoch high high_new → FirstSwept epoch count was ((low_new ++ high_new) ++ back)
+    AllSwept epoch high high_new → FirstSwept epoch count end was ((low_new ++ high_new) ++ back)
 swept_parts epoch middle end lower_count upper_count count was front back low high low_new high_new f b l h order within lower upper total x y =
     let both : AllSwept epoch (low ++ high) (low_new ++ high_new) = swept_both epoch low high low_new high_new x y in
     let whole : low ++ high ≡ take end was = (λ i. l i ++ h i) ∙ take-append-drop middle front ∙ f in
     let cut : take end was ≡ take middle was ++ take (end - middle) (drop middle was) =
     (let split : end ≡ middle + (end - middle) = omega (arith, order) in ap (λ (n : ℕ). take n was) split) ∙ take-add middle (end - middle) was in
-    let counted : sought_count Sweeping (take end was) ≡ count =
-    (let sum : sought_count Sweeping (take end was) ≡ sought_count Sweeping (take middle was) + sought_count Sweeping (take (end - middle) (drop middle was)) = ap (λ (xs : List Segment). sought_count Sweeping xs) cut ∙ count_both (take middle was) (take (end - middle) (drop middle was)) in
+    let sum : sought_count Sweeping (take end was) ≡ sought_count Sweeping (take middle was) + sought_count Sweeping (take (end - middle) (drop middle was)) =
+    ap (λ (xs : List Segment). sought_count Sweeping xs) cut ∙ count_both (take middle was) (take (end - middle) (drop middle was)) in
     let zero : middle - 0 ≡ middle = omega arith in
     let low_is : sought_count Sweeping (take middle was) ≡ lower_count = ap (λ (n : ℕ). sought_count Sweeping (take n was)) (sym zero) ∙ lower in
-    omega (arith, sum, low_is, upper, total)) in
-    subst (λ (xs : List Segment). FirstSwept epoch count was ((low_new ++ high_new) ++ xs)) (sym b)
+    let counted : sought_count Sweeping (take end was) ≡ count = omega (arith, sum, low_is, upper, total) in
+    subst (λ (xs : List Segment). FirstSwept epoch count end was ((low_new ++ high_new) ++ xs)) (sym b)
     (first_from epoch end count was (low_new ++ high_new) within counted (subst (λ (xs : List Segment). AllSwept epoch xs (low_new ++ high_new)) whole both))
 
 -- where none of the first waits, the search may begin behind them
@@ -161,15 +154,15 @@ count_behind n count xs back b within none enough =
     let same : sought_count Sweeping back ≡ sought_count Sweeping (drop n xs) = ap (λ (l : List Segment). sought_count Sweeping l) b in
     omega (arith, cut, low, same, enough)
 
-pub first_behind : (epoch count n : ℕ) (was front back new : List Segment) → front ≡ take n was → back ≡ drop n was → n ≤ length was →
-    NoneBelow Sweeping was n → FirstSwept epoch count back new → FirstSwept epoch count was (front ++ new)
-first_behind epoch count n was front back new f b within none h =
+pub first_behind : (epoch count end n : ℕ) (was front back new : List Segment) → front ≡ take n was → back ≡ drop n was → n ≤ length was →
+    NoneBelow Sweeping was n → FirstSwept epoch count end back new → FirstSwept epoch count (n + end) was (front ++ new)
+first_behind epoch count end n was front back new f b within none h =
     let size : length front ≡ n = ap (λ (xs : List Segment). length xs) f ∙ length-take-le n was within in
     let left : length back ≡ length was - n = ap (λ (xs : List Segment). length xs) b ∙ length-drop n was in
     let all : length (front ++ new) ≡ length front + length new = length-append front new in
-    let cut : take (n + h.end) was ≡ take n was ++ take h.end back = take-add n h.end was ∙ ap (λ (xs : List Segment). take n was ++ take h.end xs) (sym b) in
-    let sum : sought_count Sweeping (take (n + h.end) was) ≡ sought_count Sweeping (take n was) + sought_count Sweeping (take h.end back) =
-    ap (λ (xs : List Segment). sought_count Sweeping xs) cut ∙ count_both (take n was) (take h.end back) in
+    let cut : take (n + end) was ≡ take n was ++ take end back = take-add n end was ∙ ap (λ (xs : List Segment). take n was ++ take end xs) (sym b) in
+    let sum : sought_count Sweeping (take (n + end) was) ≡ sought_count Sweeping (take n was) + sought_count Sweeping (take end back) =
+    ap (λ (xs : List Segment). sought_count Sweeping xs) cut ∙ count_both (take n was) (take end back) in
     let low = none_counted_below was n none within in
     let here : (i : ℕ) → i < n → nth (front ++ new) i ≡ nth was i = λ i lt.
     get_or_append_left front new (free_segment 0) i (omega (arith, lt, size)) ∙ ap (λ (xs : List Segment). nth xs i) f ∙
@@ -179,7 +172,6 @@ first_behind epoch count n was front back new f b within none h =
     let split : n + (i - n) ≡ i = omega (arith, ge) in
     ap (λ (xs : List Segment). nth xs (i - n)) b ∙ get_or-drop n was (i - n) (free_segment 0) ∙ ap (λ (k : ℕ). nth was k) split in
     record {
-      end = n + h.end;
       within = omega (arith, h.within, left, within);
       counted = omega (arith, sum, low, h.counted);
       size = omega (arith, all, size, h.size, left, within);
