@@ -1,6 +1,6 @@
 -- What keeps a segment's invariant, and which blocks are in use afterwards.
-use Rattle.std.proofs.Common.{ℕ, ◌≡◌, ◌≢◌, ◌<◌, ◌≤◌, ◌*◌, ◌/◌, ◌↔◌, ◌∙◌, ◌⊎◌, inl, inr, refl, ap, subst, sym, arith, List, length, get_or, set, slice_index, map, take, drop, ◌++◌, Bool, true, IsTrue}
-use Rattle.std.proofs.lemmas.List.{take_at, get_or-set_same}
+use Rattle.std.proofs.Common.{ℕ, ◌≡◌, ◌≢◌, ◌<◌, ◌≤◌, ◌*◌, ◌/◌, ◌↔◌, ◌∙◌, ◌⊎◌, inl, inr, ap, subst, sym, arith, List, length, slice_index, map, take, drop, ◌++◌, Bool, IsTrue}
+use Rattle.std.proofs.lemmas.List.{take_at}
 use Rattle.std.proofs.lemmas.Bool.{cases_eq, cases_lt}
 use Rattle.std.proofs.Math.Nat.{le-div_iff_mul-le}
 use Rattle.std.proofs.Math.ListN.{length-map}
@@ -9,7 +9,7 @@ use Rattle.nmgc_segment.specs.declared.state.State.{State}
 use Rattle.nmgc_segment.specs.declared.state.State.TheVariants.{Free, Current}
 use Rattle.nmgc_segment.specs.Marks.{IsEpoch, carried, swept, IsFirstUnmarked}
 use Rattle.nmgc_object.specs.laws.Classes.{class_few, least_block}
-use Rattle.nmgc_segment.specs.laws.Segments.{few_blocks, mark-map, all_carried, carried_bounds, swept_bounds, swept_is, zero_swept}
+use Rattle.nmgc_segment.specs.laws.Segments.{few_blocks, mark-map, all_carried, swept_bounds, swept_is, zero_swept}
 use Rattle.nmgc_segment.specs.Kept.{TellsMarked}
 use Rattle.nmgc_segment.specs.Segment.{Segment, IsSegment, IsUnused, HasBlocks, InUse, IsMarked, block_count, segment_words, mark_of}
 
@@ -134,27 +134,6 @@ swept_use_to s now blocks epoch at marks slice seen e h is same first =
 through : {P Q R : Type 0} → (P ↔ Q) → (Q ↔ R) → P ↔ R
 through f g = ((λ p. g.0 (f.0 p)), (λ r. f.1 (g.1 r)))
 
--- whether any block is marked, after one was
-pub one_marked : (s now : Segment) (blocks block epoch : ℕ) → s ≡ now → HasBlocks s blocks → IsEpoch epoch → block < block_count now →
-    TellsMarked (set s.marks block epoch) true
-one_marked s now blocks block epoch seen n e inside =
-    let same : block_count s ≡ block_count now = ap (λ (t : Segment). block_count t) seen in
-    let low : block < length s.marks = omega (arith, n.count, n.marked, inside, same) in
-    let here : get_or (set s.marks block epoch) block 0 ≡ epoch = get_or-set_same s.marks block epoch 0 low in
-    ((λ _. (block, λ z. omega (arith, here, z, e.0))), (λ _. refl))
-
--- and once marks were carried over
-pub carried_marked : (before marks : List ℕ) (marked : Bool) (epoch : ℕ) → IsEpoch epoch → TellsMarked before marked →
-    map (carried epoch) before ≡ marks → TellsMarked marks marked
-carried_marked before marks marked epoch e h is =
-    let at : (b : ℕ) → (slice_index marks b ≡ 0) ↔ (slice_index before b ≡ 0) = λ b.
-    subst (λ (ms : List ℕ). (slice_index ms b ≡ 0) ↔ (slice_index before b ≡ 0)) is
-    (subst (λ (m : ℕ). (m ≡ 0) ↔
-    (slice_index before b ≡ 0)) (sym (mark-map (carried epoch) before b refl)) (carried_bounds epoch (slice_index before b) e).1) in (
-      (λ yes. let w = h.0 yes in (w.0, λ z. w.1 ((at w.0).0 z))),
-      (λ w. h.1 (w.0, λ z. w.1 ((at w.0).1 z))),
-    )
-
 -- what a sweep leaves of the bytes is of its epoch
 pub left_is : (s : Segment) (epoch : ℕ) (marks slice : List ℕ) → IsEpoch epoch → IsSegment s → map (swept epoch) s.marks ≡ marks → slice ≡ marks →
     (b : ℕ) → slice_index slice b ≢ 0 → slice_index slice b ≡ epoch
@@ -176,17 +155,17 @@ some_block s h =
     (le-div_iff_mul-le pos).1 (omega (arith, h.fits))
 
 -- none is in use where none is marked and the first one isn't in use
-pub none_used : (s now : Segment) (marked : Bool) (P : Type 0) → s ≡ now → TellsMarked s.marks marked → P ↔
-    ((¬ IsTrue marked) × (s.next_free ≡ 0)) → P ↔ ((b : ℕ) → InUse now b → ⊥)
-none_used s now marked P seen tells answer = subst (λ (t : Segment). P ↔ ((b : ℕ) → InUse t b → ⊥)) seen (through answer (
+pub none_used : (s : Segment) (marked : Bool) (P : Type 0) → TellsMarked s.marks marked → P ↔ ((¬ IsTrue marked) × (s.next_free ≡ 0)) → P ↔
+    ((b : ℕ) → InUse s b → ⊥)
+none_used s marked P tells answer = through answer (
   (λ none b used. elim used [ inl below ↦ omega (arith, below, none.1) | inr nz ↦ none.0 (tells.1 (b, nz)) ]),
   (λ none. ((λ yes. let w = tells.0 yes in none w.0 (inr w.1)), (unused_from s none).next_free)),
-))
+)
 
 -- all are where there is no first one that isn't
-pub all_used : (s now : Segment) (blocks : ℕ) (marked : Bool) (P : Type 0) → s ≡ now → IsSegment s → HasBlocks s blocks → P ↔
-    ((s.next_free ≡ blocks) × (IsTrue marked ⊎ (s.next_free ≢ 0))) → P ↔ ((b : ℕ) → b < block_count now → InUse now b)
-all_used s now blocks marked P seen h n answer = subst (λ (t : Segment). P ↔ ((b : ℕ) → b < block_count t → InUse t b)) seen (through answer (
+pub all_used : (s : Segment) (blocks : ℕ) (marked : Bool) (P : Type 0) → IsSegment s → HasBlocks s blocks → P ↔
+    ((s.next_free ≡ blocks) × (IsTrue marked ⊎ (s.next_free ≢ 0))) → P ↔ ((b : ℕ) → b < block_count s → InUse s b)
+all_used s blocks marked P h n answer = through answer (
   (λ all b inside. inl (omega (arith, all.0, n.count, inside))),
   (λ all.
       let full : s.next_free ≡ blocks = elim (cases_lt s.next_free (block_count s)) [
@@ -197,7 +176,7 @@ all_used s now blocks marked P seen h n answer = subst (λ (t : Segment). P ↔ 
         | inr ge ↦ omega (arith, ge, h.next_free, n.count)
       ] in
       (full, inr (omega (arith, full, some_block s h, n.count)))),
-))
+)
 
 -- as many as before
 pub swept_blocks : (s now : Segment) (epoch at : ℕ) (marks : List ℕ) → s ≡ now → map (swept epoch) s.marks ≡ marks →

@@ -1,4 +1,4 @@
--- What a segment keeps beside its mark bytes.
+-- What a sweep kept of the mark bytes.
 use Rattle.std.specs.Prelude.{ℕ, ◌≢◌, ◌↔◌, Bool, IsTrue, List, slice_index}
 
 -- whether any mark byte isn't 0
