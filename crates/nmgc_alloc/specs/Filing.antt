@@ -23,6 +23,10 @@ gained filed Free = filed.free
 gained filed (Active class) = slice_index filed.active class
 gained filed Sweeping = 0
 
+-- nothing is counted yet
+abbrev pub CountsNone : Filed → Type 0
+CountsNone filed = ((sought : Sought) → IsOutcome sought → gained filed sought ≡ 0) × (filed.filled ≡ 0)
+
 -- none of the counts is above the number of segments that there may be
 pub record AreFew (filed : Filed) : Type 0 where
   pub filled : filed.filled ≤ most_segments

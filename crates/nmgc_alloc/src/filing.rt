@@ -16,7 +16,7 @@ ghost use Rattle.nmgc_alloc.specs.declared.search.Sought.TheVariants.{Sweeping a
 ghost use Rattle.nmgc_alloc.specs.Numbered.{is};
 ghost use Rattle.nmgc_alloc.specs.Search.{is_for, tally_of};
 ghost use Rattle.nmgc_alloc.specs.CycleSteps.{state_of};
-ghost use Rattle.nmgc_alloc.specs.Filing.{IsOutcome, gained, AreFew, EntersMany};
+ghost use Rattle.nmgc_alloc.specs.Filing.{IsOutcome, CountsNone, gained, AreFew, EntersMany};
 ghost use Rattle.nmgc_alloc.specs.laws.Counts.{one_if};
 
 use crate::search::Sought;
@@ -35,8 +35,7 @@ pub struct Filed {
 impl Filed {
     /// Nothing was swept yet.
     pub fn none() -> Self
-        ensures counts { (sought : Kind) → IsOutcome sought → gained result sought ≡ 0 }
-        ensures filled { result.filled ≡ 0 }
+        ensures { CountsNone result }
     {
         Filed {
             free: 0,

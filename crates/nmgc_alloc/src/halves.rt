@@ -2,7 +2,8 @@
 //!
 //! The mark bytes and the state of a segment are its own, so two threads may sweep them without any order between them.
 //! The tallies are those of all segments, so each half counts into a value of its own what came of its sweeps, and the
-//! caller takes both up afterwards: what is left doesn't depend on which half was first.
+//! caller takes both up afterwards: what is left doesn't depend on which half was first. The caller lends these values: handed
+//! out by each function on the way they would be copied each time, which for few segments takes as long as to sweep some.
 //!
 //! Easy to get wrong: where the number is odd the lower half has one more, and where there is but one no thread starts.
 ghost use Rattle.std.specs.Prelude.{ℕ, ◌≡◌, ◌↔◌, ◌+◌, ◌-◌, ◌/◌, ◌<◌, ◌≤◌, ◌^◌, take, drop, length, if◌then◌else◌};
@@ -13,7 +14,7 @@ ghost use Rattle.nmgc_alloc.specs.declared.search.Sought.{Sought};
 ghost use Rattle.nmgc_alloc.specs.declared.search.Sought.TheVariants.{Sweeping};
 ghost use Rattle.nmgc_alloc.specs.Numbered.{is};
 ghost use Rattle.nmgc_alloc.specs.Search.{NoneBelow, is_sought, sought_count};
-ghost use Rattle.nmgc_alloc.specs.Filing.{IsOutcome, gained, AreFew, Files};
+ghost use Rattle.nmgc_alloc.specs.Filing.{IsOutcome, CountsNone, gained, AreFew, Files};
 ghost use Rattle.nmgc_alloc.specs.Halves.{IsInHalf, SweptWaiting, AllSwept, FirstSwept};
 ghost use Rattle.nmgc_alloc.specs.laws.Counts.{one_if};
 
@@ -21,14 +22,6 @@ use crate::cycle_steps;
 use crate::filing::Filed;
 use nmgc_segment::{Segment, State};
 use std::thread::{Threads, join_mut};
-
-/// What came of the sweeps of each half, and a number below which all that waited were swept; from it on nothing changed.
-#[derive(Clone, Copy, Debug, PartialEq, Eq)]
-pub struct Halves {
-    pub lower: Filed,
-    pub upper: Filed,
-    pub end: usize,
-}
 
 // Sweeps a segment that waits, as the next one of its half, and counts what came of it. Answers how many these are then.
 fn sweep_waiting<F: Fn(u8, u32)>(
@@ -58,50 +51,62 @@ fn sweep_waiting<F: Fn(u8, u32)>(
     count + 1
 }
 
-// Sweeps all that wait, in order, and answers what came of it.
-fn sweep_part<F: Fn(u8, u32)>(before: &F, half: u8, epoch: u8, segments: &mut [Segment]) -> Filed
+// Sweeps all that wait, in order, and counts what came of it.
+fn sweep_part<F: Fn(u8, u32)>(
+    before: &F,
+    half: u8,
+    epoch: u8,
+    filed: &mut Filed,
+    segments: &mut [Segment],
+)
     requires epoch { IsEpoch epoch }
     requires few { length segments.old ≤ most_segments }
+    requires none { CountsNone filed.old }
     requires before { (i : ℕ) → i < sought_count Sweeping segments.old → F.pre before.now half i }
     ensures swept { AllSwept epoch segments.old segments.new }
-    ensures files { Files (gained result) result.filled segments.old segments.new }
+    ensures files { Files (gained filed.new) filed.new.filled segments.old segments.new }
 {
-    let mut filed = Filed::none();
     let mut count = 0;
     for segment in segments.iter_mut() {
-        count = sweep_waiting(before, half, epoch, count, &mut filed, segment);
+        count = sweep_waiting(before, half, epoch, count, filed, segment);
     }
-    filed
 }
 
-// Two parts in two threads; the caller has the lower one, which is the larger. Answers what came of each.
+// Two parts in two threads; the caller has the lower one, which is the larger. What came of each is counted apart.
 fn sweep_both<R: Threads + Sync, F: Fn(u8, u32) + Sync>(
     rt: &R,
     before: &F,
     epoch: u8,
+    lower_filed: &mut Filed,
+    upper_filed: &mut Filed,
     lower: &mut [Segment],
     upper: &mut [Segment],
-) -> (Filed, Filed)
+)
     requires epoch { IsEpoch epoch }
     requires few { (length lower.old ≤ most_segments) × (length upper.old ≤ most_segments) }
+    requires none { CountsNone lower_filed.old × CountsNone upper_filed.old }
     requires lower { (i : ℕ) → i < sought_count Sweeping lower.old → F.pre before.now 0 i }
     requires upper { (i : ℕ) → i < sought_count Sweeping upper.old → F.pre before.now 1 i }
-    ensures lower { AllSwept epoch lower.old lower.new × Files (gained result.0) result.0.filled lower.old lower.new }
-    ensures upper { AllSwept epoch upper.old upper.new × Files (gained result.1) result.1.filled upper.old upper.new }
+    ensures lower { AllSwept epoch lower.old lower.new × Files (gained lower_filed.new) lower_filed.new.filled lower.old lower.new }
+    ensures upper { AllSwept epoch upper.old upper.new × Files (gained upper_filed.new) upper_filed.new.filled upper.old upper.new }
 {
     if upper.is_empty() {
-        return (sweep_part(before, 0, epoch, lower), Filed::none());
+        sweep_part(before, 0, epoch, lower_filed, lower);
+        return;
     }
-    let mut first = || -> Filed
-        requires { IsEpoch epoch × (length lower.now ≤ most_segments) × ((i : ℕ) → i < sought_count Sweeping lower.now → F.pre before.now 0 i) }
-        ensures { AllSwept epoch lower.entry.now lower.exit.now × Files (gained result) result.filled lower.entry.now lower.exit.now }
-    { sweep_part(before, 0, epoch, lower) };
-    let mut second = || -> Filed
-        requires { IsEpoch epoch × (length upper.now ≤ most_segments) × ((i : ℕ) → i < sought_count Sweeping upper.now → F.pre before.now 1 i) }
-        ensures { AllSwept epoch upper.entry.now upper.exit.now × Files (gained result) result.filled upper.entry.now upper.exit.now }
-    { sweep_part(before, 1, epoch, upper) };
-    let (upper_filed, lower_filed) = join_mut(rt, &mut second, &mut first);
-    (lower_filed, upper_filed)
+    let mut first = ||
+        requires { IsEpoch epoch × (length lower.now ≤ most_segments) × CountsNone lower_filed.now
+            × ((i : ℕ) → i < sought_count Sweeping lower.now → F.pre before.now 0 i) }
+        ensures { AllSwept epoch lower.entry.now lower.exit.now
+            × Files (gained lower_filed.exit.now) lower_filed.exit.now.filled lower.entry.now lower.exit.now }
+    { sweep_part(before, 0, epoch, lower_filed, lower) };
+    let mut second = ||
+        requires { IsEpoch epoch × (length upper.now ≤ most_segments) × CountsNone upper_filed.now
+            × ((i : ℕ) → i < sought_count Sweeping upper.now → F.pre before.now 1 i) }
+        ensures { AllSwept epoch upper.entry.now upper.exit.now
+            × Files (gained upper_filed.exit.now) upper_filed.exit.now.filled upper.entry.now upper.exit.now }
+    { sweep_part(before, 1, epoch, upper_filed, upper) };
+    join_mut(rt, &mut second, &mut first);
 }
 
 // Whether the segment waits, as a number.
@@ -139,49 +144,61 @@ fn sweep_first<R: Threads + Sync, F: Fn(u8, u32) + Sync>(
     before: &F,
     epoch: u8,
     count: u32,
+    lower_filed: &mut Filed,
+    upper_filed: &mut Filed,
     segments: &mut [Segment],
-) -> Halves
+) -> usize
     requires epoch { IsEpoch epoch }
     requires few { length segments.old ≤ most_segments }
+    requires none { CountsNone lower_filed.old × CountsNone upper_filed.old }
     requires enough { count ≤ sought_count Sweeping segments.old }
     requires before { (half i : ℕ) → IsInHalf count half i → F.pre before.now half i }
-    ensures swept { FirstSwept epoch count result.end segments.old segments.new }
-    ensures files { Files (λ sought. gained result.lower sought + gained result.upper sought)
-        (result.lower.filled + result.upper.filled) segments.old segments.new }
+    ensures swept { FirstSwept epoch count result segments.old segments.new }
+    ensures files { Files (λ sought. gained lower_filed.new sought + gained upper_filed.new sought)
+        (lower_filed.new.filled + upper_filed.new.filled) segments.old segments.new }
 {
     let upper = count / 2;
     let middle = behind(segments, 0, count - upper);
     let end = behind(segments, middle, upper);
     let (front, _) = segments.split_at_mut(end);
     let (lower_half, upper_half) = front.split_at_mut(middle);
-    let (lower, upper) = sweep_both(rt, before, epoch, lower_half, upper_half);
-    Halves { lower, upper, end }
+    sweep_both(
+        rt,
+        before,
+        epoch,
+        lower_filed,
+        upper_filed,
+        lower_half,
+        upper_half,
+    );
+    end
 }
 
-/// Sweeps so many segments that wait, the first of them, in two halves, each in order and in a thread of its own. Before
-/// each `before` is called, with the half and the number within it. None waits below `from`, where the search begins.
+/// Sweeps so many segments that wait, the first of them, in two halves, each in order and in a thread of its own, and counts
+/// what came of each half into a value that counts nothing yet. Before each `before` is called, with the half and the number
+/// within it. None waits below `from`, where the search begins. Answers a number below which all that waited were swept; from
+/// it on nothing changed.
 pub fn sweep_from<R: Threads + Sync, F: Fn(u8, u32) + Sync>(
     rt: &R,
     before: &F,
     epoch: u8,
     count: u32,
     from: usize,
+    lower_filed: &mut Filed,
+    upper_filed: &mut Filed,
     segments: &mut [Segment],
-) -> Halves
+) -> usize
     requires epoch { IsEpoch epoch }
     requires few { length segments.old ≤ most_segments }
+    requires none { CountsNone lower_filed.old × CountsNone upper_filed.old }
     requires from { (from ≤ length segments.old) × NoneBelow Sweeping segments.old from }
     requires enough { count ≤ sought_count Sweeping segments.old }
     requires before { (half i : ℕ) → IsInHalf count half i → F.pre before.now half i }
-    ensures swept { FirstSwept epoch count result.end segments.old segments.new }
-    ensures files { Files (λ sought. gained result.lower sought + gained result.upper sought)
-        (result.lower.filled + result.upper.filled) segments.old segments.new }
-    ensures from_on { from ≤ result.end }
+    ensures swept { FirstSwept epoch count result segments.old segments.new }
+    ensures files { Files (λ sought. gained lower_filed.new sought + gained upper_filed.new sought)
+        (lower_filed.new.filled + upper_filed.new.filled) segments.old segments.new }
+    ensures from_on { from ≤ result }
 {
     let (_, waiting) = segments.split_at_mut(from);
-    let swept = sweep_first(rt, before, epoch, count, waiting);
-    Halves {
-        end: from + swept.end,
-        ..swept
-    }
+    from + sweep_first(rt, before, epoch, count, lower_filed, upper_filed, waiting)
 }

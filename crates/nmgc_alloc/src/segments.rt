@@ -22,6 +22,7 @@ ghost use Rattle.nmgc_alloc.specs.Numbered.{is, nth};
 ghost use Rattle.nmgc_alloc.specs.Search.{sought_count, IsKind, tally_from};
 ghost use Rattle.nmgc_alloc.specs.Halves.{IsInHalf, SweepsMany};
 
+use crate::filing::Filed;
 use crate::search::{self, Sought};
 use crate::tables::{CLASSES, KINDS, PAIRS};
 use crate::tally::Tally;
@@ -507,24 +508,28 @@ impl Segments {
     {
         let waiting = self.tallies[Sought::Sweeping.place()];
         let from = waiting.from as usize;
-        let swept = halves::sweep_from(
+        let mut lower = Filed::none();
+        let mut upper = Filed::none();
+        let past = halves::sweep_from(
             rt,
             before,
             epoch,
             count,
             from,
+            &mut lower,
+            &mut upper,
             self.segments.as_mut_slice(),
         );
-        let end = swept.end as u32;
+        let end = past as u32;
         filing::take_up(
             self.tallies.as_mut_slice(),
-            &swept.lower,
-            &swept.upper,
+            &lower,
+            &upper,
             waiting.from,
             end,
         );
         self.tallies[Sought::Sweeping.place()] = Tally::starting(waiting.count - count, end);
-        self.filled += swept.lower.filled + swept.upper.filled;
+        self.filled += lower.filled + upper.filled;
     }
 
     // Sweeps a segment, and notes in which state it is now.

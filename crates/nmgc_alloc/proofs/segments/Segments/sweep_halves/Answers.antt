@@ -5,14 +5,14 @@ use Rattle.nmgc_alloc.proofs.CountLaws.{told_count}
 use Rattle.nmgc_alloc.proofs.HalvesTells.{search_begins, swept_few, swept_sweeps, swept_invariant}
 use Rattle.nmgc_alloc.proofs.segments.Segments.sweep_halves.Goals as goal
 
-pub sweep_from-swept-requires-clause-from : goal.sweep_from-swept-requires-clause-from
-sweep_from-swept-requires-clause-from g c κs within =
+pub sweep_from-past-requires-clause-from : goal.sweep_from-past-requires-clause-from
+sweep_from-past-requires-clause-from g c κs within =
     search_begins _ _ _ _ _ _ _ _ c.self.view_is c.self.invariant c.place.ensures c.index-waiting.ensures c.as_mut_slice.ensures.value
 
 pub take_up-requires-clause-few : goal.take_up-requires-clause-few
 take_up-requires-clause-few g c =
     swept_few _ c.args.epoch c.args.count _ _ _ _ _ _ _ _ _ c.self.invariant c.as_mut_slice.ensures.value c.as_mut_slice-2.ensures.value
-    c.sweep_from-swept.ensures.swept c.sweep_from-swept.ensures.files
+    c.sweep_from-past.ensures.swept c.sweep_from-past.ensures.files
 
 pub overflow_sub-waiting : goal.overflow_sub-waiting
 overflow_sub-waiting g c =
@@ -23,15 +23,15 @@ overflow_sub-waiting g c =
 pub invariant_of-self : goal.invariant_of-self
 invariant_of-self g c =
     swept_invariant _ c.args.epoch c.args.count _ _ _ _ _ _ _ _ _ _ _ _ _ _ _ _ c.self.invariant c.as_mut_slice.ensures.value c.as_mut_slice.ensures.len
-    c.as_mut_slice-2.ensures.value c.as_mut_slice-2.ensures.len c.sweep_from-swept.ensures.swept c.sweep_from-swept.ensures.files c.place.ensures
+    c.as_mut_slice-2.ensures.value c.as_mut_slice-2.ensures.len c.sweep_from-past.ensures.swept c.sweep_from-past.ensures.files c.place.ensures
     c.index-waiting.ensures c.take_up.ensures.kinds c.take_up.ensures.each c.place-2.ensures c.starting.ensures
 
 pub returns-clause-swept : goal.returns-clause-swept
 returns-clause-swept g c =
-    swept_sweeps _ _ c.args.epoch c.args.count _ _ _ _ c.self.view_is c.as_mut_slice.ensures.value c.as_mut_slice.ensures.len c.sweep_from-swept.ensures.swept
+    swept_sweeps _ _ c.args.epoch c.args.count _ _ _ _ c.self.view_is c.as_mut_slice.ensures.value c.as_mut_slice.ensures.len c.sweep_from-past.ensures.swept
 
 pub returns-clause-sound : goal.returns-clause-sound
 returns-clause-sound g c =
     (swept_invariant _ c.args.epoch c.args.count _ _ _ _ _ _ _ _ _ _ _ _ _ _ _ _ c.self.invariant c.as_mut_slice.ensures.value c.as_mut_slice.ensures.len
-    c.as_mut_slice-2.ensures.value c.as_mut_slice-2.ensures.len c.sweep_from-swept.ensures.swept c.sweep_from-swept.ensures.files c.place.ensures
+    c.as_mut_slice-2.ensures.value c.as_mut_slice-2.ensures.len c.sweep_from-past.ensures.swept c.sweep_from-past.ensures.files c.place.ensures
     c.index-waiting.ensures c.take_up.ensures.kinds c.take_up.ensures.each c.place-2.ensures c.starting.ensures).0
