@@ -124,7 +124,7 @@ enters_at gain from end w ts at new kind many place enters =
     subst (λ (t : Tally). EntersMany gain from end t (tally_of (set ts at new) w)) was
     (subst (λ (t : Tally). EntersMany gain from end (slice_index_or ts at (tally_from 0 0)) t) (sym now) enters)
 
--- the tallies of the free segments, and of the classes so far, took up what two sweeps did, and the others are as they were
+-- the tallies of the free segments, and of the classes so far, took up what was counted of two parts, and the others are as they were
 pub record TakenUp (lower upper : Filed) (from end classes : ℕ) (was now : List Tally) : Type 0 where
   pub kinds : length now ≡ KINDS
   pub free : EntersMany (gained lower sought.Free + gained upper sought.Free) from end (tally_of was sought.Free) (tally_of now sought.Free)

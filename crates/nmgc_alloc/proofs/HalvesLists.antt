@@ -1,7 +1,6 @@
 -- Segments swept part by part: parts put together, and counts of a list that is cut.
 use Rattle.std.proofs.Common.{ℕ, ◌≡◌, ◌+◌, ◌-◌, ◌<◌, ◌≤◌, ◌∙◌, inl, inr, refl, ap, subst, sym, arith, Bool, true, false, List, [], ◌∷◌, ◌++◌, length, length-set, set, take, drop, take-append-drop}
 use Rattle.std.proofs.lemmas.List.{get_or-take, get_or-drop, get_or_append_left, get_or-append_right, take_more, length-append, length-drop}
-use Rattle.std.proofs.lemmas.List.Sums.{count_by-le-length}
 use Rattle.std.proofs.lemmas.Bool.{cases_eq, cases_lt}
 use Rattle.std.proofs.Math.Seq.{take-add}
 use lib.Seq.{length-take-le}
@@ -44,13 +43,6 @@ count_lt xs n lt waits =
     let one : one_if (is_sought Sweeping (nth xs n)) ≡ 1 = ap one_if (passes Sweeping (nth xs n) waits) in
     let all = count_cut (n + 1) xs in
     omega (arith, more, one, all)
-
--- and no more than there are segments
-pub count_few : (xs : List Segment) (n : ℕ) → n ≤ length xs → sought_count Sweeping (take n xs) ≤ n
-count_few xs n le =
-    let few = count_by-le-length (is_sought Sweeping) (take n xs) in
-    let size = length-take-le n xs le in
-    omega (arith, few, size)
 
 -- a loop over segments: those so far were swept, and the others are as they were
 pub record SweptSo (epoch i : ℕ) (was now : List Segment) : Type 0 where

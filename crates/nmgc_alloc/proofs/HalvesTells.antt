@@ -31,7 +31,7 @@ record WasFirst (epoch end i : ℕ) (x y : Segment) : Type 0 where
   pub sweeps : SweepsSegment x y epoch
   pub sound : IsSegment y
 
--- a kind that isn't the one of those that wait is one that a sweep makes segments ones of
+-- a kind other than that of the segments that wait is one of which a sweep can make a segment
 outcome : (w : Sought) → IsKind w → w ≢ sought.Sweeping → IsOutcome w
 outcome sought.Free kind other = tt
 outcome (sought.Active class) kind other = kind

@@ -5,9 +5,9 @@
 //! each counts into a value of its own, and the tallies take both up afterwards, in time that doesn't grow with the number
 //! of segments.
 //!
-//! Easy to get wrong: a segment that becomes one of a kind inside the stretch in which none lay ends that stretch; only
-//! what lies above all that were swept is kept of it.
-ghost use Rattle.std.specs.Prelude.{ℕ, ◌≡◌, ◌+◌, ◌<◌, ◌≤◌, length};
+//! Easy to get wrong: a segment that becomes one of a kind inside the stretch in which none lay cuts that stretch in two;
+//! only what lies above all that were swept is kept of it.
+ghost use Rattle.std.specs.Prelude.{◌≡◌, ◌+◌, ◌<◌, ◌≤◌, length};
 ghost use Rattle.nmgc_limits.specs.Limits.{most_segments};
 ghost use Rattle.nmgc_alloc.specs.declared.tables.TheConstants.{CLASSES as classes, KINDS as kinds};
 ghost use Rattle.nmgc_segment.specs.declared.state.State.TheVariants as state;
@@ -60,7 +60,7 @@ impl Filed {
     }
 }
 
-/// The tallies take up what two sweeps did to segments from one number on and below another.
+/// The tallies take up what was counted of two parts, whose segments lie from one number on and below another.
 pub fn take_up(tallies: &mut [Tally], lower: &Filed, upper: &Filed, from: u32, end: u32)
     requires kinds { length tallies.old ≡ kinds }
     requires range { (from ≤ end) × (end ≤ most_segments) }

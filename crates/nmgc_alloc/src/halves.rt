@@ -6,7 +6,7 @@
 //! out by each function on the way they would be copied each time, which for few segments takes as long as to sweep some.
 //!
 //! Easy to get wrong: where the number is odd the lower half has one more, and where there is but one no thread starts.
-ghost use Rattle.std.specs.Prelude.{ℕ, ◌≡◌, ◌↔◌, ◌+◌, ◌-◌, ◌/◌, ◌<◌, ◌≤◌, ◌^◌, take, drop, length, if◌then◌else◌};
+ghost use Rattle.std.specs.Prelude.{ℕ, ◌≡◌, ◌+◌, ◌-◌, ◌/◌, ◌<◌, ◌≤◌, take, drop, length, if◌then◌else◌};
 ghost use Rattle.nmgc_limits.specs.Limits.{most_segments};
 ghost use Rattle.nmgc_segment.specs.Marks.{IsEpoch};
 ghost use Rattle.nmgc_segment.specs.declared.state.State.TheVariants as state;
@@ -23,7 +23,7 @@ use crate::filing::Filed;
 use nmgc_segment::{Segment, State};
 use std::thread::{Threads, join_mut};
 
-// Sweeps a segment that waits, as the next one of its half, and counts what came of it. Answers how many these are then.
+// Sweeps a segment, if it waits, as the next one of its half, and counts what came of it. Answers how many these are then.
 fn sweep_waiting<F: Fn(u8, u32)>(
     before: &F,
     half: u8,
@@ -120,7 +120,7 @@ fn waits(segment: &Segment) -> u32
     }
 }
 
-// Behind so many that wait, from one on.
+// The number behind so many segments that wait, of those from a number on.
 fn behind(segments: &[Segment], from: usize, count: u32) -> usize
     requires from { from ≤ length segments.now }
     requires enough { count ≤ sought_count Sweeping (drop from segments.now) }
@@ -138,7 +138,7 @@ fn behind(segments: &[Segment], from: usize, count: u32) -> usize
     segments.len()
 }
 
-// The same, where the search begins at the first segment.
+// What `sweep_from` does, where the search begins at the first segment.
 fn sweep_first<R: Threads + Sync, F: Fn(u8, u32) + Sync>(
     rt: &R,
     before: &F,
