@@ -7,6 +7,9 @@
 //! so, and a cursor then takes the cycles of each stop from the front of those left: a run of two million
 //! stops and half as many cycles takes time in the length of its text. In a report whose cycles stand in
 //! another order each stop looks through all of them, which takes time in stops times cycles.
+//!
+//! A text may have as many bytes as the script, and one that grows as it is written moves each time that it has
+//! doubled. So about as much room as it needs is taken at first.
 ghost use Rattle.std.specs.Prelude.{◌≡◌, ◌+◌, ◌<◌, ◌≤◌, ◌^◌, ◌++◌, length, codes, OnOk, IfOk};
 ghost use Rattle.std.specs.List.{flat_map};
 ghost use Rattle.nmgc_journal.specs.Stops.{AreEndedFrom};
@@ -20,16 +23,50 @@ use nmgc_io::push_number;
 use nmgc_lists::NoMemory;
 use std::alloc::Global;
 
+// About as many bytes as the line of a reply has, or that of a name.
+const NAME_BYTES: usize = 12;
+
+// And the lines of a stop or of a cycle.
+const STOP_BYTES: usize = 64;
+
 /// The text of a report, as `docs/FORMATS.md` gives it, for every report. The cycles that ended at one
 /// stop come in the order of their rows; a run writes the rows in the order of their numbers.
 pub fn text(alloc: Global, report: &Report) -> Result<Vec<u8>, NoMemory>
     ensures { IfOk result (λ text. text.items ≡ report_text report.now) }
 {
     let mut out = Vec::new(alloc);
+    take_room(&mut out, report);
     out.extend_from_slice(b"report 1\n")?;
     push_rounds(&mut out, report)?;
     push_end(&mut out, report.end)?;
     Ok(out)
+}
+
+// Takes about as much room as the whole text needs. Where there is none, it is taken as the text grows.
+fn take_room(out: &mut Vec<u8>, report: &Report)
+    ensures { out.new.items ≡ out.old.items }
+{
+    let names = NAME_BYTES.saturating_mul(names_count(report));
+    let rows = report
+        .stops
+        .items()
+        .len()
+        .saturating_add(report.cycles.items().len());
+    let _ = out.reserve(names.saturating_add(STOP_BYTES.saturating_mul(rows)));
+}
+
+// How many lines the replies and the freed names have.
+fn names_count(report: &Report) -> usize {
+    let mut count: usize = 0;
+    for rows in report.rounds.items() {
+        for replies in rows.replies.items() {
+            count = count.saturating_add(replies.len());
+        }
+    }
+    for cycle in report.cycles.items() {
+        count = count.saturating_add(cycle.freed.items().len());
+    }
+    count
 }
 
 // Appends the first stop, and each round with its stop.
