@@ -16,6 +16,11 @@ use std::simd::prelude::*;
 // How many mark bytes are worked on together.
 const LANES: usize = 16;
 
+// From two sixteens on, and below so many mark bytes, what the compiler makes of the plain loop is the faster one.
+const SWEPT_BY_LANES: usize = 512;
+
+const CARRIED_BY_LANES: usize = 128;
+
 // How many of the bytes from one on, of as many as there are lanes, come before the first that is this one.
 #[inline(always)]
 fn run_before(marks: &[u8], at: usize, byte: u8) -> usize
@@ -114,8 +119,8 @@ fn carry_rest(marks: &mut [u8], epoch: u8)
     }
 }
 
-/// Gives the epoch to each mark byte that isn't 0.
-pub fn carry(marks: &mut [u8], epoch: u8)
+// Carries mark bytes over by lanes.
+fn carry_by_lanes(marks: &mut [u8], epoch: u8)
     ensures { marks.new ≡ map (carried epoch) marks.old }
 {
     let mut at: usize = 0;
@@ -129,6 +134,17 @@ pub fn carry(marks: &mut [u8], epoch: u8)
         at += LANES;
     }
     carry_rest(&mut marks[at..], epoch);
+}
+
+/// Gives the epoch to each mark byte that isn't 0.
+pub fn carry(marks: &mut [u8], epoch: u8)
+    ensures { marks.new ≡ map (carried epoch) marks.old }
+{
+    if 2 * LANES <= marks.len() && marks.len() < CARRIED_BY_LANES {
+        carry_rest(marks, epoch);
+    } else {
+        carry_by_lanes(marks, epoch);
+    }
 }
 
 // Mark bytes, cleared unless they are of the epoch.
@@ -160,8 +176,8 @@ fn sweep_rest(marks: &mut [u8], epoch: u8)
     }
 }
 
-/// Clears each mark byte but those of the epoch.
-pub fn sweep(marks: &mut [u8], epoch: u8)
+// Sweeps mark bytes by lanes.
+fn sweep_by_lanes(marks: &mut [u8], epoch: u8)
     ensures { marks.new ≡ map (swept epoch) marks.old }
 {
     let mut at: usize = 0;
@@ -175,4 +191,15 @@ pub fn sweep(marks: &mut [u8], epoch: u8)
         at += LANES;
     }
     sweep_rest(&mut marks[at..], epoch);
+}
+
+/// Clears each mark byte but those of the epoch.
+pub fn sweep(marks: &mut [u8], epoch: u8)
+    ensures { marks.new ≡ map (swept epoch) marks.old }
+{
+    if 2 * LANES <= marks.len() && marks.len() < SWEPT_BY_LANES {
+        sweep_rest(marks, epoch);
+    } else {
+        sweep_by_lanes(marks, epoch);
+    }
 }
