@@ -12,7 +12,8 @@ use crate::verbs::Verb;
 use crate::{Config, Script};
 use nmgc_io::push_number;
 use nmgc_lists::{List, NoMemory};
-use nmgc_world_spec::{Command, Operand};
+use nmgc_program::{Form, PackedCommand};
+use nmgc_world_spec::Operand;
 use std::alloc::Global;
 
 /// A word of a line after its first.
@@ -117,30 +118,29 @@ fn push_long_line(
     push_operands(out, operands)
 }
 
-// A match on a command, which appends its verb's name and then its fields, each as a word of this
-// form: commands of such fields alone, commands with a list of operands behind them, commands of
-// none.
+// A match on a command's form, which appends its verb's name and then its fields, each as a word of
+// this kind: commands of such fields alone, commands with operands behind them, commands of none.
 macro_rules! printed {
     (
         $out:ident, $command:ident,
-        $($verb:ident { $($field:ident: $form:ident),* })*;
-        $($long:ident { $($front:ident: $shape:ident),* } then $operands:ident)*;
+        $($verb:ident { $($field:ident: $word:ident),* })*;
+        $($form:ident as $long:ident { $($front:ident: $shape:ident),* } then $operands:ident)*;
         $($alone:ident)*
     ) => {
-        match $command {
-            $(Command::$verb { $($field),* } => {
-                push_line($out, Verb::$verb.name(), &[$($form(*$field)),*])
+        match $command.form() {
+            $(Form::$verb { $($field),* } => {
+                push_line($out, Verb::$verb.name(), &[$($word(*$field)),*])
             })*
-            $(Command::$long { $($front),*, $operands } => {
+            $(Form::$form { $($front),*, $operands } => {
                 push_long_line($out, Verb::$long.name(), &[$($shape(*$front)),*], $operands.items())
             })*
-            $(Command::$alone => push_line($out, Verb::$alone.name(), &[]),)*
+            $(Form::$alone => push_line($out, Verb::$alone.name(), &[]),)*
         }
     };
 }
 
 // Appends the line of a command, without its end.
-fn push_command(out: &mut Vec<u8>, command: &Command) -> Result<(), NoMemory>
+fn push_command(out: &mut Vec<u8>, command: &PackedCommand) -> Result<(), NoMemory>
     ensures { OnOk result (out.new.items ≡ out.old.items ++ spaced (command_words command.now)) }
 {
     printed!(out, command,
@@ -163,14 +163,16 @@ fn push_command(out: &mut Vec<u8>, command: &Command) -> Result<(), NoMemory>
         NextFin { dest: Register }
         Show { value: Value }
         Same { left: Value, right: Value };
-        Con { dest: Register, tag: Tag } then fields
-        Thunk { dest: Register } then free;
+        Con as Con { dest: Register, tag: Tag } then fields
+        LongCon as Con { dest: Register, tag: Tag } then fields
+        Thunk as Thunk { dest: Register } then free
+        LongThunk as Thunk { dest: Register } then free;
         Yield Collect Full
     )
 }
 
 // Appends the lines of a program.
-fn push_program(out: &mut Vec<u8>, program: &[Command]) -> Result<(), NoMemory>
+fn push_program(out: &mut Vec<u8>, program: &[PackedCommand]) -> Result<(), NoMemory>
     ensures { OnOk result (out.new.items ≡ out.old.items ++ ended (program_lines program.now)) }
 {
     for command in program {
@@ -190,7 +192,7 @@ fn push_section(out: &mut Vec<u8>, thread: usize) -> Result<(), NoMemory>
 }
 
 // Appends the sections of the programs.
-fn push_sections(out: &mut Vec<u8>, threads: &[List<Command>]) -> Result<(), NoMemory>
+fn push_sections(out: &mut Vec<u8>, threads: &[List<PackedCommand>]) -> Result<(), NoMemory>
     ensures { OnOk result (out.new.items ≡ out.old.items ++ ended (section_lines 0 threads.now)) }
 {
     for (thread, program) in threads.iter().enumerate() {
