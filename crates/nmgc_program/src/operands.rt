@@ -37,8 +37,8 @@ impl Model for FewOperands {
 }
 
 impl FewOperands {
-    // No operand.
-    fn new() -> Self
+    /// No operand. Takes no memory, as every call here.
+    pub fn new() -> Self
         ensures { result ≡ [] }
     {
         FewOperands {
@@ -47,8 +47,8 @@ impl FewOperands {
         }
     }
 
-    // Two operands.
-    fn pair(first: Operand, second: Operand) -> Self
+    /// Two operands.
+    pub fn pair(first: Operand, second: Operand) -> Self
         ensures { result ≡ first ∷ second ∷ [] }
     {
         let none = Operand::Shared;
@@ -75,7 +75,7 @@ impl FewOperands {
         self.count += 1;
     }
 
-    /// The operands in order. Takes no memory, and constant time.
+    /// The operands in order. Constant time.
     #[inline]
     pub fn items(&self) -> &[Operand]
         ensures { result.now ≡ self.now }

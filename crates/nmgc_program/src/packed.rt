@@ -213,9 +213,10 @@ impl Form {
     }
 }
 
-/// A command of a program. Contracts see it as that command.
+/// A command of a program. Contracts see it as that command. Whoever makes one writes its form; whoever reads one asks
+/// `form`, which says whose form it is.
 pub struct PackedCommand {
-    form: Form,
+    pub form: Form,
 }
 
 // What a program takes for each of its commands.
@@ -349,14 +350,6 @@ fn command_in(alloc: Global, form: &Form) -> Result<Command, NoMemory>
 }
 
 impl PackedCommand {
-    /// The command of a form. Takes no memory.
-    #[inline]
-    pub fn of(form: Form) -> Self
-        ensures { result ≡ command_of form }
-    {
-        PackedCommand { form }
-    }
-
     /// Makes a constructor. Takes no memory.
     #[inline]
     pub fn con(dest: u8, tag: u8, fields: Operands) -> Self

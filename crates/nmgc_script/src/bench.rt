@@ -12,7 +12,7 @@ ghost use Rattle.nmgc_script.specs.Limits.{FitsScript, HasFewCommands};
 
 use crate::{Config, Script};
 use nmgc_lists::{List, NoMemory};
-use nmgc_program::{Form, Operands, PackedCommand};
+use nmgc_program::{FewOperands, Form, PackedCommand};
 use nmgc_world_spec::Operand;
 use std::alloc::Global;
 
@@ -73,13 +73,17 @@ fn program(alloc: Global, batches: u32, mutator: u32) -> Result<List<PackedComma
 fn push_batch(commands: &mut Vec<PackedCommand>, mutator: u32) -> Result<(), NoMemory>
     ensures { OnOk result (commands.new.items ≡ commands.old.items ++ batch mutator) }
 {
-    commands.push(PackedCommand::of(Form::Nil { dest: 0 }))?;
+    commands.push(PackedCommand {
+        form: Form::Nil { dest: 0 },
+    })?;
     push_cells(commands, CELLS)?;
-    commands.push(PackedCommand::of(Form::Set {
-        object: Operand::Shared,
-        index: mutator,
-        value: Operand::Register(0),
-    }))?;
+    commands.push(PackedCommand {
+        form: Form::Set {
+            object: Operand::Shared,
+            index: mutator,
+            value: Operand::Register(0),
+        },
+    })?;
     Ok(())
 }
 
@@ -88,8 +92,13 @@ fn push_cells(commands: &mut Vec<PackedCommand>, count: usize) -> Result<(), NoM
     ensures { OnOk result (commands.new.items ≡ commands.old.items ++ replicate count cell) }
 {
     for _cell in 0..count {
-        let fields = Operands::pair(Operand::Register(0), Operand::Register(1));
-        commands.push(PackedCommand::con(0, 0, fields))?;
+        commands.push(PackedCommand {
+            form: Form::Con {
+                dest: 0,
+                tag: 0,
+                fields: FewOperands::pair(Operand::Register(0), Operand::Register(1)),
+            },
+        })?;
     }
     Ok(())
 }

@@ -36,7 +36,7 @@ pub fn command(
 macro_rules! made {
     ($shape:expr => $form:ident { $($field:ident),* }) => {{
         let ($($field),*) = $shape?;
-        Ok(PackedCommand::of(Form::$form { $($field),* }))
+        Ok(PackedCommand { form: Form::$form { $($field),* } })
     }};
     ($shape:expr => $maker:ident($($field:ident),*)) => {{
         let ($($field),*) = $shape?;
@@ -90,7 +90,7 @@ fn alone(form: Form, words: &[&[u8]]) -> Result<PackedCommand, LineFault>
     let [] = words else {
         return Err(LineFault::Bad(Cause::Arity));
     };
-    Ok(PackedCommand::of(form))
+    Ok(PackedCommand { form })
 }
 
 // A command whose object fits in a segment.
