@@ -76,7 +76,8 @@ fn a_command_is_packed_and_unpacked(rt: HostRuntime) -> Result<(), Fail> {
     assert!(rt; is_con(&again.unpack(alloc)?, &[ALL[0], ALL[2]]));
     let yields = PackedCommand { form: Form::Yield };
     assert!(rt; yields.words_made() == 0);
-    assert!(rt; matches!(yields.unpack(alloc)?, Command::Yield));
+    let plain = yields.unpack(alloc)?;
+    assert!(rt; matches!(plain, Command::Yield));
     let number = PackedCommand::pack(alloc, &Command::Num { dest: 4, number: 7 })?;
     assert!(rt; matches!(number.form(), Form::Num { dest: 4, number: 7 }));
     Ok(())

@@ -37,8 +37,8 @@ impl Model for FewOperands {
 }
 
 impl FewOperands {
-    /// No operand. Takes no memory, as every call here.
-    pub fn new() -> Self
+    // No operand.
+    fn new() -> Self
         ensures { result ≡ [] }
     {
         FewOperands {
@@ -47,7 +47,7 @@ impl FewOperands {
         }
     }
 
-    /// Two operands.
+    /// Two operands. Takes no memory.
     pub fn pair(first: Operand, second: Operand) -> Self
         ensures { result ≡ first ∷ second ∷ [] }
     {
@@ -75,7 +75,7 @@ impl FewOperands {
         self.count += 1;
     }
 
-    /// The operands in order. Constant time.
+    /// The operands in order. Takes no memory, and constant time.
     #[inline]
     pub fn items(&self) -> &[Operand]
         ensures { result.now ≡ self.now }
@@ -219,8 +219,8 @@ impl Operands {
         }
     }
 
-    /// The operands of a vector. Takes memory for one value of type `Vec`. After `NoMemory` they are dropped.
-    pub fn from_vec(alloc: Global, items: Vec<Operand>) -> Result<Self, NoMemory>
+    // The operands of a vector. Takes memory for one value of type `Vec`.
+    pub(crate) fn from_vec(alloc: Global, items: Vec<Operand>) -> Result<Self, NoMemory>
         ensures { IfOk result (λ operands. operands ≡ items.items) }
     {
         Ok(Operands {

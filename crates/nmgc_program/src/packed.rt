@@ -246,12 +246,22 @@ macro_rules! turned {
             $from::Nil { dest } => Ok($to::Nil { dest: *dest }),
             $from::Mov { dest, value } => Ok($to::Mov { dest: *dest, value: *value }),
             $from::Var { dest, value } => Ok($to::Var { dest: *dest, value: *value }),
-            $from::Arr { dest, count, value } => Ok($to::Arr { dest: *dest, count: *count, value: *value }),
-            $from::Weak { dest, key, value, finaliser } => Ok($to::Weak { dest: *dest, key: *key, value: *value, finaliser: *finaliser }),
+            $from::Arr { dest, count, value } => {
+                Ok($to::Arr { dest: *dest, count: *count, value: *value })
+            }
+            $from::Weak { dest, key, value, finaliser } => {
+                Ok($to::Weak { dest: *dest, key: *key, value: *value, finaliser: *finaliser })
+            }
             $from::Stack { dest, size } => Ok($to::Stack { dest: *dest, size: *size }),
-            $from::Get { dest, object, index } => Ok($to::Get { dest: *dest, object: *object, index: *index }),
-            $from::Set { object, index, value } => Ok($to::Set { object: *object, index: *index, value: *value }),
-            $from::Cas { object, index, expected, value } => Ok($to::Cas { object: *object, index: *index, expected: *expected, value: *value }),
+            $from::Get { dest, object, index } => {
+                Ok($to::Get { dest: *dest, object: *object, index: *index })
+            }
+            $from::Set { object, index, value } => {
+                Ok($to::Set { object: *object, index: *index, value: *value })
+            }
+            $from::Cas { object, index, expected, value } => {
+                Ok($to::Cas { object: *object, index: *index, expected: *expected, value: *value })
+            }
             $from::Update { object, value } => Ok($to::Update { object: *object, value: *value }),
             $from::Force { dest, object } => Ok($to::Force { dest: *dest, object: *object }),
             $from::Push { object, value } => Ok($to::Push { object: *object, value: *value }),
