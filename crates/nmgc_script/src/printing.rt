@@ -4,6 +4,7 @@
 //! same for each reader. Every word after the first stands behind one space. Easy to get wrong: a
 //! thunk without free variables ends with its register and no space after it.
 ghost use Rattle.std.specs.Prelude.{◌≡◌, ◌∷◌, [], ◌++◌, decimal, map, IfOk, OnOk};
+ghost use Rattle.nmgc_program.specs.Packed.{command_of};
 ghost use Rattle.nmgc_script.specs.Limits.{FitsScript};
 ghost use Rattle.nmgc_script.specs.Printing.{word_text, after_spaces};
 ghost use Rattle.nmgc_script.specs.Spelling.{Spells, command_words, ended, heap_words, operand_word, plain, program_lines, section_lines, section_words, spaced, version_words};
@@ -118,16 +119,16 @@ fn push_long_line(
     push_operands(out, operands)
 }
 
-// A match on a command's form, which appends its verb's name and then its fields, each as a word of
+// A match on a form, which appends its verb's name and then its fields, each as a word of
 // this kind: commands of such fields alone, commands with operands behind them, commands of none.
 macro_rules! printed {
     (
-        $out:ident, $command:ident,
+        $out:ident, $packed:ident,
         $($verb:ident { $($field:ident: $word:ident),* })*;
         $($form:ident as $long:ident { $($front:ident: $shape:ident),* } then $operands:ident)*;
         $($alone:ident)*
     ) => {
-        match $command.form() {
+        match $packed {
             $(Form::$verb { $($field),* } => {
                 push_line($out, Verb::$verb.name(), &[$($word(*$field)),*])
             })*
@@ -143,7 +144,14 @@ macro_rules! printed {
 fn push_command(out: &mut Vec<u8>, command: &PackedCommand) -> Result<(), NoMemory>
     ensures { OnOk result (out.new.items ≡ out.old.items ++ spaced (command_words command.now)) }
 {
-    printed!(out, command,
+    push_form(out, command.form())
+}
+
+// Appends the line of a command of this form, without its end.
+fn push_form(out: &mut Vec<u8>, form: &Form) -> Result<(), NoMemory>
+    ensures { OnOk result (out.new.items ≡ out.old.items ++ spaced (command_words (command_of form.now))) }
+{
+    printed!(out, form,
         Num { dest: Register, number: Number }
         Nil { dest: Register }
         Mov { dest: Register, value: Value }
