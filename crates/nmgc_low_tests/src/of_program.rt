@@ -52,8 +52,9 @@ fn is_long(command: &PackedCommand) -> bool {
 #[test]
 fn operands_lie_in_a_command_or_behind_it(rt: HostRuntime) -> Result<(), Fail> {
     let alloc = rt.alloc();
+    let all = ALL;
     for count in 0..9usize {
-        let items = &ALL[..count];
+        let items = &all[..count];
         let con = PackedCommand::con(1, 2, added(alloc, items)?);
         assert!(rt; con.words_made() == 2 + count);
         assert!(rt; is_long(&con) == (count > 6));
