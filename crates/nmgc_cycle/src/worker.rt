@@ -26,11 +26,11 @@ use crate::progress::Progress;
 use nmgc_alloc::Segments;
 use nmgc_lists::{List, NoMemory};
 use nmgc_mutator::{Mutator, SliceEnd};
+use nmgc_program::PackedCommand;
 use nmgc_round::{CollectorSeat, Gate, MutatorSeat, Round};
 use nmgc_script::Script;
 use nmgc_sweep::Names;
 use nmgc_updrem::Inbox;
-use nmgc_world_spec::Command;
 use std::alloc::Global;
 use std::collections::VecDeque;
 use std::marker::Model;
@@ -51,7 +51,7 @@ pub struct Worker {
 
 impl Worker {
     // Does its slice.
-    fn work<G: Gate>(&mut self, round: &Round, program: &[Command], slice: u32, gate: &G)
+    fn work<G: Gate>(&mut self, round: &Round, program: &[PackedCommand], slice: u32, gate: &G)
         requires { CanWork round.now slice program.now self.old }
         ensures { HasWorkedOn round.now slice program.now self.old self.new }
     {

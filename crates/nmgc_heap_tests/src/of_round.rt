@@ -10,9 +10,10 @@ ghost use Rattle.nmgc_round.specs.Ready.{HasPart};
 use nmgc_limits::SHARED_SLOTS;
 use nmgc_lists::{ListMemory, NoMemory};
 use nmgc_object::{Address, Layout, encode_name};
+use nmgc_program::{Form, PackedCommand};
 use nmgc_round::chosen::Wanted;
 use nmgc_round::{Chosen, Gate, MutatorSeat, OpenGate, Opened, Round, Started, Words, laws};
-use nmgc_world_spec::{Command, Name, Operand};
+use nmgc_world_spec::{Name, Operand};
 use std::alloc::Global;
 use std::test::Fail;
 use std::thread;
@@ -77,24 +78,31 @@ fn work(round: &Round, seat: &mut MutatorSeat, layout: Layout, number: u8) -> (u
     });
     round.store_unborn(seat, Address(base), 1, name);
     round.store_unborn(seat, Address(base), 2, 1);
-    let make = Command::Var {
-        dest: 0,
-        value: Operand::Register(1),
+    let make = PackedCommand {
+        form: Form::Var {
+            dest: 0,
+            value: Operand::Register(1),
+        },
     };
     round.give_birth(seat, Address(base), 2050, &make);
-    let share = Command::Set {
-        object: Operand::Shared,
-        index: slot,
-        value: Operand::Register(0),
+    let share = PackedCommand {
+        form: Form::Set {
+            object: Operand::Shared,
+            index: slot,
+            value: Operand::Register(0),
+        },
     };
     let before = round.swap_field(seat, g, slot, 2 * base as u64, &share);
-    let read = Command::Get {
-        dest: 1,
-        object: Operand::Shared,
-        index: slot,
+    let read = PackedCommand {
+        form: Form::Get {
+            dest: 1,
+            object: Operand::Shared,
+            index: slot,
+        },
     };
     let after = round.load_field(seat, g, slot, &read);
-    round.load_fixed(seat, g, 0, Some(&Command::Yield));
+    let ends = PackedCommand { form: Form::Yield };
+    round.load_fixed(seat, g, 0, Some(&ends));
     (before, after)
 }
 

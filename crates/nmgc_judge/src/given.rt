@@ -11,6 +11,7 @@ ghost use Rattle.nmgc_judge.specs.Reading.{done_at, refused_at, nothing_at, repl
 use crate::words::byte;
 use nmgc_journal::read_value;
 use nmgc_lists::NoMemory;
+use nmgc_program::PackedCommand;
 use nmgc_script::{Script, ScriptFault, parse};
 use nmgc_world_spec::{Command, Reply};
 use std::alloc::Global;
@@ -177,7 +178,7 @@ fn command_of(alloc: Global, line: &[u8]) -> Result<Option<Command>, NoMemory>
     if text.len() > LONGEST {
         return Ok(None);
     }
-    command_in(parse(alloc, text.as_slice()))
+    command_in(alloc, parse(alloc, text.as_slice()))
 }
 
 // Whether there is a line feed in it.
@@ -199,18 +200,28 @@ fn script_of(alloc: Global, line: &[u8]) -> Result<Vec<u8>, NoMemory>
 }
 
 // The last command of what was read as a script.
-fn command_in(read: Result<Script, ScriptFault>) -> Result<Option<Command>, NoMemory>
+fn command_in(alloc: Global, read: Result<Script, ScriptFault>) -> Result<Option<Command>, NoMemory>
     ensures { IsLastOf read result }
 {
     match read {
-        Ok(script) => Ok(last_command(script)),
+        Ok(script) => last_command(alloc, script),
         Err(ScriptFault::NoMemory) => Err(NoMemory),
         Err(ScriptFault::Bad { .. }) => Ok(None),
     }
 }
 
 // The last command of the last section, if there is one.
-fn last_command(script: Script) -> Option<Command>
+fn last_command(alloc: Global, script: Script) -> Result<Option<Command>, NoMemory>
+    ensures { IfOk result (IsLastIf script.threads) }
+{
+    match last_packed(script) {
+        Some(packed) => Ok(Some(packed.unpack(alloc)?)),
+        None => Ok(None),
+    }
+}
+
+// The same, as it lies in the script.
+fn last_packed(script: Script) -> Option<PackedCommand>
     ensures { IsLastIf script.threads result }
 {
     let mut script = script;

@@ -16,6 +16,8 @@ mod of_lists;
 #[cfg(test)]
 mod of_object;
 #[cfg(test)]
+mod of_program;
+#[cfg(test)]
 mod of_script;
 #[cfg(test)]
 mod of_segment;

@@ -9,7 +9,7 @@ const HEAD: &str = "nmgc 1\nheap 32 64 64 100 1000 0\nthread 0\n";
 
 // Each command, in the plain spelling.
 const COMMANDS: &str =
-    "num r1 4611686018427387903\nnil r0\nmov r15 g\ncon r0 255\ncon r0 0 r1 g\nvar r2 r1\narr r3 62 r1\nthunk r4\nthunk r4 r1 r1 r1 r1 r1 r1 r1 g\nweak r5 r4 r3 g\nstack r6 0\nget r7 r3 65535\nset g 15 r1\ncas g 0 r1 r2\nupdate r4 r1\nforce r8 r4\npush r6 r1\npop r9 r6\nderef r10 r5\nfinalise r11 r5\nnextfin r12\nshow g\nsame r1 r2\nyield\ncollect\nfull\n";
+    "num r1 4611686018427387903\nnil r0\nmov r15 g\ncon r0 255\ncon r0 0 r1 g\ncon r0 1 r1 g r2 g r3 g\ncon r0 1 r1 g r2 g r3 g r4\nvar r2 r1\narr r3 62 r1\nthunk r4\nthunk r4 r1 g r1 r1 r1 r1\nthunk r4 r1 r1 r1 r1 r1 r1 r1 g\nweak r5 r4 r3 g\nstack r6 0\nget r7 r3 65535\nset g 15 r1\ncas g 0 r1 r2\nupdate r4 r1\nforce r8 r4\npush r6 r1\npop r9 r6\nderef r10 r5\nfinalise r11 r5\nnextfin r12\nshow g\nsame r1 r2\nyield\ncollect\nfull\n";
 
 // A script of several sections with empty lines and remarks, and its plain spelling.
 const SPACED: &str =

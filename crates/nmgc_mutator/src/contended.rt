@@ -23,8 +23,9 @@ ghost use Rattle.nmgc_mutator.specs.Acts.{Acts, most_pushed};
 
 use crate::mutator::Mutator;
 use nmgc_object::{Address, FieldWord, HEADER_WORDS};
+use nmgc_program::PackedCommand;
 use nmgc_round::{Exchanged, MutatorSeat, Round};
-use nmgc_world_spec::{Command, Kind, Operand, Reply};
+use nmgc_world_spec::{Kind, Operand, Reply};
 
 impl Mutator {
     // Refuses a command, at the header of g.
@@ -32,7 +33,7 @@ impl Mutator {
         &self,
         round: &Round,
         seat: &mut MutatorSeat,
-        command: &Command,
+        command: &PackedCommand,
         reply: Reply,
     ) -> Reply
         requires ready { IsReady round.now seat.old self.now }
@@ -58,7 +59,7 @@ impl Mutator {
         index: u32,
         expected: Operand,
         value: Operand,
-        command: &Command,
+        command: &PackedCommand,
     ) -> Reply
         requires ready { IsReady round.now seat.old self.old }
         requires serial { self.old.serial < 2 ^ 32 - 1 }
@@ -98,7 +99,7 @@ impl Mutator {
         seat: &mut MutatorSeat,
         dest: u8,
         object: Operand,
-        command: &Command,
+        command: &PackedCommand,
     ) -> Reply
         requires ready { IsReady round.now seat.old self.old }
         requires serial { self.old.serial < 2 ^ 32 - 1 }
@@ -129,7 +130,7 @@ impl Mutator {
         seat: &mut MutatorSeat,
         dest: u8,
         object: Operand,
-        command: &Command,
+        command: &PackedCommand,
     ) -> Reply
         requires ready { IsReady round.now seat.old self.old }
         requires serial { self.old.serial < 2 ^ 32 - 1 }
@@ -162,7 +163,7 @@ impl Mutator {
         seat: &mut MutatorSeat,
         dest: u8,
         object: Operand,
-        command: &Command,
+        command: &PackedCommand,
     ) -> Reply
         requires ready { IsReady round.now seat.old self.old }
         requires serial { self.old.serial < 2 ^ 32 - 1 }
@@ -209,7 +210,7 @@ impl Mutator {
         seat: &mut MutatorSeat,
         object: Operand,
         value: Operand,
-        command: &Command,
+        command: &PackedCommand,
     ) -> Reply
         requires ready { IsReady round.now seat.old self.old }
         requires serial { self.old.serial < 2 ^ 32 - 1 }

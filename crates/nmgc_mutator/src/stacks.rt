@@ -19,8 +19,9 @@ ghost use Rattle.nmgc_mutator.specs.Stacks.{Owns, HasNoStack, IsOwnStack, HasDep
 
 use crate::mutator::Mutator;
 use nmgc_object::{Address, HEADER_WORDS, NAME_OFFSET, SHARED_PLACE, decode_name};
+use nmgc_program::PackedCommand;
 use nmgc_round::{MutatorSeat, Round};
-use nmgc_world_spec::{Command, Kind, Operand, Reply};
+use nmgc_world_spec::{Kind, Operand, Reply};
 
 // How many values a stack of this mutator has: its slots from the bottom up to the first that has none.
 fn depth(round: &Round, seat: &mut MutatorSeat, at: Address, slots: u32) -> u32
@@ -77,7 +78,7 @@ impl Mutator {
         seat: &mut MutatorSeat,
         object: Operand,
         value: Operand,
-        command: &Command,
+        command: &PackedCommand,
     ) -> Reply
         requires ready { IsReady round.now seat.old self.old }
         requires serial { self.old.serial < 2 ^ 32 - 1 }
@@ -109,7 +110,7 @@ impl Mutator {
         seat: &mut MutatorSeat,
         dest: u8,
         object: Operand,
-        command: &Command,
+        command: &PackedCommand,
     ) -> Reply
         requires ready { IsReady round.now seat.old self.old }
         requires serial { self.old.serial < 2 ^ 32 - 1 }
@@ -140,7 +141,7 @@ impl Mutator {
         round: &Round,
         seat: &mut MutatorSeat,
         dest: u8,
-        command: &Command,
+        command: &PackedCommand,
     ) -> Reply
         requires ready { IsReady round.now seat.old self.old }
         requires serial { self.old.serial < 2 ^ 32 - 1 }

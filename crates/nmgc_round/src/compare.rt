@@ -13,7 +13,7 @@ use crate::table::{MutatorSeat, Round};
 use crate::view::View;
 use atomic_table::Play;
 use nmgc_object::{Address, HEADER_WORDS};
-use nmgc_world_spec::Command;
+use nmgc_program::PackedCommand;
 use std::marker::{Brand, PhantomData};
 
 /// What a compare-exchange came to.
@@ -42,7 +42,7 @@ impl Round {
         field: u32,
         expected: u64,
         word: u64,
-        command: &Command,
+        command: &PackedCommand,
     ) -> Exchanged
         requires seat { IsAt self.now seat.old }
         requires asked { C.command ≡ command.now }
@@ -77,7 +77,7 @@ impl Round {
         field: u32,
         expected: u64,
         word: u64,
-        command: &Command,
+        command: &PackedCommand,
     ) -> Exchanged
         requires seat { IsAt self.now seat.old }
         requires ready { Mutates (λ o p. CanExchange o p at.0 field expected word command.now) (seen seat.old) }

@@ -20,7 +20,7 @@ use crate::table::{MutatorSeat, Round};
 use crate::view::View;
 use atomic_table::Play;
 use nmgc_object::{Address, HEADER_WORDS};
-use nmgc_world_spec::Command;
+use nmgc_program::PackedCommand;
 use std::marker::{Brand, PhantomData};
 
 /// A result is loaded by a command.
@@ -43,7 +43,12 @@ impl<A: Located, C: Asked> Play<(), View> for Updates<A, C> {
 }
 
 impl Round {
-    fn force_asked<C: Asked>(&self, seat: &mut MutatorSeat, at: Address, command: &Command) -> u64
+    fn force_asked<C: Asked>(
+        &self,
+        seat: &mut MutatorSeat,
+        at: Address,
+        command: &PackedCommand,
+    ) -> u64
         requires seat { IsAt self.now seat.old }
         requires asked { C.command ≡ command.now }
         requires ready { Mutates (λ o p. CanForce o p at.0 command.now) (seen seat.old) }
@@ -60,7 +65,7 @@ impl Round {
     /// Loads the result of a thunk; 0 where it has none. The `force` that reads it takes its place here: its
     /// row has the word as its answer, or that there is none. Where the word is a pointer, an object is there
     /// within the heap's words.
-    pub fn load_result(&self, seat: &mut MutatorSeat, at: Address, command: &Command) -> u64
+    pub fn load_result(&self, seat: &mut MutatorSeat, at: Address, command: &PackedCommand) -> u64
         requires seat { IsAt self.now seat.old }
         requires ready { Mutates (λ o p. CanForce o p at.0 command.now) (seen seat.old) }
         requires within { at.0 + HEADER_WORDS < word_count self.now }
@@ -75,7 +80,7 @@ impl Round {
         seat: &mut MutatorSeat,
         at: Address,
         word: u64,
-        command: &Command,
+        command: &PackedCommand,
     ) -> Exchanged
         requires seat { IsAt self.now seat.old }
         requires place { A.at ≡ at.0 }
@@ -111,7 +116,7 @@ impl Round {
         seat: &mut MutatorSeat,
         at: Address,
         word: u64,
-        command: &Command,
+        command: &PackedCommand,
     ) -> Exchanged
         requires seat { IsAt self.now seat.old }
         requires ready { Mutates (λ o p. CanUpdate o p at.0 word command.now) (seen seat.old) }

@@ -21,7 +21,7 @@ use crate::table::{MutatorSeat, Round};
 use crate::view::View;
 use atomic_table::Play;
 use nmgc_object::{Address, HEADER_WORDS, SHARED_PLACE};
-use nmgc_world_spec::Command;
+use nmgc_program::PackedCommand;
 use std::marker::{Brand, PhantomData};
 
 /// A slot of an own stack is loaded.
@@ -84,7 +84,7 @@ impl Round {
         at: Address,
         slot: u32,
         word: u64,
-        command: &Command,
+        command: &PackedCommand,
     ) -> u64
         requires seat { IsAt self.now seat.old }
         requires asked { C.command ≡ command.now }
@@ -112,7 +112,7 @@ impl Round {
         at: Address,
         slot: u32,
         word: u64,
-        command: &Command,
+        command: &PackedCommand,
     ) -> u64
         requires seat { IsAt self.now seat.old }
         requires ready { Mutates (λ o p. CanSlot o p at.0 slot word command.now) (seen seat.old) }
@@ -123,7 +123,7 @@ impl Round {
         self.slot_asked::<Brand>(seat, at, slot, word, command)
     }
 
-    fn bar_asked<C: Asked>(&self, seat: &mut MutatorSeat, command: &Command) -> u64
+    fn bar_asked<C: Asked>(&self, seat: &mut MutatorSeat, command: &PackedCommand) -> u64
         requires seat { IsAt self.now seat.old }
         requires asked { C.command ≡ command.now }
         requires ready { (at : ℕ) × Mutates (λ o p. IsRefusedSlot o p at command.now) (seen seat.old) }
@@ -138,7 +138,7 @@ impl Round {
 
     /// Loads the header of g, where a `push` onto a full stack of this mutator or a `pop` off an empty one takes its
     /// place: its row answers so. Answers the word, and the seat's view names it from then on.
-    pub fn refuse_slot(&self, seat: &mut MutatorSeat, command: &Command) -> u64
+    pub fn refuse_slot(&self, seat: &mut MutatorSeat, command: &PackedCommand) -> u64
         requires seat { IsAt self.now seat.old }
         requires ready { (at : ℕ) × Mutates (λ o p. IsRefusedSlot o p at command.now) (seen seat.old) }
         requires within { SHARED_PLACE < word_count self.now }

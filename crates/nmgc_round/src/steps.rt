@@ -28,7 +28,7 @@ use crate::plays::{
 };
 use crate::table::{CollectorSeat, MutatorSeat, Round};
 use nmgc_object::{Address, HEADER_WORDS};
-use nmgc_world_spec::Command;
+use nmgc_program::PackedCommand;
 use std::marker::Brand;
 
 impl Round {
@@ -50,7 +50,7 @@ impl Round {
         seat: &mut MutatorSeat,
         at: Address,
         offset: u32,
-        command: &Command,
+        command: &PackedCommand,
     ) -> u64
         requires seat { IsAt self.now seat.old }
         requires place { (A.at ≡ at.0) × (A.offset ≡ offset) }
@@ -80,7 +80,7 @@ impl Round {
         seat: &mut MutatorSeat,
         at: Address,
         offset: u32,
-        command: Option<&Command>,
+        command: Option<&PackedCommand>,
     ) -> u64
         requires seat { IsAt self.now seat.old }
         requires ready { MatchOption command (Mutates (λ o p. CanFix o p at.0 offset) (seen seat.old)) (λ c.
@@ -132,7 +132,7 @@ impl Round {
         seat: &mut MutatorSeat,
         at: Address,
         field: u32,
-        command: &Command,
+        command: &PackedCommand,
     ) -> u64
         requires seat { IsAt self.now seat.old }
         requires asked { C.command ≡ command.now }
@@ -155,7 +155,7 @@ impl Round {
         seat: &mut MutatorSeat,
         at: Address,
         field: u32,
-        command: &Command,
+        command: &PackedCommand,
     ) -> u64
         requires seat { IsAt self.now seat.old }
         requires ready { Mutates (λ o p. CanLoad o p at.0 field command.now) (seen seat.old) }
@@ -172,7 +172,7 @@ impl Round {
         at: Address,
         field: u32,
         word: u64,
-        command: &Command,
+        command: &PackedCommand,
     ) -> u64
         requires seat { IsAt self.now seat.old }
         requires asked { C.command ≡ command.now }
@@ -200,7 +200,7 @@ impl Round {
         at: Address,
         field: u32,
         word: u64,
-        command: &Command,
+        command: &PackedCommand,
     ) -> u64
         requires seat { IsAt self.now seat.old }
         requires ready { Mutates (λ o p. CanSwap o p at.0 field word command.now) (seen seat.old) }
@@ -257,7 +257,7 @@ impl Round {
         seat: &mut MutatorSeat,
         at: Address,
         header: u64,
-        command: &Command,
+        command: &PackedCommand,
     ) -> bool
         requires seat { IsAt self.now seat.old }
         requires hoped { H.word ≡ header }
@@ -278,7 +278,7 @@ impl Round {
         seat: &mut MutatorSeat,
         at: Address,
         header: u64,
-        command: &Command,
+        command: &PackedCommand,
     )
         requires seat { IsAt self.now seat.old }
         requires asked { C.command ≡ command.now }
@@ -297,7 +297,13 @@ impl Round {
     /// place as its answer. From then on the view names header and name, and no unborn word. As in `store_unborn`
     /// a header that stands there stays, from an object of an earlier round, to which nothing refers; the look that
     /// finds it is the birth.
-    pub fn give_birth(&self, seat: &mut MutatorSeat, at: Address, header: u64, command: &Command)
+    pub fn give_birth(
+        &self,
+        seat: &mut MutatorSeat,
+        at: Address,
+        header: u64,
+        command: &PackedCommand,
+    )
         requires seat { IsAt self.now seat.old }
         requires ready { Mutates (λ o p. CanBear o p at.0 header command.now) (seen seat.old) }
         requires within { at.0 < word_count self.now }

@@ -18,7 +18,7 @@ use crate::table::{MutatorSeat, Round};
 use crate::view::View;
 use atomic_table::Play;
 use nmgc_object::{Address, HEADER_WORDS};
-use nmgc_world_spec::Command;
+use nmgc_program::PackedCommand;
 use std::marker::{Brand, PhantomData};
 
 /// A weak pointer's value is loaded by a command.
@@ -41,7 +41,12 @@ impl<A: Located, C: Asked> Play<(), View> for Finalises<A, C> {
 }
 
 impl Round {
-    fn deref_asked<C: Asked>(&self, seat: &mut MutatorSeat, at: Address, command: &Command) -> u64
+    fn deref_asked<C: Asked>(
+        &self,
+        seat: &mut MutatorSeat,
+        at: Address,
+        command: &PackedCommand,
+    ) -> u64
         requires seat { IsAt self.now seat.old }
         requires asked { C.command ≡ command.now }
         requires ready { Mutates (λ o p. CanDeref o p at.0 command.now) (seen seat.old) }
@@ -59,7 +64,7 @@ impl Round {
     /// row has the word as its answer, or that the weak pointer is dead. A value is at the end of the words that
     /// the view's steps found, and while marking it is owed from this step on. Where it is a pointer, an object
     /// is there within the heap's words.
-    pub fn load_weak(&self, seat: &mut MutatorSeat, at: Address, command: &Command) -> u64
+    pub fn load_weak(&self, seat: &mut MutatorSeat, at: Address, command: &PackedCommand) -> u64
         requires seat { IsAt self.now seat.old }
         requires ready { Mutates (λ o p. CanDeref o p at.0 command.now) (seen seat.old) }
         requires within { at.0 + HEADER_WORDS + 1 < word_count self.now }
@@ -73,7 +78,7 @@ impl Round {
         &self,
         seat: &mut MutatorSeat,
         at: Address,
-        command: &Command,
+        command: &PackedCommand,
     ) -> u64
         requires seat { IsAt self.now seat.old }
         requires place { A.at ≡ at.0 }
@@ -94,7 +99,7 @@ impl Round {
     /// pointer is dead. Where it was alive, the weak pointer, its value and its finaliser are at the end of the
     /// words that the view's steps found, and while marking they are owed from this step on; and where the
     /// finaliser is a pointer, an object is there within the heap's words.
-    pub fn swap_weak(&self, seat: &mut MutatorSeat, at: Address, command: &Command) -> u64
+    pub fn swap_weak(&self, seat: &mut MutatorSeat, at: Address, command: &PackedCommand) -> u64
         requires seat { IsAt self.now seat.old }
         requires ready { Mutates (λ o p. CanFinalise o p at.0 command.now) (seen seat.old) }
         requires within { at.0 + HEADER_WORDS + 1 < word_count self.now }

@@ -57,7 +57,7 @@ const SECOND_READ_REPORT: &str =
 // constants, since the proof of a function that names one goes through all its rows.
 
 // Runs without a cycle.
-pub(crate) const RUNS: [(&str, &[&str]); 7] = [
+pub(crate) const RUNS: [(&str, &[&str]); 8] = [
     // No commands.
     (
         "nmgc 1\nheap 32 64 64 100 1000 0\nthread 0\n",
@@ -75,6 +75,13 @@ pub(crate) const RUNS: [(&str, &[&str]); 7] = [
         "nmgc 1\nheap 32 64 64 100 1000 0\nthread 0\nnum r1 5\ncon r0 0 r1\nset r0 0 r1\nvar r2 r1\nnum r3 9\nset r2 0 r3\nget r4 r2 0\nset r2 1 r3\nget r4 r3 0\n",
         &[
             "report 1\nstop 0 idle free 32 filled 0 sweep 0 promoted 0\nround 1\n0 ok\n0 0.0\n0 fixed\n0 0.1\n0 ok\n0 ok\n0 9\n0 nofield\n0 nopointer\nstop 1 idle free 31 filled 0 sweep 0 promoted 2\nend done\n",
+        ],
+    ),
+    // A constructor and a thunk with more operands than lie in a command.
+    (
+        "nmgc 1\nheap 32 64 64 100 1000 0\nthread 0\nnum r1 5\ncon r0 7 r1 r1 r1 r1 r1 r1 g\nget r2 r0 6\nget r2 r0 7\nget r2 r0 5\nthunk r3 r1 r1 r1 r1 r1 r1 g\nupdate r3 r0\nforce r4 r3\n",
+        &[
+            "report 1\nstop 0 idle free 32 filled 0 sweep 0 promoted 0\nround 1\n0 ok\n0 0.0\n0 g\n0 nofield\n0 5\n0 0.1\n0 updated\n0 0.0\nstop 1 idle free 30 filled 0 sweep 0 promoted 2\nend done\n",
         ],
     ),
     (

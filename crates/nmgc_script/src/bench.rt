@@ -12,7 +12,8 @@ ghost use Rattle.nmgc_script.specs.Limits.{FitsScript, HasFewCommands};
 
 use crate::{Config, Script};
 use nmgc_lists::{List, NoMemory};
-use nmgc_world_spec::{Command, Operand};
+use nmgc_program::{FewOperands, Form, PackedCommand};
+use nmgc_world_spec::Operand;
 use std::alloc::Global;
 
 /// The most batches of a bench.
@@ -57,40 +58,46 @@ pub fn generate(alloc: Global, batches: u32) -> Result<Script, NoMemory>
 
 // The program of a mutator.
 #[tactic(auto, using(crate::proofs::BenchLaws::once_more))]
-fn program(alloc: Global, batches: u32, mutator: u32) -> Result<List<Command>, NoMemory>
+fn program(alloc: Global, batches: u32, mutator: u32) -> Result<List<PackedCommand>, NoMemory>
     requires { batches ≤ most_batches }
     ensures { IfOk result (λ commands. commands ≡ bench_program batches mutator) }
 {
     let mut commands = Vec::with_capacity(alloc, batches as usize * BATCH_COMMANDS)?;
     for _batch in 0..batches {
-        push_batch(&mut commands, alloc, mutator)?;
+        push_batch(&mut commands, mutator)?;
     }
     List::from_vec(commands)
 }
 
 // Appends a batch.
-fn push_batch(commands: &mut Vec<Command>, alloc: Global, mutator: u32) -> Result<(), NoMemory>
+fn push_batch(commands: &mut Vec<PackedCommand>, mutator: u32) -> Result<(), NoMemory>
     ensures { OnOk result (commands.new.items ≡ commands.old.items ++ batch mutator) }
 {
-    commands.push(Command::Nil { dest: 0 })?;
-    push_cells(commands, alloc, CELLS)?;
-    commands.push(Command::Set {
-        object: Operand::Shared,
-        index: mutator,
-        value: Operand::Register(0),
+    commands.push(PackedCommand {
+        form: Form::Nil { dest: 0 },
+    })?;
+    push_cells(commands, CELLS)?;
+    commands.push(PackedCommand {
+        form: Form::Set {
+            object: Operand::Shared,
+            index: mutator,
+            value: Operand::Register(0),
+        },
     })?;
     Ok(())
 }
 
 // Appends so many cells.
-fn push_cells(commands: &mut Vec<Command>, alloc: Global, count: usize) -> Result<(), NoMemory>
+fn push_cells(commands: &mut Vec<PackedCommand>, count: usize) -> Result<(), NoMemory>
     ensures { OnOk result (commands.new.items ≡ commands.old.items ++ replicate count cell) }
 {
     for _cell in 0..count {
-        commands.push(Command::Con {
-            dest: 0,
-            tag: 0,
-            fields: List::pair(alloc, Operand::Register(0), Operand::Register(1)),
+        commands.push(PackedCommand {
+            form: Form::Con {
+                dest: 0,
+                tag: 0,
+                fields: FewOperands::pair(Operand::Register(0), Operand::Register(1)),
+            },
         })?;
     }
     Ok(())

@@ -5,12 +5,13 @@
 //! large for a segment is a fault of its size and comes after all faults of words, while one above
 //! 65,535 is no count at all.
 ghost use Rattle.std.specs.Prelude.{◌≡◌, ◌<◌, map};
+ghost use Rattle.nmgc_program.specs.Packed.{command_of};
 ghost use Rattle.nmgc_script.specs.Reading.{Gives, none_at, operands_at, sized, command_at};
 
 use crate::verbs::{Verb, verb_of};
 use crate::version::Version;
 use crate::{Cause, LineFault};
-use nmgc_world_spec::Command;
+use nmgc_program::{Form, PackedCommand};
 use std::alloc::Global;
 
 /// The command that words spell, where a segment has so many words.
@@ -20,7 +21,7 @@ pub fn command(
     version: Version,
     words: &[&[u8]],
     size: u32,
-) -> Result<Command, LineFault>
+) -> Result<PackedCommand, LineFault>
     ensures { Gives result (command_at version size (map (λ w. w.now) words.now)) }
 {
     let Some((name, words)) = words.split_first() else {
@@ -31,11 +32,15 @@ pub fn command(
     sized(command, size)
 }
 
-// The command whose fields are the words that a shape reads.
+// The command whose fields are the words that a shape reads: of a form, or made of operands.
 macro_rules! made {
-    ($shape:expr => $command:ident { $($field:ident),* }) => {{
+    ($shape:expr => $form:ident { $($field:ident),* }) => {{
         let ($($field),*) = $shape?;
-        Ok(Command::$command { $($field),* })
+        Ok(PackedCommand { form: Form::$form { $($field),* } })
+    }};
+    ($shape:expr => $maker:ident($($field:ident),*)) => {{
+        let ($($field),*) = $shape?;
+        Ok(PackedCommand::$maker($($field),*))
     }};
 }
 
@@ -45,17 +50,17 @@ fn operands_of(
     version: Version,
     verb: Verb,
     words: &[&[u8]],
-) -> Result<Command, LineFault>
+) -> Result<PackedCommand, LineFault>
     ensures { Gives result (operands_at version verb (map (λ w. w.now) words.now)) }
 {
     match verb {
         Verb::Num => made!(version.dest_number(words) => Num { dest, number }),
         Verb::Nil => made!(version.dest(words) => Nil { dest }),
         Verb::Mov => made!(version.dest_value(words) => Mov { dest, value }),
-        Verb::Con => made!(version.dest_tag_values(alloc, words) => Con { dest, tag, fields }),
+        Verb::Con => made!(version.dest_tag_values(alloc, words) => con(dest, tag, fields)),
         Verb::Var => made!(version.dest_value(words) => Var { dest, value }),
         Verb::Arr => made!(version.dest_count_value(words) => Arr { dest, count, value }),
-        Verb::Thunk => made!(version.dest_few_values(alloc, words) => Thunk { dest, free }),
+        Verb::Thunk => made!(version.dest_few_values(alloc, words) => thunk(dest, free)),
         Verb::Weak => made!(version.dest_values(words) => Weak { dest, key, value, finaliser }),
         Verb::Stack => made!(version.dest_count(words) => Stack { dest, size }),
         Verb::Get => made!(version.dest_value_index(words) => Get { dest, object, index }),
@@ -71,26 +76,26 @@ fn operands_of(
         Verb::NextFin => made!(version.dest(words) => NextFin { dest }),
         Verb::Show => made!(version.value(words) => Show { value }),
         Verb::Same => made!(version.values(words) => Same { left, right }),
-        Verb::Yield => alone(Command::Yield, words),
-        Verb::Collect => alone(Command::Collect, words),
-        Verb::Full => alone(Command::Full, words),
+        Verb::Yield => alone(Form::Yield, words),
+        Verb::Collect => alone(Form::Collect, words),
+        Verb::Full => alone(Form::Full, words),
     }
 }
 
 // A command with no words after its name.
 #[tactic(auto, unfolding(crate::specs::Reading::none_at))]
-fn alone(command: Command, words: &[&[u8]]) -> Result<Command, LineFault>
-    ensures { Gives result (none_at command (map (λ w. w.now) words.now)) }
+fn alone(form: Form, words: &[&[u8]]) -> Result<PackedCommand, LineFault>
+    ensures { Gives result (none_at (command_of form) (map (λ w. w.now) words.now)) }
 {
     let [] = words else {
         return Err(LineFault::Bad(Cause::Arity));
     };
-    Ok(command)
+    Ok(PackedCommand { form })
 }
 
 // A command whose object fits in a segment.
 #[tactic(auto, unfolding(crate::specs::Reading::sized))]
-fn sized(command: Command, size: u32) -> Result<Command, LineFault>
+fn sized(command: PackedCommand, size: u32) -> Result<PackedCommand, LineFault>
     ensures { Gives result (sized size command) }
 {
     if command.words_made() > size as usize {

@@ -20,7 +20,7 @@ use crate::text::{Lines, cut_words};
 use crate::version::Version;
 use crate::{Cause, Config, LineFault, Script, ScriptFault};
 use nmgc_lists::{List, NoMemory};
-use nmgc_world_spec::Command;
+use nmgc_program::PackedCommand;
 use std::alloc::Global;
 
 impl From<NoMemory> for ScriptFault {
@@ -144,7 +144,7 @@ fn threads<'a>(
     config: &Config,
     lines: &mut Lines<'a>,
     words: &mut Vec<&'a [u8]>,
-) -> Result<List<List<Command>>, ScriptFault>
+) -> Result<List<List<PackedCommand>>, ScriptFault>
     requires { FitsConfig config.now }
     ensures { GivesAt (λ t.
         t) result (threads_at version (end_after lines.old.number lines.old.rest.now) config.now (kept_after lines.old.number lines.old.rest.now)) }
@@ -167,7 +167,7 @@ fn programs<'a>(
     config: &Config,
     lines: &mut Lines<'a>,
     words: &mut Vec<&'a [u8]>,
-) -> Result<List<List<Command>>, ScriptFault>
+) -> Result<List<List<PackedCommand>>, ScriptFault>
     requires { FitsConfig config.now }
     ensures { GivesAt (λ t. t) result (programs_at version config.now (kept_after lines.old.number lines.old.rest.now)) }
 {

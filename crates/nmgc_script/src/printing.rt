@@ -4,6 +4,7 @@
 //! same for each reader. Every word after the first stands behind one space. Easy to get wrong: a
 //! thunk without free variables ends with its register and no space after it.
 ghost use Rattle.std.specs.Prelude.{◌≡◌, ◌∷◌, [], ◌++◌, decimal, map, IfOk, OnOk};
+ghost use Rattle.nmgc_program.specs.Packed.{command_of};
 ghost use Rattle.nmgc_script.specs.Limits.{FitsScript};
 ghost use Rattle.nmgc_script.specs.Printing.{word_text, after_spaces};
 ghost use Rattle.nmgc_script.specs.Spelling.{Spells, command_words, ended, heap_words, operand_word, plain, program_lines, section_lines, section_words, spaced, version_words};
@@ -12,7 +13,8 @@ use crate::verbs::Verb;
 use crate::{Config, Script};
 use nmgc_io::push_number;
 use nmgc_lists::{List, NoMemory};
-use nmgc_world_spec::{Command, Operand};
+use nmgc_program::{Form, PackedCommand};
+use nmgc_world_spec::Operand;
 use std::alloc::Global;
 
 /// A word of a line after its first.
@@ -117,33 +119,39 @@ fn push_long_line(
     push_operands(out, operands)
 }
 
-// A match on a command, which appends its verb's name and then its fields, each as a word of this
-// form: commands of such fields alone, commands with a list of operands behind them, commands of
-// none.
+// A match on a form, which appends its verb's name and then its fields, each as a word of
+// this kind: commands of such fields alone, commands with operands behind them, commands of none.
 macro_rules! printed {
     (
-        $out:ident, $command:ident,
-        $($verb:ident { $($field:ident: $form:ident),* })*;
-        $($long:ident { $($front:ident: $shape:ident),* } then $operands:ident)*;
+        $out:ident, $packed:ident,
+        $($verb:ident { $($field:ident: $word:ident),* })*;
+        $($form:ident as $long:ident { $($front:ident: $shape:ident),* } then $operands:ident)*;
         $($alone:ident)*
     ) => {
-        match $command {
-            $(Command::$verb { $($field),* } => {
-                push_line($out, Verb::$verb.name(), &[$($form(*$field)),*])
+        match $packed {
+            $(Form::$verb { $($field),* } => {
+                push_line($out, Verb::$verb.name(), &[$($word(*$field)),*])
             })*
-            $(Command::$long { $($front),*, $operands } => {
+            $(Form::$form { $($front),*, $operands } => {
                 push_long_line($out, Verb::$long.name(), &[$($shape(*$front)),*], $operands.items())
             })*
-            $(Command::$alone => push_line($out, Verb::$alone.name(), &[]),)*
+            $(Form::$alone => push_line($out, Verb::$alone.name(), &[]),)*
         }
     };
 }
 
 // Appends the line of a command, without its end.
-fn push_command(out: &mut Vec<u8>, command: &Command) -> Result<(), NoMemory>
+fn push_command(out: &mut Vec<u8>, command: &PackedCommand) -> Result<(), NoMemory>
     ensures { OnOk result (out.new.items ≡ out.old.items ++ spaced (command_words command.now)) }
 {
-    printed!(out, command,
+    push_form(out, command.form())
+}
+
+// Appends the line of a command of this form, without its end.
+fn push_form(out: &mut Vec<u8>, form: &Form) -> Result<(), NoMemory>
+    ensures { OnOk result (out.new.items ≡ out.old.items ++ spaced (command_words (command_of form.now))) }
+{
+    printed!(out, form,
         Num { dest: Register, number: Number }
         Nil { dest: Register }
         Mov { dest: Register, value: Value }
@@ -163,14 +171,16 @@ fn push_command(out: &mut Vec<u8>, command: &Command) -> Result<(), NoMemory>
         NextFin { dest: Register }
         Show { value: Value }
         Same { left: Value, right: Value };
-        Con { dest: Register, tag: Tag } then fields
-        Thunk { dest: Register } then free;
+        Con as Con { dest: Register, tag: Tag } then fields
+        LongCon as Con { dest: Register, tag: Tag } then fields
+        Thunk as Thunk { dest: Register } then free
+        LongThunk as Thunk { dest: Register } then free;
         Yield Collect Full
     )
 }
 
 // Appends the lines of a program.
-fn push_program(out: &mut Vec<u8>, program: &[Command]) -> Result<(), NoMemory>
+fn push_program(out: &mut Vec<u8>, program: &[PackedCommand]) -> Result<(), NoMemory>
     ensures { OnOk result (out.new.items ≡ out.old.items ++ ended (program_lines program.now)) }
 {
     for command in program {
@@ -190,7 +200,7 @@ fn push_section(out: &mut Vec<u8>, thread: usize) -> Result<(), NoMemory>
 }
 
 // Appends the sections of the programs.
-fn push_sections(out: &mut Vec<u8>, threads: &[List<Command>]) -> Result<(), NoMemory>
+fn push_sections(out: &mut Vec<u8>, threads: &[List<PackedCommand>]) -> Result<(), NoMemory>
     ensures { OnOk result (out.new.items ≡ out.old.items ++ ended (section_lines 0 threads.now)) }
 {
     for (thread, program) in threads.iter().enumerate() {

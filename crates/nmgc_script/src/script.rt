@@ -9,7 +9,7 @@ ghost use Rattle.nmgc_script.specs.Limits.{FitsScript, upgraded};
 
 use crate::version::Version;
 use nmgc_lists::List;
-use nmgc_world_spec::Command;
+use nmgc_program::PackedCommand;
 
 /// The numbers of the heap line. Segments and nurseries are measured in words.
 #[derive(Clone, Copy, Debug, PartialEq, Eq)]
@@ -33,7 +33,7 @@ pub struct Config {
 pub struct Script {
     pub version: u8,
     pub config: Config,
-    pub threads: List<List<Command>>,
+    pub threads: List<List<PackedCommand>>,
 }
 
 /// The script in version 2, with the same config and programs. Takes no memory.

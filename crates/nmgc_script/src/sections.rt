@@ -12,7 +12,7 @@ use crate::version::Version;
 use crate::words::small;
 use crate::{Cause, Config, LineFault};
 use nmgc_limits::MAX_HEAP_WORDS;
-use nmgc_world_spec::Command;
+use nmgc_program::PackedCommand;
 use std::alloc::Global;
 
 /// What a line is after the heap line.
@@ -21,7 +21,7 @@ pub enum Entry {
     /// It begins the section of the next thread.
     Section,
     /// It is a command of the section that was begun last.
-    Order(Command),
+    Order(PackedCommand),
 }
 
 // The number of the thread whose section begins.

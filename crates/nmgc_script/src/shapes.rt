@@ -8,7 +8,7 @@ ghost use Rattle.nmgc_script.specs.Reading.{Gives, register_at, operand_at, long
 
 use crate::version::Version;
 use crate::{Cause, LineFault};
-use nmgc_lists::List;
+use nmgc_program::Operands;
 use nmgc_world_spec::Operand;
 use std::alloc::Global;
 
@@ -173,7 +173,7 @@ impl Version {
         self,
         alloc: Global,
         words: &[&[u8]],
-    ) -> Result<(u8, u8, List<Operand>), LineFault>
+    ) -> Result<(u8, u8, Operands), LineFault>
         ensures { Gives result (con_at self (map (λ w. w.now) words.now)) }
     {
         let [dest, tag, values @ ..] = words else {
@@ -192,7 +192,7 @@ impl Version {
         self,
         alloc: Global,
         words: &[&[u8]],
-    ) -> Result<(u8, List<Operand>), LineFault>
+    ) -> Result<(u8, Operands), LineFault>
         ensures { Gives result (thunk_at self (map (λ w. w.now) words.now)) }
     {
         let [dest, values @ ..] = words else {

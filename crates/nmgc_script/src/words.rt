@@ -9,7 +9,7 @@ ghost use Rattle.std.specs.Prelude.{[], ◌∷◌, ◌≤◌, map, IfOk};
 use crate::version::Version;
 use crate::{Cause, LineFault};
 use nmgc_io::read_number;
-use nmgc_lists::List;
+use nmgc_program::Operands;
 use nmgc_world_spec::Operand;
 use std::alloc::Global;
 
@@ -88,25 +88,25 @@ impl Version {
         Ok(Operand::Register(self.register(word)?))
     }
 
-    // Two operands. They lie in the list itself, so no memory is taken.
-    fn pair(self, alloc: Global, first: &[u8], second: &[u8]) -> Result<List<Operand>, LineFault>
+    // Two operands. Takes no memory.
+    fn pair(self, first: &[u8], second: &[u8]) -> Result<Operands, LineFault>
         ensures { Gives result (each_at (operand_at self) (first.now ∷ second.now ∷ [])) }
     {
         let first = self.operand(first)?;
         let second = self.operand(second)?;
-        Ok(List::pair(alloc, first, second))
+        Ok(Operands::pair(first, second))
     }
 
-    /// As many operands as there are words. Two take no memory.
-    pub fn operands(self, alloc: Global, words: &[&[u8]]) -> Result<List<Operand>, LineFault>
+    /// As many operands as there are words. A few take no memory.
+    pub fn operands(self, alloc: Global, words: &[&[u8]]) -> Result<Operands, LineFault>
         ensures { Gives result (each_at (operand_at self) (map (λ w. w.now) words.now)) }
     {
         if let [first, second] = words {
-            return self.pair(alloc, first, second);
+            return self.pair(first, second);
         }
-        let mut operands = List::new(alloc);
+        let mut operands = Operands::new();
         for word in words {
-            operands.push(self.operand(word)?)?;
+            operands.push(alloc, self.operand(word)?)?;
         }
         Ok(operands)
     }

@@ -15,10 +15,11 @@ use nmgc_limits::REGISTERS;
 use nmgc_lists::{List, ListMemory, NoMemory, Placed};
 use nmgc_mutator::{Mutator, Step, laws};
 use nmgc_object::{Address, Layout};
+use nmgc_program::{Form, PackedCommand};
 use nmgc_round::chosen::Wanted;
 use nmgc_round::{Chosen, CollectorSeat, MutatorSeat, Opened, Round, Started, Words};
 use nmgc_updrem::{UpdSender, link};
-use nmgc_world_spec::{Command, Operand, Reply};
+use nmgc_world_spec::{Operand, Reply};
 use std::alloc::Global;
 use std::test::Fail;
 
@@ -160,10 +161,12 @@ fn overwrite(round: &Round, seat: &mut MutatorSeat, mutator: &mut Mutator) -> bo
 {
     laws::a_round_finds_mutators_ready();
     a_marking_round_opens();
-    let command = Command::Set {
-        object: Operand::Register(0),
-        index: 0,
-        value: Operand::Register(1),
+    let command = PackedCommand {
+        form: Form::Set {
+            object: Operand::Register(0),
+            index: 0,
+            value: Operand::Register(1),
+        },
     };
     match mutator.step(round, seat, &command) {
         Step::Replied(reply) => reply == Reply::Fine,
@@ -180,11 +183,13 @@ fn compare(round: &Round, seat: &mut MutatorSeat, mutator: &mut Mutator) -> bool
 {
     laws::a_round_finds_mutators_ready();
     a_marking_round_opens();
-    let command = Command::Cas {
-        object: Operand::Register(0),
-        index: 0,
-        expected: Operand::Register(1),
-        value: Operand::Register(2),
+    let command = PackedCommand {
+        form: Form::Cas {
+            object: Operand::Register(0),
+            index: 0,
+            expected: Operand::Register(1),
+            value: Operand::Register(2),
+        },
     };
     match mutator.step(round, seat, &command) {
         Step::Replied(reply) => reply == Reply::No,

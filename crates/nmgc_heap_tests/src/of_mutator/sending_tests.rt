@@ -9,9 +9,10 @@ use super::marking_tests::{Begun, begin, mutator_with, snapshot_heap};
 use nmgc_lists::ListMemory;
 use nmgc_mutator::{Mutator, Step, laws};
 use nmgc_object::Address;
+use nmgc_program::{Form, PackedCommand};
 use nmgc_round::{MutatorSeat, Round, Words};
 use nmgc_updrem::link;
-use nmgc_world_spec::{Command, Operand, Reply};
+use nmgc_world_spec::{Operand, Reply};
 use std::test::Fail;
 
 // How often the variable is overwritten.
@@ -26,10 +27,12 @@ fn overwrite_often(round: &Round, seat: &mut MutatorSeat, mutator: &mut Mutator)
     laws::a_round_finds_mutators_ready();
     a_marking_round_opens();
     for number in 0..TIMES {
-        let command = Command::Set {
-            object: Operand::Register(0),
-            index: 0,
-            value: Operand::Register(if number % 2 == 0 { 3 } else { 0 }),
+        let command = PackedCommand {
+            form: Form::Set {
+                object: Operand::Register(0),
+                index: 0,
+                value: Operand::Register(if number % 2 == 0 { 3 } else { 0 }),
+            },
         };
         match mutator.step(round, seat, &command) {
             Step::Replied(Reply::Fine) => {}

@@ -1,6 +1,6 @@
 //! Programs on the heap of which nothing was made: of one mutator by the tables of what each command does, and
 //! of two in threads of their own.
-ghost use Rattle.std.specs.Prelude.{ℕ, List, ◌≡◌, ◌<◌, ◌≤◌, [], All, IsTrue, length, min, slice_index_or, vec_capacity};
+ghost use Rattle.std.specs.Prelude.{ℕ, List, ◌≡◌, ◌<◌, ◌≤◌, [], All, IfOk, IsTrue, length, min, slice_index_or, vec_capacity};
 ghost use Rattle.nmgc_world_spec.specs.Command.{Fits, HasNumbers, words_made};
 ghost use Rattle.nmgc_object.specs.Places.{IsLayout};
 ghost use Rattle.nmgc_round.specs.Empty.{IsEmptyHeap, first_opening};
@@ -15,6 +15,7 @@ use nmgc_limits::MAKERS;
 use nmgc_lists::{List, ListMemory, NoMemory};
 use nmgc_mutator::{Mutator, Slice, SliceEnd};
 use nmgc_object::Layout;
+use nmgc_program::PackedCommand;
 use nmgc_round::chosen::Wanted;
 use nmgc_round::{Chosen, Gate, MutatorSeat, OpenGate, Opened, Round, Started, Words};
 use nmgc_updrem::link;
@@ -93,12 +94,23 @@ fn can_run_all(program: &[Command]) -> bool
     program.iter().all(|command| can_run(command))
 }
 
+// The commands as they lie in a program.
+fn packed(alloc: Global, commands: &[Command]) -> Result<Vec<PackedCommand>, NoMemory>
+    ensures { IfOk result (λ program. program.items ≡ commands.now) }
+{
+    let mut program = Vec::new(alloc);
+    for command in commands {
+        program.push(PackedCommand::pack(alloc, command)?)?;
+    }
+    Ok(program)
+}
+
 // A slice of a new mutator.
 fn slice_on(
     words: Words,
     layout: Layout,
     mutator: Mutator,
-    program: &[Command],
+    program: &[PackedCommand],
     slice: u32,
     room: Vec<MutatorSeat>,
     place: ListMemory<MutatorSeat>,
@@ -140,6 +152,7 @@ fn slice_of(
     if !can_run_all(program) {
         return Ok(None);
     }
+    let program = packed(alloc, program)?;
     let layout = small(nursery);
     let words = empty_heap(alloc, &layout)?;
     let room = Vec::with_capacity(alloc, 1)?;
@@ -147,7 +160,15 @@ fn slice_of(
     let (sender, _receiver) = link(alloc)?;
     let mut mutator = Mutator::new(alloc, 0, layout, sender)?;
     mutator.reserve(slice)?;
-    Ok(slice_on(words, layout, mutator, program, slice, room, place))
+    Ok(slice_on(
+        words,
+        layout,
+        mutator,
+        program.as_slice(),
+        slice,
+        room,
+        place,
+    ))
 }
 
 fn num(dest: u8, number: u64) -> Command {
@@ -538,6 +559,7 @@ fn work<G: Gate>(
     if !can_run_all(program.as_slice()) {
         return Err(NoMemory);
     }
+    let program = packed(alloc, program.as_slice())?;
     let (sender, _receiver) = link(alloc)?;
     let mut mutator = Mutator::new(alloc, number, layout, sender)?;
     mutator.reserve(3)?;

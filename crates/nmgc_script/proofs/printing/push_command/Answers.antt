@@ -1,0 +1,10 @@
+use Rattle.std.proofs.Common.{◌≡◌, ◌++◌, subst, sym}
+use Rattle.std.specs.Prelude.{OnOk}
+use Rattle.nmgc_world_spec.specs.declared.command.Command.{Command}
+use Rattle.nmgc_script.specs.Spelling.{spaced, command_words}
+use Rattle.nmgc_script.proofs.printing.push_command.Goals as goal
+
+pub returns : goal.returns
+returns c =
+    subst (λ (k : Command). OnOk c.push_form.result (c.push_form.new.out.items ≡ c.args.out.now.items ++ spaced (command_words k)))
+    (sym c.form.ensures) c.push_form.ensures
