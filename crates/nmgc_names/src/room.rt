@@ -3,6 +3,9 @@
 //! It has room for so many names even where none follows on another, since then each is a span of its own. Memory that is
 //! reserved isn't touched: where names follow one another, few of its bytes ever are. Contracts see its names, and for how
 //! many more there is room.
+//!
+//! A few spans at the front of a large room would keep it from serving again as a whole, so a list of few spans has a copy
+//! of them, and all of the room is given back. Where there is no memory for the copy, the spans stay where they lie.
 ghost use Rattle.std.specs.Prelude.{◌≡◌, ◌+◌, ◌<◌, ◌≤◌, [], ◌∷◌, ◌++◌, IfOk, vec_len, vec_capacity};
 ghost use Rattle.nmgc_names.specs.Spans.{names_in};
 
@@ -55,6 +58,23 @@ fn add_name(spans: &mut Vec<Span>, name: Name)
     spans.push_reserved(Span::of(name));
 }
 
+// Spans are few where they take less than this part of their room.
+const FEW: usize = 4;
+
+// The same spans, without room for more.
+fn trimmed(spans: Vec<Span>) -> Vec<Span>
+    ensures { result.items ≡ spans.items }
+{
+    let mut spans = spans;
+    if spans.len() < spans.capacity() / FEW {
+        if let Ok(own) = Vec::from_slice(*spans.allocator(), spans.as_slice()) {
+            return own;
+        }
+    }
+    spans.shrink_to_fit();
+    spans
+}
+
 impl NameRoom {
     /// No names, and room for so many: the only memory that it takes.
     pub fn with_room(alloc: Global, names: usize) -> Result<NameRoom, NoMemory>
@@ -85,12 +105,15 @@ impl NameRoom {
         self.spans.as_slice()
     }
 
-    /// The list of its names, which has no more room than it needs: the rest is given back. Takes no memory.
+    /// The list of its names, which has no more room than it needs: the rest is given back. Needs no memory; it takes some
+    /// for a copy of few spans, where there is some.
     pub fn into_list(self) -> NameList
         ensures { result ≡ self.names }
     {
-        let NameRoom { mut spans, count } = self;
-        spans.shrink_to_fit();
-        NameList { spans, count }
+        let NameRoom { spans, count } = self;
+        NameList {
+            spans: trimmed(spans),
+            count,
+        }
     }
 }

@@ -159,8 +159,8 @@ impl Sweeper {
         self.freed.spans()
     }
 
-    /// What it noted, listed and freed, for the cycle's row, in lists that have no more room than they need. Takes no
-    /// memory.
+    /// What it noted, listed and freed, for the cycle's row, in lists that have no more room than they need. Needs no
+    /// memory (`NameRoom::into_list`).
     pub fn into_census(self) -> Census
         ensures swept { result.swept.items ≡ self.seen.swept }
         ensures had { result.had ≡ self.seen.had }
