@@ -6,10 +6,14 @@ use Rattle.std.specs.Ordering.{ordering_then, nat_cmp}
 use Rattle.nmgc_world_spec.specs.declared.value.Name.{Name}
 use Rattle.nmgc_names.specs.declared.span.Span.{Span}
 
+-- a maker's name with this serial
+abbrev pub named : ℕ → ℕ → Name
+named maker serial = record { maker = maker; serial = serial }
+
 -- so many names of a maker, from a serial on
 abbrev pub names_from : ℕ → ℕ → ℕ → List Name
 names_from maker first zero = []
-names_from maker first (suc count) = record { maker = maker; serial = first } ∷ names_from maker (first + 1) count
+names_from maker first (suc count) = named maker first ∷ names_from maker (first + 1) count
 
 -- the names of a span
 abbrev pub names_of : Span → List Name

@@ -20,12 +20,8 @@ use Rattle.nmgc_world_spec.specs.laws.Orders.{same_name}
 use Rattle.nmgc_lists.specs.laws.Items.{contains_head, contains_tail, contains_cases, contains_flat, flat_contains}
 use Rattle.nmgc_names.specs.declared.span.Span.{Span}
 use Rattle.nmgc_names.specs.Order.{in_order}
-use Rattle.nmgc_names.specs.Spans.{names_from, names_of, names_in, AreSorted}
+use Rattle.nmgc_names.specs.Spans.{named, names_from, names_of, names_in, AreSorted}
 use Rattle.nmgc_names.specs.laws.Order.{IsSteady, still_not, steady_in_order, one_if, many, many_in_order, one_steady, once_many, many_once}
-
--- a maker's name
-abbrev named : ℕ → ℕ → Name
-named maker serial = record { maker = maker; serial = serial }
 
 -- THE NAMES OF A SPAN
 
