@@ -69,9 +69,10 @@ impl Span {
         requires { at < length (names_of self.now) }
         ensures { slice_get (names_of self.now) at ≡ Some result }
     {
+        let serial = self.first + at as u32;
         Name {
             maker: self.maker,
-            serial: self.first + u32::from(at),
+            serial,
         }
     }
 }
