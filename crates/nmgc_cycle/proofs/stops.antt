@@ -2,6 +2,7 @@ pub mod Adding
 pub mod AddingLeads
 pub mod AfterPromotion
 pub mod Begins
+pub mod Censuses
 pub mod Counted
 pub mod EnoughFree
 pub mod Forgetting

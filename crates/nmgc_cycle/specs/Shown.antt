@@ -10,7 +10,8 @@ use Rattle.nmgc_mark.specs.Seen.{MarkerSeen, WorkSeen}
 use Rattle.nmgc_sweep.specs.Seen.{CycleSeen}
 pub use Rattle.nmgc_collector_laws.specs.Heaps.{seen_mutator}
 use Rattle.nmgc_mutator.specs.declared.mutator.Mutator.{Mutator}
-use Rattle.nmgc_sweep.specs.Order.{in_order}
+use Rattle.nmgc_names.specs.Order.{in_order}
+use Rattle.nmgc_world_spec.specs.Listing.{AreDistinct}
 use Rattle.nmgc_sweep.specs.Sweeper.{Sweeper}
 use Rattle.nmgc_world_spec.specs.declared.value.Name.{Name}
 use Rattle.nmgc_weak.specs.declared.weaks.Death.{Death}
@@ -91,6 +92,10 @@ mutator_turns_of c = turns_in c.mutators.items
 -- a row as a report tells it: the collector keeps the names of a row as they were listed, and a report has them in order
 abbrev pub told_row : CycleRow → CycleRow
 told_row row = record row { had = in_order row.had; freed = in_order row.freed }
+
+-- no name stands twice among those that the row tells as had, and none among those that it tells as freed
+abbrev pub HasNamesOnce : CycleRow → Type 0
+HasNamesOnce row = AreDistinct row.had × AreDistinct row.freed
 
 -- the rows as a report tells them
 abbrev pub told_cycles : Collector → List CycleRow

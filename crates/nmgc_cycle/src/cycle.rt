@@ -330,8 +330,8 @@ fn row_of(
         closed,
         ended: stop,
         swept: List::from_vec(swept)?,
-        had: List::from_vec(had)?,
-        freed: List::from_vec(freed)?,
+        had,
+        freed,
         dead,
         kept,
     })

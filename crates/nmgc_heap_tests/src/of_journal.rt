@@ -3,6 +3,7 @@ use nmgc_alloc::Segments;
 use nmgc_journal::*;
 use nmgc_limits::SHARED_MAKER;
 use nmgc_lists::List;
+use nmgc_names::{NameList, NameRoom};
 use nmgc_object::Layout;
 use nmgc_world_spec::{Name, Reply, Value};
 use std::alloc::Global;
@@ -236,6 +237,15 @@ fn names(alloc: Global, count: u32) -> Result<List<Name>, Fail> {
     Ok(names)
 }
 
+// The same as a row has them.
+fn name_list(alloc: Global, count: u32) -> Result<NameList, Fail> {
+    let mut names = NameRoom::with_room(alloc, count as usize)?;
+    for serial in 0..count {
+        names.add(Name { maker: 0, serial });
+    }
+    Ok(names.into_list())
+}
+
 // A cycle: its number, its three stops and what it kept; how many segments it swept, how many names
 // they had, how many of these it freed, and how many weak pointers died.
 fn cycle(alloc: Global, at: [u32; 4], kept: u32, counts: [u32; 4]) -> Result<CycleRow, Fail> {
@@ -251,8 +261,8 @@ fn cycle(alloc: Global, at: [u32; 4], kept: u32, counts: [u32; 4]) -> Result<Cyc
         closed,
         ended,
         swept: segments,
-        had: names(alloc, had)?,
-        freed: names(alloc, freed)?,
+        had: name_list(alloc, had)?,
+        freed: name_list(alloc, freed)?,
         dead: names(alloc, dead)?,
         kept,
     })

@@ -7,10 +7,10 @@ ghost use Rattle.nmgc_sweep.specs.Sweeper.{AreLeft};
 
 use nmgc_alloc::{Segments, laws};
 use nmgc_limits::MAKERS;
+use nmgc_names::NameList;
 use nmgc_object::{Address, FIRST_PLACE, Layout, block_words};
 use nmgc_round::OpenGate;
 use nmgc_segment::State;
-use nmgc_sweep::order::put_in_order;
 use nmgc_sweep::{Names, Sweeper};
 use nmgc_world_spec::Name;
 use std::alloc::Global;
@@ -214,6 +214,24 @@ fn mark(rt: &impl Abort, segments: &mut Segments, places: &[Address], marked: &[
     }
 }
 
+// The names of a list, as they come.
+fn all_names(alloc: Global, list: &NameList) -> Result<Vec<Name>, Fail> {
+    let mut names = Vec::new(alloc);
+    for span in list.spans() {
+        for at in 0..span.count() {
+            names.push(span.name(at))?;
+        }
+    }
+    Ok(names)
+}
+
+// The names of a list, by maker and then by serial.
+fn sorted_names(alloc: Global, list: &NameList) -> Result<Vec<Name>, Fail> {
+    let mut names = all_names(alloc, list)?;
+    names.sort_unstable_by_key(|name| (name.maker, name.serial));
+    Ok(names)
+}
+
 // Does the cycle, and compares.
 fn check<R: Abort + Threads + Sync>(rt: &R, alloc: Global, row: Row) -> Result<(), Fail> {
     let layout = Layout {
@@ -250,14 +268,12 @@ fn check<R: Abort + Threads + Sync>(rt: &R, alloc: Global, row: Row) -> Result<(
     assert!(rt; done.finished == (works * u64::from(row.quota) == row.swept.len() as u64));
     sweeper.finish(rt, &mut segments, &names);
     assert!(rt; sweeper.swept() == row.swept);
-    assert!(rt; sweeper.had().len() == row.had.len());
-    assert!(rt; sweeper.freed().len() == row.freed.len());
-    let mut census = sweeper.into_census();
-    put_in_order(census.had.as_mut_slice());
-    put_in_order(census.freed.as_mut_slice());
+    let census = sweeper.into_census();
+    assert!(rt; census.had.len() == row.had.len());
+    assert!(rt; census.freed.len() == row.freed.len());
     assert!(rt; census.swept.as_slice() == row.swept);
-    assert!(rt; census.had.as_slice() == row.had);
-    assert!(rt; census.freed.as_slice() == row.freed);
+    assert!(rt; sorted_names(alloc, &census.had)?.as_slice() == row.had);
+    assert!(rt; sorted_names(alloc, &census.freed)?.as_slice() == row.freed);
     for number in 0..segments.layout().segments {
         if let Some(state) = row.states.get(number as usize) {
             assert!(rt; segments.segment(number).state() == *state);
@@ -437,9 +453,14 @@ fn check_many<R: Abort + Threads + Sync>(rt: &R, alloc: Global) -> Result<(), Fa
     let done = sweeper.work(rt, &mut segments, &names, MANY, &OpenGate);
     assert!(rt; done.swept == 257);
     assert!(rt; done.finished);
-    let (had, freed) = (sweeper.had(), sweeper.freed());
-    assert!(rt; had.len() == MANY as usize);
-    assert!(rt; freed.len().saturating_add(marked.len()) == MANY as usize);
+    // All of them follow one another, and 65,535 are a span; of those that were freed two do.
+    assert!(rt; sweeper.had().len() == 5);
+    assert!(rt; sweeper.freed().len() == (MANY / 3 + 1) as usize);
+    let census = sweeper.into_census();
+    assert!(rt; census.had.len() == MANY as usize);
+    assert!(rt; census.freed.len().saturating_add(marked.len()) == MANY as usize);
+    let had = all_names(alloc, &census.had)?;
+    let freed = all_names(alloc, &census.freed)?;
     for index in 0..MANY {
         if let Some(name) = had.get(index as usize) {
             assert!(rt; name.serial == index);

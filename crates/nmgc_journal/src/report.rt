@@ -14,6 +14,7 @@ use crate::final_words::FinalWords;
 use crate::replies::Replies;
 use nmgc_alloc::Segments;
 use nmgc_lists::List;
+use nmgc_names::NameList;
 use nmgc_world_spec::Name;
 
 /// The replies of one round: a list for each mutator, in the mutator's own order.
@@ -65,9 +66,9 @@ pub struct CycleRow {
     /// The segments that were filled at the snapshot, and swept.
     pub swept: List<u32>,
     /// The names that were in the blocks of these segments at the snapshot.
-    pub had: List<Name>,
+    pub had: NameList,
     /// Those of `had` whose blocks the sweep freed.
-    pub freed: List<Name>,
+    pub freed: NameList,
     /// The weak pointers that died at the closing.
     pub dead: List<Name>,
     /// How many blocks were marked as the closing was done.

@@ -10,10 +10,12 @@ ghost use Rattle.std.specs.Prelude.{◌≡◌, ◌≢◌, ◌↔◌, ℕ, ◌+�
 ghost use Rattle.std.specs.List.{flat_map, take_while};
 ghost use Rattle.nmgc_journal.specs.Text.{phase_text, stop_line, stop_counts, cycle_line, cycle_stops, cycle_swept, cycle_kept, cycle_text, name_line, stop_at, ended_at};
 ghost use Rattle.nmgc_journal.specs.Stops.{AreEndedFrom, IsRestAfter};
+ghost use Rattle.nmgc_journal.specs.Spans.{span_lines};
 
 use crate::words::{push_count, push_name, push_word};
 use crate::{CycleRow, Phase, StopRow};
 use nmgc_lists::NoMemory;
+use nmgc_names::{NameList, Span};
 use nmgc_world_spec::Name;
 
 /// Whether each cycle ended no earlier than the one before it. Takes no memory.
@@ -140,7 +142,7 @@ fn push_cycle(out: &mut Vec<u8>, row: &CycleRow) -> Result<(), NoMemory>
 {
     push_cycle_line(out, row)?;
     push_names(out, b"dead ", row.dead.items())?;
-    push_names(out, b"freed ", row.freed.items())
+    push_name_list(out, b"freed ", &row.freed)
 }
 
 fn push_cycle_line(out: &mut Vec<u8>, row: &CycleRow) -> Result<(), NoMemory>
@@ -163,8 +165,8 @@ fn push_cycle_swept(out: &mut Vec<u8>, row: &CycleRow) -> Result<(), NoMemory>
     ensures { OnOk result (out.new.items ≡ out.old.items ++ cycle_swept row.now) }
 {
     push_count(out, b" swept ", row.swept.items().len() as u64)?;
-    push_count(out, b" had ", row.had.items().len() as u64)?;
-    push_count(out, b" freed ", row.freed.items().len() as u64)
+    push_count(out, b" had ", row.had.len() as u64)?;
+    push_count(out, b" freed ", row.freed.len() as u64)
 }
 
 fn push_cycle_kept(out: &mut Vec<u8>, row: &CycleRow) -> Result<(), NoMemory>
@@ -181,6 +183,31 @@ fn push_names(out: &mut Vec<u8>, word: &[u8], names: &[Name]) -> Result<(), NoMe
 {
     for name in names {
         push_name_line(out, word, *name)?;
+    }
+    Ok(())
+}
+
+// The same of names that are kept as spans.
+fn push_name_list(out: &mut Vec<u8>, word: &[u8], names: &NameList) -> Result<(), NoMemory>
+    ensures { OnOk result (out.new.items ≡ out.old.items ++ flat_map (name_line word.now) names.now) }
+{
+    push_spans(out, word, names.spans())
+}
+
+fn push_spans(out: &mut Vec<u8>, word: &[u8], spans: &[Span]) -> Result<(), NoMemory>
+    ensures { OnOk result (out.new.items ≡ out.old.items ++ flat_map (span_lines word.now) spans.now) }
+{
+    for span in spans {
+        push_span(out, word, span)?;
+    }
+    Ok(())
+}
+
+fn push_span(out: &mut Vec<u8>, word: &[u8], span: &Span) -> Result<(), NoMemory>
+    ensures { OnOk result (out.new.items ≡ out.old.items ++ span_lines word.now span.now) }
+{
+    for at in 0..span.count() {
+        push_name_line(out, word, span.name(at))?;
     }
     Ok(())
 }

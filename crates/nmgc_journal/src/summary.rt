@@ -106,10 +106,7 @@ fn promoted_count(stops: &[StopRow]) -> u128
 fn freed_count(cycles: &[CycleRow]) -> u128
     ensures { result ≡ freed_count cycles.now }
 {
-    cycles
-        .iter()
-        .map(|cycle| cycle.freed.items().len() as u128)
-        .sum()
+    cycles.iter().map(|cycle| cycle.freed.len() as u128).sum()
 }
 
 // How many objects the last cycle kept.

@@ -64,7 +64,7 @@ fn names_count(report: &Report) -> usize {
         }
     }
     for cycle in report.cycles.items() {
-        count = count.saturating_add(cycle.freed.items().len());
+        count = count.saturating_add(cycle.freed.len());
     }
     count
 }

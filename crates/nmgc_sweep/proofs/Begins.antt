@@ -24,7 +24,7 @@ use Rattle.nmgc_blocks_spec.specs.Cycle.{IsSweptIn, IsHadIn, IsFreedIn, Cycle}
 use Rattle.nmgc_world_spec.specs.Listing.{ListsNumbers}
 use Rattle.nmgc_sweep.specs.Sweeping.{IsWithoutDoubles}
 use Rattle.nmgc_sweep.specs.Statements.{StartIsAsNoted, StaysAsNoted, StartIsNoted, LeftStays, ClosingBeginsWork, EndTellsCensus, LeftIsCounted}
-use Rattle.nmgc_sweep.specs.laws.Order.{lists_in_order}
+use Rattle.nmgc_names.specs.laws.Order.{lists_in_order}
 use Rattle.nmgc_sweep.proofs.Lists.{ascends_first, ascends_rest, once_distinct}
 
 -- a segment that waits has its number

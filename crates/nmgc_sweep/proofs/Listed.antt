@@ -189,22 +189,21 @@ first_waits s x numbers done first is can some at =
 
 -- there is room for what is in one segment more, and afterwards for that of the others
 
-pub room_for_one : (count done most words len capacity : ℕ) → done < count → words ≤ MIN_BLOCK_WORDS * most →
-    len + (count - done) * most ≤ capacity → MIN_BLOCK_WORDS * len + words ≤ MIN_BLOCK_WORDS * capacity
-room_for_one count done most words len capacity low few room =
+pub room_for_one : (count done most words spare : ℕ) → done < count → words ≤ MIN_BLOCK_WORDS * most →
+    (count - done) * most ≤ spare → words ≤ MIN_BLOCK_WORDS * spare
+room_for_one count done most words spare low few room =
     let one : 1 * most ≤ (count - done) * most = let some : 1 ≤ count - done = omega (arith, low) in mul-le-mul_right most some in
     let same : 1 * most ≡ most = omega arith in
     omega (arith, one, same, few, room)
 
-pub room_for_others : (count done most words len after capacity capacity_after : ℕ) → done < count → words ≤ MIN_BLOCK_WORDS * most →
-    len + (count - done) * most ≤ capacity → MIN_BLOCK_WORDS * after ≤ MIN_BLOCK_WORDS * len + words → capacity_after ≡ capacity →
-    after + (count - (done + 1)) * most ≤ capacity_after
-room_for_others count done most words len after capacity capacity_after low few room more same =
+pub room_for_others : (count done most words spare after : ℕ) → done < count → words ≤ MIN_BLOCK_WORDS * most →
+    (count - done) * most ≤ spare → MIN_BLOCK_WORDS * spare ≤ MIN_BLOCK_WORDS * after + words → (count - (done + 1)) * most ≤ after
+room_for_others count done most words spare after low few room used =
     let rest = count - (done + 1) in
     let whole : count - done ≡ rest + 1 = omega (arith, low) in
     let split : (count - done) * most ≡ (rest + 1) * most = ap (λ (k : ℕ). k * most) whole in
     let parts : (rest + 1) * most ≡ rest * most + most = omega arith in
-    omega (arith, split, parts, few, room, more, same)
+    omega (arith, split, parts, few, room, used)
 
 -- the segments below a number that wait
 

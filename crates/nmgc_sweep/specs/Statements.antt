@@ -16,7 +16,7 @@ use Rattle.nmgc_sweep.specs.Sweeping.{AreKeptMarked}
 use Rattle.nmgc_alloc.specs.Settled.{AreSettled}
 use Rattle.nmgc_segment.specs.Marks.{epoch_of}
 use Rattle.nmgc_sweep.specs.Seen.{CycleSeen}
-use Rattle.nmgc_sweep.specs.Order.{in_order}
+use Rattle.nmgc_names.specs.Order.{in_order}
 use Rattle.nmgc_sweep.specs.Sweeper.{Sweeper, AreLeft, HasNotes}
 use Rattle.nmgc_sweep.specs.Work.{HasBegun, IsAtWork}
 

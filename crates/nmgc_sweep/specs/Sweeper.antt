@@ -1,8 +1,5 @@
 -- What contracts see of a sweeper, and what it keeps from its cycle's beginning on.
 use Rattle.std.specs.Prelude.{ℕ, ◌*◌, ◌≤◌, List, Contains}
-use Rattle.std.specs.Ordering.{ordering_then, nat_cmp}
-use Rattle.std.specs.List.Sorted.{IsSortedByKey}
-use Rattle.nmgc_world_spec.specs.declared.value.Name.{Name}
 use Rattle.nmgc_object.specs.declared.size.TheConstants.{MIN_BLOCK_WORDS}
 use Rattle.nmgc_alloc.specs.Numbered.{Segments}
 use Rattle.nmgc_alloc.specs.Segments.{IsWaiting}
@@ -35,14 +32,6 @@ pub record AreLeft (segments : Segments) (sweeper : Sweeper) : Type 0 where
 pub record CanList (segments : Segments) (sweeper : Sweeper) : Type 0 where
   pub waits : (number : ℕ) → Contains sweeper.left number → IsWaiting segments number
   pub room : segments.layout.words ≤ MIN_BLOCK_WORDS * sweeper.most
-
--- the maker and the serial, by which names are sorted
-abbrev pub key_of : Name → ℕ × ℕ
-key_of name = (name.maker, name.serial)
-
--- no name stands before the one that it follows
-abbrev pub AreSorted : List Name → Type 0
-AreSorted names = IsSortedByKey {X = Name} {K = ℕ × ℕ} key_of (λ a b. ordering_then (nat_cmp a.0 b.0) (nat_cmp a.1 b.1)) names
 
 -- the sweeper is that of the cycle: the segments that it noted are the cycle's, and no name lay in two blocks then
 pub record HasNotes (c : Cycle) (sweeper : Sweeper) : Type 0 where

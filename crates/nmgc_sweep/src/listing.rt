@@ -2,7 +2,7 @@
 //!
 //! Which blocks are in use and which of these are marked is known before the sweep alone: it clears the marks and leaves
 //! in use exactly what was marked with its epoch.
-ghost use Rattle.std.specs.Prelude.{◌≡◌, ◌+◌, ◌*◌, ◌≤◌, vec_len, vec_capacity};
+ghost use Rattle.std.specs.Prelude.{◌+◌, ◌*◌, ◌≤◌};
 ghost use Rattle.nmgc_object.specs.declared.size.TheConstants.{MIN_BLOCK_WORDS as LEAST};
 ghost use Rattle.nmgc_segment.specs.Marks.{IsEpoch};
 ghost use Rattle.nmgc_segment.specs.Segment.{InUse, block_count};
@@ -13,8 +13,8 @@ ghost use Rattle.nmgc_sweep.specs.Names.{HaveEntries, named_at};
 
 use crate::names::Names;
 use nmgc_alloc::Segments;
+use nmgc_names::NameRoom;
 use nmgc_object::{Address, block_words};
-use nmgc_world_spec::Name;
 
 /// Lists the names of the blocks in use of a segment that waits to be swept, and again those of the blocks that aren't
 /// marked with the epoch. There has to be room for as many as a segment may have. Takes time for the blocks of the segment.
@@ -23,25 +23,23 @@ pub(crate) fn list_segment(
     segments: &Segments,
     number: u32,
     epoch: u8,
-    had: &mut Vec<Name>,
-    freed: &mut Vec<Name>,
+    had: &mut NameRoom,
+    freed: &mut NameRoom,
 )
     requires exists { HasNumber segments.now number }
     requires waits { IsWaiting segments.now number }
     requires epoch { IsEpoch epoch }
     requires entries { HaveEntries segments.now.layout names.now }
-    requires had { LEAST * vec_len had.old + segments.now.layout.words ≤ LEAST * vec_capacity had.old }
-    requires freed { LEAST * vec_len freed.old + segments.now.layout.words ≤ LEAST * vec_capacity freed.old }
+    requires had { segments.now.layout.words ≤ LEAST * had.old.spare }
+    requires freed { segments.now.layout.words ≤ LEAST * freed.old.spare }
     ensures had { ListsBlocks (InUse (nth segments.now.segments number))
         (named_at segments.now.layout names.now number (nth segments.now.segments number).class) (block_count (nth segments.now.segments number))
-        had.old.items had.new.items }
-    ensures had_room { vec_capacity had.new ≡ vec_capacity had.old }
-    ensures had_few { LEAST * vec_len had.new ≤ LEAST * vec_len had.old + segments.now.layout.words }
+        had.old.names had.new.names }
+    ensures had_room { LEAST * had.old.spare ≤ LEAST * had.new.spare + segments.now.layout.words }
     ensures freed { ListsBlocks (IsLost (nth segments.now.segments number) epoch)
         (named_at segments.now.layout names.now number (nth segments.now.segments number).class) (block_count (nth segments.now.segments number))
-        freed.old.items freed.new.items }
-    ensures freed_room { vec_capacity freed.new ≡ vec_capacity freed.old }
-    ensures freed_few { LEAST * vec_len freed.new ≤ LEAST * vec_len freed.old + segments.now.layout.words }
+        freed.old.names freed.new.names }
+    ensures freed_room { LEAST * freed.old.spare ≤ LEAST * freed.new.spare + segments.now.layout.words }
 {
     let base = segments.layout().segment_base(number);
     let segment = segments.segment(number);
@@ -50,9 +48,9 @@ pub(crate) fn list_segment(
     for block in 0..blocks {
         if segment.in_use(block) {
             let name = names.at(Address(base + block * size));
-            had.push_reserved(name);
+            had.add(name);
             if !segment.is_marked(block, epoch) {
-                freed.push_reserved(name);
+                freed.add(name);
             }
         }
     }

@@ -5,18 +5,20 @@
 //! what is in all segments that it is to sweep, and then sweeps them in two halves, each in a thread of its own: no
 //! sweep touches the marks of another segment. Room for all names is taken at the start, so that sweeping beside the
 //! mutators takes no memory; memory that is reserved isn't touched, and the start takes time for the number of segments
-//! alone.
+//! alone. There is room where none of the names follows on another; mostly they do, and the lists are a few spans of them
+//! (`nmgc_names`).
 //!
 //! Each half passes the gate under a number of its own, so the sweeper has two counts: its lower half goes on with the
 //! count of the marker, and its upper half counts what upper halves passed before.
 //!
 //! Easy to get wrong: the names that were had and freed lie in order of blocks, and several makers' segments
-//! alternate. So a cycle's row, as a report tells it, has them in order, and the sweeper's lists haven't (`order`).
+//! alternate. So a cycle's row, as a report tells it, has them in order, and the sweeper's lists haven't.
 ghost use Rattle.std.specs.Prelude.{ℕ, ◌≡◌, ◌≢◌, ◌-◌, ◌/◌, ◌<◌, ◌≤◌, [], length, min, IsTrue, IfOk, ◌↔◌};
 ghost use Rattle.nmgc_segment.specs.Marks.{IsEpoch};
 ghost use Rattle.nmgc_alloc.specs.Halves.{IsInHalf};
 ghost use Rattle.nmgc_alloc.specs.Segments.{IsWaiting};
 ghost use Rattle.nmgc_world_spec.specs.Listing.{ListsNumbers};
+ghost use Rattle.nmgc_names.specs.Spans.{names_in};
 ghost use Rattle.nmgc_round.specs.Gate.{passed};
 ghost use Rattle.nmgc_sweep.specs.Names.{HaveEntries};
 ghost use Rattle.nmgc_sweep.specs.Sweeper.{AreLeft, CanList};
@@ -27,10 +29,10 @@ use crate::names::Names;
 use nmgc_alloc::Segments;
 use nmgc_limits::MAKERS;
 use nmgc_lists::NoMemory;
+use nmgc_names::{NameList, NameRoom, Span};
 use nmgc_object::MIN_BLOCK_WORDS;
 use nmgc_round::Gate;
 use nmgc_segment::State;
-use nmgc_world_spec::Name;
 use std::alloc::Global;
 use std::marker::Model;
 use std::thread::Threads;
@@ -48,9 +50,9 @@ pub struct Census {
     /// The numbers of the segments noted at the snapshot, in order.
     pub swept: Vec<u32>,
     /// The names of the blocks in use in these segments at the snapshot.
-    pub had: Vec<Name>,
+    pub had: NameList,
     /// Those that were freed.
-    pub freed: Vec<Name>,
+    pub freed: NameList,
 }
 
 /// The sweeper of a cycle. Contracts see its epoch, the segments that it noted, whose objects were in those that it
@@ -66,26 +68,26 @@ pub struct Sweeper {
     swept: Vec<u32>,
     done: usize,
     most: u32,
-    had: Vec<Name>,
-    freed: Vec<Name>,
+    had: NameRoom,
+    freed: NameRoom,
 }
 
 impl Model for Sweeper {
-    ghost use Rattle.std.specs.Prelude.{◌+◌, ◌-◌, ◌*◌, ◌≤◌, length, drop, vec_len, vec_capacity};
+    ghost use Rattle.std.specs.Prelude.{◌-◌, ◌*◌, ◌≤◌, length, drop};
     ghost use Rattle.nmgc_segment.specs.Marks.{IsEpoch};
     ghost use Rattle.nmgc_sweep.specs.Sweeper.{Sweeper as Shown};
 
     ghost Value = { Shown };
 
     ghost view = { λ s. record {
-      seen = record { epoch = s.epoch; swept = s.swept.items; had = s.had.items; freed = s.freed.items };
+      seen = record { epoch = s.epoch; swept = s.swept.items; had = s.had.names; freed = s.freed.names };
       left = drop s.done s.swept.items;
       most = s.most;
       turns = s.turns;
       upper_turns = s.upper_turns;
     } };
 
-    ghost invariant = { λ s. IsEpoch s.epoch × (s.done ≤ length s.swept.items) × (vec_len s.had + (length s.swept.items - s.done) * s.most ≤ vec_capacity s.had) × (vec_len s.freed + (length s.swept.items - s.done) * s.most ≤ vec_capacity s.freed) };
+    ghost invariant = { λ s. IsEpoch s.epoch × (s.done ≤ length s.swept.items) × ((length s.swept.items - s.done) * s.most ≤ s.had.spare) × ((length s.swept.items - s.done) * s.most ≤ s.freed.spare) };
 }
 
 // The numbers of the segments that wait to be swept, in order.
@@ -131,8 +133,8 @@ impl Sweeper {
             swept,
             done: 0,
             most,
-            had: Vec::with_capacity(alloc, names)?,
-            freed: Vec::with_capacity(alloc, names)?,
+            had: NameRoom::with_room(alloc, names)?,
+            freed: NameRoom::with_room(alloc, names)?,
         })
     }
 
@@ -144,25 +146,25 @@ impl Sweeper {
     }
 
     /// The names of the blocks in use at the snapshot in those of these segments that were swept, in no order.
-    pub fn had(&self) -> &[Name]
-        ensures { result.now ≡ self.now.seen.had }
+    pub fn had(&self) -> &[Span]
+        ensures { names_in result.now ≡ self.now.seen.had }
     {
-        self.had.as_slice()
+        self.had.spans()
     }
 
     /// The names that were freed so far, in no order.
-    pub fn freed(&self) -> &[Name]
-        ensures { result.now ≡ self.now.seen.freed }
+    pub fn freed(&self) -> &[Span]
+        ensures { names_in result.now ≡ self.now.seen.freed }
     {
-        self.freed.as_slice()
+        self.freed.spans()
     }
 
-    /// What it noted, listed and freed, for the cycle's row, in lists that have no more room than they need. Takes no
-    /// memory.
+    /// What it noted, listed and freed, for the cycle's row, in lists that have no more room than they need. Needs no
+    /// memory (`NameRoom::into_list`).
     pub fn into_census(self) -> Census
         ensures swept { result.swept.items ≡ self.seen.swept }
-        ensures had { result.had.items ≡ self.seen.had }
-        ensures freed { result.freed.items ≡ self.seen.freed }
+        ensures had { result.had ≡ self.seen.had }
+        ensures freed { result.freed ≡ self.seen.freed }
     {
         let Sweeper {
             turns: _,
@@ -171,11 +173,11 @@ impl Sweeper {
             swept,
             done: _,
             most: _,
-            mut had,
-            mut freed,
+            had,
+            freed,
         } = self;
-        had.shrink_to_fit();
-        freed.shrink_to_fit();
+        let had = had.into_list();
+        let freed = freed.into_list();
         Census { swept, had, freed }
     }
 

@@ -1,8 +1,17 @@
-use Rattle.std.proofs.Common.{◌∙◌, ap, set, sym}
+use Rattle.std.proofs.Common.{◌∙◌, ap, set, subst, sym}
 use Rattle.std.proofs.lemmas.List.Edits.{map_over_more}
+use Rattle.std.proofs.lemmas.List.Elements.{All-get_or}
 use Rattle.nmgc_journal.specs.declared.report.CycleRow.{CycleRow}
-use Rattle.nmgc_cycle.specs.Shown.{told_row}
+use Rattle.nmgc_cycle.specs.Shown.{told_row, HasNamesOnce}
+use Rattle.nmgc_cycle.proofs.stops.Censuses.{still_there}
 use Rattle.nmgc_cycle.proofs.names.put_rows_in_order.Goals as goal
+
+pub put_row_in_order-requires : goal.put_row_in_order-requires
+put_row_in_order-requires c =
+    let l = c.loop-row in
+    let same = still_there c.args.rows.now l.row-items l.row-index c.row-item.result c.loop-row-test.true l.invariant in
+    subst (λ (row : CycleRow). HasNamesOnce row) (sym same)
+    (All-get_or HasNamesOnce c.args.rows.now l.row-index c.row-item.result c.loop-row-test.true c.requires)
 
 pub loop-row-preserved : goal.loop-row-preserved
 loop-row-preserved c =

@@ -1,11 +1,11 @@
-use Rattle.std.proofs.Common.{ℕ, ◌≡◌, ◌+◌, ◌*◌, ◌<◌, ◌∙◌, [], ◌∷◌, ◌++◌, length, slice_get, Option, Some, true, false, ap, refl, subst, sym, arith, Vec, Global}
-use Rattle.std.specs.Prelude.{vec_len, vec_capacity}
+use Rattle.std.proofs.Common.{ℕ, ◌≡◌, ◌+◌, ◌*◌, ◌<◌, ◌≤◌, ◌∙◌, [], ◌∷◌, ◌++◌, length, slice_get, Option, Some, true, false, ap, refl, subst, sym, arith}
 use Rattle.nmgc_world_spec.specs.declared.value.Name.{Name}
+use Rattle.nmgc_names.specs.Room.{NameRoom}
 use Rattle.nmgc_segment.specs.Segment.{Segment, InUse, IsMarked, block_count}
 use Rattle.nmgc_alloc.specs.Numbered.{nth, block_place}
 use Rattle.nmgc_sweep.specs.Listing.{ListsBlocks, IsLost}
 use Rattle.nmgc_sweep.specs.Names.{entry_of, named_at}
-use Rattle.nmgc_sweep.proofs.Listed.{none_listed, one_passed_over, one_listed, placed_at, place_named}
+use Rattle.nmgc_sweep.proofs.Listed.{none_listed, one_passed_over, one_listed, placed_at, place_named, few_in_segment}
 use Rattle.nmgc_sweep.proofs.listing.list_segment.Goals.{then-in_use+then-not-is_marked, then-in_use+else-not-is_marked, else-in_use}
 use Rattle.nmgc_sweep.proofs.listing.list_segment.Goals as goal
 
@@ -13,12 +13,10 @@ pub loop-block-init : goal.loop-block-init
 loop-block-init c =
     let x : Segment = nth c.args.segments.now.segments c.args.number in
     record {
-      had = none_listed (InUse x) (named_at c.args.segments.now.layout c.args.names.now c.args.number x.class) c.args.had.now.items;
-      had_room = refl;
-      had_few = omega arith;
-      freed = none_listed (IsLost x c.args.epoch) (named_at c.args.segments.now.layout c.args.names.now c.args.number x.class) c.args.freed.now.items;
-      freed_room = refl;
-      freed_few = omega arith;
+      had = none_listed (InUse x) (named_at c.args.segments.now.layout c.args.names.now c.args.number x.class) c.args.had.now.names;
+      had_room = omega arith;
+      freed = none_listed (IsLost x c.args.epoch) (named_at c.args.segments.now.layout c.args.names.now c.args.number x.class) c.args.freed.now.names;
+      freed_room = omega arith;
     }
 
 pub at-name-requires : goal.at-name-requires
@@ -35,6 +33,28 @@ at-name-requires c =
     (place_named c.args.segments.now c.args.names.now c.args.number block c.layout.ensures.sound c.requires.exists c.requires.waits within
     c.requires.entries)
 
+-- the room is for as many as the segment has blocks
+
+pub add-requires : goal.add-requires
+add-requires c =
+    let x : Segment = nth c.args.segments.now.segments c.args.number in
+    let within : c.loop-block.block < block_count x = subst (λ (n : ℕ). c.loop-block.block < n) (c.blocks-blocks.ensures ∙
+    ap (λ (s : Segment). block_count s) c.segment-segment.ensures) c.loop-block-test.true in
+    let few = few_in_segment c.args.segments.now c.args.number c.layout.ensures.sound c.requires.exists in
+    let room = c.requires.had in
+    let used = c.loop-block.invariant.had_room in
+    omega (arith, within, few, room, used)
+
+pub add-requires-then-not-is_marked : goal.add-requires-then-not-is_marked
+add-requires-then-not-is_marked c =
+    let x : Segment = nth c.args.segments.now.segments c.args.number in
+    let within : c.loop-block.block < block_count x = subst (λ (n : ℕ). c.loop-block.block < n) (c.blocks-blocks.ensures ∙
+    ap (λ (s : Segment). block_count s) c.segment-segment.ensures) c.loop-block-test.true in
+    let few = few_in_segment c.args.segments.now c.args.number c.layout.ensures.sound c.requires.exists in
+    let room = c.requires.freed in
+    let used = c.loop-block.invariant.freed_room in
+    omega (arith, within, few, room, used)
+
 pub loop-block-preserved : goal.loop-block-preserved
 loop-block-preserved c =
     let x : Segment = nth c.args.segments.now.segments c.args.number in
@@ -45,8 +65,8 @@ loop-block-preserved c =
     placed_at c.args.segments.now.layout c.layout.result c.args.number x.class c.class.result block c.segment_base-base.result
     c.block_words-size.result c.layout.ensures.layout (c.class.ensures ∙
     ap (λ (s : Segment). s.class) is) c.segment_base-base.ensures c.block_words-size.ensures.size in
-    let had_few = c.loop-block.invariant.had_few in
-    let freed_few = c.loop-block.invariant.freed_few in
+    let had_room = c.loop-block.invariant.had_room in
+    let freed_room = c.loop-block.invariant.freed_room in
     elim c.if-in_use.branch [
       | then-in_use+then-not-is_marked w ↦
           let used : InUse x block = subst (λ (s : Segment). InUse s block) is (c.in_use.ensures.0 w.if-in_use.true) in
@@ -58,27 +78,20 @@ loop-block-preserved c =
                 let t : w.is_marked.result ≡ true = w.is_marked.ensures.1 (subst (λ (s : Segment). IsMarked s c.args.epoch block) (sym is) marked) in
                 let f : true ≡ false = sym t ∙ w.if-not-is_marked.true in cc,
           ) in
-          let had : c.if-in_use.had.items ≡ c.loop-block.had.items ++ w.at-name.result ∷ [] = ap (λ (v : Vec Name Global). v.items) w.had-is ∙
-          w.push_reserved.ensures.items in
-          let had_len : vec_len c.if-in_use.had ≡ vec_len c.loop-block.had + 1 = ap (λ (v : Vec Name Global). vec_len v) w.had-is ∙
-          w.push_reserved.ensures.len in
-          let had_room : vec_capacity c.if-in_use.had ≡ vec_capacity c.loop-block.had = ap (λ (v : Vec Name Global). vec_capacity v) w.had-is ∙
-          w.push_reserved.ensures.capacity in
-          let freed : c.if-in_use.freed.items ≡ c.loop-block.freed.items ++ w.at-name.result ∷ [] =
-          ap (λ (v : Vec Name Global). v.items) w.freed-is ∙ w.push_reserved-then-not-is_marked.ensures.items in
-          let freed_len : vec_len c.if-in_use.freed ≡ vec_len c.loop-block.freed + 1 = ap (λ (v : Vec Name Global). vec_len v) w.freed-is ∙
-          w.push_reserved-then-not-is_marked.ensures.len in
-          let freed_room : vec_capacity c.if-in_use.freed ≡ vec_capacity c.loop-block.freed =
-          ap (λ (v : Vec Name Global). vec_capacity v) w.freed-is ∙ w.push_reserved-then-not-is_marked.ensures.capacity in
+          let had : c.if-in_use.had.names ≡ c.loop-block.had.names ++ w.at-name.result ∷ [] = ap (λ (r : NameRoom). r.names) w.had-is ∙
+          w.add.ensures.names in
+          let had_spare : c.if-in_use.had.spare + 1 ≡ c.loop-block.had.spare = ap (λ (r : NameRoom). r.spare + 1) w.had-is ∙ w.add.ensures.spare in
+          let freed : c.if-in_use.freed.names ≡ c.loop-block.freed.names ++ w.at-name.result ∷ [] =
+          ap (λ (r : NameRoom). r.names) w.freed-is ∙ w.add-then-not-is_marked.ensures.names in
+          let freed_spare : c.if-in_use.freed.spare + 1 ≡ c.loop-block.freed.spare = ap (λ (r : NameRoom). r.spare + 1) w.freed-is ∙
+          w.add-then-not-is_marked.ensures.spare in
           record {
-            had = one_listed (InUse x) name block w.at-name.result c.args.had.now.items c.loop-block.had.items c.if-in_use.had.items used named had
+            had = one_listed (InUse x) name block w.at-name.result c.args.had.now.names c.loop-block.had.names c.if-in_use.had.names used named had
                 c.loop-block.invariant.had;
-            had_room = had_room ∙ c.loop-block.invariant.had_room;
-            had_few = omega (arith, had_len, had_few);
-            freed = one_listed (IsLost x c.args.epoch) name block w.at-name.result c.args.freed.now.items c.loop-block.freed.items
-                c.if-in_use.freed.items lost named freed c.loop-block.invariant.freed;
-            freed_room = freed_room ∙ c.loop-block.invariant.freed_room;
-            freed_few = omega (arith, freed_len, freed_few);
+            had_room = omega (arith, had_spare, had_room);
+            freed = one_listed (IsLost x c.args.epoch) name block w.at-name.result c.args.freed.now.names c.loop-block.freed.names
+                c.if-in_use.freed.names lost named freed c.loop-block.invariant.freed;
+            freed_room = omega (arith, freed_spare, freed_room);
           }
       | then-in_use+else-not-is_marked w ↦
           let used : InUse x block = subst (λ (s : Segment). InUse s block) is (c.in_use.ensures.0 w.if-in_use.true) in
@@ -86,39 +99,32 @@ loop-block-preserved c =
           Some w.at-name.result) at w.at-name.ensures in
           let kept : IsMarked x c.args.epoch block = subst (λ (s : Segment).
           IsMarked s c.args.epoch block) is (w.is_marked.ensures.0 w.if-not-is_marked.false) in
-          let had : c.if-in_use.had.items ≡ c.loop-block.had.items ++ w.at-name.result ∷ [] = ap (λ (v : Vec Name Global). v.items) w.had-is ∙
-          w.push_reserved.ensures.items in
-          let had_len : vec_len c.if-in_use.had ≡ vec_len c.loop-block.had + 1 = ap (λ (v : Vec Name Global). vec_len v) w.had-is ∙
-          w.push_reserved.ensures.len in
-          let had_room : vec_capacity c.if-in_use.had ≡ vec_capacity c.loop-block.had = ap (λ (v : Vec Name Global). vec_capacity v) w.had-is ∙
-          w.push_reserved.ensures.capacity in
-          let freed_len : vec_len c.if-in_use.freed ≡ vec_len c.loop-block.freed = ap (λ (v : Vec Name Global). vec_len v) w.freed-is in
+          let had : c.if-in_use.had.names ≡ c.loop-block.had.names ++ w.at-name.result ∷ [] = ap (λ (r : NameRoom). r.names) w.had-is ∙
+          w.add.ensures.names in
+          let had_spare : c.if-in_use.had.spare + 1 ≡ c.loop-block.had.spare = ap (λ (r : NameRoom). r.spare + 1) w.had-is ∙ w.add.ensures.spare in
+          let freed_spare : c.if-in_use.freed.spare ≡ c.loop-block.freed.spare = ap (λ (r : NameRoom). r.spare) w.freed-is in
           record {
-            had = one_listed (InUse x) name block w.at-name.result c.args.had.now.items c.loop-block.had.items c.if-in_use.had.items used named had
+            had = one_listed (InUse x) name block w.at-name.result c.args.had.now.names c.loop-block.had.names c.if-in_use.had.names used named had
                 c.loop-block.invariant.had;
-            had_room = had_room ∙ c.loop-block.invariant.had_room;
-            had_few = omega (arith, had_len, had_few);
-            freed = one_passed_over (IsLost x c.args.epoch) name block c.args.freed.now.items c.if-in_use.freed.items (λ lost. lost.1 kept)
-                (subst (λ (v : Vec Name Global).
-                ListsBlocks (IsLost x c.args.epoch) name block c.args.freed.now.items v.items) (sym w.freed-is) c.loop-block.invariant.freed);
-            freed_room = ap (λ (v : Vec Name Global). vec_capacity v) w.freed-is ∙ c.loop-block.invariant.freed_room;
-            freed_few = omega (arith, freed_len, freed_few);
+            had_room = omega (arith, had_spare, had_room);
+            freed = one_passed_over (IsLost x c.args.epoch) name block c.args.freed.now.names c.if-in_use.freed.names (λ lost. lost.1 kept)
+                (subst (λ (r : NameRoom).
+                ListsBlocks (IsLost x c.args.epoch) name block c.args.freed.now.names r.names) (sym w.freed-is) c.loop-block.invariant.freed);
+            freed_room = omega (arith, freed_spare, freed_room);
           }
       | else-in_use w ↦
           let unused : InUse x block → ⊥ = λ u.
           let t : c.in_use.result ≡ true = c.in_use.ensures.1 (subst (λ (s : Segment). InUse s block) (sym is) u) in
           let f : true ≡ false = sym t ∙ w.if-in_use.false in cc in
-          let had_len : vec_len c.if-in_use.had ≡ vec_len c.loop-block.had = ap (λ (v : Vec Name Global). vec_len v) w.had-is in
-          let freed_len : vec_len c.if-in_use.freed ≡ vec_len c.loop-block.freed = ap (λ (v : Vec Name Global). vec_len v) w.freed-is in
+          let had_spare : c.if-in_use.had.spare ≡ c.loop-block.had.spare = ap (λ (r : NameRoom). r.spare) w.had-is in
+          let freed_spare : c.if-in_use.freed.spare ≡ c.loop-block.freed.spare = ap (λ (r : NameRoom). r.spare) w.freed-is in
           record {
-            had = one_passed_over (InUse x) name block c.args.had.now.items c.if-in_use.had.items unused
-                (subst (λ (v : Vec Name Global). ListsBlocks (InUse x) name block c.args.had.now.items v.items) (sym w.had-is) c.loop-block.invariant.had);
-            had_room = ap (λ (v : Vec Name Global). vec_capacity v) w.had-is ∙ c.loop-block.invariant.had_room;
-            had_few = omega (arith, had_len, had_few);
-            freed = one_passed_over (IsLost x c.args.epoch) name block c.args.freed.now.items c.if-in_use.freed.items (λ lost. unused lost.0)
-                (subst (λ (v : Vec Name Global).
-                ListsBlocks (IsLost x c.args.epoch) name block c.args.freed.now.items v.items) (sym w.freed-is) c.loop-block.invariant.freed);
-            freed_room = ap (λ (v : Vec Name Global). vec_capacity v) w.freed-is ∙ c.loop-block.invariant.freed_room;
-            freed_few = omega (arith, freed_len, freed_few);
+            had = one_passed_over (InUse x) name block c.args.had.now.names c.if-in_use.had.names unused
+                (subst (λ (r : NameRoom). ListsBlocks (InUse x) name block c.args.had.now.names r.names) (sym w.had-is) c.loop-block.invariant.had);
+            had_room = omega (arith, had_spare, had_room);
+            freed = one_passed_over (IsLost x c.args.epoch) name block c.args.freed.now.names c.if-in_use.freed.names (λ lost. unused lost.0)
+                (subst (λ (r : NameRoom).
+                ListsBlocks (IsLost x c.args.epoch) name block c.args.freed.now.names r.names) (sym w.freed-is) c.loop-block.invariant.freed);
+            freed_room = omega (arith, freed_spare, freed_room);
           }
     ]

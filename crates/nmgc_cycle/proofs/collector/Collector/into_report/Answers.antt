@@ -1,15 +1,21 @@
 use Rattle.std.proofs.Common.{◌≡◌, ◌∙◌, List, length, map, ap, sym, subst}
 use Rattle.std.proofs.lemmas.List.{length-map}
+use Rattle.std.specs.Prelude.{All}
 use Rattle.std.specs.List.{refill}
 use Rattle.nmgc_world_laws.specs.laws.Worlds.{refill_whole}
 use Rattle.nmgc_journal.specs.declared.report.CycleRow.{CycleRow}
 use Rattle.nmgc_run_spec.specs.Lawful.{IsLawful}
-use Rattle.nmgc_cycle.specs.Shown.{told_row}
+use Rattle.nmgc_cycle.specs.Shown.{told_row, HasNamesOnce}
+use Rattle.nmgc_cycle.proofs.stops.Censuses.{names_once}
 use Rattle.nmgc_cycle.proofs.stops.Told.{kept_of, told, same_parts, words_had}
 use Rattle.nmgc_cycle.proofs.collector.Collector.into_report.Goals as goal
 
 pub unwrap-requires : goal.unwrap-requires
 unwrap-requires c = (kept_of c.requires.0 c.args.self c.args.end c.requires.1).has_words
+
+pub put_rows_in_order-requires : goal.put_rows_in_order-requires
+put_rows_in_order-requires c =
+    subst (λ (rows : List CycleRow). All HasNamesOnce rows) (sym c.items_mut.ensures.value) (names_once c.requires.0 c.args.self c.args.end c.requires.1)
 
 -- rows that were put in order where they lie
 in_order_there : (rows lent new : List CycleRow) → lent ≡ rows → new ≡ map told_row lent → refill (length rows) rows new ≡ map told_row rows

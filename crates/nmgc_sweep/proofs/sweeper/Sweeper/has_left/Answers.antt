@@ -2,7 +2,7 @@ use Rattle.std.proofs.Common.{ℕ, ◌≡◌, ◌∙◌, ◌<◌, List, [], leng
 use Rattle.std.proofs.lemmas.Bool.{lt-ltb}
 use Rattle.nmgc_sweep.proofs.Listed.{left_some, some_left}
 use Rattle.nmgc_sweep.specs.Sweeper.{Sweeper}
-use Rattle.nmgc_sweep.specs.laws.Order.{lt_true}
+use Rattle.nmgc_names.specs.laws.Order.{lt_true}
 use Rattle.nmgc_sweep.proofs.sweeper.Sweeper.has_left.Goals as goal
 
 pub returns : goal.returns

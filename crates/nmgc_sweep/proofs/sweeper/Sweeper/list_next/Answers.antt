@@ -23,8 +23,8 @@ list_segment-requires-clause-had c =
     let low : c.self.inside.done < length numbers = some_left numbers c.self.inside.done (λ none. c.requires.some (sym left ∙ none)) in
     let few : c.args.segments.now.layout.words ≤ MIN_BLOCK_WORDS * c.self.inside.most =
     subst (λ (k : ℕ). c.args.segments.now.layout.words ≤ MIN_BLOCK_WORDS * k) (sym most) c.requires.can.room in
-    room_for_one (length numbers) c.self.inside.done c.self.inside.most c.args.segments.now.layout.words c.self.inside.had.len c.self.inside.had.cap
-    low few c.self.invariant.2
+    room_for_one (length numbers) c.self.inside.done c.self.inside.most c.args.segments.now.layout.words c.self.inside.had.spare low few
+    c.self.invariant.2
 
 pub list_segment-requires-clause-freed : goal.list_segment-requires-clause-freed
 list_segment-requires-clause-freed c =
@@ -34,8 +34,8 @@ list_segment-requires-clause-freed c =
     let low : c.self.inside.done < length numbers = some_left numbers c.self.inside.done (λ none. c.requires.some (sym left ∙ none)) in
     let few : c.args.segments.now.layout.words ≤ MIN_BLOCK_WORDS * c.self.inside.most =
     subst (λ (k : ℕ). c.args.segments.now.layout.words ≤ MIN_BLOCK_WORDS * k) (sym most) c.requires.can.room in
-    room_for_one (length numbers) c.self.inside.done c.self.inside.most c.args.segments.now.layout.words c.self.inside.freed.len
-    c.self.inside.freed.cap low few c.self.invariant.3
+    room_for_one (length numbers) c.self.inside.done c.self.inside.most c.args.segments.now.layout.words c.self.inside.freed.spare low few
+    c.self.invariant.3
 
 pub invariant_of-self : goal.invariant_of-self
 invariant_of-self c =
@@ -47,12 +47,10 @@ invariant_of-self c =
     subst (λ (k : ℕ). c.args.segments.now.layout.words ≤ MIN_BLOCK_WORDS * k) (sym most) c.requires.can.room in (
       c.self.invariant.0,
       omega (arith, low),
-      room_for_others (length numbers) c.self.inside.done c.self.inside.most c.args.segments.now.layout.words c.self.inside.had.len
-          c.list_segment.new.had.len c.self.inside.had.cap c.list_segment.new.had.cap low few c.self.invariant.2 c.list_segment.ensures.had_few
-          c.list_segment.ensures.had_room,
-      room_for_others (length numbers) c.self.inside.done c.self.inside.most c.args.segments.now.layout.words c.self.inside.freed.len
-          c.list_segment.new.freed.len c.self.inside.freed.cap c.list_segment.new.freed.cap low few c.self.invariant.3
-          c.list_segment.ensures.freed_few c.list_segment.ensures.freed_room,
+      room_for_others (length numbers) c.self.inside.done c.self.inside.most c.args.segments.now.layout.words c.self.inside.had.spare
+          c.list_segment.new.had.spare low few c.self.invariant.2 c.list_segment.ensures.had_room,
+      room_for_others (length numbers) c.self.inside.done c.self.inside.most c.args.segments.now.layout.words c.self.inside.freed.spare
+          c.list_segment.new.freed.spare low few c.self.invariant.3 c.list_segment.ensures.freed_room,
     )
 
 pub returns : goal.returns
@@ -63,11 +61,11 @@ returns c =
     let left : drop c.self.inside.done numbers ≡ c.args.self.now.left = ap (λ (s : Sweeper). s.left) c.self.view_is in
     let split : drop c.self.inside.done numbers ≡ first ∷ rest =
     taken numbers c.self.inside.done first c.args.self.now.left left c.requires.some c.index-number.ensures in
-    let parts : made c.self.inside.turns c.self.inside.upper_turns c.self.inside.epoch numbers c.self.inside.had.items c.self.inside.freed.items
+    let parts : made c.self.inside.turns c.self.inside.upper_turns c.self.inside.epoch numbers c.self.inside.had.names c.self.inside.freed.names
     (first ∷ rest) c.self.inside.most ≡ c.args.self.now =
-    ap (λ (l : List ℕ). made c.self.inside.turns c.self.inside.upper_turns c.self.inside.epoch numbers c.self.inside.had.items
-    c.self.inside.freed.items l c.self.inside.most) (sym split) ∙ c.self.view_is in
+    ap (λ (l : List ℕ). made c.self.inside.turns c.self.inside.upper_turns c.self.inside.epoch numbers c.self.inside.had.names
+    c.self.inside.freed.names l c.self.inside.most) (sym split) ∙ c.self.view_is in
     subst (λ (s : Sweeper).
     HasListed c.args.segments.now c.args.names.now s (made c.self.inside.turns c.self.inside.upper_turns c.self.inside.epoch numbers
-    c.list_segment.new.had.items c.list_segment.new.freed.items rest c.self.inside.most)) parts
+    c.list_segment.new.had.names c.list_segment.new.freed.names rest c.self.inside.most)) parts
     (record { first = first; left = refl; had = c.list_segment.ensures.had; freed = c.list_segment.ensures.freed; rest = refl })

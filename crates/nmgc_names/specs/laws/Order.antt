@@ -1,23 +1,16 @@
--- Names in order: which names they are, that each stands before the next, and that a sort gives no other list.
+-- Names in order: which names they are, that each stands before the next, and that there is one such list.
 use Rattle.std.proofs.Common.{ℕ, suc, ◌≡◌, ◌⊎◌, ◌↔◌, ◌+◌, ◌<◌, ◌≤◌, ◌∙◌, inl, inr, refl, sym, ap, subst, arith, List, [], ◌∷◌, cond, Bool, true, false, sum_by}
-use Rattle.std.specs.Prelude.{Contains, nat_lt, ◌==◌, ◌||◌, ◌&&◌, slice_index_or}
-use Rattle.std.specs.List.Sorted.{IsPermutation}
-use Rattle.std.specs.Ordering.{nat_cmp, ordering_then, is_lt}
-use Rattle.std.specs.declared.cmp.Ordering.{Ordering}
-use Rattle.std.specs.declared.cmp.Ordering.TheVariants.{Less, Equal, Greater}
+use Rattle.std.specs.Prelude.{Contains, nat_lt, ◌==◌, ◌||◌, ◌&&◌}
 use Rattle.std.proofs.lemmas.Bool.{cases_Bool, cases_lt, lt-ltb, le-ltb, eq-eqb}
-use Rattle.std.proofs.lemmas.Cmp.{ranked}
 use Rattle.std.proofs.lemmas.List.Sums.{sum_by-cons}
-use Rattle.std.proofs.lemmas.List.Sorted.{sum_by-IsPermutation}
 use Rattle.nmgc_world_spec.specs.declared.value.Name.{Name}
 use Rattle.nmgc_world_spec.specs.Reach.{IsBefore, IsInOrder, Lists}
 use Rattle.nmgc_world_spec.specs.laws.Orders.{same_name, before_trans, not_before_itself, in_order_cons, in_order_first, in_order_rest}
 use Rattle.nmgc_lists.specs.laws.Items.{contains_head, contains_tail, contains_cases}
 use Rattle.nmgc_world_spec.specs.Listing.{AreDistinct}
-use Rattle.nmgc_sweep.specs.Order.{is_before, put, in_order}
-use Rattle.nmgc_sweep.specs.Sweeper.{AreSorted}
+use Rattle.nmgc_names.specs.Order.{is_before, put, in_order}
 use Rattle.nmgc_lists.specs.laws.Truths.{and_both, eq_true, or_first, or_second}
-use Rattle.nmgc_world_laws.specs.laws.Distinct.{before_cases as which_first}
+use Rattle.nmgc_world_laws.specs.laws.Distinct.{in_order_distinct, before_cases as which_first}
 
 -- what the test tells
 and_true : (x y : Bool) → x ≡ true → y ≡ true → (x && y) ≡ true
@@ -128,7 +121,7 @@ lists_in_order P xs d h = record {
   complete = λ n p. (in_order_has xs n).1 ((h n).1 p);
 }
 
--- a sort gives the same list: of names in order, with doubles or not, there is one list with so many of each
+-- of names in order, with doubles or not, there is one list with so many of each
 
 -- no name stands before one that comes earlier
 abbrev pub IsSteady : List Name → Type 0
@@ -136,7 +129,7 @@ IsSteady [] = Unit {0}
 IsSteady (x ∷ xs) = ((n : Name) → Contains xs n → IsBefore n x → ⊥) × IsSteady xs
 
 -- a name before one that isn't after another isn't after that either
-still_not : (n x y : Name) → (IsBefore n y → ⊥) → (IsBefore y x → ⊥) → IsBefore n x → ⊥
+pub still_not : (n x y : Name) → (IsBefore n y → ⊥) → (IsBefore y x → ⊥) → IsBefore n x → ⊥
 still_not n x y low high h = elim (which_first n y) [
   | inl b ↦ low b
   | inr (inl e) ↦ high (let P : Name → Type 0 = λ m. IsBefore m x in subst P e h)
@@ -164,18 +157,18 @@ steady_put x (y ∷ ys) s = elim (cases_Bool (is_before y x)) [
       )
 ]
 
-steady_in_order : (xs : List Name) → IsSteady (in_order xs)
+pub steady_in_order : (xs : List Name) → IsSteady (in_order xs)
 steady_in_order [] = tt
 steady_in_order (x ∷ xs) = steady_put x (in_order xs) (steady_in_order xs)
 
 -- how many of a name there are
-abbrev one_if : Name → Name → ℕ
+abbrev pub one_if : Name → Name → ℕ
 one_if n m = cond ((n.maker == m.maker) && (n.serial == m.serial)) 1 0
 
-abbrev many : Name → List Name → ℕ
+abbrev pub many : Name → List Name → ℕ
 many n xs = sum_by (one_if n) xs
 
-one_same : (n : Name) → one_if n n ≡ 1
+pub one_same : (n : Name) → one_if n n ≡ 1
 one_same n = ap (λ (b : Bool). let k : ℕ = cond b 1 0 in
     k) (and_true (n.maker == n.maker) (n.serial == n.serial) (eq-eqb n.maker n.maker refl) (eq-eqb n.serial n.serial refl))
 
@@ -205,7 +198,7 @@ many_put n x (y ∷ ys) = elim (cases_Bool (is_before y x)) [
       (sum_by-cons (one_if n) x (y ∷ ys))
 ]
 
-many_in_order : (n : Name) (xs : List Name) → many n (in_order xs) ≡ many n xs
+pub many_in_order : (n : Name) (xs : List Name) → many n (in_order xs) ≡ many n xs
 many_in_order n [] = refl
 many_in_order n (x ∷ xs) = let a = many_put n x (in_order xs) in let b = many_in_order n xs in let c = sum_by-cons (one_if n) x xs in omega (arith, a, b, c)
 
@@ -226,7 +219,7 @@ same_first x y xs ys s t c d = elim (contains_cases y ys x c) [
   ]
 ]
 
-one_steady : (xs ys : List Name) → IsSteady xs → IsSteady ys → ((n : Name) → many n xs ≡ many n ys) → xs ≡ ys
+pub one_steady : (xs ys : List Name) → IsSteady xs → IsSteady ys → ((n : Name) → many n xs ≡ many n ys) → xs ≡ ys
 one_steady [] [] s t e = refl
 one_steady [] (y ∷ ys) s t e = absurd (let c = first_in y ys [] (sym (e y)) in omega (arith, c.1))
 one_steady (x ∷ xs) [] s t e = absurd (let c = first_in x xs [] (e x) in omega (arith, c.1))
@@ -240,44 +233,54 @@ one_steady (x ∷ xs) (y ∷ ys) s t e =
     omega (arith, a, b, one, all)) in
     ap (λ (z : Name). z ∷ xs) first ∙ ap (λ (l : List Name). y ∷ l) rest
 
--- of two names that stand in order, the second isn't before the first
-by_order : (a b : Name) (p q : Ordering) → p ≡ nat_cmp b.maker a.maker → q ≡ nat_cmp b.serial a.serial → is_lt (ordering_then p q) ≡ false → IsBefore b a → ⊥
-by_order a b Less q e f h ahead = cc
-by_order a b Greater q e f h (inl lt) = let less = ranked b.maker a.maker Greater e in omega (arith, lt, less)
-by_order a b Greater q e f h (inr p) = let less = ranked b.maker a.maker Greater e in let same = p.0 in omega (arith, same, less)
-by_order a b Equal Less e f h ahead = cc
-by_order a b Equal Equal e f h (inl lt) = let same = ranked b.maker a.maker Equal e in omega (arith, lt, same)
-by_order a b Equal Equal e f h (inr p) = let same = ranked b.serial a.serial Equal f in let lt = p.1 in omega (arith, lt, same)
-by_order a b Equal Greater e f h (inl lt) = let same = ranked b.maker a.maker Equal e in omega (arith, lt, same)
-by_order a b Equal Greater e f h (inr p) = let less = ranked b.serial a.serial Greater f in let lt = p.1 in omega (arith, lt, less)
+-- a list has no name twice exactly where it has one of each at most
 
-steady_cons : (x : Name) (xs : List Name) → ((y : Name) (ys : List Name) → xs ≡ y ∷ ys → IsBefore y x → ⊥) → IsSteady xs → IsSteady (x ∷ xs)
-steady_cons x [] first s = ((λ n c. absurd (omega (arith, c.1))), tt)
-steady_cons x (y ∷ ys) first s = (
-  (λ n c b. elim (contains_cases y ys n c) [
-    | inl e ↦ first y ys refl (let P : Name → Type 0 = λ m. IsBefore m x in subst P (sym e) b)
-    | inr r ↦ still_not n x y (s.0 n r) (first y ys refl) b
-  ]),
-  s,
+one_most : (n m : Name) → one_if n m ≤ 1
+one_most n m = elim (cases_Bool ((n.maker == m.maker) && (n.serial == m.serial))) [
+  | inl both ↦ let e : one_if n m ≡ 1 = ap (λ (b : Bool). let k : ℕ = cond b 1 0 in k) both in omega (arith, e)
+  | inr not ↦ let e : one_if n m ≡ 0 = ap (λ (b : Bool). let k : ℕ = cond b 1 0 in k) not in omega (arith, e)
+]
+
+has_many : (n : Name) (xs : List Name) → Contains xs n → 1 ≤ many n xs
+has_many n [] c = absurd (omega (arith, c.1))
+has_many n (x ∷ xs) c =
+    let all = sum_by-cons (one_if n) x xs in
+    elim (contains_cases x xs n c) [
+      | inl e ↦ let one : one_if n x ≡ 1 = subst (λ (m : Name). one_if n m ≡ 1) (sym e) (one_same n) in omega (arith, all, one)
+      | inr r ↦ let some = has_many n xs r in omega (arith, all, some)
+    ]
+
+pub once_many : (n : Name) (xs : List Name) → AreDistinct xs → many n xs ≤ 1
+once_many n [] d = omega arith
+once_many n (x ∷ xs) d =
+    let all = sum_by-cons (one_if n) x xs in
+    elim (cases_lt 0 (one_if n x)) [
+      | inl here ↦
+          let same : n ≡ x = one_some n x (omega (arith, here)) in
+          let one = one_most n x in
+          let none : many n xs ≤ 0 = elim (cases_lt 0 (many n xs)) [
+            | inl some ↦ absurd (d.0 (subst (λ (m : Name). Contains xs m) same (many_has n xs (omega (arith, some)))))
+            | inr none ↦ none
+          ] in
+          omega (arith, all, one, none)
+      | inr none ↦ let rest = once_many n xs d.1 in omega (arith, all, none, rest)
+    ]
+
+pub many_once : (xs : List Name) → ((n : Name) → many n xs ≤ 1) → AreDistinct xs
+many_once [] h = tt
+many_once (x ∷ xs) h = (
+  (λ c.
+      let all = sum_by-cons (one_if x) x xs in
+      let one = one_same x in
+      let some = has_many x xs c in
+      let most = h x in
+      omega (arith, all, one, some, most)),
+  many_once xs (λ n. let all = sum_by-cons (one_if n) x xs in let most = h n in omega (arith, all, most)),
 )
 
-pub sorted_steady : (xs : List Name) → AreSorted xs → IsSteady xs
-sorted_steady [] s = tt
-sorted_steady (x ∷ []) s = ((λ n c. absurd (omega (arith, c.1))), tt)
-sorted_steady (x ∷ y ∷ ys) s = steady_cons x (y ∷ ys)
-    (λ z zs e b. by_order x y (nat_cmp y.maker x.maker) (nat_cmp y.serial x.serial) refl refl (s 0 x (omega arith) (omega arith))
-    (let P : Name → Type 0 = λ m. IsBefore m x in subst P (sym (heads y z ys zs e)) b))
-    (sorted_steady (y ∷ ys) (λ k o low high.
-    let e : suc k + 1 ≡ suc (k + 1) = omega arith in
-    let here = s (suc k) o (omega arith) (omega (arith, high)) in
-    let P : ℕ → Type 0 = λ m. is_lt (ordering_then (nat_cmp (slice_index_or (x ∷ y ∷ ys) m o).maker (slice_index_or (y ∷
-    ys) k o).maker) (nat_cmp (slice_index_or (x ∷ y ∷ ys) m o).serial (slice_index_or (y ∷ ys) k o).serial)) ≡ false in
-    subst P e here))
-  where
-    heads : (a b : Name) (xs ys : List Name) → a ∷ xs ≡ b ∷ ys → a ≡ b
-    heads a b xs ys e = cc
-
--- so a sort puts names in order
-pub sort_is_order : (xs ys : List Name) → IsPermutation xs ys → AreSorted ys → ys ≡ in_order xs
-sort_is_order xs ys p s = one_steady ys (in_order xs) (sorted_steady ys s) (steady_in_order xs) (λ n. sum_by-IsPermutation (one_if n) xs ys p ∙
-    sym (many_in_order n xs))
+-- so names that stand in order once they are put in it have none twice
+pub ordered_once : (xs : List Name) → IsInOrder (in_order xs) → AreDistinct xs
+ordered_once xs o = many_once xs (λ n.
+    let same = many_in_order n xs in
+    let most = once_many n (in_order xs) (in_order_distinct (in_order xs) o) in
+    omega (arith, same, most))

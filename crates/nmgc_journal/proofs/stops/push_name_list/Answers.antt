@@ -1,0 +1,21 @@
+use Rattle.std.proofs.Common.{ℕ, ◌≡◌, ◌∙◌, List, [], ◌∷◌, ◌++◌, ap, refl, subst, sym}
+use Rattle.std.specs.Prelude.{OnOk}
+use Rattle.std.specs.List.{flat_map}
+use Rattle.std.proofs.lemmas.Grind.{flat_map-append}
+use Rattle.nmgc_world_spec.specs.declared.value.Name.{Name}
+use Rattle.nmgc_names.specs.declared.span.Span.{Span}
+use Rattle.nmgc_names.specs.Spans.{names_in, names_of}
+use Rattle.nmgc_journal.specs.Spans.{span_lines}
+use Rattle.nmgc_journal.specs.Text.{name_line}
+use Rattle.nmgc_journal.proofs.stops.push_name_list.Goals as goal
+
+-- the lines of spans are those of their names
+lines_in : (word : List ℕ) (spans : List Span) → flat_map (span_lines word) spans ≡ flat_map (name_line word) (names_in spans)
+lines_in word [] = refl
+lines_in word (span ∷ spans) =
+    ap (λ (lines : List ℕ). span_lines word span ++ lines) (lines_in word spans) ∙ sym (flat_map-append (name_line word) (names_of span) (names_in spans))
+
+pub returns : goal.returns
+returns c =
+    let lines = lines_in c.args.word.now c.spans.result.now ∙ ap (λ (names : List Name). flat_map (name_line c.args.word.now) names) c.spans.ensures in
+    subst (λ (lines : List ℕ). OnOk c.push_spans.result (c.push_spans.new.out.items ≡ c.args.out.now.items ++ lines)) lines c.push_spans.ensures

@@ -1,0 +1,8 @@
+use Rattle.std.proofs.Common.{◌≡◌, ◌++◌, drop}
+use Rattle.std.specs.List.{flat_map}
+use Rattle.nmgc_journal.specs.Spans.{span_lines}
+use Rattle.nmgc_journal.proofs.stops.push_spans.Given as goal
+
+-- the lines so far and those of the rest are all
+abbrev pub invariant-loop-span : goal.invariant-loop-span
+invariant-loop-span l = l.out.items ++ flat_map (span_lines l.word) (drop l.span-index l.spans) ≡ l.fn.out.items ++ flat_map (span_lines l.word) l.spans

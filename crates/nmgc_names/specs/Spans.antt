@@ -1,0 +1,36 @@
+-- Names in spans: names of one maker, one serial after the other.
+use Rattle.std.specs.Prelude.{ℕ, zero, suc, ◌≡◌, ◌+◌, ◌<◌, ◌^◌, List, [], ◌∷◌}
+use Rattle.std.specs.List.{flat_map}
+use Rattle.std.specs.List.Sorted.{IsSortedByKey}
+use Rattle.std.specs.Ordering.{ordering_then, nat_cmp}
+use Rattle.nmgc_world_spec.specs.declared.value.Name.{Name}
+use Rattle.nmgc_names.specs.declared.span.Span.{Span}
+
+-- a maker's name with this serial
+abbrev pub named : ℕ → ℕ → Name
+named maker serial = record { maker = maker; serial = serial }
+
+-- so many names of a maker, from a serial on
+abbrev pub names_from : ℕ → ℕ → ℕ → List Name
+names_from maker first zero = []
+names_from maker first (suc count) = named maker first ∷ names_from maker (first + 1) count
+
+-- the names of a span
+abbrev pub names_of : Span → List Name
+names_of span = names_from span.maker span.first span.count
+
+-- the names of spans, one span after the other
+abbrev pub names_in : List Span → List Name
+names_in spans = flat_map names_of spans
+
+-- the name is the next one of the span, which has room for it
+abbrev pub IsNext : Span → Name → Type 0
+IsNext span name = (name.maker ≡ span.maker) × (name.serial ≡ span.first + span.count) × (span.count + 1 < 2 ^ 16)
+
+-- the maker and the first serial, by which spans are sorted
+abbrev pub key_of : Span → ℕ × ℕ
+key_of span = (span.maker, span.first)
+
+-- no span's first name stands before that of the span that it follows
+abbrev pub AreSorted : List Span → Type 0
+AreSorted spans = IsSortedByKey {X = Span} {K = ℕ × ℕ} key_of (λ a b. ordering_then (nat_cmp a.0 b.0) (nat_cmp a.1 b.1)) spans

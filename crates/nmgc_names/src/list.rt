@@ -1,0 +1,63 @@
+//! A list of names, which contracts see as that list.
+//!
+//! It can be read and put in order, and nothing can be added: a list is made as a `NameRoom`.
+ghost use Rattle.std.specs.Prelude.{◌≡◌, length};
+ghost use Rattle.std.specs.List.Sorted.{IsPermutation};
+ghost use Rattle.nmgc_world_spec.specs.Listing.{AreDistinct};
+ghost use Rattle.nmgc_names.specs.Order.{in_order};
+ghost use Rattle.nmgc_names.specs.Spans.{names_in, AreSorted};
+
+use crate::span::Span;
+use std::marker::Model;
+
+/// Names, which can be read and put in order.
+#[derive(Drop)]
+pub struct NameList {
+    pub(crate) spans: Vec<Span>,
+    pub(crate) count: usize,
+}
+
+impl Model for NameList {
+    ghost use Rattle.std.specs.Prelude.{List, ◌≡◌, length};
+    ghost use Rattle.nmgc_world_spec.specs.declared.value.Name.{Name as Named};
+    ghost use Rattle.nmgc_names.specs.Spans.{names_in};
+
+    ghost Value = { List Named };
+
+    ghost view = { λ l. names_in l.spans.items };
+
+    ghost invariant = { λ l. l.count ≡ length (names_in l.spans.items) };
+}
+
+// Puts spans in the order of their first names, in place.
+fn sort(spans: &mut Vec<Span>)
+    ensures permutation { IsPermutation spans.old.items spans.new.items }
+    ensures sorted { AreSorted spans.new.items }
+{
+    spans.sort_unstable_by_key(|span| (span.maker, span.first));
+}
+
+impl NameList {
+    /// How many names there are. Constant time.
+    pub fn len(&self) -> usize
+        ensures { result ≡ length self.now }
+    {
+        self.count
+    }
+
+    /// The names as spans: those of the first one, then those of the next.
+    pub fn spans(&self) -> &[Span]
+        ensures { names_in result.now ≡ self.now }
+    {
+        self.spans.as_slice()
+    }
+
+    /// Puts the names in order: the same names, by maker and then by serial. Asks that no name stands twice; then no two
+    /// spans overlap, and it is enough to put the spans in order. Takes no memory, and time that goes by the spans.
+    pub fn put_in_order(&mut self)
+        requires { AreDistinct self.old }
+        ensures { self.new ≡ in_order self.old }
+    {
+        sort(&mut self.spans);
+    }
+}

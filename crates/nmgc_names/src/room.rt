@@ -1,0 +1,119 @@
+//! A list of names that takes its memory before it is filled.
+//!
+//! It has room for so many names even where none follows on another, since then each is a span of its own. Memory that is
+//! reserved isn't touched: where names follow one another, few of its bytes ever are. Contracts see its names, and for how
+//! many more there is room.
+//!
+//! A few spans at the front of a large room would keep it from serving again as a whole, so a list of few spans has a copy
+//! of them, and all of the room is given back. Where there is no memory for the copy, the spans stay where they lie.
+ghost use Rattle.std.specs.Prelude.{◌≡◌, ◌+◌, ◌<◌, ◌≤◌, [], ◌∷◌, ◌++◌, IfOk, vec_len, vec_capacity};
+ghost use Rattle.nmgc_names.specs.Spans.{names_in};
+
+use crate::list::NameList;
+use crate::span::Span;
+use nmgc_lists::NoMemory;
+use nmgc_world_spec::Name;
+use std::alloc::Global;
+use std::marker::Model;
+
+/// Names, and room for more.
+#[derive(Drop)]
+pub struct NameRoom {
+    spans: Vec<Span>,
+    count: usize,
+}
+
+impl Model for NameRoom {
+    ghost use Rattle.std.specs.Prelude.{◌≡◌, ◌-◌, ◌≤◌, length, vec_len, vec_capacity};
+    ghost use Rattle.nmgc_names.specs.Spans.{names_in};
+    ghost use Rattle.nmgc_names.specs.Room.{NameRoom as Shown};
+
+    ghost Value = { Shown };
+
+    ghost view = { λ r. record {
+      names = names_in r.spans.items;
+      spare = vec_capacity r.spans - r.count;
+    } };
+
+    ghost invariant = { λ r. (r.count ≡ length (names_in r.spans.items)) × (vec_len r.spans ≤ r.count) };
+}
+
+// Adds a name behind the names of spans: the last of them has it at its end where it follows on, and else it is a span of
+// its own.
+#[inline]
+fn add_name(spans: &mut Vec<Span>, name: Name)
+    requires { vec_len spans.old < vec_capacity spans.old }
+    ensures names { names_in spans.new.items ≡ names_in spans.old.items ++ name ∷ [] }
+    ensures few { vec_len spans.new ≤ vec_len spans.old + 1 }
+    ensures capacity { vec_capacity spans.new ≡ vec_capacity spans.old }
+{
+    let count = spans.len();
+    if count > 0 {
+        let last = spans[count - 1];
+        if last.is_followed_by(name) {
+            spans[count - 1] = last.with(name);
+            return;
+        }
+    }
+    spans.push_reserved(Span::of(name));
+}
+
+// Spans are few where they take less than this part of their room.
+const FEW: usize = 4;
+
+// The same spans, without room for more.
+fn trimmed(spans: Vec<Span>) -> Vec<Span>
+    ensures { result.items ≡ spans.items }
+{
+    let mut spans = spans;
+    if spans.len() < spans.capacity() / FEW {
+        if let Ok(own) = Vec::from_slice(*spans.allocator(), spans.as_slice()) {
+            return own;
+        }
+    }
+    spans.shrink_to_fit();
+    spans
+}
+
+impl NameRoom {
+    /// No names, and room for so many: the only memory that it takes.
+    pub fn with_room(alloc: Global, names: usize) -> Result<NameRoom, NoMemory>
+        ensures names { IfOk result (λ room. room.names ≡ []) }
+        ensures spare { IfOk result (λ room. names ≤ room.spare) }
+    {
+        Ok(NameRoom {
+            spans: Vec::with_capacity(alloc, names)?,
+            count: 0,
+        })
+    }
+
+    /// Adds a name at the end. There has to be room for it. Takes no memory, and constant time.
+    #[inline]
+    pub fn add(&mut self, name: Name)
+        requires { 0 < self.old.spare }
+        ensures names { self.new.names ≡ self.old.names ++ name ∷ [] }
+        ensures spare { self.new.spare + 1 ≡ self.old.spare }
+    {
+        add_name(&mut self.spans, name);
+        self.count += 1;
+    }
+
+    /// The names as spans: those of the first one, then those of the next.
+    pub fn spans(&self) -> &[Span]
+        ensures { names_in result.now ≡ self.now.names }
+    {
+        self.spans.as_slice()
+    }
+
+    /// The list of its names, which has no more room than it needs: the rest is given back. Needs no memory; it takes some
+    /// for a copy of few spans, where there is some.
+    pub fn into_list(self) -> NameList
+        ensures { result ≡ self.names }
+    {
+        let NameRoom { spans, count } = self;
+        NameList {
+            spans: trimmed(spans),
+            count,
+        }
+    }
+}
