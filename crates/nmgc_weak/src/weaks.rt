@@ -5,10 +5,11 @@
 //! order in which their finalisers are queued.
 //!
 //! A stop may not run out of memory half way: room for new weak pointers, and for a death of each, is made
-//! before. So beside the list there are three more of the same room: one of the deaths, one of the names for the
-//! report, and one of those that die, in which the list is gathered anew as some leave it or several join it.
+//! before. So beside the list there are four more of the same room: one of the deaths, one of the names for the
+//! report, one of those that wait for their keys, and one of those that die, in which the list is gathered anew as some
+//! leave it or several join it.
 //!
-//! Easy to get wrong: what lies in that last one means nothing between two calls, so each call clears it first.
+//! Easy to get wrong: what lies in the last two means nothing between two calls, so each call clears it first.
 ghost use Rattle.std.specs.Prelude.{ℕ, ◌≡◌, ◌≢◌, ◌⊎◌, ◌↔◌, ◌+◌, ◌<◌, ◌≤◌, List, [], length, vec_len, vec_capacity, Contains, IsTrue, IsFalse, OnOk, OnErr, slice_get, Some};
 ghost use Rattle.nmgc_world_spec.specs.Reach.{IsBefore, IsInOrder};
 ghost use Rattle.nmgc_object.specs.declared.size.TheConstants.{HEADER_WORDS};
@@ -18,7 +19,7 @@ ghost use Rattle.nmgc_weak.specs.declared.weaks.OldWeak.{OldWeak as Old};
 ghost use Rattle.nmgc_weak.specs.Resolve.{CanResolve, HasResolved};
 ghost use Rattle.nmgc_weak.specs.Weaks.{AreInside, HaveLostValues, alive_of, names_of, places_of};
 
-use crate::resolve::{clear_values, find_dying, revive, save_finalisers};
+use crate::resolve::{Waiter, clear_values, find_dying, revive, save_finalisers};
 use nmgc_alloc::Segments;
 use nmgc_heap_spec::HeapWords;
 use nmgc_lists::{List, ListMemory, NoMemory};
@@ -51,6 +52,7 @@ pub struct Weaks {
     dying: Vec<OldWeak>,
     deaths: Vec<Death>,
     names: Vec<Name>,
+    waiting: Vec<Waiter>,
     limit: usize,
 }
 
@@ -67,7 +69,7 @@ impl Model for Weaks {
       deaths = a.deaths.items;
     } };
 
-    ghost invariant = { λ a. IsInOrder (names_of a.list.items) × (vec_len a.list ≤ a.limit) × (a.limit ≤ vec_capacity a.list) × (a.limit ≤ vec_capacity a.dying) × (a.limit ≤ vec_capacity a.deaths) × (a.names.items ≡ []) × (vec_len a.names ≡ 0) × (a.limit ≤ vec_capacity a.names) };
+    ghost invariant = { λ a. IsInOrder (names_of a.list.items) × (vec_len a.list ≤ a.limit) × (a.limit ≤ vec_capacity a.list) × (a.limit ≤ vec_capacity a.dying) × (a.limit ≤ vec_capacity a.deaths) × (a.names.items ≡ []) × (vec_len a.names ≡ 0) × (a.limit ≤ vec_capacity a.names) × (a.limit ≤ vec_capacity a.waiting) };
 }
 
 /// Whether a name is before another, by its maker and then by its serial.
@@ -152,6 +154,7 @@ impl Weaks {
             dying: Vec::new(alloc),
             deaths: Vec::new(alloc),
             names: Vec::new(alloc),
+            waiting: Vec::new(alloc),
             limit: 0,
         }
     }
@@ -173,6 +176,7 @@ impl Weaks {
         self.dying.reserve(wanted)?;
         self.deaths.reserve(wanted)?;
         self.names.reserve(wanted)?;
+        self.waiting.reserve(wanted)?;
         self.limit = wanted;
         Ok(())
     }
@@ -242,6 +246,7 @@ impl Weaks {
             dying: _,
             deaths: _,
             mut names,
+            waiting: _,
             limit: _,
         } = self;
         for weak in list {
@@ -273,8 +278,8 @@ impl Weaks {
     /// machine. Those made since the snapshot stay as they are, and no other word changes. The gate isn't passed.
     /// Takes no memory.
     ///
-    /// A pass over the list revives all keys that come up in the order of the list, so there are no more passes
-    /// than rounds of revived keys, and one that finds none.
+    /// Takes time for the weak pointers of the list and a logarithm, and for what is marked, however the weak pointers
+    /// revive one another (`revive`).
     pub fn resolve<W: HeapWords>(
         &mut self,
         marker: &mut Marker,
@@ -293,7 +298,14 @@ impl Weaks {
     {
         self.dying.clear();
         self.deaths.clear();
-        revive(self.list.as_slice(), marker, words, segments);
+        self.waiting.clear();
+        revive(
+            self.list.as_slice(),
+            &mut self.waiting,
+            marker,
+            words,
+            segments,
+        );
         find_dying(
             self.list.as_slice(),
             &mut self.dying,

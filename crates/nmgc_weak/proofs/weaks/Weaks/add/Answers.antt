@@ -56,6 +56,7 @@ invariant_of-self c =
       inv.5,
       inv.6,
       inv.7,
+      inv.8,
     )
 
 pub returns-clause-ordered : goal.returns-clause-ordered
