@@ -30,4 +30,5 @@ invariant_of-self g c =
       inv.5,
       inv.6,
       inv.7,
+      inv.8,
     )
