@@ -13,7 +13,7 @@ use Rattle.nmgc_round.specs.View.{Opening, Part, hand_of, hand_now}
 use Rattle.nmgc_round.specs.Naming.{AllReply}
 use Rattle.nmgc_mutator.specs.declared.mutator.Mutator.{Mutator}
 use Rattle.nmgc_mutator.specs.Ready.{IsNursery, HasHand, words_by}
-use Rattle.nmgc_mutator.specs.Records.{numbers, all_recorded, all_weaks}
+use Rattle.nmgc_mutator.specs.Records.{numbers, all_recorded, all_weaks, all_finalised}
 
 -- a command, and the reply to it
 abbrev pub Done : Type 0
@@ -30,6 +30,7 @@ pub record HasWorked (o : Opening) (p : Part) (m : Mutator) (done : List Done) :
   pub replied : AllReply p.fixed p.rows done
   pub recorded : numbers m.recorded.items ≡ all_recorded m.layout (hand_of o.hands p.number) p.rows
   pub weaks : numbers m.young_weaks.items ≡ all_weaks p.rows
+  pub finalised : numbers m.finalised.items ≡ all_finalised m.layout (hand_of o.hands p.number) p.rows
 
 -- all mutators, by their numbers: each with its part of the view, and with what it did
 pub record HaveWorked (o : Opening) (parts : List Part) (mutators : List Mutator) (done : List (List Done)) : Type 0 where
@@ -60,3 +61,7 @@ recorded_of mutators = flat_map (λ (m : Mutator). numbers m.recorded.items) mut
 -- the places of all weak pointers that they made
 abbrev pub weaks_of : List Mutator → List ℕ
 weaks_of mutators = flat_map (λ (m : Mutator). numbers m.young_weaks.items) mutators
+
+-- the places of all weak pointers in segments that they finalised
+abbrev pub finalised_of : List Mutator → List ℕ
+finalised_of mutators = flat_map (λ (m : Mutator). numbers m.finalised.items) mutators

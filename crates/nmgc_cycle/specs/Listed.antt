@@ -2,8 +2,7 @@
 use Rattle.std.specs.Prelude.{ℕ, ◌≡◌, ◌≢◌, ◌⊎◌, ◌↔◌, ◌<◌, ◌≤◌, ◌^◌, ◌==◌, ◌&&◌, not, Bool, List, [], map, filter, length, slice_get, slice_index, slice_index_or, Contains, Some, IsSome}
 use Rattle.nmgc_world_spec.specs.Reach.{IsInOrder}
 use Rattle.nmgc_object.specs.FinQueue.{FinQueue}
-use Rattle.nmgc_object.specs.Words.{header_word, name_word}
-use Rattle.nmgc_object.specs.declared.size.TheConstants.{NAME_OFFSET}
+use Rattle.nmgc_object.specs.Words.{header_word}
 use Rattle.nmgc_minor.specs.declared.placing.Move.{Move}
 use Rattle.nmgc_mutator.specs.declared.mutator.Mutator.{Mutator}
 use Rattle.nmgc_collector_laws.specs.Joins.{weak_header}
@@ -12,6 +11,7 @@ use Rattle.nmgc_weak.specs.declared.weaks.OldWeak.{OldWeak}
 use Rattle.nmgc_weak.specs.Queues.{AllJoin}
 use Rattle.nmgc_weak.specs.Weaks.{alive_of, names_of, value_place}
 pub use Rattle.nmgc_weak.specs.Weaks.{count_made_by}
+use Rattle.nmgc_weak.specs.Rows.{IsNamedAt}
 use Rattle.nmgc_cycle.specs.declared.collector.Collector.{Collector}
 use Rattle.nmgc_cycle.specs.Roots.{queues_in}
 use Rattle.nmgc_cycle.specs.Shown.{words_in}
@@ -49,7 +49,7 @@ pub record IsMergeOf (old fresh new : List OldWeak) : Type 0 where
 pub record FinalisedAreTold (words : List ℕ) (list : List OldWeak) (finalised : List ℕ) : Type 0 where
   pub inside : (at : ℕ) → Contains finalised at → value_place at < length words
   pub told : (weak : OldWeak) → Contains list weak → slice_index words (value_place weak.at.0) ≡ 0 → Contains finalised weak.at.0
-  pub named : (weak : OldWeak) → Contains list weak → slice_index words (weak.at.0 + NAME_OFFSET) ≡ name_word weak.weak
+  pub named : (at : ℕ) → IsNamedAt words at list
 
 -- those that are dead by now have left the list
 pub record FinalisedLeft (old new : Collector) : Type 0 where

@@ -14,7 +14,7 @@ ghost use Rattle.std.specs.Prelude.{ℕ, ◌≡◌, ◌≢◌, ◌+◌, ◌<◌,
 ghost use Rattle.nmgc_world_spec.specs.Reach.{IsInOrder};
 ghost use Rattle.nmgc_object.specs.declared.size.TheConstants.{HEADER_WORDS};
 ghost use Rattle.nmgc_weak.specs.Queues.{HaveRoom};
-ghost use Rattle.nmgc_weak.specs.Rows.{left_of};
+ghost use Rattle.nmgc_weak.specs.Rows.{IsNamedAt, left_of};
 ghost use Rattle.nmgc_weak.specs.Weaks.{alive_of, names_of, value_place};
 ghost use Rattle.nmgc_object.specs.declared.words.Address.{Address as Place};
 ghost use Rattle.nmgc_mutator.specs.Records.{numbers};
@@ -85,7 +85,8 @@ fn join_all(weaks: &mut Weaks, fresh: &[OldWeak])
 
 // Those leave the list that stand at these places and are dead by now.
 fn leave_each<W: HeapWords>(weaks: &mut Weaks, words: &mut W, finalised: &[Address])
-    requires { (at : Place) → Contains finalised.now at → value_place at.0 < length (W.words words.old) }
+    requires inside { (at : Place) → Contains finalised.now at → value_place at.0 < length (W.words words.old) }
+    requires named { (at : ℕ) → IsNamedAt (W.words words.old) at weaks.old.list }
     ensures words { W.words words.new ≡ W.words words.old }
     ensures list { weaks.new.list ≡ left_of (W.words words.old) (numbers finalised.now) weaks.old.list }
     ensures deaths { weaks.new.deaths ≡ weaks.old.deaths }

@@ -4,7 +4,7 @@ use Rattle.std.specs.List.{flat_map}
 use Rattle.nmgc_limits.specs.declared.mutators.TheConstants.{MAKERS}
 use Rattle.nmgc_world_spec.specs.declared.value.Name.{Name}
 use Rattle.nmgc_world_spec.specs.Reach.{IsInOrder}
-use Rattle.nmgc_object.specs.Words.{name_word}
+use Rattle.nmgc_object.specs.Words.{IsName, name_word}
 use Rattle.nmgc_object.specs.declared.size.TheConstants.{NAME_OFFSET}
 use Rattle.nmgc_weak.specs.declared.row.Entry.{Entry}
 use Rattle.nmgc_weak.specs.declared.weaks.OldWeak.{OldWeak}
@@ -52,10 +52,14 @@ pub record AreRows (rows : List Row) (room : ℕ) : Type 0 where
   pub spare : (k : ℕ) (row : Row) → slice_get rows k ≡ Some row → room ≤ row.spare
   pub all : 0 < room → length rows ≡ MAKERS + 1
 
--- whether it is the weak pointer at a place, by the name word there, and its value word is 0
+-- the name word at a place is that of the weak pointer of the list there
+abbrev pub IsNamedAt : List ℕ → ℕ → List OldWeak → Type 0
+IsNamedAt words at list = (weak : OldWeak) → Contains list weak → weak.at.0 ≡ at → IsName weak.weak ×
+    (slice_index words (at + NAME_OFFSET) ≡ name_word weak.weak)
+
+-- whether it is the weak pointer at a place, and its value word is 0
 abbrev pub leaves_at : List ℕ → ℕ → OldWeak → Bool
-leaves_at words at weak =
-    (weak.at.0 == at) && (not (is_alive words weak) && (slice_index words (weak.at.0 + NAME_OFFSET) == name_word weak.weak))
+leaves_at words at weak = (weak.at.0 == at) && not (is_alive words weak)
 
 -- the list without the weak pointer at a place, if its value word is 0
 abbrev pub left_at : List ℕ → ℕ → List OldWeak → List OldWeak

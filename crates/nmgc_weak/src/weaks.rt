@@ -14,14 +14,14 @@
 //! for their keys, those that die, the deaths, and the names for the report.
 //!
 //! Easy to get wrong: what lies in these means nothing between two calls, but for the deaths, so each call clears it first.
-ghost use Rattle.std.specs.Prelude.{ℕ, ◌≡◌, ◌≢◌, ◌⊎◌, ◌↔◌, ◌+◌, ◌<◌, ◌≤◌, List, [], length, vec_len, vec_capacity, Contains, IsTrue, IsFalse, OnOk, OnErr, slice_get, Some};
+ghost use Rattle.std.specs.Prelude.{ℕ, ◌≡◌, ◌≢◌, ◌⊎◌, ◌↔◌, ◌+◌, ◌<◌, ◌≤◌, List, [], length, vec_len, vec_capacity, Contains, IsTrue, IfOk, OnOk, OnErr, slice_get, Some};
 ghost use Rattle.nmgc_world_spec.specs.Reach.{IsBefore, IsInOrder};
 ghost use Rattle.nmgc_object.specs.declared.size.TheConstants.{HEADER_WORDS};
 ghost use Rattle.nmgc_round.specs.View.{Opening};
 ghost use Rattle.nmgc_mark.specs.Marker.{HasRoomToMark, HasMarked};
 ghost use Rattle.nmgc_weak.specs.declared.weaks.OldWeak.{OldWeak as Old};
 ghost use Rattle.nmgc_weak.specs.Resolve.{CanResolve, HasResolved};
-ghost use Rattle.nmgc_weak.specs.Rows.{Row as RowShown, list_of, row_of, without, left_at};
+ghost use Rattle.nmgc_weak.specs.Rows.{Row as RowShown, IsNamedAt, list_of, row_of, left_at};
 ghost use Rattle.nmgc_weak.specs.Weaks.{AreInside, HaveLostValues, alive_of, count_made_by, names_of, places_of, value_place};
 
 use crate::resolve::{Waiter, clear_values, find_dying, revive, save_finalisers};
@@ -241,16 +241,14 @@ impl Weaks {
         }
     }
 
-    /// Lists the weak pointers, in order of names, in a list that is empty and has room for them. Takes no memory.
-    pub fn list_into(&self, all: &mut Vec<OldWeak>)
-        requires empty { all.old.items ≡ [] }
-        requires none { vec_len all.old ≡ 0 }
-        requires room { length self.now.list ≤ vec_capacity all.old }
-        ensures list { all.new.items ≡ self.now.list }
+    /// A copy of the list, in order of names. It is kept in rows, so none can be lent in one piece.
+    pub fn list(&self, alloc: Global) -> Result<Vec<OldWeak>, NoMemory>
+        ensures list { IfOk result (λ all. all.items ≡ self.now.list) }
         ensures ordered { IsInOrder (names_of self.now.list) }
-        ensures capacity { vec_capacity all.new ≡ vec_capacity all.old }
     {
-        list_rows(self.rows.as_slice(), all);
+        let mut all = Vec::with_capacity(alloc, self.most)?;
+        list_rows(self.rows.as_slice(), &mut all);
+        Ok(all)
     }
 
     /// No more weak pointers of a maker than these are in the list. Takes no memory, and constant time.
@@ -294,10 +292,11 @@ impl Weaks {
     }
 
     /// Takes the weak pointer at a place out of the list, if it is one of the list and its value word is 0: one that was
-    /// finalised since the last stop. Which it is says the name word there. All others, the deaths and the words stay. Takes no
+    /// finalised since the last stop. The name word there has to be its own, since by its name it is found. All others, the deaths and the words stay. Takes no
     /// memory, and a logarithm of time on the whole.
     pub fn leave_at<W: HeapWords>(&mut self, words: &mut W, at: Address)
-        requires { value_place at.0 < length (W.words words.old) }
+        requires inside { value_place at.0 < length (W.words words.old) }
+        requires named { IsNamedAt (W.words words.old) at.0 self.old.list }
         ensures words { W.words words.new ≡ W.words words.old }
         ensures list { self.new.list ≡ left_at (W.words words.old) at.0 self.old.list }
         ensures ordered { IsInOrder (names_of self.new.list) }
