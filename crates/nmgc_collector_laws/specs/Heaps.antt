@@ -41,6 +41,7 @@ seen_mutator m = record {
   nursery = m.nursery;
   recorded = numbers m.recorded.items;
   young_weaks = numbers m.young_weaks.items;
+  finalised = numbers m.finalised.items;
   entries = remembered m;
 }
 

@@ -1,8 +1,6 @@
 -- From a stop to the promotion of the next one: statements of laws.
-use Rattle.std.specs.Prelude.{ℕ, ◌≡◌, ◌≤◌, ◌⊎◌, ◌<◌, List, [], ◌∷◌, length, map, slice_get, slice_index_or, Contains, Some, All}
-use Rattle.nmgc_world_spec.specs.declared.node.Parts.{Parts}
+use Rattle.std.specs.Prelude.{ℕ, ◌≡◌, ◌≤◌, ◌⊎◌, List, [], ◌∷◌, length, map, slice_get, slice_index_or, Some, All}
 use Rattle.nmgc_world_spec.specs.World.{World, IsWorld}
-use Rattle.nmgc_world_spec.specs.Reach.{IsAlive}
 use Rattle.nmgc_world_spec.specs.History.{Row, IsLegal, rows_of, replayed}
 use Rattle.nmgc_object.specs.Places.{nursery_place, reserve_count}
 use Rattle.nmgc_alloc.specs.Numbered.{Segments}
@@ -18,7 +16,7 @@ use Rattle.nmgc_blocks_spec.specs.Remembers.{Remembers}
 use Rattle.nmgc_blocks_spec.specs.Stopped.{Stopped, IsStopped, IsSettled, young_base}
 use Rattle.nmgc_round.specs.declared.table.Round.{Round}
 use Rattle.nmgc_round.specs.Events.{rows_in}
-use Rattle.nmgc_round.specs.View.{Opening, Part, Seen, whole}
+use Rattle.nmgc_round.specs.View.{Opening, Seen, whole}
 use Rattle.nmgc_round.specs.Rule.{now}
 use Rattle.nmgc_round.specs.Objects.{earlier}
 use Rattle.nmgc_round.specs.Seat.{RoundSeat, IsAt, seen}
@@ -27,7 +25,7 @@ use Rattle.nmgc_round.specs.Starting.{CanOpen}
 use Rattle.nmgc_round.specs.Finishing.{IsFinished, HasAll, Leaves, places_then}
 use Rattle.nmgc_mutator.specs.declared.mutator.Mutator.{Mutator}
 use Rattle.nmgc_mutator.specs.Does.{HasDone}
-use Rattle.nmgc_collector_laws.specs.Worked.{Done, HaveWorked, registers_of, queues_of, serials_of, nurseries_of, recorded_of, weaks_of, finalised_of}
+use Rattle.nmgc_collector_laws.specs.Worked.{Done, HaveWorked, registers_of, queues_of, serials_of, nurseries_of, recorded_of, weaks_of, finalised_of, TellsFinalised}
 use Rattle.nmgc_collector_laws.specs.Rest.{IsAtRest, IsResting, opening_at}
 
 -- a heap at rest opens a round
@@ -88,17 +86,11 @@ RoundIsRemembered = (o : Opening) (before words : List ℕ) (v : Seen) (mutators
     (h : IsFinished o words v) → HaveWorked o v.parts mutators done →
     Remembers (nursery_place o.layout 0) (o.core.world ∷ earlier o) (places_then o h.born) (now o h.events).world (recorded_of mutators) (weaks_of mutators)
 
--- a weak pointer in a segment that was alive as the round began, and isn't after it, is told by the mutator that finalised it
-abbrev pub FinalisedAreTold : Type 0
-FinalisedAreTold = (o : Opening) (before words : List ℕ) (v : Seen) (mutators : List Mutator) (done : List (List Done)) → CanOpen o before →
-    (h : IsFinished o words v) → HaveWorked o v.parts mutators done → (p : Place) (parts : Parts) → Contains (places_then o h.born) p →
-    p.at < nursery_place o.layout 0 → IsAlive o.core.world p.name parts → (IsAlive (now o h.events).world p.name parts → ⊥) →
-    Contains (finalised_of mutators) p.at
-
--- and what is told lies in a segment
-abbrev pub FinalisedAreLow : Type 0
-FinalisedAreLow = (o : Opening) (parts : List Part) (mutators : List Mutator) (done : List (List Done)) → HaveWorked o parts mutators done → (at : ℕ) →
-    Contains (finalised_of mutators) at → at < nursery_place o.layout 0
+-- the mutators tell each weak pointer in a segment that was finalised in the round
+abbrev pub RoundTellsFinalised : Type 0
+RoundTellsFinalised = (o : Opening) (before words : List ℕ) (v : Seen) (mutators : List Mutator) (done : List (List Done)) → CanOpen o before →
+    (h : IsFinished o words v) → HaveWorked o v.parts mutators done →
+    TellsFinalised (nursery_place o.layout 0) (places_then o h.born) o.core.world (now o h.events).world (finalised_of mutators)
 
 -- what a round leaves is what a promotion asks
 abbrev pub RoundIsStopped : Type 0

@@ -3,12 +3,16 @@
 -- A part knows rows with answers as words. The mutator has what these rows leave, the replies by name, and the
 -- places of the fields that they gave a young object and of the weak pointers that they made. All laws of a round's end speak of these facts, which
 -- `nmgc_mutator` promises of a slice.
-use Rattle.std.specs.Prelude.{ℕ, ◌≡◌, List, length, map, slice_get, Some}
+use Rattle.std.specs.Prelude.{ℕ, ◌≡◌, ◌<◌, List, length, map, slice_get, Contains, Some}
 use Rattle.std.specs.List.{flat_map}
 use Rattle.nmgc_limits.specs.declared.mutators.TheConstants.{REGISTERS}
 use Rattle.nmgc_world_spec.specs.declared.command.Command.{Command}
 use Rattle.nmgc_world_spec.specs.declared.command.Reply.{Reply}
+use Rattle.nmgc_world_spec.specs.declared.node.Parts.{Parts}
+use Rattle.nmgc_world_spec.specs.World.{World}
+use Rattle.nmgc_world_spec.specs.Reach.{IsAlive}
 use Rattle.nmgc_object.specs.declared.layout.Nursery.{Nursery}
+use Rattle.nmgc_heap_spec.specs.Places.{Place}
 use Rattle.nmgc_round.specs.View.{Opening, Part, hand_of, hand_now}
 use Rattle.nmgc_round.specs.Naming.{AllReply}
 use Rattle.nmgc_mutator.specs.declared.mutator.Mutator.{Mutator}
@@ -65,3 +69,10 @@ weaks_of mutators = flat_map (λ (m : Mutator). numbers m.young_weaks.items) mut
 -- the places of all weak pointers in segments that they finalised
 abbrev pub finalised_of : List Mutator → List ℕ
 finalised_of mutators = flat_map (λ (m : Mutator). numbers m.finalised.items) mutators
+
+-- the weak pointers in segments that were alive in one world, and aren't in another, are told by their places; and no place
+-- outside the segments is
+pub record TellsFinalised (base : ℕ) (places : List Place) (began w : World) (finalised : List ℕ) : Type 0 where
+  pub all : (p : Place) (parts : Parts) → Contains places p → p.at < base → IsAlive began p.name parts → (IsAlive w p.name parts → ⊥) →
+      Contains finalised p.at
+  pub low : (at : ℕ) → Contains finalised at → at < base

@@ -39,7 +39,7 @@ use Rattle.nmgc_round.specs.Finishing.{IsFinished, places_then}
 use Rattle.nmgc_mutator.specs.declared.mutator.Mutator.{Mutator}
 use Rattle.nmgc_mutator.specs.Records.{numbers, all_recorded, all_weaks, all_finalised}
 use Rattle.nmgc_collector_laws.specs.Worked.{Done, HaveWorked, recorded_of, weaks_of, finalised_of}
-use Rattle.nmgc_collector_laws.specs.Turn.{RoundIsRemembered, FinalisedAreTold, FinalisedAreLow}
+use Rattle.nmgc_collector_laws.specs.Turn.{RoundIsRemembered, RoundTellsFinalised}
 use Rattle.nmgc_collector_laws.specs.laws.Replays.{EventsAreHistory, can_replay}
 use Rattle.nmgc_collector_laws.specs.laws.Placed.{place_cases, is_place, in_place}
 use Rattle.nmgc_collector_laws.specs.laws.Workers.{Worker, worker_at}
@@ -340,6 +340,20 @@ module _ (history : EventsAreHistory) (listed : StacksAreListed) (o : Opening) (
       B fin.before fin.row fin.after (hand_of o.hands k) t.part.rows refl (subst (IsLegalHistory B) fin.rows_are legal)
       (subst (λ (l : List Row). Along P k B (hand_of o.hands k) t.part.rows l) fin.rows_are (follows k lt t)) fin.command fin.refers fin.alive))
 
+  -- and every place that is told lies in a segment
+  told_low : (at : ℕ) → Contains (finalised_of mutators) at → at < base
+  told_low at c =
+      let found = flat_contains (λ (m : Mutator). numbers m.finalised.items) mutators at c in
+      let index = index_of mutators found.0 found.1 in
+      let lt : index.0 < o.layout.mutators = (let a = slice_get_within mutators index.0 found.0 index.1 in let b = work.mutators_are in omega arith) in
+      of (there index.0 lt) found.0 index.1 found.2
+    where
+      of : {k : ℕ} (t : IsThere k) (m : Mutator) → slice_get mutators k ≡ Some m → Contains (numbers m.finalised.items) at → at < base
+      of {k} t m e d =
+          let same : numbers m.finalised.items ≡ numbers t.mutator.finalised.items =
+          ap (λ (x : Mutator). numbers x.finalised.items) (same_Some m t.mutator (sym e ∙ t.mutator_there)) in
+          finalised_low o.layout (hand_of o.hands k) t.part.rows at (subst (λ (l : List ℕ). Contains l at) (same ∙ finalised_are k t) d)
+
   remembers : Remembers base (B ∷ earlier o) places W (recorded_of mutators) (weaks_of mutators)
   remembers = record {
     fields = recorded_told;
@@ -351,21 +365,8 @@ module _ (history : EventsAreHistory) (listed : StacksAreListed) (o : Opening) (
 pub round_is_remembered : EventsAreHistory → StacksAreListed → RoundIsRemembered
 round_is_remembered history listed o before words v mutators done can h work = remembers history listed o before words v mutators done can h work
 
-pub finalised_are_told : EventsAreHistory → StacksAreListed → FinalisedAreTold
-finalised_are_told history listed o before words v mutators done can h work = dead_told history listed o before words v mutators done can h work
-
-pub finalised_are_low : FinalisedAreLow
-finalised_are_low o parts mutators done work at c =
-    let found = flat_contains (λ (m : Mutator). numbers m.finalised.items) mutators at c in
-    let index = index_of mutators found.0 found.1 in
-    let lt : index.0 < o.layout.mutators = (let a = slice_get_within mutators index.0 found.0 index.1 in let b = work.mutators_are in omega arith) in
-    of (worker_at o parts mutators done work index.0 lt) found.0 index.1 found.2
-  where
-    of : {k : ℕ} (t : Worker o parts mutators done k) (m : Mutator) → slice_get mutators k ≡ Some m → Contains (numbers m.finalised.items) at →
-        at < nursery_place o.layout 0
-    of {k} t m e d =
-        let same : m ≡ t.mutator = same_Some m t.mutator (sym e ∙ t.mutator_there) in
-        let told : numbers m.finalised.items ≡ all_finalised t.mutator.layout (hand_of o.hands t.part.number) t.part.rows =
-        ap (λ (x : Mutator). numbers x.finalised.items) same ∙ t.worked.finalised in
-        subst (λ (l : Layout). at < nursery_place l 0) t.worked.layout
-        (finalised_low t.mutator.layout (hand_of o.hands t.part.number) t.part.rows at (subst (λ (l : List ℕ). Contains l at) told d))
+pub finalised_are_told : EventsAreHistory → StacksAreListed → RoundTellsFinalised
+finalised_are_told history listed o before words v mutators done can h work = record {
+  all = dead_told history listed o before words v mutators done can h work;
+  low = told_low history listed o before words v mutators done can h work;
+}
