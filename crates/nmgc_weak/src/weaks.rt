@@ -21,7 +21,7 @@ ghost use Rattle.nmgc_round.specs.View.{Opening};
 ghost use Rattle.nmgc_mark.specs.Marker.{HasRoomToMark, HasMarked};
 ghost use Rattle.nmgc_weak.specs.declared.weaks.OldWeak.{OldWeak as Old};
 ghost use Rattle.nmgc_weak.specs.Resolve.{CanResolve, HasResolved};
-ghost use Rattle.nmgc_weak.specs.Rows.{Row as RowShown, IsNamedAt, list_of, row_of, left_at};
+ghost use Rattle.nmgc_weak.specs.Rows.{Row as RowShown, IsNamedAt, list_of, row_of as row_number, left_at};
 ghost use Rattle.nmgc_weak.specs.Weaks.{AreInside, HaveLostValues, alive_of, count_made_by, names_of, places_of, value_place};
 
 use crate::resolve::{Waiter, clear_values, find_dying, revive, save_finalisers};
@@ -101,7 +101,7 @@ const ROWS: usize = MAKERS as usize + 1;
 
 // In which row a name is.
 fn row_of(name: Name) -> usize
-    ensures value { result ≡ row_of name }
+    ensures value { result ≡ row_number name }
     ensures within { result < ROWS }
 {
     usize::from(name.maker.min(MAKERS))
@@ -292,8 +292,8 @@ impl Weaks {
     }
 
     /// Takes the weak pointer at a place out of the list, if it is one of the list and its value word is 0: one that was
-    /// finalised since the last stop. The name word there has to be its own, since by its name it is found. All others, the deaths and the words stay. Takes no
-    /// memory, and a logarithm of time on the whole.
+    /// finalised since the last stop. The name word there has to be its own, since by its name it is found. All others, the
+    /// deaths and the words stay. Takes no memory, and a logarithm of time on the whole.
     pub fn leave_at<W: HeapWords>(&mut self, words: &mut W, at: Address)
         requires inside { value_place at.0 < length (W.words words.old) }
         requires named { IsNamedAt (W.words words.old) at.0 self.old.list }
