@@ -9,6 +9,6 @@ nobody = record { weak = record { maker = 0; serial = 0 }; at = record { 0 = 0 }
 
 pub file_one-requires-clause-within : goal.file_one-requires-clause-within
 file_one-requires-clause-within g c =
-    let x = get_or c.args.list.now c.loop-weak.weak-index nobody in
-    subst (λ (l : List ℕ). IsWithin l x.at.0) (sym c.loop-weak.invariant.words)
-    (c.requires.within x (at_contains c.args.list.now c.loop-weak.weak-index nobody c.loop-weak-test.true))
+    let x = get_or c.args.list.now c.loop-place.place nobody in
+    subst (λ (l : List ℕ). IsWithin l x.at.0) (sym c.loop-place.invariant.words)
+    (c.requires.within x (at_contains c.args.list.now c.loop-place.place nobody c.loop-place-test.true))
