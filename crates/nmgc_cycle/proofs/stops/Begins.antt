@@ -130,9 +130,17 @@ known_or_none : (o : Option Node) → (o ≡ None) ⊎ IsSome o
 known_or_none None = inl refl
 known_or_none (Some node) = inr refl
 
+-- no mutator has finalised anything
+none_finalised : (ms : List Mutator) → ((k : ℕ) (m : Mutator) → slice_get ms k ≡ Some m → IsEmptied (seen_mutator m)) → (at : ℕ) → Contains (finalised_of ms) at → ⊥
+none_finalised ms empty at c =
+    let m = flat_contains (λ (x : Mutator). numbers x.finalised.items) ms at c in
+    let i = place_in ms m.0 m.1 in
+    nothing_in at (subst (λ (l : List ℕ). Contains l at) (empty i.0 m.0 i.1).finalised m.2)
+
 -- the list was that of the world as the round began, and the round made none of these anew
-can_list_of : (t : Stopped) (c : Collector) → StandsStopped t c → ListsWeaks c.heap.segments.layout t.places t.began (places_of c.heap.weaks.list) → CanList t c
-can_list_of t c h listed =
+can_list_of : (t : Stopped) (c : Collector) → StandsStopped t c → ListsWeaks c.heap.segments.layout t.places t.began (places_of c.heap.weaks.list) →
+    TellsFinalised (young_base c.heap.segments) t.places t.began t.world (finalised_of c.mutators.items) → CanList t c
+can_list_of t c h listed told =
     let past = h.round.past t.began (contains_head t.began t.later) in
     record {
       began = past.world;
@@ -149,6 +157,7 @@ can_list_of t c h listed =
             let x = weak_of (Some parts) node.0 (past.headers weak (Weak (Some parts)) node.0 alive node.1) in
             (x.0, node.1 ∙ ap (λ (n : Node). Some n) x.1);
       };
+      told = told;
     }
 
 -- a new collector
@@ -171,7 +180,10 @@ new_begins script c limits f =
       places = f.new.heap.places;
       stopped = stopped;
       can_list = can_list_of (stopped_in (new_world count) (start plan) f.new.heap.places (seen c)) c stopped (subst (λ (l : Layout).
-          ListsWeaks l f.new.heap.places (new_world count) (seen c).weaks) (sym f.kept.layout) f.new.heap.listed);
+          ListsWeaks l f.new.heap.places (new_world count) (seen c).weaks) (sym f.kept.layout) f.new.heap.listed) (record {
+            all = λ p parts there low alive gone. absurd (gone alive);
+            low = λ at there. absurd (none_finalised c.mutators.items (λ k m e. f.new.at_rest.nothing k (seen_mutator m) (seen_at c.mutators.items k m e)) at there);
+          });
       stands = f.new.heap.holds.stands;
       nurseries = f.new.at_rest.nurseries;
       matches = f.new.matches;
@@ -237,7 +249,9 @@ module _ (script : Script) (c : Collector) (limits : IsInLimits script) (h : Has
 
   can_list : CanList (stopped_in before.world h.worked h.after.places (seen c)) c
   can_list = can_list_of (stopped_in before.world h.worked h.after.places (seen c)) c stopped (subst (λ (l : Layout).
-      ListsWeaks l h.after.places before.world (seen c).weaks) (sym h.kept.layout) h.after.heap.listed)
+      ListsWeaks l h.after.places before.world (seen c).weaks) (sym h.kept.layout) h.after.heap.listed) (subst (λ (l : Layout).
+      TellsFinalised (nursery_place l 0) h.after.places before.world h.worked.world (finalised_of c.mutators.items)) (sym h.kept.layout)
+      (subst (TellsFinalised (nursery_place (layout_of plan) 0) h.after.places before.world h.worked.world) (same_finalised c.mutators.items) h.after.told))
 
   numbers : h.worked.number ≡ length c.rows.stops
   numbers =

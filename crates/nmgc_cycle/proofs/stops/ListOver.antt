@@ -35,10 +35,11 @@ use Rattle.nmgc_minor.specs.Placing.{moved_of}
 use Rattle.nmgc_minor.specs.declared.placing.Move.{Move}
 use Rattle.nmgc_weak.specs.declared.weaks.OldWeak.{OldWeak}
 use Rattle.nmgc_weak.specs.Closes.{LeavingLists}
-use Rattle.nmgc_weak.specs.Weaks.{AreInside, Weaks, is_alive, names_of, place_of, places_of, value_place}
-use Rattle.nmgc_collector_laws.specs.Worked.{registers_of, queues_of, nurseries_of, recorded_of}
+use Rattle.nmgc_weak.specs.Weaks.{AreInside, Weaks, alive_of, is_alive, names_of, place_of, places_of, value_place}
+use Rattle.nmgc_weak.specs.Rows.{left_of, leaves_at}
+use Rattle.nmgc_collector_laws.specs.Worked.{registers_of, queues_of, nurseries_of, recorded_of, finalised_of}
 use Rattle.nmgc_cycle.specs.declared.collector.Collector.{Collector}
-use Rattle.nmgc_cycle.specs.Listed.{CanJoin, FinalisedLeft, MovedJoined, is_alive_at, listed_move, moved_weaks}
+use Rattle.nmgc_cycle.specs.Listed.{CanJoin, FinalisedAreTold, FinalisedLeft, MovedJoined, is_alive_at, listed_move, moved_weaks}
 use Rattle.nmgc_cycle.specs.Shown.{words_in}
 use Rattle.nmgc_cycle.specs.Stopping.{CanList, HasListed, HasPromoted, StandsStopped, moves_of, young_weaks_of}
 use Rattle.nmgc_lists.specs.laws.Truths.{eq_true as true_eq}
@@ -288,6 +289,68 @@ module _ (left : LeavingLists) (joining : JoiningLists) (fresh : JoinersAreNew) 
         sym j.words.0 i,
       )) p.copied;
     }
+
+-- who is dead by its value word isn't alive after the round, so it is told
+module _ (leaving : LeavingLists) (t : Stopped) (c : Collector) (h : StandsStopped t c) (can : CanList t c) where
+  abbrev held : List ℕ
+  held = words_in c.heap.words
+
+  left_then : ListsWeaks c.heap.segments.layout t.places t.world (places_of (alive_of held c.heap.weaks.list))
+  left_then = leaving c.heap.segments.layout t.later t.places t.began t.world held c.heap.weaks.list can.began h.world h.represents can.listed can.old
+
+  dead_gone : (weak : OldWeak) → Contains c.heap.weaks.list weak → slice_index held (value_place weak.at.0) ≡ 0 → (parts : Parts) →
+      IsAlive t.world weak.weak parts → ⊥
+  dead_gone weak d zero_ parts alive =
+      let l = can.listed.sound (place_of weak) (contains_map place_of c.heap.weaks.list weak d) in
+      let there = left_then.complete (place_of weak) (l.0, (parts, alive), l.2) in
+      let x = of_places (alive_of held c.heap.weaks.list) (place_of weak) there in
+      let f = filter_had (is_alive held) c.heap.weaks.list x.0 x.1 in
+      let at : x.0.at.0 ≡ weak.at.0 = ap (λ (p : Place). p.at) x.2 in
+      false_ne (slice_index held (value_place x.0.at.0)) f.1 (ap (λ k. slice_index held (value_place k)) at ∙ zero_)
+
+  -- a place in a segment lies before the nurseries
+  in_segment : (p : Place) → ((segment : ℕ) × InSegment c.heap.segments.layout segment p.at) → p.at < young_base c.heap.segments
+  in_segment p s = segment_low c.heap.segments.layout s.0 p.at s.1
+
+  pub finalised_are_told : FinalisedAreTold held c.heap.weaks.list (finalised_of c.mutators.items)
+  finalised_are_told = record {
+    inside = λ at there.
+        let low = can.told.low at there in
+        let total = h.represents.total in
+        total_above at low total;
+    told = λ weak d zero_.
+        let l = can.listed.sound (place_of weak) (contains_map place_of c.heap.weaks.list weak d) in
+        can.told.all (place_of weak) l.1.0 l.0 (in_segment (place_of weak) l.2) l.1.1 (dead_gone weak d zero_ l.1.0);
+    named = λ at weak d same.
+        let l = can.listed.sound (place_of weak) (contains_map place_of c.heap.weaks.list weak d) in
+        let n = h.represents.named (place_of weak) l.0 in
+        (n.valid, ap (λ k. slice_index held (k + NAME_OFFSET)) (sym same) ∙ n.word);
+  }
+    where
+      -- a nursery has room for the largest object, and so for a weak pointer
+      total_above : (at : ℕ) → at < young_base c.heap.segments → length held ≡ word_total c.heap.segments.layout → value_place at < length held
+      total_above at low total = let sound = h.segments.layout in let is = sound.nursery in omega (arith, low, total, is)
+
+-- the list without those that are told is that of the alive ones
+pub left_is_alive : (words : List ℕ) (places : List ℕ) (list : List OldWeak) →
+    ((weak : OldWeak) → Contains list weak → slice_index words (value_place weak.at.0) ≡ 0 → Contains places weak.at.0) → left_of words places list ≡
+    alive_of words list
+left_is_alive words places list told = by_places places list ∙ filter_same (λ (w : OldWeak). stays words places w) (is_alive words) list (λ w c.
+    same_test (stays words places w) (is_alive words w) (stays_alive w c) (λ alive. alive_stays places w alive))
+  where
+    -- none of the places is its, or it is alive
+    abbrev stays : List ℕ → List ℕ → OldWeak → Bool
+    stays words [] w = true
+    stays words (at ∷ places) w = not (leaves_at words at w) && stays words places w
+
+    by_places : (places : List ℕ) (list : List OldWeak) → left_of words places list ≡ filter (λ (w : OldWeak). stays words places w) list
+    by_places places list = ?
+
+    stays_alive : (w : OldWeak) → Contains list w → stays words places w ≡ true → is_alive words w ≡ true
+    stays_alive w c s = ?
+
+    alive_stays : (places : List ℕ) (w : OldWeak) → is_alive words w ≡ true → stays words places w ≡ true
+    alive_stays places w alive = ?
 
 -- those of the list lie within the heap's words
 pub lists_inside : (t : Stopped) (c : Collector) → StandsStopped t c → CanList t c → AreInside (words_in c.heap.words) c.heap.weaks.list
