@@ -17,6 +17,7 @@ use Rattle.nmgc_weak.specs.declared.row.Entry.{Entry}
 use Rattle.nmgc_weak.specs.declared.weaks.OldWeak.{OldWeak}
 use Rattle.nmgc_weak.specs.Rows.{Row, listed, entry_names, IsEntryAt, is_same, without, list_of, row_of, AreRows}
 use Rattle.nmgc_weak.specs.Weaks.{names_of, alive_of, is_alive}
+use Rattle.nmgc_weak.specs.laws.Left.{filter_all, filter_same}
 use Rattle.nmgc_weak.proofs.Finding.{names_append}
 
 -- of two names of a list in order the one that comes first is before the other
@@ -175,19 +176,6 @@ is_same_itself a =
     and_from (eqb a.weak.maker a.weak.maker) (eqb a.weak.serial a.weak.serial && eqb a.at.0 a.at.0) (eq-eqb a.weak.maker a.weak.maker refl)
     (and_from (eqb a.weak.serial a.weak.serial) (eqb a.at.0 a.at.0) (eq-eqb a.weak.serial a.weak.serial refl) (eq-eqb a.at.0 a.at.0 refl))
 
--- a filter that all pass, and two that tell the same
-pub filter_all : {A : Type 0} (p : A → Bool) (xs : List A) → ((x : A) → Contains xs x → p x ≡ true) → filter p xs ≡ xs
-filter_all p [] h = refl
-filter_all {A} p (x ∷ xs) h =
-    ap (λ (b : Bool). cond b (x ∷ filter p xs) (filter p xs)) (h x (contains_head x xs)) ∙
-    ap (λ (l : List A). x ∷ l) (filter_all p xs (λ y c. h y (contains_tail x xs y c)))
-
-pub filter_same : {A : Type 0} (p q : A → Bool) (xs : List A) → ((x : A) → Contains xs x → p x ≡ q x) → filter p xs ≡ filter q xs
-filter_same p q [] h = refl
-filter_same {A} p q (x ∷ xs) h =
-    ap (λ (b : Bool). cond b (x ∷ filter p xs) (filter p xs)) (h x (contains_head x xs)) ∙
-    ap (λ (l : List A). cond (q x) (x ∷ l) l) (filter_same p q xs (λ y c. h y (contains_tail x xs y c)))
-
 -- the list without one that it doesn't have
 pub without_none : (w : OldWeak) (l : List OldWeak) → ((x : OldWeak) → Contains l x → x ≢ w) → without w l ≡ l
 without_none w l h = filter_all (λ (x : OldWeak). not (is_same x w)) l (λ x c. ap not (false_of (is_same x w) (λ t. h x c (is_same_true x w t))))
@@ -275,13 +263,13 @@ ordered_from n (r ∷ rows) h =
     (in_order_append (names_of r.list) (names_of (list_of rows)) (h 0 r refl).0
     (ordered_from (n + 1) rows (λ k row there. let t = h (suc k) row there in (t.0, λ w c. t.1 w c ∙ omega arith)))
     (λ a b c d.
-        let x = map_contains (λ (w : OldWeak). w.weak) r.list a c in
-        let y = map_contains (λ (w : OldWeak). w.weak) (list_of rows) b d in
-        let t = in_row rows y.0 y.1 in
-        let first : row_of x.0.weak ≡ n + 0 = (h 0 r refl).1 x.0 x.1 in
-        let later : row_of y.0.weak ≡ n + suc t.0 = (h (suc t.0) t.1 t.2).1 y.0 t.3 in
-        let less = rows_before x.0.weak y.0.weak (omega (arith, first, later)) in
-        subst (λ (p : Name × Name). IsBefore p.0 p.1) (λ i. (sym x.2 i, sym y.2 i)) less))
+    let x = map_contains (λ (w : OldWeak). w.weak) r.list a c in
+    let y = map_contains (λ (w : OldWeak). w.weak) (list_of rows) b d in
+    let t = in_row rows y.0 y.1 in
+    let first : row_of x.0.weak ≡ n + 0 = (h 0 r refl).1 x.0 x.1 in
+    let later : row_of y.0.weak ≡ n + suc t.0 = (h (suc t.0) t.1 t.2).1 y.0 t.3 in
+    let less = rows_before x.0.weak y.0.weak (omega (arith, first, later)) in
+    subst (λ (p : Name × Name). IsBefore p.0 p.1) (λ i. (sym x.2 i, sym y.2 i)) less))
 
 pub rows_ordered : (rows : List Row) (room : ℕ) → AreRows rows room → IsInOrder (names_of (list_of rows))
 rows_ordered rows room h = ordered_from 0 rows (λ k row there. (h.ordered k row there, λ w c. h.own k row w there c ∙ omega arith))

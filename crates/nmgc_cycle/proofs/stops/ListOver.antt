@@ -1,5 +1,5 @@
 -- The list of weak pointers over the promotion of a stop: those that were finalised leave it, and those that moved and are alive join it.
-use Rattle.std.proofs.Common.{ℕ, ◌≡◌, ◌≢◌, ◌^◌, ◌<◌, ◌≤◌, ◌⊎◌, List, [], ◌∷◌, Bool, true, false, cond, eq-eqb, ne_eqb, length, map, refl, sym, ap, subst, ◌∙◌, arith, inl, inr, slice_index}
+use Rattle.std.proofs.Common.{ℕ, ◌≡◌, ◌≢◌, ◌^◌, ◌<◌, ◌≤◌, ◌⊎◌, List, [], ◌∷◌, Bool, true, false, cond, eq-eqb, ne_eqb, length, map, refl, sym, ap, subst, ◌∙◌, arith, inl, inr, slice_index, mul-le-mul_right, ◌*◌}
 use Rattle.std.specs.Prelude.{Contains, filter, not, ◌==◌, ◌&&◌}
 use Rattle.std.specs.List.{count_by}
 use Rattle.std.proofs.lemmas.Bool.{and_parts}
@@ -7,12 +7,15 @@ use Rattle.std.proofs.lemmas.List.{length-map}
 use Rattle.std.proofs.lemmas.List.Sums.{length-filter, count_by-le-length}
 use Rattle.nmgc_world_spec.specs.declared.value.Name.{Name}
 use Rattle.nmgc_limits.specs.declared.mutators.TheConstants.{SHARED_MAKER}
-use Rattle.nmgc_world_spec.specs.declared.node.Node.TheVariants.{Weak}
-use Rattle.nmgc_world_spec.specs.Reach.{IsBefore, IsInOrder, IsReached}
+use Rattle.nmgc_world_spec.specs.declared.node.Parts.{Parts}
+use Rattle.nmgc_world_spec.specs.Reach.{IsAlive, IsBefore, IsInOrder}
 use Rattle.nmgc_world_spec.specs.World.{node_of}
-use Rattle.nmgc_lists.specs.laws.Items.{contains_head, contains_tail, is_some_of, contains_map, map_contains, filter_contains as filter_had, contains_filter as filter_keeps}
+use Rattle.nmgc_lists.specs.laws.Items.{is_some_of, contains_map, map_contains, filter_contains as filter_had, contains_filter as filter_keeps}
 use Rattle.nmgc_world_spec.specs.laws.Orders.{in_order_cons, in_order_first, in_order_rest}
 use Rattle.nmgc_object.specs.Words.{header_word}
+use Rattle.nmgc_object.specs.Places.{InSegment}
+use Rattle.nmgc_object.specs.declared.size.TheConstants.{NAME_OFFSET}
+use Rattle.nmgc_object.specs.laws.Common.{in_segment_low as segment_low}
 use Rattle.nmgc_object.specs.declared.layout.Layout.{Layout}
 use Rattle.nmgc_alloc.specs.Stands.{StandsFor}
 use Rattle.nmgc_alloc.specs.Numbered.{Segments}
@@ -25,8 +28,6 @@ use Rattle.nmgc_sweep.specs.Names.{HaveNoted}
 use Rattle.nmgc_cycle.specs.Roots.{promoted_by}
 use Rattle.nmgc_heap_spec.specs.Places.{Place}
 use Rattle.nmgc_heap_spec.specs.Roots.{ListsWeaks}
-use Rattle.nmgc_heap_spec.specs.Tracked.{IsTracked}
-use Rattle.nmgc_heap_spec.specs.laws.Changes.{lies_within}
 use Rattle.nmgc_heap_spec.specs.laws.Moving.{settled_comes}
 use Rattle.nmgc_blocks_spec.specs.Stopped.{Stopped, IsStopped, IsSettled, earlier_of, young_base}
 use Rattle.nmgc_blocks_spec.specs.laws.Blocks.{is_block}
@@ -35,8 +36,7 @@ use Rattle.nmgc_minor.specs.Placing.{moved_of}
 use Rattle.nmgc_minor.specs.declared.placing.Move.{Move}
 use Rattle.nmgc_weak.specs.declared.weaks.OldWeak.{OldWeak}
 use Rattle.nmgc_weak.specs.Closes.{LeavingLists}
-use Rattle.nmgc_weak.specs.Weaks.{AreInside, Weaks, alive_of, is_alive, names_of, place_of, places_of, value_place}
-use Rattle.nmgc_weak.specs.Rows.{left_of, leaves_at}
+use Rattle.nmgc_weak.specs.Weaks.{Weaks, alive_of, is_alive, names_of, place_of, places_of, value_place}
 use Rattle.nmgc_collector_laws.specs.Worked.{registers_of, queues_of, nurseries_of, recorded_of, finalised_of}
 use Rattle.nmgc_cycle.specs.declared.collector.Collector.{Collector}
 use Rattle.nmgc_cycle.specs.Listed.{CanJoin, FinalisedAreTold, FinalisedLeft, MovedJoined, is_alive_at, listed_move, moved_weaks}
@@ -312,59 +312,24 @@ module _ (leaving : LeavingLists) (t : Stopped) (c : Collector) (h : StandsStopp
   in_segment : (p : Place) → ((segment : ℕ) × InSegment c.heap.segments.layout segment p.at) → p.at < young_base c.heap.segments
   in_segment p s = segment_low c.heap.segments.layout s.0 p.at s.1
 
+  -- a nursery has room for the largest object, and so for a weak pointer
+  total_above : (at : ℕ) → at < young_base c.heap.segments → value_place at < length held
+  total_above at low =
+      let layout = h.segments.layout in
+      let one : 1 * c.heap.segments.layout.nursery ≤ c.heap.segments.layout.mutators * c.heap.segments.layout.nursery = mul-le-mul_right c.heap.segments.layout.nursery layout.mutators.0 in
+      let least = layout.words.least in
+      let nursery = layout.nursery in
+      let total = h.represents.total in
+      omega (arith, one, least, nursery, total, low)
+
   pub finalised_are_told : FinalisedAreTold held c.heap.weaks.list (finalised_of c.mutators.items)
   finalised_are_told = record {
-    inside = λ at there.
-        let low = can.told.low at there in
-        let total = h.represents.total in
-        total_above at low total;
+    inside = λ at there. total_above at (can.told.low at there);
     told = λ weak d zero_.
         let l = can.listed.sound (place_of weak) (contains_map place_of c.heap.weaks.list weak d) in
         can.told.all (place_of weak) l.1.0 l.0 (in_segment (place_of weak) l.2) l.1.1 (dead_gone weak d zero_ l.1.0);
     named = λ at weak d same.
         let l = can.listed.sound (place_of weak) (contains_map place_of c.heap.weaks.list weak d) in
         let n = h.represents.named (place_of weak) l.0 in
-        (n.valid, ap (λ k. slice_index held (k + NAME_OFFSET)) (sym same) ∙ n.word);
+        (n.valid, ap (λ k. slice_index held (k + NAME_OFFSET)) (sym same) ∙ n.name);
   }
-    where
-      -- a nursery has room for the largest object, and so for a weak pointer
-      total_above : (at : ℕ) → at < young_base c.heap.segments → length held ≡ word_total c.heap.segments.layout → value_place at < length held
-      total_above at low total = let sound = h.segments.layout in let is = sound.nursery in omega (arith, low, total, is)
-
--- the list without those that are told is that of the alive ones
-pub left_is_alive : (words : List ℕ) (places : List ℕ) (list : List OldWeak) →
-    ((weak : OldWeak) → Contains list weak → slice_index words (value_place weak.at.0) ≡ 0 → Contains places weak.at.0) → left_of words places list ≡
-    alive_of words list
-left_is_alive words places list told = by_places places list ∙ filter_same (λ (w : OldWeak). stays words places w) (is_alive words) list (λ w c.
-    same_test (stays words places w) (is_alive words w) (stays_alive w c) (λ alive. alive_stays places w alive))
-  where
-    -- none of the places is its, or it is alive
-    abbrev stays : List ℕ → List ℕ → OldWeak → Bool
-    stays words [] w = true
-    stays words (at ∷ places) w = not (leaves_at words at w) && stays words places w
-
-    by_places : (places : List ℕ) (list : List OldWeak) → left_of words places list ≡ filter (λ (w : OldWeak). stays words places w) list
-    by_places places list = ?
-
-    stays_alive : (w : OldWeak) → Contains list w → stays words places w ≡ true → is_alive words w ≡ true
-    stays_alive w c s = ?
-
-    alive_stays : (places : List ℕ) (w : OldWeak) → is_alive words w ≡ true → stays words places w ≡ true
-    alive_stays places w alive = ?
-
--- those of the list lie within the heap's words
-pub lists_inside : (t : Stopped) (c : Collector) → StandsStopped t c → CanList t c → AreInside (words_in c.heap.words) c.heap.weaks.list
-lists_inside t c h can weak d =
-    let l = can.listed.sound (place_of weak) (contains_map place_of c.heap.weaks.list weak d) in
-    let now = can.old.weak weak.weak l.1.0 l.1.1 in
-    let tracked : IsTracked t.world (earlier_of t) weak.weak = IsReached.start weak.weak (
-      t.began,
-      contains_tail t.world (earlier_of t) t.began (contains_head t.began t.later),
-      IsReached.start weak.weak (inr (weak.weak, l.1.0, l.1.1, inl refl)),
-    ) in
-    let placed = h.represents.tracked weak.weak (Weak now.0) tracked now.1 in
-    let same = h.represents.one (record { at = placed.at; name = weak.weak }) (place_of weak) placed.there l.0 (inl refl) in
-    let e : placed.at ≡ weak.at.0 = ap (λ (q : Place). q.at) same in
-    let within = lies_within c.heap.segments.layout (record { at = placed.at; name = weak.weak }) 5 (omega arith) placed.object.lies in
-    let total = h.represents.total in
-    omega (arith, e, within, total)
