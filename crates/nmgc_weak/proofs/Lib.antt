@@ -14,7 +14,6 @@ pub mod Finding
 pub mod Clearing
 pub mod Leaving
 pub mod RowLaws
-pub mod Merging
 pub mod Joining
 pub mod Dying
 pub mod Resolving

@@ -1,22 +1,24 @@
 -- Rows of the list: entries in order, those that left, and the rows one after another.
-use Rattle.std.proofs.Common.{◌≡◌, ◌≢◌, ◌⊎◌, ◌↔◌, ◌+◌, ◌<◌, ◌≤◌, ◌&&◌, ℕ, zero, suc, Bool, true, false, cond, eqb, eq-eqb, List, [], ◌∷◌, ◌++◌, length, map, set, refl, sym, ap, subst, ◌∙◌, append-nil, append_assoc, arith, Option, Some, None, inl, inr}
+use Rattle.std.proofs.Common.{◌≡◌, ◌≢◌, ◌⊎◌, ◌↔◌, ◌+◌, ◌-◌, ◌/◌, ◌<◌, ◌≤◌, ◌&&◌, ℕ, zero, suc, Bool, true, false, cond, eqb, eq-eqb, ne_eqb, slice_index, get_or, List, [], ◌∷◌, ◌++◌, length, length-append, length-set, map, set, refl, sym, ap, subst, ◌∙◌, append-nil, append_assoc, arith, Option, Some, None, inl, inr}
 use Rattle.std.specs.Prelude.{Contains, filter, slice_get, not, min}
-use Rattle.std.specs.List.{flat_map}
+use Rattle.std.specs.List.{count_by, flat_map}
+use Rattle.std.proofs.lemmas.List.Sums.{length-filter, count_by-le-length}
 use Rattle.std.proofs.Math.Nat.{min-le_left, min-le_right, min-eq_left}
-use Rattle.std.proofs.lemmas.Bool.{and_from, cases_lt}
-use Rattle.std.proofs.lemmas.Option.{none-some, same_Some, slice_get_within}
+use Rattle.std.proofs.lemmas.Bool.{and_from, cases_eq, cases_lt, cases_order}
+use Rattle.std.proofs.lemmas.Option.{none-some, same_Some, slice_get-get_or, slice_get_within}
 use Rattle.std.proofs.lemmas.List.Elements.{Contains-append_left, Contains-append_right, Contains-append_cases, filter-append}
 use Rattle.nmgc_limits.specs.declared.mutators.TheConstants.{MAKERS}
 use Rattle.nmgc_world_spec.specs.declared.value.Name.{Name}
 use Rattle.nmgc_world_spec.specs.Reach.{IsBefore, IsInOrder}
 use Rattle.nmgc_world_spec.specs.laws.Orders.{same_name, before_trans, not_before_itself, in_order_first, in_order_rest, in_order_cons}
+use Rattle.nmgc_object.specs.Words.{IsName, name_word}
 use Rattle.nmgc_object.specs.declared.words.Address.{Address}
-use Rattle.nmgc_lists.specs.laws.Items.{contains_head, contains_tail, contains_cases, contains_at, contains_map, map_contains, contains_filter, filter_contains, item_map, nothing_in}
-use Rattle.nmgc_lists.specs.laws.Truths.{eq_true, and_both, false_of, unmarked}
+use Rattle.nmgc_lists.specs.laws.Items.{contains_head, contains_tail, contains_cases, contains_at, contains_map, map_contains, contains_filter, filter_contains, item, item_map, nothing_in, place_of, slice_get-set_same, slice_get-set_other}
+use Rattle.nmgc_lists.specs.laws.Truths.{eq_true, and_both, false_of, same_test, unmarked}
 use Rattle.nmgc_weak.specs.declared.row.Entry.{Entry}
 use Rattle.nmgc_weak.specs.declared.weaks.OldWeak.{OldWeak}
-use Rattle.nmgc_weak.specs.Rows.{Row, listed, entry_names, IsEntryAt, is_same, without, list_of, row_of, AreRows}
-use Rattle.nmgc_weak.specs.Weaks.{names_of, alive_of, is_alive}
+use Rattle.nmgc_weak.specs.Rows.{Row, listed, entry_names, IsEntryAt, is_same, without, list_of, row_of, AreRows, leaves_at, left_at}
+use Rattle.nmgc_weak.specs.Weaks.{names_of, alive_of, is_alive, value_place}
 use Rattle.nmgc_weak.specs.laws.Left.{filter_all, filter_same}
 use Rattle.nmgc_weak.proofs.Finding.{names_append}
 
@@ -32,19 +34,19 @@ before_at (x ∷ xs) (suc i) (suc j) a b o e f lt = before_at xs i j a b (in_ord
 name_at : (es : List Entry) (i : ℕ) (e : Entry) → slice_get es i ≡ Some e → slice_get (entry_names es) i ≡ Some e.weak.weak
 name_at es i e there = item_map (λ (x : Entry). x.weak.weak) es i e there
 
--- how far a name was looked for by halves: it isn't among those before one place, nor before those from another on
+-- how far a name was looked for by halves: those before one place come before it, and those from another on after it
 pub record IsBetween (es : List Entry) (weak : Name) (low high : ℕ) : Type 0 where
   pub ordered : low ≤ high
   pub within : high ≤ length es
   pub before : (j : ℕ) (e : Entry) → slice_get es j ≡ Some e → j < low → IsBefore e.weak.weak weak
-  pub after : (j : ℕ) (e : Entry) → slice_get es j ≡ Some e → high ≤ j → IsBefore e.weak.weak weak → ⊥
+  pub after : (j : ℕ) (e : Entry) → slice_get es j ≡ Some e → high ≤ j → IsBefore weak e.weak.weak
 
 pub between_first : (es : List Entry) (weak : Name) → IsBetween es weak 0 (length es)
 between_first es weak = record {
   ordered = omega arith;
   within = omega arith;
   before = λ j e there lt. absurd (omega (arith, lt));
-  after = λ j e there le b. absurd (let within = slice_get_within es j e there in omega (arith, within, le));
+  after = λ j e there le. absurd (let within = slice_get_within es j e there in omega (arith, within, le));
 }
 
 module _ (es : List Entry) (weak : Name) (low high middle : ℕ) (o : IsInOrder (entry_names es)) (h : IsBetween es weak low high) (x : Entry)
@@ -65,53 +67,77 @@ module _ (es : List Entry) (weak : Name) (low high middle : ℕ) (o : IsInOrder 
     after = h.after;
   }
 
-  -- or it doesn't
-  pub between_high : (IsBefore x.weak.weak weak → ⊥) → IsBetween es weak low middle
-  between_high not_ = record {
+  -- or after it
+  pub between_high : IsBefore weak x.weak.weak → IsBetween es weak low middle
+  between_high b = record {
     ordered = above;
     within = let w = h.within in omega (arith, w, below);
     before = h.before;
-    after = λ j e at le b. elim (cases_lt middle j) [
-      | inl less ↦ not_ (before_trans x.weak.weak e.weak.weak weak (before_at (entry_names es) middle j x.weak.weak e.weak.weak o (name_at es middle x
-          there) (name_at es j e at) less) b)
+    after = λ j e at le. elim (cases_lt middle j) [
+      | inl less ↦ before_trans weak x.weak.weak e.weak.weak b (before_at (entry_names es) middle j x.weak.weak e.weak.weak o (name_at es middle x
+          there) (name_at es j e at) less)
       | inr more ↦
           let same : j ≡ middle = omega (arith, le, more) in
           let one : e ≡ x = same_Some e x (sym at ∙ ap (λ k. slice_get es k) same ∙ there) in
-          not_ (subst (λ (y : Entry). IsBefore y.weak.weak weak) one b)
+          subst (λ (y : Entry). IsBefore weak y.weak.weak) (sym one) b
     ];
   }
 
--- once nothing is between, the name is there or nowhere
-pub between_none : (es : List Entry) (weak : Name) (low high : ℕ) → IsInOrder (entry_names es) → IsBetween es weak low high → high ≤ low →
-    ((x : Entry) → slice_get es low ≡ Some x → x.weak.weak ≡ weak → ⊥) → (e : Entry) → Contains es e → e.weak.weak ≢ weak
-between_none es weak low high o h past not_ e c same =
-    let at = place_in es e c in
+-- whoever has a place is read there
+pub read_entry : (es : List Entry) (i : ℕ) (x : Entry) → i < length es → x ≡ get_or es i x → slice_get es i ≡ Some x
+read_entry es i x lt is = slice_get-get_or es i x lt ∙ ap (λ (y : Entry). Some y) (sym is)
+
+pub read_row : (rows : List Row) (i : ℕ) (x : Row) → i < length rows → x ≡ get_or rows i x → slice_get rows i ≡ Some x
+read_row rows i x lt is = slice_get-get_or rows i x lt ∙ ap (λ (y : Row). Some y) (sym is)
+
+-- once nothing is between, the name is nowhere
+pub between_none : (es : List Entry) (weak : Name) (low high : ℕ) → IsBetween es weak low high → high ≤ low → (e : Entry) → Contains es e →
+    e.weak.weak ≢ weak
+between_none es weak low high h past e c same =
+    let at = place_of es e c in
     elim (cases_lt at.0 low) [
       | inl less ↦ not_before_itself weak (subst (λ (n : Name). IsBefore n weak) same (h.before at.0 e at.1 less))
-      | inr le ↦ elim (cases_lt low at.0) [
-        | inl more ↦
-            let lt = slice_get_within es at.0 e at.1 in
-            let x = item_at es low (omega (arith, more, lt)) in
-            let before : IsBefore x.0.weak.weak e.weak.weak =
-            before_at (entry_names es) low at.0 x.0.weak.weak e.weak.weak o (name_at es low x.0 x.1) (name_at es at.0 e at.1) more in
-            h.after low x.0 x.1 past (subst (λ (n : Name). IsBefore x.0.weak.weak n) same before)
-        | inr less ↦
-            let here : at.0 ≡ low = omega (arith, le, less) in
-            not_ e (ap (λ k. slice_get es k) (sym here) ∙ at.1) same
-      ]
-    ]
-  where
-    place_in : (xs : List Entry) (y : Entry) → Contains xs y → (i : ℕ) × (slice_get xs i ≡ Some y)
-    place_in [] y c = absurd (nothing_in y c)
-    place_in (x ∷ xs) y c = elim (contains_cases x xs y c) [
-      | inl e ↦ (0, ap (λ (z : Entry). Some z) e)
-      | inr d ↦ let r = place_in xs y d in (suc r.0, r.1)
+      | inr le ↦ not_before_itself weak (subst (λ (n : Name). IsBefore weak n) same (h.after at.0 e at.1 (omega (arith, past, le))))
     ]
 
-    item_at : (xs : List Entry) (k : ℕ) → k < length xs → (x : Entry) × (slice_get xs k ≡ Some x)
-    item_at [] k lt = absurd (omega arith)
-    item_at (x ∷ xs) zero lt = (x, refl)
-    item_at (x ∷ xs) (suc k) lt = item_at xs k (omega arith)
+-- what lies halfway
+pub halfway : (low high : ℕ) → low < high → (low ≤ low + (high - low) / 2) × (low + (high - low) / 2 < high)
+halfway low high lt = (omega arith, omega arith)
+
+-- of two names of which neither is before the other there is one
+pub neither_before : (a b : Name) → (IsBefore a b → ⊥) → (IsBefore b a → ⊥) → a ≡ b
+neither_before a b p q = elim (cases_order a.maker b.maker) [
+  | inl maker ↦ elim (cases_order a.serial b.serial) [
+    | inl serial ↦ same_name a b maker serial
+    | inr apart ↦ elim apart [ inl lt ↦ absurd (p (inr (maker, lt))) | inr lt ↦ absurd (q (inr (sym maker, lt))) ]
+  ]
+  | inr apart ↦ elim apart [ inl lt ↦ absurd (p (inl lt)) | inr lt ↦ absurd (q (inl lt)) ]
+]
+
+-- from a place on all come after a name
+pub record ComeAfter (es : List Entry) (weak : Name) (place : ℕ) : Type 0 where
+  pub within : place ≤ length es
+  pub after : (j : ℕ) (e : Entry) → slice_get es j ≡ Some e → place ≤ j → IsBefore weak e.weak.weak
+
+pub none_after : (es : List Entry) (weak : Name) → ComeAfter es weak (length es)
+none_after es weak = record {
+  within = omega arith;
+  after = λ j e there le. absurd (let within = slice_get_within es j e there in omega (arith, within, le));
+}
+
+-- so also from the one before it on
+pub one_before : (es : List Entry) (weak : Name) (place : ℕ) (x : Entry) → ComeAfter es weak (place + 1) → slice_get es place ≡ Some x →
+    IsBefore weak x.weak.weak → ComeAfter es weak place
+one_before es weak place x h there b = record {
+  within = let w = h.within in omega (arith, w);
+  after = λ j e at le. elim (cases_lt place j) [
+    | inl less ↦ h.after j e at (omega (arith, less))
+    | inr more ↦
+        let same : j ≡ place = omega (arith, le, more) in
+        let one : e ≡ x = same_Some e x (sym at ∙ ap (λ k. slice_get es k) same ∙ there) in
+        subst (λ (y : Entry). IsBefore weak y.weak.weak) (sym one) b
+  ];
+}
 
 -- those of the entries that are in the list, one by one
 pub listed_cons : (e : Entry) (es : List Entry) → listed (e ∷ es) ≡ cond (not e.left) (e.weak ∷ listed es) (listed es)
@@ -342,3 +368,144 @@ rows_filtered p (r ∷ rows) (n ∷ later) same h =
     ap (λ (l : List OldWeak). l ++ list_of later) (h 0 r n refl refl) ∙
     ap (λ (l : List OldWeak). filter p r.list ++ l) (rows_filtered p rows later (omega (arith, same)) (λ k. h (suc k))) ∙
     sym (filter-append p r.list (list_of rows))
+
+-- one row is another: how many there are in all
+pub row_lengths : (rows : List Row) (k : ℕ) (old new : Row) → slice_get rows k ≡ Some old →
+    length (list_of (set rows k new)) + length old.list ≡ length (list_of rows) + length new.list
+row_lengths [] k old new there = absurd (none-some old there)
+row_lengths (r ∷ rows) zero old new there =
+    let same : length r.list ≡ length old.list = ap (λ (y : Row). length y.list) (same_Some r old there) in
+    let after = length-append new.list (list_of rows) in
+    let before = length-append r.list (list_of rows) in
+    omega (arith, same, after, before)
+row_lengths (r ∷ rows) (suc k) old new there =
+    let rest = row_lengths rows k old new there in
+    let after = length-append r.list (list_of (set rows k new)) in
+    let before = length-append r.list (list_of rows) in
+    omega (arith, rest, after, before)
+
+-- and the rows are rows still, with as much room or less
+pub set_rows : (rows : List Row) (room less k : ℕ) (old new : Row) → AreRows rows room → slice_get rows k ≡ Some old → less ≤ room →
+    ((w : OldWeak) → Contains new.list w → row_of w.weak ≡ k) → IsInOrder (names_of new.list) → less ≤ new.spare → AreRows (set rows k new) less
+set_rows rows room less k old new h there le own ordered spare = record {
+  own = λ j row w at c. elim (at_or_other j row at) [
+    | inl e ↦ own w (subst (λ (y : Row). Contains y.list w) e.1 c) ∙ sym e.0
+    | inr other ↦ h.own j row w other c
+  ];
+  ordered = λ j row at. elim (at_or_other j row at) [
+    | inl e ↦ subst (λ (y : Row). IsInOrder (names_of y.list)) (sym e.1) ordered
+    | inr other ↦ h.ordered j row other
+  ];
+  spare = λ j row at. elim (at_or_other j row at) [
+    | inl e ↦ subst (λ (y : Row). less ≤ y.spare) (sym e.1) spare
+    | inr other ↦ let most = h.spare j row other in omega (arith, most, le)
+  ];
+  all = λ some. length-set rows k new ∙ h.all (omega (arith, some, le));
+}
+  where
+    at_or_other : (j : ℕ) (row : Row) → slice_get (set rows k new) j ≡ Some row → ((j ≡ k) × (row ≡ new)) ⊎ (slice_get rows j ≡ Some row)
+    at_or_other j row at = elim (cases_eq j k) [
+      | inl same ↦ inl (
+        same,
+        same_Some row new (sym at ∙ ap (λ i. slice_get (set rows k new) i) same ∙ slice_get-set_same rows k new (slice_get_within rows k old there)),
+      )
+      | inr other ↦ inr (sym (slice_get-set_other rows k j new other) ∙ at)
+    ]
+
+-- one joins its row
+pub joined_rows : (rows : List Row) (room k : ℕ) (old new : Row) (x : OldWeak) → AreRows rows (room + 1) → slice_get rows k ≡ Some old → row_of x.weak ≡ k →
+    ((y : OldWeak) → Contains new.list y ↔ (Contains old.list y ⊎ (y ≡ x))) → IsInOrder (names_of new.list) → old.spare ≤ new.spare + 1 →
+    AreRows (set rows k new) room
+joined_rows rows room k old new x h there number joins ordered spare =
+    set_rows rows (room + 1) room k old new h there (omega arith) (λ w c. elim ((joins w).0 c) [
+      | inl was ↦ h.own k old w there was
+      | inr e ↦ ap (λ (y : OldWeak). row_of y.weak) e ∙ number
+    ]) ordered (let most = h.spare k old there in omega (arith, most, spare))
+
+-- one leaves its row
+pub left_rows : (p : OldWeak → Bool) (rows : List Row) (room k : ℕ) (old new : Row) → AreRows rows room → slice_get rows k ≡ Some old →
+    new.list ≡ filter p old.list → IsInOrder (names_of new.list) → old.spare ≤ new.spare → AreRows (set rows k new) room
+left_rows p rows room k old new h there is ordered spare =
+    set_rows rows room room k old new h there (omega arith) (λ w c. h.own k old w there (filter_contains p old.list w
+    (subst (λ (l : List OldWeak). Contains l w) is c)).0) ordered (let most = h.spare k old there in omega (arith, most, spare))
+
+-- some leave each row
+pub all_left : (p : OldWeak → Bool) (rows later : List Row) (room : ℕ) → AreRows rows room → length later ≡ length rows →
+    ((k : ℕ) (old new : Row) → slice_get rows k ≡ Some old → slice_get later k ≡ Some new →
+    (new.list ≡ filter p old.list) × IsInOrder (names_of new.list) × (old.spare ≤ new.spare)) → AreRows later room
+all_left p rows later room h same each = record {
+  own = λ k row w at c.
+      let old = row_there k row at in
+      h.own k old.0 w old.1 (filter_contains p old.0.list w (subst (λ (l : List OldWeak). Contains l w) (each k old.0 row old.1 at).0 c)).0;
+  ordered = λ k row at. let old = row_there k row at in (each k old.0 row old.1 at).1;
+  spare = λ k row at.
+      let old = row_there k row at in
+      let most = h.spare k old.0 old.1 in
+      let more = (each k old.0 row old.1 at).2 in
+      omega (arith, most, more);
+  all = λ some. same ∙ h.all some;
+}
+  where
+    row_there : (k : ℕ) (row : Row) → slice_get later k ≡ Some row → (old : Row) × (slice_get rows k ≡ Some old)
+    row_there k row at = item rows k (let within = slice_get_within later k row at in omega (arith, within, same))
+
+-- what is filtered is no more
+pub filtered_few : (p : OldWeak → Bool) (l : List OldWeak) → length (filter p l) ≤ length l
+filtered_few p l =
+    let counted : length (filter p l) ≡ count_by p l = length-filter p l in
+    let most : count_by p l ≤ length l = count_by-le-length p l in
+    omega (arith, counted, most)
+
+-- two names of one word are one
+pub one_name : (a b : Name) → IsName a → IsName b → name_word a ≡ name_word b → a ≡ b
+one_name a b p q e =
+    let first = p.0 in
+    let second = q.0 in
+    same_name a b (omega (arith, first, second, e)) (omega (arith, first, second, e))
+
+-- who leaves at a place: one whose value word is 0, and nobody where there is none such
+pub none_leaves : (words : List ℕ) (at : ℕ) (list : List OldWeak) →
+    ((w : OldWeak) → Contains list w → w.at.0 ≡ at → is_alive words w ≡ false → ⊥) → left_at words at list ≡ list
+none_leaves words at list none = filter_all (λ (w : OldWeak). not (leaves_at words at w)) list (λ w c. ap not (false_of (leaves_at words at w) (λ t.
+    let both = and_both (eqb w.at.0 at) (not (is_alive words w)) t in
+    none w c (eq_true w.at.0 at both.0) (unmarked (is_alive words w) both.1))))
+
+-- where the value word isn't 0, whoever is there is alive
+pub alive_at : (words : List ℕ) (at : ℕ) (w : OldWeak) → slice_index words (value_place at) ≢ 0 → w.at.0 ≡ at → is_alive words w ≡ false → ⊥
+alive_at words at w some is dead =
+    let alive : is_alive words w ≡ true = ap not (ne_eqb (slice_index words (value_place w.at.0)) 0 (λ e. some (ap (λ k. slice_index words (value_place k)) (sym is) ∙ e))) in
+    let bad : true ≡ false = sym alive ∙ dead in
+    cc
+
+-- where it is 0, the one of the name there leaves
+pub leaves_is : (words : List ℕ) (at : ℕ) (n : Name) (w : OldWeak) → slice_index words (value_place at) ≡ 0 → (w.at.0 ≡ at → w.weak ≡ n) →
+    leaves_at words at w ≡ is_same w (record { weak = n; at = record { 0 = at } })
+leaves_is words at n w zero_ named =
+    let x : OldWeak = record { weak = n; at = record { 0 = at } } in
+    same_test (leaves_at words at w) (is_same w x) (λ t.
+    let here : w.at.0 ≡ at = eq_true w.at.0 at (and_both (eqb w.at.0 at) (not (is_alive words w)) t).0 in
+    let same : w ≡ x = same_old w x (named here) here in
+    ap (λ (y : OldWeak). is_same y x) same ∙ is_same_itself x) (λ t.
+    let here : w.at.0 ≡ at = ap (λ (y : OldWeak). y.at.0) (is_same_true w x t) in
+    let dead : is_alive words w ≡ false = ap not (eq-eqb (slice_index words (value_place w.at.0)) 0 (ap (λ k. slice_index words (value_place k)) here ∙ zero_)) in
+    and_from (eqb w.at.0 at) (not (is_alive words w)) (eq-eqb w.at.0 at here) (ap not dead))
+
+module _ (words : List ℕ) (at : ℕ) (n : Name) (rows : List Row) (room : ℕ) (h : AreRows rows room) (zero_ : slice_index words (value_place at) ≡ 0)
+    (named : (w : OldWeak) → Contains (list_of rows) w → w.at.0 ≡ at → w.weak ≡ n) where
+  -- it leaves its row, and so the list
+  pub left_row : (old new : Row) → slice_get rows (row_of n) ≡ Some old → new.list ≡ without (record { weak = n; at = record { 0 = at } }) old.list →
+      list_of (set rows (row_of n) new) ≡ left_at words at (list_of rows)
+  left_row old new there is = row_filtered (λ (w : OldWeak). not (leaves_at words at w)) rows (row_of n) old new there
+      (is ∙ sym (filter_same (λ (w : OldWeak). not (leaves_at words at w)) (λ (w : OldWeak). not (is_same w (record { weak = n; at = record { 0 = at } }))) old.list
+      (λ w c. ap not (leaves_is words at n w zero_ (named w (of_row rows (row_of n) old w there c))))))
+      (λ j row w got other c. ap not (false_of (leaves_at words at w) (λ t.
+      let here : w.at.0 ≡ at = eq_true w.at.0 at (and_both (eqb w.at.0 at) (not (is_alive words w)) t).0 in
+      other (sym (h.own j row w got c) ∙ ap row_of (named w (of_row rows j row w got c) here)))))
+
+  -- where there is no such row, nobody is of that name
+  pub no_row : length rows ≤ row_of n → left_at words at (list_of rows) ≡ list_of rows
+  no_row past = none_leaves words at (list_of rows) (λ w c here dead.
+      let r = in_row rows w c in
+      let number : row_of n ≡ r.0 = ap row_of (sym (named w c here)) ∙ h.own r.0 r.1 w r.2 r.3 in
+      let within = slice_get_within rows r.0 r.1 r.2 in
+      omega (arith, past, number, within))

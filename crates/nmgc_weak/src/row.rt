@@ -60,14 +60,14 @@ fn find(entries: &[Entry], weak: Name) -> Option<usize>
     let mut high = entries.len();
     while low < high {
         let middle = low + (high - low) / 2;
-        if is_before(entries[middle].weak.weak, weak) {
+        let found = entries[middle].weak.weak;
+        if is_before(found, weak) {
             low = middle + 1;
-        } else {
+        } else if is_before(weak, found) {
             high = middle;
+        } else {
+            return Some(middle);
         }
-    }
-    if low < entries.len() && entries[low].weak.weak == weak {
-        return Some(low);
     }
     None
 }
@@ -79,10 +79,15 @@ fn place_from_end(entries: &[Entry], weak: Name) -> usize
     ensures before { (j : ℕ) (entry : Kept) → slice_get entries.now j ≡ Some entry → result ≡ j + 1 → IsBefore weak entry.weak.weak → ⊥ }
 {
     let mut place = entries.len();
-    while 0 < place && is_before(weak, entries[place - 1].weak.weak) {
-        place -= 1;
+    while 0 < place {
+        let last = place - 1;
+        if is_before(weak, entries[last].weak.weak) {
+            place = last;
+        } else {
+            return place;
+        }
     }
-    place
+    0
 }
 
 impl Row {
@@ -113,6 +118,7 @@ impl Row {
         requires new { (other : Old) → Contains self.old.list other → other.weak ≢ weak }
         ensures list { (other : Old) → Contains self.new.list other ↔ (Contains self.old.list other ⊎ (other ≡ record { weak = weak; at = at })) }
         ensures ordered { IsInOrder (names_of self.new.list) }
+        ensures count { length self.new.list ≤ length self.old.list + 1 }
         ensures spare { self.old.spare ≤ self.new.spare + 1 }
     {
         let entry = Entry {
@@ -121,9 +127,12 @@ impl Row {
         };
         let place = place_from_end(self.entries.as_slice(), weak);
         // One of this name left the list before: its entry is used again.
-        if 0 < place && self.entries[place - 1].weak.weak == weak {
-            self.entries[place - 1] = entry;
-            return;
+        if 0 < place {
+            let last = place - 1;
+            if !is_before(self.entries[last].weak.weak, weak) {
+                self.entries[last] = entry;
+                return;
+            }
         }
         match self.entries.insert(place, entry) {
             Ok(()) => {}
