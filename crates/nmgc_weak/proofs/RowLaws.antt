@@ -1,7 +1,8 @@
 -- Rows of the list: entries in order, those that left, and the rows one after another.
-use Rattle.std.proofs.Common.{◌≡◌, ◌≢◌, ◌⊎◌, ◌↔◌, ◌+◌, ◌-◌, ◌/◌, ◌<◌, ◌≤◌, ◌&&◌, ℕ, zero, suc, Bool, true, false, cond, eqb, eq-eqb, ne_eqb, slice_index, get_or, List, [], ◌∷◌, ◌++◌, length, length-append, length-set, map, set, refl, sym, ap, subst, ◌∙◌, append-nil, append_assoc, arith, Option, Some, None, inl, inr}
-use Rattle.std.specs.Prelude.{Contains, filter, slice_get, not, min}
+use Rattle.std.proofs.Common.{◌≡◌, ◌≢◌, ◌⊎◌, ◌↔◌, ◌+◌, ◌-◌, ◌/◌, ◌<◌, ◌≤◌, ℕ, zero, suc, Bool, true, false, cond, eqb, eq-eqb, ne_eqb, slice_index, get_or, List, [], ◌∷◌, ◌++◌, length, length-append, length-set, take, drop, map, set, refl, sym, ap, subst, ◌∙◌, append-nil, append_assoc, arith, Option, Some, None, inl, inr}
+use Rattle.std.specs.Prelude.{Contains, filter, slice_get, not, min, ◌&&◌}
 use Rattle.std.specs.List.{count_by, flat_map}
+use Rattle.std.proofs.lemmas.List.{take_drop}
 use Rattle.std.proofs.lemmas.List.Sums.{length-filter, count_by-le-length}
 use Rattle.std.proofs.Math.Nat.{min-le_left, min-le_right, min-eq_left}
 use Rattle.std.proofs.lemmas.Bool.{and_from, cases_eq, cases_lt, cases_order}
@@ -19,7 +20,7 @@ use Rattle.nmgc_weak.specs.declared.row.Entry.{Entry}
 use Rattle.nmgc_weak.specs.declared.weaks.OldWeak.{OldWeak}
 use Rattle.nmgc_weak.specs.Rows.{Row, listed, entry_names, IsEntryAt, is_same, without, list_of, row_of, AreRows, leaves_at, left_at}
 use Rattle.nmgc_weak.specs.Weaks.{names_of, alive_of, is_alive, value_place}
-use Rattle.nmgc_weak.specs.laws.Left.{filter_all, filter_same}
+use Rattle.nmgc_weak.specs.laws.Left.{filter_all, filter_same, filter_twice}
 use Rattle.nmgc_weak.proofs.Finding.{names_append}
 
 -- of two names of a list in order the one that comes first is before the other
@@ -181,6 +182,149 @@ listed_ordered (e ∷ es) o = subst (λ (l : List OldWeak). IsInOrder (names_of 
 
     by_test : (b : Bool) → IsInOrder (names_of (cond b (e.weak ∷ listed es) (listed es)))
     by_test true = in_order_cons e.weak.weak (names_of (listed es)) rest (λ n c. in_order_first e.weak.weak (entry_names es) o n (listed_names es n c))
+    by_test false = rest
+
+-- the names of entries with one more are its name and theirs
+inserted_names : (es : List Entry) (k : ℕ) (x : Entry) (n : Name) → Contains (entry_names (take k es ++ x ∷ drop k es)) n →
+    (x.weak.weak ≡ n) ⊎ Contains (entry_names es) n
+inserted_names [] zero x n c = contains_cases x.weak.weak [] n c
+inserted_names [] (suc k) x n c = contains_cases x.weak.weak [] n c
+inserted_names (y ∷ ys) zero x n c = contains_cases x.weak.weak (entry_names (y ∷ ys)) n c
+inserted_names (y ∷ ys) (suc k) x n c = elim (contains_cases y.weak.weak (entry_names (take k ys ++ x ∷ drop k ys)) n c) [
+  | inl e ↦ inr (subst (λ (m : Name). Contains (entry_names (y ∷ ys)) m) e (contains_head y.weak.weak (entry_names ys)))
+  | inr d ↦ elim (inserted_names ys k x n d) [
+    | inl e ↦ inl e
+    | inr more ↦ inr (contains_tail y.weak.weak (entry_names ys) n more)
+  ]
+]
+
+-- an entry of a name, and where it is
+entry_of : (es : List Entry) (n : Name) → Contains (entry_names es) n → (j : ℕ) × (e : Entry) × (slice_get es j ≡ Some e) × (e.weak.weak ≡ n)
+entry_of es n c =
+    let r = map_contains (λ (e : Entry). e.weak.weak) es n c in
+    let at = place_of es r.0 r.1 in
+    (at.0, r.0, at.1, sym r.2)
+
+-- at its place they stay in order
+pub inserted_ordered : (es : List Entry) (k : ℕ) (x : Entry) → IsInOrder (entry_names es) →
+    ((j : ℕ) (e : Entry) → slice_get es j ≡ Some e → k ≤ j → IsBefore x.weak.weak e.weak.weak) →
+    ((j : ℕ) (e : Entry) → slice_get es j ≡ Some e → j < k → IsBefore e.weak.weak x.weak.weak) → IsInOrder (entry_names (take k es ++ x ∷ drop k es))
+inserted_ordered [] zero x o after before = in_order_cons x.weak.weak [] o (λ n c. absurd (nothing_in n c))
+inserted_ordered [] (suc k) x o after before = in_order_cons x.weak.weak [] o (λ n c. absurd (nothing_in n c))
+inserted_ordered (y ∷ ys) zero x o after before = in_order_cons x.weak.weak (entry_names (y ∷ ys)) o (λ n c.
+    let r = entry_of (y ∷ ys) n c in
+    subst (λ (m : Name). IsBefore x.weak.weak m) r.3 (after r.0 r.1 r.2 (omega arith)))
+inserted_ordered (y ∷ ys) (suc k) x o after before =
+    in_order_cons y.weak.weak (entry_names (take k ys ++ x ∷ drop k ys))
+    (inserted_ordered ys k x (in_order_rest y.weak.weak (entry_names ys) o) (λ j e at le. after (suc j) e at (omega (arith, le)))
+    (λ j e at lt. before (suc j) e at (omega (arith, lt)))) (λ n c. elim (inserted_names ys k x n c) [
+      | inl e ↦ subst (λ (m : Name). IsBefore y.weak.weak m) e (before 0 y refl (omega arith))
+      | inr more ↦ in_order_first y.weak.weak (entry_names ys) o n more
+    ])
+
+-- and it joins the list
+pub inserted_list : (es : List Entry) (k : ℕ) (x : Entry) → x.left ≡ false →
+    listed (take k es ++ x ∷ drop k es) ≡ listed (take k es) ++ x.weak ∷ listed (drop k es)
+inserted_list es k x in_ =
+    listed_append (take k es) (x ∷ drop k es) ∙ ap (λ (l : List OldWeak). listed (take k es) ++ l)
+    (listed_cons x (drop k es) ∙ ap (λ (b : Bool). cond (not b) (x.weak ∷ listed (drop k es)) (listed (drop k es))) in_)
+
+listed_parts : (es : List Entry) (k : ℕ) → listed (take k es) ++ listed (drop k es) ≡ listed es
+listed_parts es k = sym (listed_append (take k es) (drop k es)) ∙ ap listed (take_drop k es)
+
+pub inserted_has : (es : List Entry) (k : ℕ) (x : Entry) (w : OldWeak) → x.left ≡ false →
+    Contains (listed (take k es ++ x ∷ drop k es)) w ↔ (Contains (listed es) w ⊎ (w ≡ x.weak))
+inserted_has es k x w in_ =
+    let first : List OldWeak = listed (take k es) in
+    let second : List OldWeak = listed (drop k es) in (
+      λ c. elim (Contains-append_cases first (x.weak ∷ second) w (subst (λ (l : List OldWeak). Contains l w) (inserted_list es k x in_) c)) [
+        | inl a ↦ inl (subst (λ (l : List OldWeak). Contains l w) (listed_parts es k) (Contains-append_left first second w a))
+        | inr b ↦ elim (contains_cases x.weak second w b) [
+          | inl e ↦ inr (sym e)
+          | inr d ↦ inl (subst (λ (l : List OldWeak). Contains l w) (listed_parts es k) (Contains-append_right first second w d))
+        ]
+      ],
+      λ h. subst (λ (l : List OldWeak). Contains l w) (sym (inserted_list es k x in_)) (elim h [
+        | inl c ↦ elim (Contains-append_cases first second w (subst (λ (l : List OldWeak). Contains l w) (sym (listed_parts es k)) c)) [
+          | inl a ↦ Contains-append_left first (x.weak ∷ second) w a
+          | inr b ↦ Contains-append_right first (x.weak ∷ second) w (contains_tail x.weak second w b)
+        ]
+        | inr e ↦ Contains-append_right first (x.weak ∷ second) w
+            (subst (λ (y : OldWeak). Contains (x.weak ∷ second) y) (sym e) (contains_head x.weak second))
+      ]),
+    )
+
+pub inserted_count : (es : List Entry) (k : ℕ) (x : Entry) → x.left ≡ false → length (listed (take k es ++ x ∷ drop k es)) ≡ length (listed es) + 1
+inserted_count es k x in_ =
+    let more = ap length (inserted_list es k x in_) ∙ length-append (listed (take k es)) (x.weak ∷ listed (drop k es)) in
+    let all = ap length (sym (listed_parts es k)) ∙ length-append (listed (take k es)) (listed (drop k es)) in
+    omega (arith, more, all)
+
+-- an entry that left is used again
+pub reused_has : (es : List Entry) (i : ℕ) (old x : Entry) (w : OldWeak) → slice_get es i ≡ Some old → old.left ≡ true → x.left ≡ false →
+    Contains (listed (set es i x)) w ↔ (Contains (listed es) w ⊎ (w ≡ x.weak))
+reused_has [] i old x w there out in_ = absurd (none-some old there)
+reused_has (y ∷ ys) zero old x w there out in_ =
+    let left : y.left ≡ true = ap (λ (e : Entry). e.left) (same_Some y old there) ∙ out in
+    let was : listed (y ∷ ys) ≡ listed ys = listed_cons y ys ∙ ap (λ (b : Bool). cond (not b) (y.weak ∷ listed ys) (listed ys)) left in
+    let now : listed (x ∷ ys) ≡ x.weak ∷ listed ys = listed_cons x ys ∙ ap (λ (b : Bool). cond (not b) (x.weak ∷ listed ys) (listed ys)) in_ in (
+      λ c. elim (contains_cases x.weak (listed ys) w (subst (λ (l : List OldWeak). Contains l w) now c)) [
+        | inl e ↦ inr (sym e)
+        | inr d ↦ inl (subst (λ (l : List OldWeak). Contains l w) (sym was) d)
+      ],
+      λ h. subst (λ (l : List OldWeak). Contains l w) (sym now) (elim h [
+        | inl c ↦ contains_tail x.weak (listed ys) w (subst (λ (l : List OldWeak). Contains l w) was c)
+        | inr e ↦ subst (λ (z : OldWeak). Contains (x.weak ∷ listed ys) z) (sym e) (contains_head x.weak (listed ys))
+      ]),
+    )
+reused_has (y ∷ ys) (suc i) old x w there out in_ =
+    let rest = reused_has ys i old x w there out in_ in
+    rw (listed_cons y (set ys i x), listed_cons y ys) (by_test (not y.left) rest)
+  where
+    by_test : (b : Bool) → Contains (listed (set ys i x)) w ↔ (Contains (listed ys) w ⊎ (w ≡ x.weak)) →
+        Contains (cond b (y.weak ∷ listed (set ys i x)) (listed (set ys i x))) w ↔ (Contains (cond b (y.weak ∷ listed ys) (listed ys)) w ⊎ (w ≡ x.weak))
+    by_test true rest = (
+      λ c. elim (contains_cases y.weak (listed (set ys i x)) w c) [
+        | inl e ↦ inl (subst (λ (z : OldWeak). Contains (y.weak ∷ listed ys) z) e (contains_head y.weak (listed ys)))
+        | inr d ↦ elim (rest.0 d) [ inl a ↦ inl (contains_tail y.weak (listed ys) w a) | inr e ↦ inr e ]
+      ],
+      λ h. elim h [
+        | inl c ↦ elim (contains_cases y.weak (listed ys) w c) [
+          | inl e ↦ subst (λ (z : OldWeak). Contains (y.weak ∷ listed (set ys i x)) z) e (contains_head y.weak (listed (set ys i x)))
+          | inr d ↦ contains_tail y.weak (listed (set ys i x)) w (rest.1 (inl d))
+        ]
+        | inr e ↦ contains_tail y.weak (listed (set ys i x)) w (rest.1 (inr e))
+      ],
+    )
+    by_test false rest = rest
+
+-- of entries that move together the list stays
+and_same : (b : Bool) → (b && b) ≡ b
+and_same true = refl
+and_same false = refl
+
+pub together_list : (es : List Entry) → listed (filter (λ (e : Entry). not e.left) es) ≡ listed es
+together_list es = ap (λ (l : List Entry). map (λ (e : Entry). e.weak) l)
+    (filter_twice (λ (e : Entry). not e.left) (λ (e : Entry). not e.left) es ∙
+    filter_same (λ (e : Entry). not e.left && not e.left) (λ (e : Entry). not e.left) es (λ e c. and_same (not e.left)))
+
+-- and their order
+pub together_ordered : (es : List Entry) → IsInOrder (entry_names es) → IsInOrder (entry_names (filter (λ (e : Entry). not e.left) es))
+together_ordered [] o = o
+together_ordered (e ∷ es) o = by_test (not e.left)
+  where
+    kept : List Entry
+    kept = filter (λ (x : Entry). not x.left) es
+
+    rest : IsInOrder (entry_names kept)
+    rest = together_ordered es (in_order_rest e.weak.weak (entry_names es) o)
+
+    by_test : (b : Bool) → IsInOrder (entry_names (cond b (e ∷ kept) kept))
+    by_test true = in_order_cons e.weak.weak (entry_names kept) rest (λ n c.
+        let r = map_contains (λ (x : Entry). x.weak.weak) kept n c in
+        let was = (filter_contains (λ (x : Entry). not x.left) es r.0 r.1).0 in
+        in_order_first e.weak.weak (entry_names es) o n (subst (λ (m : Name). Contains (entry_names es) m) (sym r.2)
+        (contains_map (λ (x : Entry). x.weak.weak) es r.0 was)))
     by_test false = rest
 
 -- two of the same name at the same place
@@ -509,3 +653,15 @@ module _ (words : List ℕ) (at : ℕ) (n : Name) (rows : List Row) (room : ℕ)
       let number : row_of n ≡ r.0 = ap row_of (sym (named w c here)) ∙ h.own r.0 r.1 w r.2 r.3 in
       let within = slice_get_within rows r.0 r.1 r.2 in
       omega (arith, past, number, within))
+
+-- who stands before a place, where the one just before it comes before a name
+pub before_last : (es : List Entry) (place : ℕ) (x : Entry) (weak : Name) → IsInOrder (entry_names es) → slice_get es place ≡ Some x →
+    IsBefore x.weak.weak weak → (j : ℕ) (e : Entry) → slice_get es j ≡ Some e → j < place + 1 → IsBefore e.weak.weak weak
+before_last es place x weak o there b j e at lt = elim (cases_lt j place) [
+  | inl less ↦ before_trans e.weak.weak x.weak.weak weak (before_at (entry_names es) j place e.weak.weak x.weak.weak o (name_at es j e at)
+      (name_at es place x there) less) b
+  | inr more ↦
+      let same : j ≡ place = omega (arith, lt, more) in
+      let here : e ≡ x = same_Some e x (sym at ∙ ap (λ k. slice_get es k) same ∙ there) in
+      subst (λ (y : Entry). IsBefore y.weak.weak weak) (sym here) b
+]
