@@ -2,7 +2,7 @@
 use Rattle.std.proofs.Common.{◌≡◌, ◌≢◌, ◌⊎◌, ◌↔◌, ◌+◌, ◌-◌, ◌/◌, ◌<◌, ◌≤◌, ℕ, zero, suc, Bool, true, false, cond, eqb, eq-eqb, ne_eqb, slice_index, get_or, List, [], ◌∷◌, ◌++◌, length, length-append, length-set, take, drop, map, set, refl, sym, ap, subst, ◌∙◌, append-nil, append_assoc, arith, Option, Some, None, inl, inr}
 use Rattle.std.specs.Prelude.{Contains, filter, slice_get, not, min, ◌&&◌}
 use Rattle.std.specs.List.{count_by, flat_map}
-use Rattle.std.proofs.lemmas.List.{take_drop}
+use Rattle.std.proofs.lemmas.List.{take-append-drop}
 use Rattle.std.proofs.lemmas.List.Sums.{length-filter, count_by-le-length}
 use Rattle.std.proofs.Math.Nat.{min-le_left, min-le_right, min-eq_left}
 use Rattle.std.proofs.lemmas.Bool.{and_from, cases_eq, cases_lt, cases_order}
@@ -230,7 +230,7 @@ inserted_list es k x in_ =
     (listed_cons x (drop k es) ∙ ap (λ (b : Bool). cond (not b) (x.weak ∷ listed (drop k es)) (listed (drop k es))) in_)
 
 listed_parts : (es : List Entry) (k : ℕ) → listed (take k es) ++ listed (drop k es) ≡ listed es
-listed_parts es k = sym (listed_append (take k es) (drop k es)) ∙ ap listed (take_drop k es)
+listed_parts es k = sym (listed_append (take k es) (drop k es)) ∙ ap listed (take-append-drop k es)
 
 pub inserted_has : (es : List Entry) (k : ℕ) (x : Entry) (w : OldWeak) → x.left ≡ false →
     Contains (listed (take k es ++ x ∷ drop k es)) w ↔ (Contains (listed es) w ⊎ (w ≡ x.weak))
