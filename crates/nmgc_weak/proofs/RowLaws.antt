@@ -2,8 +2,8 @@
 use Rattle.std.proofs.Common.{◌≡◌, ◌≢◌, ◌⊎◌, ◌↔◌, ◌+◌, ◌-◌, ◌/◌, ◌<◌, ◌≤◌, ℕ, zero, suc, Bool, true, false, cond, eqb, eq-eqb, ne_eqb, slice_index, get_or, List, [], ◌∷◌, ◌++◌, length, length-append, length-set, take, drop, map, set, refl, sym, ap, subst, ◌∙◌, append-nil, append_assoc, arith, Option, Some, None, inl, inr}
 use Rattle.std.specs.Prelude.{Contains, filter, slice_get, not, min, ◌&&◌}
 use Rattle.std.specs.List.{count_by, flat_map}
-use Rattle.std.proofs.lemmas.List.{take-append-drop}
-use Rattle.std.proofs.lemmas.List.Sums.{length-filter, count_by-le-length}
+use Rattle.std.proofs.lemmas.List.{take-append-drop, take_more}
+use Rattle.std.proofs.lemmas.List.Sums.{count_by-le-length, length-filter, sum_by-append, sum_by-cons}
 use Rattle.std.proofs.Math.Nat.{min-le_left, min-le_right, min-eq_left}
 use Rattle.std.proofs.lemmas.Bool.{and_from, cases_eq, cases_lt, cases_order}
 use Rattle.std.proofs.lemmas.Option.{none-some, same_Some, slice_get-get_or, slice_get_within}
@@ -259,6 +259,13 @@ inserted_count es k x in_ =
     let more = ap length (inserted_list es k x in_) ∙ length-append (listed (take k es)) (x.weak ∷ listed (drop k es)) in
     let all = ap length (sym (listed_parts es k)) ∙ length-append (listed (take k es)) (listed (drop k es)) in
     omega (arith, more, all)
+
+-- the first ones, with one more
+pub listed_more : (es : List Entry) (i : ℕ) (d : Entry) → i < length es →
+    listed (take (i + 1) es) ≡ listed (take i es) ++ cond (not (get_or es i d).left) ((get_or es i d).weak ∷ []) []
+listed_more es i d lt =
+    ap listed (take_more es i d lt) ∙ listed_append (take i es) (get_or es i d ∷ []) ∙
+    ap (λ (l : List OldWeak). listed (take i es) ++ l) (listed_cons (get_or es i d) [])
 
 -- an entry that left is used again
 pub reused_has : (es : List Entry) (i : ℕ) (old x : Entry) (w : OldWeak) → slice_get es i ≡ Some old → old.left ≡ true → x.left ≡ false →
@@ -665,3 +672,38 @@ before_last es place x weak o there b j e at lt = elim (cases_lt j place) [
       let here : e ≡ x = same_Some e x (sym at ∙ ap (λ k. slice_get es k) same ∙ there) in
       subst (λ (y : Entry). IsBefore y.weak.weak weak) (sym here) b
 ]
+
+-- those of one maker are in one row
+none_counted : (p : OldWeak → Bool) (l : List OldWeak) → ((w : OldWeak) → Contains l w → p w ≡ true → ⊥) → count_by p l ≡ 0
+none_counted p [] none = refl
+none_counted p (x ∷ xs) none =
+    let out : p x ≡ false = false_of (p x) (λ t. none x (contains_head x xs) t) in
+    let rest = none_counted p xs (λ w c. none w (contains_tail x xs w c)) in
+    sum_by-cons (λ (y : OldWeak). cond (p y) 1 0) x xs ∙ ap (λ (b : Bool). cond b 1 0 + count_by p xs) out ∙ rest
+
+pub counted_in : (p : OldWeak → Bool) (rows : List Row) (k : ℕ) (row : Row) → slice_get rows k ≡ Some row →
+    ((j : ℕ) (r : Row) (w : OldWeak) → slice_get rows j ≡ Some r → Contains r.list w → p w ≡ true → j ≡ k) →
+    count_by p (list_of rows) ≤ length row.list
+counted_in p [] k row there own = absurd (none-some row there)
+counted_in p (r ∷ rows) zero row there own =
+    let sum : count_by p (r.list ++ list_of rows) ≡ count_by p r.list + count_by p (list_of rows) =
+    sum_by-append (λ (y : OldWeak). cond (p y) 1 0) r.list (list_of rows) in
+    let rest = none_counted p (list_of rows) (λ w c t. let x = in_row rows w c in let bad = own (suc x.0) x.1 w x.2 x.3 t in omega (arith, bad)) in
+    let most = count_by-le-length p r.list in
+    let same : length r.list ≡ length row.list = ap (λ (y : Row). length y.list) (same_Some r row there) in
+    omega (arith, sum, rest, most, same)
+counted_in p (r ∷ rows) (suc k) row there own =
+    let sum : count_by p (r.list ++ list_of rows) ≡ count_by p r.list + count_by p (list_of rows) =
+    sum_by-append (λ (y : OldWeak). cond (p y) 1 0) r.list (list_of rows) in
+    let first = none_counted p r.list (λ w c t. let bad = own 0 r w refl c t in omega (arith, bad)) in
+    let rest = counted_in p rows k row there (λ j x w at c t. let is = own (suc j) x w at c t in omega (arith, is)) in
+    omega (arith, sum, first, rest)
+
+-- where there is no such row, nobody is of that maker
+pub counted_none : (p : OldWeak → Bool) (rows : List Row) (k : ℕ) → length rows ≤ k →
+    ((j : ℕ) (r : Row) (w : OldWeak) → slice_get rows j ≡ Some r → Contains r.list w → p w ≡ true → j ≡ k) → count_by p (list_of rows) ≡ 0
+counted_none p rows k past own = none_counted p (list_of rows) (λ w c t.
+    let x = in_row rows w c in
+    let is = own x.0 x.1 w x.2 x.3 t in
+    let within = slice_get_within rows x.0 x.1 x.2 in
+    omega (arith, past, is, within))
