@@ -13,6 +13,7 @@ pub mod Passing
 pub mod Finding
 pub mod Clearing
 pub mod Leaving
+pub mod Entries
 pub mod RowLaws
 pub mod Joining
 pub mod Dying

@@ -1,5 +1,5 @@
 use Rattle.std.proofs.Common.{◌-◌}
-use Rattle.nmgc_weak.proofs.RowLaws.{IsBetween}
+use Rattle.nmgc_weak.proofs.Entries.{IsBetween}
 use Rattle.nmgc_weak.proofs.row.find.Given as goal
 
 abbrev pub invariant-loop-low : goal.invariant-loop-low

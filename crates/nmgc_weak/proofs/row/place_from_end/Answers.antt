@@ -4,7 +4,7 @@ use Rattle.std.proofs.lemmas.Bool.{iff_false}
 use Rattle.std.proofs.lemmas.Option.{same_Some}
 use Rattle.nmgc_world_spec.specs.Reach.{IsBefore}
 use Rattle.nmgc_weak.specs.declared.row.Entry.{Entry}
-use Rattle.nmgc_weak.proofs.RowLaws.{ComeAfter, none_after, one_before, read_entry}
+use Rattle.nmgc_weak.proofs.Entries.{ComeAfter, none_after, one_before, read_entry}
 use Rattle.nmgc_weak.proofs.row.place_from_end.Goals as goal
 
 pub loop-place-init : goal.loop-place-init

@@ -1,4 +1,4 @@
-use Rattle.nmgc_weak.proofs.RowLaws.{ComeAfter}
+use Rattle.nmgc_weak.proofs.Entries.{ComeAfter}
 use Rattle.nmgc_weak.proofs.row.place_from_end.Given as goal
 
 abbrev pub invariant-loop-place : goal.invariant-loop-place

@@ -5,7 +5,7 @@ use Rattle.nmgc_weak.specs.declared.row.Entry.{Entry}
 use Rattle.nmgc_weak.specs.declared.weaks.OldWeak.{OldWeak}
 use Rattle.nmgc_weak.specs.Rows.{Row, entry_names, listed}
 use Rattle.nmgc_weak.specs.Weaks.{names_of}
-use Rattle.nmgc_weak.proofs.RowLaws.{before_last, inserted_count, inserted_has, inserted_ordered, listed_ordered}
+use Rattle.nmgc_weak.proofs.Entries.{inserted_count, inserted_has, inserted_ordered, listed_ordered}
 use Rattle.nmgc_weak.proofs.row.Row.add.Goals as goal
 
 -- the new entry

@@ -2,7 +2,7 @@ use Rattle.std.proofs.Common.{◌≡◌, List, sym, ap, subst, ◌∙◌, arith,
 use Rattle.nmgc_world_spec.specs.Reach.{IsInOrder}
 use Rattle.nmgc_weak.specs.declared.row.Entry.{Entry}
 use Rattle.nmgc_weak.specs.Rows.{Row, entry_names, listed}
-use Rattle.nmgc_weak.proofs.RowLaws.{together_list, together_ordered}
+use Rattle.nmgc_weak.proofs.Entries.{together_list, together_ordered}
 use Rattle.nmgc_weak.proofs.row.Row.move_together.Goals as goal
 
 pub invariant_of-self : goal.invariant_of-self

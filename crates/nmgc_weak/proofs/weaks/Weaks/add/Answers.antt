@@ -3,7 +3,8 @@ use Rattle.std.specs.Prelude.{Contains, Some, slice_get}
 use Rattle.nmgc_weak.specs.declared.weaks.OldWeak.{OldWeak}
 use Rattle.nmgc_weak.specs.Rows.{Row, AreRows, list_of, row_of}
 use Rattle.nmgc_weak.specs.Weaks.{Weaks}
-use Rattle.nmgc_weak.proofs.RowLaws.{joined_rows, of_row, read_row, row_joined, row_lengths, rows_ordered}
+use Rattle.nmgc_weak.proofs.Entries.{read_row}
+use Rattle.nmgc_weak.proofs.RowLaws.{joined_rows, of_row, row_joined, row_lengths, rows_ordered}
 use Rattle.nmgc_weak.proofs.weaks.Weaks.add.Goals as goal
 
 -- some room, so each maker has its row

@@ -4,7 +4,8 @@ use Rattle.nmgc_object.specs.declared.size.TheConstants.{NAME_OFFSET}
 use Rattle.nmgc_weak.specs.declared.weaks.OldWeak.{OldWeak}
 use Rattle.nmgc_weak.specs.Rows.{Row, AreRows, is_same, left_at, list_of, row_of}
 use Rattle.nmgc_weak.specs.Weaks.{Weaks, value_place}
-use Rattle.nmgc_weak.proofs.RowLaws.{alive_at, left_row, left_rows, no_row, none_leaves, one_name, read_row, row_lengths, rows_ordered, filtered_few}
+use Rattle.nmgc_weak.proofs.Entries.{read_row}
+use Rattle.nmgc_weak.proofs.RowLaws.{alive_at, left_row, left_rows, no_row, none_leaves, one_name, row_lengths, rows_ordered, filtered_few}
 use Rattle.nmgc_weak.proofs.weaks.Weaks.leave_at.Goals as goal
 
 -- somebody has that value, and is alive
