@@ -150,7 +150,7 @@ impl Row {
         let Some(place) = find(self.entries.as_slice(), weak) else {
             return;
         };
-        if self.entries[place].weak.at != at {
+        if self.entries[place].weak.at.0 != at.0 {
             return;
         }
         let entry = &mut self.entries[place];
