@@ -1,7 +1,9 @@
 -- Rows of the list, one after another: who joins and who leaves.
-use Rattle.std.proofs.Common.{◌≡◌, ◌≢◌, ◌⊎◌, ◌↔◌, ◌+◌, ◌<◌, ◌≤◌, ℕ, zero, suc, Bool, true, false, cond, eqb, eq-eqb, ne_eqb, slice_index, List, [], ◌∷◌, ◌++◌, length, length-append, length-set, set, refl, sym, ap, subst, ◌∙◌, arith, Some, inl, inr}
+use Rattle.std.proofs.Common.{◌≡◌, ◌≢◌, ◌⊎◌, ◌↔◌, ◌+◌, ◌<◌, ◌≤◌, ℕ, zero, suc, Bool, true, false, cond, eqb, eq-eqb, ne_eqb, slice_index, List, [], ◌∷◌, ◌++◌, length, length-append, length-set, take, get_or, append-nil, set, refl, sym, ap, subst, ◌∙◌, arith, Some, inl, inr}
 use Rattle.std.specs.Prelude.{Contains, filter, slice_get, not, min}
 use Rattle.std.specs.List.{count_by}
+use Rattle.std.proofs.lemmas.Grind.{flat_map-append}
+use Rattle.std.proofs.lemmas.List.{take_more}
 use Rattle.std.proofs.lemmas.List.Sums.{count_by-le-length, length-filter, sum_by-append, sum_by-cons}
 use Rattle.std.proofs.Math.Nat.{min-le_left, min-le_right, min-eq_left}
 use Rattle.std.proofs.lemmas.Bool.{and_from, cases_eq, cases_lt}
@@ -323,3 +325,30 @@ counted_none p rows k past own = none_counted p (list_of rows) (λ w c t.
     let is = own x.0 x.1 w x.2 x.3 t in
     let within = slice_get_within rows x.0 x.1 x.2 in
     omega (arith, past, is, within))
+
+-- a row more was changed, in a pass over them
+pub one_done : (P : Row → Row → Type 0) (was now : List Row) (n : ℕ) (m next : Row) → n < length now → slice_get was n ≡ Some m → P m next →
+    ((k : ℕ) (old new : Row) → k < n → slice_get was k ≡ Some old → slice_get now k ≡ Some new → P old new) → (k : ℕ) (old new : Row) → k < n + 1 →
+    slice_get was k ≡ Some old → slice_get (set now n next) k ≡ Some new → P old new
+one_done P was now n m next lt there own before k old new less a b = elim (cases_eq k n) [
+  | inl same ↦
+      let first : old ≡ m = same_Some old m (sym a ∙ ap (λ i. slice_get was i) same ∙ there) in
+      let second : new ≡ next = same_Some new next (sym b ∙ ap (λ i. slice_get (set now n next) i) same ∙ slice_get-set_same now n next lt) in
+      subst (λ (y : Row). P y new) (sym first) (subst (λ (y : Row). P m y) (sym second) own)
+  | inr other ↦ before k old new (omega (arith, less, other)) a (sym (slice_get-set_other now n k next other) ∙ b)
+]
+
+pub rest_stays : (was now : List Row) (n : ℕ) (next : Row) → ((k : ℕ) → n ≤ k → slice_get now k ≡ slice_get was k) → (k : ℕ) → n + 1 ≤ k →
+    slice_get (set now n next) k ≡ slice_get was k
+rest_stays was now n next before k le = slice_get-set_other now n k next (λ e. absurd (omega (arith, le, e))) ∙ before k (omega (arith, le))
+
+-- the first rows, with one more
+pub rows_more : (rows : List Row) (i : ℕ) (d : Row) → i < length rows → list_of (take (i + 1) rows) ≡ list_of (take i rows) ++ (get_or rows i d).list
+rows_more rows i d lt =
+    ap list_of (take_more rows i d lt) ∙ flat_map-append (λ (r : Row). r.list) (take i rows) (get_or rows i d ∷ []) ∙
+    ap (λ (l : List OldWeak). list_of (take i rows) ++ l) (append-nil (get_or rows i d).list)
+
+-- an empty row joins
+pub empty_joins : (rows : List Row) (r : Row) → r.list ≡ [] → list_of (rows ++ r ∷ []) ≡ list_of rows
+empty_joins rows r none =
+    flat_map-append (λ (x : Row). x.list) rows (r ∷ []) ∙ ap (λ (l : List OldWeak). list_of rows ++ l) (append-nil r.list ∙ none) ∙ append-nil (list_of rows)
