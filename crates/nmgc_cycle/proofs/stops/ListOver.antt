@@ -29,7 +29,7 @@ use Rattle.nmgc_cycle.specs.Roots.{promoted_by}
 use Rattle.nmgc_heap_spec.specs.Places.{Place}
 use Rattle.nmgc_heap_spec.specs.Roots.{ListsWeaks}
 use Rattle.nmgc_heap_spec.specs.laws.Moving.{settled_comes}
-use Rattle.nmgc_blocks_spec.specs.Stopped.{Stopped, IsStopped, IsSettled, earlier_of, young_base}
+use Rattle.nmgc_blocks_spec.specs.Stopped.{Stopped, IsStopped, IsSettled, young_base}
 use Rattle.nmgc_blocks_spec.specs.laws.Blocks.{is_block}
 use Rattle.nmgc_collector_laws.specs.Joins.{JoiningLists, JoinersAreNew, HaveMoved, HaveJoinedList, IsAliveAt, weak_header}
 use Rattle.nmgc_minor.specs.Placing.{moved_of}

@@ -1,4 +1,4 @@
-use Rattle.std.proofs.Common.{ℕ, ◌≡◌, ◌+◌, ◌<◌, List, [], ◌∷◌, ◌++◌, length, slice_index, slice_get, take, get_or, append-nil, refl, sym, ap, subst, ◌∙◌, arith, Some}
+use Rattle.std.proofs.Common.{ℕ, ◌≡◌, ◌+◌, ◌<◌, List, [], ◌∷◌, ◌++◌, length, slice_index, take, get_or, append-nil, refl, sym, ap, subst, ◌∙◌, arith}
 use Rattle.std.specs.Prelude.{Contains}
 use Rattle.std.proofs.lemmas.Grind.{flat_map-append}
 use Rattle.std.proofs.lemmas.List.{take_all, take_more}
@@ -9,8 +9,7 @@ use Rattle.nmgc_object.specs.declared.words.Address.{Address}
 use Rattle.nmgc_mutator.specs.declared.mutator.Mutator.{Mutator}
 use Rattle.nmgc_mutator.specs.Records.{numbers}
 use Rattle.nmgc_collector_laws.specs.Worked.{finalised_of}
-use Rattle.nmgc_weak.specs.Rows.{IsNamedAt, left_of}
-use Rattle.nmgc_weak.specs.Weaks.{value_place}
+use Rattle.nmgc_weak.specs.Rows.{left_of}
 use Rattle.nmgc_weak.specs.laws.Left.{left_both, left_had, left_is_alive}
 use Rattle.nmgc_weak.specs.declared.weaks.OldWeak.{OldWeak}
 use Rattle.nmgc_cycle.proofs.weaks.leave_noted.Goals as goal

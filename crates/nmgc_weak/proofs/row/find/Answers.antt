@@ -1,6 +1,5 @@
-use Rattle.std.proofs.Common.{◌≡◌, ap, sym, refl, arith}
+use Rattle.std.proofs.Common.{refl, arith}
 use Rattle.std.proofs.lemmas.Bool.{iff_false}
-use Rattle.nmgc_world_spec.specs.declared.value.Name.{Name}
 use Rattle.nmgc_weak.specs.declared.row.Entry.{Entry}
 use Rattle.nmgc_weak.proofs.Entries.{between_first, between_low, between_high, between_none, halfway, neither_before, read_entry}
 use Rattle.nmgc_weak.proofs.row.find.Goals as goal

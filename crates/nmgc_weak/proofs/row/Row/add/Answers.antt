@@ -1,11 +1,8 @@
-use Rattle.std.proofs.Common.{◌≡◌, ◌+◌, ◌-◌, ◌<◌, ℕ, List, [], ◌∷◌, ◌++◌, false, take, drop, set, refl, sym, ap, subst, ◌∙◌, arith, length}
-use Rattle.std.specs.Prelude.{Contains}
-use Rattle.nmgc_world_spec.specs.Reach.{IsInOrder}
+use Rattle.std.proofs.Common.{◌≡◌, ◌-◌, false, refl, ap}
 use Rattle.nmgc_weak.specs.declared.row.Entry.{Entry}
 use Rattle.nmgc_weak.specs.declared.weaks.OldWeak.{OldWeak}
-use Rattle.nmgc_weak.specs.Rows.{Row, entry_names, listed}
-use Rattle.nmgc_weak.specs.Weaks.{names_of}
-use Rattle.nmgc_weak.proofs.Entries.{inserted_count, inserted_has, inserted_ordered, listed_ordered}
+use Rattle.nmgc_weak.specs.Rows.{Row, listed}
+use Rattle.nmgc_weak.proofs.Entries.{inserted_has}
 use Rattle.nmgc_weak.proofs.row.Row.add.Goals as goal
 
 -- the new entry

@@ -1,4 +1,4 @@
-use Rattle.std.proofs.Common.{◌≡◌, List, sym, ap, subst, ◌∙◌, arith, length}
+use Rattle.std.proofs.Common.{List, sym, ap, subst, ◌∙◌}
 use Rattle.nmgc_world_spec.specs.Reach.{IsInOrder}
 use Rattle.nmgc_weak.specs.declared.row.Entry.{Entry}
 use Rattle.nmgc_weak.specs.Rows.{Row, entry_names, listed}

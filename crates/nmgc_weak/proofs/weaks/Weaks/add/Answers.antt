@@ -1,5 +1,5 @@
-use Rattle.std.proofs.Common.{◌≡◌, ◌+◌, ℕ, List, set, sym, ap, subst, ◌∙◌, arith, length}
-use Rattle.std.specs.Prelude.{Contains, Some, slice_get}
+use Rattle.std.proofs.Common.{◌≡◌, ◌+◌, ℕ, List, set, sym, ap, subst, arith}
+use Rattle.std.specs.Prelude.{Contains}
 use Rattle.nmgc_weak.specs.declared.weaks.OldWeak.{OldWeak}
 use Rattle.nmgc_weak.specs.Rows.{Row, AreRows, list_of, row_of}
 use Rattle.nmgc_weak.specs.Weaks.{Weaks}

@@ -1,4 +1,4 @@
-use Rattle.std.proofs.Common.{◌≡◌, ◌+◌, ◌⊎◌, ◌↔◌, length, take}
+use Rattle.std.proofs.Common.{◌≡◌, ◌+◌, ◌⊎◌, ◌↔◌, take}
 use Rattle.std.specs.Prelude.{Contains}
 use Rattle.nmgc_world_spec.specs.Reach.{IsInOrder}
 use Rattle.nmgc_weak.specs.declared.weaks.OldWeak.{OldWeak}

@@ -1,11 +1,6 @@
-use Rattle.std.proofs.Common.{◌≡◌, ◌≢◌, ◌+◌, ◌<◌, ℕ, List, set, sym, ap, subst, ◌∙◌, arith, length, slice_index}
-use Rattle.std.specs.Prelude.{Contains, Some, slice_get}
-use Rattle.nmgc_object.specs.declared.size.TheConstants.{NAME_OFFSET}
-use Rattle.nmgc_weak.specs.declared.weaks.OldWeak.{OldWeak}
-use Rattle.nmgc_weak.specs.Rows.{Row, AreRows, is_same, left_at, list_of, row_of}
-use Rattle.nmgc_weak.specs.Weaks.{Weaks, value_place}
-use Rattle.nmgc_weak.proofs.Entries.{read_row}
-use Rattle.nmgc_weak.proofs.RowLaws.{alive_at, left_row, left_rows, no_row, none_leaves, one_name, row_lengths, rows_ordered, filtered_few}
+use Rattle.std.proofs.Common.{◌≢◌, sym, ◌∙◌, slice_index}
+use Rattle.nmgc_weak.specs.Weaks.{value_place}
+use Rattle.nmgc_weak.proofs.RowLaws.{alive_at, none_leaves}
 use Rattle.nmgc_weak.proofs.weaks.Weaks.leave_at.Goals as goal
 
 -- somebody has that value, and is alive
