@@ -63,4 +63,5 @@ returns-else-number-len-clause-list g c =
     let number = c.row_of.ensures.value in
     sym (no_row ws c.args.at.0 c.in-Some.weak c.self.inside.rows.items c.self.inside.room c.self.invariant.0 (sym c.load.ensures.value ∙ c.if-load-ne0.false)
     (λ w k here. named_there ws c.args.at.0 c.args.self.now.list c.in-Some.weak c.requires.named some.0 (some.1 ∙ c.load-2.ensures.value) w
-    (subst (λ (l : List OldWeak). Contains l w) list k) here) (omega (arith, past, number)))
+    (subst (λ (l : List OldWeak). Contains l w) list k) here) (omega (arith, past, number))) ∙
+    ap (λ (l : List OldWeak). left_at ws c.args.at.0 l) list
