@@ -1,5 +1,5 @@
 -- The bound of a queue's pointers, as words come, change and go.
-use Rattle.std.proofs.Common.{◌≡◌, ◌+◌, ◌*◌, ◌%◌, ◌<◌, ◌≤◌, ◌⊎◌, ℕ, zero, suc, List, [], ◌∷◌, ◌++◌, drop, set, length, refl, sym, ap, subst, ◌∙◌, arith, inl, inr}
+use Rattle.std.proofs.Common.{◌≡◌, ◌+◌, ◌*◌, ◌%◌, ◌<◌, ◌≤◌, ◌⊎◌, ℕ, zero, suc, List, [], ◌∷◌, ◌++◌, drop, set, length, sym, subst, arith, inl, inr}
 use Rattle.std.specs.Prelude.{Contains}
 use Rattle.std.proofs.lemmas.List.{drop-append-le, drop-set-add}
 use Rattle.std.proofs.lemmas.List.Elements.{Contains-push_cases}
@@ -42,7 +42,7 @@ changed_up_to words i w highest higher h le own word c even = elim (set_cases wo
 -- what is left once one was taken was there before
 pub drop_fewer : (words : List ℕ) (first word : ℕ) → Contains (drop (first + 1) words) word → Contains (drop first words) word
 drop_fewer [] zero word c = c
-drop_fewer [] (suc first) word c = c
+drop_fewer [] (suc first) word c = let z : suc first + 1 ≡ suc (first + 1) = omega arith in subst (λ n. Contains (drop n []) word) z c
 drop_fewer (x ∷ xs) zero word c = contains_tail x xs word c
 drop_fewer (x ∷ xs) (suc first) word c =
     let z : suc first + 1 ≡ suc (first + 1) = omega arith in

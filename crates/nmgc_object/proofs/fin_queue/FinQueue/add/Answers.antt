@@ -1,4 +1,4 @@
-use Rattle.std.proofs.Common.{ℕ, ◌+◌, ◌≤◌, List, drop, length, sym, subst, arith}
+use Rattle.std.proofs.Common.{ℕ, List, drop, sym, subst, arith}
 use Rattle.nmgc_object.specs.FinQueue.{HavePointersUpTo}
 use Rattle.nmgc_object.proofs.Pointers.{added_up_to}
 use Rattle.nmgc_object.proofs.fin_queue.FinQueue.add.Goals as goal
@@ -9,6 +9,6 @@ invariant_of-self c =
     let inv = c.self.invariant in
     let len = c.push_reserved.ensures.len in (
       omega (arith, inv.0, len),
-      subst (λ (l : List ℕ). HavePointersUpTo (drop q.first l) c.raised.result) (sym c.push_reserved.ensures.items)
-          (added_up_to q.words.items q.first c.args.word q.highest c.raised.result inv.0 inv.1 c.raised.ensures.kept c.raised.ensures.pointer),
+      subst (λ (l : List ℕ). HavePointersUpTo (drop q.first l) c.raised-self-inside.result) (sym c.push_reserved.ensures.items)
+          (added_up_to q.words.items q.first c.args.word q.highest c.raised-self-inside.result (grind (arith, inv.0)) inv.1 c.raised-self-inside.ensures.kept c.raised-self-inside.ensures.pointer),
     )

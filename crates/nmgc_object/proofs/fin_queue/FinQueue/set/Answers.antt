@@ -1,4 +1,4 @@
-use Rattle.std.proofs.Common.{ℕ, ◌+◌, ◌≤◌, List, arith}
+use Rattle.std.proofs.Common.{arith}
 use Rattle.nmgc_object.proofs.Pointers.{put_up_to}
 use Rattle.nmgc_object.proofs.fin_queue.FinQueue.set.Goals as goal
 
@@ -7,5 +7,5 @@ invariant_of-self c =
     let q = c.self.inside in
     let inv = c.self.invariant in (
       grind (arith, inv.0),
-      put_up_to q.words.items q.first c.args.place c.args.word q.highest c.raised.result inv.1 c.raised.ensures.kept c.raised.ensures.pointer,
+      put_up_to q.words.items q.first c.args.place c.args.word q.highest c.raised-self-inside.result inv.1 c.raised-self-inside.ensures.kept c.raised-self-inside.ensures.pointer,
     )
