@@ -22,12 +22,13 @@ use Rattle.nmgc_run_spec.specs.Round.{IsRound}
 use Rattle.nmgc_run_spec.specs.Stop.{answer_of}
 use Rattle.nmgc_run_spec.specs.Run.{Run, IsRun, Tells, last_state}
 use Rattle.nmgc_run_spec.specs.Heap.{HoldsAtStop, HoldsAfterRound, snapshots}
-use Rattle.nmgc_collector_laws.specs.Seen.{CollectorSeen, MutatorSeen, ends_of, nurseries_of, recorded_in, young_weaks_in}
+use Rattle.nmgc_collector_laws.specs.Seen.{CollectorSeen, MutatorSeen, ends_of, nurseries_of, recorded_in, young_weaks_in, finalised_in}
 use Rattle.nmgc_mark.specs.Seen.{MarkerSeen}
 use Rattle.nmgc_alloc.specs.Settled.{AreSettled}
 use Rattle.nmgc_sweep.specs.Sweeping.{HasListedNothing, HasNoted, IsSweeping}
 use Rattle.nmgc_collector_laws.specs.Marker.{IsCoreOf, AreRemembered, IsTied}
 use Rattle.nmgc_mark.specs.Marker.{HasRoomToMark}
+use Rattle.nmgc_collector_laws.specs.Worked.{TellsFinalised}
 use Rattle.nmgc_weak.specs.Queues.{weak_count}
 
 -- the state tells the phase, the requests and how many cycles were begun
@@ -50,6 +51,7 @@ EachMutator seen P = (m : ℕ) (mutator : MutatorSeen) → slice_get seen.mutato
 pub record IsEmptied (mutator : MutatorSeen) : Type 0 where
   pub recorded : mutator.recorded ≡ []
   pub young_weaks : mutator.young_weaks ≡ []
+  pub finalised : mutator.finalised ≡ []
   pub entries : mutator.entries ≡ []
 
 -- all mutators at a stop: the nurseries are empty, and nothing is left
@@ -113,7 +115,7 @@ HasReserve layout seen = (reserve_count layout ≤ free_count seen.segments.segm
 
 -- after a round that follows the last stop of a run of the plan, with these replies and this history; what was born
 -- lies in the used part of its maker's nursery, in the order of names, and the mutators have left for the stop what
--- its promotion asks
+-- its promotion asks, and told what they finalised
 pub record IsAfterRound (plan : Plan) (run : Run) (replies : List (List Reply)) (history : List Row) (t : State) (seen : CollectorSeen) : Type 0 where
   pub is_run : IsRun plan run
   pub goes_on : answer_of plan (last_state run) ≡ None
@@ -128,6 +130,7 @@ pub record IsAfterRound (plan : Plan) (run : Run) (replies : List (List Reply)) 
   pub ordered : LieInOrder (nursery_place (layout_of plan) 0) places
   pub left : Remembers (nursery_place (layout_of plan) 0) ((last_state run).world ∷
       snapshots t.progress) places t.world (recorded_in seen) (young_weaks_in seen)
+  pub told : TellsFinalised (nursery_place (layout_of plan) 0) places (last_state run).world t.world (finalised_in seen)
   pub reserve : HasReserve (layout_of plan) seen
   pub cycle : HoldsInCycle (λ c. IsPacedAfterRound plan.config.quota c t seen) t.progress t seen places
 

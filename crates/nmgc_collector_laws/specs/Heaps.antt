@@ -41,6 +41,7 @@ seen_mutator m = record {
   nursery = m.nursery;
   recorded = numbers m.recorded.items;
   young_weaks = numbers m.young_weaks.items;
+  finalised = numbers m.finalised.items;
   entries = remembered m;
 }
 
@@ -113,6 +114,7 @@ marking_mutator = record {
   replies = record { items = []; spare = 0 };
   recorded = record { items = []; spare = 0 };
   young_weaks = record { items = []; spare = 0 };
+  finalised = record { items = []; spare = 0 };
   updrem = record { items = []; spare = 0 };
   sender = record {
     ring = record { words = null_ptr; slots = null_ptr; names = (0, (0, 0)); heap = record { memory = record { seal = tt } } };

@@ -84,6 +84,7 @@ hand word serial top = record {
   nursery = record { base = 320; top = top; end = 336 };
   recorded = [];
   young_weaks = [];
+  finalised = [];
   entries = [];
 }
 

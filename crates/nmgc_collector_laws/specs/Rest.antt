@@ -28,6 +28,7 @@ pub record IsResting (layout : Layout) (number : ℕ) (m : Mutator) : Type 0 whe
   pub unused : IsUnused m
   pub no_recorded : m.recorded.items ≡ []
   pub no_weaks : m.young_weaks.items ≡ []
+  pub no_finalised : m.finalised.items ≡ []
 
 -- words, blocks and mutators stand for the world while no cycle marks and the nurseries are empty
 pub record IsAtRest (s : Segments) (places : List Place) (w : World) (words : List ℕ) (mutators : List Mutator) : Type 0 where

@@ -112,6 +112,7 @@ object_seen = record {
     nursery = record { base = 2080; top = 2080; end = 2144 };
     recorded = [];
     young_weaks = [];
+    finalised = [];
     entries = [];
   } ∷ [];
   weaks = [];

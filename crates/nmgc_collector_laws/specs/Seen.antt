@@ -14,8 +14,8 @@ use Rattle.nmgc_journal.specs.declared.report.End.{End}
 use Rattle.nmgc_mark.specs.Seen.{MarkerSeen, WorkSeen}
 use Rattle.nmgc_sweep.specs.Seen.{SweeperSeen, CycleSeen}
 
--- a mutator: its roots and next serial, its nursery, and what the round left for the stop: places of recorded fields
--- and of young weak pointers, and the remembered entries
+-- a mutator: its roots and next serial, its nursery, and what the round left for the stop: places of recorded fields,
+-- of young weak pointers and of those that it finalised, and the remembered entries
 pub record MutatorSeen : Type 0 where
   pub registers : List ℕ
   pub queue : FinQueue
@@ -23,6 +23,7 @@ pub record MutatorSeen : Type 0 where
   pub nursery : Nursery
   pub recorded : List ℕ
   pub young_weaks : List ℕ
+  pub finalised : List ℕ
   pub entries : List ℕ
 
 -- the whole collector; marker, sweeper and cycle mean something while a cycle is in progress
@@ -62,3 +63,7 @@ recorded_in seen = flat_map (λ (m : MutatorSeen). m.recorded) seen.mutators
 -- the places of the weak pointers that the round made
 abbrev pub young_weaks_in : CollectorSeen → List ℕ
 young_weaks_in seen = flat_map (λ (m : MutatorSeen). m.young_weaks) seen.mutators
+
+-- the places of the weak pointers in segments that the round finalised
+abbrev pub finalised_in : CollectorSeen → List ℕ
+finalised_in seen = flat_map (λ (m : MutatorSeen). m.finalised) seen.mutators

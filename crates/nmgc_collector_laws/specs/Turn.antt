@@ -25,7 +25,7 @@ use Rattle.nmgc_round.specs.Starting.{CanOpen}
 use Rattle.nmgc_round.specs.Finishing.{IsFinished, HasAll, Leaves, places_then}
 use Rattle.nmgc_mutator.specs.declared.mutator.Mutator.{Mutator}
 use Rattle.nmgc_mutator.specs.Does.{HasDone}
-use Rattle.nmgc_collector_laws.specs.Worked.{Done, HaveWorked, registers_of, queues_of, serials_of, nurseries_of, recorded_of, weaks_of}
+use Rattle.nmgc_collector_laws.specs.Worked.{Done, HaveWorked, registers_of, queues_of, serials_of, nurseries_of, recorded_of, weaks_of, finalised_of, TellsFinalised}
 use Rattle.nmgc_collector_laws.specs.Rest.{IsAtRest, IsResting, opening_at}
 
 -- a heap at rest opens a round
@@ -85,6 +85,12 @@ abbrev pub RoundIsRemembered : Type 0
 RoundIsRemembered = (o : Opening) (before words : List ℕ) (v : Seen) (mutators : List Mutator) (done : List (List Done)) → CanOpen o before →
     (h : IsFinished o words v) → HaveWorked o v.parts mutators done →
     Remembers (nursery_place o.layout 0) (o.core.world ∷ earlier o) (places_then o h.born) (now o h.events).world (recorded_of mutators) (weaks_of mutators)
+
+-- the mutators tell each weak pointer in a segment that was finalised in the round
+abbrev pub RoundTellsFinalised : Type 0
+RoundTellsFinalised = (o : Opening) (before words : List ℕ) (v : Seen) (mutators : List Mutator) (done : List (List Done)) → CanOpen o before →
+    (h : IsFinished o words v) → HaveWorked o v.parts mutators done →
+    TellsFinalised (nursery_place o.layout 0) (places_then o h.born) o.core.world (now o h.events).world (finalised_of mutators)
 
 -- what a round leaves is what a promotion asks
 abbrev pub RoundIsStopped : Type 0

@@ -3,17 +3,21 @@
 -- A part knows rows with answers as words. The mutator has what these rows leave, the replies by name, and the
 -- places of the fields that they gave a young object and of the weak pointers that they made. All laws of a round's end speak of these facts, which
 -- `nmgc_mutator` promises of a slice.
-use Rattle.std.specs.Prelude.{ℕ, ◌≡◌, List, length, map, slice_get, Some}
+use Rattle.std.specs.Prelude.{ℕ, ◌≡◌, ◌<◌, List, length, map, slice_get, Contains, Some}
 use Rattle.std.specs.List.{flat_map}
 use Rattle.nmgc_limits.specs.declared.mutators.TheConstants.{REGISTERS}
 use Rattle.nmgc_world_spec.specs.declared.command.Command.{Command}
 use Rattle.nmgc_world_spec.specs.declared.command.Reply.{Reply}
+use Rattle.nmgc_world_spec.specs.declared.node.Parts.{Parts}
+use Rattle.nmgc_world_spec.specs.World.{World}
+use Rattle.nmgc_world_spec.specs.Reach.{IsAlive}
 use Rattle.nmgc_object.specs.declared.layout.Nursery.{Nursery}
+use Rattle.nmgc_heap_spec.specs.Places.{Place}
 use Rattle.nmgc_round.specs.View.{Opening, Part, hand_of, hand_now}
 use Rattle.nmgc_round.specs.Naming.{AllReply}
 use Rattle.nmgc_mutator.specs.declared.mutator.Mutator.{Mutator}
 use Rattle.nmgc_mutator.specs.Ready.{IsNursery, HasHand, words_by}
-use Rattle.nmgc_mutator.specs.Records.{numbers, all_recorded, all_weaks}
+use Rattle.nmgc_mutator.specs.Records.{numbers, all_recorded, all_weaks, all_finalised}
 
 -- a command, and the reply to it
 abbrev pub Done : Type 0
@@ -30,6 +34,7 @@ pub record HasWorked (o : Opening) (p : Part) (m : Mutator) (done : List Done) :
   pub replied : AllReply p.fixed p.rows done
   pub recorded : numbers m.recorded.items ≡ all_recorded m.layout (hand_of o.hands p.number) p.rows
   pub weaks : numbers m.young_weaks.items ≡ all_weaks p.rows
+  pub finalised : numbers m.finalised.items ≡ all_finalised m.layout (hand_of o.hands p.number) p.rows
 
 -- all mutators, by their numbers: each with its part of the view, and with what it did
 pub record HaveWorked (o : Opening) (parts : List Part) (mutators : List Mutator) (done : List (List Done)) : Type 0 where
@@ -60,3 +65,14 @@ recorded_of mutators = flat_map (λ (m : Mutator). numbers m.recorded.items) mut
 -- the places of all weak pointers that they made
 abbrev pub weaks_of : List Mutator → List ℕ
 weaks_of mutators = flat_map (λ (m : Mutator). numbers m.young_weaks.items) mutators
+
+-- the places of all weak pointers in segments that they finalised
+abbrev pub finalised_of : List Mutator → List ℕ
+finalised_of mutators = flat_map (λ (m : Mutator). numbers m.finalised.items) mutators
+
+-- the weak pointers in segments that were alive in one world, and aren't in another, are told by their places; and no place
+-- outside the segments is
+pub record TellsFinalised (base : ℕ) (places : List Place) (began w : World) (finalised : List ℕ) : Type 0 where
+  pub all : (p : Place) (parts : Parts) → Contains places p → p.at < base → IsAlive began p.name parts → (IsAlive w p.name parts → ⊥) →
+      Contains finalised p.at
+  pub low : (at : ℕ) → Contains finalised at → at < base

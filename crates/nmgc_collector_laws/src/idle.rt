@@ -1,7 +1,7 @@
 //! What holds of turns, for every opening, all words and all views.
 //!
 //! Each function's contract is the law. A body does nothing but call the laws that its proof rests on.
-ghost use Rattle.nmgc_collector_laws.specs.Turn.{RestOpens, SlicesAreGathered, RoundIsHistory, RootsAreLeft, BirthsAreInOrder, RoundIsRemembered, RoundIsStopped, SettledIsAtRest};
+ghost use Rattle.nmgc_collector_laws.specs.Turn.{RestOpens, SlicesAreGathered, RoundIsHistory, RootsAreLeft, BirthsAreInOrder, RoundIsRemembered, RoundTellsFinalised, RoundIsStopped, SettledIsAtRest};
 
 use nmgc_round::laws::{
     events_are_a_history, histories_have_the_rows, old_stacks_are_listed, replies_are_named,
@@ -43,6 +43,15 @@ pub fn births_are_in_order()
 /// every new one that is alive is among them.
 pub fn a_round_is_remembered()
     ensures { RoundIsRemembered }
+{
+    events_are_a_history();
+    old_stacks_are_listed();
+}
+
+/// A weak pointer that was alive as the round began, has a block, and is dead after the round was finalised in it, and the
+/// mutator that did so tells its place; and it tells no place outside the segments.
+pub fn finalised_are_told()
+    ensures { RoundTellsFinalised }
 {
     events_are_a_history();
     old_stacks_are_listed();

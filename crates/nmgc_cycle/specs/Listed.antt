@@ -1,5 +1,5 @@
 -- The list of weak pointers and the finaliser queues at a stop: who leaves the list and who joins it, and what a closing needs of the queues.
-use Rattle.std.specs.Prelude.{ℕ, ◌≡◌, ◌≢◌, ◌⊎◌, ◌↔◌, ◌<◌, ◌≤◌, ◌^◌, ◌==◌, ◌&&◌, not, Bool, List, [], map, filter, length, count_by, slice_get, slice_index, slice_index_or, Contains, Some, IsSome}
+use Rattle.std.specs.Prelude.{ℕ, ◌≡◌, ◌≢◌, ◌⊎◌, ◌↔◌, ◌<◌, ◌≤◌, ◌^◌, ◌==◌, ◌&&◌, not, Bool, List, [], map, filter, length, slice_get, slice_index, slice_index_or, Contains, Some, IsSome}
 use Rattle.nmgc_world_spec.specs.Reach.{IsInOrder}
 use Rattle.nmgc_object.specs.FinQueue.{FinQueue}
 use Rattle.nmgc_object.specs.Words.{header_word}
@@ -10,6 +10,8 @@ use Rattle.nmgc_weak.specs.declared.weaks.Death.{Death}
 use Rattle.nmgc_weak.specs.declared.weaks.OldWeak.{OldWeak}
 use Rattle.nmgc_weak.specs.Queues.{AllJoin}
 use Rattle.nmgc_weak.specs.Weaks.{alive_of, names_of, value_place}
+pub use Rattle.nmgc_weak.specs.Weaks.{count_made_by}
+use Rattle.nmgc_weak.specs.Rows.{IsNamedAt}
 use Rattle.nmgc_cycle.specs.declared.collector.Collector.{Collector}
 use Rattle.nmgc_cycle.specs.Roots.{queues_in}
 use Rattle.nmgc_cycle.specs.Shown.{words_in}
@@ -42,6 +44,13 @@ pub record IsMergeOf (old fresh new : List OldWeak) : Type 0 where
   pub ordered : IsInOrder (names_of new)
   pub list : (other : OldWeak) → Contains new other ↔ (Contains old other ⊎ Contains fresh other)
 
+-- the weak pointers of the list that are dead by now are told among those that were finalised: their places, and their names by
+-- the words there
+pub record FinalisedAreTold (words : List ℕ) (list : List OldWeak) (finalised : List ℕ) : Type 0 where
+  pub inside : (at : ℕ) → Contains finalised at → value_place at < length words
+  pub told : (weak : OldWeak) → Contains list weak → slice_index words (value_place weak.at.0) ≡ 0 → Contains finalised weak.at.0
+  pub named : (at : ℕ) → IsNamedAt words at list
+
 -- those that are dead by now have left the list
 pub record FinalisedLeft (old new : Collector) : Type 0 where
   pub rest : new ≡ record old { heap = record old.heap { words = new.heap.words; weaks = new.heap.weaks } }
@@ -55,10 +64,6 @@ pub record MovedJoined (old new : Collector) : Type 0 where
   pub words : (words_in new.heap.words ≡ words_in old.heap.words) × IsSome new.heap.words
   pub joins : IsMergeOf old.heap.weaks.list (moved_weaks (words_in old.heap.words) old.heap.promotion.moves) new.heap.weaks.list
   pub deaths : new.heap.weaks.deaths ≡ old.heap.weaks.deaths
-
--- how many weak pointers of the list a mutator made
-abbrev pub count_made_by : ℕ → List OldWeak → ℕ
-count_made_by maker list = count_by (λ (weak : OldWeak). weak.weak.maker == maker) list
 
 -- the same mutator, whose queue has room for so many
 pub record HasQueueRoom (count : ℕ) (old new : Mutator) : Type 0 where

@@ -23,4 +23,5 @@ promoted_by forward m = record m {
   nursery = emptied m.nursery;
   recorded = cleared m.recorded;
   young_weaks = cleared m.young_weaks;
+  finalised = cleared m.finalised;
 }

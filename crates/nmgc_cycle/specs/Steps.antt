@@ -41,6 +41,7 @@ pub record IsPacedPromoted (quota : ℕ) (c : Cycle) (s : State) (seen : Collect
 pub record HasOnlyEntries (mutator : MutatorSeen) : Type 0 where
   pub recorded : mutator.recorded ≡ []
   pub young_weaks : mutator.young_weaks ≡ []
+  pub finalised : mutator.finalised ≡ []
 
 -- words, segments, mutators, marker and sweeper of the collector stand for a state at a stop
 pub record StandsForState (Paced : Cycle → State → CollectorSeen → Type 0) (Rests : MutatorSeen → Type 0) (script : Script) (c : Collector) (s : State) : Type 0 where

@@ -23,7 +23,7 @@ use Rattle.nmgc_minor.specs.Promotion.{IsFor}
 use Rattle.nmgc_object.specs.Places.{reserve_count}
 use Rattle.nmgc_script.specs.declared.script.Script.{Script}
 use Rattle.nmgc_sweep.specs.Names.{HaveNoted}
-use Rattle.nmgc_collector_laws.specs.Worked.{registers_of, queues_of, nurseries_of, recorded_of}
+use Rattle.nmgc_collector_laws.specs.Worked.{registers_of, queues_of, nurseries_of, recorded_of, finalised_of, TellsFinalised}
 pub use Rattle.nmgc_collector_laws.specs.Worked.{weaks_of as young_weaks_of}
 use Rattle.nmgc_cycle.specs.declared.collector.Collector.{Collector}
 use Rattle.nmgc_cycle.specs.declared.progress.Progress.TheVariants as doing
@@ -63,11 +63,13 @@ pub record HasPromoted (old new : Collector) : Type 0 where
   pub lists : IsFor old.heap.segments.layout new.heap.promotion
   pub copied : HaveMoved (young_base old.heap.segments) (moves_of new) (words_in old.heap.words) (words_in new.heap.words)
 
--- the list is that of the weak pointers that were alive as the round began, and the round made none of these anew
+-- the list is that of the weak pointers that were alive as the round began, the round made none of these anew, and tells
+-- those that it finalised
 pub record CanList (t : Stopped) (c : Collector) : Type 0 where
   pub began : IsWorld t.began
   pub listed : ListsWeaks c.heap.segments.layout t.places t.began (places_of c.heap.weaks.list)
   pub old : KeepsOldWeaks c.heap.segments.layout t.places t.began t.world
+  pub told : TellsFinalised (young_base c.heap.segments) t.places t.began t.world (finalised_of c.mutators.items)
 
 -- those that were finalised have left the list, and those that moved and are alive have joined it
 pub record HasListed (old new : Collector) : Type 0 where

@@ -120,6 +120,7 @@ pub record HasLists (count : ℕ) (m : Mutator) : Type 0 where
   pub recorded : count ≤ m.recorded.spare
   pub updrem : MOST_PUSHED * count ≤ m.updrem.spare
   pub young_weaks : count ≤ m.young_weaks.spare
+  pub finalised : count ≤ m.finalised.spare
 
 -- each mutator has room for its next slice
 abbrev pub HaveSliceRoom : Script → Collector → Type 0

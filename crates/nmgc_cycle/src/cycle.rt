@@ -292,7 +292,7 @@ impl Collector {
             epoch,
         )?;
         let _ = self.heap.segments.layout();
-        weaks::reserve_queues(self.mutators.as_mut_slice(), self.heap.weaks.list())?;
+        weaks::reserve_queues(self.mutators.as_mut_slice(), &self.heap.weaks)?;
         marker.turns = self.cycle.turns;
         sweeper.turns = self.cycle.turns;
         sweeper.upper_turns = self.cycle.upper_turns;

@@ -36,7 +36,8 @@ use crate::Collector;
 use crate::worker::{Worker, seated, some_ask_full, some_asks, unseated, work_beside};
 use nmgc_alloc::Segments;
 use nmgc_collector_laws::idle::{
-    a_rest_opens_a_round, a_round_is_a_history, a_round_is_stopped, slices_are_gathered,
+    a_rest_opens_a_round, a_round_is_a_history, a_round_is_stopped, finalised_are_told,
+    slices_are_gathered,
 };
 use nmgc_collector_laws::marking::{
     a_closed_cycle_sweeps, a_heap_ties_by_blocks, a_rest_opens_a_round as opens_beside,
@@ -164,6 +165,7 @@ impl Collector {
         a_heap_ties_by_blocks();
         a_round_is_a_history();
         a_round_is_stopped();
+        finalised_are_told();
         the_machine_goes_on();
         the_marker_leads_a_cycle();
         the_pace_is_kept();

@@ -4,6 +4,9 @@
 //! promoted alive join. A closing may not run out of memory half way, so the queues have room for a finaliser of each
 //! weak pointer from the snapshot on.
 //!
+//! Who leaves is told by the mutators, which note what they finalise: so a stop looks at these, and not through the list.
+//! And who joins comes at the end of its maker's row. So a stop takes time for what the round did.
+//!
 //! Easy to get wrong: of a weak pointer that was finalised in the round nobody need speak once the promotion is done, and
 //! then its words mean nothing. So those leave before the promotion, while the world as the round began is still
 //! spoken of; the others join after it, at their new places.
@@ -11,11 +14,15 @@ ghost use Rattle.std.specs.Prelude.{ℕ, ◌≡◌, ◌≢◌, ◌+◌, ◌<◌,
 ghost use Rattle.nmgc_world_spec.specs.Reach.{IsInOrder};
 ghost use Rattle.nmgc_object.specs.declared.size.TheConstants.{HEADER_WORDS};
 ghost use Rattle.nmgc_weak.specs.Queues.{HaveRoom};
-ghost use Rattle.nmgc_weak.specs.Weaks.{AreInside, names_of};
+ghost use Rattle.nmgc_weak.specs.Rows.{IsNamedAt, left_of};
+ghost use Rattle.nmgc_weak.specs.Weaks.{alive_of, names_of, value_place};
+ghost use Rattle.nmgc_object.specs.declared.words.Address.{Address as Place};
+ghost use Rattle.nmgc_mutator.specs.Records.{numbers};
+ghost use Rattle.nmgc_collector_laws.specs.Worked.{finalised_of};
 ghost use Rattle.nmgc_weak.specs.declared.weaks.OldWeak.{OldWeak as Old};
 ghost use Rattle.nmgc_cycle.specs.Roots.{queues_in};
 ghost use Rattle.nmgc_cycle.specs.Shown.{died, words_in};
-ghost use Rattle.nmgc_cycle.specs.Listed.{is_alive_at, moved_weaks, AreMovedInside, CanJoin, IsMergeOf, FinalisedLeft, MovedJoined, count_made_by, HasQueueRoom, HaveQueueRoom, FinalisersQueued};
+ghost use Rattle.nmgc_cycle.specs.Listed.{is_alive_at, moved_weaks, AreMovedInside, CanJoin, IsMergeOf, FinalisedAreTold, FinalisedLeft, MovedJoined, count_made_by, HasQueueRoom, HaveQueueRoom, FinalisersQueued};
 
 use crate::Collector;
 use nmgc_heap_spec::HeapWords;
@@ -76,17 +83,42 @@ fn join_all(weaks: &mut Weaks, fresh: &[OldWeak])
     weaks.add_all(fresh);
 }
 
+// Those leave the list that stand at these places and are dead by now.
+fn leave_each<W: HeapWords>(weaks: &mut Weaks, words: &mut W, finalised: &[Address])
+    requires inside { (at : Place) → Contains finalised.now at → value_place at.0 < length (W.words words.old) }
+    requires named { (at : ℕ) → IsNamedAt (W.words words.old) at weaks.old.list }
+    ensures words { W.words words.new ≡ W.words words.old }
+    ensures list { weaks.new.list ≡ left_of (W.words words.old) (numbers finalised.now) weaks.old.list }
+    ensures deaths { weaks.new.deaths ≡ weaks.old.deaths }
+{
+    for at in finalised {
+        weaks.leave_at(words, *at);
+    }
+}
+
+// Those leave the list that the mutators noted, and are dead by now.
+fn leave_noted<W: HeapWords>(weaks: &mut Weaks, words: &mut W, mutators: &[Mutator])
+    requires { FinalisedAreTold (W.words words.old) weaks.old.list (finalised_of mutators.now) }
+    ensures words { W.words words.new ≡ W.words words.old }
+    ensures list { weaks.new.list ≡ alive_of (W.words words.old) weaks.old.list }
+    ensures deaths { weaks.new.deaths ≡ weaks.old.deaths }
+{
+    for mutator in mutators {
+        leave_each(weaks, words, mutator.finalised());
+    }
+}
+
 impl Collector {
     // Those leave the list of weak pointers that are dead by now.
     pub(crate) fn leave(&mut self)
         requires words { IsSome self.old.heap.words }
-        requires inside { AreInside (words_in self.old.heap.words) self.old.heap.weaks.list }
+        requires told { FinalisedAreTold (words_in self.old.heap.words) self.old.heap.weaks.list (finalised_of self.old.mutators.items) }
         ensures { FinalisedLeft self.old self.new }
     {
         let Some(words) = &mut self.heap.words else {
             unreachable!()
         };
-        self.heap.weaks.leave(words);
+        leave_noted(&mut self.heap.weaks, words, self.mutators.as_slice());
     }
 
     // Those join it that were promoted and are alive.
@@ -105,30 +137,23 @@ impl Collector {
     }
 }
 
-// How many weak pointers of a list a mutator made.
-fn count_of(maker: u8, list: &[OldWeak]) -> usize
-    ensures { result ≡ count_made_by maker list.now }
-{
-    list.iter().filter(|weak| weak.weak.maker == maker).count()
-}
-
 // The queue of a mutator gets room for a finaliser of each weak pointer of the list that it made.
-fn reserve_queue(mutator: &mut Mutator, list: &[OldWeak]) -> Result<(), NoMemory>
-    ensures { OnOk result (HasQueueRoom (count_made_by mutator.old.number list.now) mutator.old mutator.new) }
+fn reserve_queue(mutator: &mut Mutator, weaks: &Weaks) -> Result<(), NoMemory>
+    ensures { OnOk result (HasQueueRoom (count_made_by mutator.old.number weaks.now.list) mutator.old mutator.new) }
 {
     // No heap has so many that this fails.
-    let Ok(own) = u32::try_from(count_of(mutator.number, list)) else {
+    let Ok(own) = u32::try_from(weaks.count(mutator.number)) else {
         return Err(NoMemory);
     };
     mutator.queue.reserve(own)
 }
 
 /// The queue of each mutator gets room for a finaliser of each weak pointer of the list that it made.
-pub fn reserve_queues(mutators: &mut [Mutator], list: &[OldWeak]) -> Result<(), NoMemory>
-    ensures { OnOk result (HaveQueueRoom list.now mutators.old mutators.new) }
+pub fn reserve_queues(mutators: &mut [Mutator], weaks: &Weaks) -> Result<(), NoMemory>
+    ensures { OnOk result (HaveQueueRoom weaks.now.list mutators.old mutators.new) }
 {
     for mutator in mutators {
-        reserve_queue(mutator, list)?;
+        reserve_queue(mutator, weaks)?;
     }
     Ok(())
 }

@@ -6,6 +6,7 @@ ghost use Rattle.nmgc_object.specs.FinQueue.{FinQueue as Shown};
 
 use nmgc_lists::{List, NoMemory};
 use nmgc_mutator::Mutator;
+use nmgc_object::words::encode_name;
 use nmgc_object::{Address, Layout};
 use nmgc_updrem::link;
 use nmgc_weak::{Death, OldWeak, Weaks, laws, queue_finalisers};
@@ -36,18 +37,35 @@ const SECOND: OldWeak = OldWeak {
 #[test]
 fn list_in_order(rt: HostRuntime) -> Result<(), Fail> {
     let mut weaks = Weaks::new(rt.alloc());
-    assert!(rt; weaks.list().is_empty());
+    assert!(rt; weaks.list(rt.alloc())?.is_empty());
     weaks.reserve(2)?;
     weaks.add(B, Address(32));
     weaks.add(A, Address(40));
-    assert!(rt; weaks.list() == [FIRST, SECOND].as_slice());
+    assert!(rt; weaks.list(rt.alloc())?.as_slice() == [FIRST, SECOND].as_slice());
     assert!(rt; weaks.deaths().is_empty());
 
     // The words of the heap, of which the value of the second was taken.
     let mut words = vec![in rt.alloc(); 1u64; 48]?;
     words[35] = 0;
     weaks.leave(&mut words);
-    assert!(rt; weaks.list() == [FIRST].as_slice());
+    assert!(rt; weaks.list(rt.alloc())?.as_slice() == [FIRST].as_slice());
+    Ok(())
+}
+
+// Of two whose value words are 0 the one leaves that was told, and its name may join again.
+#[test]
+fn told_ones_leave(rt: HostRuntime) -> Result<(), Fail> {
+    let mut weaks = Weaks::new(rt.alloc());
+    weaks.reserve(3)?;
+    weaks.add_all([FIRST, SECOND].as_slice());
+    let mut words = vec![in rt.alloc(); 0u64; 48]?;
+    words[33] = encode_name(B);
+    words[41] = encode_name(A);
+    weaks.leave_at(&mut words, Address(40));
+    assert!(rt; weaks.list(rt.alloc())?.as_slice() == [SECOND].as_slice());
+    weaks.add(A, Address(44));
+    assert_eq!(rt; weaks.list(rt.alloc())?.len(), 2);
+    assert!(rt; weaks.count(0) >= 1);
     Ok(())
 }
 
@@ -66,7 +84,7 @@ fn joiners_in_order(rt: HostRuntime) -> Result<(), Fail> {
     weaks.reserve(3)?;
     weaks.add(B, Address(32));
     weaks.add_all([FIRST, THIRD].as_slice());
-    assert!(rt; weaks.list() == [FIRST, SECOND, THIRD].as_slice());
+    assert!(rt; weaks.list(rt.alloc())?.as_slice() == [FIRST, SECOND, THIRD].as_slice());
     Ok(())
 }
 

@@ -233,6 +233,18 @@ impl Marker {
         self.found.items().len() as u32
     }
 
+    /// The place of a block that this marker marked, by how many it marked before it; `None` comes exactly where it marked
+    /// no more than these. So whoever asks for one after the other comes to each block once. No clause says which place it is: it
+    /// tells where to look, and what is marked is asked of the segments. Takes no memory, and constant time.
+    pub fn nth_marked(&self, number: u32) -> Option<Address>
+        ensures some { IfSome result (λ at. number < self.now.marked) }
+        ensures none { IfNone result (self.now.marked ≤ number) }
+        ensures few { self.now.marked < 2 ^ 32 }
+    {
+        let _limit = self.limit;
+        self.found.items().get(number as usize).copied()
+    }
+
     /// Whether no object waits to be scanned.
     pub fn is_empty(&self) -> bool
         ensures { IsTrue result ↔ (self.now.queue ≡ []) }

@@ -1,10 +1,12 @@
 -- Forwarding words by a table, and copying objects.
-use Rattle.std.proofs.Common.{◌≡◌, ◌≢◌, ◌<◌, ◌≤◌, ◌+◌, ◌-◌, ◌*◌, ◌/◌, ◌%◌, ℕ, List, [], ◌∷◌, ◌++◌, length, set, take, drop, inl, inr, refl, sym, ap, subst, ◌∙◌, arith, ◌⊎◌, true, false, eqb, get_or}
+use Rattle.std.proofs.Common.{◌≡◌, ◌≢◌, ◌<◌, ◌≤◌, ◌+◌, ◌-◌, ◌*◌, ◌/◌, ◌%◌, ℕ, List, [], ◌∷◌, ◌++◌, length, set, map, take, drop, inl, inr, refl, sym, ap, subst, ◌∙◌, arith, ◌⊎◌, true, false, eqb, get_or}
 use Rattle.std.specs.Prelude.{Contains, slice_index, nat_le}
 use Rattle.std.proofs.Math.ListN.{length-set}
 use Rattle.std.proofs.lemmas.Bool.{cases_lt, cases_eq, cases_Bool, eq-eqb, ne_eqb}
 use Rattle.std.proofs.lemmas.List.{get_or-set_same, get_or-set_other, take_more, take-append-drop}
 use Rattle.std.proofs.lemmas.List.Elements.{Contains-append_left, Contains-push, Contains-push_cases, Contains-get_or}
+use Rattle.nmgc_lists.specs.laws.Items.{contains_head, contains_tail}
+use Rattle.nmgc_object.specs.FinQueue.{ArePointersBelow}
 use Rattle.nmgc_object.specs.declared.words.Address.{Address}
 use Rattle.nmgc_object.specs.Words.{header_word, IsHeader}
 use Rattle.nmgc_object.specs.declared.words.Header.{Header}
@@ -64,6 +66,18 @@ module _ (table : List ℕ) (base : ℕ) where
 
   pub word_moved : (word at to : ℕ) → word ≡ 2 * at → base ≤ at → slice_index table (at - base) ≡ to → to ≢ 0 → 2 * to ≡ forward_word table base word
   word_moved word at to is l e ne = sym (high_goes at to l e ne) ∙ ap (λ (w : ℕ). forward_word table base w) (sym is)
+
+  -- words of which no pointer is young stay
+  pub low_words : (words : List ℕ) → ArePointersBelow words base → map (forward_word table base) words ≡ words
+  low_words [] h = refl
+  low_words (w ∷ ws) h = ap (λ x. x ∷ map (forward_word table base) ws) first ∙ ap (λ (l : List ℕ). w ∷ l) (low_words ws (λ x c even.
+      h x (contains_tail w ws x c) even))
+    where
+      first : forward_word table base w ≡ w
+      first = elim (cases_eq (w % 2) 0) [
+        | inl even ↦ let low = h w (contains_head w ws) even in sym (word_low w (w / 2) (omega (arith, even)) (omega (arith, low, even)))
+        | inr odd ↦ let n : w % 2 ≡ 0 → ⊥ = odd in odd_stays w (omega (arith, n))
+      ]
 
   -- a word that was forwarded is left when it is forwarded again
   pub twice : ((k : ℕ) → slice_index table k < base) → (word : ℕ) → forward_word table base (forward_word table base word) ≡ forward_word table base word

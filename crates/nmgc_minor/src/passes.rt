@@ -71,10 +71,13 @@ fn forget(base: u32, table: &mut [u32], found: &[Address])
     }
 }
 
-// Forwards the words of a queue.
+// Forwards the words of a queue. One that has no young object is left as it is, and so it is with each in a run.
 fn forward_queue(table: &[u32], base: u32, queue: &mut FinQueue)
     ensures { queue.new ≡ forwarded_queue table.now base queue.old }
 {
+    if queue.is_below(base) {
+        return;
+    }
     for i in 0..queue.words().len() {
         let word = queue.words()[i];
         queue.set(i, forwarded(table, base, word));

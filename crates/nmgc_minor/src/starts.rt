@@ -15,7 +15,7 @@ use crate::young::Young;
 use nmgc_heap_spec::{HeapWords, MutatorRoots};
 use nmgc_limits::SHARED_SLOTS;
 use nmgc_object::words::WEAK_FIELDS;
-use nmgc_object::{Address, FieldWord, HEADER_WORDS, SHARED_PLACE};
+use nmgc_object::{Address, FieldWord, FinQueue, HEADER_WORDS, SHARED_PLACE};
 
 // Notes what registers hold.
 fn note_registers<M: MutatorRoots>(young: &mut Young, mutators: &[M])
@@ -28,6 +28,19 @@ fn note_registers<M: MutatorRoots>(young: &mut Young, mutators: &[M])
     }
 }
 
+// Notes what a queue holds. One that has no young object is not gone through, and so it is with each in a run: what waits
+// joined at a closing, when the nurseries were empty.
+fn note_queue(young: &mut Young, queue: &FinQueue)
+    requires young { IsYoung young.old }
+    requires within { (word : ℕ) → Contains queue.now.words word → IsWithin young.old word }
+    ensures { Notes young.old young.new (Contains queue.now.words) }
+{
+    if queue.is_below(young.base) {
+        return;
+    }
+    young.note_all(queue.words());
+}
+
 // Notes what queues hold.
 fn note_queues<M: MutatorRoots>(young: &mut Young, mutators: &[M])
     requires young { IsYoung young.old }
@@ -35,7 +48,7 @@ fn note_queues<M: MutatorRoots>(young: &mut Young, mutators: &[M])
     ensures { Notes young.old young.new (λ w. (queue : Queue) × Contains (map M.queue mutators.now) queue × Contains queue.words w) }
 {
     for mutator in mutators {
-        young.note_all(mutator.queue().words());
+        note_queue(young, mutator.queue());
     }
 }
 

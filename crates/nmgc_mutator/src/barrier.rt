@@ -11,12 +11,15 @@
 //! The other barrier is for promotion, from old to young: a field of an object in a segment that was given a young object is
 //! recorded (`record`), since a promotion doesn't look through the segments. `set`, `cas`, `update` and `push_value` call it.
 //!
+//! And a weak pointer in a segment that was finalised is noted (`note_finalised`), since a stop doesn't look through the list of
+//! those that are alive.
+//!
 //! Easy to get wrong: it is the old word that is pushed, and the new one that is recorded.
 ghost use Rattle.std.specs.Prelude.{◌≡◌, ◌++◌, ◌+◌, ◌*◌, ◌-◌, ◌^◌, ◌<◌, length, Some, ◌≤◌};
 ghost use Rattle.nmgc_round.specs.View.{owed_word};
 ghost use Rattle.nmgc_mutator.specs.Ready.{IsWhole};
-ghost use Rattle.nmgc_mutator.specs.Records.{numbers, is_young, is_old, recorded_at, all_pushed};
-ghost use Rattle.nmgc_mutator.specs.Does.{with_recorded, with_updrem};
+ghost use Rattle.nmgc_mutator.specs.Records.{numbers, is_young, is_old, recorded_at, pushed_at, all_pushed};
+ghost use Rattle.nmgc_mutator.specs.Does.{with_recorded, with_finalised, with_updrem};
 ghost use Rattle.nmgc_object.specs.declared.size.TheConstants.{HEADER_WORDS};
 ghost use Rattle.nmgc_round.specs.Owing.{owed_words};
 
@@ -55,6 +58,19 @@ impl Mutator {
     {
         if self.is_old(u64::from(at.0)) && self.is_young(word) {
             self.recorded.add(Address(at.0 + HEADER_WORDS + index));
+        }
+    }
+
+    // Notes a weak pointer that was finalised, where it lies in a segment.
+    pub(crate) fn note_finalised(&mut self, at: Address)
+        requires one { IsWhole self.old }
+        requires room { 0 < self.old.finalised.spare }
+        ensures rest { self.new ≡ with_finalised self.old self.new.finalised }
+        ensures noted { numbers self.new.finalised.items ≡ numbers self.old.finalised.items ++ pushed_at self.old.layout (2 * at.0) }
+        ensures room { self.old.finalised.spare ≤ self.new.finalised.spare + 1 }
+    {
+        if self.is_old(u64::from(at.0)) {
+            self.finalised.add(at);
         }
     }
 

@@ -156,7 +156,8 @@ impl Mutator {
         Reply::Given(self.value(round, seat, Operand::Register(dest)))
     }
 
-    // Kills a weak pointer, and takes its finaliser. It owes the weak pointer, its value and its finaliser.
+    // Kills a weak pointer, and takes its finaliser. It owes the weak pointer, its value and its finaliser. The stop is told of it,
+    // so that it leaves the list of those that are alive.
     pub(crate) fn finalise(
         &mut self,
         round: &Round,
@@ -170,7 +171,7 @@ impl Mutator {
         requires fits { Fits self.old.layout.words command.now }
         requires command { command.now ≡ Finalise dest object }
         requires registers { IsRegister dest × IsOperand object }
-        requires room { WEAK_FIELDS ≤ self.old.updrem.spare }
+        requires room { (WEAK_FIELDS ≤ self.old.updrem.spare) × (0 < self.old.finalised.spare) }
         ensures { Acts round.now (seen seat.old) seat.new self.old self.new command.now result }
     {
         let Some((at, header)) = self.object(round, seat, object) else {
@@ -188,6 +189,7 @@ impl Mutator {
         self.hold(dest, finaliser);
         let owed = [FieldWord::of_place(at.0).0, word, finaliser];
         self.push_words(round.is_marking(), &owed);
+        self.note_finalised(at);
         Reply::Given(self.value(round, seat, Operand::Register(dest)))
     }
 

@@ -24,7 +24,7 @@ impl MutatorRoots for Mutator {
 
     ghost with_queue = { λ m q. record m { queue = q } };
 
-    ghost after_stop = { λ m. record m { nursery = emptied m.nursery; recorded = cleared m.recorded; young_weaks = cleared m.young_weaks } };
+    ghost after_stop = { λ m. record m { nursery = emptied m.nursery; recorded = cleared m.recorded; young_weaks = cleared m.young_weaks; finalised = cleared m.finalised } };
 
     fn registers(&self) -> &[u64] {
         self.registers.items()
@@ -58,6 +58,7 @@ impl MutatorRoots for Mutator {
         self.nursery.top = self.nursery.base;
         self.recorded.clear();
         self.young_weaks.clear();
+        self.finalised.clear();
     }
 
     ghost own_registers = { λ m words e. refill_all m.registers words e };

@@ -7,8 +7,12 @@
 //! uses it. Taking the first word moves an index and no words. What was taken keeps its memory until
 //! the queue is empty, or until room is made while more words were taken than are left.
 //!
+//! Words join at a closing, when every nursery is empty. So a promotion would go through a queue for nothing, however
+//! many finalisers wait: the queue knows a bound of its pointers, and tells in constant time that none is young.
+//!
 //! Easy to get wrong: places count from the first word that is left, and not from the first that was ever added.
-ghost use Rattle.std.specs.Prelude.{◌≡◌, ◌+◌, ◌-◌, ◌<◌, ◌≤◌, [], ◌∷◌, ◌++◌, length, drop, slice_get, slice_set, OnOk, OnErr};
+ghost use Rattle.std.specs.Prelude.{◌≡◌, ◌+◌, ◌-◌, ◌%◌, ◌<◌, ◌≤◌, [], ◌∷◌, ◌++◌, length, drop, slice_get, slice_set, IsTrue, OnOk, OnErr};
+ghost use Rattle.nmgc_object.specs.FinQueue.{ArePointersBelow};
 
 use nmgc_lists::{List, ListMemory, NoMemory};
 use std::alloc::Global;
@@ -19,11 +23,13 @@ use std::marker::Model;
 pub struct FinQueue {
     words: Vec<u64>,
     first: usize,
+    // No pointer among the words that are left is larger.
+    highest: u64,
 }
 
 impl Model for FinQueue {
     ghost use Rattle.std.specs.Prelude.{◌-◌, ◌≤◌, drop, vec_len, vec_capacity};
-    ghost use Rattle.nmgc_object.specs.FinQueue.{FinQueue as Shown};
+    ghost use Rattle.nmgc_object.specs.FinQueue.{FinQueue as Shown, HavePointersUpTo};
 
     ghost Value = { Shown };
 
@@ -32,7 +38,7 @@ impl Model for FinQueue {
       spare = vec_capacity q.words - vec_len q.words;
     } };
 
-    ghost invariant = { λ q. q.first ≤ vec_len q.words };
+    ghost invariant = { λ q. (q.first ≤ vec_len q.words) × HavePointersUpTo (drop q.first q.words.items) q.highest };
 }
 
 impl FinQueue {
@@ -44,6 +50,7 @@ impl FinQueue {
         FinQueue {
             words: Vec::new(alloc),
             first: 0,
+            highest: 0,
         }
     }
 
@@ -80,6 +87,7 @@ impl FinQueue {
         ensures spare { self.new.spare + 1 ≡ self.old.spare }
     {
         self.words.push_reserved(word);
+        self.highest = raised(self.highest, word);
     }
 
     /// Takes the first word off. `None` comes exactly where the queue is empty. Constant time.
@@ -108,7 +116,11 @@ impl FinQueue {
     pub fn into_list(self, place: ListMemory<u64>) -> List<u64>
         ensures { result ≡ self.words }
     {
-        let FinQueue { words, first } = self;
+        let FinQueue {
+            words,
+            first,
+            highest: _,
+        } = self;
         let mut words = words;
         let left = words.len() - first;
         words.copy_within(first.., 0);
@@ -123,5 +135,27 @@ impl FinQueue {
         ensures spare { self.new.spare ≡ self.old.spare }
     {
         self.words[self.first + place] = word;
+        self.highest = raised(self.highest, word);
+    }
+
+    /// Whether each pointer among the words leads before a place, as far as the queue knows: that it does is certain. That
+    /// it doesn't may be told of words that were taken or changed since. Takes no memory, and constant time.
+    #[tactic(auto, using(crate::proofs::Pointers::below_of))]
+    pub fn is_below(&self, place: u32) -> bool
+        ensures { IsTrue result → ArePointersBelow self.now.words place }
+    {
+        self.highest < 2 * u64::from(place)
+    }
+}
+
+// A bound that a word is within too, if it is a pointer.
+fn raised(highest: u64, word: u64) -> u64
+    ensures kept { highest ≤ result }
+    ensures pointer { word % 2 ≡ 0 → word ≤ result }
+{
+    if word % 2 == 0 {
+        highest.max(word)
+    } else {
+        highest
     }
 }

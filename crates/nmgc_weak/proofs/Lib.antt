@@ -13,7 +13,8 @@ pub mod Passing
 pub mod Finding
 pub mod Clearing
 pub mod Leaving
-pub mod Merging
+pub mod Entries
+pub mod RowLaws
 pub mod Joining
 pub mod Dying
 pub mod Resolving

@@ -16,12 +16,15 @@ use Rattle.nmgc_alloc.specs.Blocks.{IsSnapshotAt}
 use Rattle.nmgc_heap_spec.specs.Places.{Place}
 use Rattle.nmgc_round.specs.View.{Opening}
 use Rattle.nmgc_mark.specs.Seen.{MarkerSeen}
+use Rattle.nmgc_mark.specs.Marker.{HasRoomToMark, HasMarked}
+use Rattle.nmgc_mark.specs.laws.Common.{marked_none}
 use Rattle.nmgc_weak.specs.declared.weaks.OldWeak.{OldWeak}
 use Rattle.nmgc_weak.specs.Resolve.{CanResolve}
-use Rattle.nmgc_weak.specs.Steps.{IsKeyMarked, IsKeyMarkedWord, IsLostAt, IsLost, MarksOn, GoesTo, CanKeep, HasKept, HasPassed, HasRevived}
+use Rattle.nmgc_weak.specs.Steps.{IsKeyMarked, IsKeyMarkedWord, IsLostAt, IsLost, MarksOn, GoesTo, GoesOn, CanKeep, HasKept, HasPassed, HasRevived}
 use Rattle.nmgc_weak.specs.Weaks.{place_of, places_of, names_of, key_place}
 use Rattle.nmgc_weak.proofs.Showing.{snapshot_is, snapshot_back, lost_is, shown_is}
 use Rattle.nmgc_world_laws.specs.laws.Closes.{same_parts as one_parts}
+use Rattle.nmgc_weak.proofs.Counting.{marked_sum}
 use Rattle.nmgc_weak.proofs.Saving.{listed_place, place_has_name}
 
 -- the same opening with more marks
@@ -187,3 +190,59 @@ saturated o words s t k l list h count p =
 pub revived_then : (o p : Opening) (words : List ℕ) (s t : Segments) (k l : MarkerSeen) (weaks : List Place) → GoesTo o p words s k weaks →
     HasRevived p words t l weaks → HasRevived o words t l weaks
 revived_then o p words s t k l weaks a b = record { next = b.next; goes = then_goes o p b.next words s t k l weaks a b.goes; saturated = b.saturated }
+
+-- a step that leaves each state goes on from it, and so do two steps
+pub goes_nowhere : (words : List ℕ) (s : Segments) (k : MarkerSeen) (weaks : List Place) → GoesOn words s s k k weaks
+goes_nowhere words s k weaks = λ o h. (o, stays o words s k weaks h)
+
+pub goes_then : (words : List ℕ) (s t u : Segments) (k l m : MarkerSeen) (weaks : List Place) → GoesOn words s t k l weaks →
+    GoesOn words t u l m weaks → GoesOn words s u k m weaks
+goes_then words s t u k l m weaks a b = λ o h.
+    let p = a o h in
+    let q = b p.0 p.1.can in
+    (q.0, then_goes o p.0 q.0 words t u l m weaks p.1 q.1)
+
+-- some that have kept their parts
+pub passed_on : (words : List ℕ) (s t : Segments) (k l : MarkerSeen) (weaks : List Place) (names : List Name) →
+    ((o : Opening) → CanResolve o words s k weaks → HasPassed o words t l weaks names) → GoesOn words s t k l weaks
+passed_on words s t k l weaks names p = λ o h. let q = p o h in (q.next, q.goes)
+
+-- what steps that keep more have come to: the words are the first ones, and what could be resolved still can
+pub record HasGone (first now : List ℕ) (s t : Segments) (k l : MarkerSeen) (weaks : List Place) : Type 0 where
+  pub words : now ≡ first
+  pub marked : (count : ℕ) × HasMarked s t k l count
+  pub turns : l.turns ≡ k.turns
+  pub goes : GoesOn first s t k l weaks
+
+pub gone_none : (first now : List ℕ) (s : Segments) (k : MarkerSeen) (weaks : List Place) → now ≡ first → HasRoomToMark s k →
+    HasGone first now s s k k weaks
+gone_none first now s k weaks same room = record {
+  words = same;
+  marked = (0, marked_none s k room);
+  turns = refl;
+  goes = goes_nowhere first s k weaks;
+}
+
+pub gone_more : (first now new : List ℕ) (s t u : Segments) (k l m : MarkerSeen) (weaks : List Place) → HasGone first now s t k l weaks → new ≡ now →
+    (count : ℕ) × HasMarked t u l m count → m.turns ≡ l.turns → GoesOn now t u l m weaks → HasGone first new s u k m weaks
+gone_more first now new s t u k l m weaks h same marked turns goes = record {
+  words = same ∙ h.words;
+  marked = marked_sum s t u k l m h.marked marked;
+  turns = turns ∙ h.turns;
+  goes = goes_then first s t u k l m weaks h.goes (subst (λ (w : List ℕ). GoesOn w t u l m weaks) h.words goes);
+}
+
+-- so the next step may be done
+pub gone_can : (first now : List ℕ) (s t : Segments) (k l : MarkerSeen) (weaks : List Place) → HasGone first now s t k l weaks →
+    (o : Opening) × CanResolve o first s k weaks → (p : Opening) × CanResolve p now t l weaks
+gone_can first now s t k l weaks h can =
+    let p = h.goes can.0 can.1 in
+    (p.0, subst (λ (w : List ℕ). CanResolve p.0 w t l weaks) (sym h.words) p.1.can)
+
+-- and steps that end where nothing is left have revived all
+pub gone_revived : (first now : List ℕ) (s t u : Segments) (k l m : MarkerSeen) (weaks : List Place) → HasGone first now s t k l weaks →
+    ((p : Opening) → CanResolve p now t l weaks → HasRevived p now u m weaks) → (o : Opening) → CanResolve o first s k weaks → HasRevived o first u m weaks
+gone_revived first now s t u k l m weaks h all o can =
+    let p = h.goes o can in
+    let then = subst (λ (w : List ℕ). CanResolve p.0 w t l weaks) (sym h.words) p.1.can in
+    revived_then o p.0 first t u l m weaks p.1 (subst (λ (w : List ℕ). HasRevived p.0 w u m weaks) h.words (all p.0 then))

@@ -57,6 +57,10 @@ pub record GoesTo (o next : Opening) (words : List ℕ) (s : Segments) (marker :
   pub later : MarksOn o next
   pub can : CanResolve next words s marker weaks
 
+-- so it does from whatever state could be resolved
+abbrev pub GoesOn : List ℕ → Segments → Segments → MarkerSeen → MarkerSeen → List Place → Type 0
+GoesOn words old new before after weaks = (o : Opening) → CanResolve o words old before weaks → (next : Opening) × GoesTo o next words new after weaks
+
 -- every waiting weak pointer whose key is marked has its parts marked
 abbrev pub IsSaturated : Opening → List Place → Type 0
 IsSaturated o weaks = (weak target : Name) (parts : Parts) → IsWaiting o.core weak parts → IsKeyMarked o.core.marked parts.key →

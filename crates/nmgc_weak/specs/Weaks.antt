@@ -1,5 +1,5 @@
 -- What contracts see of the list of weak pointers, and where the parts of a weak pointer lie.
-use Rattle.std.specs.Prelude.{ℕ, ◌≡◌, ◌+◌, ◌*◌, ◌^◌, ◌<◌, ◌==◌, not, Bool, List, [], ◌∷◌, length, set, map, filter, slice_index, Contains}
+use Rattle.std.specs.Prelude.{ℕ, ◌≡◌, ◌+◌, ◌*◌, ◌^◌, ◌<◌, ◌==◌, not, Bool, List, [], ◌∷◌, length, set, map, filter, count_by, slice_index, Contains}
 use Rattle.nmgc_world_spec.specs.declared.value.Name.{Name}
 use Rattle.nmgc_object.specs.declared.size.TheConstants.{HEADER_WORDS}
 use Rattle.nmgc_heap_spec.specs.Places.{Place}
@@ -53,6 +53,10 @@ is_alive words weak = not (slice_index words (value_place weak.at.0) == 0)
 -- those whose value word isn't 0
 abbrev pub alive_of : List ℕ → List OldWeak → List OldWeak
 alive_of words list = filter (is_alive words) list
+
+-- how many of the list a maker made
+abbrev pub count_made_by : ℕ → List OldWeak → ℕ
+count_made_by maker list = count_by (λ (weak : OldWeak). weak.weak.maker == maker) list
 
 -- the deaths of these, with the words of their finalisers
 abbrev pub deaths_of : List ℕ → List OldWeak → List Death

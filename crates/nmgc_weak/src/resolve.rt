@@ -4,6 +4,12 @@
 //! finds a weak pointer that keeps something new. That this is the core machine's closing is told from each
 //! state that could be closed to one with more marks (`specs/Steps.antt`).
 //!
+//! A weak pointer that keeps its parts may bring up the key of any other, also of one before it in the list. So those whose
+//! keys aren't marked are filed by the places of their keys, and each place that is marked from then on is looked up
+//! there (`keep_ahead`). However they revive one another, that takes time for the weak pointers and for what is marked, and a
+//! logarithm. Nothing is promised of it but that what it keeps is kept rightly: passes over the list follow, of which one
+//! finds nothing, and that one shows that nothing is left (`pass_until_none`).
+//!
 //! Easy to get wrong: the finalisers of those that die may reach their own keys. So all of them are found before
 //! the first finaliser is marked, and their value words become 0 last, while the words still represent the world
 //! in which the marker follows fields.
@@ -18,7 +24,7 @@ ghost use Rattle.nmgc_round.specs.Marking.{Marks, with_name, name_meant};
 ghost use Rattle.nmgc_mark.specs.Marker.{HasRoomToMark, HasMarked};
 ghost use Rattle.nmgc_mark.specs.Tie.{IsTied};
 ghost use Rattle.nmgc_weak.specs.Resolve.{CanResolve};
-ghost use Rattle.nmgc_weak.specs.Steps.{IsKeyMarkedWord, IsLostAt, CanKeep, HasKept, HasPassed, HasRevived, CanRescue, AreLost, HasRescued};
+ghost use Rattle.nmgc_weak.specs.Steps.{IsKeyMarkedWord, IsLostAt, CanKeep, HasKept, HasPassed, GoesOn, HasRevived, CanRescue, AreLost, HasRescued};
 ghost use Rattle.nmgc_weak.specs.Weaks.{IsWithin, AreWithin, key_place, place_of, places_of, names_of, deaths_of, without_values};
 
 use crate::weaks::{Death, FINALISER, OldWeak, VALUE};
@@ -168,9 +174,9 @@ fn pass<W: HeapWords>(list: &[OldWeak], marker: &mut Marker, words: &mut W, segm
     }
 }
 
-/// Passes over the list until one marks nothing: no weak pointer of the snapshot is left whose key is marked and
-/// whose parts aren't marked.
-pub(crate) fn revive<W: HeapWords>(
+// Passes over the list until one marks nothing: no weak pointer of the snapshot is left whose key is marked and
+// whose parts aren't marked.
+fn pass_until_none<W: HeapWords>(
     list: &[OldWeak],
     marker: &mut Marker,
     words: &mut W,
@@ -192,6 +198,202 @@ pub(crate) fn revive<W: HeapWords>(
             break;
         }
     }
+}
+
+/// A weak pointer that waits for its key: where the key is, and the place of the weak pointer in the list.
+#[derive(Clone, Copy, Debug, PartialEq, Eq)]
+pub(crate) struct Waiter {
+    key: u32,
+    place: usize,
+}
+
+// The place of the key of a weak pointer, where it refers to an object. No clause speaks of the answer.
+fn key_of<W: HeapWords>(words: &mut W, at: Address) -> Option<u32>
+    requires { IsWithin (W.words words.old) at.0 }
+    ensures { W.words words.new ≡ W.words words.old }
+{
+    let key = words.load(at.0 as usize + HEADER_WORDS as usize);
+    u32::try_from(FieldWord(key).place()?).ok()
+}
+
+// Files the weak pointer at a place of the list, where its key isn't marked. There has to be room for it.
+fn file_one<W: HeapWords>(
+    weak: OldWeak,
+    place: usize,
+    waiting: &mut Vec<Waiter>,
+    marker: &Marker,
+    words: &mut W,
+    segments: &Segments,
+)
+    requires room { vec_len waiting.old < vec_capacity waiting.old }
+    requires within { IsWithin (W.words words.old) weak.at.0 }
+    ensures words { W.words words.new ≡ W.words words.old }
+    ensures capacity { vec_capacity waiting.new ≡ vec_capacity waiting.old }
+    ensures few { vec_len waiting.new ≤ vec_len waiting.old + 1 }
+{
+    if !is_lost(marker, words, segments, weak.at) {
+        return;
+    }
+    let Some(key) = key_of(words, weak.at) else {
+        return;
+    };
+    waiting.push_reserved(Waiter { key, place });
+}
+
+// Files those of the list whose keys aren't marked, by the places of these. No clause says which they are.
+fn file_waiting<W: HeapWords>(
+    list: &[OldWeak],
+    waiting: &mut Vec<Waiter>,
+    marker: &Marker,
+    words: &mut W,
+    segments: &Segments,
+)
+    requires none { vec_len waiting.old ≡ 0 }
+    requires room { length list.now ≤ vec_capacity waiting.old }
+    requires within { AreWithin (W.words words.old) list.now }
+    ensures words { W.words words.new ≡ W.words words.old }
+    ensures capacity { vec_capacity waiting.new ≡ vec_capacity waiting.old }
+{
+    for (place, weak) in list.iter().enumerate() {
+        file_one(*weak, place, waiting, marker, words, segments);
+    }
+    waiting.sort_unstable_by_key(|waiter| waiter.key);
+}
+
+// Where those that wait for a place begin among what is filed. No clause speaks of the answer.
+fn first_with(waiting: &[Waiter], key: u32) -> usize {
+    let mut low = 0;
+    let mut high = waiting.len();
+    while low < high {
+        let middle = low + (high - low) / 2;
+        if waiting[middle].key < key {
+            low = middle + 1;
+        } else {
+            high = middle;
+        }
+    }
+    low
+}
+
+// The weak pointer at a place of the list keeps its parts, if there is one whose key is marked.
+fn keep_at<W: HeapWords>(
+    list: &[OldWeak],
+    place: usize,
+    marker: &mut Marker,
+    words: &mut W,
+    segments: &mut Segments,
+)
+    requires room { HasRoomToMark segments.old marker.old }
+    requires within { AreWithin (W.words words.old) list.now }
+    requires can { (o : Opening) × CanResolve o (W.words words.old) segments.old marker.old (places_of list.now) }
+    ensures words { W.words words.new ≡ W.words words.old }
+    ensures marked { (count : ℕ) × HasMarked segments.old segments.new marker.old marker.new count }
+    ensures turns { marker.new.turns ≡ marker.old.turns }
+    ensures goes { GoesOn (W.words words.old) segments.old segments.new marker.old marker.new (places_of list.now) }
+{
+    if place >= list.len() {
+        return;
+    }
+    keep_if_key_marked(marker, words, segments, list[place]);
+}
+
+// Those that wait for the object at a place keep their parts, if it is marked.
+fn keep_waiting<W: HeapWords>(
+    list: &[OldWeak],
+    waiting: &[Waiter],
+    key: u32,
+    marker: &mut Marker,
+    words: &mut W,
+    segments: &mut Segments,
+)
+    requires room { HasRoomToMark segments.old marker.old }
+    requires within { AreWithin (W.words words.old) list.now }
+    requires can { (o : Opening) × CanResolve o (W.words words.old) segments.old marker.old (places_of list.now) }
+    ensures words { W.words words.new ≡ W.words words.old }
+    ensures marked { (count : ℕ) × HasMarked segments.old segments.new marker.old marker.new count }
+    ensures turns { marker.new.turns ≡ marker.old.turns }
+    ensures goes { GoesOn (W.words words.old) segments.old segments.new marker.old marker.new (places_of list.now) }
+{
+    let mut next = first_with(waiting, key);
+    while next < waiting.len() && waiting[next].key == key {
+        keep_at(list, waiting[next].place, marker, words, segments);
+        next += 1;
+    }
+}
+
+// Those keep their parts that wait for what was marked after so many marks, and for what is marked as they do.
+fn follow_marks<W: HeapWords>(
+    list: &[OldWeak],
+    waiting: &[Waiter],
+    from: u32,
+    marker: &mut Marker,
+    words: &mut W,
+    segments: &mut Segments,
+)
+    requires room { HasRoomToMark segments.old marker.old }
+    requires within { AreWithin (W.words words.old) list.now }
+    requires can { (o : Opening) × CanResolve o (W.words words.old) segments.old marker.old (places_of list.now) }
+    ensures words { W.words words.new ≡ W.words words.old }
+    ensures marked { (count : ℕ) × HasMarked segments.old segments.new marker.old marker.new count }
+    ensures turns { marker.new.turns ≡ marker.old.turns }
+    ensures goes { GoesOn (W.words words.old) segments.old segments.new marker.old marker.new (places_of list.now) }
+{
+    let mut number = from;
+    while let Some(at) = marker.nth_marked(number) {
+        keep_waiting(list, waiting, at.0, marker, words, segments);
+        number += 1;
+    }
+}
+
+// Those whose keys are marked keep their parts, and those that wait for what is marked so, however they revive one another.
+// What it leaves, if anything, is for the passes that follow: no clause says that it leaves nothing.
+fn keep_ahead<W: HeapWords>(
+    list: &[OldWeak],
+    waiting: &mut Vec<Waiter>,
+    marker: &mut Marker,
+    words: &mut W,
+    segments: &mut Segments,
+)
+    requires none { vec_len waiting.old ≡ 0 }
+    requires wait { length list.now ≤ vec_capacity waiting.old }
+    requires room { HasRoomToMark segments.old marker.old }
+    requires within { AreWithin (W.words words.old) list.now }
+    requires can { (o : Opening) × CanResolve o (W.words words.old) segments.old marker.old (places_of list.now) }
+    ensures words { W.words words.new ≡ W.words words.old }
+    ensures capacity { vec_capacity waiting.new ≡ vec_capacity waiting.old }
+    ensures marked { (count : ℕ) × HasMarked segments.old segments.new marker.old marker.new count }
+    ensures turns { marker.new.turns ≡ marker.old.turns }
+    ensures goes { GoesOn (W.words words.old) segments.old segments.new marker.old marker.new (places_of list.now) }
+{
+    file_waiting(list, waiting, marker, words, segments);
+    let from = marker.marked();
+    pass(list, marker, words, segments);
+    follow_marks(list, waiting.as_slice(), from, marker, words, segments);
+}
+
+/// Marks the parts of each weak pointer of the snapshot whose key is marked, until no such weak pointer is left whose parts
+/// aren't. Files in `waiting`, which is empty and has room for the list, those that wait.
+pub(crate) fn revive<W: HeapWords>(
+    list: &[OldWeak],
+    waiting: &mut Vec<Waiter>,
+    marker: &mut Marker,
+    words: &mut W,
+    segments: &mut Segments,
+)
+    requires none { vec_len waiting.old ≡ 0 }
+    requires wait { length list.now ≤ vec_capacity waiting.old }
+    requires room { HasRoomToMark segments.old marker.old }
+    requires within { AreWithin (W.words words.old) list.now }
+    requires can { (o : Opening) × CanResolve o (W.words words.old) segments.old marker.old (places_of list.now) }
+    ensures words { W.words words.new ≡ W.words words.old }
+    ensures capacity { vec_capacity waiting.new ≡ vec_capacity waiting.old }
+    ensures marked { (count : ℕ) × HasMarked segments.old segments.new marker.old marker.new count }
+    ensures turns { marker.new.turns ≡ marker.old.turns }
+    ensures revived { (o : Opening) → CanResolve o (W.words words.old) segments.old marker.old (places_of list.now) →
+        HasRevived o (W.words words.old) segments.new marker.new (places_of list.now) }
+{
+    keep_ahead(list, waiting, marker, words, segments);
+    pass_until_none(list, marker, words, segments);
 }
 
 /// Notes those that die: of the snapshot, with a key that isn't marked.

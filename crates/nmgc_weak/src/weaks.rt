@@ -4,30 +4,39 @@
 //! order of names. So a closing finds each of them without a look at the segments, and the deaths come in the
 //! order in which their finalisers are queued.
 //!
-//! A stop may not run out of memory half way: room for new weak pointers, and for a death of each, is made
-//! before. So beside the list there are three more of the same room: one of the deaths, one of the names for the
-//! report, and one of those that die, in which the list is gathered anew as some leave it or several join it.
+//! It is kept in rows, one for each maker (`row`): a maker's names only grow, so those that join come at the ends of rows,
+//! and those that leave are found by halves. A stop takes time for those that join and leave, and not for the list; what
+//! goes through the list is a closing, which looks at each weak pointer anyway, and the report.
 //!
-//! Easy to get wrong: what lies in that last one means nothing between two calls, so each call clears it first.
-ghost use Rattle.std.specs.Prelude.{ℕ, ◌≡◌, ◌≢◌, ◌⊎◌, ◌↔◌, ◌+◌, ◌<◌, ◌≤◌, List, [], length, vec_len, vec_capacity, Contains, IsTrue, IsFalse, OnOk, OnErr, slice_get, Some};
+//! A stop may not run out of memory half way: room for new weak pointers, and for a death of each, is made
+//! before. Since it may be any row that the next ones join, each row has the whole of that room. Beside the rows there are
+//! five lists with room for all of them and for as many more: the list in one piece, as a closing takes it, those that wait
+//! for their keys, those that die, the deaths, and the names for the report.
+//!
+//! Easy to get wrong: what lies in these means nothing between two calls, but for the deaths, so each call clears it first.
+ghost use Rattle.std.specs.Prelude.{ℕ, ◌≡◌, ◌≢◌, ◌⊎◌, ◌↔◌, ◌+◌, ◌<◌, ◌≤◌, List, [], length, vec_len, vec_capacity, Contains, IsTrue, IfOk, OnOk, OnErr, slice_get, Some};
 ghost use Rattle.nmgc_world_spec.specs.Reach.{IsBefore, IsInOrder};
 ghost use Rattle.nmgc_object.specs.declared.size.TheConstants.{HEADER_WORDS};
 ghost use Rattle.nmgc_round.specs.View.{Opening};
 ghost use Rattle.nmgc_mark.specs.Marker.{HasRoomToMark, HasMarked};
 ghost use Rattle.nmgc_weak.specs.declared.weaks.OldWeak.{OldWeak as Old};
 ghost use Rattle.nmgc_weak.specs.Resolve.{CanResolve, HasResolved};
-ghost use Rattle.nmgc_weak.specs.Weaks.{AreInside, HaveLostValues, alive_of, names_of, places_of};
+ghost use Rattle.nmgc_weak.specs.Rows.{Row as RowShown, IsNamedAt, list_of, row_of as row_number, left_at};
+ghost use Rattle.nmgc_weak.specs.Weaks.{AreInside, HaveLostValues, alive_of, count_made_by, names_of, places_of, value_place};
 
-use crate::resolve::{clear_values, find_dying, revive, save_finalisers};
+use crate::resolve::{Waiter, clear_values, find_dying, revive, save_finalisers};
+use crate::row::Row;
 use nmgc_alloc::Segments;
 use nmgc_heap_spec::HeapWords;
+use nmgc_limits::MAKERS;
 use nmgc_lists::{List, ListMemory, NoMemory};
 use nmgc_mark::Marker;
+use nmgc_object::size::NAME_OFFSET;
+use nmgc_object::words::decode_name;
 use nmgc_object::{Address, HEADER_WORDS};
 use nmgc_world_spec::Name;
 use std::alloc::Global;
 use std::marker::Model;
-use std::mem::swap;
 
 /// A weak pointer that has a block, and where it lies.
 #[derive(Clone, Copy, Debug, PartialEq, Eq)]
@@ -47,27 +56,32 @@ pub struct Death {
 /// last deaths.
 #[derive(Drop)]
 pub struct Weaks {
+    // By their makers.
+    rows: Vec<Row>,
+    // For how many more there is room, and how many there are at most.
+    room: usize,
+    most: usize,
     list: Vec<OldWeak>,
+    waiting: Vec<Waiter>,
     dying: Vec<OldWeak>,
     deaths: Vec<Death>,
     names: Vec<Name>,
-    limit: usize,
 }
 
 impl Model for Weaks {
-    ghost use Rattle.std.specs.Prelude.{◌≡◌, [], ◌-◌, ◌≤◌, vec_len, vec_capacity};
-    ghost use Rattle.nmgc_world_spec.specs.Reach.{IsInOrder};
-    ghost use Rattle.nmgc_weak.specs.Weaks.{Weaks as Shown, names_of};
+    ghost use Rattle.std.specs.Prelude.{◌≡◌, [], ◌+◌, ◌≤◌, length, vec_len, vec_capacity};
+    ghost use Rattle.nmgc_weak.specs.Rows.{AreRows, list_of};
+    ghost use Rattle.nmgc_weak.specs.Weaks.{Weaks as Shown};
 
     ghost Value = { Shown };
 
     ghost view = { λ a. record {
-      list = a.list.items;
-      spare = a.limit - vec_len a.list;
+      list = list_of a.rows.items;
+      spare = a.room;
       deaths = a.deaths.items;
     } };
 
-    ghost invariant = { λ a. IsInOrder (names_of a.list.items) × (vec_len a.list ≤ a.limit) × (a.limit ≤ vec_capacity a.list) × (a.limit ≤ vec_capacity a.dying) × (a.limit ≤ vec_capacity a.deaths) × (a.names.items ≡ []) × (vec_len a.names ≡ 0) × (a.limit ≤ vec_capacity a.names) };
+    ghost invariant = { λ a. AreRows a.rows.items a.room × (length (list_of a.rows.items) ≤ a.most) × (a.most + a.room ≤ vec_capacity a.list) × (a.most + a.room ≤ vec_capacity a.waiting) × (a.most + a.room ≤ vec_capacity a.dying) × (a.most + a.room ≤ vec_capacity a.deaths) × (a.most + a.room ≤ vec_capacity a.names) × (a.names.items ≡ []) × (vec_len a.names ≡ 0) };
 }
 
 /// Whether a name is before another, by its maker and then by its serial.
@@ -82,61 +96,65 @@ pub(crate) const VALUE: usize = HEADER_WORDS as usize + 1;
 
 pub(crate) const FINALISER: usize = HEADER_WORDS as usize + 2;
 
-// Gathers those of a list whose value word isn't 0, in order.
-fn gather_alive<W: HeapWords>(list: &[OldWeak], kept: &mut Vec<OldWeak>, words: &mut W)
-    requires empty { kept.old.items ≡ [] }
-    requires none { vec_len kept.old ≡ 0 }
-    requires room { length list.now ≤ vec_capacity kept.old }
-    requires inside { AreInside (W.words words.old) list.now }
-    ensures words { W.words words.new ≡ W.words words.old }
-    ensures kept { kept.new.items ≡ alive_of (W.words words.old) list.now }
-    ensures capacity { vec_capacity kept.new ≡ vec_capacity kept.old }
-    ensures few { vec_len kept.new ≤ length list.now }
+// How many rows there are: one for each number of a mutator, and one for all other names.
+const ROWS: usize = MAKERS as usize + 1;
+
+// In which row a name is.
+fn row_of(name: Name) -> usize
+    ensures value { result ≡ row_number name }
+    ensures within { result < ROWS }
 {
-    for weak in list {
-        if words.load(weak.at.0 as usize + VALUE) != 0 {
-            kept.push_reserved(*weak);
-        }
-    }
+    usize::from(name.maker.min(MAKERS))
 }
 
-// Whether the next in order of names is the one at this place of the list, and not the next of those that join it.
-fn is_old_next(list: &[OldWeak], place: usize, fresh: &[OldWeak], next: usize) -> bool
-    requires some { (place < length list.now) ⊎ (next < length fresh.now) }
-    requires within { next ≤ length fresh.now }
-    ensures old { IsTrue result → (place < length list.now) ×
-        ((one other : Old) → slice_get list.now place ≡ Some one → slice_get fresh.now next ≡ Some other → IsBefore one.weak other.weak) }
-    ensures new { IsFalse result → (next < length fresh.now) ×
-        ((one other : Old) → slice_get list.now place ≡ Some one → slice_get fresh.now next ≡ Some other → IsBefore one.weak other.weak → ⊥) }
+// Empty rows join those that are there, up to the last one.
+fn make_rows(alloc: Global, rows: &mut Vec<Row>) -> Result<(), NoMemory>
+    ensures list { list_of rows.new.items ≡ list_of rows.old.items }
+    ensures all { OnOk result (ROWS ≤ vec_len rows.new) }
+    ensures rows { (k : ℕ) (row : RowShown) → slice_get rows.new.items k ≡ Some row → (slice_get rows.old.items k ≡ Some row) ⊎ (row.list ≡ []) }
 {
-    if next == fresh.len() {
-        return true;
+    while rows.len() < ROWS {
+        rows.push(Row::new(alloc))?;
     }
-    place < list.len() && is_before(list[place].weak, fresh[next].weak)
+    Ok(())
 }
 
-// Two lists in order become one in order.
-fn merge(list: &[OldWeak], fresh: &[OldWeak], all: &mut Vec<OldWeak>)
+// Each row gets room for so many more.
+fn reserve_rows(rows: &mut [Row], more: usize) -> Result<(), NoMemory>
+    ensures count { length rows.new ≡ length rows.old }
+    ensures lists { (k : ℕ) (old new : RowShown) → slice_get rows.old k ≡ Some old → slice_get rows.new k ≡ Some new →
+        (new.list ≡ old.list) × (old.spare ≤ new.spare) }
+    ensures room { OnOk result ((k : ℕ) (row : RowShown) → slice_get rows.new k ≡ Some row → more ≤ row.spare) }
+{
+    for row in rows {
+        row.reserve(more)?;
+    }
+    Ok(())
+}
+
+// The rows as one list, in order. It has room for them.
+fn list_rows(rows: &[Row], all: &mut Vec<OldWeak>)
     requires empty { all.old.items ≡ [] }
     requires none { vec_len all.old ≡ 0 }
-    requires room { length list.now + length fresh.now ≤ vec_capacity all.old }
-    requires ordered { IsInOrder (names_of list.now) × IsInOrder (names_of fresh.now) }
-    requires new { (one other : Old) → Contains fresh.now one → Contains list.now other → other.weak ≢ one.weak }
-    ensures ordered { IsInOrder (names_of all.new.items) }
-    ensures both { (other : Old) → Contains all.new.items other ↔ (Contains list.now other ⊎ Contains fresh.now other) }
+    requires room { length (list_of rows.now) ≤ vec_capacity all.old }
+    ensures items { all.new.items ≡ list_of rows.now }
     ensures capacity { vec_capacity all.new ≡ vec_capacity all.old }
-    ensures long { vec_len all.new ≡ length list.now + length fresh.now }
 {
-    let mut place = 0;
-    let mut next = 0;
-    while place < list.len() || next < fresh.len() {
-        if is_old_next(list, place, fresh, next) {
-            all.push_reserved(list[place]);
-            place += 1;
-        } else {
-            all.push_reserved(fresh[next]);
-            next += 1;
-        }
+    for row in rows {
+        row.list_into(all);
+    }
+}
+
+// Those leave the rows whose value word is 0.
+fn dead_leave<W: HeapWords>(rows: &mut [Row], words: &mut W)
+    requires { AreInside (W.words words.old) (list_of rows.old) }
+    ensures words { W.words words.new ≡ W.words words.old }
+    ensures count { length rows.new ≡ length rows.old }
+    ensures rows { (k : ℕ) (old new : RowShown) → slice_get rows.old k ≡ Some old → slice_get rows.new k ≡ Some new →
+        (new.list ≡ alive_of (W.words words.old) old.list) × IsInOrder (names_of new.list) × (old.spare ≤ new.spare) }
+{
+    for row in rows {
+        row.leave_dead(words);
     }
 }
 
@@ -148,11 +166,14 @@ impl Weaks {
         ensures deaths { result.deaths ≡ [] }
     {
         Weaks {
+            rows: Vec::new(alloc),
+            room: 0,
+            most: 0,
             list: Vec::new(alloc),
+            waiting: Vec::new(alloc),
             dying: Vec::new(alloc),
             deaths: Vec::new(alloc),
             names: Vec::new(alloc),
-            limit: 0,
         }
     }
 
@@ -165,20 +186,30 @@ impl Weaks {
         ensures kept { self.old.spare ≤ self.new.spare }
         ensures err { OnErr result (self.new ≡ self.old) }
     {
-        let wanted = self.list.len() + more as usize;
-        if wanted <= self.limit {
+        let more = more as usize;
+        if more <= self.room {
             return Ok(());
         }
-        self.list.reserve(more as usize)?;
+        let Some(wanted) = self.most.checked_add(more) else {
+            return Err(NoMemory);
+        };
+        let alloc = *self.list.allocator();
+        make_rows(alloc, &mut self.rows)?;
+        reserve_rows(self.rows.as_mut_slice(), more)?;
+        self.list.clear();
+        self.waiting.clear();
+        self.dying.clear();
+        self.list.reserve(wanted)?;
+        self.waiting.reserve(wanted)?;
         self.dying.reserve(wanted)?;
         self.deaths.reserve(wanted)?;
         self.names.reserve(wanted)?;
-        self.limit = wanted;
+        self.room = more;
         Ok(())
     }
 
     /// Adds a weak pointer at its place in the order. There has to be room for it, and it isn't in the list.
-    /// The deaths stay. Takes no memory, and time that goes with how many names come after it.
+    /// The deaths stay. Takes no memory, and time that goes with how many names of its maker come after it.
     pub fn add(&mut self, weak: Name, at: Address)
         requires room { 0 < self.old.spare }
         requires new { (other : Old) → Contains self.old.list other → other.weak ≢ weak }
@@ -187,18 +218,15 @@ impl Weaks {
         ensures spare { self.new.spare + 1 ≡ self.old.spare }
         ensures deaths { self.new.deaths ≡ self.old.deaths }
     {
-        let mut place = self.list.len();
-        while 0 < place && is_before(weak, self.list[place - 1].weak) {
-            place -= 1;
-        }
-        match self.list.insert(place, OldWeak { weak, at }) {
-            Ok(()) => {}
-            Err(_) => unreachable!(),
-        }
+        let row = &mut self.rows[row_of(weak)];
+        row.add(weak, at);
+        self.room -= 1;
+        self.most += 1;
     }
 
-    /// Adds weak pointers that come in order of names, each at its place in the order, in one pass over both. There
-    /// has to be room for them, and none of their names is in the list. The deaths stay. Takes no memory.
+    /// Adds weak pointers that come in order of names, each at its place in the order. There has to be room for them, and
+    /// none of their names is in the list. The deaths stay. Takes no memory, and time for each that goes with how many names
+    /// of its maker come after it: none where makers give names in their order.
     pub fn add_all(&mut self, fresh: &[OldWeak])
         requires room { length fresh.now ≤ self.old.spare }
         requires ordered { IsInOrder (names_of fresh.now) }
@@ -208,22 +236,30 @@ impl Weaks {
         ensures spare { self.new.spare + length fresh.now ≡ self.old.spare }
         ensures deaths { self.new.deaths ≡ self.old.deaths }
     {
-        self.dying.clear();
-        // At most stops none joins, and then nothing goes through the list.
-        if fresh.is_empty() {
-            return;
+        for weak in fresh {
+            self.add(weak.weak, weak.at);
         }
-        merge(self.list.as_slice(), fresh, &mut self.dying);
-        swap(&mut self.list, &mut self.dying);
     }
 
-    /// The list, in order of names. Takes no memory.
-    pub fn list(&self) -> &[OldWeak]
-        ensures list { result.now ≡ self.now.list }
+    /// A copy of the list, in order of names. It is kept in rows, so none can be lent in one piece.
+    pub fn list(&self, alloc: Global) -> Result<Vec<OldWeak>, NoMemory>
+        ensures list { IfOk result (λ all. all.items ≡ self.now.list) }
         ensures ordered { IsInOrder (names_of self.now.list) }
     {
-        let _ = self.limit;
-        self.list.as_slice()
+        let mut all = Vec::with_capacity(alloc, self.most)?;
+        list_rows(self.rows.as_slice(), &mut all);
+        Ok(all)
+    }
+
+    /// No more weak pointers of a maker than these are in the list. Takes no memory, and constant time.
+    pub fn count(&self, maker: u8) -> usize
+        ensures { count_made_by maker self.now.list ≤ result }
+    {
+        let row = usize::from(maker.min(MAKERS));
+        match self.rows.as_slice().get(row) {
+            Some(row) => row.count(),
+            None => 0,
+        }
     }
 
     /// The weak pointers that died at the last closing, in order of names. Takes no memory.
@@ -238,30 +274,59 @@ impl Weaks {
         ensures { result ≡ names_of self.list }
     {
         let Weaks {
-            list,
+            rows,
+            room: _,
+            most: _,
+            mut list,
+            waiting: _,
             dying: _,
             deaths: _,
             mut names,
-            limit: _,
         } = self;
+        list.clear();
+        list_rows(rows.as_slice(), &mut list);
         for weak in list {
             names.push_reserved(weak.weak);
         }
         List::in_place(names, place)
     }
 
-    /// Takes those out of the list whose value word is 0: the weak pointers that were finalised since the last
-    /// stop. Their order, the deaths and the words stay. Takes no memory.
+    /// Takes the weak pointer at a place out of the list, if it is one of the list and its value word is 0: one that was
+    /// finalised since the last stop. The name word there has to be its own, since by its name it is found. All others, the
+    /// deaths and the words stay. Takes no memory, and a logarithm of time on the whole.
+    pub fn leave_at<W: HeapWords>(&mut self, words: &mut W, at: Address)
+        requires inside { value_place at.0 < length (W.words words.old) }
+        requires named { IsNamedAt (W.words words.old) at.0 self.old.list }
+        ensures words { W.words words.new ≡ W.words words.old }
+        ensures list { self.new.list ≡ left_at (W.words words.old) at.0 self.old.list }
+        ensures ordered { IsInOrder (names_of self.new.list) }
+        ensures spare { self.new.spare ≡ self.old.spare }
+        ensures deaths { self.new.deaths ≡ self.old.deaths }
+    {
+        if words.load(at.0 as usize + VALUE) != 0 {
+            return;
+        }
+        let Some(weak) = decode_name(words.load(at.0 as usize + NAME_OFFSET as usize)) else {
+            return;
+        };
+        let number = row_of(weak);
+        if number < self.rows.len() {
+            let row = &mut self.rows[number];
+            row.leave(weak, at);
+        }
+    }
+
+    /// Takes those out of the list whose value word is 0. Their order, the deaths and the words stay. Takes no memory, and
+    /// time for the whole list.
     pub fn leave<W: HeapWords>(&mut self, words: &mut W)
         requires { AreInside (W.words words.old) self.old.list }
         ensures words { W.words words.new ≡ W.words words.old }
         ensures list { self.new.list ≡ alive_of (W.words words.old) self.old.list }
-        ensures spare { self.new.spare + length self.new.list ≡ self.old.spare + length self.old.list }
+        ensures ordered { IsInOrder (names_of self.new.list) }
+        ensures spare { self.new.spare ≡ self.old.spare }
         ensures deaths { self.new.deaths ≡ self.old.deaths }
     {
-        self.dying.clear();
-        gather_alive(self.list.as_slice(), &mut self.dying, words);
-        swap(&mut self.list, &mut self.dying);
+        dead_leave(self.rows.as_mut_slice(), words);
     }
 
     /// Closes a cycle: which weak pointers die, and what is kept through the others.
@@ -273,8 +338,8 @@ impl Weaks {
     /// machine. Those made since the snapshot stay as they are, and no other word changes. The gate isn't passed.
     /// Takes no memory.
     ///
-    /// A pass over the list revives all keys that come up in the order of the list, so there are no more passes
-    /// than rounds of revived keys, and one that finds none.
+    /// Takes time for the weak pointers of the list and a logarithm, and for what is marked, however the weak pointers
+    /// revive one another (`revive`).
     pub fn resolve<W: HeapWords>(
         &mut self,
         marker: &mut Marker,
@@ -286,14 +351,24 @@ impl Weaks {
         ensures marked { (count : ℕ) × HasMarked segments.old segments.new marker.old marker.new count }
         ensures turns { marker.new.turns ≡ marker.old.turns }
         ensures empty { marker.new.queue ≡ [] }
-        ensures spare { self.new.spare + length self.new.list ≡ self.old.spare + length self.old.list }
+        ensures spare { self.new.spare ≡ self.old.spare }
         ensures values { HaveLostValues self.old.list self.new.deaths (W.words words.old) (W.words words.new) }
         ensures resolved { (o : Opening) → CanResolve o (W.words words.old) segments.old marker.old (places_of self.old.list) →
             HasResolved o (W.words words.new) segments.new marker.new self.new.list self.new.deaths }
     {
+        self.list.clear();
+        self.waiting.clear();
         self.dying.clear();
         self.deaths.clear();
-        revive(self.list.as_slice(), marker, words, segments);
+        list_rows(self.rows.as_slice(), &mut self.list);
+        self.most = self.list.len();
+        revive(
+            self.list.as_slice(),
+            &mut self.waiting,
+            marker,
+            words,
+            segments,
+        );
         find_dying(
             self.list.as_slice(),
             &mut self.dying,

@@ -14,8 +14,10 @@ use Rattle.nmgc_world_spec.specs.declared.node.Node.TheVariants.{Stack}
 use Rattle.nmgc_world_spec.specs.declared.change.Change.{Change}
 use Rattle.nmgc_world_spec.specs.declared.change.Change.TheVariants as change
 use Rattle.nmgc_world_spec.specs.declared.command.Command.{Command}
+use Rattle.nmgc_world_spec.specs.declared.command.Command.TheVariants.{Finalise}
+use Rattle.nmgc_world_spec.specs.declared.command.Operand.{Operand}
 use Rattle.nmgc_world_spec.specs.World.{World, state_of, node_of, IsWorld}
-use Rattle.nmgc_world_spec.specs.Step.{CanApply, next_name, asked, step}
+use Rattle.nmgc_world_spec.specs.Step.{CanApply, next_name, value_for, asked, step}
 use Rattle.nmgc_world_spec.specs.History.{Row, replayed}
 use Rattle.nmgc_world_spec.specs.Reach.{IsAlive}
 use Rattle.nmgc_world_laws.specs.Holds.{HasStrongField}
@@ -71,3 +73,21 @@ OldRefersToYoung = (began : World) (rows : List Row) → IsWorld began → CanRe
 abbrev pub OldWeaksStay : Type 0
 OldWeaksStay = (began : World) (rows : List Row) → IsWorld began → CanReplay began rows → (weak : Name) (parts : Parts) →
     IsSome (node_of began weak) → IsAlive (replayed began rows) weak parts → IsAlive began weak parts
+
+-- one of the rows finalises the weak pointer: it asks for it, and finds it alive
+pub record IsFinalised (began : World) (rows : List Row) (weak : Name) : Type 0 where
+  pub before : List Row
+  pub row : Row
+  pub after : List Row
+  pub rows_are : rows ≡ before ++ row ∷ after
+  pub dest : ℕ
+  pub object : Operand
+  pub command : row.command ≡ Finalise dest object
+  pub refers : value_for (replayed began before) row.mutator object ≡ value.Ref weak
+  pub parts : Parts
+  pub alive : IsAlive (replayed began before) weak parts
+
+-- a weak pointer that was alive before the rows, and isn't after them, was finalised by one of them
+abbrev pub OldWeaksAreFinalised : Type 0
+OldWeaksAreFinalised = (began : World) (rows : List Row) → IsWorld began → CanReplay began rows → (weak : Name) (parts : Parts) →
+    IsAlive began weak parts → (IsAlive (replayed began rows) weak parts → ⊥) → IsFinalised began rows weak

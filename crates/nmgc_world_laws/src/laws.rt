@@ -8,7 +8,7 @@ ghost use Rattle.nmgc_world_spec.specs.declared.value.Name.{Name};
 ghost use Rattle.nmgc_world_laws.specs.Reachable.{StepHoldsOnly, ClosingHoldsOnly, Passes, StepKeepsWorld, RowsKeepWorld, ClosingKeepsWorld, NewIsWorld, StepAddsOne, ClosingAddsNone, StaysUnreached, RowsHoldLive, NeverComesBack, ClosesWell, NothingReachableIsFreed, NothingReachableIsEverFreed, ReachableIsKept, ReachableIsEverKept};
 ghost use Rattle.nmgc_world_laws.specs.Leaves.{StepLeavesOthers, ClosingLeavesHands};
 ghost use Rattle.nmgc_world_laws.specs.Shape.{StepKeepsShapes, RowsKeepShapes, ClosingKeepsShapes};
-ghost use Rattle.nmgc_world_laws.specs.Stored.{StepStores, OldRefersToYoung, OldWeaksStay};
+ghost use Rattle.nmgc_world_laws.specs.Stored.{StepStores, OldRefersToYoung, OldWeaksStay, OldWeaksAreFinalised};
 ghost use Rattle.nmgc_world_laws.specs.Limits.{NewIsWithin, StepKeepsLimits, RowsKeepLimits, ClosingKeepsLimits};
 
 /// What `World::new` makes is a world, a command leaves a world, and so does closing with whichever
@@ -65,11 +65,13 @@ pub fn nothing_reachable_is_freed()
 /// What stands in a strong field stood there before the command, or the command made the object, or it is
 /// one that stores the value there. So a field of an old object refers to a young one only where one of
 /// the commands since stored it, into an object that was in the wide reach as they began; and the parts of
-/// an old weak pointer stay those that it had.
+/// an old weak pointer stay those that it had. One that was alive before commands and isn't after them was finalised by one
+/// of them.
 pub fn young_is_stored()
     ensures step { StepStores }
     ensures rows { OldRefersToYoung }
     ensures weaks { OldWeaksStay }
+    ensures finalised { OldWeaksAreFinalised }
 {}
 
 /// No command and no closing changes the shape of an object: its kind, its tag, its number of fields.

@@ -124,6 +124,7 @@ module _ (plan : Plan) (s : State) (seen : CollectorSeen) (c : Cycle) (mutators 
         unused = unused k m e;
         no_recorded = none_told m.recorded.items nothing.recorded;
         no_weaks = none_told m.young_weaks.items nothing.young_weaks;
+        no_finalised = none_told m.finalised.items nothing.finalised;
       }
 
   pub rests : IsAtRestMarking c kept.core seen.segments places s.world seen.words mutators seen.marker.queue

@@ -24,7 +24,7 @@ use Rattle.nmgc_world_laws.specs.Reachable.{CanReplay}
 use Rattle.nmgc_world_laws.specs.laws.Barrier.{field_at_place}
 use Rattle.nmgc_world_laws.specs.laws.HeldSteps.{absent, some_of}
 use Rattle.nmgc_world_laws.specs.laws.Reached.{world_holds}
-use Rattle.nmgc_world_laws.specs.laws.StoredLaws.{old_weaks_stay}
+use Rattle.nmgc_world_laws.specs.laws.StoredLaws.{old_weaks_stay, old_weaks_are_finalised}
 use Rattle.nmgc_heap_spec.specs.Shape.{Slot, holds, untold, slots_of}
 use Rattle.nmgc_heap_spec.specs.Tracked.{IsTracked}
 use Rattle.nmgc_heap_spec.specs.Places.{Place, ListMeans, LiesWell}
@@ -37,9 +37,9 @@ use Rattle.nmgc_round.specs.Rule.{now, AllAnswer}
 use Rattle.nmgc_round.specs.Starting.{CanOpen}
 use Rattle.nmgc_round.specs.Finishing.{IsFinished, places_then}
 use Rattle.nmgc_mutator.specs.declared.mutator.Mutator.{Mutator}
-use Rattle.nmgc_mutator.specs.Records.{numbers, all_recorded, all_weaks}
-use Rattle.nmgc_collector_laws.specs.Worked.{Done, HaveWorked, recorded_of, weaks_of}
-use Rattle.nmgc_collector_laws.specs.Turn.{RoundIsRemembered}
+use Rattle.nmgc_mutator.specs.Records.{numbers, all_recorded, all_weaks, all_finalised}
+use Rattle.nmgc_collector_laws.specs.Worked.{Done, HaveWorked, recorded_of, weaks_of, finalised_of}
+use Rattle.nmgc_collector_laws.specs.Turn.{RoundIsRemembered, RoundTellsFinalised}
 use Rattle.nmgc_collector_laws.specs.laws.Replays.{EventsAreHistory, can_replay}
 use Rattle.nmgc_collector_laws.specs.laws.Placed.{place_cases, is_place, in_place}
 use Rattle.nmgc_collector_laws.specs.laws.Workers.{Worker, worker_at}
@@ -52,6 +52,8 @@ use Rattle.nmgc_collector_laws.proofs.rounds.Recorded.{IsFieldOf, since_itself, 
 use Rattle.nmgc_collector_laws.proofs.rounds.Puts.{IsPut, rows_put}
 use Rattle.nmgc_collector_laws.proofs.rounds.Noted.{AreApart, recorded_then}
 use Rattle.nmgc_collector_laws.proofs.rounds.Slots.{told_slot, held_at}
+use Rattle.nmgc_collector_laws.proofs.rounds.Finalised.{finalised_low, finalised_then}
+use Rattle.nmgc_world_laws.specs.laws.Weaks.{weak_maker}
 use Rattle.nmgc_collector_laws.proofs.rounds.Weaks.{IsMade, IsNewWeak, rows_made, weak_then, weak_is}
 use Rattle.std.proofs.lemmas.Bool.{cases_lt}
 
@@ -314,6 +316,44 @@ module _ (history : EventsAreHistory) (listed : StacksAreListed) (o : Opening) (
       (weak_then P p (one_place p c) k B made.before made.row made.after (hand_of o.hands k) t.part.rows refl (subst (IsLegalHistory B) made.rows_are legal)
       (subst (λ (l : List Row). Along P k B (hand_of o.hands k) t.part.rows l) made.rows_are (follows k lt t)) made.made))
 
+  -- what it finalised
+  finalised_are : (k : ℕ) (t : IsThere k) → numbers t.mutator.finalised.items ≡ all_finalised o.layout (hand_of o.hands k) t.part.rows
+  finalised_are k t = t.worked.finalised ∙ ap (λ l. all_finalised l (hand_of o.hands t.part.number) t.part.rows) t.worked.layout ∙
+      ap (λ j. all_finalised o.layout (hand_of o.hands j) t.part.rows) t.number
+
+  -- an old weak pointer that is dead by now is told by the mutator that finalised it
+  dead_told : (p : Place) (parts : Parts) → Contains places p → p.at < base → IsAlive B p.name parts → (IsAlive W p.name parts → ⊥) →
+      Contains (finalised_of mutators) p.at
+  dead_told p parts c low alive gone =
+      let fin = old_weaks_are_finalised B rows can.world takes p.name parts alive (λ still.
+      gone (ap (λ (w : World). node_of w p.name) then ∙ still)) in
+      let k : ℕ = fin.row.mutator in
+      let lt : k < o.layout.mutators = (let e = can.is.mutators in
+      let l = maker_there B fin.before fin.row fin.after (subst (CanReplay B) fin.rows_are takes) in omega arith) in
+      let t : IsThere k = there k lt in
+      let own : p.name.maker ≢ SHARED_MAKER = λ e. let within = weak_maker B can.world p.name (parts, alive) in
+      let few = can.world.few in absurd (omega (arith, e, within, few)) in
+      contains_flat (λ (m : Mutator). numbers m.finalised.items) mutators t.mutator p.at (contains_at mutators k t.mutator t.mutator_there)
+      (subst (λ (l : List ℕ). Contains l p.at) (sym (finalised_are k t))
+      (finalised_then P o.layout p (one_place p c)
+      (above_shared o.layout p HEADER_WORDS own (omega arith) (can.represents.named p (old_place p c low)).lies) low k h.shared fin.dest fin.object fin.parts
+      B fin.before fin.row fin.after (hand_of o.hands k) t.part.rows refl (subst (IsLegalHistory B) fin.rows_are legal)
+      (subst (λ (l : List Row). Along P k B (hand_of o.hands k) t.part.rows l) fin.rows_are (follows k lt t)) fin.command fin.refers fin.alive))
+
+  -- and every place that is told lies in a segment
+  told_low : (at : ℕ) → Contains (finalised_of mutators) at → at < base
+  told_low at c =
+      let found = flat_contains (λ (m : Mutator). numbers m.finalised.items) mutators at c in
+      let index = index_of mutators found.0 found.1 in
+      let lt : index.0 < o.layout.mutators = (let a = slice_get_within mutators index.0 found.0 index.1 in let b = work.mutators_are in omega arith) in
+      of (there index.0 lt) found.0 index.1 found.2
+    where
+      of : {k : ℕ} (t : IsThere k) (m : Mutator) → slice_get mutators k ≡ Some m → Contains (numbers m.finalised.items) at → at < base
+      of {k} t m e d =
+          let same : numbers m.finalised.items ≡ numbers t.mutator.finalised.items =
+          ap (λ (x : Mutator). numbers x.finalised.items) (same_Some m t.mutator (sym e ∙ t.mutator_there)) in
+          finalised_low o.layout (hand_of o.hands k) t.part.rows at (subst (λ (l : List ℕ). Contains l at) (same ∙ finalised_are k t) d)
+
   remembers : Remembers base (B ∷ earlier o) places W (recorded_of mutators) (weaks_of mutators)
   remembers = record {
     fields = recorded_told;
@@ -324,3 +364,9 @@ module _ (history : EventsAreHistory) (listed : StacksAreListed) (o : Opening) (
 
 pub round_is_remembered : EventsAreHistory → StacksAreListed → RoundIsRemembered
 round_is_remembered history listed o before words v mutators done can h work = remembers history listed o before words v mutators done can h work
+
+pub finalised_are_told : EventsAreHistory → StacksAreListed → RoundTellsFinalised
+finalised_are_told history listed o before words v mutators done can h work = record {
+  all = dead_told history listed o before words v mutators done can h work;
+  low = told_low history listed o before words v mutators done can h work;
+}

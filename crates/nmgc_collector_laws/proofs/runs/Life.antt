@@ -218,7 +218,7 @@ at_rest word serial places w low seen e = record {
     empty (suc maker) = refl
 
     nothing : (m : ℕ) (mutator : MutatorSeen) → slice_get (hand word serial 320 ∷ []) m ≡ Some mutator → IsEmptied mutator
-    nothing zero mutator is = subst IsEmptied (some_is (hand word serial 320) mutator is) (record { recorded = refl; young_weaks = refl; entries = refl })
+    nothing zero mutator is = subst IsEmptied (some_is (hand word serial 320) mutator is) (record { recorded = refl; young_weaks = refl; finalised = refl; entries = refl })
     nothing (suc m) mutator is = absurd cc
 
 -- the beginning

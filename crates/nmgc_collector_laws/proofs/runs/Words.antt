@@ -349,5 +349,5 @@ object_is_seen new = (
     empty (suc maker) = refl
 
     nothing : EachMutator object_seen (λ m mutator. IsEmptied mutator)
-    nothing zero mutator e = subst IsEmptied (some_is _ mutator e) (record { recorded = refl; young_weaks = refl; entries = refl })
+    nothing zero mutator e = subst IsEmptied (some_is _ mutator e) (record { recorded = refl; young_weaks = refl; finalised = refl; entries = refl })
     nothing (suc m) mutator e = absurd cc

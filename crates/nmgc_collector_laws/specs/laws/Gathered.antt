@@ -14,7 +14,7 @@ use Rattle.nmgc_round.specs.Starting.{CanOpen}
 use Rattle.nmgc_round.specs.Finishing.{HasAll, HasEach}
 use Rattle.nmgc_mutator.specs.declared.mutator.Mutator.{Mutator}
 use Rattle.nmgc_mutator.specs.Ready.{part_of, HasHand}
-use Rattle.nmgc_mutator.specs.Records.{numbers, all_recorded, all_weaks}
+use Rattle.nmgc_mutator.specs.Records.{numbers, all_recorded, all_weaks, all_finalised}
 use Rattle.nmgc_mutator.specs.Does.{HasDone}
 use Rattle.nmgc_collector_laws.specs.Worked.{Done, HasWorked, HaveWorked}
 use Rattle.nmgc_collector_laws.specs.Rest.{IsResting}
@@ -73,6 +73,8 @@ module _ (o : Opening) (before : List ℕ) (round : Round) (old mutators : List 
         recorded = s.did.recorded ∙ ap (λ l. numbers l ++ all_recorded s.m.layout (hand_of o.hands k) s.did.rows) s.resting.no_recorded ∙
             (λ i. all_recorded (sym s.did.layout i) (hand_of o.hands (sym w.number i)) (sym w.added i));
         weaks = s.did.weaks ∙ ap (λ l. numbers l ++ all_weaks s.did.rows) s.resting.no_weaks ∙ (λ i. all_weaks (sym w.added i));
+        finalised = s.did.finalised ∙ ap (λ l. numbers l ++ all_finalised s.m.layout (hand_of o.hands k) s.did.rows) s.resting.no_finalised ∙
+            (λ i. all_finalised (sym s.did.layout i) (hand_of o.hands (sym w.number i)) (sym w.added i));
       }
 
   -- what the seat knows that takes all of them in

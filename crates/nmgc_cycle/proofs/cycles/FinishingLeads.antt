@@ -345,7 +345,12 @@ module _ (Paced : Cycle → State → CollectorSeen → Type 0) (laws : ClosingL
       let was = one_with cl.joined.queues c.mutators.items later queue_count cl.joined.have i new_one.0 new_one.1 in
       let rest = h.rest i (seen_mutator was.0) (item_map seen_mutator c.mutators.items i was.0 was.1) in
       let is : x ≡ seen_mutator (record was.0 { queue = new_one.0.queue }) = new_one.2 ∙ ap seen_mutator was.2 in
-      subst IsEmptied (sym is) (record { recorded = rest.recorded; young_weaks = rest.young_weaks; entries = rest.entries })
+      subst IsEmptied (sym is) (record {
+        recorded = rest.recorded;
+        young_weaks = rest.young_weaks;
+        finalised = rest.finalised;
+        entries = rest.entries;
+      })
 
   pub leads : Closes k s t × StandsAt script next t
   leads = (

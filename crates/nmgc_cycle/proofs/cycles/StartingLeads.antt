@@ -132,7 +132,12 @@ module _ (laws : BeginningLaws) (script : Script) (c : Collector) (s : State) (h
       let x = map_item seen_mutator before.mutators.items n mutator e in
       let b = was n x.0 x.1 in
       let left : IsEmptied (seen_mutator b.0) = h.rest n (seen_mutator b.0) (seen_at c.mutators.items n b.0 b.1) in
-      subst IsEmptied (sym (x.2 ∙ ap seen_mutator b.2.rest)) (record { recorded = left.recorded; young_weaks = left.young_weaks; entries = left.entries })
+      subst IsEmptied (sym (x.2 ∙ ap seen_mutator b.2.rest)) (record {
+        recorded = left.recorded;
+        young_weaks = left.young_weaks;
+        finalised = left.finalised;
+        entries = left.entries;
+      })
 
   queue_room_then : EachMutator (seen next) (λ n mutator. weak_count s.world n (seen next).weaks ≤ mutator.queue.spare)
   queue_room_then n mutator e =

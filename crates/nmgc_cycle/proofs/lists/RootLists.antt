@@ -34,6 +34,10 @@ pub same_weaks : (ms : List Mutator) → flat_map (λ (m : MutatorSeen). m.young
 same_weaks [] = refl
 same_weaks (m ∷ ms) = ap (λ (l : List ℕ). numbers m.young_weaks.items ++ l) (same_weaks ms)
 
+pub same_finalised : (ms : List Mutator) → flat_map (λ (m : MutatorSeen). m.finalised) (map seen_mutator ms) ≡ turn.finalised_of ms
+same_finalised [] = refl
+same_finalised (m ∷ ms) = ap (λ (l : List ℕ). numbers m.finalised.items ++ l) (same_finalised ms)
+
 -- a mutator is seen by its number
 pub seen_at : (ms : List Mutator) (k : ℕ) (m : Mutator) → slice_get ms k ≡ Some m → slice_get (map seen_mutator ms) k ≡ Some (seen_mutator m)
 seen_at ms k m e = slice_get-map seen_mutator ms k ∙ ap (option_map seen_mutator) e

@@ -7,11 +7,11 @@ use Rattle.nmgc_mutator.specs.declared.mutator.Mutator.{Mutator}
 use Rattle.nmgc_collector_laws.specs.Worked as worked
 use Rattle.nmgc_run_spec.specs.Heap as told
 use Rattle.nmgc_run_spec.specs.Heap.{HasAllRegisters}
-use Rattle.nmgc_collector_laws.specs.Seen.{ends_of, end_of, nurseries_of, recorded_in, young_weaks_in}
+use Rattle.nmgc_collector_laws.specs.Seen.{ends_of, end_of, nurseries_of, recorded_in, young_weaks_in, finalised_in}
 use Rattle.nmgc_cycle.specs.declared.collector.Collector.{Collector}
 use Rattle.nmgc_cycle.specs.Roots.{HasRegisters}
 use Rattle.nmgc_cycle.specs.Shown.{seen, seen_mutator}
-use Rattle.nmgc_cycle.proofs.lists.RootLists.{same_registers, same_queues, same_serials, same_nurseries, same_recorded, same_weaks}
+use Rattle.nmgc_cycle.proofs.lists.RootLists.{same_registers, same_queues, same_serials, same_nurseries, same_recorded, same_weaks, same_finalised}
 
 -- the mutators, as a report would tell them
 abbrev ends_in : List Mutator → List MutatorEnd
@@ -40,6 +40,9 @@ module _ (c : Collector) where
 
   pub young_seen : young_weaks_in (seen c) ≡ worked.weaks_of c.mutators.items
   young_seen = same_weaks c.mutators.items
+
+  pub finalised_seen : finalised_in (seen c) ≡ worked.finalised_of c.mutators.items
+  finalised_seen = same_finalised c.mutators.items
 
   -- each has all its registers
   pub whole_seen : All HasRegisters c.mutators.items → All HasAllRegisters (ends_of (seen c))

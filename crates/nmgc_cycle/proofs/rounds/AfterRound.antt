@@ -49,6 +49,7 @@ module _ (laws : HasLaws) (script : Script) (c new : Collector) (o : Opening) (x
     nurseries = g.nurseries;
     ordered = g.ordered;
     left = g.remembers;
+    told = g.told;
     reserve = has_reserve_then g;
     cycle = g.cycle;
   }

@@ -7,7 +7,8 @@ use Rattle.nmgc_heap_spec.specs.Places.{Place}
 use Rattle.nmgc_blocks_spec.specs.Nurseries.{LieInOrder}
 use Rattle.nmgc_blocks_spec.specs.Remembers.{Remembers}
 use Rattle.nmgc_round.specs.View.{Opening}
-use Rattle.nmgc_collector_laws.specs.Turn.{RoundIsHistory, RoundIsStopped}
+use Rattle.nmgc_collector_laws.specs.Turn.{RoundIsHistory, RoundIsStopped, RoundTellsFinalised}
+use Rattle.nmgc_collector_laws.specs.Worked.{TellsFinalised}
 use Rattle.nmgc_script.specs.declared.script.Script.{Script}
 use Rattle.nmgc_collector_laws.specs.Calls.{RoundIsMarking}
 use Rattle.nmgc_collector_laws.specs.Drops.{RoundFreesUntracked, SweptHoldsAfterRound, DropKeepsRound, FreeGrows}
@@ -18,7 +19,7 @@ use Rattle.nmgc_collector_laws.specs.Sweeps.{MarkedWait}
 use Rattle.nmgc_sweep.specs.Statements.{LeftStays, LeftIsCounted}
 use Rattle.nmgc_collector_laws.specs.Collector.{AreNurseries, HoldsInCycle, IsPacedAfterRound}
 use Rattle.nmgc_run_spec.specs.Heap.{HoldsAfterRound, snapshots}
-use Rattle.nmgc_collector_laws.specs.Seen.{ends_of, nurseries_of, recorded_in, young_weaks_in}
+use Rattle.nmgc_collector_laws.specs.Seen.{ends_of, nurseries_of, recorded_in, young_weaks_in, finalised_in}
 use Rattle.nmgc_blocks_spec.specs.Cycle.{Cycle}
 use Rattle.nmgc_run_spec.specs.Round.{SweepsBeside}
 use Rattle.nmgc_sweep.specs.Names.{AreNamed}
@@ -34,6 +35,7 @@ pub record HasLaws : Type 0 where
   pub opens : CanOpenRounds
   pub history : RoundIsHistory
   pub stopped : RoundIsStopped
+  pub finalised : RoundTellsFinalised
   pub holds : RoundHolds
   pub goes_on : MachineGoesOn
   pub is_marking : RoundIsMarking
@@ -58,6 +60,7 @@ pub record HasGoneOn (script : Script) (c new : Collector) (o : Opening) (x : Is
   pub ordered : LieInOrder (nursery_place (layout script c new o x) 0) at
   pub remembers : Remembers (nursery_place (layout script c new o x) 0) ((s script c new o x).world ∷
       snapshots (t script c new o x blocks).progress) at (w script c new o x) (recorded_in (shown script c new o x)) (young_weaks_in (shown script c new o x))
+  pub told : TellsFinalised (nursery_place (layout script c new o x) 0) at (s script c new o x).world (w script c new o x) (finalised_in (shown script c new o x))
   pub free : reserve.free_count c.heap.segments.segments ≤ reserve.free_count new.heap.segments.segments
   pub cycle : HoldsInCycle (λ (k : Cycle).
       IsPacedAfterRound script.config.quota k (t script c new o x blocks) (shown script c new o x)) (t script c new o x blocks).progress

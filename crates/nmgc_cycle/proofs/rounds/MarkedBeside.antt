@@ -45,7 +45,7 @@ use Rattle.nmgc_cycle.proofs.rounds.Opened.{in_cycle, rests_beside}
 use Rattle.nmgc_cycle.proofs.rounds.Over.{IsOver, plan, s, w, t, rows, places, told, last, shown, view, worked, can, queue_kept}
 use Rattle.nmgc_cycle.proofs.lists.Phases.{when_idle, when_marking}
 use Rattle.nmgc_cycle.proofs.lists.Plans.{sound_state}
-use Rattle.nmgc_cycle.proofs.rounds.RoundOver.{layout, opening_layout, nurseries_left, in_order, remembered, round_from}
+use Rattle.nmgc_cycle.proofs.rounds.RoundOver.{layout, opening_layout, nurseries_left, in_order, remembered, finalised_told, round_from}
 use Rattle.nmgc_cycle.proofs.rounds.Rounded.{is_round}
 
 module _ (laws : HasLaws) (script : Script) (c new : Collector) (o : Opening) (x : IsOver script c new o) where
@@ -88,6 +88,7 @@ module _ (laws : HasLaws) (script : Script) (c new : Collector) (o : Opening) (x
       nurseries = nurseries_left script c new o x laws.stopped;
       ordered = in_order script c new o x laws.stopped;
       remembers = remembered script c new o x laws.stopped;
+      told = finalised_told script c new o x laws.finalised;
       free = same_free stands_still;
       cycle = subst (λ (p : Progress). HoldsInCycle (λ (k : Cycle).
           IsPacedAfterRound script.config.quota k (t script c new o x (s script c new o x).allocation) (shown script c new o x))
@@ -301,6 +302,7 @@ module _ (laws : HasLaws) (script : Script) (c new : Collector) (o : Opening) (x
       nurseries = nurseries_left script c new o x laws.stopped;
       ordered = in_order script c new o x laws.stopped;
       remembers = remembered script c new o x laws.stopped;
+      told = finalised_told script c new o x laws.finalised;
       free = same_free stands_still;
       cycle = subst (λ (p : Progress). HoldsInCycle (λ (j : Cycle).
           IsPacedAfterRound script.config.quota j (t script c new o x (s script c new o x).allocation) (shown script c new o x))

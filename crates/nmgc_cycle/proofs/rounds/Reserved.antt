@@ -26,26 +26,28 @@ use Rattle.nmgc_cycle.specs.Lined.{IsLined}
 use Rattle.nmgc_updrem.specs.Rings.{Sender}
 
 -- a mutator whose lists have more room is seen as before
-noting : Mutator → List Address → List Address → List Address → MutatorSeen
-noting m recorded weaks entries = record {
+noting : Mutator → List Address → List Address → List Address → List Address → MutatorSeen
+noting m recorded weaks finalised entries = record {
   registers = m.registers;
   queue = m.queue;
   serial = m.serial;
   nursery = m.nursery;
   recorded = numbers recorded;
   young_weaks = numbers weaks;
+  finalised = numbers finalised;
   entries = numbers (m.sender.since ++ entries);
 }
 
 same_seen : (m n : Mutator) → Reserves m n → seen_mutator n ≡ seen_mutator m
 unfolding noting
 same_seen m n r =
-    let first : seen_mutator n ≡ noting m n.recorded.items n.young_weaks.items n.updrem.items =
-    ap (λ (x : Mutator). noting x n.recorded.items n.young_weaks.items n.updrem.items) r.rest in
+    let first : seen_mutator n ≡ noting m n.recorded.items n.young_weaks.items n.finalised.items n.updrem.items =
+    ap (λ (x : Mutator). noting x n.recorded.items n.young_weaks.items n.finalised.items n.updrem.items) r.rest in
     first
-    ∙ ap (λ (l : List Address). noting m l n.young_weaks.items n.updrem.items) r.recorded.items
-    ∙ ap (λ (l : List Address). noting m m.recorded.items l n.updrem.items) r.young_weaks.items
-    ∙ ap (λ (l : List Address). noting m m.recorded.items m.young_weaks.items l) r.updrem.items
+    ∙ ap (λ (l : List Address). noting m l n.young_weaks.items n.finalised.items n.updrem.items) r.recorded.items
+    ∙ ap (λ (l : List Address). noting m m.recorded.items l n.finalised.items n.updrem.items) r.young_weaks.items
+    ∙ ap (λ (l : List Address). noting m m.recorded.items m.young_weaks.items l n.updrem.items) r.finalised.items
+    ∙ ap (λ (l : List Address). noting m m.recorded.items m.young_weaks.items m.finalised.items l) r.updrem.items
 
 -- an item of the new list, with what it was
 pub was_at : (old new : List Mutator) (k : ℕ) (n : Mutator) → AreReserved old new → slice_get new k ≡ Some n → (m : Mutator) ×

@@ -107,6 +107,7 @@ module _ (script : Script) (c : Collector) (run : Run) (limits : IsInLimits scri
         unused = unused k m e (let exists = slice_get_within c.mutators.items k m e in omega (arith, exists, mutators_counted)) own.number own.layout;
         no_recorded = none_noted m.recorded.items nothing.recorded;
         no_weaks = none_noted m.young_weaks.items nothing.young_weaks;
+        no_finalised = none_noted m.finalised.items nothing.finalised;
       }
 
   pub blocks_there : AreBlocks c.heap.segments (young_base c.heap.segments) still.at_stop.heap.places (last_state run).world

@@ -24,14 +24,14 @@ use Rattle.nmgc_round.specs.Naming.{AllReply}
 use Rattle.nmgc_round.specs.Objects.{earlier}
 use Rattle.nmgc_round.specs.Starting.{CanOpen}
 use Rattle.nmgc_round.specs.View.{FixedWord, Opening, DoneRow}
-use Rattle.nmgc_collector_laws.specs.Turn.{RoundIsStopped, stop_after}
+use Rattle.nmgc_collector_laws.specs.Turn.{RoundIsStopped, RoundTellsFinalised, stop_after}
 use Rattle.nmgc_collector_laws.specs.Worked as turn
-use Rattle.nmgc_collector_laws.specs.Worked.{Done}
+use Rattle.nmgc_collector_laws.specs.Worked.{Done, TellsFinalised}
 use Rattle.nmgc_script.specs.declared.script.Script.{Script}
 use Rattle.nmgc_collector_laws.specs.Heaps.{IsRoundFrom}
 use Rattle.nmgc_collector_laws.specs.Collector.{AreNurseries}
 use Rattle.nmgc_run_spec.specs.Heap.{HasAllRegisters, snapshots, registers_of, queues_of, serials_of}
-use Rattle.nmgc_collector_laws.specs.Seen.{end_of, ends_of, nurseries_of, recorded_in, young_weaks_in}
+use Rattle.nmgc_collector_laws.specs.Seen.{end_of, ends_of, nurseries_of, recorded_in, young_weaks_in, finalised_in}
 use Rattle.nmgc_run_spec.specs.Slice.{slice_of, program_of}
 use Rattle.nmgc_run_spec.specs.State.{layout_of}
 use Rattle.nmgc_cycle.specs.declared.collector.Collector.{Collector}
@@ -44,7 +44,7 @@ use Rattle.nmgc_cycle.proofs.lists.Phases.{noted_snapshots}
 use Rattle.nmgc_cycle.proofs.lists.Plans.{sound_state}
 use Rattle.nmgc_cycle.proofs.rounds.Positions.{left_is}
 use Rattle.nmgc_cycle.proofs.rounds.Resting.{blocks_there}
-use Rattle.nmgc_cycle.proofs.lists.RootLists.{same_registers, same_queues, same_serials, same_nurseries, same_recorded, same_weaks}
+use Rattle.nmgc_cycle.proofs.lists.RootLists.{same_registers, same_queues, same_serials, same_nurseries, same_recorded, same_weaks, same_finalised}
 use Rattle.nmgc_cycle.proofs.rounds.Rounded.{one_did}
 use Rattle.nmgc_cycle.proofs.rounds.Slicing.{commands_of}
 
@@ -194,3 +194,16 @@ module _ (script : Script) (c new : Collector) (o : Opening) (x : IsOver script 
       registers = all_registers new.mutators.items (λ k m e. (one_did script c new o x k m e).1.2.size);
       roots = told_roots (places script c new o x) (w script c new o x) new.mutators.items stopped.roots;
     }
+
+  -- and what it finalised is told
+  module _ (law : RoundTellsFinalised) where
+    pub finalised_told : TellsFinalised (nursery_place layout 0) (places script c new o x) (s script c new o x).world (w script c new o x)
+        (finalised_in (shown script c new o x))
+    finalised_told =
+        subst (λ (told : List ℕ). TellsFinalised (nursery_place layout 0) (places script c new o x) (s script c new o x).world (w script c new o x) told)
+        (sym (same_finalised new.mutators.items))
+        (subst (λ (began : World). TellsFinalised (nursery_place layout 0) (places script c new o x) began (w script c new o x)
+        (turn.finalised_of new.mutators.items)) x.op.world_is
+        (subst (λ (l : Layout). TellsFinalised (nursery_place l 0) (places script c new o x) o.core.world (w script c new o x)
+        (turn.finalised_of new.mutators.items)) opening_layout
+        (law o x.before x.did.words (view script c new o x) new.mutators.items x.did.done (can script c new o x) x.did.leaves.0 (worked script c new o x))))

@@ -48,5 +48,6 @@ reserved_room script c d run limits still same reserved lists k m e =
       recorded = room.recorded;
       updrem = room.updrem;
       young_weaks = room.young_weaks;
+      finalised = room.finalised;
       serials = omega (arith, serial, fits, few);
     })

@@ -45,7 +45,7 @@ use Rattle.nmgc_cycle.proofs.rounds.MarkedBeside.{phase_with, helped_as}
 use Rattle.nmgc_cycle.proofs.rounds.Over.{IsOver, plan, s, w, t, rows, places, told, last, shown, view}
 use Rattle.nmgc_cycle.proofs.lists.Phases.{when_sweeping, noted_snapshots}
 use Rattle.nmgc_cycle.proofs.lists.Plans.{is_runnable, sound_state}
-use Rattle.nmgc_cycle.proofs.rounds.RoundOver.{layout, nurseries_left, in_order, remembered, round_from}
+use Rattle.nmgc_cycle.proofs.rounds.RoundOver.{layout, nurseries_left, in_order, remembered, finalised_told, round_from}
 use Rattle.nmgc_cycle.proofs.rounds.Rounded.{is_round}
 
 -- so many were swept as the quota lets, or all that waited
@@ -196,6 +196,9 @@ module _ (laws : HasLaws) (script : Script) (c new : Collector) (o : Opening) (x
     nurseries = kept_on.0;
     ordered = kept_on.1;
     remembers = kept_on.2;
+    told =
+        let all = finalised_told script c new o x laws.finalised in
+        record { all = λ p parts there low alive gone. all.all p parts (fewer.2.old p there) low alive gone; low = all.low };
     free = more_free;
     cycle = subst (λ (p : Progress). HoldsInCycle (λ (j : Cycle).
         IsPacedAfterRound script.config.quota j (t script c new o x swept.0) (shown script c new o x)) (noted p (rows script c new o x))

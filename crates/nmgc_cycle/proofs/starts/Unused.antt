@@ -73,5 +73,6 @@ module _ (layout : Layout) (mutators : List Mutator) (new : AreNew layout mutato
   nothing_left unsent = each_seen IsEmptied mutators (λ k m e. record {
     recorded = ap numbers (new k m e).recorded;
     young_weaks = ap numbers (new k m e).young_weaks;
+    finalised = ap numbers (new k m e).finalised;
     entries = ap (λ (l : List Address). numbers (l ++ m.updrem.items)) (unsent k m e) ∙ ap numbers (new k m e).updrem;
   })

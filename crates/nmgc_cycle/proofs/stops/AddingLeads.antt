@@ -102,6 +102,7 @@ module _ (script : Script) (old : Collector) (s : State) (h : StandsPromoted scr
       subst IsEmptied (sym x.2) (record {
         recorded = ap (λ (y : Mutator). numbers y.recorded.items) f.rest ∙ left.recorded;
         young_weaks = ap (λ (y : Mutator). numbers y.young_weaks.items) f.rest ∙ left.young_weaks;
+        finalised = ap (λ (y : Mutator). numbers y.finalised.items) f.rest ∙ left.finalised;
         entries = f.nothing;
       })
 

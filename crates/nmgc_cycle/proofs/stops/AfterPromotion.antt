@@ -116,7 +116,7 @@ module _ (script : Script) (old new : Collector) (kept : IsWellFormed script old
           no_replies = before.no_replies;
           line = subst (λ (l : List Receiver). IsLined l k was.0.sender) (sym (ap (λ (y : Collector). y.inbox) p.rest)) before.line;
         },
-        record { recorded = refl; young_weaks = refl },
+        record { recorded = refl; young_weaks = refl; finalised = refl },
       )
 
   -- the heap: words, segments and roots, and what the mutators have in hand

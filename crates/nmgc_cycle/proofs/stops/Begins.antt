@@ -1,5 +1,5 @@
 -- What a stop begins with, whether the collector is new or did a round.
-use Rattle.std.proofs.Common.{ℕ, ◌≡◌, ◌+◌, ◌<◌, ◌≤◌, ◌⊎◌, List, [], ◌∷◌, ◌++◌, length, drop, slice_index_or, arith, refl, sym, ap, subst, ◌∙◌, inl, inr, append-nil, Option, Some, None}
+use Rattle.std.proofs.Common.{ℕ, ◌≡◌, ◌+◌, ◌<◌, ◌≤◌, ◌⊎◌, List, [], ◌∷◌, ◌++◌, length, drop, slice_index_or, slice_get, arith, refl, sym, ap, subst, ◌∙◌, inl, inr, append-nil, Option, Some, None}
 use Rattle.std.specs.Prelude.{Contains, IsSome}
 use Rattle.std.proofs.lemmas.List.{drop-drop, length-map}
 use Rattle.nmgc_world_spec.specs.declared.command.Command.{Command}
@@ -9,11 +9,13 @@ use Rattle.nmgc_world_spec.specs.declared.node.Kind.TheVariants as kind
 use Rattle.nmgc_world_spec.specs.declared.node.Node.{Node}
 use Rattle.nmgc_world_spec.specs.declared.node.Node.TheVariants.{Con, Var, Arr, Thunk, Weak, Stack}
 use Rattle.nmgc_world_spec.specs.declared.node.Parts.{Parts}
-use Rattle.nmgc_lists.specs.laws.Items.{contains_head, is_some_of, nothing_in}
+use Rattle.nmgc_lists.specs.laws.Items.{contains_head, flat_contains, is_some_of, nothing_in, place_of as place_in}
 use Rattle.nmgc_world_laws.specs.laws.NewWorlds.{new_is_world}
 use Rattle.nmgc_object.specs.declared.layout.Layout.{Layout}
 use Rattle.nmgc_object.specs.declared.words.Header.{Header}
 use Rattle.nmgc_object.specs.Places.{nursery_place}
+use Rattle.nmgc_mutator.specs.declared.mutator.Mutator.{Mutator}
+use Rattle.nmgc_mutator.specs.Records.{numbers as numbers_of}
 use Rattle.nmgc_segment.specs.declared.state.State.TheVariants as stands
 use Rattle.nmgc_alloc.specs.AllocState.{AllocState, Cells}
 use Rattle.nmgc_alloc.specs.Stands.{StandsFor}
@@ -21,12 +23,13 @@ use Rattle.nmgc_alloc.specs.laws.OneState.{first_cells}
 use Rattle.nmgc_heap_spec.specs.Places.{Place}
 use Rattle.nmgc_heap_spec.specs.Roots.{ListsWeaks}
 use Rattle.nmgc_heap_spec.specs.Shape.{header_of}
-use Rattle.nmgc_blocks_spec.specs.Stopped.{Stopped, IsStopped}
+use Rattle.nmgc_blocks_spec.specs.Stopped.{Stopped, IsStopped, young_base}
 use Rattle.nmgc_journal.specs.declared.report.CycleRow.{CycleRow}
 use Rattle.nmgc_journal.specs.declared.report.RoundRows.{RoundRows}
 use Rattle.nmgc_journal.specs.declared.report.StopRow.{StopRow}
 use Rattle.nmgc_script.specs.declared.script.Script.{Script}
-use Rattle.nmgc_collector_laws.specs.Collector.{AreNurseries, IsPacedAfterRound, HoldsInCycle, Matches}
+use Rattle.nmgc_collector_laws.specs.Collector.{AreNurseries, IsEmptied, IsPacedAfterRound, HoldsInCycle, Matches}
+use Rattle.nmgc_collector_laws.specs.Worked.{TellsFinalised, finalised_of}
 use Rattle.nmgc_run_laws.specs.Course.{IsInCourse, IsStateInCourse}
 use Rattle.nmgc_blocks_spec.specs.Placed.{IsPlaceAtStop}
 use Rattle.nmgc_run_spec.specs.Heap.{registers_of, queues_of}
@@ -49,7 +52,7 @@ use Rattle.nmgc_sweep.specs.laws.Names.{named_first}
 use Rattle.nmgc_cycle.specs.declared.collector.Collector.{Collector}
 use Rattle.nmgc_cycle.specs.Bound.{AreFew}
 use Rattle.nmgc_cycle.specs.Keeps.{CanStop, IsFresh, HasWorked, Sweeps}
-use Rattle.nmgc_cycle.specs.Shown.{seen, told_cycles}
+use Rattle.nmgc_cycle.specs.Shown.{seen, seen_mutator, told_cycles}
 use Rattle.nmgc_script.specs.Limits.{IsInLimits}
 use Rattle.nmgc_cycle.specs.Stopping.{CanList, StandsStopped}
 use Rattle.nmgc_cycle.proofs.lengths.Few.{fresh_few, fresh_begun}
@@ -57,6 +60,7 @@ use Rattle.nmgc_cycle.proofs.lengths.Measures.{answered_more}
 use Rattle.nmgc_cycle.proofs.lists.MutatorLists.{same_stopped}
 use Rattle.nmgc_cycle.proofs.starts.NewStops.{stopped_in, new_stopped}
 use Rattle.nmgc_cycle.proofs.lists.Plans.{is_runnable}
+use Rattle.nmgc_cycle.proofs.lists.RootLists.{same_finalised, seen_at}
 use Rattle.nmgc_cycle.proofs.stops.StopNumbers.{run_number}
 use Rattle.nmgc_cycle.proofs.lists.Views.{registers_seen, queues_seen, nurseries_seen, recorded_seen, young_seen}
 use Rattle.nmgc_weak.specs.Weaks.{places_of}
@@ -130,9 +134,17 @@ known_or_none : (o : Option Node) → (o ≡ None) ⊎ IsSome o
 known_or_none None = inl refl
 known_or_none (Some node) = inr refl
 
+-- no mutator has finalised anything
+none_finalised : (ms : List Mutator) → ((k : ℕ) (m : Mutator) → slice_get ms k ≡ Some m → IsEmptied (seen_mutator m)) → (at : ℕ) → Contains (finalised_of ms) at → ⊥
+none_finalised ms empty at c =
+    let m = flat_contains (λ (x : Mutator). numbers_of x.finalised.items) ms at c in
+    let i = place_in ms m.0 m.1 in
+    nothing_in at (subst (λ (l : List ℕ). Contains l at) (empty i.0 m.0 i.1).finalised m.2)
+
 -- the list was that of the world as the round began, and the round made none of these anew
-can_list_of : (t : Stopped) (c : Collector) → StandsStopped t c → ListsWeaks c.heap.segments.layout t.places t.began (places_of c.heap.weaks.list) → CanList t c
-can_list_of t c h listed =
+can_list_of : (t : Stopped) (c : Collector) → StandsStopped t c → ListsWeaks c.heap.segments.layout t.places t.began (places_of c.heap.weaks.list) →
+    TellsFinalised (young_base c.heap.segments) t.places t.began t.world (finalised_of c.mutators.items) → CanList t c
+can_list_of t c h listed told =
     let past = h.round.past t.began (contains_head t.began t.later) in
     record {
       began = past.world;
@@ -149,6 +161,7 @@ can_list_of t c h listed =
             let x = weak_of (Some parts) node.0 (past.headers weak (Weak (Some parts)) node.0 alive node.1) in
             (x.0, node.1 ∙ ap (λ (n : Node). Some n) x.1);
       };
+      told = told;
     }
 
 -- a new collector
@@ -171,7 +184,10 @@ new_begins script c limits f =
       places = f.new.heap.places;
       stopped = stopped;
       can_list = can_list_of (stopped_in (new_world count) (start plan) f.new.heap.places (seen c)) c stopped (subst (λ (l : Layout).
-          ListsWeaks l f.new.heap.places (new_world count) (seen c).weaks) (sym f.kept.layout) f.new.heap.listed);
+          ListsWeaks l f.new.heap.places (new_world count) (seen c).weaks) (sym f.kept.layout) f.new.heap.listed) (record {
+            all = λ p parts there low alive gone. absurd (gone alive);
+            low = λ at there. absurd (none_finalised c.mutators.items (λ k m e. f.new.at_rest.nothing k (seen_mutator m) (seen_at c.mutators.items k m e)) at there);
+          });
       stands = f.new.heap.holds.stands;
       nurseries = f.new.at_rest.nurseries;
       matches = f.new.matches;
@@ -237,7 +253,9 @@ module _ (script : Script) (c : Collector) (limits : IsInLimits script) (h : Has
 
   can_list : CanList (stopped_in before.world h.worked h.after.places (seen c)) c
   can_list = can_list_of (stopped_in before.world h.worked h.after.places (seen c)) c stopped (subst (λ (l : Layout).
-      ListsWeaks l h.after.places before.world (seen c).weaks) (sym h.kept.layout) h.after.heap.listed)
+      ListsWeaks l h.after.places before.world (seen c).weaks) (sym h.kept.layout) h.after.heap.listed) (subst (λ (l : Layout).
+      TellsFinalised (nursery_place l 0) h.after.places before.world h.worked.world (finalised_of c.mutators.items)) (sym h.kept.layout)
+      (subst (TellsFinalised (nursery_place (layout_of plan) 0) h.after.places before.world h.worked.world) (same_finalised c.mutators.items) h.after.told))
 
   numbers : h.worked.number ≡ length c.rows.stops
   numbers =

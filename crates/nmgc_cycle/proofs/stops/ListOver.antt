@@ -1,5 +1,5 @@
 -- The list of weak pointers over the promotion of a stop: those that were finalised leave it, and those that moved and are alive join it.
-use Rattle.std.proofs.Common.{ℕ, ◌≡◌, ◌≢◌, ◌^◌, ◌<◌, ◌≤◌, ◌⊎◌, List, [], ◌∷◌, Bool, true, false, cond, eq-eqb, ne_eqb, length, map, refl, sym, ap, subst, ◌∙◌, arith, inl, inr, slice_index}
+use Rattle.std.proofs.Common.{ℕ, ◌≡◌, ◌≢◌, ◌^◌, ◌<◌, ◌≤◌, ◌⊎◌, List, [], ◌∷◌, Bool, true, false, cond, eq-eqb, ne_eqb, length, map, refl, sym, ap, subst, ◌∙◌, arith, inl, inr, slice_index, mul-le-mul_right, ◌*◌}
 use Rattle.std.specs.Prelude.{Contains, filter, not, ◌==◌, ◌&&◌}
 use Rattle.std.specs.List.{count_by}
 use Rattle.std.proofs.lemmas.Bool.{and_parts}
@@ -7,12 +7,15 @@ use Rattle.std.proofs.lemmas.List.{length-map}
 use Rattle.std.proofs.lemmas.List.Sums.{length-filter, count_by-le-length}
 use Rattle.nmgc_world_spec.specs.declared.value.Name.{Name}
 use Rattle.nmgc_limits.specs.declared.mutators.TheConstants.{SHARED_MAKER}
-use Rattle.nmgc_world_spec.specs.declared.node.Node.TheVariants.{Weak}
-use Rattle.nmgc_world_spec.specs.Reach.{IsBefore, IsInOrder, IsReached}
+use Rattle.nmgc_world_spec.specs.declared.node.Parts.{Parts}
+use Rattle.nmgc_world_spec.specs.Reach.{IsAlive, IsBefore, IsInOrder}
 use Rattle.nmgc_world_spec.specs.World.{node_of}
-use Rattle.nmgc_lists.specs.laws.Items.{contains_head, contains_tail, is_some_of, contains_map, map_contains, filter_contains as filter_had, contains_filter as filter_keeps}
+use Rattle.nmgc_lists.specs.laws.Items.{is_some_of, contains_map, map_contains, filter_contains as filter_had, contains_filter as filter_keeps}
 use Rattle.nmgc_world_spec.specs.laws.Orders.{in_order_cons, in_order_first, in_order_rest}
 use Rattle.nmgc_object.specs.Words.{header_word}
+use Rattle.nmgc_object.specs.Places.{InSegment}
+use Rattle.nmgc_object.specs.declared.size.TheConstants.{NAME_OFFSET}
+use Rattle.nmgc_object.specs.laws.Common.{in_segment_low as segment_low}
 use Rattle.nmgc_object.specs.declared.layout.Layout.{Layout}
 use Rattle.nmgc_alloc.specs.Stands.{StandsFor}
 use Rattle.nmgc_alloc.specs.Numbered.{Segments}
@@ -25,20 +28,18 @@ use Rattle.nmgc_sweep.specs.Names.{HaveNoted}
 use Rattle.nmgc_cycle.specs.Roots.{promoted_by}
 use Rattle.nmgc_heap_spec.specs.Places.{Place}
 use Rattle.nmgc_heap_spec.specs.Roots.{ListsWeaks}
-use Rattle.nmgc_heap_spec.specs.Tracked.{IsTracked}
-use Rattle.nmgc_heap_spec.specs.laws.Changes.{lies_within}
 use Rattle.nmgc_heap_spec.specs.laws.Moving.{settled_comes}
-use Rattle.nmgc_blocks_spec.specs.Stopped.{Stopped, IsStopped, IsSettled, earlier_of, young_base}
+use Rattle.nmgc_blocks_spec.specs.Stopped.{Stopped, IsStopped, IsSettled, young_base}
 use Rattle.nmgc_blocks_spec.specs.laws.Blocks.{is_block}
 use Rattle.nmgc_collector_laws.specs.Joins.{JoiningLists, JoinersAreNew, HaveMoved, HaveJoinedList, IsAliveAt, weak_header}
 use Rattle.nmgc_minor.specs.Placing.{moved_of}
 use Rattle.nmgc_minor.specs.declared.placing.Move.{Move}
 use Rattle.nmgc_weak.specs.declared.weaks.OldWeak.{OldWeak}
 use Rattle.nmgc_weak.specs.Closes.{LeavingLists}
-use Rattle.nmgc_weak.specs.Weaks.{AreInside, Weaks, is_alive, names_of, place_of, places_of, value_place}
-use Rattle.nmgc_collector_laws.specs.Worked.{registers_of, queues_of, nurseries_of, recorded_of}
+use Rattle.nmgc_weak.specs.Weaks.{Weaks, alive_of, is_alive, names_of, place_of, places_of, value_place}
+use Rattle.nmgc_collector_laws.specs.Worked.{registers_of, queues_of, nurseries_of, recorded_of, finalised_of}
 use Rattle.nmgc_cycle.specs.declared.collector.Collector.{Collector}
-use Rattle.nmgc_cycle.specs.Listed.{CanJoin, FinalisedLeft, MovedJoined, is_alive_at, listed_move, moved_weaks}
+use Rattle.nmgc_cycle.specs.Listed.{CanJoin, FinalisedAreTold, FinalisedLeft, MovedJoined, is_alive_at, listed_move, moved_weaks}
 use Rattle.nmgc_cycle.specs.Shown.{words_in}
 use Rattle.nmgc_cycle.specs.Stopping.{CanList, HasListed, HasPromoted, StandsStopped, moves_of, young_weaks_of}
 use Rattle.nmgc_lists.specs.laws.Truths.{eq_true as true_eq}
@@ -289,19 +290,46 @@ module _ (left : LeavingLists) (joining : JoiningLists) (fresh : JoinersAreNew) 
       )) p.copied;
     }
 
--- those of the list lie within the heap's words
-pub lists_inside : (t : Stopped) (c : Collector) → StandsStopped t c → CanList t c → AreInside (words_in c.heap.words) c.heap.weaks.list
-lists_inside t c h can weak d =
-    let l = can.listed.sound (place_of weak) (contains_map place_of c.heap.weaks.list weak d) in
-    let now = can.old.weak weak.weak l.1.0 l.1.1 in
-    let tracked : IsTracked t.world (earlier_of t) weak.weak = IsReached.start weak.weak (
-      t.began,
-      contains_tail t.world (earlier_of t) t.began (contains_head t.began t.later),
-      IsReached.start weak.weak (inr (weak.weak, l.1.0, l.1.1, inl refl)),
-    ) in
-    let placed = h.represents.tracked weak.weak (Weak now.0) tracked now.1 in
-    let same = h.represents.one (record { at = placed.at; name = weak.weak }) (place_of weak) placed.there l.0 (inl refl) in
-    let e : placed.at ≡ weak.at.0 = ap (λ (q : Place). q.at) same in
-    let within = lies_within c.heap.segments.layout (record { at = placed.at; name = weak.weak }) 5 (omega arith) placed.object.lies in
-    let total = h.represents.total in
-    omega (arith, e, within, total)
+-- who is dead by its value word isn't alive after the round, so it is told
+module _ (leaving : LeavingLists) (t : Stopped) (c : Collector) (h : StandsStopped t c) (can : CanList t c) where
+  abbrev held : List ℕ
+  held = words_in c.heap.words
+
+  left_then : ListsWeaks c.heap.segments.layout t.places t.world (places_of (alive_of held c.heap.weaks.list))
+  left_then = leaving c.heap.segments.layout t.later t.places t.began t.world held c.heap.weaks.list can.began h.world h.represents can.listed can.old
+
+  dead_gone : (weak : OldWeak) → Contains c.heap.weaks.list weak → slice_index held (value_place weak.at.0) ≡ 0 → (parts : Parts) →
+      IsAlive t.world weak.weak parts → ⊥
+  dead_gone weak d zero_ parts alive =
+      let l = can.listed.sound (place_of weak) (contains_map place_of c.heap.weaks.list weak d) in
+      let there = left_then.complete (place_of weak) (l.0, (parts, alive), l.2) in
+      let x = of_places (alive_of held c.heap.weaks.list) (place_of weak) there in
+      let f = filter_had (is_alive held) c.heap.weaks.list x.0 x.1 in
+      let at : x.0.at.0 ≡ weak.at.0 = ap (λ (p : Place). p.at) x.2 in
+      false_ne (slice_index held (value_place x.0.at.0)) f.1 (ap (λ k. slice_index held (value_place k)) at ∙ zero_)
+
+  -- a place in a segment lies before the nurseries
+  in_segment : (p : Place) → ((segment : ℕ) × InSegment c.heap.segments.layout segment p.at) → p.at < young_base c.heap.segments
+  in_segment p s = segment_low c.heap.segments.layout s.0 p.at s.1
+
+  -- a nursery has room for the largest object, and so for a weak pointer
+  total_above : (at : ℕ) → at < young_base c.heap.segments → value_place at < length held
+  total_above at low =
+      let layout = h.segments.layout in
+      let one : 1 * c.heap.segments.layout.nursery ≤ c.heap.segments.layout.mutators * c.heap.segments.layout.nursery = mul-le-mul_right c.heap.segments.layout.nursery layout.mutators.0 in
+      let least = layout.words.least in
+      let nursery = layout.nursery in
+      let total = h.represents.total in
+      omega (arith, one, least, nursery, total, low)
+
+  pub finalised_are_told : FinalisedAreTold held c.heap.weaks.list (finalised_of c.mutators.items)
+  finalised_are_told = record {
+    inside = λ at there. total_above at (can.told.low at there);
+    told = λ weak d zero_.
+        let l = can.listed.sound (place_of weak) (contains_map place_of c.heap.weaks.list weak d) in
+        can.told.all (place_of weak) l.1.0 l.0 (in_segment (place_of weak) l.2) l.1.1 (dead_gone weak d zero_ l.1.0);
+    named = λ at weak d same.
+        let l = can.listed.sound (place_of weak) (contains_map place_of c.heap.weaks.list weak d) in
+        let n = h.represents.named (place_of weak) l.0 in
+        (n.valid, ap (λ k. slice_index held (k + NAME_OFFSET)) (sym same) ∙ n.name);
+  }

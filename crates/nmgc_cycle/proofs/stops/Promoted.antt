@@ -20,6 +20,7 @@ refilled forward m = record m {
   nursery = emptied m.nursery;
   recorded = cleared m.recorded;
   young_weaks = cleared m.young_weaks;
+  finalised = cleared m.finalised;
 }
 
 pub refilled_are : (forward : ℕ → ℕ) (mutators : List Mutator) → map (refilled forward) mutators ≡ map (promoted_by forward) mutators

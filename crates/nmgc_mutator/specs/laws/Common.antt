@@ -35,6 +35,7 @@ reserved number layout old m h r = subst (λ (x : Mutator). IsNew number layout 
   replies = r.replies.items ∙ h.replies;
   recorded = r.recorded.items ∙ h.recorded;
   young_weaks = r.young_weaks.items ∙ h.young_weaks;
+  finalised = r.finalised.items ∙ h.finalised;
   updrem = r.updrem.items ∙ h.updrem;
 })
 

@@ -22,13 +22,16 @@ use Rattle.nmgc_world_spec.specs.World.{World, IsWorld, state_of, node_of}
 use Rattle.nmgc_world_spec.specs.Change.{exchanged_at, changed, stack_pushed, stack_popped}
 use Rattle.nmgc_world_spec.specs.Step.{shared_name, value_for, next_name, asked, step}
 use Rattle.nmgc_world_spec.specs.History.{Row, replayed, opened}
-use Rattle.nmgc_world_spec.specs.Reach.{IsReached, IsRoot}
+use Rattle.nmgc_world_spec.specs.declared.node.Parts.{Parts}
+use Rattle.nmgc_world_spec.specs.Step.{CanApply}
+use Rattle.nmgc_world_spec.specs.Reach.{IsReached, IsRoot, IsAlive}
+use Rattle.std.proofs.lemmas.Option.{same_Some}
 use Rattle.nmgc_world_laws.specs.laws.Growth.{step_grows}
 use Rattle.nmgc_world_laws.specs.laws.Worlds.{not_shared}
 use Rattle.nmgc_lists.specs.laws.Items.{slice_get-set_same, slice_get-set_other}
 use Rattle.nmgc_world_laws.specs.Holds.{HasStrongField, strong_at}
 use Rattle.nmgc_world_laws.specs.Reachable.{CanReplay}
-use Rattle.nmgc_world_laws.specs.Stored.{value_written, place_written, Stores, IsStored, StepStores, OldRefersToYoung, OldWeaksStay}
+use Rattle.nmgc_world_laws.specs.Stored.{value_written, place_written, Stores, IsStored, StepStores, OldRefersToYoung, OldWeaksStay, OldWeaksAreFinalised}
 use Rattle.nmgc_world_laws.specs.laws.Barrier.{field_at_place, two_nodes, exchanged_node}
 use Rattle.nmgc_world_laws.specs.laws.NodeLaws.{get-append_cases, node_born, next_is_new, node_cases}
 use Rattle.nmgc_world_laws.specs.laws.WorldSteps.{step_keeps_world}
@@ -256,3 +259,93 @@ pub old_weaks_stay : OldWeaksStay
 old_weaks_stay w rows is can weak parts there alive =
     let h : LiveHeld w (opened w rows) (replayed w rows) = live_after w rows is can in
     (alive_has (AsThen w (opened w rows)) (replayed w rows) h.alive weak parts alive).0 there
+
+-- an alive weak pointer is changed by no change but the one that finalises it
+weak_changed : (c : Change) (maker : ℕ) (parts : Parts) → ((changed c maker (Weak (Some parts))).0 ≡ Weak (Some parts)) ⊎ (c ≡ change.Finalise)
+weak_changed (change.Set index v) maker parts = inl refl
+weak_changed (change.Exchange index expected v) maker parts = inl refl
+weak_changed (change.Update v) maker parts = inl refl
+weak_changed (change.Push m v) maker parts = inl refl
+weak_changed (change.Pop m) maker parts = inl refl
+weak_changed change.Finalise maker parts = inr refl
+
+-- and that one is asked for by the command that finalises
+abbrev asked_change : Option (Value × Change) → Change
+asked_change None = change.Finalise
+asked_change (Some p) = p.1
+
+abbrev Finalises : World → ℕ → Command → Name → Type 0
+Finalises w m c weak = (dest : ℕ) × (object : Operand) × (c ≡ command.Finalise dest object) × (value_for w m object ≡ value.Ref weak)
+
+asked_finalise : (w : World) (m : ℕ) (c : Command) (weak : Name) → asked w m c ≡ Some (value.Ref weak, change.Finalise) → Finalises w m c weak
+asked_finalise w m (command.Set object index v) weak e = absurd (let d : change.Set index (value_for w m v) ≡ change.Finalise = ap asked_change e in cc)
+asked_finalise w m (command.Cas object index expected v) weak e =
+    absurd (let d : change.Exchange index (value_for w m expected) (value_for w m v) ≡ change.Finalise = ap asked_change e in cc)
+asked_finalise w m (command.Update object v) weak e = absurd (let d : change.Update (value_for w m v) ≡ change.Finalise = ap asked_change e in cc)
+asked_finalise w m (command.Push object v) weak e = absurd (let d : change.Push m (value_for w m v) ≡ change.Finalise = ap asked_change e in cc)
+asked_finalise w m (command.Pop dest object) weak e = absurd (let d : change.Pop m ≡ change.Finalise = ap asked_change e in cc)
+asked_finalise w m (command.Finalise dest object) weak e = (dest, object, refl, ap asked_value e)
+asked_finalise w m _ weak e = absurd cc
+
+-- after a command a weak pointer that was alive is alive still, or the command finalised it
+module _ (w : World) (m : ℕ) (c : Command) (is : IsWorld w) (can : CanApply w m c) (weak : Name) (parts : Parts) (alive : IsAlive w weak parts) where
+  alive_or : (v : World) → Object Any w m c v → (node_of v weak ≡ Some (Weak (Some parts))) ⊎ Finalises w m c weak
+  alive_or v (Object.same e) = inl (ap (λ (u : World). node_of u weak) e ∙ alive)
+  alive_or v (Object.birth register made makes e) =
+      let own : m ≢ SHARED_MAKER = not_shared w m is can.mutator in
+      elim (node_born w m register made can.mutator own weak) [
+        | inl b ↦ absurd (absent (node_of w (next_name (state_of w m) m)) (next_is_new w m own) (subst (λ (n : Name).
+            IsSome (node_of w n)) b.0 (some_of (node_of w weak) (Weak (Some parts)) alive)))
+        | inr b ↦ inl (ap (λ (u : World). node_of u weak) e ∙ b ∙ alive)
+      ]
+  alive_or v (Object.write at found ch there asks q e) = elim (node_cases w at found (changed ch at.maker found).0 there weak) [
+    | inl here ↦
+        let old : found ≡ Weak (Some parts) = same_Some found (Weak (Some parts)) (sym there ∙ ap (λ (n : Name). node_of w n) (sym here.0) ∙ alive) in
+        elim (weak_changed ch at.maker parts) [
+          | inl stays ↦ inl (ap (λ (u : World). node_of u weak) e ∙ here.1 ∙ ap (λ (n : Node). Some (changed ch at.maker n).0) old ∙
+              ap (λ (n : Node). Some n) stays)
+          | inr fin ↦ inr (asked_finalise w m c weak (subst (λ (x : Change).
+              asked w m c ≡ Some (value.Ref weak, x)) fin (asks ∙ ap (λ (n : Name). Some (value.Ref n, ch)) (sym here.0))))
+        ]
+    | inr other ↦ inl (ap (λ (u : World). node_of u weak) e ∙ other.1 ∙ alive)
+  ]
+
+  weak_after : IsAlive (step w m c).0 weak parts ⊎ Finalises w m c weak
+  weak_after =
+      let s : Stepped Any w m c (step w m c).0 = stepped w m c in
+      let same : node_of (step w m c).0 weak ≡ node_of s.between weak =
+      hand_nodes Any s.between m (step w m c).0 (still_there Any w m c (step w m c).0 can.mutator s) s.hand weak in
+      elim (alive_or s.between s.object) [ inl still ↦ inl (same ∙ still) | inr fin ↦ inr fin ]
+
+pub old_weaks_are_finalised : OldWeaksAreFinalised
+old_weaks_are_finalised w [] is can weak parts alive gone = absurd (gone alive)
+old_weaks_are_finalised w (row ∷ rows) is can weak parts alive gone =
+    let v : World = (step w row.mutator row.command).0 in
+    elim (weak_after w row.mutator row.command is can.0 weak parts alive) [
+      | inl still ↦
+          let t = old_weaks_are_finalised v rows (step_keeps_world w row.mutator row.command is can.0) can.1 weak parts still gone in
+          record {
+            before = row ∷ t.before;
+            row = t.row;
+            after = t.after;
+            rows_are = ap (λ (xs : List Row). row ∷ xs) t.rows_are;
+            dest = t.dest;
+            object = t.object;
+            command = t.command;
+            refers = t.refers;
+            parts = t.parts;
+            alive = t.alive;
+          }
+      | inr fin ↦ record {
+        before = [];
+        row = row;
+        after = rows;
+        rows_are = refl;
+        dest = fin.0;
+        object = fin.1;
+        command = fin.2;
+        refers = fin.3;
+        parts = parts;
+        alive = alive;
+      }
+    ]

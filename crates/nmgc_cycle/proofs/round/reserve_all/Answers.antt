@@ -25,7 +25,13 @@ loop-number-preserved c =
     ap (λ (ls : List (List Command)). get_or ls n c.index-items-number.result) c.items.ensures) in
     let size : c.min.result ≡ min script.config.slice (length (left_at script positions n)) =
     slice_left script positions n c.min.result program (omega (arith, lt, threads)) is c.min.ensures in
-    let room : HasLists c.min.result next = record { replies = own.room.0; recorded = own.room.1; updrem = own.room.3; young_weaks = own.room.2 } in
+    let room : HasLists c.min.result next = record {
+      replies = own.room.0;
+      recorded = own.room.1;
+      updrem = own.room.4;
+      young_weaks = own.room.2;
+      finalised = own.room.3;
+    } in
     record {
       kept = kept_more was now n m next lt count before.kept before.after own.kept;
       room = room_more was now n m next lt count (λ (k : ℕ).

@@ -16,9 +16,9 @@ loop-mutator-preserved c =
     let count : length now ≡ length was = c.loop-mutator.auto.mutator-items in
     let lt : n < length was = omega arith in
     let read : m ≡ get_or now n m = cc in
-    let own : HasQueueRoom (count_made_by m.number c.args.list.now) m next =
-    subst (λ (x : Mutator). HasQueueRoom (count_made_by x.number c.args.list.now) x next) (sym read) c.in_ok-reserve_queue.ensures in
+    let own : HasQueueRoom (count_made_by m.number c.args.weaks.now.list) m next =
+    subst (λ (x : Mutator). HasQueueRoom (count_made_by x.number c.args.weaks.now.list) x next) (sym read) c.in_ok-reserve_queue.ensures in
     record {
-      done = room_more c.args.list.now was now n m next lt count read before.done before.rest own;
+      done = room_more c.args.weaks.now.list was now n m next lt count read before.done before.rest own;
       rest = after_more was now n m next lt count before.rest;
     }

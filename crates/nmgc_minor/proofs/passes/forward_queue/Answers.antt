@@ -1,8 +1,9 @@
-use Rattle.std.proofs.Common.{◌≡◌, ◌+◌, ◌++◌, ◌<◌, ℕ, List, length, map, take, drop, set, slice_index, ap, ◌∙◌, arith, length-append, length-take, length-drop}
+use Rattle.std.proofs.Common.{◌≡◌, ◌+◌, ◌++◌, ◌<◌, ℕ, List, length, map, take, drop, set, slice_index, refl, sym, ap, ◌∙◌, arith, length-append, length-take, length-drop}
 use Rattle.std.proofs.lemmas.List.{get_or_default, length-map}
 use Rattle.std.proofs.lemmas.List.Edits.{map_over_more}
 use Rattle.nmgc_object.specs.FinQueue.{FinQueue}
 use Rattle.nmgc_minor.specs.Forwarding.{forward_word}
+use Rattle.nmgc_minor.proofs.ForwardLaws.{low_words}
 use Rattle.nmgc_minor.proofs.passes.forward_queue.Goals as goal
 
 same_queue : (a b : FinQueue) → a.words ≡ b.words → a.spare ≡ b.spare → a ≡ b
@@ -11,6 +12,13 @@ same_queue a b e f =
     let second : ◌≡◌ {A = FinQueue} (record { words = b.words; spare = a.spare }) b =
     ap (λ (k : ℕ). let n : FinQueue = record { words = b.words; spare = k } in n) f in
     first ∙ second
+
+-- a queue without a young object is as it was
+pub returns-then-is_below : goal.returns-then-is_below
+returns-then-is_below c =
+    let q : FinQueue = c.args.queue.now in
+    let low = c.is_below.ensures c.if-is_below.true in
+    same_queue q (record q { words = map (forward_word c.args.table.now c.args.base) q.words }) (sym (low_words c.args.table.now c.args.base q.words low)) refl
 
 -- one more word of the queue
 queue_more : (f : ℕ → ℕ) (old cur new : FinQueue) (i word : ℕ) → i < length old.words → cur.words ≡ map f (take i old.words) ++ drop i old.words →

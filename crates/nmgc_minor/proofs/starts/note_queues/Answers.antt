@@ -11,13 +11,13 @@ use Rattle.nmgc_minor.proofs.starts.note_queues.Goals as goal
 pub loop-mutator-init : goal.loop-mutator-init
 loop-mutator-init g c = notes_first (λ m w. Contains (g.M.MutatorRoots.queue m).words w) c.args.young.now c.args.mutators.now c.requires.young
 
-pub note_all-requires-clause-within : goal.note_all-requires-clause-within
-note_all-requires-clause-within g c =
+pub note_queue-requires-clause-within : goal.note_queue-requires-clause-within
+note_queue-requires-clause-within g c =
     let f = g.M.MutatorRoots.queue in
     let ms = c.args.mutators.now in
     let x = c.mutator-item.result in
     let there = subst (λ y. Contains ms y) (sym c.mutator-item.is) (Contains-get_or ms c.loop-mutator.mutator-index x c.loop-mutator-test.true) in
-    let read : c.words.result.now ≡ (f x).words = c.words.ensures ∙ ap (λ (q : FinQueue). q.words) c.queue.ensures in
+    let read : c.queue.result.now.words ≡ (f x).words = ap (λ (q : FinQueue). q.words) c.queue.ensures in
     λ word h. within_after c.args.young.now c.loop-mutator.young (λ w. (m : _) × Contains (take c.loop-mutator.mutator-index ms) m × Contains (f m).words w)
     c.loop-mutator.invariant word (c.requires.within (f x) word (map_in f ms x there) (subst (λ (ws : List ℕ). Contains ws word) read h))
 
@@ -25,10 +25,10 @@ pub loop-mutator-preserved : goal.loop-mutator-preserved
 loop-mutator-preserved g c =
     let f = g.M.MutatorRoots.queue in
     let x = c.mutator-item.result in
-    let read : c.words.result.now ≡ (f x).words = c.words.ensures ∙ ap (λ (q : FinQueue). q.words) c.queue.ensures in
-    notes_item (λ m w. Contains (f m).words w) c.args.young.now c.loop-mutator.young c.note_all.new.self c.args.mutators.now c.loop-mutator.mutator-index
+    let read : c.queue.result.now.words ≡ (f x).words = ap (λ (q : FinQueue). q.words) c.queue.ensures in
+    notes_item (λ m w. Contains (f m).words w) c.args.young.now c.loop-mutator.young c.note_queue.new.young c.args.mutators.now c.loop-mutator.mutator-index
     x c.loop-mutator-test.true c.mutator-item.is c.loop-mutator.invariant
-    (subst (λ (ws : List ℕ). Notes c.loop-mutator.young c.note_all.new.self (Contains ws)) read c.note_all.ensures)
+    (subst (λ (ws : List ℕ). Notes c.loop-mutator.young c.note_queue.new.young (Contains ws)) read c.note_queue.ensures)
 
 pub returns : goal.returns
 returns g c =

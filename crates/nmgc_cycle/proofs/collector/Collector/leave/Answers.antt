@@ -1,9 +1,10 @@
 use Rattle.std.proofs.Common.{◌≡◌, ℕ, List, ap, subst}
-use Rattle.nmgc_weak.specs.Weaks.{AreInside}
+use Rattle.nmgc_collector_laws.specs.Worked.{finalised_of}
+use Rattle.nmgc_cycle.specs.Listed.{FinalisedAreTold}
 use Rattle.nmgc_cycle.specs.Shown.{words_in}
 use Rattle.nmgc_cycle.proofs.collector.Collector.leave.Goals as goal
 
-pub leave-requires : goal.leave-requires
-leave-requires c =
+pub leave_noted-requires : goal.leave_noted-requires
+leave_noted-requires c =
     let held : words_in c.args.self.now.heap.words ≡ c.in-Some.words = ap words_in c.in-Some.is in
-    subst (λ (l : List ℕ). AreInside l c.args.self.now.heap.weaks.list) held c.requires.inside
+    subst (λ (l : List ℕ). FinalisedAreTold l c.args.self.now.heap.weaks.list (finalised_of c.args.self.now.mutators.items)) held c.requires.told

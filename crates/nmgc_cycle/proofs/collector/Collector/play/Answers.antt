@@ -53,6 +53,7 @@ returns-clause-worked g c =
       };
       history = c.a_round_is_a_history.ensures;
       stopped = c.a_round_is_stopped.ensures;
+      finalised = c.finalised_are_told.ensures;
       holds = c.the_heap_goes_on.ensures.round;
       goes_on = c.the_machine_goes_on.ensures;
       is_marking = c.the_marker_leads_a_cycle.ensures.round;

@@ -2,11 +2,11 @@ use Rattle.std.proofs.Common.{sym, subst}
 use Rattle.nmgc_minor.specs.Promotion.{IsFor}
 use Rattle.nmgc_sweep.specs.Names.{HaveEntries}
 use Rattle.nmgc_cycle.specs.declared.collector.Collector.{Collector}
-use Rattle.nmgc_cycle.proofs.stops.ListOver.{can_join, lists_inside, listed, promoted, stopped_then}
+use Rattle.nmgc_cycle.proofs.stops.ListOver.{can_join, finalised_are_told, listed, promoted, stopped_then}
 use Rattle.nmgc_cycle.proofs.collector.Collector.promote.Goals as goal
 
-pub leave-requires-clause-inside : goal.leave-requires-clause-inside
-leave-requires-clause-inside c = let h = c.requires.stopped in lists_inside h.0 c.args.self.now h.1 h.2
+pub leave-requires-clause-told : goal.leave-requires-clause-told
+leave-requires-clause-told c = let h = c.requires.stopped in finalised_are_told c.the_list_is_left.ensures h.0 c.args.self.now h.1 h.2
 
 pub move_promoted-requires-clause-words : goal.move_promoted-requires-clause-words
 move_promoted-requires-clause-words c = c.leave.ensures.words.1

@@ -16,7 +16,6 @@ use Rattle.nmgc_mutator.specs.declared.mutator.Mutator.{Mutator}
 use Rattle.nmgc_collector_laws.specs.Worked.{registers_of}
 use Rattle.nmgc_cycle.specs.declared.collector.Collector.{Collector}
 use Rattle.nmgc_cycle.specs.Cycles.{StartsMarking, next_epoch}
-use Rattle.nmgc_weak.specs.declared.weaks.OldWeak.{OldWeak}
 use Rattle.nmgc_cycle.specs.Listed.{HaveQueueRoom}
 use Rattle.nmgc_cycle.specs.Roots.{queues_in}
 use Rattle.nmgc_cycle.specs.Shown.{words_in}
@@ -83,8 +82,8 @@ returns c =
     let epoch_is : c.epoch_of-epoch.result ≡ next_epoch old = c.epoch_of-epoch.ensures.value in
     let read : c.as_slice.result.now ≡ v.items = c.as_slice.ensures.value in
     let new : List Mutator = c.reserve_queues.new.mutators in
-    let room : HaveQueueRoom old.heap.weaks.list v.items new = subst (λ (y : List OldWeak × List Mutator). HaveQueueRoom y.0 y.1 new) (λ i.
-    (c.list.ensures.list i, c.as_mut_slice.ensures.value i)) c.in_ok-reserve_queues.ensures in
+    let room : HaveQueueRoom old.heap.weaks.list v.items new = subst (λ (ms : List Mutator). HaveQueueRoom old.heap.weaks.list ms new)
+    c.as_mut_slice.ensures.value c.in_ok-reserve_queues.ensures in
     let now : (with_items v new).items ≡ new = vec_back v new room.count in
     let marker : MarkerSeen = c.in_ok-marker.marker in
     let sweeper : Sweeper = c.in_ok-sweeper.sweeper in

@@ -9,4 +9,4 @@ pub slice_on-requires-clause-lists : goal.slice_on-requires-clause-lists
 slice_on-requires-clause-lists c =
     let r = c.in_ok-reserve.ensures.room in
     has_room 0 c.small-layout.result c.reserve.new.self c.args.slice _
-    (new_reserved 0 c.small-layout.result _ c.reserve.new.self c.in_ok-mutator.ensures.new c.reserve.ensures.kept) c.requires.slice r.0 r.1 r.2 r.3
+    (new_reserved 0 c.small-layout.result _ c.reserve.new.self c.in_ok-mutator.ensures.new c.reserve.ensures.kept) c.requires.slice r.0 r.1 r.2 r.3 r.4

@@ -14,4 +14,4 @@ pub run_slice-requires-clause-room : goal.run_slice-requires-clause-room
 run_slice-requires-clause-room g c = λ κs out.
     let r = c.in_ok-reserve.ensures.room in
     has_room c.args.number c.args.layout c.reserve.new.self 3 _
-    (new_reserved c.args.number c.args.layout _ c.reserve.new.self c.in_ok-mutator.ensures.new c.reserve.ensures.kept) (omega arith) r.0 r.1 r.2 r.3
+    (new_reserved c.args.number c.args.layout _ c.reserve.new.self c.in_ok-mutator.ensures.new c.reserve.ensures.kept) (omega arith) r.0 r.1 r.2 r.3 r.4

@@ -1,33 +1,95 @@
-use Rattle.std.proofs.Common.{◌≡◌, ◌⊎◌, ◌↔◌, List, inl, inr, sym, ap, subst, ◌∙◌, arith}
+use Rattle.std.proofs.Common.{◌≡◌, ◌≢◌, ◌⊎◌, ◌↔◌, ◌+◌, ◌<◌, ℕ, List, [], ◌∷◌, ◌++◌, get_or, length, take, inl, inr, refl, sym, ap, subst, ◌∙◌, arith}
 use Rattle.std.specs.Prelude.{Contains}
+use Rattle.std.proofs.lemmas.List.{get_or-map, get_or_default, length-map, take-map, take_all, take_more}
+use Rattle.std.proofs.lemmas.List.Elements.{Contains-append_left, Contains-append_right, Contains-append_cases}
+use Rattle.nmgc_world_spec.specs.declared.value.Name.{Name}
 use Rattle.nmgc_world_spec.specs.Reach.{IsInOrder}
+use Rattle.nmgc_world_spec.specs.laws.Orders.{in_order_apart}
+use Rattle.nmgc_lists.specs.laws.Items.{contains_map, contains_one, nothing_in, one_is}
 use Rattle.nmgc_weak.specs.declared.weaks.OldWeak.{OldWeak}
-use Rattle.nmgc_weak.specs.Weaks.{Weaks, names_of}
+use Rattle.nmgc_weak.specs.Weaks.{names_of}
+use Rattle.nmgc_weak.proofs.Finding.{at_contains}
 use Rattle.nmgc_weak.proofs.weaks.Weaks.add_all.Goals as goal
 
-pub merge-requires-clause-new : goal.merge-requires-clause-new
-merge-requires-clause-new c = λ one other a b.
-    let list : c.self.inside.list.items ≡ c.args.self.now.list = ap (λ (a : Weaks). a.list) c.self.view_is in
-    c.requires.new one other a (subst (λ (l : List OldWeak). Contains l other) (c.as_slice.ensures.value ∙ list) b)
+abbrev nobody : OldWeak
+nobody = record { weak = record { maker = 0; serial = 0 }; at = record { 0 = 0 } }
+
+-- who is among the first ones doesn't have the name of the next one
+apart : (fresh : List OldWeak) (i : ℕ) (x other : OldWeak) → IsInOrder (names_of fresh) → i < length fresh → x ≡ get_or fresh i x →
+    Contains (take i fresh) other → other.weak ≢ x.weak
+apart fresh i x other ordered lt is c same =
+    let names : List Name = names_of fresh in
+    let first : Contains (take i names) other.weak =
+    subst (λ (l : List Name). Contains l other.weak) (sym (take-map (λ (w : OldWeak). w.weak) i fresh)) (contains_map (λ (w : OldWeak). w.weak) (take i fresh) other c) in
+    let here : get_or names i x.weak ≡ x.weak = get_or-map (λ (w : OldWeak). w.weak) fresh i x x.weak lt ∙ ap (λ (w : OldWeak). w.weak) (sym is) in
+    in_order_apart i names x.weak ordered (let long = length-map fresh (λ (w : OldWeak). w.weak) in omega (arith, lt, long))
+    (subst (λ (n : Name). Contains (take i names) n) (same ∙ sym here) first)
+
+-- one more of those that join
+one_more : (old now next first : List OldWeak) (x other : OldWeak) → (Contains now other ↔ (Contains old other ⊎ Contains first other)) →
+    (Contains next other ↔ (Contains now other ⊎ (other ≡ x))) → Contains next other ↔ (Contains old other ⊎ Contains (first ++ x ∷ []) other)
+one_more old now next first x other before step = (
+  λ c. elim (step.0 c) [
+    | inl was ↦ elim (before.0 was) [
+      | inl a ↦ inl a
+      | inr b ↦ inr (Contains-append_left first (x ∷ []) other b)
+    ]
+    | inr e ↦ inr (Contains-append_right first (x ∷ []) other (subst (λ (y : OldWeak). Contains (x ∷ []) y) (sym e) (contains_one x)))
+  ],
+  λ c. elim c [
+    | inl a ↦ step.1 (inl (before.1 (inl a)))
+    | inr b ↦ elim (Contains-append_cases first (x ∷ []) other b) [
+      | inl d ↦ step.1 (inl (before.1 (inr d)))
+      | inr e ↦ step.1 (inr (sym (one_is x other e)))
+    ]
+  ],
+)
+
+pub loop-weak-init : goal.loop-weak-init
+loop-weak-init c = record {
+  list = λ other. (λ a. inl a, λ a. elim a [ inl b ↦ b | inr none ↦ absurd (nothing_in other none) ]);
+  ordered = c.self.ordered;
+  spare = omega arith;
+  deaths = refl;
+}
+
+pub add-requires-clause-room : goal.add-requires-clause-room
+add-requires-clause-room c =
+    let room = c.requires.room in
+    let spare = c.loop-weak.invariant.spare in
+    let lt = c.loop-weak-test.true in
+    omega (arith, room, spare, lt)
+
+pub add-requires-clause-new : goal.add-requires-clause-new
+add-requires-clause-new c other there =
+    let fresh : List OldWeak = c.args.fresh.now in
+    let i : ℕ = c.loop-weak.weak-index in
+    let lt = c.loop-weak-test.true in
+    let x : OldWeak = get_or fresh i nobody in
+    let same : x ≡ get_or fresh i x = get_or_default fresh i nobody x lt in
+    elim ((c.loop-weak.invariant.list other).0 there) [
+      | inl was ↦ c.requires.new x other (at_contains fresh i nobody lt) was
+      | inr first ↦ apart fresh i x other c.requires.ordered lt same first
+    ]
+
+pub loop-weak-preserved : goal.loop-weak-preserved
+loop-weak-preserved c =
+    let fresh : List OldWeak = c.args.fresh.now in
+    let i : ℕ = c.loop-weak.weak-index in
+    let lt = c.loop-weak-test.true in
+    let x : OldWeak = get_or fresh i nobody in
+    let inv = c.loop-weak.invariant in
+    let less = c.add.ensures.spare in
+    record {
+      list = λ other. subst (λ (l : List OldWeak). Contains c.add.new.self.list other ↔ (Contains c.args.self.now.list other ⊎ Contains l other))
+          (sym (take_more fresh i nobody lt)) (one_more c.args.self.now.list c.loop-weak.self.list c.add.new.self.list (take i fresh) x other
+          (inv.list other) (c.add.ensures.list other));
+      ordered = c.add.ensures.ordered;
+      spare = let spare = inv.spare in omega (arith, spare, less);
+      deaths = c.add.ensures.deaths ∙ inv.deaths;
+    }
 
 pub returns-clause-list : goal.returns-clause-list
 returns-clause-list c = λ other.
-    let list : c.as_slice.result.now ≡ c.args.self.now.list = c.as_slice.ensures.value ∙ ap (λ (a : Weaks). a.list) c.self.view_is in
-    let items : c.swap.new.x.items ≡ c.merge.new.all.items = ap (λ v. v.items) c.swap.ensures.x_after in
-    subst (λ (l : List OldWeak). Contains l other ↔ (Contains c.args.self.now.list other ⊎ Contains c.args.fresh.now other)) (sym items)
-    (subst (λ (l : List OldWeak). Contains c.merge.new.all.items other ↔
-    (Contains l other ⊎ Contains c.args.fresh.now other)) list (c.merge.ensures.both other))
-
-pub returns-clause-ordered : goal.returns-clause-ordered
-returns-clause-ordered c =
-    let items : c.swap.new.x.items ≡ c.merge.new.all.items = ap (λ v. v.items) c.swap.ensures.x_after in
-    subst (λ (l : List OldWeak). IsInOrder (names_of l)) (sym items) c.merge.ensures.ordered
-
-pub returns-then-is_empty-clause-list : goal.returns-then-is_empty-clause-list
-returns-then-is_empty-clause-list c = λ other.
-    let list : c.self.inside.list.items ≡ c.args.self.now.list = ap (λ (a : Weaks). a.list) c.self.view_is in
-    subst (λ (l : List OldWeak). Contains c.self.inside.list.items other ↔ (Contains l other ⊎ Contains c.args.fresh.now other)) list
-    (λ old. inl old, λ either. elim either [ inl old ↦ old | inr new ↦ absurd (grind (arith, new.1, c.if-is_empty.ensures)) ])
-
-pub returns-then-is_empty-clause-ordered : goal.returns-then-is_empty-clause-ordered
-returns-then-is_empty-clause-ordered c = c.self.invariant.0
+    subst (λ (l : List OldWeak). Contains c.loop-weak.self.list other ↔ (Contains c.args.self.now.list other ⊎ Contains l other))
+    (take_all c.loop-weak.weak-index c.args.fresh.now c.loop-weak-test.false) (c.loop-weak.invariant.list other)

@@ -1,33 +1,49 @@
-use Rattle.std.proofs.Common.{◌≡◌, List, sym, ap, subst, ◌∙◌, arith}
-use Rattle.std.specs.Prelude.{Contains}
-use Rattle.nmgc_world_spec.specs.Reach.{IsInOrder}
+use Rattle.std.proofs.Common.{◌≡◌, ℕ, List, ap, subst, ◌∙◌, arith, length}
+use Rattle.std.specs.Prelude.{Contains, slice_get}
 use Rattle.nmgc_weak.specs.declared.weaks.OldWeak.{OldWeak}
-use Rattle.nmgc_weak.specs.Weaks.{Weaks, names_of, is_alive, alive_of}
-use Rattle.nmgc_weak.proofs.Leaving.{filter_ordered}
+use Rattle.nmgc_weak.specs.Rows.{Row, list_of}
+use Rattle.nmgc_weak.specs.Weaks.{Weaks, is_alive, alive_of}
+use Rattle.nmgc_weak.proofs.RowLaws.{all_left, filtered_few, rows_filtered, rows_ordered}
 use Rattle.nmgc_weak.proofs.weaks.Weaks.leave.Goals as goal
 
-pub gather_alive-requires-clause-inside : goal.gather_alive-requires-clause-inside
-gather_alive-requires-clause-inside g c = λ weak k.
-    let list : c.self.inside.list.items ≡ c.args.self.now.list = ap (λ (a : Weaks). a.list) c.self.view_is in
-    c.requires weak (subst (λ (l : List OldWeak). Contains l weak) (c.as_slice.ensures.value ∙ list) k)
+pub dead_leave-requires : goal.dead_leave-requires
+dead_leave-requires g c = λ weak k.
+    let list : list_of c.self.inside.rows.items ≡ c.args.self.now.list = ap (λ (a : Weaks). a.list) c.self.view_is in
+    c.requires weak (subst (λ (l : List OldWeak). Contains l weak) (ap list_of c.as_mut_slice.ensures.value ∙ list) k)
 
 pub invariant_of-self : goal.invariant_of-self
 invariant_of-self g c =
     let ws = g.W.HeapWords.words c.args.words.now in
     let inv = c.self.invariant in
-    let few = c.gather_alive.ensures.few in
-    let len = c.as_slice.ensures.len in
-    let cap = c.gather_alive.ensures.capacity in
-    let clear = c.clear.ensures.capacity in
-    let ordered : IsInOrder (names_of (alive_of ws c.self.inside.list.items)) = filter_ordered (is_alive ws) c.self.inside.list.items inv.0 in
-    let items : c.swap.new.x.items ≡ alive_of ws c.self.inside.list.items = ap (λ v. v.items) c.swap.ensures.x_after ∙ c.gather_alive.ensures.kept ∙
-    ap (λ (l : List OldWeak). alive_of ws l) c.as_slice.ensures.value in (
-      subst (λ (l : List OldWeak). IsInOrder (names_of l)) (sym items) ordered,
-      rw c.swap.ensures.x_after (omega (arith, few, len, inv.1)),
-      rw c.swap.ensures.x_after (omega (arith, cap, clear, inv.3)),
-      rw c.swap.ensures.y_after (omega (arith, inv.2)),
+    let rows : List Row = c.self.inside.rows.items in
+    let now : List Row = c.dead_leave.new.rows in
+    let there : c.as_mut_slice.result.now ≡ rows = c.as_mut_slice.ensures.value in
+    let count : length now ≡ length rows = c.dead_leave.ensures.count ∙ ap length there in
+    let each = λ (k : ℕ) (old new : Row) e f.
+    c.dead_leave.ensures.rows k old new (ap (λ (l : List Row). slice_get l k) there ∙ e) f in
+    let list : list_of now ≡ alive_of ws (list_of rows) = rows_filtered (is_alive ws) rows now count (λ k old new e f. (each k old new e f).0) in
+    let few = filtered_few (is_alive ws) (list_of rows) in
+    let same = ap length list in (
+      all_left (is_alive ws) rows now c.self.inside.room inv.0 count each,
+      omega (arith, few, same, inv.1),
+      inv.2,
+      inv.3,
       inv.4,
       inv.5,
       inv.6,
       inv.7,
+      inv.8,
     )
+
+pub returns-clause-list : goal.returns-clause-list
+returns-clause-list g c =
+    let ws = g.W.HeapWords.words c.args.words.now in
+    let rows : List Row = c.self.inside.rows.items in
+    let now : List Row = c.dead_leave.new.rows in
+    let there : c.as_mut_slice.result.now ≡ rows = c.as_mut_slice.ensures.value in
+    let list : list_of rows ≡ c.args.self.now.list = ap (λ (a : Weaks). a.list) c.self.view_is in
+    rows_filtered (is_alive ws) rows now (c.dead_leave.ensures.count ∙ ap length there) (λ k old new e f.
+    (c.dead_leave.ensures.rows k old new (ap (λ (l : List Row). slice_get l k) there ∙ e) f).0) ∙ ap (λ (l : List OldWeak). alive_of ws l) list
+
+pub returns-clause-ordered : goal.returns-clause-ordered
+returns-clause-ordered g c = rows_ordered _ _ (invariant_of-self g c).0

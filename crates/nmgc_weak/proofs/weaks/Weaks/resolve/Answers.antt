@@ -7,6 +7,7 @@ use Rattle.nmgc_weak.specs.declared.weaks.OldWeak.{OldWeak}
 use Rattle.nmgc_weak.specs.declared.weaks.Death.{Death}
 use Rattle.nmgc_weak.specs.Resolve.{CanResolve, HasResolved}
 use Rattle.nmgc_weak.specs.Steps.{AreLost, HasRevived, CanRescue, HasRescued}
+use Rattle.nmgc_weak.specs.Rows.{list_of}
 use Rattle.nmgc_weak.specs.Weaks.{Weaks, AreWithin, places_of, alive_of, without_values, deaths_of}
 use Rattle.nmgc_weak.proofs.Clearing.{cleared_length}
 use Rattle.nmgc_weak.proofs.Counting.{marked_sum}
@@ -57,66 +58,71 @@ can_save o words now s k list dying d1 e g f = record {
 pub revive-requires-clause-within : goal.revive-requires-clause-within
 revive-requires-clause-within g c =
     let ws = g.W.HeapWords.words c.args.words.now in
-    let list : c.self.inside.list.items ≡ c.args.self.now.list = ap (λ (a : Weaks). a.list) c.self.view_is in
+    let kept : list_of c.self.inside.rows.items ≡ c.args.self.now.list = ap (λ (a : Weaks). a.list) c.self.view_is in
+    let list : c.list_rows.new.all.items ≡ c.args.self.now.list = c.list_rows.ensures.items ∙ ap list_of c.as_slice.ensures.value ∙ kept in
     let r = c.requires.can in
-    within_at ws ws c.args.self.now.list c.as_slice.result.now refl (c.as_slice.ensures.value ∙
+    within_at ws ws c.args.self.now.list c.as_slice-2.result.now refl (c.as_slice-2.ensures.value ∙
     list) (can_within r.0 ws c.args.segments.now c.args.marker.now c.args.self.now.list r.1)
 
 pub find_dying-requires-clause-within : goal.find_dying-requires-clause-within
 find_dying-requires-clause-within g c =
     let ws = g.W.HeapWords.words c.args.words.now in
-    let list : c.self.inside.list.items ≡ c.args.self.now.list = ap (λ (a : Weaks). a.list) c.self.view_is in
+    let kept : list_of c.self.inside.rows.items ≡ c.args.self.now.list = ap (λ (a : Weaks). a.list) c.self.view_is in
+    let list : c.list_rows.new.all.items ≡ c.args.self.now.list = c.list_rows.ensures.items ∙ ap list_of c.as_slice.ensures.value ∙ kept in
     let r = c.requires.can in
-    within_at ws (g.W.HeapWords.words c.revive.new.words) c.args.self.now.list c.as_slice-2.result.now c.revive.ensures.words
-    (c.as_slice-2.ensures.value ∙ list) (can_within r.0 ws c.args.segments.now c.args.marker.now c.args.self.now.list r.1)
+    within_at ws (g.W.HeapWords.words c.revive.new.words) c.args.self.now.list c.as_slice-3.result.now c.revive.ensures.words
+    (c.as_slice-3.ensures.value ∙ list) (can_within r.0 ws c.args.segments.now c.args.marker.now c.args.self.now.list r.1)
 
 pub save_finalisers-requires-clause-within : goal.save_finalisers-requires-clause-within
 save_finalisers-requires-clause-within g c =
     let ws = g.W.HeapWords.words c.args.words.now in
-    let list : c.self.inside.list.items ≡ c.args.self.now.list = ap (λ (a : Weaks). a.list) c.self.view_is in
+    let kept : list_of c.self.inside.rows.items ≡ c.args.self.now.list = ap (λ (a : Weaks). a.list) c.self.view_is in
+    let list : c.list_rows.new.all.items ≡ c.args.self.now.list = c.list_rows.ensures.items ∙ ap list_of c.as_slice.ensures.value ∙ kept in
     let r = c.requires.can in
     let f = found r.0 ws (g.W.HeapWords.words c.revive.new.words) c.args.segments.now c.revive.new.segments c.args.marker.now c.revive.new.marker
-    c.args.self.now.list c.as_slice.result.now c.as_slice-2.result.now c.find_dying.new.dying.items r.1 (c.as_slice.ensures.value ∙
-    list) (c.as_slice-2.ensures.value ∙ list) c.revive.ensures.words c.revive.ensures.revived c.find_dying.ensures.found in
+    c.args.self.now.list c.as_slice-2.result.now c.as_slice-3.result.now c.find_dying.new.dying.items r.1 (c.as_slice-2.ensures.value ∙
+    list) (c.as_slice-3.ensures.value ∙ list) c.revive.ensures.words c.revive.ensures.revived c.find_dying.ensures.found in
     let dying = lost_within f.revived.next ws c.args.self.now.list c.find_dying.new.dying.items
     (can_within r.0 ws c.args.segments.now c.args.marker.now c.args.self.now.list r.1) f.lost in
-    within_at ws (g.W.HeapWords.words c.find_dying.new.words) c.find_dying.new.dying.items c.as_slice-3.result.now (c.find_dying.ensures.words ∙
-    c.revive.ensures.words) c.as_slice-3.ensures.value dying
+    within_at ws (g.W.HeapWords.words c.find_dying.new.words) c.find_dying.new.dying.items c.as_slice-4.result.now (c.find_dying.ensures.words ∙
+    c.revive.ensures.words) c.as_slice-4.ensures.value dying
 
 pub save_finalisers-requires-clause-can : goal.save_finalisers-requires-clause-can
 save_finalisers-requires-clause-can g c =
     let ws = g.W.HeapWords.words c.args.words.now in
-    let list : c.self.inside.list.items ≡ c.args.self.now.list = ap (λ (a : Weaks). a.list) c.self.view_is in
+    let kept : list_of c.self.inside.rows.items ≡ c.args.self.now.list = ap (λ (a : Weaks). a.list) c.self.view_is in
+    let list : c.list_rows.new.all.items ≡ c.args.self.now.list = c.list_rows.ensures.items ∙ ap list_of c.as_slice.ensures.value ∙ kept in
     let r = c.requires.can in
     let f = found r.0 ws (g.W.HeapWords.words c.revive.new.words) c.args.segments.now c.revive.new.segments c.args.marker.now c.revive.new.marker
-    c.args.self.now.list c.as_slice.result.now c.as_slice-2.result.now c.find_dying.new.dying.items r.1 (c.as_slice.ensures.value ∙
-    list) (c.as_slice-2.ensures.value ∙ list) c.revive.ensures.words c.revive.ensures.revived c.find_dying.ensures.found in (
+    c.args.self.now.list c.as_slice-2.result.now c.as_slice-3.result.now c.find_dying.new.dying.items r.1 (c.as_slice-2.ensures.value ∙
+    list) (c.as_slice-3.ensures.value ∙ list) c.revive.ensures.words c.revive.ensures.revived c.find_dying.ensures.found in (
       f.revived.next,
       places_of c.args.self.now.list,
       can_save r.0 ws (g.W.HeapWords.words c.find_dying.new.words) c.revive.new.segments c.revive.new.marker c.args.self.now.list
-          c.find_dying.new.dying.items c.as_slice-3.result.now (c.find_dying.ensures.words ∙ c.revive.ensures.words) c.as_slice-3.ensures.value f,
+          c.find_dying.new.dying.items c.as_slice-4.result.now (c.find_dying.ensures.words ∙ c.revive.ensures.words) c.as_slice-4.ensures.value f,
     )
 
 pub clear_values-requires : goal.clear_values-requires
 clear_values-requires g c =
     let ws = g.W.HeapWords.words c.args.words.now in
-    let list : c.self.inside.list.items ≡ c.args.self.now.list = ap (λ (a : Weaks). a.list) c.self.view_is in
+    let kept : list_of c.self.inside.rows.items ≡ c.args.self.now.list = ap (λ (a : Weaks). a.list) c.self.view_is in
+    let list : c.list_rows.new.all.items ≡ c.args.self.now.list = c.list_rows.ensures.items ∙ ap list_of c.as_slice.ensures.value ∙ kept in
     let r = c.requires.can in
     let f = found r.0 ws (g.W.HeapWords.words c.revive.new.words) c.args.segments.now c.revive.new.segments c.args.marker.now c.revive.new.marker
-    c.args.self.now.list c.as_slice.result.now c.as_slice-2.result.now c.find_dying.new.dying.items r.1 (c.as_slice.ensures.value ∙
-    list) (c.as_slice-2.ensures.value ∙ list) c.revive.ensures.words c.revive.ensures.revived c.find_dying.ensures.found in
+    c.args.self.now.list c.as_slice-2.result.now c.as_slice-3.result.now c.find_dying.new.dying.items r.1 (c.as_slice-2.ensures.value ∙
+    list) (c.as_slice-3.ensures.value ∙ list) c.revive.ensures.words c.revive.ensures.revived c.find_dying.ensures.found in
     let dying = lost_within f.revived.next ws c.args.self.now.list c.find_dying.new.dying.items
     (can_within r.0 ws c.args.segments.now c.args.marker.now c.args.self.now.list r.1) f.lost in
-    within_at ws (g.W.HeapWords.words c.save_finalisers.new.words) c.find_dying.new.dying.items c.as_slice-4.result.now
-    (c.save_finalisers.ensures.words ∙ c.find_dying.ensures.words ∙ c.revive.ensures.words) c.as_slice-4.ensures.value dying
+    within_at ws (g.W.HeapWords.words c.save_finalisers.new.words) c.find_dying.new.dying.items c.as_slice-5.result.now
+    (c.save_finalisers.ensures.words ∙ c.find_dying.ensures.words ∙ c.revive.ensures.words) c.as_slice-5.ensures.value dying
 
 pub leave-requires : goal.leave-requires
 leave-requires g c = λ weak k.
     let ws = g.W.HeapWords.words c.args.words.now in
-    let list : c.self.inside.list.items ≡ c.args.self.now.list = ap (λ (a : Weaks). a.list) c.self.view_is in
+    let kept : list_of c.self.inside.rows.items ≡ c.args.self.now.list = ap (λ (a : Weaks). a.list) c.self.view_is in
     let r = c.requires.can in
-    let within = can_within r.0 ws c.args.segments.now c.args.marker.now c.args.self.now.list r.1 weak (subst (λ (l : List OldWeak). Contains l weak) list k) in
-    let l = ap length (c.clear_values.ensures) ∙ cleared_length (g.W.HeapWords.words c.save_finalisers.new.words) c.as_slice-4.result.now ∙
+    let within = can_within r.0 ws c.args.segments.now c.args.marker.now c.args.self.now.list r.1 weak (subst (λ (l : List OldWeak). Contains l weak) kept k) in
+    let l = ap length (c.clear_values.ensures) ∙ cleared_length (g.W.HeapWords.words c.save_finalisers.new.words) c.as_slice-5.result.now ∙
     ap length (c.save_finalisers.ensures.words ∙ c.find_dying.ensures.words ∙ c.revive.ensures.words) in
     let inside = within.inside in
     omega (arith, l, inside)
@@ -129,27 +135,28 @@ returns-clause-marked g c =
 pub returns-clause-resolved : goal.returns-clause-resolved
 returns-clause-resolved g c = λ o h.
     let ws = g.W.HeapWords.words c.args.words.now in
-    let list : c.self.inside.list.items ≡ c.args.self.now.list = ap (λ (a : Weaks). a.list) c.self.view_is in
+    let kept : list_of c.self.inside.rows.items ≡ c.args.self.now.list = ap (λ (a : Weaks). a.list) c.self.view_is in
+    let list : c.list_rows.new.all.items ≡ c.args.self.now.list = c.list_rows.ensures.items ∙ ap list_of c.as_slice.ensures.value ∙ kept in
     let dying : List OldWeak = c.find_dying.new.dying.items in
     let f = found o ws (g.W.HeapWords.words c.revive.new.words) c.args.segments.now c.revive.new.segments c.args.marker.now c.revive.new.marker
-    c.args.self.now.list c.as_slice.result.now c.as_slice-2.result.now dying h (c.as_slice.ensures.value ∙ list) (c.as_slice-2.ensures.value ∙
+    c.args.self.now.list c.as_slice-2.result.now c.as_slice-3.result.now dying h (c.as_slice-2.ensures.value ∙ list) (c.as_slice-3.ensures.value ∙
     list) c.revive.ensures.words c.revive.ensures.revived c.find_dying.ensures.found in
     let p : Opening = f.revived.next in
     let w2 = c.find_dying.ensures.words ∙ c.revive.ensures.words in
     let w3 = c.save_finalisers.ensures.words ∙ w2 in
     let can = can_save o ws (g.W.HeapWords.words c.find_dying.new.words) c.revive.new.segments c.revive.new.marker c.args.self.now.list dying
-    c.as_slice-3.result.now w2 c.as_slice-3.ensures.value f in
+    c.as_slice-4.result.now w2 c.as_slice-4.ensures.value f in
     let saved = subst (λ (y : List OldWeak).
-    HasRescued p c.save_finalisers.new.segments c.save_finalisers.new.marker y) c.as_slice-3.ensures.value
+    HasRescued p c.save_finalisers.new.segments c.save_finalisers.new.marker y) c.as_slice-4.ensures.value
     (c.save_finalisers.ensures.saved p (places_of c.args.self.now.list) can) in
     let done = resolved o ws c.args.segments.now c.revive.new.segments c.save_finalisers.new.segments c.args.marker.now c.revive.new.marker
     c.save_finalisers.new.marker c.args.self.now.list dying h p f.revived.goes.later f.revived.goes.can f.lost saved in
-    let us = c.clear_values.ensures ∙ ap (λ (x : List ℕ). without_values x c.as_slice-4.result.now) w3 ∙
-    ap (λ (y : List OldWeak). without_values ws y) c.as_slice-4.ensures.value in
-    let lists = c.leave.ensures.list ∙ ap (λ (x : List ℕ). alive_of x c.self.inside.list.items) us ∙
-    ap (λ (y : List OldWeak). alive_of (without_values ws dying) y) list in
-    let deaths = c.leave.ensures.deaths ∙ c.save_finalisers.ensures.deaths ∙ ap (λ (x : List ℕ). deaths_of x c.as_slice-3.result.now) w2 ∙
-    ap (λ (y : List OldWeak). deaths_of ws y) c.as_slice-3.ensures.value in
+    let us = c.clear_values.ensures ∙ ap (λ (x : List ℕ). without_values x c.as_slice-5.result.now) w3 ∙
+    ap (λ (y : List OldWeak). without_values ws y) c.as_slice-5.ensures.value in
+    let lists = c.leave.ensures.list ∙ ap (λ (x : List ℕ). alive_of x (list_of c.self.inside.rows.items)) us ∙
+    ap (λ (y : List OldWeak). alive_of (without_values ws dying) y) kept in
+    let deaths = c.leave.ensures.deaths ∙ c.save_finalisers.ensures.deaths ∙ ap (λ (x : List ℕ). deaths_of x c.as_slice-4.result.now) w2 ∙
+    ap (λ (y : List OldWeak). deaths_of ws y) c.as_slice-4.ensures.value in
     resolved_at o c.save_finalisers.new.segments c.save_finalisers.new.marker (without_values ws dying) (g.W.HeapWords.words c.leave.new.words)
     (alive_of (without_values ws dying) c.args.self.now.list) c.leave.new.self.list (deaths_of ws dying) c.leave.new.self.deaths
     (c.leave.ensures.words ∙ us) lists deaths done
@@ -157,16 +164,17 @@ returns-clause-resolved g c = λ o h.
 pub returns-clause-values : goal.returns-clause-values
 returns-clause-values g c =
     let ws = g.W.HeapWords.words c.args.words.now in
-    let list : c.self.inside.list.items ≡ c.args.self.now.list = ap (λ (a : Weaks). a.list) c.self.view_is in
+    let kept : list_of c.self.inside.rows.items ≡ c.args.self.now.list = ap (λ (a : Weaks). a.list) c.self.view_is in
+    let list : c.list_rows.new.all.items ≡ c.args.self.now.list = c.list_rows.ensures.items ∙ ap list_of c.as_slice.ensures.value ∙ kept in
     let dying : List OldWeak = c.find_dying.new.dying.items in
     let r = c.requires.can in
     let f = found r.0 ws (g.W.HeapWords.words c.revive.new.words) c.args.segments.now c.revive.new.segments c.args.marker.now c.revive.new.marker
-    c.args.self.now.list c.as_slice.result.now c.as_slice-2.result.now dying r.1 (c.as_slice.ensures.value ∙
-    list) (c.as_slice-2.ensures.value ∙ list) c.revive.ensures.words c.revive.ensures.revived c.find_dying.ensures.found in
+    c.args.self.now.list c.as_slice-2.result.now c.as_slice-3.result.now dying r.1 (c.as_slice-2.ensures.value ∙
+    list) (c.as_slice-3.ensures.value ∙ list) c.revive.ensures.words c.revive.ensures.revived c.find_dying.ensures.found in
     let w2 = c.find_dying.ensures.words ∙ c.revive.ensures.words in
     let us = c.leave.ensures.words ∙ c.clear_values.ensures ∙
-    ap (λ (x : List ℕ). without_values x c.as_slice-4.result.now) (c.save_finalisers.ensures.words ∙ w2) ∙
-    ap (λ (y : List OldWeak). without_values ws y) c.as_slice-4.ensures.value in
-    let deaths = c.leave.ensures.deaths ∙ c.save_finalisers.ensures.deaths ∙ ap (λ (x : List ℕ). deaths_of x c.as_slice-3.result.now) w2 ∙
-    ap (λ (y : List OldWeak). deaths_of ws y) c.as_slice-3.ensures.value in
+    ap (λ (x : List ℕ). without_values x c.as_slice-5.result.now) (c.save_finalisers.ensures.words ∙ w2) ∙
+    ap (λ (y : List OldWeak). without_values ws y) c.as_slice-5.ensures.value in
+    let deaths = c.leave.ensures.deaths ∙ c.save_finalisers.ensures.deaths ∙ ap (λ (x : List ℕ). deaths_of x c.as_slice-4.result.now) w2 ∙
+    ap (λ (y : List OldWeak). deaths_of ws y) c.as_slice-4.ensures.value in
     lost_values f.revived.next ws (g.W.HeapWords.words c.leave.new.words) c.args.self.now.list dying c.leave.new.self.deaths f.lost deaths us

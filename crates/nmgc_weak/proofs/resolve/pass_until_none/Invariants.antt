@@ -4,7 +4,7 @@ use Rattle.nmgc_mark.specs.Marker.{HasMarked}
 use Rattle.nmgc_weak.specs.Resolve.{CanResolve}
 use Rattle.nmgc_weak.specs.Steps.{GoesTo}
 use Rattle.nmgc_weak.specs.Weaks.{places_of}
-use Rattle.nmgc_weak.proofs.resolve.revive.Given as goal
+use Rattle.nmgc_weak.proofs.resolve.pass_until_none.Given as goal
 
 abbrev pub invariant-loop-before : goal.invariant-loop-before
 invariant-loop-before g l = record {

@@ -1,0 +1,64 @@
+-- The bound of a queue's pointers, as words come, change and go.
+use Rattle.std.proofs.Common.{◌≡◌, ◌+◌, ◌*◌, ◌%◌, ◌<◌, ◌≤◌, ◌⊎◌, ℕ, zero, suc, List, [], ◌∷◌, ◌++◌, drop, set, length, sym, subst, arith, inl, inr}
+use Rattle.std.specs.Prelude.{Contains}
+use Rattle.std.proofs.lemmas.List.{drop-append-le, drop-set-add}
+use Rattle.std.proofs.lemmas.List.Elements.{Contains-push_cases}
+use Rattle.nmgc_lists.specs.laws.Items.{contains_head, contains_tail, contains_cases, nothing_in}
+use Rattle.nmgc_object.specs.FinQueue.{HavePointersUpTo, ArePointersBelow}
+
+pub none_up_to : (highest : ℕ) → HavePointersUpTo [] highest
+none_up_to highest word c even = absurd (nothing_in word c)
+
+-- some of the words alone
+pub fewer_up_to : (words fewer : List ℕ) (highest : ℕ) → ((word : ℕ) → Contains fewer word → Contains words word) → HavePointersUpTo words highest →
+    HavePointersUpTo fewer highest
+fewer_up_to words fewer highest within h word c even = h word (within word c) even
+
+-- one word more
+pub one_up_to : (words : List ℕ) (w highest higher : ℕ) → HavePointersUpTo words highest → highest ≤ higher → (w % 2 ≡ 0 → w ≤ higher) →
+    HavePointersUpTo (words ++ w ∷ []) higher
+one_up_to words w highest higher h le own word c even = elim (Contains-push_cases words w word c) [
+  | inl old ↦ let most = h word old even in omega (arith, most, le)
+  | inr same ↦ subst (λ n. n ≤ higher) same (own (subst (λ n. n % 2 ≡ 0) (sym same) even))
+]
+
+-- a word is what was put there, or was there before
+set_cases : (words : List ℕ) (i w word : ℕ) → Contains (set words i w) word → Contains words word ⊎ (w ≡ word)
+set_cases [] i w word c = inl c
+set_cases (x ∷ xs) zero w word c = elim (contains_cases w xs word c) [ inl e ↦ inr e | inr d ↦ inl (contains_tail x xs word d) ]
+set_cases (x ∷ xs) (suc i) w word c = elim (contains_cases x (set xs i w) word c) [
+  | inl e ↦ inl (subst (λ n. Contains (x ∷ xs) n) e (contains_head x xs))
+  | inr d ↦ elim (set_cases xs i w word d) [ inl k ↦ inl (contains_tail x xs word k) | inr e ↦ inr e ]
+]
+
+-- one word changed
+pub changed_up_to : (words : List ℕ) (i w highest higher : ℕ) → HavePointersUpTo words highest → highest ≤ higher → (w % 2 ≡ 0 → w ≤ higher) →
+    HavePointersUpTo (set words i w) higher
+changed_up_to words i w highest higher h le own word c even = elim (set_cases words i w word c) [
+  | inl old ↦ let most = h word old even in omega (arith, most, le)
+  | inr same ↦ subst (λ n. n ≤ higher) same (own (subst (λ n. n % 2 ≡ 0) (sym same) even))
+]
+
+-- what is left once one was taken was there before
+pub drop_fewer : (words : List ℕ) (first word : ℕ) → Contains (drop (first + 1) words) word → Contains (drop first words) word
+drop_fewer [] zero word c = c
+drop_fewer [] (suc first) word c = let z : suc first + 1 ≡ suc (first + 1) = omega arith in subst (λ n. Contains (drop n []) word) z c
+drop_fewer (x ∷ xs) zero word c = contains_tail x xs word c
+drop_fewer (x ∷ xs) (suc first) word c =
+    let z : suc first + 1 ≡ suc (first + 1) = omega arith in
+    drop_fewer xs first word (subst (λ n. Contains (drop n (x ∷ xs)) word) z c)
+
+-- at the whole list with the words that were taken
+pub added_up_to : (all : List ℕ) (first w highest higher : ℕ) → first ≤ length all → HavePointersUpTo (drop first all) highest → highest ≤ higher →
+    (w % 2 ≡ 0 → w ≤ higher) → HavePointersUpTo (drop first (all ++ w ∷ [])) higher
+added_up_to all first w highest higher le h more own = subst (λ (l : List ℕ). HavePointersUpTo l higher) (sym (drop-append-le first all (w ∷ []) le))
+    (one_up_to (drop first all) w highest higher h more own)
+
+pub put_up_to : (all : List ℕ) (first place w highest higher : ℕ) → HavePointersUpTo (drop first all) highest → highest ≤ higher →
+    (w % 2 ≡ 0 → w ≤ higher) → HavePointersUpTo (drop first (set all (first + place) w)) higher
+put_up_to all first place w highest higher h more own = subst (λ (l : List ℕ). HavePointersUpTo l higher) (sym (drop-set-add first all place w))
+    (changed_up_to (drop first all) place w highest higher h more own)
+
+-- a bound tells where no pointer leads
+pub below_of : (words : List ℕ) (highest place : ℕ) → HavePointersUpTo words highest → highest < 2 * place → ArePointersBelow words place
+below_of words highest place h lt word c even = let most = h word c even in omega (arith, most, lt)

@@ -1,0 +1,11 @@
+use Rattle.std.proofs.Common.{arith}
+use Rattle.nmgc_object.proofs.Pointers.{put_up_to}
+use Rattle.nmgc_object.proofs.fin_queue.FinQueue.set.Goals as goal
+
+pub invariant_of-self : goal.invariant_of-self
+invariant_of-self c =
+    let q = c.self.inside in
+    let inv = c.self.invariant in (
+      grind (arith, inv.0),
+      put_up_to q.words.items q.first c.args.place c.args.word q.highest c.raised-self-inside.result inv.1 c.raised-self-inside.ensures.kept c.raised-self-inside.ensures.pointer,
+    )

@@ -1,0 +1,14 @@
+use Rattle.std.proofs.Common.{◌≡◌, ◌<◌, ◌≤◌, ℕ, Some}
+use Rattle.std.specs.Prelude.{slice_get}
+use Rattle.nmgc_world_spec.specs.Reach.{IsInOrder}
+use Rattle.nmgc_weak.specs.Rows.{Row}
+use Rattle.nmgc_weak.specs.Weaks.{alive_of, names_of}
+use Rattle.nmgc_weak.proofs.weaks.dead_leave.Given as goal
+
+abbrev pub invariant-loop-row : goal.invariant-loop-row
+invariant-loop-row g l = record {
+  words : g.W.HeapWords.words l.words ≡ g.W.HeapWords.words l.fn.words;
+  done : (k : ℕ) (old new : Row) → k < l.row-index → slice_get l.fn.rows k ≡ Some old → slice_get l.row-items k ≡ Some new →
+      (new.list ≡ alive_of (g.W.HeapWords.words l.fn.words) old.list) × IsInOrder (names_of new.list) × (old.spare ≤ new.spare);
+  rest : (k : ℕ) → l.row-index ≤ k → slice_get l.row-items k ≡ slice_get l.fn.rows k;
+}

@@ -1,0 +1,33 @@
+use Rattle.std.proofs.Common.{◌≡◌, ◌≤◌, ℕ, List, get_or, refl, sym, ◌∙◌, arith, Some}
+use Rattle.std.specs.Prelude.{slice_get}
+use Rattle.nmgc_weak.specs.Rows.{Row}
+use Rattle.nmgc_weak.proofs.Entries.{read_row}
+use Rattle.nmgc_weak.proofs.RowLaws.{one_done, rest_stays}
+use Rattle.nmgc_weak.proofs.weaks.reserve_rows.Goals as goal
+
+pub loop-row-init : goal.loop-row-init
+loop-row-init c = record {
+  done = λ k old new less a b. absurd (omega (arith, less));
+  rest = λ k le. refl;
+}
+
+pub loop-row-preserved : goal.loop-row-preserved
+loop-row-preserved c =
+    let was : List Row = c.args.rows.now in
+    let now : List Row = c.loop-row.row-items in
+    let n : ℕ = c.loop-row.row-index in
+    let row : Row = c.row-item.result in
+    let next : Row = c.reserve.new.self in
+    let inv = c.loop-row.invariant in
+    let lt = c.loop-row-test.true in
+    let read : row ≡ get_or now n row = cc in
+    let at : slice_get was n ≡ Some row = sym (inv.rest n (omega arith)) ∙ read_row now n row lt read in
+    let own : (next.list ≡ row.list) × (row.spare ≤ next.spare) × (c.args.more ≤ next.spare) = (
+      c.reserve.ensures.list,
+      c.reserve.ensures.kept,
+      c.in_ok-reserve.ensures.ok,
+    ) in
+    record {
+      done = one_done (λ (old new : Row). (new.list ≡ old.list) × (old.spare ≤ new.spare) × (c.args.more ≤ new.spare)) was now n row next lt at own inv.done;
+      rest = rest_stays was now n next inv.rest;
+    }

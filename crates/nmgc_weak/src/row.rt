@@ -1,0 +1,219 @@
+//! One row of the list: the weak pointers of one maker, in order of their serials.
+//!
+//! A maker's names only grow, so whoever joins comes behind all that are there; and since a row is in order, whoever leaves
+//! is found by halves. Nothing moves then: an entry says that it left, and once half of a row have left, the others move
+//! together. So a join takes constant time, and a leave a logarithm, on the whole.
+//!
+//! Easy to get wrong: an entry that left still stands in the order, and its name may join again.
+ghost use Rattle.std.specs.Prelude.{ℕ, ◌≡◌, ◌≢◌, ◌⊎◌, ◌↔◌, ◌+◌, ◌<◌, ◌≤◌, [], ◌∷◌, ◌++◌, length, take, drop, slice_get, slice_index, Some, None, vec_len, vec_capacity, Contains, IsTrue, IfSome, IfNone, OnOk, OnErr};
+ghost use Rattle.nmgc_world_spec.specs.Reach.{IsBefore, IsInOrder};
+ghost use Rattle.nmgc_weak.specs.declared.weaks.OldWeak.{OldWeak as Old};
+ghost use Rattle.nmgc_weak.specs.declared.row.Entry.{Entry as Kept};
+ghost use Rattle.nmgc_weak.specs.Weaks.{AreInside, names_of, alive_of};
+ghost use Rattle.nmgc_weak.specs.Rows.{listed, entry_names, without, IsEntryAt};
+
+use crate::weaks::{OldWeak, VALUE, is_before};
+use nmgc_heap_spec::HeapWords;
+use nmgc_lists::NoMemory;
+use nmgc_object::Address;
+use nmgc_world_spec::Name;
+use std::alloc::Global;
+use std::marker::Model;
+
+/// A weak pointer of a row, and whether it left the list.
+#[derive(Clone, Copy, Debug, PartialEq, Eq)]
+pub(crate) struct Entry {
+    pub(crate) weak: OldWeak,
+    pub(crate) left: bool,
+}
+
+/// A row. Contracts see those that are in the list, in order, and for how many more there is room.
+#[derive(Drop)]
+pub(crate) struct Row {
+    entries: Vec<Entry>,
+    // How many of the entries left, at most.
+    gone: usize,
+}
+
+impl Model for Row {
+    ghost use Rattle.std.specs.Prelude.{◌-◌, vec_len, vec_capacity};
+    ghost use Rattle.nmgc_world_spec.specs.Reach.{IsInOrder};
+    ghost use Rattle.nmgc_weak.specs.Rows.{Row as Shown, listed, entry_names};
+
+    ghost Value = { Shown };
+
+    ghost view = { λ r. record {
+      list = listed r.entries.items;
+      spare = vec_capacity r.entries - vec_len r.entries;
+    } };
+
+    ghost invariant = { λ r. IsInOrder (entry_names r.entries.items) };
+}
+
+// Where the entry of a name is, if it has one: by halves.
+fn find(entries: &[Entry], weak: Name) -> Option<usize>
+    requires { IsInOrder (entry_names entries.now) }
+    ensures some { IfSome result (λ place. IsEntryAt entries.now place weak) }
+    ensures none { IfNone result ((entry : Kept) → Contains entries.now entry → entry.weak.weak ≢ weak) }
+{
+    let mut low = 0;
+    let mut high = entries.len();
+    while low < high {
+        let middle = low + (high - low) / 2;
+        let found = entries[middle].weak.weak;
+        if is_before(found, weak) {
+            low = middle + 1;
+        } else if is_before(weak, found) {
+            high = middle;
+        } else {
+            return Some(middle);
+        }
+    }
+    None
+}
+
+// Where a name's place among entries is, looked for from their end: all before it come before the name, and none after it.
+fn place_from_end(entries: &[Entry], weak: Name) -> usize
+    ensures within { result ≤ length entries.now }
+    ensures after { (j : ℕ) (entry : Kept) → slice_get entries.now j ≡ Some entry → result ≤ j → IsBefore weak entry.weak.weak }
+    ensures before { (j : ℕ) (entry : Kept) → slice_get entries.now j ≡ Some entry → result ≡ j + 1 → IsBefore weak entry.weak.weak → ⊥ }
+{
+    let mut place = entries.len();
+    while 0 < place {
+        let last = place - 1;
+        if is_before(weak, entries[last].weak.weak) {
+            place = last;
+        } else {
+            return place;
+        }
+    }
+    0
+}
+
+impl Row {
+    /// An empty row without room. Takes no memory.
+    pub(crate) fn new(alloc: Global) -> Self
+        ensures { result ≡ record { list = []; spare = 0 } }
+    {
+        Row {
+            entries: Vec::new(alloc),
+            gone: 0,
+        }
+    }
+
+    /// Makes room for so many more. The list stays, and room is never lost.
+    pub(crate) fn reserve(&mut self, more: usize) -> Result<(), NoMemory>
+        ensures list { self.new.list ≡ self.old.list }
+        ensures ok { OnOk result (more ≤ self.new.spare) }
+        ensures kept { self.old.spare ≤ self.new.spare }
+    {
+        self.entries.reserve(more)?;
+        Ok(())
+    }
+
+    /// Adds a weak pointer at its place in the order. There has to be room for it, and it isn't in the list. Takes no memory,
+    /// and time for the names that come after it.
+    pub(crate) fn add(&mut self, weak: Name, at: Address)
+        requires room { 0 < self.old.spare }
+        requires new { (other : Old) → Contains self.old.list other → other.weak ≢ weak }
+        ensures list { (other : Old) → Contains self.new.list other ↔ (Contains self.old.list other ⊎ (other ≡ record { weak = weak; at = at })) }
+        ensures ordered { IsInOrder (names_of self.new.list) }
+        ensures count { length self.new.list ≤ length self.old.list + 1 }
+        ensures spare { self.old.spare ≤ self.new.spare + 1 }
+    {
+        let entry = Entry {
+            weak: OldWeak { weak, at },
+            left: false,
+        };
+        let place = place_from_end(self.entries.as_slice(), weak);
+        // One of this name left the list before: its entry is used again.
+        if 0 < place {
+            let last = place - 1;
+            if !is_before(self.entries[last].weak.weak, weak) {
+                self.entries[last] = entry;
+                return;
+            }
+        }
+        match self.entries.insert(place, entry) {
+            Ok(()) => {}
+            Err(_) => unreachable!(),
+        }
+    }
+
+    /// Takes the weak pointer of this name out of the list, if it lies at this place. Takes no memory, and a logarithm of time
+    /// on the whole.
+    pub(crate) fn leave(&mut self, weak: Name, at: Address)
+        ensures list { self.new.list ≡ without (record { weak = weak; at = at }) self.old.list }
+        ensures ordered { IsInOrder (names_of self.new.list) }
+        ensures spare { self.old.spare ≤ self.new.spare }
+    {
+        let Some(place) = find(self.entries.as_slice(), weak) else {
+            return;
+        };
+        if self.entries[place].weak.at.0 != at.0 {
+            return;
+        }
+        let entry = &mut self.entries[place];
+        entry.left = true;
+        self.gone = self.gone.saturating_add(1);
+        if self.gone > self.entries.len() / 2 {
+            self.move_together();
+        }
+    }
+
+    // The entries that left are forgotten.
+    fn move_together(&mut self)
+        ensures list { self.new.list ≡ self.old.list }
+        ensures spare { self.old.spare ≤ self.new.spare }
+    {
+        self.entries.retain(|entry| !entry.left);
+        self.gone = 0;
+    }
+
+    /// Takes those out of the list whose value word is 0. No word changes. Takes no memory.
+    pub(crate) fn leave_dead<W: HeapWords>(&mut self, words: &mut W)
+        requires { AreInside (W.words words.old) self.old.list }
+        ensures words { W.words words.new ≡ W.words words.old }
+        ensures list { self.new.list ≡ alive_of (W.words words.old) self.old.list }
+        ensures ordered { IsInOrder (names_of self.new.list) }
+        ensures spare { self.old.spare ≤ self.new.spare }
+    {
+        mark_dead(self.entries.as_mut_slice(), words);
+        self.move_together();
+    }
+
+    /// Adds those of the list to another, in order. There has to be room for them. Takes no memory.
+    pub(crate) fn list_into(&self, all: &mut Vec<OldWeak>)
+        requires { vec_len all.old + length self.now.list ≤ vec_capacity all.old }
+        ensures items { all.new.items ≡ all.old.items ++ self.now.list }
+        ensures capacity { vec_capacity all.new ≡ vec_capacity all.old }
+    {
+        for entry in self.entries.as_slice() {
+            if !entry.left {
+                all.push_reserved(entry.weak);
+            }
+        }
+    }
+
+    /// How many entries there are: no fewer than those of the list. Takes no memory.
+    pub(crate) fn count(&self) -> usize
+        ensures { length self.now.list ≤ result }
+    {
+        self.entries.len()
+    }
+}
+
+// Those of some entries whose value word is 0 have left.
+fn mark_dead<W: HeapWords>(entries: &mut [Entry], words: &mut W)
+    requires { AreInside (W.words words.old) (listed entries.old) }
+    ensures words { W.words words.new ≡ W.words words.old }
+    ensures listed { listed entries.new ≡ alive_of (W.words words.old) (listed entries.old) }
+    ensures names { entry_names entries.new ≡ entry_names entries.old }
+{
+    for entry in entries.iter_mut() {
+        // The words of one that left mean nothing.
+        if !entry.left && words.load(entry.weak.at.0 as usize + VALUE) == 0 {
+            entry.left = true;
+        }
+    }
+}
