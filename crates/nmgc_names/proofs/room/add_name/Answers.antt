@@ -1,5 +1,4 @@
 use Rattle.std.proofs.Common.{◌≡◌, ◌+◌, ◌-◌, ◌∙◌, [], ◌∷◌, ◌++◌, List, length, ap, arith}
-use Rattle.nmgc_world_spec.specs.declared.value.Name.{Name}
 use Rattle.nmgc_names.specs.declared.span.Span.{Span}
 use Rattle.nmgc_names.specs.Spans.{names_in, names_of}
 use Rattle.nmgc_names.specs.laws.Spans.{last_longer, one_more}
