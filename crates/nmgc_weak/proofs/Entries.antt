@@ -78,6 +78,16 @@ module _ (es : List Entry) (weak : Name) (low high middle : ℕ) (o : IsInOrder 
     ];
   }
 
+-- the entry that is read at a place
+abbrev pub no_entry : Entry
+no_entry = record { weak = record { weak = record { maker = 0; serial = 0 }; at = record { 0 = 0 } }; left = false }
+
+abbrev pub nth_entry : List Entry → ℕ → Entry
+nth_entry es i = get_or es i no_entry
+
+pub entry_there : (es : List Entry) (i : ℕ) → i < length es → slice_get es i ≡ Some (nth_entry es i)
+entry_there es i lt = slice_get-get_or es i no_entry lt
+
 -- whoever has a place is read there
 pub read_entry : (es : List Entry) (i : ℕ) (x : Entry) → i < length es → x ≡ get_or es i x → slice_get es i ≡ Some x
 read_entry es i x lt is = slice_get-get_or es i x lt ∙ ap (λ (y : Entry). Some y) (sym is)
@@ -145,11 +155,13 @@ listed_cons e es = by_test (not e.left)
 
 pub listed_append : (xs ys : List Entry) → listed (xs ++ ys) ≡ listed xs ++ listed ys
 listed_append [] ys = refl
-listed_append (x ∷ xs) ys = listed_cons x (xs ++ ys) ∙ by_test (not x.left) ∙ ap (λ (l : List OldWeak). l ++ listed ys) (sym (listed_cons x xs))
+listed_append (x ∷ xs) ys =
+    listed_cons x (xs ++ ys) ∙ by_test (not x.left) (listed_append xs ys) ∙ ap (λ (l : List OldWeak). l ++ listed ys) (sym (listed_cons x xs))
   where
-    by_test : (b : Bool) → cond b (x.weak ∷ listed (xs ++ ys)) (listed (xs ++ ys)) ≡ cond b (x.weak ∷ listed xs) (listed xs) ++ listed ys
-    by_test true = ap (λ (l : List OldWeak). x.weak ∷ l) (listed_append xs ys)
-    by_test false = listed_append xs ys
+    by_test : (b : Bool) → listed (xs ++ ys) ≡ listed xs ++ listed ys →
+        cond b (x.weak ∷ listed (xs ++ ys)) (listed (xs ++ ys)) ≡ cond b (x.weak ∷ listed xs) (listed xs) ++ listed ys
+    by_test true rest = ap (λ (l : List OldWeak). x.weak ∷ l) rest
+    by_test false rest = rest
 
 pub listed_in : (es : List Entry) (w : OldWeak) → Contains (listed es) w → (e : Entry) × Contains es e × (e.weak ≡ w) × (e.left ≡ false)
 listed_in es w c =
@@ -169,14 +181,13 @@ listed_names es n c =
 
 pub listed_ordered : (es : List Entry) → IsInOrder (entry_names es) → IsInOrder (names_of (listed es))
 listed_ordered [] o = tt
-listed_ordered (e ∷ es) o = subst (λ (l : List OldWeak). IsInOrder (names_of l)) (sym (listed_cons e es)) (by_test (not e.left))
+listed_ordered (e ∷ es) o =
+    subst (λ (l : List OldWeak). IsInOrder (names_of l)) (sym (listed_cons e es))
+    (by_test (not e.left) (listed_ordered es (in_order_rest e.weak.weak (entry_names es) o)))
   where
-    rest : IsInOrder (names_of (listed es))
-    rest = listed_ordered es (in_order_rest e.weak.weak (entry_names es) o)
-
-    by_test : (b : Bool) → IsInOrder (names_of (cond b (e.weak ∷ listed es) (listed es)))
-    by_test true = in_order_cons e.weak.weak (names_of (listed es)) rest (λ n c. in_order_first e.weak.weak (entry_names es) o n (listed_names es n c))
-    by_test false = rest
+    by_test : (b : Bool) → IsInOrder (names_of (listed es)) → IsInOrder (names_of (cond b (e.weak ∷ listed es) (listed es)))
+    by_test true rest = in_order_cons e.weak.weak (names_of (listed es)) rest (λ n c. in_order_first e.weak.weak (entry_names es) o n (listed_names es n c))
+    by_test false rest = rest
 
 -- the names of entries with one more are its name and theirs
 inserted_names : (es : List Entry) (k : ℕ) (x : Entry) (n : Name) → Contains (entry_names (take k es ++ x ∷ drop k es)) n →
@@ -312,21 +323,16 @@ together_list es = ap (λ (l : List Entry). map (λ (e : Entry). e.weak) l)
 -- and their order
 pub together_ordered : (es : List Entry) → IsInOrder (entry_names es) → IsInOrder (entry_names (filter (λ (e : Entry). not e.left) es))
 together_ordered [] o = o
-together_ordered (e ∷ es) o = by_test (not e.left)
+together_ordered (e ∷ es) o = by_test (not e.left) (together_ordered es (in_order_rest e.weak.weak (entry_names es) o))
   where
-    kept : List Entry
-    kept = filter (λ (x : Entry). not x.left) es
-
-    rest : IsInOrder (entry_names kept)
-    rest = together_ordered es (in_order_rest e.weak.weak (entry_names es) o)
-
-    by_test : (b : Bool) → IsInOrder (entry_names (cond b (e ∷ kept) kept))
-    by_test true = in_order_cons e.weak.weak (entry_names kept) rest (λ n c.
-        let r = map_contains (λ (x : Entry). x.weak.weak) kept n c in
+    by_test : (b : Bool) → IsInOrder (entry_names (filter (λ (x : Entry). not x.left) es)) →
+        IsInOrder (entry_names (cond b (e ∷ filter (λ (x : Entry). not x.left) es) (filter (λ (x : Entry). not x.left) es)))
+    by_test true rest = in_order_cons e.weak.weak (entry_names (filter (λ (x : Entry). not x.left) es)) rest (λ n c.
+        let r = map_contains (λ (x : Entry). x.weak.weak) (filter (λ (x : Entry). not x.left) es) n c in
         let was = (filter_contains (λ (x : Entry). not x.left) es r.0 r.1).0 in
         in_order_first e.weak.weak (entry_names es) o n (subst (λ (m : Name). Contains (entry_names es) m) (sym r.2)
         (contains_map (λ (x : Entry). x.weak.weak) es r.0 was)))
-    by_test false = rest
+    by_test false rest = rest
 
 -- two of the same name at the same place
 pub same_old : (a b : OldWeak) → a.weak ≡ b.weak → a.at.0 ≡ b.at.0 → a ≡ b
