@@ -13,9 +13,9 @@ use Rattle.nmgc_lists.specs.laws.Items.{contains_head, contains_tail, contains_c
 use Rattle.nmgc_lists.specs.laws.Truths.{eq_true, and_both, false_of, unmarked}
 use Rattle.nmgc_weak.specs.declared.row.Entry.{Entry}
 use Rattle.nmgc_weak.specs.declared.weaks.OldWeak.{OldWeak}
-use Rattle.nmgc_weak.specs.Rows.{Row, listed, entry_names, is_same, without}
-use Rattle.nmgc_weak.specs.Weaks.{names_of}
-use Rattle.nmgc_weak.specs.laws.Left.{filter_all, filter_same, filter_twice}
+use Rattle.nmgc_weak.specs.Rows.{Row, listed, entry_names, IsEntryAt, is_same, without}
+use Rattle.nmgc_weak.specs.Weaks.{names_of, is_alive, alive_of}
+use Rattle.nmgc_weak.specs.laws.Left.{filter_all, filter_cond, filter_same, filter_twice}
 
 -- of two names of a list in order the one that comes first is before the other
 pub before_at : (ns : List Name) (i j : ℕ) (a b : Name) → IsInOrder ns → slice_get ns i ≡ Some a → slice_get ns j ≡ Some b → i < j → IsBefore a b
@@ -387,11 +387,101 @@ left_list (x ∷ xs) (suc i) e o there =
     by_test true other = sym (ap (λ (b : Bool). cond (not b) (x.weak ∷ without e.weak (listed xs)) (without e.weak (listed xs))) other)
     by_test false other = refl
 
--- an entry that is another of the same name leaves the names
-pub left_names : (es : List Entry) (i : ℕ) (e : Entry) → slice_get es i ≡ Some e → entry_names (set es i (record e { left = true })) ≡ entry_names es
-left_names [] i e there = refl
-left_names (x ∷ xs) zero e there = ap (λ (y : Entry). y.weak.weak ∷ entry_names xs) (sym (same_Some x e there))
-left_names (x ∷ xs) (suc i) e there = ap (λ (l : List Name). x.weak.weak ∷ l) (left_names xs i e there)
+-- another entry of the same name leaves the names
+pub set_names : (es : List Entry) (i : ℕ) (e x : Entry) → slice_get es i ≡ Some e → x.weak.weak ≡ e.weak.weak → entry_names (set es i x) ≡ entry_names es
+set_names [] i e x there same = refl
+set_names (y ∷ ys) zero e x there same =
+    ap (λ (n : Name). n ∷ entry_names ys) (same ∙ sym (ap (λ (z : Entry). z.weak.weak) (same_Some y e there)))
+set_names (y ∷ ys) (suc i) e x there same = ap (λ (l : List Name). y.weak.weak ∷ l) (set_names ys i e x there same)
+
+-- of a name there is one entry
+pub only_entry : (es : List Entry) (i : ℕ) (e b : Entry) → IsInOrder (entry_names es) → slice_get es i ≡ Some e → Contains es b →
+    b.weak.weak ≡ e.weak.weak → b ≡ e
+only_entry es i e b o there c same =
+    let at = place_of es b c in
+    elim (cases_order at.0 i) [
+      | inl is ↦ same_Some b e (sym at.1 ∙ ap (λ k. slice_get es k) is ∙ there)
+      | inr apart ↦ absurd (elim apart [
+        | inl lt ↦ not_before_itself e.weak.weak (subst (λ (n : Name). IsBefore n e.weak.weak) same
+            (before_at (entry_names es) at.0 i b.weak.weak e.weak.weak o (name_at es at.0 b at.1) (name_at es i e there) lt))
+        | inr lt ↦ not_before_itself e.weak.weak (subst (λ (n : Name). IsBefore e.weak.weak n) same
+            (before_at (entry_names es) i at.0 e.weak.weak b.weak.weak o (name_at es i e there) (name_at es at.0 b at.1) lt))
+      ])
+    ]
+
+-- so one of its name at another place isn't in the list
+pub without_other : (es : List Entry) (i : ℕ) (e : Entry) (w : OldWeak) → IsInOrder (entry_names es) → slice_get es i ≡ Some e →
+    e.weak.weak ≡ w.weak → e.weak.at.0 ≢ w.at.0 → without w (listed es) ≡ listed es
+without_other es i e w o there named apart = without_none w (listed es) (λ x c same.
+    let r = listed_in es x c in
+    let is : r.0.weak ≡ w = r.2 ∙ same in
+    let one = only_entry es i e r.0 o there r.1 (ap (λ (y : OldWeak). y.weak) is ∙ sym named) in
+    apart (ap (λ (y : Entry). y.weak.at.0) (sym one) ∙ ap (λ (y : OldWeak). y.at.0) is))
+
+-- and where no entry has its name, neither
+pub without_name : (es : List Entry) (w : OldWeak) → ((e : Entry) → Contains es e → e.weak.weak ≢ w.weak) → without w (listed es) ≡ listed es
+without_name es w none = without_none w (listed es) (λ x c same.
+    let r = listed_in es x c in
+    none r.0 r.1 (ap (λ (y : OldWeak). y.weak) (r.2 ∙ same)))
+
+-- no more are in the list than there are entries
+pub listed_few : (es : List Entry) → length (listed es) ≤ length es
+listed_few [] = omega arith
+listed_few (e ∷ es) = subst (λ (l : List OldWeak). length l ≤ length (e ∷ es)) (sym (listed_cons e es)) (by_test (not e.left) (listed_few es))
+  where
+    by_test : (b : Bool) → length (listed es) ≤ length es → length (cond b (e.weak ∷ listed es) (listed es)) ≤ length (e ∷ es)
+    by_test true rest = omega (arith, rest)
+    by_test false rest = omega (arith, rest)
+
+-- another entry at a place adds one at most
+pub set_count : (es : List Entry) (i : ℕ) (x : Entry) → length (listed (set es i x)) ≤ length (listed es) + 1
+set_count [] i x = omega arith
+set_count (y ∷ ys) zero x = rw (listed_cons x ys, listed_cons y ys) (by_tests (not x.left) (not y.left))
+  where
+    by_tests : (b d : Bool) → length (cond b (x.weak ∷ listed ys) (listed ys)) ≤ length (cond d (y.weak ∷ listed ys) (listed ys)) + 1
+    by_tests true true = omega arith
+    by_tests true false = omega arith
+    by_tests false true = omega arith
+    by_tests false false = omega arith
+set_count (y ∷ ys) (suc i) x = rw (listed_cons y (set ys i x), listed_cons y ys) (by_test (not y.left) (set_count ys i x))
+  where
+    by_test : (b : Bool) → length (listed (set ys i x)) ≤ length (listed ys) + 1 →
+        length (cond b (y.weak ∷ listed (set ys i x)) (listed (set ys i x))) ≤ length (cond b (y.weak ∷ listed ys) (listed ys)) + 1
+    by_test true rest = omega (arith, rest)
+    by_test false rest = omega (arith, rest)
+
+-- an entry of the first ones that is in the list: there is room for it
+pub listed_below : (es : List Entry) (i : ℕ) (d : Entry) → i < length es → (get_or es i d).left ≡ false →
+    length (listed (take i es)) + 1 ≤ length (listed es)
+listed_below es i d lt in_ =
+    let more = ap length (listed_more es i d lt ∙ ap (λ (b : Bool). listed (take i es) ++ cond (not b) ((get_or es i d).weak ∷ []) []) in_) ∙
+    length-append (listed (take i es)) ((get_or es i d).weak ∷ []) in
+    let all = ap length (sym (listed_parts es (i + 1))) ∙ length-append (listed (take (i + 1) es)) (listed (drop (i + 1) es)) in
+    omega (arith, more, all)
+
+-- an entry once the dead have left
+abbrev pub marked : List ℕ → Entry → Entry
+marked words e = record { weak = e.weak; left = cond (is_alive words e.weak) e.left true }
+
+pub marked_names : (words : List ℕ) (es : List Entry) → entry_names (map (marked words) es) ≡ entry_names es
+marked_names words [] = refl
+marked_names words (e ∷ es) = ap (λ (l : List Name). e.weak.weak ∷ l) (marked_names words es)
+
+in_and_alive : (alive left : Bool) → not (cond alive left true) ≡ (not left && alive)
+in_and_alive true true = refl
+in_and_alive true false = refl
+in_and_alive false true = refl
+in_and_alive false false = refl
+
+pub marked_listed : (words : List ℕ) (es : List Entry) → listed (map (marked words) es) ≡ alive_of words (listed es)
+marked_listed words [] = refl
+marked_listed words (e ∷ es) =
+    let rest = marked_listed words es in
+    let l : List OldWeak = alive_of words (listed es) in
+    listed_cons (marked words e) (map (marked words) es) ∙
+    ap (λ (m : List OldWeak). cond (not (marked words e).left) (e.weak ∷ m) m) rest ∙
+    ap (λ (b : Bool). cond b (e.weak ∷ l) l) (in_and_alive (is_alive words e.weak) e.left) ∙
+    sym (filter_cond (not e.left) (is_alive words) e.weak (listed es)) ∙ ap (alive_of words) (sym (listed_cons e es))
 
 -- who stands before a place, where the one just before it comes before a name
 pub before_last : (es : List Entry) (place : ℕ) (x : Entry) (weak : Name) → IsInOrder (entry_names es) → slice_get es place ≡ Some x →
@@ -404,3 +494,50 @@ before_last es place x weak o there b j e at lt = elim (cases_lt j place) [
       let here : e ≡ x = same_Some e x (sym at ∙ ap (λ k. slice_get es k) same ∙ there) in
       subst (λ (y : Entry). IsBefore y.weak.weak weak) (sym here) b
 ]
+
+-- the entry of a name was found
+module _ (es : List Entry) (i : ℕ) (weak : Name) (o : IsInOrder (entry_names es)) (f : IsEntryAt es i weak) where
+  pub found_within : i < length es
+  found_within = slice_get_within es i f.entry f.there
+
+  pub found_is : (x : Entry) → x ≡ get_or es i x → x ≡ f.entry
+  found_is x is = same_Some x f.entry (sym (read_entry es i x found_within is) ∙ f.there)
+
+  found_named : (x : Entry) → x ≡ get_or es i x → x.weak.weak ≡ weak
+  found_named x is = ap (λ (e : Entry). e.weak.weak) (found_is x is) ∙ f.named
+
+  -- it lies elsewhere: the list is as it was
+  pub found_other : (x : Entry) (at : Address) → x ≡ get_or es i x → x.weak.at.0 ≢ at.0 →
+      without (record { weak = weak; at = at }) (listed es) ≡ listed es
+  found_other x at is apart =
+      without_other es i x (record { weak = weak; at = at }) o (read_entry es i x found_within is) (found_named x is) apart
+
+  -- it leaves: the names stay
+  pub found_ordered : (m : Entry) → m ≡ get_or es i m → IsInOrder (entry_names (set es i (record { weak = m.weak; left = true })))
+  found_ordered m is = subst IsInOrder (sym (set_names es i m (record { weak = m.weak; left = true }) (read_entry es i m found_within is) refl)) o
+
+  -- and the list is without it
+  pub found_leaves : (x m : Entry) (at : Address) → x ≡ get_or es i x → x.weak.at.0 ≡ at.0 → m ≡ get_or es i m →
+      listed (set es i (record { weak = m.weak; left = true })) ≡ without (record { weak = weak; at = at }) (listed es)
+  found_leaves x m at is here own =
+      let w : OldWeak = record { weak = weak; at = at } in
+      let one : m ≡ x = found_is m own ∙ sym (found_is x is) in
+      let same : m.weak ≡ w = same_old m.weak w (found_named m own) (ap (λ (e : Entry). e.weak.at.0) one ∙ here) in
+      left_list es i m o (read_entry es i m found_within own) ∙ ap (λ (y : OldWeak). without y (listed es)) same
+
+-- the entry before a place has a name, and left: it is used again
+module _ (es : List Entry) (k : ℕ) (weak : Name) (at : Address) (x : Entry) (o : IsInOrder (entry_names es)) (there : slice_get es k ≡ Some x)
+    (named : x.weak.weak ≡ weak) (absent : (w : OldWeak) → Contains (listed es) w → w.weak ≢ weak) where
+  reused_left : x.left ≡ true
+  reused_left = by_left x.left refl
+    where
+      by_left : (b : Bool) → x.left ≡ b → x.left ≡ true
+      by_left true e = e
+      by_left false e = absurd (absent x.weak (listed_has es x (contains_at es k x there) e) named)
+
+  pub reused_ordered : IsInOrder (entry_names (set es k (record { weak = record { weak = weak; at = at }; left = false })))
+  reused_ordered = subst IsInOrder (sym (set_names es k x (record { weak = record { weak = weak; at = at }; left = false }) there (sym named))) o
+
+  pub reused_list : (w : OldWeak) → Contains (listed (set es k (record { weak = record { weak = weak; at = at }; left = false }))) w ↔
+      (Contains (listed es) w ⊎ (w ≡ record { weak = weak; at = at }))
+  reused_list w = reused_has es k x (record { weak = record { weak = weak; at = at }; left = false }) w there reused_left refl
