@@ -1,7 +1,8 @@
 -- Entries of a row: in order, found by halves, those that left, and what of them is in the list.
-use Rattle.std.proofs.Common.{◌≡◌, ◌≢◌, ◌⊎◌, ◌↔◌, ◌+◌, ◌-◌, ◌/◌, ◌<◌, ◌≤◌, ℕ, zero, suc, Bool, true, false, cond, eqb, eq-eqb, get_or, List, [], ◌∷◌, ◌++◌, length, length-append, take, drop, map, set, refl, sym, ap, subst, ◌∙◌, arith, Some, inl, inr}
+use Rattle.std.proofs.Common.{◌≡◌, ◌≢◌, ◌⊎◌, ◌↔◌, ◌+◌, ◌-◌, ◌/◌, ◌<◌, ◌≤◌, ℕ, zero, suc, Bool, true, false, cond, eqb, eq-eqb, ne_eqb, slice_index, get_or, List, [], ◌∷◌, ◌++◌, append-nil, length, length-append, take, drop, map, set, refl, sym, ap, subst, ◌∙◌, arith, Some, inl, inr}
 use Rattle.std.specs.Prelude.{Contains, filter, slice_get, not, ◌&&◌}
-use Rattle.std.proofs.lemmas.List.{take-append-drop, take_more}
+use Rattle.std.proofs.lemmas.List.{drop_all, get_or_default, take-append-drop, take_all, take_more}
+use Rattle.std.proofs.lemmas.List.Edits.{map_over_more}
 use Rattle.std.proofs.lemmas.Bool.{and_from, cases_lt, cases_order}
 use Rattle.std.proofs.lemmas.Option.{none-some, same_Some, slice_get-get_or, slice_get_within}
 use Rattle.std.proofs.lemmas.List.Elements.{Contains-append_left, Contains-append_right, Contains-append_cases}
@@ -14,7 +15,7 @@ use Rattle.nmgc_lists.specs.laws.Truths.{eq_true, and_both, false_of, unmarked}
 use Rattle.nmgc_weak.specs.declared.row.Entry.{Entry}
 use Rattle.nmgc_weak.specs.declared.weaks.OldWeak.{OldWeak}
 use Rattle.nmgc_weak.specs.Rows.{Row, listed, entry_names, IsEntryAt, is_same, without}
-use Rattle.nmgc_weak.specs.Weaks.{names_of, is_alive, alive_of}
+use Rattle.nmgc_weak.specs.Weaks.{names_of, is_alive, alive_of, value_place}
 use Rattle.nmgc_weak.specs.laws.Left.{filter_all, filter_cond, filter_same, filter_twice}
 
 -- of two names of a list in order the one that comes first is before the other
@@ -482,6 +483,49 @@ marked_listed words (e ∷ es) =
     ap (λ (m : List OldWeak). cond (not (marked words e).left) (e.weak ∷ m) m) rest ∙
     ap (λ (b : Bool). cond b (e.weak ∷ l) l) (in_and_alive (is_alive words e.weak) e.left) ∙
     sym (filter_cond (not e.left) (is_alive words) e.weak (listed es)) ∙ ap (alive_of words) (sym (listed_cons e es))
+
+pub marked_dead : (words : List ℕ) (x : Entry) → slice_index words (value_place x.weak.at.0) ≡ 0 → marked words x ≡ record { weak = x.weak; left = true }
+marked_dead words x e =
+    ap (λ (b : Bool). let y : Entry = record { weak = x.weak; left = cond (not b) x.left true } in y) (eq-eqb (slice_index words (value_place x.weak.at.0)) 0 e)
+
+pub marked_alive : (words : List ℕ) (x : Entry) → slice_index words (value_place x.weak.at.0) ≢ 0 → marked words x ≡ x
+marked_alive words x ne =
+    ap (λ (b : Bool). let y : Entry = record { weak = x.weak; left = cond (not b) x.left true } in y) (ne_eqb (slice_index words (value_place x.weak.at.0)) 0 ne)
+
+pub marked_left : (words : List ℕ) (x : Entry) → x.left ≡ true → marked words x ≡ x
+marked_left words x e = ap (λ (b : Bool). let y : Entry = record { weak = x.weak; left = b } in y) (either (is_alive words x.weak) x.left e)
+  where
+    either : (b d : Bool) → d ≡ true → cond b d true ≡ d
+    either true d e = refl
+    either false d e = sym e
+
+-- an entry more, in a pass over them: the rest are as they were
+rest_read : (f : Entry → Entry) (was : List Entry) (i : ℕ) (d : Entry) → get_or (map f (take i was) ++ drop i was) i d ≡ get_or was i d
+rest_read f [] zero d = refl
+rest_read f [] (suc i) d = refl
+rest_read f (x ∷ xs) zero d = refl
+rest_read f (x ∷ xs) (suc i) d = rest_read f xs i d
+
+module _ (words : List ℕ) (was es : List Entry) (i : ℕ) (lt : i < length was) (size : length es ≡ length was)
+    (done : es ≡ map (marked words) (take i was) ++ drop i was) where
+  pub next_read : nth_entry es i ≡ nth_entry was i
+  next_read = ap (λ (l : List Entry). nth_entry l i) done ∙ rest_read (marked words) was i no_entry
+
+  -- one that is in the list lies where its words are read
+  pub next_listed : (nth_entry es i).left ≡ false → Contains (listed was) (nth_entry es i).weak
+  next_listed in_ =
+      subst (λ (e : Entry). Contains (listed was) e.weak) (sym next_read)
+      (listed_has was (nth_entry was i) (contains_at was i (nth_entry was i) (entry_there was i lt)) (ap (λ (e : Entry). e.left) (sym next_read) ∙ in_))
+
+  pub marked_more : (y : Entry) → marked words (nth_entry es i) ≡ y → set es i y ≡ map (marked words) (take (i + 1) was) ++ drop (i + 1) was
+  marked_more y is = subst (λ (z : Entry). set es i z ≡ map (marked words) (take (i + 1) was) ++ drop (i + 1) was) is
+      (map_over_more (marked words) was es i (nth_entry es i) lt done (get_or_default es i no_entry (nth_entry es i) (omega (arith, lt, size))))
+
+pub marked_all : (words : List ℕ) (was es : List Entry) (i : ℕ) → length was ≤ i → es ≡ map (marked words) (take i was) ++ drop i was →
+    es ≡ map (marked words) was
+marked_all words was es i le done =
+    done ∙ ap (λ (l : List Entry). map (marked words) l ++ drop i was) (take_all i was le) ∙
+    ap (λ (l : List Entry). map (marked words) was ++ l) (drop_all i was le) ∙ append-nil (map (marked words) was)
 
 -- who stands before a place, where the one just before it comes before a name
 pub before_last : (es : List Entry) (place : ℕ) (x : Entry) (weak : Name) → IsInOrder (entry_names es) → slice_get es place ≡ Some x →
