@@ -1,11 +1,10 @@
-use Rattle.std.proofs.Common.{◌≡◌, ◌≢◌, ◌+◌, ◌-◌, ◌⊎◌, ◌↔◌, ◌<◌, ◌≤◌, ℕ, List, false, get_or, set, length, refl, ap, sym, subst, ◌∙◌, arith, Some}
+use Rattle.std.proofs.Common.{◌≡◌, ◌-◌, ◌⊎◌, ◌↔◌, ◌<◌, ◌≤◌, ℕ, List, false, get_or, set, length, refl, ap, sym, subst, ◌∙◌, arith, Some}
 use Rattle.std.specs.Prelude.{Contains, insert, slice_get}
 use Rattle.std.proofs.lemmas.Bool.{iff_false}
 use Rattle.nmgc_world_spec.specs.Reach.{IsBefore, IsInOrder}
 use Rattle.nmgc_weak.specs.declared.row.Entry.{Entry}
 use Rattle.nmgc_weak.specs.declared.weaks.OldWeak.{OldWeak}
 use Rattle.nmgc_weak.specs.Rows.{Row, listed, entry_names}
-use Rattle.nmgc_weak.specs.Weaks.{names_of}
 use Rattle.nmgc_weak.proofs.Entries.{before_last, inserted_count, inserted_has, inserted_ordered, listed_ordered, neither_before, read_entry, reused_list, reused_ordered, set_count}
 use Rattle.nmgc_weak.proofs.row.Row.add.Goals as goal
 use Rattle.nmgc_weak.proofs.row.Row.add.Goals.{then-place-gt0+else-not-is_before, else-place-gt0}

@@ -1,4 +1,4 @@
-use Rattle.std.proofs.Common.{◌≤◌, length, ap, arith}
+use Rattle.std.proofs.Common.{length, ap, arith}
 use Rattle.std.proofs.lemmas.Grind.{common_steps}
 use Rattle.nmgc_weak.specs.Rows.{Row}
 use Rattle.nmgc_weak.proofs.Entries.{listed_few}

@@ -1,4 +1,4 @@
-use Rattle.std.proofs.Common.{◌+◌, ◌≤◌, ◌≡◌, length, length-append, take, ap, arith, ◌∙◌}
+use Rattle.std.proofs.Common.{◌≡◌, length, length-append, take, ap, arith, ◌∙◌}
 use Rattle.std.proofs.lemmas.Grind.{common_steps}
 use Rattle.nmgc_weak.specs.Rows.{Row, listed}
 use Rattle.nmgc_weak.proofs.Entries.{no_entry, listed_below}
