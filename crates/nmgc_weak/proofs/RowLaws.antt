@@ -344,12 +344,6 @@ pub rest_stays : (was now : List Row) (n : ℕ) (next : Row) → ((k : ℕ) → 
     slice_get (set now n next) k ≡ slice_get was k
 rest_stays was now n next before k le = slice_get-set_other now n k next (λ e. absurd (omega (arith, le, e))) ∙ before k (omega (arith, le))
 
--- the first rows, with one more
-pub rows_more : (rows : List Row) (i : ℕ) (d : Row) → i < length rows → list_of (take (i + 1) rows) ≡ list_of (take i rows) ++ (get_or rows i d).list
-rows_more rows i d lt =
-    ap list_of (take_more rows i d lt) ∙ flat_map-append (λ (r : Row). r.list) (take i rows) (get_or rows i d ∷ []) ∙
-    ap (λ (l : List OldWeak). list_of (take i rows) ++ l) (append-nil (get_or rows i d).list)
-
 -- an empty row joins
 pub empty_joins : (rows : List Row) (r : Row) → r.list ≡ [] → list_of (rows ++ r ∷ []) ≡ list_of rows
 empty_joins rows r none =
