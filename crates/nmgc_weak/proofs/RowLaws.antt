@@ -3,7 +3,7 @@ use Rattle.std.proofs.Common.{◌≡◌, ◌≢◌, ◌⊎◌, ◌↔◌, ◌+�
 use Rattle.std.specs.Prelude.{Contains, filter, slice_get, not}
 use Rattle.std.specs.List.{count_by}
 use Rattle.std.proofs.lemmas.Grind.{flat_map-append}
-use Rattle.std.proofs.lemmas.List.{take_at, take_more}
+use Rattle.std.proofs.lemmas.List.{take_at}
 use Rattle.std.proofs.lemmas.List.Sums.{count_by-le-length, length-filter, sum_by-append, sum_by-cons}
 use Rattle.std.proofs.lemmas.Bool.{and_from, cases_eq, cases_lt}
 use Rattle.std.proofs.lemmas.Option.{none-some, same_Some, slice_get_within}
@@ -343,12 +343,6 @@ one_done P was now n m next lt there own before k old new less a b = elim (cases
 pub rest_stays : (was now : List Row) (n : ℕ) (next : Row) → ((k : ℕ) → n ≤ k → slice_get now k ≡ slice_get was k) → (k : ℕ) → n + 1 ≤ k →
     slice_get (set now n next) k ≡ slice_get was k
 rest_stays was now n next before k le = slice_get-set_other now n k next (λ e. absurd (omega (arith, le, e))) ∙ before k (omega (arith, le))
-
--- the first rows, with one more
-pub rows_more : (rows : List Row) (i : ℕ) (d : Row) → i < length rows → list_of (take (i + 1) rows) ≡ list_of (take i rows) ++ (get_or rows i d).list
-rows_more rows i d lt =
-    ap list_of (take_more rows i d lt) ∙ flat_map-append (λ (r : Row). r.list) (take i rows) (get_or rows i d ∷ []) ∙
-    ap (λ (l : List OldWeak). list_of (take i rows) ++ l) (append-nil (get_or rows i d).list)
 
 -- an empty row joins
 pub empty_joins : (rows : List Row) (r : Row) → r.list ≡ [] → list_of (rows ++ r ∷ []) ≡ list_of rows

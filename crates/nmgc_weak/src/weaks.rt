@@ -239,7 +239,7 @@ impl Weaks {
         ensures spare { self.new.spare + length fresh.now ≡ self.old.spare }
         ensures deaths { self.new.deaths ≡ self.old.deaths }
     {
-        // Where none join, the list is in order as it was.
+        // Where none join, the list is known to be in order because it was read.
         let _room = self.room;
         for weak in fresh {
             self.add(weak.weak, weak.at);

@@ -1,6 +1,6 @@
 use Rattle.std.proofs.Common.{◌≡◌, ◌<◌, ◌≤◌, ℕ, List, get_or, length, refl, sym, ap, ◌∙◌, arith, Some}
 use Rattle.std.specs.Prelude.{slice_get}
-use Rattle.std.proofs.lemmas.Option.{slice_get-get_or}
+use Rattle.std.proofs.lemmas.Option.{slice_get-get_or, slice_get_within}
 use Rattle.nmgc_world_spec.specs.Reach.{IsInOrder}
 use Rattle.nmgc_weak.specs.Rows.{Row}
 use Rattle.nmgc_weak.specs.Weaks.{alive_of, names_of}
@@ -53,3 +53,9 @@ loop-row-preserved g c =
           own inv.done;
       rest = rest_stays was now n next inv.rest;
     }
+
+pub returns-clause-rows : goal.returns-clause-rows
+returns-clause-rows g c = λ k old new a b.
+    let within = slice_get_within c.args.rows.now k old a in
+    let past = c.loop-row-test.false in
+    c.loop-row.invariant.done k old new (omega (arith, within, past)) a b

@@ -1,7 +1,7 @@
 use Rattle.std.proofs.Common.{◌≡◌, ◌+◌, ◌-◌, ℕ, List, set, sym, ap, subst, arith}
 use Rattle.std.specs.Prelude.{Contains}
 use Rattle.nmgc_weak.specs.declared.weaks.OldWeak.{OldWeak}
-use Rattle.nmgc_weak.specs.Rows.{Row, AreRows, list_of, row_of}
+use Rattle.nmgc_weak.specs.Rows.{Row, AreRows, list_of}
 use Rattle.nmgc_weak.specs.Weaks.{Weaks}
 use Rattle.nmgc_weak.proofs.Entries.{read_row}
 use Rattle.nmgc_weak.proofs.RowLaws.{joined_rows, of_row, row_joined, row_lengths, rows_ordered}

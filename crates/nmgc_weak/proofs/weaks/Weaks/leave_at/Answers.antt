@@ -1,4 +1,4 @@
-use Rattle.std.proofs.Common.{◌≡◌, ◌≢◌, ◌+◌, ◌<◌, ◌≤◌, ℕ, List, set, sym, ap, subst, ◌∙◌, arith, length, slice_index, Some}
+use Rattle.std.proofs.Common.{◌≡◌, ◌≢◌, ◌+◌, ◌≤◌, ℕ, List, set, sym, ap, subst, ◌∙◌, arith, length, slice_index, Some}
 use Rattle.std.specs.Prelude.{Contains, not, slice_get}
 use Rattle.nmgc_world_spec.specs.declared.value.Name.{Name}
 use Rattle.nmgc_world_spec.specs.Reach.{IsInOrder}

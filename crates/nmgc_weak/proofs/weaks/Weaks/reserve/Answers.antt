@@ -1,6 +1,7 @@
-use Rattle.std.proofs.Common.{◌≡◌, ◌⊎◌, ◌+◌, ◌<◌, ◌≤◌, ℕ, List, [], ◌++◌, length, take, drop, ap, ◌∙◌, arith, Some}
-use Rattle.std.specs.Prelude.{slice_get}
+use Rattle.std.proofs.Common.{◌≡◌, ◌⊎◌, ◌+◌, ◌<◌, ◌≤◌, ℕ, List, [], ◌++◌, length, take, drop, vec_capacity, ap, ◌∙◌, arith, Some, Result, Ok, Err}
+use Rattle.std.specs.Prelude.{OnErr, slice_get}
 use Rattle.nmgc_limits.specs.declared.mutators.TheConstants.{MAKERS}
+use Rattle.nmgc_lists.specs.declared.memory.NoMemory.{NoMemory}
 use Rattle.nmgc_weak.specs.declared.weaks.Death.{Death}
 use Rattle.nmgc_weak.specs.declared.weaks.OldWeak.{OldWeak}
 use Rattle.nmgc_weak.specs.Rows.{Row, AreRows, list_of}
@@ -26,6 +27,11 @@ same_seen now list room later deaths old e f is =
     ap (λ (l : List OldWeak). let a : Weaks = record { list = l; spare = room; deaths = later } in a) e ∙
     ap (λ (d : List Death). let a : Weaks = record { list = list; spare = room; deaths = d } in a) f ∙ is
 
+-- where memory ran out
+after_err : (r : Result (Unit {0}) NoMemory) (now old : Weaks) → now ≡ old → OnErr r (now ≡ old)
+after_err (Ok _) now old e = tt
+after_err (Err _) now old e = e
+
 pub invariant_of-self-in_err-make_rows : goal.invariant_of-self-in_err-make_rows
 invariant_of-self-in_err-make_rows c =
     let inv = c.self.invariant in
@@ -45,9 +51,9 @@ pub returns-in_err-make_rows-clause-list : goal.returns-in_err-make_rows-clause-
 returns-in_err-make_rows-clause-list c = c.make_rows.ensures.list ∙ ap (λ (a : Weaks). a.list) c.self.view_is
 
 pub returns-in_err-make_rows-clause-err : goal.returns-in_err-make_rows-clause-err
-returns-in_err-make_rows-clause-err c =
-    same_seen (list_of c.make_rows.new.rows.items) (list_of c.self.inside.rows.items) c.self.inside.room c.reserve-4.new.self.items
-    c.self.inside.deaths.items c.args.self.now c.make_rows.ensures.list c.reserve-4.ensures.items c.self.view_is
+returns-in_err-make_rows-clause-err c = after_err _ _ _
+    (same_seen (list_of c.make_rows.new.rows.items) (list_of c.self.inside.rows.items) c.self.inside.room c.reserve-4.new.self.items
+    c.self.inside.deaths.items c.args.self.now c.make_rows.ensures.list c.reserve-4.ensures.items c.self.view_is)
 
 pub invariant_of-self-in_err-reserve_rows : goal.invariant_of-self-in_err-reserve_rows
 invariant_of-self-in_err-reserve_rows c =
@@ -82,8 +88,8 @@ returns-in_err-reserve_rows-clause-err c =
     let each = kept_rows c.self.inside.rows.items made.items c.as_mut_slice.result.now c.reserve_rows.new.rows made.len c.self.inside.room
     c.self.invariant.0 c.make_rows.ensures.more c.make_rows.ensures.rows c.make_rows.ensures.list c.as_mut_slice.ensures.value
     c.as_mut_slice.ensures.len c.reserve_rows.ensures.count c.reserve_rows.ensures.lists in
-    same_seen (list_of (take made.len (c.reserve_rows.new.rows ++ drop (length c.reserve_rows.new.rows) made.items))) (list_of c.self.inside.rows.items)
-    c.self.inside.room c.reserve-4.new.self.items c.self.inside.deaths.items c.args.self.now each.1 c.reserve-4.ensures.items c.self.view_is
+    after_err _ _ _ (same_seen (list_of (take made.len (c.reserve_rows.new.rows ++ drop (length c.reserve_rows.new.rows) made.items))) (list_of c.self.inside.rows.items)
+    c.self.inside.room c.reserve-4.new.self.items c.self.inside.deaths.items c.args.self.now each.1 c.reserve-4.ensures.items c.self.view_is)
 
 pub invariant_of-self-2 : goal.invariant_of-self-2
 invariant_of-self-2 c =
@@ -94,17 +100,22 @@ invariant_of-self-2 c =
     c.as_mut_slice.ensures.len c.reserve_rows.ensures.count c.reserve_rows.ensures.lists in
     let same = ap length each.1 in
     let many = c.in_ok-make_rows.ensures.all in
-    let own = made.ok.0 in (
+    let own = made.ok.0 in
+    let room_1 : c.self.inside.most + c.args.more ≤ vec_capacity c.reserve.new.self = omega (arith, c.in-Some.ensures, c.in_ok-reserve.ensures.ok) in
+    let room_2 : c.self.inside.most + c.args.more ≤ vec_capacity c.reserve-2.new.self = omega (arith, c.in-Some.ensures, c.in_ok-reserve-2.ensures.ok) in
+    let room_3 : c.self.inside.most + c.args.more ≤ vec_capacity c.reserve-3.new.self = omega (arith, c.in-Some.ensures, c.in_ok-reserve-3.ensures.ok) in
+    let room_4 : c.self.inside.most + c.args.more ≤ vec_capacity c.reserve-4.new.self = omega (arith, c.in-Some.ensures, c.in_ok-reserve-4.ensures.ok) in
+    let room_5 : c.self.inside.most + c.args.more ≤ vec_capacity c.reserve-5.new.self = omega (arith, c.in-Some.ensures, c.in_ok-reserve-5.ensures.ok) in (
       rows_roomy made.items c.as_mut_slice.result.now c.reserve_rows.new.rows made.len c.self.inside.room
           (made_rows c.self.inside.rows.items made.items c.self.inside.room inv.0 c.make_rows.ensures.more c.make_rows.ensures.rows)
           c.as_mut_slice.ensures.value c.as_mut_slice.ensures.len c.reserve_rows.ensures.count c.args.more c.reserve_rows.ensures.lists
           c.in_ok-reserve_rows.ensures.room (omega (arith, many, own)),
       omega (arith, same, inv.1),
-      omega (arith, c.in_ok-reserve.ensures.ok),
-      omega (arith, c.in_ok-reserve-2.ensures.ok),
-      omega (arith, c.in_ok-reserve-3.ensures.ok),
-      omega (arith, c.in_ok-reserve-4.ensures.ok),
-      omega (arith, c.in_ok-reserve-5.ensures.ok),
+      room_1,
+      room_2,
+      room_3,
+      room_4,
+      room_5,
       c.reserve-5.ensures.items ∙ inv.7,
       c.reserve-5.ensures.len ∙ inv.8,
     )

@@ -116,6 +116,61 @@ clear_values-requires g c =
     within_at ws (g.W.HeapWords.words c.save_finalisers.new.words) c.find_dying.new.dying.items c.as_slice-5.result.now
     (c.save_finalisers.ensures.words ∙ c.find_dying.ensures.words ∙ c.revive.ensures.words) c.as_slice-5.ensures.value dying
 
+-- as many as the rows have, for which there is room
+pub revive-requires-clause-wait : goal.revive-requires-clause-wait
+revive-requires-clause-wait g c =
+    let inv = c.self.invariant in
+    let items = ap length (c.list_rows.ensures.items ∙ ap list_of c.as_slice.ensures.value) in
+    let own = c.list_rows.new.all.ok.0 in
+    let len = c.as_slice-2.ensures.len in
+    let capacity = c.clear-2.ensures.capacity in
+    omega (arith, items, own, len, capacity, inv.1, inv.3)
+
+pub find_dying-requires-clause-room : goal.find_dying-requires-clause-room
+find_dying-requires-clause-room g c =
+    let inv = c.self.invariant in
+    let items = ap length (c.list_rows.ensures.items ∙ ap list_of c.as_slice.ensures.value) in
+    let own = c.list_rows.new.all.ok.0 in
+    let len = c.as_slice-3.ensures.len in
+    let capacity = c.clear-3.ensures.capacity in
+    omega (arith, items, own, len, capacity, inv.1, inv.4)
+
+pub save_finalisers-requires-clause-few : goal.save_finalisers-requires-clause-few
+save_finalisers-requires-clause-few g c =
+    let inv = c.self.invariant in
+    let items = ap length (c.list_rows.ensures.items ∙ ap list_of c.as_slice.ensures.value) in
+    let own = c.list_rows.new.all.ok.0 in
+    let all = c.as_slice-3.ensures.len in
+    let len = c.as_slice-4.ensures.len in
+    let few = c.find_dying.ensures.few in
+    let capacity = c.clear-4.ensures.capacity in
+    omega (arith, items, own, all, len, few, capacity, inv.1, inv.5)
+
+pub invariant_of-self : goal.invariant_of-self
+invariant_of-self g c =
+    let inv = c.self.invariant in
+    let items = ap length (c.list_rows.ensures.items ∙ ap list_of c.as_slice.ensures.value) in
+    let own = c.list_rows.new.all.ok.0 in
+    let most = c.len-self-inside.ensures in
+    let list = c.list_rows.ensures.capacity in
+    let cleared = c.clear.ensures.capacity in
+    let waiting = c.revive.ensures.capacity in
+    let cleared_waiting = c.clear-2.ensures.capacity in
+    let dying = c.find_dying.ensures.capacity in
+    let cleared_dying = c.clear-3.ensures.capacity in
+    let deaths = c.save_finalisers.ensures.capacity in
+    let cleared_deaths = c.clear-4.ensures.capacity in (
+      inv.0,
+      omega (arith, items, own, most),
+      omega (arith, items, own, most, inv.1, inv.2, list, cleared),
+      omega (arith, items, own, most, inv.1, inv.3, waiting, cleared_waiting),
+      omega (arith, items, own, most, inv.1, inv.4, dying, cleared_dying),
+      omega (arith, items, own, most, inv.1, inv.5, deaths, cleared_deaths),
+      omega (arith, items, own, most, inv.1, inv.6),
+      inv.7,
+      inv.8,
+    )
+
 pub leave-requires : goal.leave-requires
 leave-requires g c = λ weak k.
     let ws = g.W.HeapWords.words c.args.words.now in
