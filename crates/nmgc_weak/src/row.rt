@@ -5,7 +5,7 @@
 //! together. So a join takes constant time, and a leave a logarithm, on the whole.
 //!
 //! Easy to get wrong: an entry that left still stands in the order, and its name may join again.
-ghost use Rattle.std.specs.Prelude.{ℕ, ◌≡◌, ◌≢◌, ◌⊎◌, ◌↔◌, ◌+◌, ◌<◌, ◌≤◌, [], ◌∷◌, ◌++◌, length, take, drop, slice_get, slice_index, Some, None, vec_len, vec_capacity, Contains, IsTrue, IfSome, IfNone, OnOk, OnErr};
+ghost use Rattle.std.specs.Prelude.{ℕ, ◌≡◌, ◌≢◌, ◌⊎◌, ◌↔◌, ◌+◌, ◌<◌, ◌≤◌, [], ◌++◌, length, slice_get, Some, vec_len, vec_capacity, Contains, IfSome, IfNone, OnOk};
 ghost use Rattle.nmgc_world_spec.specs.Reach.{IsBefore, IsInOrder};
 ghost use Rattle.nmgc_weak.specs.declared.weaks.OldWeak.{OldWeak as Old};
 ghost use Rattle.nmgc_weak.specs.declared.row.Entry.{Entry as Kept};
