@@ -182,6 +182,35 @@ const RECORDED_AND_QUEUED: [Round; 2] = [
     },
 ];
 
+// An object that was promoted waits in a queue while a young one moves: none of the queue's words is young, and it stays
+// as it is. Then a young object waits in the same queue, and one word of the two changes.
+const QUEUED_BEFORE: [Round; 3] = [
+    Round {
+        births: &[(0, CON, &[])],
+        holds: &[(0, 2 * YOUNG)],
+        moves: &[(0, 0, 16416, 32)],
+        registers: &[(0, 64)],
+        ..QUIET
+    },
+    Round {
+        births: &[(0, CON, &[])],
+        holds: &[(0, 2 * YOUNG)],
+        joins: &[64],
+        moves: &[(0, 1, 16416, 36)],
+        registers: &[(0, 72)],
+        queue: &[64],
+        ..QUIET
+    },
+    Round {
+        births: &[(0, CON, &[])],
+        joins: &[2 * YOUNG],
+        moves: &[(0, 2, 16416, 40)],
+        registers: &[(0, 72)],
+        queue: &[64, 80],
+        ..QUIET
+    },
+];
+
 // Two mutators, whose objects refer to each other's. Those of mutator 0 move first, though its object was
 // born last but one. Nothing is left to move at the stop after that.
 const TWO_MUTATORS: [Round; 2] = [
@@ -276,6 +305,7 @@ fn heaps_of_every_shape(rt: HostRuntime) -> Result<(), Fail> {
     run_rounds(&rt, rt.alloc(), 1, &SHARED_AND_CYCLIC)?;
     run_rounds(&rt, rt.alloc(), 1, &WEAK_AND_LAZY)?;
     run_rounds(&rt, rt.alloc(), 1, &RECORDED_AND_QUEUED)?;
+    run_rounds(&rt, rt.alloc(), 1, &QUEUED_BEFORE)?;
     run_rounds(&rt, rt.alloc(), 2, &TWO_MUTATORS)
 }
 
