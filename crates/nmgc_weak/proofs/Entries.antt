@@ -1,7 +1,8 @@
 -- Entries of a row: in order, found by halves, those that left, and what of them is in the list.
-use Rattle.std.proofs.Common.{◌≡◌, ◌≢◌, ◌⊎◌, ◌↔◌, ◌+◌, ◌-◌, ◌/◌, ◌<◌, ◌≤◌, ℕ, zero, suc, Bool, true, false, cond, eqb, eq-eqb, get_or, List, [], ◌∷◌, ◌++◌, length, length-append, take, drop, map, set, refl, sym, ap, subst, ◌∙◌, arith, Some, inl, inr}
+use Rattle.std.proofs.Common.{◌≡◌, ◌≢◌, ◌⊎◌, ◌↔◌, ◌+◌, ◌-◌, ◌/◌, ◌<◌, ◌≤◌, ℕ, zero, suc, Bool, true, false, cond, eqb, eq-eqb, ne_eqb, slice_index, get_or, List, [], ◌∷◌, ◌++◌, append-nil, length, length-append, take, drop, map, set, refl, sym, ap, subst, ◌∙◌, arith, Some, inl, inr}
 use Rattle.std.specs.Prelude.{Contains, filter, slice_get, not, ◌&&◌}
-use Rattle.std.proofs.lemmas.List.{take-append-drop, take_more}
+use Rattle.std.proofs.lemmas.List.{drop_all, get_or_default, take-append-drop, take_all, take_more}
+use Rattle.std.proofs.lemmas.List.Edits.{map_over_more}
 use Rattle.std.proofs.lemmas.Bool.{and_from, cases_lt, cases_order}
 use Rattle.std.proofs.lemmas.Option.{none-some, same_Some, slice_get-get_or, slice_get_within}
 use Rattle.std.proofs.lemmas.List.Elements.{Contains-append_left, Contains-append_right, Contains-append_cases}
@@ -13,9 +14,9 @@ use Rattle.nmgc_lists.specs.laws.Items.{contains_head, contains_tail, contains_c
 use Rattle.nmgc_lists.specs.laws.Truths.{eq_true, and_both, false_of, unmarked}
 use Rattle.nmgc_weak.specs.declared.row.Entry.{Entry}
 use Rattle.nmgc_weak.specs.declared.weaks.OldWeak.{OldWeak}
-use Rattle.nmgc_weak.specs.Rows.{Row, listed, entry_names, is_same, without}
-use Rattle.nmgc_weak.specs.Weaks.{names_of}
-use Rattle.nmgc_weak.specs.laws.Left.{filter_all, filter_same, filter_twice}
+use Rattle.nmgc_weak.specs.Rows.{Row, listed, entry_names, IsEntryAt, is_same, without}
+use Rattle.nmgc_weak.specs.Weaks.{names_of, is_alive, alive_of, value_place}
+use Rattle.nmgc_weak.specs.laws.Left.{filter_all, filter_cond, filter_same, filter_twice}
 
 -- of two names of a list in order the one that comes first is before the other
 pub before_at : (ns : List Name) (i j : ℕ) (a b : Name) → IsInOrder ns → slice_get ns i ≡ Some a → slice_get ns j ≡ Some b → i < j → IsBefore a b
@@ -77,6 +78,16 @@ module _ (es : List Entry) (weak : Name) (low high middle : ℕ) (o : IsInOrder 
           subst (λ (y : Entry). IsBefore weak y.weak.weak) (sym one) b
     ];
   }
+
+-- the entry that is read at a place
+abbrev pub no_entry : Entry
+no_entry = record { weak = record { weak = record { maker = 0; serial = 0 }; at = record { 0 = 0 } }; left = false }
+
+abbrev pub nth_entry : List Entry → ℕ → Entry
+nth_entry es i = get_or es i no_entry
+
+pub entry_there : (es : List Entry) (i : ℕ) → i < length es → slice_get es i ≡ Some (nth_entry es i)
+entry_there es i lt = slice_get-get_or es i no_entry lt
 
 -- whoever has a place is read there
 pub read_entry : (es : List Entry) (i : ℕ) (x : Entry) → i < length es → x ≡ get_or es i x → slice_get es i ≡ Some x
@@ -145,11 +156,13 @@ listed_cons e es = by_test (not e.left)
 
 pub listed_append : (xs ys : List Entry) → listed (xs ++ ys) ≡ listed xs ++ listed ys
 listed_append [] ys = refl
-listed_append (x ∷ xs) ys = listed_cons x (xs ++ ys) ∙ by_test (not x.left) ∙ ap (λ (l : List OldWeak). l ++ listed ys) (sym (listed_cons x xs))
+listed_append (x ∷ xs) ys =
+    listed_cons x (xs ++ ys) ∙ by_test (not x.left) (listed_append xs ys) ∙ ap (λ (l : List OldWeak). l ++ listed ys) (sym (listed_cons x xs))
   where
-    by_test : (b : Bool) → cond b (x.weak ∷ listed (xs ++ ys)) (listed (xs ++ ys)) ≡ cond b (x.weak ∷ listed xs) (listed xs) ++ listed ys
-    by_test true = ap (λ (l : List OldWeak). x.weak ∷ l) (listed_append xs ys)
-    by_test false = listed_append xs ys
+    by_test : (b : Bool) → listed (xs ++ ys) ≡ listed xs ++ listed ys →
+        cond b (x.weak ∷ listed (xs ++ ys)) (listed (xs ++ ys)) ≡ cond b (x.weak ∷ listed xs) (listed xs) ++ listed ys
+    by_test true rest = ap (λ (l : List OldWeak). x.weak ∷ l) rest
+    by_test false rest = rest
 
 pub listed_in : (es : List Entry) (w : OldWeak) → Contains (listed es) w → (e : Entry) × Contains es e × (e.weak ≡ w) × (e.left ≡ false)
 listed_in es w c =
@@ -169,14 +182,13 @@ listed_names es n c =
 
 pub listed_ordered : (es : List Entry) → IsInOrder (entry_names es) → IsInOrder (names_of (listed es))
 listed_ordered [] o = tt
-listed_ordered (e ∷ es) o = subst (λ (l : List OldWeak). IsInOrder (names_of l)) (sym (listed_cons e es)) (by_test (not e.left))
+listed_ordered (e ∷ es) o =
+    subst (λ (l : List OldWeak). IsInOrder (names_of l)) (sym (listed_cons e es))
+    (by_test (not e.left) (listed_ordered es (in_order_rest e.weak.weak (entry_names es) o)))
   where
-    rest : IsInOrder (names_of (listed es))
-    rest = listed_ordered es (in_order_rest e.weak.weak (entry_names es) o)
-
-    by_test : (b : Bool) → IsInOrder (names_of (cond b (e.weak ∷ listed es) (listed es)))
-    by_test true = in_order_cons e.weak.weak (names_of (listed es)) rest (λ n c. in_order_first e.weak.weak (entry_names es) o n (listed_names es n c))
-    by_test false = rest
+    by_test : (b : Bool) → IsInOrder (names_of (listed es)) → IsInOrder (names_of (cond b (e.weak ∷ listed es) (listed es)))
+    by_test true rest = in_order_cons e.weak.weak (names_of (listed es)) rest (λ n c. in_order_first e.weak.weak (entry_names es) o n (listed_names es n c))
+    by_test false rest = rest
 
 -- the names of entries with one more are its name and theirs
 inserted_names : (es : List Entry) (k : ℕ) (x : Entry) (n : Name) → Contains (entry_names (take k es ++ x ∷ drop k es)) n →
@@ -312,21 +324,16 @@ together_list es = ap (λ (l : List Entry). map (λ (e : Entry). e.weak) l)
 -- and their order
 pub together_ordered : (es : List Entry) → IsInOrder (entry_names es) → IsInOrder (entry_names (filter (λ (e : Entry). not e.left) es))
 together_ordered [] o = o
-together_ordered (e ∷ es) o = by_test (not e.left)
+together_ordered (e ∷ es) o = by_test (not e.left) (together_ordered es (in_order_rest e.weak.weak (entry_names es) o))
   where
-    kept : List Entry
-    kept = filter (λ (x : Entry). not x.left) es
-
-    rest : IsInOrder (entry_names kept)
-    rest = together_ordered es (in_order_rest e.weak.weak (entry_names es) o)
-
-    by_test : (b : Bool) → IsInOrder (entry_names (cond b (e ∷ kept) kept))
-    by_test true = in_order_cons e.weak.weak (entry_names kept) rest (λ n c.
-        let r = map_contains (λ (x : Entry). x.weak.weak) kept n c in
+    by_test : (b : Bool) → IsInOrder (entry_names (filter (λ (x : Entry). not x.left) es)) →
+        IsInOrder (entry_names (cond b (e ∷ filter (λ (x : Entry). not x.left) es) (filter (λ (x : Entry). not x.left) es)))
+    by_test true rest = in_order_cons e.weak.weak (entry_names (filter (λ (x : Entry). not x.left) es)) rest (λ n c.
+        let r = map_contains (λ (x : Entry). x.weak.weak) (filter (λ (x : Entry). not x.left) es) n c in
         let was = (filter_contains (λ (x : Entry). not x.left) es r.0 r.1).0 in
         in_order_first e.weak.weak (entry_names es) o n (subst (λ (m : Name). Contains (entry_names es) m) (sym r.2)
         (contains_map (λ (x : Entry). x.weak.weak) es r.0 was)))
-    by_test false = rest
+    by_test false rest = rest
 
 -- two of the same name at the same place
 pub same_old : (a b : OldWeak) → a.weak ≡ b.weak → a.at.0 ≡ b.at.0 → a ≡ b
@@ -381,11 +388,144 @@ left_list (x ∷ xs) (suc i) e o there =
     by_test true other = sym (ap (λ (b : Bool). cond (not b) (x.weak ∷ without e.weak (listed xs)) (without e.weak (listed xs))) other)
     by_test false other = refl
 
--- an entry that is another of the same name leaves the names
-pub left_names : (es : List Entry) (i : ℕ) (e : Entry) → slice_get es i ≡ Some e → entry_names (set es i (record e { left = true })) ≡ entry_names es
-left_names [] i e there = refl
-left_names (x ∷ xs) zero e there = ap (λ (y : Entry). y.weak.weak ∷ entry_names xs) (sym (same_Some x e there))
-left_names (x ∷ xs) (suc i) e there = ap (λ (l : List Name). x.weak.weak ∷ l) (left_names xs i e there)
+-- another entry of the same name leaves the names
+pub set_names : (es : List Entry) (i : ℕ) (e x : Entry) → slice_get es i ≡ Some e → x.weak.weak ≡ e.weak.weak → entry_names (set es i x) ≡ entry_names es
+set_names [] i e x there same = refl
+set_names (y ∷ ys) zero e x there same =
+    ap (λ (n : Name). n ∷ entry_names ys) (same ∙ sym (ap (λ (z : Entry). z.weak.weak) (same_Some y e there)))
+set_names (y ∷ ys) (suc i) e x there same = ap (λ (l : List Name). y.weak.weak ∷ l) (set_names ys i e x there same)
+
+-- of a name there is one entry
+pub only_entry : (es : List Entry) (i : ℕ) (e b : Entry) → IsInOrder (entry_names es) → slice_get es i ≡ Some e → Contains es b →
+    b.weak.weak ≡ e.weak.weak → b ≡ e
+only_entry es i e b o there c same =
+    let at = place_of es b c in
+    elim (cases_order at.0 i) [
+      | inl is ↦ same_Some b e (sym at.1 ∙ ap (λ k. slice_get es k) is ∙ there)
+      | inr apart ↦ absurd (elim apart [
+        | inl lt ↦ not_before_itself e.weak.weak (subst (λ (n : Name). IsBefore n e.weak.weak) same
+            (before_at (entry_names es) at.0 i b.weak.weak e.weak.weak o (name_at es at.0 b at.1) (name_at es i e there) lt))
+        | inr lt ↦ not_before_itself e.weak.weak (subst (λ (n : Name). IsBefore e.weak.weak n) same
+            (before_at (entry_names es) i at.0 e.weak.weak b.weak.weak o (name_at es i e there) (name_at es at.0 b at.1) lt))
+      ])
+    ]
+
+-- so one of its name at another place isn't in the list
+pub without_other : (es : List Entry) (i : ℕ) (e : Entry) (w : OldWeak) → IsInOrder (entry_names es) → slice_get es i ≡ Some e →
+    e.weak.weak ≡ w.weak → e.weak.at.0 ≢ w.at.0 → without w (listed es) ≡ listed es
+without_other es i e w o there named apart = without_none w (listed es) (λ x c same.
+    let r = listed_in es x c in
+    let is : r.0.weak ≡ w = r.2 ∙ same in
+    let one = only_entry es i e r.0 o there r.1 (ap (λ (y : OldWeak). y.weak) is ∙ sym named) in
+    apart (ap (λ (y : Entry). y.weak.at.0) (sym one) ∙ ap (λ (y : OldWeak). y.at.0) is))
+
+-- and where no entry has its name, neither
+pub without_name : (es : List Entry) (w : OldWeak) → ((e : Entry) → Contains es e → e.weak.weak ≢ w.weak) → without w (listed es) ≡ listed es
+without_name es w none = without_none w (listed es) (λ x c same.
+    let r = listed_in es x c in
+    none r.0 r.1 (ap (λ (y : OldWeak). y.weak) (r.2 ∙ same)))
+
+-- no more are in the list than there are entries
+pub listed_few : (es : List Entry) → length (listed es) ≤ length es
+listed_few [] = omega arith
+listed_few (e ∷ es) = subst (λ (l : List OldWeak). length l ≤ length (e ∷ es)) (sym (listed_cons e es)) (by_test (not e.left) (listed_few es))
+  where
+    by_test : (b : Bool) → length (listed es) ≤ length es → length (cond b (e.weak ∷ listed es) (listed es)) ≤ length (e ∷ es)
+    by_test true rest = omega (arith, rest)
+    by_test false rest = omega (arith, rest)
+
+-- another entry at a place adds one at most
+pub set_count : (es : List Entry) (i : ℕ) (x : Entry) → length (listed (set es i x)) ≤ length (listed es) + 1
+set_count [] i x = omega arith
+set_count (y ∷ ys) zero x = rw (listed_cons x ys, listed_cons y ys) (by_tests (not x.left) (not y.left))
+  where
+    by_tests : (b d : Bool) → length (cond b (x.weak ∷ listed ys) (listed ys)) ≤ length (cond d (y.weak ∷ listed ys) (listed ys)) + 1
+    by_tests true true = omega arith
+    by_tests true false = omega arith
+    by_tests false true = omega arith
+    by_tests false false = omega arith
+set_count (y ∷ ys) (suc i) x = rw (listed_cons y (set ys i x), listed_cons y ys) (by_test (not y.left) (set_count ys i x))
+  where
+    by_test : (b : Bool) → length (listed (set ys i x)) ≤ length (listed ys) + 1 →
+        length (cond b (y.weak ∷ listed (set ys i x)) (listed (set ys i x))) ≤ length (cond b (y.weak ∷ listed ys) (listed ys)) + 1
+    by_test true rest = omega (arith, rest)
+    by_test false rest = omega (arith, rest)
+
+-- an entry of the first ones that is in the list: there is room for it
+pub listed_below : (es : List Entry) (i : ℕ) (d : Entry) → i < length es → (get_or es i d).left ≡ false →
+    length (listed (take i es)) + 1 ≤ length (listed es)
+listed_below es i d lt in_ =
+    let more = ap length (listed_more es i d lt ∙ ap (λ (b : Bool). listed (take i es) ++ cond (not b) ((get_or es i d).weak ∷ []) []) in_) ∙
+    length-append (listed (take i es)) ((get_or es i d).weak ∷ []) in
+    let all = ap length (sym (listed_parts es (i + 1))) ∙ length-append (listed (take (i + 1) es)) (listed (drop (i + 1) es)) in
+    omega (arith, more, all)
+
+-- an entry once the dead have left
+abbrev pub marked : List ℕ → Entry → Entry
+marked words e = record { weak = e.weak; left = cond (is_alive words e.weak) e.left true }
+
+pub marked_names : (words : List ℕ) (es : List Entry) → entry_names (map (marked words) es) ≡ entry_names es
+marked_names words [] = refl
+marked_names words (e ∷ es) = ap (λ (l : List Name). e.weak.weak ∷ l) (marked_names words es)
+
+in_and_alive : (alive left : Bool) → not (cond alive left true) ≡ (not left && alive)
+in_and_alive true true = refl
+in_and_alive true false = refl
+in_and_alive false true = refl
+in_and_alive false false = refl
+
+pub marked_listed : (words : List ℕ) (es : List Entry) → listed (map (marked words) es) ≡ alive_of words (listed es)
+marked_listed words [] = refl
+marked_listed words (e ∷ es) =
+    let rest = marked_listed words es in
+    let l : List OldWeak = alive_of words (listed es) in
+    listed_cons (marked words e) (map (marked words) es) ∙
+    ap (λ (m : List OldWeak). cond (not (marked words e).left) (e.weak ∷ m) m) rest ∙
+    ap (λ (b : Bool). cond b (e.weak ∷ l) l) (in_and_alive (is_alive words e.weak) e.left) ∙
+    sym (filter_cond (not e.left) (is_alive words) e.weak (listed es)) ∙ ap (alive_of words) (sym (listed_cons e es))
+
+pub marked_dead : (words : List ℕ) (x : Entry) → slice_index words (value_place x.weak.at.0) ≡ 0 → marked words x ≡ record { weak = x.weak; left = true }
+marked_dead words x e =
+    ap (λ (b : Bool). let y : Entry = record { weak = x.weak; left = cond (not b) x.left true } in y) (eq-eqb (slice_index words (value_place x.weak.at.0)) 0 e)
+
+pub marked_alive : (words : List ℕ) (x : Entry) → slice_index words (value_place x.weak.at.0) ≢ 0 → marked words x ≡ x
+marked_alive words x ne =
+    ap (λ (b : Bool). let y : Entry = record { weak = x.weak; left = cond (not b) x.left true } in y) (ne_eqb (slice_index words (value_place x.weak.at.0)) 0 ne)
+
+pub marked_left : (words : List ℕ) (x : Entry) → x.left ≡ true → marked words x ≡ x
+marked_left words x e = ap (λ (b : Bool). let y : Entry = record { weak = x.weak; left = b } in y) (either (is_alive words x.weak) x.left e)
+  where
+    either : (b d : Bool) → d ≡ true → cond b d true ≡ d
+    either true d e = refl
+    either false d e = sym e
+
+-- an entry more, in a pass over them: the rest are as they were
+rest_read : (f : Entry → Entry) (was : List Entry) (i : ℕ) (d : Entry) → get_or (map f (take i was) ++ drop i was) i d ≡ get_or was i d
+rest_read f [] zero d = refl
+rest_read f [] (suc i) d = refl
+rest_read f (x ∷ xs) zero d = refl
+rest_read f (x ∷ xs) (suc i) d = rest_read f xs i d
+
+module _ (words : List ℕ) (was es : List Entry) (i : ℕ) (lt : i < length was) (size : length es ≡ length was)
+    (done : es ≡ map (marked words) (take i was) ++ drop i was) where
+  pub next_read : nth_entry es i ≡ nth_entry was i
+  next_read = ap (λ (l : List Entry). nth_entry l i) done ∙ rest_read (marked words) was i no_entry
+
+  -- one that is in the list lies where its words are read
+  pub next_listed : (nth_entry es i).left ≡ false → Contains (listed was) (nth_entry es i).weak
+  next_listed in_ =
+      subst (λ (e : Entry). Contains (listed was) e.weak) (sym next_read)
+      (listed_has was (nth_entry was i) (contains_at was i (nth_entry was i) (entry_there was i lt)) (ap (λ (e : Entry). e.left) (sym next_read) ∙ in_))
+
+  pub marked_more : (y : Entry) → marked words (nth_entry es i) ≡ y → set es i y ≡ map (marked words) (take (i + 1) was) ++ drop (i + 1) was
+  marked_more y is = subst (λ (z : Entry). set es i z ≡ map (marked words) (take (i + 1) was) ++ drop (i + 1) was) is
+      (map_over_more (marked words) was es i (nth_entry es i) lt done (get_or_default es i no_entry (nth_entry es i) (omega (arith, lt, size))))
+
+pub marked_all : (words : List ℕ) (was es : List Entry) (i : ℕ) → length was ≤ i → es ≡ map (marked words) (take i was) ++ drop i was →
+    es ≡ map (marked words) was
+marked_all words was es i le done =
+    done ∙ ap (λ (l : List Entry). map (marked words) l ++ drop i was) (take_all i was le) ∙
+    ap (λ (l : List Entry). map (marked words) was ++ l) (drop_all i was le) ∙ append-nil (map (marked words) was)
 
 -- who stands before a place, where the one just before it comes before a name
 pub before_last : (es : List Entry) (place : ℕ) (x : Entry) (weak : Name) → IsInOrder (entry_names es) → slice_get es place ≡ Some x →
@@ -398,3 +538,50 @@ before_last es place x weak o there b j e at lt = elim (cases_lt j place) [
       let here : e ≡ x = same_Some e x (sym at ∙ ap (λ k. slice_get es k) same ∙ there) in
       subst (λ (y : Entry). IsBefore y.weak.weak weak) (sym here) b
 ]
+
+-- the entry of a name was found
+module _ (es : List Entry) (i : ℕ) (weak : Name) (o : IsInOrder (entry_names es)) (f : IsEntryAt es i weak) where
+  pub found_within : i < length es
+  found_within = slice_get_within es i f.entry f.there
+
+  pub found_is : (x : Entry) → x ≡ get_or es i x → x ≡ f.entry
+  found_is x is = same_Some x f.entry (sym (read_entry es i x found_within is) ∙ f.there)
+
+  found_named : (x : Entry) → x ≡ get_or es i x → x.weak.weak ≡ weak
+  found_named x is = ap (λ (e : Entry). e.weak.weak) (found_is x is) ∙ f.named
+
+  -- it lies elsewhere: the list is as it was
+  pub found_other : (x : Entry) (at : Address) → x ≡ get_or es i x → x.weak.at.0 ≢ at.0 →
+      without (record { weak = weak; at = at }) (listed es) ≡ listed es
+  found_other x at is apart =
+      without_other es i x (record { weak = weak; at = at }) o (read_entry es i x found_within is) (found_named x is) apart
+
+  -- it leaves: the names stay
+  pub found_ordered : (m : Entry) → m ≡ get_or es i m → IsInOrder (entry_names (set es i (record { weak = m.weak; left = true })))
+  found_ordered m is = subst IsInOrder (sym (set_names es i m (record { weak = m.weak; left = true }) (read_entry es i m found_within is) refl)) o
+
+  -- and the list is without it
+  pub found_leaves : (x m : Entry) (at : Address) → x ≡ get_or es i x → x.weak.at.0 ≡ at.0 → m ≡ get_or es i m →
+      listed (set es i (record { weak = m.weak; left = true })) ≡ without (record { weak = weak; at = at }) (listed es)
+  found_leaves x m at is here own =
+      let w : OldWeak = record { weak = weak; at = at } in
+      let one : m ≡ x = found_is m own ∙ sym (found_is x is) in
+      let same : m.weak ≡ w = same_old m.weak w (found_named m own) (ap (λ (e : Entry). e.weak.at.0) one ∙ here) in
+      left_list es i m o (read_entry es i m found_within own) ∙ ap (λ (y : OldWeak). without y (listed es)) same
+
+-- the entry before a place has a name, and left: it is used again
+module _ (es : List Entry) (k : ℕ) (weak : Name) (at : Address) (x : Entry) (o : IsInOrder (entry_names es)) (there : slice_get es k ≡ Some x)
+    (named : x.weak.weak ≡ weak) (absent : (w : OldWeak) → Contains (listed es) w → w.weak ≢ weak) where
+  reused_left : x.left ≡ true
+  reused_left = by_left x.left refl
+    where
+      by_left : (b : Bool) → x.left ≡ b → x.left ≡ true
+      by_left true e = e
+      by_left false e = absurd (absent x.weak (listed_has es x (contains_at es k x there) e) named)
+
+  pub reused_ordered : IsInOrder (entry_names (set es k (record { weak = record { weak = weak; at = at }; left = false })))
+  reused_ordered = subst IsInOrder (sym (set_names es k x (record { weak = record { weak = weak; at = at }; left = false }) there (sym named))) o
+
+  pub reused_list : (w : OldWeak) → Contains (listed (set es k (record { weak = record { weak = weak; at = at }; left = false }))) w ↔
+      (Contains (listed es) w ⊎ (w ≡ record { weak = weak; at = at }))
+  reused_list w = reused_has es k x (record { weak = record { weak = weak; at = at }; left = false }) w there reused_left refl

@@ -1,11 +1,10 @@
 -- Rows of the list, one after another: who joins and who leaves.
-use Rattle.std.proofs.Common.{◌≡◌, ◌≢◌, ◌⊎◌, ◌↔◌, ◌+◌, ◌<◌, ◌≤◌, ℕ, zero, suc, Bool, true, false, cond, eqb, eq-eqb, ne_eqb, slice_index, List, [], ◌∷◌, ◌++◌, length, length-append, length-set, take, get_or, append-nil, set, refl, sym, ap, subst, ◌∙◌, arith, Some, inl, inr}
-use Rattle.std.specs.Prelude.{Contains, filter, slice_get, not, min}
+use Rattle.std.proofs.Common.{◌≡◌, ◌≢◌, ◌⊎◌, ◌↔◌, ◌+◌, ◌<◌, ◌≤◌, ℕ, zero, suc, Bool, true, false, cond, eqb, eq-eqb, ne_eqb, slice_index, List, [], ◌∷◌, ◌++◌, length, length-append, length-set, take, drop, get_or, append-nil, set, refl, sym, ap, subst, ◌∙◌, arith, Some, inl, inr}
+use Rattle.std.specs.Prelude.{Contains, filter, slice_get, not}
 use Rattle.std.specs.List.{count_by}
 use Rattle.std.proofs.lemmas.Grind.{flat_map-append}
-use Rattle.std.proofs.lemmas.List.{take_more}
+use Rattle.std.proofs.lemmas.List.{take_at, take_more}
 use Rattle.std.proofs.lemmas.List.Sums.{count_by-le-length, length-filter, sum_by-append, sum_by-cons}
-use Rattle.std.proofs.Math.Nat.{min-le_left, min-le_right, min-eq_left}
 use Rattle.std.proofs.lemmas.Bool.{and_from, cases_eq, cases_lt}
 use Rattle.std.proofs.lemmas.Option.{none-some, same_Some, slice_get_within}
 use Rattle.std.proofs.lemmas.List.Elements.{Contains-append_left, Contains-append_right, Contains-append_cases, filter-append}
@@ -26,15 +25,8 @@ use Rattle.nmgc_weak.proofs.Entries.{is_same_itself, is_same_true, same_old}
 -- rows one after another: names of an earlier row come before those of a later one
 rows_before : (a b : Name) → row_of a < row_of b → IsBefore a b
 rows_before a b lt =
-    let most = min-le_right b.maker MAKERS in
-    let own = min-le_left b.maker MAKERS in
-    elim (cases_lt a.maker MAKERS) [
-      | inl less ↦ let is : row_of a ≡ a.maker = min-eq_left (omega (arith, less)) in inl (omega (arith, lt, is, own))
-      | inr more ↦ absurd (let least = min_past a.maker more in omega (arith, lt, least, most))
-    ]
-  where
-    min_past : (n : ℕ) → MAKERS ≤ n → MAKERS ≤ min n MAKERS
-    min_past n le = grind (arith, le)
+    let less : a.maker < b.maker = omega (arith, lt) in
+    inl less
 
 in_order_append : (xs ys : List Name) → IsInOrder xs → IsInOrder ys → ((a b : Name) → Contains xs a → Contains ys b → IsBefore a b) → IsInOrder (xs ++ ys)
 in_order_append [] ys o p before = p
@@ -80,6 +72,9 @@ ordered_from n (r ∷ rows) h =
 
 pub rows_ordered : (rows : List Row) (room : ℕ) → AreRows rows room → IsInOrder (names_of (list_of rows))
 rows_ordered rows room h = ordered_from 0 rows (λ k row there. (h.ordered k row there, λ w c. h.own k row w there c ∙ omega arith))
+
+pub list_ordered : (rows : List Row) (room : ℕ) (list : List OldWeak) → AreRows rows room → list_of rows ≡ list → IsInOrder (names_of list)
+list_ordered rows room list h is = subst (λ (l : List OldWeak). IsInOrder (names_of l)) is (rows_ordered rows room h)
 
 -- one row changed: what joined it joined the list
 pub row_joined : (rows : List Row) (k : ℕ) (old new : Row) (x w : OldWeak) → slice_get rows k ≡ Some old →
@@ -181,7 +176,10 @@ set_rows rows room less k old new h there le own ordered spare = record {
     | inl e ↦ subst (λ (y : Row). less ≤ y.spare) (sym e.1) spare
     | inr other ↦ let most = h.spare j row other in omega (arith, most, le)
   ];
-  all = λ some. length-set rows k new ∙ h.all (omega (arith, some, le));
+  all = λ some.
+      let count = length-set rows k new in
+      let all = h.all (omega (arith, some, le)) in
+      omega (arith, count, all);
 }
   where
     at_or_other : (j : ℕ) (row : Row) → slice_get (set rows k new) j ≡ Some row → ((j ≡ k) × (row ≡ new)) ⊎ (slice_get rows j ≡ Some row)
@@ -224,7 +222,9 @@ all_left p rows later room h same each = record {
       let most = h.spare k old.0 old.1 in
       let more = (each k old.0 row old.1 at).2 in
       omega (arith, most, more);
-  all = λ some. same ∙ h.all some;
+  all = λ some.
+      let all = h.all some in
+      omega (arith, same, all);
 }
   where
     row_there : (k : ℕ) (row : Row) → slice_get later k ≡ Some row → (old : Row) × (slice_get rows k ≡ Some old)
@@ -297,7 +297,9 @@ none_counted p [] none = refl
 none_counted p (x ∷ xs) none =
     let out : p x ≡ false = false_of (p x) (λ t. none x (contains_head x xs) t) in
     let rest = none_counted p xs (λ w c. none w (contains_tail x xs w c)) in
-    sum_by-cons (λ (y : OldWeak). cond (p y) 1 0) x xs ∙ ap (λ (b : Bool). cond b 1 0 + count_by p xs) out ∙ rest
+    let sum : count_by p (x ∷ xs) ≡ cond (p x) 1 0 + count_by p xs = sum_by-cons (λ (y : OldWeak). cond (p y) 1 0) x xs in
+    let none_of : ◌≡◌ {A = ℕ} (cond (p x) 1 0) 0 = ap (λ (b : Bool). cond {A = ℕ} b 1 0) out in
+    omega (arith, sum, none_of, rest)
 
 pub counted_in : (p : OldWeak → Bool) (rows : List Row) (k : ℕ) (row : Row) → slice_get rows k ≡ Some row →
     ((j : ℕ) (r : Row) (w : OldWeak) → slice_get rows j ≡ Some r → Contains r.list w → p w ≡ true → j ≡ k) →
@@ -352,3 +354,100 @@ rows_more rows i d lt =
 pub empty_joins : (rows : List Row) (r : Row) → r.list ≡ [] → list_of (rows ++ r ∷ []) ≡ list_of rows
 empty_joins rows r none =
     flat_map-append (λ (x : Row). x.list) rows (r ∷ []) ∙ ap (λ (l : List OldWeak). list_of rows ++ l) (append-nil r.list ∙ none) ∙ append-nil (list_of rows)
+
+-- who stands among some and one more
+pub last_or_before : (rows : List Row) (last : Row) (k : ℕ) (row : Row) → slice_get (rows ++ last ∷ []) k ≡ Some row →
+    (slice_get rows k ≡ Some row) ⊎ (row ≡ last)
+last_or_before [] last zero row at = inr (sym (same_Some last row at))
+last_or_before [] last (suc k) row at = absurd (none-some row at)
+last_or_before (r ∷ rows) last zero row at = inl at
+last_or_before (r ∷ rows) last (suc k) row at = last_or_before rows last k row at
+
+-- the first rows and the next one have no more than all
+pub rows_part : (rows : List Row) (i : ℕ) (d : Row) → i < length rows →
+    length (list_of (take i rows)) + length (get_or rows i d).list ≤ length (list_of rows)
+rows_part [] i d lt = absurd (omega arith)
+rows_part (r ∷ rows) zero d lt =
+    let all = length-append r.list (list_of rows) in
+    omega (arith, all)
+rows_part (r ∷ rows) (suc i) d lt =
+    let rest = rows_part rows i d (omega arith) in
+    let first = length-append r.list (list_of (take i rows)) in
+    let all = length-append r.list (list_of rows) in
+    omega (arith, rest, first, all)
+
+-- with empty rows more they are rows still
+pub made_rows : (old new : List Row) (room : ℕ) → AreRows old room → length old ≤ length new →
+    ((k : ℕ) (row : Row) → slice_get new k ≡ Some row → (slice_get old k ≡ Some row) ⊎ ((row.list ≡ []) × (length old < MAKERS + 1))) →
+    AreRows new room
+made_rows old new room h more each = record {
+  own = λ k row w at c. elim (each k row at) [
+    | inl was ↦ h.own k row w was c
+    | inr fresh ↦ absurd (nothing_in w (subst (λ (l : List OldWeak). Contains l w) fresh.0 c))
+  ];
+  ordered = λ k row at. elim (each k row at) [
+    | inl was ↦ h.ordered k row was
+    | inr fresh ↦ subst (λ (l : List OldWeak). IsInOrder (names_of l)) (sym fresh.0) tt
+  ];
+  spare = λ k row at. elim (each k row at) [
+    | inl was ↦ h.spare k row was
+    | inr fresh ↦
+        let few = fresh.1 in
+        elim (cases_lt 0 room) [
+          | inl some_ ↦ absurd (let all = h.all some_ in omega (arith, all, few))
+          | inr none ↦ omega (arith, none)
+        ]
+  ];
+  all = λ some_.
+      let all = h.all some_ in
+      omega (arith, all, more);
+}
+
+-- rows that were written back, of which some left
+pub record AreWritten (p : OldWeak → Bool) (old new : List Row) (room : ℕ) : Type 0 where
+  pub rows : AreRows new room
+  pub list : list_of new ≡ filter p (list_of old)
+
+module _ (rows slice new : List Row) (len room : ℕ) (h : AreRows rows room) (same : slice ≡ rows) (all : length slice ≡ len) (count : length new ≡ length slice) where
+  -- what was written to a slice of them is what they are
+  pub written : take len (new ++ drop (length new) rows) ≡ new
+  written = take_at new (drop (length new) rows) len (count ∙ all)
+
+  pub rows_left : (p : OldWeak → Bool) → ((k : ℕ) (old now : Row) → slice_get slice k ≡ Some old → slice_get new k ≡ Some now →
+      (now.list ≡ filter p old.list) × IsInOrder (names_of now.list) × (old.spare ≤ now.spare)) →
+      AreWritten p rows (take len (new ++ drop (length new) rows)) room
+  rows_left p each =
+      let there : length new ≡ length rows = count ∙ ap length same in
+      let one = λ (k : ℕ) (old now : Row) (e : slice_get rows k ≡ Some old) (f : slice_get new k ≡ Some now).
+      each k old now (ap (λ (l : List Row). slice_get l k) same ∙ e) f in
+      subst (λ (l : List Row). AreWritten p rows l room) (sym written) (record {
+        rows = all_left p rows new room h there one;
+        list = rows_filtered p rows new there (λ k old now e f. (one k old now e f).0);
+      })
+
+  -- each got room, and none left
+  pub rows_reserved : ((k : ℕ) (old now : Row) → slice_get slice k ≡ Some old → slice_get new k ≡ Some now →
+      (now.list ≡ old.list) × (old.spare ≤ now.spare)) → AreRows (take len (new ++ drop (length new) rows)) room ×
+      (list_of (take len (new ++ drop (length new) rows)) ≡ list_of rows)
+  rows_reserved each =
+      let all_stay = rows_left (λ (w : OldWeak). true) (λ k old now e f.
+      let own = each k old now e f in
+      let was : slice_get rows k ≡ Some old = ap (λ (l : List Row). slice_get l k) (sym same) ∙ e in (
+        own.0 ∙ sym (filter_all (λ (w : OldWeak). true) old.list (λ w c. refl)),
+        subst (λ (l : List OldWeak). IsInOrder (names_of l)) (sym own.0) (h.ordered k old was),
+        own.1,
+      )) in
+      (all_stay.rows, all_stay.list ∙ filter_all (λ (w : OldWeak). true) (list_of rows) (λ w c. refl))
+
+  -- with so much room in each
+  pub rows_roomy : (more : ℕ) → ((k : ℕ) (old now : Row) → slice_get slice k ≡ Some old → slice_get new k ≡ Some now →
+      (now.list ≡ old.list) × (old.spare ≤ now.spare)) → ((k : ℕ) (row : Row) → slice_get new k ≡ Some row → more ≤ row.spare) →
+      MAKERS + 1 ≤ len → AreRows (take len (new ++ drop (length new) rows)) more
+  rows_roomy more each spare enough =
+      let w = (rows_reserved each).0 in
+      subst (λ (l : List Row). AreRows l more) (sym written) (record {
+        own = λ k row x at c. w.own k row x (ap (λ (l : List Row). slice_get l k) written ∙ at) c;
+        ordered = λ k row at. w.ordered k row (ap (λ (l : List Row). slice_get l k) written ∙ at);
+        spare = spare;
+        all = λ some_. let long = count ∙ all in omega (arith, long, enough);
+      })

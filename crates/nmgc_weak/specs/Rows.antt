@@ -50,7 +50,7 @@ pub record AreRows (rows : List Row) (room : ℕ) : Type 0 where
   pub own : (k : ℕ) (row : Row) (weak : OldWeak) → slice_get rows k ≡ Some row → Contains row.list weak → row_of weak.weak ≡ k
   pub ordered : (k : ℕ) (row : Row) → slice_get rows k ≡ Some row → IsInOrder (names_of row.list)
   pub spare : (k : ℕ) (row : Row) → slice_get rows k ≡ Some row → room ≤ row.spare
-  pub all : 0 < room → length rows ≡ MAKERS + 1
+  pub all : 0 < room → MAKERS + 1 ≤ length rows
 
 -- the name word at a place is that of the weak pointer of the list there
 abbrev pub IsNamedAt : List ℕ → ℕ → List OldWeak → Type 0

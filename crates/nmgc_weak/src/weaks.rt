@@ -14,14 +14,15 @@
 //! for their keys, those that die, the deaths, and the names for the report.
 //!
 //! Easy to get wrong: what lies in these means nothing between two calls, but for the deaths, so each call clears it first.
-ghost use Rattle.std.specs.Prelude.{ℕ, ◌≡◌, ◌≢◌, ◌⊎◌, ◌↔◌, ◌+◌, ◌<◌, ◌≤◌, List, [], length, vec_len, vec_capacity, Contains, IsTrue, IfOk, OnOk, OnErr, slice_get, Some};
+ghost use Rattle.std.specs.Prelude.{ℕ, ◌≡◌, ◌≢◌, ◌⊎◌, ◌↔◌, ◌+◌, ◌<◌, ◌≤◌, List, [], length, vec_len, vec_capacity, Contains, IsTrue, IfOk, OnOk, OnErr, min, slice_get, Some};
+ghost use Rattle.nmgc_limits.specs.declared.mutators.TheConstants.{MAKERS};
 ghost use Rattle.nmgc_world_spec.specs.Reach.{IsBefore, IsInOrder};
 ghost use Rattle.nmgc_object.specs.declared.size.TheConstants.{HEADER_WORDS};
 ghost use Rattle.nmgc_round.specs.View.{Opening};
 ghost use Rattle.nmgc_mark.specs.Marker.{HasRoomToMark, HasMarked};
 ghost use Rattle.nmgc_weak.specs.declared.weaks.OldWeak.{OldWeak as Old};
 ghost use Rattle.nmgc_weak.specs.Resolve.{CanResolve, HasResolved};
-ghost use Rattle.nmgc_weak.specs.Rows.{Row as RowShown, IsNamedAt, list_of, row_of as row_number, left_at};
+ghost use Rattle.nmgc_weak.specs.Rows.{Row as RowShown, IsNamedAt, list_of, left_at};
 ghost use Rattle.nmgc_weak.specs.Weaks.{AreInside, HaveLostValues, alive_of, count_made_by, names_of, places_of, value_place};
 
 use crate::resolve::{Waiter, clear_values, find_dying, revive, save_finalisers};
@@ -99,19 +100,21 @@ pub(crate) const FINALISER: usize = HEADER_WORDS as usize + 2;
 // How many rows there are: one for each number of a mutator, and one for all other names.
 const ROWS: usize = MAKERS as usize + 1;
 
-// In which row a name is.
-fn row_of(name: Name) -> usize
-    ensures value { result ≡ row_number name }
+// In which row the names of a maker are.
+fn row_of(maker: u8) -> usize
+    ensures value { result ≡ min maker MAKERS }
     ensures within { result < ROWS }
 {
-    usize::from(name.maker.min(MAKERS))
+    usize::from(maker.min(MAKERS))
 }
 
 // Empty rows join those that are there, up to the last one.
 fn make_rows(alloc: Global, rows: &mut Vec<Row>) -> Result<(), NoMemory>
     ensures list { list_of rows.new.items ≡ list_of rows.old.items }
-    ensures all { OnOk result (ROWS ≤ vec_len rows.new) }
-    ensures rows { (k : ℕ) (row : RowShown) → slice_get rows.new.items k ≡ Some row → (slice_get rows.old.items k ≡ Some row) ⊎ (row.list ≡ []) }
+    ensures more { length rows.old.items ≤ length rows.new.items }
+    ensures all { OnOk result (ROWS ≤ length rows.new.items) }
+    ensures rows { (k : ℕ) (row : RowShown) → slice_get rows.new.items k ≡ Some row →
+        (slice_get rows.old.items k ≡ Some row) ⊎ ((row.list ≡ []) × (length rows.old.items < ROWS)) }
 {
     while rows.len() < ROWS {
         rows.push(Row::new(alloc))?;
@@ -193,9 +196,6 @@ impl Weaks {
         let Some(wanted) = self.most.checked_add(more) else {
             return Err(NoMemory);
         };
-        let alloc = *self.list.allocator();
-        make_rows(alloc, &mut self.rows)?;
-        reserve_rows(self.rows.as_mut_slice(), more)?;
         self.list.clear();
         self.waiting.clear();
         self.dying.clear();
@@ -204,6 +204,9 @@ impl Weaks {
         self.dying.reserve(wanted)?;
         self.deaths.reserve(wanted)?;
         self.names.reserve(wanted)?;
+        let alloc = *self.list.allocator();
+        make_rows(alloc, &mut self.rows)?;
+        reserve_rows(self.rows.as_mut_slice(), more)?;
         self.room = more;
         Ok(())
     }
@@ -218,7 +221,7 @@ impl Weaks {
         ensures spare { self.new.spare + 1 ≡ self.old.spare }
         ensures deaths { self.new.deaths ≡ self.old.deaths }
     {
-        let row = &mut self.rows[row_of(weak)];
+        let row = &mut self.rows[row_of(weak.maker)];
         row.add(weak, at);
         self.room -= 1;
         self.most += 1;
@@ -236,6 +239,8 @@ impl Weaks {
         ensures spare { self.new.spare + length fresh.now ≡ self.old.spare }
         ensures deaths { self.new.deaths ≡ self.old.deaths }
     {
+        // Where none join, the list is in order as it was.
+        let _room = self.room;
         for weak in fresh {
             self.add(weak.weak, weak.at);
         }
@@ -255,10 +260,11 @@ impl Weaks {
     pub fn count(&self, maker: u8) -> usize
         ensures { count_made_by maker self.now.list ≤ result }
     {
-        let row = usize::from(maker.min(MAKERS));
-        match self.rows.as_slice().get(row) {
-            Some(row) => row.count(),
-            None => 0,
+        let number = row_of(maker);
+        if number < self.rows.len() {
+            self.rows[number].count()
+        } else {
+            0
         }
     }
 
@@ -303,14 +309,15 @@ impl Weaks {
         ensures spare { self.new.spare ≡ self.old.spare }
         ensures deaths { self.new.deaths ≡ self.old.deaths }
     {
+        let count = self.rows.len();
         if words.load(at.0 as usize + VALUE) != 0 {
             return;
         }
         let Some(weak) = decode_name(words.load(at.0 as usize + NAME_OFFSET as usize)) else {
             return;
         };
-        let number = row_of(weak);
-        if number < self.rows.len() {
+        let number = row_of(weak.maker);
+        if number < count {
             let row = &mut self.rows[number];
             row.leave(weak, at);
         }

@@ -12,7 +12,7 @@ use Rattle.nmgc_journal.specs.declared.report.RoundRows.{RoundRows}
 use Rattle.nmgc_journal.specs.declared.report.End.{End}
 use Rattle.nmgc_run_spec.specs.Run.{Run, Turn, IsRun, AreTurns, Tells}
 use Rattle.nmgc_run_spec.specs.State.{Plan, State, Progress, idle, marking, sweeping, plan_of}
-use Rattle.nmgc_run_spec.specs.Stop.{IsCensus, IsStop, EndsOrWaits, Finishes, DoesFullCycle, Proceeds}
+use Rattle.nmgc_run_spec.specs.Stop.{IsCensus, IsStop, EndsOrWaits, Finishes, Proceeds}
 use Rattle.nmgc_script.specs.declared.script.Script.{Script}
 use Rattle.nmgc_cycle.specs.declared.collector.Collector.{Collector}
 use Rattle.nmgc_cycle.specs.Keeps.{HasEnded}

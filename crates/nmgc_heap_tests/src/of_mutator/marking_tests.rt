@@ -77,7 +77,8 @@ pub(super) fn mutator_with(
     sender: UpdSender,
 ) -> Result<Mutator, NoMemory>
     ensures is { IfOk result IsSnapshotMutator }
-    ensures room { IfOk result (λ m. (commands ≤ m.replies.spare) × (commands ≤ m.recorded.spare) × (MOST_PUSHED * commands ≤ m.updrem.spare)) }
+    ensures room { IfOk result (λ m. (commands ≤ m.replies.spare) × (commands ≤ m.recorded.spare) × (MOST_PUSHED * commands ≤ m.updrem.spare) ×
+        (commands ≤ m.finalised.spare)) }
 {
     let layout = small();
     let mut mutator = Mutator::new(alloc, 0, layout, sender)?;
@@ -94,7 +95,7 @@ pub(super) fn mutator_with(
 // The same with room for one command.
 fn mutator_at(alloc: Global) -> Result<Mutator, NoMemory>
     ensures is { IfOk result IsSnapshotMutator }
-    ensures room { IfOk result (λ m. (0 < m.replies.spare) × (0 < m.recorded.spare) × (0 < m.updrem.spare)) }
+    ensures room { IfOk result (λ m. (0 < m.replies.spare) × (0 < m.recorded.spare) × (0 < m.updrem.spare) × (0 < m.finalised.spare)) }
 {
     let (sender, _receiver) = link(alloc)?;
     mutator_with(alloc, 1, sender)
@@ -156,7 +157,8 @@ fn scan_field(round: &Round, collector: &mut CollectorSeat, header: u64) -> u64
 fn overwrite(round: &Round, seat: &mut MutatorSeat, mutator: &mut Mutator) -> bool
     requires seat { IsAt round.now seat.old × (seen seat.old ≡ alone snapshot_opening 0) }
     requires mutator { IsSnapshotMutator mutator.old }
-    requires room { (0 < mutator.old.replies.spare) × (0 < mutator.old.recorded.spare) × (0 < mutator.old.updrem.spare) }
+    requires room { (0 < mutator.old.replies.spare) × (0 < mutator.old.recorded.spare) × (0 < mutator.old.updrem.spare) ×
+        (0 < mutator.old.finalised.spare) }
     ensures { IsAt round.now seat.new × HasPart (seen seat.new) 0 }
 {
     laws::a_round_finds_mutators_ready();
@@ -178,7 +180,8 @@ fn overwrite(round: &Round, seat: &mut MutatorSeat, mutator: &mut Mutator) -> bo
 fn compare(round: &Round, seat: &mut MutatorSeat, mutator: &mut Mutator) -> bool
     requires seat { IsAt round.now seat.old × (seen seat.old ≡ alone snapshot_opening 0) }
     requires mutator { IsSnapshotMutator mutator.old }
-    requires room { (0 < mutator.old.replies.spare) × (0 < mutator.old.recorded.spare) × (0 < mutator.old.updrem.spare) }
+    requires room { (0 < mutator.old.replies.spare) × (0 < mutator.old.recorded.spare) × (0 < mutator.old.updrem.spare) ×
+        (0 < mutator.old.finalised.spare) }
     ensures { IsAt round.now seat.new × HasPart (seen seat.new) 0 }
 {
     laws::a_round_finds_mutators_ready();
@@ -239,7 +242,8 @@ fn read_first(
 ) -> Option<Outcome>
     requires heap { IsSnapshotHeap words }
     requires mutator { IsSnapshotMutator mutator.old }
-    requires lists { (0 < mutator.old.replies.spare) × (0 < mutator.old.recorded.spare) × (0 < mutator.old.updrem.spare) }
+    requires lists { (0 < mutator.old.replies.spare) × (0 < mutator.old.recorded.spare) × (0 < mutator.old.updrem.spare) ×
+        (0 < mutator.old.finalised.spare) }
     requires room { (room.items ≡ []) × (1 ≤ vec_capacity room) × (last.items ≡ []) }
 {
     let Begun {
@@ -270,7 +274,8 @@ fn written_first(
 ) -> Option<Outcome>
     requires heap { IsSnapshotHeap words }
     requires mutator { IsSnapshotMutator mutator.old }
-    requires lists { (0 < mutator.old.replies.spare) × (0 < mutator.old.recorded.spare) × (0 < mutator.old.updrem.spare) }
+    requires lists { (0 < mutator.old.replies.spare) × (0 < mutator.old.recorded.spare) × (0 < mutator.old.updrem.spare) ×
+        (0 < mutator.old.finalised.spare) }
     requires room { (room.items ≡ []) × (1 ≤ vec_capacity room) × (last.items ≡ []) }
 {
     let Begun {
@@ -301,7 +306,8 @@ fn compared(
 ) -> Option<Outcome>
     requires heap { IsSnapshotHeap words }
     requires mutator { IsSnapshotMutator mutator.old }
-    requires lists { (0 < mutator.old.replies.spare) × (0 < mutator.old.recorded.spare) × (0 < mutator.old.updrem.spare) }
+    requires lists { (0 < mutator.old.replies.spare) × (0 < mutator.old.recorded.spare) × (0 < mutator.old.updrem.spare) ×
+        (0 < mutator.old.finalised.spare) }
     requires room { (room.items ≡ []) × (1 ≤ vec_capacity room) × (last.items ≡ []) }
 {
     let Begun {

@@ -22,7 +22,8 @@ const TIMES: u32 = 200;
 fn overwrite_often(round: &Round, seat: &mut MutatorSeat, mutator: &mut Mutator) -> bool
     requires seat { IsAt round.now seat.old × (seen seat.old ≡ alone snapshot_opening 0) }
     requires mutator { IsSnapshotMutator mutator.old }
-    requires room { (TIMES ≤ mutator.old.replies.spare) × (TIMES ≤ mutator.old.recorded.spare) × (TIMES ≤ mutator.old.updrem.spare) }
+    requires room { (TIMES ≤ mutator.old.replies.spare) × (TIMES ≤ mutator.old.recorded.spare) × (TIMES ≤ mutator.old.updrem.spare) ×
+        (TIMES ≤ mutator.old.finalised.spare) }
 {
     laws::a_round_finds_mutators_ready();
     a_marking_round_opens();
@@ -51,7 +52,8 @@ fn overwritten(
 ) -> bool
     requires heap { IsSnapshotHeap words }
     requires mutator { IsSnapshotMutator mutator.old }
-    requires lists { (TIMES ≤ mutator.old.replies.spare) × (TIMES ≤ mutator.old.recorded.spare) × (TIMES ≤ mutator.old.updrem.spare) }
+    requires lists { (TIMES ≤ mutator.old.replies.spare) × (TIMES ≤ mutator.old.recorded.spare) × (TIMES ≤ mutator.old.updrem.spare) ×
+        (TIMES ≤ mutator.old.finalised.spare) }
     requires room { (room.items ≡ []) × (1 ≤ vec_capacity room) }
 {
     let Some(

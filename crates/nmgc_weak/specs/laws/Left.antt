@@ -21,7 +21,7 @@ filter_same {A} p q (x ∷ xs) h =
     ap (λ (b : Bool). cond b (x ∷ filter p xs) (filter p xs)) (h x (contains_head x xs)) ∙
     ap (λ (l : List A). cond (q x) (x ∷ l) l) (filter_same p q xs (λ y c. h y (contains_tail x xs y c)))
 
-filter_cond : {A : Type 0} (b : Bool) (q : A → Bool) (x : A) (l : List A) → filter q (cond b (x ∷ l) l) ≡ cond (b && q x) (x ∷ filter q l) (filter q l)
+pub filter_cond : {A : Type 0} (b : Bool) (q : A → Bool) (x : A) (l : List A) → filter q (cond b (x ∷ l) l) ≡ cond (b && q x) (x ∷ filter q l) (filter q l)
 filter_cond true q x l = refl
 filter_cond false q x l = refl
 
@@ -34,7 +34,7 @@ and_false true = refl
 and_false false = refl
 
 -- of none of the places it is said that the weak pointer there leaves, or that it is this one
-pub stays : List ℕ → List ℕ → OldWeak → Bool
+abbrev pub stays : List ℕ → List ℕ → OldWeak → Bool
 stays words [] weak = true
 stays words (at ∷ places) weak = not (leaves_at words at weak) && stays words places weak
 

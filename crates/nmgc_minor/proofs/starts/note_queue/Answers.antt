@@ -1,4 +1,4 @@
-use Rattle.std.proofs.Common.{ℕ, ◌≡◌, ◌*◌, ◌%◌, List, subst, sym, arith}
+use Rattle.std.proofs.Common.{ℕ, ◌≡◌, ◌*◌, ◌%◌, List, subst, arith}
 use Rattle.std.specs.Prelude.{Contains}
 use Rattle.nmgc_minor.specs.Young.{Notes}
 use Rattle.nmgc_minor.proofs.NoteLaws.{notes_none}

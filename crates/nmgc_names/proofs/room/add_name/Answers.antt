@@ -1,5 +1,4 @@
 use Rattle.std.proofs.Common.{◌≡◌, ◌+◌, ◌-◌, ◌∙◌, [], ◌∷◌, ◌++◌, List, length, ap, arith}
-use Rattle.nmgc_world_spec.specs.declared.value.Name.{Name}
 use Rattle.nmgc_names.specs.declared.span.Span.{Span}
 use Rattle.nmgc_names.specs.Spans.{names_in, names_of}
 use Rattle.nmgc_names.specs.laws.Spans.{last_longer, one_more}
@@ -10,10 +9,10 @@ returns-then-is_followed_by-clause-names c =
     let spans : List Span = c.args.spans.now.items in
     let many = c.len-count.ensures in
     let same = c.args.spans.now.ok.0 in
-    let some = c.if-gt.true in
+    let some = c.if-count-gt0.true in
     let at : (c.len-count.result - 1) + 1 ≡ length spans = omega (arith, many, same, some) in
-    last_longer spans (c.len-count.result - 1) c.with.result c.index-last.result.now c.args.name at
-    (c.with.ensures ∙ ap (λ (span : Span). names_of span ++ c.args.name ∷ []) c.index-last.ensures)
+    last_longer spans (c.len-count.result - 1) c.with.result c.index.result.now c.args.name at
+    (c.with.ensures ∙ ap (λ (span : Span). names_of span ++ c.args.name ∷ []) c.index.ensures)
 
 pub returns-clause-names : goal.returns-clause-names
 returns-clause-names c =

@@ -1,4 +1,4 @@
-use Rattle.std.proofs.Common.{ℕ, List, [], ◌∷◌, get_or}
+use Rattle.std.proofs.Common.{[], ◌∷◌, get_or}
 use Rattle.nmgc_weak.specs.declared.weaks.OldWeak.{OldWeak}
 use Rattle.nmgc_weak.specs.Weaks.{places_of}
 use Rattle.nmgc_mark.specs.laws.Common.{marked_none}

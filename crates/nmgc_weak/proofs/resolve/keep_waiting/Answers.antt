@@ -23,8 +23,14 @@ loop-next-preserved g c = gone_more (g.W.HeapWords.words c.args.words.now) (g.W.
     c.args.segments.now c.loop-next.segments c.keep_at.new.segments c.args.marker.now c.loop-next.marker c.keep_at.new.marker (places_of c.args.list.now)
     c.loop-next.invariant c.keep_at.ensures.words c.keep_at.ensures.marked c.keep_at.ensures.turns c.keep_at.ensures.goes
 
-pub returns-clause-marked : goal.returns-clause-marked
-returns-clause-marked g c = c.loop-next.invariant.marked
+pub returns-after-loop-next-clause-marked : goal.returns-after-loop-next-clause-marked
+returns-after-loop-next-clause-marked g c = c.loop-next.invariant.marked
 
-pub returns-clause-goes : goal.returns-clause-goes
-returns-clause-goes g c = c.loop-next.invariant.goes
+pub returns-after-loop-next-clause-goes : goal.returns-after-loop-next-clause-goes
+returns-after-loop-next-clause-goes g c = c.loop-next.invariant.goes
+
+pub returns-else-waiting-next-clause-marked : goal.returns-else-waiting-next-clause-marked
+returns-else-waiting-next-clause-marked g c = c.loop-next.invariant.marked
+
+pub returns-else-waiting-next-clause-goes : goal.returns-else-waiting-next-clause-goes
+returns-else-waiting-next-clause-goes g c = c.loop-next.invariant.goes

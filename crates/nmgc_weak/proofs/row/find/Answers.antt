@@ -1,8 +1,11 @@
-use Rattle.std.proofs.Common.{refl, arith}
+use Rattle.std.proofs.Common.{◌+◌, ◌-◌, ◌/◌, ◌<◌, ℕ, length, refl, arith}
 use Rattle.std.proofs.lemmas.Bool.{iff_false}
-use Rattle.nmgc_weak.specs.declared.row.Entry.{Entry}
-use Rattle.nmgc_weak.proofs.Entries.{between_first, between_low, between_high, between_none, halfway, neither_before, read_entry}
+use Rattle.nmgc_weak.proofs.Entries.{between_first, between_low, between_high, between_none, halfway, neither_before, nth_entry, entry_there}
 use Rattle.nmgc_weak.proofs.row.find.Goals as goal
+
+-- what lies halfway between two places
+abbrev middle : ℕ → ℕ → ℕ
+middle low high = low + (high - low) / 2
 
 pub loop-low-init : goal.loop-low-init
 loop-low-init c = between_first c.args.entries.now c.args.weak
@@ -11,27 +14,30 @@ pub loop-low-preserved-then-is_before : goal.loop-low-preserved-then-is_before
 loop-low-preserved-then-is_before c =
     let half = halfway c.loop-low.low c.loop-low.high c.loop-low-test.true in
     let within = c.loop-low.invariant.within in
-    let x : Entry = c.index-entries-middle.result in
-    between_low c.args.entries.now c.args.weak c.loop-low.low c.loop-low.high _ c.requires c.loop-low.invariant x
-    (read_entry c.args.entries.now _ x (omega (arith, half.1, within)) c.index-entries-middle.is) half.0 half.1 (c.if-is_before.ensures.0 refl)
+    let at : ℕ = middle c.loop-low.low c.loop-low.high in
+    let there : at < length c.args.entries.now = omega (arith, half.1, within) in
+    between_low c.args.entries.now c.args.weak c.loop-low.low c.loop-low.high at c.requires c.loop-low.invariant (nth_entry c.args.entries.now at)
+    (entry_there c.args.entries.now at there) half.0 half.1 (c.if-is_before.ensures.0 refl)
 
 pub loop-low-preserved : goal.loop-low-preserved
 loop-low-preserved c =
     let half = halfway c.loop-low.low c.loop-low.high c.loop-low-test.true in
     let within = c.loop-low.invariant.within in
-    let x : Entry = c.index-entries-middle.result in
-    between_high c.args.entries.now c.args.weak c.loop-low.low c.loop-low.high _ c.requires c.loop-low.invariant x
-    (read_entry c.args.entries.now _ x (omega (arith, half.1, within)) c.index-entries-middle.is) half.0 half.1 (c.if-is_before-2.ensures.0 refl)
+    let at : ℕ = middle c.loop-low.low c.loop-low.high in
+    let there : at < length c.args.entries.now = omega (arith, half.1, within) in
+    between_high c.args.entries.now c.args.weak c.loop-low.low c.loop-low.high at c.requires c.loop-low.invariant (nth_entry c.args.entries.now at)
+    (entry_there c.args.entries.now at there) half.0 half.1 (c.if-is_before-2.ensures.0 refl)
 
 pub returns-else-is_before-2-clause-some : goal.returns-else-is_before-2-clause-some
 returns-else-is_before-2-clause-some c =
     let half = halfway c.loop-low.low c.loop-low.high c.loop-low-test.true in
     let within = c.loop-low.invariant.within in
-    let x : Entry = c.index-entries-middle.result in
+    let at : ℕ = middle c.loop-low.low c.loop-low.high in
+    let there : at < length c.args.entries.now = omega (arith, half.1, within) in
     record {
-      entry = x;
-      there = read_entry c.args.entries.now _ x (omega (arith, half.1, within)) c.index-entries-middle.is;
-      named = neither_before x.weak.weak c.args.weak (iff_false c.is_before.ensures c.if-is_before.false)
+      entry = nth_entry c.args.entries.now at;
+      there = entry_there c.args.entries.now at there;
+      named = neither_before (nth_entry c.args.entries.now at).weak.weak c.args.weak (iff_false c.is_before.ensures c.if-is_before.false)
           (iff_false c.is_before-else-is_before.ensures c.if-is_before-2.false);
     }
 

@@ -1,9 +1,9 @@
-use Rattle.std.proofs.Common.{◌≡◌, ◌≤◌, ℕ, List, get_or, length, refl, sym, ap, ◌∙◌, arith, Some}
+use Rattle.std.proofs.Common.{◌≡◌, ◌<◌, ◌≤◌, ℕ, List, get_or, length, refl, sym, ap, ◌∙◌, arith, Some}
 use Rattle.std.specs.Prelude.{slice_get}
+use Rattle.std.proofs.lemmas.Option.{slice_get-get_or}
 use Rattle.nmgc_world_spec.specs.Reach.{IsInOrder}
 use Rattle.nmgc_weak.specs.Rows.{Row}
 use Rattle.nmgc_weak.specs.Weaks.{alive_of, names_of}
-use Rattle.nmgc_weak.proofs.Entries.{read_row}
 use Rattle.nmgc_weak.proofs.RowLaws.{of_row, one_done, rest_stays}
 use Rattle.nmgc_weak.proofs.weaks.dead_leave.Goals as goal
 
@@ -18,11 +18,12 @@ pub leave_dead-requires : goal.leave_dead-requires
 leave_dead-requires g c weak there =
     let now : List Row = c.loop-row.row-items in
     let n : ℕ = c.loop-row.row-index in
-    let row : Row = c.row-item.result in
+    let row : Row = get_or now n c.row-item.result in
     let inv = c.loop-row.invariant in
-    let lt = c.loop-row-test.true in
-    let read : row ≡ get_or now n row = cc in
-    let at : slice_get c.args.rows.now n ≡ Some row = sym (inv.rest n (omega arith)) ∙ read_row now n row lt read in
+    let count = c.loop-row.auto.row-items in
+    let less = c.loop-row-test.true in
+    let lt : c.loop-row.row-index < length c.loop-row.row-items = omega (arith, count, less) in
+    let at : slice_get c.args.rows.now n ≡ Some row = sym (inv.rest n (omega arith)) ∙ slice_get-get_or now n c.row-item.result lt in
     let inside = c.requires weak (of_row c.args.rows.now n row weak at there) in
     let same = ap length inv.words in
     omega (arith, inside, same)
@@ -32,13 +33,14 @@ loop-row-preserved g c =
     let was : List Row = c.args.rows.now in
     let now : List Row = c.loop-row.row-items in
     let n : ℕ = c.loop-row.row-index in
-    let row : Row = c.row-item.result in
+    let row : Row = get_or now n c.row-item.result in
     let next : Row = c.leave_dead.new.self in
     let ws = g.W.HeapWords.words c.args.words.now in
     let inv = c.loop-row.invariant in
-    let lt = c.loop-row-test.true in
-    let read : row ≡ get_or now n row = cc in
-    let at : slice_get was n ≡ Some row = sym (inv.rest n (omega arith)) ∙ read_row now n row lt read in
+    let count = c.loop-row.auto.row-items in
+    let less = c.loop-row-test.true in
+    let lt : c.loop-row.row-index < length c.loop-row.row-items = omega (arith, count, less) in
+    let at : slice_get was n ≡ Some row = sym (inv.rest n (omega arith)) ∙ slice_get-get_or now n c.row-item.result lt in
     let left = c.leave_dead.ensures in
     let own : (next.list ≡ alive_of ws row.list) × IsInOrder (names_of next.list) × (row.spare ≤ next.spare) = (
       left.list ∙ ap (λ (l : List ℕ). alive_of l row.list) inv.words,

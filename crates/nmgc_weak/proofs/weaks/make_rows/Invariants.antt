@@ -1,14 +1,16 @@
-use Rattle.std.proofs.Common.{◌≡◌, ◌⊎◌, ◌+◌, ◌-◌, ℕ, [], vec_len, Some}
+use Rattle.std.proofs.Common.{◌≡◌, ◌⊎◌, ◌+◌, ◌-◌, ◌<◌, ◌≤◌, ℕ, [], length, vec_len, Some}
 use Rattle.std.specs.Prelude.{slice_get}
 use Rattle.nmgc_limits.specs.declared.mutators.TheConstants.{MAKERS}
 use Rattle.nmgc_weak.specs.Rows.{Row, list_of}
 use Rattle.nmgc_weak.proofs.weaks.make_rows.Given as goal
 
-abbrev pub invariant-loop-rows : goal.invariant-loop-rows
-invariant-loop-rows l = record {
+abbrev pub invariant-loop-alloc : goal.invariant-loop-alloc
+invariant-loop-alloc l = record {
   list : list_of l.rows.items ≡ list_of l.fn.rows.items;
-  rows : (k : ℕ) (row : Row) → slice_get l.rows.items k ≡ Some row → (slice_get l.fn.rows.items k ≡ Some row) ⊎ (row.list ≡ []);
+  more : length l.fn.rows.items ≤ length l.rows.items;
+  rows : (k : ℕ) (row : Row) → slice_get l.rows.items k ≡ Some row →
+      (slice_get l.fn.rows.items k ≡ Some row) ⊎ ((row.list ≡ []) × (length l.fn.rows.items < MAKERS + 1));
 }
 
-abbrev pub decreases-loop-rows : goal.decreases-loop-rows
-decreases-loop-rows l = (MAKERS + 1) - vec_len l.rows
+abbrev pub decreases-loop-alloc : goal.decreases-loop-alloc
+decreases-loop-alloc l = (MAKERS + 1) - vec_len l.rows

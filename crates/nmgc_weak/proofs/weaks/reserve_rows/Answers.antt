@@ -1,7 +1,7 @@
-use Rattle.std.proofs.Common.{◌≡◌, ◌≤◌, ℕ, List, get_or, refl, sym, ◌∙◌, arith, Some}
+use Rattle.std.proofs.Common.{◌≡◌, ◌<◌, ◌≤◌, ℕ, List, get_or, length, refl, sym, ◌∙◌, arith, Some}
 use Rattle.std.specs.Prelude.{slice_get}
+use Rattle.std.proofs.lemmas.Option.{slice_get-get_or}
 use Rattle.nmgc_weak.specs.Rows.{Row}
-use Rattle.nmgc_weak.proofs.Entries.{read_row}
 use Rattle.nmgc_weak.proofs.RowLaws.{one_done, rest_stays}
 use Rattle.nmgc_weak.proofs.weaks.reserve_rows.Goals as goal
 
@@ -16,12 +16,13 @@ loop-row-preserved c =
     let was : List Row = c.args.rows.now in
     let now : List Row = c.loop-row.row-items in
     let n : ℕ = c.loop-row.row-index in
-    let row : Row = c.row-item.result in
+    let row : Row = get_or now n c.row-item.result in
     let next : Row = c.reserve.new.self in
     let inv = c.loop-row.invariant in
-    let lt = c.loop-row-test.true in
-    let read : row ≡ get_or now n row = cc in
-    let at : slice_get was n ≡ Some row = sym (inv.rest n (omega arith)) ∙ read_row now n row lt read in
+    let count = c.loop-row.auto.row-items in
+    let less = c.loop-row-test.true in
+    let lt : c.loop-row.row-index < length c.loop-row.row-items = omega (arith, count, less) in
+    let at : slice_get was n ≡ Some row = sym (inv.rest n (omega arith)) ∙ slice_get-get_or now n c.row-item.result lt in
     let own : (next.list ≡ row.list) × (row.spare ≤ next.spare) × (c.args.more ≤ next.spare) = (
       c.reserve.ensures.list,
       c.reserve.ensures.kept,

@@ -11,4 +11,5 @@ loop-number-init c = record {
   replies = (let h = c.requires.room.0 in omega (arith, h));
   recorded = (let h = c.requires.room.1 in omega (arith, h));
   updrem = (let h = c.requires.room.2 in omega (arith, h));
+  finalised = (let h = c.requires.room.3 in omega (arith, h));
 }

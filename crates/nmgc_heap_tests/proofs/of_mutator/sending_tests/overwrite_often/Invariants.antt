@@ -12,4 +12,5 @@ invariant-loop-number l = record {
   replies : 200 ≤ l.number + l.mutator.replies.spare;
   recorded : 200 ≤ l.number + l.mutator.recorded.spare;
   updrem : 200 ≤ l.number + l.mutator.updrem.spare;
+  finalised : 200 ≤ l.number + l.mutator.finalised.spare;
 }

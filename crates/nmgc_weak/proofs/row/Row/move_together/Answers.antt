@@ -1,4 +1,6 @@
-use Rattle.std.proofs.Common.{List, sym, ap, subst, ◌∙◌}
+use Rattle.std.proofs.Common.{◌≡◌, List, not, sym, ap, subst, ◌∙◌, rules}
+use Rattle.std.specs.Prelude.{filter}
+use Rattle.std.proofs.lemmas.Fn.{filter_same}
 use Rattle.nmgc_world_spec.specs.Reach.{IsInOrder}
 use Rattle.nmgc_weak.specs.declared.row.Entry.{Entry}
 use Rattle.nmgc_weak.specs.Rows.{Row, entry_names, listed}
@@ -7,8 +9,12 @@ use Rattle.nmgc_weak.proofs.row.Row.move_together.Goals as goal
 
 pub invariant_of-self : goal.invariant_of-self
 invariant_of-self c =
-    subst (λ (l : List Entry). IsInOrder (entry_names l)) (sym c.retain.ensures.items) (together_ordered c.self.inside.entries.items c.self.invariant)
+    let kept : c.retain.new.self.items ≡ filter (λ (e : Entry). not e.left) c.self.inside.entries.items =
+    filter_same _ (λ (e : Entry). not e.left) _ (λ x b f' k. search rules) _ _ c.retain.ensures.filtered in
+    subst (λ (l : List Entry). IsInOrder (entry_names l)) (sym kept) (together_ordered c.self.inside.entries.items c.self.invariant)
 
 pub returns-clause-list : goal.returns-clause-list
 returns-clause-list c =
-    ap listed c.retain.ensures.items ∙ together_list c.self.inside.entries.items ∙ ap (λ (r : Row). r.list) c.self.view_is
+    let kept : c.retain.new.self.items ≡ filter (λ (e : Entry). not e.left) c.self.inside.entries.items =
+    filter_same _ (λ (e : Entry). not e.left) _ (λ x b f' k. search rules) _ _ c.retain.ensures.filtered in
+    ap listed kept ∙ together_list c.self.inside.entries.items ∙ ap (λ (r : Row). r.list) c.self.view_is

@@ -1,4 +1,4 @@
-use Rattle.std.proofs.Common.{◌≡◌, ◌+◌, ℕ, List, set, sym, ap, subst, arith}
+use Rattle.std.proofs.Common.{◌≡◌, ◌+◌, ◌-◌, ℕ, List, set, sym, ap, subst, arith}
 use Rattle.std.specs.Prelude.{Contains}
 use Rattle.nmgc_weak.specs.declared.weaks.OldWeak.{OldWeak}
 use Rattle.nmgc_weak.specs.Rows.{Row, AreRows, list_of, row_of}
@@ -23,7 +23,7 @@ add-requires-clause-room c =
     let rows = c.self.invariant.0 in
     let all = rows.all (omega (arith, some, spare)) in
     let within = c.row_of.ensures.within in
-    let row : Row = c.index_mut-row.result in
+    let row : Row = c.index_mut-row.result.now in
     let there = read_row c.self.inside.rows.items c.row_of.result row (omega (arith, all, within)) c.index_mut-row.ensures.value in
     let most = rows.spare c.row_of.result row there in
     omega (arith, some, spare, most)
@@ -35,7 +35,7 @@ add-requires-clause-new c other k =
     let list : list_of c.self.inside.rows.items ≡ c.args.self.now.list = ap (λ (a : Weaks). a.list) c.self.view_is in
     let all = c.self.invariant.0.all (omega (arith, some, spare)) in
     let within = c.row_of.ensures.within in
-    let row : Row = c.index_mut-row.result in
+    let row : Row = c.index_mut-row.result.now in
     let there = read_row c.self.inside.rows.items c.row_of.result row (omega (arith, all, within)) c.index_mut-row.ensures.value in
     c.requires.new other (subst (λ (l : List OldWeak). Contains l other) list (of_row c.self.inside.rows.items c.row_of.result row other there k))
 
@@ -46,7 +46,7 @@ returns-clause-list c = λ other.
     let list : list_of c.self.inside.rows.items ≡ c.args.self.now.list = ap (λ (a : Weaks). a.list) c.self.view_is in
     let all = c.self.invariant.0.all (omega (arith, some, spare)) in
     let within = c.row_of.ensures.within in
-    let row : Row = c.index_mut-row.result in
+    let row : Row = c.index_mut-row.result.now in
     let there = read_row c.self.inside.rows.items c.row_of.result row (omega (arith, all, within)) c.index_mut-row.ensures.value in
     let x : OldWeak = record { weak = c.args.weak; at = c.args.at } in
     rw (← list) (row_joined c.self.inside.rows.items c.row_of.result row c.add.new.self x other there c.add.ensures.list)
@@ -59,12 +59,13 @@ invariant_of-self c =
     let all = inv.0.all (omega (arith, some, spare)) in
     let within = c.row_of.ensures.within in
     let items : List Row = c.self.inside.rows.items in
-    let row : Row = c.index_mut-row.result in
+    let row : Row = c.index_mut-row.result.now in
     let there = read_row items c.row_of.result row (omega (arith, all, within)) c.index_mut-row.ensures.value in
     let x : OldWeak = record { weak = c.args.weak; at = c.args.at } in
-    let room : c.self.inside.room ≡ c.sub.result + 1 = omega (arith, some, spare) in
-    let rows : AreRows (set items c.row_of.result c.add.new.self) c.sub.result =
-    joined_rows items c.sub.result c.row_of.result row c.add.new.self x (subst (λ (n : ℕ). AreRows items n) room inv.0) there (sym c.row_of.ensures.value)
+    let less : ℕ = c.self.inside.room - 1 in
+    let room : c.self.inside.room ≡ less + 1 = omega (arith, some, spare) in
+    let rows : AreRows (set items c.row_of.result c.add.new.self) less =
+    joined_rows items less c.row_of.result row c.add.new.self x (subst (λ (n : ℕ). AreRows items n) room inv.0) there (sym c.row_of.ensures.value)
     c.add.ensures.list c.add.ensures.ordered c.add.ensures.spare in
     let sum = row_lengths items c.row_of.result row c.add.new.self there in
     let count = c.add.ensures.count in (

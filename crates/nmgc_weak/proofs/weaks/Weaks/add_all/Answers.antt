@@ -7,8 +7,9 @@ use Rattle.nmgc_world_spec.specs.Reach.{IsInOrder}
 use Rattle.nmgc_world_spec.specs.laws.Orders.{in_order_apart}
 use Rattle.nmgc_lists.specs.laws.Items.{contains_map, contains_one, nothing_in, one_is}
 use Rattle.nmgc_weak.specs.declared.weaks.OldWeak.{OldWeak}
-use Rattle.nmgc_weak.specs.Weaks.{names_of}
+use Rattle.nmgc_weak.specs.Weaks.{Weaks, names_of}
 use Rattle.nmgc_weak.proofs.Finding.{at_contains}
+use Rattle.nmgc_weak.proofs.RowLaws.{list_ordered}
 use Rattle.nmgc_weak.proofs.weaks.Weaks.add_all.Goals as goal
 
 abbrev nobody : OldWeak
@@ -48,7 +49,7 @@ one_more old now next first x other before step = (
 pub loop-weak-init : goal.loop-weak-init
 loop-weak-init c = record {
   list = λ other. (λ a. inl a, λ a. elim a [ inl b ↦ b | inr none ↦ absurd (nothing_in other none) ]);
-  ordered = c.self.ordered;
+  ordered = list_ordered c.self.inside.rows.items c.self.inside.room c.args.self.now.list c.self.invariant.0 (ap (λ (a : Weaks). a.list) c.self.view_is);
   spare = omega arith;
   deaths = refl;
 }

@@ -1,13 +1,14 @@
-use Rattle.std.proofs.Common.{◌≡◌, ◌≢◌, ℕ, List, set, sym, ap, subst, ◌∙◌, arith, length, slice_index, Some}
-use Rattle.std.specs.Prelude.{Contains, slice_get}
+use Rattle.std.proofs.Common.{◌≡◌, ◌≢◌, ◌+◌, ◌<◌, ◌≤◌, ℕ, List, set, sym, ap, subst, ◌∙◌, arith, length, slice_index, Some}
+use Rattle.std.specs.Prelude.{Contains, not, slice_get}
 use Rattle.nmgc_world_spec.specs.declared.value.Name.{Name}
+use Rattle.nmgc_world_spec.specs.Reach.{IsInOrder}
 use Rattle.nmgc_object.specs.Words.{IsName, name_word}
 use Rattle.nmgc_object.specs.declared.size.TheConstants.{NAME_OFFSET}
 use Rattle.nmgc_weak.specs.declared.weaks.OldWeak.{OldWeak}
-use Rattle.nmgc_weak.specs.Rows.{Row, AreRows, IsNamedAt, left_at, list_of, row_of, without}
-use Rattle.nmgc_weak.specs.Weaks.{Weaks, value_place}
+use Rattle.nmgc_weak.specs.Rows.{Row, AreRows, IsNamedAt, is_same, left_at, list_of, row_of, without}
+use Rattle.nmgc_weak.specs.Weaks.{Weaks, names_of, value_place}
 use Rattle.nmgc_weak.proofs.Entries.{read_row}
-use Rattle.nmgc_weak.proofs.RowLaws.{alive_at, left_row, no_row, none_leaves, one_name, row_lengths}
+use Rattle.nmgc_weak.proofs.RowLaws.{alive_at, filtered_few, left_row, left_rows, list_ordered, no_row, none_leaves, one_name, row_lengths, rows_ordered}
 use Rattle.nmgc_weak.proofs.weaks.Weaks.leave_at.Goals as goal
 
 -- who lies there has the name that was read
@@ -27,41 +28,112 @@ left_there words at number n rows room old new list h is zero_ named valid read 
     left_row words at n rows room h zero_ (λ w c here. named_there words at list n named valid read w (subst (λ (l : List OldWeak). Contains l w) is c) here) old new
     (ap (λ (k : ℕ). slice_get rows k) (sym place) ∙ there) left ∙ ap (λ (l : List OldWeak). left_at words at l) is
 
+-- and the rows are rows still
+rows_there : (rows : List Row) (room number : ℕ) (x : OldWeak) (old new : Row) → AreRows rows room → slice_get rows number ≡ Some old →
+    new.list ≡ without x old.list → IsInOrder (names_of new.list) → old.spare ≤ new.spare → AreRows (set rows number new) room
+rows_there rows room number x old new h there left ordered spare =
+    left_rows (λ (o : OldWeak). not (is_same o x)) rows room number old new h there left ordered spare
+
+-- no more of them than before
+few_there : (rows : List Row) (number : ℕ) (x : OldWeak) (old new : Row) → slice_get rows number ≡ Some old → new.list ≡ without x old.list →
+    length (list_of (set rows number new)) ≤ length (list_of rows)
+few_there rows number x old new there left =
+    let sum = row_lengths rows number old new there in
+    let few = filtered_few (λ (o : OldWeak). not (is_same o x)) old.list in
+    let same = ap length left in
+    omega (arith, sum, few, same)
+
 -- somebody has that value, and is alive
 pub returns-then-load-ne0-clause-list : goal.returns-then-load-ne0-clause-list
 returns-then-load-ne0-clause-list g c =
     let ws = g.W.HeapWords.words c.args.words.now in
-    let value : slice_index ws (value_place c.args.at.0) ≢ 0 = λ zero_. c.if-load-ne0.true (c.load.ensures.value ∙ zero_) in
+    let value : slice_index ws (value_place c.args.at.0) ≢ 0 = λ zero_. c.if-load-ne0.true (c.load.ensures.word ∙ zero_) in
     sym (none_leaves ws c.args.at.0 c.args.self.now.list (λ w k here dead. alive_at ws c.args.at.0 w value here dead))
 
+pub returns-then-load-ne0-clause-ordered : goal.returns-then-load-ne0-clause-ordered
+returns-then-load-ne0-clause-ordered g c = list_ordered c.self.inside.rows.items c.self.inside.room c.args.self.now.list c.self.invariant.0
+    (ap (λ (a : Weaks). a.list) c.self.view_is)
+
 -- what is no name is nobody's
-pub returns-none-clause-list : goal.returns-none-clause-list
-returns-none-clause-list g c =
+pub returns-in_default-clause-list : goal.returns-in_default-clause-list
+returns-in_default-clause-list g c =
     let ws = g.W.HeapWords.words c.args.words.now in
+    let word : c.load-2.result ≡ slice_index ws (c.args.at.0 + NAME_OFFSET) =
+    c.load-2.ensures.word ∙ ap (λ (l : List ℕ). slice_index l (c.args.at.0 + NAME_OFFSET)) c.load.ensures.same in
     sym (none_leaves ws c.args.at.0 c.args.self.now.list (λ w k here dead.
     let n = c.requires.named w k here in
-    c.decode_name.ensures.none w.weak n.0 (sym n.1 ∙ sym c.load-2.ensures.value)))
+    c.in_default.ensures.none w.weak n.0 (sym n.1 ∙ sym word)))
 
-pub returns-clause-list : goal.returns-clause-list
-returns-clause-list g c =
+pub returns-in_default-clause-ordered : goal.returns-in_default-clause-ordered
+returns-in_default-clause-ordered g c = list_ordered c.self.inside.rows.items c.self.inside.room c.args.self.now.list c.self.invariant.0
+    (ap (λ (a : Weaks). a.list) c.self.view_is)
+
+pub invariant_of-self : goal.invariant_of-self
+invariant_of-self g c =
+    let rows : List Row = c.self.inside.rows.items in
+    let inv = c.self.invariant in
+    let row : Row = c.index_mut-row.result.now in
+    let less = c.if-number-count.true in
+    let long = c.self.inside.rows.ok.0 in
+    let there = read_row rows c.row_of-number.result row (omega (arith, less, long)) c.index_mut-row.ensures.value in
+    let x : OldWeak = record { weak = c.in-Some.weak; at = c.args.at } in
+    let left = c.leave.ensures in
+    let few = few_there rows c.row_of-number.result x row c.leave.new.self there left.list in (
+      rows_there rows c.self.inside.room c.row_of-number.result x row c.leave.new.self inv.0 there left.list left.ordered left.spare,
+      omega (arith, few, inv.1),
+      inv.2,
+      inv.3,
+      inv.4,
+      inv.5,
+      inv.6,
+      inv.7,
+      inv.8,
+    )
+
+pub returns-then-number-count-clause-list : goal.returns-then-number-count-clause-list
+returns-then-number-count-clause-list g c =
     let ws = g.W.HeapWords.words c.args.words.now in
     let rows : List Row = c.self.inside.rows.items in
-    let row : Row = c.index_mut-row.result in
-    let some = c.decode_name.ensures.some in
-    let there = read_row rows c.row_of.result row c.if-number-len.true c.index_mut-row.ensures.value in
-    left_there ws c.args.at.0 c.row_of.result c.in-Some.weak rows c.self.inside.room row c.leave.new.self c.args.self.now.list c.self.invariant.0
-    (ap (λ (a : Weaks). a.list) c.self.view_is) (sym c.load.ensures.value ∙ c.if-load-ne0.false) c.requires.named some.0 (some.1 ∙ c.load-2.ensures.value)
-    c.row_of.ensures.value there c.leave.ensures.list
+    let row : Row = c.index_mut-row.result.now in
+    let less = c.if-number-count.true in
+    let long = c.self.inside.rows.ok.0 in
+    let there = read_row rows c.row_of-number.result row (omega (arith, less, long)) c.index_mut-row.ensures.value in
+    let word : c.load-2.result ≡ slice_index ws (c.args.at.0 + NAME_OFFSET) =
+    c.load-2.ensures.word ∙ ap (λ (l : List ℕ). slice_index l (c.args.at.0 + NAME_OFFSET)) c.load.ensures.same in
+    let name = c.in-Some.ensures.some in
+    left_there ws c.args.at.0 c.row_of-number.result c.in-Some.weak rows c.self.inside.room row c.leave.new.self c.args.self.now.list c.self.invariant.0
+    (ap (λ (a : Weaks). a.list) c.self.view_is) (sym c.load.ensures.word ∙ c.if-load-ne0.false) c.requires.named name.0 (name.1 ∙ word)
+    c.row_of-number.ensures.value there c.leave.ensures.list
+
+pub returns-then-number-count-clause-ordered : goal.returns-then-number-count-clause-ordered
+returns-then-number-count-clause-ordered g c =
+    let rows : List Row = c.self.inside.rows.items in
+    let row : Row = c.index_mut-row.result.now in
+    let less = c.if-number-count.true in
+    let long = c.self.inside.rows.ok.0 in
+    let there = read_row rows c.row_of-number.result row (omega (arith, less, long)) c.index_mut-row.ensures.value in
+    let x : OldWeak = record { weak = c.in-Some.weak; at = c.args.at } in
+    let left = c.leave.ensures in
+    rows_ordered (set rows c.row_of-number.result c.leave.new.self) c.self.inside.room
+    (rows_there rows c.self.inside.room c.row_of-number.result x row c.leave.new.self c.self.invariant.0 there left.list left.ordered left.spare)
 
 -- no row is of that number, so nobody is of that maker
-pub returns-else-number-len-clause-list : goal.returns-else-number-len-clause-list
-returns-else-number-len-clause-list g c =
+pub returns-else-number-count-clause-list : goal.returns-else-number-count-clause-list
+returns-else-number-count-clause-list g c =
     let ws = g.W.HeapWords.words c.args.words.now in
-    let list : list_of c.self.inside.rows.items ≡ c.args.self.now.list = ap (λ (a : Weaks). a.list) c.self.view_is in
-    let some = c.decode_name.ensures.some in
-    let past = c.if-number-len.false in
-    let number = c.row_of.ensures.value in
-    sym (no_row ws c.args.at.0 c.in-Some.weak c.self.inside.rows.items c.self.inside.room c.self.invariant.0 (sym c.load.ensures.value ∙ c.if-load-ne0.false)
-    (λ w k here. named_there ws c.args.at.0 c.args.self.now.list c.in-Some.weak c.requires.named some.0 (some.1 ∙ c.load-2.ensures.value) w
-    (subst (λ (l : List OldWeak). Contains l w) list k) here) (omega (arith, past, number))) ∙
-    ap (λ (l : List OldWeak). left_at ws c.args.at.0 l) list
+    let rows : List Row = c.self.inside.rows.items in
+    let list : list_of rows ≡ c.args.self.now.list = ap (λ (a : Weaks). a.list) c.self.view_is in
+    let past = c.if-number-count.false in
+    let long = c.self.inside.rows.ok.0 in
+    let number = c.row_of-number.ensures.value in
+    let word : c.load-2.result ≡ slice_index ws (c.args.at.0 + NAME_OFFSET) =
+    c.load-2.ensures.word ∙ ap (λ (l : List ℕ). slice_index l (c.args.at.0 + NAME_OFFSET)) c.load.ensures.same in
+    let name = c.in-Some.ensures.some in
+    sym (ap (λ (l : List OldWeak). left_at ws c.args.at.0 l) (sym list) ∙
+    no_row ws c.args.at.0 c.in-Some.weak rows c.self.inside.room c.self.invariant.0 (sym c.load.ensures.word ∙ c.if-load-ne0.false)
+    (λ w k here. named_there ws c.args.at.0 c.args.self.now.list c.in-Some.weak c.requires.named name.0 (name.1 ∙ word) w
+    (subst (λ (l : List OldWeak). Contains l w) list k) here) (omega (arith, past, long, number)) ∙ list)
+
+pub returns-else-number-count-clause-ordered : goal.returns-else-number-count-clause-ordered
+returns-else-number-count-clause-ordered g c = list_ordered c.self.inside.rows.items c.self.inside.room c.args.self.now.list c.self.invariant.0
+    (ap (λ (a : Weaks). a.list) c.self.view_is)

@@ -1,0 +1,11 @@
+use Rattle.std.proofs.Common.{length, ap, arith}
+use Rattle.std.proofs.lemmas.Grind.{common_steps}
+use Rattle.nmgc_weak.specs.Rows.{Row}
+use Rattle.nmgc_weak.proofs.Entries.{listed_few}
+use Rattle.nmgc_weak.proofs.row.Row.count.Goals as goal
+
+pub returns : goal.returns
+returns c =
+    let few = listed_few c.self.inside.entries.items in
+    let is = ap (λ (r : Row). length r.list) c.self.view_is in
+    grind (arith, common_steps, few, is)

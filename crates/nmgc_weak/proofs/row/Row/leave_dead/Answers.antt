@@ -1,0 +1,26 @@
+use Rattle.std.proofs.Common.{◌≡◌, List, ap, sym, subst, ◌∙◌, arith}
+use Rattle.std.specs.Prelude.{Contains}
+use Rattle.std.proofs.lemmas.Grind.{common_steps}
+use Rattle.std.proofs.lemmas.List.{with_items_is}
+use Rattle.nmgc_world_spec.specs.Reach.{IsInOrder}
+use Rattle.nmgc_weak.specs.declared.weaks.OldWeak.{OldWeak}
+use Rattle.nmgc_weak.specs.Rows.{Row, listed, entry_names}
+use Rattle.nmgc_weak.specs.Weaks.{names_of}
+use Rattle.nmgc_weak.proofs.Entries.{listed_ordered}
+use Rattle.nmgc_weak.proofs.row.Row.leave_dead.Goals as goal
+
+pub mark_dead-requires : goal.mark_dead-requires
+mark_dead-requires g c weak there =
+    let is : listed c.as_mut_slice.result.now ≡ c.args.self.now.list =
+    ap listed c.as_mut_slice.ensures.value ∙ ap (λ (r : Row). r.list) c.self.view_is in
+    c.requires weak (subst (λ (l : List OldWeak). Contains l weak) is there)
+
+pub returns-clause-ordered : goal.returns-clause-ordered
+returns-clause-ordered g c =
+    let names = c.mark_dead.ensures.names ∙ ap entry_names c.as_mut_slice.ensures.value in
+    let size = c.as_mut_slice.ensures.len in
+    let kept = c.mark_dead.auto.entries in
+    let all = with_items_is c.self.inside.entries c.mark_dead.new.entries (grind (arith, common_steps, size, kept)) in
+    let list = c.move_together.ensures.list ∙ ap listed all in
+    subst (λ (l : List OldWeak). IsInOrder (names_of l)) (sym list)
+    (listed_ordered c.mark_dead.new.entries (subst IsInOrder (sym names) c.self.invariant))

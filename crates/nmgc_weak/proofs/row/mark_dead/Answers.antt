@@ -1,0 +1,57 @@
+use Rattle.std.proofs.Common.{◌≡◌, ◌≢◌, ℕ, List, true, length, slice_index, sym, ap, ◌∙◌, arith}
+use Rattle.nmgc_weak.specs.declared.row.Entry.{Entry}
+use Rattle.nmgc_weak.specs.Rows.{listed, entry_names}
+use Rattle.nmgc_weak.specs.Weaks.{value_place}
+use Rattle.nmgc_weak.proofs.Entries.{marked, marked_all, marked_alive, marked_dead, marked_left, marked_listed, marked_more, marked_names, next_listed, nth_entry}
+use Rattle.nmgc_weak.proofs.row.mark_dead.Goals as goal
+use Rattle.nmgc_weak.proofs.row.mark_dead.Goals.{then-not-entry+then-load-eq0, else-not-entry, else-not-entry-via-then-not-entry+else-load-eq0, else-not-entry-via-else-not-entry}
+
+pub load-requires : goal.load-requires
+load-requires g c =
+    let inv = c.loop-entry.invariant in
+    let there = next_listed (g.W.HeapWords.words c.args.words.now) c.args.entries.now c.loop-entry.entries c.loop-entry.entry-index c.loop-entry-test.true
+    c.loop-entry.auto.entries inv.done c.if-not-entry.true in
+    let inside = c.requires (nth_entry c.loop-entry.entries c.loop-entry.entry-index).weak there in
+    let size = ap length inv.words in
+    omega (arith, inside, size)
+
+pub loop-entry-preserved : goal.loop-entry-preserved
+loop-entry-preserved g c =
+    let inv = c.loop-entry.invariant in
+    let old = g.W.HeapWords.words c.args.words.now in
+    let es = c.loop-entry.entries in
+    let i = c.loop-entry.entry-index in
+    let x : Entry = nth_entry es i in
+    let more = λ (y : Entry) (is : marked old x ≡ y). marked_more old c.args.entries.now es i c.loop-entry-test.true c.loop-entry.auto.entries inv.done y is in
+    elim c.if-not-entry.branch [
+      | then-not-entry+then-load-eq0 w ↦
+          let word : slice_index old (value_place x.weak.at.0) ≡ 0 =
+          ap (λ (l : List ℕ). slice_index l (value_place x.weak.at.0)) (sym inv.words) ∙ sym w.load.ensures.word ∙ w.if-load-eq0.true in
+          record {
+            words = ap g.W.HeapWords.words w.words-is ∙ w.load.ensures.same ∙ inv.words;
+            done = w.entries-is ∙ more (record { weak = x.weak; left = true }) (marked_dead old x word);
+          }
+      | else-not-entry w ↦ elim w.else-not-entry.branch [
+        | else-not-entry-via-then-not-entry+else-load-eq0 v ↦
+            let word : slice_index old (value_place x.weak.at.0) ≢ 0 =
+            λ e. v.if-load-eq0.false (v.load.ensures.word ∙ ap (λ (l : List ℕ). slice_index l (value_place x.weak.at.0)) inv.words ∙ e) in
+            record {
+              words = ap g.W.HeapWords.words (w.words-is ∙ v.words-is) ∙ v.load.ensures.same ∙ inv.words;
+              done = w.entries-is ∙ v.entries-is ∙ more x (marked_alive old x word);
+            }
+        | else-not-entry-via-else-not-entry v ↦ record {
+          words = ap g.W.HeapWords.words (w.words-is ∙ v.words-is) ∙ inv.words;
+          done = w.entries-is ∙ v.entries-is ∙ more x (marked_left old x v.if-not-entry.false);
+        }
+      ]
+    ]
+
+pub returns-clause-listed : goal.returns-clause-listed
+returns-clause-listed g c =
+    ap listed (marked_all (g.W.HeapWords.words c.args.words.now) c.args.entries.now c.loop-entry.entries c.loop-entry.entry-index c.loop-entry-test.false
+    c.loop-entry.invariant.done) ∙ marked_listed (g.W.HeapWords.words c.args.words.now) c.args.entries.now
+
+pub returns-clause-names : goal.returns-clause-names
+returns-clause-names g c =
+    ap entry_names (marked_all (g.W.HeapWords.words c.args.words.now) c.args.entries.now c.loop-entry.entries c.loop-entry.entry-index
+    c.loop-entry-test.false c.loop-entry.invariant.done) ∙ marked_names (g.W.HeapWords.words c.args.words.now) c.args.entries.now
