@@ -49,6 +49,7 @@ use Rattle.nmgc_sweep.specs.Sweeping.{HasNoted, AreKeptMarked, IsHadSoFar, IsFre
 use Rattle.nmgc_blocks_spec.specs.Waiting.{AreAsNoted}
 use Rattle.nmgc_collector_laws.specs.Samples.{object_name}
 use Rattle.nmgc_collector_laws.specs.Seen.{CollectorSeen, MutatorSeen}
+use Rattle.nmgc_collector_laws.specs.Worked.{TellsFinalised}
 use Rattle.nmgc_mark.specs.Seen.{MarkerSeen}
 use Rattle.nmgc_run_spec.specs.State.{State}
 use Rattle.nmgc_collector_laws.proofs.runs.Array.{opened, born, begun, scanned, was_closed, swept, ended, c, rows, held, no_weak, only_filled, only_block, only_had, had_one, dead_none, kept_is, object_kept, not_g, young_is, run_of, first_turn, second_turn, third_turn, no_turn, one_turn, two_turns, three_turns, is_first, is_second, is_third}
@@ -273,6 +274,10 @@ nothing_left at earlier side = record {
         ⊥) (λ l o. o refl) (λ l o. omega (arith, l, high)) p d low own
     no_field at (inr below) p q d low own e up = each_place at (λ x. 320 ≤ x.at → ⊥) (λ h. omega (arith, h)) (λ h. omega (arith, h, below)) q e up
 
+-- no weak pointer was finalised, for there is none
+nothing_told : (at : ℕ) (began w : World) → ((n : Name) (parts : Parts) → IsAlive began n parts → ⊥) → TellsFinalised 320 (places_at at) began w []
+nothing_told at began w none = record { all = λ p parts d low alive gone. absurd (none p.name parts alive); low = λ a d. absurd (none_in a d) }
+
 born_heap : NewStands → HoldsAfterRound array_layout opened born (places_at 320) young_words (all_free array_layout) (record {
   registers = 640 ∷
       replicate (REGISTERS - 1) 1;
@@ -308,6 +313,7 @@ born_is new = record {
   nurseries = are_nurseries 329 (lit≤ tt) (lit≤ tt) (places_at 320) born.world born_used;
   ordered = born_ordered;
   left = nothing_left 320 (opened.world ∷ []) (inl (lit≤ tt));
+  told = nothing_told 320 opened.world born.world no_weak_first;
   reserve = inl (lit≤ tt);
   cycle = new_settled;
 }
@@ -586,6 +592,7 @@ scanned_is new = record {
   nurseries = low_nurseries (places_at 32) born.world old_low;
   ordered = low_ordered;
   left = nothing_left 32 (born.world ∷ born.world ∷ []) (inr (lit< tt));
+  told = nothing_told 32 born.world born.world no_weak;
   reserve = inl (lit≤ tt);
   cycle = (marking_last, record { scanned = refl; most = lit≤ tt; some = λ later. lit≤ tt; quota_or_done = inr refl; empty = (λ e. refl, λ e. refl) });
 }
@@ -684,6 +691,7 @@ swept_is new = record {
   nurseries = low_nurseries (places_at 32) born.world old_low;
   ordered = low_ordered;
   left = nothing_left 32 (born.world ∷ []) (inr (lit< tt));
+  told = nothing_told 32 born.world born.world no_weak;
   reserve = inl (lit≤ tt);
   cycle = (swept_cycle, old_settled done);
 }

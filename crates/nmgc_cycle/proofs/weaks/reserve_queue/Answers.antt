@@ -1,10 +1,11 @@
 use Rattle.std.proofs.Common.{refl, arith}
+use Rattle.std.proofs.lemmas.Result.{on_ok_weaker}
 use Rattle.nmgc_cycle.proofs.weaks.reserve_queue.Goals as goal
 
 -- the number is that of the row, and no less than those that it made
-pub returns-clause : goal.returns-clause
-returns-clause c = λ ok.
+pub returns : goal.returns
+returns c =
     let counted = c.count.ensures in
-    let converted = c.in_ok-try_from.ensures in
-    let room = c.reserve.ensures.room ok in
-    record { rest = refl; words = c.reserve.ensures.words; room = omega (arith, counted, converted, room) }
+    let converted = c.in-Ok.ensures.1 in
+    on_ok_weaker c.reserve.result (λ room. record { rest = refl; words = c.reserve.ensures.words; room = omega (arith, counted, converted, room) })
+    c.reserve.ensures.room

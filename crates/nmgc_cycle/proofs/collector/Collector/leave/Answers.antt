@@ -1,4 +1,5 @@
-use Rattle.std.proofs.Common.{◌≡◌, ℕ, List, ap, subst}
+use Rattle.std.proofs.Common.{◌≡◌, ℕ, List, sym, ap, subst}
+use Rattle.nmgc_mutator.specs.declared.mutator.Mutator.{Mutator}
 use Rattle.nmgc_collector_laws.specs.Worked.{finalised_of}
 use Rattle.nmgc_cycle.specs.Listed.{FinalisedAreTold}
 use Rattle.nmgc_cycle.specs.Shown.{words_in}
@@ -7,4 +8,5 @@ use Rattle.nmgc_cycle.proofs.collector.Collector.leave.Goals as goal
 pub leave_noted-requires : goal.leave_noted-requires
 leave_noted-requires c =
     let held : words_in c.args.self.now.heap.words ≡ c.in-Some.words = ap words_in c.in-Some.is in
-    subst (λ (l : List ℕ). FinalisedAreTold l c.args.self.now.heap.weaks.list (finalised_of c.args.self.now.mutators.items)) held c.requires.told
+    subst (λ (l : List Mutator). FinalisedAreTold c.in-Some.words c.args.self.now.heap.weaks.list (finalised_of l)) (sym c.as_slice.ensures.value)
+    (subst (λ (l : List ℕ). FinalisedAreTold l c.args.self.now.heap.weaks.list (finalised_of c.args.self.now.mutators.items)) held c.requires.told)
