@@ -1,10 +1,10 @@
-use Rattle.std.proofs.Common.{◌≡◌, ◌⊎◌, ◌<◌, ◌≤◌, ◌^◌, ℕ, Bool, true, List, [], ◌∷◌, set, slice_index, replicate, refl, sym, ap, subst, ◌∙◌, arith, inl, inr}
+use Rattle.std.proofs.Common.{◌≡◌, ◌⊎◌, ℕ, true, List, [], ◌∷◌, set, slice_index, replicate, sym, ap, subst, ◌∙◌, arith, inl, inr}
 use Rattle.std.specs.Prelude.{Contains, not}
 use Rattle.nmgc_world_spec.specs.declared.value.Name.{Name}
 use Rattle.nmgc_object.specs.Words.{IsName, name_word}
 use Rattle.nmgc_lists.specs.laws.Items.{contains_cases, filter_contains, nothing_in}
 use Rattle.nmgc_weak.specs.declared.weaks.OldWeak.{OldWeak}
-use Rattle.nmgc_weak.specs.Rows.{leaves_at, left_at}
+use Rattle.nmgc_weak.specs.Rows.{leaves_at}
 use Rattle.nmgc_heap_tests.proofs.of_weak.told_ones_leave.Goals as goal
 
 abbrev first : OldWeak
@@ -46,7 +46,7 @@ leave_at-requires-clause-named g c = λ weak k here.
     let empty : c.reserve.new.self.list ≡ [] = c.reserve.ensures.list ∙ c.new-weaks.ensures.list in
     let b : ℕ = c.encode_name.result in
     let a : ℕ = c.encode_name-2.result in
-    let zeros : c.in_ok-words.words.items ≡ replicate 48 0 = c.in_ok-words.ensures.items in
+    let zeros : c.in_ok-words.words.items ≡ replicate 48 0 = c.in_ok-words.ensures.items_if_clones_equal (λ y e. e) in
     elim (one_of_two c.reserve.new.self.list c.add_all.new.self.list c.as_slice.result.now weak empty c.as_slice.ensures (c.add_all.ensures.list weak).0 k) [
       | inl e ↦ subst (λ (w : OldWeak). IsName w.weak × (slice_index (written c.in_ok-words.words.items b a) 41 ≡ name_word w.weak)) (sym e)
           ((omega arith, omega arith, λ q. absurd (omega (arith, q))), name_there c.in_ok-words.words.items b a zeros ∙ c.encode_name-2.ensures)
@@ -58,7 +58,7 @@ add-requires-clause-new g c = λ other k same.
     let empty : c.reserve.new.self.list ≡ [] = c.reserve.ensures.list ∙ c.new-weaks.ensures.list in
     let b : ℕ = c.encode_name.result in
     let a : ℕ = c.encode_name-2.result in
-    let zeros : c.in_ok-words.words.items ≡ replicate 48 0 = c.in_ok-words.ensures.items in
+    let zeros : c.in_ok-words.words.items ≡ replicate 48 0 = c.in_ok-words.ensures.items_if_clones_equal (λ y e. e) in
     let words : List ℕ = written c.in_ok-words.words.items b a in
     let kept = filter_contains (λ (w : OldWeak). not (leaves_at words 40 w)) c.add_all.new.self.list other
     (subst (λ (l : List OldWeak). Contains l other) c.leave_at.ensures.list k) in
