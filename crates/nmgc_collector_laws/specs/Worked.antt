@@ -1,8 +1,8 @@
 -- What the mutators of a round did, as their parts of a view and they themselves tell it.
 --
 -- A part knows rows with answers as words. The mutator has what these rows leave, the replies by name, and the
--- places of the fields that they gave a young object and of the weak pointers that they made. All laws of a round's end speak of these facts, which
--- `nmgc_mutator` promises of a slice.
+-- places of the fields that they gave a young object and of the weak pointers that they made or finalised. All laws of a
+-- round's end speak of these facts, which `nmgc_mutator` promises of a slice.
 use Rattle.std.specs.Prelude.{ℕ, ◌≡◌, ◌<◌, List, length, map, slice_get, Contains, Some}
 use Rattle.std.specs.List.{flat_map}
 use Rattle.nmgc_limits.specs.declared.mutators.TheConstants.{REGISTERS}
@@ -70,8 +70,8 @@ weaks_of mutators = flat_map (λ (m : Mutator). numbers m.young_weaks.items) mut
 abbrev pub finalised_of : List Mutator → List ℕ
 finalised_of mutators = flat_map (λ (m : Mutator). numbers m.finalised.items) mutators
 
--- the weak pointers in segments that were alive in one world, and aren't in another, are told by their places; and no place
--- outside the segments is
+-- the weak pointers in segments (before the base) that were alive in one world, and aren't in another, are told by their
+-- places; and no place outside the segments is
 pub record TellsFinalised (base : ℕ) (places : List Place) (began w : World) (finalised : List ℕ) : Type 0 where
   pub all : (p : Place) (parts : Parts) → Contains places p → p.at < base → IsAlive began p.name parts → (IsAlive w p.name parts → ⊥) →
       Contains finalised p.at

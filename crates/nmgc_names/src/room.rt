@@ -58,15 +58,15 @@ fn add_name(spans: &mut Vec<Span>, name: Name)
     spans.push_reserved(Span::of(name));
 }
 
-// Spans are few where they take less than this part of their room.
-const FEW: usize = 4;
+// Spans are few where they take no more than a page: to copy these takes a stop no time that grows with the heap.
+const FEW: usize = 512;
 
 // The same spans, without room for more.
 fn trimmed(spans: Vec<Span>) -> Vec<Span>
     ensures { result.items ≡ spans.items }
 {
     let mut spans = spans;
-    if spans.len() < spans.capacity() / FEW {
+    if spans.len() <= FEW {
         if let Ok(own) = Vec::from_slice(*spans.allocator(), spans.as_slice()) {
             return own;
         }

@@ -17,6 +17,9 @@ pub struct Span {
     ghost fits: { first + count ≤ 2 ^ 32 },
 }
 
+// What a list takes for each of its spans.
+const _: () = prove!(size_of::<Span>() == 8);
+
 impl Span {
     ghost use Rattle.nmgc_names.specs.Spans.{names_of, IsNext};
 

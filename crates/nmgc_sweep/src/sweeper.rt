@@ -138,7 +138,7 @@ impl Sweeper {
         })
     }
 
-    /// The numbers of the segments noted at the snapshot, in order. Takes no memory, as every call but `start`.
+    /// The numbers of the segments noted at the snapshot, in order. Takes no memory: none but `start` needs any.
     pub fn swept(&self) -> &[u32]
         ensures { result.now ≡ self.now.seen.swept }
     {
