@@ -14,7 +14,7 @@ use Rattle.nmgc_world_spec.specs.declared.command.Command.{Command}
 use Rattle.nmgc_world_spec.specs.declared.command.Command.TheVariants.{Finalise}
 use Rattle.nmgc_world_spec.specs.declared.command.Reply.{Reply}
 use Rattle.nmgc_world_spec.specs.declared.command.Reply.TheVariants as reply
-use Rattle.nmgc_world_spec.specs.World.{World, state_of, node_of, given}
+use Rattle.nmgc_world_spec.specs.World.{World, state_of, given}
 use Rattle.nmgc_world_spec.specs.Step.{shared_name, value_for, change_object, change_node, step}
 use Rattle.nmgc_world_spec.specs.History.{Row, replayed, IsLegal}
 use Rattle.nmgc_world_spec.specs.Reach.{IsAlive}
