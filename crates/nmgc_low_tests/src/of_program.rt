@@ -78,7 +78,7 @@ fn a_command_is_packed_and_unpacked(rt: HostRuntime) -> Result<(), Fail> {
     let yields = PackedCommand { form: Form::Yield };
     assert!(rt; yields.words_made() == 0);
     let plain = yields.unpack(alloc)?;
-    assert!(rt; matches!(plain, Command::Yield));
+    assert!(rt; matches!(&plain, Command::Yield));
     let number = PackedCommand::pack(alloc, &Command::Num { dest: 4, number: 7 })?;
     assert!(rt; matches!(number.form(), Form::Num { dest: 4, number: 7 }));
     Ok(())
