@@ -61,10 +61,10 @@ impl Collector {
     ///
     /// Takes memory for weak pointers that join the list, for the stop's row and that of a cycle that ends, and where one
     /// begins for its marker's queue, its sweeper's lists and room in the finaliser queues. Takes time for what is promoted,
-    /// the roots, the list of weak pointers, the recorded and the remembered fields and the number of segments; at a closing
-    /// for what is left to scan, for the list once for each pass over it, and for the mark bytes of the segments in use that
-    /// don't wait to be swept; a full cycle takes time for all that is reached and for every block. After `NoMemory` nothing
-    /// is known of the collector.
+    /// the roots, the weak pointers that were finalised or join the list, the recorded and the remembered fields and the
+    /// number of segments; at a closing for what is left to scan, for the list of weak pointers and a logarithm, and for the
+    /// mark bytes of the segments in use that don't wait to be swept; a full cycle takes time for all that is reached and for
+    /// every block. After `NoMemory` nothing is known of the collector.
     pub fn stop<R: Threads + Sync>(&mut self, rt: &R, script: &Script) -> Result<StopEnd, NoMemory>
         requires limits { IsInLimits script.now }
         requires can { CanStop script.now self.old }
