@@ -1,8 +1,8 @@
 //! One row of the list: the weak pointers of one maker, in order of their serials.
 //!
 //! A maker's names only grow, so whoever joins comes behind all that are there; and since a row is in order, whoever leaves
-//! is found by halves. Nothing moves then: an entry says that it left, and once half of a row have left, the others move
-//! together. So a join takes constant time, and a leave a logarithm, on the whole.
+//! is found by halves, in a logarithm. Nothing moves then: an entry says that it left, and once more than half of a row have
+//! left, the others move together; so that is paid for by those that left.
 //!
 //! Easy to get wrong: an entry that left still stands in the order, and its name may join again.
 ghost use Rattle.std.specs.Prelude.{ℕ, ◌≡◌, ◌≢◌, ◌⊎◌, ◌↔◌, ◌+◌, ◌<◌, ◌≤◌, [], ◌++◌, length, slice_get, Some, vec_len, vec_capacity, Contains, IfSome, IfNone, OnOk};
@@ -140,8 +140,8 @@ impl Row {
         }
     }
 
-    /// Takes the weak pointer of this name out of the list, if it lies at this place. Takes no memory, and a logarithm of time
-    /// on the whole.
+    /// Takes the weak pointer of this name out of the list, if it lies at this place. Takes no memory, and a logarithm of time;
+    /// where more than half of the row has left, time for the row.
     pub(crate) fn leave(&mut self, weak: Name, at: Address)
         ensures list { self.new.list ≡ without (record { weak = weak; at = at }) self.old.list }
         ensures ordered { IsInOrder (names_of self.new.list) }

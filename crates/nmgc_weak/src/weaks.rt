@@ -5,16 +5,19 @@
 //! order in which their finalisers are queued.
 //!
 //! It is kept in rows, one for each maker (`row`): a maker's names only grow, so those that join come at the ends of rows,
-//! and those that leave are found by halves. A stop takes time for those that join and leave, and not for the list; what
-//! goes through the list is a closing, which looks at each weak pointer anyway, and the report.
+//! and those that leave are found by halves. A stop takes time for those that join and leave, and for a whole row only once
+//! more than half of it has left; what goes through the list is a closing, which looks at each weak pointer anyway, and the
+//! report.
 //!
 //! A stop may not run out of memory half way: room for new weak pointers, and for a death of each, is made
 //! before. Since it may be any row that the next ones join, each row has the whole of that room. Beside the rows there are
-//! five lists with room for all of them and for as many more: the list in one piece, as a closing takes it, those that wait
-//! for their keys, those that die, the deaths, and the names for the report.
+//! five lists with room for all that were listed at the last closing or joined since, and for all for which there is room:
+//! the list in one piece, as a closing takes it, those that wait for their keys, those that die, the deaths, and the names
+//! for the report.
 //!
-//! Easy to get wrong: what lies in these means nothing between two calls, but for the deaths, so each call clears it first.
-ghost use Rattle.std.specs.Prelude.{ℕ, ◌≡◌, ◌≢◌, ◌⊎◌, ◌↔◌, ◌+◌, ◌<◌, ◌≤◌, List, [], length, vec_len, vec_capacity, Contains, IsTrue, IfOk, OnOk, OnErr, min, slice_get, Some};
+//! Easy to get wrong: what lies in these means nothing between two calls, so each call clears it first; but for the deaths,
+//! and the names, which stay empty.
+ghost use Rattle.std.specs.Prelude.{ℕ, ◌≡◌, ◌≢◌, ◌⊎◌, ◌↔◌, ◌+◌, ◌<◌, ◌≤◌, List, [], length, vec_len, vec_capacity, Contains, IsTrue, OnOk, OnErr, min, slice_get, Some};
 ghost use Rattle.nmgc_limits.specs.declared.mutators.TheConstants.{MAKERS};
 ghost use Rattle.nmgc_world_spec.specs.Reach.{IsBefore, IsInOrder};
 ghost use Rattle.nmgc_object.specs.declared.size.TheConstants.{HEADER_WORDS};
@@ -246,14 +249,25 @@ impl Weaks {
         }
     }
 
-    /// A copy of the list, in order of names. It is kept in rows, so none can be lent in one piece.
-    pub fn list(&self, alloc: Global) -> Result<Vec<OldWeak>, NoMemory>
-        ensures list { IfOk result (λ all. all.items ≡ self.now.list) }
-        ensures ordered { IsInOrder (names_of self.now.list) }
+    /// No fewer than these are in the list, so a vector with room for as many has room for it (`list_into`). Takes no memory,
+    /// and constant time.
+    pub fn most(&self) -> usize
+        ensures { length self.now.list ≤ result }
     {
-        let mut all = Vec::with_capacity(alloc, self.most)?;
-        list_rows(self.rows.as_slice(), &mut all);
-        Ok(all)
+        self.most
+    }
+
+    /// Fills an empty vector with the list, in order of names. There has to be room for it. The list is kept in rows, so no
+    /// slice of it can be lent. Takes no memory, and time for the whole list.
+    pub fn list_into(&self, all: &mut Vec<OldWeak>)
+        requires empty { all.old.items ≡ [] }
+        requires none { vec_len all.old ≡ 0 }
+        requires room { length self.now.list ≤ vec_capacity all.old }
+        ensures list { all.new.items ≡ self.now.list }
+        ensures ordered { IsInOrder (names_of self.now.list) }
+        ensures capacity { vec_capacity all.new ≡ vec_capacity all.old }
+    {
+        list_rows(self.rows.as_slice(), all);
     }
 
     /// No more weak pointers of a maker than these are in the list. Takes no memory, and constant time.
@@ -299,7 +313,8 @@ impl Weaks {
 
     /// Takes the weak pointer at a place out of the list, if it is one of the list and its value word is 0: one that was
     /// finalised since the last stop. The name word there has to be its own, since by its name it is found. All others, the
-    /// deaths and the words stay. Takes no memory, and a logarithm of time on the whole.
+    /// deaths and the words stay. Takes no memory, and a logarithm of time; where more than half of a row has left, time for
+    /// the row.
     pub fn leave_at<W: HeapWords>(&mut self, words: &mut W, at: Address)
         requires inside { value_place at.0 < length (W.words words.old) }
         requires named { IsNamedAt (W.words words.old) at.0 self.old.list }

@@ -1,11 +1,7 @@
 use Rattle.std.proofs.Common.{ap}
 use Rattle.nmgc_weak.specs.Weaks.{Weaks}
 use Rattle.nmgc_weak.proofs.RowLaws.{list_ordered}
-use Rattle.nmgc_weak.proofs.weaks.Weaks.list.Goals as goal
-
-pub returns-in_err-all-clause-ordered : goal.returns-in_err-all-clause-ordered
-returns-in_err-all-clause-ordered c = list_ordered c.self.inside.rows.items c.self.inside.room c.args.self.now.list c.self.invariant.0
-    (ap (λ (a : Weaks). a.list) c.self.view_is)
+use Rattle.nmgc_weak.proofs.weaks.Weaks.list_into.Goals as goal
 
 pub returns-clause-ordered : goal.returns-clause-ordered
 returns-clause-ordered c = list_ordered c.self.inside.rows.items c.self.inside.room c.args.self.now.list c.self.invariant.0
