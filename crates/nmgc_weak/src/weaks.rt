@@ -242,15 +242,15 @@ impl Weaks {
         ensures spare { self.new.spare + length fresh.now ≡ self.old.spare }
         ensures deaths { self.new.deaths ≡ self.old.deaths }
     {
-        // Where none join, the list is known to be in order because it was read.
+        // What is read of the list tells the proof that it is in order, also where none join.
         let _room = self.room;
         for weak in fresh {
             self.add(weak.weak, weak.at);
         }
     }
 
-    /// No fewer than these are in the list, so a vector with room for as many has room for it (`list_into`). Takes no memory,
-    /// and constant time.
+    /// At least as many as there are in the list, so a vector with room for these has room for it (`list_into`). Takes no
+    /// memory, and constant time.
     pub fn most(&self) -> usize
         ensures { length self.now.list ≤ result }
     {
