@@ -23,7 +23,8 @@ use nmgc_program::PackedCommand;
 use nmgc_round::{MutatorSeat, Round};
 use nmgc_world_spec::{Kind, Operand, Reply};
 
-// How many values a stack of this mutator has: its slots from the bottom up to the first that has none.
+// How many values a stack of this mutator has: its slots are used from the bottom up, so the first that has none is
+// found by halves.
 fn depth(round: &Round, seat: &mut MutatorSeat, at: Address, slots: u32) -> u32
     requires seat { IsAt round.now seat.old }
     requires own { IsOwnStack (seen seat.old) at.0 slots }
@@ -32,13 +33,18 @@ fn depth(round: &Round, seat: &mut MutatorSeat, at: Address, slots: u32) -> u32
     ensures depth { 0 < slots → HasDepth (seen seat.old) at.0 result }
     ensures most { result ≤ slots }
 {
-    for slot in 0..slots {
-        let word = round.load_slot(seat, at, slot);
+    let mut low = 0;
+    let mut high = slots;
+    while low < high {
+        let middle = low + (high - low) / 2;
+        let word = round.load_slot(seat, at, middle);
         if word == 0 {
-            return slot;
+            high = middle;
+        } else {
+            low = middle + 1;
         }
     }
-    slots
+    low
 }
 
 impl Mutator {
