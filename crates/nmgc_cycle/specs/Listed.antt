@@ -44,8 +44,8 @@ pub record IsMergeOf (old fresh new : List OldWeak) : Type 0 where
   pub ordered : IsInOrder (names_of new)
   pub list : (other : OldWeak) → Contains new other ↔ (Contains old other ⊎ Contains fresh other)
 
--- the weak pointers of the list that are dead by now are told among those that were finalised: their places, and their names by
--- the words there
+-- the weak pointers of the list that are dead by now are among the places that are told, whose value words are among the
+-- words; and the name word of each of the list is its own
 pub record FinalisedAreTold (words : List ℕ) (list : List OldWeak) (finalised : List ℕ) : Type 0 where
   pub inside : (at : ℕ) → Contains finalised at → value_place at < length words
   pub told : (weak : OldWeak) → Contains list weak → slice_index words (value_place weak.at.0) ≡ 0 → Contains finalised weak.at.0

@@ -5,7 +5,8 @@
 //! weak pointer from the snapshot on.
 //!
 //! Who leaves is told by the mutators, which note what they finalise: so a stop looks at these, and not through the list.
-//! And who joins comes at the end of its maker's row. So a stop takes time for what the round did.
+//! And who joins comes at the end of its maker's row. So a stop takes time for what the round did, but where more than half
+//! of a row has left (`Weaks::leave_at`).
 //!
 //! Easy to get wrong: of a weak pointer that was finalised in the round nobody need speak once the promotion is done, and
 //! then its words mean nothing. So those leave before the promotion, while the world as the round began is still
