@@ -75,36 +75,60 @@ none_entered from end t w was now size within h stays becomes count =
       between = λ i ge lt is. h.between i ge lt (back i is);
     }
 
--- where many became such ones from one number on and below another, and of the stretch what lies above them is kept
-pub entered : (gain from end : ℕ) (old new : Tally) → from ≤ end → new.count ≡ old.count + gain → new.from ≡ min old.from from →
-    ((old.from ≡ old.past) × (new.past ≡ end)) ⊎ (new.past ≡ max old.past end) → new.until ≡ max old.until new.past → EntersMany gain from end old new
-entered gain from end old new range counts starts past ends w was now size within h stays becomes count =
-    let low = h.within.0 in
-    let part = h.within.1 in
+-- where many became such ones from one number on and below another, and what the new tally rules out was ruled out before and lies above them or below them
+entered : (gain from end : ℕ) (old new : Tally) → new.count ≡ old.count + gain → (new.from ≤ old.from) × (new.from ≤ from) →
+    (new.from ≤ new.past) × (new.past ≤ new.until) × (new.until ≤ max old.until end) → end ≤ new.past →
+    ((i : ℕ) → new.past ≤ i → i < new.until → (i < old.from) ⊎ ((old.past ≤ i) × (i < old.until))) → EntersMany gain from end old new
+entered gain from end old new counts starts order above ruled_out w was now size within h stays becomes count =
     let most = h.within.2 in
     let told = h.counted in
-    let above : end ≤ new.past = elim past [ inl a ↦ omega (arith, a.1) | inr b ↦ omega (arith, b) ] in
-    let inside : new.past ≤ length was = elim past [ inl a ↦ omega (arith, a.1, within) | inr b ↦ omega (arith, b, within, part, most) ] in
     record {
       counted = omega (arith, told, counts, count);
-      within = (omega (arith, starts, range, above), omega (arith, ends), omega (arith, ends, inside, most, size));
+      within = (order.0, order.1, omega (arith, order.2, within, most, size));
       below = λ i lt is. elim (becomes i is) [
-        | inl before ↦ h.below i (omega (arith, lt, starts)) before
-        | inr high ↦ let ge = high.0 in absurd (omega (arith, ge, lt, starts))
+        | inl before ↦ h.below i (omega (arith, lt, starts.0)) before
+        | inr high ↦ let ge = high.0 in absurd (omega (arith, ge, lt, starts.1))
       ];
       between = λ i ge lt is. elim (becomes i is) [
-        | inl before ↦
-            let until : i < old.until = omega (arith, ge, lt, ends) in
-            elim past [
-              | inl a ↦ elim (cases_lt i old.past) [
-                | inl under ↦ let none = a.0 in h.below i (omega (arith, under, none)) before
-                | inr over ↦ h.between i over until before
-              ]
-              | inr b ↦ h.between i (omega (arith, b, ge)) until before
-            ]
+        | inl before ↦ elim (ruled_out i ge lt) [
+          | inl low ↦ h.below i low before
+          | inr stretch ↦ h.between i stretch.0 stretch.1 before
+        ]
         | inr high ↦ let end_of = high.1 in absurd (omega (arith, end_of, ge, above))
       ];
     }
+
+-- where they lie below all that were such ones: of two stretches the lower one is kept, up to these
+pub entered_below : (gain from end : ℕ) (old new : Tally) → from ≤ end → end ≤ old.from → new.count ≡ old.count + gain → new.from ≡ from →
+    new.past ≡ end → ((old.from < old.past) × (new.until ≡ old.from)) ⊎ ((old.past ≤ old.from) × (new.until ≡ old.until)) → EntersMany gain from end old new
+entered_below gain from end old new range low counts starts past ends w was now size within h =
+    let order = h.within in
+    entered gain from end old new counts (omega (arith, starts, range, low), omega (arith, starts)) (
+      omega (arith, starts, past, range),
+      elim ends [
+        | inl kept ↦ let until = kept.1 in omega (arith, past, until, low)
+        | inr whole ↦ let until = whole.1 in omega (arith, past, until, low, order)
+      ],
+      elim ends [
+        | inl kept ↦ let until = kept.1 in omega (arith, until, order)
+        | inr whole ↦ let until = whole.1 in omega (arith, until)
+      ],
+    ) (omega (arith, past)) (λ i ge lt. elim ends [
+      | inl kept ↦ let until = kept.1 in inl (omega (arith, lt, until))
+      | inr whole ↦ elim (cases_lt i old.from) [
+        | inl under ↦ inl under
+        | inr over ↦ let none = whole.0 in let until = whole.1 in inr (omega (arith, over, none), omega (arith, lt, until))
+      ]
+    ]) w was now size within h
+
+-- where they don't: of the stretch what lies above them is kept
+pub entered_above : (gain from end : ℕ) (old new : Tally) → from ≤ end → new.count ≡ old.count + gain → new.from ≡ min old.from from →
+    new.past ≡ max old.past end → new.until ≡ max old.until new.past → EntersMany gain from end old new
+entered_above gain from end old new range counts starts past ends w was now size within h =
+    let order = h.within in
+    entered gain from end old new counts (omega (arith, starts), omega (arith, starts))
+    (omega (arith, starts, past, range), omega (arith, ends), omega (arith, ends, past, order)) (omega (arith, past))
+    (λ i ge lt. inr (omega (arith, ge, past), omega (arith, ge, lt, ends))) w was now size within h
 
 -- a table with another tally at one place
 pub tally-set_same : (w : Sought) (ts : List Tally) (at : ℕ) (t : Tally) → at ≡ tally_place w → at < length ts → tally_of (set ts at t) w ≡ t

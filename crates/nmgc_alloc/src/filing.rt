@@ -6,7 +6,7 @@
 //! of segments.
 //!
 //! Easy to get wrong: a segment that becomes one of a kind inside the stretch in which none lay cuts that stretch in two;
-//! only what lies above all that were swept is kept of it.
+//! only what lies above all that were swept is kept of it, or else what lies between them and all that were such ones.
 ghost use Rattle.std.specs.Prelude.{◌≡◌, ◌+◌, ◌<◌, ◌≤◌, length};
 ghost use Rattle.nmgc_limits.specs.Limits.{most_segments};
 ghost use Rattle.nmgc_alloc.specs.declared.tables.TheConstants.{CLASSES as classes, KINDS as kinds};

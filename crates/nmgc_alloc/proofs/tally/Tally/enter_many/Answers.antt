@@ -1,26 +1,27 @@
-use Rattle.std.proofs.Common.{ℕ, ◌≡◌, ◌∙◌, inl, inr, ap, subst, sym, max, min}
+use Rattle.std.proofs.Common.{ℕ, inl, inr, ap, refl, subst, sym}
 use Rattle.nmgc_alloc.specs.declared.tally.Tally.{Tally}
 use Rattle.nmgc_alloc.specs.Filing.{EntersMany}
-use Rattle.nmgc_alloc.proofs.FilingLaws.{none_entered, entered}
+use Rattle.nmgc_alloc.proofs.FilingLaws.{none_entered, entered_below, entered_above}
 use Rattle.nmgc_alloc.proofs.tally.Tally.enter_many.Goals as goal
 use Rattle.nmgc_alloc.proofs.tally.Tally.enter_many.Goals.{then-self, else-self}
 
-pub returns : goal.returns
-returns c =
+pub returns-after-self : goal.returns-after-self
+returns-after-self c =
     let mid : Tally = c.if-self.self in
-    let new : Tally = record { count = mid.count; from = c.min-self.result; past = mid.past; until = c.max-self-2.result } in
-    let starts = λ (from : ℕ) (e : mid.from ≡ from). c.min-self.ensures ∙ ap (λ (k : ℕ). min k c.args.from) e in
-    let ends = λ (until : ℕ) (e : mid.until ≡ until). c.max-self-2.ensures ∙ ap (λ (k : ℕ). max k mid.past) e in
+    let new : Tally = record { count = mid.count; from = c.args.from; past = c.args.end; until = mid.until } in
     elim c.if-self.branch [
       | then-self w ↦
-          entered c.args.gain c.args.from c.args.end c.args.self.now new c.requires.range.0 (ap (λ (t : Tally). t.count) w.self-is)
-          (starts c.args.self.now.from (ap (λ (t : Tally). t.from) w.self-is)) (inl (w.if-self.true, ap (λ (t : Tally). t.past) w.self-is))
-          (ends c.args.self.now.until (ap (λ (t : Tally). t.until) w.self-is))
+          entered_below c.args.gain c.args.from c.args.end c.args.self.now new c.requires.range.0 c.if-end-self.true (ap (λ (t : Tally). t.count) w.self-is)
+          refl refl (inl (w.if-self.true, ap (λ (t : Tally). t.until) w.self-is))
       | else-self w ↦
-          entered c.args.gain c.args.from c.args.end c.args.self.now new c.requires.range.0 (ap (λ (t : Tally). t.count) w.self-is)
-          (starts c.args.self.now.from (ap (λ (t : Tally). t.from) w.self-is)) (inr (ap (λ (t : Tally). t.past) w.self-is ∙ w.max-self.ensures))
-          (ends c.args.self.now.until (ap (λ (t : Tally). t.until) w.self-is))
+          entered_below c.args.gain c.args.from c.args.end c.args.self.now new c.requires.range.0 c.if-end-self.true (ap (λ (t : Tally). t.count) w.self-is)
+          refl refl (inr (w.if-self.false, ap (λ (t : Tally). t.until) w.self-is))
     ]
+
+pub returns-else-end-self : goal.returns-else-end-self
+returns-else-end-self c =
+    entered_above c.args.gain c.args.from c.args.end c.args.self.now _ c.requires.range.0 refl c.min-self.ensures c.max-self.ensures
+    c.max-self-else-end-self.ensures
 
 pub returns-then-gain-eq0 : goal.returns-then-gain-eq0
 returns-then-gain-eq0 c =
