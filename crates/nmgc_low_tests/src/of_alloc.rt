@@ -183,6 +183,40 @@ fn sweeps_and_placings_by_turns(rt: HostRuntime) -> Result<(), Fail> {
     Ok(())
 }
 
+// Free segments lie above filled ones. Each sweep frees one below them; of the two placings after it the first fills that
+// segment, and the second one the least of those above.
+#[test]
+fn sweeps_below_filled_segments(rt: HostRuntime) -> Result<(), Fail> {
+    let layout = Layout {
+        segments: 65_536,
+        words: 16,
+        nursery: 16,
+        mutators: 1,
+    };
+    assert!(rt; layout.words.is_power_of_two());
+    let mut segments = Segments::new(rt.alloc(), layout)?;
+    for number in 0..32_768u32 {
+        assert!(rt; place(&rt, &mut segments, 0, 12) == 32 + 16 * number);
+    }
+    begin(&rt, &mut segments);
+    for number in 0..8_192u32 {
+        mark(&rt, &mut segments, 32 + 16 * number, 1, true);
+    }
+    for number in 0..32_768u32 {
+        assert!(rt; segments.sweep_next(1) == Some(number));
+    }
+    counts(&rt, &segments, 57_344, 8_192, 0, 0);
+    begin(&rt, &mut segments);
+    for number in 0..8_192u32 {
+        assert!(rt; segments.sweep_next(2) == Some(number));
+        assert!(rt; place(&rt, &mut segments, 0, 12) == 32 + 16 * number);
+        let above = 8_192 + number;
+        assert!(rt; place(&rt, &mut segments, 0, 12) == 32 + 16 * above);
+    }
+    counts(&rt, &segments, 49_152, 16_384, 0, 16_384);
+    Ok(())
+}
+
 // Each law asks nothing.
 #[test]
 fn laws_ask_nothing(rt: HostRuntime) {
