@@ -194,6 +194,7 @@ fn push_name_list(out: &mut Vec<u8>, word: &[u8], names: &NameList) -> Result<()
     push_spans(out, word, names.spans())
 }
 
+// A line for each name of spans.
 fn push_spans(out: &mut Vec<u8>, word: &[u8], spans: &[Span]) -> Result<(), NoMemory>
     ensures { OnOk result (out.new.items ≡ out.old.items ++ flat_map (span_lines word.now) spans.now) }
 {
@@ -203,6 +204,7 @@ fn push_spans(out: &mut Vec<u8>, word: &[u8], spans: &[Span]) -> Result<(), NoMe
     Ok(())
 }
 
+// A line for each name of a span.
 fn push_span(out: &mut Vec<u8>, word: &[u8], span: &Span) -> Result<(), NoMemory>
     ensures { OnOk result (out.new.items ≡ out.old.items ++ span_lines word.now span.now) }
 {
@@ -212,6 +214,7 @@ fn push_span(out: &mut Vec<u8>, word: &[u8], span: &Span) -> Result<(), NoMemory
     Ok(())
 }
 
+// A line with a word and a name.
 fn push_name_line(out: &mut Vec<u8>, word: &[u8], name: Name) -> Result<(), NoMemory>
     ensures { OnOk result (out.new.items ≡ out.old.items ++ name_line word.now name) }
 {

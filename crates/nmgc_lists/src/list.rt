@@ -1,11 +1,10 @@
 //! A growing list, which contracts see as a list.
 //!
 //! It is `Vec` with one answer for want of memory, and with room for two items in the value itself: most
-//! constructors have one or two fields, and a script has a list of operands for every one that it makes, so
-//! `pair` spares a long script an allocation for each. More items lie in a vector that has a place of its own in
-//! memory, so that a list is small wherever it lies: a script is long, and most of its commands have no list. Only
-//! `push`, `copy` and `from_vec` take memory; after a refusal the list is unchanged. Where the items lie is not part
-//! of the list's value: contracts never see it.
+//! constructors of a world have one or two fields, so `pair` spares an allocation for each. More items lie in a
+//! vector that has a place of its own in memory, so that a list is small wherever it lies. Only `push`, `copy` and
+//! `from_vec` take memory; after a refusal the list is unchanged. Where the items lie is not part of the list's
+//! value: contracts never see it.
 //!
 //! Easy to get wrong: a list that `new` or `pair` made has no vector, also once an item was taken off. So the next
 //! `push` onto it takes memory, even if the value itself would have room.

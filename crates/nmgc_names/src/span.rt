@@ -4,7 +4,7 @@
 //! eight bytes of a name; more names in a row are several spans.
 //!
 //! Easy to get wrong: fields lie in memory in the order in which they stand here, so the count stands beside the maker.
-ghost use Rattle.std.specs.Prelude.{◌≡◌, ◌+◌, ◌<◌, ◌≤◌, ◌^◌, [], ◌∷◌, ◌++◌, length, slice_get, Some, IsTrue};
+ghost use Rattle.std.specs.Prelude.{◌≡◌, ◌↔◌, ◌+◌, ◌<◌, ◌≤◌, ◌^◌, [], ◌∷◌, ◌++◌, length, slice_get, Some, IsTrue};
 
 use nmgc_world_spec::Name;
 
@@ -38,7 +38,7 @@ impl Span {
     /// Whether a name is the next one of the span, and the span has room for it.
     #[inline]
     pub(crate) fn is_followed_by(&self, name: Name) -> bool
-        ensures { IsTrue result → IsNext self.now name }
+        ensures { IsTrue result ↔ IsNext self.now name }
     {
         self.maker == name.maker
             && self.count < u16::MAX

@@ -1,9 +1,9 @@
 //! Weak pointers at a stop: their list, which of them die as a cycle closes, and their finalisers.
 //!
 //! A weak pointer that is alive and has a block stands in a list, with its place, in order of names (`weaks`), which is
-//! kept in a row for each maker (`row`). At each stop those that were finalised in the round leave it, and new ones join it. As a cycle closes,
-//! `Weaks::resolve` finds which weak pointers of the snapshot keep their values and finalisers, since their keys are
-//! live, and which die (`resolve`). The finalisers of those join their makers' queues (`queues`).
+//! kept in a row for each maker (`row`). At each stop those that were finalised in the round leave it, and new ones join
+//! it. As a cycle closes, `Weaks::resolve` finds which weak pointers of the snapshot keep their values and finalisers,
+//! since their keys are live, and which die (`resolve`). The finalisers of those join their makers' queues (`queues`).
 //!
 //! The promise is that the closing is the core machine's (`specs/Resolve.antt`): the marks are exactly those of what
 //! the cycle keeps, the deaths exactly the dead weak pointers, and words and list stand for the closed world. `laws`

@@ -8,7 +8,6 @@ use Rattle.nmgc_lists.specs.laws.Items.{contains_head}
 use Rattle.nmgc_snapshot_laws.specs.declared.event.Entry.{Entry}
 use Rattle.nmgc_snapshot_laws.specs.State.{opening}
 use Rattle.nmgc_heap_spec.specs.Places.{Place}
-use Rattle.nmgc_blocks_spec.specs.Cycle.{IsKeptObject}
 use Rattle.nmgc_run_spec.specs.Closing.{IsStrongObject}
 use Rattle.nmgc_world_spec.specs.Listing.{Counts}
 use Rattle.nmgc_collector_laws.specs.Marker.{AreAt}

@@ -33,7 +33,7 @@ and_false : (b : Bool) → (b && false) ≡ false
 and_false true = refl
 and_false false = refl
 
--- of none of the places it is said that the weak pointer there leaves, or that it is this one
+-- at none of the places is it the one that leaves
 abbrev pub stays : List ℕ → List ℕ → OldWeak → Bool
 stays words [] weak = true
 stays words (at ∷ places) weak = not (leaves_at words at weak) && stays words places weak
