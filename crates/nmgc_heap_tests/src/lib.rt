@@ -1,4 +1,5 @@
-//! Tests of rounds, mutators, promotion, reports, marking, sweeping and weak pointers.
+//! Tests of rounds, mutators, promotion, reports, marking by one and by several markers, sweeping and weak pointers:
+//! `of_CRATE` has those of a crate.
 #![tactic(auto)]
 
 #[cfg(test)]

@@ -1,4 +1,4 @@
-// The text of every kind of line, and the worked examples' stops and cycles.
+//! The text of every kind of line, and the worked examples' stops and cycles.
 use nmgc_alloc::Segments;
 use nmgc_journal::*;
 use nmgc_limits::SHARED_MAKER;

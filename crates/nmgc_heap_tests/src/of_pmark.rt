@@ -6,7 +6,7 @@ ghost use Rattle.std.specs.Prelude.{◌<◌, length};
 use nmgc_lists::List;
 use nmgc_object::laws::words_differ;
 use nmgc_pmark::crew::places_marked;
-use nmgc_pmark::{Bounds, StillWords};
+use nmgc_pmark::{Bounds, StillWords, laws};
 use nmgc_round::Gate;
 use std::sync::atomic::{AtomicU64, Ordering};
 use std::test::Fail;
@@ -87,4 +87,12 @@ fn still_words_are_read(rt: HostRuntime) -> Result<(), Fail> {
     let list = List::from_vec(vector)?;
     assert!(rt; word(&list, 0) == 7);
     Ok(())
+}
+
+// Each law asks nothing.
+#[test]
+fn laws_ask_nothing(rt: HostRuntime) {
+    let _ = &rt;
+    laws::one_marker_marks_the_same();
+    laws::a_stop_is_stopped();
 }

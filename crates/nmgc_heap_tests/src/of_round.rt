@@ -232,7 +232,9 @@ fn laws_ask_nothing(rt: HostRuntime) {
     laws::slot_swap();
     laws::slot_refusal();
     laws::unborn_store();
+    laws::unborn_look();
     laws::birth();
+    laws::birth_look();
     laws::scan();
     laws::empty_heap_opens();
     laws::old_stacks_are_listed();

@@ -11,7 +11,7 @@ use nmgc_names::NameList;
 use nmgc_object::{Address, FIRST_PLACE, Layout, block_words};
 use nmgc_round::OpenGate;
 use nmgc_segment::State;
-use nmgc_sweep::{Names, Sweeper};
+use nmgc_sweep::{Census, Names, Sweeper};
 use nmgc_world_spec::Name;
 use std::alloc::Global;
 use std::process::Abort;
@@ -232,6 +232,27 @@ fn sorted_names(alloc: Global, list: &NameList) -> Result<Vec<Name>, Fail> {
     Ok(names)
 }
 
+// Compares what a cycle found, and the states after it.
+fn compare(
+    rt: &impl Abort,
+    alloc: Global,
+    census: &Census,
+    segments: &Segments,
+    row: &Row,
+) -> Result<(), Fail> {
+    assert!(rt; census.had.len() == row.had.len());
+    assert!(rt; census.freed.len() == row.freed.len());
+    assert!(rt; census.swept.as_slice() == row.swept);
+    assert!(rt; sorted_names(alloc, &census.had)?.as_slice() == row.had);
+    assert!(rt; sorted_names(alloc, &census.freed)?.as_slice() == row.freed);
+    for number in 0..segments.layout().segments {
+        if let Some(state) = row.states.get(number as usize) {
+            assert!(rt; segments.segment(number).state() == *state);
+        }
+    }
+    Ok(())
+}
+
 // Does the cycle, and compares.
 fn check<R: Abort + Threads + Sync>(rt: &R, alloc: Global, row: Row) -> Result<(), Fail> {
     let layout = Layout {
@@ -269,17 +290,7 @@ fn check<R: Abort + Threads + Sync>(rt: &R, alloc: Global, row: Row) -> Result<(
     sweeper.finish(rt, &mut segments, &names);
     assert!(rt; sweeper.swept() == row.swept);
     let census = sweeper.into_census();
-    assert!(rt; census.had.len() == row.had.len());
-    assert!(rt; census.freed.len() == row.freed.len());
-    assert!(rt; census.swept.as_slice() == row.swept);
-    assert!(rt; sorted_names(alloc, &census.had)?.as_slice() == row.had);
-    assert!(rt; sorted_names(alloc, &census.freed)?.as_slice() == row.freed);
-    for number in 0..segments.layout().segments {
-        if let Some(state) = row.states.get(number as usize) {
-            assert!(rt; segments.segment(number).state() == *state);
-        }
-    }
-    Ok(())
+    compare(rt, alloc, &census, &segments, &row)
 }
 
 #[test]

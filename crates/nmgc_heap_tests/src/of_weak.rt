@@ -144,6 +144,7 @@ fn mutators(alloc: Global, room: u32) -> Result<List<Mutator>, NoMemory>
     Ok(mutators)
 }
 
+// Each finaliser goes to the queue of its weak pointer's maker, but nil to none.
 #[test]
 fn finalisers_join(rt: HostRuntime) -> Result<(), Fail> {
     let mut mutators = mutators(rt.alloc(), 3)?;

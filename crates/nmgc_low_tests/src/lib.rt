@@ -1,4 +1,5 @@
-//! Tests of the world, the machine, scripts, words and segments.
+//! Tests of lists, input and output, worlds, the core machine, scripts, words, segments, rings and watched barriers:
+//! `of_CRATE` has those of a crate.
 #![tactic(auto)]
 
 #[cfg(test)]
@@ -11,6 +12,8 @@ mod of_graph;
 mod of_heap_spec;
 #[cfg(test)]
 mod of_io;
+#[cfg(test)]
+mod of_limits;
 #[cfg(test)]
 mod of_lists;
 #[cfg(test)]

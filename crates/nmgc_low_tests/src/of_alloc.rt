@@ -1,5 +1,5 @@
 //! Placing, a cycle and a full cycle in a small heap, and a large heap of one-block segments.
-use nmgc_alloc::{Segments, blocks, laws};
+use nmgc_alloc::{Segments, blocks, laws, names};
 use nmgc_object::{Address, Layout, block_words};
 use nmgc_segment::State;
 use std::process::Abort;
@@ -57,6 +57,36 @@ fn none_begins(rt: &impl Abort, segments: &Segments, places: &[u32]) {
     }
 }
 
+// The four segments are retired, and the second cycle keeps one block of the first of them.
+fn sweep_retired(rt: &impl Abort, segments: &mut Segments) {
+    segments.retire_all();
+    counts(rt, segments, 28, 4, 0, 0);
+    begin(rt, segments);
+    mark(rt, segments, 36, 2, true);
+    segments.carry(2);
+    for number in 0..4u32 {
+        assert!(rt; segments.sweep_next(2) == Some(number));
+    }
+    counts(rt, segments, 31, 0, 0, 0);
+    assert!(rt; 0 < segments.layout().segments);
+    assert!(rt; segments.segment(0).state() == State::Active);
+    for (mutator, at) in [(1, 32), (1, 40), (0, 96)] {
+        assert!(rt; place(rt, segments, mutator, 0) == at);
+    }
+}
+
+// Where blocks begin in the first cycle of `a_cycle`: the place, the segment and its block.
+const BEGINNINGS: [(u32, u32, u32); 7] = [
+    (32, 0, 0),
+    (92, 0, 15),
+    (96, 1, 0),
+    (160, 2, 0),
+    (165, 2, 1),
+    (215, 2, 11),
+    (224, 3, 0),
+];
+
+// Blocks are placed by class and mutator; a filled segment is swept, retired ones too.
 #[test]
 fn a_cycle(rt: HostRuntime) -> Result<(), Fail> {
     let layout = Layout {
@@ -83,19 +113,7 @@ fn a_cycle(rt: HostRuntime) -> Result<(), Fail> {
     for (at, marked) in [(36, true), (36, false), (96, true), (224, false)] {
         mark(&rt, &mut segments, at, 1, marked);
     }
-    blocks_begin(
-        &rt,
-        &segments,
-        &[
-            (32, 0, 0),
-            (92, 0, 15),
-            (96, 1, 0),
-            (160, 2, 0),
-            (165, 2, 1),
-            (215, 2, 11),
-            (224, 3, 0),
-        ],
-    );
+    blocks_begin(&rt, &segments, &BEGINNINGS);
     // Before the segments, within a block, and in the four words that twelve blocks of five words leave over; in a free
     // segment, and behind the last one.
     none_begins(&rt, &segments, &[0, 1, 31, 33, 38, 95, 164, 219, 220, 223]);
@@ -104,21 +122,7 @@ fn a_cycle(rt: HostRuntime) -> Result<(), Fail> {
     assert!(rt; segments.sweep_next(1) == Some(0));
     assert!(rt; segments.sweep_next(1) == None);
     counts(&rt, &segments, 28, 0, 0, 0);
-
-    segments.retire_all();
-    counts(&rt, &segments, 28, 4, 0, 0);
-    begin(&rt, &mut segments);
-    mark(&rt, &mut segments, 36, 2, true);
-    segments.carry(2);
-    for number in 0..4u32 {
-        assert!(rt; segments.sweep_next(2) == Some(number));
-    }
-    counts(&rt, &segments, 31, 0, 0, 0);
-    assert!(rt; 0 < segments.layout().segments);
-    assert!(rt; segments.segment(0).state() == State::Active);
-    for (mutator, at) in [(1, 32), (1, 40), (0, 96)] {
-        assert!(rt; place(&rt, &mut segments, mutator, 0) == at);
-    }
+    sweep_retired(&rt, &mut segments);
     Ok(())
 }
 
@@ -244,4 +248,7 @@ fn laws_ask_nothing(rt: HostRuntime) {
     blocks::mark_at();
     blocks::numbers();
     blocks::numbers_tell();
+    names::lie();
+    names::lie_once();
+    names::are_swept();
 }

@@ -18,6 +18,7 @@ fn exchange<H: HeapWords>(heap: &mut H, left: usize, right: usize)
     heap.store(right, first);
 }
 
+// A vector of words.
 #[test]
 fn vector(rt: HostRuntime) -> Result<(), Fail> {
     let mut words = vec![in rt.alloc(); 7, 8, 9]?;
@@ -26,6 +27,7 @@ fn vector(rt: HostRuntime) -> Result<(), Fail> {
     Ok(())
 }
 
+// A list of words.
 #[test]
 fn list(rt: HostRuntime) -> Result<(), Fail> {
     let mut words = List::from_vec(vec![in rt.alloc(); 7, 8, 9]?)?;
@@ -34,6 +36,7 @@ fn list(rt: HostRuntime) -> Result<(), Fail> {
     Ok(())
 }
 
+// Each law asks nothing.
 #[test]
 fn laws_ask_nothing(rt: HostRuntime) {
     let _ = &rt;

@@ -1,4 +1,4 @@
-// Calls that fail, pieces that are short, and texts of numbers, as tables.
+//! Calls that fail, pieces that are short, and texts of numbers, as tables.
 ghost use Rattle.std.specs.Prelude.{◌≤◌};
 
 use nmgc_io::{

@@ -2,6 +2,7 @@
 use nmgc_lists::*;
 use std::test::Fail;
 
+// A queue gives its first item, a list its last, and a copy has the same items.
 #[test]
 fn queues_and_lists(rt: HostRuntime) -> Result<(), Fail> {
     let mut queue = Queue::new(rt.alloc());
@@ -58,5 +59,18 @@ fn a_queue_changes_in_place(rt: HostRuntime) -> Result<(), Fail> {
     queue.set_first(7);
     assert!(rt; queue.first() == Some(7));
     assert!(rt; !queue.is_empty());
+    Ok(())
+}
+
+// A room takes as many as were reserved, and is emptied.
+#[test]
+fn a_room(rt: HostRuntime) -> Result<(), Fail> {
+    let mut room = Room::new(rt.alloc());
+    room.reserve(2)?;
+    room.add(4);
+    room.add(5);
+    assert!(rt; room.items() == [4, 5].as_slice());
+    room.clear();
+    assert!(rt; room.items().len() == 0);
     Ok(())
 }

@@ -9,6 +9,7 @@ use nmgc_object::{
 use nmgc_world_spec::{Kind, Name};
 use std::test::Fail;
 
+// Headers have these words, which are read back; words of no header aren't.
 #[test]
 fn headers(rt: HostRuntime) {
     let rows = [
@@ -40,6 +41,7 @@ fn headers(rt: HostRuntime) {
     }
 }
 
+// The same of names.
 #[test]
 fn names(rt: HostRuntime) {
     for (maker, serial, word) in [(3, 10, 643), (32, 0, 32)] {
@@ -54,6 +56,7 @@ fn names(rt: HostRuntime) {
     }
 }
 
+// The same of field words, with the greatest number, the first word past it and the first pointer that is too far.
 #[test]
 fn fields(rt: HostRuntime) {
     let greatest = 4_611_686_018_427_387_903;
@@ -76,6 +79,7 @@ fn fields(rt: HostRuntime) {
     }
 }
 
+// The words, the class and the block of an object.
 #[test]
 fn sizes(rt: HostRuntime) {
     let rows = [
@@ -98,6 +102,7 @@ fn sizes(rt: HostRuntime) {
     }
 }
 
+// Where segments and nurseries begin, and the reserve.
 #[test]
 fn places(rt: HostRuntime) {
     for (nursery, total, reserve) in [(64, 2144, 17), (128, 2208, 19), (256, 2336, 23)] {
@@ -124,6 +129,7 @@ fn places(rt: HostRuntime) {
     assert!(rt; nursery.left() == 61);
 }
 
+// A queue of words gives the first one first, also once it was made longer.
 #[test]
 fn finalisers(rt: HostRuntime) -> Result<(), Fail> {
     let mut queue = FinQueue::new(rt.alloc());

@@ -16,6 +16,7 @@ const THIRD: [bool; 4] = [false, false, true, false];
 
 const ALL: [bool; 4] = [true, true, true, true];
 
+// Blocks taken after the snapshot aren't in it, a sweep keeps what is marked, and carried marks are of the next epoch.
 #[test]
 fn two_cycles(rt: HostRuntime) -> Result<(), Fail> {
     let words: u32 = 64;
@@ -51,6 +52,7 @@ fn two_cycles(rt: HostRuntime) -> Result<(), Fail> {
     Ok(())
 }
 
+// A sweep that frees no block leaves the segment filled.
 #[test]
 fn kept_whole(rt: HostRuntime) -> Result<(), Fail> {
     let words: u32 = 16;

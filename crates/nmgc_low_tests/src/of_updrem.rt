@@ -201,3 +201,15 @@ fn an_inbox_has_a_list_for_each_mutator(rt: HostRuntime) -> Result<(), Fail> {
     assert!(rt; counted(inbox.entries(0), 128) == 192);
     Ok(())
 }
+
+// Each law asks nothing.
+#[test]
+fn laws_ask_nothing(rt: HostRuntime) {
+    let _ = &rt;
+    laws::new_ends_are_a_line();
+    laws::a_line_goes_on();
+    laws::list_and_ring_are_what_was_sent();
+    laws::level_ends_are_a_line();
+    laws::new_ends_are_in_order();
+    laws::level_ends_are_in_order();
+}

@@ -180,7 +180,7 @@ fn two_mutators_read_by_one_order(rt: HostRuntime) -> Result<(), Fail> {
 // A gate at which each of two waits, with some turn of its own, until the other has reached some turn.
 #[derive(Drop)]
 pub(crate) struct Meet {
-    // The two: mutators, the collector or its second sweeping half.
+    // The two: mutators, the collector or the upper half of a sweep.
     who: [u8; 2],
     // Of each: the turn that waits, and the turn of the other that it waits for.
     waits: [(u64, u64); 2],

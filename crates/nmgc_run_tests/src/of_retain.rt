@@ -2,9 +2,11 @@
 ghost use Rattle.std.specs.Prelude.{◌^◌, IfOk};
 ghost use Rattle.nmgc_image.specs.Spelling.{IsSpelledWithin};
 
-use nmgc_image::{Image, image_text, read_image};
+use nmgc_image::{Image, image_text, laws, read_image};
 use nmgc_lists::{List, NoMemory};
-use nmgc_retain::{Hop, Level, Levels, Path, Retained, Root, retain, verify};
+use nmgc_retain::{
+    Hop, Level, Levels, Path, Retained, Root, certified_answers_are_shortest, retain, verify,
+};
 use nmgc_world_spec::{Name, Node, Value};
 use std::alloc::Global;
 use std::process::Abort;
@@ -331,4 +333,13 @@ fn wrong_answers_are_not_certified(rt: HostRuntime) -> Result<(), Fail> {
     assert!(rt; !verify(&image, name(0, 1), &loose));
     assert!(rt; verify(&image, name(1, 1), &loose));
     Ok(())
+}
+
+// Each law asks nothing.
+#[test]
+fn laws_ask_nothing(rt: HostRuntime) {
+    let _ = &rt;
+    laws::shown_is_image();
+    laws::a_text_has_one_image();
+    certified_answers_are_shortest();
 }

@@ -130,8 +130,9 @@ fn check(
     Ok(())
 }
 
+// Fields that are set and exchanged.
 #[test]
-fn fields_and_results(rt: HostRuntime) -> Result<(), Fail> {
+fn fields(rt: HostRuntime) -> Result<(), Fail> {
     let five = Reply::Given(FIVE);
     let six = Reply::Given(SIX);
     let object = Reply::Given(OBJECT);
@@ -157,6 +158,23 @@ fn fields_and_results(rt: HostRuntime) -> Result<(), Fail> {
         (Sample::Arr, exchange(SIX), Reply::No, [five, WRONG, WRONG]),
         (
             Sample::Waiting,
+            set(0),
+            WRONG,
+            [WRONG, Reply::Nothing, WRONG],
+        ),
+    ];
+    check(&rt, rt.alloc(), &rows)?;
+    Ok(())
+}
+
+// Results that thunks get.
+#[test]
+fn results(rt: HostRuntime) -> Result<(), Fail> {
+    let five = Reply::Given(FIVE);
+    let six = Reply::Given(SIX);
+    let rows = [
+        (
+            Sample::Waiting,
             update(),
             Reply::Updated,
             [WRONG, five, WRONG],
@@ -168,12 +186,6 @@ fn fields_and_results(rt: HostRuntime) -> Result<(), Fail> {
             [WRONG, six, WRONG],
         ),
         (Sample::Var, update(), WRONG, [five, WRONG, WRONG]),
-        (
-            Sample::Waiting,
-            set(0),
-            WRONG,
-            [WRONG, Reply::Nothing, WRONG],
-        ),
     ];
     check(&rt, rt.alloc(), &rows)?;
     Ok(())

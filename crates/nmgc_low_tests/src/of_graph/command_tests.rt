@@ -101,6 +101,7 @@ fn finalise(dest: u8, object: Operand) -> Command {
     Command::Finalise { dest, object }
 }
 
+// Fields are written and read where there are such, and where they may be.
 #[test]
 fn writing(rt: HostRuntime) -> Result<(), Fail> {
     let mut world = World::new(rt.alloc(), 1)?;
@@ -133,6 +134,7 @@ fn writing(rt: HostRuntime) -> Result<(), Fail> {
     Ok(())
 }
 
+// A stack gets full and empty, and gives what was pushed last first.
 #[test]
 fn a_stack(rt: HostRuntime) -> Result<(), Fail> {
     let mut world = World::new(rt.alloc(), 1)?;
@@ -242,6 +244,7 @@ fn thunks_and_weak_pointers(rt: HostRuntime) -> Result<(), Fail> {
     Ok(())
 }
 
+// What is read of a world without a command: values, objects and their parts, and what a command would change.
 #[test]
 fn looking_at_a_world(rt: HostRuntime) -> Result<(), Fail> {
     let mut world = World::new(rt.alloc(), 1)?;
@@ -272,6 +275,7 @@ fn looking_at_a_world(rt: HostRuntime) -> Result<(), Fail> {
     Ok(())
 }
 
+// A name enters a set once.
 #[test]
 fn a_set_of_names(rt: HostRuntime) -> Result<(), Fail> {
     let world = World::new(rt.alloc(), 1)?;

@@ -413,15 +413,3 @@ fn a_long_chain_of_weak_pointers(rt: HostRuntime) -> Result<(), Fail> {
     assert!(rt; dead.items().len() == 400_000);
     Ok(())
 }
-
-#[test]
-fn a_room(rt: HostRuntime) -> Result<(), Fail> {
-    let mut room = Room::new(rt.alloc());
-    room.reserve(2)?;
-    room.add(4);
-    room.add(5);
-    assert!(rt; room.items() == [4, 5].as_slice());
-    room.clear();
-    assert!(rt; room.items().len() == 0);
-    Ok(())
-}

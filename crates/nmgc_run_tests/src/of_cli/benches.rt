@@ -48,7 +48,7 @@ kept 4096
 end done
 ";
 
-// Runs a bench, with a source that fails at each read.
+// Runs a bench, with a source whose first read fails: a bench reads nothing.
 fn run_bench<R: Threads + Sync>(rt: &R, alloc: Global, batches: &str) -> Result<Run, Fail> {
     let mut source = MemorySource::new(Vec::new(alloc), 1, listed(alloc, 1)?);
     let mut sink = MemorySink::new(alloc, 100, Vec::new(alloc), 1000)?;

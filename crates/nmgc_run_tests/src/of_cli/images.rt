@@ -28,7 +28,7 @@ end
     ),
 ];
 
-// A list of sixteen objects, two of which a cycle came between.
+// A list of sixteen objects, the last of which is made once a cycle has begun.
 const CHAIN: &str =
     "con r0 0 r0 r1\ncon r0 0 r0 r1\ncon r0 0 r0 r1\ncon r0 0 r0 r1\ncon r0 0 r0 r1\ncon r0 0 r0 r1\ncon r0 0 r0 r1\ncon r0 0 r0 r1\ncon r0 0 r0 r1\ncon r0 0 r0 r1\ncon r0 0 r0 r1\ncon r0 0 r0 r1\ncon r0 0 r0 r1\ncon r0 0 r0 r1\ncon r0 0 r0 r1\ncollect\ncon r0 0 r0 r1\ncollect\n";
 

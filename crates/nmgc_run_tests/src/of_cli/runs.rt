@@ -7,7 +7,7 @@ use std::test::Fail;
 use std::thread::Threads;
 
 // Programs under the head, and what is written.
-const PROGRAMS: [(&str, Status, &str); 13] = [
+const PROGRAMS: [(&str, Status, &str); 9] = [
     ("", Status::Done, EMPTY_REPORT),
     (ONE_OBJECT, Status::Done, ONE_OBJECT_REPORT),
     (
@@ -22,25 +22,6 @@ round 1
 0 nofield
 0 nopointer
 stop 1 idle free 31 filled 0 sweep 0 promoted 1
-end done
-",
-    ),
-    (
-        "num r1 5\ncon r0 0 r1\nset r0 0 r1\nvar r2 r1\nnum r3 9\nset r2 0 r3\nget r4 r2 0\nset r2 1 r3\nget r4 r3 0\n",
-        Status::Done,
-        "report 1
-stop 0 idle free 32 filled 0 sweep 0 promoted 0
-round 1
-0 ok
-0 0.0
-0 fixed
-0 0.1
-0 ok
-0 ok
-0 9
-0 nofield
-0 nopointer
-stop 1 idle free 31 filled 0 sweep 0 promoted 2
 end done
 ",
     ),
@@ -64,98 +45,6 @@ stop 1 idle free 31 filled 0 sweep 0 promoted 1
 end done
 ",
     ),
-    // The variable waits for the next round: 16 objects of 4 words fill the nursery.
-    (
-        "con r0 0 r1 r1\ncon r0 0 r1 r1\ncon r0 0 r1 r1\ncon r0 0 r1 r1\ncon r0 0 r1 r1\ncon r0 0 r1 r1\ncon r0 0 r1 r1\ncon r0 0 r1 r1\ncon r0 0 r1 r1\ncon r0 0 r1 r1\ncon r0 0 r1 r1\ncon r0 0 r1 r1\ncon r0 0 r1 r1\ncon r0 0 r1 r1\ncon r0 0 r1 r1\ncon r0 0 r1 r1\nvar r2 r0\n",
-        Status::Done,
-        "report 1
-stop 0 idle free 32 filled 0 sweep 0 promoted 0
-round 1
-0 0.0
-0 0.1
-0 0.2
-0 0.3
-0 0.4
-0 0.5
-0 0.6
-0 0.7
-0 0.8
-0 0.9
-0 0.10
-0 0.11
-0 0.12
-0 0.13
-0 0.14
-0 0.15
-stop 1 idle free 31 filled 0 sweep 0 promoted 1
-round 2
-0 0.16
-stop 2 idle free 31 filled 0 sweep 0 promoted 1
-end done
-",
-    ),
-    // A chain of weak pointers: each one's value is the key of the one before.
-    (
-        "num r1 5\nnum r2 9\ncon r4 0 r1\ncon r5 0 r1\ncon r6 0 r1\ncon r7 0 r1\nweak r8 r6 r7 r1\nweak r8 r5 r6 r10\nweak r8 r4 r5 r2\nnil r5\nnil r6\nnil r7\nnil r8\ncollect\nnil r4\ncollect\nyield\nnextfin r9\nnextfin r9\nnextfin r9\n",
-        Status::Done,
-        "report 1
-stop 0 idle free 32 filled 0 sweep 0 promoted 0
-round 1
-0 ok
-0 ok
-0 0.0
-0 0.1
-0 0.2
-0 0.3
-0 0.4
-0 0.5
-0 0.6
-0 ok
-0 ok
-0 ok
-0 ok
-0 ok
-stop 1 marking free 30 filled 0 sweep 0 promoted 7
-round 2
-0 ok
-0 ok
-stop 2 marking free 30 filled 0 sweep 0 promoted 0
-cycle 1 from 1 closed 2 swept 0 had 0 freed 0 kept 7 dead 0
-round 3
-0 ok
-stop 3 idle free 30 filled 0 sweep 0 promoted 0
-cycle 2 from 2 closed 3 swept 0 had 0 freed 0 kept 0 dead 3
-dead 0.4
-dead 0.5
-dead 0.6
-round 4
-0 5
-0 9
-0 none
-stop 4 idle free 30 filled 0 sweep 0 promoted 0
-end done
-",
-    ),
-    // A full cycle sweeps the segment that isn't filled too.
-    (
-        "con r0 0 r1 r1\ncon r2 0 r1 r1\nyield\nnil r0\nfull\n",
-        Status::Done,
-        "report 1
-stop 0 idle free 32 filled 0 sweep 0 promoted 0
-round 1
-0 0.0
-0 0.1
-0 ok
-stop 1 idle free 31 filled 0 sweep 0 promoted 2
-round 2
-0 ok
-0 ok
-stop 2 idle free 31 filled 0 sweep 0 promoted 0
-cycle 1 from 2 closed 2 swept 1 had 2 freed 1 kept 1 dead 0
-freed 0.0
-end done
-",
-    ),
     ("sho", Status::BadScript, "bad line 4 command\n"),
     ("show\n", Status::BadScript, "bad line 4 arity\n"),
     ("show r16\n", Status::BadScript, "bad line 4 operand\n"),
@@ -166,44 +55,6 @@ end done
     ),
     ("arr r0 63 r1\n", Status::BadScript, "bad line 4 size\n"),
 ];
-
-// Each thread reads what the other put into the shared array in the round before.
-const TWO_THREADS: &str = "nmgc 1
-heap 64 64 64 100 1000 0
-thread 0
-num r1 5
-con r0 0 r1
-set g 0 r0
-yield
-get r2 g 1
-thread 1
-num r1 6
-con r0 0 r1
-set g 1 r0
-yield
-get r2 g 0
-get r3 r2 0
-";
-
-const TWO_THREADS_REPORT: &str = "report 1
-stop 0 idle free 64 filled 0 sweep 0 promoted 0
-round 1
-0 ok
-0 0.0
-0 ok
-0 ok
-1 ok
-1 1.0
-1 ok
-1 ok
-stop 1 idle free 62 filled 0 sweep 0 promoted 2
-round 2
-0 1.0
-1 0.0
-1 5
-stop 2 idle free 62 filled 0 sweep 0 promoted 0
-end done
-";
 
 // As many threads as version 1 has: each reads what the next one put into the shared array in the round before.
 const EIGHT_THREADS: &str = "nmgc 1
@@ -291,68 +142,6 @@ stop 2 idle free 248 filled 0 sweep 0 promoted 0
 end done
 ";
 
-// Eight objects that stay, in segments of four; the reserve is 15 segments.
-const EIGHT_OBJECTS: &str = "thread 0
-con r0 0 r0 r1
-con r0 0 r0 r1
-con r0 0 r0 r1
-con r0 0 r0 r1
-con r0 0 r0 r1
-con r0 0 r0 r1
-con r0 0 r0 r1
-con r0 0 r0 r1
-show r0
-";
-
-// How many segments there are for them, and what is written.
-const HEAPS: [(&str, Status, &str); 3] = [
-    (
-        "nmgc 1\nheap 14 16 16 100 1000 0\n",
-        Status::HeapFull,
-        "report 1
-stop 0 idle free 14 filled 0 sweep 0 promoted 0
-cycle 1 from 0 closed 0 swept 0 had 0 freed 0 kept 0 dead 0
-end heapfull free 14 reserve 15
-",
-    ),
-    (
-        "nmgc 1\nheap 15 16 16 100 1000 0\n",
-        Status::HeapFull,
-        "report 1
-stop 0 idle free 15 filled 0 sweep 0 promoted 0
-round 1
-0 0.0
-0 0.1
-0 0.2
-0 0.3
-stop 1 idle free 14 filled 1 sweep 0 promoted 4
-cycle 1 from 1 closed 1 swept 1 had 4 freed 0 kept 4 dead 0
-end heapfull free 14 reserve 15
-",
-    ),
-    (
-        "nmgc 1\nheap 16 16 16 100 1000 0\n",
-        Status::Done,
-        "report 1
-stop 0 idle free 16 filled 0 sweep 0 promoted 0
-round 1
-0 0.0
-0 0.1
-0 0.2
-0 0.3
-stop 1 idle free 15 filled 1 sweep 0 promoted 4
-round 2
-0 0.4
-0 0.5
-0 0.6
-0 0.7
-0 0.7
-stop 2 idle free 14 filled 2 sweep 0 promoted 4
-end done
-",
-    ),
-];
-
 // More threads than version 1 has.
 const NINE_THREADS: &str = "nmgc 2
 heap 256 64 64 100 1000 0
@@ -393,7 +182,7 @@ end done
 ";
 
 // Whole scripts, and what is written.
-const SCRIPTS: [(&str, Status, &str); 20] = [
+const SCRIPTS: [(&str, Status, &str); 18] = [
     ("", Status::BadScript, "bad line 1 version\n"),
     (
         "nmgc 1\nheap 32 64 64 100 1000 0\n",
@@ -438,6 +227,16 @@ end done
         "report 1
 stop 0 idle free 4 filled 0 sweep 0 promoted 0
 end done
+",
+    ),
+    // Where one is left, the heap is full.
+    (
+        "nmgc 1\nheap 14 16 16 100 1000 0\nthread 0\ncon r0 0 r0 r1\n",
+        Status::HeapFull,
+        "report 1
+stop 0 idle free 14 filled 0 sweep 0 promoted 0
+cycle 1 from 0 closed 0 swept 0 had 0 freed 0 kept 0 dead 0
+end heapfull free 14 reserve 15
 ",
     ),
     (
@@ -522,88 +321,19 @@ end done
         "bad line 1 version\n",
     ),
     (NINE_THREADS, Status::Done, NINE_THREADS_REPORT),
-    (TWO_THREADS, Status::Done, TWO_THREADS_REPORT),
     (EIGHT_THREADS, Status::Done, EIGHT_THREADS_REPORT),
-    // A weak pointer's value is read while the cycle marks, and so it is kept; the weak pointer dies.
-    (
-        "nmgc 1\nheap 32 64 128 100 1000 0\nthread 0\nnum r1 5\ncon r4 0 r1\ncon r5 0 r1\nweak r0 r4 r5 r6\nnil r4\nnil r5\ncon r3 0 r3 r1\ncon r3 0 r3 r1\ncon r3 0 r3 r1\ncon r3 0 r3 r1\ncon r3 0 r3 r1\ncon r3 0 r3 r1\ncon r3 0 r3 r1\ncon r3 0 r3 r1\ncon r3 0 r3 r1\ncon r3 0 r3 r1\ncon r3 0 r3 r1\ncon r3 0 r3 r1\ncon r3 0 r3 r1\ncon r3 0 r3 r1\ncollect\nderef r7 r0\nnil r7\nyield\nderef r7 r0\n",
-        Status::Done,
-        "report 1
-stop 0 idle free 32 filled 0 sweep 0 promoted 0
-round 1
-0 ok
-0 0.0
-0 0.1
-0 0.2
-0 ok
-0 ok
-0 0.3
-0 0.4
-0 0.5
-0 0.6
-0 0.7
-0 0.8
-0 0.9
-0 0.10
-0 0.11
-0 0.12
-0 0.13
-0 0.14
-0 0.15
-0 0.16
-0 ok
-stop 1 marking free 30 filled 0 sweep 1 promoted 17
-round 2
-0 0.1
-0 ok
-0 ok
-stop 2 sweeping free 30 filled 0 sweep 1 promoted 0
-round 3
-0 dead
-stop 3 idle free 30 filled 0 sweep 0 promoted 0
-cycle 1 from 1 closed 2 swept 1 had 16 freed 1 kept 16 dead 1
-dead 0.2
-freed 0.0
-end done
-",
-    ),
-    // The heap runs full while a cycle marks.
-    (
-        "nmgc 1\nheap 16 16 16 100 1 0\nthread 0\ncon r0 0 r0 r1\ncon r0 0 r0 r1\ncon r0 0 r0 r1\ncollect\ncon r0 0 r0 r1\ncon r0 0 r0 r1\ncon r0 0 r0 r1\ncon r0 0 r0 r1\ncon r0 0 r0 r1\nshow r0\n",
-        Status::HeapFull,
-        "report 1
-stop 0 idle free 16 filled 0 sweep 0 promoted 0
-round 1
-0 0.0
-0 0.1
-0 0.2
-0 ok
-stop 1 marking free 15 filled 0 sweep 0 promoted 3
-round 2
-0 0.3
-0 0.4
-0 0.5
-0 0.6
-stop 2 idle free 14 filled 1 sweep 0 promoted 4
-cycle 1 from 1 closed 2 swept 0 had 0 freed 0 kept 3 dead 0
-cycle 2 from 2 closed 2 swept 2 had 7 freed 0 kept 7 dead 0
-end heapfull free 14 reserve 15
-",
-    ),
 ];
 
-// Looks whether the script of each row, between a front and a back, is told by that status and that text.
+// Looks whether the script of each row, behind a front, is told by that status and that text.
 fn check_rows<R: Threads + Sync + Abort>(
     rt: &R,
     alloc: Global,
     front: &str,
     rows: &[(&str, Status, &str)],
-    back: &str,
 ) -> Result<(), Fail> {
-    for (middle, status, text) in rows {
+    for (rest, status, text) in rows {
         let mut script = Vec::from_slice(alloc, front.as_bytes())?;
-        script.extend_from_slice(middle.as_bytes())?;
-        script.extend_from_slice(back.as_bytes())?;
+        script.extend_from_slice(rest.as_bytes())?;
         let run = run_failing(rt, alloc, &script, 0, 0)?;
         let is_run = *status == Status::Done || *status == Status::HeapFull;
         assert!(rt; run.ended.status == *status);
@@ -615,15 +345,10 @@ fn check_rows<R: Threads + Sync + Abort>(
 
 #[test]
 fn programs_are_run_or_refused(rt: HostRuntime) -> Result<(), Fail> {
-    check_rows(&rt, rt.alloc(), HEAD, &PROGRAMS, "")
+    check_rows(&rt, rt.alloc(), HEAD, &PROGRAMS)
 }
 
 #[test]
 fn scripts_are_run_or_refused(rt: HostRuntime) -> Result<(), Fail> {
-    check_rows(&rt, rt.alloc(), "", &SCRIPTS, "")
-}
-
-#[test]
-fn a_heap_runs_full(rt: HostRuntime) -> Result<(), Fail> {
-    check_rows(&rt, rt.alloc(), "", &HEAPS, EIGHT_OBJECTS)
+    check_rows(&rt, rt.alloc(), "", &SCRIPTS)
 }

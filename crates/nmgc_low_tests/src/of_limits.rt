@@ -1,0 +1,9 @@
+//! Each law is called once, so that it is seen to ask nothing.
+use nmgc_limits::{constants_are_these, limits_are_these};
+
+#[test]
+fn laws_ask_nothing(rt: HostRuntime) {
+    let _ = &rt;
+    limits_are_these();
+    constants_are_these();
+}
