@@ -1,7 +1,7 @@
 -- What the joined pass knows, and what the workers' lists are together.
-use Rattle.std.proofs.Common.{◌≡◌, ◌≤◌, ◌+◌, ℕ, zero, suc, List, [], ◌∷◌, ◌++◌, length, map, refl, sym, ap, subst, ◌∙◌, arith, append_assoc, append-nil, length-append, Some, IsPermutation}
-use Rattle.std.specs.Prelude.{slice_get}
-use Rattle.std.proofs.lemmas.Option.{slice_get_within, get_or_from_slice_get}
+use Rattle.std.proofs.Common.{◌≡◌, ◌≤◌, ◌+◌, ℕ, zero, suc, List, [], ◌∷◌, ◌++◌, length, refl, sym, ap, subst, ◌∙◌, arith, append_assoc, append-nil, length-append, Some, IsPermutation}
+use Rattle.std.specs.Prelude.{slice_get, slice_index_or}
+use Rattle.std.proofs.lemmas.Option.{slice_get_within, slice_get-get_or, get_or_from_slice_get}
 use Rattle.crossbeam_queue.specs.SegTies.{SegId}
 use Rattle.std.proofs.Common.{Global}
 use Rattle.nmgc_fin.specs.declared.job.Job.{Job}
@@ -9,13 +9,7 @@ use Rattle.nmgc_fin.specs.declared.hand.Hand.{Hand}
 use Rattle.nmgc_fin.specs.declared.worker.Worker.{Worker}
 use Rattle.nmgc_fin.specs.Rule.{hand, both_hands}
 use Rattle.nmgc_fin.specs.Handles.{joined}
-use Rattle.nmgc_fin.specs.Worker.{IsWorker, AreWorkers}
-
-abbrev pub done_of : Worker → List Job
-done_of w = w.done.items
-
-abbrev pub lists_of : List Worker → List (List Job)
-lists_of ws = map done_of ws
+use Rattle.nmgc_fin.specs.Worker.{IsWorker, AreWorkers, lists_of}
 
 pub lists_more : (ws : List Worker) (w : Worker) → lists_of (ws ++ w ∷ []) ≡ lists_of ws ++ w.done.items ∷ []
 lists_more [] w = refl
@@ -39,26 +33,30 @@ client_more n jobs ws w v u x e f g =
     ∙ ap (λ (k : ℕ). hand k jobs (joined (lists_of ws) ++ w.done.items)) count
     ∙ ap (λ (l : List Job). hand (n + length (ws ++ w ∷ [])) jobs l) all
 
-module _ (all before : List Worker) (last : Worker) (is : all ≡ before ++ last ∷ []) where
-  at_front : (xs ys : List Worker) (y : Worker) (k : ℕ) → slice_get xs k ≡ Some y → slice_get (xs ++ ys) k ≡ Some y
-  at_front [] ys y k e = absurd (cc)
-  at_front (x ∷ xs) ys y zero e = e
-  at_front (x ∷ xs) ys y (suc k) e = at_front xs ys y k e
+at_front : (xs ys : List Worker) (y : Worker) (k : ℕ) → slice_get xs k ≡ Some y → slice_get (xs ++ ys) k ≡ Some y
+at_front [] ys y k e = absurd (cc)
+at_front (x ∷ xs) ys y zero e = e
+at_front (x ∷ xs) ys y (suc k) e = at_front xs ys y k e
 
-  at_middle : (xs ys : List Worker) (w : Worker) → slice_get (xs ++ w ∷ ys) (length xs) ≡ Some w
-  at_middle [] ys w = refl
-  at_middle (x ∷ xs) ys w = at_middle xs ys w
+at_middle : (xs ys : List Worker) (w : Worker) → slice_get (xs ++ w ∷ ys) (length xs) ≡ Some w
+at_middle [] ys w = refl
+at_middle (x ∷ xs) ys w = at_middle xs ys w
 
-  pub comes_at : (xs ys : List Worker) (w : Worker) → xs ++ w ∷ ys ≡ before → slice_get all (length xs) ≡ Some w
-  comes_at xs ys w e = ap (λ (l : List Worker). slice_get l (length xs)) is ∙
-      at_front before (last ∷ []) w (length xs) (ap (λ (l : List Worker). slice_get l (length xs)) (sym e) ∙ at_middle xs ys w)
+pub comes_at : (all xs ys : List Worker) (w : Worker) → xs ++ w ∷ ys ≡ all → slice_get all (length xs) ≡ Some w
+comes_at all xs ys w e = ap (λ (l : List Worker). slice_get l (length xs)) (sym e) ∙ at_middle xs ys w
 
-  pub last_at : slice_get all (length before) ≡ Some last
-  last_at = ap (λ (l : List Worker). slice_get l (length before)) is ∙ at_middle before [] last
+pub last_at : (all before : List Worker) (last : Worker) → all ≡ before ++ last ∷ [] → slice_get all (length before) ≡ Some last
+last_at all before last is = ap (λ (l : List Worker). slice_get l (length before)) is ∙ at_middle before [] last
 
 pub worker_at : (queue : SegId Global) (jobs : List Job) (crew : List Worker) → AreWorkers queue jobs crew → (k : ℕ) (w : Worker) →
     slice_get crew k ≡ Some w → IsWorker queue jobs w
 worker_at queue jobs crew are k w e = subst (λ (x : Worker). IsWorker queue jobs x) (get_or_from_slice_get crew k w w e) (are k w (slice_get_within crew k w e))
+
+-- so are those before the last
+pub front_are : (queue : SegId Global) (jobs : List Job) (all before : List Worker) (last : Worker) → all ≡ before ++ last ∷ [] →
+    AreWorkers queue jobs all → AreWorkers queue jobs before
+front_are queue jobs all before last is are k d lt = worker_at queue jobs all are k (slice_index_or before k d)
+    (ap (λ (l : List Worker). slice_get l k) is ∙ at_front before (last ∷ []) (slice_index_or before k d) k (slice_get-get_or before k d lt))
 
 pub none_left : (xs : List Worker) → length xs ≡ 0 → xs ≡ []
 none_left [] e = refl

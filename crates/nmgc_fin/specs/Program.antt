@@ -26,6 +26,7 @@ IsCount workers = (1 ≤ workers) × (workers ≤ MOST_WORKERS)
 abbrev pub Asks : List (List ℕ) → ℕ → Type 0
 Asks words workers = (words ≡ decimal workers ∷ []) × IsCount workers
 
+-- the words ask for no number of workers
 abbrev pub IsWrong : List (List ℕ) → Type 0
 IsWrong words = (workers : ℕ) → Asks words workers → ⊥
 
@@ -46,6 +47,7 @@ IsFixed WriteFault = ⊥
 IsFixed BadReport = ⊥
 IsFixed _ = Unit {0}
 
+-- that text
 abbrev pub fixed_text : FinStatus → List ℕ
 fixed_text Usage = codes "usage: nmgc_fin W\n"
 fixed_text ReadFault = codes "read fault\n"
@@ -53,9 +55,11 @@ fixed_text TooLong = codes "too long\n"
 fixed_text NoMemory = codes "no memory\n"
 fixed_text _ = []
 
+-- the line that tells the first bad line
 abbrev pub bad_text : ℕ → List ℕ
 bad_text line = codes "bad line " ++ decimal line ++ 10 ∷ []
 
+-- the bytes of a text
 abbrev pub text_bytes : Text → List ℕ
 text_bytes (Fixed bytes) = bytes.now
 text_bytes (Made bytes) = bytes.items

@@ -15,7 +15,8 @@ use nmgc_lists::NoMemory;
 use nmgc_world_spec::Name;
 use std::alloc::Global;
 
-/// So many names, and the name of each handled job stands at the job's number.
+/// So many names, and the name of each handled job stands at the job's number. Asks that the numbers are below that count,
+/// and that jobs of one number are of one weak pointer. Takes memory for the names.
 pub fn in_order(alloc: Global, count: usize, handled: &Handled) -> Result<Vec<Name>, NoMemory>
     requires within { AreWithin count (joined handled.now.by) }
     requires alike { AreAlike (joined handled.now.by) }

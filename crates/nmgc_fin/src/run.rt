@@ -7,9 +7,9 @@ ghost use Rattle.std.specs.Prelude.{◌≡◌, ◌+◌, ◌-◌, ◌<◌, ◌≤
 ghost use Rattle.std.specs.Thread.{IsSync};
 ghost use Rattle.crossbeam_queue.specs.SegTies.{IsSegPassOf};
 ghost use Rattle.nmgc_fin.specs.declared.run.TheConstants.{MOST_WORKERS};
-ghost use Rattle.nmgc_fin.specs.Handles.{AreNumbered, Handles};
+ghost use Rattle.nmgc_fin.specs.Handles.{AreNumbered, Handles, joined};
 ghost use Rattle.nmgc_fin.specs.Rule.{hand, most_parts};
-ghost use Rattle.nmgc_fin.specs.Worker.{IsWorker, AreWorkers};
+ghost use Rattle.nmgc_fin.specs.Worker.{IsWorker, AreWorkers, lists_of};
 
 use crate::hand::Hand;
 use crate::job::Job;
@@ -22,7 +22,7 @@ use std::sync::Wait;
 use std::thread;
 use std::thread::Threads;
 
-/// There may be so many workers.
+/// The most workers.
 pub const MOST_WORKERS: u8 = 32;
 
 /// For each worker, the jobs that it handled, in the order in which it did.
@@ -181,23 +181,13 @@ fn gathered<R: Wait, G: Gate>(
     ensures handled { IfOk result (λ handled. Handles jobs.now handled.by) }
     ensures lists { IfOk result (λ handled. length handled.by ≡ vec_len crew) }
 {
-    let _ = jobs;
     let mut crew = crew;
     let mut pass = pass;
-    let mut by = List::new(alloc);
     let Some(last) = crew.pop() else {
         unreachable!();
     };
     let number = crew.len() as u8;
-    for worker in crew {
-        let Worker {
-            pass: theirs,
-            done,
-            turns: _,
-        } = worker;
-        queue.absorb::<Both>(&mut pass, theirs);
-        by.push(List::from_vec(done)?)?;
-    }
+    let mut by = join_all(alloc, queue, &mut pass, jobs, crew)?;
     let Worker {
         pass: theirs,
         done,
@@ -213,4 +203,34 @@ fn gathered<R: Wait, G: Gate>(
     } = last;
     by.push(List::from_vec(done)?)?;
     Ok(Handled { by })
+}
+
+// The pass takes in those of the workers, and their lists are gathered.
+fn join_all(
+    alloc: Global,
+    queue: &JobQueue,
+    pass: &mut JobPass,
+    jobs: &[Job],
+    crew: Vec<Worker>,
+) -> Result<List<List<Job>>, NoMemory>
+    requires pass { IsSegPassOf queue.now pass.old }
+    requires part { 0 < pass.old.me.view.client.parts }
+    requires pushed { pass.old.me.view.client ≡ hand pass.old.me.view.client.parts jobs.now [] }
+    requires crew { AreWorkers queue.now jobs.now crew.items }
+    ensures pass { OnOk result (IsSegPassOf queue.now pass.new) }
+    ensures joined { OnOk result (pass.new.me.view.client ≡ hand (pass.old.me.view.client.parts + length crew.items) jobs.now (joined (lists_of crew.items))) }
+    ensures lists { IfOk result (λ by. by ≡ lists_of crew.items) }
+{
+    let _ = jobs;
+    let mut by = List::new(alloc);
+    for worker in crew {
+        let Worker {
+            pass: theirs,
+            done,
+            turns: _,
+        } = worker;
+        queue.absorb::<Both>(pass, theirs);
+        by.push(List::from_vec(done)?)?;
+    }
+    Ok(by)
 }

@@ -20,10 +20,10 @@ use std::alloc::Global;
 use std::sync::Wait;
 use std::thread::Threads;
 
-/// A report may have so many bytes.
+/// The most bytes of a report.
 pub const MAX_REPORT_BYTES: usize = 268_435_456;
 
-/// How the program ended. Each has its own text, and a number with which the process ends.
+/// How the program ended, with the number with which the process ends. Two share number 5: the text tells them apart.
 #[derive(Clone, Copy, Debug, PartialEq, Eq)]
 pub enum FinStatus {
     /// Each job was handled; the text was written. Number 0.
@@ -84,8 +84,8 @@ struct Told {
 }
 
 /// Reads a report from the source to its end, handles one job for each of its dead weak pointers, by as many workers as the
-/// words say, and writes which were handled, in order of number. Where something is in the way, the text of the first refusal is written in its
-/// place. May wait for its workers.
+/// words say, and writes which were handled, in order of number. Where something is in the way, the text of the first
+/// refusal is written in its place. May wait for its workers.
 pub fn nmgc_fin<R: Threads + Wait + Sync, S: Source, K: Sink>(
     alloc: Global,
     rt: &R,
