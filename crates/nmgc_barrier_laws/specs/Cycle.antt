@@ -1,7 +1,7 @@
 -- A barrier, watched without a marker: the snapshot, the world, what was remembered since, and what is due and
 -- wasn't remembered, with the line since which it is. A name that was made since is in no snapshot: it is never due,
 -- and a push of it counts for nothing.
-use Rattle.std.specs.Prelude.{◌≡◌, ◌≢◌, ◌↔◌, ◌⊎◌, ℕ, List, [], ◌∷◌, ◌++◌, IsSome, Contains}
+use Rattle.std.specs.Prelude.{◌≡◌, ◌≢◌, ◌↔◌, ◌⊎◌, ℕ, List, [], ◌++◌, IsSome, Contains}
 use Rattle.nmgc_world_spec.specs.declared.value.Name.{Name}
 use Rattle.nmgc_world_spec.specs.declared.value.Value.TheVariants as value
 use Rattle.nmgc_world_spec.specs.declared.node.Parts.{Parts}
@@ -10,7 +10,7 @@ use Rattle.nmgc_world_spec.specs.declared.command.Reply.{Reply}
 use Rattle.nmgc_world_spec.specs.World.{World, node_of}
 use Rattle.nmgc_world_spec.specs.Step.{CanApply, step, shared_name}
 use Rattle.nmgc_world_spec.specs.History.{opened_by, finalised_by}
-use Rattle.nmgc_world_spec.specs.Reach.{IsAlive, IsLive, IsDead, IsKept, Lists, closed}
+use Rattle.nmgc_world_spec.specs.Reach.{IsAlive, IsDead, IsKept, Lists, closed}
 use Rattle.nmgc_barrier_laws.specs.declared.debt.Debt.{Debt}
 use Rattle.nmgc_barrier_laws.specs.Due.{IsDue}
 

@@ -1,6 +1,6 @@
 -- What a command has to remember at least: it is about the snapshot, the world and the command alone, and so
 -- doesn't depend on what the collector has read by then.
-use Rattle.std.specs.Prelude.{◌≡◌, ◌≢◌, ◌⊎◌, ℕ, IsSome, Contains}
+use Rattle.std.specs.Prelude.{◌≢◌, ◌⊎◌, ℕ, IsSome, Contains}
 use Rattle.nmgc_world_spec.specs.declared.value.Name.{Name}
 use Rattle.nmgc_world_spec.specs.declared.value.Value.TheVariants as value
 use Rattle.nmgc_world_spec.specs.declared.node.Parts.{Parts}

@@ -14,7 +14,7 @@ use Rattle.nmgc_world_spec.specs.Owed.{owed_by}
 use Rattle.nmgc_snapshot_laws.specs.Scan.{read_at, moved_on}
 use Rattle.nmgc_snapshot_laws.specs.Closing.{IsClosing}
 
--- nobody has a name
+-- each mutator's list is empty
 abbrev pub AreEmpty : List (List Name) → Type 0
 AreEmpty lists = All (λ names. names ≡ []) lists
 

@@ -58,7 +58,7 @@ pub record IsSnapshotMarking (w : World) (events : List Event) (rows : List Row)
   pub before : s.is_closed ≡ false → IsMarking w rows s
   pub after : s.is_closed ≡ true → IsExact w events rows s
 
--- the snapshot theorem, for every run from a closed world, by whomever its events were done
+-- the snapshot theorem, for every run from a world (`IsWorld`), whoever did its events
 abbrev pub SnapshotTheorem : Type 0
 SnapshotTheorem = (w : World) → IsWorld w → (events : List Event) (rows : List Row) (s : State) → Runs (opening w) events rows s →
     IsSnapshotMarking w events rows s
@@ -67,11 +67,11 @@ SnapshotTheorem = (w : World) → IsWorld w → (events : List Event) (rows : Li
 abbrev pub FactsAreKept : Type 0
 FactsAreKept = (w : World) → IsWorld w → (events : List Event) (rows : List Row) (s : State) → Runs (opening w) events rows s → s.is_closed ≡ false → Facts s
 
--- the facts hold at the opening of every closed world
+-- the facts hold at the opening of every world (`IsWorld`)
 abbrev pub OpeningHasFacts : Type 0
 OpeningHasFacts = (w : World) → IsWorld w → Facts (opening w)
 
--- every event that happens and doesn't close keeps them, and keeps the world closed
+-- every event that happens and doesn't close keeps them, and leaves a world (`IsWorld`)
 abbrev pub EventKeepsFacts : Type 0
 EventKeepsFacts = (s next : State) (e : Event) → Facts s → IsWorld s.world → Passes s e true next → next.is_closed ≡ false → Facts next × IsWorld next.world
 

@@ -11,7 +11,8 @@ use Rattle.nmgc_world_spec.specs.Step.{shared_name}
 use Rattle.nmgc_world_spec.specs.Reach.{strong_fields}
 use Rattle.nmgc_snapshot_laws.specs.declared.event.Entry.{Entry}
 
--- the world as it is, the snapshot, what is marked in the order of marking, what waits to be scanned, and for each mutator what it owes and what it pushed
+-- the world as it is, the snapshot, what is marked in the order of marking, what waits to be scanned, for each mutator what it owes and what it
+-- pushed, what was opened and what was finalised since the snapshot, and whether marking has ended
 pub record State : Type 0 where
   pub world : World
   pub snapshot : World

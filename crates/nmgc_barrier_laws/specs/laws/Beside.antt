@@ -1,11 +1,11 @@
 -- Each step of a watched cycle and of the marker beside it keeps the two tied, so an end is exact.
-use Rattle.std.proofs.Common.{◌≡◌, ◌<◌, ◌≤◌, ℕ, length, sym, ap, subst, arith}
+use Rattle.std.proofs.Common.{◌≡◌, ◌<◌, ◌≤◌, length, sym, ap, subst, arith}
 use Rattle.nmgc_world_spec.specs.World.{World, IsWorld}
 use Rattle.nmgc_world_spec.specs.Reach.{closed}
 use Rattle.nmgc_snapshot_laws.specs.State.{State, opening}
 use Rattle.nmgc_barrier_laws.specs.Cycle.{Cycle}
 use Rattle.nmgc_barrier_laws.specs.Lax.{after_owing}
-use Rattle.nmgc_barrier_laws.specs.Barrier.{Watches, Beside, BarrierTheorem, IsOnItsWay, EndsExactly, JointTheorem, SomeMarkerIsBeside, names_in, after_pushing}
+use Rattle.nmgc_barrier_laws.specs.Barrier.{Beside, BarrierTheorem, IsOnItsWay, JointTheorem, SomeMarkerIsBeside, names_in, after_pushing}
 use Rattle.nmgc_barrier_laws.specs.Barrier as barrier
 use Rattle.nmgc_barrier_laws.specs.laws.Tied.{IsTied, tied_command}
 use Rattle.nmgc_barrier_laws.specs.laws.TiedPush.{tied_push, tied_mark, tied_scan, tied_order, tied_opening, tied_end, tied_dies, tied_took, tied_possible, nothing_owed}

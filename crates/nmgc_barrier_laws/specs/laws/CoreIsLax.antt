@@ -1,6 +1,6 @@
 -- Each event of the core machine but the end is lax: what it owes is one choice among what is allowed, a push
 -- only hands over, and a take marks and then hands over.
-use Rattle.std.proofs.Common.{◌≡◌, ◌≢◌, ◌<◌, ℕ, List, [], ◌∷◌, ◌++◌, length, set, refl, sym, subst, arith, length-set, Bool, true, false, not, cond, inl, inr}
+use Rattle.std.proofs.Common.{◌≡◌, ◌≢◌, ◌<◌, ℕ, List, [], ◌∷◌, ◌++◌, length, refl, sym, subst, arith, length-set, Bool, true, false, not, cond, inl, inr}
 use Rattle.std.specs.Prelude.{IsSome, All, Contains, is_some, ◌&&◌}
 use Rattle.std.proofs.lemmas.List.Elements.{All-head, All-tail, All-cons, All-nil, All-append, Contains-append_left, Contains-append_right}
 use Rattle.std.proofs.lemmas.Bool.{cond_both, cases_eq}
@@ -20,7 +20,7 @@ use Rattle.nmgc_world_spec.specs.Owed.{owed_by}
 use Rattle.nmgc_barrier_laws.specs.Lax.{IsGiven, IsShuffled, IsLax, LaxSteps}
 use Rattle.nmgc_barrier_laws.specs.Lax as lax
 use Rattle.nmgc_barrier_laws.specs.laws.Given.{owes_may, due_owed}
-use Rattle.nmgc_snapshot_laws.specs.laws.Handing.{push_cases}
+use Rattle.nmgc_snapshot_laws.specs.laws.Handing.{push_cases, dropped}
 
 -- a command that owes all that `owed_by` says
 pub core_gives : (s : State) → Facts s → IsWorld s.world → (m : ℕ) (c : Command) → CanApply s.world m c → IsGiven s m c (after_command s m c)
@@ -90,10 +90,6 @@ module _ (s : State) (f : Facts s) (m : ℕ) (name : Name) (rest : List Name) (f
         f.base.pushed;
     safe = λ target there k. push_safe target there k;
   }
-
--- a name that is marked, or not of the snapshot, leaves the pushed names
-abbrev dropped : State → ℕ → List Name → State
-dropped s m rest = record s { pushed = set s.pushed m rest }
 
 module _ (s : State) (f : Facts s) (m : ℕ) (name : Name) (rest : List Name) (first : names_of s.pushed m ≡ name ∷
     rest) (done : IsSome (node_of s.snapshot name) → Contains s.marked name) where

@@ -1,15 +1,14 @@
 -- Pushing a name that nobody need hold keeps the facts: it counts as opened, and it is safe.
-use Rattle.std.proofs.Common.{◌≡◌, ◌<◌, ℕ, List, [], ◌∷◌, ◌++◌, length, get_or, set, refl, sym, subst, ◌∙◌, length-set, Option, Some, None, inl, inr, ◌⊎◌}
+use Rattle.std.proofs.Common.{◌≡◌, ◌<◌, ℕ, List, [], ◌∷◌, ◌++◌, length, get_or, set, refl, sym, subst, ◌∙◌, length-set, Option, Some, None, inl, inr}
 use Rattle.std.specs.Prelude.{IsSome, IfSome, All, Contains}
 use Rattle.std.proofs.lemmas.List.Elements.{All-append, All-cons, All-nil, Contains-append_left, Contains-append_right, Contains-append_cases}
 use Rattle.std.proofs.lemmas.Bool.{cases_eq}
 use Rattle.nmgc_world_spec.specs.declared.value.Name.{Name}
 use Rattle.nmgc_world_spec.specs.declared.value.Value.{Value}
 use Rattle.nmgc_world_spec.specs.declared.value.Value.TheVariants as value
-use Rattle.nmgc_world_spec.specs.declared.node.Parts.{Parts}
 use Rattle.nmgc_world_spec.specs.declared.node.Node.{Node}
-use Rattle.nmgc_world_spec.specs.World.{World, state_of, node_of}
-use Rattle.nmgc_world_spec.specs.Reach.{IsAlive, RefersTo, further, field}
+use Rattle.nmgc_world_spec.specs.World.{state_of, node_of}
+use Rattle.nmgc_world_spec.specs.Reach.{further, field}
 use Rattle.nmgc_snapshot_laws.specs.State.{State, names_of}
 use Rattle.nmgc_snapshot_laws.specs.laws.Lives.{live_more}
 use Rattle.nmgc_snapshot_laws.specs.laws.Listed.{each_names, names_same, names_other, all_from_contains}

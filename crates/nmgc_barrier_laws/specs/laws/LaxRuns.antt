@@ -1,23 +1,19 @@
--- What a lax run does to the history. (The lemmas of Runs in nmgc_snapshot_laws, which are not public there.)
-use Rattle.std.proofs.Common.{◌≡◌, ℕ, List, [], ◌∷◌, ◌++◌, refl, sym, subst, ◌∙◌, append-nil, Option, Some, None, inl, inr}
+-- What a lax run does to the history.
+use Rattle.std.proofs.Common.{◌≡◌, ℕ, List, [], ◌∷◌, ◌++◌, refl, sym, subst, ◌∙◌, append-nil, inl, inr}
 use Rattle.std.specs.Prelude.{Contains, All, ◌↔◌, ◌⊎◌}
 use Rattle.nmgc_world_spec.specs.declared.value.Name.{Name}
-use Rattle.nmgc_world_spec.specs.declared.value.Value.{Value}
-use Rattle.nmgc_world_spec.specs.declared.value.Value.TheVariants as value
 use Rattle.nmgc_world_spec.specs.declared.command.Command.{Command}
 use Rattle.nmgc_world_spec.specs.declared.command.Reply.{Reply}
-use Rattle.nmgc_world_spec.specs.World.{World, node_of, IsWorld}
+use Rattle.nmgc_world_spec.specs.World.{World, IsWorld}
 use Rattle.nmgc_world_spec.specs.Step.{step}
 use Rattle.nmgc_world_spec.specs.History.{Row, replayed, IsLegal, opened, finalised, opened_by}
 use Rattle.nmgc_world_laws.specs.laws.WorldSteps.{step_keeps_world}
-use Rattle.nmgc_snapshot_laws.specs.declared.event.Entry.{Entry}
-use Rattle.nmgc_snapshot_laws.specs.State.{State, opening, unmarked, mark_name, mark_read, mark_values, root_values}
-use Rattle.nmgc_snapshot_laws.specs.Machine.{after_scan, advanced}
-use Rattle.nmgc_snapshot_laws.specs.Scan.{read_at}
-use Rattle.nmgc_snapshot_laws.specs.laws.Marking.{mark_cases, mark_facts}
+use Rattle.nmgc_snapshot_laws.specs.State.{State, opening, unmarked, mark_name, root_values}
+use Rattle.nmgc_snapshot_laws.specs.Machine.{after_scan}
+use Rattle.nmgc_snapshot_laws.specs.laws.Marking.{mark_facts}
 use Rattle.nmgc_snapshot_laws.specs.laws.Scans.{scan_facts}
 use Rattle.nmgc_snapshot_laws.specs.laws.Openings.{opening_facts}
-use Rattle.nmgc_snapshot_laws.specs.laws.Runs.{closing_is_exact, opened-push, replayed-push, legal_push, finalised-push, live_from}
+use Rattle.nmgc_snapshot_laws.specs.laws.Runs.{SameHistory, mark_history, scan_history, values_history, closing_is_exact, opened-push, replayed-push, legal_push, finalised-push, live_from}
 use Rattle.nmgc_snapshot_laws.specs.Facts.{MayHold, IsSafe, Facts}
 use Rattle.nmgc_barrier_laws.specs.Lax.{after_owing, IsGiven, IsFloated, LaxKeepsFacts, LaxRow, LaxRuns, LaxTheorem}
 use Rattle.nmgc_barrier_laws.specs.Lax as lax
@@ -26,51 +22,6 @@ use Rattle.nmgc_barrier_laws.specs.laws.Laxer.{shuffled_facts}
 use Rattle.nmgc_barrier_laws.specs.laws.Floating.{floated_facts}
 use Rattle.std.proofs.lemmas.List.Elements.{Contains-append_left, Contains-append_right, Contains-append_cases}
 use Rattle.nmgc_lists.specs.laws.Items.{nothing_in}
-
--- an event that is no command leaves the history
-record SameHistory (s t : State) : Type 0 where
-  world : t.world ≡ s.world
-  snapshot : t.snapshot ≡ s.snapshot
-  opened : t.opened ≡ s.opened
-  finalised : t.finalised ≡ s.finalised
-  is_closed : t.is_closed ≡ s.is_closed
-
-same_history : (s : State) → SameHistory s s
-same_history s = record { world = refl; snapshot = refl; opened = refl; finalised = refl; is_closed = refl }
-
-mark_history : (s : State) (name : Name) → SameHistory s (mark_name s name)
-mark_history s name = mark_cases (SameHistory s) s name (λ e. record {
-  world = refl;
-  snapshot = refl;
-  opened = refl;
-  finalised = refl;
-  is_closed = refl;
-}) (λ e. same_history s)
-
-read_history : (s : State) (o : Option Value) → SameHistory s (mark_read s o)
-read_history s None = same_history s
-read_history s (Some value.Nil) = same_history s
-read_history s (Some (value.Number n)) = same_history s
-read_history s (Some (value.Ref name)) = mark_history s name
-
-advanced_history : (s : State) (queue : List Entry) → SameHistory s (advanced s queue)
-advanced_history s [] = same_history s
-advanced_history s (entry ∷ rest) = record { world = refl; snapshot = refl; opened = refl; finalised = refl; is_closed = refl }
-
-then_history : (s t u : State) → SameHistory s t → SameHistory t u → SameHistory s u
-then_history s t u a b = record {
-  world = b.world ∙ a.world;
-  snapshot = b.snapshot ∙ a.snapshot;
-  opened = b.opened ∙ a.opened;
-  finalised = b.finalised ∙ a.finalised;
-  is_closed = b.is_closed ∙ a.is_closed;
-}
-
-scan_history : (s : State) (queue : List Entry) → SameHistory s (after_scan s queue)
-scan_history s [] = same_history s
-scan_history s (entry ∷ rest) =
-    let t : State = mark_read s (read_at (node_of s.world entry.name) entry.position) in
-    then_history s t (advanced t t.queue) (read_history s (read_at (node_of s.world entry.name) entry.position)) (advanced_history t t.queue)
 
 -- what counts as opened: what commands opened and what was floated
 abbrev Opens : World → List Row → List Name → List Name → Type 0
@@ -96,13 +47,6 @@ same_under_way w rows extra s t u h f = record {
   opened_is = subst (Opens w rows extra) (sym h.opened) u.opened_is;
   finalised_is = h.finalised ∙ u.finalised_is;
 }
-
-values_history : (s : State) (values : List Value) → SameHistory s (mark_values s values)
-values_history s [] = same_history s
-values_history s (value.Nil ∷ values) = values_history s values
-values_history s (value.Number n ∷ values) = values_history s values
-values_history s (value.Ref name ∷ values) =
-    then_history s (mark_name s name) (mark_values (mark_name s name) values) (mark_history s name) (values_history (mark_name s name) values)
 
 -- a command keeps the facts
 given_keeps : (s next : State) (f : Facts s) (w : IsWorld s.world) (m : ℕ) (c : Command) → IsGiven s m c next → Facts next

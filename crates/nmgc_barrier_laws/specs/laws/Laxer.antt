@@ -1,13 +1,11 @@
 -- Lax steps keep the facts.
-use Rattle.std.proofs.Common.{◌≡◌, ℕ, refl, sym, subst, inl, inr, ◌⊎◌}
-use Rattle.std.specs.Prelude.{IsSome, Contains}
+use Rattle.std.proofs.Common.{ℕ, refl, subst, inl, inr}
+use Rattle.std.specs.Prelude.{IsSome}
 use Rattle.nmgc_world_spec.specs.declared.value.Name.{Name}
-use Rattle.nmgc_world_spec.specs.declared.value.Value.TheVariants as value
-use Rattle.nmgc_world_spec.specs.World.{node_of, IsWorld}
-use Rattle.nmgc_snapshot_laws.specs.declared.event.Entry.{Entry}
+use Rattle.nmgc_world_spec.specs.World.{node_of}
 use Rattle.nmgc_snapshot_laws.specs.State.{State}
 use Rattle.nmgc_snapshot_laws.specs.laws.Lives.{target_there, part_there, refers}
-use Rattle.nmgc_snapshot_laws.specs.Facts.{MayHold, IsSafe, IsAhead, Kept, Base, Facts, owed, pushed, queued, marked, unmarked}
+use Rattle.nmgc_snapshot_laws.specs.Facts.{IsSafe, IsAhead, Kept, Base, Facts, owed, pushed, queued, unmarked}
 use Rattle.nmgc_barrier_laws.specs.Lax.{IsShuffled}
 
 -- what waits, in another order: the same state but for the three lists

@@ -1,9 +1,8 @@
 -- A watch and a state that a marker is in: what is remembered is on its way to be marked, and what the state owes
 -- is what the watch calls due. Each event keeps that, so a watch that ends without debts has an exact end.
-use Rattle.std.proofs.Common.{◌≡◌, ◌<◌, ◌≤◌, ℕ, List, [], ◌∷◌, ◌++◌, zero, suc, length, replicate, get_or, set, refl, sym, ap, subst, ◌∙◌, arith, length-set, inl, inr, ◌⊎◌, false}
+use Rattle.std.proofs.Common.{◌≡◌, ◌<◌, ℕ, List, [], ◌∷◌, ◌++◌, zero, suc, length, get_or, set, refl, sym, ap, subst, ◌∙◌, arith, inl, inr, ◌⊎◌, false}
 use Rattle.std.specs.Prelude.{IsSome, Contains, All, ◌↔◌}
-use Rattle.std.proofs.lemmas.List.{length-replicate}
-use Rattle.std.proofs.lemmas.List.Elements.{All-nil, All-cons, Contains-append_left, Contains-append_right, Contains-append_cases, Contains-get_or}
+use Rattle.std.proofs.lemmas.List.Elements.{Contains-append_left, Contains-append_right, Contains-append_cases, Contains-get_or}
 use Rattle.std.proofs.lemmas.Bool.{cases_eq}
 use Rattle.nmgc_world_spec.specs.declared.value.Name.{Name}
 use Rattle.nmgc_world_spec.specs.declared.command.Command.{Command}
@@ -12,7 +11,6 @@ use Rattle.nmgc_world_spec.specs.World.{World, node_of, IsWorld}
 use Rattle.nmgc_world_spec.specs.Step.{step}
 use Rattle.nmgc_world_spec.specs.History.{opened_by, finalised_by}
 use Rattle.nmgc_lists.specs.laws.Items.{contains_cases, contains_head, contains_tail, nothing_in}
-use Rattle.nmgc_world_spec.specs.laws.Orders.{name_cases}
 use Rattle.nmgc_world_spec.specs.Owed.{owed_by}
 use Rattle.nmgc_world_laws.specs.laws.WorldSteps.{step_keeps_world}
 use Rattle.nmgc_snapshot_laws.specs.State.{State, names_of}
@@ -22,12 +20,10 @@ use Rattle.nmgc_snapshot_laws.specs.laws.Listed.{names_same, names_other}
 use Rattle.nmgc_snapshot_laws.specs.laws.Lives.{live_more}
 use Rattle.nmgc_barrier_laws.specs.Due.{IsDue}
 use Rattle.nmgc_barrier_laws.specs.Barrier.{names_in, IsOnItsWay}
-use Rattle.nmgc_barrier_laws.specs.Lax.{after_owing, IsShuffled}
+use Rattle.nmgc_barrier_laws.specs.Lax.{after_owing}
 use Rattle.nmgc_barrier_laws.specs.declared.debt.Debt.{Debt}
-use Rattle.nmgc_barrier_laws.specs.Cycle.{Cycle, Owes, IsWatched, IsPushed}
+use Rattle.nmgc_barrier_laws.specs.Cycle.{Cycle, Owes, IsWatched}
 use Rattle.nmgc_barrier_laws.specs.laws.Given.{given_facts, owes_may, due_owed}
-use Rattle.nmgc_barrier_laws.specs.laws.Floating.{floated, floated_facts}
-use Rattle.nmgc_barrier_laws.specs.laws.Laxer.{shuffled_facts}
 
 pub listed_debt : (debts : List Debt) (debt : Debt) → Contains debts debt → Contains (names_in debts) debt.name
 listed_debt [] debt c = absurd (nothing_in debt c)

@@ -115,7 +115,7 @@ push_facts s f m [] first = f
 push_facts s f m (name ∷ rest) first = push_first s f m name rest first
 
 -- a name that is marked, or not of the snapshot, leaves the pushed names
-abbrev dropped : State → ℕ → List Name → State
+abbrev pub dropped : State → ℕ → List Name → State
 dropped s m rest = record s { pushed = set s.pushed m rest }
 
 module _ (s : State) (f : Facts s) (m : ℕ) (name : Name) (rest : List Name) (first : names_of s.pushed m ≡ name ∷

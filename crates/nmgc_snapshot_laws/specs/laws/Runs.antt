@@ -62,17 +62,17 @@ runs_push s t u (e' ∷ es) rows e done (d, next, rest, first, is, more) p = (
 )
 
 -- an event that is no command leaves the history
-record SameHistory (s t : State) : Type 0 where
-  world : t.world ≡ s.world
-  snapshot : t.snapshot ≡ s.snapshot
-  opened : t.opened ≡ s.opened
-  finalised : t.finalised ≡ s.finalised
-  is_closed : t.is_closed ≡ s.is_closed
+pub record SameHistory (s t : State) : Type 0 where
+  pub world : t.world ≡ s.world
+  pub snapshot : t.snapshot ≡ s.snapshot
+  pub opened : t.opened ≡ s.opened
+  pub finalised : t.finalised ≡ s.finalised
+  pub is_closed : t.is_closed ≡ s.is_closed
 
 same_history : (s : State) → SameHistory s s
 same_history s = record { world = refl; snapshot = refl; opened = refl; finalised = refl; is_closed = refl }
 
-mark_history : (s : State) (name : Name) → SameHistory s (mark_name s name)
+pub mark_history : (s : State) (name : Name) → SameHistory s (mark_name s name)
 mark_history s name = mark_cases (SameHistory s) s name (λ e. record {
   world = refl;
   snapshot = refl;
@@ -100,7 +100,7 @@ then_history s t u a b = record {
   is_closed = b.is_closed ∙ a.is_closed;
 }
 
-scan_history : (s : State) (queue : List Entry) → SameHistory s (after_scan s queue)
+pub scan_history : (s : State) (queue : List Entry) → SameHistory s (after_scan s queue)
 scan_history s [] = same_history s
 scan_history s (entry ∷ rest) =
     let t : State = mark_read s (read_at (node_of s.world entry.name) entry.position) in
@@ -221,7 +221,7 @@ exact_later w es rows s e x = record {
 still_open : (s t : State) → SameHistory s t → s.is_closed ≡ false → t.is_closed ≡ true → ⊥
 still_open s t h e k = let a : t.is_closed ≡ s.is_closed = h.is_closed in let b : false ≡ true = cc in absurd cc
 
-values_history : (s : State) (values : List Value) → SameHistory s (mark_values s values)
+pub values_history : (s : State) (values : List Value) → SameHistory s (mark_values s values)
 values_history s [] = same_history s
 values_history s (value.Nil ∷ values) = values_history s values
 values_history s (value.Number n ∷ values) = values_history s values
