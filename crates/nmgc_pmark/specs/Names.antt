@@ -18,9 +18,11 @@ HasName words a name = (slice_index words (a.0 + NAME_OFFSET) ≡ name_word name
 abbrev pub IsNamed : List ℕ → List Address → Type 0
 IsNamed words places = (a : Address) → Contains places a → (a.0 + NAME_OFFSET < length words) × ((name : Name) × HasName words a name)
 
+-- so has each place of all lists
 abbrev pub AreNamed : List ℕ → List (Room Address) → Type 0
 AreNamed words lists = (k : ℕ) (xs : Room Address) → slice_get lists k ≡ Some xs → IsNamed words xs.items
 
+-- what names are put in order by
 abbrev pub key_of : Name → ℕ × ℕ
 key_of name = (name.maker, name.serial)
 
@@ -40,6 +42,7 @@ pub record NameThem (words : List ℕ) (places : List Address) (names : List Nam
   pub moved : IsPermutation found names
   pub sorted : AreSorted names
 
+-- so it is with each list
 abbrev pub NameAll : List ℕ → List (Room Address) → List (List Name) → Type 0
 NameAll words lists by = AllZip (λ (xs : Room Address) (names : List Name). NameThem words xs.items names) lists by
 

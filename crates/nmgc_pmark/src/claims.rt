@@ -7,10 +7,9 @@
 //! Easy to get wrong: how many objects a marker claims depends on the schedule, and which. That all together claim
 //! exactly what the roots reach, each object once, doesn't.
 ghost use Rattle.std.specs.Prelude.{ℕ, ◌≡◌, ◌≤◌, length, take, IfOk};
-ghost use Rattle.nmgc_object.specs.Places.{IsLayout};
 ghost use Rattle.nmgc_object.specs.declared.layout.TheConstants.{FIRST_PLACE};
 ghost use Rattle.nmgc_pmark.specs.declared.crew.TheConstants.{MOST_MARKERS};
-ghost use Rattle.nmgc_pmark.specs.Claims.{Stopped, IsStopped, AreClaims, starts_of, most_blocks};
+ghost use Rattle.nmgc_pmark.specs.Claims.{Stopped, IsStopped, AreClaims, starts_of};
 ghost use Rattle.nmgc_pmark.specs.Names.{AreNamed, IsNamed, NameAll, NameThem, AreAllRead};
 
 use crate::bounds::Bounds;
@@ -20,10 +19,9 @@ use crate::still::StillWords;
 use nmgc_alloc::Segments;
 use nmgc_limits::SHARED_SLOTS;
 use nmgc_lists::{List, NoMemory, Room};
+use nmgc_mark::marker::most_blocks;
 use nmgc_object::laws::words_differ;
-use nmgc_object::{
-    Address, HEADER_WORDS, Layout, MIN_BLOCK_WORDS, NAME_OFFSET, SHARED_PLACE, name_of,
-};
+use nmgc_object::{Address, HEADER_WORDS, NAME_OFFSET, SHARED_PLACE, name_of};
 use nmgc_round::Gate;
 use nmgc_world_spec::Name;
 use std::alloc::Global;
@@ -64,14 +62,6 @@ pub fn mark_all<R: Threads + Sync, W: StillWords, G: Gate>(
     };
     let lists = places_marked(alloc, rt, words, starts.as_slice(), bounds, gate)?;
     named_all(alloc, rt, words, lists)
-}
-
-// No more blocks than these can be in use.
-fn most_blocks(layout: Layout) -> u32
-    requires { IsLayout layout }
-    ensures { result ≡ most_blocks layout }
-{
-    layout.segments * layout.words / MIN_BLOCK_WORDS
 }
 
 // The roots, and the slots of g after them.

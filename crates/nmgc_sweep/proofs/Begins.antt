@@ -23,7 +23,7 @@ use Rattle.nmgc_alloc.specs.laws.Sound.{used_exists}
 use Rattle.nmgc_blocks_spec.specs.Cycle.{IsSweptIn, IsHadIn, IsFreedIn, Cycle}
 use Rattle.nmgc_world_spec.specs.Listing.{ListsNumbers}
 use Rattle.nmgc_sweep.specs.Sweeping.{IsWithoutDoubles}
-use Rattle.nmgc_sweep.specs.Statements.{StartIsAsNoted, StaysAsNoted, StartIsNoted, LeftStays, ClosingBeginsWork, EndTellsCensus, LeftIsCounted}
+use Rattle.nmgc_sweep.specs.Statements.{StartIsNoted, LeftStays, ClosingBeginsWork, EndTellsCensus, LeftIsCounted}
 use Rattle.nmgc_names.specs.laws.Order.{lists_in_order}
 use Rattle.nmgc_sweep.proofs.Lists.{ascends_first, ascends_rest, once_distinct}
 
@@ -86,15 +86,6 @@ start_is_noted c words segments epoch sweeper stands none once e h =
       };
       once = once;
     }
-
-pub start_is_as_noted : StartIsAsNoted
-start_is_as_noted c none n is = ((swept_waits c none n).1 is, ap (λ (k : Cells). k.names) (begun_cells c.heap n))
-
-pub stays_as_noted : StaysAsNoted
-stays_as_noted c words after a b old new before now k h n is =
-    let was : IsIn Sweeping (cells a n) = (waits_there old words a before n).0 ((k.waits n).0 ((waits_there new after b now n).1 is)) in
-    let noted = h n was in
-    (noted.0, k.names n was ∙ noted.1)
 
 pub left_stays : LeftStays
 left_stays old new sweeper same layout h = record {

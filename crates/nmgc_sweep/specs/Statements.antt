@@ -71,15 +71,6 @@ pub record KeepsWaiting (old new : Segments) (a b : AllocState) : Type 0 where
   pub count : length new.segments ≡ length old.segments
   pub layout : new.layout ≡ old.layout
 
--- as a cycle begins, a waiting segment is one that the cycle had, and as it was then
-abbrev pub StartIsAsNoted : Type 0
-StartIsAsNoted = (c : Cycle) → NoneIs (IsIn stands.Sweeping) c.heap → AreAsNoted c (cycle_begun c.heap)
-
--- and it stays so while neither what waits nor its names change
-abbrev pub StaysAsNoted : Type 0
-StaysAsNoted = (c : Cycle) (words after : List ℕ) (a b : AllocState) (old new : Segments) → StandsFor old words a → StandsFor new after b →
-    KeepsWaiting old new a b → AreAsNoted c a → AreAsNoted c b
-
 -- then a sweeper at work is at work still, and its segments are left
 abbrev pub WorkGoesOn : Type 0
 WorkGoesOn = (c : Cycle) (closed : ℕ) (words after : List ℕ) (a b : AllocState) (old new : Segments) (cycle : CycleSeen) (sweeper : Sweeper) →

@@ -1,7 +1,7 @@
 //! What a sweeper has of its cycle, from the cycle's beginning to its end.
 //!
 //! Each function here does nothing; its contract is the law, over what the calls of `Sweeper` ensure.
-ghost use Rattle.nmgc_sweep.specs.Statements.{StartIsAsNoted, StaysAsNoted, StartIsNoted, LeftStays, ClosingBeginsWork, EndTellsCensus, LeftIsCounted, WorkGoesOn, PlacingKeepsWaiting};
+ghost use Rattle.nmgc_sweep.specs.Statements.{StartIsNoted, LeftStays, ClosingBeginsWork, EndTellsCensus, LeftIsCounted, WorkGoesOn, PlacingKeepsWaiting};
 
 /// As a cycle begins, with no segment waiting and no name in two blocks before, what `Sweeper::start` noted is
 /// what the cycle has to judge.
@@ -14,12 +14,6 @@ pub fn start_is_noted()
 pub fn segments_are_left()
     ensures stays { LeftStays }
     ensures counted { LeftIsCounted }
-{}
-
-/// From a cycle's beginning on, a waiting segment is one that the cycle had, and as it was then.
-pub fn segments_are_as_noted()
-    ensures start { StartIsAsNoted }
-    ensures stays { StaysAsNoted }
 {}
 
 /// At a cycle's closing, where nothing was swept yet and marked are the blocks of kept names, the sweeper is at

@@ -62,7 +62,7 @@ pub struct Census {
 pub struct Sweeper {
     /// How often the collector passed the gate as `MAKERS` in the whole run. Stands still at 2^64 - 1.
     pub turns: u64,
-    /// How often its second sweeping half passed it, as `MAKERS + 1`. Stands still at 2^64 - 1.
+    /// How often the upper halves of its sweeps passed it, as `MAKERS + 1`. Stands still at 2^64 - 1.
     pub upper_turns: u64,
     epoch: u8,
     swept: Vec<u32>,
