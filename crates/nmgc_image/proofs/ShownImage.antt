@@ -1,11 +1,11 @@
 -- What shows a world within the limits is an image.
-use Rattle.std.proofs.Common.{ℕ, ◌≡◌, ◌≢◌, ◌<◌, ◌≤◌, ◌+◌, ◌^◌, ◌⊎◌, List, [], ◌∷◌, ◌++◌, length, map, get_or, arith, refl, sym, ap, subst, ◌∙◌, Option, Some, None, inl, inr, eqb, false}
-use Rattle.std.specs.Prelude.{Contains, All, IsSome, IfSome, slice_get, flat_map}
+use Rattle.std.proofs.Common.{ℕ, ◌≡◌, ◌≢◌, ◌<◌, ◌≤◌, ◌+◌, ◌⊎◌, List, [], ◌∷◌, ◌++◌, length, map, get_or, arith, refl, sym, ap, subst, ◌∙◌, Some, None, inl, inr, eqb, false}
+use Rattle.std.specs.Prelude.{Contains, All, IsSome, slice_get, flat_map}
 use Rattle.std.proofs.Math.ListN.{get_or-eq_default}
 use Rattle.std.proofs.lemmas.Bool.{cases_eq, cases_lt, ne_eqb}
-use Rattle.std.proofs.lemmas.Option.{slice_get_within, slice_get-get_or, get_or_from_slice_get, none-some, same_Some}
-use Rattle.std.proofs.lemmas.List.Elements.{All-contains, All-get_or, Contains-append_left, Contains-append_right, Contains-append_cases, Contains-get_or}
-use Rattle.nmgc_limits.specs.declared.mutators.TheConstants.{REGISTERS, MAKERS, SHARED_MAKER}
+use Rattle.std.proofs.lemmas.Option.{slice_get_within, slice_get-get_or, none-some, same_Some}
+use Rattle.std.proofs.lemmas.List.Elements.{All-contains, Contains-append_left, Contains-append_right, Contains-append_cases, Contains-get_or}
+use Rattle.nmgc_limits.specs.declared.mutators.TheConstants.{SHARED_MAKER}
 use Rattle.nmgc_world_spec.specs.declared.value.Name.{Name}
 use Rattle.nmgc_world_spec.specs.declared.value.Value.{Value}
 use Rattle.nmgc_world_spec.specs.declared.value.Value.TheVariants as value
@@ -14,25 +14,22 @@ use Rattle.nmgc_world_spec.specs.declared.node.Node.{Node}
 use Rattle.nmgc_world_spec.specs.declared.node.Node.TheVariants.{Con, Var, Arr, Thunk, Weak, Stack}
 use Rattle.nmgc_world_spec.specs.declared.mutator_state.MutatorState.{MutatorState}
 use Rattle.nmgc_world_spec.specs.Step.{shared_name}
-use Rattle.nmgc_world_spec.specs.World.{World, IsWorld, IsShared, IsSized, IsNodeOf, IsKnown, AreKnown, node_of, state_of, serial_of, no_mutator, held_by}
-use Rattle.nmgc_world_spec.specs.Reach.{IsReached, start, field, IsRoot, IsAlive, RefersTo, strong_fields}
-use Rattle.nmgc_lists.specs.laws.Items.{contains_cases, contains_head, at_some, is_some_of, contains_at, place_of, nothing_in, flat_contains, item_map}
+use Rattle.nmgc_world_spec.specs.World.{World, IsWorld, IsShared, IsSized, IsNodeOf, IsKnown, AreKnown, node_of, state_of, no_mutator, held_by}
+use Rattle.nmgc_world_spec.specs.Reach.{start, field, IsAlive, strong_fields}
+use Rattle.nmgc_lists.specs.laws.Items.{contains_cases, at_some, is_some_of, contains_at, place_of, nothing_in, flat_contains, item_map}
 use Rattle.nmgc_world_spec.specs.laws.Orders.{name_cases}
 use Rattle.nmgc_world_laws.specs.Limits.{IsSmall, IsWithin, IsNodeWithin}
-use Rattle.nmgc_world_spec.specs.Wide.{IsWide, IsWideRoot, IsOfWeak}
-use Rattle.nmgc_world_laws.specs.laws.Reached.{wide_known}
+use Rattle.nmgc_world_spec.specs.Wide.{IsWide, IsOfWeak}
 use Rattle.nmgc_object.specs.Words.{IsName}
-use Rattle.nmgc_object.specs.declared.words.TheConstants.{MAX_FIELDS, TAGS}
-use Rattle.nmgc_object.specs.declared.size.TheConstants.{HEADER_WORDS}
 use Rattle.nmgc_heap_spec.specs.laws.Kinds.{map_item}
 use Rattle.nmgc_journal.specs.Text.{IsValue}
 use Rattle.nmgc_image.specs.declared.image.Held.{Held}
 use Rattle.nmgc_image.specs.declared.image.ImageMutator.{ImageMutator}
 use Rattle.nmgc_image.specs.declared.image.Entry.{Entry}
 use Rattle.nmgc_image.specs.declared.image.Image.{Image}
-use Rattle.nmgc_image.specs.Image.{AreInOrder, IsHeld, IsMutator, IsNode, IsMade, IsOwned, IsEntry, IsOrderly, IsImage, names_of, values_of, values_in, HasNode}
+use Rattle.nmgc_image.specs.Image.{IsHeld, IsMutator, IsNode, IsMade, IsOwned, IsEntry, IsImage, names_of, values_of, values_in}
 use Rattle.nmgc_image.specs.Left.{most_object_words, ShownIsImage}
-use Rattle.nmgc_image.specs.Shows.{Shows, ShowsMutator, ListsHeld, shown}
+use Rattle.nmgc_image.specs.Shows.{Shows, ShowsMutator, shown}
 
 -- what every item of a list has that is told of each item
 pub all_items : {A : Type 0} (P : A → Type 0) (xs : List A) → ((x : A) → Contains xs x → P x) → All P xs

@@ -1,9 +1,9 @@
 -- What the words of a report say, where they stand for a world: its wide reach is what a search over places reaches.
-use Rattle.std.proofs.Common.{ℕ, ◌≡◌, ◌≢◌, ◌⊎◌, ◌↔◌, ◌+◌, ◌*◌, ◌<◌, ◌≤◌, zero, suc, List, [], ◌∷◌, ◌++◌, length, map, take, drop, get_or, slice_index, arith, refl, sym, ap, subst, ◌∙◌, Some, None, inl, inr, length-append}
-use Rattle.std.specs.Prelude.{Contains, All, IsSome, slice_get, flat_map}
+use Rattle.std.proofs.Common.{ℕ, ◌≡◌, ◌≢◌, ◌⊎◌, ◌↔◌, ◌+◌, ◌*◌, ◌<◌, ◌≤◌, zero, suc, List, [], ◌∷◌, ◌++◌, length, map, slice_index, arith, refl, sym, ap, subst, ◌∙◌, Some, inl, inr}
+use Rattle.std.specs.Prelude.{Contains, All, slice_get, flat_map}
 use Rattle.std.proofs.Math.ListN.{get_or-eq_default}
 use Rattle.std.proofs.lemmas.Bool.{cases_lt}
-use Rattle.std.proofs.lemmas.Option.{slice_get_within, get_or_from_slice_get, slice_get-get_or}
+use Rattle.std.proofs.lemmas.Option.{slice_get_within}
 use Rattle.std.proofs.lemmas.List.{length-map, get_or_append_left, get_or-append-add}
 use Rattle.std.proofs.lemmas.List.Elements.{All-contains, All-tail, Contains-append_left, Contains-append_right, Contains-append_cases}
 use Rattle.nmgc_limits.specs.declared.mutators.TheConstants.{REGISTERS, SHARED_MAKER}
@@ -15,30 +15,27 @@ use Rattle.nmgc_world_spec.specs.declared.node.Node.{Node}
 use Rattle.nmgc_world_spec.specs.declared.node.Node.TheVariants.{Weak}
 use Rattle.nmgc_world_spec.specs.declared.mutator_state.MutatorState.{MutatorState}
 use Rattle.nmgc_world_spec.specs.Step.{shared_name}
-use Rattle.nmgc_world_spec.specs.World.{World, IsWorld, IsNodeOf, IsSized, IsShared, node_of, state_of, no_mutator, held_by}
-use Rattle.nmgc_world_spec.specs.Reach.{IsReached, start, field, IsRoot, IsAlive, IsAliveWeak, RefersTo}
+use Rattle.nmgc_world_spec.specs.World.{World, IsNodeOf, IsSized, IsShared, node_of, state_of, no_mutator, held_by}
+use Rattle.nmgc_world_spec.specs.Reach.{start, field, IsRoot, IsAlive, IsAliveWeak}
 use Rattle.nmgc_lists.specs.laws.Items.{at_some, is_some_of, is_some_get, contains_at, place_of, nothing_in, item_map}
 use Rattle.nmgc_world_spec.specs.Wide.{IsWide, IsWideRoot, IsOfWeak}
 use Rattle.nmgc_world_laws.specs.laws.Reached.{wide_known}
-use Rattle.nmgc_object.specs.Places.{InSegment, nursery_place}
+use Rattle.nmgc_object.specs.Places.{InSegment}
 use Rattle.nmgc_object.specs.Size.{block_size}
-use Rattle.nmgc_object.specs.Words.{header_word, IsHeader, IsName, name_word}
+use Rattle.nmgc_object.specs.Words.{header_word, IsHeader, IsName}
 use Rattle.nmgc_object.specs.declared.words.Header.{Header}
 use Rattle.nmgc_object.specs.declared.layout.TheConstants.{SHARED_PLACE}
 use Rattle.nmgc_object.specs.declared.size.TheConstants.{HEADER_WORDS}
-use Rattle.nmgc_segment.specs.Segment.{InUse}
 use Rattle.nmgc_alloc.specs.Numbered.{nth}
-use Rattle.nmgc_alloc.specs.Segments.{IsBlockAt}
-use Rattle.nmgc_heap_spec.specs.Shape.{header_of, size_of, slots_of}
-use Rattle.nmgc_heap_spec.specs.Places.{Place, Means, AllMean, ListMeans, HasSlots, LiesWell}
-use Rattle.nmgc_heap_spec.specs.Represents.{IsPlaced, NoNode}
+use Rattle.nmgc_heap_spec.specs.Shape.{header_of, size_of}
+use Rattle.nmgc_heap_spec.specs.Places.{Place, Means, ListMeans}
+use Rattle.nmgc_heap_spec.specs.Represents.{NoNode}
 use Rattle.nmgc_heap_spec.specs.laws.Changes.{lies_within}
 use Rattle.nmgc_heap_spec.specs.laws.Headers.{same_header}
 use Rattle.nmgc_heap_spec.specs.laws.Kinds.{HasFields, fields_of_slots, map_item}
 use Rattle.nmgc_heap_spec.specs.laws.Meanings.{above_zero, placed_at}
 use Rattle.nmgc_heap_spec.specs.laws.Roots.{wide_tracked}
 use Rattle.nmgc_heap_spec.specs.laws.Tracking.{reached_in}
-use Rattle.nmgc_blocks_spec.specs.Occupied.{IsOccupied}
 use Rattle.nmgc_journal.specs.declared.report.MutatorEnd.{MutatorEnd}
 use Rattle.nmgc_journal.specs.declared.report.Report.{Report}
 use Rattle.nmgc_image.specs.declared.image.Entry.{Entry}
@@ -46,8 +43,8 @@ use Rattle.nmgc_image.specs.declared.image.Image.{Image}
 use Rattle.nmgc_image.specs.declared.image.ImageMutator.{ImageMutator}
 use Rattle.nmgc_image.specs.Image.{names_of}
 use Rattle.nmgc_image.specs.Left.{IsLeftAs, LiesWideAt}
-use Rattle.nmgc_image.specs.Objects.{IsNamedAt, IsObjectAt, IsReadable, name_in, pointers, told_at, node_read}
-use Rattle.nmgc_image.specs.Reaching.{Reaches, ReachesObjects, IsOwnRoot, IsMutatorRoot, IsWeakBlock, IsWeakRoot, IsRootPlace, IsReadyFor}
+use Rattle.nmgc_image.specs.Objects.{IsNamedAt, IsObjectAt, name_in, pointers, told_at, node_read}
+use Rattle.nmgc_image.specs.Reaching.{Reaches, IsMutatorRoot, IsWeakRoot, IsRootPlace, IsReadyFor}
 use Rattle.nmgc_image.specs.Shown.{IsReadableObject, CanShowOwn, ShowsOwn, IsShownAt, ListsObjects}
 use Rattle.nmgc_image.specs.Shows.{shown, Shows, ShowsMutator, ListsHeld}
 use Rattle.nmgc_image.proofs.ShownImage.{all_items, wide_field, strong_shown, name_place}

@@ -1,15 +1,14 @@
 -- The roots of a search, one after another.
-use Rattle.std.proofs.Common.{ℕ, ◌≡◌, ◌⊎◌, ◌<◌, ◌≤◌, ◌+◌, ◌^◌, List, [], ◌∷◌, ◌++◌, length, take, get_or, arith, refl, sym, subst, inl, inr, Result, Ok, Err}
+use Rattle.std.proofs.Common.{ℕ, ◌≡◌, ◌<◌, ◌≤◌, ◌+◌, ◌^◌, List, [], ◌∷◌, ◌++◌, length, take, get_or, arith, refl, sym, subst, inl, inr, Result, Ok, Err}
 use Rattle.std.specs.Prelude.{Contains, OnOk}
-use Rattle.std.proofs.lemmas.Bool.{cases_eq, cases_lt}
+use Rattle.std.proofs.lemmas.Bool.{cases_eq}
 use Rattle.std.proofs.lemmas.List.{take_more, take_all}
 use Rattle.std.proofs.lemmas.List.Elements.{Contains-append_left, Contains-push, Contains-push_cases, Contains-get_or}
 use Rattle.nmgc_lists.specs.laws.Items.{nothing_in}
-use Rattle.nmgc_object.specs.declared.layout.TheConstants.{SHARED_PLACE}
 use Rattle.nmgc_journal.specs.declared.report.MutatorEnd.{MutatorEnd}
 use Rattle.nmgc_journal.specs.declared.report.Report.{Report}
 use Rattle.nmgc_image.specs.declared.search.Search.{Search}
-use Rattle.nmgc_image.specs.Reaching.{Reaches, IsSearch, Visits, IsOwnRoot, IsMutatorRoot, IsWeakBlock, IsWeakIn, IsWeakRoot, IsRootPlace, IsReadyFor}
+use Rattle.nmgc_image.specs.Reaching.{Reaches, IsSearch, Visits, IsOwnRoot, IsMutatorRoot, IsRootPlace, IsReadyFor}
 use Rattle.nmgc_image.proofs.Searching.{visits_none, visits_then, visits_same}
 
 -- what has P below a number

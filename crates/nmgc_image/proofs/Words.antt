@@ -1,6 +1,6 @@
 -- The words of an object, as they are read: which of them stand for values, and for which.
-use Rattle.std.proofs.Common.{ℕ, ◌≡◌, ◌≢◌, ◌+◌, ◌-◌, ◌*◌, ◌/◌, ◌%◌, ◌<◌, ◌≤◌, zero, suc, List, [], ◌∷◌, ◌++◌, length, map, take, drop, get_or, slice_index, arith, refl, sym, ap, subst, ◌∙◌, Bool, true, false, cond, Some, None, inl, inr, eqb, ltb, add-one}
-use Rattle.std.specs.Prelude.{◌&&◌, Contains, All, slice_get}
+use Rattle.std.proofs.Common.{ℕ, ◌≡◌, ◌+◌, ◌-◌, ◌*◌, ◌/◌, ◌%◌, ◌<◌, ◌≤◌, zero, suc, List, [], ◌∷◌, length, map, take, drop, slice_index, arith, refl, sym, ap, subst, ◌∙◌, Bool, true, false, cond, Some, None, inl, inr, eqb, ltb, add-one}
+use Rattle.std.specs.Prelude.{◌&&◌, Contains, All}
 use Rattle.std.proofs.lemmas.Bool.{ne_eqb, eq-eqb, lt-ltb, cases_Bool}
 use Rattle.std.proofs.lemmas.List.{drop_more}
 use Rattle.std.proofs.lemmas.List.Elements.{All-nil, All-cons}
@@ -18,7 +18,7 @@ use Rattle.nmgc_object.specs.declared.size.TheConstants.{HEADER_WORDS}
 use Rattle.nmgc_heap_spec.specs.Shape.{header_of}
 use Rattle.nmgc_heap_spec.specs.Places.{Place, Means, AllMean, ListMeans}
 use Rattle.nmgc_heap_spec.specs.laws.Kinds.{HasFields, AreUnset}
-use Rattle.nmgc_image.specs.Objects.{IsNamedAt, IsReadable, name_in, value_in, is_pointer, pointers, leading, told, told_thunk, told_weak, fields_at, told_at, begins_unset, made_of, thunk_of, weak_of, node_read}
+use Rattle.nmgc_image.specs.Objects.{IsNamedAt, IsReadable, name_in, value_in, is_pointer, pointers, leading, told_thunk, told_weak, fields_at, told_at, begins_unset, made_of, thunk_of, node_read}
 use Rattle.nmgc_image.specs.Shows.{shown}
 
 -- a name is read from its word

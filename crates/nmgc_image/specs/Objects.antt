@@ -55,11 +55,12 @@ abbrev pub leading : List ℕ → List ℕ
 leading [] = []
 leading (word ∷ words) = if word == 0 then [] else word ∷ leading words
 
--- of a thunk's fields the result, or where it is unset the free variables; of a weak pointer's all, or where the value is unset none
+-- of a thunk's fields the result, or where it is unset the free variables
 abbrev pub told_thunk : List ℕ → List ℕ
 told_thunk [] = []
 told_thunk (result ∷ free) = if result == 0 then free else result ∷ []
 
+-- of a weak pointer's fields all, or where the value is unset none
 abbrev pub told_weak : List ℕ → List ℕ
 told_weak (key ∷ v ∷ finaliser ∷ []) = if v == 0 then [] else key ∷ v ∷ finaliser ∷ []
 told_weak fields = []
@@ -86,15 +87,18 @@ abbrev pub begins_unset : List ℕ → Bool
 begins_unset [] = false
 begins_unset (word ∷ words) = word == 0
 
+-- the variable with these values
 abbrev pub var_of : List Value → Node
 var_of (v ∷ values) = Var v
 var_of [] = Var value.Nil
 
+-- the thunk, by whether its result is unset
 abbrev pub thunk_of : Bool → List Value → Node
 thunk_of true values = Thunk values None
 thunk_of false (result ∷ values) = Thunk [] (Some result)
 thunk_of false [] = Thunk [] None
 
+-- the weak pointer: alive with three values, and else dead
 abbrev pub weak_of : List Value → Node
 weak_of (key ∷ v ∷ finaliser ∷ []) = Weak (Some (record { key = key; value = v; finaliser = finaliser }))
 weak_of values = Weak None

@@ -1,6 +1,5 @@
 -- What is reached in the words of a heap, and how far a search has come. These are the words of the private contracts.
-use Rattle.std.specs.Prelude.{◌≡◌, ◌⊎◌, ◌↔◌, ℕ, ◌+◌, ◌^◌, ◌<◌, List, [], ◌++◌, length, Some, Bool, true, not, count_by, slice_get, slice_index, Contains, All}
-use Rattle.nmgc_world_spec.specs.declared.value.Name.{Name}
+use Rattle.std.specs.Prelude.{◌≡◌, ◌⊎◌, ℕ, ◌+◌, ◌^◌, ◌<◌, List, ◌++◌, length, Some, true, not, count_by, slice_get, Contains, All}
 use Rattle.nmgc_object.specs.declared.layout.TheConstants.{SHARED_PLACE}
 use Rattle.nmgc_object.specs.Words.{IsName}
 use Rattle.nmgc_segment.specs.Segment.{InUse}

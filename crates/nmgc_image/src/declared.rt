@@ -18,8 +18,8 @@ use nmgc_lists::NoMemory;
 use nmgc_world_spec::Name;
 use std::alloc::Global;
 
-/// Names, as numbers in order. Where a maker's serials follow one another, the place of a number is that number and the
-/// shift of the maker, as it wraps: so it is looked for there first. Nothing rests on the shifts but time.
+/// Names, as numbers in order. Where a maker's serials follow one another, the place of a number is the number plus the
+/// maker's shift, modulo 2^64: so it is looked for there first. Nothing rests on the shifts but time.
 #[derive(Drop)]
 pub(crate) struct Declared {
     keys: Vec<u64>,
@@ -67,7 +67,7 @@ pub(crate) fn key(name: Name) -> u64
     u64::from(name.maker) * (1 << 32) + u64::from(name.serial)
 }
 
-// The numbers that belong to the makers' first numbers.
+// For each maker its shift: the place of its first number less that number, modulo 2^64.
 fn shifts_of(alloc: Global, keys: &[u64]) -> Result<Vec<u64>, NoMemory> {
     let mut shifts = Vec::new(alloc);
     for maker in 0..MAKERS {

@@ -7,8 +7,9 @@
 //!
 //! - `image`: the image. `specs/Image.antt` says what an image is, `specs/Spelling.antt` how it is spelled, and
 //!   `specs/Faults.antt` which line of another text is told.
-//! - `read`: reading. `text`, `nodes`: lines, words and node lines. `declared`: which names have node lines.
-//!   `reader`: what was read so far, and the next line.
+//! - `read`: reading. `front`: the lines up to the first that can't be taken. `text`, `nodes`, `plain`: lines, words and
+//!   node lines, those of constructors at a glance. `declared`: which names have node lines; `known`: which count as
+//!   declared meanwhile. `reader`: what was read so far, and the next line. `fault`: why an image can't be read.
 //! - `laws`: what holds of images.
 //! - `write`: the text of an image, and of that which shows the heap of a report.
 //!   `shown`: the image of a heap. `places`, `search`: which objects it has. `objects`: objects read from words.

@@ -16,7 +16,7 @@ none_first (x ∷ xs) h = absurd cc
 pub of_item : {A : Type 0} (P : A → Type 0) (xs : List A) (k : ℕ) (x : A) → All P xs → slice_get xs k ≡ Some x → P x
 of_item P xs k x all e = subst P (get_or_from_slice_get xs k x x e) (all k x (slice_get_within xs k x e))
 
--- a queue that isn't empty has something that waits
+-- a list that isn't empty has an item
 pub some_wait : (queue : List ℕ) → queue ≢ [] → 1 ≤ length queue
 some_wait [] some = absurd (some refl)
 some_wait (at ∷ queue) some = omega arith
@@ -144,7 +144,7 @@ pub back_of : {A : Type 0} (P : A → Type 0) (xs ys : List A) → AllByRecursio
 back_of P [] ys h = h
 back_of P (x ∷ xs) ys h = back_of P xs ys h.1
 
--- ONE LINE
+-- lists that begin alike, and a write of what stands there
 
 pub same_first : (line other : List ℕ) (lines others : List (List ℕ)) → line ∷ lines ≡ other ∷ others → line ≡ other
 same_first line other lines others e = cc

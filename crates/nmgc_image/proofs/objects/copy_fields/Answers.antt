@@ -1,4 +1,4 @@
-use Rattle.std.proofs.Common.{◌≡◌, ◌≤◌, ◌+◌, ◌∙◌, ap, arith, take, drop}
+use Rattle.std.proofs.Common.{◌≤◌, ◌+◌, ◌∙◌, ap, arith, take, drop}
 use Rattle.nmgc_world_spec.specs.declared.node.Kind.{Kind}
 use Rattle.nmgc_world_spec.specs.declared.node.Kind.TheVariants as kind
 use Rattle.nmgc_object.specs.Words.{HasFields}

@@ -1,8 +1,8 @@
-use Rattle.std.proofs.Common.{ℕ, ◌≡◌, ◌⊎◌, List, [], subst, inl, inr}
+use Rattle.std.proofs.Common.{ℕ, ◌≡◌, List, [], subst, inl, inr}
 use Rattle.std.specs.Prelude.{Contains}
 use Rattle.nmgc_lists.specs.laws.Items.{nothing_in}
 use Rattle.nmgc_image.specs.declared.search.Search.{Search}
-use Rattle.nmgc_image.specs.Reaching.{Reaches, Visits, IsRootPlace}
+use Rattle.nmgc_image.specs.Reaching.{Visits, IsRootPlace}
 use Rattle.nmgc_image.proofs.Visiting.{reaches_in}
 use Rattle.nmgc_image.proofs.places.places_of.Goals as goal
 

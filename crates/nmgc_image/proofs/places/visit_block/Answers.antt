@@ -1,7 +1,5 @@
-use Rattle.std.proofs.Common.{◌≡◌, ◌∙◌, ◌<◌, ℕ, true, false, ap, sym, subst, arith, length}
+use Rattle.std.proofs.Common.{◌≡◌, ◌∙◌, true, false, ap, sym, arith}
 use Rattle.std.specs.Prelude.{Contains}
-use Rattle.nmgc_world_spec.specs.declared.value.Name.{Name}
-use Rattle.nmgc_object.specs.Words.{IsName}
 use Rattle.nmgc_image.specs.Objects.{IsNamedAt, name_in}
 use Rattle.nmgc_image.specs.Reading.{has_key}
 use Rattle.nmgc_image.proofs.Listing.{read_valid}

@@ -1,5 +1,5 @@
-use Rattle.std.proofs.Common.{◌≡◌, ◌<◌, arith, inl, inr}
-use Rattle.nmgc_image.specs.Reaching.{Visits, ArePointers, IsOwnRoot}
+use Rattle.std.proofs.Common.{arith, inl, inr}
+use Rattle.nmgc_image.specs.Reaching.{ArePointers, IsOwnRoot}
 use Rattle.nmgc_image.proofs.Searching.{visits_then}
 use Rattle.nmgc_image.proofs.Visiting.{on_ok}
 use Rattle.nmgc_image.proofs.places.visit_own.Goals as goal

@@ -1,7 +1,6 @@
-use Rattle.std.proofs.Common.{ℕ, ◌≡◌, ◌≢◌, ◌∙◌, ◌<◌, ◌+◌, sym, ap, subst, arith, true, false}
+use Rattle.std.proofs.Common.{ℕ, ◌≡◌, ◌≢◌, ◌∙◌, ◌+◌, sym, ap, subst, arith, true, false}
 use Rattle.std.specs.Prelude.{Contains}
 use Rattle.nmgc_segment.specs.Segment.{Segment, InUse, block_count}
-use Rattle.nmgc_segment.specs.declared.state.State.{State}
 use Rattle.nmgc_segment.specs.declared.state.State.TheVariants as state
 use Rattle.nmgc_alloc.specs.Numbered.{nth}
 use Rattle.nmgc_alloc.specs.Segments.{IsBlockAt}

@@ -1,4 +1,4 @@
-use Rattle.std.proofs.Common.{ℕ, ◌≡◌, ◌<◌, List, [], sym, ap, subst, arith, true}
+use Rattle.std.proofs.Common.{ℕ, ◌≡◌, List, [], sym, ap, subst, arith, true}
 use Rattle.std.specs.Prelude.{Contains}
 use Rattle.nmgc_world_spec.specs.declared.value.Name.{Name}
 use Rattle.nmgc_object.specs.declared.layout.Layout.{Layout}

@@ -1,9 +1,8 @@
 use Rattle.std.proofs.Common.{◌≡◌, ◌≢◌, ◌∙◌, ◌+◌, List, sym, subst, take, get_or, true, false}
-use Rattle.nmgc_world_spec.specs.declared.value.Value.{Value}
 use Rattle.nmgc_world_spec.specs.declared.value.Value.TheVariants as value
 use Rattle.nmgc_image.specs.declared.image.Held.{Held}
 use Rattle.nmgc_image.specs.Shows.{ListsHeld}
-use Rattle.nmgc_image.proofs.Holding.{held_start, held_nil, held_more}
+use Rattle.nmgc_image.proofs.Holding.{held_nil, held_more}
 use Rattle.nmgc_image.proofs.shown.held_of.Goals as goal
 use Rattle.nmgc_image.proofs.shown.held_of.Goals.{then-not-is_nil+in_ok-push, else-not-is_nil}
 

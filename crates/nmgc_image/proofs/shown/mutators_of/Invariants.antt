@@ -1,4 +1,4 @@
-use Rattle.std.proofs.Common.{ℕ, ◌≡◌, length, take, Some}
+use Rattle.std.proofs.Common.{ℕ, ◌≡◌, length, Some}
 use Rattle.std.specs.Prelude.{slice_get}
 use Rattle.nmgc_journal.specs.declared.report.MutatorEnd.{MutatorEnd}
 use Rattle.nmgc_image.specs.declared.image.ImageMutator.{ImageMutator}

@@ -1,8 +1,7 @@
 use Rattle.std.proofs.Common.{◌≡◌, ◌∙◌, ℕ, List, ap, sym, subst, length}
 use Rattle.std.specs.Prelude.{OnOk}
 use Rattle.nmgc_object.specs.declared.words.Header.{Header}
-use Rattle.nmgc_image.specs.declared.search.Search.{Search}
-use Rattle.nmgc_image.specs.Objects.{IsObjectAt, told, told_at, fields_at}
+use Rattle.nmgc_image.specs.Objects.{told, told_at, fields_at}
 use Rattle.nmgc_image.specs.Reaching.{PointWithin, Visits, ArePointers}
 use Rattle.nmgc_image.proofs.search.Search.expand.Goals as goal
 

@@ -1,9 +1,7 @@
-use Rattle.std.proofs.Common.{ℕ, ◌≡◌, ◌<◌, ◌≤◌, sym, ◌∙◌, subst, arith, get_or, length}
+use Rattle.std.proofs.Common.{ℕ, ◌<◌, sym, subst, arith, length}
 use Rattle.std.specs.Prelude.{Contains}
 use Rattle.std.proofs.lemmas.List.Elements.{Contains-get_or}
-use Rattle.nmgc_image.specs.Objects.{IsObjectAt, told_at}
-use Rattle.nmgc_image.specs.Reaching.{PointWithin, Visits, ArePointers}
-use Rattle.nmgc_image.proofs.Searching.{IsGoing, going_starts, going_object, going_within, going_ends, going_on, going_done}
+use Rattle.nmgc_image.proofs.Searching.{going_starts, going_object, going_within, going_ends, going_on, going_done}
 use Rattle.nmgc_image.proofs.search.Search.run.Goals as goal
 
 pub loop-next-init : goal.loop-next-init
