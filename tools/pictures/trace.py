@@ -233,7 +233,7 @@ class Watch:
             raise Refused("told", f"can't happen: {missing} has to be marked", missing)
         wrong = next((name for name in names if name not in self.kept), None)
         if wrong:
-            raise Refused("marked", f"can't happen: nothing keeps {wrong}", wrong)
+            raise Refused("marked", f"can't happen: {wrong} isn't kept, or was made since the cycle began", wrong)
 
     def _freed(self, number, rest, more):
         names = _names(rest)

@@ -37,12 +37,13 @@ abbrev pub WhyNoBegin : Begun → ℕ → Refusal → Type 0
 WhyNoBegin begun.Nothing count r = (r ≡ refusal.Misplaced) × (1 ≤ count → count ≤ MAKERS → ⊥)
 WhyNoBegin (begun.Watching p) count r = r ≡ refusal.Misplaced
 
--- why an event can't: there are no mutators, or the watch has a reason
+-- the refusal has a reason of the watch
 abbrev pub IsReason : Watch → Event → Refusal → Type 0
 IsReason p e refusal.Unknown = ⊥
 IsReason p e refusal.Misplaced = ⊥
 IsReason p e (refusal.Event y) = IsWhy p e y
 
+-- why an event can't: there are no mutators, or the watch has a reason
 abbrev pub WhyNoEvent : Begun → Event → Refusal → Type 0
 WhyNoEvent begun.Nothing e r = r ≡ refusal.Misplaced
 WhyNoEvent (begun.Watching p) e r = IsReason p e r

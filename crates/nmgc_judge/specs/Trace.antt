@@ -93,10 +93,12 @@ Comes p (l ∷ ls) last = (next : Progress) × Can p l next × Comes next ls las
 
 -- WHETHER, as a test tells it: true with what was done, and false where nothing could be
 
+-- whether it is answered
 abbrev pub IsAnsweredIf : World → Event → Bool → World → Type 0
 IsAnsweredIf w e true next = IsAnswered w e next
 IsAnsweredIf w e false next = (other : World) → IsAnswered w e other → ⊥
 
+-- whether it is such a take
 abbrev pub IsTakeIf : State → ℕ → Name → Bool → State → Type 0
 IsTakeIf s m name true next = IsTake s m name next
 IsTakeIf s m name false next = (other : State) → IsTake s m name other → ⊥

@@ -1,7 +1,8 @@
 //! A trace, read line by line.
 //!
-//! The first line tells the format. A line is judged as soon as it was read, and then forgotten: so memory is that of
-//! the heap of which the trace tells, and whoever writes a trace into a pipe is answered at the line that is wrong.
+//! The first line tells the format. A line is judged as soon as it was read, and then forgotten, but for the texts that
+//! `telling` keeps: so memory is that of the heap of which the trace tells, and whoever writes a trace into a pipe is
+//! answered at the line that is wrong.
 ghost use Rattle.std.specs.Prelude.{◌≡◌, ◌&&◌, true, codes, string_bytes, IfErr, IfOk};
 ghost use Rattle.std.specs.Io.BufRead.{strip_last};
 ghost use Rattle.std.specs.Str.{bytes_eq};
@@ -82,7 +83,9 @@ impl From<io::Error> for TraceFault {
 
 /// Reads a trace up to the first line that can't happen, or to its end, and tells what it comes to. Where it is asked
 /// for answers, each empty line of a trace of format 2 is answered by `ok`, once all lines before it have happened. Takes
-/// memory for the heap that the trace tells of, for its longest line, and for the commands of its longest copy or fill.
+/// memory for the heap that the trace tells of, for its longest line, for the commands of its longest copy or fill, and,
+/// of format 2, for the texts of lines that made something due in the cycle that goes on, at most one for each name and
+/// mutator.
 /// An error says why nothing can be told; `TooLong` comes of 2^64 - 2 lines or more alone.
 pub fn outcome_of<R: BufRead, P: Print>(
     alloc: Global,

@@ -41,8 +41,7 @@ fn write_why<W: fmt::Write>(
             write_name(f, name)
         }
         Why::NotMarked(name) => {
-            write!(f, "nothing keeps ")?;
-            write_name(f, name)
+            write_about(f, name, "isn't kept, or was made since the cycle began")
         }
         Why::Untaken(name) => {
             write!(f, "nobody took ")?;

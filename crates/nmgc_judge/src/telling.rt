@@ -57,9 +57,9 @@ impl Telling {
         }
     }
 
-    /// Takes the line of this number whose text, without its end, this is; or refuses it with a reason, and then all is
-    /// as it was, but that of a copy or a fill the commands before the refused one are done. After `NoMemory` nothing is
-    /// known of the trace. Takes what `Watch::step` takes, and time and memory for the text.
+    /// Takes the line of this number whose text, without its end, this is; or refuses it with a reason, and then what is
+    /// left is `tell_refusal`. After that, and after `NoMemory`, nothing is promised of the trace. Takes what `Watch::step`
+    /// takes, and time and memory for the text.
     pub fn line(
         &mut self,
         alloc: Global,
@@ -91,6 +91,7 @@ impl Telling {
         self.dues = dues_of(&self.begun);
         let dues = self.dues.saturating_sub(before);
         self.counts.add(told, dues);
+        // A new cycle has begun, or the trace has stopped: no line before it can be told any more.
         if self.dues == 0 {
             self.due_lines.clear();
         }

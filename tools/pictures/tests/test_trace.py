@@ -50,7 +50,7 @@ TOLD = [
      "line 10 can't happen: 0.0 is due since line 9 (0 fill r0 0 1 g = ok), and nobody remembered it"),
     (CELL + "mark\nclose\nmarked 0.1 g\n", "line 9 can't happen: 0.0 has to be marked"),
     (CELL + "mark\nclose\nfreed 0.0\n", "line 9 can't happen: 0.0 is needed"),
-    (CELL + "0 set r0 0 r1 = ok\nmark\nclose\nmarked 0.0 0.1 g\n", "line 10 can't happen: nothing keeps 0.0"),
+    (CELL + "0 set r0 0 r1 = ok\nmark\nclose\nmarked 0.0 0.1 g\n", "line 10 can't happen: 0.0 isn't kept, or was made since the cycle began"),
     (
         CELL + "mark\n0 cas r0 0 r1 r1 = no\n0 set r0 0 r1 = ok\npush 0 0.0\nsettle 0\nclose\nmarked 0.0 0.1 g\nstop\n",
         "each line can happen: 1 cycle, 6 commands, 1 push; something came due once",
