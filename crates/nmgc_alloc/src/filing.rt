@@ -5,8 +5,9 @@
 //! each counts into a value of its own, and the tallies take both up afterwards, in time that doesn't grow with the number
 //! of segments.
 //!
-//! Easy to get wrong: a segment that becomes one of a kind inside the stretch in which none lay cuts that stretch in two;
-//! only what lies above all that were swept is kept of it, or else what lies between them and all that were such ones.
+//! Easy to get wrong: the tallies know of a range in which segments became ones of a kind, and not which ones. So nothing in
+//! that range is ruled out any more. Where it lies below all others of the kind, a tally keeps what lies between it and those;
+//! else it keeps what lies above it of the stretch in which none lay.
 ghost use Rattle.std.specs.Prelude.{◌≡◌, ◌+◌, ◌<◌, ◌≤◌, length};
 ghost use Rattle.nmgc_limits.specs.Limits.{most_segments};
 ghost use Rattle.nmgc_alloc.specs.declared.tables.TheConstants.{CLASSES as classes, KINDS as kinds};

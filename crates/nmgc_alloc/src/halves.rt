@@ -175,7 +175,7 @@ fn sweep_first<R: Threads + Sync, F: Fn(u8, u32) + Sync>(
 }
 
 /// Sweeps so many segments that wait, the first of them, in two halves, each in order and in a thread of its own, and counts
-/// what came of each half into a value that counts nothing yet. Before each `before` is called, with the half and the number
+/// what came of each half into a value that counts nothing yet. Before each sweep it calls `before`, with the half and the number
 /// within it. None waits below `from`, where the search begins. Answers a number below which all that waited were swept; from
 /// it on nothing changed.
 pub fn sweep_from<R: Threads + Sync, F: Fn(u8, u32) + Sync>(

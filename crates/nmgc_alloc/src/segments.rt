@@ -65,8 +65,8 @@ impl Model for Segments {
     } in IsSegments shown × Leads s.segments.items s.current.items × HaveTallies s.segments.items s.tallies.items s.filled };
 }
 
-// The number of the segment with a word, and how far the word lies from the segment's first: of its distance from the
-// first word of all segments the quotient and the remainder by the words of one. These are a power of two, so that no
+// The number of the segment in which a word lies, and how far it lies from the segment's first word: its distance from
+// the first word of all segments, divided by the words of a segment, gives both. That number is a power of two, so no
 // division is needed.
 fn split(distance: u32, words: u32) -> (u32, u32)
     requires { IsSegmentSize words }
@@ -450,8 +450,8 @@ impl Segments {
         Some(number)
     }
 
-    /// Sweeps the lesser of `quota` and the number of segments to be swept, those of least number, and answers how many
-    /// these are: afterwards all is as so many calls of `sweep_next` leave it.
+    /// Sweeps `quota` of the segments to be swept, those of least number, or all where there are fewer, and answers how
+    /// many that were: afterwards all is as so many calls of `sweep_next` leave it.
     ///
     /// They are swept in two halves, in two threads; the lower half has one segment more where they are odd.
     /// Where a thread can't be started, and for a single segment, the caller does it. `before` is called before each,
@@ -478,7 +478,7 @@ impl Segments {
         count
     }
 
-    // Sweeps the one segment that is to be swept.
+    // Sweeps one segment, the first of those that are to be swept.
     fn sweep_one<F: Fn(u8, u32)>(&mut self, epoch: u8, before: &F)
         requires epoch { IsEpoch epoch }
         requires some { HasNoneIn State.Sweeping self.old → ⊥ }
