@@ -52,7 +52,8 @@ impl<'a, R: Env> CommandLine for Arguments<'a, R> {
     }
 }
 
-/// All words after the program's name, in order, each as it is passed on.
+/// All words after the program's name, in order. One that isn't UTF-8 text, or has more than 256 bytes, is the empty
+/// word. `NoMemory` where there is no memory for them.
 pub fn words_of<L: CommandLine>(alloc: Global, line: &L) -> Result<Vec<String>, NoMemory>
     ensures { IfOk result (λ words. ArePassed (L.words line.now) (map string_bytes words.items)) }
 {

@@ -1,4 +1,4 @@
--- What `marks N` writes: what the registers and queues of a run's last world reach by strong fields.
+-- What `marks N` writes: what the registers and queues of a run's last world, and the slots of g, reach by strong fields.
 use Rattle.std.specs.Prelude.{◌≡◌, ℕ, List, [], ◌∷◌, ◌++◌, length, codes, decimal}
 use Rattle.std.specs.List.{flat_map}
 use Rattle.nmgc_world_spec.specs.declared.value.Name.{Name}

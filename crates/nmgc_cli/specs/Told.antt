@@ -135,7 +135,7 @@ AnswersBench batches (Ok report) = IsRunOf (bench_script batches) report
 AnswersBench batches (Err no.NoMemory) = Unit {0}
 AnswersBench batches (Err _) = ⊥
 
--- the answer to a task: a bench reads nothing, and an upgrade is read for as a run is
+-- the answer to a task: a bench reads nothing, and for an upgrade a script is read as for a run
 abbrev pub Answers : Task → Option (List ℕ) → Option (List ℕ) → Type 0 → Answer → Type 0
 Answers Run old new rose answer = TellsOf IsText (AnswersScript IsRan old new rose) answer
 Answers (Bench batches) old new rose answer = Keeps old new × TellsOf (IsSummary batches) (AnswersBench batches) answer
@@ -193,7 +193,7 @@ pub record IsReportOfImage (words : List (List ℕ)) (left left' taken taken' : 
   pub shows : SpellsWorld (last_state run.lawful.run).world text
   pub written : IsWritten taken taken' rose (status_of report.end) text status
 
--- a report of `marks N`: as one of `run`, and what was written are the lines of what the registers and queues of the run's last world reach by strong fields
+-- a report of `marks N`: as one of `run`, and what was written are the lines of what the registers and queues of the run's last world, and the slots of g, reach by strong fields
 pub record IsReportOfMarks (words : List (List ℕ)) (left left' taken taken' : Option (List ℕ)) (rose : Type 0) (status : Status) (report : Report) :
     Type 0 where
   pub markers : ℕ
@@ -253,7 +253,7 @@ IsUpgradeComplete words left read_fault write_fault status = (bytes : List ℕ) 
     length bytes ≤ most_script_bytes → Spells bytes script
     → (read_fault → ⊥) → (write_fault → ⊥) → (status ≡ NoMemory) ⊎ (status ≡ Done)
 
--- so is an image within the limit, for a path to any name: the path is told, or there was no memory
+-- for an image within the limit and any name the answer is told, or there was no memory, where neither the source nor the sink fails
 abbrev pub IsRetainComplete : List (List ℕ) → Option (List ℕ) → Type 0 → Type 0 → Status → Type 0
 IsRetainComplete words left read_fault write_fault status = (name : Name) (bytes : List ℕ) (image : shown.Image) → Asks words (Retain name) →
     left ≡ Some bytes → length bytes ≤ MAX_IMAGE_BYTES → spelling.Spells bytes image

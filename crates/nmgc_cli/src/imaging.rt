@@ -31,7 +31,7 @@ fn image_of(alloc: Global, report: &Report) -> Result<Vec<u8>, NoMemory>
     requires { IsOfScript report.now }
     ensures { IfOk result (λ text. IsImageText report.now text.items) }
 {
-    // That the segments are sound is known to them, and asked of by the law that what a run left stands for a world.
+    // The law that what a run left stands for a world asks that the segments are sound, which this call tells the proof.
     let _layout = report.segments.layout();
     write_image(alloc, report)
 }

@@ -1,7 +1,7 @@
 //! The words `marks N`: what several markers mark of the heap that a run leaves.
 //!
 //! The run is that of `run`. Once it has ended, nobody writes the heap any more, so several markers mark side by side
-//! what the registers and finaliser queues reach by strong fields (`nmgc_pmark`). Their names are written in place of
+//! what the registers, the finaliser queues and the slots of g reach by strong fields (`nmgc_pmark`). Their names are written in place of
 //! the report's text: they are the same whatever the number of markers.
 //! Easy to get wrong: a report's words can't be read by several threads at once, since a closed table may not be shared.
 //! They are copied first.
@@ -111,6 +111,7 @@ pub fn claims_of<R: Threads + Sync, G: Gate>(
     ensures { IfOk result (λ claims. AreClaimsOf markers report.now claims.by) }
 {
     a_stop_is_stopped();
+    // The law that what a run left stands for a world asks that the segments are sound, which this call tells the proof.
     let _ = report.segments.layout();
     let words = copied(alloc, &report.words)?;
     let roots = root_words(alloc, report.mutators.items())?;

@@ -1,7 +1,8 @@
 //! What the words of the command line ask for.
 //!
 //! A task is read from all words at once, so that a word too many is a wrong word as one too few is.
-//! Another task is a variant here, a line of `Asks` and of `Answers`, and a function in a file of its own.
+//! Another task is a variant here, a line of each definition by cases of tasks (`specs/Task.antt`, `Answers`), a word in
+//! the text of `Usage`, and a function in a file of its own.
 ghost use Rattle.std.specs.Prelude.{◌≡◌, ◌↔◌, [], ◌∷◌, map, string_bytes, IsTrue, IfSome, IfNone};
 ghost use Rattle.nmgc_cli.specs.Task.{Asks, IsWrong};
 

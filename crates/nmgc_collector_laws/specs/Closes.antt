@@ -17,7 +17,7 @@ abbrev pub ClosingIsSoon : Type 0
 ClosingIsSoon = (quota : ℕ) (c : Cycle) (t : State) (seen : CollectorSeen) (kept : ℕ) → IsPacedAfterRound quota c t seen → seen.marker.marked ≤ kept →
     Counts (IsKeptObject c) kept → IsSoon quota c t.number
 
--- so it comes within as many rounds as scan one object less than is kept, and one more
+-- so all rounds since the snapshot but the last could together scan fewer objects than are kept
 abbrev pub ClosingComes : Type 0
 ClosingComes = (quota : ℕ) (c : Cycle) (closed kept : ℕ) → 1 ≤ quota → IsSoon quota c closed → Counts (IsKeptObject c) kept →
     closed ≤ c.from + ((kept - 1) / quota + 1)

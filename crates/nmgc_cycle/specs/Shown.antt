@@ -72,13 +72,13 @@ turns_by (progress.Sweeping w) turns = w.sweeper.turns
 abbrev pub turns_of : Collector → ℕ
 turns_of c = turns_by c.cycle.progress c.cycle.turns
 
--- how often its second sweeping half did: the sweeper of a cycle in progress counts it
+-- how often the upper halves of its sweeps did: the sweeper of a cycle in progress counts it
 abbrev pub upper_turns_by : Progress → ℕ → ℕ
 upper_turns_by progress.Idle turns = turns
 upper_turns_by (progress.Marking m) turns = m.sweeper.upper_turns
 upper_turns_by (progress.Sweeping w) turns = w.sweeper.upper_turns
 
--- how often its second sweeping half did so far
+-- how often the upper halves of its sweeps did so far
 abbrev pub upper_turns_of : Collector → ℕ
 upper_turns_of c = upper_turns_by c.cycle.progress c.cycle.upper_turns
 

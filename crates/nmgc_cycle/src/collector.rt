@@ -108,7 +108,7 @@ pub(crate) struct CycleState {
     pub(crate) full: bool,
     // While no cycle is in progress: how often the collector passed the gate.
     pub(crate) turns: u64,
-    // And how often its second sweeping half did.
+    // And how often the upper halves of its sweeps did.
     pub(crate) upper_turns: u64,
 }
 

@@ -93,6 +93,7 @@ pub record IsSetOf (w : World) (names : List Name) (marks : List (List Bool)) : 
   pub sound : (name : Name) → IsMarked marks name → Contains names name
   pub complete : (name : Name) → Contains names name → IsSome (node_of w name) → IsMarked marks name
 
+-- the finaliser, where there are parts
 abbrev pub finaliser_in : Option Parts → List Value
 finaliser_in None = []
 finaliser_in (Some parts) = parts.finaliser ∷ []

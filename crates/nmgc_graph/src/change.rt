@@ -213,7 +213,7 @@ fn is_done(reply: Reply) -> bool
 }
 
 /// Does a change on the node of an object that this mutator, or g's maker, made, and gives its
-/// answer; where that is a refusal, or `No`, the node is left as it was. Only a push takes memory.
+/// answer; where that is a refusal, `No` or `Already`, the node is left as it was. Only a push takes memory.
 /// After `NoMemory` the node is unchanged.
 #[tactic(auto, using(crate::proofs::Changes::done_is, crate::proofs::Changes::refused_is))]
 pub fn change_in_place(node: &mut Node, maker: u8, change: Change) -> Result<Reply, NoMemory>

@@ -14,7 +14,7 @@ use nmgc_lists::NoMemory;
 use nmgc_world_spec::{Command, Name, Operand, Parts, Value};
 use std::alloc::Global;
 
-/// The names that a command opens, if the world took it.
+/// The names that a command opens, if the world took it: two at most. After `NoMemory` there is no answer. Takes constant time.
 pub fn opened_by(world: &World, mutator: u8, command: &Command) -> Result<Vec<Name>, NoMemory>
     requires mutator { mutator < length world.now.mutators }
     requires registers { HasRegisters command.now }
@@ -34,7 +34,8 @@ pub fn opened_by(world: &World, mutator: u8, command: &Command) -> Result<Vec<Na
     }
 }
 
-/// The weak pointer that a command makes dead, if the world took it and it makes one dead.
+/// The weak pointer that a command makes dead, if the world took it and it makes one dead. After `NoMemory` there is no
+/// answer. Takes constant time.
 pub fn finalised_by(world: &World, mutator: u8, command: &Command) -> Result<Vec<Name>, NoMemory>
     requires mutator { mutator < length world.now.mutators }
     requires registers { HasRegisters command.now }
@@ -62,7 +63,7 @@ fn parts_of(world: &World, mutator: u8, object: Operand) -> Option<Parts>
     }
 }
 
-/// The references among values.
+/// The names that values refer to, in their order. After `NoMemory` there is no answer.
 pub fn names_among(alloc: Global, values: &[Value]) -> Result<Vec<Name>, NoMemory>
     ensures { IfOk result (λ names. names.items ≡ names_among values.now) }
 {

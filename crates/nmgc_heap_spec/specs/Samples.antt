@@ -20,6 +20,7 @@ use Rattle.nmgc_heap_spec.specs.Places.{Place, shared_place}
 use Rattle.nmgc_heap_spec.specs.Represents.{NoNode, Represents}
 use Rattle.nmgc_heap_spec.specs.Roots.{RepresentsRoots, ListsWeaks}
 
+-- the layout of both
 abbrev pub small_layout : Layout
 small_layout = record { segments = 32; words = 64; nursery = 64; mutators = 1 }
 
@@ -68,9 +69,11 @@ abbrev pub chain : ℕ → List Command → List Command
 chain zero rest = rest
 chain (suc n) rest = Con 3 0 (Register 3 ∷ Register 1 ∷ []) ∷ chain n rest
 
+-- the world at the snapshot
 abbrev pub snapshot : World
 snapshot = after (new_world 1) (Num 1 5 ∷ Con 2 0 (Register 1 ∷ []) ∷ Var 0 (Register 2) ∷ Nil 2 ∷ chain 14 (Collect ∷ []))
 
+-- the world once the variable was overwritten
 abbrev pub overwritten : World
 overwritten = after snapshot (Set (Register 0) 0 (Register 1) ∷ Collect ∷ [])
 

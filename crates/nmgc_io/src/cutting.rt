@@ -1,6 +1,6 @@
 //! Bytes cut at their first separator.
 //!
-//! Scripts, images, names and reports are cut into lines and words here, and each of their bytes is looked at to find where
+//! Scripts, images, names and journals are cut into lines and words here, and each of their bytes is looked at to find where
 //! a line ends. So sixteen are looked at together, as long as there are so many, and the rest one by one.
 //!
 //! Easy to get wrong: where the separator isn't found nothing is cut, and it is the caller who knows whether what is left is

@@ -12,7 +12,7 @@
 //! - `transfer`: `read_all` and `write_all`.
 //! - `numbers`: decimal text of numbers, written and read. `cutting`: bytes cut at a separator, as lines and words are.
 //!
-//! It stands on `nmgc_lists` for `NoMemory` alone. The grammar, the report and the program stand on it.
+//! It stands on `nmgc_lists` for `NoMemory` alone. Whatever reads or writes a text stands on it: scripts, journals, images, reports, and the programs.
 #![tactic(auto)]
 
 mod cutting;

@@ -23,6 +23,7 @@ use Rattle.nmgc_object.specs.declared.words.TheConstants.{NUMBER_LIMIT}
 abbrev pub name_text : Name → List ℕ
 name_text name = if (name.maker == SHARED_MAKER) && (name.serial == 0) then codes "g" else decimal name.maker ++ 46 ∷ decimal name.serial
 
+-- the text of a value
 abbrev pub value_text : Value → List ℕ
 value_text Nil = codes "nil"
 value_text (Number n) = decimal n

@@ -1,6 +1,6 @@
 -- How large a heap and the numbers of a run may be.
 --
--- The grammar of scripts and the layout of the heap both cite these numbers. All sizes are in words.
+-- The grammar of scripts and the layout of the heap both cite these numbers. Sizes of the heap's parts are in words.
 use Rattle.std.specs.Prelude.{ℕ, ◌≤◌, IsTrue}
 use Rattle.std.specs.Int.{is_power_of_two}
 

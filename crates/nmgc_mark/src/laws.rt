@@ -32,19 +32,19 @@ pub fn blank_markers_have_room()
     ensures { (s : Segments) (epoch : ℕ) → IsSegments s → HasRoomToMark s (blank epoch (most_blocks s.layout)) }
 {}
 
-/// As a round begins, a marker that is the machine's is the collector's view's.
+/// As a round begins, a marker that is tied to the core machine's marks is tied to those of the collector's view.
 pub fn round_begins()
     ensures { (o : Opening) (s : Segments) (marker : MarkerSeen) → IsTied o (marks_of o.core) s marker → IsTied o (marks_seen (collecting (whole o))) s marker }
 {}
 
-/// Once a round is over, a marker that is the collector's view's is that of the machine after the round's
-/// events.
+/// Once a round is over, a marker that is tied to the marks of the collector's view is tied to those of the machine after
+/// the round's events.
 pub fn round_ends()
     ensures { (o : Opening) (words : List ℕ) (v : Seen) (s : Segments) (marker : MarkerSeen) (h : IsFinished o words v) → v.collects ≡ true →
         v.opening ≡ o → IsTied v.opening (marks_seen v) s marker → IsTied o (marks_of (now o h.events)) s marker }
 {}
 
-/// A marker stays the machine's where there are more places: objects born in a round and those that were
+/// A marker stays tied to the machine's marks where there are more places: objects born in a round and those that were
 /// promoted since aren't in the snapshot.
 pub fn places_may_grow()
     ensures { (o : Opening) (places : List Place) (m : Marks) (s : Segments) (marker : MarkerSeen) →

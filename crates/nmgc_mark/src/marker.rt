@@ -215,7 +215,7 @@ impl Marker {
         }
     }
 
-    /// The epoch with which blocks are marked. Takes no memory, as every call but `snapshot`.
+    /// The epoch with which blocks are marked. Takes no memory, as every call but `blank` and `snapshot`.
     pub fn epoch(&self) -> u8
         ensures epoch { result ≡ self.now.epoch }
         ensures sound { IsEpoch self.now.epoch }

@@ -1,10 +1,11 @@
 //! The barriers of a mutator: what it logs and records as it writes.
 //!
-//! The write barrier takes the snapshot at the beginning (a deletion barrier): while a cycle marks, the word that a command
-//! takes out of an object, or reads out of a weak pointer, goes to the mutator's own remembered set (`push`, `push_words`)
-//! before the command ends, where it refers to an object in a segment. The swap that takes it out is one step of the round,
-//! so the marker, however late it comes, misses nothing. Whoever overwrites calls it: `set`, `cas`, `update`, `pop_value`; and
-//! `deref` and `finalise`, which read what the marker doesn't follow. It asks for no mark, and takes no memory. What each
+//! The write barrier is that of a snapshot at the beginning (a deletion barrier): while a cycle marks, what a command owes goes
+//! to the mutator's own remembered set (`push`, `push_words`) before the command ends, where it refers to an object in a
+//! segment. That is the word that `set`, `cas` or `pop_value` takes out, the free variables that a thunk no longer holds once
+//! `update` gave it a result, the value that `deref` reads, and a weak pointer with its value and its finaliser where `finalise`
+//! kills it: the marker doesn't follow the last two. The swap or exchange that takes a word out is one step of the round, so
+//! the marker, however late it comes, misses nothing. It doesn't look whether an object is marked, and takes no memory. What each
 //! command owes is the table `owed_by` of `nmgc_world_spec`'s `specs/Owed.antt`; that nothing is lost by it is the theorem
 //! of `nmgc_snapshot_laws`.
 //!

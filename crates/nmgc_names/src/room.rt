@@ -4,8 +4,9 @@
 //! reserved isn't touched: where names follow one another, few of its bytes ever are. Contracts see its names, and for how
 //! many more there is room.
 //!
-//! A few spans at the front of a large room would keep it from serving again as a whole, so a list of few spans has a copy
-//! of them, and all of the room is given back. Where there is no memory for the copy, the spans stay where they lie.
+//! A few spans at the front of a large room would keep its memory from being used again as a whole, so a list of few spans
+//! has a copy of them, and all of the room is given back. Where there is no memory for the copy, the spans stay where they
+//! lie.
 ghost use Rattle.std.specs.Prelude.{◌≡◌, ◌+◌, ◌<◌, ◌≤◌, [], ◌∷◌, ◌++◌, IfOk, vec_len, vec_capacity};
 ghost use Rattle.nmgc_names.specs.Spans.{names_in};
 

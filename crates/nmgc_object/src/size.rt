@@ -83,8 +83,8 @@ pub fn block_words(class: u8) -> u32
     }
 }
 
-/// The least class whose block holds so many words. Above the dense classes the words of a block are
-/// 16, 32, 64 and so on, so what is to be added is the number of binary digits of `(words - 1) / 16`.
+/// The least class whose block holds so many words. From the greatest dense class on, blocks have 16, 32, 64 words
+/// and so on, so for more than 16 words the answer is that class plus the number of binary digits of `(words - 1) / 16`.
 /// Takes no memory, and constant time.
 pub fn class_of(words: u32) -> u8
     requires least { 2 ≤ words }

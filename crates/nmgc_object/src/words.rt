@@ -78,7 +78,7 @@ pub enum Field {
 }
 
 /// The word of a field, which is put together and taken apart here alone. An even word is twice a place: 0 where the field
-/// is unset or its weak pointer is dead, and else that of the object to which it points. An odd word is nil's or a number's.
+/// is unset (a dead weak pointer's value is), and else that of the object to which it points. An odd word is nil's or a number's.
 /// Any word may be looked at, also one that means nothing.
 #[derive(Clone, Copy, Debug, PartialEq, Eq)]
 pub struct FieldWord(pub u64);

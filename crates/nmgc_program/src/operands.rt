@@ -2,7 +2,7 @@
 //!
 //! Nearly every constructor and thunk of a script has no more than six. Six of two bytes each and their number take
 //! thirteen bytes and may lie at any address, so that they fill a command of sixteen behind its kind, its register and its
-//! tag; a vector's place wants eight at an address of eight, which lie there too.
+//! tag; the pointer to a vector takes eight bytes, at an address that eight divides, and fits there too.
 //!
 //! Easy to get wrong: where operands lie is no part of their value. So a vector may have few of them, and contracts don't
 //! tell it from a few that lie in the command.

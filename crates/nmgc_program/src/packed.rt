@@ -279,7 +279,7 @@ macro_rules! turned {
     };
 }
 
-// As a list: two operands take no memory.
+// The operands as a list. Two take no memory.
 fn list_of(alloc: Global, operands: &[Operand]) -> Result<List<Operand>, NoMemory>
     ensures { IfOk result (λ list. list ≡ operands.now) }
 {
@@ -289,7 +289,7 @@ fn list_of(alloc: Global, operands: &[Operand]) -> Result<List<Operand>, NoMemor
     List::from_vec(Vec::from_slice(alloc, operands)?)
 }
 
-// As a command's operands: two take no memory.
+// The operands as those of a packed command. Two take no memory.
 fn operands_of(alloc: Global, operands: &[Operand]) -> Result<Operands, NoMemory>
     ensures { IfOk result (λ own. own ≡ operands.now) }
 {

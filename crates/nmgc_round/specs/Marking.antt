@@ -16,6 +16,7 @@ pub record Marks : Type 0 where
   pub marked : List Name
   pub queue : List Entry
 
+-- those of a state
 abbrev pub marks_of : State → Marks
 marks_of s = record { marked = s.marked; queue = s.queue }
 
@@ -41,6 +42,7 @@ with_name snapshot m (Some name) = if is_some (node_of snapshot name) && not (is
   queue = m.queue ++ entry_of name ∷ [];
 } else m
 
+-- whether a node is a thunk
 abbrev pub is_thunk : Node → Bool
 is_thunk (Thunk free result) = true
 is_thunk _ = false
@@ -70,6 +72,7 @@ abbrev pub folded : Opening → Marks → List Scan → Marks
 folded o m [] = m
 folded o m (s ∷ ss) = folded o (after_word o m s) ss
 
+-- the marks of the opening, after scans
 abbrev pub marks_after : Opening → List Scan → Marks
 marks_after o ss = folded o (marks_of o.core) ss
 

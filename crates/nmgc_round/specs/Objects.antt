@@ -27,6 +27,7 @@ pub record Object : Type 0 where
   pub name : Name
   pub node : Node
 
+-- its place, without the node
 abbrev pub place_of : Object → Place
 place_of x = record { at = x.at; name = x.name }
 

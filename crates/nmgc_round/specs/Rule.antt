@@ -71,8 +71,8 @@ pub record IsHand (o : Opening) (born : List Object) (w : World) (m : ℕ) (h : 
   pub queue : ListMeans (IsIn o born) h.queue (state_of w m).queue
   pub serial : h.serial ≡ serial_of w m
 
--- a part agrees with the state and with what its mutator did; what its swaps found refers to what the core machine
--- lists as taken out of fields; it lists all own stacks
+-- a part agrees with the state and with what its mutator did; what its steps found refers to what the core machine
+-- lists as owed, marking or not; it lists all own stacks
 pub record Fits (o : Opening) (born : List Object) (s : State) (done : List (Command × Reply)) (p : Part) : Type 0 where
   pub exists : p.number < length s.world.mutators
   pub owing : p.number < length s.owed

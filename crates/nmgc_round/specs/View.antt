@@ -66,7 +66,7 @@ pub record Opening : Type 0 where
   pub places : List Place
   pub hands : List Hand
 
--- one mutator's part of a view: how many words of its nursery are objects, the words that its swaps found, and those of them that it owes
+-- one mutator's part of a view: how many words of its nursery are objects, the words of which its steps found that they are owed while marking, and those that it owes
 pub record Part : Type 0 where
   pub number : ℕ
   pub rows : List DoneRow
@@ -85,9 +85,11 @@ pub record Seen : Type 0 where
   pub collects : Bool
   pub scans : List Scan
 
+-- the hand of a mutator that isn't there
 abbrev pub no_hand : Hand
 no_hand = record { registers = []; queue = []; serial = 0; stacks = [] }
 
+-- a mutator's hand, by its number
 abbrev pub hand_of : List Hand → ℕ → Hand
 hand_of hands m = slice_index_or hands m no_hand
 
@@ -155,6 +157,7 @@ leaves h Yield a = h
 leaves h Collect a = h
 leaves h Full a = h
 
+-- what rows leave it, one after the other
 abbrev pub rows_leave : Hand → List DoneRow → Hand
 rows_leave h [] = h
 rows_leave h (r ∷ rs) = rows_leave (leaves h r.command r.answer) rs
@@ -183,11 +186,12 @@ bearing_object p at size header name = record p {
   fixed = record { at = at; offset = 0; word = header } ∷ record { at = at; offset = 1; word = name } ∷ p.fixed;
 }
 
--- the view whose mutator's part is another
+-- the parts, of which the first is another
 abbrev pub first_changed : (Part → Part) → List Part → List Part
 first_changed f [] = []
 first_changed f (p ∷ ps) = f p ∷ ps
 
+-- the view whose mutator's part is another
 abbrev pub changing : (Part → Part) → Seen → Seen
 changing f v = record v { parts = first_changed f v.parts }
 
@@ -238,7 +242,7 @@ met_at_birth v at header c false = v
 abbrev pub scanning : Seen → Scan → Seen
 scanning v s = record v { scans = v.scans ++ s ∷ [] }
 
--- a seat that was joined away
+-- the opening of no round
 abbrev pub no_opening : Opening
 no_opening = record {
   layout = record { segments = 0; words = 0; nursery = 0; mutators = 0 };
@@ -248,6 +252,7 @@ no_opening = record {
   hands = [];
 }
 
+-- a seat that was joined away: it knows nothing
 abbrev pub nobody : Seen
 nobody = record { is_sole = false; words = []; opening = no_opening; parts = []; collects = false; scans = [] }
 

@@ -67,7 +67,7 @@ impl Round {
 
     /// Stores another word into a field of a variable or an array, where the expected word stands there. The
     /// `cas` that asks for it takes its place here, and its row answers yes. Then the view has the expected
-    /// word at the end of those that its swaps found, and while marking it is owed from this step on. `No`
+    /// word at the end of those that its steps found, and while marking it is owed from this step on. `No`
     /// comes exactly where another word stands there at this step, and has that word: the row answers no, and nothing
     /// else changes.
     pub fn exchange_field(

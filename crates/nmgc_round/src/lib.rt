@@ -10,7 +10,8 @@
 //! The table lasts for the run (`words`). At a stop one seat is the only one and knows all words, as a list; a
 //! step opens a round and a step ends it (`round`), and neither copies a word. In between each mutator has a
 //! seat of its own, and the collector has one (`seats`), with which they step (`steps`). `compare`, `results`,
-//! `slots` and `weaks` have the steps on words that several threads change, or that only their maker writes.
+//! `slots` and `weaks` have the steps on words that several threads change, or that only their maker writes. `gate` is
+//! where a test can hold a worker back.
 //!
 //! `laws` says what holds of the definitions for every opening, words and views: that each kind of step
 //! keeps the rule, that words which represent a world open a round, and what words stand for that a round leaves.

@@ -190,9 +190,9 @@ impl Round {
     }
 
     /// Stores another word into a field of a variable or an array, and answers the one that stood there. The
-    /// `set` that writes it takes its place here. The view has that word at the end of those that its swaps
-    /// found; the objects that these refer to are those that the order of events takes out of fields, marking
-    /// or not. While marking, the old word is owed from this step on. Where it is a pointer, an object is there
+    /// `set` that writes it takes its place here. The view has that word at the end of those that its steps
+    /// found; the objects that these refer to are those that the core machine lists as owed after the events,
+    /// marking or not. While marking, the old word is owed from this step on. Where it is a pointer, an object is there
     /// within the heap's words.
     pub fn swap_field(
         &self,

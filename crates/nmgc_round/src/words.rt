@@ -1,6 +1,6 @@
 //! The words of a run, where one thread alone reads and writes them.
 //!
-//! They lie in one table from the beginning of the run on; closed, it is the report's. Between rounds the table has one seat
+//! They lie in one table from the beginning of the run on. As the run ends the table is closed, and the report has it. Between rounds the table has one seat
 //! that may step, and its view is the list of all words: so a load tells the word, a store changes the
 //! list, and contracts see the whole as that list. A round takes the words and gives them back, and copies
 //! none. Code for a stop is written over the trait `HeapWords`, which a plain list implements too.

@@ -59,7 +59,7 @@ abbrev pub EachCycleHasItsRow : Type 0
 EachCycleHasItsRow = (plan : Plan) (run : Run) (rounds : List RoundRows) (stops : List StopRow) (cycles : List CycleRow) (end : End) →
     IsRun plan run → Tells run rounds stops cycles → answer_of plan (last_state run) ≡ Some end → length cycles ≡ (last_state run).begun
 
--- a row tells of a cycle that was closed within as many rounds as scan one object less than it kept, and one more
+-- a row tells of a cycle that was closed at most (kept - 1) / quota + 1 rounds after its snapshot, rounded down
 abbrev pub IsClosedSoon : ℕ → CycleRow → Type 0
 IsClosedSoon quota row = row.closed ≤ row.from + ((row.kept - 1) / quota + 1)
 

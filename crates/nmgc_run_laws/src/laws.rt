@@ -48,8 +48,8 @@ pub fn each_cycle_has_its_row()
     ensures { EachCycleHasItsRow }
 {}
 
-/// Each cycle of a lawful report of a script within the limits was closed within as many rounds as scan one object less than it kept, and one more: also
-/// one that a full cycle closed.
+/// Each cycle of a lawful report of a script within the limits was closed at most (kept - 1) / quota + 1 rounds after its
+/// snapshot, rounded down, where the quota is how many objects a round scans at most: also one that a full cycle closed.
 pub fn closings_are_soon()
     ensures { ClosingsAreSoon }
 {}

@@ -1,9 +1,10 @@
 -- When a cycle may be closed, and what its closing does.
 --
--- The marker decides when it has nothing left to scan, so a run has a choice here, within two bounds:
--- a closing comes as soon as that many scans could have marked all that is kept, and not before that
--- many could have marked what the snapshot's roots reach. A closing that a full cycle forces keeps the first bound
--- alone: it may come before the marker has nothing left.
+-- When the marker has nothing left to scan depends on the schedule, so a run has a choice here, within two bounds. Both
+-- count the rounds since the snapshot, each with as many scans as the quota: a closing comes at the latest when so many scans
+-- could have marked all that is kept, and, where nothing was owed, not before they could have marked all that the
+-- snapshot's roots reach. A closing that a full cycle forces keeps the first bound alone: it may come before the marker has
+-- nothing left.
 use Rattle.std.specs.Prelude.{ℕ, ◌≡◌, ◌≢◌, ◌⊎◌, ◌+◌, ◌-◌, ◌*◌, ◌<◌, ◌≤◌, List, [], ◌∷◌, ◌++◌}
 use Rattle.nmgc_world_spec.specs.declared.value.Name.{Name}
 use Rattle.nmgc_world_spec.specs.World.{World}

@@ -6,10 +6,12 @@ use Rattle.nmgc_world_spec.specs.declared.command.Command.TheVariants.{Yield, Co
 use Rattle.nmgc_world_spec.specs.Command.{words_made}
 use Rattle.nmgc_script.specs.declared.script.Config.{Config}
 
+-- the command asks for a cycle
 abbrev pub is_collect : Command → Bool
 is_collect Collect = true
 is_collect _ = false
 
+-- the command asks for a full cycle
 abbrev pub is_full : Command → Bool
 is_full Full = true
 is_full _ = false

@@ -43,11 +43,13 @@ pub record State : Type 0 where
   pub full : Bool
   pub left : List (List Command)
 
+-- the phase that a stop tells
 abbrev pub phase_of : Progress → Phase
 phase_of idle = Idle
 phase_of (marking c) = Marking
 phase_of (sweeping c closed) = Sweeping
 
+-- no cycle is in progress
 abbrev pub is_idle : Progress → Bool
 is_idle idle = true
 is_idle _ = false

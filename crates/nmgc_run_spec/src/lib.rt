@@ -1,6 +1,6 @@
 //! What a lawful run is.
 //!
-//! The program is judged here. There are no threads and no words in a run: a round is one order of its
+//! The program is judged by what is said here. There are no threads and no words in a run: a round is one order of its
 //! commands, and a cycle is judged by its snapshot. Nothing here runs.
 //!
 //! `specs/` says it from the bottom up:

@@ -63,7 +63,7 @@ pub record IsFirstFault (v : Version) (h : Config) (n : ℕ) (words : List (List
 abbrev pub IsFaultless : Version → Config → ℕ → List (List ℕ) → Type 0
 IsFaultless v h n words = (e : Cause) → HasFault v h n words e → ⊥
 
--- how many sections were begun after the line
+-- how many sections were begun up to this line, itself included
 abbrev pub begun_with : ℕ → List (List ℕ) → ℕ
 begun_with n words = if bytes_eq (first_of words) (codes "thread") then n + 1 else n
 

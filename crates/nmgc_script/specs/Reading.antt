@@ -43,11 +43,12 @@ each_at f (x ∷ xs) = do
   others ← each_at f xs
   Ok (first ∷ others)
 
--- What a function returned is what reading gives, unless memory ran out.
+-- the fault that a function returned is the one that reading gives, unless memory ran out
 abbrev pub Fails : {Y : Type 0} → LineFault → Result Y Cause → Type 0
 Fails fault.NoMemory read = Unit {0}
 Fails (fault.Bad c) read = read ≡ Err c
 
+-- what a function returned is what reading gives, unless memory ran out
 abbrev pub Gives : {X : Type 0} → Result X LineFault → Result X Cause → Type 0
 Gives (Ok x) read = read ≡ Ok x
 Gives (Err e) read = Fails e read
@@ -173,6 +174,7 @@ verb_at name = first_named name VERBS
 unfoldable pub sized : ℕ → Command → Result Command Cause
 sized size command = if nat_le (words_made command) size then Ok command else Err cause.Size
 
+-- the command that the words of a line spell
 unfoldable pub command_at : Version → ℕ → List (List ℕ) → Result Command Cause
 command_at version size [] = Err cause.Command
 command_at version size (name ∷ words) = do
@@ -213,6 +215,7 @@ config_at segments words nursery slice quota trigger = do
   pace ← pace_at slice quota trigger
   Ok (record { segments = sizes.0; words = sizes.1; nursery = sizes.2; slice = pace.0; quota = pace.1; trigger = pace.2 })
 
+-- the settings that the words after heap spell
 unfoldable pub numbers_at : List (List ℕ) → Result Config Cause
 numbers_at (segments ∷ words ∷ nursery ∷ slice ∷ quota ∷ trigger ∷ []) = config_at segments words nursery slice quota trigger
 numbers_at words = Err cause.Heap
@@ -222,6 +225,7 @@ abbrev pub or_cause : {A : Type 0} → Cause → Result A Cause → Result A Cau
 or_cause c (Ok x) = Ok x
 or_cause c (Err e) = Err c
 
+-- the settings that the words of a heap line spell
 unfoldable pub heap_words_at : List (List ℕ) → Result Config Cause
 heap_words_at [] = Err cause.Heap
 heap_words_at (name ∷ words) = if bytes_eq name (codes "heap") then or_cause cause.Heap (numbers_at words) else Err cause.Heap
@@ -305,7 +309,7 @@ script_at end lines = do
   threads ← threads_at version.0 end heap.0 heap.1
   Ok (record { version = version.0.number; config = heap.0; threads = threads })
 
--- What a function returned is what reading gives, unless memory ran out.
+-- the same of a fault with its line
 abbrev pub FailsAt : {Y : Type 0} → ScriptFault → Result Y (ℕ × Cause) → Type 0
 FailsAt script_fault.NoMemory read = Unit {0}
 FailsAt (script_fault.Bad line c) read = read ≡ Err (line, c)
@@ -316,6 +320,7 @@ placed n (Ok x) = Ok x
 placed n (Err fault.NoMemory) = Err script_fault.NoMemory
 placed n (Err (fault.Bad c)) = Err (script_fault.Bad n c)
 
+-- what a function returned is what reading gives, seen so, unless memory ran out
 abbrev pub GivesAt : {X Y : Type 0} → (X → Y) → Result X ScriptFault → Result Y (ℕ × Cause) → Type 0
 GivesAt view (Ok x) read = read ≡ Ok (view x)
 GivesAt view (Err e) read = FailsAt e read

@@ -32,7 +32,7 @@ impl From<NoMemory> for ScriptFault {
 }
 
 /// Reads a script. `Bad` tells the first bad line, from 1, and its cause; where the text ends too
-/// early the line is the one after the last. Time is linear in the bytes.
+/// early the line is the one after the last. `NoMemory` tells nothing of the bytes. Time is linear in them.
 pub fn parse(alloc: Global, bytes: &[u8]) -> Result<Script, ScriptFault>
     requires { length bytes.now ≤ 2 ^ 31 }
     // What is read is spelled so, and within the limits.

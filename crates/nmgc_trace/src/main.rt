@@ -11,8 +11,8 @@
 //! can't happen is told at once.
 //!
 //! The exit status is 0 where each line of each trace can happen and each trace has the end of a cycle (of format 2: a
-//! `stop` after it), 2 where one can't or hasn't, no trace is named or there was no memory, and 1 where a file can't be
-//! read.
+//! `stop` after it), 2 where one can't or hasn't, no trace is named, one has 2^64 - 2 lines or more,
+//! or there was no memory, and 1 where something can't be read or written.
 #![tactic(auto)]
 
 use nmgc_judge::{TraceFault, outcome_of};

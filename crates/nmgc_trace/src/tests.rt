@@ -1,6 +1,6 @@
 //! What traces come to: as lists of lines, and read line by line, also from a stream that fails.
 //!
-//! The reader takes the steps of the judges of lists, and is the one that the program calls.
+//! Both do the same steps; the program calls the one that reads.
 use nmgc_judge::{
     Line, Outcome, Report, Told, TraceFault, judge, judge_told, line_of, outcome_of, told_of,
 };

@@ -100,7 +100,7 @@ IsLeastDebt h debt = IsLeastIn h.debts debt
 abbrev pub IsUntakenName : Cycle → Name → Type 0
 IsUntakenName h name = (h.taken ≢ []) × Contains h.remembered name × (name ≢ shared_name) × (Contains h.taken name → ⊥)
 
--- whether the name has to be taken and wasn't: g hasn't
+-- whether the name has to be taken and wasn't; g never has to be
 abbrev pub is_untaken : Listed → Name → Bool
 is_untaken taken name = not (is_same_name name shared_name) && not (mark_of taken.set name)
 

@@ -3,10 +3,10 @@
 //! Without debts the end is decided by the snapshot alone: what the commands opened and what was pushed is live beside
 //! the roots, and each weak pointer whose key isn't live dies.
 //!
-//! Easy to get wrong: which weak pointers die is told by what the commands keep, where it is told; what floats is kept all
-//! the same. And a weak pointer may live on though the commands don't keep its key: since the key floats, or since it isn't
-//! told as dying. One lives on as long as its key, and its finaliser is still to run, whether or not anybody holds it; whoever
-//! does can still read its value. So its key counts for what may be freed, and for what else dies.
+//! Easy to get wrong: where a runtime tells which weak pointers die, these are judged by what the commands keep, and not by
+//! what floats; what floats is kept all the same. And a weak pointer may live on though the commands don't keep its key:
+//! since the key floats, or since it isn't told as dying. One lives on as long as its key, and its finaliser is still to run,
+//! whether or not anybody holds it; whoever does can still read its value. So its key counts for what may be freed, and for what else dies.
 ghost use Rattle.std.specs.Prelude.{◌≡◌, ◌++◌, [], None, IfOk, All, filter};
 ghost use Rattle.nmgc_world_spec.specs.Reach.{IsInOrder, IsAliveWeak, closed};
 ghost use Rattle.nmgc_watch.specs.Cycles.{is_outside, keys_then};
@@ -28,7 +28,8 @@ impl Cycle {
     ghost use Rattle.nmgc_watch.specs.Cycles.{IsOpenedWith};
     ghost use Rattle.nmgc_watch.specs.Watching.{IsEnding, IsEndingTold, IsAgainstIf, IsDeadIf, IsLeft, IsLeftTold};
 
-    /// What the cycle leaves, if it can end: the debt of the least line stands against it, or a name that wasn't taken.
+    /// What the cycle leaves if it can end; else what stands against that: the debt of the least line, or a name that was
+    /// pushed and wasn't taken.
     /// Takes time and memory for each object, each field and each debt, however the weak pointers revive one another.
     pub fn end(&self) -> Result<Result<Left, Why>, NoMemory>
         ensures { IfOk result (IsEnding self.now) }

@@ -262,7 +262,7 @@ fn untaken_of(taken: &Listed, names: &[Name]) -> Option<Name>
     None
 }
 
-// Whether the name has to be taken and wasn't: g hasn't.
+// Whether the name has to be taken and wasn't; g never has to be.
 fn is_untaken(taken: &Listed, name: Name) -> bool
     ensures { result ≡ is_untaken taken.now name }
 {

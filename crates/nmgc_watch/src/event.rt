@@ -75,7 +75,7 @@ pub enum Why {
     NotDead(Name),
     /// The name has to be marked, and isn't told.
     NotTold(Name),
-    /// The name is told, and nothing keeps it.
+    /// The name is told, and the cycle didn't keep it: nothing of its snapshot does, or the name was made since the cycle began.
     NotMarked(Name),
     /// The name is freed, and was made since the cycle began.
     NotOld(Name),

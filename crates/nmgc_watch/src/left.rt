@@ -87,7 +87,8 @@ fn serial_in(serials: &[u32], maker: u8) -> u32
     }
 }
 
-/// The first of the others that is none of the names. Takes time for each name of the world, where it has them.
+/// The first of the others that is none of the names. Takes memory and time for each name of the world, and constant time
+/// for each of the others; one that the set doesn't have is looked for among all the names.
 pub(crate) fn missing(
     world: &World,
     names: &[Name],

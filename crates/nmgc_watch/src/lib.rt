@@ -9,7 +9,8 @@
 //! - `cycle`: one cycle, and `closing`: how it ends; `left`: what it leaves, compared with what the runtime marked or freed;
 //!   `ordered`: names that are found by a binary search.
 //! - `accounts`: what each mutator owes. `listed`: names, each once.
-//! - `due`: what a command makes due. `opened`: what it opens and finalises. `rows`: a copy of many fields, and a fill.
+//! - `due`: what a command makes due; what it opens and finalises is told by `nmgc_graph::opened`. `rows`: a copy of many
+//!   fields, and a fill.
 //! - `laws`: a reason refuses; and a cycle that closes without debts marked exactly what it had to, whatever marker ran
 //!   beside it.
 //!

@@ -2,7 +2,7 @@
 //!
 //! Each function here does nothing; its contract is the law. A clause can't speak of every set of names, so
 //! the laws on what is held speak of each set that a test tells, and of those that the collector rests on.
-//! For any other set the crates above cite the lemma of `specs/laws` of the same name.
+//! For any other set the crates above cite the lemmas `step_holds_only` and `closed_holds` of `specs/laws`.
 ghost use Rattle.std.specs.Prelude.{Bool};
 ghost use Rattle.nmgc_world_spec.specs.declared.value.Name.{Name};
 ghost use Rattle.nmgc_world_laws.specs.Reachable.{StepHoldsOnly, ClosingHoldsOnly, Passes, StepKeepsWorld, RowsKeepWorld, ClosingKeepsWorld, NewIsWorld, StepAddsOne, ClosingAddsNone, StaysUnreached, RowsHoldLive, NeverComesBack, ClosesWell, NothingReachableIsFreed, NothingReachableIsEverFreed, ReachableIsKept, ReachableIsEverKept};

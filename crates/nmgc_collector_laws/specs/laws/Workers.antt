@@ -9,6 +9,7 @@ use Rattle.nmgc_collector_laws.specs.Worked.{Done, HasWorked, HaveWorked}
 use Rattle.nmgc_lists.specs.laws.Items.{item}
 use Rattle.nmgc_collector_laws.specs.laws.Reading.{item_found}
 
+-- mutator k, with its part of the view and what it did
 pub record Worker (o : Opening) (parts : List Part) (mutators : List Mutator) (done : List (List Done)) (k : ℕ) : Type 0 where
   pub part : Part
   pub mutator : Mutator

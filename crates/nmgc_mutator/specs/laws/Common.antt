@@ -39,5 +39,6 @@ reserved number layout old m h r = subst (λ (x : Mutator). IsNew number layout 
   updrem = r.updrem.items ∙ h.updrem;
 })
 
+-- an odd word is no pointer, and so none to an object in a segment
 pub old_odd : (layout : Layout) (w : ℕ) → w % 2 ≡ 1 → is_old layout w ≡ false
 old_odd layout w odd = let e : eqb (w % 2) 0 ≡ false = ne_eqb (w % 2) 0 (omega (arith, odd)) in rw e refl

@@ -25,7 +25,7 @@ one_more n from quota le =
     let next : n - from ≡ suc k = omega arith in
     sym (ap (λ j. j * quota) next ∙ (omega arith))
 
--- a closing that isn't too late comes within as many rounds as scan one object less than is kept, and one more
+-- a closing that isn't too late comes at most (kept - 1) / quota + 1 rounds after the snapshot
 pub within_rounds : (quota : ℕ) (c : Cycle) (closed kept : ℕ) → 1 ≤ quota → IsSoon quota c closed → Counts (IsKeptObject c) kept →
     closed ≤ c.from + ((kept - 1) / quota + 1)
 within_rounds quota c closed kept some (inl first) counts = omega arith

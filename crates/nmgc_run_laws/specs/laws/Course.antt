@@ -31,6 +31,7 @@ waits_there a number is = used_exists a number (λ free. let bad : stands.Sweepi
 
 -- placing touches no waiting segment
 
+-- the same segments wait in both, and as they were
 pub record SameWait (a b : AllocState) : Type 0 where
   pub same : (number : ℕ) → IsIn stands.Sweeping (cells a number) → cells b number ≡ cells a number
   pub back : (number : ℕ) → IsIn stands.Sweeping (cells b number) → cells b number ≡ cells a number

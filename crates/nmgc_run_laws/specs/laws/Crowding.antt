@@ -1,4 +1,4 @@
--- A run that ends as heap full: its last stop did a full cycle, and is crowded.
+-- What the last stop of a run that ends as heap full did: a full cycle, after which it is crowded. And so every lawful report is one of its run.
 use Rattle.std.proofs.Common.{ℕ, ◌≡◌, ◌+◌, ◌<◌, ◌≤◌, List, [], ◌∷◌, ◌++◌, length, arith, refl, sym, ap, subst, ◌∙◌, Bool, true, Some, None, inl, inr}
 use Rattle.std.specs.Prelude.{nat_lt, ◌&&◌, if◌then◌else◌}
 use Rattle.std.proofs.lemmas.Bool.{ltb-true, cases_lt}

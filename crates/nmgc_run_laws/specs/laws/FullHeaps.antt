@@ -1,4 +1,4 @@
--- A run that ends as heap full is crowded: its last stop did a full cycle.
+-- What the rows of a run that ends as heap full tell: its last cycle kept more objects than there are segments above the reserve.
 use Rattle.std.proofs.Common.{ℕ, ◌≡◌, ◌+◌, ◌-◌, ◌<◌, ◌≤◌, List, [], ◌∷◌, ◌++◌, length, length-append, arith, refl, sym, ap, subst, ◌∙◌, Some, None, Bool, true, false, inl, inr, append_assoc, append-nil}
 use Rattle.std.specs.Prelude.{Option, slice_get, sum_by, nat_lt, ◌&&◌, flat_map, if◌then◌else◌}
 use Rattle.std.specs.Option.{option_map_or}

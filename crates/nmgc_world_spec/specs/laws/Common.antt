@@ -52,7 +52,7 @@ get_set_same xs k y low =
     let size = length-set xs k y in
     slice_get-get_or (set xs k y) k y (omega (arith, low, size)) ∙ ap (λ (n : Name). Some n) (get_or-set_same xs k y y low)
 
--- an alive weak pointer is in the map, and so is its key
+-- an alive weak pointer is in the map
 pub weak_there : (w : World) (weak : Name) (parts : Parts) → IsAlive w weak parts → IsSome (node_of w weak)
 weak_there w weak parts alive = subst (λ (o : Option Node). IsSome o) (sym alive) refl
 
