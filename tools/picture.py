@@ -6,7 +6,7 @@
     tools/picture.py dot [NAME] [--hops N] < IMAGE               the same as a graph for Graphviz
     tools/picture.py trace < TRACE                               the line of a trace that can't happen, and why
 
-Each takes `--title TEXT`. Bad input gets one line on standard error. How it is done is in tools/pictures.
+Each takes `--title TEXT`. Bad input gets one line on standard error, and wrong words get the usage besides. How it is done is in tools/pictures.
 """
 import os
 import sys
@@ -14,7 +14,10 @@ import sys
 sys.dont_write_bytecode = True
 sys.path.insert(0, os.path.dirname(os.path.realpath(__file__)))
 
-from pictures.commands import picture  # noqa: E402
+try:
+    from pictures.commands import picture
 
-if __name__ == "__main__":
-    sys.exit(picture(sys.argv[1:]))
+    status = picture(sys.argv[1:])
+except KeyboardInterrupt:
+    status = 130
+sys.exit(status)

@@ -14,6 +14,7 @@ Pictures, each a text of SVG made on a `svg.Sheet`:
 - `worlds`: the snapshot and the heap at the refused line, side by side.
 - `page`: one HTML file with pictures and tables; its style and its script are `page.css` and `page.js`.
 
-`commands` has what tools/picture.py and tools/page do with their words. Nothing that is drawn is trusted: whatever comes
-from a file or a title is escaped as it is put on the sheet, and not before.
+`commands` has what tools/picture.py and tools/page do with their words, `documents` makes the stored pictures again, and
+`notice` says what a tool waits for. Nothing that is drawn is trusted: whatever comes from a file or a title is escaped as
+it is put on the sheet, and not before.
 """

@@ -7,8 +7,8 @@ ones is shown, so that no peak is lost; of what the collector did, in how many o
 A cycle that is wide enough is drawn as a bar of its own. Of narrower ones, neighbours are gathered in a box with their
 number. How much they freed and kept is in lanes below, column by column.
 """
-from .rounds import DARK, GREY, LIGHT, sign
-from .svg import WIDTH, Sheet, first_fitting, fit
+from .rounds import DARK, GREY, LIGHT, segments_used, sign
+from .svg import SIZE, WIDTH, Sheet, first_fitting, fit
 from .text import count
 
 LEFT, RIGHT = 128, 16
@@ -109,8 +109,9 @@ def heading(sheet, title):
     for number in range(-(-(run.first - 1) // apart) * apart, run.last + 1, apart):
         x = sheet.x(number)
         sheet.line(x, sheet.y + 18, x, sheet.y + 24, "#000")
-        if x < WIDTH - RIGHT - 20:
-            sheet.text(x, sheet.y + 13, f"{number:,}")
+        words = f"{number:,}"
+        if x + len(words) * SIZE * 0.3 < WIDTH - 4:
+            sheet.text(x, sheet.y + 13, words)
     sheet.line(LEFT, sheet.y + 24, WIDTH - RIGHT, sheet.y + 24, "#000")
     sheet.y += 34
 
@@ -236,11 +237,9 @@ def segments(sheet):
     """The segments at that stop of each column at which the fewest are free: filled, waiting, in use with room."""
     run, height = sheet.run, 96
     shown = [min((run.stops[at + 1] for at in sheet.rounds_of(column)), key=lambda stop: stop.free) for column in range(sheet.columns)]
-    used = [run.segments - stop.free for stop in shown]
-    top = run.segments if max(used) * 4 >= run.segments else max(2, max(used) + 1)
-    least = min(stop.free for stop in shown)
-    sheet.lane("segments", f"{top:,} of {run.segments:,} shown" if top < run.segments else f"{run.segments:,} in all", f"{least:,} free at least")
-    base, unit = sheet.y + 4 + height, height / max(top, 1)
+    used, top, told = segments_used(run, shown)
+    sheet.lane("segments in use", *told)
+    base, unit = sheet.y + 4 + height, height / top
     filled, waiting = [stop.filled for stop in shown], [stop.waiting for stop in shown]
     taken = [a + b for a, b in zip(filled, waiting)]
     sheet.area(base, unit, [0] * len(used), filled, DARK)
@@ -275,5 +274,6 @@ def drawn(run, title, name="run"):
     heading(sheet, title)
     for lane in (mutators, collector, cycles, promoted, segments, key):
         lane(sheet)
-    told = f"{run.rounds} rounds, {len(run.stops)} stops, {len(run.cycles)} cycles; {sheet.gathered} rounds in a column; end {run.end}"
+    told = ", ".join(count(number, thing) for number, thing in ((run.rounds, "round"), (len(run.stops), "stop"), (len(run.cycles), "cycle")))
+    told += f"; {count(sheet.gathered, 'round')} in a column; end {run.end}"
     return sheet.svg(title, told)

@@ -1,8 +1,9 @@
 """What tools/picture.py and tools/page do with their words.
 
-A fault gets one line on standard error, and then nothing is written to standard output. The exit status is that of the
-programs themselves (docs/FORMATS.md): 2 for wrong words, 3 and 4 where reading or writing failed, 5 for a bad report or
-trace, 7 where there was no memory, 9 for a bad image; and 1 where there is nothing to draw.
+A fault gets one line on standard error, after the usage if the words are wrong, and then nothing is written to standard
+output. The exit status is that of the programs themselves (docs/FORMATS.md): 2 for wrong words, 3 and 4 if reading or
+writing failed, 5 for a bad report or trace, 7 if there was no memory, 9 for a bad image; and 1 if there is nothing to draw.
+If the reader of the output went away, the status is 4, and if the tool was interrupted, 130: then there is no line.
 """
 import argparse
 import contextlib
@@ -11,18 +12,20 @@ import sys
 
 from . import columns, dot, heap, judge, page, rounds, worlds
 from .image import read_image
+from .notice import Notice, say
 from .report import read_report
 from .text import BadInput, is_name
 
 USAGE, NOTHING, READ, WRITE, BAD_REPORT, NO_MEMORY, BAD_IMAGE = 2, 1, 3, 4, 5, 7, 9
+REPORT, IMAGE, TRACE = "a report of `nmgc run`", "an image of `nmgc image`", "a trace"
 
 
 class Fault(Exception):
-    """What is told in one line, and the exit status."""
+    """What is told in one line, the exit status, and the usage that is told before."""
 
-    def __init__(self, status, words):
+    def __init__(self, status, words, usage=""):
         super().__init__(words)
-        self.status = status
+        self.status, self.usage = status, usage
 
 
 class Words(argparse.ArgumentParser):
@@ -30,7 +33,7 @@ class Words(argparse.ArgumentParser):
 
     def error(self, message):
         """Words that are wrong."""
-        raise Fault(USAGE, f"{message}; --help tells more")
+        raise Fault(USAGE, message, self.format_usage())
 
 
 def whole(word):
@@ -53,19 +56,23 @@ def run_picture(run, title, name="run"):
     return (rounds if run.rounds <= rounds.MOST else columns).drawn(run, title, name)
 
 
-def read(reader, status, stream):
-    """What the reader makes of a stream; a bad text has this exit status."""
+def read(given, what, stream):
+    """What the reader of such texts makes of a stream."""
+    reader, status = {REPORT: (read_report, BAD_REPORT), IMAGE: (read_image, BAD_IMAGE), TRACE: (judge.watched, BAD_REPORT)}[what]
+    given.notice.reads(stream, what)
     try:
-        return reader(stream)
+        found = reader(stream)
     except BadInput as bad:
         raise Fault(status, str(bad)) from None
     except OSError as fault:
         raise Fault(READ, f"read fault: {fault.strerror}") from None
+    given.notice.draws()
+    return found
 
 
 def of_run(given, stream):
     """The picture of a run, or of some of its rounds."""
-    run = read(read_report, BAD_REPORT, stream)
+    run = read(given, REPORT, stream)
     first, last = given.rounds or (1, given.first or max(run.rounds, 1))
     if first > max(run.rounds, 1):
         raise Fault(USAGE, f"the run has {run.rounds:,} rounds")
@@ -74,7 +81,7 @@ def of_run(given, stream):
 
 def _view(given, stream):
     """What is to be shown of a heap."""
-    found = read(read_image, BAD_IMAGE, stream)
+    found = read(given, IMAGE, stream)
     if given.name is not None and given.name not in found.lines:
         told = f"the image has no object {given.name}" if is_name(given.name) else "the name of an object is maker.serial, or g"
         raise Fault(USAGE, told)
@@ -94,7 +101,7 @@ def of_dot(given, stream):
 
 def of_trace(given, stream):
     """The picture of a trace's refused line."""
-    watch = read(judge.watched, BAD_REPORT, stream)
+    watch = read(given, TRACE, stream)
     if watch.refusal is None:
         raise Fault(NOTHING, f"{watch.told()}: there is no refused line to draw")
     return worlds.drawn(watch, given.title or "The first line of a trace that can't happen")
@@ -103,7 +110,7 @@ def of_trace(given, stream):
 def of_page(given, stdin):
     """The page of a run, and of a heap."""
     with opened(given.report, stdin) as stream:
-        run = read(read_report, BAD_REPORT, stream)
+        run = read(given, REPORT, stream)
     view = None
     if given.image:
         given.name, given.hops = given.path, None
@@ -154,26 +161,33 @@ def page_words(tool):
     return words
 
 
-def told(tool, words, arguments):
-    """Does what the words ask for, and writes what came out; the exit status."""
-    try:
-        given = words.parse_args(arguments)
-        if sys.stdin is None or sys.stdout is None:
-            raise Fault(READ if sys.stdin is None else WRITE, "a standard stream is closed")
+def written(tool, words, arguments):
+    """Does what the words ask for, and writes what came out."""
+    given = words.parse_args(arguments)
+    if sys.stdin is None or sys.stdout is None:
+        raise Fault(READ if sys.stdin is None else WRITE, "a standard stream is closed")
+    with Notice(tool) as given.notice:
         text = given.draw(given, sys.stdin.buffer)
-        sys.stdout.buffer.write(text.encode("utf-8", "replace"))
-        sys.stdout.buffer.flush()
+    sys.stdout.buffer.write(text.encode("utf-8", "replace"))
+    sys.stdout.buffer.flush()
+
+
+def told(tool, words, arguments):
+    """Does what the words ask for, and tells a fault; the exit status."""
+    try:
+        written(tool, words, arguments)
         return 0
     except Fault as fault:
+        for line in fault.usage.splitlines():
+            say(line)
         status, said = fault.status, str(fault)
     except MemoryError:
         status, said = NO_MEMORY, "no memory"
     except OSError as fault:
         os.dup2(os.open(os.devnull, os.O_WRONLY), 1)
-        status, said = WRITE, f"write fault: {fault.strerror}"
-    line = "".join(it if it.isprintable() else "?" for it in f"{tool}: {said}")
-    if sys.stderr is not None:
-        sys.stderr.buffer.write(line.encode("utf-8", "replace") + b"\n")
+        status, said = WRITE, "" if isinstance(fault, BrokenPipeError) else f"write fault: {fault.strerror}"
+    if said:
+        say(f"{tool}: {said}")
     return status
 
 

@@ -78,5 +78,5 @@ def near_object(heap, every, name, way, hops=None):
         reached = distance
     where = f"what lies within {count(reached, 'hop')} of {name}, and its path"
     if len(way) > 2 * ENDS:
-        where += f" but for {len(way) - 2 * ENDS:,} objects in its middle"
+        where += f" but for {count(len(way) - 2 * ENDS, 'object')} in its middle"
     return Shown([it for it in every if it in shown], _sentence(heap, shown, where))

@@ -4,12 +4,14 @@ Tests compare those that are stored with what is made now, so that no picture is
 want the program, for no report of it is stored; the tests have its reports from their own rules.
 """
 import os
+import shutil
 import subprocess
 
 from . import heap, judge, worlds
-from .commands import run_picture
+from .commands import BAD_REPORT, USAGE, Fault, Words, run_picture, told
 from .image import read_image
 from .report import read_report
+from .text import BadInput
 
 TOP = os.path.dirname(os.path.dirname(os.path.dirname(os.path.abspath(__file__))))
 STORED = {
@@ -41,17 +43,32 @@ def of_stored(name):
 def of_bench(name, program):
     """A picture of the bench, whose script the program runs."""
     batches, title = BENCHES[name]
-    script = subprocess.Popen([os.path.join(TOP, "tools", "bench_script"), batches], stdout=subprocess.PIPE)
-    run = subprocess.Popen([program, "run"], stdin=script.stdout, stdout=subprocess.PIPE)
-    script.stdout.close()
-    drawn = run_picture(read_report(run.stdout), title)
-    run.stdout.close()
-    script.wait()
-    run.wait()
-    return drawn
+    with subprocess.Popen([os.path.join(TOP, "tools", "bench_script"), batches], stdout=subprocess.PIPE) as script:
+        with subprocess.Popen([program, "run"], stdin=script.stdout, stdout=subprocess.PIPE) as run:
+            script.stdout.close()
+            try:
+                return run_picture(read_report(run.stdout), title)
+            except BadInput as bad:
+                raise Fault(BAD_REPORT, f"the report of {program}: {bad}") from None
 
 
-def write(name, text):
-    """Stores a picture."""
-    with open(os.path.join(TOP, name), "w", encoding="utf-8") as file:
-        file.write(text)
+def every_picture(given, _):
+    """Makes all pictures, and stores them once all are there; their names, a line for each."""
+    if shutil.which(given.program) is None:
+        raise Fault(USAGE, f"no program {given.program}")
+    drawn = {name: of_stored(name) for name in STORED}
+    for name in BENCHES:
+        given.notice.doing = f"running the bench for {name}"
+        drawn[name] = of_bench(name, given.program)
+    for name, text in drawn.items():
+        with open(os.path.join(TOP, name), "w", encoding="utf-8") as file:
+            file.write(text)
+    return "".join(f"{name}\n" for name in drawn)
+
+
+def make_again(arguments):
+    """tools/doc_pictures."""
+    words = Words(prog="doc_pictures", description="Makes the pictures of README.md and docs/ again, and writes their names.")
+    words.add_argument("program", metavar="PROGRAM", nargs="?", default=os.path.join(TOP, "nmgc"), help="runs the bench; ./nmgc if none is named")
+    words.set_defaults(draw=every_picture)
+    return told("doc_pictures", words, arguments)

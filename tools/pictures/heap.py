@@ -114,19 +114,59 @@ def ports(layout):
 
 
 def curve(source, target, y1, y2):
-    """From the right side of one box to another one: to its left side, or where it doesn't stand further right round the boxes."""
+    """The four points of the curve from the right side of one box to another one: to its left side, or if it doesn't stand
+    further right, round the boxes."""
     x1 = source.x + source.width
     if target.x > source.x:
         bend = max((target.x - x1) / 2, 12)
-        return f"M{x1:.1f},{y1:.1f} C{x1 + bend:.1f},{y1:.1f} {target.x - bend - 6:.1f},{y2:.1f} {target.x - 6:.1f},{y2:.1f}"
+        return (x1, y1), (x1 + bend, y1), (target.x - bend - 6, y2), (target.x - 6, y2)
     if target.x == source.x:
         x2 = target.x + target.width
         bend = 16 + min(abs(y2 - y1) / 14, 16)
-        return f"M{x1:.1f},{y1:.1f} C{x1 + bend:.1f},{y1:.1f} {x2 + bend + 6:.1f},{y2:.1f} {x2 + 6:.1f},{y2:.1f}"
+        return (x1, y1), (x1 + bend, y1), (x2 + bend + 6, y2), (x2 + 6, y2)
     x1, x2 = source.x + source.width / 2, target.x + target.width / 2
     y1, y2 = source.y + source.height, target.y + target.height + 6
     low = max(y1, y2) + 22
-    return f"M{x1:.1f},{y1:.1f} C{x1:.1f},{low:.1f} {x2:.1f},{low:.1f} {x2:.1f},{y2:.1f}"
+    return (x1, y1), (x1, low), (x2, low), (x2, y2)
+
+
+def drawn_curve(points):
+    """A curve as a path of SVG."""
+    start, *rest = (f"{x:.1f},{y:.1f}" for x, y in points)
+    return f"M{start} C{' '.join(rest)}"
+
+
+def point(points, part):
+    """Where a curve is after this part of it."""
+    shares = (1 - part) ** 3, 3 * part * (1 - part) ** 2, 3 * part**2 * (1 - part), part**3
+    return tuple(sum(share * it[axis] for share, it in zip(shares, points)) for axis in (0, 1))
+
+
+class Numbers:
+    """The numbers of fields, which come on top of lines and boxes. Each stands near the end of its line, clear of the arrow's head."""
+
+    def __init__(self):
+        self.out, self.used = [], {}  # `used` has for each box how much of the space below it is taken
+
+    def add(self, source, target, points, words):
+        """The number of a field that is drawn along these points."""
+        width = len(words) * 6
+        if target.x < source.x:  # the lines of all such fields end at one place: their numbers stand beside it
+            x = target.x + target.width / 2 + 7 + self.used.get(target.name, 0)
+            self.used[target.name] = self.used.get(target.name, 0) + width + 4
+            self.out.append((x + width / 2, points[3][1] - 0.5, words))
+            return
+        end, beside = points[3], target.x == source.x
+        for part in range(31, 15, -1):
+            x, y = point(points, part / 32)
+            if abs(y - end[1]) >= 6 if beside else abs(x - end[0]) >= max(14, 3 + width / 2):
+                break
+        self.out.append((x + (max(width / 2 - 4, 0) if beside else 0), y, words))
+
+    def draw(self, sheet):
+        """Puts them down, each readable on its line."""
+        for x, y, words in self.out:
+            sheet.text(x, y + 3.5, words, font_size=10, paint_order="stroke", stroke="#fff", stroke_width=3)
 
 
 def head(sheet, source, target, y, stroke):
@@ -139,28 +179,19 @@ def head(sheet, source, target, y, stroke):
         sheet.path(f"M{target.x + target.width / 2:.1f},{target.y + target.height:.1f} l-3.5,7 h7 Z", stroke, "none")
 
 
-def draw_edges(sheet, view, layout):
-    """The fields, each as a line with its number near the object to which it refers."""
-    boxes, at = layout.boxes, ports(layout)
+def draw_edges(sheet, layout):
+    """The fields, each as a line; their numbers."""
+    boxes, at, numbers = layout.boxes, ports(layout), Numbers()
     for edge in sorted(layout.edges, key=lambda edge: edge.marked):
         source, target = boxes[edge.source], boxes[edge.target]
         y1, y2 = at.get((edge, "leaves"), source.middle), at.get((edge, "arrives"), target.middle)
         stroke = "#000" if edge.marked else GREY
         more = ' stroke-width="3"' if edge.marked else ""
-        sheet.path(curve(source, target, y1, y2), "none", stroke, more + ("" if edge.strong else ' stroke-dasharray="5 4"'))
+        points, words = curve(source, target, y1, y2), fields_told(edge.fields)
+        sheet.path(drawn_curve(points), "none", stroke, more + ("" if edge.strong else ' stroke-dasharray="5 4"'))
         head(sheet, source, target, y2, stroke)
-        words = fields_told(edge.fields)
-        if target.x > source.x:
-            number(sheet, target.x - 9, y2 - 3, words, "end")
-        elif target.x == source.x:
-            number(sheet, target.x + target.width + 9, y2 - 3, words, "start")
-        else:
-            number(sheet, target.x + target.width / 2 + 6, target.y + target.height + 13, words, "start")
-
-
-def number(sheet, x, y, words, anchor):
-    """A field's number, readable on lines."""
-    sheet.text(x, y, words, anchor, font_size=10, paint_order="stroke", stroke="#fff", stroke_width=3)
+        numbers.add(source, target, points, words)
+    return numbers
 
 
 def draw_roots(sheet, view, layout):
@@ -173,7 +204,7 @@ def draw_roots(sheet, view, layout):
                 stroke = "#000" if is_marked else GREY
                 dashes = ' stroke-dasharray="5 4"' if box.root.kind == "list" else ""
                 if box.root.kind != "none":
-                    sheet.path(curve(box, target, box.middle, target.middle), "none", stroke, (' stroke-width="3"' if is_marked else "") + dashes)
+                    sheet.path(drawn_curve(curve(box, target, box.middle, target.middle)), "none", stroke, (' stroke-width="3"' if is_marked else "") + dashes)
                     head(sheet, box, target, target.middle, stroke)
             more = ' rx="9"' + (' stroke-width="3"' if is_marked else "")
             if is_marked or name == box.targets[0]:
@@ -258,10 +289,11 @@ def drawn(view, title):
     heading(sheet, view, title)
     key(sheet, view)
     layout = layout_of(view, sheet.y)
-    draw_edges(sheet, view, layout)
+    numbers = draw_edges(sheet, layout)
     draw_roots(sheet, view, layout)
     for box in layout.boxes.values():
         draw_box(sheet, view, box)
+    numbers.draw(sheet)
     draw_levels(sheet, layout)
     sheet.y = layout.bottom
     return sheet.svg(title, " ".join(it for it in (count(len(view.heap.lines), "object"), view.cut, view.path_told()) if it))

@@ -47,10 +47,12 @@
     return button;
   }
 
-  const back = turner("Back", -size);
-  const on = turner("On", size);
-  leaf.before(back, " ");
-  leaf.after(" ", on);
+  const back = turner(`Previous ${size} cycles`, -size);
+  const on = turner(`Next ${size} cycles`, size);
+  if (cycles.length > size) {
+    leaf.before(back, " ");
+    leaf.after(" ", on);
+  }
   heads.forEach((head, at) => {
     const button = document.createElement("button");
     button.type = "button";

@@ -12,7 +12,7 @@ from .heap import KEEPS
 from .heap import drawn as heap_drawn
 from .image import KINDS
 from .paths import FINALISER, LOOSE, STRONG, WEAK
-from .svg import clean
+from .svg import NARROW, clean
 from .text import count
 
 LEAF = 100  # cycles that the table shows at once
@@ -33,8 +33,8 @@ def digest(text):
 
 
 def table(caption, heads, rows, more=""):
-    """A table of numbers; the first cell of each row, which names it, is a head."""
-    out = [f'<div class="table" tabindex="0" role="region" aria-label="{clean(caption)}"><table{more}><caption>{clean(caption)}</caption>']
+    """A table of numbers; the first cell of each row, which names it, is a head. Its caption stands outside of what scrolls."""
+    out = [f'<p class="caption">{clean(caption)}</p><div class="table" tabindex="0" role="region" aria-label="{clean(caption)}"><table{more}>']
     out.append("<thead><tr>" + "".join(f'<th scope="col">{clean(head)}</th>' for head in heads) + "</tr></thead><tbody>")
     for row in rows:
         cells = [f"{it:,}" if isinstance(it, int) else clean(it) for it in row]
@@ -43,8 +43,8 @@ def table(caption, heads, rows, more=""):
 
 
 def picture(svg, words, more=""):
-    """A picture that can be scrolled without a mouse."""
-    return f'<div class="picture{more}" tabindex="0" role="region" aria-label="{clean(words)}">\n{svg}</div>'
+    """A picture that can be scrolled without a mouse. Its own style is left out: that of the page does the same, and is the only one allowed."""
+    return f'<div class="picture{more}" tabindex="0" role="region" aria-label="{clean(words)}">\n{svg.replace(NARROW, "")}</div>'
 
 
 def summary(run, view):
@@ -52,8 +52,8 @@ def summary(run, view):
     rows = [
         ("rounds", f"{run.rounds:,}"), ("cycles", f"{len(run.cycles):,}, of which full: {sum(it.is_full for it in run.cycles):,}"),
         ("commands", f"{sum(sum(row) for row in run.commands):,}, by {count(len(run.commands), 'mutator')}"),
-        ("promoted", f"{sum(stop.promoted for stop in run.stops):,} objects"), ("freed", f"{sum(it.freed for it in run.cycles):,} objects"),
-        ("kept", f"{run.cycles[-1].kept if run.cycles else 0:,} objects, by the last cycle"),
+        ("promoted", count(sum(stop.promoted for stop in run.stops), "object")), ("freed", count(sum(it.freed for it in run.cycles), "object")),
+        ("kept", f"{count(run.cycles[-1].kept if run.cycles else 0, 'object')}, by the last cycle"),
         ("segments", f"{run.segments:,}, of which at least {min(stop.free for stop in run.stops):,} were free"), ("end", run.end),
     ]
     if view:

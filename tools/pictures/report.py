@@ -5,9 +5,10 @@ numbers are kept, so that memory grows with rounds and cycles alone.
 """
 import re
 from array import array
+from functools import lru_cache
 from typing import NamedTuple
 
-from .text import BELOW, MAKER, NUMBER, VALUE, Lines, is_name, is_value
+from .text import BELOW, MAKER, NUMBER, SURE_NAME, SURE_VALUE, VALUE, Lines, is_name, is_value, several
 
 LONGEST = 200  # bytes; no line of a report has as many
 REPLIES = "ok yes no updated already nopointer nofield wrongkind notowner fixed dead none stackfull stackempty".split()
@@ -15,7 +16,15 @@ REPLY = re.compile(f"({MAKER}) (?:({'|'.join(REPLIES)})|({VALUE}))")
 STOP = re.compile("stop N (idle|marking|sweeping) free N filled N sweep N promoted N".replace("N", f"({NUMBER})"))
 CYCLE = re.compile("cycle N from N closed N swept N had N freed N kept N dead N".replace("N", f"({NUMBER})"))
 END = re.compile("end (?:done|heapfull free N reserve N)".replace("N", f"({NUMBER})"))
+MORE_NAMES = {word: several(f"{word} {SURE_NAME}") for word in ("dead", "freed")}
+LONG = re.compile("[0-9]{19}")  # a number of fewer digits is never too large
 NAMES = 2  # so many of a cycle's freed names are kept
+
+
+@lru_cache(maxsize=None)
+def more_replies(mutator):
+    """The form of any number of replies of a mutator."""
+    return several(f"{mutator} (?:{SURE_VALUE}|{'|'.join(REPLIES)})")
 
 
 class Stop(NamedTuple):
@@ -115,7 +124,7 @@ class _Reader:
         if found is None:
             raise self.bad(why)
         words = [int(word) if word and word.isdigit() else word for word in found.groups()]
-        if any(isinstance(word, int) and word >= BELOW for word in words):
+        if LONG.search(self.line) and any(isinstance(word, int) and word >= BELOW for word in words):
             raise self.bad("a number is too large")
         return words
 
@@ -142,7 +151,7 @@ class _Reader:
             mutator = int(found.group(1))
             while len(commands) <= mutator:
                 commands.append(array("Q", bytes(8 * number)))
-            commands[mutator][-1] += 1
+            commands[mutator][-1] += 1 + self.lines.skip(more_replies(mutator), BELOW)
             self.next()
 
     def stop(self, number):
@@ -171,13 +180,16 @@ class _Reader:
 
     def names(self, word, number):
         """So many lines of the word and a name; the first names."""
-        first = []
-        for at in range(number):
+        first, at = [], 0
+        while at < number:
             line = self.line or ""
             if not line.startswith(word + " ") or not is_name(line[len(word) + 1 :]):
                 raise self.bad(f"`{word}` and a name was to come")
-            if at < NAMES:
+            at += 1
+            if at <= NAMES:
                 first.append(line[len(word) + 1 :])
+            if at >= NAMES:
+                at += self.lines.skip(MORE_NAMES[word], number - at)
             self.next()
         return first
 

@@ -5,7 +5,8 @@ There is a lane for each mutator (the commands that it did in each round), one f
 swept beside them), one for the cycles (from snapshot over closing to end), one for what was promoted, and an area for the
 segments.
 """
-from .svg import SIZE, WIDTH, Sheet, first_fitting, fit
+from .svg import SIZE, WIDTH, Sheet, alike, first_fitting, fit
+from .text import count
 
 LEFT, RIGHT = 128, 16
 MOST = 20  # rounds; of more no numbers can be read
@@ -38,11 +39,21 @@ class Rounds(Sheet):
         """Where a round begins."""
         return self.stop_left(number) - self.round_width
 
-    def lane(self, words, below=""):
+    def lane(self, words, *below):
         """The name of the lane that begins at `y`."""
         self.text(LEFT - 12, self.y + 15, words, "end")
-        if below:
-            self.text(LEFT - 12, self.y + 31, below, "end", font_size=11)
+        for at, line in enumerate(below):
+            self.text(LEFT - 12, self.y + 31 + 13 * at, line, "end", font_size=11)
+
+    def row(self, places, texts, down=15):
+        """Texts beside each other, each in the middle of its place."""
+        for x, words in zip(places, texts):
+            self.text(x, self.y + down, words)
+
+
+def numbered(numbers):
+    """Numbers with commas, and if these are too wide without."""
+    return [f"{it:,}" for it in numbers], [str(it) for it in numbers]
 
 
 def heading(sheet, title):
@@ -53,17 +64,14 @@ def heading(sheet, title):
     sheet.text(WIDTH - RIGHT, 24, end, "end")
     sheet.y = 40
     sheet.lane("rounds")
-    wide = sheet.round_width
-    for number in sheet.numbers():
-        words = first_fitting(wide + 8, (f"round {number}", str(number)))
-        if words:
-            sheet.text(sheet.round_left(number) + wide / 2, sheet.y + 15, words)
+    wide, numbers = sheet.round_width, sheet.numbers()
+    told = alike(wide + 8, [f"round {it:,}" for it in numbers], *numbered(numbers))
+    sheet.row([sheet.round_left(it) + wide / 2 for it in numbers], told)
     sheet.y += 20
     sheet.lane("stops")
-    for stop in run.stops:
-        words = first_fitting(sheet.stop_width + 12, (f"stop {stop.number}", str(stop.number)))
-        if words:
-            sheet.text(sheet.middle(stop.number), sheet.y + 15, words)
+    stops = [stop.number for stop in run.stops]
+    told = alike(sheet.stop_width + 12, [f"stop {it:,}" for it in stops], *numbered(stops))
+    sheet.row(map(sheet.middle, stops), told)
     sheet.y += 24
 
 
@@ -71,16 +79,17 @@ def mutators(sheet):
     """A lane for each mutator: a box for each round, as high as it did commands, with their number."""
     run = sheet.run
     height, apart = (30, 12) if len(run.commands) <= 8 else (16, 4)
-    most = max((count for row in run.commands for count in row), default=1) or 1
+    every = [commands for row in run.commands for commands in row]
+    most, wide = max(every, default=1) or 1, sheet.round_width
+    told = iter(alike(wide - 4, *numbered(every), size=10))
     for mutator, row in enumerate(run.commands):
-        sheet.lane(f"mutator {mutator}", "commands done" if mutator == 0 and height == 30 else "")
+        sheet.lane(f"mutator {mutator}", *(["commands done"] if mutator == 0 and height == 30 else []))
         base = sheet.y + height
-        for number, commands in zip(sheet.numbers(), row):
-            left, wide = sheet.round_left(number), sheet.round_width
+        for number, commands, words in zip(sheet.numbers(), row, told):
+            left = sheet.round_left(number)
             if commands:
                 tall = max(4, height * commands / most)
                 sheet.rect(left, base - tall, wide, tall, GREY)
-                words = str(commands)
                 size = SIZE if height == 30 and first_fitting(wide - 4, (words,)) else 10
                 sheet.label(left + wide / 2, base - (9 if height == 30 else 4), wide, words, size=size)
             else:
@@ -123,7 +132,7 @@ def places(sheet, cycle):
 
 def told(cycle, wide):
     """What a cycle freed and kept, and how many weak pointers died, in one line where it fits, else in two."""
-    freed, kept = f"freed {cycle.freed}", f"kept {cycle.kept}" + (f", dead {cycle.dead}" if cycle.dead else "")
+    freed, kept = f"freed {cycle.freed:,}", f"kept {cycle.kept:,}" + (f", dead {cycle.dead:,}" if cycle.dead else "")
     named = freed + (f" ({' '.join(cycle.names)})" if 0 < cycle.freed <= len(cycle.names) else "")
     one = first_fitting(wide - 6, (f"{named}, {kept}", f"{freed}, {kept}"))
     return [one] if one else [first_fitting(wide + 12, (named,)) or freed, kept]
@@ -138,7 +147,7 @@ class Bar:
         self.ways = [min(max(x, before - 23), after + 23) for x in places(sheet, cycle)]
         wide = max(self.ways[2] - self.ways[0], sheet.stop_width + 46 * cycle.is_full)
         kind = "full cycle" if cycle.is_full else "cycle"
-        self.title = first_fitting(wide + 8, (f"{kind} {cycle.number}", f"cycle {cycle.number}")) or str(cycle.number)
+        self.title = first_fitting(wide + 8, (f"{kind} {cycle.number:,}", f"cycle {cycle.number:,}")) or f"{cycle.number:,}"
         self.words = told(cycle, wide) if cycle.end <= sheet.run.last else []
         half = max([wide / 2] + [len(words) * SIZE * 0.3 for words in [self.title] + self.words])
         self.middle = min((self.ways[0] + self.ways[2]) / 2, WIDTH - 4 - half)
@@ -176,9 +185,9 @@ def cycles(sheet):
 def promoted(sheet):
     """How many objects each stop moved from the nurseries into segments."""
     sheet.lane("promoted", "nursery to segment")
-    for stop in sheet.run.stops:
-        words = first_fitting(sheet.stop_width + sheet.round_width - 4, (str(stop.promoted),))
-        sheet.text(sheet.middle(stop.number), sheet.y + 16, words)
+    stops = sheet.run.stops
+    told = alike(sheet.stop_width + sheet.round_width - 4, *numbered([stop.promoted for stop in stops]))
+    sheet.row([sheet.middle(stop.number) for stop in stops], told, 16)
     sheet.y += 44
 
 
@@ -195,13 +204,21 @@ def area(sheet, base, unit, below, counts, fill):
     sheet.path(f"M{' L'.join(upper + lower[::-1])} Z", fill, more=' stroke-width="0.8"')
 
 
+def segments_used(run, stops):
+    """How many segments are in use at each of these stops, how many the height of their lane stands for, and its words. If few
+    are in use, the lane is one higher than the most of them, else as high as all that the heap has."""
+    used = [run.segments - stop.free for stop in stops]
+    most = max(used)
+    top = run.segments if most * 4 >= run.segments else most + 1
+    return used, max(top, 1), (f"at most {most:,}", f"of {run.segments:,}")
+
+
 def segments(sheet):
-    """The segments as areas, from below: filled, waiting for a sweep, in use with room; free ones are the rest above."""
+    """The segments in use as areas, from below: filled, waiting for a sweep, with room."""
     run, height = sheet.run, 96
-    used = [run.segments - stop.free for stop in run.stops]
-    top = run.segments if max(used) * 4 >= run.segments else max(2, max(used) + 1)
-    sheet.lane("segments", f"{top} of {run.segments} shown" if top < run.segments else f"{run.segments} in all")
-    base, unit = sheet.y + 18 + height, height / max(top, 1)
+    used, top, told = segments_used(run, run.stops)
+    sheet.lane("segments in use", *told)
+    base, unit = sheet.y + 18 + height, height / top
     filled = [stop.filled for stop in run.stops]
     waiting = [stop.waiting for stop in run.stops]
     taken = [a + b for a, b in zip(filled, waiting)]
@@ -209,9 +226,9 @@ def segments(sheet):
     area(sheet, base, unit, filled, waiting, sheet.fill("waiting"))
     area(sheet, base, unit, taken, [a - b for a, b in zip(used, taken)], LIGHT)
     wide = sheet.stop_width + sheet.round_width
-    for stop in run.stops[: run.rounds]:
-        words = first_fitting(wide - 4, (f"{stop.free} free", str(stop.free)))
-        sheet.text(sheet.middle(stop.number) + wide / 2, sheet.y + 12, words)
+    stops = run.stops[: run.rounds]
+    told = alike(wide - 4, [f"{stop.free:,} free" for stop in stops], *numbered([stop.free for stop in stops]))
+    sheet.row([sheet.middle(stop.number) + wide / 2 for stop in stops], told, 12)
     sheet.path(f"M{LEFT},{base - height:.1f} V{base:.1f} H{WIDTH - RIGHT}")
     sheet.y = base + 30
 
@@ -244,5 +261,5 @@ def drawn(run, title, name="run"):
         bands.rect(sheet.stop_left(stop.number), top, sheet.stop_width, sheet.y - 30 - top, "#ececec", "none")
     sheet.out[behind:behind] = bands.out
     key(sheet)
-    told = f"{run.rounds} rounds, {len(run.stops)} stops, {len(run.cycles)} cycles; end {run.end}"
+    told = f"{count(run.rounds, 'round')}, {count(len(run.stops), 'stop')}, {count(len(run.cycles), 'cycle')}; end {run.end}"
     return sheet.svg(title, told)

@@ -9,6 +9,7 @@ from html import escape
 WIDTH = 900
 SIZE = 13  # of text, in pixels
 FONT = "DejaVu Sans, Verdana, Arial, sans-serif"
+NARROW = "<style>@media (max-width: 900px) { svg { width: 100%; height: auto; } }</style>\n"  # a picture fits into a narrow window
 LEFT_OUT = re.compile("[^\t\n\x20-\ud7ff\ue000-\ufffd\U00010000-\U0010ffff]")
 PATTERNS = {
     "marks": (7, 45, '<line x1="0" y1="0" x2="0" y2="7" stroke="#000" stroke-width="2.4"/>'),
@@ -34,6 +35,12 @@ def fit(words, width, size=SIZE):
 def first_fitting(width, choices, size=SIZE):
     """The first of the texts that fits into this width, or an empty one."""
     return next((it for it in choices if len(it) * size * 0.6 <= width), "")
+
+
+def alike(width, *forms, size=SIZE):
+    """Texts that stand in a row, all in one form: the first form whose texts all fit into this width, else what fits of the last."""
+    fitting = [[first_fitting(width, (it,), size) for it in form] for form in forms]
+    return next((form for form, shown in zip(forms, fitting) if form == shown), fitting[-1])
 
 
 class Sheet:
@@ -100,7 +107,7 @@ class Sheet:
         return "\n".join([head, told, self._defs(), ground, *self.out, "</svg>"]) + "\n"
 
     def _defs(self):
-        defs = ["<defs>"]
+        defs = [f"{NARROW}<defs>"]
         for name in self.patterns:
             size, turn, mark = PATTERNS[name]
             turned = f' patternTransform="rotate({turn})"' if turn else ""

@@ -8,7 +8,7 @@ from typing import NamedTuple, Optional
 
 from .paths import Found, Root, Step, all_found, path, search, spread
 from .svg import WIDTH, Sheet, fit
-from .text import is_reference
+from .text import count, is_reference
 
 PANEL, SPACE, TOP = 430, 16, 30
 BOX, HEIGHT, PITCH = 168, 36, 72
@@ -136,7 +136,7 @@ class Panel:
 
     def gap(self, row, column, left_out):
         """Says how many objects are left out there."""
-        self.sheet.text(self.x(column) + BOX / 2, self.y(row) + 22, f".. {left_out:,} more objects ..", font_size=11)
+        self.sheet.text(self.x(column) + BOX / 2, self.y(row) + 22, f".. {count(left_out, 'more object')} ..", font_size=11)
 
     def arrow(self, row, column, words, strong=True, broken=False):
         """From the box of a row to the one below it."""
@@ -226,7 +226,7 @@ def events(sheet, watch):
         rows.append((debt.line, f"{debt.mutator} {debt.command}", f"from here on {debt.name} is {word}: {why_due(debt)}"))
     rows.append((refusal.line, refusal.words, "this line can't happen" + (f": the heap answers {refusal.answer}" if refusal.answer else "")))
     for number, words, what in rows:
-        sheet.text(96, sheet.y, f"line {number:,}", "end", font_size=12)
+        sheet.text(96, sheet.y, f"line {number}", "end", font_size=12)
         sheet.text(112, sheet.y, fit(words, 300, 12.5), "start", font_size=12, font_family="DejaVu Sans Mono, monospace")
         sheet.text(424, sheet.y, fit(what, 480, 11), "start", font_size=12)
         sheet.y += 19
@@ -248,14 +248,14 @@ def told(watch, now):
     """What the two worlds show, in words."""
     refusal, name = watch.refusal, watch.refusal.name
     if refusal.reason:
-        return refusal.reason + (f" Nothing leads to it any more at line {refusal.line:,}." if refusal.debt and not now else "")
+        return refusal.reason + (f" Nothing leads to it any more at line {refusal.line}." if refusal.debt and not now else "")
     if refusal.sort == "due":
-        gone = f"Nothing leads to it any more at line {refusal.line:,}; the rule asks for it all the same."
-        held = f"Yet it can still be reached at line {refusal.line:,}." if now else gone
+        gone = f"Nothing leads to it any more at line {refusal.line}; the rule asks for it all the same."
+        held = f"Yet it can still be reached at line {refusal.line}." if now else gone
         source, line = refusal.debt.source, refusal.debt.line
         if refusal.debt.command.startswith(("deref", "finalise")):
-            return f"Line {line:,} took {name} out of the weak pointer {source}, which the marker doesn't follow, and nobody remembered it. {held}"
-        return f"A marker that comes to {source} only after line {line:,} may not find {name} there, and nobody remembered it. {held}"
+            return f"Line {line} took {name} out of the weak pointer {source}, which the marker doesn't follow, and nobody remembered it. {held}"
+        return f"A marker that comes to {source} only after line {line} may not find {name} there, and nobody remembered it. {held}"
     is_there = watch.snapshot is not None and name in watch.snapshot.lines
     return {
         "answer": "The heap and the trace disagree before any barrier comes in.",
@@ -283,7 +283,7 @@ def draw_worlds(sheet, watch, name, then, now):
     """Both worlds side by side, each in its panel."""
     rows = max([len(it.hops) + bool(it.gap) for it in (then, now) if it], default=0)
     top, line = sheet.y + 4, watch.refusal.line
-    for at, world, words in ((0, watch.snapshot, f"the snapshot, line {watch.mark_line:,}"), (1, watch.world, f"the heap at line {line:,}")):
+    for at, world, words in ((0, watch.snapshot, f"the snapshot, line {watch.mark_line}"), (1, watch.world, f"the heap at line {line}")):
         left = 12 + at * (PANEL + SPACE)
         sheet.rect(left, top, PANEL, TOP + rows * PITCH + HEIGHT + 22, "none", "#bbb")
         sheet.text(left + 12, top + 20, words if world else "no cycle has begun", "start", font_weight="bold")

@@ -2,6 +2,8 @@
 import io
 import os
 import re
+import subprocess
+import tempfile
 import xml.etree.ElementTree as tree
 
 TOP = os.path.dirname(os.path.dirname(os.path.dirname(os.path.dirname(os.path.abspath(__file__)))))
@@ -16,6 +18,15 @@ def path(*names):
 def content(*names):
     with open(path(*names), encoding="utf-8") as file:
         return file.read()
+
+
+def rows(program):
+    """The rows of a program (examples/rows): its words, all that it reads, and all that it writes."""
+    with tempfile.TemporaryDirectory() as room:
+        subprocess.run([path("examples", "rows", "cases"), room], check=True)
+        for line in content(room, program + ".list").splitlines():
+            case = path(room, program, line.split(" ")[0])
+            yield content(case + ".args").split("\n")[:-1], content(case), content(case + ".stdout")
 
 
 def stream(text):

@@ -1,13 +1,15 @@
 """tools/picture.py and tools/page: what they write, and the one line and the status of a fault."""
 import io
 import os
+import pty
+import signal
 import subprocess
 import sys
 import tempfile
 import unittest
 from unittest import mock
 
-from .. import commands
+from .. import commands, notice
 from .support import content, path
 
 
@@ -23,6 +25,13 @@ def started(tool, *words, given=""):
     """The same of the tool itself."""
     done = subprocess.run([sys.executable, path("tools", tool), *words], input=given.encode(), capture_output=True)
     return done.returncode, done.stdout.decode(), done.stderr.decode()
+
+
+class Started(subprocess.Popen):
+    """tools/picture.py, with this standard input."""
+
+    def __init__(self, stdin):
+        super().__init__([sys.executable, path("tools", "picture.py")], stdin=stdin, stdout=subprocess.PIPE, stderr=subprocess.PIPE)
 
 
 REPORT, IMAGE = content("examples", "cycle.report"), content("examples", "kept.image")
@@ -64,10 +73,21 @@ class Tools(unittest.TestCase):
         for words, given, status, line in FAULTS:
             self.assertEqual(ran("picture.py", *words, given=given), (status, "", line + "\n"), words)
 
-    def test_wrong_words_get_one_line(self):
+    def test_wrong_words_get_the_usage_and_one_line(self):
         for tool, words in (("picture.py", ["run", "--rounds", "3-2"]), ("picture.py", ["--what"]), ("picture.py", ["heap", "--hops", "-1"]), ("page", [])):
             status, out, said = ran(tool, *words, given=REPORT)
-            self.assertEqual((status, out, said.count("\n"), said.startswith(tool + ": ")), (2, "", 1, True), words)
+            lines = said.splitlines()
+            self.assertEqual((status, out, lines[0].startswith(f"usage: {tool}"), lines[-1].startswith(tool + ": ")), (2, "", True, True), words)
+
+    def test_every_tool_has_its_usage(self):
+        before = content("docs", "kept.svg")
+        for tool in ("picture.py", "page", "doc_pictures", "costs", "documents", "statement", "bench_script"):
+            for words, status in (["-h"], 0), (["--what", "7"], 2):
+                interpreter = [] if tool == "bench_script" else [sys.executable]
+                done = subprocess.run([*interpreter, path("tools", tool), *words], stdin=subprocess.DEVNULL, capture_output=True)
+                told, other = (done.stderr, done.stdout) if status else (done.stdout, done.stderr)
+                self.assertEqual((done.returncode, told[:7], other), (status, b"usage: ", b""), (tool, words))
+        self.assertEqual(content("docs", "kept.svg"), before)
 
     def test_parts_of_a_run(self):
         self.assertIn("rounds 2 to 3 of 5", ran("picture.py", "--rounds", "2-3", given=REPORT)[1])
@@ -101,10 +121,26 @@ class Tools(unittest.TestCase):
         self.assertIn("&lt;img src=x onerror=alert(1)&gt;", out)
 
     def test_a_reader_that_goes_away(self):
-        tool = subprocess.Popen([sys.executable, path("tools", "picture.py")], stdin=subprocess.PIPE, stdout=subprocess.PIPE, stderr=subprocess.PIPE)
-        tool.stdout.close()
-        tool.stdin.write(REPORT.encode())
-        tool.stdin.close()
-        said = tool.stderr.read().decode()
-        tool.stderr.close()
-        self.assertEqual((tool.wait(), said), (4, "picture.py: write fault: Broken pipe\n"))
+        with Started(subprocess.PIPE) as tool:
+            tool.stdout.close()
+            tool.stdin.write(REPORT.encode())
+            tool.stdin.close()
+            self.assertEqual((tool.stderr.read(), tool.wait()), (b"", 4))
+
+    def test_a_terminal_is_waited_for_and_an_interrupt_makes_no_noise(self):
+        terminal, stdin = pty.openpty()
+        with Started(stdin) as tool:
+            self.assertEqual(tool.stderr.readline(), b"picture.py: waiting for a report of `nmgc run` on standard input\n")
+            tool.send_signal(signal.SIGINT)
+            self.assertEqual((tool.stdout.read(), tool.stderr.read(), tool.wait()), (b"", b"", 130))
+        os.close(terminal)
+        os.close(stdin)
+
+    def test_what_takes_long_is_told_on_a_terminal(self):
+        for is_terminal in (True, False):
+            told = io.TextIOWrapper(io.BytesIO())
+            with mock.patch.object(sys, "stderr", told), mock.patch.object(notice, "LONG", 0.01), mock.patch.object(told, "isatty", lambda: is_terminal, create=True):
+                with notice.Notice("page") as sign:
+                    sign.reads(io.BytesIO(), "a report")
+                    sign.over.wait(0.1)
+            self.assertEqual(told.buffer.getvalue(), b"page: reading a report; this takes a while\n" if is_terminal else b"")

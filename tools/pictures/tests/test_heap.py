@@ -48,6 +48,17 @@ class Pictures(unittest.TestCase):
         for words in ("1", "3, 4"):
             self.assertIn(words, texts(svg))
 
+    def test_no_number_of_a_field_lies_on_an_arrow(self):
+        for text in (kept(), drawn(24, 3), tree(4)):
+            svg = heap.drawn(view(text), "")
+            heads = [tuple(map(float, re.match(r"M([\d.]+),([\d.]+) l(-?[\d.]+)", it.get("d")).groups())) for it in elements(svg, "path") if it.get("stroke") == "none"]
+            numbers = [(float(it.get("x")), float(it.get("y")) - 3.5, "".join(it.itertext())) for it in elements(svg, "text") if it.get("paint-order")]
+            self.assertTrue(numbers)
+            for x, y, words in numbers:
+                if len(words) == 1:
+                    for tip, middle, back in heads:
+                        self.assertFalse(min(tip, tip + back) - 2 < x < max(tip, tip + back) + 2 and abs(y - middle) < 5, (words, x, y, tip, middle))
+
     def test_a_loose_object_has_no_path(self):
         svg = heap.drawn(view(image({"0.0": "con 0", "0.1": "var 0.0"}), "0.0"), "")
         self.assertIn("No path of strong fields leads to 0.0 from g, a register or a queue of finalisers: `nmgc retain` tells none.", texts(svg))

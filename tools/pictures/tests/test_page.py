@@ -101,6 +101,22 @@ class Pages(unittest.TestCase):
             self.assertIn(words, text)
         self.assertIn("<p>No cycle ended.</p>", written(content("examples", "tutorial.report")))
 
+    def test_one_is_not_told_as_many(self):
+        text = written(content("examples", "cycle.report"))
+        self.assertIn("<dt>freed</dt><dd>1 object</dd>", text)
+        for words in ("freed", "kept", "promoted"):
+            self.assertNotRegex(text, rf"<dt>{words}</dt><dd>1 objects")
+
+    def test_captions_stand_outside_of_what_scrolls(self):
+        outline = Outline(kept())
+        self.assertEqual(outline.named("caption"), [])
+        self.assertEqual([it["class"] for it in outline.named("p") if it["class"] == "caption"], ["caption"] * len(outline.named("table")))
+
+    def test_buttons_say_what_they_do(self):
+        script = page.own("page.js")
+        self.assertIn("turner(`Previous ${size} cycles`, -size)", script)
+        self.assertIn("turner(`Next ${size} cycles`, size)", script)
+
     def test_whatever_scrolls_can_be_reached_by_keys(self):
         for attributes in Outline(kept()).named("div"):
             self.assertEqual((attributes.get("tabindex"), attributes.get("role")), ("0", "region"))

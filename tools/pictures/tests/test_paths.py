@@ -3,8 +3,10 @@ import unittest
 
 from ..image import read_image
 from ..paths import FINALISER, LOOSE, STRONG, WEAK, all_found, keepers, path, path_text, roots, search
+from ..text import BadInput
+from ..world import is_told_name
 from .images import drawn, image, listed, shared
-from .support import content, stream
+from .support import content, rows, stream
 
 
 def heap_of(text):
@@ -46,6 +48,15 @@ class Paths(unittest.TestCase):
     def test_the_stored_path(self):
         heap = heap_of(content("examples", "kept.image"))
         self.assertEqual(path_text(search(heap), "0.0"), content("examples", "kept.path"))
+
+    def test_the_paths_of_the_rows(self):
+        for words, text, written in rows("nmgc"):
+            if words[:1] == ["retain"] and len(words) == 2 and is_told_name(words[1]):
+                try:
+                    told = path_text(search(heap_of(text)), words[1])
+                except BadInput as bad:
+                    told = f"{bad}\n"
+                self.assertEqual(told, written, text)
 
     def test_no_path_is_shorter(self):
         for seed in range(40):

@@ -61,6 +61,20 @@ class Reports(unittest.TestCase):
                 read_report(stream(text.encode("utf-8", "replace").decode()))
             self.assertTrue(str(caught.exception).isprintable())
 
+    def test_many_lines_alike(self):
+        # They are read many at once; a long one among them, or one that isn't alike, is read as it would be alone.
+        lines = ["report 1", "stop 0 idle free 9 filled 0 sweep 0 promoted 0", "round 1"] + [f"7 7.{at}" for at in range(9000)]
+        rest = ["stop 1 idle free 9 filled 0 sweep 0 promoted 0", "cycle 1 from 1 closed 1 swept 0 had 9000 freed 9000 kept 0 dead 0"]
+        rest += [f"freed 7.{at}" for at in range(9000)] + ["end done", ""]
+        run = read_report(stream("\n".join(lines + ["7 4294967295", "7 7.4294967295", "8 ok"] + rest)))
+        self.assertEqual((run.commands[7][0], run.commands[8][0], run.cycles[0].names), (9002, 1, ("7.0", "7.1")))
+        for at, words in ((8500, "7 7.4294967296"), (8501, "6 ok"), (8502, "7 ok "), (17500, "freed 7.04"), (18006, "freed 7.1")):
+            bad = lines + rest
+            bad[at - 1] = words
+            with self.assertRaises(BadInput) as caught:
+                read_report(stream("\n".join(bad)))
+            self.assertTrue(str(caught.exception).startswith(f"bad line {at}: "), (at, str(caught.exception)))
+
     def test_a_part_of_a_run(self):
         run = read_report(stream(short_cycles(50)))
         part = run.part(11, 20)

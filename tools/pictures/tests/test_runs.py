@@ -17,7 +17,7 @@ class FewRounds(unittest.TestCase):
         svg = picture(content("examples", "cycle.report"))
         for words in ("round 5", "stop 5", "19", "2", "cycle 1", "freed 0, kept 16", "freed 1 (0.0), kept 15", "16"):
             self.assertIn(words, texts(svg))
-        for words in ("32 free", "31 free", "end done", "2 of 32 shown"):
+        for words in ("32 free", "31 free", "end done", "segments in use", "at most 1", "of 32"):
             self.assertIn(words, texts(svg))
         self.assertEqual((texts(svg).count("marks"), texts(svg).count("sweeps"), texts(svg).count("31 free")), (2, 2, 4))
 
@@ -28,6 +28,17 @@ class FewRounds(unittest.TestCase):
         self.assertIn("kept 4", texts(svg))
         self.assertIn("freed 1 (0.0)", texts(picture(content("examples", "full.report"))))
         self.assertEqual(too_wide(svg), [])
+
+    def test_numbers_of_a_row_have_one_form(self):
+        svg = content("docs", "bench.svg")  # ten rounds: no room for "round 10"
+        told = texts(svg)
+        at = told.index("rounds")
+        self.assertEqual(told[at : at + 12], ["rounds", *map(str, range(1, 11)), "stops"])
+        self.assertEqual([told.count(words) for words in ("1,026", "1026", "freed 4,096", "128 free", "112 free")], [24, 0, 1, 1, 2])
+        maker = Maker(1, 99)
+        for at in range(16):
+            maker.round(1234 + at)  # no room for a comma
+        self.assertEqual([texts(picture(maker.text())).count(words) for words in ("1234", "1249", "1,249")], [1, 1, 0])
 
     def test_many_mutators(self):
         maker = Maker(32, 256)
@@ -62,7 +73,7 @@ class ManyRounds(unittest.TestCase):
             self.assertEqual((sum(map(sum, run.commands)), run.rounds, len(run.cycles), promoted, freed, run.cycles[-1].kept if run.cycles else 0), told)
         svg = content("docs", "bench100.svg")  # which is what is made of bench(100): test_documents.py
         for words in ("102 rounds, 50 cycles; the longest is cycle 1, over 2 stops", "commands done: at most 1,027 by a mutator in a column",
-                      "at most 8,192", "at most 4,096", "17 of 128 shown", "112 free at least", "end done"):
+                      "at most 8,192", "at most 4,096", "at most 16", "of 128", "end done"):
             self.assertIn(words, texts(svg))
         self.assertEqual(too_wide(svg), [])
 
@@ -114,7 +125,7 @@ class ManyRounds(unittest.TestCase):
         lines = maker.text().splitlines()
         at = next(at for at, line in enumerate(lines) if line.startswith("stop 777 "))
         lines[at] = "stop 777 idle free 5 filled 50 sweep 9 promoted 0"
-        self.assertIn("5 free at least", texts(picture("\n".join(lines) + "\n")))
+        self.assertIn("at most 59", texts(picture("\n".join(lines) + "\n")))
 
     def test_parts_and_every_length(self):
         run = read_report(stream(long_cycles(60, 25)))

@@ -5,7 +5,7 @@ import unittest
 from ..judge import watched
 from ..text import BadInput
 from ..worlds import broken_lead, drawn, lead
-from .support import HOSTILE, content, elements, ids_are_right, path, stream, texts, too_wide
+from .support import HOSTILE, content, elements, ids_are_right, path, rows, stream, texts, too_wide
 
 HEAD = "trace 2\nmutators 1\n"
 CELL = HEAD + "0 num r1 5 = ok\n0 con r2 0 r1 = 0.0\n0 var r0 r2 = 0.1\n0 nil r2 = ok\n"
@@ -121,6 +121,11 @@ class Traces(unittest.TestCase):
         for name, text, words in stored():
             self.assertEqual(told(text), words, name)
 
+    def test_what_is_told_of_the_rows(self):
+        for words, text, written in rows("nmgc_trace"):
+            if words == ["-"]:
+                self.assertEqual(f"-: {told(text)}\n", written, text)
+
     def test_more_traces(self):
         for text, words in TOLD:
             self.assertEqual(told(text), words, text)
@@ -161,6 +166,13 @@ class Worlds(unittest.TestCase):
                 self.assertEqual([words for words in too_wide(svg) if "script" not in words], [])
                 self.assertTrue(ids_are_right(svg))
         self.assertEqual(sorts, {"due", "answer", "name", "take", "untaken", "told", "needed", "new", "marked", "dead", "other", "push", "scan", "queue"})
+
+    def test_the_number_of_a_line_has_one_form(self):
+        text = content("examples", "traces", "insertion_barrier.trace").replace("close", "#\n" * 10012 + "close")
+        told = " ".join(texts(drawn(watched(stream(text)), "")))
+        self.assertIn("line 10022 can't happen", told)
+        self.assertGreaterEqual(told.count("line 10022"), 4)
+        self.assertNotIn("10,022", told)
 
     def test_a_long_path_is_shortened(self):
         lines = ["0 con r0 0 = 0.0"] + [f"0 con r0 0 r0 = 0.{at}" for at in range(1, 100)] + ["0 var r0 r0 = 0.100", "mark", "0 set r0 0 g = ok", "close"]
