@@ -34,67 +34,6 @@ fn dead_lines_give_jobs(rt: HostRuntime) -> Result<(), Fail> {
     Ok(())
 }
 
-#[test]
-fn a_dead_line_without_one_name_is_bad(rt: HostRuntime) -> Result<(), Fail> {
-    for (text, bad) in [
-        ("dead 0.1\ndead 0.4 x\n", 2u32),
-        ("dead", 1u32),
-        ("\n\ndead \ndead", 3u32),
-        ("dead 00.1", 1u32),
-        ("dead 256.0", 1u32),
-    ] {
-        let line = match jobs(rt.alloc(), text.as_bytes()) {
-            Err(JobsFault::Bad { line }) => line,
-            _ => 0,
-        };
-        assert!(rt; line == bad);
-    }
-    Ok(())
-}
-
-// What the program leaves for one word and these bytes: its number, and what the sink has.
-fn told<R: Threads + Wait + Sync>(
-    alloc: Global,
-    rt: &R,
-    word: &str,
-    bytes: &str,
-) -> Result<(u8, Vec<u8>), Fail> {
-    let mut words = Vec::new(alloc);
-    words.push(String::from_str(alloc, word)?)?;
-    let mut source = MemorySource::new(
-        Vec::from_slice(alloc, bytes.as_bytes())?,
-        3,
-        Vec::new(alloc),
-    );
-    let mut sink = MemorySink::new(alloc, 7, Vec::new(alloc), 1000)?;
-    let status = nmgc_fin(alloc, rt, words.as_slice(), &mut source, &mut sink);
-    let text = Vec::from_slice(alloc, sink.bytes())?;
-    Ok((status.number(), text))
-}
-
-#[test]
-fn rows_have_these_texts(rt: HostRuntime) -> Result<(), Fail> {
-    for (word, bytes, number, text) in [
-        (
-            "3",
-            "report 1\nround 1\n0 dead\ndead 0.4\ndead 0.5\ndead 0.6\nend done\n",
-            0u8,
-            "jobs 3\njob 0 0.4\njob 1 0.5\njob 2 0.6\nend\n",
-        ),
-        ("1", "", 0, "jobs 0\nend\n"),
-        ("32", "report 1\ndead 0.4 x\ndead\n", 5, "bad line 2\n"),
-        ("33", "dead", 2, "usage: nmgc_fin W\n"),
-        ("0", "dead", 2, "usage: nmgc_fin W\n"),
-        ("03", "dead", 2, "usage: nmgc_fin W\n"),
-        ("", "dead", 2, "usage: nmgc_fin W\n"),
-    ] {
-        let (status, found) = told(rt.alloc(), &rt, word, bytes)?;
-        assert!(rt; status == number);
-        assert!(rt; found.as_slice() == text.as_bytes());
-    }
-    Ok(())
-}
-
 // A report with two dead weak pointers, and what is told of it.
 const TWO: &str = "report 1\n0 dead\ndead 0.4\ndead g\nend done\n";
 

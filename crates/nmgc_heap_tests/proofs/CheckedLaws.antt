@@ -1,30 +1,12 @@
 -- A heap that was checked word by word meets what promotion asks.
-use Rattle.std.proofs.Common.{◌≡◌, ◌≢◌, ◌<◌, ◌≤◌, ◌+◌, ◌-◌, ◌*◌, ◌⊎◌, ℕ, List, length, inl, inr, refl, sym, ap, subst, ◌∙◌, arith, Bool, true, false, eqb}
+use Rattle.std.proofs.{Common.◌≡◌, Common.◌≢◌, Common.◌<◌, Common.◌≤◌, Common.◌+◌, Common.◌-◌, Common.◌*◌, Common.◌⊎◌, Common.ℕ, Common.List, Common.length, Common.inl, Common.inr, Common.refl, Common.sym, Common.ap, Common.subst, Common.◌∙◌, Common.arith, Common.Bool, Common.true, Common.false, Common.eqb, Math.Nat.mul-le-mul_right, Math.ListN.get_or-eq_default, lemmas.Bool.cases_eq, lemmas.Bool.cases_lt, lemmas.Bool.cases_order}
 use Rattle.std.specs.Prelude.{slice_index}
-use Rattle.std.proofs.Math.Nat.{mul-le-mul_right}
-use Rattle.std.proofs.Math.ListN.{get_or-eq_default}
-use Rattle.std.proofs.lemmas.Bool.{cases_eq, cases_lt, cases_order}
-use Rattle.nmgc_world_spec.specs.declared.node.Kind.{Kind}
-use Rattle.nmgc_world_spec.specs.declared.node.Kind.TheVariants.{Con, Var, Arr, Thunk, Weak, Stack}
-use Rattle.nmgc_object.specs.Words.{header_word, HasFields}
-use Rattle.nmgc_object.specs.Places.{nursery_place}
-use Rattle.nmgc_object.specs.declared.layout.Layout.{Layout}
-use Rattle.nmgc_object.specs.declared.layout.Nursery.{Nursery}
-use Rattle.nmgc_object.specs.declared.words.Header.{Header}
-use Rattle.nmgc_object.specs.declared.layout.TheConstants.{SHARED_PLACE, FIRST_PLACE}
-use Rattle.nmgc_object.specs.declared.size.TheConstants.{HEADER_WORDS}
-use Rattle.nmgc_alloc.specs.Numbered.{Segments}
-use Rattle.nmgc_alloc.specs.Segments.{IsSegments}
-use Rattle.nmgc_alloc.specs.Reserve.{KeepsReserve}
+use Rattle.nmgc_world_spec.specs.{declared.node.Kind.Kind, declared.node.Kind.TheVariants.Con, declared.node.Kind.TheVariants.Var, declared.node.Kind.TheVariants.Arr, declared.node.Kind.TheVariants.Thunk, declared.node.Kind.TheVariants.Weak, declared.node.Kind.TheVariants.Stack}
+use Rattle.nmgc_object.specs.{Words.header_word, Words.HasFields, Places.nursery_place, declared.layout.Layout.Layout, declared.layout.Nursery.Nursery, declared.words.Header.Header, declared.layout.TheConstants.SHARED_PLACE, declared.layout.TheConstants.FIRST_PLACE, declared.size.TheConstants.HEADER_WORDS}
+use Rattle.nmgc_alloc.specs.{Numbered.Segments, Segments.IsSegments, Reserve.KeepsReserve, laws.Placing.step}
 use Rattle.nmgc_heap_spec.specs.laws.Headers.{same_header}
-use Rattle.nmgc_blocks_spec.specs.Nurseries.{AreEmpty, nursery_at}
-use Rattle.nmgc_blocks_spec.specs.Strong.{HasStrong, strong_part}
-use Rattle.nmgc_minor.specs.declared.young.Young.{Young}
-use Rattle.nmgc_minor.specs.Inputs.{Inputs}
-use Rattle.nmgc_minor.specs.Found.{IsStart, IsFound}
-use Rattle.nmgc_minor.specs.Young.{IsWithin, HasHeader}
-use Rattle.nmgc_minor.specs.Placing.{AreNurseries, CanPlaceEach, IsMarked}
-use Rattle.nmgc_minor.specs.Promotes.{CanPromoteWith}
+use Rattle.nmgc_blocks_spec.specs.{Nurseries.AreEmpty, Nurseries.nursery_at, Strong.HasStrong, Strong.strong_part, Strong.HasHeader}
+use Rattle.nmgc_minor.specs.{declared.young.Young.Young, Inputs.Inputs, Found.IsStart, Found.IsFound, Young.IsWithin, Placing.AreNurseries, Placing.CanPlaceEach, Placing.IsMarked, Promotes.CanPromoteWith}
 use Rattle.nmgc_heap_tests.specs.Checked.{PointsWell, IsMade, AreMade, IsChecked}
 
 -- strong fields are fields
@@ -65,10 +47,6 @@ module _ (layout : Layout) (base : ℕ) (words sizes : List ℕ) (nurseries : Li
     | inr (inl lt) ↦ let s = step a b layout.nursery lt in absurd (omega (arith, s, ah, bl))
     | inr (inr gt) ↦ let s = step b a layout.nursery gt in absurd (omega (arith, s, bh, al))
   ]
-    where
-      step : (a b n : ℕ) → a < b → a * n + n ≤ b * n
-      step a b n lt = let up : (a + 1) * n ≤ b * n = mul-le-mul_right n (let e : a + 1 ≤ b = omega arith in e) in
-          let flat : (a + 1) * n ≡ a * n + n = omega arith in omega (arith, up, flat)
 
   ends : (maker : ℕ) → maker < layout.mutators → nursery_place layout maker + layout.nursery ≤ base + layout.mutators * layout.nursery
   ends maker lt =

@@ -5,3 +5,4 @@ pub mod Samples
 pub mod SharedSlots
 mod Started
 pub mod TwoObjects
+mod Vocabulary

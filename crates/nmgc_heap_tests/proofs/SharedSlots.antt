@@ -1,31 +1,7 @@
 -- What the mutators of the tests do: each makes a variable, stores it into its slot of g and reads it back.
-use Rattle.std.proofs.Common.{◌≡◌, ℕ, zero, suc, ◌+◌, ◌*◌, ◌<◌, ◌≤◌, true, false, List, [], ◌∷◌, ◌++◌, map, length, get_or, set, take, drop, All, refl, sym, ap, subst, ◌∙◌, arith, Some, inl}
-use Rattle.std.specs.Prelude.{Contains, slice_get, slice_index_or}
-use Rattle.std.proofs.lemmas.List.{length-replicate, get_or-replicate}
-use mathlib.Core.Option.{some, some-injective, some-ne-none}
-use lib.ListN.{get_elem?}
-use Rattle.nmgc_limits.specs.declared.mutators.TheConstants.{SHARED_SLOTS}
+use Rattle.nmgc_heap_tests.proofs.Vocabulary.{◌≡◌, ℕ, zero, suc, ◌+◌, ◌*◌, ◌<◌, ◌≤◌, true, false, List, [], ◌∷◌, ◌++◌, map, length, get_or, set, take, drop, All, refl, sym, ap, subst, ◌∙◌, arith, Some, inl, Contains, slice_get, slice_index_or, length-replicate, get_or-replicate, some, some-injective, some-ne-none, get_elem?, SHARED_SLOTS, Command, Get, Set, Yield, Register, Shared, Fine, Fits, contains_head, contains_tail, nothing_in, one_is, name_word, IsLayout, nursery_place, Header, Layout, loaded, stored, gave_birth, swapped, answered, plain, word, Hand, FixedWord, UnbornWord, Opening, Part, Seen, no_hand, hand_of, hand_now, blank, finding, knowing, storing, bearing_object, doing, RoundSeat, seen, alone, alones, all_together, IsMutator, HasPart, CanGive, Names, CanLoad, CanSwap, CanStore, CanBear, CanFix, CanTake, taken, told_by, HasAll, new_hand, first_opening, Round, gathered, alones_count, map_count}
+use Rattle.nmgc_world_spec.specs.declared.command.Command.TheVariants.{Var}
 use Rattle.nmgc_world_spec.specs.declared.node.Kind.TheVariants as kind
-use Rattle.nmgc_world_spec.specs.declared.command.Command.{Command}
-use Rattle.nmgc_world_spec.specs.declared.command.Command.TheVariants.{Var, Get, Set, Yield}
-use Rattle.nmgc_world_spec.specs.declared.command.Operand.TheVariants.{Register, Shared}
-use Rattle.nmgc_world_spec.specs.declared.command.Reply.TheVariants.{Fine}
-use Rattle.nmgc_world_spec.specs.Command.{Fits}
-use Rattle.nmgc_lists.specs.laws.Items.{contains_head, contains_tail, nothing_in, one_is}
-use Rattle.nmgc_object.specs.Words.{name_word}
-use Rattle.nmgc_object.specs.Places.{IsLayout, nursery_place}
-use Rattle.nmgc_object.specs.declared.words.Header.{Header}
-use Rattle.nmgc_object.specs.declared.layout.Layout.{Layout}
-use Rattle.nmgc_round.specs.View.{loaded, stored, gave_birth, swapped, answered, plain, word, Hand, FixedWord, UnbornWord, Opening, Part, Seen, no_hand, hand_of, hand_now, blank, finding, knowing, storing, bearing_object, doing}
-use Rattle.nmgc_round.specs.Seat.{RoundSeat, seen}
-use Rattle.nmgc_round.specs.Seating.{alone, alones, all_together}
-use Rattle.nmgc_round.specs.Ready.{IsMutator, HasPart, CanGive, Names, CanLoad, CanSwap, CanStore, CanBear}
-use Rattle.nmgc_round.specs.Told.{CanFix, CanTake, taken, told_by}
-use Rattle.nmgc_round.specs.Finishing.{HasAll}
-use Rattle.nmgc_round.specs.Empty.{new_hand, first_opening}
-use Rattle.nmgc_round.specs.declared.table.Round.{Round}
-use Rattle.nmgc_round.specs.laws.Gathering.{gathered}
-use Rattle.nmgc_round.specs.laws.Common.{alones_count, map_count}
 
 -- the view of a seat with one mutator's part
 abbrev pub with_part : Layout → Part → Seen
@@ -230,27 +206,6 @@ module _ (layout : Layout) (is : IsLayout layout) (m : ℕ) (mine : m < layout.m
         told = tt;
       },
     )
-
--- the k-th seat of all is that of mutator k
-seat_at : (layout : Layout) (r : Round) (n k : ℕ) (hands : List Hand) (seats : List RoundSeat) (d : RoundSeat) →
-    map seen seats ≡ alones (first_opening layout) n hands → k < length seats → seen (slice_index_or seats k d) ≡ alone (first_opening layout) (n + k)
-seat_at layout r n k hands [] d e lt = absurd (omega arith)
-seat_at layout r n k [] (s ∷ seats) d e lt = absurd (some-ne-none (seen s) (ap (λ (l : List Seen). get_elem? l 0) e))
-seat_at layout r n zero (h ∷ hands) (s ∷ seats) d e lt = some-injective (seen s) (alone (first_opening layout) n) (ap (λ (l : List Seen).
-    get_elem? l 0) e) ∙ ap (λ j. alone (first_opening layout) j) (let z : n ≡ n + 0 = omega arith in z)
-seat_at layout r n (suc k) (h ∷ hands) (s ∷ seats) d e lt = seat_at layout r (suc n) k hands seats d (ap (λ (l : List Seen).
-    drop 1 l) e) (omega arith) ∙ ap (λ j. alone (first_opening layout) j) (let z : suc n + k ≡ n + suc k = omega arith in z)
-
-pub seat_is : (layout : Layout) (r : Round) (k : ℕ) (seats : List RoundSeat) (d : RoundSeat) →
-    map seen seats ≡ alones (first_opening layout) 0 (first_opening layout).hands → k < length seats →
-    seen (slice_index_or seats k d) ≡ alone (first_opening layout) k
-seat_is layout r k seats d e lt = seat_at layout r 0 k (first_opening layout).hands seats d e lt ∙
-    ap (λ j. alone (first_opening layout) j) (let z : 0 + k ≡ k = omega arith in z)
-
-pub seat_count : (layout : Layout) (seats : List RoundSeat) → map seen seats ≡ alones (first_opening layout) 0 (first_opening layout).hands →
-    length seats ≡ layout.mutators
-seat_count layout seats e = sym (map_count seats) ∙ ap (λ (l : List Seen). length l) e ∙
-    alones_count (first_opening layout) 0 (first_opening layout).hands ∙ length-replicate layout.mutators new_hand
 
 -- what holds of each of so many holds of all
 pub all_of : (R : RoundSeat → Type 0) (seats : List RoundSeat) → ((k : ℕ) (d : RoundSeat) → k < length seats → R (slice_index_or seats k d)) → All R seats

@@ -1,16 +1,5 @@
 -- A mutator that is ready as a round begins from the small heap, while a cycle marks.
-use Rattle.std.proofs.Common.{◌≡◌, ◌≤◌, ◌∙◌, ℕ, List, length, sym, ap, subst, refl, arith}
-use Rattle.std.specs.Prelude.{replicate}
-use Rattle.std.proofs.lemmas.List.{length-replicate}
-use Rattle.nmgc_heap_spec.specs.Samples.{small_layout, chain_words}
-use Rattle.nmgc_round.specs.View.{Opening, Seen, hand_of}
-use Rattle.nmgc_round.specs.Starting.{CanOpen}
-use Rattle.nmgc_round.specs.Seat.{RoundSeat, IsAt, opening_of, seen}
-use Rattle.nmgc_round.specs.Seating.{alone}
-use Rattle.nmgc_round.specs.declared.table.Round.{Round}
-use Rattle.nmgc_mutator.specs.declared.mutator.Mutator.{Mutator}
-use Rattle.nmgc_mutator.specs.Ready.{IsReady, IsWhole, IsUnused, HasHand}
-use Rattle.nmgc_heap_tests.specs.Sample.{snapshot_opening, IsSnapshotHeap, IsSnapshotMutator}
+use Rattle.nmgc_heap_tests.proofs.Vocabulary.{◌≡◌, ◌≤◌, ◌∙◌, ℕ, List, length, sym, ap, subst, refl, arith, length-replicate, small_layout, chain_words, Opening, Seen, hand_of, CanOpen, RoundSeat, IsAt, opening_of, seen, alone, Round, Mutator, IsReady, IsWhole, IsUnused, HasHand, snapshot_opening, IsSnapshotHeap, IsSnapshotMutator, replicate}
 
 -- any words behind the last object
 any_rest : (rest : List ℕ) × (length rest ≡ 2048)

@@ -3,17 +3,10 @@
 -- The sizes tell for each word of the nurseries how many words the object has that begins there, or 0.
 use Rattle.std.specs.Prelude.{ℕ, ◌≡◌, ◌≢◌, ◌+◌, ◌-◌, ◌*◌, ◌<◌, ◌≤◌, List, [], length, slice_index, Contains}
 use Rattle.nmgc_world_spec.specs.declared.value.Name.{Name}
-use Rattle.nmgc_object.specs.Words.{header_word, name_word, IsHeader, IsName}
-use Rattle.nmgc_object.specs.Places.{nursery_place}
-use Rattle.nmgc_object.specs.declared.layout.Layout.{Layout}
-use Rattle.nmgc_object.specs.declared.layout.Nursery.{Nursery}
-use Rattle.nmgc_object.specs.declared.words.Header.{Header}
-use Rattle.nmgc_object.specs.declared.size.TheConstants.{HEADER_WORDS}
-use Rattle.nmgc_blocks_spec.specs.Nurseries.{nursery_at}
-use Rattle.nmgc_blocks_spec.specs.Samples.{young_registers}
+use Rattle.nmgc_object.specs.{Words.header_word, Words.name_word, Words.IsHeader, Words.IsName, Places.nursery_place, declared.layout.Layout.Layout, declared.layout.Nursery.Nursery, declared.words.Header.Header, declared.size.TheConstants.HEADER_WORDS, declared.words.Address.Address}
+use Rattle.nmgc_blocks_spec.specs.{Nurseries.nursery_at, Samples.young_registers}
 use Rattle.nmgc_minor.specs.Inputs.{Inputs}
 use Rattle.nmgc_mutator.specs.declared.mutator.Mutator.{Mutator}
-use Rattle.nmgc_object.specs.declared.words.Address.{Address}
 
 -- where the word points to the nurseries, an object begins there
 abbrev pub PointsWell : ℕ → List ℕ → ℕ → Type 0

@@ -28,16 +28,7 @@ fn laws_ask_nothing(rt: HostRuntime) {
     marking::marking_goes_on();
     marking::the_pace_is_kept();
     marking::the_heap_goes_on();
-    marking::a_small_life_rests();
-    samples::empty_script();
-    samples::one_object();
     samples::one_object_in_words();
-    samples::one_object_seen();
-    samples::full_cycle();
-    samples::cycle_by_marking();
-    samples::one_life_seen();
-    samples::texts();
-    samples::reserves();
     ties::ties_agree();
     ties::a_cycle_closes();
 }

@@ -53,12 +53,7 @@ fn waiting(marker: &mut Marker) -> [Option<Address>; 3] {
 
 #[test]
 fn remembered_places(rt: HostRuntime) -> Result<(), Fail> {
-    let layout = Layout {
-        segments: 32,
-        words: 64,
-        nursery: 64,
-        mutators: 1,
-    };
+    let layout = layout!(segments: 32, words: 64, nursery: 64, mutators: 1);
     assert!(rt; layout.words.is_power_of_two());
     let mut segments = Segments::new(rt.alloc(), layout)?;
     for block in 0..3u32 {

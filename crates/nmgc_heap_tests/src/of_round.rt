@@ -2,10 +2,7 @@
 ghost use Rattle.std.specs.Prelude.{◌≡◌, ◌<◌, ◌≤◌, ℕ, [], All, IfOk, length, map, vec_capacity, slice_index_or};
 ghost use Rattle.nmgc_limits.specs.declared.mutators.TheConstants.{SHARED_SLOTS};
 ghost use Rattle.nmgc_object.specs.Places.{IsLayout, word_total};
-ghost use Rattle.nmgc_round.specs.Seat.{RoundSeat, IsAt, seen, word_count, opening_of};
-ghost use Rattle.nmgc_round.specs.Seating.{alone, alones};
-ghost use Rattle.nmgc_round.specs.Empty.{IsEmptyHeap, first_opening};
-ghost use Rattle.nmgc_round.specs.Ready.{HasPart};
+ghost use Rattle.nmgc_round.specs.{Seat.RoundSeat, Seat.IsAt, Seat.seen, Seat.word_count, Seat.opening_of, Seating.alone, Seating.alones, Empty.IsEmptyHeap, Empty.first_opening, Ready.HasPart};
 
 use nmgc_limits::SHARED_SLOTS;
 use nmgc_lists::{ListMemory, NoMemory};
@@ -72,10 +69,7 @@ fn work(round: &Round, seat: &mut MutatorSeat, layout: Layout, number: u8) -> (u
     }
     let slot = number as u32;
     let base = layout.nursery_base(number);
-    let name = encode_name(Name {
-        maker: number,
-        serial: 0,
-    });
+    let name = encode_name(name!(number, 0));
     round.store_unborn(seat, Address(base), 1, name);
     round.store_unborn(seat, Address(base), 2, 1);
     let make = PackedCommand {
@@ -173,12 +167,7 @@ fn small(mutators: u8) -> Layout
     ensures layout { IsLayout result }
     ensures count { result.mutators ≡ mutators }
 {
-    Layout {
-        segments: 1,
-        words: 16,
-        nursery: 16,
-        mutators,
-    }
+    layout!(segments: 1, words: 16, nursery: 16, mutators: mutators)
 }
 
 // The words of a table that is closed.

@@ -2,8 +2,7 @@
 //! least number first; had are the names in them, freed those whose blocks aren't marked with the epoch, both
 //! by maker and then by serial; a segment is then free, filled or active.
 ghost use Rattle.std.specs.Prelude.{◌≡◌};
-ghost use Rattle.nmgc_sweep.specs.Names.{HaveEntries};
-ghost use Rattle.nmgc_sweep.specs.Sweeper.{AreLeft};
+ghost use Rattle.nmgc_sweep.specs.{Names.HaveEntries, Sweeper.AreLeft};
 
 use nmgc_alloc::{Segments, laws};
 use nmgc_limits::MAKERS;
@@ -21,7 +20,7 @@ use std::thread::Threads;
 // A cycle: the objects placed in this order, whether current segments are retired before, which of them have a
 // mark of the cycle before and which one of this cycle; and what is expected: how many calls with this quota
 // sweep as many segments, the lists, and the states of the first segments after the sweep.
-#[derive(Drop)]
+#[derive(Clone, Copy)]
 struct Row {
     placed: &'static [Name],
     retired: bool,
@@ -35,142 +34,53 @@ struct Row {
     states: &'static [State],
 }
 
-const FEW: [Name; 2] = [
-    Name {
-        maker: 0,
-        serial: 0,
-    },
-    Name {
-        maker: 0,
-        serial: 1,
-    },
-];
+// Nothing is placed, and one call sweeps one segment.
+const ONCE: Row = Row {
+    placed: &[],
+    retired: false,
+    stale: &[],
+    marked: &[],
+    works: 1,
+    quota: 1,
+    swept: &[],
+    had: &[],
+    freed: &[],
+    states: &[],
+};
 
-const FOUR: [Name; 4] = [
-    Name {
-        maker: 0,
-        serial: 0,
-    },
-    Name {
-        maker: 0,
-        serial: 1,
-    },
-    Name {
-        maker: 0,
-        serial: 2,
-    },
-    Name {
-        maker: 0,
-        serial: 3,
-    },
-];
+const FEW: [Name; 2] = [name!(0, 0), name!(0, 1)];
+
+const FOUR: [Name; 4] = [name!(0, 0), name!(0, 1), name!(0, 2), name!(0, 3)];
 
 const EIGHT: [Name; 8] = [
-    Name {
-        maker: 0,
-        serial: 0,
-    },
-    Name {
-        maker: 0,
-        serial: 1,
-    },
-    Name {
-        maker: 0,
-        serial: 2,
-    },
-    Name {
-        maker: 0,
-        serial: 3,
-    },
-    Name {
-        maker: 1,
-        serial: 0,
-    },
-    Name {
-        maker: 1,
-        serial: 1,
-    },
-    Name {
-        maker: 1,
-        serial: 2,
-    },
-    Name {
-        maker: 1,
-        serial: 3,
-    },
+    name!(0, 0),
+    name!(0, 1),
+    name!(0, 2),
+    name!(0, 3),
+    name!(1, 0),
+    name!(1, 1),
+    name!(1, 2),
+    name!(1, 3),
 ];
 
 // The other mutator's segment is the first; one more object is in a segment that isn't full.
 const NINE: [Name; 9] = [
-    Name {
-        maker: 1,
-        serial: 0,
-    },
-    Name {
-        maker: 1,
-        serial: 1,
-    },
-    Name {
-        maker: 1,
-        serial: 2,
-    },
-    Name {
-        maker: 1,
-        serial: 3,
-    },
-    Name {
-        maker: 0,
-        serial: 0,
-    },
-    Name {
-        maker: 0,
-        serial: 1,
-    },
-    Name {
-        maker: 0,
-        serial: 2,
-    },
-    Name {
-        maker: 0,
-        serial: 3,
-    },
-    Name {
-        maker: 0,
-        serial: 4,
-    },
+    name!(1, 0),
+    name!(1, 1),
+    name!(1, 2),
+    name!(1, 3),
+    name!(0, 0),
+    name!(0, 1),
+    name!(0, 2),
+    name!(0, 3),
+    name!(0, 4),
 ];
 
 // Of those in full segments, these are left unmarked.
-const UNMARKED_OF_NINE: [Name; 3] = [
-    Name {
-        maker: 1,
-        serial: 0,
-    },
-    Name {
-        maker: 1,
-        serial: 2,
-    },
-    Name {
-        maker: 1,
-        serial: 3,
-    },
-];
+const UNMARKED_OF_NINE: [Name; 3] = [name!(1, 0), name!(1, 2), name!(1, 3)];
 
 // All but the third.
-const UNMARKED_OF_FOUR: [Name; 3] = [
-    Name {
-        maker: 0,
-        serial: 0,
-    },
-    Name {
-        maker: 0,
-        serial: 1,
-    },
-    Name {
-        maker: 0,
-        serial: 3,
-    },
-];
+const UNMARKED_OF_FOUR: [Name; 3] = [name!(0, 0), name!(0, 1), name!(0, 3)];
 
 // Places an object of four words, and notes its name.
 fn place(rt: &impl Abort, names: &mut Names, segments: &mut Segments, name: Name) -> Address
@@ -255,12 +165,7 @@ fn compare(
 
 // Does the cycle, and compares.
 fn check<R: Abort + Threads + Sync>(rt: &R, alloc: Global, row: Row) -> Result<(), Fail> {
-    let layout = Layout {
-        segments: 8,
-        words: 16,
-        nursery: 16,
-        mutators: 2,
-    };
+    let layout = layout!(segments: 8, words: 16, nursery: 16, mutators: 2);
     assert!(rt; layout.words.is_power_of_two());
     let mut names = Names::new(alloc, layout)?;
     let mut segments = Segments::new(alloc, layout)?;
@@ -300,11 +205,8 @@ fn two_mutators_and_stale_marks(rt: HostRuntime) -> Result<(), Fail> {
         rt.alloc(),
         Row {
             placed: &NINE,
-            retired: false,
-            stale: &[],
             marked: &[1, 4, 5, 6, 7],
             works: 2,
-            quota: 1,
             swept: &[0, 1],
             had: &EIGHT,
             freed: &UNMARKED_OF_NINE,
@@ -314,6 +216,7 @@ fn two_mutators_and_stale_marks(rt: HostRuntime) -> Result<(), Fail> {
                 State::Current { mutator: 0 },
                 State::Free,
             ],
+            ..ONCE
         },
     )?;
     // A mark of the cycle before keeps nothing.
@@ -322,15 +225,13 @@ fn two_mutators_and_stale_marks(rt: HostRuntime) -> Result<(), Fail> {
         rt.alloc(),
         Row {
             placed: &FOUR,
-            retired: false,
             stale: &[0, 1, 2, 3],
             marked: &[2],
-            works: 1,
-            quota: 1,
             swept: &[0],
             had: &FOUR,
             freed: &UNMARKED_OF_FOUR,
             states: &[State::Active],
+            ..ONCE
         },
     )
 }
@@ -344,14 +245,11 @@ fn retired_segments(rt: HostRuntime) -> Result<(), Fail> {
         Row {
             placed: &FEW,
             retired: true,
-            stale: &[],
-            marked: &[],
-            works: 1,
-            quota: 1,
             swept: &[0],
             had: &FEW,
             freed: &FEW,
             states: &[State::Free],
+            ..ONCE
         },
     )?;
     check(
@@ -360,14 +258,12 @@ fn retired_segments(rt: HostRuntime) -> Result<(), Fail> {
         Row {
             placed: &FEW,
             retired: true,
-            stale: &[],
             marked: &[0, 1],
             works: 0,
-            quota: 1,
             swept: &[0],
             had: &FEW,
-            freed: &[],
             states: &[State::Active],
+            ..ONCE
         },
     )
 }
@@ -380,15 +276,11 @@ fn the_rest_and_nothing(rt: HostRuntime) -> Result<(), Fail> {
         rt.alloc(),
         Row {
             placed: &EIGHT,
-            retired: false,
-            stale: &[],
-            marked: &[],
-            works: 1,
-            quota: 1,
             swept: &[0, 1],
             had: &EIGHT,
             freed: &EIGHT,
             states: &[State::Free, State::Free],
+            ..ONCE
         },
     )?;
     check(
@@ -396,15 +288,9 @@ fn the_rest_and_nothing(rt: HostRuntime) -> Result<(), Fail> {
         rt.alloc(),
         Row {
             placed: &FEW,
-            retired: false,
-            stale: &[],
-            marked: &[],
             works: 0,
-            quota: 1,
-            swept: &[],
-            had: &[],
-            freed: &[],
             states: &[State::Current { mutator: 0 }],
+            ..ONCE
         },
     )
 }
@@ -417,10 +303,7 @@ fn two_halves(rt: HostRuntime) -> Result<(), Fail> {
         rt.alloc(),
         Row {
             placed: &NINE,
-            retired: false,
-            stale: &[],
             marked: &[1, 4, 5, 6, 7],
-            works: 1,
             quota: 2,
             swept: &[0, 1],
             had: &EIGHT,
@@ -431,6 +314,7 @@ fn two_halves(rt: HostRuntime) -> Result<(), Fail> {
                 State::Current { mutator: 0 },
                 State::Free,
             ],
+            ..ONCE
         },
     )
 }
@@ -440,12 +324,7 @@ const MANY: u32 = 257 * 1024;
 
 // Each third object is marked.
 fn check_many<R: Abort + Threads + Sync>(rt: &R, alloc: Global) -> Result<(), Fail> {
-    let layout = Layout {
-        segments: 257,
-        words: 4096,
-        nursery: 4096,
-        mutators: 1,
-    };
+    let layout = layout!(segments: 257, words: 4096, nursery: 4096, mutators: 1);
     assert!(rt; layout.words.is_power_of_two());
     let mut names = Names::new(alloc, layout)?;
     let mut segments = Segments::new(alloc, layout)?;

@@ -14,15 +14,9 @@ use nmgc_world_spec::Name;
 use std::alloc::Global;
 use std::test::Fail;
 
-const A: Name = Name {
-    maker: 0,
-    serial: 7,
-};
+const A: Name = name!(0, 7);
 
-const B: Name = Name {
-    maker: 1,
-    serial: 2,
-};
+const B: Name = name!(1, 2);
 
 const FIRST: OldWeak = OldWeak {
     weak: A,
@@ -79,10 +73,7 @@ fn told_ones_leave(rt: HostRuntime) -> Result<(), Fail> {
 }
 
 const THIRD: OldWeak = OldWeak {
-    weak: Name {
-        maker: 1,
-        serial: 5,
-    },
+    weak: name!(1, 5),
     at: Address(48),
 };
 

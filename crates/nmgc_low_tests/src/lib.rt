@@ -2,6 +2,22 @@
 //! `of_CRATE` has those of a crate.
 #![tactic(auto)]
 
+// A layout in one line.
+#[cfg(test)]
+macro_rules! layout {
+    (segments: $segments:expr, words: $words:expr, nursery: $nursery:expr, mutators: $mutators:expr) => {
+        Layout { segments: $segments, words: $words, nursery: $nursery, mutators: $mutators }
+    };
+}
+
+// A name in a constant.
+#[cfg(test)]
+macro_rules! name {
+    ($maker:expr, $serial:expr) => {
+        Name { maker: $maker, serial: $serial }
+    };
+}
+
 #[cfg(test)]
 mod of_alloc;
 #[cfg(test)]

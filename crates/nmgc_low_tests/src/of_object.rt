@@ -107,12 +107,7 @@ fn sizes(rt: HostRuntime) {
 fn places(rt: HostRuntime) {
     for (nursery, total, reserve) in [(64, 2144, 17), (128, 2208, 19), (256, 2336, 23)] {
         assert!(rt; 64 <= nursery && nursery <= 1000);
-        let layout = Layout {
-            segments: 32,
-            words: 64,
-            nursery,
-            mutators: 1,
-        };
+        let layout = layout!(segments: 32, words: 64, nursery: nursery, mutators: 1);
         assert!(rt; layout.words.is_power_of_two());
         assert!(rt; layout.segment_base(0) == 32);
         assert!(rt; layout.segment_base(31) == 2016);

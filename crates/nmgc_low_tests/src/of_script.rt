@@ -1,4 +1,4 @@
-//! Scripts, good and bad, as tables.
+//! Scripts, good and bad, as tables. Texts that are refused are in `examples/rows/refusals.rows`.
 use nmgc_script::{Cause, ScriptFault, generate, parse, print, spells_one_script, upgrade};
 use std::alloc::Global;
 use std::process::Abort;
@@ -17,208 +17,13 @@ const SPACED: &str =
 
 const PLAIN: &str = "nmgc 1\nheap 1 16 16 1 1 65536\nthread 0\nthread 1\nyield\nthread 2\n";
 
-// Whole texts, with the line and the cause that are told.
-const TEXTS: [(&str, u32, Cause); 34] = [
-    ("", 1, Cause::Version),
-    ("#a\n#b", 3, Cause::Version),
-    ("\n\nnmgc 3\n", 3, Cause::Version),
-    ("nmgc 02\n", 1, Cause::Version),
-    ("nmgc 2", 2, Cause::Heap),
-    ("nmgc 1 \n", 1, Cause::Version),
-    (" nmgc 1\n", 1, Cause::Version),
-    ("nmgc 01\n", 1, Cause::Version),
-    ("nmgc 1\r\n", 1, Cause::Version),
-    ("nmgc 1", 2, Cause::Heap),
-    ("nmgc 1\n# remark\n\n", 4, Cause::Heap),
-    ("nmgc 1\nthread 0\n", 2, Cause::Heap),
-    ("nmgc 1\nheap 32 64 64 100 1000\nthread 0\n", 2, Cause::Heap),
-    (
-        "nmgc 1\nheap 32 64 64 100 1000 0 0\nthread 0\n",
-        2,
-        Cause::Heap,
-    ),
-    (
-        "nmgc 1\nheap  32 64 64 100 1000 0\nthread 0\n",
-        2,
-        Cause::Heap,
-    ),
-    (
-        "nmgc 1\nheap 032 64 64 100 1000 0\nthread 0\n",
-        2,
-        Cause::Heap,
-    ),
-    (
-        "nmgc 1\nheap 32 64 32 100 1000 0\nthread 0\n",
-        2,
-        Cause::Heap,
-    ),
-    (
-        "nmgc 1\nheap 65536 64 64 100 1000 0\nthread 0\n",
-        3,
-        Cause::Total,
-    ),
-    (
-        "nmgc 1\nheap 65536 64 64 100 1000 0\nthread 1\n",
-        3,
-        Cause::Thread,
-    ),
-    ("nmgc 1\nheap 32 64 64 100 1000 0\n", 3, Cause::Thread),
-    ("nmgc 1\n#\nheap 32 64 64 100 1000 0\n\n", 5, Cause::Thread),
-    (
-        "nmgc 1\nheap 32 64 64 100 1000 0\nthread 8\n",
-        3,
-        Cause::Thread,
-    ),
-    (
-        "nmgc 1\nheap 32 64 64 100 1000 0\nthread 00\n",
-        3,
-        Cause::Thread,
-    ),
-    (
-        "nmgc 1\nheap 32 64 64 100 1000 0\nthread\n",
-        3,
-        Cause::Thread,
-    ),
-    (
-        "nmgc 1\nheap 32 64 64 100 1000 0\nthread 0 \n",
-        3,
-        Cause::Thread,
-    ),
-    (
-        "nmgc 1\nheap 32 64 64 100 1000 0\nshow g\n",
-        3,
-        Cause::Thread,
-    ),
-    ("nmgc 1\nheap 32 64 64 100 1000 0\nsho\n", 3, Cause::Thread),
-    (
-        "nmgc 1\nheap 32768 64 2097152 1 1 0\nthread 0\nthread 1\n",
-        4,
-        Cause::Total,
-    ),
-    (
-        "nmgc 1\nheap 32768 64 2097152 1 1 0\nthread 0\nthread 2\n",
-        4,
-        Cause::Thread,
-    ),
-    (
-        "nmgc 1\nheap 32768 64 2097153 1 1 0\nthread 0\n",
-        3,
-        Cause::Total,
-    ),
-    (
-        "nmgc 1\nheap 16384 64 1572865 1 1 0\nthread 0\nyield\nthread 1\n",
-        5,
-        Cause::Total,
-    ),
-    (
-        "nmgc 1\nheap 1 16 4194304 1 1 0\nthread 0\n",
-        3,
-        Cause::Total,
-    ),
-    (
-        "nmgc 1\nheap 1 16 16 1 1 0\nthread 0\ncon r0 0 g g g g g g g g g g g g g g g\n",
-        4,
-        Cause::Size,
-    ),
-    (
-        "nmgc 1\nheap 1 16 16 1 1 0\nthread 0\nthread 1\nthread 2\nthread 3\nthread 4\nthread 5\nthread 6\nthread 7\nthread 8\n",
-        11,
-        Cause::Thread,
-    ),
-];
-
-// Lines under the head, with the cause that is told of line 4.
-const LINES: [(&str, Cause); 58] = [
-    ("sho", Cause::Command),
-    ("sho\n", Cause::Command),
-    ("sho r16 x\n", Cause::Command),
-    (" show g\n", Cause::Command),
-    ("show\tg\n", Cause::Command),
-    ("show g\r\n", Cause::Operand),
-    ("show g\0\n", Cause::Operand),
-    ("SHOW g\n", Cause::Command),
-    ("nmgc 1\n", Cause::Command),
-    ("heap 32 64 64 100 1000 0\n", Cause::Command),
-    ("yield \n", Cause::Arity),
-    ("yield r0\n", Cause::Arity),
-    ("show\n", Cause::Arity),
-    ("show g g\n", Cause::Arity),
-    ("show  g\n", Cause::Arity),
-    ("show g \n", Cause::Arity),
-    ("show x y\n", Cause::Arity),
-    ("con r0\n", Cause::Arity),
-    ("con x\n", Cause::Arity),
-    ("thunk\n", Cause::Arity),
-    ("thunk r0 g g g g g g g g g\n", Cause::Arity),
-    ("thunk x x x x x x x x x x\n", Cause::Arity),
-    ("get r0 g\n", Cause::Arity),
-    ("weak r0 r1 r2\n", Cause::Arity),
-    ("cas g 0 r1\n", Cause::Arity),
-    ("show \n", Cause::Operand),
-    ("show r16\n", Cause::Operand),
-    ("show r01\n", Cause::Operand),
-    ("show r\n", Cause::Operand),
-    ("show G\n", Cause::Operand),
-    ("show é\n", Cause::Operand),
-    ("nil g\n", Cause::Operand),
-    ("num r0 00\n", Cause::Operand),
-    ("num r0 -1\n", Cause::Operand),
-    ("num r0 +1\n", Cause::Operand),
-    ("num r0 4611686018427387904\n", Cause::Operand),
-    ("num r0 9999999999999999999\n", Cause::Operand),
-    ("num r0 18446744073709551616\n", Cause::Operand),
-    (
-        "num r0 0000000000000000000000000000000000000001\n",
-        Cause::Operand,
-    ),
-    (
-        "num r0 9999999999999999999999999999999999999999\n",
-        Cause::Operand,
-    ),
-    ("con r0 256\n", Cause::Operand),
-    ("con r0 1 r1 \n", Cause::Operand),
-    ("con r0 1  r1\n", Cause::Operand),
-    ("thunk r0 \n", Cause::Operand),
-    ("get r0 g 65536\n", Cause::Operand),
-    ("set g 65536 g\n", Cause::Operand),
-    ("cas g 65536 g g\n", Cause::Operand),
-    ("arr r0 65536 r1\n", Cause::Operand),
-    ("arr r16 63 r1\n", Cause::Operand),
-    ("arr r0 63 x\n", Cause::Operand),
-    ("stack r0 65536\n", Cause::Operand),
-    ("arr r0 63 r1\n", Cause::Size),
-    ("arr r0 65535 r1\n", Cause::Size),
-    ("stack r0 63\n", Cause::Size),
-    ("stack r0 63\nsho\n", Cause::Size),
-    ("thread 2\n", Cause::Thread),
-    ("thread 0\n", Cause::Thread),
-    ("thread 1 \n", Cause::Thread),
-];
-
-// Heap lines, with whether they are accepted.
-const HEAPS: [(&str, bool); 22] = [
-    ("1 16 16 1 1 0", true),
-    ("65536 16 16 1 1 0", true),
-    ("1 4096 4096 65536 1048576 65536", true),
-    ("32768 64 2097152 1 1 0", true),
-    ("0 16 16 1 1 0", false),
-    ("65537 16 16 1 1 0", false),
-    ("1 8 16 1 1 0", false),
-    ("1 24 64 1 1 0", false),
-    ("1 2048 2048 1 1 0", true),
-    ("1 2047 4096 1 1 0", false),
-    ("1 8192 8192 1 1 0", false),
-    ("1 16 15 1 1 0", false),
-    ("1 4096 4095 1 1 0", false),
-    ("1 16 4194305 1 1 0", false),
-    ("1 16 16 0 1 0", false),
-    ("1 16 16 65537 1 0", false),
-    ("1 16 16 1 0 0", false),
-    ("1 16 16 1 1048577 0", false),
-    ("1 16 16 1 1 65537", false),
-    ("1 16 16 1 1 0 ", false),
-    ("1 16 16 1 1 00", false),
-    ("1 16 16 1 1 g", false),
+// Heap lines at the limits.
+const HEAPS: [&str; 5] = [
+    "1 16 16 1 1 0",
+    "65536 16 16 1 1 0",
+    "1 4096 4096 65536 1048576 65536",
+    "32768 64 2097152 1 1 0",
+    "1 2048 2048 1 1 0",
 ];
 
 // How many bytes of a small script are read, and what is told then.
@@ -254,13 +59,8 @@ fn joined(alloc: Global, front: &str, back: &str) -> Result<String, Fail> {
 
 #[test]
 fn tells_the_first_bad_line(rt: HostRuntime) -> Result<(), Fail> {
-    for (text, line, cause) in &TEXTS {
-        assert!(rt; told(&rt, rt.alloc(), text.as_bytes()) == Some((*line, *cause)));
-    }
-    for (line, cause) in &LINES {
-        let text = joined(rt.alloc(), HEAD, line)?;
-        assert!(rt; told(&rt, rt.alloc(), text.as_bytes()) == Some((4, *cause)));
-    }
+    let zero = joined(rt.alloc(), HEAD, "show g\0\n")?;
+    assert!(rt; told(&rt, rt.alloc(), zero.as_bytes()) == Some((4, Cause::Operand)));
     assert!(rt; told(&rt, rt.alloc(), b"nmgc 1\n\xff\n") == Some((2, Cause::Heap)));
     assert!(rt;
         told(
@@ -274,15 +74,10 @@ fn tells_the_first_bad_line(rt: HostRuntime) -> Result<(), Fail> {
 
 #[test]
 fn keeps_the_limits_of_a_heap(rt: HostRuntime) -> Result<(), Fail> {
-    for (numbers, accepted) in &HEAPS {
+    for numbers in &HEAPS {
         let front = joined(rt.alloc(), "nmgc 1\nheap ", numbers)?;
         let text = joined(rt.alloc(), front.as_str(), "\nthread 0\n")?;
-        let want = if *accepted {
-            None
-        } else {
-            Some((2, Cause::Heap))
-        };
-        assert!(rt; told(&rt, rt.alloc(), text.as_bytes()) == want);
+        assert!(rt; told(&rt, rt.alloc(), text.as_bytes()) == None);
     }
     Ok(())
 }

@@ -1,9 +1,7 @@
 -- A collector that did a round has a line for its first mutator.
 use Rattle.std.proofs.Common.{ℕ, ◌≤◌, length, sym, subst}
-use Rattle.nmgc_script.specs.declared.script.Script.{Script}
-use Rattle.nmgc_cycle.specs.declared.collector.Collector.{Collector}
-use Rattle.nmgc_cycle.specs.Keeps.{DidRound}
-use Rattle.nmgc_script.specs.Limits.{IsInLimits}
+use Rattle.nmgc_script.specs.{declared.script.Script.Script, Limits.IsInLimits}
+use Rattle.nmgc_cycle.specs.{declared.collector.Collector.Collector, Keeps.DidRound}
 
 pub has_line : (script : Script) (old new : Collector) → IsInLimits script → DidRound script old new → 1 ≤ length new.inbox
 has_line script old new limits did = subst (λ (n : ℕ). 1 ≤ n) (sym did.0.kept.inbox) limits.fits.some_thread

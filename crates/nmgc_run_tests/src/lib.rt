@@ -6,8 +6,6 @@ mod of_cli;
 #[cfg(test)]
 mod of_cycle;
 #[cfg(test)]
-mod of_full;
-#[cfg(test)]
 mod of_gates;
 #[cfg(test)]
 mod of_retain;

@@ -8,9 +8,8 @@ ghost use Rattle.std.specs.Prelude.{IfOk};
 ghost use Rattle.nmgc_script.specs.Limits.{IsInLimits};
 
 use crate::worked::{
-    CYCLES, EXCHANGE, EXCHANGE_REPORT, FIRST_UPDATED_REPORT, FULL_CYCLES, OBJECTS, OVERWRITTEN,
-    OVERWRITTEN_REPORT, RACE, RUNS, SECOND_UPDATED_REPORT, SHORT, THREE_SEGMENTS,
-    THREE_SEGMENTS_REPORT, THUNK, WEAKS,
+    EXCHANGE, EXCHANGE_REPORT, FIRST_UPDATED_REPORT, OVERWRITTEN, OVERWRITTEN_REPORT, RACE,
+    SECOND_UPDATED_REPORT, THREE_SEGMENTS, THREE_SEGMENTS_REPORT, THUNK,
 };
 use nmgc_cycle::Collector;
 use nmgc_journal::Report;
@@ -20,7 +19,6 @@ use nmgc_round::{Gate, OpenGate};
 use nmgc_script::{Script, parse};
 use nmgc_world_spec::{Reply, Value};
 use std::alloc::Global;
-use std::process::Abort;
 use std::sync::atomic::{AtomicU64, Ordering};
 use std::test::Fail;
 use std::thread::Threads;
@@ -57,59 +55,6 @@ pub(crate) fn tells<R: Threads + Sync, G: Gate>(
 ) -> Result<bool, Fail> {
     let bytes = told(alloc, rt, script, gate)?;
     Ok(bytes.as_slice() == report.as_bytes())
-}
-
-// Whether a text is one of these.
-pub(crate) fn is_one_of(text: &[u8], reports: &[&str]) -> bool {
-    for report in reports {
-        if text == report.as_bytes() {
-            return true;
-        }
-    }
-    false
-}
-
-// Looks whether the collector tells one of these reports of each script.
-fn check_reports<R: Threads + Sync + Abort>(
-    rt: &R,
-    alloc: Global,
-    rows: &[(&str, &[&str])],
-) -> Result<(), Fail> {
-    for (script, reports) in rows {
-        let bytes = told(alloc, rt, script, &OpenGate)?;
-        assert!(rt; is_one_of(bytes.as_slice(), reports), "{script}");
-    }
-    Ok(())
-}
-
-#[test]
-fn runs_have_these_reports(rt: HostRuntime) -> Result<(), Fail> {
-    check_reports(&rt, rt.alloc(), &RUNS)
-}
-
-#[test]
-fn short_heaps_have_these_reports(rt: HostRuntime) -> Result<(), Fail> {
-    check_reports(&rt, rt.alloc(), &SHORT)
-}
-
-#[test]
-fn cycles_have_these_reports(rt: HostRuntime) -> Result<(), Fail> {
-    check_reports(&rt, rt.alloc(), &CYCLES)
-}
-
-#[test]
-fn full_cycles_have_these_reports(rt: HostRuntime) -> Result<(), Fail> {
-    check_reports(&rt, rt.alloc(), &FULL_CYCLES)
-}
-
-#[test]
-fn thunks_stacks_and_exchanges_have_these_reports(rt: HostRuntime) -> Result<(), Fail> {
-    check_reports(&rt, rt.alloc(), &OBJECTS)
-}
-
-#[test]
-fn weak_pointers_have_these_reports(rt: HostRuntime) -> Result<(), Fail> {
-    check_reports(&rt, rt.alloc(), &WEAKS)
 }
 
 // Word 0 belongs to nobody. After it come g's header, 3 + 2048 * 16 for an array of 16 fields, its name and its slots: in

@@ -36,33 +36,7 @@ fn name(maker: u8, serial: u32) -> Name {
 }
 
 // The names of its nodes.
-const NAMES: [Name; 7] = [
-    Name {
-        maker: 0,
-        serial: 0,
-    },
-    Name {
-        maker: 0,
-        serial: 1,
-    },
-    Name {
-        maker: 0,
-        serial: 2,
-    },
-    Name {
-        maker: 0,
-        serial: 3,
-    },
-    Name {
-        maker: 1,
-        serial: 0,
-    },
-    Name {
-        maker: 1,
-        serial: 1,
-    },
-    Name::SHARED,
-];
+const NAMES: [(u8, u32); 7] = [(0, 0), (0, 1), (0, 2), (0, 3), (1, 0), (1, 1), (32, 0)];
 
 // The image of a text.
 fn image_of(alloc: Global, text: &str) -> Result<Image, Fail>
@@ -94,8 +68,8 @@ fn an_image_is_read(rt: HostRuntime) -> Result<(), Fail> {
     assert!(rt; (held.register, held.value) == (3, Value::Ref(name(0, 2))));
     let nodes = image.nodes.items();
     assert!(rt; nodes.len() == 7);
-    for (entry, wanted) in nodes.iter().zip(&NAMES) {
-        assert!(rt; entry.name == *wanted);
+    for (entry, (maker, serial)) in nodes.iter().zip(&NAMES) {
+        assert!(rt; entry.name == name(*maker, *serial));
     }
     let Node::Stack { size: 4, values } = &nodes[4].node else {
         panic!(rt; "no stack of four slots");
@@ -129,23 +103,31 @@ fn levels(alloc: Global, rows: &[(u8, u32, u32)]) -> Result<Levels, NoMemory> {
     Ok(Levels { list })
 }
 
-// An answer with a path along these hops.
-fn held(
-    alloc: Global,
-    root: Root,
-    first: Name,
-    hops: &[Hop],
-    rows: &[(u8, u32, u32)],
-) -> Result<Retained, NoMemory> {
-    let mut list = List::new(alloc);
-    for hop in hops {
-        list.push(*hop)?;
+// An answer for 0.1: the root, what it refers to, the field of that by which the path ends, if it has a hop, and the levels;
+// and whether it is certified.
+type Answer = (
+    Root,
+    (u8, u32),
+    Option<u32>,
+    &'static [(u8, u32, u32)],
+    bool,
+);
+
+// The answer itself.
+fn held(alloc: Global, row: &Answer) -> Result<Retained, NoMemory> {
+    let (root, (maker, serial), field, rows, _) = row;
+    let mut hops = List::new(alloc);
+    if let Some(field) = field {
+        hops.push(Hop {
+            field: *field,
+            to: name(0, 1),
+        })?;
     }
     Ok(Retained::Held {
         path: Path {
-            root,
-            first,
-            hops: list,
+            root: *root,
+            first: name(*maker, *serial),
+            hops,
         },
         levels: levels(alloc, rows)?,
     })
@@ -200,123 +182,35 @@ const BY_QUEUE: Root = Root::Queue {
     place: 0,
 };
 
-// The two ways to 0.1 from there.
-const SECOND_FIELD: [Hop; 1] = [Hop {
-    field: 1,
-    to: Name {
-        maker: 0,
-        serial: 1,
-    },
-}];
+// Levels of which one is too low, and levels without those of an object that is held.
+const TOO_LOW: [(u8, u32, u32); 6] = [
+    (0, 0, 2),
+    (0, 1, 0),
+    (0, 2, 0),
+    (0, 3, 1),
+    (1, 0, 0),
+    (32, 0, 0),
+];
 
-const FIRST_FIELD: [Hop; 1] = [Hop {
-    field: 0,
-    to: Name {
-        maker: 0,
-        serial: 1,
-    },
-}];
+const TOO_FEW: [(u8, u32, u32); 5] = [(0, 0, 2), (0, 1, 1), (0, 2, 0), (0, 3, 1), (32, 0, 0)];
 
-// An answer for 0.1: the root, what it refers to, the hops and the levels; and whether it is certified.
-type Answer = (Root, Name, &'static [Hop], &'static [(u8, u32, u32)], bool);
-
-// The last two have a level that is too low, and one level less than there are objects that are held.
 const ANSWERS: [Answer; 8] = [
-    (
-        BY_REGISTER,
-        Name {
-            maker: 0,
-            serial: 2,
-        },
-        &SECOND_FIELD,
-        &LEVELS,
-        true,
-    ),
-    (
-        BY_QUEUE,
-        Name {
-            maker: 1,
-            serial: 0,
-        },
-        &FIRST_FIELD,
-        &LEVELS,
-        true,
-    ),
-    (
-        BY_REGISTER,
-        Name {
-            maker: 1,
-            serial: 0,
-        },
-        &FIRST_FIELD,
-        &LEVELS,
-        false,
-    ),
-    (
-        Root::Shared,
-        Name {
-            maker: 0,
-            serial: 2,
-        },
-        &SECOND_FIELD,
-        &LEVELS,
-        false,
-    ),
-    (
-        BY_REGISTER,
-        Name {
-            maker: 0,
-            serial: 2,
-        },
-        &FIRST_FIELD,
-        &LEVELS,
-        false,
-    ),
-    (
-        BY_REGISTER,
-        Name {
-            maker: 0,
-            serial: 2,
-        },
-        &[],
-        &LEVELS,
-        false,
-    ),
-    (
-        BY_REGISTER,
-        Name {
-            maker: 0,
-            serial: 2,
-        },
-        &SECOND_FIELD,
-        &[
-            (0, 0, 2),
-            (0, 1, 0),
-            (0, 2, 0),
-            (0, 3, 1),
-            (1, 0, 0),
-            (32, 0, 0),
-        ],
-        false,
-    ),
-    (
-        BY_REGISTER,
-        Name {
-            maker: 0,
-            serial: 2,
-        },
-        &SECOND_FIELD,
-        &[(0, 0, 2), (0, 1, 1), (0, 2, 0), (0, 3, 1), (32, 0, 0)],
-        false,
-    ),
+    (BY_REGISTER, (0, 2), Some(1), &LEVELS, true),
+    (BY_QUEUE, (1, 0), Some(0), &LEVELS, true),
+    (BY_REGISTER, (1, 0), Some(0), &LEVELS, false),
+    (Root::Shared, (0, 2), Some(1), &LEVELS, false),
+    (BY_REGISTER, (0, 2), Some(0), &LEVELS, false),
+    (BY_REGISTER, (0, 2), None, &LEVELS, false),
+    (BY_REGISTER, (0, 2), Some(1), &TOO_LOW, false),
+    (BY_REGISTER, (0, 2), Some(1), &TOO_FEW, false),
 ];
 
 // Looks what the judge says of each answer.
 fn check_answers(rt: &impl Abort, alloc: Global, text: &str, rows: &[Answer]) -> Result<(), Fail> {
     let image = image_of(alloc, text)?;
-    for (root, from, hops, levels, right) in rows {
-        let answer = held(alloc, *root, *from, hops, levels)?;
-        assert!(rt; verify(&image, name(0, 1), &answer) == *right);
+    for row in rows {
+        let answer = held(alloc, row)?;
+        assert!(rt; verify(&image, name(0, 1), &answer) == row.4);
     }
     Ok(())
 }

@@ -27,8 +27,7 @@ pub struct Lists {
 
 impl Model for Lists {
     ghost use Rattle.std.specs.Prelude.{length};
-    ghost use Rattle.nmgc_minor.specs.Promotion.{Promotion as Shown};
-    ghost use Rattle.nmgc_minor.specs.Resting.{IsResting};
+    ghost use Rattle.nmgc_minor.specs.{Promotion.Promotion as Shown, Resting.IsResting};
 
     ghost Value = { Shown };
 
@@ -168,12 +167,7 @@ pub const NIL: u64 = 1;
 
 // 64 segments of so many words, and nurseries.
 pub const fn layout(words: u32, nursery: u32, mutators: u8) -> Layout {
-    Layout {
-        segments: 64,
-        words,
-        nursery,
-        mutators,
-    }
+    layout!(segments: 64, words: words, nursery: nursery, mutators: mutators)
 }
 
 // A heap without objects but g, whose slots are nil.

@@ -3,8 +3,7 @@ ghost use Rattle.std.specs.Prelude.{◌≡◌, ◌≤◌, [], ◌∷◌, IfOk, I
 ghost use Rattle.nmgc_object.specs.Places.{IsLayout};
 ghost use Rattle.nmgc_mutator.specs.declared.mutator.Mutator.{Mutator as MutatorSeen};
 ghost use Rattle.nmgc_alloc.specs.Segments.{all_free};
-ghost use Rattle.nmgc_heap_spec.specs.Places.{HasZeros};
-ghost use Rattle.nmgc_heap_spec.specs.Samples.{small_layout};
+ghost use Rattle.nmgc_heap_spec.specs.{Places.HasZeros, Samples.small_layout};
 ghost use Rattle.nmgc_blocks_spec.specs.Samples.{HoldsYoung};
 ghost use Rattle.nmgc_minor.specs.Promotion.{IsFor};
 ghost use Rattle.nmgc_heap_tests.specs.Checked.{IsYoungMutator};
@@ -133,12 +132,7 @@ fn clear_nobody(rt: &impl Abort, words: &mut [u64]) {
 // first block of the first segment.
 #[test]
 fn one_object(rt: HostRuntime) -> Result<(), Fail> {
-    let small = Layout {
-        segments: 32,
-        words: 64,
-        nursery: 64,
-        mutators: 1,
-    };
+    let small = layout!(segments: 32, words: 64, nursery: 64, mutators: 1);
     let mut words = vec![in rt.alloc(); NIL; 2144]?;
     words[1] = 32771;
     words[2] = 32;

@@ -16,6 +16,13 @@ struct Make {
     second: Option<usize>,
 }
 
+// A command in a constant.
+macro_rules! make {
+    ($times:literal, $kind:ident, $dest:literal, $first:literal, $second:expr) => {
+        Make { times: $times, kind: $kind, dest: $dest, first: $first, second: $second }
+    };
+}
+
 // A round's commands and its stop: the free and the filled segments; how many objects were promoted, all
 // of one block of 4 words, with the serials that follow the first and the places that follow its place;
 // and words of the heap and registers after it.
@@ -34,13 +41,7 @@ struct Round {
 // 16 constructors fill a nursery, and only the last is held. Then a variable refers to it.
 const NURSERY_FILLED: [Round; 2] = [
     Round {
-        commands: &[Make {
-            times: 16,
-            kind: CON,
-            dest: 0,
-            first: 1,
-            second: Some(1),
-        }],
+        commands: &[make!(16, CON, 0, 1, Some(1))],
         free: 63,
         filled: 0,
         promoted: 1,
@@ -50,13 +51,7 @@ const NURSERY_FILLED: [Round; 2] = [
         registers: &[(0, 64), (1, 1)],
     },
     Round {
-        commands: &[Make {
-            times: 1,
-            kind: VAR,
-            dest: 2,
-            first: 0,
-            second: None,
-        }],
+        commands: &[make!(1, VAR, 2, 0, None)],
         free: 63,
         filled: 0,
         promoted: 1,
@@ -70,13 +65,7 @@ const NURSERY_FILLED: [Round; 2] = [
 // A list of 15 cells, whose sixteenth takes the last block of the segment.
 const SIXTEENTH_BLOCK: [Round; 2] = [
     Round {
-        commands: &[Make {
-            times: 15,
-            kind: CON,
-            dest: 0,
-            first: 0,
-            second: Some(1),
-        }],
+        commands: &[make!(15, CON, 0, 0, Some(1))],
         free: 63,
         filled: 0,
         promoted: 15,
@@ -86,13 +75,7 @@ const SIXTEENTH_BLOCK: [Round; 2] = [
         registers: &[(0, 176)],
     },
     Round {
-        commands: &[Make {
-            times: 1,
-            kind: CON,
-            dest: 0,
-            first: 0,
-            second: Some(1),
-        }],
+        commands: &[make!(1, CON, 0, 0, Some(1))],
         free: 63,
         filled: 1,
         promoted: 1,
@@ -107,27 +90,9 @@ const SIXTEENTH_BLOCK: [Round; 2] = [
 const THREE_FILLED: [Round; 2] = [
     Round {
         commands: &[
-            Make {
-                times: 16,
-                kind: CON,
-                dest: 0,
-                first: 0,
-                second: Some(1),
-            },
-            Make {
-                times: 16,
-                kind: CON,
-                dest: 2,
-                first: 2,
-                second: Some(1),
-            },
-            Make {
-                times: 16,
-                kind: CON,
-                dest: 3,
-                first: 3,
-                second: Some(1),
-            },
+            make!(16, CON, 0, 0, Some(1)),
+            make!(16, CON, 2, 2, Some(1)),
+            make!(16, CON, 3, 3, Some(1)),
         ],
         free: 61,
         filled: 3,

@@ -4,10 +4,7 @@ ghost use Rattle.nmgc_mutator.specs.declared.mutator.TheConstants.{MOST_PUSHED};
 ghost use Rattle.std.specs.Prelude.{◌≡◌, ◌*◌, ◌<◌, ◌≤◌, true, [], IfOk, IfSome, vec_capacity};
 ghost use Rattle.nmgc_heap_spec.specs.Samples.{small_layout};
 ghost use Rattle.nmgc_object.specs.Places.{word_total};
-ghost use Rattle.nmgc_round.specs.View.{whole};
-ghost use Rattle.nmgc_round.specs.Seat.{IsAt, seen, word_count};
-ghost use Rattle.nmgc_round.specs.Seating.{alone, collecting};
-ghost use Rattle.nmgc_round.specs.Ready.{HasPart, scanned_by};
+ghost use Rattle.nmgc_round.specs.{View.whole, Seat.IsAt, Seat.seen, Seat.word_count, Seating.alone, Seating.collecting, Ready.HasPart, Ready.scanned_by};
 ghost use Rattle.nmgc_heap_tests.specs.Sample.{snapshot_opening, IsSnapshotHeap, IsSnapshotMutator, IsBegun};
 
 use super::laws::a_marking_round_opens;
@@ -39,12 +36,7 @@ fn opening(layout: &Layout) -> Chosen<Opened>
 fn small() -> Layout
     ensures { result ≡ small_layout }
 {
-    Layout {
-        segments: 32,
-        words: 64,
-        nursery: 64,
-        mutators: 1,
-    }
+    layout!(segments: 32, words: 64, nursery: 64, mutators: 1)
 }
 
 // The words up to the last object: g, a constructor with 5, the variable that refers to it, and a chain of

@@ -1,7 +1,6 @@
 //! Two hundred overwrites in one round while a cycle marks, with nobody at the other end of the ring.
 ghost use Rattle.std.specs.Prelude.{◌≡◌, ◌≤◌, [], vec_capacity};
-ghost use Rattle.nmgc_round.specs.Seat.{IsAt, seen};
-ghost use Rattle.nmgc_round.specs.Seating.{alone};
+ghost use Rattle.nmgc_round.specs.{Seat.IsAt, Seat.seen, Seating.alone};
 ghost use Rattle.nmgc_heap_tests.specs.Sample.{snapshot_opening, IsSnapshotHeap, IsSnapshotMutator};
 
 use super::laws::a_marking_round_opens;

@@ -1,18 +1,14 @@
-//! Programs on the heap of which nothing was made: of one mutator by the tables of what each command does, and
-//! of two in threads of their own.
+//! Programs on the heap of which nothing was made: slices of one mutator, and two in threads of their own. What commands reply is
+//! in `examples/rows/runs.rows`.
 ghost use Rattle.std.specs.Prelude.{ℕ, List, ◌≡◌, ◌<◌, ◌≤◌, [], All, IfOk, IsTrue, length, min, slice_index_or, vec_capacity};
 ghost use Rattle.nmgc_world_spec.specs.Command.{Fits, HasNumbers, words_made};
 ghost use Rattle.nmgc_object.specs.Places.{IsLayout};
-ghost use Rattle.nmgc_round.specs.Empty.{IsEmptyHeap, first_opening};
-ghost use Rattle.nmgc_round.specs.Starting.{CanOpen};
-ghost use Rattle.nmgc_round.specs.Seat.{RoundSeat, IsAt, seen};
-ghost use Rattle.nmgc_round.specs.Seating.{alone};
-ghost use Rattle.nmgc_mutator.specs.Ready.{IsNew};
-ghost use Rattle.nmgc_mutator.specs.Slice.{HasRoom};
+ghost use Rattle.nmgc_round.specs.{Empty.IsEmptyHeap, Empty.first_opening, Starting.CanOpen, Seat.RoundSeat, Seat.IsAt, Seat.seen, Seating.alone};
+ghost use Rattle.nmgc_mutator.specs.{Ready.IsNew, Slice.HasRoom};
 
 use crate::of_round::empty_heap;
 use nmgc_limits::MAKERS;
-use nmgc_lists::{List, ListMemory, NoMemory};
+use nmgc_lists::{ListMemory, NoMemory};
 use nmgc_mutator::{Mutator, Slice, SliceEnd};
 use nmgc_object::Layout;
 use nmgc_program::PackedCommand;
@@ -45,12 +41,7 @@ fn small(nursery: u32) -> Layout
     ensures layout { IsLayout result }
     ensures sizes { (result.words ≡ 16) × (result.mutators ≡ 1) }
 {
-    Layout {
-        segments: 1,
-        words: 16,
-        nursery,
-        mutators: 1,
-    }
+    layout!(segments: 1, words: 16, nursery: nursery, mutators: 1)
 }
 
 // Whether the command's numbers are within their limits, and it makes at most 16 words.
@@ -62,18 +53,9 @@ fn has_limits(command: &Command) -> bool
         Command::Show { .. } | Command::Same { .. } => true,
         Command::Yield | Command::Collect | Command::Full => true,
         Command::Num { number, .. } => *number < 1_000_000,
-        Command::Con { tag, fields, .. } => *tag < 100 && fields.items().len() <= 14,
         Command::Arr { count, .. } => *count <= 14,
-        Command::Thunk { free, .. } => free.items().len() <= 8,
-        Command::Stack { size, .. } => *size <= 14,
-        Command::Update { .. } | Command::Force { .. } => true,
         Command::Get { index, .. } | Command::Set { index, .. } => *index < 65_536,
-        Command::Cas { index, .. } => *index < 65_536,
-        Command::Push { .. } | Command::Pop { .. } => true,
-        Command::Weak { .. }
-        | Command::Deref { .. }
-        | Command::Finalise { .. }
-        | Command::NextFin { .. } => true,
+        _ => false,
     }
 }
 
@@ -191,76 +173,8 @@ fn set(object: Operand, index: u32, value: u8) -> Command {
     }
 }
 
-fn con(alloc: Global, dest: u8, first: u8, second: u8) -> Result<Command, NoMemory> {
-    let mut fields = List::new(alloc);
-    fields.push(Operand::Register(first))?;
-    fields.push(Operand::Register(second))?;
-    Ok(Command::Con {
-        dest,
-        tag: 7,
-        fields,
-    })
-}
-
 fn made(serial: u32) -> Reply {
     Reply::Given(Value::Ref(Name { maker: 0, serial }))
-}
-
-fn given(number: u64) -> Reply {
-    Reply::Given(Value::Number(number))
-}
-
-fn cas(object: Operand, index: u32, expected: u8, value: u8) -> Command {
-    Command::Cas {
-        object,
-        index,
-        expected: Operand::Register(expected),
-        value: Operand::Register(value),
-    }
-}
-
-fn update(object: Operand, value: u8) -> Command {
-    Command::Update {
-        object,
-        value: Operand::Register(value),
-    }
-}
-
-fn force(object: Operand) -> Command {
-    Command::Force { dest: 5, object }
-}
-
-fn push(object: Operand, value: u8) -> Command {
-    Command::Push {
-        object,
-        value: Operand::Register(value),
-    }
-}
-
-fn pop(object: Operand) -> Command {
-    Command::Pop { dest: 5, object }
-}
-
-fn deref(object: Operand) -> Command {
-    Command::Deref { dest: 5, object }
-}
-
-fn finalise(object: Operand) -> Command {
-    Command::Finalise { dest: 5, object }
-}
-
-// Whether these commands, done one after the other, reply so.
-fn reply_so(alloc: Global, rows: Vec<(Command, Reply)>) -> Result<bool, NoMemory> {
-    let mut program = Vec::new(alloc);
-    let mut replies = Vec::new(alloc);
-    for (command, reply) in rows {
-        program.push(command)?;
-        replies.push(reply)?;
-    }
-    let Some((slice, mutator)) = slice_of(alloc, 64, program.as_slice(), 1024)? else {
-        return Ok(false);
-    };
-    Ok(slice.end == SliceEnd::Program && mutator.replies.items() == replies.as_slice())
 }
 
 fn var(dest: u8, value: u8) -> Command {
@@ -281,137 +195,6 @@ fn show(value: u8) -> Command {
     Command::Show {
         value: Operand::Register(value),
     }
-}
-
-// Thunks and variables, with each reply and refusal. r1 has 5, r2 a thunk, r3 a variable and r4 a constructor.
-#[test]
-fn thunks_and_variables_reply_by_their_table(rt: HostRuntime) -> Result<(), Fail> {
-    let r = Operand::Register;
-    let mut free = Vec::new(rt.alloc());
-    free.push(r(1))?;
-    let free = List::from_vec(free)?;
-    let rows = vec![in rt.alloc();
-        (num(1, 5), Reply::Fine),
-        (Command::Thunk { dest: 2, free }, made(0)),
-        (force(r(2)), Reply::Nothing),
-        (get(5, r(2), 0), Reply::WrongKind),
-        (update(r(2), 1), Reply::Updated),
-        (update(r(2), 2), Reply::Already),
-        (force(r(2)), given(5)),
-        (update(r(1), 1), Reply::NoPointer),
-        (update(Operand::Shared, 1), Reply::WrongKind),
-        (force(r(1)), Reply::NoPointer),
-        (force(Operand::Shared), Reply::WrongKind),
-        (var(3, 1), made(1)),
-        (cas(r(3), 0, 2, 2), Reply::No),
-        (cas(r(3), 0, 1, 2), Reply::Yes),
-        (get(5, r(3), 0), made(0)),
-        (cas(r(3), 1, 1, 2), Reply::NoField),
-        (cas(r(1), 0, 1, 2), Reply::NoPointer),
-        (cas(r(2), 0, 1, 2), Reply::WrongKind),
-        (con(rt.alloc(), 4, 1, 0)?, made(2)),
-        (cas(r(4), 0, 1, 2), Reply::Fixed),
-    ]?;
-    assert!(rt; reply_so(rt.alloc(), rows)?);
-    Ok(())
-}
-
-// Stacks, with each reply and refusal. r1 has 5, r4 a constructor and r6 a stack.
-#[test]
-fn stacks_reply_by_their_table(rt: HostRuntime) -> Result<(), Fail> {
-    let r = Operand::Register;
-    let rows = vec![in rt.alloc();
-        (num(1, 5), Reply::Fine),
-        (con(rt.alloc(), 4, 1, 0)?, made(0)),
-        (Command::Stack { dest: 6, size: 2 }, made(1)),
-        (get(5, r(6), 0), Reply::WrongKind),
-        (update(r(6), 1), Reply::WrongKind),
-        (pop(r(6)), Reply::StackEmpty),
-        (push(r(6), 1), Reply::Fine),
-        (push(r(6), 4), Reply::Fine),
-        (push(r(6), 1), Reply::StackFull),
-        (pop(r(6)), made(0)),
-        (push(r(6), 0), Reply::Fine),
-        (pop(r(6)), Reply::Given(Value::Nil)),
-        (pop(r(6)), given(5)),
-        (pop(r(6)), Reply::StackEmpty),
-        (push(r(1), 1), Reply::NoPointer),
-        (pop(r(1)), Reply::NoPointer),
-        (push(Operand::Shared, 1), Reply::WrongKind),
-        (pop(Operand::Shared), Reply::WrongKind),
-    ]?;
-    assert!(rt; reply_so(rt.alloc(), rows)?);
-    Ok(())
-}
-
-// Weak pointers, with each reply and refusal. r1 has 5, r3 a variable, r4 a constructor and r7 a weak pointer.
-#[test]
-fn weak_pointers_reply_by_their_table(rt: HostRuntime) -> Result<(), Fail> {
-    let r = Operand::Register;
-    let weak = Command::Weak {
-        dest: 7,
-        key: r(3),
-        value: r(1),
-        finaliser: r(4),
-    };
-    let rows = vec![in rt.alloc();
-        (num(1, 5), Reply::Fine),
-        (var(3, 1), made(0)),
-        (con(rt.alloc(), 4, 1, 0)?, made(1)),
-        (deref(r(1)), Reply::NoPointer),
-        (deref(r(4)), Reply::WrongKind),
-        (finalise(r(1)), Reply::NoPointer),
-        (finalise(r(4)), Reply::WrongKind),
-        (weak, made(2)),
-        (get(5, r(7), 0), Reply::WrongKind),
-        (deref(r(7)), given(5)),
-        (finalise(r(7)), made(1)),
-        (deref(r(7)), Reply::Dead),
-        (finalise(r(7)), Reply::Dead),
-        (Command::NextFin { dest: 5 }, Reply::Nothing),
-    ]?;
-    assert!(rt; reply_so(rt.alloc(), rows)?);
-    Ok(())
-}
-
-// Constructors, variables, arrays and g, with each reply and refusal. r1 has 5, r2 a constructor, r3 a variable
-// and r4 an array; a variable has one field, and g has 16.
-#[test]
-fn fields_reply_by_their_table(rt: HostRuntime) -> Result<(), Fail> {
-    let r = Operand::Register;
-    let g = Operand::Shared;
-    let array = Command::Arr {
-        dest: 4,
-        count: 3,
-        value: r(3),
-    };
-    let rows = vec![in rt.alloc();
-        (num(1, 5), Reply::Fine),
-        (con(rt.alloc(), 2, 1, 0)?, made(0)),
-        (get(5, r(2), 0), given(5)),
-        (get(5, r(2), 1), Reply::Given(Value::Nil)),
-        (get(5, r(2), 2), Reply::NoField),
-        (get(5, r(1), 0), Reply::NoPointer),
-        (get(5, r(0), 0), Reply::NoPointer),
-        (set(r(2), 0, 1), Reply::Fixed),
-        (set(r(2), 2, 1), Reply::Fixed),
-        (set(r(1), 0, 1), Reply::NoPointer),
-        (var(3, 2), made(1)),
-        (get(5, r(3), 0), made(0)),
-        (set(r(3), 0, 1), Reply::Fine),
-        (get(5, r(3), 0), given(5)),
-        (get(5, r(3), 1), Reply::NoField),
-        (set(r(3), 1, 1), Reply::NoField),
-        (array, made(2)),
-        (get(5, r(4), 2), made(1)),
-        (get(5, r(4), 3), Reply::NoField),
-        (set(g, 15, 4), Reply::Fine),
-        (get(5, g, 15), made(2)),
-        (get(5, g, 16), Reply::NoField),
-        (set(g, 16, 4), Reply::NoField),
-    ]?;
-    assert!(rt; reply_so(rt.alloc(), rows)?);
-    Ok(())
 }
 
 // Registers, comparisons and the end of a slice: what is answered, and how often the gate is passed. r1 has 5, r3
@@ -516,24 +299,22 @@ fn a_slice_ends_by_the_first_reason(rt: HostRuntime) -> Result<(), Fail> {
 // What the two mutators of a round read.
 #[derive(Drop)]
 struct Read {
-    first: AtomicU64,
-    second: AtomicU64,
+    by: [AtomicU64; 2],
 }
 
 impl Read {
     fn new() -> Read {
         Read {
-            first: AtomicU64::new(0),
-            second: AtomicU64::new(0),
+            by: [AtomicU64::new(0), AtomicU64::new(0)],
         }
     }
 
     fn put(&self, who: u8, number: u64) {
-        if who == 0 {
-            self.first.store(number, Ordering::SeqCst);
-        } else {
-            self.second.store(number, Ordering::SeqCst);
-        }
+        self.by[usize::from(who != 0)].store(number, Ordering::SeqCst);
+    }
+
+    fn of(&self, who: u8) -> u64 {
+        self.by[usize::from(who != 0)].load(Ordering::SeqCst)
     }
 }
 
@@ -628,12 +409,7 @@ fn two() -> Layout
     ensures layout { IsLayout result }
     ensures words { (result.words ≡ 16) × (result.mutators ≡ 2) }
 {
-    Layout {
-        segments: 1,
-        words: 16,
-        nursery: 16,
-        mutators: 2,
-    }
+    layout!(segments: 1, words: 16, nursery: 16, mutators: 2)
 }
 
 // What each of two mutators reads under this gate.
@@ -648,10 +424,7 @@ fn both<R: Threads + Sync, G: Gate>(
     let place = ListMemory::new(alloc)?;
     let read = Read::new();
     worked(rt, alloc, words, layout, room, place, &read, gate);
-    Ok((
-        read.first.load(Ordering::SeqCst),
-        read.second.load(Ordering::SeqCst),
-    ))
+    Ok((read.of(0), read.of(1)))
 }
 
 // Mutator 0 stores 1 and mutator 1 stores 2. Whichever stores last, both can't read the other's number: in one
@@ -677,21 +450,11 @@ struct Meet {
 impl Gate for Meet {
     fn pass(&self, who: u8, turn: u64) {
         self.reached.put(who, turn);
-        let waits = if who == self.late {
-            turn == 2
-        } else {
-            turn == 3
-        };
-        if !waits {
+        if turn != if who == self.late { 2 } else { 3 } {
             return;
         }
         for _ in 0..1_000_000_000u32 {
-            let other = if who == 0 {
-                self.reached.second.load(Ordering::SeqCst)
-            } else {
-                self.reached.first.load(Ordering::SeqCst)
-            };
-            if other >= 3 {
+            if self.reached.of(1 - who.min(1)) >= 3 {
                 return;
             }
         }

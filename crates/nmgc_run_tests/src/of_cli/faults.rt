@@ -1,14 +1,97 @@
 //! Scripts that are cut, and sources and sinks that fail, for each word of the program.
-use super::benches::TWO_BATCHES;
-use super::running::{
-    EMPTY_REPORT, HEAD, ONE_OBJECT, ONE_OBJECT_IMAGE, ONE_OBJECT_REPORT, ONE_OBJECT_UPGRADED,
-    run_failing, run_words, script_of,
-};
-use nmgc_cli::Status;
-use std::alloc::Global;
+use super::running::{Run, all_words};
+use nmgc_cli::{Status, nmgc};
+use nmgc_io::{MemorySink, MemorySource};
+use std::alloc::{AllocError, Global};
 use std::process::Abort;
 use std::test::Fail;
 use std::thread::Threads;
+
+// A script without commands, 41 bytes, and its report.
+const HEAD: &str = "nmgc 1\nheap 32 64 64 100 1000 0\nthread 0\n";
+
+const EMPTY_REPORT: &str = "report 1
+stop 0 idle free 32 filled 0 sweep 0 promoted 0
+end done
+";
+
+// The script with one object.
+const WHOLE: &str =
+    "nmgc 1\nheap 32 64 64 100 1000 0\nthread 0\nnum r1 5\ncon r0 7 r1\nget r2 r0 0\nshow r2\nget r2 r0 1\nget r2 r1 0\nshow r0\n";
+
+// Its report, its upgrade, and the image of what it leaves.
+const ONE_OBJECT_REPORT: &str = "report 1
+stop 0 idle free 32 filled 0 sweep 0 promoted 0
+round 1
+0 ok
+0 0.0
+0 5
+0 5
+0 nofield
+0 nopointer
+0 0.0
+stop 1 idle free 31 filled 0 sweep 0 promoted 1
+end done
+";
+
+const ONE_OBJECT_UPGRADED: &str = "nmgc 2
+heap 32 64 64 100 1000 0
+thread 0
+num r1 5
+con r0 7 r1
+get r2 r0 0
+show r2
+get r2 r0 1
+get r2 r1 0
+show r0
+";
+
+const ONE_OBJECT_IMAGE: &str = "image 1 1
+mutator 0 serial 1
+register 0 0.0
+register 1 5
+register 2 5
+node 0.0 con 7 5
+node g arr nil nil nil nil nil nil nil nil nil nil nil nil nil nil nil nil
+end
+";
+
+// The summary of a bench.
+const TWO_BATCHES: &str = "bench 2
+commands 8208
+rounds 4
+cycles 1
+made 8192
+promoted 8192
+freed 4096
+kept 4096
+end done
+";
+
+// The number of one call.
+pub fn listed(alloc: Global, call: u64) -> Result<Vec<u64>, AllocError> {
+    let mut calls = Vec::new(alloc);
+    calls.push(call)?;
+    Ok(calls)
+}
+
+// Does what the words ask for over these bytes, in pieces of 5 bytes, where the read and the write of these numbers fail. No
+// call has number 0.
+pub fn run_words<R: Threads + Sync>(
+    rt: &R,
+    alloc: Global,
+    words: &[&str],
+    bytes: &[u8],
+    read: u64,
+    write: u64,
+) -> Result<Run, Fail> {
+    let bytes = Vec::from_slice(alloc, bytes)?;
+    let mut source = MemorySource::new(bytes, 5, listed(alloc, read)?);
+    let mut sink = MemorySink::new(alloc, 5, listed(alloc, write)?, 2000)?;
+    let words = all_words(alloc, words)?;
+    let ended = nmgc(alloc, rt, &words, &mut source, &mut sink);
+    Ok(Run { ended, sink })
+}
 
 // What is told of the first bytes of the script with one object, so many of them.
 fn told_of(cut: usize) -> (Status, &'static str) {
@@ -35,19 +118,16 @@ end done
 
 #[test]
 fn a_script_is_cut(rt: HostRuntime) -> Result<(), Fail> {
-    let script = script_of(rt.alloc(), ONE_OBJECT)?;
+    let script = WHOLE.as_bytes();
     for cut in 0..51 {
         let (status, text) = told_of(cut);
-        let run = run_failing(&rt, rt.alloc(), &script[..cut.min(script.len())], 0, 0)?;
+        let bytes = &script[..cut.min(script.len())];
+        let run = run_words(&rt, rt.alloc(), &["run"], bytes, 0, 0)?;
         assert!(rt; run.ended.status == status);
         assert!(rt; run.sink.bytes() == text.as_bytes());
     }
     Ok(())
 }
-
-// The script with one object.
-const WHOLE: &str =
-    "nmgc 1\nheap 32 64 64 100 1000 0\nthread 0\nnum r1 5\ncon r0 7 r1\nget r2 r0 0\nshow r2\nget r2 r0 1\nget r2 r1 0\nshow r0\n";
 
 // Words that read, what they are given, what is written then, and whether the report is handed on.
 const READERS: [(&[&str], &str, &str, bool); 6] = [
@@ -127,14 +207,4 @@ fn each_read_fails(rt: HostRuntime) -> Result<(), Fail> {
 fn each_write_fails(rt: HostRuntime) -> Result<(), Fail> {
     check_writes(&rt, rt.alloc(), &READERS)?;
     check_writes(&rt, rt.alloc(), &BENCH)
-}
-
-// The report is there also where its text wasn't written whole.
-#[test]
-fn a_cut_report_is_handed_on(rt: HostRuntime) -> Result<(), Fail> {
-    let run = run_failing(&rt, rt.alloc(), &script_of(rt.alloc(), "")?, 0, 3)?;
-    assert!(rt; run.ended.status == Status::WriteFault);
-    assert!(rt; run.sink.bytes() == b"report 1\ns".as_slice());
-    assert!(rt; run.ended.report.is_some());
-    Ok(())
 }

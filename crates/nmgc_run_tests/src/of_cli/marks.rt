@@ -1,13 +1,10 @@
-//! What several markers mark of the heaps that runs leave.
+//! Two markers beside each other, over the heap that a run leaves.
 //!
-//! The gate of the last test gives up after many turns of its spin, and notes it, so markers on one thread fail the test
-//! and don't hang.
+//! Their gate gives up after many turns of its spin, and notes it, so markers on one thread fail the test and don't hang.
 ghost use Rattle.std.specs.Prelude.{◌≤◌, length, IfOk};
 ghost use Rattle.nmgc_cli.specs.Answer.{IsOfScript};
 ghost use Rattle.nmgc_limits.specs.Limits.{most_script_bytes};
 
-use super::running::{HEAD, USAGE, run_words};
-use nmgc_cli::Status;
 use nmgc_cli::answer::Refusal;
 use nmgc_cli::marks::claims_of;
 use nmgc_cli::run::run_bytes;
@@ -15,46 +12,9 @@ use nmgc_journal::Report;
 use nmgc_limits::MAX_SCRIPT_BYTES;
 use nmgc_round::Gate;
 use std::alloc::{AllocError, Global};
-use std::process::Abort;
 use std::sync::atomic::{AtomicU64, Ordering};
 use std::test::Fail;
 use std::thread::Threads;
-
-// What is reached of three chains of sixteen: the first was let go of, and the last object of the second.
-const CHAINS_REACHED: &str = "reached 31
-0.16
-0.17
-0.18
-0.19
-0.20
-0.21
-0.22
-0.23
-0.24
-0.25
-0.26
-0.27
-0.28
-0.29
-0.30
-0.32
-0.33
-0.34
-0.35
-0.36
-0.37
-0.38
-0.39
-0.40
-0.41
-0.42
-0.43
-0.44
-0.45
-0.46
-0.47
-end done
-";
 
 // A script of three chains of sixteen objects, of which the first and the last object of the second are dropped.
 fn chains(alloc: Global) -> Result<Vec<u8>, AllocError> {
@@ -66,47 +26,6 @@ fn chains(alloc: Global) -> Result<Vec<u8>, AllocError> {
     }
     script.extend_from_slice(b"yield\nnil r0\nget r2 r2 0\ncollect\n")?;
     Ok(script)
-}
-
-// Looks whether so many markers mark this of what the script leaves.
-fn check_marks<R: Threads + Sync + Abort>(
-    rt: &R,
-    alloc: Global,
-    script: &[u8],
-    reached: &str,
-) -> Result<(), Fail> {
-    for (markers, first) in [
-        ("1", "marks 1\n"),
-        ("2", "marks 2\n"),
-        ("4", "marks 4\n"),
-        ("8", "marks 8\n"),
-    ] {
-        let run = run_words(rt, alloc, &["marks", markers], script, 0, 0)?;
-        let mut text = Vec::from_slice(alloc, first.as_bytes())?;
-        text.extend_from_slice(reached.as_bytes())?;
-        assert!(rt; run.ended.status == Status::Done);
-        assert!(rt; run.sink.bytes() == text.as_slice());
-        assert!(rt; run.ended.report.is_some());
-    }
-    Ok(())
-}
-
-#[test]
-fn what_is_reached_is_told(rt: HostRuntime) -> Result<(), Fail> {
-    let script = chains(rt.alloc())?;
-    check_marks(&rt, rt.alloc(), &script, CHAINS_REACHED)?;
-    check_marks(&rt, rt.alloc(), HEAD.as_bytes(), "reached 0\nend done\n")
-}
-
-#[test]
-fn other_numbers_of_markers_are_wrong_words(rt: HostRuntime) -> Result<(), Fail> {
-    for markers in ["0", "9", "04", "", "four"] {
-        let run = run_words(&rt, rt.alloc(), &["marks", markers], HEAD.as_bytes(), 0, 0)?;
-        assert!(rt; run.ended.status == Status::Usage);
-        assert!(rt; run.sink.bytes() == USAGE.as_bytes());
-        assert!(rt; run.ended.report.is_none());
-    }
-    Ok(())
 }
 
 // The report of a script's bytes.

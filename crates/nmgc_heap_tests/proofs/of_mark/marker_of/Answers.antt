@@ -1,7 +1,5 @@
-use Rattle.std.proofs.Common.{◌≡◌, ◌∙◌, ap, sym, subst}
-use Rattle.nmgc_mark.specs.Beginning.{most_blocks}
-use Rattle.nmgc_mark.specs.Marker.{blank, HasRoomToMark}
-use Rattle.nmgc_mark.specs.Seen.{MarkerSeen}
+use Rattle.nmgc_heap_tests.proofs.Vocabulary.{◌≡◌, ◌∙◌, ap, sym, subst, most_blocks, HasRoomToMark, MarkerSeen}
+use Rattle.nmgc_mark.specs.Marker.{blank}
 use Rattle.nmgc_heap_tests.proofs.of_mark.marker_of.Goals as goal
 
 pub returns : goal.returns

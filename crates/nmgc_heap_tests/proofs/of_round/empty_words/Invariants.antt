@@ -1,6 +1,4 @@
-use Rattle.std.proofs.Common.{◌≡◌, ℕ, ◌+◌, ◌<◌, length, slice_index}
-use Rattle.nmgc_object.specs.Places.{word_total}
-use Rattle.nmgc_heap_spec.specs.Places.{HasZeros}
+use Rattle.nmgc_heap_tests.proofs.Vocabulary.{◌≡◌, ℕ, ◌+◌, ◌<◌, length, slice_index, word_total, HasZeros}
 use Rattle.nmgc_heap_tests.proofs.of_round.empty_words.Given as goal
 
 abbrev pub invariant-loop-slot : goal.invariant-loop-slot

@@ -1,11 +1,4 @@
-use Rattle.std.proofs.Common.{◌+◌, ◌*◌, ℕ, refl, sym, subst}
-use Rattle.nmgc_object.specs.Places.{nursery_place}
-use Rattle.nmgc_round.specs.View.{Seen, blank}
-use Rattle.nmgc_round.specs.Seat.{seen}
-use Rattle.nmgc_round.specs.Ready.{Mutates, CanLoad, CanSwap, CanStore, CanBear}
-use Rattle.nmgc_round.specs.Told.{CanFix, CanTake}
-use Rattle.nmgc_world_spec.specs.declared.command.Command.TheVariants.{Yield}
-use Rattle.nmgc_heap_tests.proofs.SharedSlots.{mutates, makes, shares, reads, after_header, after_name, after_field, after_birth, after_swap, after_load, header_fixed, name_unborn, field_unborn, can_bear, can_swap, can_load, can_yield, seen_header, seen_name, seen_field, seen_birth, seen_swap, seen_load, has_part, seen_last}
+use Rattle.nmgc_heap_tests.proofs.{Vocabulary.◌+◌, Vocabulary.◌*◌, Vocabulary.ℕ, Vocabulary.refl, Vocabulary.sym, Vocabulary.subst, Vocabulary.nursery_place, Vocabulary.Seen, Vocabulary.blank, Vocabulary.seen, Vocabulary.Mutates, Vocabulary.CanLoad, Vocabulary.CanSwap, Vocabulary.CanStore, Vocabulary.CanBear, Vocabulary.CanFix, Vocabulary.CanTake, Vocabulary.Yield, SharedSlots.mutates, SharedSlots.makes, SharedSlots.shares, SharedSlots.reads, SharedSlots.after_header, SharedSlots.after_name, SharedSlots.after_field, SharedSlots.after_birth, SharedSlots.after_swap, SharedSlots.after_load, SharedSlots.header_fixed, SharedSlots.name_unborn, SharedSlots.field_unborn, SharedSlots.can_bear, SharedSlots.can_swap, SharedSlots.can_load, SharedSlots.can_yield, SharedSlots.seen_header, SharedSlots.seen_name, SharedSlots.seen_field, SharedSlots.seen_birth, SharedSlots.seen_swap, SharedSlots.seen_load, SharedSlots.has_part, SharedSlots.seen_last}
 use Rattle.nmgc_heap_tests.proofs.of_round.work.Goals as goal
 
 pub load_fixed-requires-clause-ready : goal.load_fixed-requires-clause-ready

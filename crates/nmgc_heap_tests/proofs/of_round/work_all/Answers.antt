@@ -1,6 +1,4 @@
-use Rattle.std.proofs.Common.{subst}
-use Rattle.nmgc_round.specs.Seat.{RoundSeat, IsAt, seen}
-use Rattle.nmgc_round.specs.Ready.{HasPart}
+use Rattle.nmgc_heap_tests.proofs.Vocabulary.{subst, RoundSeat, IsAt, seen, HasPart}
 use Rattle.nmgc_heap_tests.proofs.of_round.work_all.Goals as goal
 
 pub returns-clause-seats : goal.returns-clause-seats

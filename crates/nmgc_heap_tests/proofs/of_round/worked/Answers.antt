@@ -1,12 +1,4 @@
-use Rattle.std.proofs.Common.{◌≡◌, List, length, map, All, arith, refl, sym, ap, subst, ◌∙◌}
-use Rattle.std.specs.List.{refill}
-use Rattle.nmgc_round.specs.View.{Opening, Seen}
-use Rattle.nmgc_round.specs.Seat.{RoundSeat, IsAt, seen}
-use Rattle.nmgc_round.specs.Seating.{all_together}
-use Rattle.nmgc_round.specs.Starting.{CanOpen}
-use Rattle.nmgc_round.specs.Finishing.{HasAll}
-use Rattle.nmgc_round.specs.laws.Common.{are_ready}
-use Rattle.nmgc_heap_tests.proofs.SharedSlots.{has_all, written}
+use Rattle.nmgc_heap_tests.proofs.{Vocabulary.◌≡◌, Vocabulary.List, Vocabulary.length, Vocabulary.map, Vocabulary.All, Vocabulary.arith, Vocabulary.refl, Vocabulary.sym, Vocabulary.ap, Vocabulary.subst, Vocabulary.◌∙◌, Vocabulary.refill, Vocabulary.Opening, Vocabulary.Seen, Vocabulary.RoundSeat, Vocabulary.IsAt, Vocabulary.seen, Vocabulary.all_together, Vocabulary.CanOpen, Vocabulary.HasAll, Vocabulary.are_ready, SharedSlots.has_all, SharedSlots.written}
 use Rattle.nmgc_heap_tests.proofs.of_round.worked.Goals as goal
 
 pub start-round-requires-clause-opens : goal.start-round-requires-clause-opens

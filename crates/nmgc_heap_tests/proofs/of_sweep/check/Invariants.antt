@@ -1,5 +1,4 @@
-use Rattle.nmgc_sweep.specs.Names.{HaveEntries}
-use Rattle.nmgc_sweep.specs.Sweeper.{AreLeft}
+use Rattle.nmgc_heap_tests.proofs.Vocabulary.{HaveEntries, AreLeft}
 use Rattle.nmgc_heap_tests.proofs.of_sweep.check.Given as goal
 
 abbrev pub invariant-loop-name : goal.invariant-loop-name

@@ -1,8 +1,4 @@
-use Rattle.std.proofs.Common.{◌≡◌, List, [], ◌∷◌, ap, subst, ◌∙◌, arith, inl, inr}
-use Rattle.std.specs.Prelude.{Contains}
-use Rattle.nmgc_world_spec.specs.declared.value.Name.{Name}
-use Rattle.nmgc_lists.specs.laws.Items.{contains_cases, nothing_in}
-use Rattle.nmgc_weak.specs.declared.weaks.OldWeak.{OldWeak}
+use Rattle.nmgc_heap_tests.proofs.Vocabulary.{◌≡◌, List, [], ◌∷◌, ap, subst, ◌∙◌, arith, inl, inr, Contains, Name, contains_cases, nothing_in, OldWeak}
 use Rattle.nmgc_heap_tests.proofs.of_weak.joiners_in_order.Goals as goal
 
 abbrev before : OldWeak

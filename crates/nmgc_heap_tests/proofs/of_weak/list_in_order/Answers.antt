@@ -1,8 +1,4 @@
-use Rattle.std.proofs.Common.{◌≡◌, List, [], length, ap, subst, ◌∙◌, arith, inl, inr, length-set}
-use Rattle.std.specs.Prelude.{Contains}
-use Rattle.nmgc_world_spec.specs.declared.value.Name.{Name}
-use Rattle.nmgc_lists.specs.laws.Items.{nothing_in}
-use Rattle.nmgc_weak.specs.declared.weaks.OldWeak.{OldWeak}
+use Rattle.nmgc_heap_tests.proofs.Vocabulary.{◌≡◌, List, [], length, ap, subst, ◌∙◌, arith, inl, inr, length-set, Contains, Name, nothing_in, OldWeak}
 use Rattle.nmgc_heap_tests.proofs.of_weak.list_in_order.Goals as goal
 
 pub add-requires-2-clause-new : goal.add-requires-2-clause-new

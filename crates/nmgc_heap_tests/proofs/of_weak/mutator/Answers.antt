@@ -1,5 +1,4 @@
-use Rattle.std.proofs.Common.{refl, lit≤}
-use lib.Count.{ones}
+use Rattle.nmgc_heap_tests.proofs.Vocabulary.{refl, lit≤, ones}
 use Rattle.nmgc_heap_tests.proofs.of_weak.mutator.Goals as goal
 
 pub new-requires-clause-layout : goal.new-requires-clause-layout

@@ -1,10 +1,4 @@
-use Rattle.std.proofs.Common.{◌≡◌, ◌⊎◌, ℕ, true, List, [], ◌∷◌, set, slice_index, replicate, sym, ap, subst, ◌∙◌, arith, inl, inr}
-use Rattle.std.specs.Prelude.{Contains, not}
-use Rattle.nmgc_world_spec.specs.declared.value.Name.{Name}
-use Rattle.nmgc_object.specs.Words.{IsName, name_word}
-use Rattle.nmgc_lists.specs.laws.Items.{contains_cases, filter_contains, nothing_in}
-use Rattle.nmgc_weak.specs.declared.weaks.OldWeak.{OldWeak}
-use Rattle.nmgc_weak.specs.Rows.{leaves_at}
+use Rattle.nmgc_heap_tests.proofs.Vocabulary.{◌≡◌, ◌⊎◌, ℕ, true, List, [], ◌∷◌, set, slice_index, replicate, sym, ap, subst, ◌∙◌, arith, inl, inr, Contains, not, Name, IsName, name_word, contains_cases, filter_contains, nothing_in, OldWeak, leaves_at}
 use Rattle.nmgc_heap_tests.proofs.of_weak.told_ones_leave.Goals as goal
 
 abbrev first : OldWeak

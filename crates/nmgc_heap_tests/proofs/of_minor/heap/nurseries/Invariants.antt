@@ -1,5 +1,4 @@
-use Rattle.std.proofs.Common.{◌≡◌, take}
-use Rattle.nmgc_collector_laws.specs.Worked.{nurseries_of}
+use Rattle.nmgc_heap_tests.proofs.Vocabulary.{◌≡◌, take, nurseries_of}
 use Rattle.nmgc_heap_tests.proofs.of_minor.heap.nurseries.Given as goal
 
 abbrev pub invariant-loop-mutator : goal.invariant-loop-mutator

@@ -1,17 +1,4 @@
-use Rattle.std.proofs.Common.{ℕ, ◌≡◌, List, ◌+◌, ◌*◌, ◌<◌, ◌≤◌, length, map, slice_index, inl, sym, subst, ap, ◌∙◌}
-use Rattle.std.specs.Prelude.{Contains}
-use Rattle.std.specs.List.{flat_map}
-use Rattle.nmgc_object.specs.FinQueue.{FinQueue}
-use Rattle.nmgc_object.specs.declared.layout.Nursery.{Nursery}
-use Rattle.nmgc_object.specs.declared.words.Address.{Address}
-use Rattle.nmgc_alloc.specs.laws.Reserve.{begins}
-use Rattle.nmgc_lists.specs.laws.Items.{map_contains, flat_contains}
-use Rattle.nmgc_minor.specs.Inputs.{Inputs}
-use Rattle.nmgc_minor.specs.Start.{inputs_by, words_of, places_of}
-use Rattle.nmgc_mutator.specs.declared.mutator.Mutator.{Mutator}
-use Rattle.nmgc_collector_laws.specs.Worked.{nurseries_of}
-use Rattle.nmgc_heap_tests.specs.Checked.{PointsWell, PointsWellAll, AreParts, AreMade, IsChecked}
-use Rattle.nmgc_heap_tests.proofs.CheckedLaws.{checked_can}
+use Rattle.nmgc_heap_tests.proofs.{Vocabulary.ℕ, Vocabulary.◌≡◌, Vocabulary.List, Vocabulary.◌+◌, Vocabulary.◌*◌, Vocabulary.◌<◌, Vocabulary.◌≤◌, Vocabulary.length, Vocabulary.map, Vocabulary.slice_index, Vocabulary.inl, Vocabulary.sym, Vocabulary.subst, Vocabulary.ap, Vocabulary.◌∙◌, Vocabulary.Contains, Vocabulary.flat_map, Vocabulary.FinQueue, Vocabulary.Nursery, Vocabulary.Address, Vocabulary.begins, Vocabulary.map_contains, Vocabulary.flat_contains, Vocabulary.Inputs, Vocabulary.inputs_by, Vocabulary.words_of, Vocabulary.places_of, Vocabulary.Mutator, Vocabulary.nurseries_of, Vocabulary.PointsWell, Vocabulary.PointsWellAll, Vocabulary.AreParts, Vocabulary.AreMade, Vocabulary.IsChecked, CheckedLaws.checked_can}
 use Rattle.nmgc_heap_tests.proofs.of_minor.heap.promote.Goals as goal
 
 -- what each mutator has, all of them have

@@ -1,5 +1,4 @@
-use Rattle.std.proofs.Common.{ℕ, zero, suc, ◌≡◌, ◌<◌, ◌≤◌, List, slice_index, inl, inr, arith}
-use Rattle.nmgc_heap_spec.specs.Places.{HasZeros}
+use Rattle.nmgc_heap_tests.proofs.Vocabulary.{ℕ, zero, suc, ◌≡◌, ◌<◌, ◌≤◌, List, slice_index, inl, inr, arith, HasZeros}
 use Rattle.nmgc_heap_tests.proofs.of_minor.stop.are_zeros.Goals as goal
 
 -- word 0 belongs to nobody, and so do those between g and the first segment

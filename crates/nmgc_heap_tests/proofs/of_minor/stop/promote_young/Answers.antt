@@ -1,12 +1,4 @@
-use Rattle.std.proofs.Common.{ℕ, ◌≡◌, ◌∙◌, List, [], ◌∷◌, subst, sym, ap, append-nil}
-use Rattle.nmgc_blocks_spec.specs.Samples.{young_stop, young_nurseries, young_registers}
-use Rattle.nmgc_blocks_spec.specs.Stopped.{IsStopped}
-use Rattle.nmgc_alloc.specs.Numbered.{Segments}
-use Rattle.nmgc_minor.specs.Start.{places_of}
-use Rattle.nmgc_minor.specs.Promotes.{IsStoppedBy}
-use Rattle.nmgc_mutator.specs.declared.mutator.Mutator.{Mutator}
-use Rattle.nmgc_object.specs.declared.layout.Nursery.{Nursery}
-use Rattle.nmgc_object.specs.declared.words.Address.{Address}
+use Rattle.nmgc_heap_tests.proofs.Vocabulary.{ℕ, ◌≡◌, ◌∙◌, List, [], ◌∷◌, subst, sym, ap, append-nil, young_stop, young_nurseries, young_registers, IsStopped, Segments, places_of, IsStoppedBy, Mutator, Nursery, Address}
 use Rattle.nmgc_heap_tests.proofs.of_minor.stop.promote_young.Goals as goal
 
 -- the lists over one mutator

@@ -1,8 +1,4 @@
-use Rattle.std.proofs.Common.{ℕ, ◌≡◌, List, ◌<◌, ◌≤◌, ◌+◌, ◌*◌, length, slice_index, subst, ◌∙◌}
-use Rattle.std.specs.Prelude.{Contains}
-use Rattle.std.proofs.lemmas.List.{get_or_default}
-use Rattle.nmgc_object.specs.declared.words.Address.{Address}
-use Rattle.nmgc_heap_tests.specs.Checked.{PointsWell}
+use Rattle.nmgc_heap_tests.proofs.Vocabulary.{ℕ, ◌≡◌, List, ◌<◌, ◌≤◌, ◌+◌, ◌*◌, length, slice_index, subst, ◌∙◌, Contains, get_or_default, Address, PointsWell}
 use Rattle.nmgc_heap_tests.proofs.of_minor.walk.check_mutator.Goals as goal
 
 -- what holds at each index holds of what is contained

@@ -1,8 +1,4 @@
-use Rattle.std.proofs.Common.{ℕ, ◌<◌, ◌∙◌, List, subst, arith, below_more}
-use Rattle.std.specs.Prelude.{slice_index_or}
-use Rattle.std.proofs.lemmas.List.{get_or_default}
-use Rattle.nmgc_mutator.specs.declared.mutator.Mutator.{Mutator}
-use Rattle.nmgc_heap_tests.specs.Checked.{PointsWellAll}
+use Rattle.nmgc_heap_tests.proofs.Vocabulary.{ℕ, ◌<◌, ◌∙◌, List, subst, arith, below_more, slice_index_or, get_or_default, Mutator, PointsWellAll}
 use Rattle.nmgc_heap_tests.proofs.of_minor.walk.check_mutators.Goals as goal
 
 pub loop-mutator-preserved : goal.loop-mutator-preserved

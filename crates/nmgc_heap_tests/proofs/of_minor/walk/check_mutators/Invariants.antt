@@ -1,7 +1,4 @@
-use Rattle.std.proofs.Common.{ℕ, ◌<◌}
-use Rattle.std.specs.Prelude.{slice_index_or}
-use Rattle.nmgc_mutator.specs.declared.mutator.Mutator.{Mutator}
-use Rattle.nmgc_heap_tests.specs.Checked.{PointsWellAll}
+use Rattle.nmgc_heap_tests.proofs.Vocabulary.{ℕ, ◌<◌, slice_index_or, Mutator, PointsWellAll}
 use Rattle.nmgc_heap_tests.proofs.of_minor.walk.check_mutators.Given as goal
 
 abbrev pub invariant-loop-mutator : goal.invariant-loop-mutator

@@ -1,6 +1,4 @@
-use Rattle.std.proofs.Common.{ℕ, ◌≡◌, ◌<◌, ◌≤◌, ◌+◌}
-use Rattle.nmgc_object.specs.Places.{nursery_place}
-use Rattle.nmgc_blocks_spec.specs.Nurseries.{nursery_at}
+use Rattle.nmgc_heap_tests.proofs.Vocabulary.{ℕ, ◌≡◌, ◌<◌, ◌≤◌, ◌+◌, nursery_place, nursery_at}
 use Rattle.nmgc_heap_tests.proofs.of_minor.walk.check_nurseries.Given as goal
 
 abbrev pub invariant-loop-maker : goal.invariant-loop-maker

@@ -1,5 +1,4 @@
-use Rattle.nmgc_heap_tests.proofs.CheckedLaws.{made_more, next_more, made_skip, next_skip}
-use Rattle.nmgc_heap_tests.proofs.of_minor.walk.check_objects.Goals.{then-sizes-k-ne0, else-sizes-k-ne0}
+use Rattle.nmgc_heap_tests.proofs.{CheckedLaws.made_more, CheckedLaws.next_more, CheckedLaws.made_skip, CheckedLaws.next_skip, of_minor.walk.check_objects.Goals.then-sizes-k-ne0, of_minor.walk.check_objects.Goals.else-sizes-k-ne0}
 use Rattle.nmgc_heap_tests.proofs.of_minor.walk.check_objects.Goals as goal
 
 pub loop-k-preserved : goal.loop-k-preserved

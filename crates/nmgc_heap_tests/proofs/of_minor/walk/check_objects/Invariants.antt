@@ -1,5 +1,4 @@
-use Rattle.std.proofs.Common.{ℕ, ◌<◌, ◌≤◌, ◌+◌, ◌≢◌, slice_index}
-use Rattle.nmgc_heap_tests.specs.Checked.{AreMade}
+use Rattle.nmgc_heap_tests.proofs.Vocabulary.{ℕ, ◌<◌, ◌≤◌, ◌+◌, ◌≢◌, slice_index, AreMade}
 use Rattle.nmgc_heap_tests.proofs.of_minor.walk.check_objects.Given as goal
 
 abbrev pub invariant-loop-k : goal.invariant-loop-k

@@ -1,5 +1,4 @@
-use Rattle.std.proofs.Common.{ℕ, ◌<◌, subst, arith}
-use Rattle.nmgc_object.specs.declared.words.Address.{Address}
+use Rattle.nmgc_heap_tests.proofs.Vocabulary.{ℕ, ◌<◌, subst, arith, Address}
 use Rattle.nmgc_heap_tests.proofs.of_minor.walk.check_recorded.Goals as goal
 
 pub returns : goal.returns

@@ -1,6 +1,4 @@
-use Rattle.std.proofs.Common.{ℕ, ◌<◌}
-use Rattle.std.specs.Prelude.{slice_index_or}
-use Rattle.nmgc_object.specs.declared.words.Address.{Address}
+use Rattle.nmgc_heap_tests.proofs.Vocabulary.{ℕ, ◌<◌, slice_index_or, Address}
 use Rattle.nmgc_heap_tests.proofs.of_minor.walk.check_recorded.Given as goal
 
 abbrev pub invariant-loop-at : goal.invariant-loop-at

@@ -1,6 +1,4 @@
-use Rattle.std.proofs.Common.{ℕ, ◌≤◌, ◌+◌, ◌*◌, subst, arith}
-use Rattle.nmgc_object.specs.declared.words.Address.{Address}
-use Rattle.nmgc_heap_tests.specs.Checked.{PointsWell}
+use Rattle.nmgc_heap_tests.proofs.Vocabulary.{ℕ, ◌≤◌, ◌+◌, ◌*◌, subst, arith, Address, PointsWell}
 use Rattle.nmgc_heap_tests.proofs.of_minor.walk.check_weaks.Goals as goal
 
 pub returns : goal.returns

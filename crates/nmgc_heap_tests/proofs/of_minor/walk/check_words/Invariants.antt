@@ -1,5 +1,4 @@
-use Rattle.std.proofs.Common.{ℕ, ◌<◌, slice_index}
-use Rattle.nmgc_heap_tests.specs.Checked.{PointsWell}
+use Rattle.nmgc_heap_tests.proofs.Vocabulary.{ℕ, ◌<◌, slice_index, PointsWell}
 use Rattle.nmgc_heap_tests.proofs.of_minor.walk.check_words.Given as goal
 
 abbrev pub invariant-loop-word : goal.invariant-loop-word

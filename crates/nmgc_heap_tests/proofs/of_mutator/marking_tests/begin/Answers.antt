@@ -1,7 +1,4 @@
-use Rattle.std.proofs.Common.{subst, sym, ◌∙◌}
-use Rattle.nmgc_round.specs.View.{Opening}
-use Rattle.nmgc_round.specs.Starting.{CanOpen}
-use Rattle.nmgc_heap_tests.proofs.Sampled.{begun, word_count_is}
+use Rattle.nmgc_heap_tests.proofs.{Vocabulary.subst, Vocabulary.sym, Vocabulary.◌∙◌, Vocabulary.Opening, Vocabulary.CanOpen, Sampled.begun, Sampled.word_count_is}
 use Rattle.nmgc_heap_tests.proofs.of_mutator.marking_tests.begin.Goals as goal
 
 pub start-round-requires-clause-opens : goal.start-round-requires-clause-opens

@@ -1,7 +1,4 @@
-use Rattle.std.proofs.Common.{ℕ, List, subst, sym, ap, set, ◌∙◌}
-use Rattle.nmgc_object.specs.declared.layout.Layout.{Layout}
-use Rattle.nmgc_object.specs.Places.{IsLayout}
-use Rattle.nmgc_heap_tests.proofs.Sampled.{layout_is, snapshot_mutator}
+use Rattle.nmgc_heap_tests.proofs.{Vocabulary.ℕ, Vocabulary.List, Vocabulary.subst, Vocabulary.sym, Vocabulary.ap, Vocabulary.set, Vocabulary.◌∙◌, Vocabulary.Layout, Vocabulary.IsLayout, Sampled.layout_is, Sampled.snapshot_mutator}
 use Rattle.nmgc_heap_tests.proofs.of_mutator.marking_tests.mutator_with.Goals as goal
 
 pub new-requires-clause-layout : goal.new-requires-clause-layout

@@ -1,6 +1,4 @@
-use Rattle.std.proofs.Common.{◌≡◌, ◌+◌, ◌≤◌}
-use Rattle.nmgc_heap_spec.specs.Samples.{small_layout}
-use Rattle.nmgc_mutator.specs.Ready.{IsReady}
+use Rattle.nmgc_heap_tests.proofs.Vocabulary.{◌≡◌, ◌+◌, ◌≤◌, small_layout, IsReady}
 use Rattle.nmgc_heap_tests.proofs.of_mutator.sending_tests.overwrite_often.Given as goal
 
 -- the mutator is ready for the next store, and has room for those that are left

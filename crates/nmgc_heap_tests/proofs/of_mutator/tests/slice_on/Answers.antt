@@ -1,7 +1,4 @@
-use Rattle.std.proofs.Common.{subst, sym}
-use Rattle.nmgc_round.specs.View.{Opening}
-use Rattle.nmgc_round.specs.Starting.{CanOpen}
-use Rattle.nmgc_heap_tests.proofs.Samples.{one_ready}
+use Rattle.nmgc_heap_tests.proofs.{Vocabulary.subst, Vocabulary.sym, Vocabulary.Opening, Vocabulary.CanOpen, Samples.one_ready}
 use Rattle.nmgc_heap_tests.proofs.of_mutator.tests.slice_on.Goals as goal
 
 pub start-round-requires-clause-opens : goal.start-round-requires-clause-opens

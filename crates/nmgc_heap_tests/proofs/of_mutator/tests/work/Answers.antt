@@ -1,7 +1,4 @@
-use Rattle.nmgc_heap_tests.proofs.Many.{many_ready}
-use Rattle.nmgc_mutator.specs.laws.Common.{reserved as new_reserved}
-use Rattle.nmgc_heap_tests.proofs.Samples.{has_room}
-use Rattle.std.proofs.Common.{arith}
+use Rattle.nmgc_heap_tests.proofs.{Many.many_ready, Samples.has_room, Vocabulary.new_reserved, Vocabulary.arith}
 use Rattle.nmgc_heap_tests.proofs.of_mutator.tests.work.Goals as goal
 
 pub run_slice-requires-clause-ready : goal.run_slice-requires-clause-ready

@@ -1,7 +1,4 @@
-use Rattle.std.proofs.Common.{sym, subst}
-use Rattle.nmgc_round.specs.View.{Opening}
-use Rattle.nmgc_round.specs.Starting.{CanOpen}
-use Rattle.nmgc_round.specs.laws.Common.{are_ready}
+use Rattle.nmgc_heap_tests.proofs.Vocabulary.{sym, subst, Opening, CanOpen, are_ready}
 use Rattle.nmgc_heap_tests.proofs.of_mutator.tests.worked.Goals as goal
 
 pub start-round-requires-clause-opens : goal.start-round-requires-clause-opens

@@ -1,9 +1,6 @@
-use Rattle.std.proofs.Common.{List, get_or}
+use Rattle.std.proofs.{Common.List, Common.get_or, lemmas.List.Elements.Contains-get_or}
 use Rattle.std.specs.Prelude.{All}
-use Rattle.std.proofs.lemmas.List.Elements.{Contains-get_or}
-use Rattle.nmgc_world_spec.specs.declared.value.Name.{Name}
-use Rattle.nmgc_world_spec.specs.World.{World}
-use Rattle.nmgc_world_spec.specs.Reach.{IsAliveWeak, IsDead, Lists}
+use Rattle.nmgc_world_spec.specs.{declared.value.Name.Name, World.World, Reach.IsAliveWeak, Reach.IsDead, Reach.Lists}
 use Rattle.nmgc_low_tests.proofs.of_graph.reach_tests.close.Goals as goal
 
 -- the dead weak pointers are alive so far, so the world may be closed with them
