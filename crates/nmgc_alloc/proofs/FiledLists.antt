@@ -1,16 +1,5 @@
 -- What sweeps make of segments, counted over a list: one after the other, and part by part.
-use Rattle.std.proofs.Common.{ℕ, ◌≡◌, ◌+◌, ◌<◌, ◌≤◌, ◌∙◌, subst, arith, List, ◌++◌, length, set, take, drop, take-append-drop}
-use Rattle.std.proofs.lemmas.List.Sums.{sum_by-append, count_by-le-length}
-use Rattle.nmgc_limits.specs.Limits.{most_segments}
-use Rattle.nmgc_segment.specs.Segment.{Segment}
-use Rattle.nmgc_alloc.specs.declared.filing.Filed.{Filed}
-use Rattle.nmgc_alloc.specs.declared.search.Sought.{Sought}
-use Rattle.nmgc_alloc.specs.Filing.{IsOutcome, gained, AreFew, Files}
-use Rattle.nmgc_alloc.specs.Numbered.{nth}
-use Rattle.nmgc_alloc.specs.Search.{is_sought, sought_count}
-use Rattle.nmgc_alloc.specs.Segments.{filled_count}
-use Rattle.nmgc_alloc.specs.laws.Counts.{one_if, one_filled, filled-set, few_filled}
-use Rattle.nmgc_alloc.proofs.TallyLaws.{count-set}
+use Rattle.nmgc_alloc.proofs.{Vocabulary.ℕ, Vocabulary.◌≡◌, Vocabulary.◌+◌, Vocabulary.◌<◌, Vocabulary.◌≤◌, Vocabulary.◌∙◌, Vocabulary.subst, Vocabulary.arith, Vocabulary.List, Vocabulary.◌++◌, Vocabulary.length, Vocabulary.set, Vocabulary.take, Vocabulary.drop, Vocabulary.take-append-drop, Vocabulary.sum_by-append, Vocabulary.count_by-le-length, Vocabulary.most_segments, Vocabulary.Segment, Vocabulary.Filed, Vocabulary.Sought, Vocabulary.IsOutcome, Vocabulary.gained, Vocabulary.AreFew, Vocabulary.Files, Vocabulary.nth, Vocabulary.is_sought, Vocabulary.sought_count, Vocabulary.filled_count, Vocabulary.one_if, Vocabulary.one_filled, Vocabulary.filled-set, Vocabulary.few_filled, TallyLaws.count-set}
 
 -- none was swept
 pub files_none : (filed : Filed) (xs : List Segment) → ((w : Sought) → IsOutcome w → gained filed w ≡ 0) → filed.filled ≡ 0 →

@@ -1,19 +1,7 @@
 -- What keeps the tallies right where many segments become ones of a kind at once.
-use Rattle.std.proofs.Common.{ℕ, zero, suc, ◌≡◌, ◌≢◌, ◌+◌, ◌<◌, ◌≤◌, ◌⊎◌, ◌∙◌, inl, inr, ap, subst, sym, arith, List, [], ◌∷◌, length, length-set, set, slice_index_or, min, max}
-use Rattle.std.proofs.lemmas.List.{get_or-set_same, get_or-set_other}
-use Rattle.std.proofs.lemmas.List.Sums.{sum_by-cons}
-use Rattle.std.proofs.lemmas.Bool.{cases_Bool, cases_eq, cases_lt}
-use Rattle.nmgc_limits.specs.Limits.{most_segments}
-use Rattle.nmgc_segment.specs.Segment.{Segment}
-use Rattle.nmgc_alloc.specs.declared.filing.Filed.{Filed}
-use Rattle.nmgc_alloc.specs.declared.search.Sought.{Sought}
+use Rattle.nmgc_alloc.proofs.Vocabulary.{ℕ, zero, suc, ◌≡◌, ◌≢◌, ◌+◌, ◌<◌, ◌≤◌, ◌⊎◌, ◌∙◌, inl, inr, ap, subst, sym, arith, List, [], ◌∷◌, length, set, slice_index_or, min, max, get_or-set_same, get_or-set_other, sum_by-cons, cases_Bool, cases_eq, cases_lt, most_segments, Segment, Filed, Sought, CLASSES, KINDS, Tally, nth, Is, IsKind, is_sought, sought_count, tally_from, tally_of, tally_place, EntersMany, IsOutcome, gained, one_if}
+use Rattle.std.proofs.Common.{length-set}
 use Rattle.nmgc_alloc.specs.declared.search.Sought.TheVariants as sought
-use Rattle.nmgc_alloc.specs.declared.tables.TheConstants.{CLASSES, KINDS}
-use Rattle.nmgc_alloc.specs.declared.tally.Tally.{Tally}
-use Rattle.nmgc_alloc.specs.Numbered.{nth}
-use Rattle.nmgc_alloc.specs.Search.{Is, IsKind, is_sought, sought_count, tally_from, tally_of, tally_place}
-use Rattle.nmgc_alloc.specs.Filing.{EntersMany, IsOutcome, gained}
-use Rattle.nmgc_alloc.specs.laws.Counts.{one_if}
 use Rattle.nmgc_alloc.proofs.TallyLaws.{passes, from_test, kind_place}
 
 -- one segment that stays such a one counts as much as before at least
@@ -132,8 +120,7 @@ entered_above gain from end old new range counts starts past ends w was now size
 
 -- a table with another tally at one place
 pub tally-set_same : (w : Sought) (ts : List Tally) (at : ℕ) (t : Tally) → at ≡ tally_place w → at < length ts → tally_of (set ts at t) w ≡ t
-tally-set_same w ts at t place inside = ap (λ (k : ℕ). slice_index_or (set ts at t) k (tally_from 0 0)) (sym place) ∙
-    get_or-set_same ts at t (tally_from 0 0) inside
+tally-set_same w ts at t place inside = cc (place, get_or-set_same ts at t (tally_from 0 0) inside)
 
 pub tally-set_other : (w : Sought) (ts : List Tally) (at : ℕ) (t : Tally) → tally_place w ≢ at → tally_of (set ts at t) w ≡ tally_of ts w
 tally-set_other w ts at t other = get_or-set_other ts at (tally_place w) t (tally_from 0 0) other
@@ -145,8 +132,7 @@ enters_at gain from end w ts at new kind many place enters =
     let low = kind_place w kind in
     let now = tally-set_same w ts at new place (omega (arith, low, many, place)) in
     let was : slice_index_or ts at (tally_from 0 0) ≡ tally_of ts w = ap (λ (k : ℕ). slice_index_or ts k (tally_from 0 0)) place in
-    subst (λ (t : Tally). EntersMany gain from end t (tally_of (set ts at new) w)) was
-    (subst (λ (t : Tally). EntersMany gain from end (slice_index_or ts at (tally_from 0 0)) t) (sym now) enters)
+    rw (← was) (subst (λ (t : Tally). EntersMany gain from end (slice_index_or ts at (tally_from 0 0)) t) (sym now) enters)
 
 -- the tallies of the free segments, and of the classes so far, took up what was counted of two parts, and the others are as they were
 pub record TakenUp (lower upper : Filed) (from end classes : ℕ) (was now : List Tally) : Type 0 where
@@ -179,15 +165,12 @@ taken_class lower upper from end class was now at new small place enters h =
     let same = h.rest class (omega arith) in
     record {
       kinds = length-set now at new ∙ h.kinds;
-      free = subst (λ (t : Tally). EntersMany (gained lower sought.Free + gained upper sought.Free) from end (tally_of was sought.Free) t)
-          (sym (tally-set_other sought.Free now at new (λ e. omega (arith, e, place)))) h.free;
+      free = rw (tally-set_other sought.Free now at new (λ e. omega (arith, e, place))) h.free;
       active = λ k lt. elim (cases_eq k class) [
         | inl e ↦
-            subst (λ (j : ℕ). EntersMany (gain j) from end (tally_of was (sought.Active j)) (tally_of (set now at new) (sought.Active j))) (sym e)
-            (subst (λ (t : Tally). EntersMany (gain class) from end t (tally_of (set now at new) (sought.Active class))) same here)
+            rw e (subst (λ (t : Tally). EntersMany (gain class) from end t (tally_of (set now at new) (sought.Active class))) same here)
         | inr ne ↦
-            subst (λ (t : Tally). EntersMany (gain k) from end (tally_of was (sought.Active k)) t)
-            (sym (tally-set_other (sought.Active k) now at new (λ e. ne (omega (arith, e, place))))) (h.active k (omega (arith, lt, ne)))
+            rw (tally-set_other (sought.Active k) now at new (λ e. ne (omega (arith, e, place)))) (h.active k (omega (arith, lt, ne)))
       ];
       rest = λ k ge. tally-set_other (sought.Active k) now at new (λ e. omega (arith, e, place, ge)) ∙ h.rest k (omega (arith, ge));
       waiting = tally-set_other sought.Sweeping now at new (λ e. omega (arith, e, place)) ∙ h.waiting;

@@ -1,17 +1,6 @@
 -- Segments that wait: whether there are any, and sweeping them one after the other.
-use Rattle.std.proofs.Common.{ℕ, zero, suc, ◌≡◌, ◌<◌, ◌≤◌, ◌⊎◌, ◌∙◌, inl, inr, refl, ap, subst, sym, arith, List, length, take}
-use Rattle.std.proofs.lemmas.List.{get_or-take}
-use Rattle.std.proofs.lemmas.Bool.{cases_Bool}
-use lib.Seq.{length-take-le}
-use Rattle.nmgc_segment.specs.Segment.{Segment, free_segment}
+use Rattle.nmgc_alloc.proofs.{Vocabulary.ℕ, Vocabulary.zero, Vocabulary.suc, Vocabulary.◌≡◌, Vocabulary.◌<◌, Vocabulary.◌≤◌, Vocabulary.◌⊎◌, Vocabulary.◌∙◌, Vocabulary.inl, Vocabulary.inr, Vocabulary.refl, Vocabulary.ap, Vocabulary.subst, Vocabulary.sym, Vocabulary.arith, Vocabulary.List, Vocabulary.length, Vocabulary.take, Vocabulary.get_or-take, Vocabulary.cases_Bool, Vocabulary.length-take-le, Vocabulary.Segment, Vocabulary.free_segment, Vocabulary.Sweeping, Vocabulary.nth, Vocabulary.is, Vocabulary.Segments, Vocabulary.NoneBelow, Vocabulary.sought_count, Vocabulary.HasNoneIn, Vocabulary.SweepsNext, Vocabulary.SweepsMany, Vocabulary.one_counted, TallyLaws.passes, TallyLaws.from_test}
 use Rattle.nmgc_segment.specs.declared.state.State.TheVariants as state
-use Rattle.nmgc_alloc.specs.declared.search.Sought.TheVariants.{Sweeping}
-use Rattle.nmgc_alloc.specs.Numbered.{nth, is, Segments}
-use Rattle.nmgc_alloc.specs.Search.{NoneBelow, sought_count}
-use Rattle.nmgc_alloc.specs.Segments.{HasNoneIn, SweepsNext}
-use Rattle.nmgc_alloc.specs.Halves.{SweepsMany}
-use Rattle.nmgc_alloc.specs.laws.Counts.{one_counted}
-use Rattle.nmgc_alloc.proofs.TallyLaws.{passes, from_test}
 
 -- a segment waits or doesn't
 pub waits_or_not : (x : Segment) → (x.state ≡ state.Sweeping) ⊎ (x.state ≡ state.Sweeping → ⊥)

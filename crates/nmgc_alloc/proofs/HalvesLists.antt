@@ -1,20 +1,8 @@
 -- Segments swept part by part: parts put together, and counts of a list that is cut.
-use Rattle.std.proofs.Common.{ℕ, ◌≡◌, ◌+◌, ◌-◌, ◌<◌, ◌≤◌, ◌∙◌, inl, inr, refl, ap, subst, sym, arith, Bool, true, false, List, [], ◌∷◌, ◌++◌, length, length-set, set, take, drop, take-append-drop}
-use Rattle.std.proofs.lemmas.List.{get_or-take, get_or-drop, get_or_append_left, get_or-append_right, take_more, length-append, length-drop}
-use Rattle.std.proofs.lemmas.Bool.{cases_eq, cases_lt}
-use Rattle.std.proofs.Math.Seq.{take-add}
-use lib.Seq.{length-take-le}
-use Rattle.nmgc_segment.specs.Segment.{Segment, free_segment}
+use Rattle.nmgc_alloc.proofs.Vocabulary.{ℕ, ◌≡◌, ◌+◌, ◌-◌, ◌<◌, ◌≤◌, ◌∙◌, inl, inr, refl, ap, subst, sym, arith, Bool, true, false, List, [], ◌∷◌, ◌++◌, length, set, take, drop, take-append-drop, get_or-take, get_or-drop, get_or_append_left, get_or-append_right, take_more, length-append, length-drop, cases_eq, cases_lt, take-add, length-take-le, Segment, free_segment, Sweeping, nth, NoneBelow, is_sought, sought_count, SweptWaiting, AllSwept, FirstSwept, one_if, nth-set_same, nth-set_other}
+use Rattle.std.proofs.Common.{length-set}
 use Rattle.nmgc_segment.specs.declared.state.State.TheVariants as state
-use Rattle.nmgc_alloc.specs.declared.search.Sought.TheVariants.{Sweeping}
-use Rattle.nmgc_alloc.specs.Numbered.{nth}
-use Rattle.nmgc_alloc.specs.Search.{NoneBelow, is_sought, sought_count}
-use Rattle.nmgc_alloc.specs.Halves.{SweptWaiting, AllSwept, FirstSwept}
-use Rattle.nmgc_alloc.specs.laws.Counts.{one_if}
-use Rattle.nmgc_alloc.proofs.TallyLaws.{passes}
-use Rattle.nmgc_alloc.proofs.FiledLists.{count_parts}
-use Rattle.nmgc_alloc.proofs.HalvesLaws.{none_below_none}
-use Rattle.nmgc_alloc.specs.laws.Numbers.{nth-set_same, nth-set_other}
+use Rattle.nmgc_alloc.proofs.{TallyLaws.passes, FiledLists.count_parts, HalvesLaws.none_below_none}
 
 -- counts of a list that is cut
 pub count_both : (xs ys : List Segment) → sought_count Sweeping (xs ++ ys) ≡ sought_count Sweeping xs + sought_count Sweeping ys
@@ -59,9 +47,7 @@ swept_next epoch i was now y inside h s = record {
   size = length-set now i y ∙ h.size;
   each = λ j lt. elim (cases_eq j i) [
     | inl e ↦
-        subst (λ (k : ℕ). SweptWaiting epoch (nth was k) (nth (set now i y) k)) (sym e)
-        (subst (λ (x : Segment). SweptWaiting epoch (nth was i) x) (sym (nth-set_same now i y inside)) (subst (λ (x : Segment).
-        SweptWaiting epoch x y) (h.rest i (omega arith)) s))
+        rw e (rw (nth-set_same now i y inside) (rw (h.rest i (omega arith)) at s))
     | inr ne ↦ subst (λ (x : Segment). SweptWaiting epoch (nth was j) x) (sym (nth-set_other now i j y ne)) (h.each j (omega (arith, lt, ne)))
   ];
   rest = λ j ge. nth-set_other now i j y (λ e. omega (arith, e, ge)) ∙ h.rest j (omega (arith, ge));
@@ -78,13 +64,11 @@ swept_both epoch a b c d x y =
         | inl low ↦
             let was : nth (a ++ b) i ≡ nth a i = get_or_append_left a b (free_segment 0) i low in
             let now : nth (c ++ d) i ≡ nth c i = get_or_append_left c d (free_segment 0) i (omega (arith, low, x.size)) in
-            subst (λ (t : Segment). SweptWaiting epoch t (nth (c ++ d) i)) (sym was) (subst (λ (t : Segment).
-            SweptWaiting epoch (nth a i) t) (sym now) (x.each i low))
+            rw was (rw now (x.each i low))
         | inr high ↦
             let was : nth (a ++ b) i ≡ nth b (i - length a) = get_or-append_right a b (length a) i (free_segment 0) refl high in
             let now : nth (c ++ d) i ≡ nth d (i - length a) = get_or-append_right c d (length a) i (free_segment 0) x.size high in
-            subst (λ (t : Segment). SweptWaiting epoch t (nth (c ++ d) i)) (sym was) (subst (λ (t : Segment).
-            SweptWaiting epoch (nth b (i - length a)) t) (sym now) (y.each (i - length a) (omega (arith, lt, all, high))))
+            rw was (rw now (y.each (i - length a) (omega (arith, lt, all, high))))
       ];
     }
 
@@ -103,13 +87,10 @@ first_from epoch end count was new within counted h =
       below = λ i lt.
           let old : nth (take end was) i ≡ nth was i = get_or-take end was i (free_segment 0) lt in
           let now : nth (new ++ drop end was) i ≡ nth new i = get_or_append_left new (drop end was) (free_segment 0) i (omega (arith, lt, long)) in
-          subst (λ (t : Segment). SweptWaiting epoch (nth was i) t) (sym now) (subst (λ (t : Segment).
-          SweptWaiting epoch t (nth new i)) old (h.each i (omega (arith, lt, size))));
+          rw now (rw old at (h.each i (omega (arith, lt, size))));
       above = λ i ge.
           let split : end + (i - end) ≡ i = omega (arith, ge) in
-          get_or-append_right new (drop end was) end i (free_segment 0) long ge
-          ∙ get_or-drop end was (i - end) (free_segment 0)
-          ∙ ap (λ (n : ℕ). nth was n) split;
+          cc (get_or-append_right new (drop end was) end i (free_segment 0) long ge, get_or-drop end was (i - end) (free_segment 0), split);
     }
 
 -- as the code cuts them
@@ -128,8 +109,7 @@ swept_parts epoch middle end lower_count upper_count count was front back low hi
     let zero : middle - 0 ≡ middle = omega arith in
     let low_is : sought_count Sweeping (take middle was) ≡ lower_count = ap (λ (n : ℕ). sought_count Sweeping (take n was)) (sym zero) ∙ lower in
     let counted : sought_count Sweeping (take end was) ≡ count = omega (arith, sum, low_is, upper, total) in
-    subst (λ (xs : List Segment). FirstSwept epoch count end was ((low_new ++ high_new) ++ xs)) (sym b)
-    (first_from epoch end count was (low_new ++ high_new) within counted (subst (λ (xs : List Segment). AllSwept epoch xs (low_new ++ high_new)) whole both))
+    rw b (first_from epoch end count was (low_new ++ high_new) within counted (subst (λ (xs : List Segment). AllSwept epoch xs (low_new ++ high_new)) whole both))
 
 -- where none of the first waits, the search may begin behind them
 pub none_counted_below : (xs : List Segment) (n : ℕ) → NoneBelow Sweeping xs n → n ≤ length xs → sought_count Sweeping (take n xs) ≡ 0
@@ -169,8 +149,7 @@ first_behind epoch count end n was front back new f b within none h =
       size = omega (arith, all, size, h.size, left, within);
       below = λ i lt. elim (cases_lt i n) [
         | inl less ↦ ((λ w. absurd (none i less w)), (λ _. here i less))
-        | inr ge ↦ subst (λ (t : Segment). SweptWaiting epoch (nth was i) t) (sym (there i ge)) (subst (λ (t : Segment).
-            SweptWaiting epoch t (nth new (i - n))) (before i ge) (h.below (i - n) (omega (arith, lt, ge))))
+        | inr ge ↦ rw (there i ge) (rw (before i ge) at (h.below (i - n) (omega (arith, lt, ge))))
       ];
       above = λ i ge. there i (omega (arith, ge)) ∙ h.above (i - n) (omega (arith, ge)) ∙ before i (omega (arith, ge));
     }

@@ -1,21 +1,6 @@
 -- Sweeping the first segments that wait, in whatever order, is sweeping one after the other.
-use Rattle.std.proofs.Common.{ℕ, zero, suc, ◌≡◌, ◌+◌, ◌<◌, ◌≤◌, ◌∙◌, inl, inr, refl, ap, subst, sym, arith, List, length, set, take}
-use Rattle.std.proofs.Math.ListN.{length-set}
-use Rattle.std.proofs.lemmas.List.{set-get_or, ext_get_or}
-use Rattle.std.proofs.lemmas.Bool.{cases_eq, cases_lt}
-use Rattle.nmgc_segment.specs.Segment.{Segment, free_segment}
+use Rattle.nmgc_alloc.proofs.{Vocabulary.ℕ, Vocabulary.zero, Vocabulary.suc, Vocabulary.◌≡◌, Vocabulary.◌+◌, Vocabulary.◌<◌, Vocabulary.◌≤◌, Vocabulary.◌∙◌, Vocabulary.inl, Vocabulary.inr, Vocabulary.refl, Vocabulary.ap, Vocabulary.subst, Vocabulary.sym, Vocabulary.arith, Vocabulary.List, Vocabulary.length, Vocabulary.set, Vocabulary.take, Vocabulary.length-set, Vocabulary.set-get_or, Vocabulary.ext_get_or, Vocabulary.cases_eq, Vocabulary.cases_lt, Vocabulary.Segment, Vocabulary.free_segment, Vocabulary.Sweeping, Vocabulary.nth, Vocabulary.Segments, Vocabulary.NoneBelow, Vocabulary.is_sought, Vocabulary.sought_count, Vocabulary.SweepsNext, Vocabulary.SweepsMany, Vocabulary.FirstSwept, Vocabulary.one_if, Vocabulary.nth-set_same, Vocabulary.nth-set_other, TallyLaws.passes, TallyLaws.fails, SweepLaws.swept_not_sweeping, HalvesLaws.waits_or_not, HalvesLaws.sweeps_more, HalvesLists.count_more}
 use Rattle.nmgc_segment.specs.declared.state.State.TheVariants as state
-use Rattle.nmgc_alloc.specs.declared.search.Sought.TheVariants.{Sweeping}
-use Rattle.nmgc_alloc.specs.Numbered.{nth, Segments}
-use Rattle.nmgc_alloc.specs.Search.{NoneBelow, is_sought, sought_count}
-use Rattle.nmgc_alloc.specs.Segments.{SweepsSegment, SweepsNext}
-use Rattle.nmgc_alloc.specs.Halves.{SweepsMany, FirstSwept}
-use Rattle.nmgc_alloc.specs.laws.Counts.{one_if}
-use Rattle.nmgc_alloc.specs.laws.Numbers.{nth-set_same, nth-set_other}
-use Rattle.nmgc_alloc.proofs.TallyLaws.{passes, fails}
-use Rattle.nmgc_alloc.proofs.SweepLaws.{swept_not_sweeping}
-use Rattle.nmgc_alloc.proofs.HalvesLaws.{waits_or_not, sweeps_more}
-use Rattle.nmgc_alloc.proofs.HalvesLists.{count_more}
 
 -- so many of the first segments as they are afterwards, and the others as they were
 abbrev with_first : ℕ → List Segment → List Segment → List Segment
@@ -31,8 +16,7 @@ first_below zero was now within i lt = absurd (omega arith)
 first_below (suc n) was now within i lt = elim (cases_eq i n) [
   | inl e ↦
       let size = first_size n was now in
-      subst (λ (k : ℕ). nth (set (with_first n was now) n (nth now n)) k ≡ nth now k) (sym e)
-      (nth-set_same (with_first n was now) n (nth now n) (omega (arith, size, within)))
+      rw e (nth-set_same (with_first n was now) n (nth now n) (omega (arith, size, within)))
   | inr ne ↦
       nth-set_other (with_first n was now) n i (nth now n) ne
       ∙ first_below n was now (omega (arith, within)) i (omega (arith, lt, ne))
@@ -72,10 +56,9 @@ module _ (epoch count end : ℕ) (s : Segments) (now : List Segment) (h : FirstS
           exists = exists;
           is = ap (λ (t : Segment). t.state) (there n) ∙ waits;
           none_below = λ i low w. none_waits epoch count end s.segments now h i (omega (arith, low, lt))
-              (sym (ap (λ (t : Segment). t.state) (first_below n s.segments now within i low)) ∙ w);
+              (cc (first_below n s.segments now within i low, w));
         };
-        sweeps = subst (λ (x : Segment). SweepsSegment x (nth (set (xs n) n (nth now n)) n) epoch) (sym (there n))
-            (subst (λ (y : Segment). SweepsSegment (nth s.segments n) y epoch) (sym here) ((h.below n lt).0 waits).0);
+        sweeps = rw (there n) (rw here ((h.below n lt).0 waits).0);
         others = ap (λ (x : Segment). record s { segments = set (xs n) n x }) (sym here);
       }
 
@@ -117,6 +100,4 @@ module _ (epoch count end : ℕ) (s : Segments) (now : List Segment) (h : FirstS
 
   pub first_sweeps : SweepsMany epoch count s (record s { segments = now })
   first_sweeps =
-      subst (λ (k : ℕ). SweepsMany epoch k s (record s { segments = now })) h.counted
-      (subst (λ (l : List Segment). SweepsMany epoch (sought_count Sweeping (take end s.segments)) s (record s { segments = l })) whole
-      (so_far end (omega arith)))
+      rw (← h.counted) (rw whole at (so_far end (omega arith)))

@@ -1,28 +1,8 @@
 -- Sweeping the first segments that wait leaves all tables right, where the tallies take up what became of them.
-use Rattle.std.proofs.Common.{ℕ, ◌≡◌, ◌≢◌, ◌+◌, ◌-◌, ◌<◌, ◌≤◌, ◌⊎◌, ◌∙◌, inl, inr, refl, ap, subst, sym, arith, List, length, ◌++◌, set, take, drop, slice_index_or}
-use Rattle.std.proofs.Math.ListN.{length-set}
-use Rattle.std.proofs.lemmas.List.{get_or-drop, ext_get_or, length-drop, take_at}
-use Rattle.std.proofs.lemmas.List.Sums.{count_by-le-length}
-use Rattle.std.proofs.lemmas.Bool.{cases_lt}
-use Rattle.nmgc_object.specs.declared.layout.Layout.{Layout}
-use Rattle.nmgc_limits.specs.Limits.{most_segments}
-use Rattle.nmgc_segment.specs.Segment.{Segment, IsSegment, free_segment}
+use Rattle.nmgc_alloc.proofs.Vocabulary.{ℕ, ◌≡◌, ◌≢◌, ◌+◌, ◌-◌, ◌<◌, ◌≤◌, ◌⊎◌, ◌∙◌, inl, inr, refl, ap, subst, sym, arith, List, length, ◌++◌, set, take, drop, slice_index_or, length-set, get_or-drop, ext_get_or, length-drop, take_at, count_by-le-length, cases_lt, Layout, most_segments, Segment, IsSegment, free_segment, Sought, KINDS, Tally, nth, Segments, HasNumber, Is, IsKind, IsTally, NoneBelow, sought_count, is_sought, tally_from, tally_of, tally_place, IsSegments, IsMember, Leads, HaveTallies, SweepsSegment, IsCurrent, IsOutcome, Files, EntersMany, SweepsMany, FirstSwept}
 use Rattle.nmgc_segment.specs.declared.state.State.TheVariants as state
-use Rattle.nmgc_alloc.specs.declared.search.Sought.{Sought}
 use Rattle.nmgc_alloc.specs.declared.search.Sought.TheVariants as sought
-use Rattle.nmgc_alloc.specs.declared.tables.TheConstants.{KINDS}
-use Rattle.nmgc_alloc.specs.declared.tally.Tally.{Tally}
-use Rattle.nmgc_alloc.specs.Numbered.{nth, Segments, HasNumber}
-use Rattle.nmgc_alloc.specs.Search.{Is, IsKind, IsTally, NoneBelow, sought_count, is_sought, tally_from, tally_of, tally_place}
-use Rattle.nmgc_alloc.specs.Segments.{IsSegments, IsMember, Leads, HaveTallies, SweepsSegment, IsCurrent}
-use Rattle.nmgc_alloc.specs.Filing.{IsOutcome, Files, EntersMany}
-use Rattle.nmgc_alloc.specs.Halves.{SweepsMany, FirstSwept}
-use Rattle.nmgc_alloc.proofs.TallyLaws.{tally_read, tallies-set}
-use Rattle.nmgc_alloc.proofs.SweepLaws.{swept_member, swept_not_current, sweeping_is_none}
-use Rattle.nmgc_alloc.proofs.OneLaws.{one_of_leads}
-use Rattle.nmgc_alloc.proofs.HalvesLaws.{waits_or_not}
-use Rattle.nmgc_alloc.proofs.HalvesLists.{count_cut, none_counted_below}
-use Rattle.nmgc_alloc.proofs.HalvesStates.{none_waits, first_sweeps}
+use Rattle.nmgc_alloc.proofs.{TallyLaws.tally_read, TallyLaws.tallies-set, SweepLaws.swept_member, SweepLaws.swept_not_current, SweepLaws.sweeping_is_none, OneLaws.one_of_leads, HalvesLaws.waits_or_not, HalvesLists.count_cut, HalvesLists.none_counted_below, HalvesStates.none_waits, HalvesStates.first_sweeps}
 
 -- a segment that waited below a number, and was swept
 record WasFirst (epoch end i : ℕ) (x y : Segment) : Type 0 where
@@ -178,9 +158,7 @@ pub swept_sweeps : (s before : Segments) (epoch count end len : ℕ) (slice now 
     FirstSwept epoch count end slice now → SweepsMany epoch count before (record s { segments = take len (now ++ drop (length now) s.segments) })
 swept_sweeps s before epoch count end len slice now seen is long h =
     let here : FirstSwept epoch count end s.segments now = subst (λ (xs : List Segment). FirstSwept epoch count end xs now) is h in
-    subst (λ (x : Segments). SweepsMany epoch count x (record s { segments = take len (now ++ drop (length now) s.segments) })) seen
-    (subst (λ (xs : List Segment). SweepsMany epoch count s (record s { segments = xs })) (sym (loaned len slice now s.segments long h.size))
-    (first_sweeps epoch count end s now here))
+    rw (← seen) (rw (loaned len slice now s.segments long h.size) (first_sweeps epoch count end s now here))
 
 pub swept_few : (s : Segments) (epoch count end more filled : ℕ) (slice now : List Segment) (gain : Sought → ℕ) (current : List ℕ)
     (tallies told : List Tally) → IsSegments s × Leads s.segments current × HaveTallies s.segments tallies filled → slice ≡ s.segments →
@@ -190,8 +168,7 @@ swept_few s epoch count end more filled slice now gain current tallies told soun
     let back : s.segments ≡ slice = sym is in
     let few : length slice ≤ most_segments =
     (let most = sound.0.layout.segments in let all = sound.0.count in let size = ap (λ (xs : List Segment). length xs) is in omega (arith, most, all, size)) in
-    subst (λ (ts : List Tally). (tally_of ts w).count + gain w ≤ most_segments) (sym tells)
-    (few_gained epoch count end slice now h w gain more filled tallies (subst (λ (xs : List Segment). HaveTallies xs tallies filled) back sound.2)
+    rw tells (few_gained epoch count end slice now h w gain more filled tallies (subst (λ (xs : List Segment). HaveTallies xs tallies filled) back sound.2)
     files few outcome)
 
 pub swept_invariant : (s : Segments) (epoch count end more filled at place len many : ℕ) (slice now : List Segment) (gain : Sought → ℕ) (t last : Tally)
@@ -215,7 +192,4 @@ swept_invariant s epoch count end more filled at place len many slice now gain t
     let all : take many (taken ++ drop (length taken) tallies) ≡ taken = loaned many told taken tallies size as_many in
     let same : set taken at (tally_from (t.count - count) end) ≡ set (take many (taken ++ drop (length taken) tallies)) place last =
     (λ i. set (sym all i) ((at_is ∙ sym place_is) i) (sym last_is i)) in
-    subst (λ (xs : List Segment). IsSegments (record s { segments = xs }) × Leads xs current ×
-    HaveTallies xs (set (take many (taken ++ drop (length taken) tallies)) place last) (filled + more)) (sym whole)
-    (subst (λ (ts : List Tally). IsSegments (record s { segments = now }) × Leads now current × HaveTallies now ts (filled + more)) same
-    (first_invariant s epoch count end now gain more filled at t current tallies taken here sound files_here at_is read kinds each_here))
+    rw whole (rw same at (first_invariant s epoch count end now gain more filled at t current tallies taken here sound files_here at_is read kinds each_here))

@@ -1,10 +1,5 @@
 -- A shift and a mask in place of a division by the words of a segment, which are a power of two.
-use Rattle.std.proofs.Common.{ℕ, ◌≡◌, ◌+◌, ◌-◌, ◌*◌, ◌^◌, ◌/◌, ◌%◌, ◌≤◌, ◌∙◌, refl, ap, sym, arith, true, eqb, bit_and}
-use Rattle.std.specs.Int.Count.{count_trailing_zeros}
-use Rattle.std.proofs.lemmas.Bool.{agree_below_at, eqb-true}
-use Rattle.std.proofs.lemmas.Nat.{pow-add, and_mask}
-use Rattle.nmgc_object.specs.Places.{IsSegmentSize}
-use Rattle.nmgc_object.specs.laws.Classes.{is_whole}
+use Rattle.nmgc_alloc.proofs.Vocabulary.{ℕ, ◌≡◌, ◌+◌, ◌-◌, ◌*◌, ◌^◌, ◌/◌, ◌%◌, ◌≤◌, ◌∙◌, refl, ap, sym, arith, true, eqb, bit_and, count_trailing_zeros, agree_below_at, eqb-true, pow-add, and_mask, IsSegmentSize, is_whole}
 
 -- the digits below the only one that is set
 digits_below : (steps : ℕ) → steps ≤ 8 → count_trailing_zeros 32 (16 * 2 ^ steps) ≡ steps + 4

@@ -2,14 +2,7 @@
 use Rattle.std.specs.Prelude.{ℕ, ◌≡◌, ◌+◌, ◌<◌, ◌≤◌, ◌⊎◌, List, length, slice_index}
 use Rattle.nmgc_limits.specs.Limits.{most_segments}
 use Rattle.nmgc_segment.specs.Segment.{Segment}
-use Rattle.nmgc_alloc.specs.declared.filing.Filed.{Filed}
-use Rattle.nmgc_alloc.specs.declared.search.Sought.{Sought}
-use Rattle.nmgc_alloc.specs.declared.search.Sought.TheVariants.{Free, Active, Sweeping}
-use Rattle.nmgc_alloc.specs.declared.tables.TheConstants.{CLASSES}
-use Rattle.nmgc_alloc.specs.declared.tally.Tally.{Tally}
-use Rattle.nmgc_alloc.specs.Numbered.{nth}
-use Rattle.nmgc_alloc.specs.Search.{Is, IsTally, sought_count}
-use Rattle.nmgc_alloc.specs.Segments.{filled_count}
+use Rattle.nmgc_alloc.specs.{declared.filing.Filed.Filed, declared.search.Sought.Sought, declared.search.Sought.TheVariants.Free, declared.search.Sought.TheVariants.Active, declared.search.Sought.TheVariants.Sweeping, declared.tables.TheConstants.CLASSES, declared.tally.Tally.Tally, Numbered.nth, Search.Is, Search.IsTally, Search.sought_count, Segments.filled_count}
 
 -- a kind of which a sweep can make a segment
 abbrev pub IsOutcome : Sought → Type 0

@@ -1,11 +1,8 @@
 -- All segments of a heap by number, and whether two states are the same.
 use Rattle.std.specs.Prelude.{Bool, true, false, ◌==◌, ℕ, List, slice_index_or, ◌<◌, length, ◌+◌, ◌*◌}
-use Rattle.nmgc_object.specs.declared.layout.Layout.{Layout}
-use Rattle.nmgc_object.specs.Size.{block_size}
-use Rattle.nmgc_object.specs.Places.{segment_place}
-use Rattle.nmgc_segment.specs.declared.state.State.{State}
+use Rattle.nmgc_object.specs.{declared.layout.Layout.Layout, Size.block_size, Places.segment_place}
+use Rattle.nmgc_segment.specs.{declared.state.State.State, Segment.Segment, Segment.free_segment}
 use Rattle.nmgc_segment.specs.declared.state.State.TheVariants as state
-use Rattle.nmgc_segment.specs.Segment.{Segment, free_segment}
 
 -- whether two states are the same
 abbrev pub is : State → State → Bool

@@ -1,7 +1,6 @@
 -- What mark bytes hold between two cycles.
 use Rattle.std.specs.Prelude.{ℕ, ◌≡◌, ◌⊎◌, ◌<◌, ◌≢◌}
-use Rattle.nmgc_segment.specs.Marks.{epoch_of}
-use Rattle.nmgc_segment.specs.Segment.{mark_of}
+use Rattle.nmgc_segment.specs.{Marks.epoch_of, Segment.mark_of}
 use Rattle.nmgc_segment.specs.declared.state.State.TheVariants as stands
 use Rattle.nmgc_alloc.specs.Numbered.{nth, Segments, HasNumber}
 

@@ -1,13 +1,10 @@
 -- When segments and the words of the heap stand for an allocation state, and what a placing writes into the words.
 use Rattle.std.specs.Prelude.{ℕ, ◌≡◌, ◌≢◌, ◌↔◌, List, length, slice_index, Some, IsSome, ◌+◌, ◌<◌, ◌≤◌, ◌⊎◌}
 use Rattle.nmgc_world_spec.specs.declared.value.Name.{Name}
-use Rattle.nmgc_object.specs.Size.{name_place, block_size}
-use Rattle.nmgc_object.specs.Words.{name_word}
-use Rattle.nmgc_object.specs.Places.{word_total}
+use Rattle.nmgc_object.specs.{Size.name_place, Size.block_size, Words.name_word, Places.word_total}
 use Rattle.nmgc_segment.specs.Segment.{InUse, block_count}
 use Rattle.nmgc_segment.specs.declared.state.State.TheVariants as stands
-use Rattle.nmgc_alloc.specs.Numbered.{nth, Segments, block_place, HasNumber}
-use Rattle.nmgc_alloc.specs.AllocState.{Cells, no_cells, name_in, AllocState, cells, AreNames}
+use Rattle.nmgc_alloc.specs.{Numbered.nth, Numbered.Segments, Numbered.block_place, Numbered.HasNumber, AllocState.Cells, AllocState.no_cells, AllocState.name_in, AllocState.AllocState, AllocState.cells, AllocState.AreNames}
 
 -- a segment, and the words of the heap, show these cells; a free segment has no class and no names
 pub record Shows (s : Segments) (words : List ℕ) (number : ℕ) (c : Cells) : Type 0 where

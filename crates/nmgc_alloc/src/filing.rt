@@ -10,15 +10,8 @@
 //! else it keeps what lies above it of the stretch in which none lay.
 ghost use Rattle.std.specs.Prelude.{◌≡◌, ◌+◌, ◌<◌, ◌≤◌, length};
 ghost use Rattle.nmgc_limits.specs.Limits.{most_segments};
-ghost use Rattle.nmgc_alloc.specs.declared.tables.TheConstants.{CLASSES as classes, KINDS as kinds};
+ghost use Rattle.nmgc_alloc.specs.{declared.tables.TheConstants.CLASSES as classes, declared.tables.TheConstants.KINDS as kinds, declared.search.Sought.Sought as Kind, declared.search.Sought.TheVariants.Sweeping as waiting, Numbered.is, Search.is_for, Search.tally_of, CycleSteps.state_of, Filing.IsOutcome, Filing.CountsNone, Filing.gained, Filing.AreFew, Filing.EntersMany, laws.Counts.one_if};
 ghost use Rattle.nmgc_segment.specs.declared.state.State.TheVariants as state;
-ghost use Rattle.nmgc_alloc.specs.declared.search.Sought.{Sought as Kind};
-ghost use Rattle.nmgc_alloc.specs.declared.search.Sought.TheVariants.{Sweeping as waiting};
-ghost use Rattle.nmgc_alloc.specs.Numbered.{is};
-ghost use Rattle.nmgc_alloc.specs.Search.{is_for, tally_of};
-ghost use Rattle.nmgc_alloc.specs.CycleSteps.{state_of};
-ghost use Rattle.nmgc_alloc.specs.Filing.{IsOutcome, CountsNone, gained, AreFew, EntersMany};
-ghost use Rattle.nmgc_alloc.specs.laws.Counts.{one_if};
 
 use crate::search::Sought;
 use crate::tables::CLASSES;

@@ -10,13 +10,7 @@ ghost use Rattle.std.specs.Prelude.{ℕ, ◌≡◌, ◌+◌, ◌-◌, ◌/◌, �
 ghost use Rattle.nmgc_limits.specs.Limits.{most_segments};
 ghost use Rattle.nmgc_segment.specs.Marks.{IsEpoch};
 ghost use Rattle.nmgc_segment.specs.declared.state.State.TheVariants as state;
-ghost use Rattle.nmgc_alloc.specs.declared.search.Sought.{Sought};
-ghost use Rattle.nmgc_alloc.specs.declared.search.Sought.TheVariants.{Sweeping};
-ghost use Rattle.nmgc_alloc.specs.Numbered.{is};
-ghost use Rattle.nmgc_alloc.specs.Search.{NoneBelow, is_sought, sought_count};
-ghost use Rattle.nmgc_alloc.specs.Filing.{IsOutcome, CountsNone, gained, AreFew, Files};
-ghost use Rattle.nmgc_alloc.specs.Halves.{IsInHalf, SweptWaiting, AllSwept, FirstSwept};
-ghost use Rattle.nmgc_alloc.specs.laws.Counts.{one_if};
+ghost use Rattle.nmgc_alloc.specs.{declared.search.Sought.Sought, declared.search.Sought.TheVariants.Sweeping, Numbered.is, Search.NoneBelow, Search.is_sought, Search.sought_count, Filing.IsOutcome, Filing.CountsNone, Filing.gained, Filing.AreFew, Filing.Files, Halves.IsInHalf, Halves.SweptWaiting, Halves.AllSwept, Halves.FirstSwept, laws.Counts.one_if};
 
 use crate::cycle_steps;
 use crate::filing::Filed;

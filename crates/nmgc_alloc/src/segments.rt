@@ -15,12 +15,8 @@
 //! because it is written each time that one becomes current.
 ghost use Rattle.std.specs.Prelude.{ℕ, ◌≡◌, ◌≢◌, ◌↔◌, ◌+◌, ◌<◌, ◌≤◌, ◌/◌, ◌%◌, map, min, replicate, count_by, slice_set, IsTrue, IfOk, IfSome, IfNone};
 ghost use Rattle.nmgc_object.specs.Places.{IsLayout, IsSegmentSize, segment_place};
-ghost use Rattle.nmgc_segment.specs.Marks.{IsEpoch};
-ghost use Rattle.nmgc_segment.specs.Segment.{free_segment, block_count};
-ghost use Rattle.nmgc_alloc.specs.CycleSteps.{prepared, carried_over, retired};
-ghost use Rattle.nmgc_alloc.specs.Numbered.{is, nth};
-ghost use Rattle.nmgc_alloc.specs.Search.{sought_count, IsKind, tally_from};
-ghost use Rattle.nmgc_alloc.specs.Halves.{IsInHalf, SweepsMany};
+ghost use Rattle.nmgc_segment.specs.{Marks.IsEpoch, Segment.free_segment, Segment.block_count};
+ghost use Rattle.nmgc_alloc.specs.{CycleSteps.prepared, CycleSteps.carried_over, CycleSteps.retired, Numbered.is, Numbered.nth, Search.sought_count, Search.IsKind, Search.tally_from, Halves.IsInHalf, Halves.SweepsMany};
 
 use crate::filing::Filed;
 use crate::search::{self, Sought};
@@ -47,8 +43,7 @@ pub struct Segments {
 }
 
 impl Model for Segments {
-    ghost use Rattle.nmgc_alloc.specs.Numbered.{Segments as Shown};
-    ghost use Rattle.nmgc_alloc.specs.Segments.{IsSegments, Leads, HaveTallies};
+    ghost use Rattle.nmgc_alloc.specs.{Numbered.Segments as Shown, Segments.IsSegments, Segments.Leads, Segments.HaveTallies};
 
     ghost Value = { Shown };
 

@@ -1,12 +1,5 @@
 -- Words that are passed on one after the other.
-use Rattle.std.proofs.Common.{◌≡◌, ◌≤◌, ◌<◌, ℕ, ◌+◌, List, [], ◌∷◌, ◌++◌, length, take, drop, map, refl, arith, true, false, Option, Some, None, inl, inr, get_or, suc, add-one, length-take}
-use Rattle.std.proofs.Math.Seq.{take-suc}
-use Rattle.std.proofs.lemmas.List.{drop-append-le, map-append}
-use Rattle.std.proofs.lemmas.Option.{slice_get_cases}
-use Rattle.std.proofs.lemmas.Str.{IsUtf8-from_is_utf8}
-use Rattle.std.specs.Str.{IsUtf8, is_utf8}
-use Rattle.nmgc_arguments.specs.Words.{passed_as, IsPassedAt}
-use Rattle.nmgc_lists.specs.laws.Truths.{false_of}
+use Rattle.nmgc_arguments.proofs.Vocabulary.{◌≡◌, ◌≤◌, ◌<◌, ℕ, ◌+◌, List, [], ◌∷◌, ◌++◌, length, take, drop, map, refl, arith, true, false, Option, Some, None, inl, inr, get_or, suc, add-one, length-take, take-suc, drop-append-le, map-append, slice_get_cases, IsUtf8-from_is_utf8, IsUtf8, is_utf8, passed_as, IsPassedAt, false_of}
 
 -- the words before a place were passed on
 abbrev pub ArePassedTo : Option (List (List ℕ)) → ℕ → List (List ℕ) → Type 0

@@ -1,9 +1,6 @@
 -- The words of the command line, and how they are passed on.
 use Rattle.std.specs.Prelude.{◌≡◌, ℕ, ◌<◌, ◌≤◌, List, [], length, take, drop, map, slice_get, ◌&&◌, nat_le, if◌then◌else◌, ⊤, Option, Some, None, Result, Ok, Err}
-use Rattle.std.specs.Option.{option_map}
-use Rattle.std.specs.Str.{is_utf8}
-use Rattle.std.specs.declared.env.FillError.{FillError}
-use Rattle.std.specs.declared.env.FillError.TheVariants.{NotPresent, TooLong}
+use Rattle.std.specs.{Option.option_map, Str.is_utf8, declared.env.FillError.FillError, declared.env.FillError.TheVariants.NotPresent, declared.env.FillError.TheVariants.TooLong}
 
 -- a word as it is passed on: itself where it is text of at most 256 bytes, else the empty word
 abbrev pub passed_as : List ℕ → List ℕ

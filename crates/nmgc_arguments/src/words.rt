@@ -7,9 +7,7 @@
 //! Easy to get wrong: the place of a word that can't be taken as text still counts, or the words after it
 //! would move up into the place of others.
 ghost use Rattle.std.specs.Prelude.{◌≡◌, ℕ, List, [], Option, None, map, string_bytes, IfOk, if◌then◌else◌};
-ghost use Rattle.std.specs.Io.{WritesAtMost};
-ghost use Rattle.std.specs.Option.{option_map};
-ghost use Rattle.std.specs.Str.{is_utf8};
+ghost use Rattle.std.specs.{Io.WritesAtMost, Option.option_map, Str.is_utf8};
 ghost use Rattle.nmgc_arguments.specs.Words.{Fills, ArePassed, IsPassedAt};
 
 use nmgc_lists::NoMemory;

@@ -1,19 +1,10 @@
 -- A watched cycle with a marker beside it: the runtime gives commands and pushes names, which is all that is
 -- watched; and the marker marks what it may hold, scans, and takes what waits in any order, unseen.
 use Rattle.std.specs.Prelude.{◌≡◌, ◌<◌, ◌↔◌, ◌⊎◌, ℕ, List, [], ◌∷◌, ◌++◌, length, slice_set, replicate, IsSome, Contains}
-use Rattle.nmgc_world_spec.specs.declared.value.Name.{Name}
-use Rattle.nmgc_world_spec.specs.declared.command.Command.{Command}
-use Rattle.nmgc_world_spec.specs.declared.command.Reply.{Reply}
-use Rattle.nmgc_world_spec.specs.World.{World, node_of, IsWorld}
+use Rattle.nmgc_world_spec.specs.{declared.value.Name.Name, declared.command.Command.Command, declared.command.Reply.Reply, World.World, World.node_of, World.IsWorld, Reach.IsDead, Reach.Lists, Reach.closed}
 use Rattle.nmgc_snapshot_laws.specs.declared.event.Event.TheVariants as event
-use Rattle.nmgc_snapshot_laws.specs.State.{State, names_of, mark_name, opening}
-use Rattle.nmgc_snapshot_laws.specs.Machine.{IsPossible, AreEmpty, after_scan}
-use Rattle.nmgc_world_spec.specs.Reach.{IsDead, Lists, closed}
-use Rattle.nmgc_snapshot_laws.specs.Closing.{IsClosing}
-use Rattle.nmgc_snapshot_laws.specs.Facts.{MayHold}
-use Rattle.nmgc_barrier_laws.specs.declared.debt.Debt.{Debt}
-use Rattle.nmgc_barrier_laws.specs.Lax.{after_owing, IsShuffled}
-use Rattle.nmgc_barrier_laws.specs.Cycle.{Cycle, watching, IsWatched, IsPushed, IsTook, MarksName}
+use Rattle.nmgc_snapshot_laws.specs.{State.State, State.names_of, State.mark_name, State.opening, Machine.IsPossible, Machine.AreEmpty, Machine.after_scan, Closing.IsClosing, Facts.MayHold}
+use Rattle.nmgc_barrier_laws.specs.{declared.debt.Debt.Debt, Lax.after_owing, Lax.IsShuffled, Cycle.Cycle, Cycle.watching, Cycle.IsWatched, Cycle.IsPushed, Cycle.IsTook, Cycle.MarksName}
 
 -- the names of debts
 abbrev pub names_in : List Debt → List Name

@@ -2,17 +2,9 @@
 -- wasn't remembered, with the line since which it is. A name that was made since is in no snapshot: it is never due,
 -- and a push of it counts for nothing.
 use Rattle.std.specs.Prelude.{◌≡◌, ◌≢◌, ◌↔◌, ◌⊎◌, ℕ, List, [], ◌++◌, IsSome, Contains}
-use Rattle.nmgc_world_spec.specs.declared.value.Name.{Name}
+use Rattle.nmgc_world_spec.specs.{declared.value.Name.Name, declared.node.Parts.Parts, declared.command.Command.Command, declared.command.Reply.Reply, World.World, World.node_of, Step.CanApply, Step.step, Step.shared_name, History.opened_by, History.finalised_by, Reach.IsAlive, Reach.IsDead, Reach.IsKept, Reach.Lists, Reach.closed}
 use Rattle.nmgc_world_spec.specs.declared.value.Value.TheVariants as value
-use Rattle.nmgc_world_spec.specs.declared.node.Parts.{Parts}
-use Rattle.nmgc_world_spec.specs.declared.command.Command.{Command}
-use Rattle.nmgc_world_spec.specs.declared.command.Reply.{Reply}
-use Rattle.nmgc_world_spec.specs.World.{World, node_of}
-use Rattle.nmgc_world_spec.specs.Step.{CanApply, step, shared_name}
-use Rattle.nmgc_world_spec.specs.History.{opened_by, finalised_by}
-use Rattle.nmgc_world_spec.specs.Reach.{IsAlive, IsDead, IsKept, Lists, closed}
-use Rattle.nmgc_barrier_laws.specs.declared.debt.Debt.{Debt}
-use Rattle.nmgc_barrier_laws.specs.Due.{IsDue}
+use Rattle.nmgc_barrier_laws.specs.{declared.debt.Debt.Debt, Due.IsDue}
 
 -- a cycle: the world as it is, and the snapshot; of the names of the snapshot those that were pushed since, what is
 -- due and wasn't pushed, what the commands opened, and what the marker took, where that is told; and what the

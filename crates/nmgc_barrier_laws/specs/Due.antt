@@ -1,14 +1,8 @@
 -- What a command has to remember at least: it is about the snapshot, the world and the command alone, and so
 -- doesn't depend on what the collector has read by then.
 use Rattle.std.specs.Prelude.{◌≢◌, ◌⊎◌, ℕ, IsSome, Contains}
-use Rattle.nmgc_world_spec.specs.declared.value.Name.{Name}
+use Rattle.nmgc_world_spec.specs.{declared.value.Name.Name, declared.node.Parts.Parts, declared.command.Command.Command, World.World, World.node_of, Step.shared_name, Step.step, Reach.IsAlive, Reach.IsKeptBy, History.opened_by, History.finalised_by}
 use Rattle.nmgc_world_spec.specs.declared.value.Value.TheVariants as value
-use Rattle.nmgc_world_spec.specs.declared.node.Parts.{Parts}
-use Rattle.nmgc_world_spec.specs.declared.command.Command.{Command}
-use Rattle.nmgc_world_spec.specs.World.{World, node_of}
-use Rattle.nmgc_world_spec.specs.Step.{shared_name, step}
-use Rattle.nmgc_world_spec.specs.Reach.{IsAlive, IsKeptBy}
-use Rattle.nmgc_world_spec.specs.History.{opened_by, finalised_by}
 use Rattle.nmgc_world_laws.specs.Holds.{HasStrongField}
 
 -- from one world to the next a field of the snapshot goes, which stood until then

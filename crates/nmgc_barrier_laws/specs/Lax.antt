@@ -1,21 +1,9 @@
 -- A marker and a barrier of more freedom than the core machine: a command owes at least what is due and at most
 -- what may be held, and what waits is handed over in any order, by anybody, with anything that may be held besides.
 use Rattle.std.specs.Prelude.{◌≡◌, ◌≢◌, ◌<◌, ◌↔◌, ◌⊎◌, ℕ, List, [], ◌∷◌, ◌++◌, length, slice_set, IsSome, All, Contains, false, true}
-use Rattle.nmgc_world_spec.specs.declared.value.Name.{Name}
-use Rattle.nmgc_world_spec.specs.declared.command.Command.{Command}
-use Rattle.nmgc_world_spec.specs.declared.command.Reply.{Reply}
-use Rattle.nmgc_world_spec.specs.World.{World, node_of, IsWorld}
-use Rattle.nmgc_world_spec.specs.Step.{CanApply, step}
-use Rattle.nmgc_world_spec.specs.History.{Row, IsLegal, replayed, opened, finalised}
-use Rattle.nmgc_world_spec.specs.Reach.{IsLive}
-use Rattle.nmgc_snapshot_laws.specs.declared.event.Entry.{Entry}
-use Rattle.nmgc_snapshot_laws.specs.declared.event.Event.{Event}
+use Rattle.nmgc_world_spec.specs.{declared.value.Name.Name, declared.command.Command.Command, declared.command.Reply.Reply, World.World, World.node_of, World.IsWorld, Step.CanApply, Step.step, History.Row, History.IsLegal, History.replayed, History.opened, History.finalised, Reach.IsLive}
+use Rattle.nmgc_snapshot_laws.specs.{declared.event.Entry.Entry, declared.event.Event.Event, State.State, State.names_of, State.mark_name, State.opening, Machine.IsPossible, Machine.Passes, Machine.after_command, Machine.after_scan, Closing.IsClosing, Facts.MayHold, Facts.IsSafe, Facts.Facts, Run.IsExactClosing}
 use Rattle.nmgc_snapshot_laws.specs.declared.event.Event.TheVariants as event
-use Rattle.nmgc_snapshot_laws.specs.State.{State, names_of, mark_name, opening}
-use Rattle.nmgc_snapshot_laws.specs.Machine.{IsPossible, Passes, after_command, after_scan}
-use Rattle.nmgc_snapshot_laws.specs.Closing.{IsClosing}
-use Rattle.nmgc_snapshot_laws.specs.Facts.{MayHold, IsSafe, Facts}
-use Rattle.nmgc_snapshot_laws.specs.Run.{IsExactClosing}
 use Rattle.nmgc_barrier_laws.specs.Due.{IsDue}
 
 -- after a command that owes these names

@@ -7,3 +7,4 @@ pub mod LaxRuns
 pub mod Laxer
 pub mod Tied
 pub mod TiedPush
+mod Vocabulary

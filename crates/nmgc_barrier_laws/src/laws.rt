@@ -1,6 +1,5 @@
 //! The theorems of the lax rule. Each function does nothing: its contract is the law.
-ghost use Rattle.nmgc_barrier_laws.specs.Barrier.{BarrierTheorem, JointTheorem, SomeMarkerFinishes, SomeMarkerIsBeside};
-ghost use Rattle.nmgc_barrier_laws.specs.Lax.{CoreIsLax, LaxKeepsFacts, LaxTheorem};
+ghost use Rattle.nmgc_barrier_laws.specs.{Barrier.BarrierTheorem, Barrier.JointTheorem, Barrier.SomeMarkerFinishes, Barrier.SomeMarkerIsBeside, Lax.CoreIsLax, Lax.LaxKeepsFacts, Lax.LaxTheorem};
 
 /// The strict rule is an instance of the lax one: an event of the core machine that isn't the end is lax steps.
 pub fn a_core_event_is_lax()

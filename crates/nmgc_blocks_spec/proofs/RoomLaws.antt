@@ -1,14 +1,5 @@
 -- The reserve suffices for all that is placed, one object after the other.
-use Rattle.std.proofs.Common.{◌≡◌, ◌+◌, ◌*◌, ◌<◌, ◌≤◌, ◌∙◌, ℕ, List, [], ◌∷◌, refl, sym, subst, arith, sum_by}
-use Rattle.std.proofs.lemmas.List.Sums.{sum_by-cons}
-use Rattle.nmgc_object.specs.declared.layout.Layout.{Layout}
-use Rattle.nmgc_object.specs.Places.{class_count}
-use Rattle.nmgc_object.specs.laws.Classes.{class_counted, object_class}
-use Rattle.nmgc_alloc.specs.Numbered.{Segments}
-use Rattle.nmgc_alloc.specs.Segments.{IsSegments, IsMutator}
-use Rattle.nmgc_alloc.specs.Reserve.{KeepsReserve}
-use Rattle.nmgc_alloc.specs.laws.Reserve.{begins, placing_keeps, reserve_has_room}
-use Rattle.nmgc_blocks_spec.specs.Room.{Placing, AllocatesAll, ReserveSuffices}
+use Rattle.nmgc_blocks_spec.proofs.Vocabulary.{◌≡◌, ◌+◌, ◌*◌, ◌<◌, ◌≤◌, ◌∙◌, ℕ, List, [], ◌∷◌, refl, sym, subst, arith, sum_by, sum_by-cons, Layout, class_count, class_counted, object_class, Segments, IsSegments, IsMutator, KeepsReserve, begins, placing_keeps, reserve_has_room, Placing, AllocatesAll, ReserveSuffices}
 
 -- what is true of segments once objects were placed
 record IsAfter (s new : Segments) (placed : ℕ) : Type 0 where

@@ -1,43 +1,6 @@
 -- The heap of one young object: each of its words is as it is said to be, and nothing else is in it.
-use Rattle.std.proofs.Common.{◌-◌, ◌≡◌, ◌≢◌, ◌⊎◌, inl, inr, ℕ, zero, suc, ◌+◌, ◌*◌, ◌<◌, ◌≤◌, List, [], ◌∷◌, replicate, get_or, refl, sym, ap, subst, ◌∙◌, arith, zero-add, slice_index, Option, Some, None, true, false, lit≤, lit<}
-use Rattle.std.specs.Prelude.{slice_get, Contains, IsSome, ◌==◌, ◌↔◌}
-use Rattle.std.proofs.lemmas.Bool.{eqb-true}
-use Rattle.std.proofs.lemmas.List.{get_or-replicate}
-use Rattle.nmgc_world_spec.specs.declared.value.Name.{Name}
-use Rattle.nmgc_limits.specs.declared.mutators.TheConstants.{REGISTERS, SHARED_MAKER}
-use Rattle.nmgc_world_spec.specs.declared.value.Value.{Value}
-use Rattle.nmgc_world_spec.specs.declared.value.Value.TheVariants.{Nil, Number, Ref}
-use Rattle.nmgc_world_spec.specs.declared.node.Node.{Node}
-use Rattle.nmgc_world_spec.specs.declared.node.Node.TheVariants.{Con, Arr, Weak}
-use Rattle.nmgc_world_spec.specs.declared.node.Parts.{Parts}
+use Rattle.nmgc_blocks_spec.proofs.Vocabulary.{◌-◌, ◌≡◌, ◌≢◌, ◌⊎◌, inl, inr, ℕ, zero, suc, ◌+◌, ◌*◌, ◌<◌, ◌≤◌, List, [], ◌∷◌, replicate, get_or, refl, sym, ap, subst, ◌∙◌, arith, zero-add, slice_index, Option, Some, None, true, false, lit≤, lit<, slice_get, Contains, IsSome, ◌==◌, ◌↔◌, eqb-true, get_or-replicate, Name, REGISTERS, SHARED_MAKER, Value, Nil, Number, Ref, Node, Con, Arr, Weak, Parts, Operand, Register, MutatorState, World, node_of, state_of, serial_of, IsWorld, new_world, new_mutator, IsOperand, CanApply, shared_name, step, strong_fields, RefersTo, contains_head, contains_tail, contains_cases, place_of, nothing_in, one_is, new_is_world, step_keeps_world, nursery_place, Segment, free_segment, Segments, IsSegments, all_free, Slot, holds, size_of, slots_of, free_slots, Place, Means, Fills, HasSlots, LiesWell, AllMean, ListMeans, shared_place, NoNode, IsNamed, IsObject, IsPlaced, Represents, IsEarlier, RepresentsRoots, small_layout, own, world_is_earlier, step_keeps_earlier, all_item, nursery_at, IsOccupied, IsStopped, IsRoundOf, young_world, young_place, young_stop, young_registers, young_nurseries, HoldsYoung, OneYoung, shared_or, not_shared}
 use Rattle.nmgc_world_spec.specs.declared.command.Command.TheVariants as command
-use Rattle.nmgc_world_spec.specs.declared.command.Operand.{Operand}
-use Rattle.nmgc_world_spec.specs.declared.command.Operand.TheVariants.{Register}
-use Rattle.nmgc_world_spec.specs.declared.mutator_state.MutatorState.{MutatorState}
-use Rattle.nmgc_world_spec.specs.World.{World, node_of, state_of, serial_of, IsWorld, new_world, new_mutator}
-use Rattle.nmgc_world_spec.specs.Command.{IsOperand}
-use Rattle.nmgc_world_spec.specs.Step.{CanApply, shared_name, step}
-use Rattle.nmgc_world_spec.specs.Reach.{strong_fields, RefersTo}
-use Rattle.nmgc_lists.specs.laws.Items.{contains_head, contains_tail, contains_cases, place_of, nothing_in, one_is}
-use Rattle.nmgc_world_laws.specs.laws.NewWorlds.{new_is_world}
-use Rattle.nmgc_world_laws.specs.laws.WorldSteps.{step_keeps_world}
-use Rattle.nmgc_object.specs.Places.{nursery_place}
-use Rattle.nmgc_segment.specs.Segment.{Segment, free_segment}
-use Rattle.nmgc_alloc.specs.Numbered.{Segments}
-use Rattle.nmgc_alloc.specs.Segments.{IsSegments, all_free}
-use Rattle.nmgc_heap_spec.specs.Shape.{Slot, holds, size_of, slots_of, free_slots}
-use Rattle.nmgc_heap_spec.specs.Places.{Place, Means, Fills, HasSlots, LiesWell, AllMean, ListMeans, shared_place}
-use Rattle.nmgc_heap_spec.specs.Represents.{NoNode, IsNamed, IsObject, IsPlaced, Represents, IsEarlier}
-use Rattle.nmgc_heap_spec.specs.Roots.{RepresentsRoots}
-use Rattle.nmgc_heap_spec.specs.Samples.{small_layout, own}
-use Rattle.nmgc_heap_spec.specs.laws.CommandLaws.{world_is_earlier, step_keeps_earlier}
-use Rattle.nmgc_heap_spec.specs.laws.Kinds.{all_item}
-use Rattle.nmgc_blocks_spec.specs.Nurseries.{nursery_at}
-use Rattle.nmgc_blocks_spec.specs.Occupied.{IsOccupied}
-use Rattle.nmgc_blocks_spec.specs.Stopped.{IsStopped, IsRoundOf}
-use Rattle.nmgc_blocks_spec.specs.Samples.{young_world, young_place, young_stop, young_registers, young_nurseries, HoldsYoung, OneYoung}
-use Rattle.nmgc_world_spec.specs.laws.Common.{shared_or}
-use Rattle.nmgc_heap_spec.specs.laws.Common.{makers_differ as not_shared}
 
 -- g, and the constructor
 

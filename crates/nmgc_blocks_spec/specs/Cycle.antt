@@ -4,11 +4,7 @@
 -- die. Everything else that happened after the snapshot is left out: a cycle frees what could not be reached
 -- at its snapshot.
 use Rattle.std.specs.Prelude.{ℕ, ◌≢◌, List}
-use Rattle.nmgc_world_spec.specs.Interval.{Interval, IsDeadAfter, IsKeptAfter}
-use Rattle.nmgc_world_spec.specs.declared.value.Name.{Name}
-use Rattle.nmgc_world_spec.specs.Step.{shared_name}
-use Rattle.nmgc_world_spec.specs.World.{World}
-use Rattle.nmgc_world_spec.specs.History.{Row}
+use Rattle.nmgc_world_spec.specs.{Interval.Interval, Interval.IsDeadAfter, Interval.IsKeptAfter, declared.value.Name.Name, Step.shared_name, World.World, History.Row}
 use Rattle.nmgc_segment.specs.declared.state.State.TheVariants as stands
 use Rattle.nmgc_alloc.specs.AllocState.{IsOne, IsIn, LiesIn, AllocState}
 

@@ -1,13 +1,8 @@
 -- Where objects lie in the nurseries.
 use Rattle.std.specs.Prelude.{ℕ, ◌≡◌, ◌+◌, ◌<◌, ◌≤◌, List, length, slice_index_or, Contains, Some}
-use Rattle.nmgc_world_spec.specs.declared.node.Node.{Node}
-use Rattle.nmgc_world_spec.specs.World.{World, node_of}
-use Rattle.nmgc_world_spec.specs.Reach.{IsBefore}
-use Rattle.nmgc_object.specs.Places.{nursery_place}
-use Rattle.nmgc_object.specs.declared.layout.Layout.{Layout}
-use Rattle.nmgc_object.specs.declared.layout.Nursery.{Nursery}
-use Rattle.nmgc_heap_spec.specs.Shape.{size_of}
-use Rattle.nmgc_heap_spec.specs.Places.{Place}
+use Rattle.nmgc_world_spec.specs.{declared.node.Node.Node, World.World, World.node_of, Reach.IsBefore}
+use Rattle.nmgc_object.specs.{Places.nursery_place, declared.layout.Layout.Layout, declared.layout.Nursery.Nursery}
+use Rattle.nmgc_heap_spec.specs.{Shape.size_of, Places.Place}
 
 -- a mutator's nursery
 abbrev pub nursery_at : List Nursery → ℕ → Nursery

@@ -1,15 +1,11 @@
 -- Blocks in use, by their places, the objects that stand in them, and the marks that stay.
 use Rattle.std.specs.Prelude.{ℕ, ◌≡◌, ◌≢◌, ◌<◌, ◌≤◌, List, Contains, Some}
-use Rattle.nmgc_world_spec.specs.declared.value.Name.{Name}
+use Rattle.nmgc_world_spec.specs.{declared.value.Name.Name, declared.node.Node.Node, World.World, World.node_of}
 use Rattle.nmgc_limits.specs.declared.mutators.TheConstants.{SHARED_MAKER}
-use Rattle.nmgc_world_spec.specs.declared.node.Node.{Node}
-use Rattle.nmgc_world_spec.specs.World.{World, node_of}
 use Rattle.nmgc_object.specs.Size.{block_size}
 use Rattle.nmgc_segment.specs.Segment.{InUse}
-use Rattle.nmgc_alloc.specs.Numbered.{nth, Segments}
-use Rattle.nmgc_alloc.specs.Segments.{IsBlockAt}
-use Rattle.nmgc_heap_spec.specs.Shape.{size_of}
-use Rattle.nmgc_heap_spec.specs.Places.{Place}
+use Rattle.nmgc_alloc.specs.{Numbered.nth, Numbered.Segments, Segments.IsBlockAt}
+use Rattle.nmgc_heap_spec.specs.{Shape.size_of, Places.Place}
 
 -- a block in use of so many words begins at the place
 pub record IsOccupied (s : Segments) (at size : ℕ) : Type 0 where

@@ -1,8 +1,7 @@
 -- The places of a heap at a stop: that of g, and those of the blocks.
 use Rattle.std.specs.Prelude.{ℕ, ◌≡◌, ◌⊎◌}
 use Rattle.nmgc_object.specs.declared.layout.Layout.{Layout}
-use Rattle.nmgc_alloc.specs.Numbered.{block_place}
-use Rattle.nmgc_alloc.specs.AllocState.{AllocState, LiesIn, cells}
+use Rattle.nmgc_alloc.specs.{Numbered.block_place, AllocState.AllocState, AllocState.LiesIn, AllocState.cells}
 use Rattle.nmgc_heap_spec.specs.Places.{Place, shared_place}
 
 -- the place of a block with a name

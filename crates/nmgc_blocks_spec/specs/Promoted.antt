@@ -1,14 +1,8 @@
 -- Promotion: which objects of a round get a block at its stop, and where.
 use Rattle.std.specs.Prelude.{ℕ, ◌≡◌, ◌⊎◌, List, [], ◌∷◌, Some, None, IsSome}
-use Rattle.nmgc_world_spec.specs.declared.value.Name.{Name}
-use Rattle.nmgc_world_spec.specs.declared.node.Node.{Node}
-use Rattle.nmgc_world_spec.specs.declared.node.Parts.{Parts}
-use Rattle.nmgc_world_spec.specs.World.{World, node_of}
-use Rattle.nmgc_world_spec.specs.Reach.{IsReached, IsRoot, RefersTo, IsAlive}
-use Rattle.nmgc_object.specs.Size.{IsClassOf}
-use Rattle.nmgc_object.specs.declared.layout.Layout.{Layout}
+use Rattle.nmgc_world_spec.specs.{declared.value.Name.Name, declared.node.Node.Node, declared.node.Parts.Parts, World.World, World.node_of, Reach.IsReached, Reach.IsRoot, Reach.RefersTo, Reach.IsAlive, Wide.IsOfWeak}
+use Rattle.nmgc_object.specs.{Size.IsClassOf, declared.layout.Layout.Layout}
 use Rattle.nmgc_heap_spec.specs.Shape.{size_of}
-use Rattle.nmgc_world_spec.specs.Wide.{IsOfWeak}
 use Rattle.nmgc_alloc.specs.AllocState.{AllocState, PlacesName}
 
 -- a young name: the round made it

@@ -1,17 +1,9 @@
 -- What a round leaves for the stop after it: the fields of older objects that it wrote, and its weak pointers.
 use Rattle.std.specs.Prelude.{ℕ, ◌≡◌, ◌≢◌, ◌+◌, ◌<◌, ◌≤◌, List, slice_get, Contains, Option, Some}
-use Rattle.nmgc_world_spec.specs.declared.value.Name.{Name}
-use Rattle.nmgc_world_spec.specs.declared.value.Value.TheVariants.{Ref}
+use Rattle.nmgc_world_spec.specs.{declared.value.Name.Name, declared.value.Value.TheVariants.Ref, declared.node.Node.Node, declared.node.Node.TheVariants.Weak, declared.node.Parts.Parts, World.World, World.node_of, Reach.IsAlive}
 use Rattle.nmgc_limits.specs.declared.mutators.TheConstants.{SHARED_MAKER}
-use Rattle.nmgc_world_spec.specs.declared.node.Node.{Node}
-use Rattle.nmgc_world_spec.specs.declared.node.Node.TheVariants.{Weak}
-use Rattle.nmgc_world_spec.specs.declared.node.Parts.{Parts}
-use Rattle.nmgc_world_spec.specs.World.{World, node_of}
-use Rattle.nmgc_world_spec.specs.Reach.{IsAlive}
 use Rattle.nmgc_object.specs.declared.size.TheConstants.{HEADER_WORDS}
-use Rattle.nmgc_heap_spec.specs.Shape.{Slot, holds, untold, slots_of}
-use Rattle.nmgc_heap_spec.specs.Tracked.{IsTracked}
-use Rattle.nmgc_heap_spec.specs.Places.{Place}
+use Rattle.nmgc_heap_spec.specs.{Shape.Slot, Shape.holds, Shape.untold, Shape.slots_of, Tracked.IsTracked, Places.Place}
 
 -- recorded places are of told fields of tracked objects outside the nurseries, and each of these that refers to a
 -- young object is recorded; the weak pointers are the young ones, alive or not

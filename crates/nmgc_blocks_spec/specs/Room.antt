@@ -1,10 +1,7 @@
 -- Objects placed one after the other, as far as the room for them goes.
 use Rattle.std.specs.Prelude.{ℕ, ◌≡◌, ◌*◌, ◌≤◌, List, [], ◌∷◌, sum_by}
-use Rattle.nmgc_object.specs.Size.{IsClassOf}
-use Rattle.nmgc_object.specs.Places.{reserve_count}
-use Rattle.nmgc_alloc.specs.Numbered.{Segments}
-use Rattle.nmgc_alloc.specs.Segments.{IsSegments, IsMutator, IsClass, HasRoom, Allocates}
-use Rattle.nmgc_alloc.specs.Reserve.{free_count}
+use Rattle.nmgc_object.specs.{Size.IsClassOf, Places.reserve_count}
+use Rattle.nmgc_alloc.specs.{Numbered.Segments, Segments.IsSegments, Segments.IsMutator, Segments.IsClass, Segments.HasRoom, Segments.Allocates, Reserve.free_count}
 
 -- an object that is placed: its maker, its class, and how many words it has
 pub record Placing : Type 0 where

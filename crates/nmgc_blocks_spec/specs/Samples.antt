@@ -1,19 +1,11 @@
 -- A small heap at a stop, and what its words stand for: 32 segments of 64 words, none of which was used yet,
 -- one mutator, and a nursery as large as a segment. The round before the stop made one object.
 use Rattle.std.specs.Prelude.{ℕ, ◌≡◌, ◌+◌, ◌-◌, ◌<◌, List, [], ◌∷◌, length, replicate, slice_index}
-use Rattle.nmgc_world_spec.specs.declared.command.Command.TheVariants.{Num, Con}
-use Rattle.nmgc_world_spec.specs.declared.command.Operand.TheVariants.{Register}
-use Rattle.nmgc_world_spec.specs.World.{World, new_world}
+use Rattle.nmgc_world_spec.specs.{declared.command.Command.TheVariants.Num, declared.command.Command.TheVariants.Con, declared.command.Operand.TheVariants.Register, World.World, World.new_world}
 use Rattle.nmgc_limits.specs.declared.mutators.TheConstants.{REGISTERS, SHARED_MAKER, SHARED_SLOTS}
-use Rattle.nmgc_object.specs.Places.{word_total, nursery_place}
-use Rattle.nmgc_object.specs.declared.layout.Nursery.{Nursery}
-use Rattle.nmgc_object.specs.declared.layout.TheConstants.{SHARED_PLACE}
-use Rattle.nmgc_object.specs.declared.size.TheConstants.{HEADER_WORDS, NAME_OFFSET}
-use Rattle.nmgc_object.specs.declared.words.TheConstants.{NIL_WORD}
-use Rattle.nmgc_alloc.specs.Numbered.{Segments}
-use Rattle.nmgc_alloc.specs.Segments.{IsSegments, all_free}
-use Rattle.nmgc_heap_spec.specs.Places.{Place, HasZeros, shared_place}
-use Rattle.nmgc_heap_spec.specs.Samples.{small_layout, after, own}
+use Rattle.nmgc_object.specs.{Places.word_total, Places.nursery_place, declared.layout.Nursery.Nursery, declared.layout.TheConstants.SHARED_PLACE, declared.size.TheConstants.HEADER_WORDS, declared.size.TheConstants.NAME_OFFSET, declared.words.TheConstants.NIL_WORD}
+use Rattle.nmgc_alloc.specs.{Numbered.Segments, Segments.IsSegments, Segments.all_free}
+use Rattle.nmgc_heap_spec.specs.{Places.Place, Places.HasZeros, Places.shared_place, Samples.small_layout, Samples.after, Samples.own}
 use Rattle.nmgc_blocks_spec.specs.Stopped.{Stopped, IsStopped}
 
 -- what the round left of a new world: register 1 holds the number 5, and register 0 a constructor of tag 7 with it

@@ -4,24 +4,11 @@
 -- fields are of objects that the mutators may have dropped in the round. What the words stand for is told
 -- with the places, and with the worlds of which the collector speaks.
 use Rattle.std.specs.Prelude.{ℕ, ◌≡◌, ◌<◌, ◌≤◌, ◌⊎◌, ◌↔◌, List, ◌∷◌, map, Contains, None, IsSome}
-use Rattle.nmgc_world_spec.specs.declared.value.Name.{Name}
-use Rattle.nmgc_world_spec.specs.declared.node.Parts.{Parts}
-use Rattle.nmgc_world_spec.specs.World.{World, node_of, IsWorld}
-use Rattle.nmgc_world_spec.specs.Reach.{RefersTo, IsAlive, Lists}
-use Rattle.nmgc_object.specs.Places.{nursery_place, reserve_count}
-use Rattle.nmgc_object.specs.declared.layout.Nursery.{Nursery}
-use Rattle.nmgc_alloc.specs.Numbered.{Segments}
-use Rattle.nmgc_alloc.specs.Segments.{IsSegments}
-use Rattle.nmgc_alloc.specs.Reserve.{free_count}
-use Rattle.nmgc_heap_spec.specs.Tracked.{IsTracked}
-use Rattle.nmgc_heap_spec.specs.Places.{Place}
-use Rattle.nmgc_heap_spec.specs.Represents.{Represents, NoNode, IsEarlier}
-use Rattle.nmgc_heap_spec.specs.Roots.{RepresentsRoots}
-use Rattle.nmgc_heap_spec.specs.Moves.{Moved, old_place, settled}
-use Rattle.nmgc_blocks_spec.specs.Nurseries.{AreUsed, LieInOrder, AreEmpty}
-use Rattle.nmgc_blocks_spec.specs.Occupied.{AreBlocks}
-use Rattle.nmgc_blocks_spec.specs.Promoted.{IsPromoted}
-use Rattle.nmgc_blocks_spec.specs.Remembers.{Remembers}
+use Rattle.nmgc_world_spec.specs.{declared.value.Name.Name, declared.node.Parts.Parts, World.World, World.node_of, World.IsWorld, Reach.RefersTo, Reach.IsAlive, Reach.Lists}
+use Rattle.nmgc_object.specs.{Places.nursery_place, Places.reserve_count, declared.layout.Nursery.Nursery}
+use Rattle.nmgc_alloc.specs.{Numbered.Segments, Segments.IsSegments, Reserve.free_count}
+use Rattle.nmgc_heap_spec.specs.{Tracked.IsTracked, Places.Place, Represents.Represents, Represents.NoNode, Represents.IsEarlier, Roots.RepresentsRoots, Moves.Moved, Moves.old_place, Moves.settled}
+use Rattle.nmgc_blocks_spec.specs.{Nurseries.AreUsed, Nurseries.LieInOrder, Nurseries.AreEmpty, Occupied.AreBlocks, Promoted.IsPromoted, Remembers.Remembers}
 
 -- the world at a stop, the world as the round began, the earlier worlds of which the collector speaks afterwards too,
 -- the places of objects, and the next serials

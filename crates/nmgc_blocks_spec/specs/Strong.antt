@@ -1,10 +1,7 @@
 -- The strong fields of an object, as its words show them: what a search through the words follows.
-use Rattle.std.specs.Prelude.{ℕ, ◌≡◌, ◌+◌, ◌<◌, ◌≤◌, Bool, true, false, List, slice_index, ◌==◌}
-use Rattle.nmgc_world_spec.specs.declared.node.Kind.{Kind}
-use Rattle.nmgc_world_spec.specs.declared.node.Kind.TheVariants.{Con, Var, Arr, Thunk, Weak, Stack}
-use Rattle.nmgc_object.specs.Words.{header_word, IsHeader}
-use Rattle.nmgc_object.specs.declared.words.Header.{Header}
-use Rattle.nmgc_object.specs.declared.size.TheConstants.{HEADER_WORDS}
+use Rattle.std.specs.Prelude.{ℕ, ◌≡◌, ◌+◌, ◌<◌, ◌≤◌, Bool, true, false, List, length, slice_index, ◌==◌}
+use Rattle.nmgc_world_spec.specs.{declared.node.Kind.Kind, declared.node.Kind.TheVariants.Con, declared.node.Kind.TheVariants.Var, declared.node.Kind.TheVariants.Arr, declared.node.Kind.TheVariants.Thunk, declared.node.Kind.TheVariants.Weak, declared.node.Kind.TheVariants.Stack}
+use Rattle.nmgc_object.specs.{Words.header_word, Words.IsHeader, declared.words.Header.Header, declared.size.TheConstants.HEADER_WORDS}
 
 -- which of so many fields are strong, from the first number up to the second, which is left out: a thunk whose result
 -- is set no longer holds its free variables, and a weak pointer holds nothing
@@ -30,3 +27,24 @@ pub record HasStrong (words : List ℕ) (at word : ℕ) : Type 0 where
   pub from : (strong_of words at header).0 ≤ index
   pub before : index < (strong_of words at header).1
   pub is : slice_index words (at + HEADER_WORDS + index) ≡ word
+
+-- an object of a valid header lies within the words
+pub record HasHeader (words : List ℕ) (at : ℕ) : Type 0 where
+  pub header : Header
+  pub valid : IsHeader header
+  pub read : slice_index words at ≡ header_word header
+  pub inside : at + HEADER_WORDS + header.fields ≤ length words
+
+-- where the strong fields of the object at the place begin and end
+pub record IsStrongRange (words : List ℕ) (at from to : ℕ) : Type 0 where
+  pub header : Header
+  pub valid : IsHeader header
+  pub read : slice_index words at ≡ header_word header
+  pub first : from ≡ at + HEADER_WORDS + (strong_of words at header).0
+  pub last : to ≡ at + HEADER_WORDS + (strong_of words at header).1
+  pub ordered : from ≤ to
+  pub inside : to ≤ length words
+
+-- the word is one of those from one place up to another
+abbrev pub IsAmong : List ℕ → ℕ → ℕ → ℕ → Type 0
+IsAmong words from to word = (i : ℕ) × (from ≤ i) × (i < to) × (slice_index words i ≡ word)

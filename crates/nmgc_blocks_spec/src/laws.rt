@@ -2,24 +2,11 @@
 //!
 //! Each function here does nothing; its contract is the law.
 ghost use Rattle.std.specs.Prelude.{ℕ, ◌≡◌, ◌+◌, ◌*◌, ◌<◌, ◌≤◌, ◌⊎◌, List, Contains};
-ghost use Rattle.nmgc_world_spec.specs.declared.value.Name.{Name};
-ghost use Rattle.nmgc_world_spec.specs.declared.value.Value.TheVariants.{Ref};
-ghost use Rattle.nmgc_world_spec.specs.declared.node.Node.{Node};
-ghost use Rattle.nmgc_world_spec.specs.World.{World, IsWorld, node_of};
-ghost use Rattle.nmgc_world_spec.specs.Reach.{RefersTo, strong_fields};
-ghost use Rattle.nmgc_object.specs.Places.{nursery_place, InSegment};
-ghost use Rattle.nmgc_object.specs.declared.layout.Layout.{Layout};
-ghost use Rattle.nmgc_object.specs.declared.layout.TheConstants.{FIRST_PLACE};
-ghost use Rattle.nmgc_object.specs.Size.{block_size};
-ghost use Rattle.nmgc_alloc.specs.Numbered.{Segments};
-ghost use Rattle.nmgc_alloc.specs.Segments.{IsSegments, Allocates};
-ghost use Rattle.nmgc_heap_spec.specs.Tracked.{IsTracked};
-ghost use Rattle.nmgc_heap_spec.specs.Places.{Place};
-ghost use Rattle.nmgc_heap_spec.specs.Represents.{Represents, NoNode};
-ghost use Rattle.nmgc_blocks_spec.specs.Occupied.{IsOccupied, KeepsMarks};
-ghost use Rattle.nmgc_blocks_spec.specs.Strong.{HasStrong};
-ghost use Rattle.nmgc_blocks_spec.specs.Room.{ReserveSuffices};
-ghost use Rattle.nmgc_blocks_spec.specs.Samples.{OneYoung};
+ghost use Rattle.nmgc_world_spec.specs.{declared.value.Name.Name, declared.value.Value.TheVariants.Ref, declared.node.Node.Node, World.World, World.IsWorld, World.node_of, Reach.RefersTo, Reach.strong_fields};
+ghost use Rattle.nmgc_object.specs.{Places.nursery_place, Places.InSegment, declared.layout.Layout.Layout, declared.layout.TheConstants.FIRST_PLACE, Size.block_size};
+ghost use Rattle.nmgc_alloc.specs.{Numbered.Segments, Segments.IsSegments, Segments.Allocates};
+ghost use Rattle.nmgc_heap_spec.specs.{Tracked.IsTracked, Places.Place, Represents.Represents, Represents.NoNode};
+ghost use Rattle.nmgc_blocks_spec.specs.{Occupied.IsOccupied, Occupied.KeepsMarks, Strong.HasStrong, Room.ReserveSuffices, Samples.OneYoung};
 
 use nmgc_object::laws::words_differ;
 

@@ -1,16 +1,5 @@
 -- Words ask for one task, or for none.
-use Rattle.std.proofs.Common.{◌≡◌, ◌≤◌, ◌<◌, ◌∙◌, ℕ, List, [], ◌∷◌, length, get_or, refl, sym, ap, subst, arith, Option, codes, decimal}
-use Rattle.std.specs.Prelude.{IfSome, IfNone}
-use Rattle.std.proofs.lemmas.Fmt.{decimal_injective}
-use Rattle.std.proofs.lemmas.Option.{same_Some}
-use Rattle.nmgc_world_spec.specs.declared.value.Name.{Name}
-use Rattle.nmgc_journal.specs.Reading.{name_at}
-use Rattle.nmgc_journal.specs.Text.{name_text}
-use Rattle.nmgc_object.specs.Words.{IsName}
-use Rattle.nmgc_cli.specs.Task.{Asks, IsWrong}
-use Rattle.nmgc_cli.specs.declared.task.Task.{Task}
-use Rattle.nmgc_cli.specs.declared.task.Task.TheVariants.{Run, Bench, Upgrade, Image, Retain, Marks}
-use Rattle.nmgc_journal.specs.laws.Reading.{name_again}
+use Rattle.nmgc_cli.proofs.Vocabulary.{◌≡◌, ◌≤◌, ◌<◌, ◌∙◌, ℕ, List, [], ◌∷◌, length, get_or, refl, sym, ap, subst, arith, Option, codes, decimal, IfSome, IfNone, decimal_injective, same_Some, Name, name_at, name_text, IsName, Asks, IsWrong, Task, Run, Bench, Upgrade, Image, Retain, Marks, name_again}
 
 -- words that ask for none of the tasks are wrong
 pub none_asked : (words : List (List ℕ)) → (words ≡ codes "run" ∷ [] → ⊥) → (words ≡ codes "upgrade" ∷ [] → ⊥) → (words ≡ codes "image" ∷ [] → ⊥) →

@@ -1,26 +1,5 @@
 -- A run answers no more commands than its programs have.
-use Rattle.std.proofs.Common.{◌≡◌, ◌≤◌, ◌<◌, ℕ, ◌+◌, ◌-◌, ◌*◌, ◌^◌, List, [], ◌∷◌, length, map, refl, ap, arith}
-use Rattle.std.specs.Prelude.{sum_by}
-use Rattle.std.proofs.lemmas.List.{length-drop}
-use Rattle.std.proofs.lemmas.List.Sums.{sum_by-cons, sum_by-le}
-use Rattle.nmgc_limits.specs.Limits.{most_script_bytes}
-use Rattle.nmgc_limits.specs.declared.mutators.TheConstants.{MAKERS}
-use Rattle.nmgc_world_spec.specs.declared.command.Command.{Command}
-use Rattle.nmgc_world_spec.specs.declared.command.Reply.{Reply}
-use Rattle.nmgc_world_spec.specs.History.{Row}
-use Rattle.nmgc_script.specs.Limits.{HasFewCommands}
-use Rattle.nmgc_script.specs.declared.script.Config.{Config}
-use Rattle.nmgc_script.specs.declared.script.Script.{Script}
-use Rattle.nmgc_journal.specs.declared.report.Report.{Report}
-use Rattle.nmgc_journal.specs.declared.report.RoundRows.{RoundRows}
-use Rattle.nmgc_journal.specs.Summary.{reply_count, command_count}
-use Rattle.nmgc_run_spec.specs.Lawful.{IsLawful}
-use Rattle.nmgc_run_spec.specs.Round.{IsRound}
-use Rattle.nmgc_run_spec.specs.Run.{Turn, AreTurns, state_after}
-use Rattle.nmgc_run_spec.specs.Slice.{slice_of, slices, rest_of}
-use Rattle.nmgc_run_spec.specs.State.{Plan, State, plan_of, start}
-use Rattle.nmgc_run_laws.specs.laws.Lefts.{stop_left}
-use Rattle.nmgc_run_laws.specs.laws.Programs.{slice_few}
+use Rattle.nmgc_cli.proofs.Vocabulary.{◌≡◌, ◌≤◌, ◌<◌, ℕ, ◌+◌, ◌-◌, ◌*◌, ◌^◌, List, [], ◌∷◌, length, map, refl, ap, arith, sum_by, length-drop, sum_by-cons, sum_by-le, most_script_bytes, MAKERS, Command, Reply, Row, HasFewCommands, Config, Script, Report, RoundRows, reply_count, command_count, IsLawful, IsRound, Turn, AreTurns, state_after, slice_of, slices, rest_of, Plan, State, plan_of, start, stop_left, slice_few}
 
 -- how many items lists have together
 abbrev total : {A : Type 0} → List (List A) → ℕ

@@ -1,20 +1,5 @@
 -- What a run left stands for its last world, and so has an image.
-use Rattle.std.proofs.Common.{arith}
-use Rattle.nmgc_alloc.specs.Segments.{IsSegments}
-use Rattle.nmgc_script.specs.declared.script.Script.{Script}
-use Rattle.nmgc_journal.specs.declared.report.Report.{Report}
-use Rattle.nmgc_run_spec.specs.Crowded.{IsRunOf}
-use Rattle.nmgc_run_spec.specs.Heap.{snapshots}
-use Rattle.nmgc_run_spec.specs.Run.{last_state}
-use Rattle.nmgc_run_laws.specs.Sound.{IsRunnable}
-use Rattle.nmgc_run_spec.specs.State.{State, Plan, plan_of, layout_of}
-use Rattle.nmgc_run_laws.specs.laws.Crowding.{runnable_of}
-use Rattle.nmgc_run_laws.specs.laws.Limits.{scripts_have_good_plans, states_are_within}
-use Rattle.nmgc_run_laws.specs.laws.Places.{blocks_at_stop}
-use Rattle.nmgc_run_laws.specs.laws.Runs.{states_are_sound}
-use Rattle.nmgc_script.specs.Limits.{IsInLimits}
-use Rattle.nmgc_image.specs.Left.{IsLeftAs}
-use Rattle.nmgc_run_laws.specs.laws.Common.{places_low}
+use Rattle.nmgc_cli.proofs.Vocabulary.{arith, IsSegments, Script, Report, IsRunOf, snapshots, last_state, IsRunnable, State, Plan, plan_of, layout_of, runnable_of, scripts_have_good_plans, states_are_within, blocks_at_stop, states_are_sound, IsInLimits, IsLeftAs, places_low}
 
 pub left_as : (script : Script) (report : Report) → IsSegments report.segments → IsInLimits script → (run : IsRunOf script report) →
     IsLeftAs report (last_state run.lawful.run).world

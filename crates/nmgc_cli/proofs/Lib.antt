@@ -4,3 +4,4 @@ pub mod Leaving
 pub mod Marked
 pub mod Single
 pub mod Telling
+mod Vocabulary

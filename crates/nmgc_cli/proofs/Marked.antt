@@ -1,23 +1,5 @@
 -- The heap of a lawful report can be marked, and what markers list of it is what is written.
-use Rattle.std.proofs.Common.{◌≡◌, ℕ, List, subst}
-use Rattle.nmgc_world_spec.specs.declared.value.Name.{Name}
-use Rattle.nmgc_world_spec.specs.declared.value.Value.{Value}
-use Rattle.nmgc_world_spec.specs.World.{World}
-use Rattle.nmgc_world_spec.specs.Reach.{Lists}
-use Rattle.nmgc_script.specs.declared.script.Script.{Script}
-use Rattle.nmgc_alloc.specs.Segments.{IsSegments}
-use Rattle.nmgc_journal.specs.declared.report.Report.{Report}
-use Rattle.nmgc_run_spec.specs.Lawful.{IsLawful}
-use Rattle.nmgc_run_spec.specs.Run.{last_state}
-use Rattle.nmgc_run_spec.specs.State.{plan_of, layout_of}
-use Rattle.nmgc_run_laws.specs.laws.Crowding.{runnable_of}
-use Rattle.nmgc_run_laws.specs.laws.Runs.{states_are_sound}
-use Rattle.nmgc_script.specs.Limits.{IsInLimits}
-use Rattle.nmgc_pmark.specs.Claims.{Stopped, IsStopped, AreClaims}
-use Rattle.nmgc_pmark.specs.Strong.{IsStrong, roots_of}
-use Rattle.nmgc_pmark.specs.Stops.{root_words, IsStoppedAs, StopsAreStopped}
-use Rattle.nmgc_cli.specs.Claimed.{AreClaimsOf}
-use Rattle.nmgc_cli.specs.Marks.{IsMarksText, last_world, marks_lines}
+use Rattle.nmgc_cli.proofs.Vocabulary.{◌≡◌, ℕ, List, subst, Name, Value, World, Lists, Script, IsSegments, Report, IsLawful, last_state, plan_of, layout_of, runnable_of, states_are_sound, IsInLimits, Stopped, IsStopped, AreClaims, IsStrong, roots_of, root_words, IsStoppedAs, StopsAreStopped, AreClaimsOf, IsMarksText, last_world, marks_lines}
 
 -- it is a stopped heap with the last world of the run
 pub stopped_of : StopsAreStopped → (script : Script) (report : Report) → IsInLimits script → (lawful : IsLawful script report) →

@@ -1,40 +1,10 @@
 -- The answer to bytes, to a task and to words, one inside the other, and what is told of it.
-use Rattle.std.proofs.Common.{◌≡◌, ◌≢◌, ◌≤◌, ℕ, ◌+◌, List, ◌++◌, length, refl, sym, ◌∙◌, ap, subst, arith, Option, Some, None, Ok, Err, inl, inr, ◌⊎◌}
-use Rattle.std.proofs.lemmas.List.{append-nil}
-use Rattle.std.specs.Prelude.{IfSome}
-use Rattle.std.specs.Io.KnownBytes.{Appends}
-use Rattle.nmgc_journal.specs.declared.report.Report.{Report}
-use Rattle.nmgc_journal.specs.declared.report.End.{End}
+use Rattle.nmgc_cli.proofs.Vocabulary.{◌≡◌, ◌≢◌, ◌≤◌, ℕ, ◌+◌, List, ◌++◌, length, refl, sym, ◌∙◌, ap, subst, arith, Option, Some, None, Ok, Err, inl, inr, ◌⊎◌, append-nil, IfSome, Appends, Report, End, bench_script, upgraded, Spells, plain, Script, Name, MAX_IMAGE_BYTES, Retained, IsCertified, retained_text, report_text, summary_text, Answer, refusal_status, answer_status, answer_report, answer_text, text_bytes, IsToldAs, IsRan, status_of, AnswersBench, IsRead, IsReadWithin, SpellsOnly, IsUpgraded, Answers, AnswersScript, AnswersRetain, TellsReport, TellsOf, IsText, IsSummary, IsImageText, IsTold, IsWritten, Ends, IsReport, IsRunThrough, IsComplete, IsBenchComplete, IsUpgrade, IsUpgradeComplete, IsPath, IsRetainComplete, IsMarksText, IsRunOf, IsHeapFull, Asks, CanBeDone, IsRunning, Outcome, Refusal, Told, Status, Done, WriteFault, HeapFull, NoMemory, Task, Run, Bench, Upgrade, Image, Retain, Marks, most_script_bytes, taken_within}
 use Rattle.nmgc_journal.specs.declared.report.End.TheVariants as end
-use Rattle.nmgc_script.specs.Bench.{bench_script}
-use Rattle.nmgc_script.specs.Limits.{upgraded}
-use Rattle.nmgc_script.specs.Spelling.{Spells, plain}
-use Rattle.nmgc_script.specs.declared.script.Script.{Script}
-use Rattle.nmgc_world_spec.specs.declared.value.Name.{Name}
 use Rattle.nmgc_image.specs.declared.image.Image as shown
-use Rattle.nmgc_image.specs.declared.read.TheConstants.{MAX_IMAGE_BYTES}
 use Rattle.nmgc_image.specs.Spelling as spelling
-use Rattle.nmgc_retain.specs.declared.path.Retained.{Retained}
-use Rattle.nmgc_retain.specs.Levels.{IsCertified}
-use Rattle.nmgc_retain.specs.Text.{retained_text}
-use Rattle.nmgc_journal.specs.Text.{report_text}
-use Rattle.nmgc_journal.specs.Summary.{summary_text}
-use Rattle.nmgc_cli.specs.Answer.{Answer, refusal_status, answer_status, answer_report, answer_text, text_bytes, IsToldAs, IsRan, status_of}
-use Rattle.nmgc_cli.specs.Told.{AnswersBench, IsRead, IsReadWithin, SpellsOnly, IsUpgraded, Answers, AnswersScript, AnswersRetain, TellsReport, TellsOf, IsText, IsSummary, IsImageText, IsTold, IsWritten, Ends, IsReport, IsRunThrough, IsComplete, IsBenchComplete, IsUpgrade, IsUpgradeComplete, IsPath, IsRetainComplete}
-use Rattle.nmgc_cli.specs.Marks.{IsMarksText}
-use Rattle.nmgc_run_spec.specs.Crowded.{IsRunOf, IsHeapFull}
-use Rattle.nmgc_cli.specs.Task.{Asks, CanBeDone, IsRunning}
-use Rattle.nmgc_cli.specs.declared.answer.Outcome.{Outcome}
-use Rattle.nmgc_cli.specs.declared.answer.Refusal.{Refusal}
 use Rattle.nmgc_cli.specs.declared.answer.Refusal.TheVariants as no
-use Rattle.nmgc_cli.specs.declared.told.Told.{Told}
-use Rattle.nmgc_cli.specs.declared.status.Status.{Status}
-use Rattle.nmgc_cli.specs.declared.status.Status.TheVariants.{Done, WriteFault, HeapFull, NoMemory}
-use Rattle.nmgc_cli.specs.declared.task.Task.{Task}
-use Rattle.nmgc_cli.specs.declared.task.Task.TheVariants.{Run, Bench, Upgrade, Image, Retain, Marks}
-use Rattle.nmgc_limits.specs.Limits.{most_script_bytes}
 use Rattle.nmgc_cli.proofs.Asking.{one_task}
-use Rattle.nmgc_io.specs.laws.Common.{taken_within}
 
 -- what is told was written
 pub ends : (taken taken' : Option (List ℕ)) (rose : Type 0) (answer : Answer) (told : Told) (bytes : List ℕ) (status : Status) →
@@ -44,11 +14,6 @@ ends taken taken' rose answer told bytes status is e h =
     let told_so : IsWritten taken taken' rose (answer_status answer) bytes status =
     subst (λ (s : Status). IsWritten taken taken' rose s bytes status) is.status h in
     record { report_of = is.report; written = subst (λ (b : List ℕ). IsWritten taken taken' rose (answer_status answer) b status) (e ∙ is.text) told_so }
-
--- what was read for a report was taken, also where its text finds no memory
-pub read_for : (T : Report → List ℕ → Type 0) (old new : Option (List ℕ)) (rose : Type 0) (report : Report) →
-    AnswersScript IsRan old new rose (Ok report) → TellsOf T (AnswersScript IsRan old new rose) (Err no.NoMemory)
-read_for T old new rose report h = (h.0, h.1.taken, h.1.within)
 
 -- a task that words ask for can be done
 pub asked_can : (words : List (List ℕ)) (task : Task) → Asks words task → CanBeDone task

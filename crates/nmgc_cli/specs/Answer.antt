@@ -1,26 +1,17 @@
 -- What the program answers, and what is told of an answer: the status, the report and the text.
 use Rattle.std.specs.Prelude.{◌≡◌, ℕ, List, [], ◌∷◌, ◌++◌, codes, decimal, Option, Some, None, Result, Ok, Err}
-use Rattle.nmgc_script.specs.declared.fault.Cause.{Cause}
+use Rattle.nmgc_script.specs.{declared.fault.Cause.Cause, declared.fault.ScriptFault.ScriptFault, declared.script.Script.Script, Limits.IsInLimits}
 use Rattle.nmgc_script.specs.declared.fault.Cause.TheVariants as cause
 use Rattle.nmgc_io.specs.declared.ends.ReadEnd.{ReadEnd}
 use Rattle.nmgc_io.specs.declared.ends.ReadEnd.TheVariants as read
-use Rattle.nmgc_script.specs.declared.fault.ScriptFault.{ScriptFault}
 use Rattle.nmgc_script.specs.declared.fault.ScriptFault.TheVariants as script
-use Rattle.nmgc_journal.specs.declared.report.Report.{Report}
+use Rattle.nmgc_journal.specs.{declared.report.Report.Report, declared.report.End.End}
 use Rattle.nmgc_image.specs.declared.fault.ImageFault.{ImageFault}
 use Rattle.nmgc_image.specs.declared.fault.ImageFault.TheVariants as image
-use Rattle.nmgc_cli.specs.declared.answer.Outcome.{Outcome}
-use Rattle.nmgc_cli.specs.declared.answer.Refusal.{Refusal}
+use Rattle.nmgc_cli.specs.{declared.answer.Outcome.Outcome, declared.answer.Refusal.Refusal, declared.told.Text.Text, declared.told.Text.TheVariants.Fixed, declared.told.Text.TheVariants.Made, declared.told.Told.Told, declared.status.Status.Status}
 use Rattle.nmgc_cli.specs.declared.answer.Refusal.TheVariants as no
-use Rattle.nmgc_cli.specs.declared.told.Text.{Text}
-use Rattle.nmgc_cli.specs.declared.told.Text.TheVariants.{Fixed, Made}
-use Rattle.nmgc_cli.specs.declared.told.Told.{Told}
-use Rattle.nmgc_cli.specs.declared.status.Status.{Status}
 use Rattle.nmgc_cli.specs.declared.status.Status.TheVariants.{Usage, ReadFault, BadScript, TooLong, NoMemory, BadImage, Done, WriteFault, HeapFull}
-use Rattle.nmgc_script.specs.declared.script.Script.{Script}
 use Rattle.nmgc_run_spec.specs.Crowded.{IsRunOf}
-use Rattle.nmgc_script.specs.Limits.{IsInLimits}
-use Rattle.nmgc_journal.specs.declared.report.End.{End}
 use Rattle.nmgc_journal.specs.declared.report.End.TheVariants as end
 
 -- the report of a run, or why there is none

@@ -1,7 +1,6 @@
 -- The answer to a bench, which reads nothing.
 use Rattle.std.specs.Prelude.{◌<◌, ◌^◌}
-use Rattle.nmgc_journal.specs.declared.report.Report.{Report}
-use Rattle.nmgc_journal.specs.Summary.{command_count}
+use Rattle.nmgc_journal.specs.{declared.report.Report.Report, Summary.command_count}
 
 -- the report answers few enough commands to be counted in a summary
 abbrev pub HasCount : Report → Type 0

@@ -1,16 +1,10 @@
 -- What `marks N` writes: what the registers and queues of a run's last world, and the slots of g, reach by strong fields.
 use Rattle.std.specs.Prelude.{◌≡◌, ℕ, List, [], ◌∷◌, ◌++◌, length, codes, decimal}
 use Rattle.std.specs.List.{flat_map}
-use Rattle.nmgc_world_spec.specs.declared.value.Name.{Name}
-use Rattle.nmgc_world_spec.specs.World.{World}
-use Rattle.nmgc_world_spec.specs.Reach.{Lists}
-use Rattle.nmgc_script.specs.declared.script.Script.{Script}
-use Rattle.nmgc_journal.specs.declared.report.Report.{Report}
-use Rattle.nmgc_journal.specs.declared.report.End.{End}
-use Rattle.nmgc_journal.specs.Text.{name_text, end_text}
-use Rattle.nmgc_run_spec.specs.Lawful.{IsLawful}
-use Rattle.nmgc_run_spec.specs.Run.{last_state}
-use Rattle.nmgc_script.specs.Limits.{IsInLimits}
+use Rattle.nmgc_world_spec.specs.{declared.value.Name.Name, World.World, Reach.Lists}
+use Rattle.nmgc_script.specs.{declared.script.Script.Script, Limits.IsInLimits}
+use Rattle.nmgc_journal.specs.{declared.report.Report.Report, declared.report.End.End, Text.name_text, Text.end_text}
+use Rattle.nmgc_run_spec.specs.{Lawful.IsLawful, Run.last_state}
 use Rattle.nmgc_pmark.specs.Strong.{IsStrong, roots_of}
 
 -- the line of a name

@@ -1,10 +1,8 @@
 -- What the whole program did.
 use Rattle.std.specs.Prelude.{◌≡◌, ℕ, List, Option}
 use Rattle.nmgc_journal.specs.declared.report.Report.{Report}
-use Rattle.nmgc_cli.specs.Answer.{Answer, number_of}
-use Rattle.nmgc_cli.specs.Told.{IsTold, Ends, ReadsNothing}
+use Rattle.nmgc_cli.specs.{Answer.Answer, Answer.number_of, Told.IsTold, Told.Ends, Told.ReadsNothing, declared.status.Status.Status}
 use Rattle.nmgc_arguments.specs.Words.{ArePassed}
-use Rattle.nmgc_cli.specs.declared.status.Status.{Status}
 
 -- the command line's words were passed on, there is an answer to them, where they ask for nothing that is read the
 -- source is as it was, the answer was written, and the number is that of the status

@@ -4,8 +4,7 @@ use Rattle.nmgc_script.specs.Bench.{most_batches}
 use Rattle.nmgc_journal.specs.Text.{name_text}
 use Rattle.nmgc_object.specs.Words.{IsName}
 use Rattle.nmgc_pmark.specs.declared.crew.TheConstants.{MOST_MARKERS}
-use Rattle.nmgc_cli.specs.declared.task.Task.{Task}
-use Rattle.nmgc_cli.specs.declared.task.Task.TheVariants.{Run, Bench, Upgrade, Image, Retain, Marks}
+use Rattle.nmgc_cli.specs.{declared.task.Task.Task, declared.task.Task.TheVariants.Run, declared.task.Task.TheVariants.Bench, declared.task.Task.TheVariants.Upgrade, declared.task.Task.TheVariants.Image, declared.task.Task.TheVariants.Retain, declared.task.Task.TheVariants.Marks}
 
 -- a bench has so many batches
 abbrev pub IsBench : ℕ → Type 0

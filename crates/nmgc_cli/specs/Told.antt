@@ -2,38 +2,17 @@
 use Rattle.std.specs.Prelude.{◌≡◌, ◌≢◌, ◌⊎◌, ◌≤◌, ◌+◌, ℕ, List, length, Option, Some, None, Result, Ok, Err}
 use Rattle.std.specs.Io.KnownBytes.{Consumes, Appends, Keeps, IsAtEnd}
 use Rattle.nmgc_io.specs.Counts.{Takes, TakesUpTo, AppendsFront}
-use Rattle.nmgc_script.specs.Limits.{upgraded, IsInLimits}
-use Rattle.nmgc_script.specs.Spelling.{Spells, plain}
-use Rattle.nmgc_script.specs.Faults.{TellsFault}
-use Rattle.nmgc_script.specs.Text.{kept_lines, end_of}
-use Rattle.nmgc_script.specs.declared.script.Script.{Script}
-use Rattle.nmgc_script.specs.declared.fault.Cause.{Cause}
-use Rattle.nmgc_journal.specs.declared.report.Report.{Report}
-use Rattle.nmgc_world_spec.specs.declared.value.Name.{Name}
-use Rattle.nmgc_world_spec.specs.World.{World}
+use Rattle.nmgc_script.specs.{Limits.upgraded, Limits.IsInLimits, Spelling.Spells, Spelling.plain, Faults.TellsFault, Text.kept_lines, Text.end_of, declared.script.Script.Script, declared.fault.Cause.Cause, Bench.bench_script}
+use Rattle.nmgc_journal.specs.{declared.report.Report.Report, Text.report_text, Summary.summary_text}
+use Rattle.nmgc_world_spec.specs.{declared.value.Name.Name, World.World}
 use Rattle.nmgc_image.specs.declared.image.Image as shown
-use Rattle.nmgc_image.specs.declared.read.TheConstants.{MAX_IMAGE_BYTES}
-use Rattle.nmgc_image.specs.Faults.{IsFirstBad}
-use Rattle.nmgc_image.specs.Shows.{Shows}
+use Rattle.nmgc_image.specs.{declared.read.TheConstants.MAX_IMAGE_BYTES, Faults.IsFirstBad, Shows.Shows}
 use Rattle.nmgc_image.specs.Spelling as spelling
-use Rattle.nmgc_retain.specs.declared.path.Retained.{Retained}
-use Rattle.nmgc_retain.specs.Levels.{IsCertified}
-use Rattle.nmgc_retain.specs.Text.{retained_text}
-use Rattle.nmgc_run_spec.specs.Run.{last_state}
-use Rattle.nmgc_cli.specs.declared.answer.Outcome.{Outcome}
+use Rattle.nmgc_retain.specs.{declared.path.Retained.Retained, Levels.IsCertified, Text.retained_text}
+use Rattle.nmgc_run_spec.specs.{Run.last_state, Crowded.IsRunOf, Crowded.IsHeapFull, Crowded.IsFullRun}
+use Rattle.nmgc_cli.specs.{declared.answer.Outcome.Outcome, Marks.IsMarksOf, Marks.IsMarksText, Task.Asks, Task.IsWrong, Task.IsReading, Task.IsRunning, declared.answer.Refusal.Refusal, declared.status.Status.Status, declared.status.Status.TheVariants.Done, declared.status.Status.TheVariants.WriteFault, declared.status.Status.TheVariants.HeapFull, declared.status.Status.TheVariants.NoMemory, declared.task.Task.Task, declared.task.Task.TheVariants.Run, declared.task.Task.TheVariants.Bench, declared.task.Task.TheVariants.Upgrade, declared.task.Task.TheVariants.Image, declared.task.Task.TheVariants.Retain, declared.task.Task.TheVariants.Marks}
 use Rattle.nmgc_cli.specs.Answer.{Answer, Reported, answer_status, answer_report, answer_text, IsRan, status_of}
-use Rattle.nmgc_cli.specs.Marks.{IsMarksOf, IsMarksText}
-use Rattle.nmgc_journal.specs.Text.{report_text}
-use Rattle.nmgc_journal.specs.Summary.{summary_text}
-use Rattle.nmgc_script.specs.Bench.{bench_script}
-use Rattle.nmgc_run_spec.specs.Crowded.{IsRunOf, IsHeapFull, IsFullRun}
-use Rattle.nmgc_cli.specs.Task.{Asks, IsWrong, IsReading, IsRunning}
-use Rattle.nmgc_cli.specs.declared.answer.Refusal.{Refusal}
 use Rattle.nmgc_cli.specs.declared.answer.Refusal.TheVariants as no
-use Rattle.nmgc_cli.specs.declared.status.Status.{Status}
-use Rattle.nmgc_cli.specs.declared.status.Status.TheVariants.{Done, WriteFault, HeapFull, NoMemory}
-use Rattle.nmgc_cli.specs.declared.task.Task.{Task}
-use Rattle.nmgc_cli.specs.declared.task.Task.TheVariants.{Run, Bench, Upgrade, Image, Retain, Marks}
 use Rattle.nmgc_limits.specs.Limits.{most_script_bytes}
 
 -- what a source had left was read to its end, and is no more than so many bytes

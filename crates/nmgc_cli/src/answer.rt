@@ -6,8 +6,7 @@
 //! Easy to get wrong: a text that takes memory may not be there after all. The answer is then
 //! `NoMemory`, whose own text takes none.
 ghost use Rattle.std.specs.Prelude.{◌≡◌, Some};
-ghost use Rattle.nmgc_cli.specs.Answer.{refusal_status, read_refusal, script_refusal, image_refusal, status_of};
-ghost use Rattle.nmgc_cli.specs.declared.answer.Refusal.TheVariants.{NoMemory as no_memory};
+ghost use Rattle.nmgc_cli.specs.{Answer.refusal_status, Answer.read_refusal, Answer.script_refusal, Answer.image_refusal, Answer.status_of, declared.answer.Refusal.TheVariants.NoMemory as no_memory};
 
 use crate::Status;
 use nmgc_image::ImageFault;

@@ -4,11 +4,8 @@
 //! a run as any other, so what is proved of runs holds of it; its summary is written in place of its text.
 //! Easy to get wrong: `bench 0` and `bench 01` are wrong words, as `bench 101` is.
 ghost use Rattle.std.specs.Prelude.{◌≡◌, ℕ, [], ◌∷◌, decimal, map, string_bytes, IfOk, IfSome, IfNone};
-ghost use Rattle.nmgc_cli.specs.Told.{AnswersBench, TellsOf, IsSummary};
-ghost use Rattle.nmgc_cli.specs.Bench.{HasCount};
+ghost use Rattle.nmgc_cli.specs.{Told.AnswersBench, Told.TellsOf, Told.IsSummary, Bench.HasCount, Task.Asks, Task.IsBench, declared.task.Task.TheVariants.Bench};
 ghost use Rattle.nmgc_run_spec.specs.Crowded.{IsRunOf};
-ghost use Rattle.nmgc_cli.specs.Task.{Asks, IsBench};
-ghost use Rattle.nmgc_cli.specs.declared.task.Task.TheVariants.{Bench};
 ghost use Rattle.nmgc_script.specs.Bench.{bench_script};
 
 use crate::answer::{Outcome, Refusal};

@@ -1,8 +1,7 @@
 //! The words `image`: the heap that a run left, as an image.
 ghost use Rattle.std.specs.Prelude.{IfOk};
 ghost use Rattle.nmgc_io.specs.Counts.{Rose};
-ghost use Rattle.nmgc_cli.specs.Answer.{IsRan, IsOfScript};
-ghost use Rattle.nmgc_cli.specs.Told.{AnswersScript, TellsOf, IsImageText};
+ghost use Rattle.nmgc_cli.specs.{Answer.IsRan, Answer.IsOfScript, Told.AnswersScript, Told.TellsOf, Told.IsImageText};
 
 use crate::answer::{Outcome, Refusal};
 use crate::run::read_and_run;

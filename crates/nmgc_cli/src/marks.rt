@@ -8,13 +8,8 @@
 ghost use Rattle.std.specs.Prelude.{◌≡◌, ℕ, [], ◌∷◌, ◌++◌, decimal, map, string_bytes, IfOk, IfSome, IfNone, OnOk};
 ghost use Rattle.std.specs.List.{flat_map};
 ghost use Rattle.nmgc_pmark.specs.Stops.{root_words};
-ghost use Rattle.nmgc_cli.specs.Claimed.{AreClaimsOf};
-ghost use Rattle.nmgc_cli.specs.Marks.{IsMarksText, marks_lines, name_line};
-ghost use Rattle.nmgc_cli.specs.Answer.{IsRan, IsOfScript};
-ghost use Rattle.nmgc_cli.specs.Task.{Asks, AreMarkers};
-ghost use Rattle.nmgc_cli.specs.Told.{AnswersScript, TellsOf};
+ghost use Rattle.nmgc_cli.specs.{Claimed.AreClaimsOf, Marks.IsMarksText, Marks.marks_lines, Marks.name_line, Answer.IsRan, Answer.IsOfScript, Task.Asks, Task.AreMarkers, Told.AnswersScript, Told.TellsOf, declared.task.Task.TheVariants.Marks};
 ghost use Rattle.nmgc_io.specs.Counts.{Rose};
-ghost use Rattle.nmgc_cli.specs.declared.task.Task.TheVariants.{Marks};
 
 use crate::answer::{Outcome, Refusal};
 use crate::run::read_and_run;

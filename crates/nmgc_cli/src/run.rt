@@ -5,13 +5,9 @@
 ghost use Rattle.std.specs.Prelude.{◌≡◌, ◌≤◌, length, sum_by, vec_len, IfOk, IfErr, MatchResult};
 ghost use Rattle.nmgc_io.specs.Counts.{Rose};
 ghost use Rattle.nmgc_limits.specs.Limits.{most_script_bytes};
-ghost use Rattle.nmgc_script.specs.Faults.{IsToldOf};
-ghost use Rattle.nmgc_script.specs.Spelling.{Spells};
-ghost use Rattle.nmgc_script.specs.declared.script.Script.{Script as Spelled};
+ghost use Rattle.nmgc_script.specs.{Faults.IsToldOf, Spelling.Spells, declared.script.Script.Script as Spelled, Limits.IsInLimits};
 ghost use Rattle.nmgc_run_spec.specs.Crowded.{IsRunOf};
-ghost use Rattle.nmgc_script.specs.Limits.{IsInLimits};
-ghost use Rattle.nmgc_cli.specs.Answer.{IsRan};
-ghost use Rattle.nmgc_cli.specs.Told.{AnswersScript, AnswersBytes, TellsOf, IsText};
+ghost use Rattle.nmgc_cli.specs.{Answer.IsRan, Told.AnswersScript, Told.AnswersBytes, Told.TellsOf, Told.IsText};
 
 use crate::answer::{Outcome, Refusal};
 use nmgc_cycle::Collector;

@@ -5,8 +5,7 @@
 //! a sink that fails replaces the status and nothing else. What a task does stands in a file of its own.
 ghost use Rattle.std.specs.Prelude.{◌≡◌, map, string_bytes, IfSome};
 ghost use Rattle.nmgc_io.specs.Counts.{Rose};
-ghost use Rattle.nmgc_cli.specs.Answer.{Answer, IsToldAs};
-ghost use Rattle.nmgc_cli.specs.Task.{CanBeDone, IsReading};
+ghost use Rattle.nmgc_cli.specs.{Answer.Answer, Answer.IsToldAs, Task.CanBeDone, Task.IsReading};
 ghost use Rattle.nmgc_cli.specs.Told.{IsTold, Answers, IsWritten, Ends, IsReport, IsComplete, IsBenchComplete, IsUpgrade, IsUpgradeComplete, IsPath, IsRetainComplete, ReadsNothing};
 
 use crate::answer::{Outcome, Refusal};

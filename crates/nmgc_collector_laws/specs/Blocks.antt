@@ -1,22 +1,14 @@
 -- The tie by places is the tie by blocks of a run: where the places are those of the blocks.
 use Rattle.std.specs.Prelude.{ℕ, ◌≡◌, ◌⊎◌, ◌↔◌, List, Contains, IsSome}
-use Rattle.nmgc_world_spec.specs.declared.value.Name.{Name}
-use Rattle.nmgc_world_spec.specs.World.{node_of}
-use Rattle.nmgc_world_spec.specs.Step.{shared_name}
+use Rattle.nmgc_world_spec.specs.{declared.value.Name.Name, World.node_of, Step.shared_name}
 use Rattle.nmgc_snapshot_laws.specs.State.{State}
-use Rattle.nmgc_alloc.specs.Numbered.{Segments, block_place}
-use Rattle.nmgc_alloc.specs.Segments.{IsSegments}
-use Rattle.nmgc_alloc.specs.AllocState.{AllocState, LiesIn, cells}
-use Rattle.nmgc_alloc.specs.Stands.{StandsFor}
+use Rattle.nmgc_alloc.specs.{Numbered.Segments, Numbered.block_place, Segments.IsSegments, AllocState.AllocState, AllocState.LiesIn, AllocState.cells, Stands.StandsFor}
 use Rattle.nmgc_heap_spec.specs.Places.{Place, shared_place}
-use Rattle.nmgc_round.specs.View.{Opening}
-use Rattle.nmgc_round.specs.Marking.{marks_of}
-use Rattle.nmgc_blocks_spec.specs.Cycle.{Cycle}
-use Rattle.nmgc_blocks_spec.specs.Placed.{IsBlockPlace}
+use Rattle.nmgc_round.specs.{View.Opening, Marking.marks_of}
+use Rattle.nmgc_blocks_spec.specs.{Cycle.Cycle, Placed.IsBlockPlace}
 use Rattle.nmgc_segment.specs.Marks.{epoch_of}
 use Rattle.nmgc_collector_laws.specs.Marker.{IsTied as IsTiedByBlocks}
-use Rattle.nmgc_mark.specs.Seen.{MarkerSeen}
-use Rattle.nmgc_mark.specs.Tie.{AreApart, IsTied}
+use Rattle.nmgc_mark.specs.{Seen.MarkerSeen, Tie.AreApart, Tie.IsTied}
 
 -- each block with a name has its place, and so has g; a place whose name is one of the snapshot is one of these. So
 -- it is at a stop, and after a round, whose own objects are in no snapshot. And the machine marks names of the

@@ -1,36 +1,21 @@
 -- The marker's calls, by their own contracts, and what a collector then keeps of the cycle.
-use Rattle.std.specs.Prelude.{ℕ, ◌≡◌, ◌+◌, ◌≤◌, List, length}
-use Rattle.std.specs.List.{flat_map}
+use Rattle.std.specs.{Prelude.ℕ, Prelude.◌≡◌, Prelude.◌+◌, Prelude.◌≤◌, Prelude.List, Prelude.length, List.flat_map}
 use Rattle.nmgc_world_spec.specs.World.{IsWorld}
 use Rattle.nmgc_world_laws.specs.Reachable.{IsSound}
 use Rattle.nmgc_object.specs.declared.layout.Layout.{Layout}
 use Rattle.nmgc_snapshot_laws.specs.State.{State as Core, opening}
-use Rattle.nmgc_alloc.specs.Numbered.{Segments}
-use Rattle.nmgc_alloc.specs.Segments.{IsSegments}
+use Rattle.nmgc_alloc.specs.{Numbered.Segments, Segments.IsSegments}
 use Rattle.nmgc_heap_spec.specs.Places.{Place}
 use Rattle.nmgc_journal.specs.declared.report.MutatorEnd.{MutatorEnd}
-use Rattle.nmgc_round.specs.Events.{rows_in}
-use Rattle.nmgc_round.specs.Finishing.{IsFinished, places_then}
-use Rattle.nmgc_round.specs.Rule.{now}
-use Rattle.nmgc_round.specs.Seat.{RoundSeat}
-use Rattle.nmgc_round.specs.View.{Opening, Scan}
-use Rattle.nmgc_round.specs.Marking.{Marks, marks_of, marks_after}
+use Rattle.nmgc_round.specs.{Events.rows_in, Finishing.IsFinished, Finishing.places_then, Rule.now, Seat.RoundSeat, View.Opening, View.Scan, Marking.Marks, Marking.marks_of, Marking.marks_after}
 use Rattle.nmgc_mutator.specs.declared.mutator.Mutator.{Mutator}
-use Rattle.nmgc_collector_laws.specs.Worked.{Done}
+use Rattle.nmgc_collector_laws.specs.{Worked.Done, Collector.EachMutator, Collector.IsMarking, Seen.CollectorSeen, Seen.MutatorSeen, Prepares.all_prepared, Keeps.HasLeft, Keeps.NoneRemember, Keeps.ShowEntries, Owed.GoesOn, Owed.IsGathered, Owed.gathered, RestMarking.with_rows}
 use Rattle.nmgc_blocks_spec.specs.Cycle.{interval_of, Cycle}
-use Rattle.nmgc_collector_laws.specs.Collector.{EachMutator, IsMarking}
 use Rattle.nmgc_weak.specs.Queues.{weak_count}
-use Rattle.nmgc_run_spec.specs.Heap.{HoldsAtStop}
+use Rattle.nmgc_run_spec.specs.{Heap.HoldsAtStop, State.State, State.next_cycle, State.cycle_started}
 use Rattle.nmgc_sweep.specs.Sweeping.{HasListedNothing, HasNoted}
 use Rattle.nmgc_segment.specs.Marks.{epoch_of}
-use Rattle.nmgc_collector_laws.specs.Seen.{CollectorSeen, MutatorSeen}
-use Rattle.nmgc_run_spec.specs.State.{State, next_cycle, cycle_started}
-use Rattle.nmgc_mark.specs.Marker.{HasMarked, blank}
-use Rattle.nmgc_mark.specs.Tie.{IsTied as IsTiedByPlaces, with_places}
-use Rattle.nmgc_collector_laws.specs.Prepares.{all_prepared}
-use Rattle.nmgc_collector_laws.specs.Keeps.{HasLeft, NoneRemember, ShowEntries}
-use Rattle.nmgc_collector_laws.specs.Owed.{GoesOn, IsGathered, gathered}
-use Rattle.nmgc_collector_laws.specs.RestMarking.{with_rows}
+use Rattle.nmgc_mark.specs.{Marker.HasMarked, Marker.blank, Tie.IsTied as IsTiedByPlaces, Tie.with_places}
 
 -- the places that mutators remember, one mutator after the other
 abbrev pub all_entries : List MutatorSeen → List ℕ

@@ -5,12 +5,9 @@ use Rattle.nmgc_alloc.specs.AllocState.{AllocState}
 use Rattle.nmgc_heap_spec.specs.Places.{Place}
 use Rattle.nmgc_blocks_spec.specs.Cycle.{IsKeptObject, interval_of, Cycle}
 use Rattle.nmgc_world_laws.specs.Reachable.{IsSound}
-use Rattle.nmgc_run_spec.specs.Closing.{IsSoon, IsPaced}
-use Rattle.nmgc_collector_laws.specs.Collector.{IsPacedAfterRound}
+use Rattle.nmgc_run_spec.specs.{Closing.IsSoon, Closing.IsPaced, State.State}
+use Rattle.nmgc_collector_laws.specs.{Collector.IsPacedAfterRound, Marker.IsCoreOf, Marker.IsTied, Seen.CollectorSeen}
 use Rattle.nmgc_world_spec.specs.Listing.{Counts}
-use Rattle.nmgc_collector_laws.specs.Marker.{IsCoreOf, IsTied}
-use Rattle.nmgc_collector_laws.specs.Seen.{CollectorSeen}
-use Rattle.nmgc_run_spec.specs.State.{State}
 
 -- it isn't too late: each round before the last one scanned its quota, and the last one something unless it was the first
 abbrev pub ClosingIsSoon : Type 0

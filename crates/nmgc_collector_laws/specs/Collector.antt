@@ -4,31 +4,19 @@
 -- It holds of a new collector's opening stop, of every stop after a round, and between the two, for the
 -- same run. `CollectorSeen` is what contracts see of the collector.
 use Rattle.std.specs.Prelude.{ℕ, ◌≡◌, ◌≢◌, ◌⊎◌, ◌↔◌, ◌+◌, ◌-◌, ◌*◌, ◌<◌, ◌≤◌, List, [], ◌∷◌, ◌++◌, length, slice_get, Contains, Some, None, true}
-use Rattle.nmgc_world_spec.specs.declared.command.Reply.{Reply}
-use Rattle.nmgc_world_spec.specs.World.{World}
-use Rattle.nmgc_world_spec.specs.History.{Row}
-use Rattle.nmgc_object.specs.declared.layout.Layout.{Layout}
-use Rattle.nmgc_object.specs.declared.layout.Nursery.{Nursery}
-use Rattle.nmgc_object.specs.Places.{nursery_place, reserve_count}
-use Rattle.nmgc_alloc.specs.Reserve.{free_count}
+use Rattle.nmgc_world_spec.specs.{declared.command.Reply.Reply, World.World, History.Row}
+use Rattle.nmgc_object.specs.{declared.layout.Layout.Layout, declared.layout.Nursery.Nursery, Places.nursery_place, Places.reserve_count}
+use Rattle.nmgc_alloc.specs.{Reserve.free_count, Settled.AreSettled}
 use Rattle.nmgc_heap_spec.specs.Places.{Place}
-use Rattle.nmgc_blocks_spec.specs.Nurseries.{AreUsed, LieInOrder, AreEmpty, nursery_at}
-use Rattle.nmgc_blocks_spec.specs.Remembers.{Remembers}
+use Rattle.nmgc_blocks_spec.specs.{Nurseries.AreUsed, Nurseries.LieInOrder, Nurseries.AreEmpty, Nurseries.nursery_at, Remembers.Remembers, Cycle.Cycle}
 use Rattle.nmgc_snapshot_laws.specs.State.{State as Core, names_of}
 use Rattle.nmgc_journal.specs.declared.report.RoundRows.{RoundRows}
 use Rattle.nmgc_run_spec.specs.State.{Plan, State, Progress, idle, marking, sweeping, phase_of, layout_of, start}
-use Rattle.nmgc_blocks_spec.specs.Cycle.{Cycle}
-use Rattle.nmgc_run_spec.specs.Round.{IsRound}
-use Rattle.nmgc_run_spec.specs.Stop.{answer_of}
-use Rattle.nmgc_run_spec.specs.Run.{Run, IsRun, Tells, last_state}
-use Rattle.nmgc_run_spec.specs.Heap.{HoldsAtStop, HoldsAfterRound, snapshots}
+use Rattle.nmgc_run_spec.specs.{Round.IsRound, Stop.answer_of, Run.Run, Run.IsRun, Run.Tells, Run.last_state, Heap.HoldsAtStop, Heap.HoldsAfterRound, Heap.snapshots}
 use Rattle.nmgc_collector_laws.specs.Seen.{CollectorSeen, MutatorSeen, ends_of, nurseries_of, recorded_in, young_weaks_in, finalised_in}
-use Rattle.nmgc_mark.specs.Seen.{MarkerSeen}
-use Rattle.nmgc_alloc.specs.Settled.{AreSettled}
+use Rattle.nmgc_mark.specs.{Seen.MarkerSeen, Marker.HasRoomToMark}
 use Rattle.nmgc_sweep.specs.Sweeping.{HasListedNothing, HasNoted, IsSweeping}
-use Rattle.nmgc_collector_laws.specs.Marker.{IsCoreOf, AreRemembered, IsTied}
-use Rattle.nmgc_mark.specs.Marker.{HasRoomToMark}
-use Rattle.nmgc_collector_laws.specs.Worked.{TellsFinalised}
+use Rattle.nmgc_collector_laws.specs.{Marker.IsCoreOf, Marker.AreRemembered, Marker.IsTied, Worked.TellsFinalised}
 use Rattle.nmgc_weak.specs.Queues.{weak_count}
 
 -- the state tells the phase, the requests and how many cycles were begun

@@ -1,29 +1,17 @@
 -- A cycle that closes with weak pointers, in the words of a run: when it may, and what it keeps.
 use Rattle.std.specs.Prelude.{ℕ, ◌≡◌, true, List, [], ◌↔◌}
-use Rattle.nmgc_world_spec.specs.declared.value.Name.{Name}
-use Rattle.nmgc_world_spec.specs.Reach.{Lists, closed}
-use Rattle.nmgc_world_spec.specs.Listing.{Counts}
+use Rattle.nmgc_world_spec.specs.{declared.value.Name.Name, Reach.Lists, Reach.closed, Listing.Counts}
 use Rattle.nmgc_world_laws.specs.Reachable.{IsSound}
 use Rattle.nmgc_snapshot_laws.specs.Machine.{AreEmpty}
-use Rattle.nmgc_segment.specs.Segment.{IsMarked}
-use Rattle.nmgc_segment.specs.Marks.{epoch_of}
-use Rattle.nmgc_alloc.specs.Numbered.{Segments, nth}
-use Rattle.nmgc_alloc.specs.AllocState.{LiesIn}
-use Rattle.nmgc_heap_spec.specs.Changes.{AreEarlier}
-use Rattle.nmgc_heap_spec.specs.Places.{Place}
-use Rattle.nmgc_heap_spec.specs.Roots.{ListsWeaks}
-use Rattle.nmgc_round.specs.Objects.{earlier}
-use Rattle.nmgc_round.specs.View.{Opening}
+use Rattle.nmgc_segment.specs.{Segment.IsMarked, Marks.epoch_of}
+use Rattle.nmgc_alloc.specs.{Numbered.Segments, Numbered.nth, AllocState.LiesIn}
+use Rattle.nmgc_heap_spec.specs.{Changes.AreEarlier, Places.Place, Roots.ListsWeaks}
+use Rattle.nmgc_round.specs.{Objects.earlier, View.Opening}
 use Rattle.nmgc_blocks_spec.specs.Cycle.{interval_of, Cycle, IsDeadIn, IsKeptIn, IsKeptObject}
-use Rattle.nmgc_run_spec.specs.Closing.{Closes}
-use Rattle.nmgc_run_spec.specs.State.{State, sweeping}
-use Rattle.nmgc_collector_laws.specs.Marker.{IsCoreOf}
-use Rattle.nmgc_mark.specs.Seen.{MarkerSeen}
-use Rattle.nmgc_mark.specs.Stopped.{IsReady}
-use Rattle.nmgc_weak.specs.Resolve.{CanResolve, HasResolved}
-use Rattle.nmgc_collector_laws.specs.Blocks.{AreOfBlocks}
-use Rattle.nmgc_weak.specs.declared.weaks.Death.{Death}
-use Rattle.nmgc_weak.specs.declared.weaks.OldWeak.{OldWeak}
+use Rattle.nmgc_run_spec.specs.{Closing.Closes, State.State, State.sweeping}
+use Rattle.nmgc_collector_laws.specs.{Marker.IsCoreOf, Blocks.AreOfBlocks}
+use Rattle.nmgc_mark.specs.{Seen.MarkerSeen, Stopped.IsReady}
+use Rattle.nmgc_weak.specs.{Resolve.CanResolve, Resolve.HasResolved, declared.weaks.Death.Death, declared.weaks.OldWeak.OldWeak}
 
 -- at a stop of a cycle where nothing waits, is owed or is pushed, with a marker that is ready and the list of weak pointers, the closing may resolve it
 abbrev pub CycleMayResolve : Type 0

@@ -3,34 +3,17 @@
 -- A round or a stop whose collector sweeps is first one whose segments stay as they are, with all places that it had. Then
 -- the freed places go, and segments and words stand for what is left.
 use Rattle.std.specs.Prelude.{ℕ, ◌≡◌, ◌≢◌, ◌≤◌, List, [], ◌∷◌, Contains, IsSome, Some}
-use Rattle.nmgc_world_spec.specs.declared.command.Reply.{Reply}
-use Rattle.nmgc_world_spec.specs.declared.node.Node.{Node}
-use Rattle.nmgc_world_spec.specs.declared.value.Name.{Name}
-use Rattle.nmgc_world_spec.specs.declared.value.Value.TheVariants.{Ref}
-use Rattle.nmgc_world_spec.specs.World.{World, node_of}
-use Rattle.nmgc_world_spec.specs.Step.{shared_name}
-use Rattle.nmgc_world_spec.specs.History.{Row}
+use Rattle.nmgc_world_spec.specs.{declared.command.Reply.Reply, declared.node.Node.Node, declared.value.Name.Name, declared.value.Value.TheVariants.Ref, World.World, World.node_of, Step.shared_name, History.Row}
 use Rattle.nmgc_segment.specs.declared.state.State.TheVariants as stands
-use Rattle.nmgc_object.specs.Places.{nursery_place}
-use Rattle.nmgc_object.specs.declared.layout.Layout.{Layout}
-use Rattle.nmgc_alloc.specs.Numbered.{Segments}
-use Rattle.nmgc_alloc.specs.Segments.{IsSegments}
+use Rattle.nmgc_object.specs.{Places.nursery_place, declared.layout.Layout.Layout, declared.layout.Nursery.Nursery}
+use Rattle.nmgc_alloc.specs.{Numbered.Segments, Segments.IsSegments, Stands.StandsFor}
 use Rattle.nmgc_alloc.specs.AllocState.{AllocState, SweepsSome, LiesIn, LieOnce, LiesNowhere, HasBlock, cells, count_in}
-use Rattle.nmgc_alloc.specs.Stands.{StandsFor}
-use Rattle.nmgc_heap_spec.specs.Places.{Place}
-use Rattle.nmgc_heap_spec.specs.Shape.{holds, free_slots}
-use Rattle.nmgc_heap_spec.specs.Tracked.{IsTracked}
-use Rattle.nmgc_blocks_spec.specs.Nurseries.{LieInOrder}
-use Rattle.nmgc_blocks_spec.specs.Remembers.{Remembers}
+use Rattle.nmgc_heap_spec.specs.{Places.Place, Shape.holds, Shape.free_slots, Tracked.IsTracked}
+use Rattle.nmgc_blocks_spec.specs.{Nurseries.LieInOrder, Remembers.Remembers, Cycle.IsKeptIn, Cycle.Cycle}
 use Rattle.nmgc_journal.specs.declared.report.MutatorEnd.{MutatorEnd}
-use Rattle.nmgc_object.specs.declared.layout.Nursery.{Nursery}
-use Rattle.nmgc_blocks_spec.specs.Cycle.{IsKeptIn, Cycle}
 use Rattle.nmgc_collector_laws.specs.Collector.{AreNurseries}
-use Rattle.nmgc_run_spec.specs.Heap.{HoldsAtStop, HoldsAfterRound, snapshots}
-use Rattle.nmgc_run_spec.specs.Round.{IsRound}
-use Rattle.nmgc_run_spec.specs.Run.{Run, IsRun, last_state}
+use Rattle.nmgc_run_spec.specs.{Heap.HoldsAtStop, Heap.HoldsAfterRound, Heap.snapshots, Round.IsRound, Run.Run, Run.IsRun, Run.last_state, State.Plan, State.State, State.sweeping}
 use Rattle.nmgc_run_laws.specs.Sound.{AreSoundBlocks, IsAfterClosing, IsRunnable, LieKnown, WaitKnown}
-use Rattle.nmgc_run_spec.specs.State.{Plan, State, sweeping}
 
 -- a sweep left names in their blocks, among them all of which anybody may speak, but g and what the round made; no
 -- free variable that an earlier world knows refers to a name of which nobody may

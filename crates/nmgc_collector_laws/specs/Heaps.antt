@@ -1,36 +1,17 @@
 -- The heap of a marking cycle in the words of a run: at a stop it is at rest, and what a round and its promotion leave of it.
-use Rattle.std.specs.Prelude.{ℕ, ◌≡◌, ◌-◌, List, [], ◌∷◌, map, replicate, slice_get, Some, All, refl}
-use Rattle.std.specs.Ptr.{null_ptr}
-use Rattle.std.proofs.Common.{lit<, lit≤}
-use Rattle.nmgc_world_spec.specs.World.{World}
-use Rattle.nmgc_limits.specs.declared.mutators.TheConstants.{REGISTERS}
+use Rattle.std.specs.Prelude.{ℕ, ◌≡◌, List, map, slice_get, Some, All}
 use Rattle.nmgc_object.specs.declared.layout.Layout.{Layout}
-use Rattle.nmgc_snapshot_laws.specs.State.{State as Core}
-use Rattle.nmgc_alloc.specs.Stands.{StandsFor}
-use Rattle.nmgc_alloc.specs.Numbered.{Segments}
-use Rattle.nmgc_alloc.specs.Segments.{IsSegments}
-use Rattle.nmgc_heap_spec.specs.Places.{Place}
-use Rattle.nmgc_lists.specs.declared.list.ListMemory.{ListMemory as ListPlace}
-use Rattle.nmgc_heap_spec.specs.Roots.{RepresentsRoots}
+use Rattle.nmgc_alloc.specs.{Stands.StandsFor, Numbered.Segments, Segments.IsSegments}
+use Rattle.nmgc_heap_spec.specs.{Places.Place, Roots.RepresentsRoots}
 use Rattle.nmgc_journal.specs.declared.report.MutatorEnd.{MutatorEnd}
-use Rattle.nmgc_round.specs.View.{Opening, Seen as View}
-use Rattle.nmgc_round.specs.Objects.{earlier}
-use Rattle.nmgc_round.specs.Rule.{now}
-use Rattle.nmgc_round.specs.Starting.{CanOpen}
-use Rattle.nmgc_round.specs.Finishing.{Leaves, places_then}
-use Rattle.nmgc_mutator.specs.declared.mutator.Mutator.{Mutator}
-use Rattle.nmgc_mutator.specs.Ready.{IsWhole}
-use Rattle.nmgc_mutator.specs.Does.{remembered}
-use Rattle.nmgc_mutator.specs.Records.{numbers}
-use Rattle.nmgc_collector_laws.specs.Collector.{AreAtRest, IsMarking}
+use Rattle.nmgc_round.specs.{View.Opening, View.Seen as View, Objects.earlier, Rule.now, Starting.CanOpen, Finishing.Leaves, Finishing.places_then}
+use Rattle.nmgc_mutator.specs.{declared.mutator.Mutator.Mutator, Ready.IsWhole, Does.remembered, Records.numbers}
+use Rattle.nmgc_collector_laws.specs.{Collector.AreAtRest, Collector.IsMarking, Seen.CollectorSeen, Seen.MutatorSeen, Seen.ends_of, RestMarking.IsAtRestMarking, RestMarking.opening_beside}
 use Rattle.nmgc_run_spec.specs.Heap.{HoldsAtStop, HoldsAfterRound, HasAllRegisters, registers_of, queues_of, serials_of, snapshots}
-use Rattle.nmgc_collector_laws.specs.Life.{array_layout, marking_seen}
-use Rattle.nmgc_collector_laws.specs.Seen.{CollectorSeen, MutatorSeen, ends_of}
 use Rattle.nmgc_run_laws.specs.Sound.{IsSoundState, LieKnown}
 use Rattle.nmgc_run_spec.specs.State.{Plan, State, marking, layout_of}
 use Rattle.nmgc_blocks_spec.specs.Cycle.{Cycle}
 use Rattle.nmgc_mark.specs.Stopped.{IsReady}
-use Rattle.nmgc_collector_laws.specs.RestMarking.{IsAtRestMarking, opening_beside}
 
 -- a mutator as contracts of a collector see it
 abbrev pub seen_mutator : Mutator → MutatorSeen
@@ -89,43 +70,3 @@ abbrev pub MarkedHolds : Type 0
 MarkedHolds = (layout : Layout) (s : State) (words : List ℕ) (old new : Segments) (ends : List MutatorEnd) (weaks : List Place)
     (h : HoldsAtStop layout s words old ends weaks) → new.layout ≡ layout → StandsFor new words s.allocation →
     (k : HoldsAtStop layout s words new ends weaks) × (k.places ≡ h.places)
-
--- a place for a list, as one is made: its vector is empty and has no memory
-abbrev pub empty_place : ListPlace ℕ
-empty_place = record {
-  vector = record {
-    ptr = null_ptr;
-    alloc = record { memory = record { seal = tt } };
-    value = record { ptr = null_ptr; len = 0; cap = 0; alloc = record { memory = record { seal = tt } }; items = []; ok = (refl, lit≤ tt); small = lit< tt };
-  };
-}
-
--- the one mutator of the array script, at the stop at which its cycle began
-abbrev pub marking_mutator : Mutator
-marking_mutator = record {
-  number = 0;
-  layout = array_layout;
-  registers = 64 ∷ replicate (REGISTERS - 1) 1;
-  queue = record { words = []; spare = 0 };
-  queue_place = empty_place;
-  nursery = record { base = 320; top = 320; end = 336 };
-  serial = 1;
-  turns = 0;
-  replies = record { items = []; spare = 0 };
-  recorded = record { items = []; spare = 0 };
-  young_weaks = record { items = []; spare = 0 };
-  finalised = record { items = []; spare = 0 };
-  updrem = record { items = []; spare = 0 };
-  sender = record {
-    ring = record { words = null_ptr; slots = null_ptr; names = (0, (0, 0)); heap = record { memory = record { seal = tt } } };
-    before = [];
-    since = [];
-    free = 0;
-  };
-}
-
--- its collector has a heap at rest beside the cycle: so there is one
-abbrev pub SmallLifeRests : Type 0
-SmallLifeRests = AreShown array_layout marking_seen (marking_mutator ∷ []) ×
-    ((c : Cycle) × (core : Core) × (places : List Place) × (w : World) ×
-    IsAtRestMarking c core marking_seen.segments places w marking_seen.words (marking_mutator ∷ []) marking_seen.marker.queue)

@@ -1,17 +1,10 @@
 -- The list of weak pointers over a promotion: the alive ones that moved join it. And the room of the finaliser queues, which is as large as the list asks.
 use Rattle.std.specs.Prelude.{ℕ, ◌≡◌, ◌≢◌, ◌+◌, ◌≤◌, ◌⊎◌, List, map, slice_index, Contains, IsSome}
 use Rattle.nmgc_world_spec.specs.declared.node.Kind.TheVariants as kind
-use Rattle.nmgc_world_spec.specs.Reach.{IsInOrder}
-use Rattle.nmgc_world_spec.specs.World.{World, node_of}
-use Rattle.nmgc_object.specs.Words.{header_word, IsHeader}
-use Rattle.nmgc_object.specs.declared.size.TheConstants.{HEADER_WORDS}
-use Rattle.nmgc_object.specs.declared.words.TheConstants.{WEAK_FIELDS}
-use Rattle.nmgc_object.specs.declared.words.Header.{Header}
-use Rattle.nmgc_object.specs.declared.layout.Nursery.{Nursery}
+use Rattle.nmgc_world_spec.specs.{Reach.IsInOrder, World.World, World.node_of}
+use Rattle.nmgc_object.specs.{Words.header_word, Words.IsHeader, declared.size.TheConstants.HEADER_WORDS, declared.words.TheConstants.WEAK_FIELDS, declared.words.Header.Header, declared.layout.Nursery.Nursery}
 use Rattle.nmgc_alloc.specs.Numbered.{Segments}
-use Rattle.nmgc_heap_spec.specs.Moves.{Moved, Copies, Forwards, new_place}
-use Rattle.nmgc_heap_spec.specs.Places.{Place}
-use Rattle.nmgc_heap_spec.specs.Roots.{ListsWeaks}
+use Rattle.nmgc_heap_spec.specs.{Moves.Moved, Moves.Copies, Moves.Forwards, Moves.new_place, Places.Place, Roots.ListsWeaks}
 use Rattle.nmgc_blocks_spec.specs.Stopped.{Stopped, IsStopped, IsSettled, young_base}
 use Rattle.nmgc_weak.specs.Queues.{weak_count}
 use Rattle.nmgc_collector_laws.specs.Stays.{places_after}

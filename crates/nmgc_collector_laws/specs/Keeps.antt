@@ -3,16 +3,12 @@ use Rattle.std.specs.Prelude.{ℕ, ◌≡◌, ◌+◌, ◌<◌, ◌≤◌, ◌�
 use Rattle.nmgc_world_laws.specs.Reachable.{IsSound}
 use Rattle.nmgc_alloc.specs.AllocState.{AllocState}
 use Rattle.nmgc_heap_spec.specs.Moves.{Moved}
-use Rattle.nmgc_blocks_spec.specs.Stopped.{Stopped}
-use Rattle.nmgc_mutator.specs.declared.mutator.Mutator.{Mutator}
-use Rattle.nmgc_mutator.specs.Does.{remembered as remembered_of}
-use Rattle.nmgc_blocks_spec.specs.Cycle.{interval_of, Cycle}
-use Rattle.nmgc_collector_laws.specs.Collector.{IsMarking, EachMutator, IsPacedAtStop, IsPacedAfterRound}
+use Rattle.nmgc_blocks_spec.specs.{Stopped.Stopped, Cycle.interval_of, Cycle.Cycle}
+use Rattle.nmgc_mutator.specs.{declared.mutator.Mutator.Mutator, Does.remembered as remembered_of}
+use Rattle.nmgc_collector_laws.specs.{Collector.IsMarking, Collector.EachMutator, Collector.IsPacedAtStop, Collector.IsPacedAfterRound, Seen.CollectorSeen, Seen.MutatorSeen, Stays.HasPromoted, Stays.places_after}
 use Rattle.nmgc_weak.specs.Queues.{weak_count}
-use Rattle.nmgc_collector_laws.specs.Seen.{CollectorSeen, MutatorSeen}
 use Rattle.nmgc_mark.specs.Seen.{MarkerSeen}
 use Rattle.nmgc_run_spec.specs.State.{State}
-use Rattle.nmgc_collector_laws.specs.Stays.{HasPromoted, places_after}
 
 -- no mutator remembers anything
 abbrev pub NoneRemember : CollectorSeen → Type 0

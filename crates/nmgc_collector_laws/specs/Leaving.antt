@@ -1,19 +1,14 @@
 -- What a round leaves for the stop after it: all that its promotion asks, and of what the collector may
 -- speak once the round is forgotten.
 use Rattle.std.specs.Prelude.{List, ◌∷◌}
-use Rattle.nmgc_world_spec.specs.declared.command.Reply.{Reply}
-use Rattle.nmgc_world_spec.specs.History.{Row}
+use Rattle.nmgc_world_spec.specs.{declared.command.Reply.Reply, History.Row}
 use Rattle.nmgc_object.specs.Places.{nursery_place}
 use Rattle.nmgc_alloc.specs.Segments.{IsSegments}
-use Rattle.nmgc_heap_spec.specs.Places.{Place}
-use Rattle.nmgc_heap_spec.specs.Moves.{StillSpoken}
+use Rattle.nmgc_heap_spec.specs.{Places.Place, Moves.StillSpoken}
 use Rattle.nmgc_blocks_spec.specs.Stopped.{Stopped, IsStopped}
-use Rattle.nmgc_run_spec.specs.State.{State, Plan, layout_of}
-use Rattle.nmgc_run_spec.specs.Run.{Run, last_state}
-use Rattle.nmgc_collector_laws.specs.Seen.{CollectorSeen, ends_of, nurseries_of, recorded_in, young_weaks_in}
+use Rattle.nmgc_run_spec.specs.{State.State, State.Plan, State.layout_of, Run.Run, Run.last_state, Heap.registers_of, Heap.queues_of, Heap.serials_of, Heap.snapshots}
+use Rattle.nmgc_collector_laws.specs.{Seen.CollectorSeen, Seen.ends_of, Seen.nurseries_of, Seen.recorded_in, Seen.young_weaks_in, Collector.IsAfterRound}
 use Rattle.nmgc_run_laws.specs.Sound.{IsRunnable}
-use Rattle.nmgc_run_spec.specs.Heap.{registers_of, queues_of, serials_of, snapshots}
-use Rattle.nmgc_collector_laws.specs.Collector.{IsAfterRound}
 
 -- the heap at a stop, as a round from one state to another left it
 abbrev pub stopped_after : State → State → List Place → CollectorSeen → Stopped

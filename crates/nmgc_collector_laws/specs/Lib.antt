@@ -8,7 +8,6 @@ pub mod Heaps
 pub mod Joins
 pub mod Keeps
 pub mod Leaving
-pub mod Life
 pub mod Marker
 pub mod Owed
 pub mod Prepares

@@ -1,18 +1,11 @@
 -- The marker of a cycle, tied to the core machine: one list of events, whose commands are the rows since
 -- the snapshot, leads to the marks and the queue that the marker has.
 use Rattle.std.specs.Prelude.{ℕ, ◌≡◌, ◌↔◌, ◌+◌, List, [], ◌∷◌, length, map, filter, Contains, IsSome, false, All}
-use Rattle.nmgc_world_spec.specs.declared.value.Name.{Name}
-use Rattle.nmgc_world_spec.specs.World.{World, node_of}
-use Rattle.nmgc_segment.specs.Segment.{IsMarked, InSnapshot}
-use Rattle.nmgc_alloc.specs.Numbered.{nth, Segments}
-use Rattle.nmgc_alloc.specs.AllocState.{AllocState, LiesIn}
+use Rattle.nmgc_world_spec.specs.{declared.value.Name.Name, World.World, World.node_of}
+use Rattle.nmgc_segment.specs.{Segment.IsMarked, Segment.InSnapshot, Marks.epoch_of}
+use Rattle.nmgc_alloc.specs.{Numbered.nth, Numbered.Segments, AllocState.AllocState, AllocState.LiesIn}
 use Rattle.nmgc_heap_spec.specs.Places.{Place}
-use Rattle.nmgc_snapshot_laws.specs.declared.event.Entry.{Entry}
-use Rattle.nmgc_snapshot_laws.specs.declared.event.Event.{Event}
-use Rattle.nmgc_snapshot_laws.specs.State.{State as Core, opening}
-use Rattle.nmgc_snapshot_laws.specs.Machine.{AreEmpty, is_pushed_in}
-use Rattle.nmgc_snapshot_laws.specs.Run.{Runs}
-use Rattle.nmgc_segment.specs.Marks.{epoch_of}
+use Rattle.nmgc_snapshot_laws.specs.{declared.event.Entry.Entry, declared.event.Event.Event, State.State as Core, State.opening, Machine.AreEmpty, Machine.is_pushed_in, Run.Runs}
 use Rattle.nmgc_blocks_spec.specs.Cycle.{Cycle}
 use Rattle.nmgc_mark.specs.Seen.{MarkerSeen}
 

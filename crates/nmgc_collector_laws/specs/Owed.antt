@@ -2,23 +2,10 @@
 use Rattle.std.specs.Prelude.{ℕ, ◌≡◌, ◌<◌, true, List, [], map, slice_get, Contains, Some}
 use Rattle.nmgc_object.specs.Places.{nursery_place}
 use Rattle.nmgc_snapshot_laws.specs.State.{State as Core, names_of}
-use Rattle.nmgc_round.specs.declared.table.Round.{Round}
-use Rattle.nmgc_round.specs.Events.{rows_in}
-use Rattle.nmgc_round.specs.View.{Opening, Part, Scan, Seen, whole}
-use Rattle.nmgc_round.specs.Marking.{marks_of}
-use Rattle.nmgc_round.specs.Rule.{now}
-use Rattle.nmgc_round.specs.Seat.{RoundSeat, seen}
-use Rattle.nmgc_round.specs.Seating.{collecting, all_together}
-use Rattle.nmgc_round.specs.Starting.{CanOpen}
-use Rattle.nmgc_round.specs.Finishing.{HasAll, IsFinished, places_then}
-use Rattle.nmgc_mutator.specs.declared.mutator.Mutator.{Mutator}
-use Rattle.nmgc_mutator.specs.Does.{remembered as remembered_of}
-use Rattle.nmgc_mutator.specs.Records.{all_pushed}
-use Rattle.nmgc_collector_laws.specs.Turn.{SlicesAreDone}
-use Rattle.nmgc_collector_laws.specs.Worked.{Done, HaveWorked}
-use Rattle.nmgc_collector_laws.specs.Marker.{AreRemembered, IsCoreOf}
+use Rattle.nmgc_round.specs.{declared.table.Round.Round, Events.rows_in, View.Opening, View.Part, View.Scan, View.Seen, View.whole, Marking.marks_of, Rule.now, Seat.RoundSeat, Seat.seen, Seating.collecting, Seating.all_together, Starting.CanOpen, Finishing.HasAll, Finishing.IsFinished, Finishing.places_then}
+use Rattle.nmgc_mutator.specs.{declared.mutator.Mutator.Mutator, Does.remembered as remembered_of, Records.all_pushed}
+use Rattle.nmgc_collector_laws.specs.{Turn.SlicesAreDone, Worked.Done, Worked.HaveWorked, Marker.AreRemembered, Marker.IsCoreOf, RestMarking.IsMachineAtRest, RestMarking.with_rows}
 use Rattle.nmgc_blocks_spec.specs.Cycle.{Cycle}
-use Rattle.nmgc_collector_laws.specs.RestMarking.{IsMachineAtRest, with_rows}
 
 -- each mutator remembers the places in segments of what its part owes, in order
 abbrev pub HaveOwed : Opening → List Part → List Mutator → Type 0

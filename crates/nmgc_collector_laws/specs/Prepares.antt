@@ -2,19 +2,13 @@
 use Rattle.std.specs.Prelude.{ℕ, ◌≡◌, ◌+◌, List, map}
 use Rattle.nmgc_world_spec.specs.World.{IsWorld}
 use Rattle.nmgc_segment.specs.declared.state.State.TheVariants as stands
-use Rattle.nmgc_object.specs.FinQueue.{FinQueue}
-use Rattle.nmgc_object.specs.declared.layout.Layout.{Layout}
-use Rattle.nmgc_alloc.specs.Numbered.{Segments}
-use Rattle.nmgc_alloc.specs.Segments.{IsSegments}
-use Rattle.nmgc_alloc.specs.AllocState.{IsIn, NoneIs}
-use Rattle.nmgc_alloc.specs.CycleSteps.{prepared}
+use Rattle.nmgc_object.specs.{FinQueue.FinQueue, declared.layout.Layout.Layout}
+use Rattle.nmgc_alloc.specs.{Numbered.Segments, Segments.IsSegments, AllocState.IsIn, AllocState.NoneIs, CycleSteps.prepared, Settled.AreSettled}
 use Rattle.nmgc_heap_spec.specs.Places.{Place}
 use Rattle.nmgc_journal.specs.declared.report.MutatorEnd.{MutatorEnd}
 use Rattle.nmgc_round.specs.View.{Opening}
-use Rattle.nmgc_run_spec.specs.Heap.{HoldsAtStop, registers_of, queues_of}
-use Rattle.nmgc_alloc.specs.Settled.{AreSettled}
+use Rattle.nmgc_run_spec.specs.{Heap.HoldsAtStop, Heap.registers_of, Heap.queues_of, State.State, State.cycle_started}
 use Rattle.nmgc_segment.specs.Marks.{epoch_of}
-use Rattle.nmgc_run_spec.specs.State.{State, cycle_started}
 use Rattle.nmgc_mark.specs.Beginning.{IsPrepared}
 
 -- the segments as a cycle begins

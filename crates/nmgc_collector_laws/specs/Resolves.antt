@@ -2,38 +2,20 @@
 -- join their makers' queues. In the words of a run the cycle is closed then, and words, roots and list stand for the
 -- closed world.
 use Rattle.std.specs.Prelude.{ℕ, ◌≡◌, List, [], map, All}
-use Rattle.nmgc_world_spec.specs.declared.value.Name.{Name}
-use Rattle.nmgc_world_spec.specs.Reach.{closed}
-use Rattle.nmgc_object.specs.FinQueue.{FinQueue}
-use Rattle.nmgc_object.specs.declared.layout.Layout.{Layout}
-use Rattle.nmgc_alloc.specs.Stands.{StandsFor}
-use Rattle.nmgc_alloc.specs.Numbered.{Segments}
-use Rattle.nmgc_alloc.specs.Segments.{IsSegments}
+use Rattle.nmgc_world_spec.specs.{declared.value.Name.Name, Reach.closed}
+use Rattle.nmgc_object.specs.{FinQueue.FinQueue, declared.layout.Layout.Layout}
+use Rattle.nmgc_alloc.specs.{Stands.StandsFor, Numbered.Segments, Segments.IsSegments, Settled.AreSettled}
 use Rattle.nmgc_journal.specs.declared.report.MutatorEnd.{MutatorEnd}
-use Rattle.nmgc_round.specs.View.{Opening}
-use Rattle.nmgc_round.specs.Rule.{now}
+use Rattle.nmgc_round.specs.{View.Opening, Rule.now}
 use Rattle.nmgc_mutator.specs.declared.mutator.Mutator.{Mutator}
-use Rattle.nmgc_collector_laws.specs.Collector.{IsMarking}
+use Rattle.nmgc_collector_laws.specs.{Collector.IsMarking, Seen.CollectorSeen, Seen.ends_of, CycleCloses.HasClosed, RestMarking.IsAtRestMarking, RestMarking.opening_beside, Sweeps.all_carried}
 use Rattle.nmgc_run_laws.specs.Course.{IsLastBegun, WaitsWhole}
-use Rattle.nmgc_run_spec.specs.Heap.{HoldsAtStop, HasAllRegisters, registers_of, queues_of, serials_of}
-use Rattle.nmgc_alloc.specs.Settled.{AreSettled}
-use Rattle.nmgc_sweep.specs.Sweeping.{HasNoted, IsSweeping}
+use Rattle.nmgc_run_spec.specs.{Heap.HoldsAtStop, Heap.HasAllRegisters, Heap.registers_of, Heap.queues_of, Heap.serials_of, State.State, State.sweeping}
+use Rattle.nmgc_sweep.specs.{Sweeping.HasNoted, Sweeping.IsSweeping, Seen.CycleSeen, Seen.SweeperSeen}
 use Rattle.nmgc_segment.specs.Marks.{epoch_of}
-use Rattle.nmgc_sweep.specs.Seen.{CycleSeen, SweeperSeen}
-use Rattle.nmgc_collector_laws.specs.Seen.{CollectorSeen, ends_of}
-use Rattle.nmgc_mark.specs.Seen.{MarkerSeen}
+use Rattle.nmgc_mark.specs.{Seen.MarkerSeen, Marker.HasMarked, Stopped.HasFinished}
 use Rattle.nmgc_blocks_spec.specs.Cycle.{Cycle}
-use Rattle.nmgc_run_spec.specs.State.{State, sweeping}
-use Rattle.nmgc_mark.specs.Marker.{HasMarked}
-use Rattle.nmgc_mark.specs.Stopped.{HasFinished}
-use Rattle.nmgc_weak.specs.declared.weaks.Death.{Death}
-use Rattle.nmgc_weak.specs.declared.weaks.OldWeak.{OldWeak}
-use Rattle.nmgc_collector_laws.specs.CycleCloses.{HasClosed}
-use Rattle.nmgc_weak.specs.Queues.{AllJoin}
-use Rattle.nmgc_weak.specs.Resolve.{CanResolve, HasResolved}
-use Rattle.nmgc_weak.specs.Weaks.{places_of}
-use Rattle.nmgc_collector_laws.specs.RestMarking.{IsAtRestMarking, opening_beside}
-use Rattle.nmgc_collector_laws.specs.Sweeps.{all_carried}
+use Rattle.nmgc_weak.specs.{declared.weaks.Death.Death, declared.weaks.OldWeak.OldWeak, Queues.AllJoin, Resolve.CanResolve, Resolve.HasResolved, Weaks.places_of}
 
 -- the opening, with the machine as it is once the marker has finished
 abbrev pub finished_on : (o : Opening) (s : Segments) (marker : MarkerSeen) → HasFinished o s marker → Opening

@@ -3,17 +3,11 @@ use Rattle.std.specs.Prelude.{ℕ, ◌≡◌, ◌<◌, false, List, [], length, 
 use Rattle.nmgc_world_spec.specs.World.{World, IsWorld}
 use Rattle.nmgc_object.specs.declared.layout.Layout.{Layout}
 use Rattle.nmgc_snapshot_laws.specs.State.{unmarked}
-use Rattle.nmgc_alloc.specs.Numbered.{Segments}
-use Rattle.nmgc_alloc.specs.Segments.{IsSegments}
-use Rattle.nmgc_heap_spec.specs.Places.{Place}
-use Rattle.nmgc_heap_spec.specs.Represents.{Represents, NoNode}
-use Rattle.nmgc_heap_spec.specs.Roots.{RepresentsRoots}
-use Rattle.nmgc_blocks_spec.specs.Occupied.{AreBlocks}
-use Rattle.nmgc_blocks_spec.specs.Stopped.{young_base}
-use Rattle.nmgc_round.specs.View.{Hand, Opening}
-use Rattle.nmgc_round.specs.Own.{old_stacks}
-use Rattle.nmgc_mutator.specs.declared.mutator.Mutator.{Mutator}
-use Rattle.nmgc_mutator.specs.Ready.{IsWhole, IsUnused}
+use Rattle.nmgc_alloc.specs.{Numbered.Segments, Segments.IsSegments}
+use Rattle.nmgc_heap_spec.specs.{Places.Place, Represents.Represents, Represents.NoNode, Roots.RepresentsRoots}
+use Rattle.nmgc_blocks_spec.specs.{Occupied.AreBlocks, Stopped.young_base}
+use Rattle.nmgc_round.specs.{View.Hand, View.Opening, Own.old_stacks}
+use Rattle.nmgc_mutator.specs.{declared.mutator.Mutator.Mutator, Ready.IsWhole, Ready.IsUnused}
 use Rattle.nmgc_collector_laws.specs.Worked.{registers_of, queues_of, serials_of}
 
 -- what a mutator has outside the heap, as a round of this world with objects at these places sees it

@@ -1,28 +1,15 @@
 -- What stands for a world between two rounds of a marking cycle, and the opening of the next round.
 use Rattle.std.specs.Prelude.{ℕ, ◌≡◌, ◌<◌, true, List, [], ◌∷◌, ◌++◌, length, map, slice_get, Contains, Some, All}
-use Rattle.nmgc_world_spec.specs.World.{World, IsWorld}
-use Rattle.nmgc_world_spec.specs.History.{Row}
+use Rattle.nmgc_world_spec.specs.{World.World, World.IsWorld, History.Row}
 use Rattle.nmgc_world_laws.specs.Reachable.{IsSound}
 use Rattle.nmgc_object.specs.declared.layout.Layout.{Layout}
-use Rattle.nmgc_snapshot_laws.specs.declared.event.Entry.{Entry}
-use Rattle.nmgc_snapshot_laws.specs.Machine.{AreEmpty}
-use Rattle.nmgc_snapshot_laws.specs.State.{State as Core}
-use Rattle.nmgc_alloc.specs.Numbered.{Segments}
-use Rattle.nmgc_alloc.specs.Segments.{IsSegments}
-use Rattle.nmgc_heap_spec.specs.Places.{Place}
-use Rattle.nmgc_heap_spec.specs.Changes.{AreEarlier}
-use Rattle.nmgc_heap_spec.specs.Represents.{Represents, NoNode}
-use Rattle.nmgc_heap_spec.specs.Roots.{RepresentsRoots}
-use Rattle.nmgc_blocks_spec.specs.Occupied.{AreBlocks}
-use Rattle.nmgc_blocks_spec.specs.Stopped.{young_base}
-use Rattle.nmgc_round.specs.View.{Opening}
-use Rattle.nmgc_round.specs.Objects.{earlier}
-use Rattle.nmgc_round.specs.Starting.{CanOpen}
+use Rattle.nmgc_snapshot_laws.specs.{declared.event.Entry.Entry, Machine.AreEmpty, State.State as Core}
+use Rattle.nmgc_alloc.specs.{Numbered.Segments, Segments.IsSegments}
+use Rattle.nmgc_heap_spec.specs.{Places.Place, Changes.AreEarlier, Represents.Represents, Represents.NoNode, Roots.RepresentsRoots}
+use Rattle.nmgc_blocks_spec.specs.{Occupied.AreBlocks, Stopped.young_base, Cycle.interval_of, Cycle.Cycle}
+use Rattle.nmgc_round.specs.{View.Opening, Objects.earlier, Starting.CanOpen}
 use Rattle.nmgc_mutator.specs.declared.mutator.Mutator.{Mutator}
-use Rattle.nmgc_collector_laws.specs.Rest.{hand_of, IsResting}
-use Rattle.nmgc_collector_laws.specs.Worked.{registers_of, queues_of, serials_of}
-use Rattle.nmgc_blocks_spec.specs.Cycle.{interval_of, Cycle}
-use Rattle.nmgc_collector_laws.specs.Marker.{AreAt, IsCoreOf, IsUnread}
+use Rattle.nmgc_collector_laws.specs.{Rest.hand_of, Rest.IsResting, Worked.registers_of, Worked.queues_of, Worked.serials_of, Marker.AreAt, Marker.IsCoreOf, Marker.IsUnread}
 
 -- the cycle, with more rows since its snapshot
 abbrev pub with_rows : Cycle → List Row → Cycle

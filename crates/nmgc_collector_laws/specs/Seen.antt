@@ -1,16 +1,10 @@
 -- What contracts see of a collector: all that its report would hold now, and what it has besides between
 -- two calls.
 use Rattle.std.specs.Prelude.{ℕ, List, map, flat_map, Bool, Option}
-use Rattle.nmgc_object.specs.declared.layout.Nursery.{Nursery}
-use Rattle.nmgc_object.specs.FinQueue.{FinQueue}
+use Rattle.nmgc_object.specs.{declared.layout.Nursery.Nursery, FinQueue.FinQueue}
 use Rattle.nmgc_alloc.specs.Numbered.{Segments}
 use Rattle.nmgc_heap_spec.specs.Places.{Place}
-use Rattle.nmgc_journal.specs.declared.report.RoundRows.{RoundRows}
-use Rattle.nmgc_journal.specs.declared.report.Phase.{Phase}
-use Rattle.nmgc_journal.specs.declared.report.StopRow.{StopRow}
-use Rattle.nmgc_journal.specs.declared.report.CycleRow.{CycleRow}
-use Rattle.nmgc_journal.specs.declared.report.MutatorEnd.{MutatorEnd}
-use Rattle.nmgc_journal.specs.declared.report.End.{End}
+use Rattle.nmgc_journal.specs.{declared.report.RoundRows.RoundRows, declared.report.Phase.Phase, declared.report.StopRow.StopRow, declared.report.CycleRow.CycleRow, declared.report.MutatorEnd.MutatorEnd, declared.report.End.End}
 use Rattle.nmgc_mark.specs.Seen.{MarkerSeen, WorkSeen}
 use Rattle.nmgc_sweep.specs.Seen.{SweeperSeen, CycleSeen}
 

@@ -1,16 +1,9 @@
 -- What a promotion leaves of a marking cycle: blocks of the snapshot, their marks and their places stay, and what it moved is in no snapshot.
 use Rattle.std.specs.Prelude.{ℕ, ◌≡◌, List, [], ◌∷◌, map}
-use Rattle.nmgc_alloc.specs.Numbered.{Segments}
-use Rattle.nmgc_alloc.specs.Segments.{IsSegments}
-use Rattle.nmgc_alloc.specs.AllocState.{AllocState}
-use Rattle.nmgc_alloc.specs.Stands.{StandsFor}
-use Rattle.nmgc_heap_spec.specs.Places.{Place}
-use Rattle.nmgc_heap_spec.specs.Moves.{Moved, settled}
-use Rattle.nmgc_blocks_spec.specs.Occupied.{KeepsMarks}
-use Rattle.nmgc_blocks_spec.specs.Promoted.{PlacesEach}
-use Rattle.nmgc_blocks_spec.specs.Stopped.{Stopped, IsRoundOf, IsSettled, young_base}
+use Rattle.nmgc_alloc.specs.{Numbered.Segments, Segments.IsSegments, AllocState.AllocState, Stands.StandsFor}
+use Rattle.nmgc_heap_spec.specs.{Places.Place, Moves.Moved, Moves.settled}
+use Rattle.nmgc_blocks_spec.specs.{Occupied.KeepsMarks, Promoted.PlacesEach, Stopped.Stopped, Stopped.IsRoundOf, Stopped.IsSettled, Stopped.young_base, Cycle.Cycle}
 use Rattle.nmgc_run_laws.specs.Sound.{LieKnown}
-use Rattle.nmgc_blocks_spec.specs.Cycle.{Cycle}
 
 -- a promotion at a stop of a marking cycle placed what it moved, in blocks that were not in use, and left mark bytes
 -- and snapshot index of each segment; of earlier worlds the collector speaks of the snapshot alone afterwards

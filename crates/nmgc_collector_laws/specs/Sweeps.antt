@@ -1,19 +1,10 @@
 -- Marks as a cycle begins to sweep, and what a promotion leaves of one that sweeps.
 use Rattle.std.specs.Prelude.{ℕ, ◌↔◌, List, map}
-use Rattle.nmgc_world_spec.specs.declared.value.Name.{Name}
-use Rattle.nmgc_world_spec.specs.World.{World}
+use Rattle.nmgc_world_spec.specs.{declared.value.Name.Name, World.World}
 use Rattle.nmgc_object.specs.declared.layout.Layout.{Layout}
-use Rattle.nmgc_alloc.specs.Numbered.{Segments}
-use Rattle.nmgc_alloc.specs.Segments.{IsWaiting}
-use Rattle.nmgc_alloc.specs.AllocState.{AllocState}
-use Rattle.nmgc_alloc.specs.Stands.{StandsFor}
-use Rattle.nmgc_alloc.specs.CycleSteps.{carried_over}
-use Rattle.nmgc_blocks_spec.specs.Occupied.{KeepsMarks}
-use Rattle.nmgc_blocks_spec.specs.Promoted.{PlacesEach}
-use Rattle.nmgc_alloc.specs.Settled.{AreSettled}
-use Rattle.nmgc_sweep.specs.Sweeping.{IsSweeping}
-use Rattle.nmgc_sweep.specs.Seen.{CycleSeen, SweeperSeen}
-use Rattle.nmgc_blocks_spec.specs.Cycle.{Cycle}
+use Rattle.nmgc_alloc.specs.{Numbered.Segments, Segments.IsWaiting, AllocState.AllocState, Stands.StandsFor, CycleSteps.carried_over, Settled.AreSettled}
+use Rattle.nmgc_blocks_spec.specs.{Occupied.KeepsMarks, Promoted.PlacesEach, Cycle.Cycle}
+use Rattle.nmgc_sweep.specs.{Sweeping.IsSweeping, Seen.CycleSeen, Seen.SweeperSeen}
 
 -- the segments as a cycle is closed: marks are carried over in those that don't wait
 abbrev pub all_carried : ℕ → Segments → Segments

@@ -4,19 +4,14 @@ use Rattle.nmgc_world_spec.specs.World.{World}
 use Rattle.nmgc_world_laws.specs.Reachable.{IsSound}
 use Rattle.nmgc_object.specs.declared.layout.Layout.{Layout}
 use Rattle.nmgc_snapshot_laws.specs.State.{State as Core}
-use Rattle.nmgc_alloc.specs.Numbered.{Segments}
-use Rattle.nmgc_alloc.specs.Segments.{IsSegments}
+use Rattle.nmgc_alloc.specs.{Numbered.Segments, Segments.IsSegments}
 use Rattle.nmgc_heap_spec.specs.Places.{Place}
 use Rattle.nmgc_journal.specs.declared.report.MutatorEnd.{MutatorEnd}
-use Rattle.nmgc_round.specs.Seating.{collecting}
-use Rattle.nmgc_round.specs.View.{Opening, whole}
+use Rattle.nmgc_round.specs.{Seating.collecting, View.Opening, View.whole}
 use Rattle.nmgc_blocks_spec.specs.Cycle.{interval_of, Cycle}
-use Rattle.nmgc_run_spec.specs.Heap.{HoldsAtStop}
+use Rattle.nmgc_run_spec.specs.{Heap.HoldsAtStop, State.State}
 use Rattle.nmgc_collector_laws.specs.Marker.{IsCoreOf, IsTied}
-use Rattle.nmgc_mark.specs.Seen.{MarkerSeen}
-use Rattle.nmgc_run_spec.specs.State.{State}
-use Rattle.nmgc_mark.specs.Tie.{IsTied as IsTiedByPlaces}
-use Rattle.nmgc_mark.specs.Work.{marks_seen}
+use Rattle.nmgc_mark.specs.{Seen.MarkerSeen, Tie.IsTied as IsTiedByPlaces, Work.marks_seen}
 
 -- a machine of the cycle has its snapshot
 abbrev pub CoreHasSnapshot : Type 0

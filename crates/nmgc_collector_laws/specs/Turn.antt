@@ -1,30 +1,12 @@
 -- From a stop to the promotion of the next one: statements of laws.
 use Rattle.std.specs.Prelude.{ℕ, ◌≡◌, ◌≤◌, ◌⊎◌, List, [], ◌∷◌, length, map, slice_get, slice_index_or, Some, All}
-use Rattle.nmgc_world_spec.specs.World.{World, IsWorld}
-use Rattle.nmgc_world_spec.specs.History.{Row, IsLegal, rows_of, replayed}
+use Rattle.nmgc_world_spec.specs.{World.World, World.IsWorld, History.Row, History.IsLegal, History.rows_of, History.replayed}
 use Rattle.nmgc_object.specs.Places.{nursery_place, reserve_count}
-use Rattle.nmgc_alloc.specs.Numbered.{Segments}
-use Rattle.nmgc_alloc.specs.Segments.{IsSegments}
-use Rattle.nmgc_alloc.specs.Reserve.{free_count}
-use Rattle.nmgc_heap_spec.specs.Places.{Place}
-use Rattle.nmgc_heap_spec.specs.Changes.{AreEarlier}
-use Rattle.nmgc_heap_spec.specs.Roots.{RepresentsRoots}
-use Rattle.nmgc_heap_spec.specs.Moves.{Moved, settled}
-use Rattle.nmgc_blocks_spec.specs.Nurseries.{AreUsed, LieInOrder, AreEmpty}
-use Rattle.nmgc_blocks_spec.specs.Occupied.{AreBlocks}
-use Rattle.nmgc_blocks_spec.specs.Remembers.{Remembers}
-use Rattle.nmgc_blocks_spec.specs.Stopped.{Stopped, IsStopped, IsSettled, young_base}
-use Rattle.nmgc_round.specs.declared.table.Round.{Round}
-use Rattle.nmgc_round.specs.Events.{rows_in}
-use Rattle.nmgc_round.specs.View.{Opening, Seen, whole}
-use Rattle.nmgc_round.specs.Rule.{now}
-use Rattle.nmgc_round.specs.Objects.{earlier}
-use Rattle.nmgc_round.specs.Seat.{RoundSeat, IsAt, seen}
-use Rattle.nmgc_round.specs.Seating.{alone, collecting, all_together}
-use Rattle.nmgc_round.specs.Starting.{CanOpen}
-use Rattle.nmgc_round.specs.Finishing.{IsFinished, HasAll, Leaves, places_then}
-use Rattle.nmgc_mutator.specs.declared.mutator.Mutator.{Mutator}
-use Rattle.nmgc_mutator.specs.Does.{HasDone}
+use Rattle.nmgc_alloc.specs.{Numbered.Segments, Segments.IsSegments, Reserve.free_count}
+use Rattle.nmgc_heap_spec.specs.{Places.Place, Changes.AreEarlier, Roots.RepresentsRoots, Moves.Moved, Moves.settled}
+use Rattle.nmgc_blocks_spec.specs.{Nurseries.AreUsed, Nurseries.LieInOrder, Nurseries.AreEmpty, Occupied.AreBlocks, Remembers.Remembers, Stopped.Stopped, Stopped.IsStopped, Stopped.IsSettled, Stopped.young_base}
+use Rattle.nmgc_round.specs.{declared.table.Round.Round, Events.rows_in, View.Opening, View.Seen, View.whole, Rule.now, Objects.earlier, Seat.RoundSeat, Seat.IsAt, Seat.seen, Seating.alone, Seating.collecting, Seating.all_together, Starting.CanOpen, Finishing.IsFinished, Finishing.HasAll, Finishing.Leaves, Finishing.places_then}
+use Rattle.nmgc_mutator.specs.{declared.mutator.Mutator.Mutator, Does.HasDone}
 use Rattle.nmgc_collector_laws.specs.Worked.{Done, HaveWorked, registers_of, queues_of, serials_of, nurseries_of, recorded_of, weaks_of, finalised_of, TellsFinalised}
 use Rattle.nmgc_collector_laws.specs.Rest.{IsAtRest, IsResting, opening_at}
 

@@ -6,18 +6,11 @@
 use Rattle.std.specs.Prelude.{ℕ, ◌≡◌, ◌<◌, List, length, map, slice_get, Contains, Some}
 use Rattle.std.specs.List.{flat_map}
 use Rattle.nmgc_limits.specs.declared.mutators.TheConstants.{REGISTERS}
-use Rattle.nmgc_world_spec.specs.declared.command.Command.{Command}
-use Rattle.nmgc_world_spec.specs.declared.command.Reply.{Reply}
-use Rattle.nmgc_world_spec.specs.declared.node.Parts.{Parts}
-use Rattle.nmgc_world_spec.specs.World.{World}
-use Rattle.nmgc_world_spec.specs.Reach.{IsAlive}
+use Rattle.nmgc_world_spec.specs.{declared.command.Command.Command, declared.command.Reply.Reply, declared.node.Parts.Parts, World.World, Reach.IsAlive}
 use Rattle.nmgc_object.specs.declared.layout.Nursery.{Nursery}
 use Rattle.nmgc_heap_spec.specs.Places.{Place}
-use Rattle.nmgc_round.specs.View.{Opening, Part, hand_of, hand_now}
-use Rattle.nmgc_round.specs.Naming.{AllReply}
-use Rattle.nmgc_mutator.specs.declared.mutator.Mutator.{Mutator}
-use Rattle.nmgc_mutator.specs.Ready.{IsNursery, HasHand, words_by}
-use Rattle.nmgc_mutator.specs.Records.{numbers, all_recorded, all_weaks, all_finalised}
+use Rattle.nmgc_round.specs.{View.Opening, View.Part, View.hand_of, View.hand_now, Naming.AllReply}
+use Rattle.nmgc_mutator.specs.{declared.mutator.Mutator.Mutator, Ready.IsNursery, Ready.HasHand, Ready.words_by, Records.numbers, Records.all_recorded, Records.all_weaks, Records.all_finalised}
 
 -- a command, and the reply to it
 abbrev pub Done : Type 0

@@ -7,4 +7,6 @@ pub mod Registers
 pub mod Remembering
 pub mod Replays
 pub mod Rests
+pub mod Roots
 pub mod Workers
+mod Vocabulary

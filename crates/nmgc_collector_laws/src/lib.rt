@@ -17,7 +17,7 @@
 //!   cycle from its beginning to its end.
 //! - `ties`: the two ties of the marker are one, and a closing with weak pointers is a run's.
 //! - `leaving`: what a round leaves for its promotion, and of what the collector may speak once it is forgotten.
-//! - `samples`: whole runs, and a collector's whole life, so that the definitions are not so strong that nothing meets them.
+//! - `samples`: a whole run, so that the definitions are not so strong that nothing meets them.
 //!
 //! Nothing here runs. Each function's contract is a law.
 //!

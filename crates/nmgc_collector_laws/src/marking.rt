@@ -1,20 +1,8 @@
 //! What holds of rounds and stops beside a marking cycle, for every opening, all words and all views.
 //!
 //! Each function's contract is the law. A body does nothing but call the laws that its proof rests on.
-ghost use Rattle.nmgc_collector_laws.specs.RestMarking.{RestOpens};
-ghost use Rattle.nmgc_collector_laws.specs.Owed.{SlicesAreGathered, SlicesAreOwed, MachineGoesOn};
-ghost use Rattle.nmgc_collector_laws.specs.Tie.{CoreHasSnapshot, RoundBeginsTied};
-ghost use Rattle.nmgc_collector_laws.specs.Prepares.{StopIsPrepared, StopBegins};
-ghost use Rattle.nmgc_collector_laws.specs.Calls.{SnapshotIsMarking, RoundIsMarking, AddIsMarking};
-ghost use Rattle.nmgc_collector_laws.specs.Resolves.{FinishMayResolve, ResolveCloses, ClosedHolds, ClosedCycleSweeps};
-ghost use Rattle.nmgc_collector_laws.specs.Joins.{JoiningLists, JoinersAreNew, FewerListed};
-ghost use Rattle.nmgc_collector_laws.specs.Closes.{ClosingIsSoon, ClosingComes, ClosingIsPaced};
-ghost use Rattle.nmgc_collector_laws.specs.Sweeps.{MarkedWait, PlacedWait, SweepingStays, SettledStays};
-ghost use Rattle.nmgc_collector_laws.specs.Drops.{RoundFreesUntracked, StopFreesUntracked, FreeGrows, SweptHoldsAfterRound, SweptHoldsAtStop, DropKeepsRound};
-ghost use Rattle.nmgc_collector_laws.specs.Heaps.{HeapRests, RoundHolds, MarkedHolds, SmallLifeRests};
-ghost use Rattle.nmgc_collector_laws.specs.Keeps.{PromotionKeepsMarking, PaceAfterRound, PaceAtStop, PaceBegins};
+ghost use Rattle.nmgc_collector_laws.specs.{RestMarking.RestOpens, Owed.SlicesAreGathered, Owed.SlicesAreOwed, Owed.MachineGoesOn, Tie.CoreHasSnapshot, Tie.RoundBeginsTied, Prepares.StopIsPrepared, Prepares.StopBegins, Calls.SnapshotIsMarking, Calls.RoundIsMarking, Calls.AddIsMarking, Resolves.FinishMayResolve, Resolves.ResolveCloses, Resolves.ClosedHolds, Resolves.ClosedCycleSweeps, Joins.JoiningLists, Joins.JoinersAreNew, Joins.FewerListed, Closes.ClosingIsSoon, Closes.ClosingComes, Closes.ClosingIsPaced, Sweeps.MarkedWait, Sweeps.PlacedWait, Sweeps.SweepingStays, Sweeps.SettledStays, Drops.RoundFreesUntracked, Drops.StopFreesUntracked, Drops.FreeGrows, Drops.SweptHoldsAfterRound, Drops.SweptHoldsAtStop, Drops.DropKeepsRound, Heaps.HeapRests, Heaps.RoundHolds, Heaps.MarkedHolds, Keeps.PromotionKeepsMarking, Keeps.PaceAfterRound, Keeps.PaceAtStop, Keeps.PaceBegins};
 
-use crate::samples::one_life_seen;
 use crate::ties::{a_cycle_closes as weaks_close, ties_agree};
 use nmgc_mark::laws::{marks_are_of_the_snapshot, round_begins, round_ends};
 use nmgc_object::laws::words_differ;
@@ -144,12 +132,4 @@ pub fn the_heap_goes_on()
 {
     marks_are_of_the_snapshot();
     ties_agree();
-}
-
-/// There is a heap at rest beside a cycle: the small life of `specs/Life.antt` has one, at the stop where its cycle
-/// begins to mark.
-pub fn a_small_life_rests()
-    ensures { SmallLifeRests }
-{
-    one_life_seen();
 }

@@ -1,8 +1,7 @@
 //! The marker and the closing of a cycle, in the words of a run.
 //!
 //! Each function's contract is the law. A body does nothing but call the laws that its proof rests on.
-ghost use Rattle.nmgc_collector_laws.specs.Blocks.{TiesAgree};
-ghost use Rattle.nmgc_collector_laws.specs.CycleCloses.{CycleMayResolve, CycleCloses};
+ghost use Rattle.nmgc_collector_laws.specs.{Blocks.TiesAgree, CycleCloses.CycleMayResolve, CycleCloses.CycleCloses};
 
 /// The tie by places is the tie by blocks that a run keeps, where the places are those of the blocks.
 pub fn ties_agree()

@@ -1,24 +1,5 @@
 -- The machine's own closing: what it found is what a closing does, and leaves a core.
-use Rattle.std.proofs.Common.{◌≡◌, ◌<◌, List, [], ◌∷◌, length, get_or, refl, sym, length-set, ◌∙◌, arith, Option, Some, None, Bool, true, false, cond, inl, inr}
-use Rattle.std.specs.Prelude.{All, Contains, IsSome, ◌==◌, ◌↔◌}
-use Rattle.std.proofs.lemmas.Bool.Decides.{eqb_tells}
-use Rattle.std.proofs.lemmas.List.Elements.{Contains-get_or}
-use Rattle.nmgc_world_spec.specs.declared.value.Name.{Name}
-use Rattle.nmgc_limits.specs.declared.mutators.TheConstants.{SHARED_MAKER}
-use Rattle.nmgc_world_spec.specs.declared.node.Node.{Node}
-use Rattle.nmgc_world_spec.specs.declared.node.Node.TheVariants.{Con, Var, Arr, Thunk, Weak, Stack}
-use Rattle.nmgc_world_spec.specs.World.{World, state_of, node_of, IsWorld}
-use Rattle.nmgc_world_spec.specs.Step.{with_state, with_node, with_nth}
-use Rattle.nmgc_graph.specs.Marks.{HasPlace, HasPlaces, IsMarked, mark_of}
-use Rattle.nmgc_world_spec.specs.Reach.{IsAliveWeak, Lists, queued, closed, closed_by}
-use Rattle.nmgc_graph.specs.laws.Rows.{marked_place}
-use Rattle.nmgc_lists.specs.laws.Items.{is_some_get}
-use Rattle.nmgc_core.specs.declared.closing.Closing.{Closing}
-use Rattle.nmgc_snapshot_laws.specs.State.{State, is_listed}
-use Rattle.nmgc_snapshot_laws.specs.Closing.{IsDying, IsMarkedLast, IsClosing}
-use Rattle.nmgc_core.specs.Sound.{IsCore, IsFound}
-use Rattle.nmgc_snapshot_laws.specs.laws.Listed.{contains_listed, listed_from}
-use Rattle.nmgc_lists.specs.laws.Truths.{same_test}
+use Rattle.nmgc_core.proofs.Vocabulary.{◌≡◌, ◌<◌, List, [], ◌∷◌, length, get_or, refl, sym, length-set, ◌∙◌, arith, Option, Some, None, Bool, true, false, cond, inl, inr, All, Contains, IsSome, ◌==◌, ◌↔◌, eqb_tells, Contains-get_or, Name, SHARED_MAKER, Node, Con, Var, Arr, Thunk, Weak, Stack, World, state_of, node_of, IsWorld, with_state, with_node, with_nth, HasPlace, HasPlaces, IsMarked, mark_of, IsAliveWeak, Lists, queued, closed, closed_by, marked_place, is_some_get, Closing, State, is_listed, IsDying, IsMarkedLast, IsClosing, IsCore, IsFound, contains_listed, listed_from, same_test}
 
 -- closing leaves the number of mutators
 node_mutators : (w : World) (name : Name) (made : Node) → length (with_node w name made).mutators ≡ length w.mutators

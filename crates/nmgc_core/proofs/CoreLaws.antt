@@ -1,32 +1,6 @@
 -- The set of a core, and the queues of its mutators, as they change.
-use Rattle.std.proofs.Common.{◌≡◌, ◌<◌, ◌+◌, ℕ, zero, suc, List, [], ◌∷◌, ◌++◌, length, get_or, set, take, inl, inr, refl, sym, ap, subst, length-set, ◌∙◌, arith, Option, Some, None, Result, Ok, Err, Bool, true, false, not}
-use Rattle.std.specs.Prelude.{All, Contains, slice_get, is_some, ◌&&◌, ◌||◌, IfOk, IfSome, IfNone}
-use Rattle.std.proofs.lemmas.List.{take_more, get_or-set_same, set-get_or, take-append-le, take_all}
-use Rattle.nmgc_world_spec.specs.declared.value.Name.{Name}
-use Rattle.nmgc_world_spec.specs.World.{World, node_of, state_of, IsWorld}
-use Rattle.nmgc_world_spec.specs.Change.{is_same_name}
-use Rattle.nmgc_world_spec.specs.Reach.{Lists, IsAlive}
-use Rattle.nmgc_world_spec.specs.declared.command.Command.{Command}
-use Rattle.nmgc_world_spec.specs.declared.command.Reply.{Reply}
-use Rattle.nmgc_world_spec.specs.Step.{CanApply, step}
-use Rattle.nmgc_world_spec.specs.declared.node.Parts.{Parts}
-use Rattle.nmgc_world_spec.specs.History.{finalised_by}
-use Rattle.nmgc_world_laws.specs.laws.Growth.{step_grows}
-use Rattle.nmgc_world_laws.specs.laws.Worlds.{not_shared}
-use Rattle.std.proofs.lemmas.List.Elements.{Contains-append_left}
-use Rattle.nmgc_world_laws.specs.Holds.{Names}
-use Rattle.nmgc_snapshot_laws.specs.laws.Turns.{step_alive}
-use Rattle.nmgc_snapshot_laws.specs.declared.event.Entry.{Entry}
-use Rattle.nmgc_lists.specs.declared.memory.NoMemory.{NoMemory}
-use Rattle.nmgc_world_spec.specs.declared.value.Value.{Value}
+use Rattle.nmgc_core.proofs.Vocabulary.{◌≡◌, ◌<◌, ◌+◌, ℕ, zero, suc, List, [], ◌∷◌, ◌++◌, length, get_or, set, take, inl, inr, refl, sym, ap, subst, length-set, ◌∙◌, arith, Option, Some, None, Result, Ok, Err, Bool, true, false, not, All, Contains, slice_get, is_some, ◌&&◌, ◌||◌, IfOk, IfSome, IfNone, take_more, get_or-set_same, set-get_or, take-append-le, take_all, Name, World, node_of, state_of, IsWorld, is_same_name, Lists, IsAlive, Command, Reply, CanApply, step, Parts, finalised_by, step_grows, not_shared, Contains-append_left, Names, step_alive, Entry, NoMemory, Value, State, is_listed, is_new, names_of, mark_name, mark_value, mark_values, mark_read, entry_of, mark_cases, HasPlace, HasPlaces, IsMarked, mark_of, with_mark, added, kept_others, places_kept, makers_kept, name_placed, name_cases, IsCore, contains_listed, listed_from, tested_same, is_same_name-refl}
 use Rattle.nmgc_world_spec.specs.declared.value.Value.TheVariants as value
-use Rattle.nmgc_snapshot_laws.specs.State.{State, is_listed, is_new, names_of, mark_name, mark_value, mark_values, mark_read, entry_of}
-use Rattle.nmgc_snapshot_laws.specs.laws.Marking.{mark_cases}
-use Rattle.nmgc_graph.specs.Marks.{HasPlace, HasPlaces, IsMarked, mark_of, with_mark}
-use Rattle.nmgc_graph.specs.laws.Rows.{added, kept_others, places_kept, makers_kept, name_placed}
-use Rattle.nmgc_world_spec.specs.laws.Orders.{name_cases}
-use Rattle.nmgc_core.specs.Sound.{IsCore}
-use Rattle.nmgc_snapshot_laws.specs.laws.Listed.{contains_listed, listed_from, tested_same, is_same_name-refl}
 
 is_listed-push : (name : Name) (xs : List Name) (x : Name) → is_listed name (xs ++ x ∷ []) ≡ (is_listed name xs || is_same_name x name)
 is_listed-push name [] x = by_test (is_same_name x name)
@@ -237,12 +211,6 @@ core_given marks s m c r world lists names k can e is ended f =
           | inl b ↦ subst (λ (v : World). IsAlive v weak parts) (sym w) b
           | inr d ↦ absurd (not (ended weak d))
         ]
-
--- the state after a command that was given
-pub given_state : (s : State) (m : ℕ) (c : Command) (r : Reply) (world : World) (lists : List (List Name)) (names : List Name) →
-    step s.world m c ≡ (world, r) → lists ≡ set s.owed m (names_of s.owed m ++ names) →
-    record s { world = world; owed = lists } ≡ record s { world = (step s.world m c).0; owed = set s.owed m (names_of s.owed m ++ names) }
-given_state s m c r world lists names e f = let w : world ≡ (step s.world m c).0 = ap (λ (p : World × Reply). p.0) (sym e) in rw (w, f) refl
 
 -- one more value
 pub values_more : (s : State) (values : List Value) (v : Value) → mark_values s (values ++ v ∷ []) ≡ mark_value (mark_values s values) v

@@ -1,33 +1,6 @@
 -- What marking names changes in the search of the closing, and what it keeps.
-use Rattle.std.proofs.Common.{◌≡◌, ◌<◌, ◌+◌, ℕ, Bool, Result, Ok, Err, get_or, take, List, [], ◌∷◌, ◌++◌, length, refl, sym, subst, ◌∙◌, arith, length-append, false, true, inl, inr}
-use Rattle.std.specs.Prelude.{Contains, IsSome, OnOk}
-use Rattle.std.proofs.lemmas.List.Elements.{Contains-append_left, Contains-append_right, Contains-append_cases, Contains-push, Contains-push_cases}
-use Rattle.std.proofs.lemmas.List.{take_more}
-use Rattle.nmgc_lists.specs.declared.memory.NoMemory.{NoMemory}
-use Rattle.nmgc_world_spec.specs.declared.value.Name.{Name}
-use Rattle.nmgc_world_spec.specs.declared.value.Value.{Value}
+use Rattle.nmgc_core.proofs.Vocabulary.{◌≡◌, ◌<◌, ◌+◌, ℕ, Bool, Result, Ok, Err, get_or, take, List, [], ◌∷◌, ◌++◌, length, sym, subst, ◌∙◌, arith, length-append, false, true, inl, inr, Contains, IsSome, OnOk, Contains-append_left, Contains-append_right, Contains-append_cases, Contains-push, Contains-push_cases, take_more, NoMemory, Name, Value, World, node_of, IsMarked, HasPlace, HasPlaces, mark_of, with_mark, unmarked_count, added, kept_others, places_kept, makers_kept, one_fewer, name_placed, name_cases, Finding, Adds, contains_one, one_is}
 use Rattle.nmgc_world_spec.specs.declared.value.Value.TheVariants as value
-use Rattle.nmgc_world_spec.specs.World.{World, node_of}
-use Rattle.nmgc_graph.specs.Marks.{IsMarked, HasPlace, HasPlaces, mark_of, with_mark, unmarked_count}
-use Rattle.nmgc_graph.specs.laws.Rows.{added, kept_others, places_kept, makers_kept, one_fewer, name_placed}
-use Rattle.nmgc_world_spec.specs.laws.Orders.{name_cases}
-use Rattle.nmgc_core.specs.declared.closing.Finding.{Finding}
-use Rattle.nmgc_core.specs.Finding.{Adds}
-use Rattle.nmgc_lists.specs.laws.Items.{contains_one, one_is}
-
--- nothing is marked for values that lead to no unmarked name of the snapshot
-pub none_added : (snapshot : World) (s : Finding) (values : List Value) → HasPlaces snapshot s.marks →
-    ((n : Name) → IsSome (node_of snapshot n) → Contains values (value.Ref n) → IsMarked s.marks n) → Adds snapshot s s values
-none_added snapshot s values places shown = record {
-  kept = λ n m. m;
-  waits = λ n c. c;
-  hit = shown;
-  fresh = λ n m. inl m;
-  waiting = λ n c. inl c;
-  count = refl;
-  longer = omega arith;
-  places = places;
-}
 
 pub then_adds : (snapshot : World) (s t u : Finding) (xs ys : List Value) → Adds snapshot s t xs → Adds snapshot t u ys → Adds snapshot s u (xs ++ ys)
 then_adds snapshot s t u xs ys a b = record {

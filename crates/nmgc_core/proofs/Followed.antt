@@ -1,17 +1,6 @@
 -- Following fields in the closing: what each step keeps.
-use Rattle.std.proofs.Common.{◌≡◌, ◌+◌, List, [], ◌∷◌, ◌++◌, length, sym, subst, ◌∙◌, arith, length-append, Some, None, true, inl, inr, ◌⊎◌}
-use Rattle.std.specs.Prelude.{Contains, IsSome}
-use Rattle.std.proofs.lemmas.Bool.{cases_Bool}
-use Rattle.std.proofs.lemmas.List.Elements.{Contains-append_left, Contains-push, Contains-push_cases}
-use Rattle.nmgc_world_spec.specs.declared.value.Name.{Name}
+use Rattle.nmgc_core.proofs.Vocabulary.{◌≡◌, List, [], ◌∷◌, ◌++◌, sym, subst, ◌∙◌, arith, Some, None, true, inl, inr, ◌⊎◌, Contains, IsSome, cases_Bool, Contains-append_left, Contains-push, Contains-push_cases, Name, Node, node_of, IsMarked, mark_of, RefersTo, strong_fields, Finding, State, Adds, IsSearch, IsReached, IsFollowed}
 use Rattle.nmgc_world_spec.specs.declared.value.Value.TheVariants as value
-use Rattle.nmgc_world_spec.specs.declared.node.Node.{Node}
-use Rattle.nmgc_world_spec.specs.World.{node_of}
-use Rattle.nmgc_graph.specs.Marks.{IsMarked, mark_of, unmarked_count}
-use Rattle.nmgc_world_spec.specs.Reach.{RefersTo, strong_fields}
-use Rattle.nmgc_core.specs.declared.closing.Finding.{Finding}
-use Rattle.nmgc_snapshot_laws.specs.State.{State}
-use Rattle.nmgc_core.specs.Finding.{Adds, IsSearch, IsReached, IsFollowed}
 
 pub follow_none : (s : State) (f : Finding) → IsSearch s f → IsFollowed s f f
 follow_none s f h = record { search = h; kept = λ n m. m; sound = λ n m. IsReached.start n m; fewer = omega arith }
@@ -92,6 +81,3 @@ module _ (s : State) (old f : Finding) (rest : List Name) (name : Name) (off : f
       ];
       fewer = omega (arith, a.count, a.longer, h.fewer);
     }
-
-    pub follow_count : unmarked_count t.marks + length t.work + 1 ≡ unmarked_count f.marks + length f.work
-    follow_count = let more : length f.work ≡ length rest + 1 = rw off (length-append rest (name ∷ [])) in omega (arith, a.count)

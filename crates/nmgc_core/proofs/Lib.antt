@@ -7,3 +7,4 @@ mod Rescuing
 mod Reviving
 mod Running
 mod Waiting
+mod Vocabulary

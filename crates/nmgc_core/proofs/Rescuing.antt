@@ -1,26 +1,7 @@
 -- Marking the finalisers of what dies, and what they lead to: exactly what is marked last is marked.
-use Rattle.std.proofs.Common.{◌≡◌, ◌<◌, ◌+◌, ℕ, List, [], ◌∷◌, ◌++◌, length, get_or, take, sym, ap, subst, ◌∙◌, inl, inr, Option, Result, Ok, Err}
-use Rattle.std.specs.Prelude.{Contains, OnOk}
-use Rattle.std.proofs.lemmas.Bool.{cases_Bool}
-use Rattle.std.proofs.lemmas.Grind.{flat_map-append}
-use Rattle.std.proofs.lemmas.List.{take_more, append-nil}
-use Rattle.nmgc_lists.specs.declared.memory.NoMemory.{NoMemory}
-use Rattle.nmgc_world_spec.specs.declared.value.Name.{Name}
-use Rattle.nmgc_world_spec.specs.declared.value.Value.{Value}
+use Rattle.nmgc_core.proofs.Vocabulary.{◌≡◌, ◌<◌, ◌+◌, ℕ, List, [], ◌∷◌, ◌++◌, length, get_or, take, sym, ap, subst, ◌∙◌, inl, inr, Option, Result, Ok, Err, Contains, OnOk, cases_Bool, flat_map-append, take_more, append-nil, NoMemory, Name, Value, Parts, World, IsMarked, mark_of, Lists, parts_of, finaliser_in, finalisers_of, Finding, State, IsRevived, IsRescued, IsDying, IsMarkedLast, Adds, IsSearch, IsReached, IsFollowed, IsFirstFound, IsLastFound, nothing_in, one_is, contains_one, contains_flat, flat_contains, parts_from_alive}
 use Rattle.nmgc_world_spec.specs.declared.value.Value.TheVariants as value
-use Rattle.nmgc_world_spec.specs.declared.node.Parts.{Parts}
-use Rattle.nmgc_world_spec.specs.World.{World}
-use Rattle.nmgc_graph.specs.Marks.{IsMarked, mark_of}
-use Rattle.nmgc_world_spec.specs.Reach.{Lists}
-use Rattle.nmgc_graph.specs.Search.{parts_of, finaliser_in, finalisers_of}
-use Rattle.nmgc_core.specs.declared.closing.Finding.{Finding}
-use Rattle.nmgc_snapshot_laws.specs.State.{State}
-use Rattle.nmgc_snapshot_laws.specs.Closing.{IsRevived, IsRescued, IsDying, IsMarkedLast}
-use Rattle.nmgc_core.specs.Finding.{Adds, IsSearch, IsReached, IsFollowed, IsFirstFound, IsLastFound}
-use Rattle.nmgc_lists.specs.laws.Items.{nothing_in, one_is, contains_one, contains_flat, flat_contains}
-use Rattle.nmgc_core.proofs.Findings.{then_adds}
-use Rattle.nmgc_graph.specs.laws.Common.{parts_from_alive}
-use Rattle.nmgc_core.proofs.Reviving.{adds_search, was_unmarked}
+use Rattle.nmgc_core.proofs.{Findings.then_adds, Reviving.adds_search, Reviving.was_unmarked}
 
 -- the finalisers of one more weak pointer
 finalisers_more : (w : World) (weaks : List Name) (weak : Name) → finalisers_of w (weaks ++ weak ∷ []) ≡ finalisers_of w weaks ++ finaliser_in (parts_of w weak)

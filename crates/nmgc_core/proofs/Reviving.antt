@@ -1,24 +1,6 @@
 -- Passing over the weak pointers in the closing, until exactly what is marked first is marked.
-use Rattle.std.proofs.Common.{◌≡◌, ◌<◌, ◌+◌, ℕ, List, [], ◌∷◌, ◌++◌, length, get_or, take, refl, sym, ap, subst, ◌∙◌, arith, Bool, true, false, eqb, inl, inr, ◌⊎◌, Option, Some}
-use Rattle.std.specs.Prelude.{All, Contains, IsSome}
-use Rattle.std.proofs.lemmas.Bool.{cases_Bool, false≢true, eqb-true, eq-eqb}
-use Rattle.std.proofs.lemmas.List.{take_more}
-use Rattle.std.proofs.lemmas.List.Elements.{Contains-push_cases, Contains-get_or}
-use Rattle.nmgc_world_spec.specs.declared.value.Name.{Name}
-use Rattle.nmgc_world_spec.specs.declared.value.Value.{Value}
+use Rattle.nmgc_core.proofs.Vocabulary.{◌≡◌, ◌<◌, ◌+◌, ℕ, List, [], ◌∷◌, ◌++◌, length, get_or, take, refl, sym, ap, subst, ◌∙◌, arith, Bool, true, false, eqb, inl, inr, ◌⊎◌, Option, Some, All, Contains, IsSome, cases_Bool, false≢true, eqb-true, eq-eqb, take_more, Contains-push_cases, Contains-get_or, Name, Value, Parts, World, node_of, IsMarked, mark_of, IsAlive, IsKeptBy, IsPlain, Lists, IsSetOf, parts_of, is_key_marked, contains_head, contains_tail, contains_cases, nothing_in, Finding, State, IsWaiting, IsUnmarked, IsRevived, IsMarkedFirst, Adds, IsSearch, IsReached, IsFollowed, IsWaitingWeak, values_kept, IsReviving, AreRevived, IsPass, IsFirstFound, parts_from_alive, same_ref}
 use Rattle.nmgc_world_spec.specs.declared.value.Value.TheVariants as value
-use Rattle.nmgc_world_spec.specs.declared.node.Parts.{Parts}
-use Rattle.nmgc_world_spec.specs.World.{World, node_of}
-use Rattle.nmgc_graph.specs.Marks.{IsMarked, mark_of}
-use Rattle.nmgc_world_spec.specs.Reach.{IsAlive, IsKeptBy, IsPlain, Lists}
-use Rattle.nmgc_graph.specs.Search.{IsSetOf, parts_of, is_key_marked}
-use Rattle.nmgc_lists.specs.laws.Items.{contains_head, contains_tail, contains_cases, nothing_in}
-use Rattle.nmgc_core.specs.declared.closing.Finding.{Finding}
-use Rattle.nmgc_snapshot_laws.specs.State.{State}
-use Rattle.nmgc_snapshot_laws.specs.Closing.{IsWaiting, IsUnmarked, IsRevived, IsMarkedFirst}
-use Rattle.nmgc_core.specs.Finding.{Adds, IsSearch, IsReached, IsFollowed, IsWaitingWeak, values_kept, IsReviving, AreRevived, IsPass, IsFirstFound}
-use Rattle.nmgc_graph.specs.laws.Common.{parts_from_alive}
-use Rattle.nmgc_world_spec.specs.laws.Common.{same_ref}
 
 -- marking keeps a search as it has to be
 pub adds_search : (s : State) (f t : Finding) (values : List Value) → Adds s.snapshot f t values → IsSearch s f → IsSearch s t

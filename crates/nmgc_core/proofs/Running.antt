@@ -1,13 +1,5 @@
 -- A run of the machine's code, event by event.
-use Rattle.std.proofs.Common.{◌≡◌, ◌<◌, ◌+◌, ℕ, List, [], ◌∷◌, ◌++◌, length, take, get_or, refl, subst, Bool}
-use Rattle.std.proofs.lemmas.List.{take_more}
-use Rattle.nmgc_world_spec.specs.World.{World, IsWorld}
-use Rattle.nmgc_world_spec.specs.History.{Row}
-use Rattle.nmgc_snapshot_laws.specs.declared.event.Event.{Event}
-use Rattle.nmgc_snapshot_laws.specs.State.{State, opening}
-use Rattle.nmgc_snapshot_laws.specs.Machine.{Passes}
-use Rattle.nmgc_snapshot_laws.specs.Run.{rows_if, Runs, IsSnapshotMarking}
-use Rattle.nmgc_snapshot_laws.specs.laws.Runs.{runs_push, opening_world, snapshot_theorem}
+use Rattle.nmgc_core.proofs.Vocabulary.{◌≡◌, ◌<◌, ◌+◌, ℕ, List, [], ◌∷◌, ◌++◌, length, take, get_or, refl, subst, Bool, take_more, World, IsWorld, Row, Event, State, opening, Passes, rows_if, Runs, IsSnapshotMarking, runs_push, opening_world, snapshot_theorem}
 
 -- a run of the machine's code so far
 pub record IsRunning (w : World) (es : List Event) (s : State) : Type 0 where

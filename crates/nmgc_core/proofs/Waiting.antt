@@ -1,19 +1,6 @@
 -- The weak pointers that wait for their keys: listing them, and those of them that die.
-use Rattle.std.proofs.Common.{◌≡◌, List, refl, sym, ◌∙◌, Bool, true, false, not}
-use Rattle.std.specs.Prelude.{filter}
-use Rattle.std.proofs.lemmas.Bool.{false≢true, not-true, not_from_false, false_from_ne_true}
-use Rattle.nmgc_world_spec.specs.declared.value.Name.{Name}
-use Rattle.nmgc_world_spec.specs.declared.value.Value.{Value}
+use Rattle.nmgc_core.proofs.Vocabulary.{◌≡◌, List, refl, sym, ◌∙◌, Bool, true, false, not, filter, false≢true, not-true, not_from_false, false_from_ne_true, Name, Value, mark_of, IsAliveWeak, Lists, IsSetOf, parts_of, is_key_marked, contains_filter, filter_contains, in_order_filter, Finding, State, IsDying, IsWaitingWeak, IsFirstFound, is_hidden, parts_from_alive}
 use Rattle.nmgc_world_spec.specs.declared.value.Value.TheVariants as value
-use Rattle.nmgc_graph.specs.Marks.{mark_of}
-use Rattle.nmgc_world_spec.specs.Reach.{IsAliveWeak, Lists}
-use Rattle.nmgc_graph.specs.Search.{IsSetOf, parts_of, is_key_marked}
-use Rattle.nmgc_world_spec.specs.laws.Orders.{contains_filter, filter_contains, in_order_filter}
-use Rattle.nmgc_core.specs.declared.closing.Finding.{Finding}
-use Rattle.nmgc_snapshot_laws.specs.State.{State}
-use Rattle.nmgc_snapshot_laws.specs.Closing.{IsDying}
-use Rattle.nmgc_core.specs.Finding.{IsWaitingWeak, IsFirstFound, is_hidden}
-use Rattle.nmgc_graph.specs.laws.Common.{parts_from_alive}
 
 -- the alive weak pointers that aren't in the set of the finalised ones are those that wait
 module _ (s : State) (ended : List (List Bool)) (set : IsSetOf s.snapshot s.finalised ended) where

@@ -1,16 +1,10 @@
 -- The search of the closing: which names are marked, and of which the fields are still to be followed.
 use Rattle.std.specs.Prelude.{◌≡◌, ◌≤◌, ◌+◌, ◌⊎◌, List, [], ◌∷◌, length, Option, Some, None, Bool, true, false, not, Contains, IsSome, if◌then◌else◌}
-use Rattle.nmgc_world_spec.specs.declared.value.Name.{Name}
-use Rattle.nmgc_world_spec.specs.declared.value.Value.{Value}
+use Rattle.nmgc_world_spec.specs.{declared.value.Name.Name, declared.value.Value.Value, declared.node.Parts.Parts, World.World, World.node_of, Reach.RefersTo, Reach.IsAlive, Reach.IsKeptBy}
 use Rattle.nmgc_world_spec.specs.declared.value.Value.TheVariants as value
-use Rattle.nmgc_world_spec.specs.declared.node.Parts.{Parts}
-use Rattle.nmgc_world_spec.specs.World.{World, node_of}
-use Rattle.nmgc_graph.specs.Marks.{IsMarked, HasPlaces, unmarked_count}
-use Rattle.nmgc_world_spec.specs.Reach.{RefersTo, IsAlive, IsKeptBy}
-use Rattle.nmgc_graph.specs.Search.{is_key_marked}
+use Rattle.nmgc_graph.specs.{Marks.IsMarked, Marks.HasPlaces, Marks.unmarked_count, Search.is_key_marked}
 use Rattle.nmgc_core.specs.declared.closing.Finding.{Finding}
-use Rattle.nmgc_snapshot_laws.specs.State.{State}
-use Rattle.nmgc_snapshot_laws.specs.Closing.{IsUnmarked, IsWaiting, IsMarkedFirst, IsMarkedLast}
+use Rattle.nmgc_snapshot_laws.specs.{State.State, Closing.IsUnmarked, Closing.IsWaiting, Closing.IsMarkedFirst, Closing.IsMarkedLast}
 
 -- from one search to the next, by marking the names of the snapshot that these values refer to
 pub record Adds (snapshot : World) (s t : Finding) (values : List Value) : Type 0 where

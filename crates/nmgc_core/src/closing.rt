@@ -9,9 +9,8 @@
 //! finaliser may lead to the key of a weak pointer that dies, which dies all the same, and a weak pointer that
 //! a mutator finalised neither keeps anything nor dies again.
 ghost use Rattle.std.specs.Prelude.{◌≡◌, IfOk, OnOk, ◌∷◌, [], All};
-ghost use Rattle.nmgc_graph.specs.Marks.{HasPlaces};
+ghost use Rattle.nmgc_graph.specs.{Marks.HasPlaces, Search.parts_of, Search.is_key_marked, Search.finaliser_in, Search.finalisers_of};
 ghost use Rattle.nmgc_world_spec.specs.Reach.{Lists, strong_fields};
-ghost use Rattle.nmgc_graph.specs.Search.{parts_of, is_key_marked, finaliser_in, finalisers_of};
 ghost use Rattle.nmgc_snapshot_laws.specs.Closing.{IsDying};
 ghost use Rattle.nmgc_core.specs.Sound.{IsFound};
 ghost use Rattle.nmgc_core.specs.Finding.{Adds, IsSearch, IsFollowed, IsWaitingWeak, IsReviving, IsPass, IsFirstFound, IsLastFound, values_kept, is_hidden};

@@ -29,11 +29,9 @@
 //! Easy to get wrong: the third fact is about the snapshot's fields, so it is the old value that is owed.
 //! A barrier on the new value would leave a target lost whose field was overwritten before the scan.
 ghost use Rattle.std.specs.Prelude.{◌≡◌, ◌∷◌, ◌++◌, [], false, slice_get, slice_set, IfOk, OnOk, OnErr, IsTrue, IsSome, ◌↔◌, Some, Contains, if◌then◌else◌};
-ghost use Rattle.nmgc_world_spec.specs.declared.value.Name.{Name as NameAt};
-ghost use Rattle.nmgc_world_spec.specs.Step.{shared_name};
+ghost use Rattle.nmgc_world_spec.specs.{declared.value.Name.Name as NameAt, Step.shared_name};
 ghost use Rattle.nmgc_graph.specs.Marks.{HasPlaces, mark_of};
-ghost use Rattle.nmgc_snapshot_laws.specs.State.{is_listed};
-ghost use Rattle.nmgc_snapshot_laws.specs.Machine.{is_pushed_in, AreEmpty};
+ghost use Rattle.nmgc_snapshot_laws.specs.{State.is_listed, Machine.is_pushed_in, Machine.AreEmpty};
 
 use crate::answers::is_answer;
 use crate::closing::find;
@@ -108,13 +106,9 @@ impl Model for Core {
 }
 
 impl Core {
-    ghost use Rattle.nmgc_world_spec.specs.World.{IsWorld, node_of};
-    ghost use Rattle.nmgc_world_spec.specs.Reach.{Lists};
-    ghost use Rattle.nmgc_world_spec.specs.Step.{CanApply, step};
-    ghost use Rattle.nmgc_world_spec.specs.History.{finalised_by};
+    ghost use Rattle.nmgc_world_spec.specs.{World.IsWorld, World.node_of, Reach.Lists, Step.CanApply, Step.step, History.finalised_by};
     ghost use Rattle.nmgc_snapshot_laws.specs.State.{names_of, opening, mark_name, mark_value, mark_read, mark_values, is_new, unmarked};
-    ghost use Rattle.nmgc_snapshot_laws.specs.Run.{IsRun};
-    ghost use Rattle.nmgc_snapshot_laws.specs.Machine.{Passes, advanced};
+    ghost use Rattle.nmgc_snapshot_laws.specs.{Run.IsRun, Machine.Passes, Machine.advanced};
     ghost use Rattle.nmgc_snapshot_laws.specs.declared.event.Event.TheVariants as event;
 
     /// Marking begins: the world is the snapshot, and its roots are marked. Takes time and memory for

@@ -4,3 +4,4 @@ pub mod lists
 pub mod rounds
 pub mod starts
 pub mod stops
+mod Vocabulary

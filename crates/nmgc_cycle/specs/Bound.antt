@@ -5,16 +5,14 @@
 -- most one more begins, and then none. What is counted are the rounds that may still follow, and with the stops
 -- that were done they are never more than as the run began.
 use Rattle.std.specs.Prelude.{ℕ, ◌≡◌, ◌+◌, ◌-◌, ◌*◌, ◌<◌, ◌≤◌, List, [], ◌∷◌, length, false, if◌then◌else◌}
-use Rattle.nmgc_world_spec.specs.World.{World}
-use Rattle.nmgc_world_spec.specs.declared.command.Command.{Command}
+use Rattle.nmgc_world_spec.specs.{World.World, declared.command.Command.Command}
 use Rattle.nmgc_journal.specs.declared.report.RoundRows.{RoundRows}
 use Rattle.nmgc_mark.specs.Beginning.{most_blocks}
 use Rattle.nmgc_object.specs.declared.layout.Layout.{Layout}
 use Rattle.nmgc_run_spec.specs.State.{plan_of, layout_of}
 use Rattle.nmgc_run_laws.specs.Statements.{answered_count}
 use Rattle.nmgc_script.specs.declared.script.Script.{Script}
-use Rattle.nmgc_cycle.specs.declared.collector.Collector.{Collector}
-use Rattle.nmgc_cycle.specs.declared.progress.Progress.{Progress}
+use Rattle.nmgc_cycle.specs.{declared.collector.Collector.Collector, declared.progress.Progress.Progress}
 use Rattle.nmgc_cycle.specs.declared.progress.Progress.TheVariants as progress
 
 -- how many commands of programs are left, by how many of each were answered; the first program has this number

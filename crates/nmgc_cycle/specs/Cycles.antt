@@ -1,49 +1,21 @@
 -- The collector beside the mutators, and the steps of a stop that lead a cycle on.
 use Rattle.std.specs.Prelude.{ℕ, ◌≡◌, ◌⊎◌, ◌↔◌, ◌+◌, ◌-◌, ◌/◌, ◌≤◌, ◌<◌, ◌++◌, ◌∷◌, List, [], length, map, slice_get, Some, true, false, IsSome}
 use Rattle.nmgc_alloc.specs.declared.search.Sought.TheVariants as sought
-use Rattle.nmgc_alloc.specs.AllocState.{AllocState}
-use Rattle.nmgc_alloc.specs.Stands.{StandsFor}
-use Rattle.nmgc_alloc.specs.Numbered.{Segments}
-use Rattle.nmgc_alloc.specs.Segments.{HasNone, IsSegments}
-use Rattle.nmgc_alloc.specs.CycleSteps.{carried_over}
-use Rattle.nmgc_collector_laws.specs.Calls.{all_entries}
+use Rattle.nmgc_alloc.specs.{AllocState.AllocState, Stands.StandsFor, Numbered.Segments, Segments.HasNone, Segments.IsSegments, CycleSteps.carried_over}
+use Rattle.nmgc_collector_laws.specs.{Calls.all_entries, Worked.registers_of, Resolves.finished_on}
 pub use Rattle.nmgc_collector_laws.specs.Prepares.{all_prepared}
 use Rattle.nmgc_journal.specs.declared.report.CycleRow.{CycleRow}
-use Rattle.nmgc_mark.specs.Beginning.{IsBeginning, most_blocks}
-use Rattle.nmgc_mark.specs.Marker.{HasMarked, blank, HasRoomToMark}
-use Rattle.nmgc_mark.specs.Stopped.{IsReady, HasFinished}
-use Rattle.nmgc_mark.specs.Tie.{IsTied, with_places}
-use Rattle.nmgc_mark.specs.Work.{IsCollector, HasWorked, marks_seen}
+use Rattle.nmgc_mark.specs.{Beginning.IsBeginning, Beginning.most_blocks, Marker.HasMarked, Marker.blank, Marker.HasRoomToMark, Stopped.IsReady, Stopped.HasFinished, Tie.IsTied, Tie.with_places, Work.IsCollector, Work.HasWorked, Work.marks_seen, Seen.MarkerSeen}
 use Rattle.nmgc_mutator.specs.declared.mutator.Mutator.{Mutator}
-use Rattle.nmgc_round.specs.declared.table.Round.{Round}
-use Rattle.nmgc_round.specs.Gate.{passed}
-use Rattle.nmgc_round.specs.Marking.{Marks, marks_of}
-use Rattle.nmgc_round.specs.Seat.{RoundSeat, seen as seat_seen}
-use Rattle.nmgc_round.specs.View.{Opening}
+use Rattle.nmgc_round.specs.{declared.table.Round.Round, Gate.passed, Marking.Marks, Marking.marks_of, Seat.RoundSeat, Seat.seen as seat_seen, View.Opening}
 use Rattle.nmgc_segment.specs.Marks.{epoch_of}
-use Rattle.nmgc_mark.specs.Seen.{MarkerSeen}
-use Rattle.nmgc_sweep.specs.Names.{HaveEntries}
-use Rattle.nmgc_sweep.specs.Sweeper.{AreLeft, turned}
-use Rattle.nmgc_sweep.specs.Work.{HasBegun, HasSwept}
-use Rattle.nmgc_cycle.specs.declared.collector.Collector.{Collector}
-use Rattle.nmgc_cycle.specs.declared.progress.Marking.{Marking}
-use Rattle.nmgc_cycle.specs.declared.progress.Progress.{Progress}
+use Rattle.nmgc_sweep.specs.{Names.HaveEntries, Sweeper.AreLeft, Sweeper.turned, Work.HasBegun, Work.HasSwept}
+use Rattle.nmgc_cycle.specs.{declared.collector.Collector.Collector, declared.progress.Marking.Marking, declared.progress.Progress.Progress, declared.progress.Sweeping.Sweeping, Roots.queues_in, Lined.IsLined, Lined.HaveForgotten, Listed.FinalisersQueued, Listed.HaveQueueRoom, Shown.died, Shown.seen_mutator, Shown.words_in}
 use Rattle.nmgc_cycle.specs.declared.progress.Progress.TheVariants as progress
-use Rattle.nmgc_cycle.specs.declared.progress.Sweeping.{Sweeping}
 use Rattle.nmgc_snapshot_laws.specs.State.{opening}
-use Rattle.nmgc_collector_laws.specs.Worked.{registers_of}
-use Rattle.nmgc_cycle.specs.Roots.{queues_in}
-use Rattle.nmgc_cycle.specs.Lined.{IsLined, HaveForgotten}
-use Rattle.nmgc_cycle.specs.Listed.{FinalisersQueued, HaveQueueRoom}
-use Rattle.nmgc_cycle.specs.Shown.{died, seen_mutator, words_in}
 use Rattle.nmgc_world_spec.specs.declared.value.Name.{Name}
 use Rattle.nmgc_object.specs.FinQueue.{FinQueue}
-use Rattle.nmgc_collector_laws.specs.Resolves.{finished_on}
-use Rattle.nmgc_weak.specs.declared.weaks.Death.{Death}
-use Rattle.nmgc_weak.specs.declared.weaks.OldWeak.{OldWeak}
-use Rattle.nmgc_weak.specs.Queues.{HaveRoom}
-use Rattle.nmgc_weak.specs.Resolve.{CanResolve, HasResolved}
-use Rattle.nmgc_weak.specs.Weaks.{Weaks, places_of}
+use Rattle.nmgc_weak.specs.{declared.weaks.Death.Death, declared.weaks.OldWeak.OldWeak, Queues.HaveRoom, Resolve.CanResolve, Resolve.HasResolved, Weaks.Weaks, Weaks.places_of}
 
 -- In a round
 

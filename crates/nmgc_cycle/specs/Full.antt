@@ -1,22 +1,12 @@
 -- A full cycle at a stop: what each of its parts does with a collector.
 use Rattle.std.specs.Prelude.{ℕ, ◌≡◌, ◌⊎◌, List, [], map, length, Bool, true, false, ◌&&◌, nat_lt}
-use Rattle.nmgc_alloc.specs.Reserve.{free_count}
-use Rattle.nmgc_alloc.specs.Numbered.{Segments}
-use Rattle.nmgc_alloc.specs.Segments.{IsSegments}
-use Rattle.nmgc_alloc.specs.CycleSteps.{retired}
-use Rattle.nmgc_object.specs.Places.{reserve_count}
-use Rattle.nmgc_object.specs.FinQueue.{FinQueue}
+use Rattle.nmgc_alloc.specs.{Reserve.free_count, Numbered.Segments, Segments.IsSegments, CycleSteps.retired}
+use Rattle.nmgc_object.specs.{Places.reserve_count, FinQueue.FinQueue}
 use Rattle.nmgc_world_spec.specs.declared.value.Name.{Name}
-use Rattle.nmgc_sweep.specs.Names.{HaveEntries}
-use Rattle.nmgc_sweep.specs.Sweeper.{AreLeft}
-use Rattle.nmgc_sweep.specs.Work.{HasSwept}
+use Rattle.nmgc_sweep.specs.{Names.HaveEntries, Sweeper.AreLeft, Work.HasSwept}
 use Rattle.nmgc_weak.specs.declared.weaks.OldWeak.{OldWeak}
-use Rattle.nmgc_cycle.specs.declared.collector.Collector.{Collector}
-use Rattle.nmgc_cycle.specs.declared.progress.Progress.{Progress}
+use Rattle.nmgc_cycle.specs.{declared.collector.Collector.Collector, declared.progress.Progress.Progress, declared.progress.Sweeping.Sweeping, Cycles.HasClosed, Cycles.IsClosed, Cycles.IsReadyToClose, Cycles.HasStarted, Cycles.Ends, Cycles.Begins, Shown.words_in}
 use Rattle.nmgc_cycle.specs.declared.progress.Progress.TheVariants as progress
-use Rattle.nmgc_cycle.specs.declared.progress.Sweeping.{Sweeping}
-use Rattle.nmgc_cycle.specs.Cycles.{HasClosed, IsClosed, IsReadyToClose, HasStarted, Ends, Begins}
-use Rattle.nmgc_cycle.specs.Shown.{words_in}
 
 -- commands are left, and fewer segments are free than the reserve
 abbrev pub is_short_of : Bool → Collector → Bool

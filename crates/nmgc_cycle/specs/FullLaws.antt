@@ -1,21 +1,14 @@
 -- What the parts of a full cycle lead to in the run, and what each asks for.
 use Rattle.std.specs.Prelude.{ℕ, ◌≡◌, ◌++◌, Bool, List}
-use Rattle.nmgc_alloc.specs.AllocState.{AllocState}
-use Rattle.nmgc_alloc.specs.Segments.{IsSegments}
+use Rattle.nmgc_alloc.specs.{AllocState.AllocState, Segments.IsSegments}
 use Rattle.nmgc_journal.specs.declared.report.CycleRow.{CycleRow}
 use Rattle.nmgc_run_spec.specs.Closing as run_closing
-use Rattle.nmgc_run_spec.specs.Slice.{has_left}
-use Rattle.nmgc_run_spec.specs.State.{State, plan_of}
+use Rattle.nmgc_run_spec.specs.{Slice.has_left, State.State, State.plan_of}
 use Rattle.nmgc_run_spec.specs.Stop as run
-use Rattle.nmgc_script.specs.declared.script.Script.{Script}
-use Rattle.nmgc_cycle.specs.declared.collector.Collector.{Collector}
+use Rattle.nmgc_script.specs.{declared.script.Script.Script, Limits.IsInLimits}
+use Rattle.nmgc_cycle.specs.{declared.collector.Collector.Collector, Cycles.HasClosed, Roots.queues_in, Shown.told_cycles, Shown.words_in, Steps.StandsAt}
 use Rattle.nmgc_cycle.specs.declared.progress.Progress.TheVariants as doing
-use Rattle.nmgc_cycle.specs.Cycles.{HasClosed}
 use Rattle.nmgc_cycle.specs.Full.{CanCloseNow, ClosesNow, CanSweepRest, HasSweptRest, HasFinished, with_all_retired, HasDoneFull, Proceeds}
-use Rattle.nmgc_cycle.specs.Roots.{queues_in}
-use Rattle.nmgc_cycle.specs.Shown.{told_cycles, words_in}
-use Rattle.nmgc_script.specs.Limits.{IsInLimits}
-use Rattle.nmgc_cycle.specs.Steps.{StandsAt}
 
 -- the collector stands for a state of a script's run at this stop
 abbrev pub StandsAtStop : ℕ → Collector → Type 0

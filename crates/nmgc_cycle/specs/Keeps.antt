@@ -1,28 +1,19 @@
 -- What a collector keeps from call to call.
 use Rattle.std.specs.Prelude.{ℕ, ◌≡◌, ◌<◌, ◌≤◌, ◌⊎◌, List, [], length, slice_get, slice_index, Some, None, IsSome, vec_capacity}
-use Rattle.nmgc_world_spec.specs.declared.command.Reply.{Reply}
-use Rattle.nmgc_world_spec.specs.History.{Row}
+use Rattle.nmgc_world_spec.specs.{declared.command.Reply.Reply, History.Row}
 use Rattle.nmgc_alloc.specs.Segments.{IsSegments}
 use Rattle.nmgc_minor.specs.Promotion.{IsFor}
-use Rattle.nmgc_mutator.specs.declared.mutator.Mutator.{Mutator}
-use Rattle.nmgc_mutator.specs.Ready.{IsWhole}
+use Rattle.nmgc_mutator.specs.{declared.mutator.Mutator.Mutator, Ready.IsWhole}
 use Rattle.nmgc_script.specs.declared.script.Script.{Script}
-use Rattle.nmgc_journal.specs.declared.report.End.{End}
-use Rattle.nmgc_journal.specs.declared.report.End.TheVariants.{Done, HeapFull}
+use Rattle.nmgc_journal.specs.{declared.report.End.End, declared.report.End.TheVariants.Done, declared.report.End.TheVariants.HeapFull}
 use Rattle.nmgc_run_spec.specs.State.{State, Progress, idle, marking, sweeping, plan_of, layout_of}
 use Rattle.nmgc_blocks_spec.specs.Cycle.{Cycle}
 use Rattle.nmgc_run_laws.specs.Statements.{answered_count}
 use Rattle.nmgc_run_spec.specs.Run.{Run, Turn, last_state, with_turn}
 use Rattle.nmgc_collector_laws.specs.Collector.{IsNew, IsAtStop, IsAfterRound}
-use Rattle.nmgc_cycle.specs.declared.collector.Collector.{Collector}
-use Rattle.nmgc_cycle.specs.declared.stop.StopEnd.{StopEnd}
+use Rattle.nmgc_cycle.specs.{declared.collector.Collector.Collector, declared.stop.StopEnd.StopEnd, Bound.AreFewAtStop, Bound.AreFewBeforeStop, Lined.IsLined, Shown.seen, Shown.sweeper_in}
 use Rattle.nmgc_cycle.specs.declared.stop.StopEnd.TheVariants as answer
-use Rattle.nmgc_sweep.specs.Names.{AreNamed, HaveEntries}
-use Rattle.nmgc_sweep.specs.Sweeper.{HasNotes, AreLeft}
-use Rattle.nmgc_sweep.specs.Work.{IsAtWork}
-use Rattle.nmgc_cycle.specs.Bound.{AreFewAtStop, AreFewBeforeStop}
-use Rattle.nmgc_cycle.specs.Lined.{IsLined}
-use Rattle.nmgc_cycle.specs.Shown.{seen, sweeper_in}
+use Rattle.nmgc_sweep.specs.{Names.AreNamed, Names.HaveEntries, Sweeper.HasNotes, Sweeper.AreLeft, Work.IsAtWork}
 
 -- the sweeper of a cycle that marks: it noted the segments that are to be swept, and all that wait are left
 pub record HasSweeper (k : Cycle) (c : Collector) : Type 0 where

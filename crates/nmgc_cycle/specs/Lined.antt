@@ -1,9 +1,7 @@
 -- The collector's ends of the mutators' rings: what they received is what the mutators sent.
 use Rattle.std.specs.Prelude.{ℕ, ◌≡◌, ◌<◌, ◌≤◌, ◌++◌, List, [], length, slice_get, Some}
 use Rattle.nmgc_limits.specs.declared.mutators.TheConstants.{MAKERS}
-use Rattle.nmgc_mutator.specs.declared.mutator.Mutator.{Mutator}
-use Rattle.nmgc_mutator.specs.Does.{remembered}
-use Rattle.nmgc_mutator.specs.Records.{numbers}
+use Rattle.nmgc_mutator.specs.{declared.mutator.Mutator.Mutator, Does.remembered, Records.numbers}
 use Rattle.nmgc_updrem.specs.Rings.{Sender, Receiver, IsPair, IsLine, IsInOrder, HavePolled, HasLooked, in_ring}
 
 -- receiver k is the other end of this sender's ring: it received what was sent before both were level, and what its list has

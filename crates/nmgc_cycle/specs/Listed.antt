@@ -1,20 +1,13 @@
 -- The list of weak pointers and the finaliser queues at a stop: who leaves the list and who joins it, and what a closing needs of the queues.
 use Rattle.std.specs.Prelude.{ℕ, ◌≡◌, ◌≢◌, ◌⊎◌, ◌↔◌, ◌<◌, ◌≤◌, ◌^◌, ◌==◌, ◌&&◌, not, Bool, List, [], map, filter, length, slice_get, slice_index, slice_index_or, Contains, Some, IsSome}
 use Rattle.nmgc_world_spec.specs.Reach.{IsInOrder}
-use Rattle.nmgc_object.specs.FinQueue.{FinQueue}
-use Rattle.nmgc_object.specs.Words.{header_word}
+use Rattle.nmgc_object.specs.{FinQueue.FinQueue, Words.header_word}
 use Rattle.nmgc_minor.specs.declared.placing.Move.{Move}
 use Rattle.nmgc_mutator.specs.declared.mutator.Mutator.{Mutator}
 use Rattle.nmgc_collector_laws.specs.Joins.{weak_header}
-use Rattle.nmgc_weak.specs.declared.weaks.Death.{Death}
-use Rattle.nmgc_weak.specs.declared.weaks.OldWeak.{OldWeak}
-use Rattle.nmgc_weak.specs.Queues.{AllJoin}
-use Rattle.nmgc_weak.specs.Weaks.{alive_of, names_of, value_place}
+use Rattle.nmgc_weak.specs.{declared.weaks.Death.Death, declared.weaks.OldWeak.OldWeak, Queues.AllJoin, Weaks.alive_of, Weaks.names_of, Weaks.value_place, Rows.IsNamedAt}
 pub use Rattle.nmgc_weak.specs.Weaks.{count_made_by}
-use Rattle.nmgc_weak.specs.Rows.{IsNamedAt}
-use Rattle.nmgc_cycle.specs.declared.collector.Collector.{Collector}
-use Rattle.nmgc_cycle.specs.Roots.{queues_in}
-use Rattle.nmgc_cycle.specs.Shown.{words_in}
+use Rattle.nmgc_cycle.specs.{declared.collector.Collector.Collector, Roots.queues_in, Shown.words_in}
 
 -- whether by its words a weak pointer stands at the place that is alive
 abbrev pub is_alive_at : List ℕ → ℕ → Bool

@@ -3,8 +3,7 @@ use Rattle.std.specs.Prelude.{ℕ, ◌≡◌, List, length, map}
 use Rattle.nmgc_limits.specs.declared.mutators.TheConstants.{REGISTERS}
 use Rattle.nmgc_object.specs.FinQueue.{FinQueue}
 use Rattle.nmgc_heap_spec.specs.Emptied.{emptied}
-use Rattle.nmgc_mutator.specs.AtStop.{cleared}
-use Rattle.nmgc_mutator.specs.declared.mutator.Mutator.{Mutator}
+use Rattle.nmgc_mutator.specs.{AtStop.cleared, declared.mutator.Mutator.Mutator}
 
 -- the queues of all mutators
 abbrev pub queues_in : List Mutator → List FinQueue

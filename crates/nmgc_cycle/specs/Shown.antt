@@ -1,23 +1,16 @@
 -- What contracts see of a collector.
 use Rattle.std.specs.Prelude.{ℕ, List, [], map, Bool, true, false, Option, Some, None}
-use Rattle.nmgc_journal.specs.declared.report.Phase.{Phase}
+use Rattle.nmgc_journal.specs.{declared.report.Phase.Phase, declared.report.CycleRow.CycleRow, declared.report.Report.Report, declared.report.End.End}
 use Rattle.nmgc_journal.specs.declared.report.Phase.TheVariants as phase
-use Rattle.nmgc_journal.specs.declared.report.CycleRow.{CycleRow}
-use Rattle.nmgc_journal.specs.declared.report.Report.{Report}
-use Rattle.nmgc_journal.specs.declared.report.End.{End}
 use Rattle.nmgc_collector_laws.specs.Seen.{CollectorSeen, ends_of}
 use Rattle.nmgc_mark.specs.Seen.{MarkerSeen, WorkSeen}
-use Rattle.nmgc_sweep.specs.Seen.{CycleSeen}
+use Rattle.nmgc_sweep.specs.{Seen.CycleSeen, Sweeper.Sweeper}
 pub use Rattle.nmgc_collector_laws.specs.Heaps.{seen_mutator}
 use Rattle.nmgc_mutator.specs.declared.mutator.Mutator.{Mutator}
 use Rattle.nmgc_names.specs.Order.{in_order}
-use Rattle.nmgc_world_spec.specs.Listing.{AreDistinct}
-use Rattle.nmgc_sweep.specs.Sweeper.{Sweeper}
-use Rattle.nmgc_world_spec.specs.declared.value.Name.{Name}
-use Rattle.nmgc_weak.specs.declared.weaks.Death.{Death}
-use Rattle.nmgc_weak.specs.Weaks.{names_of, places_of}
-use Rattle.nmgc_cycle.specs.declared.collector.Collector.{Collector}
-use Rattle.nmgc_cycle.specs.declared.progress.Progress.{Progress}
+use Rattle.nmgc_world_spec.specs.{Listing.AreDistinct, declared.value.Name.Name}
+use Rattle.nmgc_weak.specs.{declared.weaks.Death.Death, Weaks.names_of, Weaks.places_of}
+use Rattle.nmgc_cycle.specs.{declared.collector.Collector.Collector, declared.progress.Progress.Progress}
 use Rattle.nmgc_cycle.specs.declared.progress.Progress.TheVariants as progress
 
 -- the words, which a collector has between two calls

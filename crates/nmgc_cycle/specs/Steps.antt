@@ -3,29 +3,18 @@
 -- A stop is promotion, adding, closing, end and beginning, or a full cycle in the beginning's place (`Full`, `FullLaws`).
 -- After each of these the collector stands for a state of the run at that stop; only what is known of the pace and of what mutators remember differs.
 use Rattle.std.specs.Prelude.{ℕ, ◌≡◌, ◌+◌, ◌++◌, ◌≤◌, List, [], true, false}
-use Rattle.nmgc_blocks_spec.specs.Cycle.{IsKeptObject, Cycle}
-use Rattle.nmgc_run_spec.specs.Closing.{Closes, ClosesOrWaits, MayClose}
+use Rattle.nmgc_blocks_spec.specs.{Cycle.IsKeptObject, Cycle.Cycle, Nurseries.AreEmpty}
+use Rattle.nmgc_run_spec.specs.{Closing.Closes, Closing.ClosesOrWaits, Closing.MayClose, Heap.HoldsAtStop, State.State, State.marking, State.cycle_started, State.plan_of, State.layout_of, Stop.EndsOrWaits, Stop.BeginsOrWaits}
 use Rattle.nmgc_collector_laws.specs.Collector.{Matches, AreNurseries, EachMutator, IsEmptied, HoldsInCycle, IsPacedAtStop, IsPacedAfterRound}
-use Rattle.nmgc_run_laws.specs.Course.{IsStateInCourse}
-use Rattle.nmgc_run_spec.specs.Heap.{HoldsAtStop}
+use Rattle.nmgc_run_laws.specs.{Course.IsStateInCourse, Sound.IsSoundState}
 use Rattle.nmgc_world_spec.specs.Listing.{Counts}
 use Rattle.nmgc_collector_laws.specs.Seen.{CollectorSeen, MutatorSeen, ends_of, nurseries_of}
-use Rattle.nmgc_run_laws.specs.Sound.{IsSoundState}
-use Rattle.nmgc_run_spec.specs.State.{State, marking, cycle_started, plan_of, layout_of}
-use Rattle.nmgc_run_spec.specs.Stop.{EndsOrWaits, BeginsOrWaits}
-use Rattle.nmgc_blocks_spec.specs.Nurseries.{AreEmpty}
 use Rattle.nmgc_journal.specs.declared.report.CycleRow.{CycleRow}
-use Rattle.nmgc_script.specs.declared.script.Script.{Script}
+use Rattle.nmgc_script.specs.{declared.script.Script.Script, Limits.IsInLimits}
 use Rattle.nmgc_sweep.specs.Names.{AreNamed}
-use Rattle.nmgc_cycle.specs.declared.collector.Collector.{Collector}
-use Rattle.nmgc_cycle.specs.declared.progress.Marking.{Marking}
+use Rattle.nmgc_cycle.specs.{declared.collector.Collector.Collector, declared.progress.Marking.Marking, declared.progress.Sweeping.Sweeping, Keeps.IsWellFormed, Keeps.Sweeps, Roots.queues_in, Shown.seen, Shown.told_cycles, Shown.words_in}
 use Rattle.nmgc_cycle.specs.declared.progress.Progress.TheVariants as doing
-use Rattle.nmgc_cycle.specs.declared.progress.Sweeping.{Sweeping}
 use Rattle.nmgc_cycle.specs.Cycles.{HasTaken, CanClose, Closes as ClosesThen, HasClosed, IsClosed, Ends, CanBegin, HasStarted, Begins}
-use Rattle.nmgc_cycle.specs.Keeps.{IsWellFormed, Sweeps}
-use Rattle.nmgc_cycle.specs.Roots.{queues_in}
-use Rattle.nmgc_cycle.specs.Shown.{seen, told_cycles, words_in}
-use Rattle.nmgc_script.specs.Limits.{IsInLimits}
 
 -- the pace of marking once what was remembered was added: where the last work left something the cycle goes on in pace, and else it may be closed
 pub record IsPacedWithin (quota : ℕ) (c : Cycle) (s : State) (seen : CollectorSeen) : Type 0 where

@@ -1,11 +1,8 @@
 -- The laws on which a stop rests: what its promotion leaves of a heap and of a cycle, and to what each step after it leads.
-use Rattle.nmgc_collector_laws.specs.Joins.{FewerListed}
-use Rattle.nmgc_collector_laws.specs.Keeps.{PromotionKeepsMarking}
-use Rattle.nmgc_collector_laws.specs.Sweeps.{PlacedWait, SweepingStays, SettledStays}
+use Rattle.nmgc_collector_laws.specs.{Joins.FewerListed, Keeps.PromotionKeepsMarking, Sweeps.PlacedWait, Sweeps.SweepingStays, Sweeps.SettledStays}
 use Rattle.nmgc_run_laws.specs.Places.{BlocksArePlaces}
 use Rattle.nmgc_sweep.specs.Statements.{LeftStays, WorkGoesOn}
-use Rattle.nmgc_cycle.specs.FullLaws.{ProceedingLeads}
-use Rattle.nmgc_cycle.specs.Steps.{AddingLeads, ClosingLeads, EndLeads, CloseReady, BeginReady}
+use Rattle.nmgc_cycle.specs.{FullLaws.ProceedingLeads, Steps.AddingLeads, Steps.ClosingLeads, Steps.EndLeads, Steps.CloseReady, Steps.BeginReady}
 
 -- a promotion leaves the places of a heap, and the cycle in progress
 pub record HasPromotionLaws : Type 0 where

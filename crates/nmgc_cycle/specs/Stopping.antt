@@ -1,36 +1,21 @@
 -- The parts of a stop: its promotion, what is left of the programs, and what its answer says of the run.
 use Rattle.std.specs.Prelude.{ℕ, ◌≡◌, ◌⊎◌, ◌<◌, Contains, List, [], map, length, slice_index, slice_index_or, Option, Some, None, IsSome}
-use Rattle.nmgc_world_spec.specs.declared.value.Name.{Name}
-use Rattle.nmgc_world_spec.specs.declared.command.Command.{Command}
-use Rattle.nmgc_alloc.specs.AllocState.{AllocState}
-use Rattle.nmgc_alloc.specs.Stands.{StandsFor}
-use Rattle.nmgc_alloc.specs.Reserve.{free_count}
-use Rattle.nmgc_alloc.specs.Segments.{IsSegments}
-use Rattle.nmgc_world_spec.specs.World.{IsWorld}
-use Rattle.nmgc_heap_spec.specs.Moves.{Moved, settled}
-use Rattle.nmgc_heap_spec.specs.Roots.{ListsWeaks}
-use Rattle.nmgc_weak.specs.declared.weaks.OldWeak.{OldWeak}
-use Rattle.nmgc_weak.specs.Closes.{KeepsOldWeaks}
-use Rattle.nmgc_weak.specs.Weaks.{places_of}
-use Rattle.nmgc_blocks_spec.specs.Occupied.{KeepsMarks}
-use Rattle.nmgc_blocks_spec.specs.Promoted.{PlacesEach}
-use Rattle.nmgc_collector_laws.specs.Joins.{HaveMoved}
-use Rattle.nmgc_blocks_spec.specs.Stopped.{Stopped, IsStopped, IsSettled, young_base}
+use Rattle.nmgc_world_spec.specs.{declared.value.Name.Name, declared.command.Command.Command, World.IsWorld}
+use Rattle.nmgc_alloc.specs.{AllocState.AllocState, Stands.StandsFor, Reserve.free_count, Segments.IsSegments}
+use Rattle.nmgc_heap_spec.specs.{Moves.Moved, Moves.settled, Roots.ListsWeaks}
+use Rattle.nmgc_weak.specs.{declared.weaks.OldWeak.OldWeak, Closes.KeepsOldWeaks, Weaks.places_of}
+use Rattle.nmgc_blocks_spec.specs.{Occupied.KeepsMarks, Promoted.PlacesEach, Stopped.Stopped, Stopped.IsStopped, Stopped.IsSettled, Stopped.young_base}
+use Rattle.nmgc_collector_laws.specs.{Joins.HaveMoved, Worked.registers_of, Worked.queues_of, Worked.nurseries_of, Worked.recorded_of, Worked.finalised_of, Worked.TellsFinalised}
 use Rattle.nmgc_journal.specs.declared.report.End.{End}
 use Rattle.nmgc_journal.specs.declared.report.End.TheVariants as end
-use Rattle.nmgc_minor.specs.Placing.{moved_of}
-use Rattle.nmgc_minor.specs.Promotion.{IsFor}
+use Rattle.nmgc_minor.specs.{Placing.moved_of, Promotion.IsFor}
 use Rattle.nmgc_object.specs.Places.{reserve_count}
 use Rattle.nmgc_script.specs.declared.script.Script.{Script}
 use Rattle.nmgc_sweep.specs.Names.{HaveNoted}
-use Rattle.nmgc_collector_laws.specs.Worked.{registers_of, queues_of, nurseries_of, recorded_of, finalised_of, TellsFinalised}
 pub use Rattle.nmgc_collector_laws.specs.Worked.{weaks_of as young_weaks_of}
-use Rattle.nmgc_cycle.specs.declared.collector.Collector.{Collector}
+use Rattle.nmgc_cycle.specs.{declared.collector.Collector.Collector, declared.stop.StopEnd.StopEnd, Roots.promoted_by, Shown.words_in}
 use Rattle.nmgc_cycle.specs.declared.progress.Progress.TheVariants as doing
-use Rattle.nmgc_cycle.specs.declared.stop.StopEnd.{StopEnd}
 use Rattle.nmgc_cycle.specs.declared.stop.StopEnd.TheVariants as answer
-use Rattle.nmgc_cycle.specs.Roots.{promoted_by}
-use Rattle.nmgc_cycle.specs.Shown.{words_in}
 
 -- words, segments and mutators of the collector stand for the heap at a stop
 abbrev pub StandsStopped : Stopped → Collector → Type 0

@@ -1,42 +1,17 @@
 -- The slices of a round: what a mutator with its seat does of its program, and what all of them leave.
 use Rattle.std.specs.Prelude.{ℕ, ◌≡◌, ◌↔◌, ◌||◌, IsTrue, Bool, false, ◌+◌, ◌*◌, ◌<◌, ◌≤◌, List, [], ◌++◌, length, map, drop, take, min, All, slice_get, slice_index, slice_index_or, Some, vec_capacity}
-use Rattle.std.specs.Int.{div_ceil}
-use Rattle.std.specs.List.{zip}
-use Rattle.nmgc_world_spec.specs.declared.command.Command.{Command}
-use Rattle.nmgc_world_spec.specs.declared.command.Reply.{Reply}
-use Rattle.nmgc_world_spec.specs.Command.{Fits}
+use Rattle.std.specs.{Int.div_ceil, List.zip}
+use Rattle.nmgc_world_spec.specs.{declared.command.Command.Command, declared.command.Reply.Reply, Command.Fits}
 use Rattle.nmgc_alloc.specs.Segments.{IsSegments}
-use Rattle.nmgc_collector_laws.specs.Owed.{IsGathered, HaveOwed, gathered}
-use Rattle.nmgc_collector_laws.specs.RestMarking.{opening_beside}
+use Rattle.nmgc_collector_laws.specs.{Owed.IsGathered, Owed.HaveOwed, Owed.gathered, RestMarking.opening_beside, Rest.opening_at, Worked.Done, Collector.IsMarking}
 use Rattle.nmgc_heap_spec.specs.Places.{Place}
-use Rattle.nmgc_round.specs.declared.table.Round.{Round}
-use Rattle.nmgc_round.specs.View.{Opening, Scan, whole}
-use Rattle.nmgc_round.specs.Seat.{RoundSeat, seen}
-use Rattle.nmgc_round.specs.Seating.{collecting}
-use Rattle.nmgc_round.specs.Finishing.{Leaves}
-use Rattle.nmgc_round.specs.Gate.{passed}
-use Rattle.nmgc_mutator.specs.declared.mutator.TheConstants.{MOST_PUSHED}
-use Rattle.nmgc_mutator.specs.declared.mutator.Mutator.{Mutator}
-use Rattle.nmgc_mutator.specs.declared.mutator.SliceEnd.{SliceEnd}
+use Rattle.nmgc_round.specs.{declared.table.Round.Round, View.Opening, View.Scan, View.whole, Seat.RoundSeat, Seat.seen, Seating.collecting, Finishing.Leaves, Gate.passed}
+use Rattle.nmgc_mutator.specs.{declared.mutator.TheConstants.MOST_PUSHED, declared.mutator.Mutator.Mutator, declared.mutator.SliceEnd.SliceEnd, Does.SameLine, Ready.IsReady, Ready.Reserves, Slice.HasRoom, Slice.HasRun, Slice.Ended, Slice.tried}
 use Rattle.nmgc_mutator.specs.declared.mutator.SliceEnd.TheVariants as ending
-use Rattle.nmgc_mutator.specs.Does.{SameLine}
-use Rattle.nmgc_mutator.specs.Ready.{IsReady, Reserves}
-use Rattle.nmgc_updrem.specs.Rings.{HavePolled, Receiver}
-use Rattle.nmgc_updrem.specs.declared.block.TheConstants.{BLOCK_ENTRIES}
-use Rattle.nmgc_mutator.specs.Slice.{HasRoom, HasRun, Ended, tried}
-use Rattle.nmgc_collector_laws.specs.Rest.{opening_at}
-use Rattle.nmgc_collector_laws.specs.Worked.{Done}
+use Rattle.nmgc_updrem.specs.{Rings.HavePolled, Rings.Receiver, declared.block.TheConstants.BLOCK_ENTRIES}
 use Rattle.nmgc_script.specs.declared.script.Script.{Script}
-use Rattle.nmgc_collector_laws.specs.Collector.{IsMarking}
-use Rattle.nmgc_run_spec.specs.Run.{Run, last_state}
-use Rattle.nmgc_run_spec.specs.Slice.{program_of, slice_of, some_asks, is_collect, is_full}
-use Rattle.nmgc_run_spec.specs.State.{State, Progress, marking}
-use Rattle.nmgc_cycle.specs.declared.collector.Collector.{Collector}
-use Rattle.nmgc_cycle.specs.declared.round.Lists.{Lists}
-use Rattle.nmgc_cycle.specs.declared.worker.Worker.{Worker}
-use Rattle.nmgc_cycle.specs.Cycles.{HasHelped}
-use Rattle.nmgc_cycle.specs.Keeps.{IsAfterStop}
-use Rattle.nmgc_cycle.specs.Shown.{seen as collector_seen}
+use Rattle.nmgc_run_spec.specs.{Run.Run, Run.last_state, Slice.program_of, Slice.slice_of, Slice.some_asks, Slice.is_collect, Slice.is_full, State.State, State.Progress, State.marking}
+use Rattle.nmgc_cycle.specs.{declared.collector.Collector.Collector, declared.round.Lists.Lists, declared.worker.Worker.Worker, Cycles.HasHelped, Keeps.IsAfterStop, Shown.seen as collector_seen}
 
 -- what a mutator has left of its program
 abbrev pub left_at : Script → List ℕ → ℕ → List Command

@@ -22,22 +22,13 @@
 //! the nursery was not answered.
 ghost use Rattle.std.specs.Prelude.{◌≡◌, ℕ, ◌+◌, ◌<◌, ◌≤◌, ◌⊎◌, [], length, map, slice_get, slice_index, vec_len, vec_capacity, Some, IfOk};
 ghost use Rattle.nmgc_limits.specs.declared.mutators.TheConstants.{SHARED_SLOTS};
-ghost use Rattle.nmgc_object.specs.declared.layout.TheConstants.{SHARED_PLACE};
-ghost use Rattle.nmgc_object.specs.declared.size.TheConstants.{HEADER_WORDS};
-ghost use Rattle.nmgc_object.specs.Places.{IsLayout};
+ghost use Rattle.nmgc_object.specs.{declared.layout.TheConstants.SHARED_PLACE, declared.size.TheConstants.HEADER_WORDS, Places.IsLayout};
 ghost use Rattle.nmgc_round.specs.Empty.{IsEmptyHeap};
-ghost use Rattle.nmgc_mutator.specs.declared.mutator.Mutator.{Mutator as MutatorShown};
-ghost use Rattle.nmgc_mutator.specs.Ready.{IsNew};
-ghost use Rattle.nmgc_script.specs.declared.script.Script.{Script as ScriptSeen};
-ghost use Rattle.nmgc_script.specs.Limits.{FitsScript, IsInLimits};
-ghost use Rattle.nmgc_run_spec.specs.State.{plan_of, layout_of as planned_layout};
-ghost use Rattle.nmgc_collector_laws.specs.Seen.{end_of as told_end};
-ghost use Rattle.nmgc_collector_laws.specs.Heaps.{seen_mutator};
-ghost use Rattle.nmgc_cycle.specs.Shown.{report_of, turns_of, upper_turns_of};
-ghost use Rattle.nmgc_run_spec.specs.Crowded.{IsRunOf};
-ghost use Rattle.nmgc_run_spec.specs.Lawful.{IsLawful};
-ghost use Rattle.nmgc_cycle.specs.Lined.{IsLined};
-ghost use Rattle.nmgc_cycle.specs.Keeps.{IsFresh, HasEnded};
+ghost use Rattle.nmgc_mutator.specs.{declared.mutator.Mutator.Mutator as MutatorShown, Ready.IsNew};
+ghost use Rattle.nmgc_script.specs.{declared.script.Script.Script as ScriptSeen, Limits.FitsScript, Limits.IsInLimits};
+ghost use Rattle.nmgc_run_spec.specs.{State.plan_of, State.layout_of as planned_layout, Crowded.IsRunOf, Lawful.IsLawful};
+ghost use Rattle.nmgc_collector_laws.specs.{Seen.end_of as told_end, Heaps.seen_mutator};
+ghost use Rattle.nmgc_cycle.specs.{Shown.report_of, Shown.turns_of, Shown.upper_turns_of, Lined.IsLined, Keeps.IsFresh, Keeps.HasEnded};
 
 use crate::names::put_rows_in_order;
 use crate::progress::Progress;

@@ -17,13 +17,9 @@ ghost use Rattle.nmgc_object.specs.declared.layout.TheConstants.{FIRST_PLACE};
 ghost use Rattle.nmgc_alloc.specs.Segments.{IsSegments};
 ghost use Rattle.nmgc_mark.specs.Marker.{HasRoomToMark};
 ghost use Rattle.nmgc_segment.specs.Marks.{epoch_of as epoch_by, IsEpoch};
-ghost use Rattle.nmgc_cycle.specs.Roots.{queues_in};
-ghost use Rattle.nmgc_cycle.specs.Shown.{words_in};
-ghost use Rattle.nmgc_updrem.specs.Lines.{TakesRestSo, IsLevelSo};
-ghost use Rattle.nmgc_updrem.specs.Rings.{AtLine};
-ghost use Rattle.nmgc_mutator.specs.declared.mutator.Mutator.{Mutator as MutatorSeen};
-ghost use Rattle.nmgc_mutator.specs.Does.{remembered};
-ghost use Rattle.nmgc_cycle.specs.Lined.{IsLined, IsPaired, AnyLine, HasForgotten, HaveForgottenSoFar, HaveLines};
+ghost use Rattle.nmgc_cycle.specs.{Roots.queues_in, Shown.words_in, Lined.IsLined, Lined.IsPaired, Lined.AnyLine, Lined.HasForgotten, Lined.HaveForgottenSoFar, Lined.HaveLines};
+ghost use Rattle.nmgc_updrem.specs.{Lines.TakesRestSo, Lines.IsLevelSo, Rings.AtLine};
+ghost use Rattle.nmgc_mutator.specs.{declared.mutator.Mutator.Mutator as MutatorSeen, Does.remembered};
 ghost use Rattle.nmgc_cycle.specs.Cycles.{remembered_by, CanAdd, HasAdded, HasTaken, CanClose, Closes, HasClosed, IsClosed, IsReadyToClose, row_of as row_shown, IsSwept, Ends, IsDue, CanBegin, StartsMarking, HasStarted, Begins};
 
 use crate::progress::{Marking, Progress, Sweeping};

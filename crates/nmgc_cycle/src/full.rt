@@ -8,11 +8,8 @@
 //! Easy to get wrong: current and active segments aren't swept unless they are filed as filled before the cycle begins.
 //! And the cycle in progress is closed whatever its marker's last work answered: what is left is scanned by the closing.
 ghost use Rattle.std.specs.Prelude.{◌≡◌, ◌↔◌, ◌+◌, ◌<◌, ◌^◌, OnOk, IsSome, IsTrue};
-ghost use Rattle.nmgc_cycle.specs.Roots.{queues_in};
-ghost use Rattle.nmgc_cycle.specs.Shown.{words_in};
-ghost use Rattle.nmgc_cycle.specs.Cycles.{HasClosed};
+ghost use Rattle.nmgc_cycle.specs.{Roots.queues_in, Shown.words_in, Cycles.HasClosed, FullLaws.StandsAtStop};
 ghost use Rattle.nmgc_cycle.specs.Full.{is_short_of, IsFullDue, CanCloseNow, ClosesNow, CanSweepRest, HasSweptRest, HasFinished, HasDoneFull, Proceeds};
-ghost use Rattle.nmgc_cycle.specs.FullLaws.{StandsAtStop};
 
 use crate::Collector;
 use crate::leading::{a_finish_leads, a_full_cycle_leads};

@@ -1,7 +1,6 @@
 //! The names of objects in segments, as a stop notes them, and those of a cycle's row, as a report has them.
 ghost use Rattle.std.specs.Prelude.{◌≡◌, ◌<◌, length, map, All, Contains};
-ghost use Rattle.nmgc_minor.specs.Placing.{moved_of};
-ghost use Rattle.nmgc_minor.specs.declared.placing.Move.{Move as Moving};
+ghost use Rattle.nmgc_minor.specs.{Placing.moved_of, declared.placing.Move.Move as Moving};
 ghost use Rattle.nmgc_sweep.specs.Names.{HaveNoted, entry_of};
 ghost use Rattle.nmgc_cycle.specs.Shown.{told_row, HasNamesOnce};
 

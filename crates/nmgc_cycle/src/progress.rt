@@ -10,8 +10,7 @@
 //! was closed. What lies in these segments it reads from the array of names, which nobody writes in a round.
 ghost use Rattle.std.specs.Prelude.{◌≡◌, ◌≤◌, length};
 ghost use Rattle.nmgc_updrem.specs.Rings.{HavePolled};
-ghost use Rattle.nmgc_cycle.specs.Shown.{phase_in, is_marking_in};
-ghost use Rattle.nmgc_cycle.specs.Cycles.{CanHelp, HasHelped};
+ghost use Rattle.nmgc_cycle.specs.{Shown.phase_in, Shown.is_marking_in, Cycles.CanHelp, Cycles.HasHelped};
 
 use nmgc_alloc::Segments;
 use nmgc_journal::Phase;

@@ -21,15 +21,10 @@ ghost use Rattle.nmgc_alloc.specs.Segments.{IsSegments};
 ghost use Rattle.nmgc_round.specs.Gate.{passed};
 ghost use Rattle.nmgc_mutator.specs.declared.mutator.Mutator.{Mutator as MutatorSeen};
 ghost use Rattle.nmgc_run_spec.specs.Slice.{program_of};
-ghost use Rattle.nmgc_limits.specs.Limits.{most_slice};
-ghost use Rattle.nmgc_limits.specs.declared.mutators.TheConstants.{MAKERS};
-ghost use Rattle.nmgc_updrem.specs.Lines.{HasMetSo};
-ghost use Rattle.nmgc_updrem.specs.Rings.{AtLine, HavePolled};
+ghost use Rattle.nmgc_limits.specs.{Limits.most_slice, declared.mutators.TheConstants.MAKERS};
+ghost use Rattle.nmgc_updrem.specs.{Lines.HasMetSo, Rings.AtLine, Rings.HavePolled};
 ghost use Rattle.nmgc_script.specs.Limits.{IsInLimits};
-ghost use Rattle.nmgc_cycle.specs.Lined.{IsLined, HasMetSender, HaveLines, HaveMet, RememberInOrder};
-ghost use Rattle.nmgc_cycle.specs.Keeps.{HasStopped, DidRound};
-ghost use Rattle.nmgc_cycle.specs.Cycles.{CanHelp, HasHelped, worked_on, upper_worked_on};
-ghost use Rattle.nmgc_cycle.specs.Shown.{is_marking_in, turns_of, upper_turns_of};
+ghost use Rattle.nmgc_cycle.specs.{Lined.IsLined, Lined.HasMetSender, Lined.HaveLines, Lined.HaveMet, Lined.RememberInOrder, Keeps.HasStopped, Keeps.DidRound, Cycles.CanHelp, Cycles.HasHelped, Cycles.worked_on, Cycles.upper_worked_on, Shown.is_marking_in, Shown.turns_of, Shown.upper_turns_of};
 ghost use Rattle.nmgc_cycle.specs.Working.{left_at, HaveRoom, HasLists, HaveSliceRoom, HasInboxRoom, AreReserved, CanAllWork, HaveAllWorked, OpensAt, DidSlices, HaveTried, asks_of, asks_full_of, done_by, cleared, replies_of};
 
 use crate::Collector;

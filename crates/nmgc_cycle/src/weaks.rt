@@ -13,16 +13,11 @@
 //! spoken of; the others join after it, at their new places.
 ghost use Rattle.std.specs.Prelude.{ℕ, ◌≡◌, ◌≢◌, ◌+◌, ◌<◌, ◌≤◌, ◌^◌, length, Contains, IfOk, OnOk, IsSome, IsTrue};
 ghost use Rattle.nmgc_world_spec.specs.Reach.{IsInOrder};
-ghost use Rattle.nmgc_object.specs.declared.size.TheConstants.{HEADER_WORDS};
-ghost use Rattle.nmgc_weak.specs.Queues.{HaveRoom};
-ghost use Rattle.nmgc_weak.specs.Rows.{IsNamedAt, left_of};
-ghost use Rattle.nmgc_weak.specs.Weaks.{alive_of, names_of, value_place};
-ghost use Rattle.nmgc_object.specs.declared.words.Address.{Address as Place};
+ghost use Rattle.nmgc_object.specs.{declared.size.TheConstants.HEADER_WORDS, declared.words.Address.Address as Place};
+ghost use Rattle.nmgc_weak.specs.{Queues.HaveRoom, Rows.IsNamedAt, Rows.left_of, Weaks.alive_of, Weaks.names_of, Weaks.value_place, declared.weaks.OldWeak.OldWeak as Old};
 ghost use Rattle.nmgc_mutator.specs.Records.{numbers};
 ghost use Rattle.nmgc_collector_laws.specs.Worked.{finalised_of};
-ghost use Rattle.nmgc_weak.specs.declared.weaks.OldWeak.{OldWeak as Old};
-ghost use Rattle.nmgc_cycle.specs.Roots.{queues_in};
-ghost use Rattle.nmgc_cycle.specs.Shown.{died, words_in};
+ghost use Rattle.nmgc_cycle.specs.{Roots.queues_in, Shown.died, Shown.words_in};
 ghost use Rattle.nmgc_cycle.specs.Listed.{is_alive_at, moved_weaks, AreMovedInside, CanJoin, IsMergeOf, FinalisedAreTold, FinalisedLeft, MovedJoined, count_made_by, HasQueueRoom, HaveQueueRoom, FinalisersQueued};
 
 use crate::Collector;

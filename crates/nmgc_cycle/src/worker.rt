@@ -15,11 +15,9 @@
 //! here may rest on two that run side by side.
 ghost use Rattle.std.specs.Prelude.{◌≡◌, ◌↔◌, ◌+◌, ◌^◌, ◌<◌, ◌≤◌, [], IfOk, IsTrue, length, map, slice_index, vec_len, vec_capacity};
 ghost use Rattle.nmgc_run_spec.specs.Slice.{program_of};
-ghost use Rattle.std.specs.Thread.{IsSync};
-ghost use Rattle.std.specs.List.{list_any};
+ghost use Rattle.std.specs.{Thread.IsSync, List.list_any};
 ghost use Rattle.nmgc_updrem.specs.Rings.{HavePolled};
-ghost use Rattle.nmgc_cycle.specs.Cycles.{CanHelp, HasHelped};
-ghost use Rattle.nmgc_cycle.specs.Stopping.{SomeIsLeft};
+ghost use Rattle.nmgc_cycle.specs.{Cycles.CanHelp, Cycles.HasHelped, Stopping.SomeIsLeft};
 ghost use Rattle.nmgc_cycle.specs.Working.{asks_of, asks_full_of, left_at, CanWork, HasWorkedOn, CanAllWork, HaveAllWorked, CanWorkFrom, HaveWorkedFrom, workers_of, mutator_of, seat_of};
 
 use crate::progress::Progress;

@@ -1,15 +1,5 @@
 -- What the joined pass knows, and what the workers' lists are together.
-use Rattle.std.proofs.Common.{◌≡◌, ◌≤◌, ◌+◌, ℕ, zero, suc, List, [], ◌∷◌, ◌++◌, length, refl, sym, ap, subst, ◌∙◌, arith, append_assoc, append-nil, length-append, Some, IsPermutation}
-use Rattle.std.specs.Prelude.{slice_get, slice_index_or}
-use Rattle.std.proofs.lemmas.Option.{slice_get_within, slice_get-get_or, get_or_from_slice_get}
-use Rattle.crossbeam_queue.specs.SegTies.{SegId}
-use Rattle.std.proofs.Common.{Global}
-use Rattle.nmgc_fin.specs.declared.job.Job.{Job}
-use Rattle.nmgc_fin.specs.declared.hand.Hand.{Hand}
-use Rattle.nmgc_fin.specs.declared.worker.Worker.{Worker}
-use Rattle.nmgc_fin.specs.Rule.{hand, both_hands}
-use Rattle.nmgc_fin.specs.Handles.{joined}
-use Rattle.nmgc_fin.specs.Worker.{IsWorker, AreWorkers, lists_of}
+use Rattle.nmgc_fin.proofs.Vocabulary.{◌≡◌, ◌≤◌, ◌+◌, ℕ, zero, suc, List, [], ◌∷◌, ◌++◌, length, refl, sym, ap, subst, ◌∙◌, arith, append_assoc, append-nil, length-append, Some, IsPermutation, slice_get, slice_index_or, slice_get_within, slice_get-get_or, get_or_from_slice_get, SegId, Global, Job, Hand, Worker, hand, both_hands, joined, IsWorker, AreWorkers, lists_of}
 
 pub lists_more : (ws : List Worker) (w : Worker) → lists_of (ws ++ w ∷ []) ≡ lists_of ws ++ w.done.items ∷ []
 lists_more [] w = refl
@@ -27,11 +17,7 @@ client_more n jobs ws w v u x e f g =
     let count : (n + length ws) + 1 ≡ n + length (ws ++ w ∷ []) = omega (arith, long) in
     let all : joined (lists_of ws) ++ w.done.items ≡ joined (lists_of (ws ++ w ∷ [])) = sym (joined_more (lists_of ws) w.done.items) ∙
     ap joined (sym (lists_more ws w)) in
-    g
-    ∙ ap (λ (y : Hand). both_hands y u) e
-    ∙ ap (λ (y : Hand). both_hands (hand (n + length ws) jobs (joined (lists_of ws))) y) f
-    ∙ ap (λ (k : ℕ). hand k jobs (joined (lists_of ws) ++ w.done.items)) count
-    ∙ ap (λ (l : List Job). hand (n + length (ws ++ w ∷ [])) jobs l) all
+    cc (g, e, f, count, all)
 
 at_front : (xs ys : List Worker) (y : Worker) (k : ℕ) → slice_get xs k ≡ Some y → slice_get (xs ++ ys) k ≡ Some y
 at_front [] ys y k e = absurd (cc)
@@ -56,7 +42,7 @@ worker_at queue jobs crew are k w e = subst (λ (x : Worker). IsWorker queue job
 pub front_are : (queue : SegId Global) (jobs : List Job) (all before : List Worker) (last : Worker) → all ≡ before ++ last ∷ [] →
     AreWorkers queue jobs all → AreWorkers queue jobs before
 front_are queue jobs all before last is are k d lt = worker_at queue jobs all are k (slice_index_or before k d)
-    (ap (λ (l : List Worker). slice_get l k) is ∙ at_front before (last ∷ []) (slice_index_or before k d) k (slice_get-get_or before k d lt))
+    (cc (is, at_front before (last ∷ []) (slice_index_or before k d) k (slice_get-get_or before k d lt)))
 
 pub none_left : (xs : List Worker) → length xs ≡ 0 → xs ≡ []
 none_left [] e = refl
@@ -70,14 +56,16 @@ all_handled jobs ws last more done v by by' knows none is are new =
     let every : IsPermutation jobs ((joined (lists_of (ws ++ last ∷ [])) ++ more) ++ []) =
     subst (λ (y : Hand). IsPermutation y.pushed (y.taken ++ [])) knows (none (ap (λ (y : Hand). y.parts) knows)) in
     let same : (joined (lists_of (ws ++ last ∷ [])) ++ more) ++ [] ≡ joined by' =
-    append-nil (joined (lists_of (ws ++ last ∷ [])) ++ more)
-    ∙ ap (λ (l : List (List Job)). joined l ++ more) (lists_more ws last)
-    ∙ ap (λ (l : List Job). l ++ more) (joined_more (lists_of ws) last.done.items)
-    ∙ append_assoc (joined (lists_of ws)) last.done.items more
-    ∙ ap (λ (l : List Job). joined (lists_of ws) ++ l) (sym is)
-    ∙ sym (joined_more (lists_of ws) done)
-    ∙ ap (λ (l : List (List Job)). joined (l ++ done ∷ [])) (sym are)
-    ∙ ap joined (sym new)
+    cc (
+      append-nil (joined (lists_of (ws ++ last ∷ [])) ++ more),
+      lists_more ws last,
+      joined_more (lists_of ws) last.done.items,
+      append_assoc (joined (lists_of ws)) last.done.items more,
+      is,
+      joined_more (lists_of ws) done,
+      are,
+      new,
+    )
     in
     subst (λ (l : List Job). IsPermutation jobs l) same every
 

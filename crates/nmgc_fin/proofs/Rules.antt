@@ -1,13 +1,5 @@
 -- Each call keeps the rule of the queue of jobs.
-use Rattle.std.proofs.Common.{◌≡◌, ◌≢◌, ⊎_elim, ℕ, zero, suc, ◌+◌, ◌<◌, ◌≤◌, List, [], ◌∷◌, ◌++◌, length, set, IsPermutation, refl, sym, ap, ◌∙◌, subst, arith, append_assoc, append-nil, length-append}
-use Rattle.std.proofs.lemmas.List.Sorted.{IsPermutation-refl, IsPermutation-trans, IsPermutation-append_left, IsPermutation-append_right, IsPermutation-append_comm, IsPermutation-middle, length_permutation}
-use mathlib.Core.Option.{some, some-injective, some-ne-none}
-use lib.ListN.{get_elem?}
-use Rattle.crossbeam_queue.specs.Fifo.{Pushes as MayPush, Pops, Forks, Merges, Learns}
-use Rattle.crossbeam_queue.proofs.Lists.{at_set, at_snoc}
-use Rattle.nmgc_fin.specs.declared.job.Job.{Job}
-use Rattle.nmgc_fin.specs.declared.hand.Hand.{Hand}
-use Rattle.nmgc_fin.specs.Rule.{hand, most_parts, total, all_taken, Balanced, Pushes, Takes, keeps_parts, gives_part, both_hands, no_hand, Knows}
+use Rattle.nmgc_fin.proofs.Vocabulary.{◌≡◌, ◌≢◌, ⊎_elim, ℕ, zero, suc, ◌+◌, ◌<◌, ◌≤◌, List, [], ◌∷◌, ◌++◌, length, set, IsPermutation, refl, sym, ap, ◌∙◌, subst, arith, append_assoc, append-nil, length-append, IsPermutation-refl, IsPermutation-trans, IsPermutation-append_left, IsPermutation-append_right, IsPermutation-append_comm, IsPermutation-middle, length_permutation, some, some-injective, some-ne-none, get_elem?, MayPush, Pops, Forks, Merges, Learns, at_set, at_snoc, Job, Hand, hand, most_parts, total, all_taken, Balanced, Pushes, Takes, keeps_parts, gives_part, both_hands, no_hand, Knows}
 
 -- the total of the parts once one pass changes
 total_set : (views : List Hand) (pass : ℕ) (v w : Hand) → get_elem? views pass ≡ some v → total (set views pass w) + v.parts ≡ total views + w.parts
@@ -51,9 +43,7 @@ module _ {A : Type 0} where
   -- two pieces before a third, the other way round
   swap_pieces : (xs ys zs : List A) → IsPermutation (xs ++ (ys ++ zs)) (ys ++ (xs ++ zs))
   swap_pieces xs ys zs =
-      subst (λ (l : List A). IsPermutation l (ys ++ (xs ++ zs))) (append_assoc xs ys zs)
-      (subst (λ (l : List A). IsPermutation ((xs ++ ys) ++ zs) l) (append_assoc ys xs zs)
-      (IsPermutation-append_left zs (xs ++ ys) (ys ++ xs) (IsPermutation-append_comm xs ys)))
+      rw (← (append_assoc xs ys zs)) (rw (append_assoc ys xs zs) at (IsPermutation-append_left zs (xs ++ ys) (ys ++ xs) (IsPermutation-append_comm xs ys)))
 
 -- a pass took these as well
 taken_more : (views : List Hand) (pass : ℕ) (v w : Hand) (more : List Job) → get_elem? views pass ≡ some v → w.taken ≡ v.taken ++ more →
@@ -61,8 +51,7 @@ taken_more : (views : List Hand) (pass : ℕ) (v w : Hand) (more : List Job) →
 taken_more [] pass v w more e s = absurd (some-ne-none v (sym e))
 taken_more (x ∷ xs) zero v w more e s =
     let same : x.taken ≡ v.taken = ap (λ (y : Hand). y.taken) (some-injective x v e) in
-    let is : x.taken ++ (more ++ all_taken xs) ≡ w.taken ++ all_taken xs = sym (append_assoc x.taken more (all_taken xs)) ∙
-    ap (λ l. l ++ all_taken xs) (ap (λ l. l ++ more) same ∙ sym s) in
+    let is : x.taken ++ (more ++ all_taken xs) ≡ w.taken ++ all_taken xs = cc (append_assoc x.taken more (all_taken xs), same, s) in
     subst (λ l. IsPermutation (more ++ (x.taken ++ all_taken xs)) l) is (swap_pieces more x.taken (all_taken xs))
 taken_more (x ∷ xs) (suc pass) v w more e s =
     IsPermutation-trans (more ++ (x.taken ++ all_taken xs)) (x.taken ++ (more ++ all_taken xs)) (x.taken ++ all_taken (set xs pass w))
@@ -75,8 +64,7 @@ taken_out : (views : List Hand) (pass : ℕ) (v w : Hand) → get_elem? views pa
 taken_out [] pass v w e s = absurd (some-ne-none v (sym e))
 taken_out (x ∷ xs) zero v w e s =
     let same : x.taken ≡ v.taken = ap (λ (y : Hand). y.taken) (some-injective x v e) in
-    let is : x.taken ++ all_taken xs ≡ v.taken ++ (w.taken ++ all_taken xs) = ap (λ l. l ++ all_taken xs) same ∙
-    ap (λ l. v.taken ++ (l ++ all_taken xs)) (sym s) in
+    let is : x.taken ++ all_taken xs ≡ v.taken ++ (w.taken ++ all_taken xs) = cc (same, s) in
     subst (λ l. IsPermutation (x.taken ++ all_taken xs) l) is (IsPermutation-refl (x.taken ++ all_taken xs))
 taken_out (x ∷ xs) (suc pass) v w e s =
     IsPermutation-trans (x.taken ++ all_taken xs) (x.taken ++ (v.taken ++ all_taken (set xs pass w))) (v.taken ++ (x.taken ++ all_taken (set xs pass w)))
@@ -87,14 +75,12 @@ taken_out (x ∷ xs) (suc pass) v w e s =
 taken_alone : (views : List Hand) (pass : ℕ) (v : Hand) → get_elem? views pass ≡ some v →
     ((j : ℕ) (u : Hand) → j ≢ pass → get_elem? views j ≡ some u → u.taken ≡ []) → all_taken views ≡ v.taken
 taken_alone [] pass v e f = absurd (some-ne-none v (sym e))
-taken_alone (x ∷ xs) zero v e f = ap (λ l. x.taken ++ l) (none xs (λ j u g. f (suc j) u (λ s. absurd (omega (arith, s))) g)) ∙ append-nil x.taken ∙
-    ap (λ (y : Hand). y.taken) (some-injective x v e)
+taken_alone (x ∷ xs) zero v e f = cc (none xs (λ j u g. f (suc j) u (λ s. absurd (omega (arith, s))) g), append-nil x.taken, some-injective x v e)
   where
     none : (l : List Hand) → ((j : ℕ) (u : Hand) → get_elem? l j ≡ some u → u.taken ≡ []) → all_taken l ≡ []
     none [] g = refl
     none (y ∷ ys) g = ap (λ k. k ++ all_taken ys) (g 0 y refl) ∙ none ys (λ j u at. g (suc j) u at)
-taken_alone (x ∷ xs) (suc pass) v e f = ap (λ l. l ++ all_taken xs) (f 0 x (λ s. absurd (omega (arith, s))) refl) ∙
-    taken_alone xs pass v e (λ j u n g. f (suc j) u (λ s. n (omega (arith, s))) g)
+taken_alone (x ∷ xs) (suc pass) v e f = cc (f 0 x (λ s. absurd (omega (arith, s))) refl, taken_alone xs pass v e (λ j u n g. f (suc j) u (λ s. n (omega (arith, s))) g))
 
 set_apart : (views : List Hand) (i j : ℕ) (v w : Hand) → i ≢ j → set (set views i v) j w ≡ set (set views j w) i v
 set_apart [] i j v w n = refl
@@ -139,12 +125,11 @@ pushes n pass v x every items views room h at =
         all = h.all ++ x ∷ [];
         whole = let t = total_set views pass v w at in let p = h.whole in omega arith;
         known = λ j u e some_. ⊎_elim
-            (λ (t : (j ≡ pass) × (w ≡ u)). sym (ap (λ (y : Hand). y.pushed) t.1) ∙ ap (λ l. l ++ x ∷ []) (h.known pass v at (omega (arith, every))))
+            (λ (t : (j ≡ pass) × (w ≡ u)). cc (t.1, h.known pass v at (omega (arith, every))))
             (λ (t : (j ≢ pass) × (get_elem? views j ≡ some u)). let z = idle j u t.0 t.1 in absurd (omega (arith, z, some_)))
             (at_set views pass j w u e);
-        kept = subst (λ (l : List Job). IsPermutation (h.all ++ x ∷ []) l) (append_assoc (all_taken views) items (x ∷ []) ∙
-            ap (λ l. l ++ (items ++ x ∷ [])) (sym same))
-            (IsPermutation-append_left (x ∷ []) h.all (all_taken views ++ items) h.kept);
+        kept = rw (append_assoc (all_taken views) items (x ∷ []) ∙
+            ap (λ l. l ++ (items ++ x ∷ [])) (sym same)) at (IsPermutation-append_left (x ∷ []) h.all (all_taken views ++ items) h.kept);
         idle = λ j u e none. ⊎_elim
             (λ (t : (j ≡ pass) × (w ≡ u)). let p : w.parts ≡ u.parts = ap (λ (y : Hand). y.parts) t.1 in absurd (omega (arith, p, every, none)))
             (λ (t : (j ≢ pass) × (get_elem? views j ≡ some u)). h.idle j u t.1 none)
@@ -244,8 +229,7 @@ merges pass v other w some_part items views h at apart at' =
           (λ (r : (j ≢ pass) × (get_elem? views j ≡ some u)). h.known j u r.1 s)
           (at_set views pass j both u t.1))
           (at_set (set views pass both) other j no_hand u e);
-      kept = subst (λ (l : List Hand). IsPermutation h.all (all_taken l ++ items)) (sym order)
-          (IsPermutation-trans h.all (all_taken views ++ items) (all_taken (set rest pass both) ++
+      kept = rw order (IsPermutation-trans h.all (all_taken views ++ items) (all_taken (set rest pass both) ++
           items) h.kept (IsPermutation-append_left items (all_taken views) (all_taken (set rest pass both)) moved));
       idle = λ j u e none. ⊎_elim
           (λ (t : (j ≡ other) × (no_hand ≡ u)). sym (ap (λ (y : Hand). y.taken) t.1))

@@ -1,13 +1,5 @@
 -- What is told of words and bytes for which nothing is in the way.
-use Rattle.std.proofs.Common.{◌≡◌, ◌≤◌, ◌+◌, ℕ, List, [], ◌∷◌, ◌++◌, length, refl, sym, ◌∙◌, ap, subst, arith, Option, Some, None, inl, inr, ◌⊎◌, append-nil}
-use Rattle.nmgc_world_spec.specs.declared.value.Name.{Name}
-use Rattle.nmgc_fin.specs.declared.job.Job.{Job}
-use Rattle.nmgc_fin.specs.declared.top.FinStatus.{FinStatus}
-use Rattle.nmgc_fin.specs.declared.top.FinStatus.TheVariants.{Done, Usage, ReadFault, WriteFault, BadReport, TooLong, NoMemory}
-use Rattle.nmgc_fin.specs.Jobs.{lines_of, IsBad, NamesOf, AreJobsOf, IsFirstBad}
-use Rattle.nmgc_fin.specs.Program.{Asks, IsRead, Says, IsWritten, IsComplete}
-use Rattle.nmgc_fin.specs.declared.top.TheConstants.{MAX_REPORT_BYTES}
-use Rattle.nmgc_io.specs.laws.Common.{taken_within}
+use Rattle.nmgc_fin.proofs.Vocabulary.{◌≡◌, ◌≤◌, ◌+◌, ℕ, List, [], ◌∷◌, ◌++◌, length, refl, sym, ◌∙◌, ap, subst, arith, Option, Some, None, inl, inr, ◌⊎◌, append-nil, Name, Job, FinStatus, Done, Usage, ReadFault, WriteFault, BadReport, TooLong, NoMemory, lines_of, IsBad, NamesOf, AreJobsOf, IsFirstBad, Asks, IsRead, Says, IsWritten, IsComplete, MAX_REPORT_BYTES, taken_within}
 
 -- lines that give names have no bad line
 none_bad : (before : List (List ℕ)) (line : List ℕ) (after : List (List ℕ)) (names : List Name) → NamesOf (before ++ line ∷ after) names → IsBad line → ⊥
@@ -48,5 +40,4 @@ pub completes : (words : List (List ℕ)) (left left' taken taken' : Option (Lis
     IsComplete words left read_fault write_fault status
 completes words left left' taken taken' read_fault write_fault told text status says written bytes workers jobs asks is within are no_read no_write =
     written_so taken taken' write_fault told text status no_write
-    (fine words bytes workers jobs left' read_fault asks within are no_read told text (subst (λ (l : Option (List ℕ)).
-    Says words l left' read_fault told text) is says)) written
+    (fine words bytes workers jobs left' read_fault asks within are no_read told text (rw is at says)) written

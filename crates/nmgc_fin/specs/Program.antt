@@ -6,17 +6,8 @@ use Rattle.nmgc_arguments.specs.Words.{ArePassed}
 use Rattle.nmgc_io.specs.Counts.{Takes, TakesUpTo, AppendsFront}
 use Rattle.nmgc_world_spec.specs.declared.value.Name.{Name}
 use Rattle.nmgc_lists.specs.declared.memory.NoMemory.{NoMemory as NoMemoryOf}
-use Rattle.nmgc_fin.specs.declared.job.Job.{Job}
-use Rattle.nmgc_fin.specs.declared.run.TheConstants.{MOST_WORKERS}
-use Rattle.nmgc_fin.specs.declared.top.TheConstants.{MAX_REPORT_BYTES}
-use Rattle.nmgc_fin.specs.declared.top.FinStatus.{FinStatus}
+use Rattle.nmgc_fin.specs.{declared.job.Job.Job, declared.run.TheConstants.MOST_WORKERS, declared.top.TheConstants.MAX_REPORT_BYTES, declared.top.FinStatus.FinStatus, declared.top.Text.Text, declared.top.Text.TheVariants.Fixed, declared.top.Text.TheVariants.Made, declared.top.Told.Told, Handles.Handles, Handles.joined, Jobs.lines_of, Jobs.AreJobsOf, Jobs.IsFirstBad, Jobs.weak_of, Order.IsPlaced, Order.jobs_text}
 use Rattle.nmgc_fin.specs.declared.top.FinStatus.TheVariants.{Done, Usage, ReadFault, WriteFault, BadReport, TooLong, NoMemory}
-use Rattle.nmgc_fin.specs.declared.top.Text.{Text}
-use Rattle.nmgc_fin.specs.declared.top.Text.TheVariants.{Fixed, Made}
-use Rattle.nmgc_fin.specs.declared.top.Told.{Told}
-use Rattle.nmgc_fin.specs.Handles.{Handles, joined}
-use Rattle.nmgc_fin.specs.Jobs.{lines_of, AreJobsOf, IsFirstBad, weak_of}
-use Rattle.nmgc_fin.specs.Order.{IsPlaced, jobs_text}
 
 -- there may be so many workers
 abbrev pub IsCount : ℕ → Type 0

@@ -3,9 +3,7 @@
 //! Which worker handled a job, and when, depends on the schedule; the text doesn't. Each job has its place by its number,
 //! so nothing is sorted.
 ghost use Rattle.std.specs.Prelude.{◌≡◌, ◌++◌, All, length, IfOk, OnOk, Contains};
-ghost use Rattle.nmgc_fin.specs.Handles.{joined};
-ghost use Rattle.nmgc_fin.specs.Order.{AreWithin, AreAlike, IsPlaced, job_line, jobs_text};
-ghost use Rattle.nmgc_fin.specs.declared.job.Job.{Job as JobOf};
+ghost use Rattle.nmgc_fin.specs.{Handles.joined, Order.AreWithin, Order.AreAlike, Order.IsPlaced, Order.job_line, Order.jobs_text, declared.job.Job.Job as JobOf};
 
 use crate::Handled;
 use crate::job::Job;

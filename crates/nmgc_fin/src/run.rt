@@ -6,10 +6,7 @@
 ghost use Rattle.std.specs.Prelude.{◌≡◌, ◌+◌, ◌-◌, ◌<◌, ◌≤◌, [], ◌++◌, length, vec_len, vec_capacity, IfOk, OnOk, All};
 ghost use Rattle.std.specs.Thread.{IsSync};
 ghost use Rattle.crossbeam_queue.specs.SegTies.{IsSegPassOf};
-ghost use Rattle.nmgc_fin.specs.declared.run.TheConstants.{MOST_WORKERS};
-ghost use Rattle.nmgc_fin.specs.Handles.{AreNumbered, Handles, joined};
-ghost use Rattle.nmgc_fin.specs.Rule.{hand, most_parts};
-ghost use Rattle.nmgc_fin.specs.Worker.{IsWorker, AreWorkers, lists_of};
+ghost use Rattle.nmgc_fin.specs.{declared.run.TheConstants.MOST_WORKERS, Handles.AreNumbered, Handles.Handles, Handles.joined, Rule.hand, Rule.most_parts, Worker.IsWorker, Worker.AreWorkers, Worker.lists_of};
 
 use crate::hand::Hand;
 use crate::job::Job;

@@ -4,10 +4,8 @@
 //! settled before the sink is touched, so a sink that fails replaces the status and nothing else.
 ghost use Rattle.std.specs.Prelude.{◌≡◌, ◌≤◌, ℕ, List, [], ◌∷◌, length, map, string_bytes, IfOk, IfSome, IfNone, decimal};
 ghost use Rattle.nmgc_io.specs.Counts.{Rose};
-ghost use Rattle.nmgc_fin.specs.Handles.{AreNumbered, Handles};
+ghost use Rattle.nmgc_fin.specs.{Handles.AreNumbered, Handles.Handles, declared.top.TheConstants.MAX_REPORT_BYTES, declared.top.FinStatus.FinStatus as StatusOf};
 ghost use Rattle.nmgc_fin.specs.Program.{IsCount, Asks, IsWrong, number_of, IsFixed, fixed_text, bad_text, text_bytes, IsMadeOf, AreDone, SaysOfBytes, Says, IsWritten, IsComplete};
-ghost use Rattle.nmgc_fin.specs.declared.top.TheConstants.{MAX_REPORT_BYTES};
-ghost use Rattle.nmgc_fin.specs.declared.top.FinStatus.{FinStatus as StatusOf};
 
 use crate::job::Job;
 use crate::order::{handled_text, in_order};

@@ -1,17 +1,6 @@
 -- A change in two halves: its answer tells whether it is done, and one that is done leaves what it writes.
-use Rattle.std.proofs.Common.{◌≡◌, ◌-◌, ℕ, List, [], ◌∷◌, ◌++◌, length, set, cond, eqb, ltb, refl, sym, ap, ◌∙◌, Option, Some, None, Bool, true, false}
-use Rattle.std.specs.Prelude.{slice_get}
-use Rattle.std.proofs.lemmas.Bool.{lt-ltb}
-use Rattle.nmgc_world_spec.specs.declared.command.Reply.{Reply}
-use Rattle.nmgc_world_spec.specs.declared.command.Reply.TheVariants.{Fine, Yes, No, NoField, StackFull, StackEmpty}
-use Rattle.nmgc_world_spec.specs.declared.value.Value.{Value}
-use Rattle.nmgc_world_spec.specs.declared.node.Node.{Node}
-use Rattle.nmgc_world_spec.specs.declared.node.Node.TheVariants.{Con, Var, Arr, Thunk, Weak, Stack}
-use Rattle.nmgc_world_spec.specs.declared.change.Change.{Change}
+use Rattle.nmgc_graph.proofs.Vocabulary.{◌≡◌, ℕ, List, [], ◌∷◌, ◌++◌, length, set, cond, eqb, ltb, refl, sym, ap, ◌∙◌, Option, Some, None, Bool, true, false, slice_get, lt-ltb, Reply, Fine, Yes, No, NoField, StackFull, StackEmpty, Value, Node, Con, Var, Arr, Thunk, Weak, Stack, Change, is_same, given_or, exchanged_at, field_set, field_exchanged, thunk_updated, stack_pushed, stack_popped, weak_finalised, without_last, last_of, changed, is_done, field_written, result_written, value_pushed, top_dropped, killed, written, get_is_some, none_left}
 use Rattle.nmgc_world_spec.specs.declared.change.Change.TheVariants as change
-use Rattle.nmgc_world_spec.specs.Change.{is_same, given_or, exchanged_at, field_set, field_exchanged, thunk_updated, stack_pushed, stack_popped, weak_finalised, without_last, last_of, changed, is_done, field_written, result_written, value_pushed, top_dropped, killed, written}
-use Rattle.nmgc_lists.specs.laws.Items.{get_is_some}
-use Rattle.nmgc_world_spec.specs.laws.Common.{none_left}
 
 -- what is left is what was made, where the answer says so, and else what was there
 abbrev Halves : Node × Reply → Node → Node → Type 0

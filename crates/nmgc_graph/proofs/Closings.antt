@@ -1,24 +1,6 @@
 -- Closing keeps the world closed, and leaves every other node as it is.
-use Rattle.std.proofs.Common.{◌≡◌, ◌≢◌, ◌<◌, ℕ, List, [], ◌∷◌, ◌++◌, length, take, get_or, set, refl, sym, ap, subst, ◌∙◌, Option, Some, Result, Ok, Err}
-use Rattle.std.specs.Prelude.{Contains, All, OnOk, OnErr, slice_get}
-use Rattle.std.specs.List.{refill}
-use Rattle.std.proofs.lemmas.Bool.{ne_eqb}
-use Rattle.std.proofs.lemmas.List.Elements.{All-head, All-tail, All-weaker, All-take, Contains-get_or}
-use Rattle.nmgc_lists.specs.declared.memory.NoMemory.{NoMemory}
-use Rattle.nmgc_limits.specs.declared.mutators.TheConstants.{SHARED_MAKER}
-use Rattle.nmgc_world_spec.specs.declared.value.Name.{Name}
-use Rattle.nmgc_world_spec.specs.declared.node.Node.{Node}
-use Rattle.nmgc_world_spec.specs.declared.node.Node.TheVariants.{Weak}
-use Rattle.nmgc_world_spec.specs.declared.mutator_state.MutatorState.{MutatorState}
-use Rattle.nmgc_world_spec.specs.World.{World, state_of, node_of, IsWorld}
-use Rattle.nmgc_world_spec.specs.Reach.{IsAliveWeak, IsBefore, IsInOrder, closed, closed_by}
-use Rattle.nmgc_graph.specs.Closing.{finaliser_of}
-use Rattle.nmgc_world_spec.specs.laws.Orders.{not_before_itself, in_order_first, in_order_rest, in_order_take, in_order_apart}
-use Rattle.nmgc_lists.specs.laws.Items.{contains_head, contains_tail}
-use Rattle.nmgc_world_laws.specs.laws.Closings.{with_dead, closed_state, closed_other, closed_length, dead_keeps}
-use Rattle.nmgc_world_laws.specs.laws.Weaks.{weak_within, weak_maker}
+use Rattle.nmgc_graph.proofs.Vocabulary.{◌≡◌, ◌≢◌, ◌<◌, ℕ, List, [], ◌∷◌, ◌++◌, length, take, get_or, set, refl, sym, ap, subst, ◌∙◌, Option, Some, Result, Ok, Err, Contains, All, OnOk, OnErr, slice_get, refill, ne_eqb, All-head, All-tail, All-weaker, All-take, Contains-get_or, NoMemory, SHARED_MAKER, Name, Node, Weak, MutatorState, World, state_of, node_of, IsWorld, IsAliveWeak, IsBefore, IsInOrder, closed, closed_by, finaliser_of, not_before_itself, in_order_first, in_order_rest, in_order_take, in_order_apart, contains_head, contains_tail, with_dead, closed_state, closed_other, closed_length, dead_keeps, weak_within, weak_maker, not_shared, lent, replaced, same_state}
 use Rattle.nmgc_graph.proofs.Lent.{back_is}
-use Rattle.nmgc_world_laws.specs.laws.Worlds.{not_shared, lent, replaced, same_state}
 
 -- the world with one weak pointer less is a world
 module _ (w : World) (h : IsWorld w) (weak : Name) (alive : IsAliveWeak w weak) where

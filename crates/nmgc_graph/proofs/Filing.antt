@@ -1,25 +1,6 @@
 -- Filing weak pointers by the names that they wait for, and going over those that wait for one.
-use Rattle.std.proofs.Common.{◌≡◌, ◌≢◌, ◌<◌, ◌≤◌, ◌+◌, ℕ, List, [], ◌∷◌, ◌++◌, length, set, inl, inr, refl, sym, ap, subst, ◌∙◌, arith, ◌⊎◌, length-append, Option, Some, None}
-use Rattle.std.specs.Prelude.{Contains, IsSome, IfSome, slice_index}
-use Rattle.std.proofs.Math.ListN.{get_or-append}
-use Rattle.std.proofs.Math.Seq.{get_or-append_seam}
-use Rattle.std.proofs.lemmas.Bool.{cases_lt, cases_eq}
-use Rattle.std.proofs.lemmas.Bool.Decides.{eqb_tells}
-use Rattle.std.proofs.lemmas.List.{get_or-set_same, get_or-set_other, get_or_past, length-set}
-use Rattle.std.proofs.lemmas.List.Elements.{Contains-append_left, Contains-push}
-use Rattle.std.proofs.lemmas.List.Sums.{fold-append}
-use Rattle.nmgc_limits.specs.declared.mutators.TheConstants.{SHARED_MAKER}
-use Rattle.nmgc_world_spec.specs.declared.value.Name.{Name}
-use Rattle.nmgc_graph.specs.declared.search.Search.{Search}
-use Rattle.nmgc_graph.specs.declared.waiting.Waiting.{Waiting}
-use Rattle.nmgc_world_spec.specs.World.{World, node_of, state_of, IsWorld}
-use Rattle.nmgc_graph.specs.Marks.{HasPlaces, count_of}
-use Rattle.nmgc_graph.specs.Search.{parts_of, with_weak, with_weaks}
-use Rattle.nmgc_graph.specs.Waiting.{key_of, bounds_of, bound_of, HasBound, with_bound, with_next, weak_at, IsBound, AreFiled, IsRevival}
-use Rattle.nmgc_world_spec.specs.laws.Orders.{same_name, name_cases}
-use Rattle.nmgc_lists.specs.laws.Items.{get_is_some}
-use Rattle.nmgc_graph.proofs.Follows.{places_stay}
-use Rattle.nmgc_graph.proofs.Weaks.{weaks_mark}
+use Rattle.nmgc_graph.proofs.Vocabulary.{◌≡◌, ◌≢◌, ◌<◌, ◌≤◌, ◌+◌, ℕ, List, [], ◌∷◌, ◌++◌, length, set, inl, inr, refl, sym, ap, subst, ◌∙◌, arith, ◌⊎◌, length-append, Option, Some, None, Contains, IsSome, IfSome, slice_index, get_or-append, get_or-append_seam, cases_lt, cases_eq, eqb_tells, get_or-set_same, get_or-set_other, get_or_past, length-set, Contains-append_left, Contains-push, fold-append, SHARED_MAKER, Name, Search, Waiting, World, node_of, state_of, IsWorld, HasPlaces, count_of, parts_of, with_weak, with_weaks, key_of, bounds_of, bound_of, HasBound, with_bound, with_next, weak_at, IsBound, AreFiled, IsRevival, same_name, name_cases, get_is_some}
+use Rattle.nmgc_graph.proofs.{Follows.places_stay, Weaks.weaks_mark}
 
 -- a name of the map is among as many as its maker has
 name_counted : (w : World) (name : Name) → IsSome (node_of w name) → name.serial < count_of w name.maker

@@ -1,17 +1,5 @@
 -- Following strong fields: what each step keeps, and what is reached in the end.
-use Rattle.std.proofs.Common.{◌≡◌, ◌+◌, List, [], ◌∷◌, ◌++◌, length, inl, inr, refl, sym, subst, ◌∙◌, arith, Bool, ◌⊎◌, length-append, Option, Some, None}
-use Rattle.std.specs.Prelude.{Contains, All, IfSome}
-use Rattle.std.proofs.lemmas.List.Elements.{All-nil, Contains-append_left, Contains-push, Contains-push_cases}
-use Rattle.nmgc_world_spec.specs.declared.value.Name.{Name}
-use Rattle.nmgc_world_spec.specs.declared.value.Value.{Value}
-use Rattle.nmgc_world_spec.specs.declared.value.Value.TheVariants.{Ref}
-use Rattle.nmgc_world_spec.specs.declared.node.Node.{Node}
-use Rattle.nmgc_graph.specs.declared.search.Search.{Search}
-use Rattle.nmgc_world_spec.specs.World.{World, node_of, IsKnown, AreKnown, IsNodeOf, IsWorld}
-use Rattle.nmgc_graph.specs.Marks.{IsMarked, IsPlaced, unmarked_count, HasPlaces}
-use Rattle.nmgc_world_spec.specs.Reach.{IsReached, strong_fields, RefersTo}
-use Rattle.nmgc_graph.specs.Search.{with_values, fields_in, IsSearch, IsFollowed}
-use Rattle.nmgc_world_laws.specs.laws.Nodes.{fields_known}
+use Rattle.nmgc_graph.proofs.Vocabulary.{◌≡◌, ◌+◌, List, [], ◌∷◌, ◌++◌, length, inl, inr, refl, sym, subst, ◌∙◌, arith, Bool, ◌⊎◌, length-append, Option, Some, None, Contains, All, IfSome, All-nil, Contains-append_left, Contains-push, Contains-push_cases, Name, Value, Ref, Node, Search, World, node_of, IsKnown, AreKnown, IsNodeOf, IsWorld, IsMarked, IsPlaced, unmarked_count, HasPlaces, IsReached, strong_fields, RefersTo, with_values, fields_in, IsSearch, IsFollowed, fields_known}
 use Rattle.nmgc_graph.proofs.Searches.{Marks, values_mark, are_placed}
 
 -- what a name refers to is in its fields, and the other way round

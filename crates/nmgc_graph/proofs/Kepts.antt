@@ -1,26 +1,6 @@
 -- From the live names to the dead weak pointers and the kept names.
-use Rattle.std.proofs.Common.{◌≡◌, ◌<◌, ◌≤◌, ◌+◌, ℕ, List, [], ◌∷◌, ◌++◌, length, inl, inr, refl, sym, ap, subst, ◌∙◌, arith, Bool, true, false, not, Option, Some, None}
-use Rattle.std.specs.Prelude.{Contains, IsSome, filter, is_some}
-use Rattle.std.proofs.lemmas.Bool.{false≢true, and_parts, and_from, not-true, not_from_false, false_from_ne_true}
-use Rattle.std.proofs.lemmas.List.Elements.{All-nil, All-tail, All-append, All-get_or, Contains-append_left, Contains-append_right, Contains-append_cases, Contains-push, Contains-push_cases}
-use Rattle.nmgc_world_spec.specs.declared.value.Name.{Name}
-use Rattle.nmgc_world_spec.specs.declared.value.Value.{Value}
-use Rattle.nmgc_world_spec.specs.declared.value.Value.TheVariants.{Nil, Number, Ref}
-use Rattle.nmgc_world_spec.specs.declared.node.Parts.{Parts}
-use Rattle.nmgc_graph.specs.declared.search.Search.{Search}
-use Rattle.nmgc_world_spec.specs.World.{World, node_of, serial_of, IsKnown, AreKnown, IsWorld, parts_held}
-use Rattle.nmgc_graph.specs.Marks.{mark_of, IsMarked, IsPlaced, HasPlaces, with_mark}
-use Rattle.nmgc_world_spec.specs.Reach.{IsReached, IsAliveWeak, IsDead, IsKept, Lists}
-use Rattle.nmgc_world_spec.specs.Order.{ListsBefore}
-use Rattle.nmgc_graph.specs.Search.{with_values, parts_of, is_key_marked, is_lost, IsLost, IsSetOf, finaliser_in, finalisers_of, IsSearch, IsFollowed, IsLiveFound, IsKeptFound}
-use Rattle.nmgc_lists.specs.laws.Items.{contains_head, contains_tail, contains_cases}
-use Rattle.nmgc_world_spec.specs.laws.Orders.{contains_filter, filter_contains, in_order_filter, lists_maker, lists_all, name_cases}
-use Rattle.nmgc_graph.specs.laws.Rows.{added, kept_others, places_kept, makers_kept, name_placed}
-use Rattle.nmgc_world_laws.specs.laws.Weaks.{weak_within, weak_maker}
-use Rattle.nmgc_graph.proofs.Searches.{Marks, values_mark, are_placed, known_placed}
-use Rattle.nmgc_graph.proofs.Follows.{places_stay, search_stays}
-use Rattle.nmgc_graph.specs.laws.Common.{alive_from_parts, parts_from_alive}
-use Rattle.nmgc_graph.proofs.Weaks.{parts_known}
+use Rattle.nmgc_graph.proofs.Vocabulary.{◌≡◌, ◌<◌, ◌≤◌, ◌+◌, ℕ, List, [], ◌∷◌, ◌++◌, length, inl, inr, refl, sym, ap, subst, ◌∙◌, arith, Bool, true, false, not, Option, Some, None, Contains, IsSome, filter, is_some, false≢true, and_parts, and_from, not-true, not_from_false, false_from_ne_true, All-nil, All-tail, All-append, All-get_or, Contains-append_left, Contains-append_right, Contains-append_cases, Contains-push, Contains-push_cases, Name, Value, Nil, Number, Ref, Parts, Search, World, node_of, serial_of, IsKnown, AreKnown, IsWorld, parts_held, mark_of, IsMarked, IsPlaced, HasPlaces, with_mark, IsReached, IsAliveWeak, IsDead, IsKept, Lists, ListsBefore, with_values, parts_of, is_key_marked, is_lost, IsLost, IsSetOf, finaliser_in, finalisers_of, IsSearch, IsFollowed, IsLiveFound, IsKeptFound, contains_head, contains_tail, contains_cases, contains_filter, filter_contains, in_order_filter, lists_maker, lists_all, name_cases, added, kept_others, places_kept, makers_kept, name_placed, weak_within, weak_maker, alive_from_parts, parts_from_alive}
+use Rattle.nmgc_graph.proofs.{Searches.Marks, Searches.values_mark, Searches.are_placed, Searches.known_placed, Follows.places_stay, Follows.search_stays, Weaks.parts_known}
 
 -- an alive weak pointer is one where its parts are there
 pub weak_some : (w : World) (weak : Name) (o : Option Parts) → o ≡ parts_of w weak → is_some o ≡ true → IsAliveWeak w weak
@@ -94,13 +74,6 @@ set_same w done marks name s lacks = record {
     | inl d ↦ s.complete n d known
     | inr e ↦ let P : Name → Type 0 = λ m. IsSome (node_of w m) in absurd (lacks (subst P (sym e) known))
   ];
-}
-
-pub set_none : (w : World) (marks : List (List Bool)) → HasPlaces w marks → ((n : Name) → mark_of marks n ≡ false) → IsSetOf w [] marks
-set_none w marks places none = record {
-  places = places;
-  sound = λ n m. absurd (false≢true (sym (none n) ∙ m));
-  complete = λ n c known. absurd (omega (arith, c.1));
 }
 
 -- the lost weak pointers are those that pass the test

@@ -1,24 +1,5 @@
 -- What a part that was lent and changed leaves, where the change may want memory.
-use Rattle.std.proofs.Common.{◌≡◌, ◌≢◌, ◌<◌, ◌-◌, ℕ, List, map, length, get_or, set, refl, sym, ap, subst, ◌∙◌, length-set, Some, Result, Ok, Err}
-use Rattle.std.specs.Prelude.{IsSome, IfOk, OnOk, OnErr, slice_get, All}
-use Rattle.std.specs.List.{refill}
-use Rattle.std.proofs.lemmas.Bool.{ne_eqb}
-use Rattle.std.proofs.lemmas.Option.{get_or_from_slice_get}
-use Rattle.nmgc_lists.specs.declared.memory.NoMemory.{NoMemory}
-use Rattle.nmgc_world_spec.specs.declared.command.Operand.{Operand}
-use Rattle.nmgc_world_spec.specs.declared.command.Reply.{Reply}
-use Rattle.nmgc_limits.specs.declared.mutators.TheConstants.{SHARED_MAKER}
-use Rattle.nmgc_world_spec.specs.declared.value.Name.{Name}
-use Rattle.nmgc_world_spec.specs.declared.value.Value.{Value}
-use Rattle.nmgc_world_spec.specs.declared.node.Node.{Node}
-use Rattle.nmgc_world_spec.specs.declared.change.Change.{Change}
-use Rattle.nmgc_world_spec.specs.declared.mutator_state.MutatorState.{MutatorState}
-use Rattle.nmgc_world_spec.specs.World.{World, state_of, node_of, AreKnown, IsKnownReply, IsKnownChange, IsWorld}
-use Rattle.nmgc_world_spec.specs.Command.{IsOperand}
-use Rattle.nmgc_world_spec.specs.Change.{changed}
-use Rattle.nmgc_world_spec.specs.Step.{with_state, with_nth, with_node, value_of, change_node}
-use Rattle.nmgc_world_laws.specs.laws.Worlds.{refill_whole, operands_known, replaced, lent, is_shared, shared_changed, shared_reply, within, maker_exists, nth_changed, nth_reply, in_state, same_state}
-use Rattle.nmgc_lists.specs.laws.Items.{is_some_of}
+use Rattle.nmgc_graph.proofs.Vocabulary.{◌≡◌, ◌≢◌, ◌<◌, ℕ, List, map, length, get_or, set, refl, sym, ap, subst, ◌∙◌, Some, Result, Ok, Err, IsSome, IfOk, OnOk, OnErr, slice_get, All, refill, ne_eqb, get_or_from_slice_get, NoMemory, Operand, Reply, SHARED_MAKER, Name, Value, Node, Change, MutatorState, World, state_of, node_of, AreKnown, IsKnownReply, IsKnownChange, IsWorld, IsOperand, changed, with_state, with_nth, with_node, value_of, change_node, refill_whole, operands_known, replaced, lent, shared_changed, within, maker_exists, nth_changed, nth_reply, in_state, same_state, is_some_of, length-set}
 
 -- the values that a call gave are known, if it gave any
 pub values_known : (w : World) (m : ℕ) → IsWorld w → m < length w.mutators → (os : List Operand) → All IsOperand os → (registers : List Value) →
@@ -64,18 +45,6 @@ module _ (w : World) (h : IsWorld w) (name : Name) (c : Change) (there : IsSome 
   g_keeps (Ok reply) ok err = subst (λ (n : Node). IsWorld (record w { shared = n })) (ap (λ (p : Node × Reply).
       p.0) ok) (shared_changed w h name c there known at SHARED_MAKER)
   g_keeps (Err f) ok err = subst (λ (n : Node). IsWorld (record w { shared = n })) (sym err) h
-
-  pub g_reply : (r : Result Reply NoMemory) → IfOk r (λ reply. ◌≡◌ {A = Node × Reply} (changed c SHARED_MAKER w.shared) (made, reply)) →
-      IfOk r (IsKnownReply (record w { shared = made }))
-  g_reply (Ok reply) ok = subst (λ (p : Node × Reply). IsKnownReply (record w { shared = p.0 }) p.1) ok (shared_reply w h name c there known at SHARED_MAKER)
-  g_reply (Err f) ok = tt
-
-  pub g_answer : (r : Result Reply NoMemory) → IfOk r (λ reply. ◌≡◌ {A = Node × Reply} (changed c SHARED_MAKER w.shared) (made, reply)) →
-      IfOk r (λ reply. ◌≡◌ {A = World × Reply} (change_node w name (node_of w name) c) (record w { shared = made }, reply))
-  g_answer (Ok reply) ok =
-      let pair : Node × Reply → World × Reply = λ p. (record w { shared = p.0 }, p.1) in
-      rw (is_shared w h name c there known at, at) (ap pair ok)
-  g_answer (Err f) ok = tt
 
 -- an object in a world that was lent and changed: the world in the end
 pub back_is : (w : World) (m : ℕ) (ys : List MutatorState) (e : ys ≡ w.mutators) (new q : MutatorState) → new ≡ q →

@@ -7,3 +7,4 @@ pub mod Lent
 pub mod Lives
 pub mod Searches
 pub mod Weaks
+mod Vocabulary

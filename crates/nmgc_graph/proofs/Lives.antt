@@ -1,25 +1,6 @@
 -- From a search to the live names: what it begins with, and what it has found in the end.
-use Rattle.std.proofs.Common.{◌≡◌, ◌+◌, ℕ, zero, suc, List, [], ◌∷◌, ◌++◌, length, map, get_or, inl, inr, refl, sym, ap, subst, ◌∙◌, arith, Bool, true, false, Some}
-use Rattle.std.specs.Prelude.{Contains, All, IsSome, flat_map}
-use Rattle.std.proofs.lemmas.Bool.{false≢true}
-use Rattle.std.proofs.lemmas.List.{get_or_read}
-use Rattle.std.proofs.lemmas.List.Elements.{All-cons, All-nil, All-head, All-tail, All-append, All-contains, All-from_get_or, All-weaker, Contains-append_left, Contains-append_right, Contains-append_cases}
-use Rattle.nmgc_world_spec.specs.declared.value.Name.{Name}
-use Rattle.nmgc_world_spec.specs.declared.value.Value.{Value}
-use Rattle.nmgc_world_spec.specs.declared.value.Value.TheVariants.{Nil, Number, Ref}
-use Rattle.nmgc_world_spec.specs.declared.node.Parts.{Parts}
-use Rattle.nmgc_graph.specs.declared.search.Search.{Search}
-use Rattle.nmgc_world_spec.specs.World.{World, node_of, state_of, no_mutator, IsKnown, AreKnown, IsWorld}
-use Rattle.nmgc_world_spec.specs.Step.{shared_name}
-use Rattle.nmgc_graph.specs.Marks.{mark_of, IsMarked, HasPlace, unmarked_count, HasPlaces}
-use Rattle.nmgc_world_spec.specs.Reach.{IsRoot, IsLive, IsAlive, IsAliveWeak, IsKeptBy, IsPlain}
-use Rattle.nmgc_graph.specs.Search.{with_name, with_values, with_weaks, values_held, starts_of, is_key_marked, fields_in, IsLiveSearch, AreRevived, IsLiveFound}
-use Rattle.nmgc_graph.specs.Waiting.{key_of, weak_at, IsRevival}
-use Rattle.nmgc_lists.specs.laws.Items.{contains_head, contains_tail, contains_cases}
-use Rattle.nmgc_graph.specs.laws.Rows.{name_placed}
-use Rattle.nmgc_graph.proofs.Searches.{Marks, same_ref, values_mark, name_marks, are_placed, then_marks}
-use Rattle.nmgc_graph.proofs.Follows.{places_stay, search_stays, refers_in, fields_refer, fields_mark, was_marked, still_waits, search_goes_on, one_less}
-use Rattle.nmgc_graph.proofs.Weaks.{weaks_mark, weaks_sound, weaks_begun, key_cases, key_from_alive, revived}
+use Rattle.nmgc_graph.proofs.Vocabulary.{◌≡◌, ◌+◌, ℕ, zero, suc, List, [], ◌∷◌, ◌++◌, length, map, get_or, inl, inr, refl, sym, ap, subst, ◌∙◌, arith, Bool, true, false, Some, Contains, All, IsSome, flat_map, false≢true, get_or_read, All-cons, All-nil, All-head, All-tail, All-append, All-contains, All-from_get_or, All-weaker, Contains-append_left, Contains-append_right, Contains-append_cases, Name, Value, Nil, Number, Ref, Parts, Search, World, node_of, state_of, no_mutator, IsKnown, AreKnown, IsWorld, shared_name, mark_of, IsMarked, HasPlace, unmarked_count, HasPlaces, IsRoot, IsLive, IsAlive, IsAliveWeak, IsKeptBy, IsPlain, with_name, with_values, with_weaks, values_held, starts_of, is_key_marked, fields_in, IsLiveSearch, AreRevived, IsLiveFound, key_of, weak_at, IsRevival, contains_head, contains_tail, contains_cases, name_placed}
+use Rattle.nmgc_graph.proofs.{Searches.Marks, Searches.same_ref, Searches.values_mark, Searches.name_marks, Searches.are_placed, Searches.then_marks, Follows.places_stay, Follows.search_stays, Follows.refers_in, Follows.fields_refer, Follows.fields_mark, Follows.was_marked, Follows.still_waits, Follows.search_goes_on, Follows.one_less, Weaks.weaks_mark, Weaks.weaks_sound, Weaks.weaks_begun, Weaks.key_cases, Weaks.key_from_alive, Weaks.revived}
 
 -- an element of one of the lists that are joined
 contains_flat_map : {A B : Type 0} (f : A → List B) (xs : List A) (i : ℕ) (d : A) (y : B) → f d ≡ [] → Contains (f (get_or xs i d)) y →

@@ -1,18 +1,5 @@
 -- What marking names in a search changes, and what it keeps.
-use Rattle.std.proofs.Common.{◌≡◌, ◌≤◌, ◌+◌, ℕ, List, [], ◌∷◌, ◌++◌, length, inl, inr, refl, sym, subst, ◌∙◌, arith, Bool, false, ◌⊎◌, length-append, map}
-use Rattle.std.specs.Prelude.{Contains, All}
-use Rattle.std.proofs.lemmas.Bool.{cases_Bool}
-use Rattle.std.proofs.lemmas.List.Elements.{All-head, All-tail, All-weaker, All-map, Contains-append_left, Contains-append_right, Contains-append_cases, Contains-push, Contains-push_cases}
-use Rattle.nmgc_world_spec.specs.declared.value.Name.{Name}
-use Rattle.nmgc_world_spec.specs.declared.value.Value.{Value}
-use Rattle.nmgc_world_spec.specs.declared.value.Value.TheVariants.{Nil, Number, Ref}
-use Rattle.nmgc_graph.specs.declared.search.Search.{Search}
-use Rattle.nmgc_world_spec.specs.World.{World, IsKnown, AreKnown}
-use Rattle.nmgc_graph.specs.Marks.{row_of, mark_of, IsMarked, HasPlace, IsPlaced, with_mark, unmarked_count, HasPlaces}
-use Rattle.nmgc_graph.specs.Search.{with_name, with_value, with_values}
-use Rattle.nmgc_lists.specs.laws.Items.{contains_head, contains_cases}
-use Rattle.nmgc_graph.specs.laws.Rows.{name_placed, added, kept_others, places_kept, makers_kept, one_fewer}
-use Rattle.nmgc_world_spec.specs.laws.Orders.{name_cases}
+use Rattle.nmgc_graph.proofs.Vocabulary.{◌≡◌, ◌≤◌, ◌+◌, ℕ, List, [], ◌∷◌, ◌++◌, length, inl, inr, refl, sym, subst, ◌∙◌, arith, Bool, false, ◌⊎◌, length-append, map, Contains, All, cases_Bool, All-head, All-tail, All-weaker, All-map, Contains-append_left, Contains-append_right, Contains-append_cases, Contains-push, Contains-push_cases, Name, Value, Nil, Number, Ref, Search, World, IsKnown, AreKnown, row_of, mark_of, IsMarked, HasPlace, IsPlaced, with_mark, unmarked_count, HasPlaces, with_name, with_value, with_values, contains_head, contains_cases, name_placed, added, kept_others, places_kept, makers_kept, one_fewer, name_cases}
 
 -- what marking the names that these values refer to changes
 pub record Marks (s t : Search) (values : List Value) : Type 0 where

@@ -1,25 +1,6 @@
 -- Passing over the weak pointers: what a pass marks, and that it is live.
-use Rattle.std.proofs.Common.{◌≡◌, List, [], ◌∷◌, ◌++◌, inl, inr, refl, sym, ap, subst, ◌∙◌, arith, Bool, true, ◌⊎◌, Option, Some, None}
-use Rattle.std.specs.Prelude.{Contains, All, IsSome, IfSome, option_and_then}
-use Rattle.std.proofs.lemmas.Bool.{cases_Bool}
-use Rattle.std.proofs.lemmas.List.Elements.{All-cons, All-tail}
-use Rattle.nmgc_world_spec.specs.declared.value.Name.{Name}
-use Rattle.nmgc_world_spec.specs.declared.value.Value.{Value}
-use Rattle.nmgc_world_spec.specs.declared.value.Value.TheVariants.{Nil, Number, Ref}
-use Rattle.nmgc_world_spec.specs.declared.node.Parts.{Parts}
-use Rattle.nmgc_world_spec.specs.declared.node.Node.{Node}
-use Rattle.nmgc_world_spec.specs.declared.node.Node.TheVariants.{Con, Var, Arr, Thunk, Weak, Stack}
-use Rattle.nmgc_graph.specs.declared.search.Search.{Search}
-use Rattle.nmgc_world_spec.specs.World.{World, node_of, AreKnown, IsNodeOf, IsWorld, parts_held}
-use Rattle.nmgc_graph.specs.Marks.{IsMarked, IsPlaced, HasPlaces}
-use Rattle.nmgc_world_spec.specs.Reach.{IsAlive, IsAliveWeak, IsKeptBy, IsLive}
-use Rattle.nmgc_graph.specs.Search.{with_weak, with_weaks, parts_in, parts_of, is_key_marked, AreRevived}
-use Rattle.nmgc_graph.specs.Waiting.{name_in, key_of}
-use Rattle.nmgc_lists.specs.laws.Items.{contains_head, contains_tail, contains_cases}
-use Rattle.nmgc_graph.specs.laws.Rows.{name_placed}
-use Rattle.nmgc_graph.proofs.Searches.{same_ref, Marks, no_marks, then_marks, values_mark, are_placed}
-use Rattle.nmgc_graph.proofs.Follows.{places_stay}
-use Rattle.nmgc_graph.specs.laws.Common.{parts_from_alive, parts_alive, alive_from_parts}
+use Rattle.nmgc_graph.proofs.Vocabulary.{◌≡◌, List, [], ◌∷◌, ◌++◌, inl, inr, refl, sym, ap, subst, ◌∙◌, arith, Bool, true, ◌⊎◌, Option, Some, None, Contains, All, IsSome, IfSome, option_and_then, cases_Bool, All-cons, All-tail, Name, Value, Nil, Number, Ref, Parts, Node, Con, Var, Arr, Thunk, Weak, Stack, Search, World, node_of, AreKnown, IsNodeOf, IsWorld, parts_held, IsMarked, IsPlaced, HasPlaces, IsAlive, IsAliveWeak, IsKeptBy, IsLive, with_weak, with_weaks, parts_in, parts_of, is_key_marked, AreRevived, name_in, key_of, contains_head, contains_tail, contains_cases, name_placed, parts_from_alive, parts_alive, alive_from_parts}
+use Rattle.nmgc_graph.proofs.{Searches.same_ref, Searches.Marks, Searches.no_marks, Searches.then_marks, Searches.values_mark, Searches.are_placed, Follows.places_stay}
 
 -- an alive weak pointer waits for the name that its key refers to
 pub key_from_alive : (w : World) (weak name : Name) (parts : Parts) → IsAlive w weak parts → parts.key ≡ Ref name → key_of w weak ≡ Some name

@@ -1,12 +1,6 @@
 -- Closing, one weak pointer at a time.
 use Rattle.std.specs.Prelude.{◌≡◌, ℕ, List, take, Option, Some}
-use Rattle.nmgc_world_spec.specs.declared.value.Value.{Value}
-use Rattle.nmgc_world_spec.specs.declared.value.Value.TheVariants.{Nil}
-use Rattle.nmgc_world_spec.specs.declared.node.Node.{Node}
-use Rattle.nmgc_world_spec.specs.declared.node.Node.TheVariants.{Weak}
-use Rattle.nmgc_world_spec.specs.declared.value.Name.{Name}
-use Rattle.nmgc_world_spec.specs.World.{World}
-use Rattle.nmgc_world_spec.specs.Reach.{closed}
+use Rattle.nmgc_world_spec.specs.{declared.value.Value.Value, declared.value.Value.TheVariants.Nil, declared.node.Node.Node, declared.node.Node.TheVariants.Weak, declared.value.Name.Name, World.World, Reach.closed}
 
 -- the world is closed with the first so many of the weak pointers
 abbrev pub IsPartlyClosed : World → List Name → World → Type 0

@@ -1,11 +1,9 @@
 -- A set of names, as a row of marks for each maker, with a mark for each serial. It has a place for
 -- finitely many names, and no other name can be in it.
 use Rattle.std.specs.Prelude.{◌≡◌, ℕ, ◌+◌, ◌<◌, List, [], length, Bool, true, false, not, count_by, sum_by, slice_index_or, slice_set, if◌then◌else◌, ◌==◌}
-use Rattle.nmgc_world_spec.specs.declared.value.Name.{Name}
+use Rattle.nmgc_world_spec.specs.{declared.value.Name.Name, declared.value.Value.Value, World.World, World.serial_of}
 use Rattle.nmgc_limits.specs.declared.mutators.TheConstants.{MAKERS, SHARED_MAKER}
-use Rattle.nmgc_world_spec.specs.declared.value.Value.{Value}
 use Rattle.nmgc_world_spec.specs.declared.value.Value.TheVariants as value
-use Rattle.nmgc_world_spec.specs.World.{World, serial_of}
 
 -- the marks of one maker's names
 abbrev pub row_of : List (List Bool) → ℕ → List Bool

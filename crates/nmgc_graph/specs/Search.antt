@@ -2,17 +2,9 @@
 --
 -- These are the words of the private contracts. What the public calls answer is said by `Reach` alone.
 use Rattle.std.specs.Prelude.{◌≡◌, ◌⊎◌, ◌≤◌, List, [], ◌∷◌, ◌++◌, map, flat_map, Bool, true, false, not, ◌&&◌, Contains, IsSome, fold, Option, Some, None, option_and_then, if◌then◌else◌}
-use Rattle.nmgc_world_spec.specs.declared.value.Name.{Name}
-use Rattle.nmgc_world_spec.specs.declared.value.Value.{Value}
+use Rattle.nmgc_world_spec.specs.{declared.value.Name.Name, declared.value.Value.Value, declared.node.Parts.Parts, declared.node.Node.Node, declared.node.Node.TheVariants.Weak, World.World, World.node_of, declared.mutator_state.MutatorState.MutatorState, Step.shared_name}
 use Rattle.nmgc_world_spec.specs.declared.value.Value.TheVariants as value
-use Rattle.nmgc_world_spec.specs.declared.node.Parts.{Parts}
-use Rattle.nmgc_world_spec.specs.declared.node.Node.{Node}
-use Rattle.nmgc_world_spec.specs.declared.node.Node.TheVariants.{Weak}
-use Rattle.nmgc_graph.specs.declared.search.Search.{Search}
-use Rattle.nmgc_world_spec.specs.World.{World, node_of}
-use Rattle.nmgc_graph.specs.Marks.{mark_of, IsMarked, with_mark, unmarked_count, HasPlaces}
-use Rattle.nmgc_world_spec.specs.declared.mutator_state.MutatorState.{MutatorState}
-use Rattle.nmgc_world_spec.specs.Step.{shared_name}
+use Rattle.nmgc_graph.specs.{declared.search.Search.Search, Marks.mark_of, Marks.IsMarked, Marks.with_mark, Marks.unmarked_count, Marks.HasPlaces}
 use Rattle.nmgc_world_spec.specs.Reach.{strong_fields, RefersTo, IsReached, IsAlive, IsKeptBy, IsLive, IsKept}
 
 -- a name that wasn't marked is marked, and waits

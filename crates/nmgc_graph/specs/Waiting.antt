@@ -3,14 +3,9 @@
 -- These are words of the private contracts. A weak pointer is told by its place in the list, and those that wait for a
 -- name by a bound: each has a place below it, and the last of them the place just below it. It is 0 where none waits.
 use Rattle.std.specs.Prelude.{◌≡◌, ℕ, ◌+◌, ◌<◌, ◌≤◌, List, [], ◌∷◌, ◌++◌, length, slice_index, slice_index_or, slice_set, Option, Some, None, IsSome, Contains, option_and_then}
-use Rattle.nmgc_world_spec.specs.declared.value.Name.{Name}
-use Rattle.nmgc_world_spec.specs.declared.value.Value.{Value}
+use Rattle.nmgc_world_spec.specs.{declared.value.Name.Name, declared.value.Value.Value, declared.node.Parts.Parts, World.World, World.node_of}
 use Rattle.nmgc_world_spec.specs.declared.value.Value.TheVariants as value
-use Rattle.nmgc_world_spec.specs.declared.node.Parts.{Parts}
-use Rattle.nmgc_graph.specs.declared.search.Search.{Search}
-use Rattle.nmgc_graph.specs.declared.waiting.Waiting.{Waiting}
-use Rattle.nmgc_world_spec.specs.World.{World, node_of}
-use Rattle.nmgc_graph.specs.Search.{parts_of, with_weaks}
+use Rattle.nmgc_graph.specs.{declared.search.Search.Search, declared.waiting.Waiting.Waiting, Search.parts_of, Search.with_weaks}
 
 -- the name that a value refers to, if it refers to one
 abbrev pub name_in : Value → Option Name

@@ -5,8 +5,7 @@
 //! its maker, in order of the weak pointers' names. So two runs that find the same dead weak
 //! pointers hand out the same finalisers in the same order.
 ghost use Rattle.std.specs.Prelude.{◌≡◌, ◌<◌, All, OnOk, OnErr, length, slice_get, Some, None};
-ghost use Rattle.nmgc_world_spec.specs.Reach.{queued};
-ghost use Rattle.nmgc_world_spec.specs.Step.{with_nth};
+ghost use Rattle.nmgc_world_spec.specs.{Reach.queued, Step.with_nth};
 ghost use Rattle.nmgc_graph.specs.Closing.{finaliser_of};
 
 use crate::World;
@@ -14,8 +13,7 @@ use nmgc_lists::NoMemory;
 use nmgc_world_spec::{MutatorState, Name, Node, Value};
 
 impl World {
-    ghost use Rattle.nmgc_world_spec.specs.World.{IsWorld, node_of};
-    ghost use Rattle.nmgc_world_spec.specs.Reach.{IsAliveWeak, IsInOrder, closed, closed_by};
+    ghost use Rattle.nmgc_world_spec.specs.{World.IsWorld, World.node_of, Reach.IsAliveWeak, Reach.IsInOrder, Reach.closed, Reach.closed_by};
     ghost use Rattle.nmgc_graph.specs.Closing.{IsPartlyClosed};
 
     /// Closes the world with dead weak pointers: each dies, and its finaliser, unless nil, joins the

@@ -6,8 +6,7 @@
 //! counts down, so that it ends.
 ghost use Rattle.std.specs.Prelude.{◌≡◌, ◌+◌, ◌<◌, ◌≤◌, ◌^◌, [], ◌∷◌, ◌++◌, length, true, false, not, replicate, slice_index_or, slice_set, IfOk, OnOk, All};
 ghost use Rattle.nmgc_graph.specs.Marks.{HasPlace, IsMarked, mark_of, row_of, with_mark};
-ghost use Rattle.nmgc_world_spec.specs.Reach.{Lists};
-ghost use Rattle.nmgc_world_spec.specs.Order.{ListsBefore};
+ghost use Rattle.nmgc_world_spec.specs.{Reach.Lists, Order.ListsBefore};
 
 use nmgc_lists::{List, NoMemory};
 use nmgc_world_spec::Name;

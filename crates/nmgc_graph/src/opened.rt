@@ -3,11 +3,8 @@
 //! Whoever reads a weak pointer's value, or finalises one, may come to hold what nothing else led to. From
 //! then on these names count as live. A finalised weak pointer is no longer the collector's to kill.
 ghost use Rattle.std.specs.Prelude.{◌≡◌, ◌<◌, length, IfOk, option_and_then};
-ghost use Rattle.nmgc_world_spec.specs.Command.{HasRegisters, IsOperand};
-ghost use Rattle.nmgc_world_spec.specs.Owed.{names_among};
-ghost use Rattle.nmgc_world_spec.specs.History.{opened_by, finalised_by};
+ghost use Rattle.nmgc_world_spec.specs.{Command.HasRegisters, Command.IsOperand, Owed.names_among, History.opened_by, History.finalised_by, Step.value_for, Step.object_of};
 ghost use Rattle.nmgc_graph.specs.Search.{parts_in};
-ghost use Rattle.nmgc_world_spec.specs.Step.{value_for, object_of};
 
 use crate::World;
 use nmgc_lists::NoMemory;

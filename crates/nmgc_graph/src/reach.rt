@@ -10,8 +10,7 @@
 //! it. One whose key is nil or a number waits for no name. And the weak pointer itself need not be referred to.
 ghost use Rattle.std.specs.Prelude.{◌≡◌, ℕ, ◌+◌, ◌<◌, [], false, IsSome, IfSome, IfOk, OnOk, All, length, flat_map};
 ghost use Rattle.nmgc_world_spec.specs.declared.value.Name.{Name as NameAt};
-ghost use Rattle.nmgc_graph.specs.Marks.{IsPlaced, mark_of};
-ghost use Rattle.nmgc_graph.specs.Search.{with_values, values_held, parts_in, fields_in};
+ghost use Rattle.nmgc_graph.specs.{Marks.IsPlaced, Marks.mark_of, Search.with_values, Search.values_held, Search.parts_in, Search.fields_in};
 
 use crate::World;
 use crate::marks::Marks;
@@ -22,12 +21,9 @@ use nmgc_lists::{List, NoMemory};
 use nmgc_world_spec::{MutatorState, Name, Node, Parts, Value};
 
 impl World {
-    ghost use Rattle.nmgc_world_spec.specs.World.{AreKnown, parts_held, node_of};
-    ghost use Rattle.nmgc_world_spec.specs.Reach.{IsAliveWeak, IsLive, IsDead, IsKept, Lists};
-    ghost use Rattle.nmgc_world_spec.specs.Order.{ListsBefore};
-    ghost use Rattle.nmgc_graph.specs.Marks.{HasPlaces, count_of};
+    ghost use Rattle.nmgc_world_spec.specs.{World.AreKnown, World.parts_held, World.node_of, Reach.IsAliveWeak, Reach.IsLive, Reach.IsDead, Reach.IsKept, Reach.Lists, Order.ListsBefore};
+    ghost use Rattle.nmgc_graph.specs.{Marks.HasPlaces, Marks.count_of, Waiting.key_of, Waiting.bounds_of, Waiting.bound_of, Waiting.AreFiled, Waiting.IsRevival};
     ghost use Rattle.nmgc_graph.specs.Search.{IsSearch, IsFollowed, parts_of, with_weak, with_weaks, starts_of, IsLiveSearch, IsLiveFound, IsKeptFound, IsLost, IsSetOf, is_lost, finalisers_of};
-    ghost use Rattle.nmgc_graph.specs.Waiting.{key_of, bounds_of, bound_of, AreFiled, IsRevival};
 
     /// The live names in order: g, what registers and finaliser queues refer to, the further names,
     /// and what these reach along strong fields and by live keys. After `NoMemory` there is no

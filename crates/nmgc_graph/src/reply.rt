@@ -11,9 +11,7 @@ use crate::change::{change_reply, given_or};
 use nmgc_world_spec::{Change, Command, Name, Reply, Value};
 
 impl World {
-    ghost use Rattle.nmgc_world_spec.specs.Command.{HasRegisters};
-    ghost use Rattle.nmgc_world_spec.specs.Step.{step, asked, change_asked, change_object, next_name};
-    ghost use Rattle.nmgc_world_spec.specs.World.{state_of};
+    ghost use Rattle.nmgc_world_spec.specs.{Command.HasRegisters, Step.step, Step.asked, Step.change_asked, Step.change_object, Step.next_name, World.state_of};
 
     /// What `apply` would answer to a command, if there is memory. Nothing is done. Takes no memory, and
     /// constant time.

@@ -5,9 +5,8 @@
 //! Names that are marked and not on the worklist have been dealt with: whoever takes a name off the
 //! worklist has to mark all that it refers to, before anything else is taken off.
 ghost use Rattle.std.specs.Prelude.{◌≡◌, All, OnOk, map};
-ghost use Rattle.nmgc_world_spec.specs.declared.value.Value.TheVariants.{Ref};
+ghost use Rattle.nmgc_world_spec.specs.{declared.value.Value.TheVariants.Ref, Reach.strong_fields};
 ghost use Rattle.nmgc_graph.specs.Marks.{HasPlace, IsPlaced};
-ghost use Rattle.nmgc_world_spec.specs.Reach.{strong_fields};
 
 use crate::marks::Marks;
 use nmgc_lists::{List, NoMemory};

@@ -12,11 +12,7 @@
 //! Easy to get wrong: after want of memory nothing may have changed, so what takes memory is done
 //! before a register is written.
 ghost use Rattle.std.specs.Prelude.{replicate, Some, None, [], ◌≡◌, ◌-◌, ◌<◌, ◌≤◌, ◌^◌, length, map, IfOk, IfSome, IsSome, OnOk, OnErr, slice_get, option_copied, All};
-ghost use Rattle.nmgc_world_spec.specs.World.{new_mutator};
-ghost use Rattle.nmgc_world_spec.specs.Command.{IsOperand, IsRegister};
-ghost use Rattle.nmgc_world_spec.specs.Step.{value_of, with_new, next_name, holding, with_finaliser, with_nth};
-ghost use Rattle.nmgc_world_spec.specs.declared.node.Node.{Node as NodeAt};
-ghost use Rattle.nmgc_world_spec.specs.Change.{given_or, changed, field_read, result_read, value_read};
+ghost use Rattle.nmgc_world_spec.specs.{World.new_mutator, Command.IsOperand, Command.IsRegister, Step.value_of, Step.with_new, Step.next_name, Step.holding, Step.with_finaliser, Step.with_nth, declared.node.Node.Node as NodeAt, Change.given_or, Change.changed, Change.field_read, Change.result_read, Change.value_read};
 
 use crate::change::{change_in_place, read_field, read_result, read_value, same};
 use nmgc_limits::{MAKERS, REGISTERS, SHARED_MAKER, SHARED_SLOTS};

@@ -1,2 +1,3 @@
-pub mod SmallHeaps
+pub mod SmallHeap
 pub mod Stood
+mod Vocabulary

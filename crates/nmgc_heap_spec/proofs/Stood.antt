@@ -1,26 +1,5 @@
 -- Words that represent a world whose objects lie in blocks of four words at the beginning of the first segment.
-use Rattle.std.proofs.Common.{◌≡◌, ◌⊎◌, inl, inr, ℕ, zero, suc, ◌+◌, ◌*◌, ◌<◌, ◌≤◌, List, [], ◌∷◌, length, map, drop, replicate, get_or, refl, sym, ap, subst, ◌∙◌, arith, slice_index, Some, lit≤, lit<}
-use Rattle.std.specs.Prelude.{slice_get, Contains, IsSome, ◌==◌}
-use Rattle.std.proofs.lemmas.Bool.{cases_lt, eqb-true}
-use Rattle.std.proofs.lemmas.List.{get_or-drop}
-use Rattle.std.proofs.lemmas.Option.{slice_get-get_or, slice_get_within}
-use Rattle.nmgc_world_spec.specs.declared.value.Name.{Name}
-use Rattle.nmgc_limits.specs.declared.mutators.TheConstants.{SHARED_MAKER}
-use Rattle.nmgc_world_spec.specs.declared.value.Value.TheVariants.{Nil}
-use Rattle.nmgc_world_spec.specs.declared.node.Node.{Node}
-use Rattle.nmgc_world_spec.specs.declared.node.Node.TheVariants.{Arr}
-use Rattle.nmgc_world_spec.specs.declared.mutator_state.MutatorState.{MutatorState}
-use Rattle.nmgc_world_spec.specs.World.{World, node_of}
-use Rattle.nmgc_world_spec.specs.Step.{shared_name}
-use Rattle.nmgc_lists.specs.laws.Items.{contains_head, contains_tail, contains_cases, is_some_get, is_some_of, contains_map, map_contains}
-use Rattle.nmgc_object.specs.declared.words.TheConstants.{SERIAL_UNIT}
-use Rattle.nmgc_object.specs.Words.{header_word, IsHeader}
-use Rattle.nmgc_object.specs.Places.{InNursery, word_total}
-use Rattle.nmgc_heap_spec.specs.Shape.{Slot, header_of, holds, size_of, slots_of, free_slots}
-use Rattle.nmgc_heap_spec.specs.Places.{Place, Fills, HasSlots, LiesWell, LiesInSegment, HasZeros, shared_place}
-use Rattle.nmgc_heap_spec.specs.Represents.{NoNode, IsNamed, IsPlaced, Represents}
-use Rattle.nmgc_heap_spec.specs.Samples.{small_layout, own, block, places_of}
-use Rattle.nmgc_world_spec.specs.laws.Common.{shared_or}
+use Rattle.nmgc_heap_spec.proofs.Vocabulary.{◌≡◌, ◌⊎◌, inl, inr, ℕ, zero, suc, ◌+◌, ◌*◌, ◌<◌, ◌≤◌, List, [], ◌∷◌, length, map, drop, replicate, get_or, refl, sym, ap, subst, ◌∙◌, arith, slice_index, Some, lit≤, lit<, slice_get, Contains, IsSome, ◌==◌, cases_lt, eqb-true, get_or-drop, slice_get-get_or, slice_get_within, Name, SHARED_MAKER, Nil, Node, Arr, MutatorState, World, node_of, shared_name, contains_head, contains_tail, contains_cases, is_some_get, is_some_of, contains_map, map_contains, SERIAL_UNIT, header_word, IsHeader, InNursery, word_total, Slot, header_of, holds, size_of, slots_of, free_slots, Place, Fills, HasSlots, LiesWell, LiesInSegment, HasZeros, shared_place, NoNode, IsNamed, IsPlaced, Represents, small_layout, own, block, places_of, shared_or}
 
 -- P holds of each item with its index
 abbrev pub Each : {A : Type 0} → (ℕ → A → Type 0) → ℕ → List A → Type 0
@@ -68,8 +47,7 @@ pub only_known : (shared : Node) (state : MutatorState) (maker serial : ℕ) (no
 only_known shared state zero serial node e = inr (record { serial = serial; is = refl; there = e })
 only_known shared state (suc maker) serial node e = shared_or (suc maker == SHARED_MAKER) (serial == 0) shared node serial _
     (λ b d s. inl (
-      ap (λ (m : ℕ). record { maker = m; serial = 0 }) (sym (eqb-true (suc maker) SHARED_MAKER b)) ∙
-          ap (λ (n : ℕ). record { maker = suc maker; serial = n }) (sym (eqb-true serial 0 d)),
+      cc (eqb-true (suc maker) SHARED_MAKER b, eqb-true serial 0 d),
       cc,
     ))
     e
@@ -100,7 +78,7 @@ module _ (serials : List ℕ) (few : length serials ≤ 16) (each : Each (λ i x
   block_there k lt =
       let x = is_some_of (slice_get serials k) (is_some_get serials k lt) in
       let is : x.0 ≡ k = let z : x.0 ≡ 0 + k = each_at (λ i y. y ≡ i) 0 serials each k x.0 x.1 in omega arith in
-      subst (λ (y : ℕ). Contains places (block y)) is (contains_tail shared_place (map block serials) (block x.0)
+      rw is at (contains_tail shared_place (map block serials) (block x.0)
       (contains_map block serials x.0 (k, lt, get_or_of serials k x.0 x.1)))
     where
       get_or_of : (xs : List ℕ) (i x : ℕ) → slice_get xs i ≡ Some x → get_or xs i x ≡ x
@@ -132,8 +110,7 @@ module _ (serials : List ℕ) (few : length serials ≤ 16) (each : Each (λ i x
   node_at k lt = is_some_of (slice_get state.nodes k) (is_some_get state.nodes k (omega (arith, count)))
 
   stood_at : (k : ℕ) (node : Node) → slice_get state.nodes k ≡ Some node → Stood (Contains places) words k node
-  stood_at k node e = let z : 0 + k ≡ k = omega arith in subst (λ (j : ℕ).
-      Stood (Contains places) words j node) z (each_at (Stood (Contains places) words) 0 state.nodes stood k node e)
+  stood_at k node e = let z : 0 + k ≡ k = omega arith in rw z at (each_at (Stood (Contains places) words) 0 state.nodes stood k node e)
 
   alone : (k size : ℕ) → size ≤ 4 → (q : Place) → Contains places q → (q.at ≤ 32 + 4 * k) ⊎ (32 + 4 * k + size ≤ q.at)
   alone k size most = at_place (λ (q : Place). (q.at ≤ 32 + 4 * k) ⊎
@@ -144,8 +121,7 @@ module _ (serials : List ℕ) (few : length serials ≤ 16) (each : Each (λ i x
 
   none_free : (e : World) (name : Name) (before : Node) (from : ℕ) → Contains earlier e → node_of e name ≡ Some before →
       HasSlots (Contains places) words from (free_slots before)
-  none_free e name before from c was = subst (λ (l : List Slot).
-      HasSlots (Contains places) words from l) (sym (free e name before c was)) (λ i slot f. absurd cc)
+  none_free e name before from c was = rw (free e name before c was) (λ i slot f. absurd cc)
 
   shared_placed : Placed shared_name sixteen
   shared_placed = record {
@@ -171,8 +147,7 @@ module _ (serials : List ℕ) (few : length serials ≤ 16) (each : Each (λ i x
         at = 32 + 4 * k;
         there = block_there k lt;
         object = record { header = h.0; valid = h.1; lies = lies k (size_of node) lt h.2; alone = alone k (size_of node) h.2 };
-        fields = subst (λ (j : ℕ).
-            HasSlots (Contains places) words j (slots_of node)) from (fills_from (Contains places) words (34 + 4 * k) (slots_of node) h.4);
+        fields = rw from at (fills_from (Contains places) words (34 + 4 * k) (slots_of node) h.4);
         free = λ e before c was. none_free e (own k) before (32 + 4 * k + 2) c was;
         kept = λ before no. absurd no;
       }

@@ -3,19 +3,10 @@
 -- Each of these is the condition of a law. They speak of one change at a time, and of what it leaves: a
 -- round does them one after another, and a stop many at once.
 use Rattle.std.specs.Prelude.{ℕ, ◌≡◌, ◌≢◌, ◌+◌, ◌<◌, ◌≤◌, ◌⊎◌, List, ◌∷◌, length, slice_index, slice_get, Contains, Some, None}
-use Rattle.nmgc_world_spec.specs.declared.value.Name.{Name}
-use Rattle.nmgc_world_spec.specs.declared.value.Value.TheVariants.{Ref}
-use Rattle.nmgc_world_spec.specs.declared.node.Node.{Node}
-use Rattle.nmgc_world_spec.specs.declared.node.Node.TheVariants.{Weak}
-use Rattle.nmgc_world_spec.specs.World.{World, node_of}
-use Rattle.nmgc_object.specs.Words.{name_word, IsHeader, IsName}
-use Rattle.nmgc_object.specs.Places.{InNursery}
-use Rattle.nmgc_object.specs.declared.layout.Layout.{Layout}
-use Rattle.nmgc_object.specs.declared.size.TheConstants.{HEADER_WORDS, NAME_OFFSET}
+use Rattle.nmgc_world_spec.specs.{declared.value.Name.Name, declared.value.Value.TheVariants.Ref, declared.node.Node.Node, declared.node.Node.TheVariants.Weak, World.World, World.node_of}
+use Rattle.nmgc_object.specs.{Words.name_word, Words.IsHeader, Words.IsName, Places.InNursery, declared.layout.Layout.Layout, declared.size.TheConstants.HEADER_WORDS, declared.size.TheConstants.NAME_OFFSET}
 use Rattle.nmgc_heap_spec.specs.Shape.{Slot, holds, untold, header_of, size_of, slots_of, fixed_slots, free_slots, MayChange}
-use Rattle.nmgc_heap_spec.specs.Tracked.{IsTracked}
-use Rattle.nmgc_heap_spec.specs.Places.{Place, Fills, HasSlots, LiesWell, IsBetween}
-use Rattle.nmgc_heap_spec.specs.Represents.{IsNamed, IsObject, IsEarlier}
+use Rattle.nmgc_heap_spec.specs.{Tracked.IsTracked, Places.Place, Places.Fills, Places.HasSlots, Places.LiesWell, Places.IsBetween, Represents.IsNamed, Represents.IsObject, Represents.IsEarlier}
 
 -- the collector may still speak of each of these worlds
 abbrev pub AreEarlier : List World → World → Type 0

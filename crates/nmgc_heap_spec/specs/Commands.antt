@@ -1,16 +1,7 @@
 -- What commands and closings do to what the words tell: statements of laws.
 use Rattle.std.specs.Prelude.{ℕ, ◌≡◌, ◌≢◌, ◌⊎◌, List, slice_get, Contains, Some, None, IsSome}
-use Rattle.nmgc_world_spec.specs.declared.value.Name.{Name}
-use Rattle.nmgc_world_spec.specs.declared.node.Node.{Node}
-use Rattle.nmgc_world_spec.specs.declared.command.Command.{Command}
-use Rattle.nmgc_world_spec.specs.World.{World, node_of, state_of, IsWorld}
-use Rattle.nmgc_world_spec.specs.Step.{CanApply, next_name, step}
-use Rattle.nmgc_world_spec.specs.Reach.{closed}
-use Rattle.nmgc_heap_spec.specs.Shape.{Slot, slots_of}
-use Rattle.nmgc_heap_spec.specs.Places.{Place, Fills}
-use Rattle.nmgc_heap_spec.specs.Tracked.{IsTracked}
-use Rattle.nmgc_heap_spec.specs.Represents.{IsEarlier}
-use Rattle.nmgc_heap_spec.specs.Changes.{AreEarlier, HaveHeaders, IsSameHeap, ChangesAt, ChangesField}
+use Rattle.nmgc_world_spec.specs.{declared.value.Name.Name, declared.node.Node.Node, declared.command.Command.Command, World.World, World.node_of, World.state_of, World.IsWorld, Step.CanApply, Step.next_name, Step.step, Reach.closed}
+use Rattle.nmgc_heap_spec.specs.{Shape.Slot, Shape.slots_of, Places.Place, Places.Fills, Tracked.IsTracked, Represents.IsEarlier, Changes.AreEarlier, Changes.HaveHeaders, Changes.IsSameHeap, Changes.ChangesAt, Changes.ChangesField}
 
 -- what happens to the nodes of a world: to none, to one field of one, or one is born
 pub data NodeStep (w v : World) (new : Name) : Type 0 where

@@ -4,17 +4,9 @@
 -- segments. Each new word is told as a function of an old one, so the order in which they are written
 -- doesn't matter.
 use Rattle.std.specs.Prelude.{ℕ, ◌≡◌, ◌+◌, ◌*◌, ◌<◌, ◌≤◌, ◌⊎◌, List, ◌++◌, length, map, slice_index, slice_get, Contains, Some, IsSome, nat_lt, filter}
-use Rattle.nmgc_world_spec.specs.declared.value.Name.{Name}
-use Rattle.nmgc_world_spec.specs.declared.value.Value.TheVariants.{Ref}
-use Rattle.nmgc_world_spec.specs.declared.node.Node.{Node}
-use Rattle.nmgc_world_spec.specs.World.{World, node_of}
-use Rattle.nmgc_object.specs.declared.layout.Layout.{Layout}
-use Rattle.nmgc_object.specs.declared.size.TheConstants.{HEADER_WORDS, NAME_OFFSET}
-use Rattle.nmgc_object.specs.declared.words.TheConstants.{NIL_WORD, ZERO_WORD}
-use Rattle.nmgc_heap_spec.specs.Shape.{holds, header_of, size_of, slots_of}
-use Rattle.nmgc_heap_spec.specs.Tracked.{IsTracked}
-use Rattle.nmgc_heap_spec.specs.Places.{Place, LiesInSegment, IsBetween}
-use Rattle.nmgc_heap_spec.specs.Represents.{IsEarlier}
+use Rattle.nmgc_world_spec.specs.{declared.value.Name.Name, declared.value.Value.TheVariants.Ref, declared.node.Node.Node, World.World, World.node_of}
+use Rattle.nmgc_object.specs.{declared.layout.Layout.Layout, declared.size.TheConstants.HEADER_WORDS, declared.size.TheConstants.NAME_OFFSET, declared.words.TheConstants.NIL_WORD, declared.words.TheConstants.ZERO_WORD}
+use Rattle.nmgc_heap_spec.specs.{Shape.holds, Shape.header_of, Shape.size_of, Shape.slots_of, Tracked.IsTracked, Places.Place, Places.LiesInSegment, Places.IsBetween, Represents.IsEarlier}
 
 -- a move of an object: its name, the old place and the new one
 pub record Moved : Type 0 where

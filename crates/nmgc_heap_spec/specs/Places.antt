@@ -4,16 +4,10 @@
 -- ones a pointer may go to is told by a predicate: that of a list, or of the objects of a round so far.
 -- Growth of places is then an implication, and nothing has to decide whether somebody still speaks of a name.
 use Rattle.std.specs.Prelude.{ℕ, ◌≡◌, ◌≢◌, ◌+◌, ◌*◌, ◌<◌, ◌≤◌, ◌⊎◌, List, [], ◌∷◌, slice_index, slice_get, Some}
-use Rattle.nmgc_world_spec.specs.declared.value.Name.{Name}
-use Rattle.nmgc_world_spec.specs.declared.value.Value.{Value}
+use Rattle.nmgc_world_spec.specs.{declared.value.Name.Name, declared.value.Value.Value, Step.shared_name}
 use Rattle.nmgc_world_spec.specs.declared.value.Value.TheVariants as value
 use Rattle.nmgc_limits.specs.declared.mutators.TheConstants.{SHARED_MAKER, SHARED_SLOTS}
-use Rattle.nmgc_world_spec.specs.Step.{shared_name}
-use Rattle.nmgc_object.specs.Places.{InSegment, InNursery}
-use Rattle.nmgc_object.specs.declared.layout.Layout.{Layout}
-use Rattle.nmgc_object.specs.declared.layout.TheConstants.{SHARED_PLACE, FIRST_PLACE}
-use Rattle.nmgc_object.specs.declared.size.TheConstants.{HEADER_WORDS}
-use Rattle.nmgc_object.specs.declared.words.TheConstants.{NIL_WORD, ZERO_WORD}
+use Rattle.nmgc_object.specs.{Places.InSegment, Places.InNursery, declared.layout.Layout.Layout, declared.layout.TheConstants.SHARED_PLACE, declared.layout.TheConstants.FIRST_PLACE, declared.size.TheConstants.HEADER_WORDS, declared.words.TheConstants.NIL_WORD, declared.words.TheConstants.ZERO_WORD}
 use Rattle.nmgc_heap_spec.specs.Shape.{Slot, holds, unset, untold}
 
 -- an object: where it begins, and its name

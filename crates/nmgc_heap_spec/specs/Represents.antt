@@ -4,17 +4,9 @@
 -- name still stands there, and its fields mean nothing. That the places in segments are those of the
 -- blocks in use, and that each object fits its block, speaks of segments, so it is no part of this.
 use Rattle.std.specs.Prelude.{ℕ, ◌≡◌, ◌+◌, ◌≤◌, ◌⊎◌, List, length, slice_index, Contains, Some, None, IsSome}
-use Rattle.nmgc_world_spec.specs.declared.value.Name.{Name}
-use Rattle.nmgc_world_spec.specs.declared.node.Node.{Node}
-use Rattle.nmgc_world_spec.specs.declared.node.Node.TheVariants.{Weak}
-use Rattle.nmgc_world_spec.specs.World.{World, node_of, IsWorld}
-use Rattle.nmgc_object.specs.Words.{header_word, name_word, IsHeader, IsName}
-use Rattle.nmgc_object.specs.Places.{InNursery, word_total}
-use Rattle.nmgc_object.specs.declared.layout.Layout.{Layout}
-use Rattle.nmgc_object.specs.declared.size.TheConstants.{HEADER_WORDS, NAME_OFFSET}
-use Rattle.nmgc_heap_spec.specs.Shape.{header_of, size_of, slots_of, fixed_slots, free_slots}
-use Rattle.nmgc_heap_spec.specs.Places.{Place, HasSlots, LiesWell, HasZeros}
-use Rattle.nmgc_heap_spec.specs.Tracked.{IsTracked}
+use Rattle.nmgc_world_spec.specs.{declared.value.Name.Name, declared.node.Node.Node, declared.node.Node.TheVariants.Weak, World.World, World.node_of, World.IsWorld}
+use Rattle.nmgc_object.specs.{Words.header_word, Words.name_word, Words.IsHeader, Words.IsName, Places.InNursery, Places.word_total, declared.layout.Layout.Layout, declared.size.TheConstants.HEADER_WORDS, declared.size.TheConstants.NAME_OFFSET}
+use Rattle.nmgc_heap_spec.specs.{Shape.header_of, Shape.size_of, Shape.slots_of, Shape.fixed_slots, Shape.free_slots, Places.Place, Places.HasSlots, Places.LiesWell, Places.HasZeros, Tracked.IsTracked}
 
 -- a place, tracked or not: the name word there is that of a name of the world, and header and name lie where an object may
 pub record IsNamed (layout : Layout) (w : World) (words : List ℕ) (p : Place) : Type 0 where

@@ -1,10 +1,8 @@
 -- What is outside the words: registers, finaliser queues, serials, and the list of weak pointers.
 use Rattle.std.specs.Prelude.{ℕ, ◌≡◌, ◌*◌, ◌<◌, List, length, map, slice_get, Contains, Some}
 use Rattle.nmgc_limits.specs.declared.mutators.TheConstants.{REGISTERS}
-use Rattle.nmgc_world_spec.specs.World.{World, state_of, serial_of}
-use Rattle.nmgc_world_spec.specs.Reach.{IsAliveWeak, IsInOrder}
-use Rattle.nmgc_object.specs.Places.{InSegment}
-use Rattle.nmgc_object.specs.declared.layout.Layout.{Layout}
+use Rattle.nmgc_world_spec.specs.{World.World, World.state_of, World.serial_of, Reach.IsAliveWeak, Reach.IsInOrder}
+use Rattle.nmgc_object.specs.{Places.InSegment, declared.layout.Layout.Layout}
 use Rattle.nmgc_heap_spec.specs.Places.{Place, AllMean, ListMeans}
 
 -- registers and queues as field words, and the next serials: the registers of all mutators are one list, `REGISTERS` a mutator

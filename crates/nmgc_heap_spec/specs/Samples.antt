@@ -1,26 +1,14 @@
--- Two small heaps, and what their words stand for: 32 segments of 64 words, one mutator, and a nursery as
--- large as a segment. Each is a world that commands made, with the words of it at a stop. The words after
+-- A small heap, and what its words stand for: 32 segments of 64 words, one mutator, and a nursery as
+-- large as a segment. It is a world that commands made, with the words of it at a stop. The words after
 -- the last object are left open; the other words of which nothing is told are 0: word 0, those between g
 -- and the first segment, and the last word of a block that its object doesn't fill.
 use Rattle.std.specs.Prelude.{ℕ, zero, suc, ◌≡◌, ◌≢◌, ◌+◌, ◌-◌, ◌*◌, List, [], ◌∷◌, ◌++◌, length, map, replicate, slice_index, Contains}
 use Rattle.nmgc_limits.specs.declared.mutators.TheConstants.{REGISTERS, SHARED_MAKER, SHARED_SLOTS}
-use Rattle.nmgc_world_spec.specs.declared.value.Name.{Name}
-use Rattle.nmgc_world_spec.specs.declared.node.Node.{Node}
-use Rattle.nmgc_world_spec.specs.declared.command.Command.{Command}
-use Rattle.nmgc_world_spec.specs.declared.command.Command.TheVariants.{Num, Nil, Con, Var, Get, Set, Show, Collect}
-use Rattle.nmgc_world_spec.specs.declared.command.Operand.TheVariants.{Register}
-use Rattle.nmgc_world_spec.specs.World.{World, new_world}
-use Rattle.nmgc_world_spec.specs.Step.{shared_name, step}
-use Rattle.nmgc_object.specs.declared.layout.Layout.{Layout}
-use Rattle.nmgc_object.specs.declared.words.TheConstants.{SERIAL_UNIT}
-use Rattle.nmgc_object.specs.declared.layout.TheConstants.{SHARED_PLACE, FIRST_PLACE}
-use Rattle.nmgc_world_spec.specs.Wide.{IsWide}
-use Rattle.nmgc_heap_spec.specs.Tracked.{IsTracked}
-use Rattle.nmgc_heap_spec.specs.Places.{Place, shared_place}
-use Rattle.nmgc_heap_spec.specs.Represents.{NoNode, Represents}
-use Rattle.nmgc_heap_spec.specs.Roots.{RepresentsRoots, ListsWeaks}
+use Rattle.nmgc_world_spec.specs.{declared.value.Name.Name, declared.node.Node.Node, declared.command.Command.Command, declared.command.Command.TheVariants.Num, declared.command.Command.TheVariants.Nil, declared.command.Command.TheVariants.Con, declared.command.Command.TheVariants.Var, declared.command.Command.TheVariants.Collect, declared.command.Operand.TheVariants.Register, World.World, World.new_world, Step.step}
+use Rattle.nmgc_object.specs.{declared.layout.Layout.Layout, declared.words.TheConstants.SERIAL_UNIT, declared.layout.TheConstants.FIRST_PLACE}
+use Rattle.nmgc_heap_spec.specs.{Places.Place, Places.shared_place, Represents.NoNode, Represents.Represents, Roots.RepresentsRoots}
 
--- the layout of both
+-- its layout
 abbrev pub small_layout : Layout
 small_layout = record { segments = 32; words = 64; nursery = 64; mutators = 1 }
 
@@ -44,26 +32,7 @@ places_of serials = shared_place ∷ map block serials
 abbrev pub first_words : List ℕ
 first_words = 0 ∷ 32771 ∷ SHARED_MAKER ∷ (replicate SHARED_SLOTS 1 ++ replicate 13 0)
 
--- one object: a constructor of tag 7 with the number 5
-
-abbrev pub object_world : World
-object_world = after (new_world 1) (Num 1 5 ∷ Con 0 7 (Register 1 ∷ []) ∷ Get 2 (Register 0) 0 ∷ Show (Register 2) ∷ Get 2 (Register 0) 1 ∷
-    Get 2 (Register 1) 0 ∷ Show (Register 0) ∷ [])
-
-abbrev pub object_words : List ℕ → List ℕ
-object_words rest = first_words ++ (2105 ∷ 0 ∷ 13 ∷ rest)
-
-abbrev pub object_serials : List ℕ
-object_serials = 0 ∷ []
-
--- words, registers and the empty list of weak pointers stand for it, whatever the other words are
-abbrev pub OneObject : Type 0
-OneObject = (rest : List ℕ) → length rest ≡ 2109 → Represents small_layout [] NoNode (places_of object_serials) object_world (object_words rest) ×
-    RepresentsRoots (places_of object_serials) object_world (64 ∷ 13 ∷ 13 ∷ replicate (REGISTERS - 3) 1) ([] ∷ []) (1 ∷ []) ×
-    ListsWeaks small_layout (places_of object_serials) object_world []
-
--- overwritten during marking: a variable that holds the only reference to a constructor, and a chain of fourteen
--- more; a cycle begins, and then the variable is overwritten
+-- a variable that holds the only reference to a constructor, and a chain of fourteen more; a cycle begins
 
 abbrev pub chain : ℕ → List Command → List Command
 chain zero rest = rest
@@ -72,10 +41,6 @@ chain (suc n) rest = Con 3 0 (Register 3 ∷ Register 1 ∷ []) ∷ chain n rest
 -- the world at the snapshot
 abbrev pub snapshot : World
 snapshot = after (new_world 1) (Num 1 5 ∷ Con 2 0 (Register 1 ∷ []) ∷ Var 0 (Register 2) ∷ Nil 2 ∷ chain 14 (Collect ∷ []))
-
--- the world once the variable was overwritten
-abbrev pub overwritten : World
-overwritten = after snapshot (Set (Register 0) 0 (Register 1) ∷ Collect ∷ [])
 
 abbrev pub chain_serials : List ℕ
 chain_serials = 0 ∷ 1 ∷ 2 ∷ 3 ∷ 4 ∷ 5 ∷ 6 ∷ 7 ∷ 8 ∷ 9 ∷ 10 ∷ 11 ∷ 12 ∷ 13 ∷ 14 ∷ 15 ∷ []
@@ -95,11 +60,6 @@ chain_words word rest = first_words ++ (2049 ∷ 0 ∷ 13 ∷ 0 ∷ 2050 ∷ 64 
 abbrev pub SnapshotStands : Type 0
 SnapshotStands = (rest : List ℕ) → length rest ≡ 2048 → Represents small_layout [] NoNode (places_of chain_serials) snapshot (chain_words 64 rest) ×
     RepresentsRoots (places_of chain_serials) snapshot (72 ∷ 13 ∷ 1 ∷ 184 ∷ replicate (REGISTERS - 4) 1) ([] ∷ []) (16 ∷ [])
-
--- once it was overwritten, it has the number; what it referred to is outside the wide reach, and tracked for the snapshot alone: its words stand there still
-abbrev pub OverwrittenStands : Type 0
-OverwrittenStands = (rest : List ℕ) → length rest ≡ 2048 → Represents small_layout (snapshot ∷
-    []) NoNode (places_of chain_serials) overwritten (chain_words 13 rest) × IsTracked overwritten (snapshot ∷ []) (own 0) × (IsWide overwritten (own 0) → ⊥)
 
 -- whatever words stand for the snapshot with these places have this pointer, header and name for the variable: with a wrong one they don't
 abbrev pub WordsAreTold : (Name → Node → Type 0) → Type 0

@@ -3,14 +3,9 @@
 -- A command that changes a node leaves its header, so an object never changes its size. Of its fields
 -- only those of `MayChange` ever change.
 use Rattle.std.specs.Prelude.{ℕ, ◌≡◌, ◌+◌, ◌-◌, List, [], ◌∷◌, ◌++◌, length, map, replicate, Some, None}
-use Rattle.nmgc_world_spec.specs.declared.value.Value.{Value}
-use Rattle.nmgc_world_spec.specs.declared.node.Node.{Node}
-use Rattle.nmgc_world_spec.specs.declared.node.Node.TheVariants.{Con, Var, Arr, Thunk, Weak, Stack}
-use Rattle.nmgc_world_spec.specs.declared.node.Kind.{Kind}
+use Rattle.nmgc_world_spec.specs.{declared.value.Value.Value, declared.node.Node.Node, declared.node.Node.TheVariants.Con, declared.node.Node.TheVariants.Var, declared.node.Node.TheVariants.Arr, declared.node.Node.TheVariants.Thunk, declared.node.Node.TheVariants.Weak, declared.node.Node.TheVariants.Stack, declared.node.Kind.Kind}
 use Rattle.nmgc_world_spec.specs.declared.node.Kind.TheVariants as kind
-use Rattle.nmgc_object.specs.declared.words.Header.{Header}
-use Rattle.nmgc_object.specs.declared.words.TheConstants.{VAR_FIELDS, WEAK_FIELDS}
-use Rattle.nmgc_object.specs.declared.size.TheConstants.{HEADER_WORDS}
+use Rattle.nmgc_object.specs.{declared.words.Header.Header, declared.words.TheConstants.VAR_FIELDS, declared.words.TheConstants.WEAK_FIELDS, declared.size.TheConstants.HEADER_WORDS}
 
 -- the header of a node's object: a thunk's fields are its result and its free variables, a stack's are its slots
 abbrev pub header_of : Node → Header

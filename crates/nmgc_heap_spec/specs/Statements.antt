@@ -1,26 +1,11 @@
 -- The laws on words that represent a world, as statements. Each is proved where a function of `laws` has it.
 use Rattle.std.specs.Prelude.{ℕ, ◌≡◌, ◌≢◌, ◌⊎◌, ◌+◌, List, [], map, set, slice_index, slice_get, Contains, Some}
-use Rattle.nmgc_world_spec.specs.declared.value.Name.{Name}
-use Rattle.nmgc_world_spec.specs.declared.value.Value.{Value}
+use Rattle.nmgc_world_spec.specs.{declared.value.Name.Name, declared.value.Value.Value, declared.node.Node.Node, declared.change.Change.Change, World.World, World.node_of, World.IsWorld, World.IsSized, Change.changed, Wide.IsWide}
 use Rattle.nmgc_world_spec.specs.declared.value.Value.TheVariants as value
-use Rattle.nmgc_world_spec.specs.declared.node.Node.{Node}
-use Rattle.nmgc_world_spec.specs.declared.change.Change.{Change}
-use Rattle.nmgc_world_spec.specs.World.{World, node_of, IsWorld, IsSized}
-use Rattle.nmgc_world_spec.specs.Change.{changed}
-use Rattle.nmgc_object.specs.Words.{header_word, field_word, IsField}
-use Rattle.nmgc_object.specs.Places.{IsLayout, InNursery, nursery_place}
-use Rattle.nmgc_object.specs.declared.words.Field.{Field}
+use Rattle.nmgc_object.specs.{Words.header_word, Words.field_word, Words.IsField, Places.IsLayout, Places.InNursery, Places.nursery_place, declared.words.Field.Field, declared.layout.Layout.Layout, declared.size.TheConstants.HEADER_WORDS, declared.size.TheConstants.NAME_OFFSET}
 use Rattle.nmgc_object.specs.declared.words.Field.TheVariants as field
-use Rattle.nmgc_object.specs.declared.layout.Layout.{Layout}
-use Rattle.nmgc_object.specs.declared.size.TheConstants.{HEADER_WORDS, NAME_OFFSET}
 use Rattle.nmgc_world_laws.specs.Limits.{IsSmall}
-use Rattle.nmgc_world_spec.specs.Wide.{IsWide}
-use Rattle.nmgc_heap_spec.specs.Shape.{Slot, untold, header_of, slots_of}
-use Rattle.nmgc_heap_spec.specs.Tracked.{IsTracked}
-use Rattle.nmgc_heap_spec.specs.Places.{Place, Means}
-use Rattle.nmgc_heap_spec.specs.Represents.{NoNode, Represents}
-use Rattle.nmgc_heap_spec.specs.Roots.{RepresentsRoots, ListsWeaks}
-use Rattle.nmgc_heap_spec.specs.Moves.{Moved, Moves, StillSpoken, settled}
+use Rattle.nmgc_heap_spec.specs.{Shape.Slot, Shape.untold, Shape.header_of, Shape.slots_of, Tracked.IsTracked, Places.Place, Places.Means, Represents.NoNode, Represents.Represents, Roots.RepresentsRoots, Roots.ListsWeaks, Moves.Moved, Moves.Moves, Moves.StillSpoken, Moves.settled}
 use Rattle.nmgc_heap_spec.specs.Changes.{AreEarlier, HaveHeaders, IsSameHeap, Remembers, AgreeWhereTold, IsUnborn, ChangesAt, ChangesField, IsBorn, DropsPlaces, AddsPlaces}
 
 -- a name has one place

@@ -5,10 +5,7 @@
 -- they have dropped in the round. So names are tracked that the world reaches, or that an earlier world
 -- reached of which the collector still speaks: the snapshot of a marking cycle, the world as the round began.
 use Rattle.std.specs.Prelude.{List, ◌∷◌, Contains}
-use Rattle.nmgc_world_spec.specs.declared.value.Name.{Name}
-use Rattle.nmgc_world_spec.specs.World.{World}
-use Rattle.nmgc_world_spec.specs.Reach.{IsReached}
-use Rattle.nmgc_world_spec.specs.Wide.{IsWide}
+use Rattle.nmgc_world_spec.specs.{declared.value.Name.Name, World.World, Reach.IsReached, Wide.IsWide}
 
 -- the wide reach of one of the worlds
 abbrev pub IsWideIn : List World → Name → Type 0

@@ -1,19 +1,9 @@
 -- What is written for a node, in the terms of its shape and of the parts of an object: statements of laws.
 use Rattle.std.specs.Prelude.{ℕ, ◌≡◌, ◌≢◌, ◌≤◌, List, slice_index, slice_get, Contains, Some}
-use Rattle.nmgc_world_spec.specs.declared.value.Name.{Name}
-use Rattle.nmgc_world_spec.specs.declared.node.Node.{Node}
-use Rattle.nmgc_world_spec.specs.World.{World, node_of, IsWorld}
-use Rattle.nmgc_world_spec.specs.Step.{shared_name}
-use Rattle.nmgc_world_laws.specs.Shape.{kind_of, tag_of, part_count, words_of}
-use Rattle.nmgc_world_laws.specs.Limits.{IsNodeWithin, IsWithin}
-use Rattle.nmgc_object.specs.Size.{header_place, name_place, field_place, object_size}
-use Rattle.nmgc_object.specs.Places.{IsSegmentSize}
-use Rattle.nmgc_object.specs.Words.{header_word, name_word, IsHeader}
-use Rattle.nmgc_object.specs.declared.layout.Layout.{Layout}
-use Rattle.nmgc_heap_spec.specs.Shape.{Slot, header_of, size_of, slots_of}
-use Rattle.nmgc_heap_spec.specs.Tracked.{IsTracked}
-use Rattle.nmgc_heap_spec.specs.Places.{Place, Fills, LiesWell}
-use Rattle.nmgc_heap_spec.specs.Represents.{Represents}
+use Rattle.nmgc_world_spec.specs.{declared.value.Name.Name, declared.node.Node.Node, World.World, World.node_of, World.IsWorld, Step.shared_name}
+use Rattle.nmgc_world_laws.specs.{Shape.kind_of, Shape.tag_of, Shape.part_count, Shape.words_of, Limits.IsNodeWithin, Limits.IsWithin}
+use Rattle.nmgc_object.specs.{Size.header_place, Size.name_place, Size.field_place, Size.object_size, Places.IsSegmentSize, Words.header_word, Words.name_word, Words.IsHeader, declared.layout.Layout.Layout}
+use Rattle.nmgc_heap_spec.specs.{Shape.Slot, Shape.header_of, Shape.size_of, Shape.slots_of, Tracked.IsTracked, Places.Place, Places.Fills, Places.LiesWell, Represents.Represents}
 
 -- the header of a node is its shape, and its object has as many words as the header says, and as the shape has
 abbrev pub HeaderIsShape : Type 0

@@ -13,3 +13,4 @@ pub mod Slots
 pub mod Tracking
 pub mod Written
 pub mod Zeros
+mod Vocabulary

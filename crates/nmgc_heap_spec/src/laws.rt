@@ -5,16 +5,14 @@
 //! nodes are known so is a predicate, which no clause can range over: a type parameter stands for it,
 //! and whoever calls a law at `Brand` picks it.
 ghost use Rattle.nmgc_heap_spec.specs.Commands.{StepIsOne, StepChangesField, TrackedAreKnown, StepTracks, StepTracksNoMore, ClosingTracks, StepLeavesHeap, WorldIsEarlier, StepKeepsEarlier, ClosingKeepsEarlier, StepKeepsHeaders, ClosingKeepsHeaders};
-ghost use Rattle.nmgc_heap_spec.specs.Samples.{OneObject, SnapshotStands, OverwrittenStands, WordsAreTold, NoSecondPlace};
+ghost use Rattle.nmgc_heap_spec.specs.{Samples.SnapshotStands, Samples.WordsAreTold, Samples.NoSecondPlace, Written.HeaderIsShape, Written.NodeIsWritten, Written.WorldIsWritten, Written.PartsAreWritten};
 ghost use Rattle.nmgc_heap_spec.specs.Statements.{OnePlace, OneMeaning, MeaningIsSet, MeaningIsField, FieldHasMeaning, OneNode, OneWorld, OneWording, SameHeap, FieldChange, NodeChange, UnbornStore, Birth, Move, MoveOfRoots, Remembrance, Agreement, DropOfPlaces, DropOfRoots, Addition, AdditionOfRoots};
-ghost use Rattle.nmgc_heap_spec.specs.Written.{HeaderIsShape, NodeIsWritten, WorldIsWritten, PartsAreWritten};
 
 use std::marker::Brand;
 
 /// Which nodes of which names are known for good.
 pub trait KnownNodes {
-    ghost use Rattle.nmgc_world_spec.specs.declared.value.Name.{Name};
-    ghost use Rattle.nmgc_world_spec.specs.declared.node.Node.{Node};
+    ghost use Rattle.nmgc_world_spec.specs.{declared.value.Name.Name, declared.node.Node.Node};
 
     ghost knows: { Name → Node → Type 0 };
 }
@@ -144,17 +142,9 @@ pub fn objects_have_words<K: KnownNodes>()
     ensures parts { PartsAreWritten K.knows }
 {}
 
-/// At the end of a run that made one object, the words stand for its world.
-pub fn one_object()
-    ensures { OneObject }
-{}
-
-/// A variable holds the only reference to an object as a cycle begins, and is overwritten while the
-/// cycle is marking. The words stand for both worlds, and in the second the object is tracked for the
-/// snapshot alone.
-pub fn overwritten_during_marking()
-    ensures before { SnapshotStands }
-    ensures after { OverwrittenStands }
+/// A variable holds the only reference to an object as a cycle begins. The words stand for that world.
+pub fn one_snapshot()
+    ensures { SnapshotStands }
 {}
 
 /// With a wrong pointer, header or name of its variable no words stand for that snapshot at its places. And

@@ -8,12 +8,9 @@
 //! Easy to get wrong: to change the registers is not to change the queue, and neither changes what the round left. The
 //! laws say so, and without them a caller that knows nothing of the mutator would know nothing of one part once another
 //! was changed.
-ghost use Rattle.std.specs.Prelude.{◌≡◌, ℕ, List, [], length};
-ghost use Rattle.std.specs.Borrow.{sem, Lends, Array, u64};
-ghost use Rattle.nmgc_object.specs.FinQueue.{FinQueue as Queue};
+ghost use Rattle.std.specs.{Prelude.◌≡◌, Prelude.ℕ, Prelude.List, Prelude.[], Prelude.length, Borrow.sem, Borrow.Lends, Borrow.Array, Borrow.u64};
+ghost use Rattle.nmgc_object.specs.{FinQueue.FinQueue as Queue, declared.layout.Nursery.Nursery as NurserySeen, declared.words.Address.Address as Place};
 ghost use Rattle.nmgc_object.specs.contracts.fin_queue.FinQueue as queues;
-ghost use Rattle.nmgc_object.specs.declared.layout.Nursery.{Nursery as NurserySeen};
-ghost use Rattle.nmgc_object.specs.declared.words.Address.{Address as Place};
 ghost use Rattle.nmgc_heap_spec.specs.Emptied.{emptied};
 
 use nmgc_object::{Address, FinQueue, Nursery};

@@ -1,19 +1,7 @@
 -- What is answered of a text whose lines were read as far as they can be taken.
-use Rattle.std.proofs.Common.{◌≡◌, ◌≤◌, ℕ, List, [], ◌++◌, map, length, refl, sym, ap, subst, ◌∙◌, Bool, true, Some, None, Result, Ok, Err}
-use Rattle.std.specs.Prelude.{slice_get, IfOk, IfErr}
-use Rattle.std.proofs.lemmas.List.{drop_all}
-use Rattle.nmgc_world_spec.specs.declared.value.Name.{Name}
-use Rattle.nmgc_image.specs.declared.image.Image.{Image}
-use Rattle.nmgc_image.specs.declared.reader.Reader.{Reader}
-use Rattle.nmgc_image.specs.declared.fault.ImageFault.{ImageFault}
+use Rattle.nmgc_image.proofs.Vocabulary.{◌≡◌, ◌≤◌, ℕ, List, [], ◌++◌, map, length, refl, sym, ap, subst, ◌∙◌, Bool, true, Some, None, Result, Ok, Err, slice_get, IfOk, IfErr, drop_all, Name, Image, Reader, ImageFault, IsFirstBad, IsToldOf, ended, Spells, words_of, cut, line_at, start, run, image_of, FindsDeclared, AreRead, IsAnswer}
 use Rattle.nmgc_image.specs.declared.fault.ImageFault.TheVariants as fault
-use Rattle.nmgc_image.specs.Faults.{IsFirstBad, IsToldOf}
-use Rattle.nmgc_image.specs.Spelling.{ended, Spells}
-use Rattle.nmgc_image.specs.Text.{words_of, cut}
-use Rattle.nmgc_image.specs.Reading.{line_at, start, run, image_of, FindsDeclared, AreRead, IsAnswer}
-use Rattle.nmgc_image.proofs.Cutting.{cut_is_text}
-use Rattle.nmgc_image.proofs.Steps.{line_there, none_after, runs_all, taken_is}
-use Rattle.nmgc_image.proofs.Told.{only, found, told, not_spelled}
+use Rattle.nmgc_image.proofs.{Cutting.cut_is_text, Steps.line_there, Steps.none_after, Steps.runs_all, Steps.taken_is, Told.only, Told.found, Told.told, Told.not_spelled}
 
 pub lost_answer : (bytes : List ℕ) → IsAnswer bytes (Err fault.NoMemory)
 lost_answer bytes = record { found = tt; only = λ image s. refl; told = tt }
@@ -44,8 +32,7 @@ module _ (bytes : List ℕ) (d : Name →
       }
 
   whole_runs : rest ≡ [] → run d start (map words_of (cut bytes).lines) ≡ Some r
-  whole_runs none = runs_all d r (cut bytes).lines read.taken.before (none_after (cut bytes).lines read.taken.before (read.taken.lines_are ∙
-      ap (λ (l : List ℕ). (cut l).lines) none)) read.taken.runs
+  whole_runs none = runs_all d r (cut bytes).lines read.taken.before (none_after (cut bytes).lines read.taken.before (cc (read.taken.lines_are, none))) read.taken.runs
 
   whole_spells : r.ended ≡ true → rest ≡ [] → Spells bytes (image_of r)
   whole_spells is_yes none = found bytes d tells r (whole_runs none) is_yes (sym read.taken.rest_is ∙ ap (λ (l : List ℕ). (cut l).rest) none)

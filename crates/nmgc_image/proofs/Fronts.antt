@@ -1,33 +1,7 @@
 -- Lines are taken while every name counts as declared. Where each name that they mention is declared, they are the lines that
 -- are taken in the end.
-use Rattle.std.proofs.Common.{◌≡◌, ◌≤◌, ◌-◌, ℕ, List, [], ◌∷◌, ◌++◌, map, length, take, drop, refl, sym, ap, subst, ◌∙◌, arith, Bool, true, false, cond, not, codes, eqb, Option, Some, None}
-use Rattle.std.specs.Prelude.{◌&&◌}
-use Rattle.std.specs.List.{AllByRecursion, list_all, flat_map}
-use Rattle.std.specs.Str.{bytes_eq}
-use Rattle.std.proofs.lemmas.Bool.{and_parts, and_from, false≢true}
-use Rattle.std.proofs.lemmas.Grind.{flat_map-append}
-use Rattle.std.proofs.lemmas.List.{append-nil, take-append-drop}
-use Rattle.std.proofs.lemmas.List.Elements.{recursion_from_All}
-use Rattle.std.proofs.lemmas.Option.{none-some, same_Some}
-use Rattle.nmgc_limits.specs.declared.mutators.TheConstants.{REGISTERS, MAKERS}
-use Rattle.nmgc_world_spec.specs.declared.value.Name.{Name}
-use Rattle.nmgc_world_spec.specs.declared.value.Value.{Value}
-use Rattle.nmgc_world_spec.specs.declared.value.Value.TheVariants.{Nil, Number, Ref}
-use Rattle.nmgc_world_spec.specs.Step.{shared_name}
-use Rattle.nmgc_world_spec.specs.World.{held_by}
-use Rattle.nmgc_journal.specs.Reading.{◌>>=◌, number_at, value_at}
-use Rattle.nmgc_journal.specs.laws.Reading.{bind_some, guard_some}
-use Rattle.nmgc_image.specs.declared.image.Entry.{Entry}
-use Rattle.nmgc_image.specs.declared.reader.Reader.{Reader}
-use Rattle.nmgc_image.specs.Spelling.{first_words, mutator_lines, entry_words, last_words}
-use Rattle.nmgc_image.specs.Text.{words_of, cut}
-use Rattle.nmgc_image.specs.Reading.{is_declared, begun, is_open, is_full, first_at, mutator_at, is_above, is_nil, register_at, queue_at, is_after, is_owned, entry_at, next_at, end_at, line_at, start, run, key_of, key_in, keys_in, keys_of, keys_beside, has_key, HaveSame, FindsDeclared, AreTaken, AreRead, AreMentionsIn}
-use Rattle.nmgc_image.proofs.NodeLaws.{IsSpellable, line_again}
-use Rattle.nmgc_image.proofs.Machine.{run_step}
-use Rattle.nmgc_image.proofs.Taken.{spellable, front_runs}
-use Rattle.nmgc_image.proofs.Lines.{IsGood, first_part, last_part, lines_so_far, start_good, start_lines, run_goes, good_part}
-use Rattle.nmgc_image.proofs.Told.{rec_append, IsOther, other_first, mutators_other, other_last}
-use Rattle.nmgc_image.proofs.Keys.{keys_tell, tells_same}
+use Rattle.nmgc_image.proofs.Vocabulary.{◌≡◌, ◌≤◌, ◌-◌, ℕ, List, [], ◌∷◌, ◌++◌, map, length, take, drop, refl, sym, ap, subst, ◌∙◌, arith, Bool, true, false, cond, not, codes, eqb, Option, Some, None, ◌&&◌, AllByRecursion, list_all, flat_map, bytes_eq, and_parts, and_from, false≢true, flat_map-append, append-nil, take-append-drop, recursion_from_All, none-some, same_Some, REGISTERS, MAKERS, Name, Value, Nil, Number, Ref, shared_name, held_by, ◌>>=◌, number_at, value_at, bind_some, guard_some, Entry, Reader, first_words, mutator_lines, entry_words, last_words, words_of, cut, is_declared, begun, is_open, is_full, first_at, mutator_at, is_above, is_nil, register_at, queue_at, is_after, is_owned, entry_at, next_at, end_at, line_at, start, run, key_of, key_in, keys_in, keys_of, keys_beside, has_key, HaveSame, FindsDeclared, AreTaken, AreRead, AreMentionsIn}
+use Rattle.nmgc_image.proofs.{NodeLaws.IsSpellable, NodeLaws.line_again, Machine.run_step, Taken.spellable, Taken.front_runs, Lines.IsGood, Lines.first_part, Lines.last_part, Lines.lines_so_far, Lines.start_good, Lines.start_lines, Lines.run_goes, Lines.good_part, Told.rec_append, Told.IsOther, Told.other_first, Told.mutators_other, Told.other_last, Keys.keys_tell, Keys.tells_same}
 
 guard_from : {A : Type 0} (b : Bool) (o : Option A) (y : A) → b ≡ true → o ≡ Some y → cond b o None ≡ Some y
 guard_from true o y e h = h
@@ -182,8 +156,7 @@ no_keys (words ∷ lines) h = ap (λ (l : List ℕ). l ++ flat_map keys_in lines
 object_keys : (nodes : List Entry) → AllByRecursion IsSpellable nodes →
     flat_map keys_in (map entry_words nodes) ≡ map (λ (entry : Entry). key_of entry.name) nodes
 object_keys [] h = refl
-object_keys (entry ∷ nodes) h = ap (λ (l : List ℕ). l ++ flat_map keys_in (map entry_words nodes)) (ap key_in (line_again entry h.0)) ∙
-    ap (λ (l : List ℕ). key_of entry.name ∷ l) (object_keys nodes h.1)
+object_keys (entry ∷ nodes) h = cc (line_again entry h.0, object_keys nodes h.1)
 
 if_all : {A : Type 0} (P : A → Type 0) (b : Bool) (xs ys : List A) → AllByRecursion P xs → AllByRecursion P ys → AllByRecursion P (cond b xs ys)
 if_all P true xs ys h k = h
@@ -204,14 +177,7 @@ module _ (d : Name → Bool) where
       let nodes : List (List (List ℕ)) = map entry_words r.nodes in
       let few : length (begun r) ≤ MAKERS = let w = g.within in let f = g.few in omega arith in
       let spelt : AllByRecursion IsSpellable r.nodes = recursion_from_All IsSpellable r.nodes (λ i x lt. spellable (begun r) _ few g.owns (g.nodes i x lt)) in
-      flat_map-append keys_in (front ++ nodes) (last_part r.ended)
-      ∙ ap (λ (l : List ℕ). flat_map keys_in (front ++ nodes) ++ l) (no_keys (last_part r.ended) (last_other r.ended))
-      ∙ append-nil (flat_map keys_in (front ++ nodes))
-      ∙ flat_map-append keys_in front nodes
-      ∙ ap (λ (l : List ℕ). l ++
-      flat_map keys_in nodes) (no_keys front (rec_append IsOther (first_part r.expected) (mutator_lines 0 (begun r)) (first_other r.expected)
-      (mutators_other 0 (begun r))))
-      ∙ object_keys r.nodes spelt
+      cc (flat_map-append keys_in (front ++ nodes) (last_part r.ended), no_keys (last_part r.ended) (last_other r.ended), append-nil (flat_map keys_in (front ++ nodes)), flat_map-append keys_in front nodes, no_keys front (rec_append IsOther (first_part r.expected) (mutator_lines 0 (begun r)) (first_other r.expected) (mutators_other 0 (begun r))), object_keys r.nodes spelt)
 
   module _ (bytes : List ℕ) (r : Reader) (number : ℕ) (rest : List ℕ) (t : AreTaken d bytes r number rest) where
     taken_keys : keys_of (cut bytes).lines ≡ keys_beside r.nodes (cut rest).lines
@@ -220,12 +186,8 @@ module _ (d : Name → Bool) where
         let front : List (List ℕ) = take t.before lines in
         let went = run_goes d (map words_of front) start r (start_good d) t.runs in
         let so_far : lines_so_far r ≡ map words_of front = went.1 ∙ ap (λ (l : List (List (List ℕ))). l ++ map words_of front) start_lines in
-        let ours : keys_of front ≡ map (λ (entry : Entry). key_of entry.name) r.nodes = keys_split front ∙
-        ap (λ (l : List (List (List ℕ))). flat_map keys_in l) (sym so_far) ∙ so_far_keys r went.0 in
-        ap keys_of (sym (take-append-drop t.before lines))
-        ∙ flat_map-append (λ (line : List ℕ). keys_in (words_of line)) front (drop t.before lines)
-        ∙ ap (λ (l : List ℕ). l ++ keys_of (drop t.before lines)) ours
-        ∙ ap (λ (l : List (List ℕ)). map (λ (entry : Entry). key_of entry.name) r.nodes ++ keys_of l) t.lines_are
+        let ours : keys_of front ≡ map (λ (entry : Entry). key_of entry.name) r.nodes = cc (keys_split front, so_far, so_far_keys r went.0) in
+        cc (take-append-drop t.before lines, flat_map-append (λ (line : List ℕ). keys_in (words_of line)) front (drop t.before lines), ours, t.lines_are)
 
     pub taken_tell : (keys : List ℕ) → HaveSame keys (keys_beside r.nodes (cut rest).lines) → FindsDeclared (has_key keys) (cut bytes).lines
     taken_tell keys same =

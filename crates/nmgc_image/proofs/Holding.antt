@@ -1,29 +1,12 @@
 -- Registers that aren't nil, one by one.
-use Rattle.std.proofs.Common.{ℕ, ◌≡◌, ◌≢◌, ◌<◌, ◌+◌, zero, suc, List, [], ◌∷◌, ◌++◌, length, take, get_or, arith, refl, sym, subst, ◌∙◌, Some, inl, inr}
-use Rattle.std.specs.Prelude.{Contains, slice_get}
-use Rattle.std.proofs.lemmas.Bool.{cases_eq}
-use Rattle.std.proofs.lemmas.List.{length-take-le}
-use Rattle.std.proofs.lemmas.List.Elements.{Contains-append_left, Contains-push, Contains-push_cases}
-use Rattle.std.proofs.lemmas.Option.{slice_get_within, slice_get-get_or, same_Some}
-use Rattle.nmgc_world_spec.specs.declared.value.Value.{Value}
+use Rattle.nmgc_image.proofs.Vocabulary.{ℕ, ◌≡◌, ◌≢◌, ◌<◌, ◌+◌, List, [], ◌∷◌, ◌++◌, length, take, get_or, arith, sym, subst, ◌∙◌, Some, inl, inr, Contains, slice_get, cases_eq, length-take-le, Contains-append_left, Contains-push, Contains-push_cases, slice_get_within, slice_get-get_or, same_Some, Value, contains_head, contains_tail, slice_get-take, Held, AreInOrder, ListsHeld}
 use Rattle.nmgc_world_spec.specs.declared.value.Value.TheVariants as value
-use Rattle.nmgc_lists.specs.laws.Items.{contains_head, contains_tail, nothing_in, slice_get-take}
-use Rattle.nmgc_image.specs.declared.image.Held.{Held}
-use Rattle.nmgc_image.specs.Image.{AreInOrder}
-use Rattle.nmgc_image.specs.Shows.{ListsHeld}
 
 -- a register after all others
 order_push : (held : List Held) (h : Held) → AreInOrder held → ((k : Held) → Contains held k → k.register < h.register) → AreInOrder (held ++ h ∷ [])
 order_push [] h o b = tt
 order_push (x ∷ []) h o b = (b x (contains_head x []), tt)
 order_push (x ∷ y ∷ held) h o b = (o.0, order_push (y ∷ held) h o.1 (λ k c. b k (contains_tail x (y ∷ held) k c)))
-
-pub held_start : (registers : List Value) → ListsHeld (take 0 registers) []
-held_start registers = record {
-  ordered = tt;
-  sound = λ h c. absurd (nothing_in h c);
-  complete = λ i v e some. absurd cc;
-}
 
 module _ (registers : List Value) (i : ℕ) (d : Value) (lt : i < length registers) (held : List Held) (so_far : ListsHeld (take i registers) held) where
   longer : (k : ℕ) (v : Value) → slice_get (take i registers) k ≡ Some v → slice_get (take (i + 1) registers) k ≡ Some v
@@ -76,8 +59,7 @@ module _ (registers : List Value) (i : ℕ) (d : Value) (lt : i < length registe
           | inl same ↦
               let is : Some (get_or registers i d) ≡ Some v = sym here ∙ subst (λ (j : ℕ). slice_get (take (i + 1) registers) j ≡ Some v) same e in
               let v_is : get_or registers i d ≡ v = same_Some (get_or registers i d) v is in
-              subst (λ (x : Value). Contains (held ++ new ∷ []) (record { register = k; value = x })) v_is
-              (subst (λ (j : ℕ). Contains (held ++ new ∷ []) (record { register = j; value = get_or registers i d })) (sym same) (Contains-push held new))
+              rw (← v_is) (subst (λ (j : ℕ). Contains (held ++ new ∷ []) (record { register = j; value = get_or registers i d })) (sym same) (Contains-push held new))
           | inr other ↦
               let a = above k v e in
               Contains-append_left held (new ∷ []) (record { register = k; value = v }) (so_far.complete k v (shorter k v (omega (arith, a, other)) e) some')

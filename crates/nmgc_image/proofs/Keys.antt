@@ -1,28 +1,6 @@
 -- Which names have node lines: a sorted list of their keys tells.
-use Rattle.std.proofs.Common.{◌≡◌, ◌≤◌, ◌<◌, ℕ, zero, suc, List, [], ◌∷◌, length, map, get_or, refl, sym, ap, subst, ◌∙◌, arith, inl, inr, Bool, true, Option, Some, None, Result, Ok, Err, eqb}
-use Rattle.std.specs.Prelude.{slice_get, All, Contains, MatchResult}
-use Rattle.std.specs.List.{list_any}
-use Rattle.std.specs.Result.{is_ok}
-use Rattle.std.proofs.lemmas.Bool.{cases_Bool, cases_lt, eq-eqb, eqb-true}
-use Rattle.std.proofs.lemmas.Option.{none-some, same_Some, slice_get_within, get_or_from_slice_get}
-use Rattle.std.proofs.lemmas.List.Folds.{list_any_at}
-use Rattle.std.proofs.lemmas.List.Elements.{All-contains, recursion_from_All, All-from_recursion}
-use Rattle.std.proofs.lemmas.Map.Views.{Contains-from_any}
-use Rattle.nmgc_world_spec.specs.declared.value.Name.{Name}
-use Rattle.nmgc_world_spec.specs.laws.Orders.{same_name}
-use Rattle.nmgc_world_spec.specs.World.{held_by}
-use Rattle.nmgc_lists.specs.laws.Items.{contains_at, place_of, nothing_in, contains_flat, flat_contains, item_map}
-use Rattle.nmgc_heap_spec.specs.laws.Kinds.{map_item}
-use Rattle.nmgc_object.specs.Words.{IsName}
-use Rattle.nmgc_journal.specs.Text.{IsValue}
-use Rattle.nmgc_image.specs.declared.image.Entry.{Entry}
-use Rattle.nmgc_image.specs.Names.{TellsNames}
-use Rattle.nmgc_image.specs.Spelling.{spaced, entry_words}
-use Rattle.nmgc_image.specs.Text.{words_of}
-use Rattle.nmgc_image.specs.Faults.{IsDeclared}
-use Rattle.nmgc_image.specs.Reading.{node_line_at, key_of, has_key, key_in, keys_in, keys_of, FindsDeclared}
-use Rattle.nmgc_image.proofs.NodeLaws.{IsSpellable, line_takes, line_again}
-use Rattle.nmgc_image.proofs.LineLaws.{spaced-words_of, words_of-line, entry_line}
+use Rattle.nmgc_image.proofs.Vocabulary.{◌≡◌, ◌≤◌, ◌<◌, ℕ, zero, suc, List, [], ◌∷◌, length, map, get_or, refl, sym, ap, subst, ◌∙◌, arith, inl, inr, Bool, true, Option, Some, None, Result, Ok, Err, eqb, slice_get, All, Contains, MatchResult, list_any, is_ok, cases_Bool, cases_lt, eq-eqb, eqb-true, none-some, same_Some, slice_get_within, get_or_from_slice_get, list_any_at, All-contains, recursion_from_All, All-from_recursion, Contains-from_any, Name, same_name, held_by, contains_at, place_of, nothing_in, contains_flat, flat_contains, item_map, map_item, IsName, IsValue, Entry, TellsNames, spaced, entry_words, words_of, IsDeclared, node_line_at, key_of, has_key, key_in, keys_in, keys_of, FindsDeclared}
+use Rattle.nmgc_image.proofs.{NodeLaws.IsSpellable, NodeLaws.line_takes, NodeLaws.line_again, LineLaws.spaced-words_of, LineLaws.words_of-line, LineLaws.entry_line}
 
 -- a test that finds a key
 pub any_has : (keys : List ℕ) (k : ℕ) → list_any (λ key. eqb key k) keys ≡ true → Contains keys k
@@ -90,7 +68,7 @@ module _ (lines : List (List ℕ)) where
       let line : List ℕ = spaced (entry_words entry) in
       let reads : node_line_at (words_of line) ≡ Some entry = ap node_line_at (words_of-line (entry_words entry) (entry_line entry is)) ∙ line_again entry is in
       let one : Contains (keys_in (words_of line)) (key_of entry.name) =
-      subst (λ (o : Option Entry). Contains (key_in o) (key_of entry.name)) (sym reads) (contains_at (key_of entry.name ∷
+      rw reads (contains_at (key_of entry.name ∷
       []) 0 (key_of entry.name) refl) in
       let all : Contains (keys_of lines) (key_of entry.name) = contains_flat (λ l. keys_in (words_of l)) lines line (key_of entry.name) h.3 one in
       has_any (keys_of lines) (key_of name) (subst (λ (n : Name). Contains (keys_of lines) (key_of n)) h.2 all)

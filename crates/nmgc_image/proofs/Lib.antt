@@ -22,3 +22,4 @@ pub mod Taken
 pub mod Told
 pub mod Visiting
 pub mod Words
+mod Vocabulary

@@ -1,40 +1,12 @@
 -- What was taken are the lines of an image so far.
-use Rattle.std.proofs.Common.{◌≡◌, ◌≢◌, ◌≤◌, ◌<◌, ◌+◌, ◌-◌, ◌^◌, ◌⊎◌, ℕ, List, [], ◌∷◌, ◌++◌, map, length, replicate, refl, sym, ap, subst, ◌∙◌, arith, inl, inr, Bool, true, false, cond, not, codes, eqb, ltb, Option, Some, None, append_assoc}
-use Rattle.std.specs.Prelude.{◌&&◌, All, slice_get}
-use Rattle.std.specs.List.{AllByRecursion, list_all}
-use Rattle.std.specs.Option.{option_to_list}
-use Rattle.std.specs.Str.{bytes_eq}
-use Rattle.std.proofs.lemmas.Bool.{ltb-true, eqb-true, eq-eqb, ne_eqb, and_parts, or_cases, cases_Bool, cases_lt, false≢true, both_ways}
-use Rattle.std.proofs.lemmas.List.{append-nil, length-append, length_push, length-replicate, map_push, nil_from_length}
-use Rattle.std.proofs.lemmas.Option.{same_Some}
-use Rattle.std.proofs.lemmas.Slice.Eq.{bytes_eq-Decides}
-use Rattle.std.proofs.lemmas.List.Elements.{All-push, All-nil, All-head, All-append, All-replicate, All-from_recursion}
+use Rattle.std.proofs.{Common.◌≡◌, Common.◌≢◌, Common.◌≤◌, Common.◌<◌, Common.◌+◌, Common.◌-◌, Common.◌^◌, Common.◌⊎◌, Common.ℕ, Common.List, Common.[], Common.◌∷◌, Common.◌++◌, Common.map, Common.length, Common.replicate, Common.refl, Common.sym, Common.ap, Common.subst, Common.◌∙◌, Common.arith, Common.inl, Common.inr, Common.Bool, Common.true, Common.false, Common.cond, Common.not, Common.codes, Common.eqb, Common.ltb, Common.Option, Common.Some, Common.None, Common.append_assoc, lemmas.Bool.ltb-true, lemmas.Bool.eqb-true, lemmas.Bool.eq-eqb, lemmas.Bool.ne_eqb, lemmas.Bool.and_parts, lemmas.Bool.or_cases, lemmas.Bool.cases_Bool, lemmas.Bool.cases_lt, lemmas.Bool.false≢true, lemmas.Bool.both_ways, lemmas.List.append-nil, lemmas.List.length-append, lemmas.List.length_push, lemmas.List.length-replicate, lemmas.List.map_push, lemmas.List.nil_from_length, lemmas.Option.same_Some, lemmas.Slice.Eq.bytes_eq-Decides, lemmas.List.Elements.All-push, lemmas.List.Elements.All-nil, lemmas.List.Elements.All-head, lemmas.List.Elements.All-append, lemmas.List.Elements.All-replicate, lemmas.List.Elements.All-from_recursion}
+use Rattle.std.specs.{Prelude.◌&&◌, Prelude.All, Prelude.slice_get, List.AllByRecursion, List.list_all, Option.option_to_list, Str.bytes_eq}
 use Rattle.nmgc_limits.specs.declared.mutators.TheConstants.{REGISTERS, MAKERS, SHARED_MAKER, SHARED_SLOTS}
-use Rattle.nmgc_world_spec.specs.declared.value.Name.{Name}
-use Rattle.nmgc_world_spec.specs.declared.value.Value.{Value}
-use Rattle.nmgc_world_spec.specs.declared.value.Value.TheVariants.{Nil, Number, Ref}
-use Rattle.nmgc_world_spec.specs.declared.node.Node.{Node}
-use Rattle.nmgc_world_spec.specs.declared.node.Node.TheVariants.{Con, Var, Arr, Thunk, Weak, Stack}
-use Rattle.nmgc_world_spec.specs.Change.{is_same_name}
-use Rattle.nmgc_world_spec.specs.Step.{shared_name}
-use Rattle.nmgc_world_spec.specs.Reach.{IsBefore, IsInOrder}
-use Rattle.nmgc_world_spec.specs.World.{held_by, IsShared}
-use Rattle.nmgc_world_spec.specs.laws.Orders.{same_name}
-use Rattle.nmgc_journal.specs.Text.{IsValue}
-use Rattle.nmgc_journal.specs.Reading.{number_at, value_at}
-use Rattle.nmgc_journal.specs.laws.Reading.{bind_some, guard_some, number_takes, value_reads}
-use Rattle.nmgc_lists.specs.laws.Truths.{chosen}
-use Rattle.nmgc_image.specs.declared.image.Held.{Held}
-use Rattle.nmgc_image.specs.declared.image.ImageMutator.{ImageMutator}
-use Rattle.nmgc_image.specs.declared.image.Entry.{Entry}
-use Rattle.nmgc_image.specs.declared.image.Image.{Image}
-use Rattle.nmgc_image.specs.declared.reader.Reader.{Reader}
-use Rattle.nmgc_image.specs.Image.{AreInOrder, IsHeld, IsMutator, IsOwned, IsEntry, names_of, values_of, IsOrderly}
-use Rattle.nmgc_image.specs.Spelling.{first_words, mutator_words, register_words, queue_words, entry_words, own_lines, mutator_lines, last_words, image_lines}
-use Rattle.nmgc_image.specs.Reading.{is_declared, begun, is_open, is_full, first_at, new_own, mutator_at, is_above, is_nil, with_register, with_entry, register_at, queue_at, is_before, is_after, is_shared, is_below, is_owned, can_follow, entry_at, next_at, end_at, line_at, start, image_of, run}
-use Rattle.nmgc_image.proofs.NodeLaws.{entry_takes}
-use Rattle.nmgc_image.proofs.Machine.{IsIn}
-use Rattle.nmgc_lists.specs.laws.Items.{all_front, all_back}
+use Rattle.nmgc_world_spec.specs.{declared.value.Name.Name, declared.value.Value.Value, declared.value.Value.TheVariants.Nil, declared.value.Value.TheVariants.Number, declared.value.Value.TheVariants.Ref, declared.node.Node.Node, declared.node.Node.TheVariants.Con, declared.node.Node.TheVariants.Var, declared.node.Node.TheVariants.Arr, declared.node.Node.TheVariants.Thunk, declared.node.Node.TheVariants.Weak, declared.node.Node.TheVariants.Stack, Change.is_same_name, Step.shared_name, Reach.IsBefore, Reach.IsInOrder, World.held_by, World.IsShared, laws.Orders.same_name}
+use Rattle.nmgc_journal.specs.{Text.IsValue, Reading.number_at, Reading.value_at, laws.Reading.bind_some, laws.Reading.guard_some, laws.Reading.number_takes, laws.Reading.value_reads}
+use Rattle.nmgc_lists.specs.{laws.Truths.chosen, laws.Truths.unmarked, laws.Items.all_front, laws.Items.all_back}
+use Rattle.nmgc_image.specs.{declared.image.Held.Held, declared.image.ImageMutator.ImageMutator, declared.image.Entry.Entry, declared.image.Image.Image, declared.reader.Reader.Reader, Image.AreInOrder, Image.IsHeld, Image.IsMutator, Image.IsOwned, Image.IsEntry, Image.names_of, Image.values_of, Image.IsOrderly, Spelling.first_words, Spelling.mutator_words, Spelling.register_words, Spelling.queue_words, Spelling.entry_words, Spelling.own_lines, Spelling.mutator_lines, Spelling.last_words, Spelling.image_lines, Reading.is_declared, Reading.begun, Reading.is_open, Reading.is_full, Reading.first_at, Reading.new_own, Reading.mutator_at, Reading.is_above, Reading.is_nil, Reading.with_register, Reading.with_entry, Reading.register_at, Reading.queue_at, Reading.is_before, Reading.is_after, Reading.is_shared, Reading.is_below, Reading.is_owned, Reading.can_follow, Reading.entry_at, Reading.next_at, Reading.end_at, Reading.line_at, Reading.start, Reading.image_of, Reading.run}
+use Rattle.nmgc_image.proofs.{NodeLaws.entry_takes, Machine.IsIn}
 
 -- every mutator was begun
 pub record IsFull (r : Reader) : Type 0 where
@@ -122,21 +94,13 @@ record IsOpen (r : Reader) : Type 0 where
 is_open_means : (r : Reader) → is_open r ≡ true → IsOpen r
 is_open_means r e =
     let p = and_parts (eqb (length r.nodes) 0) (not r.ended) e in
-    record { no_node = nil_from_length r.nodes (eqb-true (length r.nodes) 0 p.0); no_end = not_true r.ended p.1 }
-  where
-    not_true : (b : Bool) → not b ≡ true → b ≡ false
-    not_true true h = absurd (false≢true h)
-    not_true false h = refl
+    record { no_node = nil_from_length r.nodes (eqb-true (length r.nodes) 0 p.0); no_end = unmarked r.ended p.1 }
 
 is_full_means : (r : Reader) → is_full r ≡ true → IsFull r × (r.ended ≡ false)
 is_full_means r e =
     let p = and_parts (ltb 0 r.expected && eqb (length (begun r)) r.expected) (not r.ended) e in
     let q = and_parts (ltb 0 r.expected) (eqb (length (begun r)) r.expected) p.0 in
-    (record { some = let lt = ltb-true 0 r.expected q.0 in omega arith; all = eqb-true (length (begun r)) r.expected q.1 }, not_true r.ended p.1)
-  where
-    not_true : (b : Bool) → not b ≡ true → b ≡ false
-    not_true true h = absurd (false≢true h)
-    not_true false h = refl
+    (record { some = let lt = ltb-true 0 r.expected q.0 in omega arith; all = eqb-true (length (begun r)) r.expected q.1 }, unmarked r.ended p.1)
 
 -- the lines of an open reader with these mutators
 open_is : (r : Reader) → IsOpen r → lines_so_far r ≡ first_part r.expected ++ mutator_lines 0 (begun r)

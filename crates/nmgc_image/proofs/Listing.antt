@@ -1,27 +1,6 @@
 -- Objects are put into an image one by one, in order of their names.
-use Rattle.std.proofs.Common.{ℕ, ◌≡◌, ◌≢◌, ◌<◌, ◌≤◌, ◌+◌, ◌*◌, zero, suc, List, [], ◌∷◌, ◌++◌, length, map, take, get_or, arith, refl, sym, ap, subst, ◌∙◌, true, false, inl, inr}
-use Rattle.std.specs.Prelude.{Contains, All}
-use Rattle.std.specs.List.Sorted.{IsNonDecreasingBy}
-use Rattle.std.proofs.lemmas.Bool.{cases_lt, cases_eq}
-use Rattle.std.proofs.lemmas.List.{map-append, take_more, get_or-take}
-use Rattle.std.proofs.lemmas.List.Elements.{Contains-append_left, Contains-push, Contains-push_cases, All-get_or}
-use Rattle.std.proofs.lemmas.Option.{slice_get_within, get_or_from_slice_get}
-use Rattle.nmgc_world_spec.specs.declared.value.Name.{Name}
-use Rattle.nmgc_world_spec.specs.declared.node.Node.{Node}
-use Rattle.nmgc_world_spec.specs.Reach.{IsBefore}
-use Rattle.nmgc_lists.specs.laws.Items.{contains_head, contains_tail, contains_at, place_of, nothing_in, item_map}
-use Rattle.nmgc_heap_spec.specs.laws.Kinds.{map_item}
-use Rattle.nmgc_object.specs.Words.{IsName}
-use Rattle.nmgc_image.specs.declared.image.Entry.{Entry}
-use Rattle.nmgc_image.specs.declared.shown.Keyed.{Keyed}
-use Rattle.nmgc_image.specs.Image.{names_of}
-use Rattle.nmgc_image.specs.Objects.{IsNamedAt, IsObjectAt, name_in, node_read}
-use Rattle.nmgc_image.specs.Reading.{key_of, is_before, is_after}
-use Rattle.nmgc_image.specs.Shown.{IsKeyed, IsShownAt, ListsObjects}
-use Rattle.nmgc_image.proofs.Keys.{same_key}
-use Rattle.nmgc_image.proofs.Lines.{after_more}
-use Rattle.nmgc_image.proofs.Machine.{before_is}
-use Rattle.nmgc_image.proofs.Words.{name_reads}
+use Rattle.nmgc_image.proofs.Vocabulary.{ℕ, ◌≡◌, ◌≢◌, ◌<◌, ◌≤◌, ◌+◌, zero, suc, List, [], ◌∷◌, ◌++◌, length, map, take, get_or, arith, sym, ap, subst, ◌∙◌, true, false, inl, inr, Contains, All, IsNonDecreasingBy, cases_lt, cases_eq, map-append, take_more, get_or-take, Contains-append_left, Contains-push, Contains-push_cases, All-get_or, slice_get_within, get_or_from_slice_get, Name, Node, IsBefore, contains_head, contains_tail, contains_at, place_of, nothing_in, item_map, map_item, IsName, Entry, Keyed, names_of, IsNamedAt, IsObjectAt, name_in, node_read, key_of, is_before, is_after, IsKeyed, IsShownAt, ListsObjects}
+use Rattle.nmgc_image.proofs.{Keys.same_key, Lines.after_more, Machine.before_is, Words.name_reads}
 
 -- the places of objects
 abbrev pub places_of : List Keyed → List ℕ
@@ -86,12 +65,10 @@ module _ (words : List ℕ) (keyed : List Keyed) where
               subst (λ (x : Entry). IsShownAt words at x) same (record { name = is; node = read }),
             )
           ];
-          complete = λ p c. subst (λ (l : List Name).
-              Contains l (name_in words p)) (sym names) (elim (Contains-push_cases (places_of (take i keyed)) at p (subst (λ (l : List ℕ).
-              Contains l p) one_more c)) [
-                | inl old ↦ Contains-append_left (names_of nodes) (name ∷ []) (name_in words p) (so_far.complete p old)
-                | inr same ↦ subst (λ (n : Name). Contains (names_of nodes ++ name ∷ []) n) (is ∙ ap (name_in words) same) (Contains-push (names_of nodes) name)
-              ]);
+          complete = λ p c. rw names (elim (Contains-push_cases (places_of (take i keyed)) at p (rw one_more at c)) [
+            | inl old ↦ Contains-append_left (names_of nodes) (name ∷ []) (name_in words p) (so_far.complete p old)
+            | inr same ↦ subst (λ (n : Name). Contains (names_of nodes ++ name ∷ []) n) (is ∙ ap (name_in words) same) (Contains-push (names_of nodes) name)
+          ]);
         }
 
     -- an object that is there already

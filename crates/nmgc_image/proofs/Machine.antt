@@ -1,34 +1,6 @@
 -- The lines of an image are taken one after the other, and what was taken are the lines of an image so far.
-use Rattle.std.proofs.Common.{◌≡◌, ◌≢◌, ◌≤◌, ◌<◌, ◌+◌, ◌-◌, ◌^◌, ℕ, List, [], ◌∷◌, ◌++◌, map, length, refl, sym, ap, subst, ◌∙◌, arith, inl, inr, Bool, true, false, not, eqb, ltb, Option, Some, None, append_assoc}
-use Rattle.std.specs.Prelude.{All}
-use Rattle.std.specs.List.{AllByRecursion, list_all}
-use Rattle.std.specs.Option.{option_to_list}
-use Rattle.std.proofs.lemmas.Bool.{lt-ltb, eq-eqb, eqb-true, and_parts, and_from, cases_Bool}
-use Rattle.std.proofs.lemmas.List.{append-nil, length_push}
-use Rattle.nmgc_limits.specs.declared.mutators.TheConstants.{REGISTERS, MAKERS, SHARED_SLOTS}
-use Rattle.nmgc_world_spec.specs.declared.value.Name.{Name}
-use Rattle.nmgc_world_spec.specs.declared.value.Value.{Value}
-use Rattle.nmgc_world_spec.specs.declared.value.Value.TheVariants.{Nil, Number, Ref}
-use Rattle.nmgc_world_spec.specs.declared.node.Node.{Node}
-use Rattle.nmgc_world_spec.specs.declared.node.Node.TheVariants.{Con, Var, Arr, Thunk, Weak, Stack}
-use Rattle.nmgc_world_spec.specs.Change.{is_same_name}
-use Rattle.nmgc_world_spec.specs.Step.{shared_name}
-use Rattle.nmgc_world_spec.specs.Reach.{IsBefore, IsInOrder}
-use Rattle.nmgc_world_spec.specs.World.{held_by, IsShared}
-use Rattle.nmgc_world_spec.specs.laws.Orders.{same_name}
-use Rattle.nmgc_journal.specs.Text.{IsValue}
-use Rattle.nmgc_journal.specs.Reading.{◌>>=◌}
-use Rattle.nmgc_journal.specs.laws.Reading.{number_again, value_reads}
-use Rattle.nmgc_image.specs.declared.image.Held.{Held}
-use Rattle.nmgc_image.specs.declared.image.ImageMutator.{ImageMutator}
-use Rattle.nmgc_image.specs.declared.image.Entry.{Entry}
-use Rattle.nmgc_image.specs.declared.image.Image.{Image}
-use Rattle.nmgc_image.specs.declared.reader.Reader.{Reader}
-use Rattle.nmgc_image.specs.Image.{AreInOrder, IsHeld, IsOwned, names_of, values_of}
-use Rattle.nmgc_image.specs.Spelling.{first_words, mutator_words, register_words, queue_words, entry_words, own_lines, mutator_lines, last_words}
-use Rattle.nmgc_image.specs.Reading.{is_declared, is_full, first_at, new_own, mutator_at, is_above, is_nil, register_at, queue_at, is_before, is_after, is_shared, is_owned, next_at, end_at, line_at, start, run, image_of}
+use Rattle.nmgc_image.proofs.Vocabulary.{◌≡◌, ◌≢◌, ◌≤◌, ◌<◌, ◌+◌, ◌-◌, ◌^◌, ℕ, List, [], ◌∷◌, ◌++◌, map, length, refl, sym, ap, subst, ◌∙◌, arith, inl, inr, Bool, true, false, not, eqb, ltb, Option, Some, None, append_assoc, All, AllByRecursion, list_all, option_to_list, lt-ltb, eq-eqb, eqb-true, and_parts, and_from, cases_Bool, append-nil, length_push, REGISTERS, MAKERS, SHARED_SLOTS, Name, Value, Nil, Number, Ref, Node, Con, Var, Arr, Thunk, Weak, Stack, is_same_name, shared_name, IsBefore, IsInOrder, held_by, IsShared, same_name, IsValue, ◌>>=◌, number_again, value_reads, Held, ImageMutator, Entry, Image, Reader, AreInOrder, IsHeld, IsOwned, names_of, values_of, first_words, mutator_words, register_words, queue_words, entry_words, own_lines, mutator_lines, last_words, is_declared, is_full, first_at, new_own, mutator_at, is_above, is_nil, register_at, queue_at, is_before, is_after, is_shared, is_owned, next_at, end_at, line_at, start, run, image_of, same_name_is}
 use Rattle.nmgc_image.proofs.NodeLaws.{IsSpellable, entry_again}
-use Rattle.nmgc_world_spec.specs.laws.Common.{name_itself as same_name_is}
 
 bind_on : {A B C : Type 0} (o : Option A) (f : A → Option B) (g : B → Option C) → ((o >>= f) >>= g) ≡ (o >>= λ x. f x >>= g)
 bind_on (Some x) f g = refl
@@ -110,8 +82,7 @@ module _ (d : Name → Bool) (expected : ℕ) (few : expected ≤ MAKERS) where
       let step = register_runs done serial rs h (above_from rs h hs o) all.0.0 all.0.1 in
       let rest = registers_run done serial hs (rs ++ h ∷ []) (subst AreInOrder (sym more) o) all.1 in
       run_step d (state expected done (Some (own_of serial rs [])) [] false) (state expected done (Some (own_of serial (rs ++ h ∷
-      []) [])) [] false) (register_words h) (map register_words hs) _ step (rest ∙
-      ap (λ (l : List Held). Some (state expected done (Some (own_of serial l [])) [] false)) more)
+      []) [])) [] false) (register_words h) (map register_words hs) _ step (cc (rest, more))
 
   queue_runs : (done : List ImageMutator) (serial : ℕ) (rs : List Held) (vs : List Value) (v : Value) → IsValue v → IsIn d v →
       line_at d (state expected done (Some (own_of serial rs vs)) [] false) (queue_words v) ≡
@@ -127,8 +98,7 @@ module _ (d : Name → Bool) (expected : ℕ) (few : expected ≤ MAKERS) where
       let more : (vs ++ v ∷ []) ++ ws ≡ vs ++ v ∷ ws = append_assoc vs (v ∷ []) ws in
       let rest = queues_run done serial rs ws (vs ++ v ∷ []) all.1 in
       run_step d (state expected done (Some (own_of serial rs vs)) [] false) (state expected done (Some (own_of serial rs (vs ++ v ∷
-      []))) [] false) (queue_words v) (map queue_words ws) _ (queue_runs done serial rs vs v all.0.0 all.0.1) (rest ∙
-      ap (λ (l : List Value). Some (state expected done (Some (own_of serial rs l)) [] false)) more)
+      []))) [] false) (queue_words v) (map queue_words ws) _ (queue_runs done serial rs vs v all.0.0 all.0.1) (cc (rest, more))
 
   -- a mutator that may be taken
   pub record IsOwnIn (own : ImageMutator) : Type 0 where
@@ -166,8 +136,7 @@ module _ (d : Name → Bool) (expected : ℕ) (few : expected ≤ MAKERS) where
       let next = mutators_run owns (m + 1) before (Some own) count (omega arith) all.1 in
       let one : run d (state expected done current [] false) (mutator_words m own.serial ∷ own_lines own) ≡
       Some (state expected before (Some own) [] false) =
-      subst (λ (k : ℕ). run d (state expected done current [] false) (mutator_words k own.serial ∷ own_lines own) ≡
-      Some (state expected before (Some own) [] false)) (sym is) (own_runs done current own all.0 lt) in
+      rw is (own_runs done current own all.0 lt) in
       record {
         done = next.done;
         current = next.current;

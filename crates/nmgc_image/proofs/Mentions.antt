@@ -1,20 +1,5 @@
 -- What each name that was mentioned being declared comes to, by tests.
-use Rattle.std.proofs.Common.{◌≡◌, List, [], ◌∷◌, map, Bool, true}
-use Rattle.std.specs.Prelude.{All}
-use Rattle.std.specs.List.{AllByRecursion, list_all}
-use Rattle.std.specs.Option.{option_to_list}
-use Rattle.std.proofs.lemmas.Bool.{and_parts}
-use Rattle.std.proofs.lemmas.List.Elements.{All-append, All-from_recursion}
-use Rattle.nmgc_world_spec.specs.declared.value.Name.{Name}
-use Rattle.nmgc_world_spec.specs.declared.value.Value.{Value}
-use Rattle.nmgc_world_spec.specs.Step.{shared_name}
-use Rattle.nmgc_world_spec.specs.World.{held_by}
-use Rattle.nmgc_image.specs.declared.image.Held.{Held}
-use Rattle.nmgc_image.specs.declared.image.ImageMutator.{ImageMutator}
-use Rattle.nmgc_image.specs.declared.image.Entry.{Entry}
-use Rattle.nmgc_image.specs.declared.reader.Reader.{Reader}
-use Rattle.nmgc_image.specs.Image.{values_of}
-use Rattle.nmgc_image.specs.Reading.{is_declared, is_own_in, is_object_in, AreMentionsIn}
+use Rattle.nmgc_image.proofs.Vocabulary.{◌≡◌, List, [], ◌∷◌, map, Bool, true, All, AllByRecursion, list_all, option_to_list, and_parts, All-append, All-from_recursion, Name, Value, shared_name, held_by, Held, ImageMutator, Entry, Reader, values_of, is_declared, is_own_in, is_object_in, AreMentionsIn}
 
 all_mean : {A : Type 0} (f : A → Bool) (xs : List A) → list_all f xs ≡ true → AllByRecursion (λ x. f x ≡ true) xs
 all_mean f [] e = tt

@@ -1,13 +1,5 @@
 -- A text spells at most one image: what is read is a function of its lines.
-use Rattle.std.proofs.Common.{◌≡◌, ◌∙◌, ℕ, List, map, Bool}
-use Rattle.nmgc_world_spec.specs.declared.value.Name.{Name}
-use Rattle.nmgc_image.specs.declared.image.Image.{Image}
-use Rattle.nmgc_image.specs.Reading.{has_key, keys_of}
-use Rattle.nmgc_image.specs.Spelling.{Spells}
-use Rattle.nmgc_image.specs.Text.{words_of, cut}
-use Rattle.nmgc_image.proofs.Keys.{keys_tell}
-use Rattle.nmgc_image.proofs.Steps.{taken_is}
-use Rattle.nmgc_image.proofs.Told.{only}
+use Rattle.nmgc_image.proofs.{Vocabulary.◌≡◌, Vocabulary.◌∙◌, Vocabulary.ℕ, Vocabulary.List, Vocabulary.map, Vocabulary.Bool, Vocabulary.Name, Vocabulary.Image, Vocabulary.has_key, Vocabulary.keys_of, Vocabulary.Spells, Vocabulary.words_of, Vocabulary.cut, Keys.keys_tell, Steps.taken_is, Told.only}
 
 pub one_image : (bytes : List ℕ) (a b : Image) → Spells bytes a → Spells bytes b → a ≡ b
 one_image bytes a b spells_a spells_b =

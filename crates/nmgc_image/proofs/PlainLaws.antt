@@ -1,29 +1,6 @@
 -- What is read at a glance is the text of an object, and its words are read as this object.
-use Rattle.std.proofs.Common.{◌≡◌, ◌≢◌, ◌<◌, ◌+◌, ◌*◌, ◌/◌, ◌%◌, ◌^◌, ℕ, List, [], ◌∷◌, ◌++◌, map, length, refl, sym, ap, subst, ◌∙◌, arith, Bool, Some, decimal, codes, append_assoc}
-use Rattle.std.proofs.lemmas.Bool.{ne_eqb}
-use Rattle.std.proofs.lemmas.Fmt.{decimal_digit, decimal_step}
-use Rattle.std.proofs.lemmas.List.{length-append, map_push}
-use Rattle.std.proofs.lemmas.List.Elements.{recursion_from_All, All-from_recursion}
-use Rattle.nmgc_limits.specs.declared.mutators.TheConstants.{SHARED_MAKER}
-use Rattle.nmgc_world_spec.specs.declared.value.Name.{Name}
-use Rattle.nmgc_world_spec.specs.declared.value.Value.{Value}
-use Rattle.nmgc_world_spec.specs.World.{held_by}
-use Rattle.nmgc_journal.specs.Text.{name_text, value_text, IsValue}
-use Rattle.nmgc_image.specs.declared.image.Entry.{Entry}
-use Rattle.nmgc_image.specs.declared.reader.Reader.{Reader}
-use Rattle.nmgc_image.specs.declared.fault.LineFault.{LineFault}
-use Rattle.nmgc_image.specs.declared.text.Lines.{Lines}
-use Rattle.nmgc_image.specs.Faults.{IsWritable}
-use Rattle.nmgc_image.specs.Plain.{IsPlain}
-use Rattle.nmgc_image.specs.Printing.{after_spaces}
-use Rattle.nmgc_image.specs.Spelling.{spaced, entry_words}
-use Rattle.nmgc_image.specs.Text.{words_of, Cut, cut}
-use Rattle.nmgc_image.specs.Reading.{object_at, next_at, line_at, Refuses, IsStep, Halts}
-use Rattle.nmgc_image.proofs.Cutting.{cut_first}
-use Rattle.nmgc_image.proofs.LineLaws.{words_of-line, entry_line, IsLine, made_lines}
-use Rattle.nmgc_image.proofs.NodeLaws.{IsSpellable, entry_again}
-use Rattle.nmgc_image.proofs.Prints.{spaced_after}
-use Rattle.nmgc_image.proofs.Steps.{line_step, line_fails}
+use Rattle.nmgc_image.proofs.Vocabulary.{◌≡◌, ◌≢◌, ◌<◌, ◌+◌, ◌*◌, ◌/◌, ◌%◌, ◌^◌, ℕ, List, [], ◌∷◌, ◌++◌, map, length, refl, sym, ap, subst, ◌∙◌, arith, Bool, Some, decimal, codes, append_assoc, ne_eqb, decimal_digit, decimal_step, length-append, map_push, recursion_from_All, All-from_recursion, SHARED_MAKER, Name, Value, held_by, name_text, value_text, IsValue, Entry, Reader, LineFault, Lines, IsWritable, IsPlain, after_spaces, spaced, entry_words, words_of, Cut, cut, object_at, next_at, line_at, Refuses, IsStep, Halts}
+use Rattle.nmgc_image.proofs.{Cutting.cut_first, LineLaws.words_of-line, LineLaws.entry_line, LineLaws.IsLine, LineLaws.made_lines, NodeLaws.IsSpellable, NodeLaws.entry_again, Prints.spaced_after, Steps.line_step, Steps.line_fails}
 
 -- NUMBERS AND NAMES
 
@@ -32,9 +9,7 @@ pub decimal_more : (n d : ℕ) → 0 < n → d < 10 → n * 10 + d < 2 ^ 64 → 
 decimal_more n d some small fits =
     let q : (n * 10 + d) / 10 ≡ n = omega arith in
     let r : (n * 10 + d) % 10 ≡ d = omega arith in
-    decimal_step (n * 10 + d) (omega arith) fits
-    ∙ ap (λ (k : ℕ). decimal k ++ (48 + (n * 10 + d) % 10) ∷ []) q
-    ∙ ap (λ (k : ℕ). decimal n ++ (48 + k) ∷ []) r
+    cc (decimal_step (n * 10 + d) (omega arith) fits, q, r)
 
 -- the first digit
 pub digit_first : (bytes after : List ℕ) (d : ℕ) → d < 10 → bytes ≡ (48 + d) ∷ after → bytes ≡ decimal d ++ after
@@ -43,26 +18,20 @@ digit_first bytes after d small is = is ∙ ap (λ (l : List ℕ). l ++ after) (
 pub digit_more : (bytes rest after : List ℕ) (n d : ℕ) → 0 < n → d < 10 → n * 10 + d < 2 ^ 64 → bytes ≡ decimal n ++ rest →
     rest ≡ (48 + d) ∷ after → bytes ≡ decimal (n * 10 + d) ++ after
 digit_more bytes rest after n d some small fits so_far is =
-    so_far
-    ∙ ap (λ (l : List ℕ). decimal n ++ l) is
-    ∙ sym (append_assoc (decimal n) ((48 + d) ∷ []) after)
-    ∙ ap (λ (l : List ℕ). l ++ after) (sym (decimal_more n d some small fits))
+    cc (so_far, is, append_assoc (decimal n) ((48 + d) ∷ []) after, decimal_more n d some small fits)
 
 -- a maker, a full stop and a serial
 pub dotted_text : (name : Name) (old after new : List ℕ) → name.maker < SHARED_MAKER → old ≡ 46 ∷ after → after ≡ decimal name.serial ++ new →
     decimal name.maker ++ old ≡ name_text name ++ new
 dotted_text name old after new few dot serial =
     let text : name_text name ≡ decimal name.maker ++ 46 ∷ decimal name.serial = rw (ne_eqb name.maker SHARED_MAKER (λ e. omega arith)) refl in
-    ap (λ (l : List ℕ). decimal name.maker ++ l) (dot ∙ ap (λ (l : List ℕ). 46 ∷ l) serial)
-    ∙ sym (append_assoc (decimal name.maker) (46 ∷ decimal name.serial) new)
-    ∙ ap (λ (l : List ℕ). l ++ new) (sym text)
+    cc (dot, serial, append_assoc (decimal name.maker) (46 ∷ decimal name.serial) new, text)
 
 -- LISTS OF VALUES
 
 after_append : (xs ys : List (List ℕ)) → after_spaces (xs ++ ys) ≡ after_spaces xs ++ after_spaces ys
 after_append [] ys = refl
-after_append (x ∷ xs) ys = ap (λ (l : List ℕ). 32 ∷ (x ++ l)) (after_append xs ys) ∙
-    ap (λ (l : List ℕ). 32 ∷ l) (sym (append_assoc x (after_spaces xs) (after_spaces ys)))
+after_append (x ∷ xs) ys = cc (after_append xs ys, append_assoc x (after_spaces xs) (after_spaces ys))
 
 -- one value more
 pub value_more : (bytes rest new : List ℕ) (values : List Value) (v : Value) → bytes ≡ after_spaces (map value_text values) ++ rest →
@@ -70,19 +39,13 @@ pub value_more : (bytes rest new : List ℕ) (values : List Value) (v : Value) �
 value_more bytes rest new values v so_far is =
     let texts : List (List ℕ) = map value_text values in
     let one : List (List ℕ) = value_text v ∷ [] in
-    so_far
-    ∙ ap (λ (l : List ℕ). after_spaces texts ++ l) (is ∙ ap (λ (l : List ℕ). 32 ∷ l) (sym (append_assoc (value_text v) [] new)))
-    ∙ sym (append_assoc (after_spaces texts) (after_spaces one) new)
-    ∙ ap (λ (l : List ℕ). l ++ new) (sym (after_append texts one) ∙ ap after_spaces (sym (map_push value_text values v)))
+    cc (so_far, is, append_assoc (value_text v) [] new, append_assoc (after_spaces texts) (after_spaces one) new, after_append texts one, map_push value_text values v)
 
 -- two values
 pub pair_text : (old middle last new first second : List ℕ) → old ≡ 32 ∷ (first ++ middle) → middle ≡ 32 ∷ (second ++ last) → last ≡ 10 ∷ new →
     old ≡ after_spaces (first ∷ second ∷ []) ++ 10 ∷ new
 pair_text old middle last new first second a b c =
-    a
-    ∙ ap (λ (l : List ℕ). 32 ∷ (first ++ l)) (b ∙ ap (λ (l : List ℕ). 32 ∷ (second ++ l)) c ∙
-    ap (λ (l : List ℕ). 32 ∷ l) (sym (append_assoc second [] (10 ∷ new))))
-    ∙ ap (λ (l : List ℕ). 32 ∷ l) (sym (append_assoc first (32 ∷ (second ++ [])) (10 ∷ new)))
+    cc (a, b, c, append_assoc second [] (10 ∷ new), append_assoc first (32 ∷ (second ++ [])) (10 ∷ new))
 
 -- WHOLE LINES
 
@@ -96,9 +59,7 @@ con_text old at_tag at_values new tag values a b c =
 pub node_text : (old at_name at_node new name : List ℕ) (words : List (List ℕ)) → old ≡ codes "node " ++ at_name → at_name ≡ name ++ at_node →
     at_node ≡ after_spaces words ++ 10 ∷ new → old ≡ spaced (codes "node" ∷ name ∷ words) ++ 10 ∷ new
 node_text old at_name at_node new name words a b c =
-    a
-    ∙ ap (λ (l : List ℕ). codes "node " ++ l) (b ∙ ap (λ (l : List ℕ). name ++ l) c ∙ sym (append_assoc name (after_spaces words) (10 ∷ new)))
-    ∙ ap (λ (l : List ℕ). l ++ 10 ∷ new) (sym (spaced_after (codes "node") (name ∷ words)))
+    cc (a, b, c, append_assoc name (after_spaces words) (10 ∷ new), spaced_after (codes "node") (name ∷ words))
 
 spelt_of : (entry : Entry) → IsWritable entry → IsSpellable entry
 spelt_of entry h = (h.name, h.node, recursion_from_All IsValue (held_by entry.node) h.values)

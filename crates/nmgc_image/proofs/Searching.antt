@@ -1,15 +1,5 @@
 -- A search goes on: what it adds to what it had.
-use Rattle.std.proofs.Common.{◌≡◌, ◌⊎◌, ◌↔◌, ◌<◌, ◌≤◌, ◌+◌, ◌/◌, ◌^◌, ℕ, zero, suc, List, [], ◌∷◌, ◌++◌, length, get_or, set, take, replicate, refl, sym, ap, subst, ◌∙◌, arith, inl, inr, Bool, true, false, cond, Some, length-append}
-use Rattle.std.specs.Prelude.{Contains, slice_get, count_by, not}
-use Rattle.std.proofs.lemmas.Bool.{cases_eq}
-use Rattle.std.proofs.lemmas.List.{length-replicate, length-set, append_assoc, append-nil, take_more}
-use Rattle.std.proofs.lemmas.List.Elements.{Contains-append_left, Contains-push, Contains-push_cases, Contains-get_or}
-use Rattle.std.proofs.lemmas.Option.{slice_get_within, slice_get-get_or, get_or_from_slice_get}
-use Rattle.std.proofs.lemmas.List.Sums.{sum_by-cons}
-use Rattle.nmgc_lists.specs.laws.Items.{slice_get-set_other, contains_head, contains_tail, place_of, nothing_in, count-set as set_counts}
-use Rattle.nmgc_image.specs.declared.search.Search.{Search}
-use Rattle.nmgc_image.specs.Objects.{IsObjectAt, is_pointer, pointers, told_at}
-use Rattle.nmgc_image.specs.Reaching.{Reaches, ReachesObjects, IsSearch, Visits, ArePointers, PointWithin}
+use Rattle.nmgc_image.proofs.Vocabulary.{◌≡◌, ◌⊎◌, ◌↔◌, ◌<◌, ◌≤◌, ◌+◌, ◌/◌, ◌^◌, ℕ, zero, suc, List, [], ◌∷◌, ◌++◌, length, get_or, set, take, replicate, refl, sym, ap, subst, ◌∙◌, arith, inl, inr, Bool, true, false, cond, Some, Contains, slice_get, count_by, cases_eq, length-replicate, length-set, append-nil, take_more, Contains-append_left, Contains-push, Contains-push_cases, Contains-get_or, slice_get_within, slice_get-get_or, get_or_from_slice_get, sum_by-cons, slice_get-set_other, contains_head, contains_tail, place_of, nothing_in, set_counts, Search, IsObjectAt, is_pointer, pointers, told_at, Reaches, ReachesObjects, IsSearch, Visits, ArePointers, PointWithin, length-append, not, append_assoc}
 
 -- how many flags aren't set, one by one
 pub counts : (x : Bool) (xs : List Bool) → count_by not (x ∷ xs) ≡ cond (not x) 1 0 + count_by not xs
@@ -79,7 +69,7 @@ visits_same P Q a b v to from = record {
 -- a place that was seen before
 pub found_before : (s : Search) (at : ℕ) → IsSearch s → at < length s.seen.items → get_or s.seen.items at false ≡ true → Visits (λ p. p ≡ at) s s
 found_before s at i lt e = visits_none (λ p. p ≡ at) s i (λ p same.
-    subst (λ (k : ℕ). Contains s.order.items k) (sym same) (i.listed at (slice_get-get_or s.seen.items at false lt ∙ ap Some e)))
+    rw same (i.listed at (slice_get-get_or s.seen.items at false lt ∙ ap Some e)))
 
 -- a place that is seen now
 pub found_now : (s t : Search) (at : ℕ) → IsSearch s → at < length s.seen.items → get_or s.seen.items at false ≡ false →
@@ -89,11 +79,9 @@ found_now s t at i lt e seen order =
     record {
       sound = record {
         listed = λ p h. elim (cases_eq p at) [
-          | inl same ↦ subst (λ (l : List ℕ). Contains l p) (sym order) (subst (λ (k : ℕ).
-              Contains (s.order.items ++ at ∷ []) k) (sym same) (Contains-push s.order.items at))
+          | inl same ↦ rw order (rw same (Contains-push s.order.items at))
           | inr other ↦
-              let there : slice_get s.seen.items p ≡ Some true = sym (slice_get-set_other s.seen.items at p true other) ∙
-              ap (λ (l : List Bool). slice_get l p) (sym seen) ∙ h in
+              let there : slice_get s.seen.items p ≡ Some true = cc (slice_get-set_other s.seen.items at p true other, seen, h) in
               subst (λ (l : List ℕ). Contains l p) (sym order) (Contains-append_left s.order.items (at ∷ []) p (i.listed p there))
         ];
         within = λ p c. elim (Contains-push_cases s.order.items at p (subst (λ (l : List ℕ). Contains l p) order c)) [
@@ -110,8 +98,7 @@ found_now s t at i lt e seen order =
       room = room;
       more = at ∷ [];
       order = order;
-      all = λ p same. subst (λ (l : List ℕ). Contains l p) (sym order) (subst (λ (k : ℕ).
-          Contains (s.order.items ++ at ∷ []) k) (sym same) (Contains-push s.order.items at));
+      all = λ p same. rw order (rw same (Contains-push s.order.items at));
       only = λ p c. elim (Contains-push_cases s.order.items at p (subst (λ (l : List ℕ). Contains l p) order c)) [
         | inl old ↦ inl old
         | inr same ↦ inr (sym same)
@@ -133,8 +120,7 @@ pub pointer_no : (s t : Search) (ws : List ℕ) (i d : ℕ) → i < length ws �
     Visits (ArePointers (take i ws)) s t → Visits (ArePointers (take (i + 1) ws)) s t
 pointer_no s t ws i d lt other v =
     let none : pointers (get_or ws i d ∷ []) ≡ [] = rw other refl in
-    let e : pointers (take (i + 1) ws) ≡ pointers (take i ws) = ap pointers (take_more ws i d lt) ∙
-    pointers_append (take i ws) (get_or ws i d ∷ []) ∙ ap (λ (l : List ℕ). pointers (take i ws) ++ l) none ∙ append-nil (pointers (take i ws)) in
+    let e : pointers (take (i + 1) ws) ≡ pointers (take i ws) = cc (take_more ws i d lt, pointers_append (take i ws) (get_or ws i d ∷ []), none, append-nil (pointers (take i ws))) in
     visits_same (ArePointers (take i ws)) (ArePointers (take (i + 1) ws)) s t v (λ at c. subst (λ (l : List ℕ). Contains l at) (sym e) c) (λ at c.
     subst (λ (l : List ℕ). Contains l at) e c)
 
@@ -143,18 +129,16 @@ pub pointer_yes : (s t u : Search) (ws : List ℕ) (i d : ℕ) → i < length ws
     Visits (ArePointers (take i ws)) s t → Visits (λ p. p ≡ get_or ws i d / 2) t u → Visits (ArePointers (take (i + 1) ws)) s u
 pointer_yes s t u ws i d lt one_is v w =
     let one : pointers (get_or ws i d ∷ []) ≡ get_or ws i d / 2 ∷ [] = rw one_is refl in
-    let e : pointers (take (i + 1) ws) ≡ pointers (take i ws) ++ get_or ws i d / 2 ∷ [] = ap pointers (take_more ws i d lt) ∙
-    pointers_append (take i ws) (get_or ws i d ∷ []) ∙ ap (λ (l : List ℕ). pointers (take i ws) ++ l) one in
+    let e : pointers (take (i + 1) ws) ≡ pointers (take i ws) ++ get_or ws i d / 2 ∷ [] = cc (take_more ws i d lt, pointers_append (take i ws) (get_or ws i d ∷ []), one) in
     visits_then (ArePointers (take i ws)) (λ p. p ≡ get_or ws i d / 2) (ArePointers (take (i + 1) ws)) s t u v w
     (λ at c. elim (Contains-push_cases (pointers (take i ws)) (get_or ws i d / 2) at (subst (λ (l : List ℕ). Contains l at) e c)) [
       | inl old ↦
           inl old
       | inr same ↦ inr (sym same)
     ])
-    (λ at pq. subst (λ (l : List ℕ). Contains l at) (sym e) (elim pq [
+    (λ at pq. rw e (elim pq [
       | inl old ↦ Contains-append_left (pointers (take i ws)) (get_or ws i d / 2 ∷ []) at old
-      | inr same ↦ subst (λ (k : ℕ). Contains (pointers (take i ws) ++ get_or ws i d / 2 ∷
-          []) k) (sym same) (Contains-push (pointers (take i ws)) (get_or ws i d / 2))
+      | inr same ↦ rw same (Contains-push (pointers (take i ws)) (get_or ws i d / 2))
     ]))
 
 -- a pointer of words lies within
@@ -225,16 +209,14 @@ module _ (words : List ℕ) (old s : Search) (next : ℕ) (going : IsGoing words
         roots = λ to c. keeps to (going.roots to c);
         reached = λ to c. elim (v.only to c) [
           | inl before ↦ going.reached to before
-          | inr points ↦ Reaches.field at to object (going.reached at (subst (λ (k : ℕ).
-              Contains s.order.items k) (sym at_is) (Contains-get_or s.order.items next d lt))) points
+          | inr points ↦ Reaches.field at to object (going.reached at (rw at_is (Contains-get_or s.order.items next d lt))) points
         ];
         closed = λ i from to it below e c.
-            let here : slice_get (s.order.items ++ v.more) i ≡ Some from = subst (λ (l : List ℕ). slice_get l i ≡ Some from) v.order e in
+            let here : slice_get (s.order.items ++ v.more) i ≡ Some from = rw v.order at e in
             let mine : slice_get s.order.items i ≡ Some from = sym (left_item s.order.items v.more i (omega arith)) ∙ here in
             elim (cases_eq i next) [
               | inl same ↦
-                  let is : at ≡ from = at_is ∙ get_or_from_slice_get s.order.items next from d (subst (λ (k : ℕ). slice_get s.order.items k ≡
-                  Some from) same mine) in
+                  let is : at ≡ from = at_is ∙ get_or_from_slice_get s.order.items next from d (rw same at mine) in
                   last from to it is c
               | inr other ↦ keeps to (going.closed i from to it (omega (arith, below, other)) mine c)
             ];

@@ -1,35 +1,8 @@
 -- What shows a world within the limits is an image.
-use Rattle.std.proofs.Common.{ℕ, ◌≡◌, ◌≢◌, ◌<◌, ◌≤◌, ◌+◌, ◌⊎◌, List, [], ◌∷◌, ◌++◌, length, map, get_or, arith, refl, sym, ap, subst, ◌∙◌, Some, None, inl, inr, eqb, false}
-use Rattle.std.specs.Prelude.{Contains, All, IsSome, slice_get, flat_map}
-use Rattle.std.proofs.Math.ListN.{get_or-eq_default}
-use Rattle.std.proofs.lemmas.Bool.{cases_eq, cases_lt, ne_eqb}
-use Rattle.std.proofs.lemmas.Option.{slice_get_within, slice_get-get_or, none-some, same_Some}
-use Rattle.std.proofs.lemmas.List.Elements.{All-contains, Contains-append_left, Contains-append_right, Contains-append_cases, Contains-get_or}
-use Rattle.nmgc_limits.specs.declared.mutators.TheConstants.{SHARED_MAKER}
-use Rattle.nmgc_world_spec.specs.declared.value.Name.{Name}
-use Rattle.nmgc_world_spec.specs.declared.value.Value.{Value}
+use Rattle.nmgc_image.proofs.Vocabulary.{ℕ, ◌≡◌, ◌≢◌, ◌<◌, ◌≤◌, ◌⊎◌, List, [], ◌∷◌, ◌++◌, length, map, get_or, arith, refl, sym, ap, subst, ◌∙◌, Some, None, inl, inr, eqb, false, Contains, All, IsSome, slice_get, get_or-eq_default, cases_eq, cases_lt, ne_eqb, slice_get_within, slice_get-get_or, none-some, same_Some, All-contains, Contains-append_left, Contains-append_right, Contains-append_cases, Contains-get_or, SHARED_MAKER, Name, Value, Parts, Node, Con, Var, Arr, Thunk, Weak, Stack, MutatorState, shared_name, World, IsWorld, IsShared, IsSized, IsNodeOf, IsKnown, AreKnown, node_of, state_of, no_mutator, held_by, field, IsAlive, strong_fields, contains_cases, at_some, is_some_of, contains_at, place_of, nothing_in, flat_contains, item_map, name_cases, IsSmall, IsWithin, IsNodeWithin, IsWide, IsOfWeak, IsName, map_item, IsValue, Held, ImageMutator, Entry, Image, IsHeld, IsMutator, IsNode, IsMade, IsOwned, IsEntry, IsImage, names_of, values_of, values_in, most_object_words, ShownIsImage, Shows, ShowsMutator, shown}
+use Rattle.std.specs.Prelude.{flat_map}
+use Rattle.nmgc_world_spec.specs.Reach.{start}
 use Rattle.nmgc_world_spec.specs.declared.value.Value.TheVariants as value
-use Rattle.nmgc_world_spec.specs.declared.node.Parts.{Parts}
-use Rattle.nmgc_world_spec.specs.declared.node.Node.{Node}
-use Rattle.nmgc_world_spec.specs.declared.node.Node.TheVariants.{Con, Var, Arr, Thunk, Weak, Stack}
-use Rattle.nmgc_world_spec.specs.declared.mutator_state.MutatorState.{MutatorState}
-use Rattle.nmgc_world_spec.specs.Step.{shared_name}
-use Rattle.nmgc_world_spec.specs.World.{World, IsWorld, IsShared, IsSized, IsNodeOf, IsKnown, AreKnown, node_of, state_of, no_mutator, held_by}
-use Rattle.nmgc_world_spec.specs.Reach.{start, field, IsAlive, strong_fields}
-use Rattle.nmgc_lists.specs.laws.Items.{contains_cases, at_some, is_some_of, contains_at, place_of, nothing_in, flat_contains, item_map}
-use Rattle.nmgc_world_spec.specs.laws.Orders.{name_cases}
-use Rattle.nmgc_world_laws.specs.Limits.{IsSmall, IsWithin, IsNodeWithin}
-use Rattle.nmgc_world_spec.specs.Wide.{IsWide, IsOfWeak}
-use Rattle.nmgc_object.specs.Words.{IsName}
-use Rattle.nmgc_heap_spec.specs.laws.Kinds.{map_item}
-use Rattle.nmgc_journal.specs.Text.{IsValue}
-use Rattle.nmgc_image.specs.declared.image.Held.{Held}
-use Rattle.nmgc_image.specs.declared.image.ImageMutator.{ImageMutator}
-use Rattle.nmgc_image.specs.declared.image.Entry.{Entry}
-use Rattle.nmgc_image.specs.declared.image.Image.{Image}
-use Rattle.nmgc_image.specs.Image.{IsHeld, IsMutator, IsNode, IsMade, IsOwned, IsEntry, IsImage, names_of, values_of, values_in}
-use Rattle.nmgc_image.specs.Left.{most_object_words, ShownIsImage}
-use Rattle.nmgc_image.specs.Shows.{Shows, ShowsMutator, shown}
 
 -- what every item of a list has that is told of each item
 pub all_items : {A : Type 0} (P : A → Type 0) (xs : List A) → ((x : A) → Contains xs x → P x) → All P xs
@@ -254,10 +227,8 @@ module _ (words : ℕ) (w : World) (image : Image) (few : words ≤ most_object_
             let p = place_of (map (λ (h : Held). h.value) own.registers) (value.Ref name) r in
             let h = map_item (λ (h : Held). h.value) own.registers p.0 (value.Ref name) p.1 in
             let there = (s.registers.sound h.0 (contains_at own.registers p.0 h.0 h.1)).0 in
-            Contains-append_left (state_of w at.0).registers (state_of w at.0).queue (value.Ref name) (subst (λ (v : Value).
-            Contains (state_of w at.0).registers v) (sym h.2) (contains_at (state_of w at.0).registers h.0.register h.0.value there))
-        | inr q ↦ Contains-append_right (state_of w at.0).registers (state_of w at.0).queue (value.Ref name) (subst (λ (l : List Value).
-            Contains l (value.Ref name)) s.queue q)
+            Contains-append_left (state_of w at.0).registers (state_of w at.0).queue (value.Ref name) (rw h.2 (contains_at (state_of w at.0).registers h.0.register h.0.value there))
+        | inr q ↦ Contains-append_right (state_of w at.0).registers (state_of w at.0).queue (value.Ref name) (rw s.queue at q)
       ] in
       start name (inl (inr (at.0, root)))
 

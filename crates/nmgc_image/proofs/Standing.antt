@@ -1,54 +1,17 @@
 -- What the words of a report say, where they stand for a world: its wide reach is what a search over places reaches.
-use Rattle.std.proofs.Common.{ℕ, ◌≡◌, ◌≢◌, ◌⊎◌, ◌↔◌, ◌+◌, ◌*◌, ◌<◌, ◌≤◌, zero, suc, List, [], ◌∷◌, ◌++◌, length, map, slice_index, arith, refl, sym, ap, subst, ◌∙◌, Some, inl, inr}
+use Rattle.std.proofs.{Common.ℕ, Common.◌≡◌, Common.◌≢◌, Common.◌⊎◌, Common.◌↔◌, Common.◌+◌, Common.◌*◌, Common.◌<◌, Common.◌≤◌, Common.zero, Common.suc, Common.List, Common.[], Common.◌∷◌, Common.◌++◌, Common.length, Common.map, Common.slice_index, Common.arith, Common.refl, Common.sym, Common.ap, Common.subst, Common.◌∙◌, Common.Some, Common.inl, Common.inr, Math.ListN.get_or-eq_default, lemmas.Bool.cases_lt, lemmas.Option.slice_get_within, lemmas.List.length-map, lemmas.List.get_or_append_left, lemmas.List.get_or-append-add, lemmas.List.Elements.All-contains, lemmas.List.Elements.All-tail, lemmas.List.Elements.Contains-append_left, lemmas.List.Elements.Contains-append_right, lemmas.List.Elements.Contains-append_cases}
 use Rattle.std.specs.Prelude.{Contains, All, slice_get, flat_map}
-use Rattle.std.proofs.Math.ListN.{get_or-eq_default}
-use Rattle.std.proofs.lemmas.Bool.{cases_lt}
-use Rattle.std.proofs.lemmas.Option.{slice_get_within}
-use Rattle.std.proofs.lemmas.List.{length-map, get_or_append_left, get_or-append-add}
-use Rattle.std.proofs.lemmas.List.Elements.{All-contains, All-tail, Contains-append_left, Contains-append_right, Contains-append_cases}
 use Rattle.nmgc_limits.specs.declared.mutators.TheConstants.{REGISTERS, SHARED_MAKER}
-use Rattle.nmgc_world_spec.specs.declared.value.Name.{Name}
-use Rattle.nmgc_world_spec.specs.declared.value.Value.{Value}
+use Rattle.nmgc_world_spec.specs.{declared.value.Name.Name, declared.value.Value.Value, declared.node.Parts.Parts, declared.node.Node.Node, declared.node.Node.TheVariants.Weak, declared.mutator_state.MutatorState.MutatorState, Step.shared_name, World.World, World.IsNodeOf, World.IsSized, World.IsShared, World.node_of, World.state_of, World.no_mutator, World.held_by, Reach.start, Reach.field, Reach.IsRoot, Reach.IsAlive, Reach.IsAliveWeak, Wide.IsWide, Wide.IsWideRoot, Wide.IsOfWeak}
 use Rattle.nmgc_world_spec.specs.declared.value.Value.TheVariants as value
-use Rattle.nmgc_world_spec.specs.declared.node.Parts.{Parts}
-use Rattle.nmgc_world_spec.specs.declared.node.Node.{Node}
-use Rattle.nmgc_world_spec.specs.declared.node.Node.TheVariants.{Weak}
-use Rattle.nmgc_world_spec.specs.declared.mutator_state.MutatorState.{MutatorState}
-use Rattle.nmgc_world_spec.specs.Step.{shared_name}
-use Rattle.nmgc_world_spec.specs.World.{World, IsNodeOf, IsSized, IsShared, node_of, state_of, no_mutator, held_by}
-use Rattle.nmgc_world_spec.specs.Reach.{start, field, IsRoot, IsAlive, IsAliveWeak}
 use Rattle.nmgc_lists.specs.laws.Items.{at_some, is_some_of, is_some_get, contains_at, place_of, nothing_in, item_map}
-use Rattle.nmgc_world_spec.specs.Wide.{IsWide, IsWideRoot, IsOfWeak}
 use Rattle.nmgc_world_laws.specs.laws.Reached.{wide_known}
-use Rattle.nmgc_object.specs.Places.{InSegment}
-use Rattle.nmgc_object.specs.Size.{block_size}
-use Rattle.nmgc_object.specs.Words.{header_word, IsHeader, IsName}
-use Rattle.nmgc_object.specs.declared.words.Header.{Header}
-use Rattle.nmgc_object.specs.declared.layout.TheConstants.{SHARED_PLACE}
-use Rattle.nmgc_object.specs.declared.size.TheConstants.{HEADER_WORDS}
+use Rattle.nmgc_object.specs.{Places.InSegment, Size.block_size, Words.header_word, Words.IsHeader, Words.IsName, declared.words.Header.Header, declared.layout.TheConstants.SHARED_PLACE, declared.size.TheConstants.HEADER_WORDS}
 use Rattle.nmgc_alloc.specs.Numbered.{nth}
-use Rattle.nmgc_heap_spec.specs.Shape.{header_of, size_of}
-use Rattle.nmgc_heap_spec.specs.Places.{Place, Means, ListMeans}
-use Rattle.nmgc_heap_spec.specs.Represents.{NoNode}
-use Rattle.nmgc_heap_spec.specs.laws.Changes.{lies_within}
-use Rattle.nmgc_heap_spec.specs.laws.Headers.{same_header}
-use Rattle.nmgc_heap_spec.specs.laws.Kinds.{HasFields, fields_of_slots, map_item}
-use Rattle.nmgc_heap_spec.specs.laws.Meanings.{above_zero, placed_at}
-use Rattle.nmgc_heap_spec.specs.laws.Roots.{wide_tracked}
-use Rattle.nmgc_heap_spec.specs.laws.Tracking.{reached_in}
-use Rattle.nmgc_journal.specs.declared.report.MutatorEnd.{MutatorEnd}
-use Rattle.nmgc_journal.specs.declared.report.Report.{Report}
-use Rattle.nmgc_image.specs.declared.image.Entry.{Entry}
-use Rattle.nmgc_image.specs.declared.image.Image.{Image}
-use Rattle.nmgc_image.specs.declared.image.ImageMutator.{ImageMutator}
-use Rattle.nmgc_image.specs.Image.{names_of}
-use Rattle.nmgc_image.specs.Left.{IsLeftAs, LiesWideAt}
-use Rattle.nmgc_image.specs.Objects.{IsNamedAt, IsObjectAt, name_in, pointers, told_at, node_read}
-use Rattle.nmgc_image.specs.Reaching.{Reaches, IsMutatorRoot, IsWeakRoot, IsRootPlace, IsReadyFor}
-use Rattle.nmgc_image.specs.Shown.{IsReadableObject, CanShowOwn, ShowsOwn, IsShownAt, ListsObjects}
-use Rattle.nmgc_image.specs.Shows.{shown, Shows, ShowsMutator, ListsHeld}
-use Rattle.nmgc_image.proofs.ShownImage.{all_items, wide_field, strong_shown, name_place}
-use Rattle.nmgc_image.proofs.Words.{name_reads, list_read, list_readable, list_pointers, pointers_list, told_means, node_reads}
+use Rattle.nmgc_heap_spec.specs.{Shape.header_of, Shape.size_of, Places.Place, Places.Means, Places.ListMeans, Represents.NoNode, laws.Changes.lies_within, laws.Headers.same_header, laws.Kinds.HasFields, laws.Kinds.fields_of_slots, laws.Kinds.map_item, laws.Meanings.above_zero, laws.Meanings.placed_at, laws.Roots.wide_tracked, laws.Tracking.reached_in, laws.Common.list_means}
+use Rattle.nmgc_journal.specs.{declared.report.MutatorEnd.MutatorEnd, declared.report.Report.Report}
+use Rattle.nmgc_image.specs.{declared.image.Entry.Entry, declared.image.Image.Image, declared.image.ImageMutator.ImageMutator, Image.names_of, Left.IsLeftAs, Left.LiesWideAt, Objects.IsNamedAt, Objects.IsObjectAt, Objects.name_in, Objects.pointers, Objects.told_at, Objects.node_read, Reaching.Reaches, Reaching.IsMutatorRoot, Reaching.IsWeakRoot, Reaching.IsRootPlace, Reaching.IsReadyFor, Shown.IsReadableObject, Shown.CanShowOwn, Shown.ShowsOwn, Shown.IsShownAt, Shown.ListsObjects, Shows.shown, Shows.Shows, Shows.ShowsMutator, Shows.ListsHeld}
+use Rattle.nmgc_image.proofs.{ShownImage.all_items, ShownImage.wide_field, ShownImage.strong_shown, ShownImage.name_place, Words.name_reads, Words.list_read, Words.list_readable, Words.list_pointers, Words.pointers_list, Words.told_means, Words.node_reads}
 
 -- the registers of a mutator among those of all
 own_registers : (mutators : List MutatorEnd) (m i : ℕ) (own : MutatorEnd) → All (λ (e : MutatorEnd). length e.registers ≡ REGISTERS) mutators →
@@ -68,14 +31,6 @@ own_registers (first ∷ others) (suc m) i own all e lt =
     ap (λ (k : ℕ). slice_index (first.registers ++ flat_map (λ (e : MutatorEnd). e.registers) others) k) z ∙
     get_or-append-add first.registers (flat_map (λ (e : MutatorEnd). e.registers) others) (REGISTERS * m + i) 0 ∙
     own_registers others m i own (All-tail (λ (e : MutatorEnd). length e.registers ≡ REGISTERS) first others all) e lt
-
--- a list of words that stands for values item by item
-items_mean : (P : Place → Type 0) (ws : List ℕ) (vs : List Value) → length ws ≡ length vs →
-    ((i : ℕ) (v : Value) → slice_get vs i ≡ Some v → Means P (slice_index ws i) v) → ListMeans P ws vs
-items_mean P [] [] n h = tt
-items_mean P [] (v ∷ vs) n h = absurd (omega arith)
-items_mean P (w ∷ ws) [] n h = absurd (omega arith)
-items_mean P (w ∷ ws) (v ∷ vs) n h = (h 0 v refl, items_mean P ws vs (omega arith) (λ i u e. h (suc i) u e))
 
 -- what is reached from some places has what these have and pointers keep
 pub reached_places : (words : List ℕ) (P Q : ℕ → Type 0) → ((at : ℕ) → P at → Q at) →
@@ -101,9 +56,6 @@ module _ (report : Report) (w : World) (left : IsLeftAs report w) where
 
   above : (p : Place) → P p → 1 ≤ p.at
   above = above_zero left.layout left.earlier NoNode left.places w report.words left.represents
-
-  one_name : (at : ℕ) (a b : Name) → P (record { at = at; name = a }) → P (record { at = at; name = b }) → a ≡ b
-  one_name at a b c d = ap (λ (p : Place). p.name) (left.represents.one (record { at = at; name = a }) (record { at = at; name = b }) c d (inr refl))
 
   -- the object of a name of the wide reach, at its place
   record StandsAt (at : ℕ) (node : Node) : Type 0 where
@@ -191,7 +143,7 @@ module _ (report : Report) (w : World) (left : IsLeftAs report w) where
       REGISTERS) report.mutators own left.registers (contains_at report.mutators m own e) in
       let theirs = left.world.registers m lt in
       let held = left.roots.held m lt in (
-        items_mean P own.registers (state_of w m).registers (mine ∙ sym theirs) (λ i v at.
+        list_means P own.registers (state_of w m).registers (mine ∙ sym theirs) (λ i v at.
             let in' = slice_get_within (state_of w m).registers i v at in
             subst (λ (k : ℕ). Means P k v) (own_registers report.mutators m i own left.registers e (omega (arith, in', theirs))) (held i v at)),
         left.roots.queued m own.queue (item_map (λ (x : MutatorEnd). x.queue) report.mutators m own e),

@@ -1,30 +1,6 @@
 -- The lines of an orderly image are taken, where what it mentions is declared.
-use Rattle.std.proofs.Common.{◌≡◌, ◌≤◌, ◌<◌, ℕ, List, [], ◌∷◌, ◌++◌, map, length, refl, sym, ap, subst, ◌∙◌, arith, inl, inr, Bool, true, false, Some, None, append_assoc}
-use Rattle.std.specs.Prelude.{All, slice_get}
-use Rattle.std.specs.List.{AllByRecursion}
-use Rattle.std.specs.Option.{option_to_list}
-use Rattle.std.proofs.lemmas.Option.{slice_get_within}
-use Rattle.std.proofs.lemmas.List.{append-nil, same_from_push}
-use Rattle.std.proofs.lemmas.List.Elements.{recursion_from_All}
-use Rattle.nmgc_limits.specs.declared.mutators.TheConstants.{MAKERS}
-use Rattle.nmgc_world_spec.specs.declared.value.Name.{Name}
-use Rattle.nmgc_world_spec.specs.declared.value.Value.{Value}
-use Rattle.nmgc_world_spec.specs.Step.{shared_name}
-use Rattle.nmgc_world_spec.specs.World.{held_by}
-use Rattle.nmgc_lists.specs.laws.Items.{item_has, at_some, front_of, back_of}
-use Rattle.nmgc_object.specs.Words.{IsName}
-use Rattle.nmgc_journal.specs.Text.{IsValue}
-use Rattle.nmgc_journal.specs.laws.Reading.{bind_some}
-use Rattle.nmgc_image.specs.declared.image.Held.{Held}
-use Rattle.nmgc_image.specs.declared.image.ImageMutator.{ImageMutator}
-use Rattle.nmgc_image.specs.declared.image.Entry.{Entry}
-use Rattle.nmgc_image.specs.declared.image.Image.{Image}
-use Rattle.nmgc_image.specs.declared.reader.Reader.{Reader}
-use Rattle.nmgc_image.specs.Image.{IsHeld, IsMutator, IsOwned, IsEntry, values_of, IsOrderly}
-use Rattle.nmgc_image.specs.Spelling.{first_words, entry_words, mutator_lines, last_words, image_lines}
-use Rattle.nmgc_image.specs.Reading.{start, run}
-use Rattle.nmgc_image.proofs.NodeLaws.{IsSpellable}
-use Rattle.nmgc_image.proofs.Machine.{run_append, run_on, run_step, state, IsIn, first_runs, IsOwnIn, HasTaken, mutators_run, end_runs, IsEntryIn, nodes_run, IsTaken, AreIn}
+use Rattle.nmgc_image.proofs.Vocabulary.{◌≡◌, ◌≤◌, ◌<◌, ℕ, List, [], ◌∷◌, ◌++◌, map, length, refl, sym, ap, subst, ◌∙◌, arith, inl, inr, Bool, true, false, Some, None, append_assoc, All, slice_get, AllByRecursion, option_to_list, slice_get_within, append-nil, same_from_push, recursion_from_All, MAKERS, Name, Value, shared_name, held_by, item_has, at_some, front_of, back_of, IsName, IsValue, bind_some, Held, ImageMutator, Entry, Image, Reader, IsHeld, IsMutator, IsOwned, IsEntry, values_of, IsOrderly, first_words, entry_words, mutator_lines, last_words, image_lines, start, run}
+use Rattle.nmgc_image.proofs.{NodeLaws.IsSpellable, Machine.run_append, Machine.run_on, Machine.run_step, Machine.state, Machine.IsIn, Machine.first_runs, Machine.IsOwnIn, Machine.HasTaken, Machine.mutators_run, Machine.end_runs, Machine.IsEntryIn, Machine.nodes_run, Machine.IsTaken, Machine.AreIn}
 
 both : {A : Type 0} (P Q : A → Type 0) (xs : List A) → AllByRecursion P xs → AllByRecursion Q xs → AllByRecursion (λ x. P x × Q x) xs
 both P Q [] h k = tt

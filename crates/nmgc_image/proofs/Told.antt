@@ -1,38 +1,6 @@
 -- What is read is spelled so, what is spelled so is read, and else the first bad line is told.
-use Rattle.std.proofs.Common.{◌≡◌, ◌≤◌, ◌<◌, ◌+◌, ℕ, List, [], ◌∷◌, ◌++◌, map, length, take, drop, get_or, refl, sym, ap, subst, ◌∙◌, arith, inl, inr, Bool, true, Option, Some, None}
-use Rattle.std.specs.Prelude.{All, Contains, slice_get}
-use Rattle.std.specs.List.{AllByRecursion, flat_map}
-use Rattle.std.proofs.lemmas.Bool.{cases_lt}
-use Rattle.std.proofs.lemmas.List.{append-nil, map-append, take_all, take_more, take-append-drop}
-use Rattle.std.proofs.lemmas.Option.{none-some, same_Some, slice_get-get_or}
-use Rattle.std.proofs.lemmas.List.Elements.{All-from_recursion, recursion_from_All, Contains-append_left, Contains-append_right, Contains-append_cases, All-contains}
-use Rattle.nmgc_limits.specs.declared.mutators.TheConstants.{MAKERS}
-use Rattle.nmgc_world_spec.specs.declared.value.Name.{Name}
-use Rattle.nmgc_world_spec.specs.declared.value.Value.{Value}
-use Rattle.nmgc_world_spec.specs.declared.value.Value.TheVariants.{Nil, Number, Ref}
-use Rattle.nmgc_world_spec.specs.Step.{shared_name}
-use Rattle.nmgc_world_spec.specs.World.{held_by}
-use Rattle.nmgc_lists.specs.laws.Items.{contains_head, contains_tail, contains_cases, contains_at, nothing_in, contains_flat, flat_contains, contains_map}
-use Rattle.nmgc_object.specs.Words.{IsName}
-use Rattle.nmgc_journal.specs.Text.{IsValue}
-use Rattle.nmgc_journal.specs.Reading.{◌>>=◌}
-use Rattle.nmgc_journal.specs.laws.Reading.{bind_some}
-use Rattle.nmgc_image.specs.declared.image.Held.{Held}
-use Rattle.nmgc_image.specs.declared.image.ImageMutator.{ImageMutator}
-use Rattle.nmgc_image.specs.declared.image.Entry.{Entry}
-use Rattle.nmgc_image.specs.declared.image.Image.{Image}
-use Rattle.nmgc_image.specs.declared.reader.Reader.{Reader}
-use Rattle.nmgc_image.specs.Image.{IsHeld, IsMutator, names_of, values_of, values_in, IsOrderly}
-use Rattle.nmgc_image.specs.Spelling.{spaced, ended, first_words, mutator_words, register_words, queue_words, entry_words, own_lines, mutator_lines, last_words, image_lines, Spells}
-use Rattle.nmgc_image.specs.Text.{words_of, Cut, cut}
-use Rattle.nmgc_image.specs.Faults.{IsWritable, IsDeclared, Begins, IsFirstBad}
-use Rattle.nmgc_image.specs.Reading.{node_line_at, line_at, start, image_of, FindsDeclared, run}
-use Rattle.nmgc_image.proofs.NodeLaws.{IsSpellable, line_again}
-use Rattle.nmgc_image.proofs.LineLaws.{MakeLine, spaced-lines, words_of-line, words_of-lines, made_lines, first_line, mutator_line, register_line, queue_line, entry_line, end_line}
-use Rattle.nmgc_image.proofs.Cutting.{cut_ended, cut_is_text}
-use Rattle.nmgc_image.proofs.Machine.{run_append, IsIn, IsTaken, AreIn}
-use Rattle.nmgc_image.proofs.Taken.{spellable, image_taken, front_runs}
-use Rattle.nmgc_image.proofs.Lines.{IsGood, lines_so_far, start_good, start_lines, run_goes, IsPart, good_part, ended_lines, ended_orderly}
+use Rattle.nmgc_image.proofs.Vocabulary.{◌≡◌, ◌≤◌, ◌<◌, ◌+◌, ℕ, List, [], ◌∷◌, ◌++◌, map, length, take, drop, get_or, refl, sym, ap, subst, ◌∙◌, arith, inl, inr, Bool, true, Some, None, All, Contains, slice_get, AllByRecursion, flat_map, cases_lt, append-nil, map-append, take_all, take_more, take-append-drop, none-some, same_Some, slice_get-get_or, All-from_recursion, recursion_from_All, Contains-append_left, Contains-append_right, Contains-append_cases, All-contains, MAKERS, Name, Value, Nil, Number, Ref, shared_name, held_by, contains_head, contains_tail, contains_cases, contains_at, nothing_in, contains_flat, flat_contains, contains_map, IsName, IsValue, bind_some, Held, ImageMutator, Entry, Image, Reader, IsHeld, IsMutator, names_of, values_of, values_in, IsOrderly, spaced, ended, first_words, mutator_words, register_words, queue_words, entry_words, own_lines, mutator_lines, last_words, image_lines, Spells, words_of, Cut, cut, IsWritable, IsDeclared, Begins, IsFirstBad, node_line_at, line_at, start, image_of, FindsDeclared, run}
+use Rattle.nmgc_image.proofs.{NodeLaws.IsSpellable, NodeLaws.line_again, LineLaws.MakeLine, LineLaws.spaced-lines, LineLaws.words_of-line, LineLaws.words_of-lines, LineLaws.made_lines, LineLaws.first_line, LineLaws.mutator_line, LineLaws.register_line, LineLaws.queue_line, LineLaws.entry_line, LineLaws.end_line, Cutting.cut_ended, Cutting.cut_is_text, Machine.run_append, Machine.IsIn, Machine.IsTaken, Machine.AreIn, Taken.spellable, Taken.image_taken, Taken.front_runs, Lines.IsGood, Lines.lines_so_far, Lines.start_good, Lines.start_lines, Lines.run_goes, Lines.IsPart, Lines.good_part, Lines.ended_lines, Lines.ended_orderly}
 
 -- THE LINES OF AN IMAGE
 
@@ -251,8 +219,7 @@ module _ (bytes : List ℕ) (d : Name → Bool) (tells : FindsDeclared d (cut by
   only image s =
       let c = spelled_lines image s in
       let declared : (name : Name) → Contains (names_of image.nodes) name →
-      d name ≡ true = λ name h. tells.complete name (subst (λ (l : List (List ℕ)).
-      IsDeclared l name) (sym c.0) (here_declared image s.valid.orderly name h)) in
+      d name ≡ true = λ name h. tells.complete name (rw c.0 (here_declared image s.valid.orderly name h)) in
       let taken = image_taken d image s.valid.orderly (are_in d image (λ name h.
       declared name (s.valid.closed name h))) (declared shared_name s.valid.shared) in
       (subst (λ (l : List (List (List ℕ))). IsTaken d l image) (sym c.2) taken, c.1)
@@ -263,17 +230,14 @@ module _ (bytes : List ℕ) (d : Name → Bool) (tells : FindsDeclared d (cut by
       let went = run_goes d (map words_of (cut bytes).lines) start r (start_good d) runs in
       let good : IsGood d r = went.0 in
       let image : Image = image_of r in
-      let lines : image_lines (image_of r) ≡ map words_of (cut bytes).lines = sym (ended_lines d r good is_yes) ∙ went.1 ∙
-      ap (λ (l : List (List (List ℕ))). l ++ map words_of (cut bytes).lines) start_lines in
-      let whole : map spaced (image_lines (image_of r)) ≡ (cut bytes).lines = ap (λ (l : List (List (List ℕ))). map spaced l) lines ∙
-      spaced-lines (cut bytes).lines in
+      let lines : image_lines (image_of r) ≡ map words_of (cut bytes).lines = cc (ended_lines d r good is_yes, went.1, start_lines) in
+      let whole : map spaced (image_lines (image_of r)) ≡ (cut bytes).lines = cc (lines, spaced-lines (cut bytes).lines) in
       let orderly : IsOrderly (image_of r) = ended_orderly d r good is_yes in
       let named : (name : Name) → IsName name → d name ≡ true →
       Contains (names_of r.nodes) name = λ name valid is.
       declared_here (image_of r) orderly name (subst (λ (l : List (List ℕ)). IsDeclared l name) (sym whole) (tells.sound name valid is)) in
       record {
-        text = sym (cut_is_text bytes) ∙ ap (λ (l : List ℕ). ended (cut bytes).lines ++ l) none ∙ append-nil (ended (cut bytes).lines) ∙
-            ap (λ (l : List (List ℕ)). ended l) (sym whole);
+        text = cc (cut_is_text bytes, none, append-nil (ended (cut bytes).lines), whole);
         valid = record {
           orderly = orderly;
           shared = named shared_name shared_valid (good.last is_yes).1;
@@ -290,8 +254,7 @@ module _ (bytes : List ℕ) (d : Name → Bool) (tells : FindsDeclared d (cut by
     begins_runs : (s : Reader) × (run d start (map words_of lines) ≡ Some s)
     begins_runs =
         let made = image_made b.image b.orderly in
-        let whole : image_lines b.image ≡ map words_of lines ++ map words_of b.rest = sym (words_of-lines (image_lines b.image) made) ∙
-        ap (λ (l : List (List ℕ)). map words_of l) b.lines_are ∙ map-append words_of lines b.rest in
+        let whole : image_lines b.image ≡ map words_of lines ++ map words_of b.rest = cc (words_of-lines (image_lines b.image) made, b.lines_are, map-append words_of lines b.rest) in
         front_runs d b.image b.orderly inside (map words_of lines) (map words_of b.rest) whole (λ none.
         tells.complete shared_name (b.shared (no_items words_of b.rest none)))
 
@@ -304,8 +267,7 @@ module _ (bytes : List ℕ) (d : Name → Bool) (tells : FindsDeclared d (cut by
     image = part.image;
     orderly = part.orderly;
     rest = map spaced part.rest;
-    lines_are = ap (λ (l : List (List (List ℕ))). map spaced l) (part.lines_are ∙ ap (λ (l : List (List (List ℕ))). l ++ part.rest) e) ∙
-        map-append spaced (map words_of lines) part.rest ∙ ap (λ (l : List (List ℕ)). l ++ map spaced part.rest) (spaced-lines lines);
+    lines_are = cc (part.lines_are, e, map-append spaced (map words_of lines) part.rest, spaced-lines lines);
     mentioned = λ name c.
         tells.sound name (image_values part.image part.orderly (Ref name) c) (in_values (IsIn d) part.image part.mutators_in part.nodes_in (Ref name) c);
     shared = λ none. tells.sound shared_name shared_valid (part.shared (no_items spaced part.rest none));
@@ -315,10 +277,7 @@ module _ (bytes : List ℕ) (d : Name → Bool) (tells : FindsDeclared d (cut by
       Some r) (bad : (line : List ℕ) → slice_get (cut bytes).lines i ≡ Some line → line_at d r (words_of line) ≡ None) where
     stops : (line : List ℕ) → slice_get (cut bytes).lines i ≡ Some line → run d start (map words_of (take i (cut bytes).lines ++ line ∷ [])) ≡ None
     stops line at =
-        ap (λ (l : List (List (List ℕ))). run d start l) (map-append words_of (take i (cut bytes).lines) (line ∷ []))
-        ∙ run_append d start (map words_of (take i (cut bytes).lines)) (words_of line ∷ [])
-        ∙ ap (λ (o : Option Reader). o >>= λ t. run d t (words_of line ∷ [])) runs
-        ∙ ap (λ (o : Option Reader). o >>= λ t. Some t) (bad line at)
+        cc (map-append words_of (take i (cut bytes).lines) (line ∷ []), run_append d start (map words_of (take i (cut bytes).lines)) (words_of line ∷ []), runs, bad line at)
 
     not_longer : i + 1 ≤ length (cut bytes).lines → Begins (cut bytes).lines (take (i + 1) (cut bytes).lines) → ⊥
     not_longer lt b =
@@ -334,18 +293,15 @@ module _ (bytes : List ℕ) (d : Name → Bool) (tells : FindsDeclared d (cut by
           | inl lt ↦
               let line = some_line i lt in
               let front : List (List ℕ) = take i lines ++ line.0 ∷ [] in
-              let split : front ++ drop (i + 1) lines ≡ lines = ap (λ (l : List (List ℕ)). l ++ drop (i + 1) lines) (sym line.2) ∙
-              take-append-drop (i + 1) lines in
+              let split : front ++ drop (i + 1) lines ≡ lines = cc (line.2, take-append-drop (i + 1) lines) in
               let whole : run d start (map words_of front ++ map words_of (drop (i + 1) lines)) ≡ Some o.0.reader =
-              ap (λ (l : List (List (List ℕ))). run d start l) (sym (map-append words_of front (drop (i + 1) lines))) ∙
-              ap (λ (l : List (List ℕ)). run d start (map words_of l)) split ∙ o.0.runs in
+              cc (map-append words_of front (drop (i + 1) lines), split, o.0.runs) in
               let b = bind_some (run d start (map words_of front)) (λ t.
               run d t (map words_of (drop (i + 1) lines))) o.0.reader
               (sym (run_append d start (map words_of front) (map words_of (drop (i + 1) lines))) ∙ whole) in
               none-some b.0 (sym (stops line.0 line.1) ∙ b.1)
           | inr le ↦
-              let same : r ≡ o.0.reader = same_Some r o.0.reader (sym runs ∙
-              ap (λ (l : List (List ℕ)). run d start (map words_of l)) (take_all i lines le) ∙ o.0.runs) in
+              let same : r ≡ o.0.reader = same_Some r o.0.reader (cc (runs, take_all i lines le, o.0.runs)) in
               not_done le (subst (λ (x : Reader). x.ended ≡ true) (sym same) o.0.ended) o.1
         ]
 

@@ -1,15 +1,5 @@
 -- The roots of a search, one after another.
-use Rattle.std.proofs.Common.{ℕ, ◌≡◌, ◌<◌, ◌≤◌, ◌+◌, ◌^◌, List, [], ◌∷◌, ◌++◌, length, take, get_or, arith, refl, sym, subst, inl, inr, Result, Ok, Err}
-use Rattle.std.specs.Prelude.{Contains, OnOk}
-use Rattle.std.proofs.lemmas.Bool.{cases_eq}
-use Rattle.std.proofs.lemmas.List.{take_more, take_all}
-use Rattle.std.proofs.lemmas.List.Elements.{Contains-append_left, Contains-push, Contains-push_cases, Contains-get_or}
-use Rattle.nmgc_lists.specs.laws.Items.{nothing_in}
-use Rattle.nmgc_journal.specs.declared.report.MutatorEnd.{MutatorEnd}
-use Rattle.nmgc_journal.specs.declared.report.Report.{Report}
-use Rattle.nmgc_image.specs.declared.search.Search.{Search}
-use Rattle.nmgc_image.specs.Reaching.{Reaches, IsSearch, Visits, IsOwnRoot, IsMutatorRoot, IsRootPlace, IsReadyFor}
-use Rattle.nmgc_image.proofs.Searching.{visits_none, visits_then, visits_same}
+use Rattle.nmgc_image.proofs.{Vocabulary.ℕ, Vocabulary.◌≡◌, Vocabulary.◌<◌, Vocabulary.◌≤◌, Vocabulary.◌+◌, Vocabulary.◌^◌, Vocabulary.List, Vocabulary.[], Vocabulary.◌∷◌, Vocabulary.◌++◌, Vocabulary.length, Vocabulary.take, Vocabulary.get_or, Vocabulary.arith, Vocabulary.sym, Vocabulary.subst, Vocabulary.inl, Vocabulary.inr, Vocabulary.Result, Vocabulary.Ok, Vocabulary.Err, Vocabulary.Contains, Vocabulary.OnOk, Vocabulary.cases_eq, Vocabulary.take_more, Vocabulary.take_all, Vocabulary.Contains-append_left, Vocabulary.Contains-push, Vocabulary.Contains-push_cases, Vocabulary.nothing_in, Vocabulary.MutatorEnd, Vocabulary.Report, Vocabulary.Search, Vocabulary.Reaches, Vocabulary.IsSearch, Vocabulary.Visits, Vocabulary.IsOwnRoot, Vocabulary.IsMutatorRoot, Vocabulary.IsRootPlace, Vocabulary.IsReadyFor, Searching.visits_none, Searching.visits_then, Searching.visits_same}
 
 -- what has P below a number
 abbrev pub Below : (ℕ → ℕ → Type 0) → ℕ → ℕ → Type 0
@@ -66,10 +56,6 @@ mutators_next mutators i d s t u lt v w =
 pub mutators_end : (mutators : List MutatorEnd) (i : ℕ) (s t : Search) → length mutators ≤ i → Visits (IsMutatorRoot (take i mutators)) s t →
     Visits (IsMutatorRoot mutators) s t
 mutators_end mutators i s t all v = let P : List MutatorEnd → Type 0 = λ l. Visits (IsMutatorRoot l) s t in subst P (take_all i mutators all) v
-
-pub own_within : (mutators : List MutatorEnd) (i room : ℕ) (d : MutatorEnd) → i < length mutators →
-    ((at : ℕ) → IsMutatorRoot mutators at → (at < room) × (at < 2 ^ 32)) → (at : ℕ) → IsOwnRoot (get_or mutators i d) at → (at < room) × (at < 2 ^ 32)
-own_within mutators i room d lt h at r = h at (get_or mutators i d, Contains-get_or mutators i d lt, r)
 
 -- whatever the search begins with lies in the heap, and is a number of 32 bits
 pub root_within : (report : Report) → IsReadyFor report → (at : ℕ) → IsRootPlace report at → (at < length report.words) × (at < 2 ^ 32)

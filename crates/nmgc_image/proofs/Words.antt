@@ -1,25 +1,6 @@
 -- The words of an object, as they are read: which of them stand for values, and for which.
-use Rattle.std.proofs.Common.{ℕ, ◌≡◌, ◌+◌, ◌-◌, ◌*◌, ◌/◌, ◌%◌, ◌<◌, ◌≤◌, zero, suc, List, [], ◌∷◌, length, map, take, drop, slice_index, arith, refl, sym, ap, subst, ◌∙◌, Bool, true, false, cond, Some, None, inl, inr, eqb, ltb, add-one}
-use Rattle.std.specs.Prelude.{◌&&◌, Contains, All}
-use Rattle.std.proofs.lemmas.Bool.{ne_eqb, eq-eqb, lt-ltb, cases_Bool}
-use Rattle.std.proofs.lemmas.List.{drop_more}
-use Rattle.std.proofs.lemmas.List.Elements.{All-nil, All-cons}
-use Rattle.nmgc_world_spec.specs.declared.value.Name.{Name}
-use Rattle.nmgc_world_spec.specs.declared.value.Value.{Value}
+use Rattle.nmgc_image.proofs.Vocabulary.{ℕ, ◌≡◌, ◌+◌, ◌-◌, ◌*◌, ◌/◌, ◌%◌, ◌<◌, ◌≤◌, zero, suc, List, [], ◌∷◌, length, map, take, drop, slice_index, arith, refl, sym, ap, subst, ◌∙◌, Bool, true, false, cond, Some, None, inl, inr, eqb, ltb, add-one, ◌&&◌, Contains, All, ne_eqb, eq-eqb, lt-ltb, cases_Bool, drop_more, All-nil, All-cons, Name, Value, Node, Con, Var, Arr, Thunk, Weak, Stack, IsSized, held_by, same_name, contains_cases, contains_head, contains_tail, nothing_in, IsName, name_word, SERIAL_UNIT, NIL_WORD, HEADER_WORDS, header_of, Place, Means, AllMean, ListMeans, HasFields, AreUnset, IsNamedAt, IsReadable, name_in, value_in, is_pointer, pointers, leading, told_thunk, told_weak, fields_at, told_at, begins_unset, made_of, thunk_of, node_read, shown}
 use Rattle.nmgc_world_spec.specs.declared.value.Value.TheVariants as value
-use Rattle.nmgc_world_spec.specs.declared.node.Node.{Node}
-use Rattle.nmgc_world_spec.specs.declared.node.Node.TheVariants.{Con, Var, Arr, Thunk, Weak, Stack}
-use Rattle.nmgc_world_spec.specs.World.{IsSized, held_by}
-use Rattle.nmgc_world_spec.specs.laws.Orders.{same_name}
-use Rattle.nmgc_lists.specs.laws.Items.{contains_cases, contains_head, contains_tail, nothing_in}
-use Rattle.nmgc_object.specs.Words.{IsName, name_word}
-use Rattle.nmgc_object.specs.declared.words.TheConstants.{SERIAL_UNIT, NIL_WORD}
-use Rattle.nmgc_object.specs.declared.size.TheConstants.{HEADER_WORDS}
-use Rattle.nmgc_heap_spec.specs.Shape.{header_of}
-use Rattle.nmgc_heap_spec.specs.Places.{Place, Means, AllMean, ListMeans}
-use Rattle.nmgc_heap_spec.specs.laws.Kinds.{HasFields, AreUnset}
-use Rattle.nmgc_image.specs.Objects.{IsNamedAt, IsReadable, name_in, value_in, is_pointer, pointers, leading, told_thunk, told_weak, fields_at, told_at, begins_unset, made_of, thunk_of, node_read}
-use Rattle.nmgc_image.specs.Shows.{shown}
 
 -- a name is read from its word
 name_parts : (serial maker word : ℕ) → maker < SERIAL_UNIT → SERIAL_UNIT * serial + maker ≡ word → (word % SERIAL_UNIT ≡ maker) × (word / SERIAL_UNIT ≡ serial)
@@ -36,10 +17,6 @@ halves at word e = (omega arith, omega arith)
 
 odd : (n word : ℕ) → word ≡ 2 * n + 3 → (word / 2 - 1 ≡ n) × (word % 2 ≡ 1)
 odd n word e = (omega arith, omega arith)
-
--- fields from a place on, one by one
-pub fields_none : (words : List ℕ) (from : ℕ) → take 0 (drop from words) ≡ []
-fields_none words from = refl
 
 pub fields_more : (words : List ℕ) (from n : ℕ) → from < length words → take (n + 1) (drop from words) ≡ slice_index words from ∷ take n (drop (from + 1) words)
 fields_more words from n lt = ap (take (n + 1)) (drop_more words from 0 lt) ∙ rw add-one refl
@@ -189,8 +166,7 @@ module _ (P : Place → Type 0) (words : List ℕ) (named : (p : Place) → P p 
       let c : take 1 (drop (from + 1 + 1) words) ≡ slice_index words (from + 1 + 1) ∷ take 0 (drop (from + 1 + 1 + 1) words) =
       fields_more words (from + 1 + 1) 0 (omega arith) in
       let z : from + 1 + 1 ≡ from + 2 = omega arith in
-      a ∙ ap (λ (l : List ℕ). slice_index words from ∷ l) (b ∙
-      ap (λ (l : List ℕ). slice_index words (from + 1) ∷ l) (c ∙ ap (λ (k : ℕ). slice_index words k ∷ []) z))
+      cc (a, b, c, z)
 
   -- the words that are told of an object stand for what its node holds, as it is shown
   pub told_means : (at : ℕ) (node : Node) → IsSized node → HasFields P words (at + HEADER_WORDS) node →

@@ -1,9 +1,8 @@
 -- Which names count as declared while a text is read.
 use Rattle.std.specs.Prelude.{Bool, true}
 use Rattle.nmgc_world_spec.specs.declared.value.Name.{Name}
-use Rattle.nmgc_image.specs.declared.known.Known.{Known}
+use Rattle.nmgc_image.specs.{declared.known.Known.Known, Reading.has_key}
 use Rattle.nmgc_image.specs.declared.known.Known.TheVariants as known
-use Rattle.nmgc_image.specs.Reading.{has_key}
 
 -- every name, or those that are told
 abbrev pub test_of : Known → Name → Bool

@@ -1,23 +1,13 @@
 -- The heap that a report has stands for a world.
 use Rattle.std.specs.Prelude.{◌≡◌, ℕ, ◌+◌, ◌<◌, ◌≤◌, List, length, map, flat_map, Contains, All}
 use Rattle.nmgc_limits.specs.declared.mutators.TheConstants.{REGISTERS}
-use Rattle.nmgc_world_spec.specs.declared.value.Name.{Name}
-use Rattle.nmgc_world_spec.specs.World.{World, IsWorld}
+use Rattle.nmgc_world_spec.specs.{declared.value.Name.Name, World.World, World.IsWorld, Wide.IsWide}
 use Rattle.nmgc_world_laws.specs.Limits.{IsWithin}
-use Rattle.nmgc_world_spec.specs.Wide.{IsWide}
-use Rattle.nmgc_object.specs.Places.{IsLayout, nursery_place}
-use Rattle.nmgc_object.specs.declared.layout.Layout.{Layout}
-use Rattle.nmgc_object.specs.declared.size.TheConstants.{HEADER_WORDS}
-use Rattle.nmgc_object.specs.declared.words.TheConstants.{MAX_FIELDS}
-use Rattle.nmgc_heap_spec.specs.Places.{Place}
-use Rattle.nmgc_heap_spec.specs.Represents.{Represents, NoNode}
-use Rattle.nmgc_heap_spec.specs.Roots.{RepresentsRoots, ListsWeaks}
+use Rattle.nmgc_object.specs.{Places.IsLayout, Places.nursery_place, declared.layout.Layout.Layout, declared.size.TheConstants.HEADER_WORDS, declared.words.TheConstants.MAX_FIELDS}
+use Rattle.nmgc_heap_spec.specs.{Places.Place, Represents.Represents, Represents.NoNode, Roots.RepresentsRoots, Roots.ListsWeaks}
 use Rattle.nmgc_blocks_spec.specs.Occupied.{AreBlocks}
-use Rattle.nmgc_journal.specs.declared.report.MutatorEnd.{MutatorEnd}
-use Rattle.nmgc_journal.specs.declared.report.Report.{Report}
-use Rattle.nmgc_image.specs.declared.image.Image.{Image}
-use Rattle.nmgc_image.specs.Image.{IsImage}
-use Rattle.nmgc_image.specs.Shows.{Shows}
+use Rattle.nmgc_journal.specs.{declared.report.MutatorEnd.MutatorEnd, declared.report.Report.Report}
+use Rattle.nmgc_image.specs.{declared.image.Image.Image, Image.IsImage, Shows.Shows}
 
 -- as many words as a segment may have, so that the header of each object can be written
 abbrev pub most_object_words : ℕ

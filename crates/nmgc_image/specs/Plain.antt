@@ -1,13 +1,8 @@
 -- Node lines that are read without being cut into words.
 use Rattle.std.specs.Prelude.{◌≡◌, ℕ, List, ◌∷◌, ◌++◌, All}
-use Rattle.nmgc_world_spec.specs.declared.node.Node.{Node}
-use Rattle.nmgc_world_spec.specs.World.{held_by}
+use Rattle.nmgc_world_spec.specs.{declared.node.Node.Node, World.held_by}
 use Rattle.nmgc_journal.specs.Text.{IsValue}
-use Rattle.nmgc_image.specs.declared.image.Entry.{Entry}
-use Rattle.nmgc_image.specs.Image.{IsNode}
-use Rattle.nmgc_image.specs.Faults.{IsWritable}
-use Rattle.nmgc_image.specs.Printing.{after_spaces}
-use Rattle.nmgc_image.specs.Spelling.{spaced, node_words, entry_words}
+use Rattle.nmgc_image.specs.{declared.image.Entry.Entry, Image.IsNode, Faults.IsWritable, Printing.after_spaces, Spelling.spaced, Spelling.node_words, Spelling.entry_words}
 
 -- a text begins with the node line of an object, and this comes after it
 pub record IsPlain (bytes : List ℕ) (entry : Entry) (rest : List ℕ) : Type 0 where

@@ -1,14 +1,10 @@
 -- What is reached in the words of a heap, and how far a search has come. These are the words of the private contracts.
 use Rattle.std.specs.Prelude.{◌≡◌, ◌⊎◌, ℕ, ◌+◌, ◌^◌, ◌<◌, List, ◌++◌, length, Some, true, not, count_by, slice_get, Contains, All}
-use Rattle.nmgc_object.specs.declared.layout.TheConstants.{SHARED_PLACE}
-use Rattle.nmgc_object.specs.Words.{IsName}
+use Rattle.nmgc_object.specs.{declared.layout.TheConstants.SHARED_PLACE, Words.IsName}
 use Rattle.nmgc_segment.specs.Segment.{InUse}
-use Rattle.nmgc_alloc.specs.Numbered.{nth}
-use Rattle.nmgc_alloc.specs.Segments.{IsBlockAt}
-use Rattle.nmgc_journal.specs.declared.report.MutatorEnd.{MutatorEnd}
-use Rattle.nmgc_journal.specs.declared.report.Report.{Report}
-use Rattle.nmgc_image.specs.declared.search.Search.{Search}
-use Rattle.nmgc_image.specs.Objects.{IsNamedAt, IsObjectAt, pointers, told_at, name_in}
+use Rattle.nmgc_alloc.specs.{Numbered.nth, Segments.IsBlockAt}
+use Rattle.nmgc_journal.specs.{declared.report.MutatorEnd.MutatorEnd, declared.report.Report.Report}
+use Rattle.nmgc_image.specs.{declared.search.Search.Search, Objects.IsNamedAt, Objects.IsObjectAt, Objects.pointers, Objects.told_at, Objects.name_in}
 
 -- the places with P, and those that pointers lead to from these
 pub data Reaches (words : List ℕ) (P : ℕ → Type 0) : ℕ → Type 0 where

@@ -4,13 +4,7 @@ use Rattle.std.specs.Prelude.{◌≡◌, ℕ, List, length, map, All, Contains}
 use Rattle.nmgc_limits.specs.declared.mutators.TheConstants.{REGISTERS}
 use Rattle.nmgc_world_spec.specs.Reach.{IsInOrder}
 use Rattle.nmgc_journal.specs.declared.report.MutatorEnd.{MutatorEnd}
-use Rattle.nmgc_image.specs.declared.image.Entry.{Entry}
-use Rattle.nmgc_image.specs.declared.image.ImageMutator.{ImageMutator}
-use Rattle.nmgc_image.specs.declared.shown.Keyed.{Keyed}
-use Rattle.nmgc_image.specs.Image.{names_of}
-use Rattle.nmgc_image.specs.Objects.{IsObjectAt, IsReadable, name_in, value_in, told_at, node_read}
-use Rattle.nmgc_image.specs.Reading.{key_of}
-use Rattle.nmgc_image.specs.Shows.{ListsHeld}
+use Rattle.nmgc_image.specs.{declared.image.Entry.Entry, declared.image.ImageMutator.ImageMutator, declared.shown.Keyed.Keyed, Image.names_of, Objects.IsObjectAt, Objects.IsReadable, Objects.name_in, Objects.value_in, Objects.told_at, Objects.node_read, Reading.key_of, Shows.ListsHeld}
 
 -- an object that can be read whole
 pub record IsReadableObject (words : List ℕ) (at : ℕ) : Type 0 where

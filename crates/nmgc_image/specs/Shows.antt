@@ -1,17 +1,8 @@
 -- Which image shows a world: what its mutators have in hand, and the objects of its wide reach.
 use Rattle.std.specs.Prelude.{◌≡◌, ◌≢◌, ℕ, List, [], length, slice_get, Some, None, Contains}
-use Rattle.nmgc_world_spec.specs.declared.value.Name.{Name}
-use Rattle.nmgc_world_spec.specs.declared.value.Value.{Value}
+use Rattle.nmgc_world_spec.specs.{declared.value.Name.Name, declared.value.Value.Value, declared.node.Node.Node, declared.node.Node.TheVariants.Con, declared.node.Node.TheVariants.Var, declared.node.Node.TheVariants.Arr, declared.node.Node.TheVariants.Thunk, declared.node.Node.TheVariants.Weak, declared.node.Node.TheVariants.Stack, Reach.Lists, World.World, World.state_of, World.serial_of, World.node_of, Wide.IsWide}
 use Rattle.nmgc_world_spec.specs.declared.value.Value.TheVariants as value
-use Rattle.nmgc_world_spec.specs.declared.node.Node.{Node}
-use Rattle.nmgc_world_spec.specs.declared.node.Node.TheVariants.{Con, Var, Arr, Thunk, Weak, Stack}
-use Rattle.nmgc_world_spec.specs.Reach.{Lists}
-use Rattle.nmgc_world_spec.specs.World.{World, state_of, serial_of, node_of}
-use Rattle.nmgc_world_spec.specs.Wide.{IsWide}
-use Rattle.nmgc_image.specs.declared.image.Held.{Held}
-use Rattle.nmgc_image.specs.declared.image.ImageMutator.{ImageMutator}
-use Rattle.nmgc_image.specs.declared.image.Image.{Image}
-use Rattle.nmgc_image.specs.Image.{AreInOrder, names_of, HasNode}
+use Rattle.nmgc_image.specs.{declared.image.Held.Held, declared.image.ImageMutator.ImageMutator, declared.image.Image.Image, Image.AreInOrder, Image.names_of, Image.HasNode}
 
 -- a node as it is shown: a thunk with a result has no free variables any more
 abbrev pub shown : Node → Node

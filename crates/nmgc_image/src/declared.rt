@@ -4,10 +4,8 @@
 //! of the objects that were read, and of the node lines after them, are gathered as numbers in order.
 ghost use Rattle.std.specs.Prelude.{◌≡◌, ◌↔◌, ◌++◌, [], true, All, Contains, IfOk, IsTrue, OnOk, map};
 ghost use Rattle.nmgc_object.specs.Words.{IsName};
-ghost use Rattle.nmgc_image.specs.Names.{TellsNames};
+ghost use Rattle.nmgc_image.specs.{Names.TellsNames, Reading.has_key, Reading.key_of, Reading.keys_beside, Reading.keys_in, Reading.keys_of as all_keys, Reading.HaveSame, Text.cut};
 ghost use Rattle.std.specs.List.Sorted.{IsNonDecreasing};
-ghost use Rattle.nmgc_image.specs.Reading.{has_key, key_of, keys_beside, keys_in, keys_of as all_keys, HaveSame};
-ghost use Rattle.nmgc_image.specs.Text.{cut};
 
 use crate::LineFault;
 use crate::image::Entry;

@@ -2,9 +2,7 @@
 //!
 //! Plain node lines are read at a glance, and all other lines by their words.
 ghost use Rattle.std.specs.Prelude.{◌≡◌, IfOk};
-ghost use Rattle.nmgc_image.specs.Known.{test_of};
-ghost use Rattle.nmgc_image.specs.Plain.{IsPlain};
-ghost use Rattle.nmgc_image.specs.Reading.{Advances, AreRead};
+ghost use Rattle.nmgc_image.specs.{Known.test_of, Plain.IsPlain, Reading.Advances, Reading.AreRead};
 
 use crate::LineFault;
 use crate::image::Entry;

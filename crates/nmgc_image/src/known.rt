@@ -3,13 +3,9 @@
 //! A text is read before it is known which names have node lines, and then every name counts as declared. What was
 //! mentioned is looked up afterwards. Where a name has no node line, the text is read once more, and the first line
 //! that mentions such a name is bad.
-ghost use Rattle.std.specs.Prelude.{◌≡◌, true};
-ghost use Rattle.std.specs.List.{list_all};
-ghost use Rattle.std.specs.Option.{option_to_list};
-ghost use Rattle.nmgc_world_spec.specs.Step.{shared_name};
-ghost use Rattle.nmgc_world_spec.specs.World.{held_by};
-ghost use Rattle.nmgc_image.specs.Known.{test_of};
-ghost use Rattle.nmgc_image.specs.Reading.{is_declared, is_own_in, is_object_in, AreMentionsIn};
+ghost use Rattle.std.specs.{Prelude.◌≡◌, Prelude.true, List.list_all, Option.option_to_list};
+ghost use Rattle.nmgc_world_spec.specs.{Step.shared_name, World.held_by};
+ghost use Rattle.nmgc_image.specs.{Known.test_of, Reading.is_declared, Reading.is_own_in, Reading.is_object_in, Reading.AreMentionsIn};
 
 use crate::declared::Declared;
 use crate::image::{Entry, Held, ImageMutator};

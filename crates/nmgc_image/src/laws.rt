@@ -1,6 +1,5 @@
 //! What holds of images. Each function here does nothing; its contract is a law.
-ghost use Rattle.nmgc_image.specs.Left.{ShownIsImage};
-ghost use Rattle.nmgc_image.specs.Spelling.{OneImage};
+ghost use Rattle.nmgc_image.specs.{Left.ShownIsImage, Spelling.OneImage};
 
 /// What shows a world within the limits of a script is an image: so its text is read back.
 pub fn shown_is_image()

@@ -4,8 +4,7 @@
 //! values depends on the kind: a thunk with a result has dropped its free variables, a dead weak pointer all that it
 //! had, and a stack what lies above its depth. Of the other words nothing is known, and they aren't looked at.
 ghost use Rattle.std.specs.Prelude.{◌≡◌, ◌+◌, ◌^◌, ◌≤◌, ◌<◌, ◌/◌, length, map, take, drop, All, IfOk, OnOk, IfSome, IfNone, IsTrue, true, false};
-ghost use Rattle.nmgc_object.specs.declared.size.TheConstants.{HEADER_WORDS as header_words};
-ghost use Rattle.nmgc_object.specs.declared.words.Header.{Header as HeaderOf};
+ghost use Rattle.nmgc_object.specs.{declared.size.TheConstants.HEADER_WORDS as header_words, declared.words.Header.Header as HeaderOf};
 ghost use Rattle.nmgc_image.specs.Objects.{IsNamedAt, IsObjectAt, IsReadable, name_in, value_in, is_pointer, leading, told, told_thunk, told_weak, fields_at, told_at, begins_unset, made_of, var_of, thunk_of, weak_of, node_read};
 
 use nmgc_journal::FinalWords;

@@ -6,11 +6,8 @@
 //! nothing else of it. So nothing but the name is read before it was found among those of the weak pointers.
 ghost use Rattle.std.specs.Prelude.{◌≡◌, ◌↔◌, ℕ, ◌^◌, ◌<◌, length, Contains, IfOk, IsTrue, OnOk};
 ghost use Rattle.nmgc_segment.specs.Segment.{InUse};
-ghost use Rattle.nmgc_alloc.specs.Numbered.{nth, HasNumber};
-ghost use Rattle.nmgc_alloc.specs.Segments.{IsBlockAt};
-ghost use Rattle.nmgc_image.specs.Names.{TellsNames};
-ghost use Rattle.nmgc_image.specs.Objects.{name_in};
-ghost use Rattle.nmgc_image.specs.Reading.{has_key};
+ghost use Rattle.nmgc_alloc.specs.{Numbered.nth, Numbered.HasNumber, Segments.IsBlockAt};
+ghost use Rattle.nmgc_image.specs.{Names.TellsNames, Objects.name_in, Reading.has_key};
 ghost use Rattle.nmgc_image.specs.Reaching.{Reaches, IsSearch, Visits, ArePointers, IsOwnRoot, IsMutatorRoot, IsWeakBlock, IsWeakIn, IsWeakRoot, IsRootPlace, IsReadyFor};
 
 use crate::declared::{Declared, of_names};

@@ -2,8 +2,7 @@
 //!
 //! A line is one of six, by its first word, and may come only where those before it leave room for it.
 ghost use Rattle.std.specs.Prelude.{◌≡◌, ◌++◌, ◌==◌, ◌&&◌, map, length, not, slice_get, IfOk, OnOk};
-ghost use Rattle.std.specs.List.{list_all};
-ghost use Rattle.std.specs.Option.{option_to_list, option_copied};
+ghost use Rattle.std.specs.{List.list_all, Option.option_to_list, Option.option_copied};
 ghost use Rattle.nmgc_world_spec.specs.World.{held_by};
 ghost use Rattle.nmgc_image.specs.Known.{test_of};
 ghost use Rattle.nmgc_image.specs.Reading.{Takes, begins, object_at, is_declared, begun, is_open, is_full, first_at, new_own, mutator_at, is_above, is_nil, with_register, with_entry, register_at, queue_at, is_before, is_after, is_shared, is_below, is_owned, can_follow, next_at, end_at, line_at, start};

@@ -4,8 +4,7 @@
 //! found. The object at it is read once. So the search takes time in proportion to the words that it reads, and a byte
 //! for each word of the heap.
 ghost use Rattle.std.specs.Prelude.{◌≡◌, ◌⊎◌, ◌↔◌, ℕ, ◌<◌, [], length, replicate, false, All, Contains, IfOk, OnOk};
-ghost use Rattle.nmgc_image.specs.Objects.{IsObjectAt, pointers, told_at};
-ghost use Rattle.nmgc_image.specs.Reaching.{Reaches, ReachesObjects, IsSearch, Visits, ArePointers, PointWithin};
+ghost use Rattle.nmgc_image.specs.{Objects.IsObjectAt, Objects.pointers, Objects.told_at, Reaching.Reaches, Reaching.ReachesObjects, Reaching.IsSearch, Reaching.Visits, Reaching.ArePointers, Reaching.PointWithin};
 
 use crate::objects::{copy_fields, place_in, told};
 use nmgc_journal::FinalWords;

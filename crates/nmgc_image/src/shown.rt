@@ -7,11 +7,7 @@ ghost use Rattle.std.specs.List.Sorted.{IsNonDecreasingBy};
 ghost use Rattle.nmgc_limits.specs.declared.mutators.TheConstants.{REGISTERS};
 ghost use Rattle.nmgc_world_spec.specs.World.{World as WorldOf};
 ghost use Rattle.nmgc_journal.specs.declared.report.MutatorEnd.{MutatorEnd as EndOf};
-ghost use Rattle.nmgc_image.specs.declared.image.ImageMutator.{ImageMutator as ShownOf};
-ghost use Rattle.nmgc_image.specs.declared.shown.Keyed.{Keyed as KeyedOf};
-ghost use Rattle.nmgc_image.specs.Left.{IsLeftAs};
-ghost use Rattle.nmgc_image.specs.Shown.{IsReadableObject, CanShowOwn, ShowsOwn, IsKeyed, ListsObjects, keyed_at};
-ghost use Rattle.nmgc_image.specs.Shows.{Shows, ListsHeld};
+ghost use Rattle.nmgc_image.specs.{declared.image.ImageMutator.ImageMutator as ShownOf, declared.shown.Keyed.Keyed as KeyedOf, Left.IsLeftAs, Shown.IsReadableObject, Shown.CanShowOwn, Shown.ShowsOwn, Shown.IsKeyed, Shown.ListsObjects, Shown.keyed_at, Shows.Shows, Shows.ListsHeld};
 
 use crate::declared::key;
 use crate::image::{Entry, Held, Image, ImageMutator};

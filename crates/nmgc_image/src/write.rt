@@ -4,10 +4,7 @@
 ghost use Rattle.std.specs.Prelude.{◌≡◌, ◌∷◌, [], ◌++◌, map, IfOk, OnOk};
 ghost use Rattle.nmgc_journal.specs.Text.{value_text};
 ghost use Rattle.nmgc_world_spec.specs.World.{World as WorldOf};
-ghost use Rattle.nmgc_image.specs.declared.image.Image.{Image as ImageOf};
-ghost use Rattle.nmgc_image.specs.Left.{IsLeftAs};
-ghost use Rattle.nmgc_image.specs.Shows.{Shows};
-ghost use Rattle.nmgc_image.specs.Printing.{after_spaces, printed};
+ghost use Rattle.nmgc_image.specs.{declared.image.Image.Image as ImageOf, Left.IsLeftAs, Shows.Shows, Printing.after_spaces, Printing.printed};
 ghost use Rattle.nmgc_image.specs.Spelling.{Spells, image_text, spaced, first_words, mutator_words, register_words, queue_words, node_words, entry_words, own_lines, mutator_lines};
 
 use crate::image::{Entry, Held, Image, ImageMutator};

@@ -1,11 +1,5 @@
 -- The value of a text of digits, read from its front.
-use Rattle.std.proofs.Common.{rules, ◌≡◌, ◌≢◌, ◌≤◌, ◌<◌, ◌∙◌, ℕ, zero, suc, ◌+◌, ◌-◌, ◌*◌, ◌^◌, List, [], ◌∷◌, Option, Some, None, true, arith, decimal, get_or, drop, length, ap, sym, refl, drop-cons}
-use Rattle.std.specs.Prelude.{IfSome, IfNone}
-use Rattle.std.specs.Int.{IsInRange}
-use Rattle.std.specs.Str.{all_ascii_digits}
-use Rattle.std.proofs.lemmas.List.{drop_all}
-use Rattle.std.proofs.lemmas.Str.Parse.{IsDigitsTest, IsNumeralModel, numerals_by_fold}
-use Rattle.std.proofs.lemmas.Fmt.{digits_decimal, digits_value-decimal, decimal-digits_value, decimal_digit, decimal_nonempty, first_decimal}
+use Rattle.nmgc_io.proofs.Vocabulary.{rules, ◌≡◌, ◌≢◌, ◌≤◌, ◌<◌, ◌∙◌, ℕ, zero, suc, ◌+◌, ◌-◌, ◌*◌, ◌^◌, List, [], ◌∷◌, Option, Some, None, true, arith, decimal, get_or, drop, length, ap, sym, refl, drop-cons, IfSome, IfNone, IsInRange, all_ascii_digits, drop_all, IsDigitsTest, IsNumeralModel, numerals_by_fold, digits_decimal, digits_value-decimal, decimal-digits_value, decimal_digit, decimal_nonempty, first_decimal}
 
 -- the value of the digits, after a value that was read
 abbrev pub value_after : ℕ → List ℕ → ℕ

@@ -2,3 +2,4 @@ pub mod Digits
 pub mod Known
 pub mod Pieces
 pub mod Separators
+mod Vocabulary

@@ -1,12 +1,5 @@
 -- Bytes up to the first that is a separator.
-use Rattle.std.proofs.Common.{◌≡◌, ◌≢◌, ◌+◌, ◌-◌, ◌<◌, ◌≤◌, ◌∙◌, ℕ, List, ◌∷◌, ◌++◌, inl, inr, not, eqb, length, get_or, slice_index, take, drop, sym, ap, subst, arith, take-append-drop}
-use Rattle.std.specs.Prelude.{All}
-use Rattle.std.specs.List.{prefix_len}
-use Rattle.std.proofs.lemmas.Bool.{cases_lt, eqb-false, eqb-true}
-use Rattle.std.proofs.lemmas.List.{drop_more, length-take-le, get_or-take, get_or-drop, take_rest}
-use Rattle.std.proofs.lemmas.List.Elements.{All-from_get_or}
-use Rattle.std.proofs.lemmas.Simd.{run_in_chunk_fails, run_in_chunk_stops}
-use lib.Lanes.{chunk}
+use Rattle.nmgc_io.proofs.Vocabulary.{◌≡◌, ◌≢◌, ◌+◌, ◌-◌, ◌<◌, ◌≤◌, ◌∙◌, ℕ, List, ◌∷◌, ◌++◌, inl, inr, not, eqb, length, get_or, slice_index, take, drop, sym, ap, subst, arith, All, prefix_len, cases_lt, eqb-false, eqb-true, drop_more, length-take-le, get_or-take, get_or-drop, take_rest, All-from_get_or, run_in_chunk_fails, run_in_chunk_stops, chunk, take-append-drop}
 
 -- the bytes before the end of a run are others, as those before it
 pub others_more : (byte : ℕ) (bytes : List ℕ) (at n run : ℕ) → at + n ≤ length bytes → run ≡ prefix_len (λ x. not (eqb x byte)) (chunk at n bytes) →

@@ -6,8 +6,7 @@
 //! Easy to get wrong: where the separator isn't found nothing is cut, and it is the caller who knows whether what is left is
 //! a last part.
 ghost use Rattle.std.specs.Prelude.{◌≡◌, ◌≢◌, ℕ, ◌+◌, ◌<◌, ◌≤◌, ◌==◌, not, ◌++◌, ◌∷◌, All, IfSome, IfNone, length, slice_index, take, drop};
-ghost use Rattle.std.specs.List.{prefix_len};
-ghost use Rattle.std.specs.Simd.Lanes.{chunk};
+ghost use Rattle.std.specs.{List.prefix_len, Simd.Lanes.chunk};
 
 use std::simd::prelude::*;
 

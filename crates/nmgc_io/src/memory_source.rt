@@ -5,8 +5,7 @@
 //! left, and never the place at which the reading stands.
 //! Easy to get wrong: a failing call is counted as a call too, and takes no byte.
 ghost use Rattle.std.specs.Prelude.{◌≡◌, ◌↔◌, ◌<◌, ◌≤◌, ◌+◌, ◌++◌, min, length, take, drop, IfOk, IsErr, Contains, Some};
-ghost use Rattle.std.specs.Io.{ReadsAtMost};
-ghost use Rattle.std.specs.Io.KnownBytes.{ReadConsumes};
+ghost use Rattle.std.specs.{Io.ReadsAtMost, Io.KnownBytes.ReadConsumes};
 ghost use Rattle.nmgc_io.specs.Counts.{HasCause, next};
 
 use crate::{Failed, Source};

@@ -5,9 +5,7 @@
 //! fail only where it rose. So no layer above can answer 'the source failed' of itself: it has to show
 //! that the count rose. A count that can rise no more stands for a rise, since it is 64 bits wide.
 //! Easy to get wrong: a short read isn't the end. Only a read that gives nothing is.
-ghost use Rattle.std.specs.Prelude.{ℕ, List, Option, ◌<◌, length};
-ghost use Rattle.std.specs.Io.{ReadsAtMost};
-ghost use Rattle.std.specs.Io.KnownBytes.{ReadConsumes};
+ghost use Rattle.std.specs.{Prelude.ℕ, Prelude.List, Prelude.Option, Prelude.◌<◌, Prelude.length, Io.ReadsAtMost, Io.KnownBytes.ReadConsumes};
 ghost use Rattle.nmgc_io.specs.Counts.{HasCause};
 
 use crate::Failed;

@@ -8,9 +8,7 @@
 //! `Read` and `Write` is trusted.
 //! Easy to get wrong: a write that takes nothing is no error to the system, but a loop over it would
 //! never end. It counts as a fault here.
-ghost use Rattle.std.specs.Prelude.{◌≡◌, ◌<◌, ◌≤◌, length, IfOk};
-ghost use Rattle.std.specs.Io.{ReadsAtMost};
-ghost use Rattle.std.specs.Io.KnownBytes.{ReadConsumes, WriteAppends};
+ghost use Rattle.std.specs.{Prelude.◌≡◌, Prelude.◌<◌, Prelude.◌≤◌, Prelude.length, Prelude.IfOk, Io.ReadsAtMost, Io.KnownBytes.ReadConsumes, Io.KnownBytes.WriteAppends};
 ghost use Rattle.nmgc_io.specs.Counts.{HasCause, CountsErr};
 
 use crate::{Failed, Sink, Source};

@@ -1,7 +1,5 @@
 -- What stands in a buffer that was written from its end on.
-use Rattle.std.proofs.Common.{◌≡◌, ◌+◌, ◌-◌, ◌<◌, ◌≤◌, ◌∙◌, ℕ, List, [], ◌∷◌, ◌++◌, length, drop, sym, ap, arith, append_assoc}
-use Rattle.std.proofs.lemmas.List.{drop-set}
-use lib.ListN.{set}
+use Rattle.nmgc_journal.proofs.Vocabulary.{◌≡◌, ◌+◌, ◌-◌, ◌<◌, ◌≤◌, ◌∙◌, ℕ, List, [], ◌∷◌, ◌++◌, length, drop, sym, ap, arith, append_assoc, drop-set, set}
 
 -- a byte was stored before a place
 pub stored : (line : List ℕ) (end byte : ℕ) → 0 < end → end ≤ length line → drop (end - 1) (set line (end - 1) byte) ≡ byte ∷ drop end line

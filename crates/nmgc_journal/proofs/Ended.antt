@@ -1,12 +1,5 @@
 -- The cycles that ended at a stop are a front of those that ended there or later.
-use Rattle.std.proofs.Common.{◌≡◌, ◌<◌, ℕ, List, [], ◌∷◌, length, take, refl, sym, ◌∙◌, ap, subst, arith, Bool, true, false, ◌==◌}
-use Rattle.std.proofs.Math.Numerals.{one-add}
-use Rattle.std.proofs.lemmas.Bool.Decides.{Decides-eqb, nat_tests}
-use Rattle.std.proofs.lemmas.List.Folds.{length-prefix_len}
-use Rattle.std.specs.List.{prefix_len, take_while}
-use Rattle.nmgc_journal.specs.Stops.{AreEndedFrom, IsRestAfter}
-use Rattle.nmgc_journal.specs.Text.{ended_at}
-use Rattle.nmgc_journal.specs.declared.report.CycleRow.{CycleRow}
+use Rattle.nmgc_journal.proofs.Vocabulary.{◌≡◌, ◌<◌, ℕ, List, [], ◌∷◌, length, take, refl, sym, ◌∙◌, ap, subst, arith, Bool, true, false, ◌==◌, one-add, Decides-eqb, nat_tests, length-prefix_len, prefix_len, take_while, AreEndedFrom, IsRestAfter, ended_at, CycleRow}
 
 -- whether a cycle ended at this stop
 abbrev pub is_ended_at : ℕ → CycleRow → Bool

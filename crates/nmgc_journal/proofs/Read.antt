@@ -1,7 +1,5 @@
 -- What is at a place of a list is what is read there.
-use Rattle.std.proofs.Common.{◌≡◌, ℕ, zero, suc, List, [], ◌∷◌, sym, slice_index}
-use mathlib.Core.Option.{some, some-injective, some-ne-none}
-use lib.ListN.{get_elem?}
+use Rattle.nmgc_journal.proofs.Vocabulary.{◌≡◌, ℕ, zero, suc, List, [], ◌∷◌, sym, slice_index, some, some-injective, some-ne-none, get_elem?}
 
 pub read_at : (words : List ℕ) (at word : ℕ) → get_elem? words at ≡ some word → word ≡ slice_index words at
 read_at [] at word e = absurd (some-ne-none word (sym e))

@@ -1,11 +1,8 @@
 -- A reply in one word, in this project's own code.
 use Rattle.std.specs.Prelude.{ℕ, ◌^◌, ◌/◌, ◌%◌, List, [], ◌∷◌, map, slice_index_or, ◌==◌, if◌then◌else◌}
-use Rattle.nmgc_world_spec.specs.declared.value.Name.{Name}
-use Rattle.nmgc_world_spec.specs.declared.value.Value.TheVariants.{Nil, Number, Ref}
-use Rattle.nmgc_world_spec.specs.declared.command.Reply.{Reply}
+use Rattle.nmgc_world_spec.specs.{declared.value.Name.Name, declared.value.Value.TheVariants.Nil, declared.value.Value.TheVariants.Number, declared.value.Value.TheVariants.Ref, declared.command.Reply.Reply}
 use Rattle.nmgc_world_spec.specs.declared.command.Reply.TheVariants.{Fine, Yes, No, Updated, Already, Given, NoPointer, NoField, WrongKind, NotOwner, Fixed, Dead, Nothing, StackFull, StackEmpty}
-use Rattle.nmgc_journal.specs.declared.replies.Form.{Form}
-use Rattle.nmgc_journal.specs.declared.replies.Form.TheVariants.{Halves, Packed, Whole}
+use Rattle.nmgc_journal.specs.{declared.replies.Form.Form, declared.replies.Form.TheVariants.Halves, declared.replies.Form.TheVariants.Packed, declared.replies.Form.TheVariants.Whole}
 
 -- the replies that give neither a number nor an object, each at its place
 abbrev pub plain_replies : List Reply

@@ -1,8 +1,6 @@
 -- The lines of names that are kept as spans, in this project's own code.
-use Rattle.std.specs.Prelude.{ℕ, List}
-use Rattle.std.specs.List.{flat_map}
-use Rattle.nmgc_names.specs.declared.span.Span.{Span}
-use Rattle.nmgc_names.specs.Spans.{names_of}
+use Rattle.std.specs.{Prelude.ℕ, Prelude.List, List.flat_map}
+use Rattle.nmgc_names.specs.{declared.span.Span.Span, Spans.names_of}
 use Rattle.nmgc_journal.specs.Text.{name_line}
 
 -- a line for each name of a span

@@ -1,7 +1,6 @@
 -- Which cycles ended at a stop, and what is left of them after it.
 use Rattle.std.specs.Prelude.{◌≡◌, ℕ, ◌+◌, ◌<◌, ◌≤◌, List, [], ◌∷◌, length, drop}
-use Rattle.nmgc_journal.specs.declared.report.CycleRow.{CycleRow}
-use Rattle.nmgc_journal.specs.Text.{ended_at}
+use Rattle.nmgc_journal.specs.{declared.report.CycleRow.CycleRow, Text.ended_at}
 
 -- the cycles ended at this stop or later, each no earlier than the one before it
 abbrev pub AreEndedFrom : ℕ → List CycleRow → Type 0

@@ -5,8 +5,7 @@
 //! of their value: contracts see a list.
 //!
 //! Easy to get wrong: a closed table isn't let go of by itself, so a type of its own gives its memory back.
-ghost use Rattle.std.specs.Prelude.{◌≡◌, ◌<◌, length, slice_index};
-ghost use Rattle.std.specs.Slots.{slots_items, slots_len, IsFull};
+ghost use Rattle.std.specs.{Prelude.◌≡◌, Prelude.◌<◌, Prelude.length, Prelude.slice_index, Slots.slots_items, Slots.slots_len, Slots.IsFull};
 
 use atomic_table::Closed;
 use std::alloc::Global;

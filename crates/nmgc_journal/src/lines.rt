@@ -6,8 +6,7 @@
 //! Easy to get wrong: the line of a name has one number more than that of a number. But its numbers are of 8 and of 32
 //! bits, so the longest line is that of a mutator and a number with 20 digits each.
 ghost use Rattle.std.specs.Prelude.{◌≡◌, ◌+◌, ◌<◌, ◌≤◌, [], ◌∷◌, ◌++◌, decimal, drop, length, OnOk};
-ghost use Rattle.nmgc_world_spec.specs.declared.command.Reply.TheVariants.{Given};
-ghost use Rattle.nmgc_world_spec.specs.declared.value.Value.TheVariants.{Number, Ref};
+ghost use Rattle.nmgc_world_spec.specs.{declared.command.Reply.TheVariants.Given, declared.value.Value.TheVariants.Number, declared.value.Value.TheVariants.Ref};
 ghost use Rattle.nmgc_journal.specs.Text.{reply_line, reply_text, HasWord};
 
 use itoa::write_digits;

@@ -9,10 +9,8 @@
 //! Easy to get wrong: a number of 2^63 or more doesn't fit beside the bit that tells a number. No heap has one, but a
 //! list of replies may; then all of that list are kept as they are.
 ghost use Rattle.std.specs.Prelude.{◌≡◌, ◌<◌, IfOk, IfSome, length, slice_get, slice_index_or, Some};
-ghost use Rattle.nmgc_world_spec.specs.declared.command.Reply.TheVariants.{Fine, Given};
-ghost use Rattle.nmgc_world_spec.specs.declared.value.Value.TheVariants.{Number, Ref};
-ghost use Rattle.nmgc_journal.specs.Text.{HasWord};
-ghost use Rattle.nmgc_journal.specs.Replies.{name_in, plain_replies, reply_in};
+ghost use Rattle.nmgc_world_spec.specs.{declared.command.Reply.TheVariants.Fine, declared.command.Reply.TheVariants.Given, declared.value.Value.TheVariants.Number, declared.value.Value.TheVariants.Ref};
+ghost use Rattle.nmgc_journal.specs.{Text.HasWord, Replies.name_in, Replies.plain_replies, Replies.reply_in};
 
 use nmgc_lists::NoMemory;
 use nmgc_world_spec::{Name, Reply, Value};

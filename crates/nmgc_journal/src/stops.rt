@@ -9,8 +9,7 @@
 ghost use Rattle.std.specs.Prelude.{◌≡◌, ◌≢◌, ◌↔◌, ℕ, ◌+◌, ◌<◌, ◌≤◌, ◌++◌, ◌==◌, length, take, drop, IsTrue, OnOk, IfOk};
 ghost use Rattle.std.specs.List.{flat_map, take_while};
 ghost use Rattle.nmgc_journal.specs.Text.{phase_text, stop_line, stop_counts, cycle_line, cycle_stops, cycle_swept, cycle_kept, cycle_text, name_line, stop_at, ended_at};
-ghost use Rattle.nmgc_journal.specs.Stops.{AreEndedFrom, IsRestAfter};
-ghost use Rattle.nmgc_journal.specs.Spans.{span_lines};
+ghost use Rattle.nmgc_journal.specs.{Stops.AreEndedFrom, Stops.IsRestAfter, Spans.span_lines};
 
 use crate::words::{push_count, push_name, push_word};
 use crate::{CycleRow, Phase, StopRow};

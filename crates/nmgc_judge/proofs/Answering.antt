@@ -1,12 +1,8 @@
 -- The words of a command and its answer, as they are taken off from the end.
-use Rattle.std.proofs.Common.{◌≡◌, ℕ, List, [], ◌∷◌, ◌++◌, map, refl, sym, ap, ◌∙◌, Bool, true, false, not, codes, Option, Some, None, Bor, append_assoc}
+use Rattle.std.proofs.{Common.◌≡◌, Common.ℕ, Common.List, Common.[], Common.◌∷◌, Common.◌++◌, Common.map, Common.refl, Common.sym, Common.ap, Common.◌∙◌, Common.Bool, Common.true, Common.false, Common.not, Common.codes, Common.Option, Common.Some, Common.None, Common.Bor, Common.append_assoc, lemmas.Bool.false≢true, lemmas.List.map_push, lemmas.List.same_from_push, lemmas.Slice.Eq.bytes_eq-Decides}
 use Rattle.std.specs.Str.{bytes_eq}
-use Rattle.std.proofs.lemmas.Bool.{false≢true}
-use Rattle.std.proofs.lemmas.List.{map_push, same_from_push}
-use Rattle.std.proofs.lemmas.Slice.Eq.{bytes_eq-Decides}
-use Rattle.nmgc_script.specs.Spelling.{spaced}
-use Rattle.nmgc_judge.specs.Reading.{after_spaces, answered_at}
-use Rattle.nmgc_judge.proofs.LineWords.{spaced_after}
+use Rattle.nmgc_script.specs.{Spelling.spaced, Printing.after_spaces, laws.Lines.spaced_after}
+use Rattle.nmgc_judge.specs.Reading.{answered_at}
 use Rattle.nmgc_judge.proofs.WordReads.{is_word, answered_takes, answered_again}
 
 abbrev pub texts_of_words : List (Bor (List ℕ)) → List (List ℕ)
@@ -36,14 +32,6 @@ module _ (words front command : List (Bor (List ℕ))) (answer sign : Bor (List 
 
   pub no_sign : bytes_eq sign.now (codes "=") ≡ false → answered_at (texts_of_words words) ≡ None
   no_sign differs = other_sign differs (answered_at (texts_of_words words)) refl
-
-pub no_words : (words : List (Bor (List ℕ))) → words ≡ [] → answered_at (texts_of_words words) ≡ None
-no_words words e = ap (λ (ws : List (Bor (List ℕ))). answered_at (texts_of_words ws)) e
-
-pub one_word : (words front : List (Bor (List ℕ))) (answer : Bor (List ℕ)) → words ≡ front ++ answer ∷ [] → front ≡ [] →
-    answered_at (texts_of_words words) ≡ None
-one_word words front answer e none =
-    ap (λ (ws : List (Bor (List ℕ))). answered_at (texts_of_words ws)) (e ∙ ap (λ (ws : List (Bor (List ℕ))). ws ++ answer ∷ []) none)
 
 pub is_so : (b : Bool) → not b ≡ false → b ≡ true
 is_so true e = refl

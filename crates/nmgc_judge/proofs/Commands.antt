@@ -1,26 +1,14 @@
 -- A line spells a command exactly where the script that has this line alone for its commands is read, and has a command.
-use Rattle.std.proofs.Common.{◌≡◌, ◌<◌, ◌≤◌, ◌+◌, ◌*◌, ℕ, List, [], ◌∷◌, ◌++◌, map, length, refl, sym, ap, subst, ◌∙◌, arith, true, false, codes, inl, inr, Option, Some, None, Result, Ok, Err, IfOk, MatchResult, append_assoc, lit≤}
-use Rattle.std.specs.Prelude.{All, Contains}
-use Rattle.std.specs.Fmt.{digits}
+use Rattle.std.proofs.{Common.◌≡◌, Common.◌<◌, Common.◌≤◌, Common.◌+◌, Common.◌*◌, Common.ℕ, Common.List, Common.[], Common.◌∷◌, Common.◌++◌, Common.map, Common.length, Common.refl, Common.sym, Common.ap, Common.subst, Common.◌∙◌, Common.arith, Common.true, Common.false, Common.codes, Common.inl, Common.inr, Common.Option, Common.Some, Common.None, Common.Result, Common.Ok, Common.Err, Common.IfOk, Common.MatchResult, Common.append_assoc, Common.lit≤, lemmas.Bool.ne_eqb, lemmas.Bool.cases_Bool, lemmas.List.append-nil, lemmas.List.map_push, lemmas.List.same_from_push, lemmas.List.length-append, lemmas.List.Elements.All-nil, lemmas.List.Elements.All-cons, lemmas.List.Elements.All-contains, lemmas.List.Elements.Contains-push}
+use Rattle.std.specs.{Prelude.All, Prelude.Contains, Fmt.digits}
 use lib.Count.{ones}
-use Rattle.std.proofs.lemmas.Bool.{ne_eqb, cases_Bool}
-use Rattle.std.proofs.lemmas.List.{append-nil, map_push, same_from_push, length-append}
-use Rattle.std.proofs.lemmas.List.Elements.{All-nil, All-cons, All-contains, Contains-push}
-use Rattle.nmgc_lists.specs.declared.memory.NoMemory.{NoMemory}
-use Rattle.nmgc_world_spec.specs.declared.command.Command.{Command}
-use Rattle.nmgc_world_spec.specs.Command.{Fits, HasRegistersBelow}
-use Rattle.nmgc_lists.specs.laws.Items.{contains_cases, contains_head, contains_tail, nothing_in}
+use Rattle.nmgc_lists.specs.{declared.memory.NoMemory.NoMemory, laws.Items.contains_cases, laws.Items.contains_head, laws.Items.contains_tail, laws.Items.nothing_in}
+use Rattle.nmgc_world_spec.specs.{declared.command.Command.Command, Command.Fits, Command.HasRegistersBelow}
 use Rattle.nmgc_limits.specs.declared.mutators.TheConstants.{REGISTERS}
-use Rattle.nmgc_script.specs.declared.fault.Cause.{Cause}
-use Rattle.nmgc_script.specs.declared.fault.ScriptFault.{ScriptFault}
+use Rattle.nmgc_script.specs.{declared.fault.Cause.Cause, declared.fault.ScriptFault.ScriptFault, declared.script.Config.Config, declared.script.Script.Script, Limits.FitsConfig, Limits.FitsScript, Text.lines_of, Text.kept_from, Text.kept_lines, Text.is_passed, Spelling.spaced, Spelling.command_words, Spelling.version_words, Spelling.heap_words, Spelling.section_words, Spelling.program_lines, Spelling.section_lines, Spelling.Spells, laws.Lines.IsLine, laws.Lines.IsKept, laws.Lines.made_kept, laws.Lines.made_short, laws.Lines.command_line}
 use Rattle.nmgc_script.specs.declared.fault.ScriptFault.TheVariants as script_fault
-use Rattle.nmgc_script.specs.declared.script.Config.{Config}
-use Rattle.nmgc_script.specs.declared.script.Script.{Script}
-use Rattle.nmgc_script.specs.Limits.{FitsConfig, FitsScript}
-use Rattle.nmgc_script.specs.Text.{lines_of, kept_from, kept_lines, is_passed}
-use Rattle.nmgc_script.specs.Spelling.{spaced, command_words, version_words, heap_words, section_words, program_lines, section_lines, Spells}
 use Rattle.nmgc_judge.specs.Reading.{script_head, IsLastIf, IsLastOf, IsSpelled, IsSpelledIf}
-use Rattle.nmgc_judge.proofs.LineWords.{IsLine, IsKept, made_kept, command_line, command_count}
+use Rattle.nmgc_judge.proofs.LineWords.{command_count}
 
 -- THE LINES OF THE SCRIPT
 
@@ -159,8 +147,8 @@ unfolding digits
 head_is line = refl
 
 module _ (line : List ℕ) (c : Command) (is : IsSpelled line c) where
-  kept : IsKept line (length (command_words c))
-  kept = subst (λ (l : List ℕ). IsKept l (length (command_words c))) (sym is.1) (made_kept (command_words c) (command_line 4096 c is.0))
+  kept : IsKept line
+  kept = subst IsKept (sym is.1) (made_kept (command_words c) (command_line 4096 c is.0))
 
   pub no_feed : IsLine line
   no_feed = kept.one
@@ -168,7 +156,8 @@ module _ (line : List ℕ) (c : Command) (is : IsSpelled line c) where
   pub not_long : length (script_with line) ≤ 131072
   not_long =
       let few : length (command_words c) ≤ 4098 = command_count 4096 c is.0 (lit≤ tt) in
-      let short : length line ≤ 22 * length (command_words c) = kept.short in
+      let short : length line ≤ 22 * length (command_words c) =
+      subst (λ (l : List ℕ). length l ≤ 22 * length (command_words c)) (sym is.1) (made_short (command_words c) (command_line 4096 c is.0)) in
       let all : length (script_with line) ≡ length (script_head ++ line) + 1 = length-append (script_head ++ line) (10 ∷ []) in
       let most : length (script_head ++ line) ≡ length script_head + length line = length-append script_head line in
       omega arith
@@ -234,20 +223,3 @@ too_long line bytes is long = λ c s.
     let few : length (script_with line) ≤ 131072 = not_long line c s in
     let same : length bytes ≡ length (script_with line) = ap length is in
     omega arith
-
--- the last command, as it is taken off
-pub last_found : (programs rest : List (List Command)) (program front : List Command) (c : Command) → programs ≡ rest ++ program ∷ [] →
-    program ≡ front ++ c ∷ [] → IsLastIf programs (Some c)
-last_found programs rest program front c e is = (rest, front, e ∙ ap (λ (p : List Command). rest ++ p ∷ []) is)
-
-no_push : {A : Type 0} (xs : List A) (x : A) → [] ≡ xs ++ x ∷ [] → ⊥
-no_push [] x e = cc
-no_push (y ∷ xs) x e = cc
-
-pub none_there : (programs : List (List Command)) → programs ≡ [] → IsLastIf programs None
-none_there programs e before front c is = no_push before (front ++ c ∷ []) (sym e ∙ is)
-
-pub none_in_it : (programs rest : List (List Command)) (program : List Command) → programs ≡ rest ++ program ∷ [] → program ≡ [] → IsLastIf programs None
-none_in_it programs rest program e none before front c is =
-    let same : (rest ≡ before) × (program ≡ front ++ c ∷ []) = same_from_push rest before program (front ++ c ∷ []) (sym e ∙ is) in
-    no_push front c (sym none ∙ same.1)

@@ -1,9 +1,6 @@
 -- Scans, one after the other.
-use Rattle.std.proofs.Common.{◌≡◌, ◌+◌, ◌-◌, ◌^◌, ℕ, sym, subst, inl, inr, true, false, add-one}
+use Rattle.nmgc_judge.proofs.Vocabulary.{◌≡◌, ◌+◌, ◌-◌, ◌^◌, ℕ, sym, subst, inl, inr, true, false, add-one, State, IsPossible, Passes, Scans, IsDrain}
 use Rattle.nmgc_snapshot_laws.specs.declared.event.Event.TheVariants as event
-use Rattle.nmgc_snapshot_laws.specs.State.{State}
-use Rattle.nmgc_snapshot_laws.specs.Machine.{IsPossible, Passes}
-use Rattle.nmgc_judge.specs.Trace.{Scans, IsDrain}
 
 pub scans_more : (s t u : State) (n : ℕ) → Scans s n t → Passes t event.Scan true u → Scans s (n + 1) u
 scans_more s t u n h p = rw add-one (t, h, p)

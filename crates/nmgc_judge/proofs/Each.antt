@@ -1,8 +1,5 @@
 -- Reading items one after the other, as a loop does.
-use Rattle.std.proofs.Common.{◌≡◌, ℕ, ◌+◌, ◌<◌, ◌≤◌, List, [], ◌∷◌, ◌++◌, map, length, drop, get_or, Option, Some, None, refl, sym, ap, ◌∙◌, append_assoc, add-one, drop-cons}
-use Rattle.std.proofs.lemmas.List.{append-nil, drop_all}
-use Rattle.nmgc_journal.specs.Reading.{◌>>=◌}
-use Rattle.nmgc_judge.specs.Reading.{each_at}
+use Rattle.nmgc_judge.proofs.Vocabulary.{◌≡◌, ℕ, ◌+◌, ◌<◌, ◌≤◌, List, [], ◌∷◌, ◌++◌, map, length, drop, get_or, Option, Some, None, refl, sym, ap, ◌∙◌, append_assoc, add-one, drop-cons, append-nil, drop_all, ◌>>=◌, each_at}
 
 -- what was read before, and what is still read
 abbrev pub with_front : {B : Type 0} → List B → Option (List B) → Option (List B)

@@ -1,17 +1,7 @@
 -- What comes of a line that was tried, by what the world or the machine told.
-use Rattle.std.proofs.Common.{◌≡◌, ℕ, refl, sym, subst, Bool, true, false, Option, Result, Ok, Err}
-use Rattle.std.specs.Prelude.{IfOk}
-use Rattle.nmgc_lists.specs.declared.memory.NoMemory.{NoMemory}
-use Rattle.nmgc_world_spec.specs.declared.value.Name.{Name}
-use Rattle.nmgc_world_spec.specs.World.{World}
-use Rattle.nmgc_snapshot_laws.specs.declared.event.Event.{Event}
-use Rattle.nmgc_snapshot_laws.specs.State.{State}
-use Rattle.nmgc_snapshot_laws.specs.Machine.{Passes}
-use Rattle.nmgc_judge.specs.declared.line.Line.{Line}
+use Rattle.nmgc_judge.proofs.Vocabulary.{◌≡◌, ℕ, refl, sym, subst, Bool, true, false, Option, Result, Ok, Err, NoMemory, Name, World, Event, State, Passes, Line, Progress, Can, IsNext, IsAnsweredIf, IsTakeIf, next_if, IfOk}
 use Rattle.nmgc_judge.specs.declared.line.Line.TheVariants as line
-use Rattle.nmgc_judge.specs.declared.progress.Progress.{Progress}
 use Rattle.nmgc_judge.specs.declared.progress.Progress.TheVariants as progress
-use Rattle.nmgc_judge.specs.Trace.{Can, IsNext, IsAnsweredIf, IsTakeIf, next_if}
 
 -- whether the line happened, and how far the trace came by it
 abbrev CanIf : Progress → Line → Bool → Progress → Type 0

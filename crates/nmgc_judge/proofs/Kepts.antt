@@ -1,28 +1,10 @@
 -- A closed trace keeps what a cycle has to keep: its lines after `mark` are a run of the core machine.
-use Rattle.std.proofs.Common.{◌≡◌, ◌↔◌, ◌⊎◌, ◌++◌, ℕ, zero, suc, refl, sym, ap, subst, inl, inr, List, [], ◌∷◌, true}
-use Rattle.std.specs.Prelude.{Contains}
-use Rattle.nmgc_world_spec.specs.declared.value.Name.{Name}
-use Rattle.nmgc_world_spec.specs.declared.command.Reply.{Reply}
-use Rattle.nmgc_world_spec.specs.World.{World, IsWorld, new_world}
-use Rattle.nmgc_world_spec.specs.History.{Row, opened, finalised}
-use Rattle.nmgc_world_spec.specs.Reach.{IsKept, Lists}
-use Rattle.nmgc_world_laws.specs.laws.NewWorlds.{new_is_world}
-use Rattle.nmgc_world_laws.specs.laws.WorldSteps.{step_keeps_world}
-use Rattle.nmgc_snapshot_laws.specs.declared.event.Event.{Event}
+use Rattle.nmgc_judge.proofs.Vocabulary.{◌≡◌, ◌↔◌, ◌⊎◌, ◌++◌, ℕ, zero, suc, refl, sym, ap, subst, inl, inr, List, [], ◌∷◌, true, Contains, Name, Reply, World, IsWorld, new_world, Row, opened, finalised, IsKept, Lists, new_is_world, step_keeps_world, Event, State, opening, Runs, IsExact, snapshot_theorem, Line, Progress, Verdict, Can, IsAnswered, Scans, IsVerdictAfter, refusal_of, rows_in, IsKeptTold, TellsKept, runs_join}
+use Rattle.nmgc_judge.specs.Trace.{Comes}
 use Rattle.nmgc_snapshot_laws.specs.declared.event.Event.TheVariants as event
-use Rattle.nmgc_snapshot_laws.specs.State.{State, opening}
-use Rattle.nmgc_snapshot_laws.specs.Run.{Runs, IsExact}
-use Rattle.nmgc_snapshot_laws.specs.laws.Runs.{snapshot_theorem}
-use Rattle.nmgc_judge.specs.declared.line.Line.{Line}
 use Rattle.nmgc_judge.specs.declared.line.Line.TheVariants as line
-use Rattle.nmgc_judge.specs.declared.progress.Progress.{Progress}
 use Rattle.nmgc_judge.specs.declared.progress.Progress.TheVariants as progress
-use Rattle.nmgc_judge.specs.declared.verdict.Verdict.{Verdict}
 use Rattle.nmgc_judge.specs.declared.verdict.Verdict.TheVariants as verdict
-use Rattle.nmgc_judge.specs.Trace.{Can, Comes, IsAnswered, Scans}
-use Rattle.nmgc_judge.specs.Verdicts.{IsVerdictAfter, refusal_of}
-use Rattle.nmgc_judge.specs.Kept.{rows_in, IsKeptTold, TellsKept}
-use Rattle.nmgc_snapshot_laws.specs.laws.Common.{runs_join}
 
 scans_run : (s t : State) (n : ℕ) → Scans s n t → (events : List Event) × Runs s events [] t
 scans_run s t zero h = ([], (refl, h))

@@ -15,3 +15,4 @@ mod Texts
 mod Traces
 mod Wholes
 mod WordReads
+mod Vocabulary

@@ -1,25 +1,8 @@
 -- A line of format 1 is read as what it says: exactly that, and as nothing else.
-use Rattle.std.proofs.Common.{◌≡◌, ◌<◌, ℕ, List, [], ◌∷◌, refl, sym, ap, subst, ◌∙◌, inl, inr, true, false, codes, decimal, Option, Some, None}
-use Rattle.std.specs.Str.{bytes_eq}
-use Rattle.std.proofs.lemmas.Option.{same_Some, none-some}
-use Rattle.nmgc_world_spec.specs.declared.value.Name.{Name}
-use Rattle.nmgc_world_spec.specs.declared.command.Command.{Command}
-use Rattle.nmgc_world_spec.specs.declared.command.Reply.{Reply}
-use Rattle.nmgc_snapshot_laws.specs.declared.event.Event.{Event}
+use Rattle.nmgc_judge.proofs.Vocabulary.{◌≡◌, ◌<◌, ℕ, List, [], ◌∷◌, refl, sym, ap, subst, ◌∙◌, inl, inr, true, false, codes, decimal, Option, Some, None, bytes_eq, same_Some, none-some, Name, Command, Reply, Event, IsName, words_of, is_passed, spaced, command_words, name_text, reply_text, ◌>>=◌, name_at, bind_some, guard_some, name_reads, chosen, Line, byte_at, count_line_at, mark_line_at, push_line_at, scan_line_at, take_line_at, close_line_at, drain_line_at, marker_line_at, plain_line_at, parts_at, IsCommandOf, IsLineCommand, IsLineGiven, IsLineBy, IsMutators, IsReply, given_words, IsGiven, IsTakeOf, SaysCore, SaysLine}
 use Rattle.nmgc_snapshot_laws.specs.declared.event.Event.TheVariants as core
-use Rattle.nmgc_object.specs.Words.{IsName}
-use Rattle.nmgc_script.specs.Text.{words_of, is_passed}
-use Rattle.nmgc_script.specs.Spelling.{spaced, command_words}
-use Rattle.nmgc_journal.specs.Text.{name_text, reply_text}
-use Rattle.nmgc_journal.specs.Reading.{◌>>=◌, name_at}
-use Rattle.nmgc_journal.specs.laws.Reading.{bind_some, guard_some, name_reads}
-use Rattle.nmgc_lists.specs.laws.Truths.{chosen}
-use Rattle.nmgc_judge.specs.declared.line.Line.{Line}
 use Rattle.nmgc_judge.specs.declared.line.Line.TheVariants as line
-use Rattle.nmgc_judge.specs.Reading.{byte_at, count_line_at, mark_line_at, push_line_at, scan_line_at, take_line_at, close_line_at, drain_line_at, marker_line_at, plain_line_at, parts_at, IsCommandOf, IsLineCommand, IsLineGiven, IsLineBy}
-use Rattle.nmgc_judge.specs.Said.{IsMutators, IsReply, given_words, IsGiven, IsTakeOf, SaysCore, SaysLine}
-use Rattle.nmgc_judge.proofs.WordReads.{Given, is_word, byte_takes, byte_again, parts_takes, parts_again}
-use Rattle.nmgc_judge.proofs.Sayings.{command_said}
+use Rattle.nmgc_judge.proofs.{WordReads.Given, WordReads.is_word, WordReads.byte_takes, WordReads.byte_again, WordReads.parts_takes, WordReads.parts_again, Sayings.command_said}
 
 -- LINES WITH A WORD OF THEIR OWN
 

@@ -1,25 +1,11 @@
 -- Each cycle of a trace began with a closed world, and came so far by commands and pushes.
-use Rattle.std.proofs.Common.{◌+◌, ℕ, sym, subst, List, [], ◌∷◌}
-use Rattle.nmgc_world_spec.specs.declared.command.Command.{Command}
-use Rattle.nmgc_world_spec.specs.declared.command.Reply.{Reply}
-use Rattle.nmgc_world_spec.specs.World.{World, IsWorld}
-use Rattle.nmgc_world_spec.specs.Step.{step}
-use Rattle.nmgc_world_laws.specs.laws.NewWorlds.{new_is_world}
-use Rattle.nmgc_world_laws.specs.laws.Deaths.{closed_world}
-use Rattle.nmgc_world_laws.specs.laws.WorldSteps.{step_keeps_world}
-use Rattle.nmgc_barrier_laws.specs.Cycle.{Cycle, watching, IsWatched}
-use Rattle.nmgc_barrier_laws.specs.Barrier.{Watches}
+use Rattle.nmgc_judge.proofs.Vocabulary.{◌+◌, ℕ, sym, subst, List, [], ◌∷◌, Command, Reply, World, IsWorld, step, new_is_world, closed_world, step_keeps_world, Cycle, watching, IsWatched, Watches, Watch, CanAct, AreDone, Told, Begun, Comes, Happens}
+use Rattle.nmgc_watch.specs.{declared.event.Event.Event, Watching.Can}
 use Rattle.nmgc_barrier_laws.specs.Barrier as barrier
-use Rattle.nmgc_watch.specs.declared.event.Event.{Event}
 use Rattle.nmgc_watch.specs.declared.event.Event.TheVariants as event
-use Rattle.nmgc_watch.specs.declared.watch.Watch.{Watch}
 use Rattle.nmgc_watch.specs.declared.watch.Watch.TheVariants as watch
-use Rattle.nmgc_watch.specs.Watching.{Can, CanAct, AreDone}
-use Rattle.nmgc_judge.specs.declared.told.Told.{Told}
 use Rattle.nmgc_judge.specs.declared.told.Told.TheVariants as told
-use Rattle.nmgc_judge.specs.declared.report.Begun.{Begun}
 use Rattle.nmgc_judge.specs.declared.report.Begun.TheVariants as begun
-use Rattle.nmgc_judge.specs.Reports.{Comes, Happens}
 
 pub record Stood (h : Cycle) : Type 0 where
   pub begins : World

@@ -1,38 +1,17 @@
 -- A trace that is read line by line: some lines were read, which are those that the bytes say, and so far they bring it.
-use Rattle.std.proofs.Common.{◌≡◌, ◌≤◌, ◌+◌, ◌-◌, ◌^◌, ◌∙◌, ◌++◌, ℕ, refl, sym, ap, subst, arith, List, [], ◌∷◌, length, Option, Some, None, Bool, true, false, codes}
-use Rattle.std.specs.Prelude.{IfSome, ◌&&◌, Result, Ok, Err, IfErr, IsErrAnd}
-use Rattle.std.specs.Str.{bytes_eq}
-use Rattle.std.specs.Io.BufRead.{strip_last}
-use Rattle.std.proofs.lemmas.Bool.{and_parts, false≢true}
-use Rattle.std.proofs.lemmas.List.{length-append}
-use Rattle.std.proofs.lemmas.Slice.Eq.{bytes_eq-Decides}
-use Rattle.nmgc_judge.specs.declared.line.Line.{Line}
+use Rattle.nmgc_judge.proofs.Vocabulary.{◌≡◌, ◌≤◌, ◌+◌, ◌-◌, ◌^◌, ◌∙◌, ◌++◌, ℕ, refl, sym, ap, subst, arith, List, [], ◌∷◌, length, Option, Some, None, Bool, true, false, codes, IfSome, ◌&&◌, IfErr, IsErrAnd, bytes_eq, strip_last, and_parts, false≢true, length-append, bytes_eq-Decides, Line, Progress, Verdict, Told, Begun, Refusal, Report, TraceFault, Answer, is_refused, is_refused_there, AreWatchedLines, AreMarkedLines, IsMarked, IsWatchedOf, IsMarkedOf, IsOutcome, IsFault, IsTooLong, Comes, Happens, IsRefusal, IsReport, report_of, texts_of, ahead, AreSaid, IsNextLine, Says, SaysLine, IsVerdictAfter, refusal_of, TellsWhole, head_of, Result, Ok, Err}
+use Rattle.nmgc_judge.specs.Outcomes.{IsWatched}
 use Rattle.nmgc_judge.specs.declared.line.Line.TheVariants as line
-use Rattle.nmgc_judge.specs.declared.progress.Progress.{Progress}
 use Rattle.nmgc_judge.specs.declared.progress.Progress.TheVariants as progress
-use Rattle.nmgc_judge.specs.declared.verdict.Verdict.{Verdict}
-use Rattle.nmgc_judge.specs.declared.told.Told.{Told}
 use Rattle.nmgc_judge.specs.declared.told.Told.TheVariants as told
-use Rattle.nmgc_judge.specs.declared.report.Begun.{Begun}
 use Rattle.nmgc_judge.specs.declared.report.Begun.TheVariants as begun
-use Rattle.nmgc_judge.specs.declared.report.Refusal.{Refusal}
-use Rattle.nmgc_judge.specs.declared.report.Report.{Report}
 use Rattle.nmgc_judge.specs.declared.report.Report.TheVariants as report
 use Rattle.nmgc_judge.specs.declared.reading.Outcome.TheVariants as outcome
-use Rattle.nmgc_judge.specs.declared.reading.TraceFault.{TraceFault}
 use Rattle.nmgc_judge.specs.declared.reading.TraceFault.TheVariants as fault
-use Rattle.nmgc_judge.specs.declared.telling.Answer.{Answer}
-use Rattle.nmgc_judge.specs.Outcomes.{is_refused, is_refused_there, AreWatchedLines, AreMarkedLines, IsWatched, IsMarked, IsWatchedOf, IsMarkedOf, IsOutcome, IsFault, IsTooLong}
-use Rattle.nmgc_judge.specs.Reports.{Comes, Happens, IsRefusal, IsReport, report_of}
-use Rattle.nmgc_judge.specs.Said.{texts_of, ahead, AreSaid, IsNextLine, Says, SaysLine}
 use Rattle.nmgc_judge.specs.Trace as trace
-use Rattle.nmgc_judge.specs.Verdicts.{IsVerdictAfter, refusal_of}
-use Rattle.nmgc_judge.specs.Whole.{TellsWhole}
-use Rattle.nmgc_judge.proofs.Kepts.{refusal_tells, tells_kept}
+use Rattle.nmgc_judge.proofs.{Kepts.refusal_tells, Kepts.tells_kept, Wholes.tells_whole}
 use Rattle.nmgc_judge.proofs.Tellings as tellings
 use Rattle.nmgc_judge.proofs.Traces as traces
-use Rattle.nmgc_judge.proofs.Wholes.{tells_whole}
-use Rattle.nmgc_lists.specs.laws.Items.{same_first as head_of}
 
 -- one more line is said by the next text
 said_more : {A : Type 0} (says : List ℕ → A → Type 0) (texts : List (List ℕ)) (lines : List A) (text : List ℕ) (left : List (List ℕ)) (l : A) →
@@ -184,7 +163,7 @@ judge_on (Some all) is_there first lines now goes_on text l here j s = (
   j.0,
   j.1,
   said_more SaysLine (ahead is_there first all) lines (strip_last 13 (strip_last 10 text)) (texts_of j.0) l
-      (subst (λ (b : Bool). AreSaid SaysLine (ahead is_there first all) lines (ahead b text j.0)) here j.2) s,
+      (rw here at j.2) s,
 )
 
 -- and the next one is read

@@ -1,30 +1,17 @@
 -- A line of format 2 is read as what it says: exactly that, and as nothing else.
-use Rattle.std.proofs.Common.{◌≡◌, ◌<◌, ℕ, List, [], ◌∷◌, refl, sym, ap, subst, ◌∙◌, inl, inr, true, false, codes, decimal, Option, Some, None}
-use Rattle.std.specs.Prelude.{All}
-use Rattle.std.specs.List.{AllByRecursion}
-use Rattle.std.specs.Str.{bytes_eq}
-use Rattle.std.proofs.lemmas.Bool.{false≢true}
-use Rattle.std.proofs.lemmas.Option.{same_Some, none-some}
-use Rattle.nmgc_world_spec.specs.declared.value.Name.{Name}
-use Rattle.nmgc_world_spec.specs.declared.command.Command.{Command}
-use Rattle.nmgc_world_spec.specs.declared.command.Reply.{Reply}
+use Rattle.std.proofs.{Common.◌≡◌, Common.◌<◌, Common.ℕ, Common.List, Common.[], Common.◌∷◌, Common.refl, Common.sym, Common.ap, Common.subst, Common.◌∙◌, Common.inl, Common.inr, Common.true, Common.false, Common.codes, Common.decimal, Common.Option, Common.Some, Common.None, lemmas.Bool.false≢true, lemmas.Option.same_Some, lemmas.Option.none-some}
+use Rattle.std.specs.{Prelude.All, List.AllByRecursion, Str.bytes_eq}
+use Rattle.nmgc_world_spec.specs.{declared.value.Name.Name, declared.command.Command.Command, declared.command.Reply.Reply, Command.Fits}
 use Rattle.nmgc_world_spec.specs.declared.command.Reply.TheVariants as reply
-use Rattle.nmgc_world_spec.specs.Command.{Fits}
 use Rattle.nmgc_object.specs.Words.{IsName}
-use Rattle.nmgc_script.specs.Text.{words_of, is_passed}
-use Rattle.nmgc_script.specs.Spelling.{spaced, command_words}
-use Rattle.nmgc_journal.specs.Text.{name_text, reply_text}
-use Rattle.nmgc_journal.specs.Reading.{◌>>=◌, name_at}
-use Rattle.nmgc_journal.specs.laws.Reading.{bind_some, guard_some, name_reads}
+use Rattle.nmgc_script.specs.{Text.words_of, Text.is_passed, Spelling.spaced, Spelling.command_words, laws.Lines.IsWord, laws.Lines.words_again, laws.Lines.words_of-line, laws.Lines.made_kept, laws.Lines.command_line}
+use Rattle.nmgc_journal.specs.{Text.name_text, Text.reply_text, Reading.◌>>=◌, Reading.name_at, laws.Reading.bind_some, laws.Reading.guard_some, laws.Reading.name_reads}
 use Rattle.nmgc_lists.specs.laws.Truths.{chosen}
 use Rattle.nmgc_watch.specs.declared.event.Event.{Event}
 use Rattle.nmgc_watch.specs.declared.event.Event.TheVariants as event
-use Rattle.nmgc_judge.specs.declared.told.Told.{Told}
+use Rattle.nmgc_judge.specs.{declared.told.Told.Told, Reading.byte_at, Reading.names_at, Reading.pusher_at, Reading.mutators_at, Reading.mark_at, Reading.push_at, Reading.settle_at, Reading.take_at, Reading.close_at, Reading.marked_at, Reading.freed_at, Reading.stop_at, Reading.ending_at, Reading.plain_at, Reading.parts_at, Reading.rows_if, Reading.IsCommandOf, Reading.IsToldRows, Reading.IsToldGiven, Reading.IsToldBy, Said.IsMutators, Said.IsReply, Said.given_words, Said.IsGiven, Said.copy_words, Said.fill_words, Said.IsPusher, Said.names_words, Said.AreNames, Said.SaysEvent, Said.Says}
 use Rattle.nmgc_judge.specs.declared.told.Told.TheVariants as told
-use Rattle.nmgc_judge.specs.Reading.{byte_at, names_at, pusher_at, mutators_at, mark_at, push_at, settle_at, take_at, close_at, marked_at, freed_at, stop_at, ending_at, plain_at, parts_at, rows_if, IsCommandOf, IsToldRows, IsToldGiven, IsToldBy}
-use Rattle.nmgc_judge.specs.Said.{IsMutators, IsReply, given_words, IsGiven, copy_words, fill_words, IsPusher, names_words, AreNames, SaysEvent, Says}
-use Rattle.nmgc_judge.proofs.LineWords.{IsWord, words_are, front_words, words_again, words_of-line, made_kept, command_line}
-use Rattle.nmgc_judge.proofs.WordReads.{Given, AreRows, is_word, byte_takes, byte_again, names_read, names_reread, pusher_takes, pusher_again, parts_takes, parts_again, rows_if_takes, rows_if_again}
+use Rattle.nmgc_judge.proofs.{LineWords.words_are, LineWords.front_words, WordReads.Given, WordReads.AreRows, WordReads.is_word, WordReads.byte_takes, WordReads.byte_again, WordReads.names_read, WordReads.names_reread, WordReads.pusher_takes, WordReads.pusher_again, WordReads.parts_takes, WordReads.parts_again, WordReads.rows_if_takes, WordReads.rows_if_again}
 
 -- THE WORDS OF A COMMAND
 

@@ -1,16 +1,6 @@
 -- What a take marks, told by the marked names before it and after it.
-use Rattle.std.proofs.Common.{◌≡◌, ◌≤◌, ◌↔◌, ◌⊎◌, ◌∙◌, inl, inr, refl, sym, ap, subst, arith, List, [], ◌∷◌, length, Bool, true, false}
-use Rattle.std.specs.Prelude.{Contains, IsTrue, ℕ, slice_set, if◌then◌else◌}
-use Rattle.std.proofs.lemmas.List.Elements.{Contains-append_left, Contains-append_cases}
-use Rattle.nmgc_world_spec.specs.declared.value.Name.{Name}
-use Rattle.nmgc_world_spec.specs.Step.{shared_name}
-use Rattle.nmgc_world_spec.specs.Reach.{IsBefore, IsInOrder, Lists}
-use Rattle.nmgc_world_spec.specs.laws.Orders.{before_trans, not_before_itself, in_order_first, in_order_rest}
-use Rattle.nmgc_lists.specs.laws.Items.{contains_head, contains_tail, contains_cases, nothing_in as nothing}
+use Rattle.nmgc_judge.proofs.Vocabulary.{◌≡◌, ◌≤◌, ◌↔◌, ◌⊎◌, ◌∙◌, inl, inr, refl, sym, ap, subst, arith, List, [], ◌∷◌, length, Bool, true, false, Contains, IsTrue, slice_set, if◌then◌else◌, Contains-append_left, Contains-append_cases, Name, shared_name, IsBefore, IsInOrder, Lists, before_trans, not_before_itself, in_order_first, in_order_rest, contains_head, contains_tail, contains_cases, nothing, State, names_of, is_new, with_mark, Passes, after_take, MarksJust, IsTakeIf, ℕ}
 use Rattle.nmgc_snapshot_laws.specs.declared.event.Event.TheVariants as event
-use Rattle.nmgc_snapshot_laws.specs.State.{State, names_of, is_new, with_mark}
-use Rattle.nmgc_snapshot_laws.specs.Machine.{Passes, after_take}
-use Rattle.nmgc_judge.specs.Trace.{MarksJust, IsTakeIf}
 
 -- TWO LISTS IN ORDER WITH THE SAME NAMES ARE ONE
 
@@ -40,9 +30,7 @@ same_names (x ∷ xs) (y ∷ ys) o p f g =
     let O : Name → Type 0 = λ z. IsInOrder (z ∷ ys) in
     let F : Name → Type 0 = λ z. (n : Name) → Contains (x ∷ xs) n → Contains (z ∷ ys) n in
     let G : Name → Type 0 = λ z. (n : Name) → Contains (z ∷ ys) n → Contains (x ∷ xs) n in
-    ap (λ (l : List Name). x ∷
-    l) (same_names xs ys (in_order_rest x xs o) (in_order_rest y ys p) (same_rest x xs ys o (subst F e f))
-    (same_rest x ys xs (subst O e p) (subst G e g))) ∙ ap (λ (z : Name). z ∷ ys) (sym e)
+    cc (same_names xs ys (in_order_rest x xs o) (in_order_rest y ys p) (same_rest x xs ys o (subst F e f)) (same_rest x ys xs (subst O e p) (subst G e g)), e)
 
 -- where the first of some names comes after the first of others, they come after it all
 after_first : (x y : Name) (xs ys : List Name) → IsInOrder (x ∷ xs) → IsInOrder (y ∷ ys) → Contains ys x →

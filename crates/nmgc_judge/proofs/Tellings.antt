@@ -1,13 +1,7 @@
 -- A trace of format 2, line by line.
-use Rattle.std.proofs.Common.{◌≡◌, ◌+◌, ◌<◌, ◌≤◌, ◌∙◌, ◌++◌, ℕ, refl, sym, ap, subst, arith, List, [], ◌∷◌, length, take, drop, get_or, append_assoc}
-use Rattle.std.proofs.lemmas.List.{take_more, take_all, take-append-drop, length-take-le}
+use Rattle.nmgc_judge.proofs.Vocabulary.{◌≡◌, ◌+◌, ◌<◌, ◌≤◌, ◌∙◌, ◌++◌, ℕ, refl, sym, ap, subst, arith, List, [], ◌∷◌, length, take, drop, get_or, append_assoc, take_more, take_all, take-append-drop, length-take-le, Told, Begun, Refusal, Report, Happens, IsRefusal, Comes, EndsAtLine, IsReport, report_of}
 use Rattle.nmgc_watch.specs.declared.watch.Watch.TheVariants as watch
-use Rattle.nmgc_judge.specs.declared.told.Told.{Told}
-use Rattle.nmgc_judge.specs.declared.report.Begun.{Begun}
 use Rattle.nmgc_judge.specs.declared.report.Begun.TheVariants as begun
-use Rattle.nmgc_judge.specs.declared.report.Refusal.{Refusal}
-use Rattle.nmgc_judge.specs.declared.report.Report.{Report}
-use Rattle.nmgc_judge.specs.Reports.{Happens, IsRefusal, Comes, EndsAtLine, IsReport, report_of}
 
 -- one more line at the end
 pub comes_push : (n : ℕ) (p q r : Begun) (ts : List Told) (t : Told) (k : ℕ) → k ≡ n + length ts → Comes n p ts q → Happens k q t r → Comes n p (ts ++ t ∷ []) r

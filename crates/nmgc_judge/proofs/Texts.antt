@@ -1,15 +1,6 @@
 -- The lines of a text, as they are read one after the other: each up to its line feed, which is taken off, and a carriage return before it.
-use Rattle.std.proofs.Common.{◌≡◌, ◌≢◌, ℕ, ◌+◌, ◌-◌, ◌<◌, List, [], ◌∷◌, ◌++◌, length, map, take, get_or, refl, sym, ap, subst, ◌∙◌, arith, inl, inr, ◌⊎◌, Bool, true, false, not, cond, eqb, ltb, Option, Some, None, Bor}
-use Rattle.std.specs.Prelude.{unwrap_or, MatchOption, IfSome}
-use Rattle.std.specs.List.{AllByRecursion}
-use Rattle.std.specs.Io.BufRead.{take_through, drop_through, DropsThrough, ends_with_byte, strip_last}
-use Rattle.std.specs.Str.Pattern.{FindsCharSuffix}
-use Rattle.std.proofs.lemmas.Bool.{cases_Bool, and_parts, and_from, ltb-true, lt-ltb, eqb-true, eq-eqb, ne_eqb, cond-true, cond-false}
-use Rattle.std.proofs.lemmas.Bool.Decides.{eqb_tells}
-use Rattle.std.proofs.lemmas.List.{length_push, get_or_push, take_at, take_all, take_more}
-use Rattle.std.proofs.lemmas.Str.Pattern.{strip_suffix_char}
-use Rattle.nmgc_script.specs.Text.{onto_first, lines_of}
-use Rattle.nmgc_judge.specs.Said.{texts_of, ahead, IsNextLine}
+use Rattle.nmgc_judge.proofs.Vocabulary.{◌≡◌, ◌≢◌, ℕ, ◌+◌, ◌-◌, ◌<◌, List, [], ◌∷◌, ◌++◌, length, take, get_or, refl, sym, ap, subst, ◌∙◌, arith, inl, inr, ◌⊎◌, Bool, true, false, not, cond, eqb, ltb, Option, Some, None, Bor, unwrap_or, MatchOption, IfSome, AllByRecursion, take_through, drop_through, DropsThrough, ends_with_byte, strip_last, FindsCharSuffix, cases_Bool, and_parts, and_from, ltb-true, lt-ltb, eqb-true, eq-eqb, ne_eqb, cond-true, cond-false, eqb_tells, length_push, get_or_push, take_all, take_more, strip_suffix_char, onto_first, lines_of, texts_of, ahead, IsNextLine}
+use Rattle.std.proofs.lemmas.List.{take_at}
 
 -- A BYTE AT THE END
 
@@ -32,8 +23,7 @@ strip_off byte xs none = elim (cases_Bool (ends_with_byte byte xs)) [
       and_parts (ltb 0 (length xs)) (eqb (get_or xs (length xs - 1) 0) byte) t in
       let some : 0 < length xs = ltb-true 0 (length xs) p.0 in
       let last : get_or xs (length xs - 1) 0 ≡ byte = eqb-true (get_or xs (length xs - 1) 0) byte p.1 in
-      absurd (none (take (length xs - 1) xs) (sym (take_all (length xs - 1 + 1) xs (omega arith)) ∙ take_more xs (length xs - 1) 0 (omega arith) ∙
-      ap (λ (y : ℕ). take (length xs - 1) xs ++ y ∷ []) last))
+      absurd (none (take (length xs - 1) xs) (cc (take_all (length xs - 1 + 1) xs (omega arith), take_more xs (length xs - 1) 0 (omega arith), last)))
   | inr f ↦ cond-false (ends_with_byte byte xs) (take (length xs - 1) xs) xs f
 ]
 
@@ -84,8 +74,7 @@ first_line_of b (c ∷ bytes) = elim (eqb_tells b 10) [ inl p ↦ rw p.0 refl | 
 first_text : (b : ℕ) (bytes : List ℕ) →
     texts_of (b ∷ bytes) ≡ strip_last 13 (strip_last 10 (take_through 10 (b ∷ bytes))) ∷ texts_of (drop_through 10 (b ∷ bytes))
 first_text b bytes =
-    ap (λ (lines : List (List ℕ)). map (λ line. strip_last 13 line) lines) (first_line_of b bytes) ∙
-    ap (λ (l : List ℕ). strip_last 13 l ∷ texts_of (drop_through 10 (b ∷ bytes))) (sym (stripped (b ∷ bytes)))
+    cc (first_line_of b bytes, stripped (b ∷ bytes))
 
 -- A LINE THAT IS READ
 
@@ -101,8 +90,7 @@ next_texts (b ∷ bytes) line is_empty read e =
     let some : 0 < length (take_through 10 (b ∷ bytes)) = some_read b bytes in
     let same : length line ≡ length (take_through 10 (b ∷ bytes)) = ap length read in
     let there : is_empty ≡ false = e ∙ ne_eqb (length line) 0 (λ z. omega arith) in
-    subst (λ (k : Bool). texts_of (b ∷ bytes) ≡ ahead (not k) line (drop_through 10 (b ∷ bytes))) (sym there)
-    (first_text b bytes ∙ ap (λ (l : List ℕ). strip_last 13 (strip_last 10 l) ∷ texts_of (drop_through 10 (b ∷ bytes))) (sym read))
+    rw there (first_text b bytes ∙ ap (λ (l : List ℕ). strip_last 13 (strip_last 10 l) ∷ texts_of (drop_through 10 (b ∷ bytes))) (sym read))
 
 -- what a call of `read_line` with an empty buffer read
 pub next_is : (old new : Option (List ℕ)) (before line : List ℕ) (is_empty : Bool) → before ≡ [] → IfSome old (λ xs. line ≡ before ++ take_through 10 xs) →

@@ -1,14 +1,9 @@
 -- A trace, line by line.
-use Rattle.std.proofs.Common.{◌≡◌, ◌+◌, ◌<◌, ◌≤◌, ◌∙◌, ◌++◌, ℕ, refl, sym, ap, subst, arith, List, [], ◌∷◌, length, take, drop, get_or, None, append_assoc}
-use Rattle.std.proofs.lemmas.List.{take_more, take_all, take-append-drop, length-take-le}
-use Rattle.nmgc_judge.specs.declared.line.Line.{Line}
+use Rattle.nmgc_judge.proofs.Vocabulary.{◌≡◌, ◌+◌, ◌<◌, ◌≤◌, ◌∙◌, ◌++◌, ℕ, refl, sym, ap, subst, arith, List, [], ◌∷◌, length, take, drop, get_or, None, append_assoc, take_more, take_all, take-append-drop, length-take-le, Line, Progress, Verdict, Can, IsNext, IsVerdictAfter, IsVerdict, refusal_of}
+use Rattle.nmgc_judge.specs.{Trace.Comes, Verdicts.EndsAtLine}
 use Rattle.nmgc_judge.specs.declared.line.Line.TheVariants as line
-use Rattle.nmgc_judge.specs.declared.progress.Progress.{Progress}
 use Rattle.nmgc_judge.specs.declared.progress.Progress.TheVariants as progress
-use Rattle.nmgc_judge.specs.declared.verdict.Verdict.{Verdict}
 use Rattle.nmgc_judge.specs.declared.verdict.Verdict.TheVariants as verdict
-use Rattle.nmgc_judge.specs.Trace.{Can, Comes, IsNext}
-use Rattle.nmgc_judge.specs.Verdicts.{EndsAtLine, IsVerdictAfter, IsVerdict, refusal_of}
 
 -- one more line at the end
 pub comes_push : (p q r : Progress) (ls : List Line) (l : Line) → Comes p ls q → Can q l r → Comes p (ls ++ l ∷ []) r

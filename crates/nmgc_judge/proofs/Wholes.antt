@@ -1,27 +1,11 @@
 -- A whole trace has a cycle that ends in it, and each of them is exact.
-use Rattle.std.proofs.Common.{◌≡◌, ◌⊎◌, ◌+◌, ◌++◌, ℕ, refl, sym, ap, subst, arith, inl, inr, List, [], ◌∷◌, length, append_assoc}
-use Rattle.std.proofs.lemmas.List.{length-append}
-use Rattle.nmgc_world_spec.specs.declared.command.Command.{Command}
-use Rattle.nmgc_world_spec.specs.World.{World}
-use Rattle.nmgc_world_spec.specs.Reach.{Lists}
-use Rattle.nmgc_barrier_laws.specs.Cycle.{Cycle, MarksName}
-use Rattle.nmgc_barrier_laws.specs.laws.Beside.{barrier_theorem, joint_theorem}
-use Rattle.nmgc_barrier_laws.specs.laws.Finishing.{some_finisher}
-use Rattle.nmgc_watch.specs.declared.event.Event.{Event}
+use Rattle.nmgc_judge.proofs.{Vocabulary.◌≡◌, Vocabulary.◌⊎◌, Vocabulary.◌+◌, Vocabulary.◌++◌, Vocabulary.ℕ, Vocabulary.refl, Vocabulary.sym, Vocabulary.ap, Vocabulary.subst, Vocabulary.arith, Vocabulary.inl, Vocabulary.inr, Vocabulary.List, Vocabulary.[], Vocabulary.◌∷◌, Vocabulary.length, Vocabulary.append_assoc, Vocabulary.length-append, Vocabulary.Command, Vocabulary.World, Vocabulary.Lists, Vocabulary.Cycle, Vocabulary.MarksName, Vocabulary.barrier_theorem, Vocabulary.joint_theorem, Vocabulary.some_finisher, Vocabulary.Left, Vocabulary.Watch, Vocabulary.CanAct, Vocabulary.AreDone, Vocabulary.Told, Vocabulary.Begun, Vocabulary.Report, Vocabulary.Comes, Vocabulary.Happens, Vocabulary.report_of, Vocabulary.Closes, Vocabulary.TellsWhole, Markers.Stood, Markers.stood_at, Tellings.comes_push}
+use Rattle.nmgc_watch.specs.{declared.event.Event.Event, Watching.Can}
+use Rattle.nmgc_judge.specs.Whole.{IsExact}
 use Rattle.nmgc_watch.specs.declared.event.Event.TheVariants as event
-use Rattle.nmgc_watch.specs.declared.left.Left.{Left}
-use Rattle.nmgc_watch.specs.declared.watch.Watch.{Watch}
 use Rattle.nmgc_watch.specs.declared.watch.Watch.TheVariants as watch
-use Rattle.nmgc_watch.specs.Watching.{Can, CanAct, AreDone}
-use Rattle.nmgc_judge.specs.declared.told.Told.{Told}
 use Rattle.nmgc_judge.specs.declared.told.Told.TheVariants as told
-use Rattle.nmgc_judge.specs.declared.report.Begun.{Begun}
 use Rattle.nmgc_judge.specs.declared.report.Begun.TheVariants as begun
-use Rattle.nmgc_judge.specs.declared.report.Report.{Report}
-use Rattle.nmgc_judge.specs.Reports.{Comes, Happens, report_of}
-use Rattle.nmgc_judge.specs.Whole.{Closes, IsExact, TellsWhole}
-use Rattle.nmgc_judge.proofs.Markers.{Stood, stood_at}
-use Rattle.nmgc_judge.proofs.Tellings.{comes_push}
 
 -- WHAT A CLOSE LEAVES
 

@@ -1,34 +1,8 @@
 -- What one word and what some words are read as is what is spelled so, and what is spelled so is read as it.
-use Rattle.std.proofs.Common.{◌≡◌, ◌<◌, ◌≤◌, ◌+◌, ◌-◌, ◌%◌, ◌^◌, ◌⊎◌, ℕ, List, [], ◌∷◌, ◌++◌, map, length, refl, sym, ap, subst, ◌∙◌, arith, inl, inr, Bool, true, false, eqb, decimal, codes, Option, Some, None}
-use Rattle.std.specs.Prelude.{◌&&◌, All}
-use Rattle.std.specs.List.{AllByRecursion}
-use Rattle.std.specs.Str.{bytes_eq}
-use Rattle.std.proofs.lemmas.Bool.{cases_Bool, cond-true, cond-false, eqb-true, ne_eqb}
-use Rattle.std.proofs.lemmas.Fmt.{decimal_by_steps, decimal_nonempty}
-use Rattle.std.proofs.lemmas.List.Elements.{All-from_recursion, recursion_from_All}
-use Rattle.std.proofs.lemmas.Option.{same_Some, none-some}
-use Rattle.std.proofs.lemmas.Slice.Eq.{bytes_eq-Decides}
-use Rattle.nmgc_limits.specs.declared.mutators.TheConstants.{REGISTERS, SHARED_MAKER}
-use Rattle.nmgc_world_spec.specs.declared.value.Name.{Name}
-use Rattle.nmgc_world_spec.specs.declared.value.Value.{Value}
+use Rattle.nmgc_judge.proofs.Vocabulary.{◌≡◌, ◌<◌, ◌≤◌, ◌+◌, ◌-◌, ◌%◌, ◌^◌, ◌⊎◌, ℕ, List, [], ◌∷◌, ◌++◌, map, length, refl, sym, ap, subst, ◌∙◌, arith, inl, inr, Bool, true, false, eqb, decimal, codes, Option, Some, None, ◌&&◌, All, AllByRecursion, bytes_eq, cases_Bool, cond-true, cond-false, eqb-true, ne_eqb, decimal_by_steps, decimal_nonempty, All-from_recursion, recursion_from_All, same_Some, none-some, bytes_eq-Decides, REGISTERS, SHARED_MAKER, Name, Value, Operand, Command, Reply, IsRegister, IsOperand, IsName, register_word, operand_word, name_text, value_text, reply_text, IsValue, ◌>>=◌, number_at, dotted_at, name_at, value_at, Reads, bind_some, guard_some, number_takes, number_again, name_reads, value_reads, chosen, Copying, Filling, copied, filled, byte_at, short_at, register_at, operand_at, each_at, no_names_at, names_at, pusher_at, done_at, refused_at, nothing_at, or_else, reply_at, onto_command, answered_at, parts_at, place_at, span_at, copying_of, copy_at, copying_at, fill_at, filling_at, rows_at, rows_if, IsReply, given_words, copy_words, IsCopying, fill_words, IsFilling, IsPusher, names_words}
 use Rattle.nmgc_world_spec.specs.declared.value.Value.TheVariants as value
-use Rattle.nmgc_world_spec.specs.declared.command.Operand.{Operand}
 use Rattle.nmgc_world_spec.specs.declared.command.Operand.TheVariants as operand
-use Rattle.nmgc_world_spec.specs.declared.command.Command.{Command}
-use Rattle.nmgc_world_spec.specs.declared.command.Reply.{Reply}
 use Rattle.nmgc_world_spec.specs.declared.command.Reply.TheVariants as reply
-use Rattle.nmgc_world_spec.specs.Command.{IsRegister, IsOperand}
-use Rattle.nmgc_object.specs.Words.{IsName}
-use Rattle.nmgc_script.specs.Spelling.{register_word, operand_word}
-use Rattle.nmgc_journal.specs.Text.{name_text, value_text, reply_text, IsValue}
-use Rattle.nmgc_journal.specs.Reading.{◌>>=◌, number_at, dotted_at, name_at, value_at}
-use Rattle.nmgc_journal.specs.laws.Reading.{Reads, bind_some, guard_some, number_takes, number_again, name_reads, value_reads}
-use Rattle.nmgc_lists.specs.laws.Truths.{chosen}
-use Rattle.nmgc_watch.specs.declared.rows.Copying.{Copying}
-use Rattle.nmgc_watch.specs.declared.rows.Filling.{Filling}
-use Rattle.nmgc_watch.specs.Rows.{copied, filled}
-use Rattle.nmgc_judge.specs.Reading.{byte_at, short_at, register_at, operand_at, each_at, no_names_at, names_at, pusher_at, done_at, refused_at, nothing_at, or_else, reply_at, onto_command, answered_at, parts_at, place_at, span_at, copying_of, copy_at, copying_at, fill_at, filling_at, rows_at, rows_if}
-use Rattle.nmgc_judge.specs.Said.{IsReply, given_words, copy_words, IsCopying, fill_words, IsFilling, IsPusher, names_words}
 
 -- NUMBERS AND NAMES
 

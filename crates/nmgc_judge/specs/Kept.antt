@@ -1,16 +1,11 @@
 -- What a closed trace keeps, by the heap and the commands alone: nothing here speaks of marks.
 use Rattle.std.specs.Prelude.{◌≡◌, List, [], ◌∷◌, ◌++◌}
-use Rattle.nmgc_world_spec.specs.declared.value.Name.{Name}
-use Rattle.nmgc_world_spec.specs.World.{World}
-use Rattle.nmgc_world_spec.specs.History.{Row, IsLegal, opened, finalised}
-use Rattle.nmgc_world_spec.specs.Reach.{IsKept, Lists}
+use Rattle.nmgc_world_spec.specs.{declared.value.Name.Name, World.World, History.Row, History.IsLegal, History.opened, History.finalised, Reach.IsKept, Reach.Lists}
 use Rattle.nmgc_snapshot_laws.specs.Run.{row_of}
-use Rattle.nmgc_judge.specs.declared.line.Line.{Line}
+use Rattle.nmgc_judge.specs.{declared.line.Line.Line, declared.verdict.Verdict.Verdict, Trace.Comes}
 use Rattle.nmgc_judge.specs.declared.line.Line.TheVariants as line
 use Rattle.nmgc_judge.specs.declared.progress.Progress.TheVariants as progress
-use Rattle.nmgc_judge.specs.declared.verdict.Verdict.{Verdict}
 use Rattle.nmgc_judge.specs.declared.verdict.Verdict.TheVariants as verdict
-use Rattle.nmgc_judge.specs.Trace.{Comes}
 
 -- the row of a line that is a command
 abbrev pub row_in : Line → List Row

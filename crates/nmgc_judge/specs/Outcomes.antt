@@ -3,25 +3,13 @@
 -- A reader that tells its bytes, as a slice in memory does, has the lines of these bytes judged. A file or a pipe tells none, so
 -- there it isn't said which lines were read: it is the same code that reads them.
 use Rattle.std.specs.Prelude.{◌≡◌, ◌≢◌, ◌≤◌, ◌-◌, ◌^◌, ℕ, List, [], ◌∷◌, length, codes, Option, Bool, true, false, IfSome}
-use Rattle.std.specs.IoError.{error_kind}
-use Rattle.std.specs.declared.io.ErrorKind.TheVariants.{OutOfMemory}
-use Rattle.nmgc_judge.specs.declared.line.Line.{Line}
-use Rattle.nmgc_judge.specs.declared.told.Told.{Told}
+use Rattle.std.specs.{IoError.error_kind, declared.io.ErrorKind.TheVariants.OutOfMemory}
+use Rattle.nmgc_judge.specs.{declared.line.Line.Line, declared.told.Told.Told, declared.reading.Outcome.Outcome, declared.reading.TraceFault.TraceFault, declared.report.Report.Report, declared.telling.Answer.Answer, declared.verdict.Verdict.Verdict, Kept.TellsKept, Reports.IsReport, Reports.is_whole, Said.texts_of, Said.ahead, Said.AreSaid, Said.Says, Said.SaysLine, Verdicts.IsVerdict, Verdicts.is_passed, Whole.TellsWhole}
 use Rattle.nmgc_judge.specs.declared.told.Told.TheVariants as told
-use Rattle.nmgc_judge.specs.declared.reading.Outcome.{Outcome}
 use Rattle.nmgc_judge.specs.declared.reading.Outcome.TheVariants as outcome
-use Rattle.nmgc_judge.specs.declared.reading.TraceFault.{TraceFault}
 use Rattle.nmgc_judge.specs.declared.reading.TraceFault.TheVariants as fault
-use Rattle.nmgc_judge.specs.declared.report.Report.{Report}
 use Rattle.nmgc_judge.specs.declared.report.Report.TheVariants as report
-use Rattle.nmgc_judge.specs.declared.telling.Answer.{Answer}
-use Rattle.nmgc_judge.specs.declared.verdict.Verdict.{Verdict}
 use Rattle.nmgc_judge.specs.declared.verdict.Verdict.TheVariants as verdict
-use Rattle.nmgc_judge.specs.Kept.{TellsKept}
-use Rattle.nmgc_judge.specs.Reports.{IsReport, is_whole}
-use Rattle.nmgc_judge.specs.Said.{texts_of, ahead, AreSaid, Says, SaysLine}
-use Rattle.nmgc_judge.specs.Verdicts.{IsVerdict, is_passed}
-use Rattle.nmgc_judge.specs.Whole.{TellsWhole}
 
 -- a line was refused
 abbrev pub is_refused : Report → Bool

@@ -2,27 +2,18 @@
 use Rattle.std.specs.Prelude.{◌≡◌, ◌⊎◌, ℕ, ◌-◌, List, [], ◌∷◌, ◌++◌, codes, Option, Some, None, Result, Ok, Err, IfOk, IsErr, ◌==◌, nat_lt, if◌then◌else◌}
 use Rattle.std.specs.Str.{bytes_eq}
 use Rattle.nmgc_limits.specs.declared.mutators.TheConstants.{REGISTERS}
-use Rattle.nmgc_world_spec.specs.declared.value.Name.{Name}
-use Rattle.nmgc_world_spec.specs.declared.command.Operand.{Operand}
+use Rattle.nmgc_world_spec.specs.{declared.value.Name.Name, declared.command.Operand.Operand, declared.command.Command.Command, declared.command.Reply.Reply, Command.Fits}
 use Rattle.nmgc_world_spec.specs.declared.command.Operand.TheVariants as operand
-use Rattle.nmgc_world_spec.specs.declared.command.Command.{Command}
-use Rattle.nmgc_world_spec.specs.declared.command.Reply.{Reply}
 use Rattle.nmgc_world_spec.specs.declared.command.Reply.TheVariants as reply
-use Rattle.nmgc_world_spec.specs.Command.{Fits}
 use Rattle.nmgc_snapshot_laws.specs.declared.event.Event.TheVariants as core
 use Rattle.nmgc_watch.specs.declared.event.Event.TheVariants as event
-use Rattle.nmgc_watch.specs.declared.rows.Copying.{Copying}
-use Rattle.nmgc_watch.specs.declared.rows.Filling.{Filling}
-use Rattle.nmgc_watch.specs.Rows.{copied, filled}
+use Rattle.nmgc_watch.specs.{declared.rows.Copying.Copying, declared.rows.Filling.Filling, Rows.copied, Rows.filled}
 use Rattle.nmgc_lists.specs.declared.memory.NoMemory.{NoMemory}
-use Rattle.nmgc_script.specs.declared.fault.ScriptFault.{ScriptFault}
+use Rattle.nmgc_script.specs.{declared.fault.ScriptFault.ScriptFault, declared.script.Script.Script, Spelling.spaced, Spelling.command_words}
 use Rattle.nmgc_script.specs.declared.fault.ScriptFault.TheVariants as script_fault
-use Rattle.nmgc_script.specs.declared.script.Script.{Script}
-use Rattle.nmgc_script.specs.Spelling.{spaced, command_words}
 use Rattle.nmgc_journal.specs.Reading.{◌>>=◌, number_at, name_at, value_at}
-use Rattle.nmgc_judge.specs.declared.line.Line.{Line}
+use Rattle.nmgc_judge.specs.{declared.line.Line.Line, declared.told.Told.Told}
 use Rattle.nmgc_judge.specs.declared.line.Line.TheVariants as line
-use Rattle.nmgc_judge.specs.declared.told.Told.{Told}
 use Rattle.nmgc_judge.specs.declared.told.Told.TheVariants as told
 
 -- WORDS
@@ -128,11 +119,6 @@ parts_at (mutator ∷ words) = do
   p ← answered_at words
   answer ← reply_at p.1
   Some (m, p.0, answer)
-
--- words, each behind a space
-abbrev pub after_spaces : List (List ℕ) → List ℕ
-after_spaces [] = []
-after_spaces (word ∷ words) = 32 ∷ (word ++ after_spaces words)
 
 -- the lines of a script before its first command
 abbrev pub script_head : List ℕ

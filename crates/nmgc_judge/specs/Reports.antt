@@ -2,17 +2,12 @@
 use Rattle.std.specs.Prelude.{◌≡◌, ◌≤◌, ◌+◌, ℕ, List, [], ◌∷◌, ◌++◌, length, Option, Some, None, Bool, true, false}
 use Rattle.nmgc_limits.specs.declared.mutators.TheConstants.{MAKERS}
 use Rattle.nmgc_world_spec.specs.World.{new_world}
-use Rattle.nmgc_watch.specs.declared.event.Event.{Event}
-use Rattle.nmgc_watch.specs.declared.watch.Watch.{Watch}
+use Rattle.nmgc_watch.specs.{declared.event.Event.Event, declared.watch.Watch.Watch, Watching.Can, Watching.IsWhy}
 use Rattle.nmgc_watch.specs.declared.watch.Watch.TheVariants as watch
-use Rattle.nmgc_watch.specs.Watching.{Can, IsWhy}
-use Rattle.nmgc_judge.specs.declared.told.Told.{Told}
+use Rattle.nmgc_judge.specs.{declared.told.Told.Told, declared.report.Begun.Begun, declared.report.Refusal.Refusal, declared.report.Report.Report}
 use Rattle.nmgc_judge.specs.declared.told.Told.TheVariants as told
-use Rattle.nmgc_judge.specs.declared.report.Begun.{Begun}
 use Rattle.nmgc_judge.specs.declared.report.Begun.TheVariants as begun
-use Rattle.nmgc_judge.specs.declared.report.Refusal.{Refusal}
 use Rattle.nmgc_judge.specs.declared.report.Refusal.TheVariants as refusal
-use Rattle.nmgc_judge.specs.declared.report.Report.{Report}
 use Rattle.nmgc_judge.specs.declared.report.Report.TheVariants as report
 
 -- the first line that says something: so many mutators with an empty heap

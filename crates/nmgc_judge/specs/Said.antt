@@ -1,25 +1,17 @@
 -- What the lines of a trace say, by their bytes: how each of them is spelled. A line is words with single spaces between.
 use Rattle.std.specs.Prelude.{◌≡◌, ◌⊎◌, ◌<◌, ℕ, List, [], ◌∷◌, ◌++◌, map, codes, decimal, Option, Some, Bool, true, false, nat_lt, All, IfSome}
 use Rattle.std.specs.Io.BufRead.{strip_last}
-use Rattle.nmgc_world_spec.specs.declared.value.Name.{Name}
-use Rattle.nmgc_world_spec.specs.declared.command.Command.{Command}
-use Rattle.nmgc_world_spec.specs.declared.command.Reply.{Reply}
+use Rattle.nmgc_world_spec.specs.{declared.value.Name.Name, declared.command.Command.Command, declared.command.Reply.Reply, Command.Fits, Command.IsRegister, Command.IsOperand}
 use Rattle.nmgc_world_spec.specs.declared.command.Reply.TheVariants as reply
-use Rattle.nmgc_world_spec.specs.Command.{Fits, IsRegister, IsOperand}
 use Rattle.nmgc_snapshot_laws.specs.declared.event.Event.{Event as CoreEvent}
 use Rattle.nmgc_snapshot_laws.specs.declared.event.Event.TheVariants as core
-use Rattle.nmgc_watch.specs.declared.event.Event.{Event}
+use Rattle.nmgc_watch.specs.{declared.event.Event.Event, declared.rows.Copying.Copying, declared.rows.Filling.Filling, Rows.copied, Rows.filled}
 use Rattle.nmgc_watch.specs.declared.event.Event.TheVariants as event
-use Rattle.nmgc_watch.specs.declared.rows.Copying.{Copying}
-use Rattle.nmgc_watch.specs.declared.rows.Filling.{Filling}
-use Rattle.nmgc_watch.specs.Rows.{copied, filled}
 use Rattle.nmgc_object.specs.Words.{IsName}
-use Rattle.nmgc_script.specs.Text.{lines_of, words_of, is_passed}
-use Rattle.nmgc_script.specs.Spelling.{register_word, operand_word, command_words}
+use Rattle.nmgc_script.specs.{Text.lines_of, Text.words_of, Text.is_passed, Spelling.register_word, Spelling.operand_word, Spelling.command_words}
 use Rattle.nmgc_journal.specs.Text.{name_text, reply_text, IsValue}
-use Rattle.nmgc_judge.specs.declared.line.Line.{Line}
+use Rattle.nmgc_judge.specs.{declared.line.Line.Line, declared.told.Told.Told}
 use Rattle.nmgc_judge.specs.declared.line.Line.TheVariants as line
-use Rattle.nmgc_judge.specs.declared.told.Told.{Told}
 use Rattle.nmgc_judge.specs.declared.told.Told.TheVariants as told
 
 -- THE LINES OF A TEXT

@@ -3,17 +3,12 @@
 -- Before `mark` commands build a world; from then on each line is an event of the core machine.
 use Rattle.std.specs.Prelude.{◌≡◌, ◌≤◌, ◌↔◌, ◌⊎◌, ◌-◌, ◌^◌, ℕ, zero, suc, List, [], ◌∷◌, Option, Some, None, Result, Ok, Err, Bool, true, false, Contains}
 use Rattle.nmgc_lists.specs.declared.memory.NoMemory.{NoMemory}
-use Rattle.nmgc_world_spec.specs.declared.value.Name.{Name}
+use Rattle.nmgc_world_spec.specs.{declared.value.Name.Name, World.World, World.new_world, Step.CanApply, Step.step}
 use Rattle.nmgc_limits.specs.declared.mutators.TheConstants.{MAKERS}
-use Rattle.nmgc_world_spec.specs.World.{World, new_world}
-use Rattle.nmgc_world_spec.specs.Step.{CanApply, step}
-use Rattle.nmgc_snapshot_laws.specs.declared.event.Event.{Event}
+use Rattle.nmgc_snapshot_laws.specs.{declared.event.Event.Event, State.State, State.opening, Machine.IsPossible, Machine.Passes}
 use Rattle.nmgc_snapshot_laws.specs.declared.event.Event.TheVariants as event
-use Rattle.nmgc_snapshot_laws.specs.State.{State, opening}
-use Rattle.nmgc_snapshot_laws.specs.Machine.{IsPossible, Passes}
-use Rattle.nmgc_judge.specs.declared.line.Line.{Line}
+use Rattle.nmgc_judge.specs.{declared.line.Line.Line, declared.progress.Progress.Progress}
 use Rattle.nmgc_judge.specs.declared.line.Line.TheVariants as line
-use Rattle.nmgc_judge.specs.declared.progress.Progress.{Progress}
 use Rattle.nmgc_judge.specs.declared.progress.Progress.TheVariants as progress
 
 -- before marking: it is a command that can be given, and the heap does it and gives this answer

@@ -2,13 +2,10 @@
 use Rattle.std.specs.Prelude.{◌≡◌, ◌+◌, ℕ, List, ◌∷◌, ◌++◌, length, Bool, true, false, Contains}
 use Rattle.nmgc_world_spec.specs.Reach.{Lists}
 use Rattle.nmgc_snapshot_laws.specs.State.{State}
-use Rattle.nmgc_judge.specs.declared.line.Line.{Line}
+use Rattle.nmgc_judge.specs.{declared.line.Line.Line, declared.progress.Progress.Progress, declared.verdict.Verdict.Verdict, Trace.Can, Trace.Comes}
 use Rattle.nmgc_judge.specs.declared.line.Line.TheVariants as line
-use Rattle.nmgc_judge.specs.declared.progress.Progress.{Progress}
 use Rattle.nmgc_judge.specs.declared.progress.Progress.TheVariants as progress
-use Rattle.nmgc_judge.specs.declared.verdict.Verdict.{Verdict}
 use Rattle.nmgc_judge.specs.declared.verdict.Verdict.TheVariants as verdict
-use Rattle.nmgc_judge.specs.Trace.{Can, Comes}
 
 -- what is told of a line that can't happen, by its number
 abbrev pub refusal_of : Line → ℕ → Verdict

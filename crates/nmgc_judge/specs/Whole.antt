@@ -1,23 +1,15 @@
 -- What a trace of format 2 shows of the marker that ran beside its barrier, which isn't in it.
 use Rattle.std.specs.Prelude.{◌≡◌, ◌↔◌, ◌+◌, List, ◌∷◌, ◌++◌, length, Contains}
-use Rattle.nmgc_world_spec.specs.declared.value.Name.{Name}
-use Rattle.nmgc_world_spec.specs.World.{World, IsWorld}
+use Rattle.nmgc_world_spec.specs.{declared.value.Name.Name, World.World, World.IsWorld}
 use Rattle.nmgc_snapshot_laws.specs.declared.event.Event.TheVariants as core
-use Rattle.nmgc_snapshot_laws.specs.State.{State}
-use Rattle.nmgc_snapshot_laws.specs.Machine.{IsPossible}
-use Rattle.nmgc_snapshot_laws.specs.Closing.{IsClosing}
-use Rattle.nmgc_barrier_laws.specs.Cycle.{Cycle}
-use Rattle.nmgc_barrier_laws.specs.Barrier.{Watches, Beside, HasFinished, EndsExactly}
-use Rattle.nmgc_watch.specs.declared.event.Event.{Event}
-use Rattle.nmgc_watch.specs.declared.left.Left.{Left}
+use Rattle.nmgc_snapshot_laws.specs.{State.State, Machine.IsPossible, Closing.IsClosing}
+use Rattle.nmgc_barrier_laws.specs.{Cycle.Cycle, Barrier.Watches, Barrier.Beside, Barrier.HasFinished, Barrier.EndsExactly}
+use Rattle.nmgc_watch.specs.{declared.event.Event.Event, declared.left.Left.Left, Watching.Can}
 use Rattle.nmgc_watch.specs.declared.watch.Watch.TheVariants as watch
-use Rattle.nmgc_watch.specs.Watching.{Can}
-use Rattle.nmgc_judge.specs.declared.told.Told.{Told}
+use Rattle.nmgc_judge.specs.{declared.told.Told.Told, declared.report.Report.Report, Reports.Comes}
 use Rattle.nmgc_judge.specs.declared.told.Told.TheVariants as told
 use Rattle.nmgc_judge.specs.declared.report.Begun.TheVariants as begun
-use Rattle.nmgc_judge.specs.declared.report.Report.{Report}
 use Rattle.nmgc_judge.specs.declared.report.Report.TheVariants as report
-use Rattle.nmgc_judge.specs.Reports.{Comes}
 
 -- a cycle ends at a line of the trace: so far the lines before it bring it, the line can happen there, and this is left
 pub record Closes (lines : List Told) (h : Cycle) (left : Left) : Type 0 where

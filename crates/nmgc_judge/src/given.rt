@@ -5,8 +5,8 @@
 //!
 //! Easy to get wrong: a line feed within a command would make two lines of it in that script, so such a command is none.
 ghost use Rattle.std.specs.Prelude.{◌≡◌, ◌↔◌, ◌≤◌, ◌^◌, ◌++◌, ◌∷◌, [], map, codes, length, None, Some, Contains, IsTrue, IfSome, IfNone, IfOk, OnOk};
-ghost use Rattle.nmgc_script.specs.Spelling.{spaced};
-ghost use Rattle.nmgc_judge.specs.Reading.{done_at, refused_at, nothing_at, reply_at, answered_at, parts_at, script_head, after_spaces, IsCommandIf, IsSpelledIf, IsLastIf, IsLastOf};
+ghost use Rattle.nmgc_script.specs.{Printing.after_spaces, Spelling.spaced};
+ghost use Rattle.nmgc_judge.specs.Reading.{done_at, refused_at, nothing_at, reply_at, answered_at, parts_at, script_head, IsCommandIf, IsSpelledIf, IsLastIf, IsLastOf};
 
 use crate::words::byte;
 use nmgc_journal::read_value;

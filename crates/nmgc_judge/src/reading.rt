@@ -4,11 +4,8 @@
 //! `telling` keeps: so memory is that of the heap of which the trace tells, and whoever writes a trace into a pipe is
 //! answered at the line that is wrong.
 ghost use Rattle.std.specs.Prelude.{◌≡◌, ◌&&◌, true, codes, string_bytes, IfErr, IfOk};
-ghost use Rattle.std.specs.Io.BufRead.{strip_last};
-ghost use Rattle.std.specs.Str.{bytes_eq};
-ghost use Rattle.nmgc_judge.specs.declared.reading.TraceFault.TheVariants.{NoMemory as no_memory};
-ghost use Rattle.nmgc_judge.specs.Outcomes.{IsFault, IsTooLong, IsOutcome, IsMarked, IsWatched, is_passed_of};
-ghost use Rattle.nmgc_judge.specs.Said.{IsNextLine, ahead, texts_of};
+ghost use Rattle.std.specs.{Io.BufRead.strip_last, Str.bytes_eq};
+ghost use Rattle.nmgc_judge.specs.{declared.reading.TraceFault.TheVariants.NoMemory as no_memory, Outcomes.IsFault, Outcomes.IsTooLong, Outcomes.IsOutcome, Outcomes.IsMarked, Outcomes.IsWatched, Outcomes.is_passed_of, Said.IsNextLine, Said.ahead, Said.texts_of};
 
 use crate::line::line_of;
 use crate::progress::Progress;

@@ -1,7 +1,6 @@
 //! What a trace of format 2 comes to: the first line that can't happen, with the reason, or whether it is whole.
 ghost use Rattle.std.specs.Prelude.{List, ◌≡◌, IfOk};
-ghost use Rattle.nmgc_judge.specs.Reports.{IsHappening, IsReport, report_of, is_whole};
-ghost use Rattle.nmgc_judge.specs.Whole.{TellsWhole};
+ghost use Rattle.nmgc_judge.specs.{Reports.IsHappening, Reports.IsReport, Reports.report_of, Reports.is_whole, Whole.TellsWhole};
 ghost use Rattle.nmgc_judge.specs.declared.told.Told.TheVariants as told_is;
 
 use crate::told::Told;

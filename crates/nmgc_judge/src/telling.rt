@@ -4,11 +4,9 @@
 //! something due in the cycle that goes on which its mutator didn't owe before, since one of them may have to be told
 //! beside its number: at most one line for each name and mutator.
 ghost use Rattle.std.specs.Prelude.{◌≡◌, None, IfOk, OnOk};
-ghost use Rattle.nmgc_judge.specs.Reports.{IsHappening, report_of};
-ghost use Rattle.nmgc_judge.specs.Said.{Says};
+ghost use Rattle.nmgc_judge.specs.{Reports.IsHappening, Reports.report_of, Said.Says, declared.told.Told.Told as ToldAt};
 ghost use Rattle.nmgc_judge.specs.declared.report.Begun.TheVariants as begun;
 ghost use Rattle.nmgc_judge.specs.declared.report.Report.TheVariants as report;
-ghost use Rattle.nmgc_judge.specs.declared.told.Told.{Told as ToldAt};
 
 use crate::counts::Counts;
 use crate::report::{Begun, Refusal, Report, happen, report_of};

@@ -1,7 +1,6 @@
 //! What a trace comes to: the first line that can't happen, or what is marked in the end.
 ghost use Rattle.std.specs.Prelude.{List, ◌≡◌, IfOk};
-ghost use Rattle.nmgc_judge.specs.Kept.{TellsKept};
-ghost use Rattle.nmgc_judge.specs.Verdicts.{IsVerdict, IsVerdictAfter, refusal_of};
+ghost use Rattle.nmgc_judge.specs.{Kept.TellsKept, Verdicts.IsVerdict, Verdicts.IsVerdictAfter, Verdicts.refusal_of};
 
 use crate::line::Line;
 use crate::progress::Progress;

@@ -7,7 +7,7 @@ ghost use Rattle.nmgc_script.specs.Text.{words_of, is_passed};
 ghost use Rattle.nmgc_journal.specs.Reading.{number_at, name_at};
 ghost use Rattle.nmgc_judge.specs.Reading.{byte_at, short_at, register_at, operand_at, each_at, no_names_at, names_at, pusher_at};
 
-use nmgc_io::read_number;
+use nmgc_io::{cut, read_number};
 use nmgc_journal::read_name;
 use nmgc_limits::REGISTERS;
 use nmgc_lists::{List, NoMemory};
@@ -36,19 +36,6 @@ pub(crate) fn cut_words<'a>(words: &mut Vec<&'a [u8]>, line: &'a [u8]) -> Result
     }
     words.push(rest)?;
     Ok(())
-}
-
-// What comes before the first such byte, and what comes after it.
-fn cut(bytes: &[u8], byte: u8) -> Option<(&[u8], &[u8])>
-    ensures parts { IfSome result (λ parts. bytes.now ≡ parts.0.now ++ byte ∷ parts.1.now) }
-    ensures first { IfSome result (λ parts. All (λ b. b ≢ byte) parts.0.now) }
-    ensures less { IfSome result (λ parts. length parts.1.now < length bytes.now) }
-    ensures none { IfNone result (All (λ b. b ≢ byte) bytes.now) }
-{
-    let Some(at) = bytes.iter().position(|b| *b == byte) else {
-        return None;
-    };
-    Some((&bytes[..at], &bytes[at + 1..]))
 }
 
 // A number of at most `limit`.

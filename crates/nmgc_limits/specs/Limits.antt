@@ -1,8 +1,7 @@
 -- How large a heap and the numbers of a run may be.
 --
 -- The grammar of scripts and the layout of the heap both cite these numbers. Sizes of the heap's parts are in words.
-use Rattle.std.specs.Prelude.{ℕ, ◌≤◌, IsTrue}
-use Rattle.std.specs.Int.{is_power_of_two}
+use Rattle.std.specs.{Prelude.ℕ, Prelude.◌≤◌, Prelude.IsTrue, Int.is_power_of_two}
 
 -- the most segments
 abbrev pub most_segments : ℕ

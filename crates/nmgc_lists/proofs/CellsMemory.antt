@@ -1,31 +1,5 @@
 -- A `Cells` in memory is its elements side by side, and back. The two proofs by hand share this.
-use mathlib.Core.Path.{◌≡◌, refl, sym}
-use Prim.Native.Nat.{ℕ, zero, ◌+◌}
-use mathlib.Core.List.{List, [], ◌∷◌}
-use lib.ListN.{length}
-use seplogic.Ra.Ura.{Ura}
-use mir.Syntax.{Ty, Args, a_type, a_number, ty_array, ty_struct}
-use base.Logic.{SProp, ent, sep, guard}
-use base.Fraction.{full_share}
-use base.Fml.{Fml, ftrue, fsep, feq}
-use prog.Memory.{align, up}
-use types.Logic.{Logic, sem}
-use types.SemTy.{cells}
-use types.Kit.{‵, ◌⊛◌, raw, ◌$◌, ◌∵◌, !, qed, move, drop, split, fsplit, fjoin, use1, use2, done, rewrite, feq_l, feq_i, check}
-use denote.Array.{Array}
-use denote.ArrayMemory.{Array-apart, Array-whole}
-use denote.Index.{row, whole_in, whole_out}
-use denote.Memory.{mem, part_at}
-use denote.Param.{param, number, layout, layouts, ArrayAt}
-use denote.Param.Laws.{Laws, param_laws, number_array_laws}
-use denote.RattleType.{RattleType}
-use denote.Steps.{nothing}
-use denote.Struct.Declared.{shape}
-use denote.Struct.Members.{Member, raw_tys}
-use denote.Struct.Parts.{shape_of, Struct-left, left_Struct}
-use denote.Struct.Recorded.{Recorded-part}
-use denote.Struct.Struct.{Struct}
-use Rattle.nmgc_lists.specs.contracts.cells.Cells.{the_row, the_type}
+use Rattle.nmgc_lists.proofs.Vocabulary.{◌≡◌, refl, sym, ℕ, zero, ◌+◌, List, [], ◌∷◌, length, Ura, Ty, Args, a_type, a_number, ty_array, ty_struct, SProp, ent, sep, guard, full_share, Fml, ftrue, fsep, feq, align, up, Logic, sem, cells, ‵, ◌⊛◌, raw, ◌$◌, ◌∵◌, !, qed, move, drop, split, fsplit, fjoin, use1, use2, done, rewrite, feq_l, feq_i, check, Array, Array-apart, Array-whole, row, whole_in, whole_out, mem, part_at, param, number, layout, layouts, ArrayAt, Laws, param_laws, number_array_laws, RattleType, nothing, shape, Member, raw_tys, shape_of, Struct-left, left_Struct, Recorded-part, Struct, the_row, the_type}
 
 module _ (X : RattleType) (n : ℕ) where
   abbrev pub args : Args

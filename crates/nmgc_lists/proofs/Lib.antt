@@ -1,2 +1,3 @@
 mod CellsMemory
 pub mod Queues
+mod Vocabulary

@@ -1,7 +1,5 @@
 -- What an array ends as, where its first items are lent. No public clause cites this module.
-use Rattle.std.specs.Prelude.{List, length}
-use Rattle.std.specs.List.{refill}
-use Rattle.std.specs.Borrow.{Lends, Fml, RattleType, MutBor, Array}
+use Rattle.std.specs.{Prelude.List, Prelude.length, List.refill, Borrow.Lends, Borrow.Fml, Borrow.RattleType, Borrow.MutBor, Borrow.Array}
 use Rattle.nmgc_lists.specs.contracts.cells.Cells.{the_row}
 
 module _ (T N : RattleType) (cells : MutBor (the_row T N).Denot) where

@@ -1,9 +1,6 @@
 -- What the items in a list itself end as, where they are lent. No public clause cites this module.
-use Rattle.std.specs.Prelude.{ℕ, List, length}
-use Rattle.std.specs.List.{refill}
-use Rattle.std.specs.Borrow.{Lends, Fml, RattleType, MutBor, Array}
-use Rattle.nmgc_lists.specs.declared.few.Few.{Few}
-use Rattle.nmgc_lists.specs.contracts.few.Few.{the_row}
+use Rattle.std.specs.{Prelude.ℕ, Prelude.List, Prelude.length, List.refill, Borrow.Lends, Borrow.Fml, Borrow.RattleType, Borrow.MutBor, Borrow.Array}
+use Rattle.nmgc_lists.specs.{declared.few.Few.Few, contracts.few.Few.the_row}
 
 -- the same with other items
 abbrev pub with_items : {T : Type 0} {n : ℕ} → Few T n → List T → Few T n

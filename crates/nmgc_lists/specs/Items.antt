@@ -1,7 +1,6 @@
 -- Where the items of a list lie.
 use Rattle.std.specs.Prelude.{◌≡◌, List, length}
-use Rattle.nmgc_lists.specs.declared.list.Items.{Items}
-use Rattle.nmgc_lists.specs.declared.list.Items.TheVariants.{Empty, Single, Pair, Many}
+use Rattle.nmgc_lists.specs.{declared.list.Items.Items, declared.list.Items.TheVariants.Empty, declared.list.Items.TheVariants.Single, declared.list.Items.TheVariants.Pair, declared.list.Items.TheVariants.Many}
 
 module _ {T : Type 0} where
   -- the items in order, wherever they lie

@@ -1,12 +1,7 @@
 -- What the items of a list end as, where a `&mut` to them is returned. No public clause cites this module.
-use Rattle.std.specs.Prelude.{List}
-use Rattle.std.specs.Borrow.{Lends, Fml, RattleType, MutBor, Array}
+use Rattle.std.specs.{Prelude.List, Borrow.Lends, Borrow.Fml, Borrow.RattleType, Borrow.MutBor, Borrow.Array, Box.with_value}
 use Rattle.std.specs.Vec as vec
-use Rattle.std.specs.Box.{with_value}
-use Rattle.nmgc_lists.specs.Few.{with_items}
-use Rattle.nmgc_lists.specs.declared.list.Items.{Items}
-use Rattle.nmgc_lists.specs.declared.list.Items.TheVariants.{Empty, Single, Pair, Many}
-use Rattle.nmgc_lists.specs.contracts.list.Items.{the_row}
+use Rattle.nmgc_lists.specs.{Few.with_items, declared.list.Items.Items, declared.list.Items.TheVariants.Empty, declared.list.Items.TheVariants.Single, declared.list.Items.TheVariants.Pair, declared.list.Items.TheVariants.Many, contracts.list.Items.the_row}
 
 -- the items that were written, where the old ones lay
 abbrev pub refilled : {T : Type 0} → Items T → List T → Items T

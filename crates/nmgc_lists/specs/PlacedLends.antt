@@ -1,7 +1,5 @@
 -- What a list in a vector ends as, where a `&mut` to its items is returned.
-use Rattle.std.specs.Prelude.{List, length}
-use Rattle.std.specs.List.{refill}
-use Rattle.std.specs.Borrow.{Lends, Fml, RattleType, MutBor, Array}
+use Rattle.std.specs.{Prelude.List, Prelude.length, List.refill, Borrow.Lends, Borrow.Fml, Borrow.RattleType, Borrow.MutBor, Borrow.Array}
 use Rattle.nmgc_lists.specs.contracts.placed.Placed.{the_row}
 
 -- once the borrow ends, the items are those that it shows last

@@ -1,3 +1,4 @@
 pub mod Items
 pub mod Options
 pub mod Truths
+mod Vocabulary

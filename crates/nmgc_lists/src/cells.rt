@@ -1,8 +1,7 @@
 //! Items that lie in the value itself, as many as its type says.
 //!
 //! An array in a struct of its own, so that a contract can say what a loan of its items leaves.
-ghost use Rattle.std.specs.Prelude.{◌≡◌, ◌≤◌, take};
-ghost use Rattle.std.specs.Borrow.{sem};
+ghost use Rattle.std.specs.{Prelude.◌≡◌, Prelude.◌≤◌, Prelude.take, Borrow.sem};
 
 /// An array of items.
 #[derive(Drop)]

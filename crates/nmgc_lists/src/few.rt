@@ -1,6 +1,5 @@
 //! Items that lie in a list itself, with what takes memory for more.
-ghost use Rattle.std.specs.Prelude.{◌≡◌, length};
-ghost use Rattle.std.specs.Borrow.{sem};
+ghost use Rattle.std.specs.{Prelude.◌≡◌, Prelude.length, Borrow.sem};
 
 use crate::cells::Cells;
 use std::alloc::Global;

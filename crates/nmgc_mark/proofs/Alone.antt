@@ -1,39 +1,7 @@
 -- A collector that scans alone: each load is the machine's next scan, by the law of scans.
-use Rattle.std.proofs.Common.{◌≡◌, inl, inr, ℕ, ◌+◌, ◌<◌, ◌≤◌, ◌^◌, List, [], ◌∷◌, ◌++◌, length, set, refl, sym, ap, subst, ◌∙◌, arith, Some, None, Option}
-use Rattle.std.specs.Prelude.{Contains, slice_index, IsSome}
-use mathlib.Core.Option.{some}
-use lib.ListN.{get_elem?}
-use Rattle.nmgc_world_spec.specs.declared.value.Name.{Name}
-use Rattle.nmgc_world_spec.specs.declared.value.Value.{Value}
+use Rattle.nmgc_mark.proofs.Vocabulary.{◌≡◌, inl, inr, ℕ, ◌+◌, ◌<◌, ◌≤◌, ◌^◌, List, [], ◌∷◌, ◌++◌, length, set, refl, sym, ap, subst, ◌∙◌, arith, Some, None, Option, Contains, slice_index, IsSome, some, get_elem?, Name, Value, Node, node_of, contains_head, Header, word_total, header_word, IsHeader, Entry, State, mark_value, mark_read, read_at, moved_on, after_scan, advanced, Segments, size_of, Place, Happening, did, scanned, replay, Opening, Seen, Scan, whole, Marks, marks_of, marks_after, offset_of, Object, place_of, IsIn, Keeps, now, AllRead, IsRead, AddsScan, CanScan, first_of, scanned_by, CanOpen, TellsEntry, TellsNode, TellsScan, IsSafe, MarkerSeen, AreScans, IsAlone, WordsShow, HasFinished, IsTied, AreQueued, entry_now, marks_seen, lies_within}
 use Rattle.nmgc_world_spec.specs.declared.value.Value.TheVariants as value
-use Rattle.nmgc_world_spec.specs.declared.node.Node.{Node}
-use Rattle.nmgc_world_spec.specs.World.{node_of}
-use Rattle.nmgc_lists.specs.laws.Items.{contains_head}
-use Rattle.nmgc_object.specs.declared.words.Header.{Header}
-use Rattle.nmgc_object.specs.Places.{word_total}
-use Rattle.nmgc_object.specs.Words.{header_word, IsHeader}
-use Rattle.nmgc_snapshot_laws.specs.declared.event.Entry.{Entry}
-use Rattle.nmgc_snapshot_laws.specs.State.{State, mark_value, mark_read}
-use Rattle.nmgc_snapshot_laws.specs.Scan.{read_at, moved_on}
-use Rattle.nmgc_snapshot_laws.specs.Machine.{after_scan, advanced}
-use Rattle.nmgc_alloc.specs.Numbered.{Segments}
-use Rattle.nmgc_heap_spec.specs.Shape.{size_of}
-use Rattle.nmgc_heap_spec.specs.Places.{Place}
-use Rattle.nmgc_round.specs.Events.{Happening, did, scanned, replay}
-use Rattle.nmgc_round.specs.View.{Opening, Seen, Scan, whole}
-use Rattle.nmgc_round.specs.Marking.{Marks, marks_of, marks_after, offset_of}
-use Rattle.nmgc_round.specs.Objects.{Object, place_of, IsIn}
-use Rattle.nmgc_round.specs.Rule.{Keeps, now, AllRead, IsRead}
-use Rattle.nmgc_round.specs.Added.{AddsScan}
-use Rattle.nmgc_round.specs.Ready.{CanScan, first_of, scanned_by}
-use Rattle.nmgc_round.specs.Starting.{CanOpen}
-use Rattle.nmgc_round.specs.Told.{TellsEntry, TellsNode, TellsScan, IsSafe}
-use Rattle.nmgc_mark.specs.Seen.{MarkerSeen}
-use Rattle.nmgc_mark.specs.Stopped.{AreScans, IsAlone, WordsShow, HasFinished}
-use Rattle.nmgc_mark.specs.Tie.{IsTied, AreQueued}
-use Rattle.nmgc_mark.specs.Work.{entry_now, marks_seen}
 use Rattle.nmgc_mark.proofs.OneMark.{mark_is}
-use Rattle.nmgc_heap_spec.specs.laws.Common.{lies_within}
 
 -- what the laws of rounds say of a scan and of an opening
 abbrev pub ScanLaw : Type 0
@@ -93,8 +61,7 @@ module _ (o : Opening) (words : List ℕ) (v : Seen) (a : IsAlone o words v) (at
 
   node_told : (entry_now v).position ≡ 0 → TellsNode o (entry_now v).name (slice_index words (at + offset))
   node_told first =
-      let q = a.keeps.queued (entry_now v) (subst (λ (l : List Entry).
-      Contains l (entry_now v)) (sym queue_is) (contains_head (entry_now v) can.rest)) in
+      let q = a.keeps.queued (entry_now v) (rw queue_is (contains_head (entry_now v) can.rest)) in
       let x : Object = q.object in
       let same = a.keeps.stands.one (place_of q.object) (record { at = at; name = (entry_now v).name }) (inl q.here.there) (inl there_is) (inl q.name) in
       let x_at : q.object.at ≡ at = ap (λ (p : Place). p.at) same in
@@ -212,8 +179,7 @@ alone_ends o words v s m a h empty =
       events = a.keeps.events;
       scans = a.scans;
       legal = a.keeps.legal;
-      rest = scans_rest o.core a.keeps.events a.scans ∙ ap (λ (l : List Entry).
-          let u : State = record o.core { marked = (now o a.keeps.events).marked; queue = l } in u) queue;
+      rest = cc (scans_rest o.core a.keeps.events a.scans, queue);
       tied = subst (λ (k : Marks). IsTied o k s m) (sym same) h;
     }
 

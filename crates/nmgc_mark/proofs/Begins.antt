@@ -1,36 +1,16 @@
 -- A heap at a stop, just prepared, is one with which marking begins.
-use Rattle.std.proofs.Common.{◌≡◌, inl, inr, ℕ, zero, suc, ◌+◌, List, [], ◌∷◌, map, length, get_or, refl, sym, ap, subst, ◌∙◌, arith, Some, None, Option}
-use Rattle.std.specs.Prelude.{Contains, IsSome, slice_get}
-use Rattle.std.specs.List.{flat_map}
+use Rattle.std.proofs.{Common.◌≡◌, Common.inl, Common.inr, Common.ℕ, Common.zero, Common.suc, Common.◌+◌, Common.List, Common.[], Common.◌∷◌, Common.map, Common.length, Common.get_or, Common.refl, Common.sym, Common.ap, Common.subst, Common.◌∙◌, Common.arith, Common.Some, Common.None, Common.Option, lemmas.Option.slice_get_within as got_below}
+use Rattle.std.specs.{Prelude.Contains, Prelude.IsSome, Prelude.slice_get, List.flat_map}
 use Rattle.nmgc_limits.specs.declared.mutators.TheConstants.{SHARED_SLOTS}
-use Rattle.nmgc_world_spec.specs.declared.value.Name.{Name}
-use Rattle.nmgc_world_spec.specs.declared.value.Value.{Value}
-use Rattle.nmgc_world_spec.specs.declared.node.Node.{Node}
-use Rattle.nmgc_world_spec.specs.declared.node.Node.TheVariants.{Con, Var, Arr, Thunk, Weak, Stack}
-use Rattle.nmgc_world_spec.specs.declared.mutator_state.MutatorState.{MutatorState}
-use Rattle.nmgc_world_spec.specs.World.{IsShared, no_mutator}
-use Rattle.nmgc_world_spec.specs.Step.{shared_name}
-use Rattle.nmgc_world_spec.specs.Reach.{start, strong_fields}
-use Rattle.nmgc_lists.specs.laws.Items.{contains_head}
-use Rattle.nmgc_object.specs.FinQueue.{FinQueue}
-use Rattle.nmgc_object.specs.declared.size.TheConstants.{HEADER_WORDS}
-use Rattle.nmgc_segment.specs.Segment.{InUse}
-use Rattle.nmgc_alloc.specs.Numbered.{nth, Segments, HasNumber, block_place}
-use Rattle.nmgc_alloc.specs.Segments.{IsBlockAt}
-use Rattle.nmgc_alloc.specs.AllocState.{LiesIn, Cells, cells, name_in}
-use Rattle.nmgc_alloc.specs.laws.Placing.{inside}
-use Rattle.nmgc_alloc.specs.laws.Sound.{stands_sound, used_exists}
-use Rattle.nmgc_segment.specs.declared.state.State.TheVariants.{Free}
-use Rattle.nmgc_heap_spec.specs.Shape.{holds, slots_of as slots_in}
-use Rattle.nmgc_heap_spec.specs.Places.{Place, Means, ListMeans, shared_place}
-use Rattle.nmgc_heap_spec.specs.Tracked.{IsTracked}
+use Rattle.nmgc_world_spec.specs.{declared.value.Name.Name, declared.value.Value.Value, declared.node.Node.Node, declared.node.Node.TheVariants.Con, declared.node.Node.TheVariants.Var, declared.node.Node.TheVariants.Arr, declared.node.Node.TheVariants.Thunk, declared.node.Node.TheVariants.Weak, declared.node.Node.TheVariants.Stack, declared.mutator_state.MutatorState.MutatorState, World.IsShared, World.no_mutator, Step.shared_name, Reach.start, Reach.strong_fields}
+use Rattle.nmgc_lists.specs.laws.Items.{contains_head, is_some_of}
+use Rattle.nmgc_object.specs.{FinQueue.FinQueue, declared.size.TheConstants.HEADER_WORDS}
+use Rattle.nmgc_segment.specs.{Segment.InUse, declared.state.State.TheVariants.Free}
+use Rattle.nmgc_alloc.specs.{Numbered.nth, Numbered.Segments, Numbered.HasNumber, Numbered.block_place, Segments.IsBlockAt, AllocState.LiesIn, AllocState.Cells, AllocState.cells, AllocState.name_in, laws.Placing.inside, laws.Sound.stands_sound, laws.Sound.used_exists}
+use Rattle.nmgc_heap_spec.specs.{Shape.holds, Shape.slots_of as slots_in, Places.Place, Places.Means, Places.ListMeans, Places.shared_place, Tracked.IsTracked, laws.Common.means_append, laws.Common.list_means, laws.Common.flat_registers}
 use Rattle.nmgc_round.specs.View.{Opening}
-use Rattle.nmgc_mark.specs.Beginning.{IsBeginning, IsPrepared, slots_of}
-use Rattle.nmgc_mark.specs.Tie.{AreApart, IsRightSnapshot}
-use Rattle.nmgc_heap_spec.specs.laws.Common.{means_append, list_means, flat_registers}
+use Rattle.nmgc_mark.specs.{Beginning.IsBeginning, Beginning.IsPrepared, Beginning.slots_of, Tie.AreApart, Tie.IsRightSnapshot, laws.Common.places_apart as apart_of}
 use Rattle.nmgc_mark.proofs.Words.{slot_word, slots_count}
-use Rattle.nmgc_mark.specs.laws.Common.{places_apart as apart_of}
-use Rattle.std.proofs.lemmas.Option.{slice_get_within as got_below}
 
 -- the finaliser queues of all mutators
 flat_queues : (P : Place → Type 0) (qs : List FinQueue) (xs : List MutatorState) → length qs ≡ length xs →
@@ -88,10 +68,6 @@ module _ (o : Opening) (s : Segments) (epoch : ℕ) (words registers : List ℕ)
         (shows.used b).0 (subst (λ (x : Option Name). IsSome x) (sym lies) refl),
       )
 
-  name_of : (x : Option Name) → IsSome x → (name : Name) × (x ≡ Some name)
-  name_of None k = absurd cc
-  name_of (Some name) k = (name, refl)
-
   right : IsRightSnapshot o s
   right = record {
     layout = h.layout;
@@ -99,7 +75,7 @@ module _ (o : Opening) (s : Segments) (epoch : ℕ) (words registers : List ℕ)
     sound = λ at g.
         let u = (h.in_use at).0 g in
         let shows = h.stands.shows u.0 u.2.exists in
-        let k = name_of (name_in (cells h.allocation u.0) u.1) ((shows.used u.1).1 u.3) in
+        let k = is_some_of (name_in (cells h.allocation u.0) u.1) ((shows.used u.1).1 u.3) in
         let place = name_used u.0 u.1 k.0 k.1 in
         let is : block_place o.layout u.0 (cells h.allocation u.0).class u.1 ≡ at = place.0.place ∙ sym u.2.place in
         let c = (h.places (record { at = at; name = k.0 })).1 (inr (record { number = u.0; block = u.1; lies = k.1; at = sym is })) in

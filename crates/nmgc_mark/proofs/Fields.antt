@@ -1,30 +1,13 @@
 -- The loop over the fields of one object, and over objects.
-use Rattle.std.proofs.Common.{ne_eqb, eq-eqb, ◌≡◌, ◌≢◌, ℕ, suc, ◌+◌, ◌^◌, ◌<◌, ◌≤◌, Bool, true, false, not, ◌&&◌, eqb, List, [], ◌∷◌, ◌++◌, length, refl, sym, ap, subst, ◌∙◌, arith, append_assoc}
-use Rattle.std.proofs.lemmas.List.{append-nil}
-use Rattle.nmgc_world_spec.specs.declared.value.Name.{Name}
-use Rattle.nmgc_world_spec.specs.declared.node.Node.{Node}
-use Rattle.nmgc_world_spec.specs.declared.node.Node.TheVariants.{Con, Var, Arr, Thunk, Weak, Stack}
-use Rattle.nmgc_world_spec.specs.declared.node.Kind.{Kind}
+use Rattle.std.proofs.{Common.ne_eqb, Common.eq-eqb, Common.◌≡◌, Common.◌≢◌, Common.ℕ, Common.suc, Common.◌+◌, Common.◌^◌, Common.◌<◌, Common.◌≤◌, Common.Bool, Common.true, Common.false, Common.not, Common.◌&&◌, Common.eqb, Common.List, Common.[], Common.◌∷◌, Common.◌++◌, Common.length, Common.refl, Common.sym, Common.ap, Common.subst, Common.◌∙◌, Common.arith, Common.append_assoc, Math.Bool.and-false, lemmas.List.append-nil}
+use Rattle.nmgc_world_spec.specs.{declared.value.Name.Name, declared.node.Node.Node, declared.node.Node.TheVariants.Con, declared.node.Node.TheVariants.Var, declared.node.Node.TheVariants.Arr, declared.node.Node.TheVariants.Thunk, declared.node.Node.TheVariants.Weak, declared.node.Node.TheVariants.Stack, declared.node.Kind.Kind}
 use Rattle.nmgc_world_spec.specs.declared.node.Kind.TheVariants as kind
-use Rattle.nmgc_object.specs.declared.words.Header.{Header}
-use Rattle.nmgc_object.specs.declared.size.TheConstants.{HEADER_WORDS}
-use Rattle.nmgc_object.specs.Words.{header_word, IsHeader}
-use Rattle.nmgc_object.specs.Places.{IsLayout, word_total}
-use Rattle.nmgc_object.specs.declared.layout.Layout.{Layout}
+use Rattle.nmgc_object.specs.{declared.words.Header.Header, declared.size.TheConstants.HEADER_WORDS, Words.header_word, Words.IsHeader, Places.IsLayout, Places.word_total, declared.layout.Layout.Layout}
 use Rattle.nmgc_snapshot_laws.specs.Scan.{fields_of}
 use Rattle.nmgc_alloc.specs.Numbered.{Segments}
-use Rattle.nmgc_round.specs.declared.table.Round.{Round}
-use Rattle.nmgc_round.specs.View.{Opening, Seen, Scan}
-use Rattle.nmgc_round.specs.Marking.{Marks, name_meant, name_read, with_name, is_last_word, is_thunk}
-use Rattle.nmgc_round.specs.Ready.{scanned_by}
-use Rattle.nmgc_round.specs.Told.{TellsScan}
-use Rattle.nmgc_round.specs.Seat.{RoundSeat, IsAt, Knows, seen, word_count}
-use Rattle.nmgc_mark.specs.Seen.{MarkerSeen}
-use Rattle.nmgc_mark.specs.Marker.{HasRoomToMark, HasMarked, turned}
-use Rattle.nmgc_mark.specs.Tie.{IsTied}
-use Rattle.nmgc_mark.specs.Work.{IsScanning, IsCollector, IsLaterSeat, IsAtField, HasWorked, SeatShows, entry_now, marks_seen, rest_of, fields_scanned, has_results, is_result}
+use Rattle.nmgc_round.specs.{declared.table.Round.Round, View.Opening, View.Seen, View.Scan, Marking.Marks, Marking.name_meant, Marking.name_read, Marking.with_name, Marking.is_last_word, Marking.is_thunk, Ready.scanned_by, Told.TellsScan, Seat.RoundSeat, Seat.IsAt, Seat.Knows, Seat.seen, Seat.word_count}
+use Rattle.nmgc_mark.specs.{Seen.MarkerSeen, Marker.HasRoomToMark, Marker.HasMarked, Marker.turned, Tie.IsTied, laws.Common.marked_then, Work.IsScanning, Work.IsCollector, Work.IsLaterSeat, Work.IsAtField, Work.HasWorked, Work.SeatShows, Work.entry_now, Work.marks_seen, Work.rest_of, Work.fields_scanned, Work.has_results, Work.is_result}
 use Rattle.nmgc_mark.proofs.Scanning.{IsNode, IsTaken, node_told, thunk_by, goes_on, ends, not_last, header_more, field_last, result_last, fields_are}
-use Rattle.nmgc_mark.specs.laws.Common.{marked_then}
 
 pub few : (k : Kind) (n : ℕ) → fields_scanned k n ≤ n
 few kind.Con n = omega arith
@@ -34,24 +17,20 @@ few kind.Thunk n = omega arith
 few kind.Weak n = omega arith
 few kind.Stack n = omega arith
 
-and_false : (b : Bool) → (b && false) ≡ false
-and_false true = refl
-and_false false = refl
-
 -- what is no thunk has no result, and a thunk's is its first field
 pub no_result : (k : Kind) (field w : ℕ) → (has_results k ≡ true → 1 ≤ field) → is_result k field w ≡ false
 no_result k field w later = by (has_results k) refl
   where
     by : (b : Bool) → has_results k ≡ b → (eqb field 0 && (has_results k && not (eqb w 0))) ≡ false
     by true e = ap (λ (b : Bool). b && (has_results k && not (eqb w 0))) (ne_eqb field 0 (λ z. let l = later e in omega arith))
-    by false e = ap (λ (b : Bool). eqb field 0 && (b && not (eqb w 0))) e ∙ and_false (eqb field 0)
+    by false e = ap (λ (b : Bool). eqb field 0 && (b && not (eqb w 0))) e ∙ and-false (eqb field 0)
 
 -- whether it was set
 pub result_set : (k : Kind) (w : ℕ) → has_results k ≡ true → w ≢ 0 → is_result k 0 w ≡ true
 result_set k w thunk some_ = ap (λ (b : Bool). b && not (eqb w 0)) thunk ∙ ap (λ (b : Bool). not b) (ne_eqb w 0 some_)
 
 pub result_unset : (k : Kind) (w : ℕ) → w ≡ 0 → is_result k 0 w ≡ false
-result_unset k w none = ap (λ (b : Bool). has_results k && not b) (eq-eqb w 0 none) ∙ and_false (has_results k)
+result_unset k w none = ap (λ (b : Bool). has_results k && not b) (eq-eqb w 0 none) ∙ and-false (has_results k)
 
 thunk_has : (node : Node) → is_thunk node ≡ true → 0 < fields_of node
 thunk_has (Thunk free result) e = omega arith

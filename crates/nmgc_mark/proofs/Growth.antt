@@ -1,14 +1,5 @@
 -- A marker stays tied where there are more places.
-use Rattle.std.proofs.Common.{inr, ◌↔◌, ℕ, List, [], ◌∷◌, refl, subst}
-use Rattle.std.specs.Prelude.{Contains}
-use Rattle.nmgc_snapshot_laws.specs.declared.event.Entry.{Entry}
-use Rattle.nmgc_alloc.specs.Numbered.{Segments}
-use Rattle.nmgc_heap_spec.specs.Places.{Place}
-use Rattle.nmgc_round.specs.View.{Opening}
-use Rattle.nmgc_round.specs.Marking.{Marks}
-use Rattle.nmgc_alloc.specs.Blocks.{IsMarkedAt}
-use Rattle.nmgc_mark.specs.Seen.{MarkerSeen}
-use Rattle.nmgc_mark.specs.Tie.{IsRightSnapshot, AreQueued, IsTied}
+use Rattle.nmgc_mark.proofs.Vocabulary.{inr, ◌↔◌, ℕ, List, [], ◌∷◌, refl, subst, Contains, Entry, Segments, Place, Opening, Marks, IsMarkedAt, MarkerSeen, IsRightSnapshot, AreQueued, IsTied}
 
 more_queued : (few more : List Place) → ((p : Place) → Contains few p → Contains more p) → (ats : List ℕ) (entries : List Entry) →
     AreQueued few ats entries → AreQueued more ats entries

@@ -11,3 +11,4 @@ pub mod Rooms
 pub mod Scanning
 pub mod Ties
 pub mod Words
+mod Vocabulary

@@ -1,11 +1,5 @@
 -- One mark of the machine.
-use Rattle.std.proofs.Common.{◌≡◌, Bool, true, false, cond, [], ◌∷◌, ◌++◌, refl, sym, ap, Some}
-use Rattle.std.specs.Prelude.{Contains}
-use Rattle.std.proofs.lemmas.List.Elements.{Contains-append_left}
-use Rattle.nmgc_world_spec.specs.declared.value.Name.{Name}
-use Rattle.nmgc_world_spec.specs.Step.{shared_name}
-use Rattle.nmgc_snapshot_laws.specs.State.{State, is_new, mark_name, with_mark, entry_of}
-use Rattle.nmgc_round.specs.Marking.{marks_of, with_name}
+use Rattle.nmgc_mark.proofs.Vocabulary.{◌≡◌, Bool, true, false, cond, [], ◌∷◌, ◌++◌, refl, sym, ap, Some, Contains, Contains-append_left, Name, shared_name, State, is_new, mark_name, with_mark, entry_of, marks_of, with_name}
 
 -- a mark changes marks and queue alone
 pub record IsMarkOf (s t : State) (name : Name) : Type 0 where

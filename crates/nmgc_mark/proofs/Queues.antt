@@ -1,22 +1,13 @@
 -- The marker's list of found places, of which the queue is what follows an index.
-use Rattle.std.proofs.Common.{◌≡◌, inl, inr, nat_eq, eq-eqb, ℕ, zero, suc, ◌+◌, ◌<◌, ◌≤◌, false, IsTrue, List, [], ◌∷◌, length, drop, refl, sym, ap, subst, ◌∙◌, arith, slice_index_or}
-use Rattle.std.specs.Prelude.{Option, Some, None, is_some, IfNone}
-use Rattle.std.proofs.lemmas.Bool.{cases_eq}
-use Rattle.std.proofs.lemmas.Bool.Decides.{eqb_tells}
-use Rattle.nmgc_object.specs.declared.words.Address.{Address}
-use Rattle.nmgc_mark.specs.Marker.{places}
-use Rattle.nmgc_lists.specs.laws.Truths.{never}
-
-pub none_of : {A : Type 0} (o : Option A) (P : Type 0) → is_some o ≡ false → IfNone o P → P
-none_of None P e h = h
-none_of (Some a) P e h = absurd cc
+use Rattle.nmgc_mark.proofs.Vocabulary.{◌≡◌, inl, inr, nat_eq, eq-eqb, ℕ, zero, suc, ◌+◌, ◌<◌, ◌≤◌, IsTrue, List, [], ◌∷◌, length, drop, refl, sym, ap, subst, ◌∙◌, arith, slice_index_or, cases_eq, eqb_tells, Address, places, never}
 
 drop_first : (xs : List Address) (i : ℕ) (a : Address) → i < length xs → drop i (places xs) ≡ (slice_index_or xs i a).0 ∷ drop (i + 1) (places xs)
 drop_first [] i a lt = absurd (omega arith)
 drop_first (x ∷ xs) zero a lt = refl
-drop_first (x ∷ xs) (suc i) a lt = drop_first xs i a (omega arith) ∙
-    (let e : drop (i + 1) (places xs) ≡ drop (suc i + 1) (places (x ∷ xs)) = let z : suc i + 1 ≡ suc (i + 1) = omega arith in ap (λ n. drop n (places (x ∷ xs))) (sym z) in
-    ap (λ (l : List ℕ). (slice_index_or xs i a).0 ∷ l) e)
+drop_first (x ∷ xs) (suc i) a lt = cc (
+  drop_first xs i a (omega arith),
+  let e : drop (i + 1) (places xs) ≡ drop (suc i + 1) (places (x ∷ xs)) = let z : suc i + 1 ≡ suc (i + 1) = omega arith in ap (λ n. drop n (places (x ∷ xs))) (sym z) in ap (λ (l : List ℕ). (slice_index_or xs i a).0 ∷ l) e,
+)
 
 drop_all : (xs : List Address) (i : ℕ) → length xs ≤ i → drop i (places xs) ≡ []
 drop_all [] zero le = refl
@@ -33,8 +24,10 @@ drop_none (x ∷ xs) (suc i) le e = let r = drop_none xs i (omega arith) e in om
 pub empty_told : (queue : List ℕ) (items shown : List Address) (first : ℕ) → shown ≡ items → queue ≡ drop first (places items) →
     first ≤ length items → (IsTrue (nat_eq first (length shown)) → queue ≡ []) × (queue ≡ [] → IsTrue (nat_eq first (length shown)))
 empty_told queue items shown first same is le = (
-  λ t. let e : first ≡ length shown = elim (eqb_tells first (length shown)) [ inl s ↦ s.1 | inr s ↦ never (subst (λ b. IsTrue b) s.0 t) ] in is ∙
-      drop_all items first (let z = ap (λ (l : List Address). length l) same in omega arith),
+  λ t. let e : first ≡ length shown = elim (eqb_tells first (length shown)) [ inl s ↦ s.1 | inr s ↦ never (rw s.0 at t) ] in cc (
+    is,
+    drop_all items first (let z = ap (λ (l : List Address). length l) same in omega arith),
+  ),
   λ none. let e : first ≡ length items = drop_none items first le (sym is ∙ none) in
       subst (λ b. IsTrue b) (sym (eq-eqb first (length shown) (e ∙ ap (λ (l : List Address). length l) (sym same)))) refl,
 )

@@ -1,13 +1,6 @@
 -- Once nothing is queued, owed or pushed, what the snapshot's roots reach is marked.
-use Rattle.std.proofs.Common.{◌≡◌, inl, inr, ℕ, List, [], ◌∷◌, refl, arith}
-use Rattle.std.specs.Prelude.{Contains, IsSome}
-use Rattle.nmgc_world_spec.specs.declared.value.Name.{Name}
-use Rattle.nmgc_world_spec.specs.World.{node_of}
-use Rattle.nmgc_world_spec.specs.Step.{shared_name}
-use Rattle.nmgc_world_spec.specs.Reach.{IsReached, IsRoot, start, field}
-use Rattle.nmgc_snapshot_laws.specs.State.{State, names_of}
-use Rattle.nmgc_snapshot_laws.specs.Facts.{Facts, Kept, IsSafe, IsAhead, owed, pushed, queued, marked, unmarked}
-use Rattle.nmgc_snapshot_laws.specs.laws.Lives.{stands, live_there}
+use Rattle.nmgc_mark.proofs.Vocabulary.{◌≡◌, inl, inr, ℕ, List, [], ◌∷◌, refl, arith, Contains, IsSome, Name, node_of, shared_name, IsReached, IsRoot, start, field, State, names_of, Facts, Kept, IsAhead, owed, pushed, queued, marked, stands, live_there}
+use Rattle.nmgc_snapshot_laws.specs.Facts.{IsSafe, unmarked}
 
 none_in : {A : Type 0} (xs : List A) (x : A) → xs ≡ [] → Contains xs x → ⊥
 none_in [] x e c = let lt = c.1 in omega arith

@@ -1,17 +1,5 @@
 -- A blank marker has room for every block: no segment has more blocks than a quarter of its words.
-use Rattle.std.proofs.Common.{◌≡◌, ℕ, zero, suc, ◌+◌, ◌*◌, ◌/◌, ◌<◌, ◌≤◌, List, [], ◌∷◌, ◌++◌, length, inl, inr, refl, sym, subst, arith, length-append}
-use Rattle.std.specs.Prelude.{Contains}
-use Rattle.std.proofs.Math.Nat.{mul-le-mul_left}
-use Rattle.std.proofs.lemmas.Bool.{cases_eq}
-use Rattle.std.proofs.lemmas.Nat.{div-add-mod'}
-use Rattle.std.proofs.lemmas.List.Elements.{Contains-append_left, Contains-append_right}
-use Rattle.nmgc_lists.specs.laws.Items.{contains_head, contains_tail}
-use Rattle.nmgc_object.specs.Size.{block_size}
-use Rattle.nmgc_object.specs.laws.Classes.{least_block}
-use Rattle.nmgc_alloc.specs.Numbered.{nth, Segments}
-use Rattle.nmgc_alloc.specs.Segments.{IsSegments, IsBlockAt}
-use Rattle.nmgc_mark.specs.Marker.{HasRoomToMark, blank}
-use Rattle.nmgc_mark.specs.Beginning.{most_blocks}
+use Rattle.nmgc_mark.proofs.Vocabulary.{◌≡◌, ℕ, zero, suc, ◌+◌, ◌*◌, ◌/◌, ◌<◌, ◌≤◌, List, [], ◌∷◌, ◌++◌, length, inl, inr, refl, sym, subst, arith, length-append, Contains, mul-le-mul_left, cases_eq, div-add-mod', Contains-append_left, Contains-append_right, contains_head, contains_tail, block_size, least_block, nth, Segments, IsSegments, IsBlockAt, HasRoomToMark, blank, most_blocks}
 
 -- so many places from one on, each so many words after the one before
 steps_from : ℕ → ℕ → ℕ → List ℕ
@@ -30,8 +18,7 @@ steps_have (suc n) at size zero lt = let e : at ≡ at + 0 * size = omega arith 
     subst (λ x. Contains (at ∷ steps_from (at + size) size n) x) e (contains_head at (steps_from (at + size) size n))
 steps_have (suc n) at size (suc k) lt =
     let e : at + size + k * size ≡ at + suc k * size = omega arith in
-    subst (λ x. Contains (at ∷
-    steps_from (at + size) size n) x) e (contains_tail at (steps_from (at + size) size n) (at + size + k * size)
+    rw e at (contains_tail at (steps_from (at + size) size n) (at + size + k * size)
     (steps_have n (at + size) size k (omega arith)))
 
 module _ (s : Segments) where

@@ -1,33 +1,7 @@
 -- What the words of the roots refer to is what the machine's values do.
-use Rattle.std.proofs.Common.{ne_eqb, eq-eqb, ◌≡◌, inr, ℕ, ◌*◌, ◌/◌, ◌%◌, true, false, eqb, List, [], ◌∷◌, ◌++◌, ◌+◌, ◌≤◌, ◌<◌, refl, sym, ap, ◌∙◌, arith, Option, Some, None, inl}
-use Rattle.std.specs.Prelude.{Contains}
-use Rattle.std.specs.List.{flat_map}
-use Rattle.nmgc_world_spec.specs.declared.value.Name.{Name}
-use Rattle.nmgc_world_spec.specs.declared.mutator_state.MutatorState.{MutatorState}
-use Rattle.nmgc_world_spec.specs.Step.{shared_name}
-use Rattle.nmgc_world_spec.specs.Reach.{strong_fields}
-use Rattle.nmgc_lists.specs.laws.Items.{contains_head, contains_cases}
-use Rattle.nmgc_object.specs.FinQueue.{FinQueue}
-use Rattle.nmgc_object.specs.Places.{word_total}
-use Rattle.nmgc_object.specs.Size.{block_size}
-use Rattle.nmgc_object.specs.laws.Classes.{least_block}
-use Rattle.nmgc_alloc.specs.Numbered.{nth, Segments}
-use Rattle.nmgc_alloc.specs.Segments.{IsSegments}
-use Rattle.nmgc_alloc.specs.laws.Apart.{lies_in}
-use Rattle.nmgc_world_spec.specs.declared.value.Value.{Value}
+use Rattle.nmgc_mark.proofs.Vocabulary.{ne_eqb, eq-eqb, ◌≡◌, inr, ℕ, ◌*◌, ◌/◌, ◌%◌, true, false, eqb, List, [], ◌∷◌, ◌++◌, ◌+◌, ◌≤◌, ◌<◌, refl, sym, ap, ◌∙◌, arith, Option, Some, None, inl, Contains, flat_map, Name, MutatorState, shared_name, strong_fields, contains_head, contains_cases, FinQueue, word_total, block_size, least_block, nth, Segments, IsSegments, lies_in, Value, World, State, mark_value, mark_values, unmarked, opening, Place, Means, ListMeans, shared_place, Opening, Marks, marks_of, name_meant, with_name, IsBeginning, slots_of, blank, IsTied, AreApart, with_words, with_queues, some_at, means_append}
 use Rattle.nmgc_world_spec.specs.declared.value.Value.TheVariants as value
-use Rattle.nmgc_world_spec.specs.World.{World}
-use Rattle.nmgc_snapshot_laws.specs.State.{State, mark_value, mark_values, unmarked, opening}
-use Rattle.nmgc_heap_spec.specs.Places.{Place, Means, ListMeans, shared_place}
-use Rattle.nmgc_round.specs.View.{Opening}
-use Rattle.nmgc_round.specs.Marking.{Marks, marks_of, name_meant, with_name}
-use Rattle.nmgc_mark.specs.Beginning.{IsBeginning, slots_of}
-use Rattle.nmgc_mark.specs.Marker.{blank}
-use Rattle.nmgc_mark.specs.Tie.{IsTied, AreApart, with_words, with_queues}
-use Rattle.nmgc_mark.proofs.Words.{words_append, queues_flat}
-use Rattle.nmgc_round.specs.laws.Common.{some_at}
-use Rattle.nmgc_mark.proofs.OneMark.{mark_is}
-use Rattle.nmgc_heap_spec.specs.laws.Common.{means_append}
+use Rattle.nmgc_mark.proofs.{Words.words_append, Words.queues_flat, OneMark.mark_is}
 
 -- the name that a value refers to
 abbrev ref_in : Value → Option Name
@@ -65,13 +39,7 @@ words_mark o s [] (v ∷ vs) same h means = absurd means
 words_mark o s (w ∷ ws) [] same h means = absurd means
 words_mark o s (w ∷ ws) (v ∷ vs) same h means =
     let k = value_marks s v in
-    words_mark o (mark_value s v) ws vs (same ∙ sym k.1) h means.1
-    ∙ ap (λ (m : Marks). with_words o m ws) (k.0 ∙ ap (λ (x : World). with_name x (marks_of s) (ref_in v)) (sym same) ∙
-    sym (value_word o (marks_of s) w v h means.0))
-
-values_append : (s : State) (xs ys : List Value) → mark_values s (xs ++ ys) ≡ mark_values (mark_values s xs) ys
-values_append s [] ys = refl
-values_append s (x ∷ xs) ys = values_append (mark_value s x) xs ys
+    cc (words_mark o (mark_value s v) ws vs (same ∙ sym k.1) h means.1, k.0, same, value_word o (marks_of s) w v h means.0)
 
 -- a word that stands for a value is no pointer past the heap's words
 pub word_small : (o : Opening) (w : ℕ) (v : Value) → AreApart o.layout o.places → Means (Contains o.places) w v → (at : ℕ) → w ≡ 2 * at →
@@ -106,10 +74,7 @@ roots_mark o s epoch words registers queues h =
     (means_append (Contains o.places) registers (flat ++ slots_of words) regs (fins ++
     strong_fields S.shared) h.registers_are (means_append (Contains o.places) flat (slots_of words) fins (strong_fields S.shared) h.queues_are
     h.slots_are)) in
-    ap (λ (k : Marks). with_words o k (slots_of words)) (queues_flat o (with_words o m registers) queues)
-    ∙ sym (words_append o (with_words o m registers) flat (slots_of words))
-    ∙ sym (words_append o m registers (flat ++ slots_of words))
-    ∙ sym all
+    cc (queues_flat o (with_words o m registers) queues, words_append o (with_words o m registers) flat (slots_of words), words_append o m registers (flat ++ slots_of words), all)
 
 -- a blank marker is the machine's of which nothing but g is marked
 pub blank_tied : (o : Opening) (s : Segments) (epoch spare : ℕ) (words registers : List ℕ) (queues : List FinQueue) → IsSegments s →

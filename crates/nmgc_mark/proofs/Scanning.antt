@@ -1,29 +1,5 @@
 -- What one scan adds to a collector's view.
-use Rattle.std.proofs.Common.{ne_eqb, eq-eqb, le-leb, leb-true, ◌≡◌, inl, inr, ◌↔◌, ℕ, suc, ◌+◌, ◌<◌, ◌≤◌, Bool, true, false, not, ◌&&◌, ◌||◌, cond, eqb, leb, List, [], ◌∷◌, ◌++◌, refl, sym, ap, subst, ◌∙◌, arith, Option, Some, None, is_some, drop}
-use Rattle.std.specs.Prelude.{Contains}
-use Rattle.std.proofs.lemmas.Bool.Decides.{eqb_tells}
-use Rattle.nmgc_world_spec.specs.declared.value.Name.{Name}
-use Rattle.nmgc_world_spec.specs.declared.node.Node.{Node}
-use Rattle.nmgc_world_spec.specs.declared.node.Node.TheVariants.{Con, Var, Arr, Thunk, Weak, Stack}
-use Rattle.nmgc_world_spec.specs.World.{World, node_of}
-use Rattle.nmgc_object.specs.declared.words.Header.{Header}
-use Rattle.nmgc_object.specs.Words.{header_word, IsHeader}
-use Rattle.nmgc_object.specs.Places.{word_total}
-use Rattle.nmgc_snapshot_laws.specs.declared.event.Entry.{Entry}
-use Rattle.nmgc_snapshot_laws.specs.State.{is_listed, entry_of}
-use Rattle.nmgc_snapshot_laws.specs.Scan.{fields_of}
-use Rattle.nmgc_alloc.specs.Numbered.{Segments}
-use Rattle.nmgc_alloc.specs.Blocks.{IsMarkedAt}
-use Rattle.nmgc_heap_spec.specs.Shape.{header_of, size_of}
-use Rattle.nmgc_round.specs.View.{Opening, Seen}
-use Rattle.nmgc_round.specs.Marking.{Marks, marks_of, name_read, with_name, after_word, entry_past, first_past, is_last_word, is_thunk, offset_of}
-use Rattle.nmgc_round.specs.Ready.{CanScan, first_of, scanned_by}
-use Rattle.nmgc_round.specs.Told.{TellsEntry}
-use Rattle.nmgc_mark.specs.Seen.{MarkerSeen}
-use Rattle.nmgc_mark.specs.Tie.{AreQueued, IsTied}
-use Rattle.nmgc_mark.specs.Work.{IsScanning, entry_now, marks_seen, rest_of, with_first, fields_scanned, has_results, is_result}
-use Rattle.nmgc_round.specs.laws.Common.{folded_more}
-use Rattle.nmgc_lists.specs.laws.Truths.{or_second as or_true}
+use Rattle.nmgc_mark.proofs.Vocabulary.{ne_eqb, eq-eqb, le-leb, leb-true, ◌≡◌, inl, inr, ◌↔◌, ℕ, suc, ◌+◌, ◌<◌, ◌≤◌, Bool, true, false, not, ◌&&◌, ◌||◌, cond, eqb, leb, List, [], ◌∷◌, ◌++◌, refl, sym, ap, subst, ◌∙◌, arith, Option, Some, None, is_some, drop, Contains, eqb_tells, Name, Node, Con, Var, Arr, Thunk, Weak, Stack, World, node_of, Header, header_word, IsHeader, word_total, Entry, is_listed, entry_of, fields_of, Segments, IsMarkedAt, header_of, size_of, Opening, Seen, Marks, marks_of, name_read, with_name, after_word, entry_past, first_past, is_last_word, is_thunk, offset_of, CanScan, first_of, scanned_by, TellsEntry, MarkerSeen, AreQueued, IsTied, IsScanning, entry_now, marks_seen, rest_of, with_first, fields_scanned, has_results, is_result, folded_more, or_true}
 
 -- its word is what the view scans next
 pub can_scan : (v : Seen) (s : Segments) (marker : MarkerSeen) (at position offset : ℕ) → IsScanning v s marker at position →
@@ -114,8 +90,7 @@ module _ (v : Seen) (w : ℕ) (first : marks_seen v ≡ with_first (entry_now v)
 
   pub after_more : (node : Node) → node_of o.core.snapshot e.name ≡ Some node → is_last_word node e.position w ≡ false →
       marks_seen (scanned_by v w) ≡ with_first (record { name = e.name; position = e.position + 1 }) t
-  after_more node there more = after_node node there ∙ ap (λ (b : Bool).
-      let n : Marks = record { marked = t.marked; queue = cond b [] ((record { name = e.name; position = e.position + 1 }) ∷ []) ++ t.queue } in n) more
+  after_more node there more = cc (after_node node there, more)
 
   pub after_last : (node : Node) → node_of o.core.snapshot e.name ≡ Some node → is_last_word node e.position w ≡ true → marks_seen (scanned_by v w) ≡ t
   after_last node there last = after_node node there ∙ ap (λ (b : Bool).
@@ -137,8 +112,8 @@ goes_on v w at s new before later position h node there more tied =
         first = is ∙ sym (λ i. with_first (entry i) (rest i));
         there = subst (λ n. Contains v.opening.places (record { at = at; name = n })) (sym (ap (λ (k : Entry). k.name) entry)) h.there;
         stands = ap (λ (k : Entry). k.position) entry ∙ ap (λ n. n + 1) h.stands;
-        tied = subst (λ (m : Marks). IsTied v.opening m new later) (sym (rest ∙
-            ap (λ p. with_name v.opening.core.snapshot (rest_of (marks_seen v)) (name_read v.opening.places p w)) h.stands)) tied;
+        tied = rw (rest ∙
+            ap (λ p. with_name v.opening.core.snapshot (rest_of (marks_seen v)) (name_read v.opening.places p w)) h.stands) tied;
       },
       ap (λ (k : Entry). k.name) entry,
     )
@@ -150,8 +125,8 @@ pub ends : (v : Seen) (w at : ℕ) (s new : Segments) (before later : MarkerSeen
     → IsTied v.opening (marks_seen (scanned_by v w)) new later
 ends v w at s new before later position h node there last tied =
     let is = after_last v w h.first node there (subst (λ p. is_last_word node p w ≡ true) (sym h.stands) last) in
-    subst (λ (m : Marks). IsTied v.opening m new later) (sym (is ∙
-    ap (λ p. with_name v.opening.core.snapshot (rest_of (marks_seen v)) (name_read v.opening.places p w)) h.stands)) tied
+    rw (is ∙
+    ap (λ p. with_name v.opening.core.snapshot (rest_of (marks_seen v)) (name_read v.opening.places p w)) h.stands) tied
 
 -- the same marker, but for its queue and how often the gate was passed
 abbrev pub IsTaken : MarkerSeen → MarkerSeen → Type 0
@@ -176,15 +151,13 @@ begins v s before later at collects h e same = by_queue before.queue (marks_seen
         record {
           collects = collects;
           first = (λ i. record { marked = (marks_seen v).marked; queue = (q ∙ sym (λ j. entry j ∷ drop 1 (q j))) i });
-          there = subst (λ n. Contains v.opening.places (record { at = at; name = n })) (sym (ap (λ (k : Entry). k.name) entry)) (subst (λ n.
-              Contains v.opening.places (record { at = n; name = x.name })) b_is a.0.0);
+          there = rw (ap (λ (k : Entry). k.name) entry) (rw b_is at a.0.0);
           stands = ap (λ (k : Entry). k.position) entry ∙ a.0.1;
           tied = record {
             snapshot = h.snapshot;
             shared = h.shared;
             marks = λ p c g. subst (λ n. IsMarkedAt s n p.at ↔ Contains (marks_seen v).marked p.name) (sym epoch_is) (h.marks p c g);
-            queue = subst (λ (l : List Entry). AreQueued v.opening.places later.queue l) (sym (ap (drop 1) q)) (subst (λ (l : List ℕ).
-                AreQueued v.opening.places l xs) ats_are a.1);
+            queue = rw (ap (drop 1) q) (rw ats_are at a.1);
             count = ap (λ n. n + 1) marked_is ∙ h.count;
           };
         }

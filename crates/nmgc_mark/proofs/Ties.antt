@@ -1,28 +1,5 @@
 -- One mark at a place: the room, the count, and the marks of the machine.
-use Rattle.std.proofs.Common.{ne_eqb, eq-eqb, ◌≡◌, ◌≢◌, inl, inr, ℕ, ◌+◌, ◌*◌, ◌<◌, ◌/◌, ◌%◌, Bool, true, false, not, ◌&&◌, cond, eqb, IsTrue, List, [], ◌∷◌, ◌++◌, length, length-append, refl, sym, ap, subst, ◌∙◌, arith, Option, Some, None, is_some}
-use Rattle.std.specs.Prelude.{Contains, IsSome}
-use Rattle.std.proofs.lemmas.List.Elements.{Contains-append_left, Contains-push, Contains-push_cases}
-use Rattle.nmgc_world_spec.specs.declared.value.Name.{Name}
-use Rattle.nmgc_world_spec.specs.World.{World, node_of}
-use Rattle.nmgc_world_spec.specs.Step.{shared_name}
-use Rattle.nmgc_lists.specs.laws.Items.{contains_head, contains_tail, contains_cases}
-use Rattle.nmgc_segment.specs.Marks.{IsEpoch}
-use Rattle.nmgc_snapshot_laws.specs.declared.event.Entry.{Entry}
-use Rattle.nmgc_snapshot_laws.specs.State.{is_listed, entry_of}
-use Rattle.nmgc_snapshot_laws.specs.laws.Listed.{contains_listed, not_listed}
-use Rattle.nmgc_alloc.specs.Numbered.{Segments}
-use Rattle.nmgc_alloc.specs.Segments.{IsSegments, IsBlockAt, MarksBlock}
-use Rattle.nmgc_alloc.specs.Blocks.{MarksPlace, IsSnapshotAt, IsMarkedAt}
-use Rattle.nmgc_alloc.specs.laws.Blocks.{marks_place}
-use Rattle.nmgc_alloc.specs.laws.Keeping.{marked_stands}
-use Rattle.nmgc_heap_spec.specs.Places.{Place}
-use Rattle.nmgc_round.specs.View.{Opening}
-use Rattle.nmgc_round.specs.Marking.{Marks, name_at, name_meant, with_name}
-use Rattle.nmgc_mark.specs.Seen.{MarkerSeen}
-use Rattle.nmgc_mark.specs.Marker.{HasRoomToMark, MarksAt, HasScanned, HasMarked, StandAsBefore, noted}
-use Rattle.nmgc_mark.specs.Tie.{IsRightSnapshot, AreQueued, IsTied}
-use Rattle.nmgc_round.specs.laws.Common.{some_at, found_at}
-use Rattle.nmgc_lists.specs.laws.Truths.{never}
+use Rattle.nmgc_mark.proofs.Vocabulary.{ne_eqb, eq-eqb, ◌≡◌, ◌≢◌, inl, inr, ℕ, ◌+◌, ◌*◌, ◌<◌, ◌/◌, ◌%◌, Bool, true, false, not, ◌&&◌, cond, eqb, IsTrue, List, [], ◌∷◌, ◌++◌, length, length-append, refl, sym, ap, subst, ◌∙◌, arith, Option, Some, None, is_some, Contains, IsSome, Contains-append_left, Contains-push, Contains-push_cases, Name, World, node_of, shared_name, contains_head, contains_tail, contains_cases, IsEpoch, Entry, is_listed, entry_of, contains_listed, not_listed, Segments, IsSegments, IsBlockAt, MarksBlock, MarksPlace, IsSnapshotAt, IsMarkedAt, marks_place, marked_stands, Place, Opening, Marks, name_at, name_meant, with_name, MarkerSeen, HasRoomToMark, MarksAt, HasScanned, HasMarked, StandAsBefore, noted, IsRightSnapshot, AreQueued, IsTied, some_at, found_at, never}
 
 -- no block begins there, and nothing is marked
 no_place : (s : Segments) (epoch at : ℕ) → ((number block : ℕ) → IsBlockAt s number block at → ⊥) → MarksPlace s s epoch at false

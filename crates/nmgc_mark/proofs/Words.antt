@@ -1,15 +1,5 @@
 -- Words and places that are marked one after another.
-use Rattle.std.proofs.Common.{◌≡◌, ℕ, zero, suc, ◌+◌, ◌<◌, ◌≤◌, List, [], ◌∷◌, ◌++◌, length, map, refl, sym, ap, ◌∙◌, arith, take, drop, get_or, length-drop, append-nil}
-use Rattle.std.proofs.lemmas.List.{get_or-take, get_or-drop, length-take-le, take_more, map-append}
-use Rattle.std.proofs.lemmas.List.Concat.{flat_map-append}
-use Rattle.std.specs.List.{flat_map}
-use Rattle.nmgc_object.specs.declared.words.Address.{Address}
-use Rattle.nmgc_object.specs.FinQueue.{FinQueue}
-use Rattle.nmgc_round.specs.View.{Opening}
-use Rattle.nmgc_round.specs.Marking.{Marks, name_at, name_meant, with_name}
-use Rattle.nmgc_mark.specs.Beginning.{slots_of}
-use Rattle.nmgc_mark.specs.Marker.{places}
-use Rattle.nmgc_mark.specs.Tie.{with_places, with_words, with_queues}
+use Rattle.nmgc_mark.proofs.Vocabulary.{◌≡◌, ℕ, zero, suc, ◌+◌, ◌<◌, ◌≤◌, List, [], ◌∷◌, ◌++◌, length, map, refl, sym, ap, ◌∙◌, arith, take, drop, get_or, length-drop, get_or-take, get_or-drop, length-take-le, take_more, map-append, flat_map-append, flat_map, Address, FinQueue, Opening, Marks, name_at, name_meant, with_name, slots_of, places, with_places, with_words, with_queues, append-nil}
 
 pub places_more : (o : Opening) (m : Marks) (xs : List Address) (i : ℕ) (a : Address) → i < length xs →
     with_places o m (places (take (i + 1) xs)) ≡ with_name o.core.snapshot (with_places o m (places (take i xs))) (name_at o.places (get_or xs i a).0)
@@ -39,9 +29,7 @@ queues_flat o m (q ∷ qs) = queues_flat o (with_words o m q.words) qs ∙ sym (
 pub flat_more : {A : Type 0} (f : A → List ℕ) (xs : List A) (i : ℕ) (x : A) → i < length xs → x ≡ get_or xs i x →
     flat_map f (take (i + 1) xs) ≡ flat_map f (take i xs) ++ f x
 flat_more {A} f xs i x lt is =
-    ap (λ (l : List A). flat_map f l) (take_more xs i x lt ∙ ap (λ (y : A). take i xs ++ y ∷ []) (sym is))
-    ∙ flat_map-append f (take i xs) (x ∷ [])
-    ∙ ap (λ (l : List ℕ). flat_map f (take i xs) ++ l) (append-nil (f x))
+    cc (take_more xs i x lt, is, flat_map-append f (take i xs) (x ∷ []), append-nil (f x))
 
 last_queue : (o : Opening) (m : Marks) (qs : List FinQueue) (q : FinQueue) → with_queues o m (qs ++ q ∷ []) ≡ with_words o (with_queues o m qs) q.words
 last_queue o m [] q = refl
@@ -51,9 +39,7 @@ last_queue o m (x ∷ xs) q = last_queue o (with_words o m x.words) xs q
 pub queues_more : {A : Type 0} (f : A → FinQueue) (o : Opening) (m : Marks) (xs : List A) (i : ℕ) (x : A) → i < length xs → x ≡ get_or xs i x →
     with_queues o m (map f (take (i + 1) xs)) ≡ with_words o (with_queues o m (map f (take i xs))) (f x).words
 queues_more {A} f o m xs i x lt is =
-    ap (λ (l : List A). with_queues o m (map f l)) (take_more xs i x lt ∙ ap (λ (y : A). take i xs ++ y ∷ []) (sym is))
-    ∙ ap (λ (l : List FinQueue). with_queues o m l) (map-append f (take i xs) (x ∷ []))
-    ∙ last_queue o m (map f (take i xs)) (f x)
+    cc (take_more xs i x lt, is, map-append f (take i xs) (x ∷ []), last_queue o m (map f (take i xs)) (f x))
 
 -- a slot of g is a word of the heap
 pub slot_word : (words : List ℕ) (i : ℕ) → i < 16 → get_or (slots_of words) i 0 ≡ get_or words (3 + i) 0

@@ -1,22 +1,11 @@
 -- When marking begins: nothing is marked yet, and the roots are those of the snapshot.
 use Rattle.std.specs.Prelude.{ℕ, ◌*◌, ◌+◌, ◌/◌, List, map, take, drop, Contains, ◌≡◌, ◌↔◌}
 use Rattle.std.specs.List.{flat_map}
-use Rattle.nmgc_world_spec.specs.declared.mutator_state.MutatorState.{MutatorState}
+use Rattle.nmgc_world_spec.specs.{declared.mutator_state.MutatorState.MutatorState, World.World, World.IsWorld, Reach.strong_fields}
 use Rattle.nmgc_limits.specs.declared.mutators.TheConstants.{SHARED_SLOTS}
-use Rattle.nmgc_world_spec.specs.World.{World, IsWorld}
-use Rattle.nmgc_world_spec.specs.Reach.{strong_fields}
-use Rattle.nmgc_object.specs.FinQueue.{FinQueue}
-use Rattle.nmgc_object.specs.declared.layout.Layout.{Layout}
-use Rattle.nmgc_object.specs.declared.layout.TheConstants.{SHARED_PLACE}
-use Rattle.nmgc_object.specs.declared.size.TheConstants.{HEADER_WORDS, MIN_BLOCK_WORDS}
-use Rattle.nmgc_alloc.specs.Numbered.{Segments}
-use Rattle.nmgc_alloc.specs.Segments.{IsSegments}
-use Rattle.nmgc_alloc.specs.AllocState.{AllocState}
-use Rattle.nmgc_alloc.specs.Stands.{StandsFor}
-use Rattle.nmgc_alloc.specs.Blocks.{IsMarkedAt, IsSnapshotAt, IsUsedAt}
-use Rattle.nmgc_heap_spec.specs.Places.{Place, ListMeans, shared_place}
-use Rattle.nmgc_heap_spec.specs.Represents.{Represents, NoNode}
-use Rattle.nmgc_heap_spec.specs.Roots.{RepresentsRoots}
+use Rattle.nmgc_object.specs.{FinQueue.FinQueue, declared.layout.Layout.Layout, declared.layout.TheConstants.SHARED_PLACE, declared.size.TheConstants.HEADER_WORDS, declared.size.TheConstants.MIN_BLOCK_WORDS}
+use Rattle.nmgc_alloc.specs.{Numbered.Segments, Segments.IsSegments, AllocState.AllocState, Stands.StandsFor, Blocks.IsMarkedAt, Blocks.IsSnapshotAt, Blocks.IsUsedAt}
+use Rattle.nmgc_heap_spec.specs.{Places.Place, Places.ListMeans, Places.shared_place, Represents.Represents, Represents.NoNode, Roots.RepresentsRoots}
 use Rattle.nmgc_round.specs.View.{Opening}
 use Rattle.nmgc_blocks_spec.specs.Placed.{IsPlaceAtStop}
 use Rattle.nmgc_mark.specs.Tie.{IsRightSnapshot}

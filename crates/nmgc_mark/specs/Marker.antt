@@ -1,10 +1,7 @@
 -- What one mark does to a marker and to the segments, and what many do.
 use Rattle.std.specs.Prelude.{◌≤◌, ℕ, ◌≡◌, ◌+◌, ◌-◌, Bool, List, [], ◌∷◌, ◌++◌, length, map, if◌then◌else◌, Contains}
 use Rattle.nmgc_object.specs.declared.words.Address.{Address}
-use Rattle.nmgc_alloc.specs.Numbered.{Segments}
-use Rattle.nmgc_alloc.specs.AllocState.{AllocState}
-use Rattle.nmgc_alloc.specs.Stands.{StandsFor}
-use Rattle.nmgc_alloc.specs.Blocks.{MarksPlace, IsSnapshotAt, IsMarkedAt}
+use Rattle.nmgc_alloc.specs.{Numbered.Segments, AllocState.AllocState, Stands.StandsFor, Blocks.MarksPlace, Blocks.IsSnapshotAt, Blocks.IsMarkedAt}
 use Rattle.nmgc_mark.specs.Seen.{MarkerSeen}
 
 -- the words at which addresses point

@@ -1,13 +1,8 @@
 -- Scanning at a stop: the collector goes on alone. What it does is a round in which no mutator does anything.
 use Rattle.std.specs.Prelude.{ℕ, ◌≡◌, ◌∷◌, true, List, []}
 use Rattle.nmgc_alloc.specs.Numbered.{Segments}
-use Rattle.nmgc_round.specs.Events.{Happening, did, scanned, IsLegal}
-use Rattle.nmgc_round.specs.View.{Opening, Seen}
-use Rattle.nmgc_round.specs.Marking.{marks_of}
-use Rattle.nmgc_round.specs.Rule.{Keeps, now}
-use Rattle.nmgc_round.specs.Starting.{CanOpen}
-use Rattle.nmgc_mark.specs.Seen.{MarkerSeen}
-use Rattle.nmgc_mark.specs.Tie.{IsTied}
+use Rattle.nmgc_round.specs.{Events.Happening, Events.did, Events.scanned, Events.IsLegal, View.Opening, View.Seen, Marking.marks_of, Rule.Keeps, Rule.now, Starting.CanOpen}
+use Rattle.nmgc_mark.specs.{Seen.MarkerSeen, Tie.IsTied}
 
 -- the events are scans alone
 abbrev pub AreScans : List Happening → Type 0

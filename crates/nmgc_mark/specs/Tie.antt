@@ -3,19 +3,12 @@
 -- An opening is a core state with the places in use, at a stop as well as in a round. The marks are those of
 -- that state, or those that the collector's scans have made of them. A marker knows blocks by their places.
 use Rattle.std.specs.Prelude.{ℕ, ◌≡◌, ◌+◌, ◌≤◌, ◌⊎◌, ◌↔◌, List, [], ◌∷◌, length, Contains, IsSome}
-use Rattle.nmgc_world_spec.specs.declared.value.Name.{Name}
-use Rattle.nmgc_world_spec.specs.World.{node_of}
-use Rattle.nmgc_world_spec.specs.Step.{shared_name}
-use Rattle.nmgc_object.specs.Places.{word_total}
-use Rattle.nmgc_object.specs.FinQueue.{FinQueue}
-use Rattle.nmgc_object.specs.declared.layout.Layout.{Layout}
-use Rattle.nmgc_object.specs.declared.size.TheConstants.{HEADER_WORDS}
+use Rattle.nmgc_world_spec.specs.{declared.value.Name.Name, World.node_of, Step.shared_name}
+use Rattle.nmgc_object.specs.{Places.word_total, FinQueue.FinQueue, declared.layout.Layout.Layout, declared.size.TheConstants.HEADER_WORDS}
 use Rattle.nmgc_snapshot_laws.specs.declared.event.Entry.{Entry}
-use Rattle.nmgc_alloc.specs.Numbered.{Segments}
-use Rattle.nmgc_alloc.specs.Blocks.{IsSnapshotAt, IsMarkedAt}
+use Rattle.nmgc_alloc.specs.{Numbered.Segments, Blocks.IsSnapshotAt, Blocks.IsMarkedAt}
 use Rattle.nmgc_heap_spec.specs.Places.{Place}
-use Rattle.nmgc_round.specs.View.{Opening}
-use Rattle.nmgc_round.specs.Marking.{Marks, with_name, name_at, name_meant}
+use Rattle.nmgc_round.specs.{View.Opening, Marking.Marks, Marking.with_name, Marking.name_at, Marking.name_meant}
 use Rattle.nmgc_mark.specs.Seen.{MarkerSeen}
 
 -- no two places share a word or a name, and at each there is room for a header and a name within the heap's words

@@ -4,14 +4,8 @@ use Rattle.nmgc_world_spec.specs.declared.node.Kind.{Kind}
 use Rattle.nmgc_world_spec.specs.declared.node.Kind.TheVariants as kind
 use Rattle.nmgc_snapshot_laws.specs.declared.event.Entry.{Entry}
 use Rattle.nmgc_alloc.specs.Numbered.{Segments}
-use Rattle.nmgc_round.specs.declared.table.Round.{Round}
-use Rattle.nmgc_round.specs.View.{Seen, Scan}
-use Rattle.nmgc_round.specs.Marking.{Marks, marks_after}
-use Rattle.nmgc_round.specs.Ready.{first_of}
-use Rattle.nmgc_round.specs.Seat.{RoundSeat, IsAt, seen}
-use Rattle.nmgc_mark.specs.Seen.{MarkerSeen}
-use Rattle.nmgc_mark.specs.Marker.{HasMarked}
-use Rattle.nmgc_mark.specs.Tie.{IsTied}
+use Rattle.nmgc_round.specs.{declared.table.Round.Round, View.Seen, View.Scan, Marking.Marks, Marking.marks_after, Ready.first_of, Seat.RoundSeat, Seat.IsAt, Seat.seen}
+use Rattle.nmgc_mark.specs.{Seen.MarkerSeen, Marker.HasMarked, Tie.IsTied}
 
 -- the marks that a collector's view gives
 abbrev pub marks_seen : Seen → Marks

@@ -1,8 +1,7 @@
 //! Scanning at a stop, where the mutators stand still: until nothing waits, by plain loads (`scan`).
 ghost use Rattle.std.specs.Prelude.{ℕ, ◌≡◌, []};
 ghost use Rattle.nmgc_round.specs.View.{Opening};
-ghost use Rattle.nmgc_mark.specs.Marker.{HasRoomToMark, HasMarked};
-ghost use Rattle.nmgc_mark.specs.Stopped.{IsReady, HasFinished};
+ghost use Rattle.nmgc_mark.specs.{Marker.HasRoomToMark, Marker.HasMarked, Stopped.IsReady, Stopped.HasFinished};
 
 use crate::marker::Marker;
 use crate::scan::AtStop;

@@ -1,25 +1,12 @@
 //! The marker against the core machine: each function does nothing, and its contract is the law.
 ghost use Rattle.std.specs.Prelude.{◌≡◌, ℕ, [], List, Contains, IsSome, true};
-ghost use Rattle.nmgc_world_spec.specs.declared.value.Name.{Name};
-ghost use Rattle.nmgc_world_spec.specs.Step.{shared_name};
-ghost use Rattle.nmgc_world_spec.specs.World.{node_of};
-ghost use Rattle.nmgc_world_spec.specs.Reach.{IsReached, IsRoot};
+ghost use Rattle.nmgc_world_spec.specs.{declared.value.Name.Name, Step.shared_name, World.node_of, Reach.IsReached, Reach.IsRoot};
 ghost use Rattle.nmgc_object.specs.FinQueue.{FinQueue};
-ghost use Rattle.nmgc_snapshot_laws.specs.Facts.{Facts};
-ghost use Rattle.nmgc_snapshot_laws.specs.State.{State as Core, names_of};
-ghost use Rattle.nmgc_alloc.specs.Numbered.{Segments};
-ghost use Rattle.nmgc_alloc.specs.Segments.{IsSegments};
+ghost use Rattle.nmgc_snapshot_laws.specs.{Facts.Facts, State.State as Core, State.names_of};
+ghost use Rattle.nmgc_alloc.specs.{Numbered.Segments, Segments.IsSegments};
 ghost use Rattle.nmgc_heap_spec.specs.Places.{Place};
-ghost use Rattle.nmgc_round.specs.View.{Opening, Seen, whole};
-ghost use Rattle.nmgc_round.specs.Seating.{collecting};
-ghost use Rattle.nmgc_round.specs.Marking.{Marks, marks_of};
-ghost use Rattle.nmgc_round.specs.Rule.{now};
-ghost use Rattle.nmgc_round.specs.Finishing.{IsFinished};
-ghost use Rattle.nmgc_mark.specs.Marker.{HasRoomToMark, blank};
-ghost use Rattle.nmgc_mark.specs.Seen.{MarkerSeen};
-ghost use Rattle.nmgc_mark.specs.Beginning.{IsBeginning, IsPrepared, most_blocks};
-ghost use Rattle.nmgc_mark.specs.Tie.{IsRightSnapshot, IsTied};
-ghost use Rattle.nmgc_mark.specs.Work.{marks_seen};
+ghost use Rattle.nmgc_round.specs.{View.Opening, View.Seen, View.whole, Seating.collecting, Marking.Marks, Marking.marks_of, Rule.now, Finishing.IsFinished};
+ghost use Rattle.nmgc_mark.specs.{Marker.HasRoomToMark, Marker.blank, Seen.MarkerSeen, Beginning.IsBeginning, Beginning.IsPrepared, Beginning.most_blocks, Tie.IsRightSnapshot, Tie.IsTied, Work.marks_seen};
 
 /// A heap at a stop whose segments were just prepared is one with which marking begins.
 pub fn prepared_heaps_begin()

@@ -10,15 +10,10 @@ ghost use Rattle.std.specs.Prelude.{ℕ, ◌≡◌, ◌+◌, ◌-◌, ◌*◌, �
 ghost use Rattle.std.specs.List.{flat_map};
 ghost use Rattle.nmgc_segment.specs.Marks.{IsEpoch};
 ghost use Rattle.nmgc_alloc.specs.Segments.{IsBlockAt};
-ghost use Rattle.nmgc_object.specs.declared.layout.TheConstants.{FIRST_PLACE};
-ghost use Rattle.nmgc_object.specs.Places.{IsLayout};
+ghost use Rattle.nmgc_object.specs.{declared.layout.TheConstants.FIRST_PLACE, Places.IsLayout};
 ghost use Rattle.nmgc_snapshot_laws.specs.State.{opening};
-ghost use Rattle.nmgc_round.specs.View.{Opening};
-ghost use Rattle.nmgc_round.specs.Marking.{Marks, marks_of, with_name, name_at, name_meant};
-ghost use Rattle.nmgc_round.specs.Seat.{IsAt, Knows, seen};
-ghost use Rattle.nmgc_mark.specs.Marker.{HasRoomToMark, MarksAt, HasMarked, places, blank};
-ghost use Rattle.nmgc_mark.specs.Beginning.{IsBeginning, slots_of, queue_words, most_blocks};
-ghost use Rattle.nmgc_mark.specs.Tie.{IsTied, with_places, with_words, with_queues};
+ghost use Rattle.nmgc_round.specs.{View.Opening, Marking.Marks, Marking.marks_of, Marking.with_name, Marking.name_at, Marking.name_meant, Seat.IsAt, Seat.Knows, Seat.seen};
+ghost use Rattle.nmgc_mark.specs.{Marker.HasRoomToMark, Marker.MarksAt, Marker.HasMarked, Marker.places, Marker.blank, Beginning.IsBeginning, Beginning.slots_of, Beginning.queue_words, Beginning.most_blocks, Tie.IsTied, Tie.with_places, Tie.with_words, Tie.with_queues};
 
 use nmgc_alloc::Segments;
 use nmgc_heap_spec::{HeapWords, MutatorRoots};
@@ -54,8 +49,7 @@ pub struct Marker {
 impl Model for Marker {
     ghost use Rattle.std.specs.Prelude.{◌-◌, ◌+◌, ◌≤◌, drop, length};
     ghost use Rattle.nmgc_segment.specs.Marks.{IsEpoch};
-    ghost use Rattle.nmgc_mark.specs.Seen.{MarkerSeen};
-    ghost use Rattle.nmgc_mark.specs.Marker.{places};
+    ghost use Rattle.nmgc_mark.specs.{Seen.MarkerSeen, Marker.places};
 
     ghost Value = { MarkerSeen };
 

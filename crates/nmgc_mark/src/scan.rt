@@ -9,15 +9,9 @@
 //! Easy to get wrong: a thunk's result is its first field, and where it was set, nothing else of the thunk is scanned. So
 //! that field is scanned before the loop, and in all others no result is looked for.
 ghost use Rattle.std.specs.Prelude.{◌≡◌, ◌+◌, ◌<◌};
-ghost use Rattle.nmgc_object.specs.Places.{word_total};
-ghost use Rattle.nmgc_object.specs.declared.size.TheConstants.{HEADER_WORDS};
-ghost use Rattle.nmgc_round.specs.Marking.{with_name, name_meant};
-ghost use Rattle.nmgc_round.specs.Ready.{CanScan, scanned_by};
-ghost use Rattle.nmgc_round.specs.Told.{TellsScan};
-ghost use Rattle.nmgc_round.specs.View.{Seen};
-ghost use Rattle.nmgc_mark.specs.Marker.{HasRoomToMark, HasMarked};
-ghost use Rattle.nmgc_mark.specs.Stopped.{WordsShow};
-ghost use Rattle.nmgc_mark.specs.Tie.{IsTied};
+ghost use Rattle.nmgc_object.specs.{Places.word_total, declared.size.TheConstants.HEADER_WORDS};
+ghost use Rattle.nmgc_round.specs.{Marking.with_name, Marking.name_meant, Ready.CanScan, Ready.scanned_by, Told.TellsScan, View.Seen};
+ghost use Rattle.nmgc_mark.specs.{Marker.HasRoomToMark, Marker.HasMarked, Stopped.WordsShow, Tie.IsTied};
 ghost use Rattle.nmgc_mark.specs.Work.{IsScanning, IsDone, SeatShows, marks_seen, rest_of, fields_scanned, has_results};
 
 use crate::marker::Marker;

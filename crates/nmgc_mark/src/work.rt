@@ -12,12 +12,9 @@
 //! Easy to get wrong: whether anything is left is told by the queue on return, and not by the quota: a round that
 //! scans its whole quota may leave nothing.
 ghost use Rattle.std.specs.Prelude.{◌≡◌, ◌<◌, ◌≤◌, [], ◌↔◌, IsTrue, length};
-ghost use Rattle.nmgc_round.specs.Gate.{next_turn, passed};
-ghost use Rattle.nmgc_round.specs.Seat.{seen};
-ghost use Rattle.nmgc_mark.specs.Marker.{HasRoomToMark, turned};
+ghost use Rattle.nmgc_round.specs.{Gate.next_turn, Gate.passed, Seat.seen};
+ghost use Rattle.nmgc_mark.specs.{Marker.HasRoomToMark, Marker.turned, Tie.IsTied, Work.IsCollector, Work.HasWorked, Work.marks_seen};
 ghost use Rattle.nmgc_updrem.specs.Rings.{HavePolled};
-ghost use Rattle.nmgc_mark.specs.Tie.{IsTied};
-ghost use Rattle.nmgc_mark.specs.Work.{IsCollector, HasWorked, marks_seen};
 
 use crate::marker::{Marker, Work};
 use nmgc_alloc::Segments;

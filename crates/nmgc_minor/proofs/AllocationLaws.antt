@@ -1,38 +1,7 @@
 -- The final words show the allocation state once the promoted names were placed.
-use Rattle.std.proofs.Common.{◌≡◌, ◌≢◌, ◌<◌, ◌+◌, ◌⊎◌, ℕ, List, [], ◌∷◌, length, map, set, inl, inr, refl, sym, ap, subst, ◌∙◌, arith, Some, None}
-use Rattle.std.specs.Prelude.{Contains, slice_index}
-use Rattle.std.proofs.Math.ListN.{length-set}
-use Rattle.std.proofs.lemmas.Bool.{cases_eq, cases_lt}
-use Rattle.std.proofs.lemmas.List.{get_or_past, get_or-set_same, get_or-set_other}
-use Rattle.nmgc_world_spec.specs.declared.value.Name.{Name}
-use Rattle.nmgc_world_spec.specs.World.{World, node_of, IsWorld}
-use Rattle.nmgc_lists.specs.laws.Items.{contains_head, contains_tail, contains_cases, contains_map as map_in, map_contains as map_from}
-use Rattle.nmgc_object.specs.Words.{header_word, name_word, IsHeader, IsName}
-use Rattle.nmgc_object.specs.Size.{block_size}
-use Rattle.nmgc_object.specs.Places.{nursery_place}
-use Rattle.nmgc_object.specs.declared.words.Header.{Header}
-use Rattle.nmgc_object.specs.declared.layout.Layout.{Layout}
+use Rattle.nmgc_minor.proofs.Vocabulary.{◌≡◌, ◌≢◌, ◌<◌, ◌+◌, ◌⊎◌, ℕ, List, [], ◌∷◌, length, map, set, inl, inr, refl, sym, ap, subst, ◌∙◌, arith, Some, None, Contains, length-set, cases_eq, cases_lt, get_or_past, get_or-set_same, get_or-set_other, Name, World, node_of, IsWorld, contains_head, contains_tail, contains_cases, map_in, map_from, header_word, name_word, IsHeader, IsName, block_size, nursery_place, Header, Layout, nth, Segments, HasNumber, block_place, IsSegments, AllocState, Cells, name_in, cells, Shows, StandsFor, header_of, Place, Represents, NoNode, Moved, Moves, StillSpoken, IsOccupied, AreBlocks, PlacesEach, is_block, stands, Move, Inputs, HasInputs, PlacesMoves, with_names, moved_of, forward_word, Promotes, slice_index}
 use Rattle.nmgc_segment.specs.declared.state.State.TheVariants as stands
-use Rattle.nmgc_alloc.specs.Numbered.{nth, Segments, HasNumber, block_place}
-use Rattle.nmgc_alloc.specs.Segments.{IsSegments}
-use Rattle.nmgc_alloc.specs.AllocState.{AllocState, Cells, name_in, cells}
-use Rattle.nmgc_alloc.specs.Stands.{Shows, StandsFor}
-use Rattle.nmgc_heap_spec.specs.Shape.{header_of}
-use Rattle.nmgc_heap_spec.specs.Places.{Place}
-use Rattle.nmgc_heap_spec.specs.Represents.{Represents, NoNode}
-use Rattle.nmgc_heap_spec.specs.Moves.{Moved, Moves, StillSpoken}
-use Rattle.nmgc_blocks_spec.specs.Occupied.{IsOccupied, AreBlocks}
-use Rattle.nmgc_blocks_spec.specs.Promoted.{PlacesEach}
-use Rattle.nmgc_blocks_spec.specs.laws.Blocks.{is_block}
-use Rattle.nmgc_blocks_spec.specs.laws.Fields.{stands}
-use Rattle.nmgc_minor.specs.declared.placing.Move.{Move}
-use Rattle.nmgc_minor.specs.Inputs.{Inputs, HasInputs}
-use Rattle.nmgc_minor.specs.Placing.{PlacesEach as PlacesMoves, with_names, moved_of}
-use Rattle.nmgc_minor.specs.Forwarding.{forward_word}
-use Rattle.nmgc_minor.specs.Promotes.{Promotes}
-use Rattle.nmgc_minor.proofs.FoundLaws.{node_at, found_tracked}
-use Rattle.nmgc_minor.proofs.PlacingLaws.{names_length}
-use Rattle.nmgc_minor.proofs.Final.{names_are, found_young, promotes_moves}
+use Rattle.nmgc_minor.proofs.{FoundLaws.node_at, FoundLaws.found_tracked, PlacingLaws.names_length, Final.names_are, Final.found_young, Final.promotes_moves}
 
 -- words in which the new blocks have their names: what other words hold, and what these hold
 with_names_other : (moves : List Move) (words : List ℕ) (i : ℕ) → ((m : Move) → Contains moves m → i ≢ m.to.0 + 1) →
@@ -120,8 +89,7 @@ module _ (layout : Layout) (base : ℕ) (later earlier : List World) (places : L
             let x = map_from moved_of moves d.0 d.1 in
             let to : at ≡ x.0.to.0 = sym d.2 ∙ ap (λ (k : Moved). k.to) x.2 in
             let named = p.named x.0 x.1 in
-            let word : slice_index new (at + 1) ≡ name_word x.0.name = ap (λ (k : ℕ). slice_index new (k + 1)) to ∙
-            moved.named (moved_of x.0) (map_in moved_of moves x.0 x.1) ∙ named.1 in
+            let word : slice_index new (at + 1) ≡ name_word x.0.name = cc (to, moved.named (moved_of x.0) (map_in moved_of moves x.0 x.1), named.1) in
             let all : (y : Move) → Contains moves y → at + 1 ≡ y.to.0 + 1 → name_word y.name ≡ name_word x.0.name = λ y c e.
             let one : moved_of y ≡ moved_of x.0 =
             p.placing.once (moved_of y) (moved_of x.0) (map_in moved_of moves y c) (map_in moved_of moves x.0 x.1) (omega (arith, e, to)) in

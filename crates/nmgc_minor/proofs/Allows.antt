@@ -1,37 +1,6 @@
 -- A world whose nurseries are used up to their tops can be promoted.
-use Rattle.std.proofs.Common.{◌≡◌, ◌<◌, ◌≤◌, ◌+◌, ◌-◌, ◌*◌, ◌⊎◌, ℕ, List, length, inl, inr, sym, ap, subst, ◌∙◌, arith}
-use Rattle.std.specs.Prelude.{Contains, slice_index}
-use Rattle.std.proofs.Math.Nat.{mul-le-mul_right}
-use Rattle.std.proofs.lemmas.Bool.{cases_eq}
-use Rattle.std.proofs.lemmas.Option.{slice_get_within}
-use Rattle.nmgc_limits.specs.declared.mutators.TheConstants.{SHARED_SLOTS}
-use Rattle.nmgc_world_spec.specs.declared.node.Node.{Node}
-use Rattle.nmgc_world_spec.specs.declared.node.Node.TheVariants.{Con, Var, Arr, Thunk, Weak, Stack}
-use Rattle.nmgc_world_spec.specs.World.{World, node_of, IsNodeOf, IsShared, IsWorld}
-use Rattle.nmgc_lists.specs.laws.Items.{at_some}
-use Rattle.nmgc_object.specs.Words.{header_word, IsHeader}
-use Rattle.nmgc_object.specs.Places.{InNursery, nursery_place}
-use Rattle.nmgc_object.specs.declared.words.Header.{Header}
-use Rattle.nmgc_object.specs.declared.layout.Layout.{Layout}
-use Rattle.nmgc_object.specs.declared.layout.Nursery.{Nursery}
-use Rattle.nmgc_object.specs.declared.size.TheConstants.{HEADER_WORDS}
-use Rattle.nmgc_alloc.specs.Numbered.{Segments}
-use Rattle.nmgc_alloc.specs.Segments.{IsSegments}
-use Rattle.nmgc_alloc.specs.Reserve.{KeepsReserve}
-use Rattle.nmgc_heap_spec.specs.Shape.{header_of, size_of, slots_of}
-use Rattle.nmgc_heap_spec.specs.Places.{Place}
-use Rattle.nmgc_heap_spec.specs.Represents.{Represents, NoNode}
-use Rattle.nmgc_heap_spec.specs.Moves.{StillSpoken}
-use Rattle.nmgc_heap_spec.specs.laws.Slots.{slot_count}
-use Rattle.nmgc_blocks_spec.specs.laws.Fields.{stands}
-use Rattle.nmgc_minor.specs.declared.young.Young.{Young}
-use Rattle.nmgc_minor.specs.Inputs.{Inputs, HasInputs}
-use Rattle.nmgc_minor.specs.Found.{IsStart, IsFound}
-use Rattle.nmgc_blocks_spec.specs.Nurseries.{AreUsed, AreEmpty, nursery_at}
-use Rattle.nmgc_minor.specs.Placing.{AreNurseries, CanPlaceEach, IsMarked}
-use Rattle.nmgc_minor.specs.Promotes.{CanPromoteWith}
-use Rattle.nmgc_minor.proofs.FoundLaws.{in_nursery, node_at, found_tracked, is_shared_node}
-use Rattle.nmgc_minor.proofs.Conditions.{starts_within, found_can, can_place_all, same_nursery}
+use Rattle.nmgc_minor.proofs.Vocabulary.{◌≡◌, ◌<◌, ◌≤◌, ◌+◌, ◌-◌, ◌*◌, ◌⊎◌, ℕ, List, length, inl, inr, sym, ap, subst, ◌∙◌, arith, Contains, mul-le-mul_right, cases_eq, slice_get_within, SHARED_SLOTS, Node, Con, Var, Arr, Thunk, Weak, Stack, World, node_of, IsNodeOf, IsShared, IsWorld, at_some, header_word, IsHeader, InNursery, nursery_place, Header, Layout, Nursery, HEADER_WORDS, Segments, IsSegments, KeepsReserve, header_of, size_of, slots_of, Place, Represents, NoNode, StillSpoken, slot_count, stands, Young, Inputs, HasInputs, IsStart, IsFound, AreUsed, AreEmpty, nursery_at, AreNurseries, CanPlaceEach, IsMarked, CanPromoteWith, slice_index}
+use Rattle.nmgc_minor.proofs.{FoundLaws.in_nursery, FoundLaws.node_at, FoundLaws.found_tracked, FoundLaws.is_shared_node, Conditions.starts_within, Conditions.found_can, Conditions.can_place_all, Conditions.same_nursery}
 
 module _ (layout : Layout) (base : ℕ) (later earlier : List World) (places : List Place) (w : World) (words : List ℕ) (inputs : Inputs)
     (s : Segments) (nurseries : List Nursery)
@@ -59,7 +28,7 @@ module _ (layout : Layout) (base : ℕ) (later earlier : List World) (places : L
 
   all_found : (y : Young) (table : List ℕ) → y.base ≡ base → ((at : ℕ) → y.base ≤ at → IsMarked y.base table at →
       IsFound y.base words (IsStart inputs words) at) → (at : ℕ) → base ≤ at → IsMarked base table at → IsFound base words (IsStart inputs words) at
-  all_found y table e marked at l k = subst (λ (b : ℕ). IsFound b words (IsStart inputs words) at) e (marked at (omega (
+  all_found y table e marked at l k = rw e at (marked at (omega (
     arith,
     e,
     l,
@@ -182,14 +151,11 @@ module _ (layout : Layout) (base : ℕ) (later earlier : List World) (places : L
         recorded = λ at c. let l = recorded_low at c in omega (arith, l, e);
         weaks = weak_inside;
         within = starts_within layout base later earlier places w words inputs differ world spoken emptied r m y e count;
-        can = λ at f. found_can layout base later earlier places w words inputs differ world spoken emptied r m y e count at (subst (λ (b : ℕ).
-            IsFound b words (IsStart inputs words) at) e f);
+        can = λ at f. found_can layout base later earlier places w words inputs differ world spoken emptied r m y e count at (rw e at f);
         parts = λ table length_is marked.
             let found = all_found y table e marked in (
-              subst (λ (l : Layout). AreNurseries l y.base table nurseries) (sym same) (subst (λ (b : ℕ).
-                  AreNurseries layout b table nurseries) (sym e) (are_nurseries table (length_is ∙ count) found)),
-              subst (λ (l : Layout). CanPlaceEach l words table y.base nurseries) (sym same) (subst (λ (b : ℕ).
-                  CanPlaceEach layout words table b nurseries) (sym e) (can_place table found)),
+              rw same (rw e (are_nurseries table (length_is ∙ count) found)),
+              rw same (rw e (can_place table found)),
             );
         reserve = reserve;
       }

@@ -1,37 +1,6 @@
 -- What the three passes leave is that objects moved.
-use Rattle.std.proofs.Common.{◌≡◌, ◌≢◌, ◌<◌, ◌≤◌, ◌+◌, ◌-◌, ℕ, List, inl, inr, sym, ap, subst, ◌∙◌, arith, ◌⊎◌, Some}
-use Rattle.std.specs.Prelude.{Contains, slice_index}
-use Rattle.std.proofs.lemmas.Bool.{cases_lt}
-use Rattle.std.proofs.lemmas.Option.{slice_get_within}
-use Rattle.nmgc_limits.specs.declared.mutators.TheConstants.{SHARED_MAKER, SHARED_SLOTS}
-use Rattle.nmgc_world_spec.specs.declared.value.Name.{Name}
-use Rattle.nmgc_world_spec.specs.declared.node.Node.{Node}
-use Rattle.nmgc_world_spec.specs.declared.node.Node.TheVariants.{Con, Var, Arr, Thunk, Weak, Stack}
-use Rattle.nmgc_world_spec.specs.World.{World, node_of, IsNodeOf, IsShared, IsWorld}
-use Rattle.nmgc_lists.specs.laws.Items.{contains_tail, at_some, is_some_of}
-use Rattle.nmgc_object.specs.Words.{header_word, IsHeader}
-use Rattle.nmgc_object.specs.Places.{InSegment, nursery_place}
-use Rattle.nmgc_object.specs.declared.words.Header.{Header}
-use Rattle.nmgc_object.specs.declared.layout.Layout.{Layout}
-use Rattle.nmgc_object.specs.declared.layout.TheConstants.{FIRST_PLACE}
-use Rattle.nmgc_object.specs.declared.size.TheConstants.{HEADER_WORDS}
-use Rattle.nmgc_alloc.specs.Numbered.{Segments}
-use Rattle.nmgc_alloc.specs.Segments.{IsSegments}
-use Rattle.nmgc_heap_spec.specs.Shape.{header_of, size_of, slots_of}
-use Rattle.nmgc_heap_spec.specs.Tracked.{IsTracked}
-use Rattle.nmgc_heap_spec.specs.Places.{Place, IsBetween}
-use Rattle.nmgc_heap_spec.specs.Represents.{Represents, NoNode}
-use Rattle.nmgc_heap_spec.specs.Moves.{Moved, Moves, KeepsObject, Forwards, StillSpoken, new_place, old_place, settled}
-use Rattle.nmgc_heap_spec.specs.laws.Changes.{not_between}
-use Rattle.nmgc_heap_spec.specs.laws.Slots.{slot_count}
-use Rattle.nmgc_heap_spec.specs.laws.Tracking.{tracked_more}
-use Rattle.nmgc_blocks_spec.specs.laws.Fields.{stands}
-use Rattle.nmgc_heap_spec.specs.laws.Moving.{settled_cases, settled_stays, settled_comes}
-use Rattle.nmgc_minor.specs.Inputs.{Inputs, HasInputs}
-use Rattle.nmgc_blocks_spec.specs.Occupied.{IsOccupied, AreBlocks}
-use Rattle.nmgc_minor.specs.Placing.{HasHeaderWord, IsPlacing, IsSharedSlot, IsOutside, Rewrites}
+use Rattle.nmgc_minor.proofs.Vocabulary.{◌≡◌, ◌≢◌, ◌<◌, ◌≤◌, ◌+◌, ◌-◌, ℕ, List, inl, inr, sym, ap, subst, ◌∙◌, arith, ◌⊎◌, Some, Contains, cases_lt, slice_get_within, SHARED_MAKER, SHARED_SLOTS, Name, Node, Con, Var, Arr, Thunk, Weak, Stack, World, node_of, IsNodeOf, IsShared, IsWorld, contains_tail, at_some, is_some_of, header_word, IsHeader, InSegment, nursery_place, Header, Layout, FIRST_PLACE, HEADER_WORDS, Segments, IsSegments, header_of, size_of, slots_of, IsTracked, Place, IsBetween, Represents, NoNode, Moved, Moves, KeepsObject, Forwards, StillSpoken, new_place, old_place, settled, not_between, slot_count, tracked_more, stands, settled_cases, settled_stays, settled_comes, Inputs, HasInputs, IsOccupied, AreBlocks, HasHeaderWord, IsPlacing, IsSharedSlot, IsOutside, Rewrites, occupied_in, is_block, occupied_apart, slice_index}
 use Rattle.nmgc_minor.proofs.FoundLaws.{is_shared_node}
-use Rattle.nmgc_blocks_spec.specs.laws.Blocks.{occupied_in, is_block, occupied_apart}
 
 module _ (layout : Layout) (base : ℕ) (later earlier : List World) (places : List Place) (w : World) (old new : List ℕ) (inputs : Inputs)
     (s0 s : Segments) (moves : List Moved) (forward : ℕ → ℕ)
@@ -249,10 +218,7 @@ module _ (layout : Layout) (base : ℕ) (later earlier : List World) (places : L
           (p.0, settled_stays base moves places (record { at = at; name = p.0 }) p.1 (omega (arith, b.below, b.four)))
       | inr moved ↦ (
         moved.0.name,
-        subst (λ (k : ℕ). Contains (settled base moves places) (record {
-          at = k;
-          name = moved.0.name;
-        })) moved.2 (settled_comes base moves places moved.0 moved.1),
+        rw moved.2 at (settled_comes base moves places moved.0 moved.1),
       )
     ];
   }

@@ -1,29 +1,13 @@
 -- The world gives what the passes ask of the words.
-use Rattle.std.proofs.Common.{◌≡◌, ◌<◌, ◌≤◌, ◌+◌, ◌-◌, ◌*◌, ℕ, List, length, inl, inr, sym, ap, subst, ◌∙◌, arith, Some}
+use Rattle.std.proofs.{Common.◌≡◌, Common.◌<◌, Common.◌≤◌, Common.◌+◌, Common.◌-◌, Common.◌*◌, Common.ℕ, Common.List, Common.length, Common.inl, Common.inr, Common.sym, Common.ap, Common.subst, Common.◌∙◌, Common.arith, Common.Some, Math.Nat.mul-le-mul_right, lemmas.Bool.cases_order}
 use Rattle.std.specs.Prelude.{Contains}
-use Rattle.std.proofs.Math.Nat.{mul-le-mul_right}
-use Rattle.std.proofs.lemmas.Bool.{cases_order}
-use Rattle.nmgc_world_spec.specs.declared.value.Name.{Name}
-use Rattle.nmgc_world_spec.specs.declared.node.Node.{Node}
-use Rattle.nmgc_world_spec.specs.World.{World, node_of, IsWorld}
-use Rattle.nmgc_object.specs.Words.{header_word, IsHeader}
-use Rattle.nmgc_object.specs.Places.{InNursery, nursery_place}
-use Rattle.nmgc_object.specs.declared.words.Header.{Header}
-use Rattle.nmgc_object.specs.declared.layout.Layout.{Layout}
-use Rattle.nmgc_object.specs.declared.size.TheConstants.{HEADER_WORDS}
-use Rattle.nmgc_heap_spec.specs.Shape.{header_of, size_of}
-use Rattle.nmgc_heap_spec.specs.Tracked.{IsTracked}
-use Rattle.nmgc_heap_spec.specs.Places.{Place, LiesInNursery}
-use Rattle.nmgc_heap_spec.specs.Represents.{Represents, NoNode}
-use Rattle.nmgc_heap_spec.specs.Moves.{StillSpoken}
-use Rattle.nmgc_blocks_spec.specs.Strong.{HasStrong}
-use Rattle.nmgc_blocks_spec.specs.laws.Fields.{stands, field_in}
-use Rattle.nmgc_minor.specs.declared.young.Young.{Young}
-use Rattle.nmgc_minor.specs.Inputs.{Inputs, HasInputs}
-use Rattle.nmgc_minor.specs.Found.{IsStart, IsFound}
-use Rattle.nmgc_minor.specs.Young.{IsWithin, HasHeader, CanFollow}
-use Rattle.nmgc_minor.specs.Placing.{CanPlaceAll, IsMarked}
+use Rattle.nmgc_world_spec.specs.{declared.value.Name.Name, declared.node.Node.Node, World.World, World.node_of, World.IsWorld}
+use Rattle.nmgc_object.specs.{Words.header_word, Words.IsHeader, Places.InNursery, Places.nursery_place, declared.words.Header.Header, declared.layout.Layout.Layout, declared.size.TheConstants.HEADER_WORDS}
+use Rattle.nmgc_heap_spec.specs.{Shape.header_of, Shape.size_of, Tracked.IsTracked, Places.Place, Places.LiesInNursery, Represents.Represents, Represents.NoNode, Moves.StillSpoken}
+use Rattle.nmgc_blocks_spec.specs.{Strong.HasStrong, Strong.HasHeader, laws.Fields.stands, laws.Fields.field_in}
+use Rattle.nmgc_minor.specs.{declared.young.Young.Young, Inputs.Inputs, Inputs.HasInputs, Found.IsStart, Found.IsFound, Young.IsWithin, Young.CanFollow, Placing.CanPlaceAll, Placing.IsMarked}
 use Rattle.nmgc_minor.proofs.FoundLaws.{in_nursery, node_at, started, found_tracked}
+use Rattle.nmgc_alloc.specs.laws.Placing.{step}
 
 module _ (layout : Layout) (base : ℕ) (later earlier : List World) (places : List Place) (w : World) (words : List ℕ) (inputs : Inputs)
     (differ : (a b : Header) → IsHeader a → IsHeader b → header_word a ≡ header_word b → a ≡ b)
@@ -112,10 +96,6 @@ module _ (layout : Layout) (base : ℕ) (later earlier : List World) (places : L
       found_young : (at : ℕ) → IsFound base words (IsStart inputs words) at → base ≤ at
       found_young at (IsFound.start _ l s) = l
       found_young at (IsFound.field from _ f l h) = l
-
-  step : (a b n : ℕ) → a < b → a * n + n ≤ b * n
-  step a b n lt = let up : (a + 1) * n ≤ b * n = mul-le-mul_right n (let e : a + 1 ≤ b = omega arith in e) in
-      let flat : (a + 1) * n ≡ a * n + n = omega arith in omega (arith, up, flat)
 
   -- a word lies in one nursery
   pub same_nursery : (a b at : ℕ) → InNursery layout a at → nursery_place layout b ≤ at → at < nursery_place layout b + layout.nursery → a ≡ b

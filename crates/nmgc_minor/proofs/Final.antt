@@ -1,30 +1,6 @@
 -- What the passes do keeps the world that the words represent.
-use Rattle.std.proofs.Common.{◌≡◌, ◌<◌, ◌≤◌, ℕ, List, [], ◌∷◌, map, inr, sym, ap, subst, ◌∙◌}
-use Rattle.std.specs.Prelude.{Contains, slice_index}
-use Rattle.nmgc_world_spec.specs.declared.value.Name.{Name}
-use Rattle.nmgc_world_spec.specs.World.{World, IsWorld}
-use Rattle.nmgc_object.specs.Words.{header_word, name_word, IsHeader, IsName}
-use Rattle.nmgc_object.specs.Places.{nursery_place}
-use Rattle.nmgc_object.specs.declared.words.Header.{Header}
-use Rattle.nmgc_object.specs.declared.layout.Layout.{Layout}
-use Rattle.nmgc_alloc.specs.Numbered.{Segments}
-use Rattle.nmgc_alloc.specs.Segments.{IsSegments}
-use Rattle.nmgc_heap_spec.specs.Tracked.{IsTracked}
-use Rattle.nmgc_heap_spec.specs.Places.{Place}
-use Rattle.nmgc_heap_spec.specs.Represents.{Represents, NoNode}
-use Rattle.nmgc_heap_spec.specs.Moves.{Moved, Moves, StillSpoken, old_place, settled}
-use Rattle.nmgc_blocks_spec.specs.Occupied.{AreBlocks}
-use Rattle.nmgc_heap_spec.specs.laws.Moving.{represents_moved}
-use Rattle.nmgc_minor.specs.declared.placing.Move.{Move}
-use Rattle.nmgc_minor.specs.Inputs.{Inputs, HasInputs}
-use Rattle.nmgc_minor.specs.Found.{IsStart, IsFound}
-use Rattle.nmgc_world_spec.specs.Reach.{IsBefore, IsInOrder}
-use Rattle.nmgc_lists.specs.laws.Items.{contains_head, contains_tail, contains_map as map_in, map_contains as map_from}
-use Rattle.nmgc_minor.specs.Placing.{AreRising, moved_of}
-use Rattle.nmgc_minor.specs.Forwarding.{forward_word}
-use Rattle.nmgc_minor.specs.Promotes.{Promotes}
-use Rattle.nmgc_minor.proofs.FoundLaws.{found_tracked, tracked_found}
-use Rattle.nmgc_minor.proofs.Assembly.{moves_made, blocks_made, recorded_goes}
+use Rattle.nmgc_minor.proofs.Vocabulary.{◌≡◌, ◌<◌, ◌≤◌, ℕ, List, [], ◌∷◌, map, inr, sym, ap, subst, ◌∙◌, Contains, Name, World, IsWorld, header_word, name_word, IsHeader, IsName, nursery_place, Header, Layout, Segments, IsSegments, IsTracked, Place, Represents, NoNode, Moved, Moves, StillSpoken, old_place, settled, AreBlocks, represents_moved, Move, Inputs, HasInputs, IsStart, IsFound, IsBefore, IsInOrder, contains_head, contains_tail, map_in, map_from, AreRising, moved_of, forward_word, Promotes, slice_index}
+use Rattle.nmgc_minor.proofs.{FoundLaws.found_tracked, FoundLaws.tracked_found, Assembly.moves_made, Assembly.blocks_made, Assembly.recorded_goes}
 
 module _ (layout : Layout) (base : ℕ) (later earlier : List World) (places : List Place) (w : World) (old new : List ℕ) (inputs : Inputs)
     (s s' : Segments) (moves : List Move) (table : List ℕ)
@@ -58,8 +34,7 @@ module _ (layout : Layout) (base : ℕ) (later earlier : List World) (places : L
       let h = found_tracked layout base later earlier places w old inputs differ world spoken emptied r m x.0.from.0 f in
       let l = found_young x.0.from.0 f in
       let e = names_are x.0 x.1 h.0 h.2 h.1 l in
-      subst (λ (k : Moved). Contains places (old_place k) × (base ≤ k.from) × IsTracked w earlier k.name) (sym x.2)
-      (subst (λ (n : Name). Contains places (record { at = x.0.from.0; name = n }) × (base ≤ x.0.from.0) × IsTracked w earlier n) (sym e) (h.1, l, h.2))
+      rw x.2 (subst (λ (n : Name). Contains places (record { at = x.0.from.0; name = n }) × (base ≤ x.0.from.0) × IsTracked w earlier n) (sym e) (h.1, l, h.2))
 
   all : (q : Place) → Contains places q → base ≤ q.at → IsTracked w later q.name → (d : Moved) × Contains (map moved_of moves) d × (q ≡ old_place d)
   all q c l t =

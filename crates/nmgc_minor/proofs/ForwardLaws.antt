@@ -1,22 +1,11 @@
 -- Forwarding words by a table, and copying objects.
-use Rattle.std.proofs.Common.{◌≡◌, ◌≢◌, ◌<◌, ◌≤◌, ◌+◌, ◌-◌, ◌*◌, ◌/◌, ◌%◌, ℕ, List, [], ◌∷◌, ◌++◌, length, set, map, take, drop, inl, inr, refl, sym, ap, subst, ◌∙◌, arith, ◌⊎◌, true, false, eqb, get_or}
+use Rattle.std.proofs.{Common.◌≡◌, Common.◌≢◌, Common.◌<◌, Common.◌≤◌, Common.◌+◌, Common.◌-◌, Common.◌*◌, Common.◌/◌, Common.◌%◌, Common.ℕ, Common.List, Common.[], Common.◌∷◌, Common.◌++◌, Common.length, Common.set, Common.map, Common.take, Common.drop, Common.inl, Common.inr, Common.refl, Common.sym, Common.ap, Common.subst, Common.◌∙◌, Common.arith, Common.◌⊎◌, Common.true, Common.false, Common.eqb, Common.get_or, Math.ListN.length-set, lemmas.Bool.cases_lt, lemmas.Bool.cases_eq, lemmas.Bool.cases_Bool, lemmas.Bool.eq-eqb, lemmas.Bool.ne_eqb, lemmas.List.get_or-set_same, lemmas.List.get_or-set_other, lemmas.List.take_more, lemmas.List.take-append-drop, lemmas.List.Elements.Contains-append_left, lemmas.List.Elements.Contains-push, lemmas.List.Elements.Contains-push_cases, lemmas.List.Elements.Contains-get_or}
 use Rattle.std.specs.Prelude.{Contains, slice_index, nat_le}
-use Rattle.std.proofs.Math.ListN.{length-set}
-use Rattle.std.proofs.lemmas.Bool.{cases_lt, cases_eq, cases_Bool, eq-eqb, ne_eqb}
-use Rattle.std.proofs.lemmas.List.{get_or-set_same, get_or-set_other, take_more, take-append-drop}
-use Rattle.std.proofs.lemmas.List.Elements.{Contains-append_left, Contains-push, Contains-push_cases, Contains-get_or}
 use Rattle.nmgc_lists.specs.laws.Items.{contains_head, contains_tail}
-use Rattle.nmgc_object.specs.FinQueue.{ArePointersBelow}
-use Rattle.nmgc_object.specs.declared.words.Address.{Address}
-use Rattle.nmgc_object.specs.Words.{header_word, IsHeader}
-use Rattle.nmgc_object.specs.declared.words.Header.{Header}
-use Rattle.nmgc_object.specs.declared.size.TheConstants.{HEADER_WORDS}
-use Rattle.nmgc_object.specs.declared.words.TheConstants.{NIL_WORD, ZERO_WORD}
+use Rattle.nmgc_object.specs.{FinQueue.ArePointersBelow, declared.words.Address.Address, Words.header_word, Words.IsHeader, declared.words.Header.Header, declared.size.TheConstants.HEADER_WORDS, declared.words.TheConstants.NIL_WORD, declared.words.TheConstants.ZERO_WORD}
 use Rattle.nmgc_heap_spec.specs.Moves.{Moved, Copies, Forwards}
-use Rattle.nmgc_minor.specs.declared.placing.Move.{Move}
-use Rattle.nmgc_minor.specs.Young.{HasHeader}
-use Rattle.nmgc_minor.specs.Placing.{HasHeaderWord}
-use Rattle.nmgc_minor.specs.Forwarding.{forward_word, ForwardsAt, CopiesFields, CopiesObject, CanCopyAll, CopiesAll}
+use Rattle.nmgc_minor.specs.{declared.placing.Move.Move, Placing.HasHeaderWord, Forwarding.forward_word, Forwarding.ForwardsAt, Forwarding.CopiesFields, Forwarding.CopiesObject, Forwarding.CanCopyAll, Forwarding.CopiesAll}
+use Rattle.nmgc_blocks_spec.specs.Strong.{HasHeader}
 
 -- whether a number is at most another
 at_most_or : (a b : ℕ) → ((nat_le a b ≡ true) × (a ≤ b)) ⊎ ((nat_le a b ≡ false) × (b < a))

@@ -1,40 +1,6 @@
 -- What is found in the words is what is tracked in the world.
-use Rattle.std.proofs.Common.{◌≡◌, ◌≢◌, ◌<◌, ◌≤◌, ◌+◌, ◌*◌, ℕ, zero, suc, List, [], ◌∷◌, length, inl, inr, refl, sym, ap, subst, ◌∙◌, arith, Option, Some, None}
-use Rattle.std.specs.Prelude.{Contains, slice_get, slice_index, IsSome}
-use Rattle.std.proofs.Math.Nat.{mul-le-mul_right}
-use Rattle.std.proofs.lemmas.Bool.{cases_lt, eqb-false}
-use Rattle.std.proofs.lemmas.Bool.Decides.{eqb_tells}
-use Rattle.std.proofs.lemmas.List.Elements.{All-contains, Contains-append_left, Contains-append_right, Contains-append_cases}
-use Rattle.nmgc_world_spec.specs.declared.value.Name.{Name}
-use Rattle.nmgc_world_spec.specs.declared.value.Value.{Value}
+use Rattle.nmgc_minor.proofs.Vocabulary.{◌≡◌, ◌≢◌, ◌<◌, ◌≤◌, ◌+◌, ◌*◌, ℕ, zero, suc, List, [], ◌∷◌, length, inl, inr, refl, sym, ap, subst, arith, Option, Some, None, Contains, slice_get, IsSome, mul-le-mul_right, cases_lt, eqb-false, eqb_tells, All-contains, Contains-append_left, Contains-append_right, Contains-append_cases, Name, Value, SHARED_MAKER, SHARED_SLOTS, Parts, Node, Con, Var, Arr, Thunk, Weak, Stack, World, node_of, state_of, held_by, IsKnown, IsNodeOf, IsShared, IsWorld, shared_name, strong_fields, RefersTo, IsRoot, IsAlive, IsReached, contains_head, contains_cases, contains_tail, at_some, is_some_of, contains_read, header_word, IsHeader, InNursery, nursery_place, Header, Layout, SHARED_PLACE, WEAK_FIELDS, HEADER_WORDS, Slot, holds, unset, untold, slots_of, IsWide, IsWideRoot, IsTracked, IsWideIn, Place, Means, Fills, Represents, NoNode, StillSpoken, strong_held, slot_tracked, tracked_more, held_where, stands, not_zero, field_in, field_out, strong_slot, Inputs, HasInputs, IsAliveAt, IsStart, IsFound, slice_index}
 use Rattle.nmgc_world_spec.specs.declared.value.Value.TheVariants as value
-use Rattle.nmgc_limits.specs.declared.mutators.TheConstants.{SHARED_MAKER, SHARED_SLOTS}
-use Rattle.nmgc_world_spec.specs.declared.node.Parts.{Parts}
-use Rattle.nmgc_world_spec.specs.declared.node.Node.{Node}
-use Rattle.nmgc_world_spec.specs.declared.node.Node.TheVariants.{Con, Var, Arr, Thunk, Weak, Stack}
-use Rattle.nmgc_world_spec.specs.World.{World, node_of, state_of, held_by, IsKnown, IsNodeOf, IsShared, IsWorld}
-use Rattle.nmgc_world_spec.specs.Step.{shared_name}
-use Rattle.nmgc_world_spec.specs.Reach.{strong_fields, RefersTo, IsRoot, IsAlive, IsReached}
-use Rattle.nmgc_lists.specs.laws.Items.{contains_head, contains_cases, contains_tail, at_some, is_some_of, contains_at as contains_read}
-use Rattle.nmgc_object.specs.Words.{header_word, IsHeader}
-use Rattle.nmgc_object.specs.Places.{InNursery, nursery_place}
-use Rattle.nmgc_object.specs.declared.words.Header.{Header}
-use Rattle.nmgc_object.specs.declared.layout.Layout.{Layout}
-use Rattle.nmgc_object.specs.declared.layout.TheConstants.{SHARED_PLACE}
-use Rattle.nmgc_object.specs.declared.words.TheConstants.{WEAK_FIELDS}
-use Rattle.nmgc_object.specs.declared.size.TheConstants.{HEADER_WORDS}
-use Rattle.nmgc_heap_spec.specs.Shape.{Slot, holds, unset, untold, slots_of}
-use Rattle.nmgc_world_spec.specs.Wide.{IsWide, IsWideRoot}
-use Rattle.nmgc_heap_spec.specs.Tracked.{IsTracked, IsWideIn}
-use Rattle.nmgc_heap_spec.specs.Places.{Place, Means, Fills}
-use Rattle.nmgc_heap_spec.specs.Represents.{Represents, NoNode}
-use Rattle.nmgc_heap_spec.specs.Moves.{StillSpoken}
-use Rattle.nmgc_heap_spec.specs.laws.Slots.{strong_held}
-use Rattle.nmgc_heap_spec.specs.laws.Tracking.{slot_tracked, tracked_more}
-use Rattle.nmgc_blocks_spec.specs.laws.Fields.{held_where, stands, not_zero, field_in, field_out}
-use Rattle.nmgc_heap_spec.specs.laws.Roots.{strong_slot}
-use Rattle.nmgc_minor.specs.Inputs.{Inputs, HasInputs}
-use Rattle.nmgc_minor.specs.Found.{IsAliveAt, IsStart, IsFound}
 
 -- what a world reaches is in it
 reached_there : (e : World) → IsWorld e → (n : Name) → IsReached e (IsWideRoot e) n → IsSome (node_of e n)
@@ -221,8 +187,7 @@ module _ (layout : Layout) (base : ℕ) (later earlier : List World) (places : L
   -- a reference stands for the one place of its name
   at_place : (n : Name) (word at : ℕ) → Means (Contains places) word (value.Ref n) → Contains places (record { at = at; name = n }) → word ≡ 2 * at
   at_place n word at f c =
-      let s : f.0 ≡ at = ap (λ (x : Place). x.at) (r.one (record { at = f.0; name = n }) (record { at = at; name = n }) f.2 c (inl refl)) in f.1 ∙
-      ap (λ (k : ℕ). 2 * k) s
+      let s : f.0 ≡ at = ap (λ (x : Place). x.at) (r.one (record { at = f.0; name = n }) (record { at = at; name = n }) f.2 c (inl refl)) in cc (f.1, s)
 
   -- a name that a tracked name refers to is found where it is young, if that one is found where it is young
   pub followed : (name n : Name) (at to : ℕ) → IsTracked w earlier name → Contains places (record { at = at; name = name }) →

@@ -13,3 +13,4 @@ pub mod Final
 pub mod PromotedLaws
 pub mod AllocationLaws
 pub mod Stops
+mod Vocabulary

@@ -1,22 +1,11 @@
 -- What mutators hold, as lists of all of it.
-use Rattle.std.proofs.Common.{ℕ, ◌≡◌, ◌+◌, ◌<◌, List, [], ◌∷◌, ◌++◌, length, map, take, get_or, refl, sym, ap, ◌∙◌, append-nil}
-use Rattle.std.specs.List.{flat_map}
-use Rattle.std.proofs.Math.ListN.{get_or-map}
-use Rattle.std.proofs.lemmas.List.{take_more, get_or_default, length-map, map-append}
-use Rattle.std.proofs.lemmas.List.Concat.{flat_map-append}
-use Rattle.nmgc_object.specs.FinQueue.{FinQueue}
-use Rattle.nmgc_object.specs.declared.layout.Nursery.{Nursery}
-use Rattle.nmgc_heap_spec.specs.Emptied.{emptied}
-use Rattle.nmgc_blocks_spec.specs.Nurseries.{nursery_at}
-use Rattle.nmgc_minor.specs.Promotes.{forwarded, promoted}
+use Rattle.nmgc_minor.proofs.Vocabulary.{ℕ, ◌≡◌, ◌+◌, ◌<◌, List, [], ◌∷◌, ◌++◌, length, map, take, get_or, refl, sym, ap, ◌∙◌, flat_map, get_or-map, take_more, get_or_default, length-map, map-append, flat_map-append, FinQueue, Nursery, emptied, nursery_at, forwarded, promoted, append-nil}
 
 -- with the next item, what all of them have
 pub flat_more : {A B : Type 0} (f : A → List B) (xs : List A) (i : ℕ) (x : A) → i < length xs → x ≡ get_or xs i x →
     flat_map f (take (i + 1) xs) ≡ flat_map f (take i xs) ++ f x
 flat_more {A} {B} f xs i x lt is =
-    ap (λ (l : List A). flat_map f l) (take_more xs i x lt ∙ ap (λ (y : A). take i xs ++ y ∷ []) (sym is))
-    ∙ flat_map-append f (take i xs) (x ∷ [])
-    ∙ ap (λ (l : List B). flat_map f (take i xs) ++ l) (append-nil (f x))
+    cc (take_more xs i x lt, is, flat_map-append f (take i xs) (x ∷ []), append-nil (f x))
 
 -- a mutator's nursery among all
 pub nursery_is : {A : Type 0} (f : A → Nursery) (ms : List A) (k : ℕ) (x : A) → k < length ms → x ≡ get_or ms k x → f x ≡ nursery_at (map f ms) k
@@ -47,9 +36,7 @@ module _ {M : Type 0} (registers : M → List ℕ) (with_registers : M → List 
       stay (with_queue (changed m) (own_queue m))
       ∙ apart (changed m) (own_queue m)
       ∙ own m (map forward (registers m)) (length-map (registers m) forward) in
-      ap (λ (l : List ℕ). l ++ flat_map registers (map then ms)) one
-      ∙ ap (λ (l : List ℕ). map forward (registers m) ++ l) (registers_then own apart stay ms)
-      ∙ sym (map-append forward (registers m) (flat_map registers ms))
+      cc (one, registers_then own apart stay ms, map-append forward (registers m) (flat_map registers ms))
 
   pub queues_then : ((m : M) (q : FinQueue) → queue (with_queue m q) ≡ q) → ((m : M) → queue (after_stop m) ≡ queue m) →
       ((m : M) (words : List ℕ) → queue (with_registers m words) ≡ queue m) → (ms : List M) →
@@ -58,8 +45,7 @@ module _ {M : Type 0} (registers : M → List ℕ) (with_registers : M → List 
   queues_then own stays apart (m ∷ ms) =
       let one : queue (then m) ≡ forwarded forward (queue m) =
       stays (with_queue (changed m) (own_queue m)) ∙ own (changed m) (own_queue m) ∙ ap (forwarded forward) (apart m (map forward (registers m))) in
-      ap (λ (q : FinQueue). q ∷ map queue (map then ms)) one
-      ∙ ap (λ (l : List FinQueue). forwarded forward (queue m) ∷ l) (queues_then own stays apart ms)
+      cc (one, queues_then own stays apart ms)
 
   pub nurseries_then : (nursery : M → Nursery) → ((m : M) → nursery (after_stop m) ≡ emptied (nursery m)) →
       ((m : M) (q : FinQueue) → nursery (with_queue m q) ≡ nursery m) → ((m : M) (words : List ℕ) → nursery (with_registers m words) ≡ nursery m) →
@@ -68,8 +54,7 @@ module _ {M : Type 0} (registers : M → List ℕ) (with_registers : M → List 
   nurseries_then nursery empties by_queue by_registers (m ∷ ms) =
       let one : nursery (then m) ≡ emptied (nursery m) =
       empties (with_queue (changed m) (own_queue m)) ∙ ap emptied (by_queue (changed m) (own_queue m) ∙ by_registers m (map forward (registers m))) in
-      ap (λ (n : Nursery). n ∷ map nursery (map then ms)) one
-      ∙ ap (λ (l : List Nursery). emptied (nursery m) ∷ l) (nurseries_then nursery empties by_queue by_registers ms)
+      cc (one, nurseries_then nursery empties by_queue by_registers ms)
 
 -- the words of forwarded queues, and their room
 pub words_forwarded : (forward : ℕ → ℕ) (queues : List FinQueue) →

@@ -1,20 +1,9 @@
 -- What noting words changes, and what it keeps.
-use Rattle.std.proofs.Common.{◌≡◌, ◌≢◌, ◌<◌, ◌≤◌, ◌+◌, ◌-◌, ◌*◌, ℕ, List, [], ◌∷◌, ◌++◌, length, set, take, inl, inr, refl, sym, ap, subst, ◌∙◌, arith, ◌⊎◌, cond, eqb, count_by, append_assoc, length-append}
+use Rattle.std.proofs.{Common.◌≡◌, Common.◌≢◌, Common.◌<◌, Common.◌≤◌, Common.◌+◌, Common.◌-◌, Common.◌*◌, Common.ℕ, Common.List, Common.[], Common.◌∷◌, Common.◌++◌, Common.length, Common.set, Common.take, Common.inl, Common.inr, Common.refl, Common.sym, Common.ap, Common.subst, Common.◌∙◌, Common.arith, Common.◌⊎◌, Common.cond, Common.eqb, Common.count_by, Common.append_assoc, Common.length-append, Math.ListN.length-set, lemmas.Bool.cases_lt, lemmas.Bool.cases_eq, lemmas.List.append-nil, lemmas.List.get_or-set_same, lemmas.List.get_or-set_other, lemmas.List.get_or_append_left, lemmas.List.get_or_default, lemmas.List.take_more, lemmas.List.Sums.sum_by-set, lemmas.List.Elements.Contains-append_left, lemmas.List.Elements.Contains-push, lemmas.List.Elements.Contains-push_cases, lemmas.List.Elements.Contains-get_or}
 use Rattle.std.specs.Prelude.{Contains, slice_index, get_or}
-use Rattle.std.proofs.Math.ListN.{length-set}
-use Rattle.std.proofs.lemmas.Bool.{cases_lt, cases_eq}
-use Rattle.std.proofs.lemmas.List.{append-nil, get_or-set_same, get_or-set_other, get_or_append_left, get_or_default, take_more}
-use Rattle.std.proofs.lemmas.List.Sums.{sum_by-set}
-use Rattle.std.proofs.lemmas.List.Elements.{Contains-append_left, Contains-push, Contains-push_cases, Contains-get_or}
 use Rattle.nmgc_object.specs.declared.words.Address.{Address}
-use Rattle.nmgc_blocks_spec.specs.Strong.{HasStrong, strong_of}
-use Rattle.nmgc_minor.specs.declared.young.Young.{Young}
-use Rattle.nmgc_minor.specs.declared.young.TheConstants.{FOUND}
-use Rattle.nmgc_minor.specs.Found.{IsFound}
-use Rattle.nmgc_object.specs.declared.words.Header.{Header}
-use Rattle.nmgc_object.specs.declared.size.TheConstants.{HEADER_WORDS}
-use Rattle.nmgc_object.specs.Words.{header_word, IsHeader}
-use Rattle.nmgc_minor.specs.Young.{IsStrongRange, IsIn, unfound_count, IsYoung, IsWithin, IsAmong, Notes, PointsIn, CanFollow, Follows, Following}
+use Rattle.nmgc_blocks_spec.specs.Strong.{HasStrong, IsAmong}
+use Rattle.nmgc_minor.specs.{declared.young.Young.Young, declared.young.TheConstants.FOUND, Found.IsFound, Young.IsIn, Young.unfound_count, Young.IsYoung, Young.IsWithin, Young.Notes, Young.PointsIn, Young.CanFollow, Young.Follows, Young.Following}
 
 -- nothing to note
 pub notes_none : (y : Young) (Given : ℕ → Type 0) → IsYoung y → ((at : ℕ) → y.base ≤ at → Given (2 * at) → IsIn y at) → Notes y y Given
@@ -161,41 +150,12 @@ among_more a b c words from i w low read f g =
       | inr ne ↦ inl (r.0, r.1, omega (arith, r.2, ne), r.3)
     ])
 
--- the words of the range are those of the strong fields
-pub strong_read : (words : List ℕ) (at from to w : ℕ) → IsStrongRange words at from to → IsAmong words from to w → HasStrong words at w
-strong_read words at from to w s i =
-    let first = s.first in
-    let last = s.last in
-    let e : at + HEADER_WORDS + (i.0 - (at + HEADER_WORDS)) ≡ i.0 = omega (arith, first, i.1) in
-    record {
-      header = s.header;
-      valid = s.valid;
-      read = s.read;
-      index = i.0 - (at + HEADER_WORDS);
-      from = omega (arith, first, i.1);
-      before = omega (arith, first, last, i.1, i.2);
-      is = ap (λ (k : ℕ). slice_index words k) e ∙ i.3;
-    }
-
-pub strong_has : (differ : (a b : Header) → IsHeader a → IsHeader b → header_word a ≡ header_word b → a ≡ b) (words : List ℕ) (at from to w : ℕ) →
-    IsStrongRange words at from to → HasStrong words at w → IsAmong words from to w
-strong_has differ words at from to w s h =
-    let same : h.header ≡ s.header = differ h.header s.header h.valid s.valid (sym h.read ∙ s.read) in
-    let low = subst (λ (x : Header). (strong_of words at x).0 ≤ h.index) same h.from in
-    let high = subst (λ (x : Header). h.index < (strong_of words at x).1) same h.before in
-    let first = s.first in
-    let last = s.last in
-    (at + HEADER_WORDS + h.index, omega (arith, first, low), omega (arith, last, high), h.is)
-
 -- what was found is still found
 still_in : (a b : Young) (at : ℕ) → (added : List Address) × (b.found.items ≡ a.found.items ++ added) → IsIn a at → IsIn b at
 still_in a b at more i = subst (λ (xs : List Address). Contains xs (record {
   0 =
       at;
 })) (sym more.1) (Contains-append_left a.found.items more.0 (record { 0 = at }) i)
-
-address_at : (xs : List Address) (i : ℕ) → i < length xs → Contains xs (record { 0 = (get_or xs i (record { 0 = 0 })).0 })
-address_at xs i lt = Contains-get_or xs i (record { 0 = 0 }) lt
 
 pub following_none : (y : Young) (words : List ℕ) → IsYoung y → Following y y words 0
 following_none y words h = record {

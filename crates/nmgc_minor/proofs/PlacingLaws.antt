@@ -1,33 +1,6 @@
 -- Giving blocks to one object after another.
-use Rattle.std.proofs.Common.{◌≡◌, ◌≢◌, ◌<◌, ◌≤◌, ◌+◌, ◌-◌, ◌*◌, ℕ, List, [], ◌∷◌, ◌++◌, length, set, map, inl, inr, refl, sym, ap, subst, ◌∙◌, arith}
-use Rattle.std.specs.Prelude.{Contains, slice_index}
-use Rattle.std.proofs.Math.ListN.{length-set}
-use Rattle.std.proofs.Math.Nat.{mul-le-mul_right}
-use Rattle.std.proofs.lemmas.Bool.{cases_lt}
-use Rattle.std.proofs.lemmas.List.{map-append, get_or-set_same, get_or-set_other}
-use Rattle.std.proofs.lemmas.List.Elements.{Contains-append_left, Contains-append_right, Contains-append_cases, Contains-push, Contains-push_cases}
-use Rattle.nmgc_lists.specs.laws.Items.{contains_head, contains_tail, contains_cases}
-use Rattle.nmgc_object.specs.laws.Classes.{class_counted, least_block as large}
-use Rattle.nmgc_object.specs.declared.layout.Layout.{Layout}
-use Rattle.nmgc_object.specs.declared.words.Header.{Header}
-use Rattle.nmgc_object.specs.declared.size.TheConstants.{HEADER_WORDS}
-use Rattle.nmgc_object.specs.Size.{block_size}
-use Rattle.nmgc_object.specs.Places.{IsSegmentSize, nursery_place}
-use Rattle.nmgc_object.specs.Words.{name_word, IsName}
-use Rattle.nmgc_segment.specs.Segment.{Segment}
-use Rattle.nmgc_alloc.specs.Numbered.{nth, Segments, block_place}
-use Rattle.nmgc_alloc.specs.Segments.{IsSegments, IsClass, HasRoom}
-use Rattle.nmgc_alloc.specs.AllocState.{AllocState, PlacesName}
-use Rattle.nmgc_alloc.specs.Stands.{StandsFor, Writes}
-use Rattle.nmgc_alloc.specs.Reserve.{KeepsReserve}
-use Rattle.nmgc_alloc.specs.laws.Placing.{placed_stands}
-use Rattle.nmgc_alloc.specs.laws.Reserve.{placing_keeps, reserve_has_room}
-use Rattle.nmgc_heap_spec.specs.Moves.{Moved}
-use Rattle.nmgc_minor.specs.declared.placing.Move.{Move}
-use Rattle.nmgc_blocks_spec.specs.Occupied.{IsOccupied}
-use Rattle.nmgc_minor.specs.Placing.{AreRising, StandsAfter, PlacesEach, with_names, HasHeaderWord, IsPlacing, PlacesOne, CanPlaceAll, PlacesRange, Reaches, IsMarked, moved_of}
-use Rattle.nmgc_blocks_spec.specs.laws.Placings.{occupies, stays_occupied, only_occupied, lies_apart, keeps_marks}
-use Rattle.nmgc_blocks_spec.specs.laws.Blocks.{is_block}
+use Rattle.nmgc_minor.proofs.Vocabulary.{◌≡◌, ◌≢◌, ◌<◌, ◌≤◌, ◌+◌, ◌-◌, ◌*◌, ℕ, List, [], ◌∷◌, ◌++◌, length, set, map, inl, inr, refl, sym, ap, subst, ◌∙◌, arith, Contains, length-set, mul-le-mul_right, cases_lt, map-append, get_or-set_same, get_or-set_other, Contains-append_left, Contains-append_right, Contains-append_cases, Contains-push, Contains-push_cases, contains_head, contains_tail, contains_cases, class_counted, large, Layout, Header, HEADER_WORDS, block_size, IsSegmentSize, nursery_place, name_word, IsName, Segment, nth, Segments, block_place, IsSegments, IsClass, HasRoom, AllocState, PlacesName, StandsFor, Writes, KeepsReserve, placed_stands, placing_keeps, reserve_has_room, Moved, Move, IsOccupied, AreRising, StandsAfter, with_names, HasHeaderWord, IsPlacing, PlacesOne, CanPlaceAll, PlacesRange, Reaches, IsMarked, moved_of, occupies, stays_occupied, only_occupied, lies_apart, keeps_marks, is_block, slice_index}
+use Rattle.nmgc_minor.specs.Placing.{PlacesEach}
 
 -- a reserve is one also where more was placed
 more_placed : (layout : Layout) (xs : List Segment) (a b : ℕ) → a ≤ b → KeepsReserve layout xs a → KeepsReserve layout xs b
@@ -286,8 +259,7 @@ range_more base words s cur next t t' added from at maker m low le in' sound aft
               m,
               Contains-push added m,
               here ∙ sym e,
-              ap (λ (n : ℕ). slice_index (set t' (at - base) m.to.0) (n - base)) e ∙
-                  get_or-set_same t' (at - base) m.to.0 0 in',
+              cc (e, get_or-set_same t' (at - base) m.to.0 0 in'),
             )
       ];
       marked = λ x c. elim (Contains-push_cases added m x c) [
@@ -384,8 +356,7 @@ reaches_room layout base words t cur maker from at to sound same low le most r c
     let within = r.within in
     let few : maker * layout.nursery + (r.reach - from) ≤ layout.mutators * layout.nursery = omega (arith, up, flat, within, most) in
     let few' = subst (λ (l : Layout). maker * layout.nursery + (r.reach - from) ≤ l.mutators * l.nursery) (sym same) few in
-    reserve_has_room cur maker class (maker * layout.nursery + (r.reach - from)) sound mutator counted few' (subst (λ (l : Layout).
-    KeepsReserve l cur.segments (maker * layout.nursery + (r.reach - from))) (sym same) r.reserve)
+    reserve_has_room cur maker class (maker * layout.nursery + (r.reach - from)) sound mutator counted few' (rw same r.reserve)
 
 pub reaches_all : (layout : Layout) (base : ℕ) (words t : List ℕ) (cur : Segments) (maker from at to : ℕ) → cur.layout ≡ layout →
     to ≤ from + layout.nursery → Reaches layout base words t cur (maker * layout.nursery) from at to →
@@ -393,8 +364,7 @@ pub reaches_all : (layout : Layout) (base : ℕ) (words t : List ℕ) (cur : Seg
 reaches_all layout base words t cur maker from at to same most r =
     let flat : (maker + 1) * layout.nursery ≡ maker * layout.nursery + layout.nursery = omega arith in
     let within = r.within in
-    subst (λ (l : Layout). KeepsReserve l cur.segments ((maker + 1) * layout.nursery)) (sym same)
-    (more_placed layout cur.segments (maker * layout.nursery + (r.reach - from)) ((maker + 1) * layout.nursery) (omega (arith, flat, within, most)) r.reserve)
+    rw same (more_placed layout cur.segments (maker * layout.nursery + (r.reach - from)) ((maker + 1) * layout.nursery) (omega (arith, flat, within, most)) r.reserve)
 
 -- a part without found objects
 pub range_gap : (base : ℕ) (words : List ℕ) (s s' : Segments) (t t' : List ℕ) (added : List Move) (from at to : ℕ) → base ≤ from → from ≤ at →
@@ -427,8 +397,7 @@ range_then base words a b c t u v xs ys from mid to low le up f g =
     let early : (k : ℕ) → base ≤ k → k < mid → slice_index v (k - base) ≡ slice_index u (k - base) = λ k l h. g.outside k l (inl h) in
     let late : (k : ℕ) → mid ≤ k → slice_index u (k - base) ≡ slice_index t (k - base) = λ k l. f.outside k (omega arith) (inr l) in
     record {
-      placing = subst (λ (zs : List Moved).
-          IsPlacing a c words zs) (sym all) (placing_then a b c words (map moved_of xs) (map moved_of ys) f.placing g.placing);
+      placing = rw all (placing_then a b c words (map moved_of xs) (map moved_of ys) f.placing g.placing);
       size = g.size ∙ f.size;
       outside = λ k l o. elim o [
         | inl h ↦ early k l (omega arith) ∙ f.outside k l (inl h)

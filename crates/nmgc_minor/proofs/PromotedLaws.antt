@@ -1,36 +1,7 @@
 -- What is found in the words is exactly what the promotion rule names.
-use Rattle.std.proofs.Common.{◌≡◌, ◌≢◌, ◌<◌, ◌≤◌, ◌+◌, ◌*◌, ◌⊎◌, ℕ, zero, suc, List, [], ◌∷◌, inl, inr, refl, sym, ap, subst, ◌∙◌, arith, Option, Some, None}
-use Rattle.std.specs.Prelude.{Contains, slice_get, slice_index, IsSome}
-use Rattle.std.proofs.lemmas.List.Elements.{All-contains, Contains-append_left, Contains-append_right}
-use Rattle.nmgc_world_spec.specs.declared.value.Name.{Name}
-use Rattle.nmgc_world_spec.specs.declared.value.Value.{Value}
+use Rattle.nmgc_minor.proofs.Vocabulary.{◌≡◌, ◌≢◌, ◌<◌, ◌≤◌, ◌+◌, ◌*◌, ◌⊎◌, ℕ, zero, suc, List, [], ◌∷◌, inl, inr, refl, sym, ap, subst, ◌∙◌, arith, Option, Some, None, Contains, slice_get, IsSome, All-contains, Contains-append_left, Contains-append_right, Name, Value, Parts, Node, Weak, World, node_of, state_of, IsKnown, IsNodeOf, IsShared, IsWorld, shared_name, IsReached, RefersTo, IsRoot, IsAlive, contains_head, at_some, is_some_of, contains_read, header_word, IsHeader, nursery_place, Header, Layout, SHARED_PLACE, WEAK_FIELDS, HEADER_WORDS, IsOfWeak, Slot, holds, unset, untold, slots_of, IsTracked, Place, Means, Fills, Represents, NoNode, StillSpoken, slot_held, IsFirstPromoted, IsPromoted, IsRoundOf, stands, field_in, Inputs, HasInputs, IsStart, IsFound, slice_index}
+use Rattle.nmgc_blocks_spec.specs.Promoted.{IsYoung}
 use Rattle.nmgc_world_spec.specs.declared.value.Value.TheVariants as value
-use Rattle.nmgc_world_spec.specs.declared.node.Parts.{Parts}
-use Rattle.nmgc_world_spec.specs.declared.node.Node.{Node}
-use Rattle.nmgc_world_spec.specs.declared.node.Node.TheVariants.{Weak}
-use Rattle.nmgc_world_spec.specs.World.{World, node_of, state_of, IsKnown, IsNodeOf, IsShared, IsWorld}
-use Rattle.nmgc_world_spec.specs.Step.{shared_name}
-use Rattle.nmgc_world_spec.specs.Reach.{IsReached, RefersTo, IsRoot, IsAlive}
-use Rattle.nmgc_lists.specs.laws.Items.{contains_head, at_some, is_some_of, contains_at as contains_read}
-use Rattle.nmgc_object.specs.Words.{header_word, IsHeader}
-use Rattle.nmgc_object.specs.Places.{nursery_place}
-use Rattle.nmgc_object.specs.declared.words.Header.{Header}
-use Rattle.nmgc_object.specs.declared.layout.Layout.{Layout}
-use Rattle.nmgc_object.specs.declared.layout.TheConstants.{SHARED_PLACE}
-use Rattle.nmgc_object.specs.declared.words.TheConstants.{WEAK_FIELDS}
-use Rattle.nmgc_object.specs.declared.size.TheConstants.{HEADER_WORDS}
-use Rattle.nmgc_world_spec.specs.Wide.{IsOfWeak}
-use Rattle.nmgc_heap_spec.specs.Shape.{Slot, holds, unset, untold, slots_of}
-use Rattle.nmgc_heap_spec.specs.Tracked.{IsTracked}
-use Rattle.nmgc_heap_spec.specs.Places.{Place, Means, Fills}
-use Rattle.nmgc_heap_spec.specs.Represents.{Represents, NoNode}
-use Rattle.nmgc_heap_spec.specs.Moves.{StillSpoken}
-use Rattle.nmgc_heap_spec.specs.laws.Slots.{slot_held}
-use Rattle.nmgc_blocks_spec.specs.Promoted.{IsYoung, IsFirstPromoted, IsPromoted}
-use Rattle.nmgc_blocks_spec.specs.Stopped.{IsRoundOf}
-use Rattle.nmgc_blocks_spec.specs.laws.Fields.{stands, field_in}
-use Rattle.nmgc_minor.specs.Inputs.{Inputs, HasInputs}
-use Rattle.nmgc_minor.specs.Found.{IsStart, IsFound}
 use Rattle.nmgc_minor.proofs.FoundLaws.{node_at, root_tracked, shared_tracked, weak_alive, weak_tracked, shared_in, followed, root_found}
 
 known_or : {A : Type 0} (o : Option A) → IsSome o ⊎ (o ≡ None)
@@ -103,7 +74,7 @@ module _ (layout : Layout) (base : ℕ) (later : List World) (began : World) (pl
       IsTracked w (began ∷ later) name → node_of w name ≡ Some node → Contains (slots_of node) slot → slot ≢ untold →
       Fills (Contains places) word slot → (n : Name) × Contains places (record { at = at; name = n }) × IsMet began later w n
   slot_met name node word at (holds v) e l old t is c told f = pointed (IsMet began later w) word at e l v f (λ n s d.
-      elim (slot_held node (value.Ref n) (subst (λ (x : Value). Contains (slots_of node) (holds x)) s c)) [
+      elim (slot_held node (value.Ref n) (rw s at c)) [
         | inl strong ↦
             let refers : RefersTo w name n = (node, is, strong) in
             (IsReached.field name n t refers, IsReached.start n (inr (inl (name, old, refers))))
@@ -118,16 +89,14 @@ module _ (layout : Layout) (base : ℕ) (later : List World) (began : World) (pl
       pointed (IsMet began later w) (2 * at) at refl l h.1 h.3 (λ n s d.
       root_met n (inr (
         h.0,
-        Contains-append_left (state_of w h.0).registers (state_of w h.0).queue (value.Ref n) (subst (λ (x : Value).
-            Contains (state_of w h.0).registers x) s h.2),
+        Contains-append_left (state_of w h.0).registers (state_of w h.0).queue (value.Ref n) (rw s at h.2),
       )))
   started_met at l (IsStart.queued queue c k) =
       let h = m.waiting queue (2 * at) c k in
       pointed (IsMet began later w) (2 * at) at refl l h.1 h.3 (λ n s d.
       root_met n (inr (
         h.0,
-        Contains-append_right (state_of w h.0).registers (state_of w h.0).queue (value.Ref n) (subst (λ (x : Value).
-            Contains (state_of w h.0).queue x) s h.2),
+        Contains-append_right (state_of w h.0).registers (state_of w h.0).queue (value.Ref n) (rw s at h.2),
       )))
   started_met at l (IsStart.shared i lt e) =
       let t = shared_tracked layout base later (began ∷ later) places w words inputs differ world spoken emptied r m in

@@ -1,21 +1,5 @@
 -- What words that stand for the roots hold.
-use Rattle.std.proofs.Common.{◌≡◌, ◌<◌, ◌+◌, ◌*◌, ◌/◌, ◌%◌, ℕ, List, [], length, inl, inr, sym, ap, subst, ◌∙◌, arith, Some, get_or}
-use Rattle.std.specs.Prelude.{Contains, slice_index, slice_index_or}
-use Rattle.std.proofs.lemmas.Bool.{cases_lt}
-use Rattle.std.proofs.lemmas.List.{get_or_past, get_or_default}
-use Rattle.std.proofs.lemmas.List.Elements.{Contains-get_or}
-use Rattle.std.proofs.lemmas.Option.{slice_get-get_or}
-use Rattle.nmgc_world_spec.specs.declared.value.Name.{Name}
-use Rattle.nmgc_world_spec.specs.declared.value.Value.{Value}
-use Rattle.nmgc_world_spec.specs.declared.value.Value.TheVariants.{Nil, Ref}
-use Rattle.nmgc_limits.specs.declared.mutators.TheConstants.{REGISTERS}
-use Rattle.nmgc_world_spec.specs.declared.mutator_state.MutatorState.{MutatorState}
-use Rattle.nmgc_world_spec.specs.World.{World, state_of, no_mutator, IsWorld}
-use Rattle.nmgc_heap_spec.specs.Places.{Place, Means}
-use Rattle.nmgc_heap_spec.specs.Roots.{RepresentsRoots}
-use Rattle.nmgc_blocks_spec.specs.Remembers.{Remembers}
-use Rattle.nmgc_minor.specs.Inputs.{Inputs, HasInputs}
-use Rattle.nmgc_heap_spec.specs.laws.Common.{list_has, list_of}
+use Rattle.nmgc_minor.proofs.Vocabulary.{◌≡◌, ◌<◌, ◌+◌, ◌*◌, ◌/◌, ◌%◌, ℕ, List, [], length, inl, inr, sym, ap, subst, ◌∙◌, arith, Some, get_or, Contains, slice_index_or, cases_lt, get_or_past, get_or_default, Contains-get_or, slice_get-get_or, Name, Value, Nil, Ref, REGISTERS, MutatorState, World, state_of, no_mutator, IsWorld, Place, Means, RepresentsRoots, Remembers, Inputs, HasInputs, list_has, list_of, slice_index}
 
 module _ (places : List Place) (w : World) (registers : List ℕ) (queues : List (List ℕ)) (serials : List ℕ) (world : IsWorld w)
     (r : RepresentsRoots places w registers queues serials) where
@@ -50,8 +34,7 @@ module _ (places : List Place) (w : World) (registers : List ℕ) (queues : List
       let v = get_or own i Nil in
       let f = r.held m lt i v (slice_get-get_or own i Nil within) in
       let at : REGISTERS * m + i ≡ c.0 = omega arith in
-      let word_is : slice_index registers (REGISTERS * m + i) ≡ word = ap (λ (n : ℕ). slice_index registers n) at ∙
-      get_or_default registers c.0 0 word c.1 ∙ c.2 in
+      let word_is : slice_index registers (REGISTERS * m + i) ≡ word = cc (at, get_or_default registers c.0 0 word c.1, c.2) in
       (m, v, Contains-get_or own i Nil within, subst (λ (x : ℕ). Means (Contains places) x v) word_is f)
 
   holds_all : (m : ℕ) (n : Name) → Contains (state_of w m).registers (Ref n) → (at : ℕ) × Contains registers (2 * at) ×

@@ -1,19 +1,5 @@
 -- The words that the search starts at, one kind after the other.
-use Rattle.std.proofs.Common.{◌≡◌, ◌<◌, ◌+◌, ◌*◌, ℕ, List, [], ◌∷◌, ◌++◌, length, map, take, get_or, inl, inr, refl, sym, ap, subst, ◌∙◌, arith, ◌⊎◌}
-use Rattle.std.specs.Prelude.{Contains, slice_index}
-use Rattle.std.specs.List.{flat_map}
-use Rattle.std.proofs.lemmas.List.{take_more}
-use Rattle.std.proofs.lemmas.List.Elements.{Contains-append_left, Contains-push, Contains-push_cases}
-use Rattle.nmgc_limits.specs.declared.mutators.TheConstants.{SHARED_SLOTS}
-use Rattle.nmgc_object.specs.FinQueue.{FinQueue}
-use Rattle.nmgc_object.specs.declared.words.Address.{Address}
-use Rattle.nmgc_object.specs.declared.size.TheConstants.{HEADER_WORDS}
-use Rattle.nmgc_lists.specs.laws.Items.{contains_flat, flat_contains, contains_map as map_in, map_contains as map_from}
-use Rattle.nmgc_minor.specs.declared.young.Young.{Young}
-use Rattle.nmgc_minor.specs.Inputs.{Inputs}
-use Rattle.nmgc_minor.specs.Found.{IsAliveAt, IsStart, IsFound}
-use Rattle.nmgc_minor.specs.Young.{IsYoung, IsWithin, Notes, PointsIn, CanFollow, Follows}
-use Rattle.nmgc_minor.specs.Start.{inputs_of, IsWeakStart, Finds}
+use Rattle.nmgc_minor.proofs.Vocabulary.{◌≡◌, ◌<◌, ◌+◌, ◌*◌, ℕ, List, [], ◌∷◌, ◌++◌, length, map, take, get_or, inl, inr, refl, sym, ap, subst, ◌∙◌, arith, ◌⊎◌, Contains, flat_map, take_more, Contains-append_left, Contains-push, Contains-push_cases, SHARED_SLOTS, FinQueue, Address, HEADER_WORDS, contains_flat, flat_contains, map_in, map_from, Young, Inputs, IsAliveAt, IsStart, IsFound, IsYoung, IsWithin, Notes, PointsIn, CanFollow, Follows, inputs_of, IsWeakStart, Finds, slice_index}
 use Rattle.nmgc_minor.proofs.NoteLaws.{notes_then, notes_none, notes_as}
 
 -- one more item of a list

@@ -1,40 +1,6 @@
 -- A heap at a stop can be promoted, and the passes settle it.
-use Rattle.std.proofs.Common.{◌≡◌, ◌<◌, ◌⊎◌, ℕ, List, map, inl, inr, refl, sym, ap, subst, arith}
-use Rattle.std.specs.Prelude.{Contains, slice_index}
-use Rattle.nmgc_world_spec.specs.declared.value.Name.{Name}
-use Rattle.nmgc_world_spec.specs.Reach.{Lists}
-use Rattle.nmgc_lists.specs.laws.Items.{contains_tail, contains_map as map_in, map_contains as map_from}
-use Rattle.nmgc_object.specs.Words.{header_word, name_word, IsHeader, IsName}
-use Rattle.nmgc_object.specs.Places.{nursery_place}
-use Rattle.nmgc_object.specs.declared.words.Header.{Header}
-use Rattle.nmgc_object.specs.declared.layout.Layout.{Layout}
-use Rattle.nmgc_object.specs.declared.layout.Nursery.{Nursery}
-use Rattle.nmgc_alloc.specs.Numbered.{Segments}
-use Rattle.nmgc_alloc.specs.Segments.{IsSegments}
-use Rattle.nmgc_alloc.specs.AllocState.{AllocState}
-use Rattle.nmgc_alloc.specs.Stands.{StandsFor}
-use Rattle.nmgc_alloc.specs.Reserve.{KeepsReserve}
-use Rattle.nmgc_alloc.specs.laws.Reserve.{begins}
-use Rattle.nmgc_heap_spec.specs.Places.{Place}
-use Rattle.nmgc_heap_spec.specs.Represents.{Represents, NoNode}
-use Rattle.nmgc_heap_spec.specs.Roots.{RepresentsRoots}
-use Rattle.nmgc_heap_spec.specs.Moves.{Moved, StillSpoken, old_place, settled}
-use Rattle.nmgc_heap_spec.specs.laws.Roots.{roots_moved}
-use Rattle.nmgc_blocks_spec.specs.Nurseries.{AreEmpty}
-use Rattle.nmgc_blocks_spec.specs.Occupied.{AreBlocks}
-use Rattle.nmgc_blocks_spec.specs.Promoted.{IsPromoted, PlacesEach}
-use Rattle.nmgc_blocks_spec.specs.Stopped.{Stopped, IsStopped, IsSettled, earlier_of, young_base}
-use Rattle.nmgc_minor.specs.declared.placing.Move.{Move}
-use Rattle.nmgc_minor.specs.Inputs.{Inputs, HasInputs}
-use Rattle.nmgc_minor.specs.Forwarding.{forward_word}
-use Rattle.nmgc_minor.specs.Placing.{moved_of}
-use Rattle.nmgc_minor.specs.Promotes.{CanPromoteWith, Promotes}
-use Rattle.nmgc_minor.proofs.RootLaws.{has_inputs}
-use Rattle.nmgc_minor.proofs.Allows.{recorded_low, world_allows}
-use Rattle.nmgc_minor.proofs.PromotedLaws.{found_promoted, promoted_found}
-use Rattle.nmgc_minor.proofs.Final.{taken, moves_in_order, promotes_moves, promotes_represents, promotes_blocks, promotes_fields}
-use Rattle.nmgc_minor.proofs.AllocationLaws.{stands_final, places_each}
-use Rattle.nmgc_minor.specs.laws.Common.{names_twice}
+use Rattle.nmgc_minor.proofs.Vocabulary.{RepresentsRoots, ◌≡◌, ◌<◌, ◌⊎◌, ℕ, List, map, inl, inr, refl, sym, ap, subst, arith, Contains, Name, Lists, contains_tail, map_in, map_from, header_word, name_word, IsHeader, IsName, nursery_place, Header, Layout, Nursery, Segments, IsSegments, AllocState, StandsFor, KeepsReserve, begins, Place, NoNode, Moved, StillSpoken, old_place, settled, roots_moved, AreEmpty, AreBlocks, IsPromoted, PlacesEach, Stopped, IsStopped, IsSettled, earlier_of, young_base, Move, Inputs, HasInputs, forward_word, moved_of, CanPromoteWith, Promotes, names_twice, slice_index}
+use Rattle.nmgc_minor.proofs.{RootLaws.has_inputs, Allows.recorded_low, Allows.world_allows, PromotedLaws.found_promoted, PromotedLaws.promoted_found, Final.taken, Final.moves_in_order, Final.promotes_moves, Final.promotes_represents, Final.promotes_blocks, Final.promotes_fields, AllocationLaws.stands_final, AllocationLaws.places_each}
 
 module _ (t : Stopped) (s : Segments) (old : List ℕ) (nurseries : List Nursery) (inputs : Inputs)
     (differ : (a b : Header) → IsHeader a → IsHeader b → header_word a ≡ header_word b → a ≡ b)
@@ -114,8 +80,7 @@ module _ (t : Stopped) (s : Segments) (old : List ℕ) (nurseries : List Nursery
           promoted = subst (λ (xs : List Name). Lists (IsPromoted t.began t.world) xs) (sym (names_twice moves)) lists;
           moved = taken_at;
           low = λ d c. subst (λ (b : ℕ). d.to < b) base_same (moved.taken d c).2;
-          represents = subst (λ (l : Layout).
-              Represents l t.later NoNode (settled (nursery_place l 0) (map moved_of moves) t.places) t.world new) (sym same) represents;
+          represents = rw same represents;
           roots = subst (λ (b : ℕ).
               RepresentsRoots (settled b (map moved_of moves) t.places) t.world (map (forward_word table (young_base s)) inputs.registers)
               (map (map (forward_word table (young_base s))) inputs.queues) t.serials) base_same roots;

@@ -1,30 +1,12 @@
 -- The three writes of the third pass, one after the other.
-use Rattle.std.proofs.Common.{◌≡◌, ◌≢◌, ◌<◌, ◌≤◌, ◌+◌, ◌-◌, ℕ, List, ◌++◌, length, map, take, drop, inl, inr, refl, sym, ap, subst, ◌∙◌, arith, ◌⊎◌}
+use Rattle.std.proofs.{Common.◌≡◌, Common.◌≢◌, Common.◌<◌, Common.◌≤◌, Common.◌+◌, Common.◌-◌, Common.ℕ, Common.List, Common.◌++◌, Common.length, Common.map, Common.take, Common.drop, Common.inl, Common.inr, Common.refl, Common.sym, Common.ap, Common.subst, Common.◌∙◌, Common.arith, Common.◌⊎◌, Math.ListN.get_or-eq_default, lemmas.Bool.cases_lt, lemmas.Bool.cases_eq, lemmas.List.take_at}
 use Rattle.std.specs.Prelude.{Contains, slice_index}
-use Rattle.std.proofs.Math.ListN.{get_or-eq_default}
-use Rattle.std.proofs.lemmas.Bool.{cases_lt, cases_eq}
-use Rattle.std.proofs.lemmas.List.{take_at}
-use Rattle.nmgc_object.specs.declared.words.Address.{Address}
-use Rattle.nmgc_object.specs.declared.words.Header.{Header}
-use Rattle.nmgc_object.specs.declared.size.TheConstants.{HEADER_WORDS}
-use Rattle.nmgc_object.specs.Places.{nursery_place}
-use Rattle.nmgc_object.specs.declared.layout.Layout.{Layout}
-use Rattle.nmgc_object.specs.declared.layout.Nursery.{Nursery}
-use Rattle.nmgc_alloc.specs.Numbered.{Segments}
-use Rattle.nmgc_alloc.specs.Segments.{IsSegments}
+use Rattle.nmgc_object.specs.{declared.words.Address.Address, declared.words.Header.Header, declared.size.TheConstants.HEADER_WORDS, Places.nursery_place, declared.layout.Layout.Layout, declared.layout.Nursery.Nursery}
+use Rattle.nmgc_alloc.specs.{Numbered.Segments, Segments.IsSegments}
 use Rattle.nmgc_heap_spec.specs.Moves.{Moved, Copies}
-use Rattle.nmgc_minor.specs.declared.placing.Move.{Move}
-use Rattle.nmgc_minor.specs.declared.young.Young.{Young}
-use Rattle.nmgc_minor.specs.Inputs.{Inputs}
-use Rattle.nmgc_minor.specs.Found.{IsStart, IsFound}
-use Rattle.nmgc_minor.specs.Young.{IsIn, IsYoung, HasHeader}
-use Rattle.nmgc_minor.specs.Start.{Finds}
-use Rattle.nmgc_minor.specs.Placing.{AreNurseries, CanPlaceEach, HasHeaderWord, IsMarked, IsSharedSlot, PlacesRange, moved_of}
-use Rattle.nmgc_minor.specs.Forwarding.{forward_word, ForwardsAt, CanCopyAll, CopiesAll}
-use Rattle.nmgc_minor.specs.Promotes.{CanPromote, Promotes, Leaves}
-use Rattle.nmgc_blocks_spec.specs.laws.Blocks.{IsBlock, is_block, occupied_apart}
-use Rattle.nmgc_minor.proofs.ForwardLaws.{twice, table_forwards}
-use Rattle.nmgc_minor.proofs.PlacingLaws.{few_moves}
+use Rattle.nmgc_minor.specs.{declared.placing.Move.Move, declared.young.Young.Young, Inputs.Inputs, Found.IsStart, Found.IsFound, Young.IsIn, Young.IsYoung, Start.Finds, Forwarding.forward_word, Forwarding.ForwardsAt, Forwarding.CanCopyAll, Forwarding.CopiesAll, Promotes.CanPromote, Promotes.Promotes, Promotes.Leaves, Placing.AreNurseries, Placing.CanPlaceEach, Placing.HasHeaderWord, Placing.IsMarked, Placing.IsSharedSlot, Placing.PlacesRange, Placing.moved_of}
+use Rattle.nmgc_blocks_spec.specs.{Strong.HasHeader, laws.Blocks.IsBlock, laws.Blocks.is_block, laws.Blocks.occupied_apart}
+use Rattle.nmgc_minor.proofs.{ForwardLaws.twice, ForwardLaws.table_forwards, PlacingLaws.few_moves}
 use Rattle.nmgc_lists.specs.laws.Items.{contains_map as map_in, map_contains as map_from}
 
 pub address_in : (xs : List Address) (x : Address) → Contains xs x → Contains (map (λ (at : Address). at.0) xs) x.0

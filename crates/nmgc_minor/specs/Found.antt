@@ -4,9 +4,7 @@
 -- represent is what `promote` promises at a stop.
 use Rattle.std.specs.Prelude.{ℕ, ◌≡◌, ◌≢◌, ◌+◌, ◌*◌, ◌<◌, ◌≤◌, List, slice_index, Contains}
 use Rattle.nmgc_limits.specs.declared.mutators.TheConstants.{SHARED_SLOTS}
-use Rattle.nmgc_object.specs.declared.layout.TheConstants.{SHARED_PLACE}
-use Rattle.nmgc_object.specs.declared.words.TheConstants.{WEAK_FIELDS}
-use Rattle.nmgc_object.specs.declared.size.TheConstants.{HEADER_WORDS}
+use Rattle.nmgc_object.specs.{declared.layout.TheConstants.SHARED_PLACE, declared.words.TheConstants.WEAK_FIELDS, declared.size.TheConstants.HEADER_WORDS}
 use Rattle.nmgc_minor.specs.Inputs.{Inputs}
 use Rattle.nmgc_blocks_spec.specs.Strong.{HasStrong}
 

@@ -1,9 +1,6 @@
 -- What the search reads beside the words, and what must hold of it in the world.
 use Rattle.std.specs.Prelude.{ℕ, ◌*◌, List, Contains}
-use Rattle.nmgc_world_spec.specs.declared.value.Name.{Name}
-use Rattle.nmgc_world_spec.specs.declared.value.Value.{Value}
-use Rattle.nmgc_world_spec.specs.declared.value.Value.TheVariants.{Ref}
-use Rattle.nmgc_world_spec.specs.World.{World, state_of}
+use Rattle.nmgc_world_spec.specs.{declared.value.Name.Name, declared.value.Value.Value, declared.value.Value.TheVariants.Ref, World.World, World.state_of}
 use Rattle.nmgc_heap_spec.specs.Places.{Place, Means}
 use Rattle.nmgc_blocks_spec.specs.Remembers.{Remembers}
 

@@ -2,24 +2,11 @@
 use Rattle.std.specs.Prelude.{ℕ, ◌≡◌, ◌≢◌, ◌+◌, ◌-◌, ◌*◌, ◌<◌, ◌≤◌, ◌⊎◌, List, [], ◌∷◌, length, map, slice_index, slice_set, Contains}
 use Rattle.nmgc_limits.specs.declared.mutators.TheConstants.{SHARED_SLOTS}
 use Rattle.nmgc_world_spec.specs.declared.value.Name.{Name}
-use Rattle.nmgc_object.specs.Words.{header_word, name_word, IsHeader, IsName}
-use Rattle.nmgc_object.specs.Size.{block_size, IsClassOf}
-use Rattle.nmgc_object.specs.declared.layout.Layout.{Layout}
-use Rattle.nmgc_object.specs.declared.words.Header.{Header}
-use Rattle.nmgc_object.specs.Places.{nursery_place}
-use Rattle.nmgc_object.specs.declared.layout.Nursery.{Nursery}
-use Rattle.nmgc_object.specs.declared.layout.TheConstants.{SHARED_PLACE}
-use Rattle.nmgc_object.specs.declared.size.TheConstants.{HEADER_WORDS, NAME_OFFSET}
-use Rattle.nmgc_alloc.specs.Numbered.{Segments, block_place}
-use Rattle.nmgc_alloc.specs.Segments.{Allocates}
-use Rattle.nmgc_alloc.specs.AllocState.{AllocState, PlacesName}
-use Rattle.nmgc_alloc.specs.Stands.{StandsFor}
-use Rattle.nmgc_alloc.specs.Reserve.{KeepsReserve}
-use Rattle.nmgc_blocks_spec.specs.Nurseries.{nursery_at}
+use Rattle.nmgc_object.specs.{Words.header_word, Words.name_word, Words.IsHeader, Words.IsName, Size.block_size, Size.IsClassOf, declared.layout.Layout.Layout, declared.words.Header.Header, Places.nursery_place, declared.layout.Nursery.Nursery, declared.layout.TheConstants.SHARED_PLACE, declared.size.TheConstants.HEADER_WORDS, declared.size.TheConstants.NAME_OFFSET}
+use Rattle.nmgc_alloc.specs.{Numbered.Segments, Numbered.block_place, Segments.Allocates, AllocState.AllocState, AllocState.PlacesName, Stands.StandsFor, Reserve.KeepsReserve}
+use Rattle.nmgc_blocks_spec.specs.{Nurseries.nursery_at, Strong.HasHeader, Occupied.IsOccupied, Occupied.KeepsMarks}
 use Rattle.nmgc_heap_spec.specs.Moves.{Moved, Copies}
 use Rattle.nmgc_minor.specs.declared.placing.Move.{Move}
-use Rattle.nmgc_minor.specs.Young.{HasHeader}
-use Rattle.nmgc_blocks_spec.specs.Occupied.{IsOccupied, KeepsMarks}
 
 -- the word is the header of the object at the place
 abbrev pub HasHeaderWord : List ℕ → ℕ → Header → Type 0

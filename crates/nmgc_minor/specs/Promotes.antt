@@ -1,28 +1,12 @@
 -- What the three passes together do to words and segments.
 use Rattle.std.specs.List.{flat_map}
 use Rattle.std.specs.Prelude.{ℕ, ◌≡◌, ◌≢◌, ◌+◌, ◌*◌, ◌<◌, ◌≤◌, ◌⊎◌, List, [], length, map, slice_index, Contains}
-use Rattle.nmgc_object.specs.Words.{name_word, IsName}
-use Rattle.nmgc_object.specs.Places.{nursery_place}
-use Rattle.nmgc_object.specs.declared.layout.TheConstants.{FIRST_PLACE}
-use Rattle.nmgc_object.specs.declared.size.TheConstants.{HEADER_WORDS}
-use Rattle.nmgc_object.specs.declared.words.TheConstants.{WEAK_FIELDS}
-use Rattle.nmgc_object.specs.declared.layout.Nursery.{Nursery}
-use Rattle.nmgc_object.specs.declared.words.Address.{Address}
-use Rattle.nmgc_object.specs.FinQueue.{FinQueue}
-use Rattle.nmgc_alloc.specs.Numbered.{Segments}
-use Rattle.nmgc_alloc.specs.Segments.{IsSegments}
-use Rattle.nmgc_alloc.specs.Reserve.{KeepsReserve}
+use Rattle.nmgc_object.specs.{Words.name_word, Words.IsName, Places.nursery_place, declared.layout.TheConstants.FIRST_PLACE, declared.size.TheConstants.HEADER_WORDS, declared.size.TheConstants.NAME_OFFSET, declared.words.TheConstants.WEAK_FIELDS, declared.layout.Nursery.Nursery, declared.words.Address.Address, FinQueue.FinQueue}
+use Rattle.nmgc_alloc.specs.{Numbered.Segments, Segments.IsSegments, Reserve.KeepsReserve}
 use Rattle.nmgc_heap_spec.specs.Moves.{Moved, Forwards}
-use Rattle.nmgc_blocks_spec.specs.Nurseries.{AreEmpty}
-use Rattle.nmgc_blocks_spec.specs.Stopped.{Stopped, IsStopped}
-use Rattle.nmgc_minor.specs.declared.placing.Move.{Move}
-use Rattle.nmgc_minor.specs.declared.young.Young.{Young}
-use Rattle.nmgc_minor.specs.Inputs.{Inputs}
-use Rattle.nmgc_minor.specs.Found.{IsStart, IsFound}
-use Rattle.nmgc_minor.specs.Young.{IsIn, IsYoung, IsWithin, CanFollow}
+use Rattle.nmgc_blocks_spec.specs.{Nurseries.AreEmpty, Stopped.Stopped, Stopped.IsStopped}
+use Rattle.nmgc_minor.specs.{declared.placing.Move.Move, declared.young.Young.Young, Inputs.Inputs, Found.IsStart, Found.IsFound, Young.IsIn, Young.IsYoung, Young.IsWithin, Young.CanFollow, Forwarding.forward_word, Start.words_of, Start.places_of}
 use Rattle.nmgc_minor.specs.Placing.{AreNurseries, CanPlaceEach, IsMarked, IsPlacing, Rewrites, StandsAfter, AreRising, moved_of}
-use Rattle.nmgc_minor.specs.Forwarding.{forward_word}
-use Rattle.nmgc_minor.specs.Start.{words_of, places_of}
 
 -- what the passes ask of the words, of segments and of their own lists, all of which the world gives
 pub record CanPromote (y : Young) (s : Segments) (words : List ℕ) (nurseries : List Nursery) (inputs : Inputs) : Type 0 where
@@ -58,7 +42,7 @@ pub record Promotes (base : ℕ) (old new : List ℕ) (s s' : Segments) (moves :
   pub found : (m : Move) → Contains moves m → IsFound base old (IsStart inputs old) m.from.0
   pub all : (at : ℕ) → IsFound base old (IsStart inputs old) at → (m : Move) × Contains moves m × (m.from.0 ≡ at)
   pub once : (a b : Move) → Contains moves a → Contains moves b → a.from.0 ≡ b.from.0 → a ≡ b
-  pub named : (m : Move) → Contains moves m → IsName m.name × (slice_index old (m.from.0 + 1) ≡ name_word m.name)
+  pub named : (m : Move) → Contains moves m → IsName m.name × (slice_index old (m.from.0 + NAME_OFFSET) ≡ name_word m.name)
   pub placing : IsPlacing s s' old (map moved_of moves)
   pub stands : StandsAfter s s' old moves
   pub rising : AreRising moves

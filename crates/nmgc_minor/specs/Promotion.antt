@@ -1,7 +1,6 @@
 -- What contracts see of a promotion.
 use Rattle.std.specs.Prelude.{ℕ, ◌≡◌, ◌*◌, List}
-use Rattle.nmgc_object.specs.declared.layout.Layout.{Layout}
-use Rattle.nmgc_object.specs.Places.{nursery_place}
+use Rattle.nmgc_object.specs.{declared.layout.Layout.Layout, Places.nursery_place}
 use Rattle.nmgc_minor.specs.declared.placing.Move.{Move}
 
 -- the word at which the nurseries begin and how many they are, for which memory was taken, and the moves of the last call

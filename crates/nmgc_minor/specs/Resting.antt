@@ -1,9 +1,7 @@
 -- The working lists between two promotions.
 use Rattle.std.specs.Prelude.{ℕ, ◌≡◌, ◌≢◌, ◌+◌, ◌<◌, ◌≤◌, [], length, slice_index}
 use Rattle.nmgc_lists.specs.Room.{Room}
-use Rattle.nmgc_minor.specs.declared.placing.Move.{Move}
-use Rattle.nmgc_minor.specs.declared.young.Young.{Young}
-use Rattle.nmgc_minor.specs.Young.{IsIn}
+use Rattle.nmgc_minor.specs.{declared.placing.Move.Move, declared.young.Young.Young, Young.IsIn}
 
 -- the lists have room for every entry of the table, and only what was found by the last promotion has an entry
 pub record IsResting (y : Young) (moves : Room Move) : Type 0 where

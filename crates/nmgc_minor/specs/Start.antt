@@ -1,15 +1,8 @@
 -- What the first pass reads and finds.
 use Rattle.std.specs.Prelude.{ℕ, ◌≡◌, ◌+◌, ◌*◌, ◌<◌, ◌⊎◌, List, length, map, slice_index}
 use Rattle.std.specs.List.{flat_map}
-use Rattle.nmgc_object.specs.FinQueue.{FinQueue}
-use Rattle.nmgc_object.specs.declared.words.Address.{Address}
-use Rattle.nmgc_object.specs.declared.words.TheConstants.{WEAK_FIELDS}
-use Rattle.nmgc_object.specs.declared.size.TheConstants.{HEADER_WORDS}
-use Rattle.nmgc_minor.specs.declared.young.Young.{Young}
-use Rattle.nmgc_minor.specs.Forwarding.{forward_word}
-use Rattle.nmgc_minor.specs.Inputs.{Inputs}
-use Rattle.nmgc_minor.specs.Found.{IsAliveAt, IsStart, IsFound}
-use Rattle.nmgc_minor.specs.Young.{IsYoung, IsIn}
+use Rattle.nmgc_object.specs.{FinQueue.FinQueue, declared.words.Address.Address, declared.words.TheConstants.WEAK_FIELDS, declared.size.TheConstants.HEADER_WORDS}
+use Rattle.nmgc_minor.specs.{declared.young.Young.Young, Inputs.Inputs, Found.IsAliveAt, Found.IsStart, Found.IsFound, Young.IsYoung, Young.IsIn}
 
 -- the words of queues
 abbrev pub words_of : List FinQueue → List (List ℕ)
@@ -45,7 +38,3 @@ pub record Finds (old new : Young) (words : List ℕ) (inputs : Inputs) : Type 0
   pub kept_room : new.found.spare + length new.found.items ≡ old.found.spare + length old.found.items
   pub sound : (at : ℕ) → IsIn new at → IsFound old.base words (IsStart inputs words) at
   pub complete : (at : ℕ) → IsFound old.base words (IsStart inputs words) at → IsIn new at
-
--- a queue with its words forwarded
-abbrev pub forwarded_queue : List ℕ → ℕ → FinQueue → FinQueue
-forwarded_queue table base queue = record queue { words = map (forward_word table base) queue.words }

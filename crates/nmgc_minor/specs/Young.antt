@@ -1,13 +1,8 @@
 -- The table and the list of the young objects that were found.
 use Rattle.std.specs.Prelude.{ℕ, ◌≡◌, ◌≢◌, ◌+◌, ◌*◌, ◌<◌, ◌≤◌, ◌⊎◌, ◌^◌, ◌==◌, List, ◌++◌, length, slice_index, slice_index_or, count_by, Contains}
-use Rattle.nmgc_object.specs.Words.{header_word, IsHeader}
 use Rattle.nmgc_object.specs.declared.words.Address.{Address}
-use Rattle.nmgc_object.specs.declared.words.Header.{Header}
-use Rattle.nmgc_object.specs.declared.size.TheConstants.{HEADER_WORDS}
-use Rattle.nmgc_blocks_spec.specs.Strong.{HasStrong, strong_of}
-use Rattle.nmgc_minor.specs.declared.young.Young.{Young}
-use Rattle.nmgc_minor.specs.declared.young.TheConstants.{FOUND}
-use Rattle.nmgc_minor.specs.Found.{IsFound}
+use Rattle.nmgc_blocks_spec.specs.Strong.{HasStrong, HasHeader}
+use Rattle.nmgc_minor.specs.{declared.young.Young.Young, declared.young.TheConstants.FOUND, Found.IsFound}
 
 -- the object at the place was found
 abbrev pub IsIn : Young → ℕ → Type 0
@@ -28,10 +23,6 @@ pub record IsYoung (y : Young) : Type 0 where
 abbrev pub IsWithin : Young → ℕ → Type 0
 IsWithin y word = (at : ℕ) → word ≡ 2 * at → y.base ≤ at → at < y.base + length y.table.items
 
--- the word is one of those from one place up to another
-abbrev pub IsAmong : List ℕ → ℕ → ℕ → ℕ → Type 0
-IsAmong words from to word = (i : ℕ) × (from ≤ i) × (i < to) × (slice_index words i ≡ word)
-
 -- exactly what these words point to was found beside what was found before, at the end of the list
 pub record Notes (old new : Young) (Given : ℕ → Type 0) : Type 0 where
   pub young : IsYoung new
@@ -46,23 +37,6 @@ pub record Notes (old new : Young) (Given : ℕ → Type 0) : Type 0 where
 -- the words that point to what was found
 abbrev pub PointsIn : Young → ℕ → Type 0
 PointsIn y word = (at : ℕ) × (word ≡ 2 * at) × IsIn y at
-
--- an object of a valid header lies within the words
-pub record HasHeader (words : List ℕ) (at : ℕ) : Type 0 where
-  pub header : Header
-  pub valid : IsHeader header
-  pub read : slice_index words at ≡ header_word header
-  pub inside : at + HEADER_WORDS + header.fields ≤ length words
-
--- where the strong fields of the object at the place begin and end
-pub record IsStrongRange (words : List ℕ) (at from to : ℕ) : Type 0 where
-  pub header : Header
-  pub valid : IsHeader header
-  pub read : slice_index words at ≡ header_word header
-  pub first : from ≡ at + HEADER_WORDS + (strong_of words at header).0
-  pub last : to ≡ at + HEADER_WORDS + (strong_of words at header).1
-  pub ordered : from ≤ to
-  pub inside : to ≤ length words
 
 -- what can be followed: a young object within the words, whose strong fields point into the table where they point to young objects
 pub record CanFollow (y : Young) (words : List ℕ) (at : ℕ) : Type 0 where

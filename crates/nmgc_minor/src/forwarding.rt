@@ -5,12 +5,9 @@
 //! into the table is left.
 ghost use Rattle.std.specs.Prelude.{ℕ, ◌≡◌, ◌+◌, ◌<◌, ◌≤◌, length, slice_index, set, map, Contains};
 ghost use Rattle.std.specs.List.{flat_map};
-ghost use Rattle.nmgc_minor.specs.Young.{HasHeader};
-ghost use Rattle.nmgc_minor.specs.Placing.{IsSharedSlot, HasHeaderWord};
-ghost use Rattle.nmgc_minor.specs.Forwarding.{forward_word, ForwardsAt, CopiesFields, CopiesObject, CanCopyAll, CopiesAll};
-ghost use Rattle.nmgc_object.specs.declared.layout.TheConstants.{FIRST_PLACE};
-ghost use Rattle.nmgc_object.specs.declared.words.Header.{Header};
-ghost use Rattle.nmgc_object.specs.declared.size.TheConstants.{HEADER_WORDS as HEADERS};
+ghost use Rattle.nmgc_blocks_spec.specs.Strong.{HasHeader};
+ghost use Rattle.nmgc_minor.specs.{Placing.IsSharedSlot, Placing.HasHeaderWord, Forwarding.forward_word, Forwarding.ForwardsAt, Forwarding.CopiesFields, Forwarding.CopiesObject, Forwarding.CanCopyAll, Forwarding.CopiesAll};
+ghost use Rattle.nmgc_object.specs.{declared.layout.TheConstants.FIRST_PLACE, declared.words.Header.Header, declared.size.TheConstants.HEADER_WORDS as HEADERS};
 
 use crate::placing::Move;
 use nmgc_heap_spec::{HeapWords, MutatorRoots};

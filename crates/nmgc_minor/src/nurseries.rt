@@ -4,12 +4,10 @@
 //! goes on behind its words. That the objects lie apart is what keeps their words within the nursery's, and so
 //! the reserve sufficient.
 ghost use Rattle.std.specs.Prelude.{ℕ, ◌≡◌, ◌+◌, ◌-◌, ◌*◌, ◌<◌, ◌≤◌, ◌⊎◌, ◌++◌, List, length, map};
-ghost use Rattle.nmgc_alloc.specs.Reserve.{KeepsReserve};
+ghost use Rattle.nmgc_alloc.specs.{Reserve.KeepsReserve, Segments.IsSegments, Segments.IsMutator};
 ghost use Rattle.nmgc_blocks_spec.specs.Nurseries.{AreEmpty};
-ghost use Rattle.nmgc_alloc.specs.Segments.{IsSegments, IsMutator};
-ghost use Rattle.nmgc_minor.specs.declared.placing.Move.{Move as Shown};
+ghost use Rattle.nmgc_minor.specs.{declared.placing.Move.Move as Shown, Placing.CanPlaceAll, Placing.CanPlaceEach, Placing.AreNurseries, Placing.PlacesRange};
 ghost use Rattle.nmgc_object.specs.Places.{nursery_place};
-ghost use Rattle.nmgc_minor.specs.Placing.{CanPlaceAll, CanPlaceEach, AreNurseries, PlacesRange};
 
 use crate::placing::{Move, object_words, place_object};
 use nmgc_alloc::Segments;

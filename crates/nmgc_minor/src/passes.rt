@@ -10,10 +10,7 @@
 ghost use Rattle.std.specs.Prelude.{ℕ, ◌≡◌, ◌≢◌, ◌+◌, ◌*◌, ◌<◌, ◌≤◌, List, [], length, map, slice_index, Contains};
 ghost use Rattle.nmgc_object.specs.Places.{nursery_place};
 ghost use Rattle.nmgc_alloc.specs.Segments.{IsSegments};
-ghost use Rattle.nmgc_minor.specs.Start.{inputs_by, forwarded_queue};
-ghost use Rattle.nmgc_minor.specs.Forwarding.{forward_word};
-ghost use Rattle.nmgc_minor.specs.Promotes.{CanPromote, CanPromoteWith, Promotes, Leaves, promoted};
-ghost use Rattle.nmgc_minor.specs.Resting.{IsResting, IsCleared};
+ghost use Rattle.nmgc_minor.specs.{Start.inputs_by, Forwarding.forward_word, Promotes.CanPromote, Promotes.CanPromoteWith, Promotes.Promotes, Promotes.Leaves, Promotes.forwarded, Promotes.promoted, Resting.IsResting, Resting.IsCleared};
 
 use crate::forwarding::{copy_all, forward_recorded, forward_shared, forward_words, forwarded};
 use crate::nurseries::place_nurseries;
@@ -73,7 +70,7 @@ fn forget(base: u32, table: &mut [u32], found: &[Address])
 
 // Forwards the words of a queue. One that has no young object is left as it is, and so it is with each in a run.
 fn forward_queue(table: &[u32], base: u32, queue: &mut FinQueue)
-    ensures { queue.new ≡ forwarded_queue table.now base queue.old }
+    ensures { queue.new ≡ forwarded (forward_word table.now base) queue.old }
 {
     if queue.is_below(base) {
         return;

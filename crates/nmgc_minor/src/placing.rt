@@ -4,14 +4,10 @@
 //! nurseries in the order of their makers, so the table is read from its beginning on, and no sort is
 //! needed.
 ghost use Rattle.std.specs.Prelude.{ℕ, ◌≡◌, ◌+◌, ◌<◌, ◌≤◌, ◌*◌, ◌++◌, List, length, slice_index};
-ghost use Rattle.nmgc_object.specs.Size.{block_size};
-ghost use Rattle.nmgc_object.specs.Words.{name_word};
-ghost use Rattle.nmgc_object.specs.declared.words.Header.{Header};
-ghost use Rattle.nmgc_alloc.specs.Reserve.{KeepsReserve};
-ghost use Rattle.nmgc_alloc.specs.Segments.{IsSegments, IsMutator, IsClass, HasRoom};
-ghost use Rattle.nmgc_minor.specs.Young.{HasHeader};
+ghost use Rattle.nmgc_object.specs.{Size.block_size, Words.name_word, declared.words.Header.Header, declared.size.TheConstants.HEADER_WORDS as HEADERS, declared.size.TheConstants.MAX_BLOCK_WORDS};
+ghost use Rattle.nmgc_alloc.specs.{Reserve.KeepsReserve, Segments.IsSegments, Segments.IsMutator, Segments.IsClass, Segments.HasRoom};
+ghost use Rattle.nmgc_blocks_spec.specs.Strong.{HasHeader};
 ghost use Rattle.nmgc_minor.specs.Placing.{CanPlace, PlacesOne, HasHeaderWord};
-ghost use Rattle.nmgc_object.specs.declared.size.TheConstants.{HEADER_WORDS as HEADERS, MAX_BLOCK_WORDS};
 
 use nmgc_alloc::Segments;
 use nmgc_heap_spec::HeapWords;

@@ -1,16 +1,10 @@
 //! Promotion as a whole: what it is given, and what it promises of the world.
 ghost use Rattle.std.specs.Prelude.{ℕ, ◌≡◌, ◌+◌, ◌*◌, ◌<◌, ◌≤◌, length, map, IfOk};
 ghost use Rattle.std.specs.List.{flat_map};
-ghost use Rattle.nmgc_alloc.specs.AllocState.{AllocState};
-ghost use Rattle.nmgc_alloc.specs.Stands.{StandsFor};
-ghost use Rattle.nmgc_alloc.specs.Segments.{IsSegments};
-ghost use Rattle.nmgc_blocks_spec.specs.Occupied.{KeepsMarks};
-ghost use Rattle.nmgc_blocks_spec.specs.Promoted.{PlacesEach};
-ghost use Rattle.nmgc_blocks_spec.specs.Stopped.{Stopped, IsSettled, young_base};
-ghost use Rattle.nmgc_minor.specs.Placing.{moved_of};
+ghost use Rattle.nmgc_alloc.specs.{AllocState.AllocState, Stands.StandsFor, Segments.IsSegments};
+ghost use Rattle.nmgc_blocks_spec.specs.{Occupied.KeepsMarks, Promoted.PlacesEach, Stopped.Stopped, Stopped.IsSettled, Stopped.young_base};
+ghost use Rattle.nmgc_minor.specs.{Placing.moved_of, Promotes.Changes, Promotes.IsStoppedBy, Promotes.promoted, Start.words_of, Start.places_of};
 ghost use Rattle.nmgc_heap_spec.specs.Emptied.{emptied};
-ghost use Rattle.nmgc_minor.specs.Promotes.{Changes, IsStoppedBy, promoted};
-ghost use Rattle.nmgc_minor.specs.Start.{words_of, places_of};
 
 use crate::passes::run_passes;
 use crate::placing::Move;
@@ -32,8 +26,7 @@ pub struct Promotion {
 
 impl Model for Promotion {
     ghost use Rattle.std.specs.Prelude.{length};
-    ghost use Rattle.nmgc_minor.specs.Promotion.{Promotion as Shown};
-    ghost use Rattle.nmgc_minor.specs.Resting.{IsResting};
+    ghost use Rattle.nmgc_minor.specs.{Promotion.Promotion as Shown, Resting.IsResting};
 
     ghost Value = { Shown };
 

@@ -2,14 +2,8 @@
 ghost use Rattle.std.specs.Prelude.{ℕ, ◌≡◌, ◌+◌, ◌≤◌, ◌<◌, List, [], length, map, slice_index, Contains};
 ghost use Rattle.std.specs.List.{flat_map};
 ghost use Rattle.nmgc_limits.specs.declared.mutators.TheConstants.{SHARED_SLOTS};
-ghost use Rattle.nmgc_object.specs.declared.layout.TheConstants.{SHARED_PLACE, FIRST_PLACE};
-ghost use Rattle.nmgc_object.specs.declared.size.TheConstants.{HEADER_WORDS};
-ghost use Rattle.nmgc_object.specs.declared.words.TheConstants.{WEAK_FIELDS};
-ghost use Rattle.nmgc_object.specs.declared.words.Address.{Address};
-ghost use Rattle.nmgc_object.specs.FinQueue.{FinQueue as Queue};
-ghost use Rattle.nmgc_minor.specs.Found.{IsStart, IsFound};
-ghost use Rattle.nmgc_minor.specs.Young.{IsYoung, IsIn, IsWithin, Notes, CanFollow};
-ghost use Rattle.nmgc_minor.specs.Start.{inputs_by, IsWeakStart, Finds};
+ghost use Rattle.nmgc_object.specs.{declared.layout.TheConstants.SHARED_PLACE, declared.layout.TheConstants.FIRST_PLACE, declared.size.TheConstants.HEADER_WORDS, declared.words.TheConstants.WEAK_FIELDS, declared.words.Address.Address, FinQueue.FinQueue as Queue};
+ghost use Rattle.nmgc_minor.specs.{Found.IsStart, Found.IsFound, Young.IsYoung, Young.IsIn, Young.IsWithin, Young.Notes, Young.CanFollow, Start.inputs_by, Start.IsWeakStart, Start.Finds};
 
 use crate::young::Young;
 use nmgc_heap_spec::{HeapWords, MutatorRoots};

@@ -5,8 +5,7 @@
 //! above g. Each found object is in the list once, and the list is gone through once, from its front.
 ghost use Rattle.std.specs.Prelude.{ℕ, ◌≡◌, ◌+◌, ◌*◌, ◌<◌, ◌≤◌, ◌⊎◌, length, slice_index, Contains, IfSome, IfNone};
 ghost use Rattle.nmgc_minor.specs.Found.{IsFound};
-ghost use Rattle.nmgc_blocks_spec.specs.Strong.{HasStrong};
-ghost use Rattle.nmgc_minor.specs.Young.{HasHeader, IsStrongRange};
+ghost use Rattle.nmgc_blocks_spec.specs.Strong.{HasStrong, HasHeader, IsAmong, IsStrongRange};
 
 use nmgc_heap_spec::HeapWords;
 use nmgc_lists::Room;
@@ -50,7 +49,7 @@ pub fn strong_fields<W: HeapWords>(words: &mut W, at: Address) -> (usize, usize)
 }
 
 impl Young {
-    ghost use Rattle.nmgc_minor.specs.Young.{IsIn, IsYoung, IsWithin, IsAmong, Notes, PointsIn, CanFollow, Follows};
+    ghost use Rattle.nmgc_minor.specs.Young.{IsIn, IsYoung, IsWithin, Notes, PointsIn, CanFollow, Follows};
 
     /// The entry of the table for a pointer to a young object.
     pub fn entry(&self, word: u64) -> Option<usize>

@@ -1,12 +1,5 @@
 -- What a field word refers to, by the place in it: an object in a segment, or one in a nursery.
-use Rattle.std.proofs.Common.{◌≡◌, ℕ, ◌+◌, ◌*◌, ◌/◌, ◌%◌, ◌<◌, ◌≤◌, [], ◌∷◌, refl, sym, ap, ◌∙◌, arith, inl, inr, Bool, true, false, eqb, leb, ltb, eq-eqb, ne_eqb}
-use Rattle.std.proofs.Math.Bool.{and-false}
-use Rattle.std.proofs.lemmas.Bool.{cases_lt, le-leb, lt-leb, lt-ltb, le-ltb}
-use Rattle.nmgc_object.specs.declared.layout.TheConstants.{FIRST_PLACE}
-use Rattle.nmgc_object.specs.declared.layout.Layout.{Layout}
-use Rattle.nmgc_object.specs.Places.{nursery_place}
-use Rattle.nmgc_round.specs.View.{owed_word}
-use Rattle.nmgc_mutator.specs.Records.{is_young, is_old, all_pushed}
+use Rattle.nmgc_mutator.proofs.Vocabulary.{◌≡◌, ℕ, ◌+◌, ◌*◌, ◌/◌, ◌%◌, ◌<◌, ◌≤◌, [], ◌∷◌, refl, sym, ap, ◌∙◌, arith, inl, inr, Bool, true, false, eqb, leb, ltb, eq-eqb, ne_eqb, and-false, cases_lt, le-leb, lt-leb, lt-ltb, le-ltb, FIRST_PLACE, Layout, nursery_place, owed_word, is_young, is_old, all_pushed}
 
 -- the word of a place
 module _ (layout : Layout) (w at : ℕ) (is : w ≡ 2 * at) where

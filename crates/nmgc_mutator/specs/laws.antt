@@ -1,3 +1,4 @@
 pub mod Common
 pub mod Refilled
 pub mod Starts
+mod Vocabulary

@@ -17,12 +17,9 @@
 //!
 //! Easy to get wrong: it is the old word that is pushed, and the new one that is recorded.
 ghost use Rattle.std.specs.Prelude.{◌≡◌, ◌++◌, ◌+◌, ◌*◌, ◌-◌, ◌^◌, ◌<◌, length, Some, ◌≤◌};
-ghost use Rattle.nmgc_round.specs.View.{owed_word};
-ghost use Rattle.nmgc_mutator.specs.Ready.{IsWhole};
-ghost use Rattle.nmgc_mutator.specs.Records.{numbers, is_young, is_old, recorded_at, pushed_at, all_pushed};
-ghost use Rattle.nmgc_mutator.specs.Does.{with_recorded, with_finalised, with_updrem};
+ghost use Rattle.nmgc_round.specs.{View.owed_word, Owing.owed_words};
+ghost use Rattle.nmgc_mutator.specs.{Ready.IsWhole, Records.numbers, Records.is_young, Records.is_old, Records.recorded_at, Records.pushed_at, Records.all_pushed, Does.with_recorded, Does.with_finalised, Does.with_updrem};
 ghost use Rattle.nmgc_object.specs.declared.size.TheConstants.{HEADER_WORDS};
-ghost use Rattle.nmgc_round.specs.Owing.{owed_words};
 
 use crate::mutator::Mutator;
 use nmgc_object::{Address, FIRST_PLACE, FieldWord, HEADER_WORDS};

@@ -5,23 +5,12 @@
 //! Easy to get wrong: what `update` and `finalise` owe beside the word of that step is owed from that very step on.
 //! So a thunk's free variables and a weak pointer's finaliser are loaded before it: by then the seat must name them.
 ghost use Rattle.std.specs.Prelude.{◌≡◌, ◌+◌, length, ◌-◌, ◌^◌, ◌<◌, ◌≤◌, []};
-ghost use Rattle.nmgc_world_spec.specs.Command.{IsOperand, IsRegister, Fits};
-ghost use Rattle.nmgc_world_spec.specs.declared.command.Command.TheVariants.{Cas, Deref, Finalise, Force, Update};
-ghost use Rattle.nmgc_world_spec.specs.declared.node.Kind.TheVariants.{Thunk};
-ghost use Rattle.nmgc_object.specs.declared.words.Header.{Header};
-ghost use Rattle.nmgc_object.specs.declared.size.TheConstants.{HEADER_WORDS};
-ghost use Rattle.nmgc_object.specs.declared.words.TheConstants.{WEAK_FIELDS};
-ghost use Rattle.nmgc_round.specs.Ready.{Names};
-ghost use Rattle.nmgc_mutator.specs.declared.mutator.TheConstants.{MOST_PUSHED};
-ghost use Rattle.nmgc_mutator.specs.Thunks.{AreLoaded};
-ghost use Rattle.nmgc_round.specs.View.{plain, hand_now, leaves};
-ghost use Rattle.nmgc_round.specs.Told.{told_by, CanTell};
-ghost use Rattle.nmgc_round.specs.Seat.{seen, word_count};
-ghost use Rattle.nmgc_mutator.specs.Ready.{IsReady, part_of, hand_in};
-ghost use Rattle.nmgc_mutator.specs.Records.{recorded_by, noted_by, weaks_by};
-ghost use Rattle.nmgc_mutator.specs.Acts.{Acts, most_pushed};
+ghost use Rattle.nmgc_world_spec.specs.{Command.IsOperand, Command.IsRegister, Command.Fits, declared.command.Command.TheVariants.Cas, declared.command.Command.TheVariants.Deref, declared.command.Command.TheVariants.Finalise, declared.command.Command.TheVariants.Force, declared.command.Command.TheVariants.Update, declared.node.Kind.TheVariants.Thunk};
+ghost use Rattle.nmgc_object.specs.{declared.words.Header.Header, declared.size.TheConstants.HEADER_WORDS, declared.words.TheConstants.WEAK_FIELDS};
+ghost use Rattle.nmgc_round.specs.{Ready.Names, View.plain, View.hand_now, View.leaves, Told.told_by, Told.CanTell, Seat.seen, Seat.word_count};
+ghost use Rattle.nmgc_mutator.specs.{declared.mutator.TheConstants.MOST_PUSHED, Thunks.AreLoaded, Ready.IsReady, Ready.part_of, Ready.hand_in, Records.recorded_by, Records.noted_by, Records.weaks_by, Acts.Acts, Acts.most_pushed};
 
-use crate::mutator::Mutator;
+use crate::mutator::{MOST_PUSHED, Mutator};
 use nmgc_object::{Address, FieldWord, HEADER_WORDS};
 use nmgc_program::PackedCommand;
 use nmgc_round::{Exchanged, MutatorSeat, Round};
@@ -229,7 +218,7 @@ impl Mutator {
             Kind::Thunk => {}
             _ => return self.refuse(round, seat, command, Reply::WrongKind),
         }
-        let mut words = [0u64; 8];
+        let mut words = [0u64; MOST_PUSHED as usize];
         let free = &mut words[..header.fields as usize - 1];
         self.load_free(round, seat, at, free);
         let word = self.word(value);

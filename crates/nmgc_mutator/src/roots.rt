@@ -1,9 +1,7 @@
 //! What a stop reads and changes of a mutator, where it lies.
-ghost use Rattle.std.specs.Prelude.{length, refl};
-ghost use Rattle.std.specs.List.{refill};
+ghost use Rattle.std.specs.{Prelude.length, Prelude.refl, List.refill};
 ghost use Rattle.nmgc_heap_spec.specs.Emptied.{emptied};
-ghost use Rattle.nmgc_mutator.specs.AtStop.{cleared};
-ghost use Rattle.nmgc_mutator.specs.laws.Refilled.{refill_all};
+ghost use Rattle.nmgc_mutator.specs.{AtStop.cleared, laws.Refilled.refill_all};
 
 use crate::mutator::Mutator;
 use nmgc_heap_spec::MutatorRoots;

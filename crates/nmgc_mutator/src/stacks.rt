@@ -8,14 +8,10 @@
 //! Easy to get wrong: a stack's depth stands nowhere. It is the number of the slots before the first 0, so a `pop`
 //! has to leave 0.
 ghost use Rattle.std.specs.Prelude.{◌≡◌, ◌+◌, ◌-◌, ◌^◌, ◌<◌, ◌≤◌, [], IfOk, IfErr};
-ghost use Rattle.nmgc_world_spec.specs.Command.{IsOperand, IsRegister, Fits};
-ghost use Rattle.nmgc_world_spec.specs.declared.command.Command.TheVariants.{NextFin, Pop, Push};
+ghost use Rattle.nmgc_world_spec.specs.{Command.IsOperand, Command.IsRegister, Command.Fits, declared.command.Command.TheVariants.NextFin, declared.command.Command.TheVariants.Pop, declared.command.Command.TheVariants.Push};
 ghost use Rattle.nmgc_object.specs.declared.size.TheConstants.{HEADER_WORDS};
 ghost use Rattle.nmgc_round.specs.Seat.{IsAt, Knows, seen, word_count};
-ghost use Rattle.nmgc_mutator.specs.Ready.{IsReady};
-ghost use Rattle.nmgc_mutator.specs.Does.{Went};
-ghost use Rattle.nmgc_mutator.specs.Acts.{Acts};
-ghost use Rattle.nmgc_mutator.specs.Stacks.{Owns, HasNoStack, IsOwnStack, HasDepth};
+ghost use Rattle.nmgc_mutator.specs.{Ready.IsReady, Does.Went, Acts.Acts, Stacks.Owns, Stacks.HasNoStack, Stacks.IsOwnStack, Stacks.HasDepth};
 
 use crate::mutator::Mutator;
 use nmgc_object::{Address, HEADER_WORDS, NAME_OFFSET, SHARED_PLACE, decode_name};

@@ -1,8 +1,6 @@
 -- Names in spans: names of one maker, one serial after the other.
 use Rattle.std.specs.Prelude.{ℕ, zero, suc, ◌≡◌, ◌+◌, ◌<◌, ◌^◌, List, [], ◌∷◌}
-use Rattle.std.specs.List.{flat_map}
-use Rattle.std.specs.List.Sorted.{IsSortedByKey}
-use Rattle.std.specs.Ordering.{ordering_then, nat_cmp}
+use Rattle.std.specs.{List.flat_map, List.Sorted.IsSortedByKey, Ordering.ordering_then, Ordering.nat_cmp}
 use Rattle.nmgc_world_spec.specs.declared.value.Name.{Name}
 use Rattle.nmgc_names.specs.declared.span.Span.{Span}
 

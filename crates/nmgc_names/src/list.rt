@@ -1,11 +1,9 @@
 //! A list of names, which contracts see as that list.
 //!
 //! It can be read and put in order, and nothing can be added: a list is made as a `NameRoom`.
-ghost use Rattle.std.specs.Prelude.{◌≡◌, length};
-ghost use Rattle.std.specs.List.Sorted.{IsPermutation};
+ghost use Rattle.std.specs.{Prelude.◌≡◌, Prelude.length, List.Sorted.IsPermutation};
 ghost use Rattle.nmgc_world_spec.specs.Listing.{AreDistinct};
-ghost use Rattle.nmgc_names.specs.Order.{in_order};
-ghost use Rattle.nmgc_names.specs.Spans.{names_in, AreSorted};
+ghost use Rattle.nmgc_names.specs.{Order.in_order, Spans.names_in, Spans.AreSorted};
 
 use crate::span::Span;
 use std::marker::Model;

@@ -26,8 +26,7 @@ pub struct NameRoom {
 
 impl Model for NameRoom {
     ghost use Rattle.std.specs.Prelude.{◌≡◌, ◌-◌, ◌≤◌, length, vec_len, vec_capacity};
-    ghost use Rattle.nmgc_names.specs.Spans.{names_in};
-    ghost use Rattle.nmgc_names.specs.Room.{NameRoom as Shown};
+    ghost use Rattle.nmgc_names.specs.{Spans.names_in, Room.NameRoom as Shown};
 
     ghost Value = { Shown };
 

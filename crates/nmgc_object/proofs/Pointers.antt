@@ -1,13 +1,5 @@
 -- The bound of a queue's pointers, as words come, change and go.
-use Rattle.std.proofs.Common.{◌≡◌, ◌+◌, ◌*◌, ◌%◌, ◌<◌, ◌≤◌, ◌⊎◌, ℕ, zero, suc, List, [], ◌∷◌, ◌++◌, drop, set, length, sym, subst, arith, inl, inr}
-use Rattle.std.specs.Prelude.{Contains}
-use Rattle.std.proofs.lemmas.List.{drop-append-le, drop-set-add}
-use Rattle.std.proofs.lemmas.List.Elements.{Contains-push_cases}
-use Rattle.nmgc_lists.specs.laws.Items.{contains_head, contains_tail, contains_cases, nothing_in}
-use Rattle.nmgc_object.specs.FinQueue.{HavePointersUpTo, ArePointersBelow}
-
-pub none_up_to : (highest : ℕ) → HavePointersUpTo [] highest
-none_up_to highest word c even = absurd (nothing_in word c)
+use Rattle.nmgc_object.proofs.Vocabulary.{◌≡◌, ◌+◌, ◌*◌, ◌%◌, ◌<◌, ◌≤◌, ◌⊎◌, ℕ, zero, suc, List, [], ◌∷◌, ◌++◌, drop, set, length, sym, subst, arith, inl, inr, Contains, drop-append-le, drop-set-add, Contains-push_cases, contains_head, contains_tail, contains_cases, HavePointersUpTo, ArePointersBelow}
 
 -- some of the words alone
 pub fewer_up_to : (words fewer : List ℕ) (highest : ℕ) → ((word : ℕ) → Contains fewer word → Contains words word) → HavePointersUpTo words highest →

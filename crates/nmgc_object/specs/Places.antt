@@ -1,13 +1,9 @@
 -- Layouts within the limits, and whose a word is.
 use Rattle.std.specs.Prelude.{ℕ, ◌+◌, ◌*◌, ◌/◌, ◌%◌, ◌<◌, ◌≤◌, count_by, nat_le}
 use Rattle.std.specs.List.{range_with_len}
-use Rattle.nmgc_limits.specs.Limits.{most_heap_words, most_segments}
+use Rattle.nmgc_limits.specs.{Limits.most_heap_words, Limits.most_segments, declared.mutators.TheConstants.MAKERS}
 pub use Rattle.nmgc_limits.specs.Limits.{IsSegmentSize}
-use Rattle.nmgc_limits.specs.declared.mutators.TheConstants.{MAKERS}
-use Rattle.nmgc_object.specs.Size.{block_size}
-use Rattle.nmgc_object.specs.declared.size.TheConstants.{MAX_CLASS}
-use Rattle.nmgc_object.specs.declared.layout.TheConstants.{FIRST_PLACE}
-use Rattle.nmgc_object.specs.declared.layout.Layout.{Layout}
+use Rattle.nmgc_object.specs.{Size.block_size, declared.size.TheConstants.MAX_CLASS, declared.layout.TheConstants.FIRST_PLACE, declared.layout.Layout.Layout}
 
 -- the layout is within the limits
 pub record IsLayout (layout : Layout) : Type 0 where

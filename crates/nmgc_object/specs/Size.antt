@@ -1,10 +1,7 @@
 -- The words of objects and of blocks.
 use Rattle.std.specs.Prelude.{ℕ, ◌+◌, ◌-◌, ◌*◌, ◌^◌, ◌<◌, ◌≤◌, nat_le, if◌then◌else◌}
-use Rattle.nmgc_world_spec.specs.declared.node.Kind.{Kind}
-use Rattle.nmgc_world_spec.specs.declared.node.Kind.TheVariants.{Con, Var, Arr, Thunk, Weak, Stack}
-use Rattle.nmgc_object.specs.declared.words.TheConstants.{VAR_FIELDS, WEAK_FIELDS}
-use Rattle.nmgc_object.specs.declared.size.TheConstants.{MIN_BLOCK_WORDS, DENSE_CLASS, DENSE_WORDS, NAME_OFFSET, HEADER_WORDS}
-use Rattle.nmgc_object.specs.declared.words.Header.{Header}
+use Rattle.nmgc_world_spec.specs.{declared.node.Kind.Kind, declared.node.Kind.TheVariants.Con, declared.node.Kind.TheVariants.Var, declared.node.Kind.TheVariants.Arr, declared.node.Kind.TheVariants.Thunk, declared.node.Kind.TheVariants.Weak, declared.node.Kind.TheVariants.Stack}
+use Rattle.nmgc_object.specs.{declared.words.TheConstants.VAR_FIELDS, declared.words.TheConstants.WEAK_FIELDS, declared.size.TheConstants.MIN_BLOCK_WORDS, declared.size.TheConstants.DENSE_CLASS, declared.size.TheConstants.DENSE_WORDS, declared.size.TheConstants.NAME_OFFSET, declared.size.TheConstants.HEADER_WORDS, declared.words.Header.Header}
 
 -- the fields of an object with so many parts
 abbrev pub field_count : Kind → ℕ → ℕ

@@ -1,13 +1,9 @@
 -- What is a header, a name and a field, and the word of each.
 use Rattle.std.specs.Prelude.{ℕ, ◌≡◌, ◌+◌, ◌*◌, ◌<◌, ◌≤◌, ◌^◌}
 use Rattle.nmgc_limits.specs.declared.mutators.TheConstants.{SHARED_MAKER}
-use Rattle.nmgc_world_spec.specs.declared.value.Name.{Name}
-use Rattle.nmgc_world_spec.specs.declared.node.Kind.{Kind}
-use Rattle.nmgc_world_spec.specs.declared.node.Kind.TheVariants.{Con, Var, Arr, Thunk, Weak, Stack}
+use Rattle.nmgc_world_spec.specs.{declared.value.Name.Name, declared.node.Kind.Kind, declared.node.Kind.TheVariants.Con, declared.node.Kind.TheVariants.Var, declared.node.Kind.TheVariants.Arr, declared.node.Kind.TheVariants.Thunk, declared.node.Kind.TheVariants.Weak, declared.node.Kind.TheVariants.Stack}
 use Rattle.nmgc_object.specs.declared.words.TheConstants.{TAGS, MAX_FIELDS, MAX_THUNK_FIELDS, VAR_FIELDS, WEAK_FIELDS, NUMBER_LIMIT, TAG_UNIT, FIELDS_UNIT, SERIAL_UNIT, NIL_WORD, ZERO_WORD}
-use Rattle.nmgc_object.specs.declared.words.Header.{Header}
-use Rattle.nmgc_object.specs.declared.words.Field.{Field}
-use Rattle.nmgc_object.specs.declared.words.Field.TheVariants.{Unset, Nil, Number, Pointer}
+use Rattle.nmgc_object.specs.{declared.words.Header.Header, declared.words.Field.Field, declared.words.Field.TheVariants.Unset, declared.words.Field.TheVariants.Nil, declared.words.Field.TheVariants.Number, declared.words.Field.TheVariants.Pointer}
 
 -- the number of a kind in a header word
 abbrev pub kind_number : Kind → ℕ

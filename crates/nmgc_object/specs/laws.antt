@@ -1,3 +1,4 @@
 pub mod Classes
 pub mod Common
 pub mod Headers
+mod Vocabulary

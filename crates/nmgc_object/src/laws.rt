@@ -3,12 +3,7 @@
 //! Each function here does nothing; its contract is the law.
 ghost use Rattle.std.specs.Prelude.{ℕ, ◌≡◌, ◌↔◌, ◌+◌, ◌*◌, ◌^◌, ◌<◌, ◌≤◌};
 ghost use Rattle.nmgc_world_spec.specs.declared.value.Name.{Name};
-ghost use Rattle.nmgc_object.specs.Words.{header_word, name_word, field_word, IsHeader, IsName, IsField};
-ghost use Rattle.nmgc_object.specs.Size.{header_place, name_place, field_place, object_size, block_size, IsClassOf};
-ghost use Rattle.nmgc_object.specs.Places.{IsLayout, InSegment, InNursery, InHeap, class_count, left_over};
-ghost use Rattle.nmgc_object.specs.declared.words.Header.{Header};
-ghost use Rattle.nmgc_object.specs.declared.words.Field.{Field};
-ghost use Rattle.nmgc_object.specs.declared.layout.Layout.{Layout};
+ghost use Rattle.nmgc_object.specs.{Words.header_word, Words.name_word, Words.field_word, Words.IsHeader, Words.IsName, Words.IsField, Size.header_place, Size.name_place, Size.field_place, Size.object_size, Size.block_size, Size.IsClassOf, Places.IsLayout, Places.InSegment, Places.InNursery, Places.InHeap, Places.class_count, Places.left_over, declared.words.Header.Header, declared.words.Field.Field, declared.layout.Layout.Layout};
 
 use crate::layout::{FIRST_PLACE, SHARED_PLACE};
 use crate::size::{

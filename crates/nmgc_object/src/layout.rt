@@ -5,8 +5,7 @@
 //! for each mutator. Every part of the collector takes places from here, so that no two of them ever
 //! write the same word: `laws` has the promise that the parts lie apart.
 ghost use Rattle.std.specs.Prelude.{ℕ, ◌≡◌, ◌↔◌, ◌+◌, ◌-◌, ◌<◌, ◌≤◌};
-ghost use Rattle.nmgc_object.specs.Size.{block_size};
-ghost use Rattle.nmgc_object.specs.Places.{IsLayout, segment_place, nursery_place, word_total, class_count, reserve_count};
+ghost use Rattle.nmgc_object.specs.{Size.block_size, Places.IsLayout, Places.segment_place, Places.nursery_place, Places.word_total, Places.class_count, Places.reserve_count};
 
 use crate::size::{HEADER_WORDS, class_of};
 use nmgc_limits::SHARED_SLOTS;

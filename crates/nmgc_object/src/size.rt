@@ -6,8 +6,7 @@
 //! aren't a power of two, some words of a segment lie after its last block and belong to nobody, so a
 //! segment that is full of objects has fewer words of objects than it has words.
 ghost use Rattle.std.specs.Prelude.{ℕ, ◌≡◌, ◌<◌, ◌≤◌};
-ghost use Rattle.nmgc_object.specs.Size.{object_size, word_count, block_size};
-ghost use Rattle.nmgc_object.specs.Words.{IsHeader};
+ghost use Rattle.nmgc_object.specs.{Size.object_size, Size.word_count, Size.block_size, Words.IsHeader};
 
 use crate::words::{Header, MAX_FIELDS, VAR_FIELDS, WEAK_FIELDS};
 use nmgc_limits::MAX_SEGMENT_WORDS;

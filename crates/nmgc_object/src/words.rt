@@ -11,12 +11,9 @@
 //! Easy to get wrong: a word is not valid because its parts look sound one by one. A tag belongs to
 //! constructors alone, and the number of fields depends on the kind, so decoding tests both together.
 ghost use Rattle.std.specs.Prelude.{◌≡◌, ◌≢◌, ◌↔◌, ◌+◌, ◌*◌, ◌%◌, ◌<◌, ◌≤◌, IfSome, IfNone, IsTrue};
-ghost use Rattle.nmgc_world_spec.specs.declared.value.Name.{Name};
-ghost use Rattle.nmgc_world_spec.specs.declared.node.Kind.{Kind};
+ghost use Rattle.nmgc_world_spec.specs.{declared.value.Name.Name, declared.node.Kind.Kind};
 ghost use Rattle.nmgc_object.specs.Words.{kind_number, header_word, name_word, field_word, IsHeader, IsName, IsField};
-ghost use Rattle.nmgc_object.specs.declared.words.TheConstants.{NUMBER_LIMIT, NIL_WORD, ZERO_WORD};
-ghost use Rattle.nmgc_object.specs.declared.words.Header.{Header};
-ghost use Rattle.nmgc_object.specs.declared.words.Field.{Field};
+ghost use Rattle.nmgc_object.specs.{declared.words.TheConstants.NUMBER_LIMIT, declared.words.TheConstants.NIL_WORD, declared.words.TheConstants.ZERO_WORD, declared.words.Header.Header, declared.words.Field.Field};
 
 use nmgc_limits::SHARED_MAKER;
 use nmgc_world_spec::{Kind, Name};

@@ -1,25 +1,5 @@
 -- The seats of all markers are joined, and their lists together are what is found.
-use Rattle.std.proofs.Common.{◌≡◌, ◌<◌, ◌≤◌, ◌-◌, ◌*◌, ◌%◌, ℕ, zero, suc, List, [], ◌∷◌, ◌++◌, length, map, take, get_or, inl, inr, refl, sym, ap, subst, ◌∙◌, arith, ◌⊎◌, Some}
-use Rattle.std.proofs.Math.Nat.{mod-lt}
-use Rattle.std.proofs.Math.Seq.{take-append_seam}
-use Rattle.std.specs.Prelude.{Contains, slice_index, slice_get}
-use Rattle.std.proofs.lemmas.Option.{slice_get-get_or, slice_get_within, get_or_from_slice_get}
-use Rattle.std.proofs.lemmas.List.{get_or_default}
-use Rattle.std.proofs.lemmas.List.Elements.{Contains-append_left, Contains-append_right}
-use mathlib.Core.Option.{some, some-injective, some-ne-none}
-use lib.ListN.{get_elem?}
-use Rattle.atomic_table.proofs.Lists.{at_longer}
-use Rattle.nmgc_lists.specs.laws.Items.{contains_head, contains_tail, contains_cases}
-use Rattle.nmgc_lists.specs.Room.{Room}
-use Rattle.nmgc_object.specs.declared.words.Address.{Address}
-use Rattle.nmgc_pmark.specs.declared.table.ClaimTable.{ClaimTable}
-use Rattle.nmgc_pmark.specs.declared.marker.Marker.{Marker}
-use Rattle.nmgc_pmark.specs.View.{Part, ClaimsSeen, blank, blanks, whole, together, keeps_rest, gives_first}
-use Rattle.nmgc_pmark.specs.Rule.{CanSplit, HasAll, IsShared}
-use Rattle.nmgc_pmark.specs.Seat.{seen, bounds_of}
-use Rattle.nmgc_pmark.specs.Found.{IsFound, IsIn, block_index, blocks_of, CanMark}
-use Rattle.nmgc_pmark.specs.Marker.{AreDistinct, part_of, IsSound, IsTaken, HasMarked}
-use Rattle.nmgc_pmark.specs.Crew.{AreNumbered, HaveAllMarked, AreSound, IsSharedAmong, AreMarked, found_of}
+use Rattle.nmgc_pmark.proofs.Vocabulary.{◌≡◌, ◌<◌, ◌*◌, ◌%◌, ℕ, zero, suc, List, [], ◌∷◌, ◌++◌, length, map, take, get_or, inl, inr, refl, sym, ap, subst, ◌∙◌, arith, ◌⊎◌, Some, mod-lt, take-append_seam, Contains, slice_index, slice_get, slice_get-get_or, slice_get_within, get_or_from_slice_get, get_or_default, Contains-append_left, Contains-append_right, some, some-injective, some-ne-none, get_elem?, at_longer, contains_head, contains_tail, contains_cases, Room, Address, ClaimTable, Marker, Part, ClaimsSeen, blank, blanks, together, CanSplit, HasAll, IsShared, seen, bounds_of, IsFound, IsIn, block_index, blocks_of, CanMark, AreDistinct, part_of, IsSound, IsTaken, HasMarked, AreNumbered, HaveAllMarked, AreSound, IsSharedAmong, AreMarked, found_of}
 use Rattle.nmgc_pmark.proofs.Rules.{only_one, in_either, at_later}
 
 -- what the first seat knows, split again and again
@@ -102,7 +82,7 @@ gathers_more v ms m g alone =
       only = λ i p e. elim (in_either v.parts w.parts i p e) [
         | inl old ↦ let t = g.only i p old in (t.0, t.1, at_front ms (m ∷ []) t.1 t.0 t.2, t.3)
         | inr new ↦ only_one (λ (q : Part). (k : ℕ) × (x : Marker) × (slice_get (ms ++ m ∷ []) k ≡ Some x) ×
-            (q ≡ part_of x)) (part_of m) (length ms, m, at_pushed ms m, refl) new.0 p (ap (λ l. get_elem? l new.0) (sym alone) ∙ new.1)
+            (q ≡ part_of x)) (part_of m) (length ms, m, at_pushed ms m, refl) new.0 p (cc (alone, new.1))
       ];
       others = λ k x b e c. elim (at_push ms m x k e) [
         | inl old ↦ Contains-append_left v.others w.others b (g.others k x b old c)
@@ -135,13 +115,13 @@ module _ (crew xs : List Marker) (x : Marker) (is : crew ≡ xs ++ x ∷ []) (v 
   pub shared_among : IsShared v → IsSharedAmong crew
   shared_among s = record {
     apart = λ j k m n b e f c d.
-        let p = last_first xs x m j (subst (λ (l : List Marker). slice_get l j ≡ Some m) is e) in
+        let p = last_first xs x m j (rw is at e) in
         let q = last_first xs x n k (subst (λ (l : List Marker). slice_get l k ≡ Some n) is f) in
         let a = g.has p.0 m p.1 in
         let z = g.has q.0 n q.1 in
         s.apart a.0 z.0 (part_of m) (part_of n) b a.1 z.1 c d;
     found = λ k m b e c.
-        let p = last_first xs x m k (subst (λ (l : List Marker). slice_get l k ≡ Some m) is e) in
+        let p = last_first xs x m k (rw is at e) in
         let f = s.found b (g.others p.0 m b p.1 c) in
         let o = g.only f.0 f.1 f.2 in
         let r = first_last xs x o.1 o.0 o.2 in
@@ -196,19 +176,18 @@ module _ (t : ClaimTable) (words starts : List ℕ) (markers : ℕ) (crew : List
   are_marked lists is = record {
     count = ap (λ (l : List (Room Address)). length l) is ∙ long crew ∙ count;
     sound = λ k at xs e c.
-        let o = at_mapped found_of crew k xs (subst (λ (l : List (Room Address)). slice_get l k ≡ Some xs) is e) in
+        let o = at_mapped found_of crew k xs (rw is at e) in
         (at_crew k o.0 o.1).found at (subst (λ (y : Room Address). IsIn y.items at) o.2 c);
     complete = λ at f.
         let r = all_listed at f in
         (r.0, r.1.found, subst (λ (l : List (Room Address)). slice_get l r.0 ≡ Some r.1.found) (sym is) (mapped_at crew r.0 r.1 r.2), r.3);
     apart = λ j k at xs ys e f c d.
-        let o = at_mapped found_of crew j xs (subst (λ (l : List (Room Address)). slice_get l j ≡ Some xs) is e) in
+        let o = at_mapped found_of crew j xs (rw is at e) in
         let p = at_mapped found_of crew k ys (subst (λ (l : List (Room Address)). slice_get l k ≡ Some ys) is f) in
-        let same = shared.apart j k o.0 p.0 (block_index at) o.1 p.1 (number_of o.0.found.items at (subst (λ (y : Room Address).
-        IsIn y.items at) o.2 c)) (number_of p.0.found.items at (subst (λ (y : Room Address). IsIn y.items at) p.2 d)) in
+        let same = shared.apart j k o.0 p.0 (block_index at) o.1 p.1 (number_of o.0.found.items at (rw o.2 at c)) (number_of p.0.found.items at (subst (λ (y : Room Address). IsIn y.items at) p.2 d)) in
         sym (numbered crew numbers j o.0 o.1) ∙ same ∙ numbered crew numbers k p.0 p.1;
     once = λ k xs e.
-        let o = at_mapped found_of crew k xs (subst (λ (l : List (Room Address)). slice_get l k ≡ Some xs) is e) in
+        let o = at_mapped found_of crew k xs (rw is at e) in
         subst (λ (y : Room Address). Distinct y) (sym o.2) (at_crew k o.0 o.1).sound.once;
   }
     where
@@ -224,19 +203,6 @@ module _ (t : ClaimTable) (words starts : List ℕ) (markers : ℕ) (crew : List
       mapped_at (x ∷ l) zero m e = let same : x ≡ m = cc in ap (λ (y : Marker). Some y.found) same
       mapped_at (x ∷ l) (suc k) m e = mapped_at l k m e
 
--- the first seat is split again and again
-pub first_rest : (markers : ℕ) → 1 ≤ markers → whole markers ≡ rest_from 0 (suc (markers - 1))
-first_rest markers some_ = let e : markers ≡ suc (markers - 1) = omega (arith, some_) in ap (λ (m : ℕ). rest_from 0 m) e
-
-pub next_rest : (v : ClaimsSeen) (n m n' m' : ℕ) → v ≡ rest_from n (suc m) → n' ≡ suc n → suc m' ≡ m → keeps_rest v ≡ rest_from n' (suc m')
-next_rest v n m n' m' is e f = ap keeps_rest is ∙ ap (λ (k : ℕ). rest_from k m) (sym e) ∙ ap (λ (k : ℕ). rest_from n' k) (sym f)
-
-pub first_blank : (v : ClaimsSeen) (n m : ℕ) → v ≡ rest_from n (suc m) → (gives_first v).parts ≡ blank n ∷ []
-first_blank v n m is = ap (λ (w : ClaimsSeen). (gives_first w).parts) is
-
-pub last_blank : (v : ClaimsSeen) (n m : ℕ) → v ≡ rest_from n (suc m) → m ≡ 0 → v.parts ≡ blank n ∷ []
-last_blank v n m is none = ap (λ (w : ClaimsSeen). w.parts) is ∙ ap (λ (k : ℕ). blanks n (suc k)) none
-
 pub split_rest : (v : ClaimsSeen) (n m : ℕ) → v ≡ rest_from n (suc m) → CanSplit v
 split_rest v n m is = subst (λ (w : ClaimsSeen). CanSplit w) (sym is) (can_split n m)
 
@@ -247,11 +213,7 @@ module _ (all before : List Marker) (last : Marker) (is : all ≡ before ++ last
   at_middle (x ∷ xs) ys m = at_middle xs ys m
 
   pub comes_at : (xs ys : List Marker) (m : Marker) → xs ++ m ∷ ys ≡ before → slice_get all (length xs) ≡ Some m
-  comes_at xs ys m e = ap (λ (l : List Marker). slice_get l (length xs)) is ∙
-      at_front before (last ∷ []) m (length xs) (ap (λ (l : List Marker). slice_get l (length xs)) (sym e) ∙ at_middle xs ys m)
-
-  pub last_at : slice_get all (length before) ≡ Some last
-  last_at = ap (λ (l : List Marker). slice_get l (length before)) is ∙ at_pushed before last
+  comes_at xs ys m e = cc (is, at_front before (last ∷ []) m (length xs) (ap (λ (l : List Marker). slice_get l (length xs)) (sym e) ∙ at_middle xs ys m))
 
 pub sound_at : (t : ClaimTable) (crew : List Marker) → AreSound t crew → (k : ℕ) (m : Marker) → slice_get crew k ≡ Some m → IsSound t m
 sound_at t crew sound k m e = subst (λ (x : Marker). IsSound t x) (get_or_from_slice_get crew k m m e) (sound k m (slice_get_within crew k m e))

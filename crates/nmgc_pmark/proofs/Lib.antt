@@ -9,3 +9,4 @@ pub mod Scans
 pub mod Stops
 pub mod Tied
 pub mod Trying
+mod Vocabulary

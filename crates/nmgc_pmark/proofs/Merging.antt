@@ -1,21 +1,10 @@
 -- The names of all claims, put in order.
-use Rattle.std.proofs.Common.{ℕ, suc, ◌≡◌, ◌∙◌, inl, inr, refl, sym, subst, arith, List, [], ◌∷◌, ◌++◌, Some}
-use Rattle.std.specs.Prelude.{Contains, slice_get}
-use Rattle.std.specs.List.{flat_map}
-use Rattle.std.specs.List.Sorted.{IsPermutation}
-use Rattle.std.proofs.lemmas.Option.{slice_get_within, get_or_from_slice_get}
-use Rattle.std.proofs.lemmas.List.Elements.{Contains-append_cases}
-use Rattle.nmgc_world_spec.specs.declared.value.Name.{Name}
-use Rattle.nmgc_world_spec.specs.declared.value.Value.{Value}
-use Rattle.nmgc_world_spec.specs.World.{World}
-use Rattle.nmgc_world_spec.specs.Reach.{IsBefore, IsInOrder, Lists}
+use Rattle.std.proofs.{Common.ℕ, Common.suc, Common.◌≡◌, Common.◌∙◌, Common.inl, Common.inr, Common.refl, Common.sym, Common.subst, Common.arith, Common.List, Common.[], Common.◌∷◌, Common.◌++◌, Common.Some, lemmas.Option.slice_get_within, lemmas.Option.get_or_from_slice_get, lemmas.List.Elements.Contains-append_cases}
+use Rattle.std.specs.{Prelude.Contains, Prelude.slice_get, List.flat_map, List.Sorted.IsPermutation}
+use Rattle.nmgc_world_spec.specs.{declared.value.Name.Name, declared.value.Value.Value, World.World, Reach.IsBefore, Reach.IsInOrder, Reach.Lists, laws.Orders.before_trans, laws.Orders.not_before_itself as never_before}
 use Rattle.nmgc_lists.specs.laws.Items.{contains_head, contains_tail, contains_cases, place_of, contains_flat, flat_contains}
-use Rattle.nmgc_pmark.specs.Strong.{IsStrong}
-use Rattle.nmgc_pmark.specs.Claims.{AreClaims}
-use Rattle.nmgc_pmark.specs.Marker.{AreDistinct}
-use Rattle.nmgc_pmark.specs.Names.{AreSorted}
+use Rattle.nmgc_pmark.specs.{Strong.IsStrong, Claims.AreClaims, Marker.AreDistinct, Names.AreSorted}
 use Rattle.nmgc_pmark.proofs.Orders.{distinct_once, sort_orders, permuted_has, permuted_had}
-use Rattle.nmgc_world_spec.specs.laws.Orders.{not_before_itself as never_before}
 
 abbrev pub all : List (List Name) → List Name
 all by = flat_map (λ (own : List Name). own) by
@@ -29,14 +18,8 @@ before_all name next [] first ordered other c = elim (contains_cases next [] oth
 ]
 before_all name next (more ∷ names) first ordered other c = elim (contains_cases next (more ∷ names) other c) [
   | inl e ↦ subst (λ (n : Name). IsBefore name n) e first
-  | inr d ↦ before_all name more names (then name next more first ordered.0) ordered.1 other d
+  | inr d ↦ before_all name more names (before_trans name next more first ordered.0) ordered.1 other d
 ]
-  where
-    then : (a b c : Name) → IsBefore a b → IsBefore b c → IsBefore a c
-    then a b c (inl p) (inl q) = inl (omega (arith, p, q))
-    then a b c (inl p) (inr q) = let e = q.0 in inl (omega (arith, p, e))
-    then a b c (inr p) (inl q) = let e = p.0 in inl (omega (arith, e, q))
-    then a b c (inr p) (inr q) = let lt = p.1 in let less = q.1 in inr (p.0 ∙ q.0, omega (arith, lt, less))
 
 ordered_distinct : (names : List Name) → IsInOrder names → AreDistinct names
 ordered_distinct [] o = tt

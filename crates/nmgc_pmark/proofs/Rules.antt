@@ -1,18 +1,14 @@
 -- Each kind of step keeps the rule of a claim table, and whoever has every part learns what it says.
-use Rattle.std.proofs.Common.{◌≡◌, ◌≢◌, ◌⊎◌, inl, inr, ⊎_elim, ℕ, zero, suc, ◌+◌, ◌-◌, ◌<◌, Bool, true, false, cond, eqb, List, [], ◌∷◌, ◌++◌, length, slice_index, set, replicate, refl, sym, ap, ◌∙◌, subst, arith, eq-eqb, ne_eqb, length-set, true≢false}
+use Rattle.std.proofs.{Common.◌≡◌, Common.◌≢◌, Common.◌⊎◌, Common.inl, Common.inr, Common.⊎_elim, Common.ℕ, Common.zero, Common.suc, Common.◌+◌, Common.◌-◌, Common.◌<◌, Common.Bool, Common.true, Common.false, Common.cond, Common.eqb, Common.List, Common.[], Common.◌∷◌, Common.◌++◌, Common.length, Common.slice_index, Common.set, Common.replicate, Common.refl, Common.sym, Common.ap, Common.◌∙◌, Common.subst, Common.arith, Common.eq-eqb, Common.ne_eqb, Common.length-set, Common.true≢false, lemmas.Bool.cases_eq, lemmas.List.get_or-set_same, lemmas.List.get_or-set_other, lemmas.List.length-replicate, lemmas.List.Elements.Contains-append_left, lemmas.List.Elements.Contains-append_cases, lemmas.List.Elements.Contains-push, lemmas.List.Elements.Contains-push_cases}
 use Rattle.std.specs.Prelude.{Contains}
-use Rattle.std.proofs.lemmas.Bool.{cases_eq}
-use Rattle.std.proofs.lemmas.List.{get_or-set_same, get_or-set_other, length-replicate}
-use Rattle.std.proofs.lemmas.List.Elements.{Contains-append_left, Contains-append_cases, Contains-push, Contains-push_cases}
 use mathlib.Core.Option.{some, some-injective, some-ne-none}
 use lib.ListN.{get_elem?}
 use prog.Atomic.{either}
 use Rattle.atomic_table.specs.Table.{State, Me, Allows, Splits, Joins, Final, Seen as SeenIn, keeps}
 use Rattle.atomic_table.proofs.Lists.{at_set, set_here, set_else, at_longer, at_last}
-use Rattle.nmgc_pmark.specs.declared.bounds.Bounds.{Bounds}
-use Rattle.nmgc_pmark.specs.View.{Part, ClaimsSeen, claiming, first_changed, tried, claimed_in, claimed_by, blank, blanks, whole, nobody, but_first, first_alone, keeps_rest, gives_first, together}
-use Rattle.nmgc_pmark.specs.Rule.{IsListed, Agrees, KeepsClaims, IsMarker, CanSplit, HasAll, IsShared}
+use Rattle.nmgc_pmark.specs.{declared.bounds.Bounds.Bounds, View.Part, View.ClaimsSeen, View.claiming, View.first_changed, View.tried, View.claimed_in, View.claimed_by, View.blank, View.blanks, View.whole, View.nobody, View.but_first, View.first_alone, View.keeps_rest, View.gives_first, View.together, Rule.IsListed, Rule.Agrees, Rule.KeepsClaims, Rule.IsMarker, Rule.CanSplit, Rule.HasAll, Rule.IsShared}
 use Rattle.nmgc_lists.specs.laws.Items.{nothing_in as nothing, word_again}
+use Rattle.nmgc_alloc.specs.laws.Numbers.{unmarked}
 
 module _ {A : Type 0} where
   pub only_one : (R : A → Type 0) (x : A) → R x → (k : ℕ) (y : A) → get_elem? (x ∷ []) k ≡ some y → R y
@@ -342,11 +338,6 @@ module _ (bounds : Bounds) where
       }
 
   -- a table in which no block is claimed
-  zeros : (n b : ℕ) → slice_index (replicate n 0) b ≡ 0
-  zeros zero b = refl
-  zeros (suc n) zero = refl
-  zeros (suc n) (suc b) = zeros n b
-
   blanks_at : (n m k : ℕ) (p : Part) → get_elem? (blanks n m) k ≡ some p → (p.number < n + m) × (p.claimed ≡ [])
   blanks_at n zero k p e = absurd (some-ne-none p (sym e))
   blanks_at n (suc m) zero p e = subst (λ (q : Part). (q.number < n + suc m) × (q.claimed ≡ [])) (some-injective (blank n) p e) ((omega arith), refl)
@@ -357,7 +348,7 @@ module _ (bounds : Bounds) where
     size = length-replicate bounds.blocks 0;
     owner = λ k. 0;
     agrees = first;
-    listed = λ b number e. let z = zeros bounds.blocks b in absurd (omega (arith, e, z));
+    listed = λ b number e. let z = unmarked bounds.blocks b in absurd (omega (arith, e, z));
   }
     where
       first : (id : ℕ) (v : ClaimsSeen) → get_elem? (whole bounds.markers ∷ []) id ≡ some v → Agrees bounds (replicate bounds.blocks 0) (λ k. 0) id v

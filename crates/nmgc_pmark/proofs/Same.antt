@@ -1,22 +1,5 @@
 -- What several markers list from a snapshot's registers and queues is what the one marker marked.
-use Rattle.std.proofs.Common.{◌≡◌, ◌≢◌, ◌↔◌, ℕ, List, [], sym, ap, subst}
-use Rattle.std.specs.Prelude.{Contains}
-use Rattle.nmgc_world_spec.specs.declared.value.Name.{Name}
-use Rattle.nmgc_world_spec.specs.World.{World}
-use Rattle.nmgc_world_spec.specs.Step.{shared_name}
-use Rattle.nmgc_world_spec.specs.Reach.{IsReached, IsRoot}
-use Rattle.nmgc_snapshot_laws.specs.Facts.{Facts}
-use Rattle.nmgc_snapshot_laws.specs.State.{State, names_of}
-use Rattle.nmgc_alloc.specs.Numbered.{Segments}
-use Rattle.nmgc_alloc.specs.Blocks.{IsSnapshotAt, IsMarkedAt}
-use Rattle.nmgc_heap_spec.specs.Places.{Place}
-use Rattle.nmgc_round.specs.Events.{replay}
-use Rattle.nmgc_round.specs.Rule.{now}
-use Rattle.nmgc_round.specs.View.{Opening}
-use Rattle.nmgc_mark.specs.Seen.{MarkerSeen}
-use Rattle.nmgc_pmark.specs.Strong.{IsStart, roots_of}
-use Rattle.nmgc_pmark.specs.Claims.{AreClaims}
-use Rattle.nmgc_pmark.specs.OneMarker.{IsClaimed, IsMarkedAlone}
+use Rattle.nmgc_pmark.proofs.Vocabulary.{◌≡◌, ◌≢◌, ◌↔◌, ℕ, List, [], sym, ap, subst, Contains, Name, World, shared_name, IsReached, IsRoot, Facts, State, names_of, Segments, IsSnapshotAt, IsMarkedAt, Place, replay, now, Opening, MarkerSeen, IsStart, roots_of, AreClaims, IsClaimed, IsMarkedAlone}
 use Rattle.nmgc_pmark.proofs.Scans.{IsScanned, scanned_from, start_root, root_start}
 
 -- what is reached from some names is reached from more

@@ -1,33 +1,7 @@
 -- Scans alone mark what the roots reach along strong fields, and nothing else.
-use Rattle.std.proofs.Common.{◌≡◌, ℕ, List, [], ◌∷◌, ◌++◌, zero, suc, length, refl, sym, ap, subst, ◌∙◌, arith, Option, Some, None, inl, inr, ◌⊎◌, true, false}
-use Rattle.std.specs.Prelude.{Contains, flat_map}
-use Rattle.std.proofs.lemmas.List.{get_or_past}
-use Rattle.std.proofs.lemmas.List.Elements.{Contains-append_left, Contains-append_right, Contains-append_cases, Contains-get_or, Contains-push_cases}
-use Rattle.std.proofs.lemmas.Bool.{cases_lt}
-use Rattle.std.proofs.lemmas.Option.{get_or_from_slice_get}
-use Rattle.nmgc_world_spec.specs.declared.mutator_state.MutatorState.{MutatorState}
-use Rattle.nmgc_world_spec.specs.declared.node.Node.{Node}
-use Rattle.nmgc_world_spec.specs.declared.value.Name.{Name}
-use Rattle.nmgc_world_spec.specs.declared.value.Value.{Value}
+use Rattle.nmgc_pmark.proofs.Vocabulary.{◌≡◌, ℕ, List, [], ◌∷◌, ◌++◌, zero, suc, length, refl, sym, ap, subst, ◌∙◌, arith, Option, Some, None, inl, inr, ◌⊎◌, true, false, Contains, get_or_past, Contains-append_left, Contains-append_right, Contains-append_cases, Contains-get_or, Contains-push_cases, cases_lt, get_or_from_slice_get, MutatorState, Node, Name, Value, World, IsWorld, state_of, node_of, no_mutator, shared_name, IsReached, IsRoot, strong_fields, contains_head, contains_tail, nothing_in, one_is, contains_flat, flat_contains, place_of, has_result, Entry, State, names_of, mark_name, mark_read, mark_values, root_values, unmarked, opening, advanced, after_scan, field_at, read_at, Facts, refers, mark_cases, opening_facts, none_of, read_cases, scan_facts, Happening, did, scanned, replay, AreScans, IsStart, roots_of}
+use Rattle.std.specs.Prelude.{flat_map}
 use Rattle.nmgc_world_spec.specs.declared.value.Value.TheVariants as value
-use Rattle.nmgc_world_spec.specs.World.{World, IsWorld, state_of, node_of, no_mutator}
-use Rattle.nmgc_world_spec.specs.Step.{shared_name}
-use Rattle.nmgc_world_spec.specs.Reach.{IsReached, IsRoot, strong_fields}
-use Rattle.nmgc_lists.specs.laws.Items.{contains_head, contains_tail, nothing_in, one_is, contains_flat, flat_contains, place_of}
-use Rattle.nmgc_world_laws.specs.Holds.{has_result}
-use Rattle.nmgc_snapshot_laws.specs.declared.event.Entry.{Entry}
-use Rattle.nmgc_snapshot_laws.specs.State.{State, names_of, mark_name, mark_read, mark_values, root_values, unmarked, opening}
-use Rattle.nmgc_snapshot_laws.specs.Machine.{advanced, after_scan}
-use Rattle.nmgc_snapshot_laws.specs.Scan.{field_at, read_at}
-use Rattle.nmgc_snapshot_laws.specs.Facts.{Facts}
-use Rattle.nmgc_snapshot_laws.specs.laws.Lives.{refers}
-use Rattle.nmgc_snapshot_laws.specs.laws.Marking.{mark_cases}
-use Rattle.nmgc_snapshot_laws.specs.laws.Openings.{opening_facts, no_names as none_of}
-use Rattle.nmgc_snapshot_laws.specs.laws.ScanReads.{read_cases}
-use Rattle.nmgc_snapshot_laws.specs.laws.Scans.{scan_facts}
-use Rattle.nmgc_round.specs.Events.{Happening, did, scanned, replay}
-use Rattle.nmgc_mark.specs.Stopped.{AreScans}
-use Rattle.nmgc_pmark.specs.Strong.{IsStart, roots_of}
 
 -- but for marks and queue the states are the same
 record IsAsBefore (s t : State) : Type 0 where

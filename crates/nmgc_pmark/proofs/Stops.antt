@@ -1,33 +1,8 @@
 -- What a stop of a run leaves is a stopped heap, whose roots are what the mutators hold.
-use Rattle.std.proofs.Common.{◌≡◌, ◌<◌, ℕ, List, [], ◌∷◌, suc, length, get_or, refl, sym, ap, subst, arith, inl, inr, Some}
-use Rattle.std.specs.Prelude.{Contains, slice_get}
-use Rattle.std.specs.List.{flat_map}
-use Rattle.nmgc_world_spec.specs.declared.mutator_state.MutatorState.{MutatorState}
-use Rattle.nmgc_world_spec.specs.declared.value.Name.{Name}
-use Rattle.nmgc_world_spec.specs.declared.value.Value.TheVariants as value
-use Rattle.nmgc_world_spec.specs.World.{IsWorld, no_mutator}
-use Rattle.nmgc_world_spec.specs.Reach.{IsReached}
-use Rattle.nmgc_lists.specs.laws.Items.{contains_head}
-use Rattle.nmgc_object.specs.Size.{block_size}
-use Rattle.nmgc_object.specs.Places.{nursery_place}
-use Rattle.nmgc_object.specs.declared.layout.Layout.{Layout}
-use Rattle.nmgc_alloc.specs.AllocState.{cells}
-use Rattle.nmgc_alloc.specs.Numbered.{Segments}
-use Rattle.nmgc_alloc.specs.Segments.{IsSegments}
-use Rattle.nmgc_heap_spec.specs.Places.{Place, ListMeans}
-use Rattle.nmgc_heap_spec.specs.Represents.{Represents, NoNode}
-use Rattle.nmgc_heap_spec.specs.Tracked.{IsTracked}
-use Rattle.nmgc_blocks_spec.specs.Occupied.{AreBlocks, IsOccupied}
-use Rattle.nmgc_blocks_spec.specs.laws.Blocks.{is_block}
-use Rattle.nmgc_journal.specs.declared.report.MutatorEnd.{MutatorEnd}
-use Rattle.nmgc_run_spec.specs.Heap.{HoldsAtStop, snapshots, registers_of, queues_of}
+use Rattle.nmgc_pmark.proofs.Vocabulary.{◌≡◌, ◌<◌, ℕ, List, [], ◌∷◌, suc, length, get_or, refl, sym, ap, subst, arith, inl, inr, Some, Contains, slice_get, flat_map, MutatorState, Name, IsWorld, no_mutator, IsReached, contains_head, block_size, nursery_place, Layout, cells, Segments, IsSegments, Place, ListMeans, Represents, NoNode, IsTracked, AreBlocks, IsOccupied, is_block, MutatorEnd, HoldsAtStop, snapshots, registers_of, queues_of, block_used, blocks_at_stop, Stopped, roots_of, root_words, IsStoppedAs, StopsAreStopped, means_append, flat_registers}
 use Rattle.nmgc_run_spec.specs.State.{State}
-use Rattle.nmgc_run_laws.specs.laws.Places.{block_used, blocks_at_stop}
-use Rattle.nmgc_pmark.specs.Claims.{Stopped}
-use Rattle.nmgc_pmark.specs.Strong.{roots_of}
-use Rattle.nmgc_pmark.specs.Stops.{root_words, IsStoppedAs, StopsAreStopped}
+use Rattle.nmgc_world_spec.specs.declared.value.Value.TheVariants as value
 use Rattle.nmgc_pmark.proofs.Scans.{start_root}
-use Rattle.nmgc_heap_spec.specs.laws.Common.{means_append, flat_registers}
 
 -- and so are their finaliser queues
 flat_queues : (P : Place → Type 0) (ends : List MutatorEnd) (xs : List MutatorState) → length (queues_of ends) ≡ length xs →

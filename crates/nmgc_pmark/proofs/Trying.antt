@@ -1,23 +1,10 @@
 -- What trying to claim changes, and what it keeps.
-use Rattle.std.proofs.Common.{◌≡◌, ◌≢◌, ◌<◌, ◌≤◌, ◌+◌, ◌-◌, ◌*◌, ◌%◌, ℕ, zero, suc, true, false, List, [], ◌∷◌, ◌++◌, length, inl, inr, refl, sym, ap, subst, ◌∙◌, arith, ◌⊎◌, append_assoc, append-nil, length-append}
+use Rattle.std.proofs.{Common.◌≡◌, Common.◌≢◌, Common.◌<◌, Common.◌≤◌, Common.◌+◌, Common.◌-◌, Common.◌*◌, Common.◌%◌, Common.ℕ, Common.zero, Common.suc, Common.true, Common.false, Common.List, Common.[], Common.◌∷◌, Common.◌++◌, Common.length, Common.inl, Common.inr, Common.refl, Common.sym, Common.ap, Common.subst, Common.◌∙◌, Common.arith, Common.◌⊎◌, Common.append_assoc, Common.append-nil, Common.length-append, lemmas.Bool.cases_eq, lemmas.List.length-map, lemmas.List.Elements.Contains-append_left, lemmas.List.Elements.Contains-push, lemmas.List.Elements.Contains-push_cases}
 use Rattle.std.specs.Prelude.{Contains, slice_index}
-use Rattle.std.proofs.lemmas.Bool.{cases_eq}
-use Rattle.std.proofs.lemmas.List.{length-map}
-use Rattle.std.proofs.lemmas.List.Elements.{Contains-append_left, Contains-push, Contains-push_cases}
 use Rattle.nmgc_lists.specs.laws.Items.{contains_head, contains_tail, contains_cases, nothing_in as nothing}
-use Rattle.nmgc_object.specs.declared.words.Address.{Address}
-use Rattle.nmgc_object.specs.declared.words.Header.{Header}
-use Rattle.nmgc_object.specs.declared.layout.TheConstants.{FIRST_PLACE}
-use Rattle.nmgc_object.specs.declared.size.TheConstants.{HEADER_WORDS}
-use Rattle.nmgc_object.specs.Words.{header_word, IsHeader}
-use Rattle.nmgc_blocks_spec.specs.Strong.{HasStrong, strong_of}
-use Rattle.nmgc_pmark.specs.declared.table.ClaimTable.{ClaimTable}
-use Rattle.nmgc_pmark.specs.declared.marker.Marker.{Marker}
-use Rattle.nmgc_pmark.specs.View.{Part, ClaimsSeen, claiming, first_changed, tried, claimed_in, claimed_by}
-use Rattle.nmgc_pmark.specs.Rule.{IsMarker}
-use Rattle.nmgc_pmark.specs.Seat.{seen, bounds_of, IsAt}
-use Rattle.nmgc_pmark.specs.Found.{block_index, blocks_of, IsStrongRange, IsAmong}
-use Rattle.nmgc_pmark.specs.Marker.{AreDistinct, part_of, IsSound, IsTaken, HasTried, IsOwnStart}
+use Rattle.nmgc_object.specs.{declared.words.Address.Address, declared.layout.TheConstants.FIRST_PLACE}
+use Rattle.nmgc_blocks_spec.specs.Strong.{IsAmong}
+use Rattle.nmgc_pmark.specs.{declared.table.ClaimTable.ClaimTable, declared.marker.Marker.Marker, Rule.IsMarker, Seat.seen, Seat.bounds_of, Seat.IsAt, Found.block_index, Found.blocks_of, Marker.AreDistinct, Marker.part_of, Marker.IsSound, Marker.IsTaken, Marker.HasTried, Marker.IsOwnStart, View.Part, View.ClaimsSeen, View.claiming, View.first_changed, View.tried, View.claimed_in, View.claimed_by}
 
 -- numbers without doubles
 
@@ -134,10 +121,6 @@ module _ (t : ClaimTable) where
       (seat : IsAt t n.seat) (number : n.number ≡ m.number) where
     own : claimed_by (seen m.seat) ≡ blocks_of m.found.items
     own = ap claimed_in h.alone
-
-    -- the marker's seat steps for it
-    pub stepper : IsMarker (seen m.seat) m.number
-    stepper = (part_of m, h.alone, refl)
 
     -- there is room for a block that it hasn't
     pub has_room : (Contains (claimed_by (seen m.seat)) (block_index at) → ⊥) → 0 < m.found.spare
@@ -288,29 +271,3 @@ among_more t a b c words from i w low read f g =
       | inl e ↦ inr (sym r.3 ∙ ap (λ (k : ℕ). slice_index words k) e ∙ sym read)
       | inr ne ↦ inl (r.0, r.1, omega (arith, r.2, ne), r.3)
     ])
-
--- the words of the range are those of the strong fields
-pub strong_read : (words : List ℕ) (at from to w : ℕ) → IsStrongRange words at from to → IsAmong words from to w → HasStrong words at w
-strong_read words at from to w s i =
-    let first = s.first in
-    let last = s.last in
-    let e : at + HEADER_WORDS + (i.0 - (at + HEADER_WORDS)) ≡ i.0 = omega (arith, first, i.1) in
-    record {
-      header = s.header;
-      valid = s.valid;
-      read = s.read;
-      index = i.0 - (at + HEADER_WORDS);
-      from = omega (arith, first, i.1);
-      before = omega (arith, first, last, i.1, i.2);
-      is = ap (λ (k : ℕ). slice_index words k) e ∙ i.3;
-    }
-
-pub strong_has : (differ : (a b : Header) → IsHeader a → IsHeader b → header_word a ≡ header_word b → a ≡ b) (words : List ℕ) (at from to w : ℕ) →
-    IsStrongRange words at from to → HasStrong words at w → IsAmong words from to w
-strong_has differ words at from to w s h =
-    let same : h.header ≡ s.header = differ h.header s.header h.valid s.valid (sym h.read ∙ s.read) in
-    let low = subst (λ (x : Header). (strong_of words at x).0 ≤ h.index) same h.from in
-    let high = subst (λ (x : Header). h.index < (strong_of words at x).1) same h.before in
-    let first = s.first in
-    let last = s.last in
-    (at + HEADER_WORDS + h.index, omega (arith, first, low), omega (arith, last, high), h.is)

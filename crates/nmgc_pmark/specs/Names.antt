@@ -1,14 +1,9 @@
 -- The names of the objects at places, in order.
 use Rattle.std.specs.Prelude.{ℕ, ◌≡◌, ◌+◌, ◌<◌, List, length, slice_index, slice_get, Some, Ok, Result, Contains, IsPermutation}
-use Rattle.std.specs.List.{AllZip}
-use Rattle.std.specs.List.Sorted.{IsSortedByKey}
-use Rattle.std.specs.Ordering.{ordering_then, nat_cmp}
+use Rattle.std.specs.{List.AllZip, List.Sorted.IsSortedByKey, Ordering.ordering_then, Ordering.nat_cmp}
 use Rattle.nmgc_world_spec.specs.declared.value.Name.{Name}
-use Rattle.nmgc_lists.specs.declared.memory.NoMemory.{NoMemory}
-use Rattle.nmgc_lists.specs.Room.{Room}
-use Rattle.nmgc_object.specs.Words.{name_word, IsName}
-use Rattle.nmgc_object.specs.declared.words.Address.{Address}
-use Rattle.nmgc_object.specs.declared.size.TheConstants.{NAME_OFFSET}
+use Rattle.nmgc_lists.specs.{declared.memory.NoMemory.NoMemory, Room.Room}
+use Rattle.nmgc_object.specs.{Words.name_word, Words.IsName, declared.words.Address.Address, declared.size.TheConstants.NAME_OFFSET}
 
 -- the object at the place has this name
 abbrev pub HasName : List ℕ → Address → Name → Type 0

@@ -1,17 +1,12 @@
 -- Several markers against the one marker of a cycle: from the registers and queues of a snapshot they mark the same.
 use Rattle.std.specs.Prelude.{ℕ, ◌≡◌, ◌≢◌, ◌↔◌, List, slice_get, Some, Contains}
-use Rattle.nmgc_world_spec.specs.declared.value.Name.{Name}
-use Rattle.nmgc_world_spec.specs.World.{IsWorld}
-use Rattle.nmgc_world_spec.specs.Step.{shared_name}
+use Rattle.nmgc_world_spec.specs.{declared.value.Name.Name, World.IsWorld, Step.shared_name}
 use Rattle.nmgc_snapshot_laws.specs.State.{opening}
-use Rattle.nmgc_alloc.specs.Numbered.{Segments}
-use Rattle.nmgc_alloc.specs.Blocks.{IsSnapshotAt, IsMarkedAt}
+use Rattle.nmgc_alloc.specs.{Numbered.Segments, Blocks.IsSnapshotAt, Blocks.IsMarkedAt}
 use Rattle.nmgc_heap_spec.specs.Places.{Place}
 use Rattle.nmgc_round.specs.View.{Opening}
-use Rattle.nmgc_mark.specs.Seen.{MarkerSeen}
-use Rattle.nmgc_mark.specs.Stopped.{HasFinished}
-use Rattle.nmgc_pmark.specs.Claims.{AreClaims}
-use Rattle.nmgc_pmark.specs.Strong.{roots_of}
+use Rattle.nmgc_mark.specs.{Seen.MarkerSeen, Stopped.HasFinished}
+use Rattle.nmgc_pmark.specs.{Claims.AreClaims, Strong.roots_of}
 
 -- some marker lists the name
 abbrev pub IsClaimed : List (List Name) → Name → Type 0

@@ -1,16 +1,12 @@
 -- The heap that a stop of a run leaves, as markers find it.
-use Rattle.std.specs.Prelude.{ℕ, ◌≡◌, List, ◌++◌}
-use Rattle.std.specs.List.{flat_map}
+use Rattle.std.specs.{Prelude.ℕ, Prelude.◌≡◌, Prelude.List, Prelude.◌++◌, List.flat_map}
 use Rattle.nmgc_world_spec.specs.World.{IsWorld}
 use Rattle.nmgc_object.specs.declared.layout.Layout.{Layout}
-use Rattle.nmgc_alloc.specs.Numbered.{Segments}
-use Rattle.nmgc_alloc.specs.Segments.{IsSegments}
+use Rattle.nmgc_alloc.specs.{Numbered.Segments, Segments.IsSegments}
 use Rattle.nmgc_heap_spec.specs.Places.{Place}
 use Rattle.nmgc_journal.specs.declared.report.MutatorEnd.{MutatorEnd}
-use Rattle.nmgc_run_spec.specs.Heap.{HoldsAtStop, registers_of}
-use Rattle.nmgc_run_spec.specs.State.{State}
-use Rattle.nmgc_pmark.specs.Claims.{Stopped, IsStopped}
-use Rattle.nmgc_pmark.specs.Strong.{roots_of}
+use Rattle.nmgc_run_spec.specs.{Heap.HoldsAtStop, Heap.registers_of, State.State}
+use Rattle.nmgc_pmark.specs.{Claims.Stopped, Claims.IsStopped, Strong.roots_of}
 
 -- the words of the registers of all mutators, and then those of the finaliser queues
 abbrev pub root_words : List MutatorEnd → List ℕ

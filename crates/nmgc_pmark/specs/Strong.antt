@@ -1,13 +1,7 @@
 -- Strong reach from what mutators hold: what several markers claim.
 use Rattle.std.specs.Prelude.{◌+◌, List, ◌++◌, ◌≡◌, ◌⊎◌, Contains, ◌≢◌}
 use Rattle.std.specs.List.{flat_map}
-use Rattle.nmgc_world_spec.specs.declared.mutator_state.MutatorState.{MutatorState}
-use Rattle.nmgc_world_spec.specs.declared.value.Value.{Value}
-use Rattle.nmgc_world_spec.specs.World.{World}
-use Rattle.nmgc_world_spec.specs.declared.value.Name.{Name}
-use Rattle.nmgc_world_spec.specs.declared.value.Value.TheVariants.{Ref}
-use Rattle.nmgc_world_spec.specs.Step.{shared_name}
-use Rattle.nmgc_world_spec.specs.Reach.{IsReached}
+use Rattle.nmgc_world_spec.specs.{declared.mutator_state.MutatorState.MutatorState, declared.value.Value.Value, World.World, declared.value.Name.Name, declared.value.Value.TheVariants.Ref, Step.shared_name, Reach.IsReached}
 
 -- what the mutators hold: the registers of each, and then the finaliser queues
 abbrev pub roots_of : World → List Value

@@ -7,9 +7,7 @@
 //! Easy to get wrong: a marker that was refused a block may not wait for whoever has it. It need not, since that
 //! one scans what it claimed.
 ghost use Rattle.std.specs.Prelude.{◌≡◌, ◌<◌, Contains, IfOk, IsTrue};
-ghost use Rattle.nmgc_pmark.specs.View.{whole, tried, claimed_by, keeps_rest, gives_first, together};
-ghost use Rattle.nmgc_pmark.specs.Rule.{IsMarker, CanSplit, HasAll, IsShared};
-ghost use Rattle.nmgc_pmark.specs.Seat.{seen, bounds_of, IsAt};
+ghost use Rattle.nmgc_pmark.specs.{View.whole, View.tried, View.claimed_by, View.keeps_rest, View.gives_first, View.together, Rule.IsMarker, Rule.CanSplit, Rule.HasAll, Rule.IsShared, Seat.seen, Seat.bounds_of, Seat.IsAt};
 
 use crate::bounds::Bounds;
 use crate::plays::{Both, FirstMarker, Tries};

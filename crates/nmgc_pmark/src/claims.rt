@@ -8,9 +8,7 @@
 //! exactly what the roots reach, each object once, doesn't.
 ghost use Rattle.std.specs.Prelude.{ℕ, ◌≡◌, ◌≤◌, length, take, IfOk};
 ghost use Rattle.nmgc_object.specs.declared.layout.TheConstants.{FIRST_PLACE};
-ghost use Rattle.nmgc_pmark.specs.declared.crew.TheConstants.{MOST_MARKERS};
-ghost use Rattle.nmgc_pmark.specs.Claims.{Stopped, IsStopped, AreClaims, starts_of};
-ghost use Rattle.nmgc_pmark.specs.Names.{AreNamed, IsNamed, NameAll, NameThem, AreAllRead};
+ghost use Rattle.nmgc_pmark.specs.{declared.crew.TheConstants.MOST_MARKERS, Claims.Stopped, Claims.IsStopped, Claims.AreClaims, Claims.starts_of, Names.AreNamed, Names.IsNamed, Names.NameAll, Names.NameThem, Names.AreAllRead};
 
 use crate::bounds::Bounds;
 use crate::crew::places_marked;

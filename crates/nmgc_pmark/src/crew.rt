@@ -4,11 +4,7 @@
 //! where one can be started; else the caller does its work, one marker after the other. Once all are back their
 //! seats are joined, and the one that is left knows that every block that somebody found claimed is in some list.
 ghost use Rattle.std.specs.Prelude.{◌≡◌, ◌-◌, ◌<◌, ◌≤◌, [], ◌∷◌, ◌^◌, length, map, vec_len, IfOk};
-ghost use Rattle.nmgc_pmark.specs.View.{whole, blank};
-ghost use Rattle.nmgc_pmark.specs.Seat.{seen, bounds_of, IsAt};
-ghost use Rattle.nmgc_pmark.specs.Found.{CanMark};
-ghost use Rattle.nmgc_pmark.specs.Marker.{CanBegin, HasMarked};
-ghost use Rattle.nmgc_pmark.specs.declared.crew.TheConstants.{MOST_MARKERS};
+ghost use Rattle.nmgc_pmark.specs.{View.whole, View.blank, Seat.seen, Seat.bounds_of, Seat.IsAt, Found.CanMark, Marker.CanBegin, Marker.HasMarked, declared.crew.TheConstants.MOST_MARKERS};
 ghost use Rattle.nmgc_pmark.specs.Crew.{AreNumbered, CanAllBegin, HaveAllMarked, AreSound, IsSharedAmong, AreMarked, found_of};
 
 use crate::bounds::Bounds;

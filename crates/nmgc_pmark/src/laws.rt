@@ -1,6 +1,5 @@
 //! Several markers against the run and against the one marker: each function does nothing, and its contract is the law.
-ghost use Rattle.nmgc_pmark.specs.OneMarker.{MarksTheSame};
-ghost use Rattle.nmgc_pmark.specs.Stops.{StopsAreStopped};
+ghost use Rattle.nmgc_pmark.specs.{OneMarker.MarksTheSame, Stops.StopsAreStopped};
 
 use nmgc_mark::laws::all_reached_is_marked;
 

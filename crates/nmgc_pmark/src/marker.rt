@@ -13,10 +13,8 @@
 //! scans, and others help it only by claiming first.
 ghost use Rattle.std.specs.Prelude.{ℕ, ◌≡◌, ◌+◌, ◌*◌, ◌<◌, ◌≤◌, [], length, slice_index, IfSome, IfNone};
 ghost use Rattle.nmgc_object.specs.declared.layout.TheConstants.{FIRST_PLACE};
-ghost use Rattle.nmgc_blocks_spec.specs.Strong.{HasStrong};
-ghost use Rattle.nmgc_pmark.specs.Seat.{bounds_of};
-ghost use Rattle.nmgc_pmark.specs.Found.{IsFound, block_index, HasHeader, IsStrongRange, IsAmong, LeadsWithin, CanMark};
-ghost use Rattle.nmgc_pmark.specs.Marker.{IsSound, HasTried, IsOwnStart, TakesLast, CanBegin, HasMarked};
+ghost use Rattle.nmgc_blocks_spec.specs.Strong.{HasStrong, HasHeader, IsStrongRange, IsAmong};
+ghost use Rattle.nmgc_pmark.specs.{Seat.bounds_of, Found.IsFound, Found.block_index, Found.LeadsWithin, Found.CanMark, Marker.IsSound, Marker.HasTried, Marker.IsOwnStart, Marker.TakesLast, Marker.CanBegin, Marker.HasMarked};
 
 use crate::still::StillWords;
 use crate::table::{ClaimSeat, ClaimTable};

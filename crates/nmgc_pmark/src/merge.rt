@@ -1,12 +1,7 @@
 //! What all markers listed, as one list in order.
 ghost use Rattle.std.specs.Prelude.{ℕ, List, ◌≡◌, flat_map, IfOk};
-ghost use Rattle.nmgc_world_spec.specs.declared.value.Name.{Name as NameOf};
-ghost use Rattle.nmgc_world_spec.specs.declared.value.Value.{Value};
-ghost use Rattle.nmgc_world_spec.specs.Reach.{Lists};
-ghost use Rattle.nmgc_world_spec.specs.World.{World};
-ghost use Rattle.nmgc_pmark.specs.Claims.{AreClaims};
-ghost use Rattle.nmgc_pmark.specs.Strong.{IsStrong};
-ghost use Rattle.nmgc_pmark.specs.Names.{ArePutInOrder};
+ghost use Rattle.nmgc_world_spec.specs.{declared.value.Name.Name as NameOf, declared.value.Value.Value, Reach.Lists, World.World};
+ghost use Rattle.nmgc_pmark.specs.{Claims.AreClaims, Strong.IsStrong, Names.ArePutInOrder};
 
 use crate::claims::Claims;
 use crate::order::sort;

@@ -1,9 +1,7 @@
 -- The operands of a command, wherever they lie.
 use Rattle.std.specs.Prelude.{◌<◌, List, length}
 use Rattle.nmgc_world_spec.specs.declared.command.Operand.{Operand}
-use Rattle.nmgc_program.specs.declared.operands.TheConstants.{FEW_OPERANDS}
-use Rattle.nmgc_program.specs.declared.operands.Held.{Held}
-use Rattle.nmgc_program.specs.declared.operands.Held.TheVariants.{Few, Many}
+use Rattle.nmgc_program.specs.{declared.operands.TheConstants.FEW_OPERANDS, declared.operands.Held.Held, declared.operands.Held.TheVariants.Few, declared.operands.Held.TheVariants.Many}
 
 -- the operands in order
 abbrev pub held_operands : Held → List Operand

@@ -4,8 +4,7 @@
 //! twice, once for a few operands and once for more. Whoever has to tell commands apart matches on the form. For contracts
 //! a `PackedCommand` is the command itself (`specs/Packed.antt`).
 ghost use Rattle.std.specs.Prelude.{◌≡◌, ◌<◌, IfOk};
-ghost use Rattle.nmgc_world_spec.specs.declared.command.Command.TheVariants.{Con, Thunk};
-ghost use Rattle.nmgc_world_spec.specs.Command.{IsMaking, words_made};
+ghost use Rattle.nmgc_world_spec.specs.{declared.command.Command.TheVariants.Con, declared.command.Command.TheVariants.Thunk, Command.IsMaking, Command.words_made};
 ghost use Rattle.nmgc_program.specs.Packed.{command_of};
 
 use crate::operands::{FewOperands, Held, ManyOperands, Operands};

@@ -1,28 +1,11 @@
 -- The steps of a round with one opening, at a seat that holds no slot.
-use Rattle.std.proofs.Common.{◌≡◌, ℕ, ◌+◌, inr, Bool, true, false, eqb, List, [], set, refl, sym, ap, subst}
-use Rattle.std.proofs.lemmas.Bool.{eqb-true}
-use Rattle.std.specs.Prelude.{slice_index}
-use mathlib.Core.Option.{some}
-use lib.ListN.{get_elem?}
-use Rattle.atomic_table.specs.Table.{State, Me, Allows, keeps}
-use Rattle.nmgc_world_spec.specs.declared.command.Command.{Command}
-use Rattle.nmgc_object.specs.declared.size.TheConstants.{HEADER_WORDS}
-use Rattle.nmgc_round.specs.View.{word, Opening, Part, Seen, loaded, answered, swapped, met, met_at_birth, stored, gave_birth}
-use Rattle.nmgc_snapshot_laws.specs.declared.event.Entry.{Entry}
-use Rattle.nmgc_round.specs.Marking.{marks_after}
-use Rattle.nmgc_round.specs.Rule.{Keeps}
-use Rattle.nmgc_round.specs.Added.{Stays, AddsCommand, AddsIfMet}
-use Rattle.nmgc_round.specs.Ready.{IsMutator, CanScan, scanned_by, first_of, Mutates, CanLoad, CanSwap, CanStore, CanBear}
-use Rattle.nmgc_round.specs.Told.{CanFix, CanTake, taken, TellsFixed, TellsField, TellsQueue, TellsEntry, TellsScan, IsSafe}
-use Rattle.nmgc_round.proofs.Fixes.{fix_keeps, fix_room, take_keeps, take_safe, queue_safe, load_safe, swap_safe}
-use Rattle.nmgc_round.proofs.Scans.{scan_keeps, scan_tells}
-use Rattle.nmgc_round.proofs.Moves.{load_keeps, swap_keeps, store_keeps, birth_keeps}
-use Rattle.nmgc_round.proofs.Keeping.{acts, same_law}
-use Rattle.nmgc_lists.specs.laws.Items.{word_again as set_again}
+use Rattle.nmgc_round.proofs.Vocabulary.{◌≡◌, ℕ, ◌+◌, inr, Bool, true, false, eqb, List, [], set, refl, sym, ap, subst, some, get_elem?, Me, Allows, keeps, Command, HEADER_WORDS, word, Opening, Part, Seen, loaded, answered, swapped, met, met_at_birth, stored, gave_birth, marks_after, Keeps, Stays, AddsIfMet, IsMutator, CanScan, scanned_by, first_of, Mutates, CanLoad, CanSwap, CanStore, CanBear, CanFix, CanTake, taken, TellsFixed, TellsField, TellsQueue, TellsEntry, TellsScan, IsSafe, set_again, eqb-true, slice_index}
+use Rattle.atomic_table.specs.Table.{State}
+use Rattle.nmgc_round.proofs.{Fixes.fix_keeps, Fixes.fix_room, Fixes.take_keeps, Fixes.take_safe, Fixes.queue_safe, Fixes.load_safe, Fixes.swap_safe, Scans.scan_keeps, Scans.scan_tells, Moves.store_keeps, Moves.birth_keeps, Writes.load_keeps, Writes.swap_keeps, Keeping.acts, Keeping.same_law}
 
 -- a word that is stored again changes nothing
 pub stored_again : (ws : List ℕ) (i w : ℕ) → eqb (slice_index ws i) w ≡ true → set ws i w ≡ ws
-stored_again ws i w e = subst (λ (n : ℕ). set ws i n ≡ ws) (eqb-true (slice_index ws i) w e) (set_again ws i)
+stored_again ws i w e = rw (eqb-true (slice_index ws i) w e) at (set_again ws i)
 
 -- a look where no object is yet is the store of the word that stands there, or nothing
 pub look_keeps : (o : Opening) (words : List ℕ) (views : List Seen) (h : Keeps o words views) (id : ℕ) (v : Seen) → get_elem? views id ≡ some v →
@@ -31,8 +14,7 @@ pub look_keeps : (o : Opening) (words : List ℕ) (views : List Seen) (h : Keeps
 look_keeps o words views h id v here p is at w can = by_hit (eqb (slice_index words at) w) refl
   where
     by_hit : (hit : Bool) → eqb (slice_index words at) w ≡ hit → Stays o words views h words (set views id (met v at w hit))
-    by_hit true e = subst (λ (ws : List ℕ).
-        Stays o words views h ws (set views id (stored v at w))) (stored_again words at w e) (store_keeps o words views h id v here p is at w can)
+    by_hit true e = rw (stored_again words at w e) at (store_keeps o words views h id v here p is at w can)
     by_hit false e = same_law o words views h id v here v (h.agrees id v here)
 
 -- a look at the header where an object is to begin is the birth, or nothing
@@ -43,9 +25,7 @@ look_bears o words views h id v here p is at header c can = by_hit (eqb (slice_i
   where
     by_hit : (hit : Bool) → eqb (slice_index words at) header ≡ hit →
         AddsIfMet o words views h p.number c hit words (set views id (met_at_birth v at header c hit))
-    by_hit true e = subst (λ (ws : List ℕ).
-        AddsCommand o words views h p.number c ws (set views id (gave_birth v at header c))) (stored_again words at header e)
-        (birth_keeps o words views h id v here p is at header c can)
+    by_hit true e = rw (stored_again words at header e) at (birth_keeps o words views h id v here p is at header c can)
     by_hit false e = same_law o words views h id v here v (h.agrees id v here)
 
 -- so the rule holds again after it
@@ -59,7 +39,7 @@ module _ (o : Opening) where
   holds s = Keeps o s.words s.views
 
   pub unchanged : (words : List ℕ) (views : List Seen) (i : ℕ) → Keeps o words views → Keeps o (set words i (slice_index words i)) views
-  unchanged words views i h = subst (λ (ws : List ℕ). Keeps o ws views) (sym (set_again words i)) h
+  unchanged words views i h = rw (set_again words i) h
 
   module _ (slots id : ℕ) (me : Me (Unit {0}) Seen) (bare : me.1 ≡ []) where
     abbrev Steps : ℕ → (ℕ → ℕ) → (ℕ → Seen → Type 0) → Type 0
@@ -75,13 +55,11 @@ module _ (o : Opening) where
           keeps,
           tt,
           unchanged s.words (set s.views id w) i
-              (load_keeps o s.words s.views h id me.0 here can.0 can.1 at index c (subst (λ (y : Opening). CanLoad y can.0 at index c) is can.2)).1,
+              (load_keeps o s.words s.views h id me.0 here can.0 can.1 at index c (rw is at can.2)).1,
           (
             (
               refl,
-              subst (λ (y : Opening).
-                  IsSafe y (slice_index s.words i)) (sym is) (load_safe o s.words s.views h id me.0 here can.0 can.1 at index c (subst (λ (y : Opening).
-                  CanLoad y can.0 at index c) is can.2)),
+              rw is (load_safe o s.words s.views h id me.0 here can.0 can.1 at index c (rw is at can.2)),
             ),
             bare,
           ),
@@ -93,12 +71,12 @@ module _ (o : Opening) where
         let i : ℕ = at + HEADER_WORDS + index in
         let n : ℕ = slice_index s.words i in
         let is = (h.agrees id me.0 here).opening (acts me.0 can.0 can.1) in
-        let can' = subst (λ (y : Opening). CanSwap y can.0 at index new c) is can.2 in (
+        let can' = rw is at can.2 in (
           swapped me.0 c n,
           keeps,
           tt,
           (swap_keeps o s.words s.views h id me.0 here can.0 can.1 at index new c can').1,
-          ((refl, subst (λ (y : Opening). IsSafe y n) (sym is) (swap_safe o s.words s.views h id me.0 here can.0 can.1 at index new c can')), bare),
+          ((refl, rw is (swap_safe o s.words s.views h id me.0 here can.0 can.1 at index new c can')), bare),
         )
 
     pub store_allows : (i new : ℕ) → Mutates (λ o p. CanStore o p i) me.0 → Steps i (λ _. new) (λ n w. w ≡ stored me.0 i new)
@@ -107,8 +85,7 @@ module _ (o : Opening) where
           stored me.0 i new,
           keeps,
           tt,
-          (store_keeps o s.words s.views h id me.0 here can.0 can.1 i new (subst (λ (y : Opening).
-              CanStore y can.0 i) is can.2)).0,
+          (store_keeps o s.words s.views h id me.0 here can.0 can.1 i new (rw is at can.2)).0,
           (refl, bare),
         )
 
@@ -119,8 +96,7 @@ module _ (o : Opening) where
           gave_birth me.0 at header c,
           keeps,
           tt,
-          (birth_keeps o s.words s.views h id me.0 here can.0 can.1 at header c (subst (λ (y : Opening).
-              CanBear y can.0 at header c) is can.2)).1,
+          (birth_keeps o s.words s.views h id me.0 here can.0 can.1 at header c (rw is at can.2)).1,
           (refl, bare),
         )
 
@@ -128,7 +104,7 @@ module _ (o : Opening) where
     meet_allows i wanted can s h len here small =
         let w : Seen = met me.0 i wanted (eqb (slice_index s.words i) wanted) in
         let is = (h.agrees id me.0 here).opening (acts me.0 can.0 can.1) in
-        let can' = subst (λ (y : Opening). CanStore y can.0 i) is can.2 in
+        let can' = rw is at can.2 in
         (w, keeps, tt, unchanged s.words (set s.views id w) i (look_keeps o s.words s.views h id me.0 here can.0 can.1 i wanted can').0, (refl, bare))
 
     pub meet_birth_allows : (at header : ℕ) (c : Command) → Mutates (λ o p. CanBear o p at header c) me.0 →
@@ -137,7 +113,7 @@ module _ (o : Opening) where
         let hit : Bool = eqb (slice_index s.words at) header in
         let w : Seen = met_at_birth me.0 at header c hit in
         let is = (h.agrees id me.0 here).opening (acts me.0 can.0 can.1) in
-        let can' = subst (λ (y : Opening). CanBear y can.0 at header c) is can.2 in
+        let can' = rw is at can.2 in
         let k = look_bears o s.words s.views h id me.0 here can.0 can.1 at header c can' in (
           w,
           keeps,
@@ -151,12 +127,12 @@ module _ (o : Opening) where
     fix_allows at offset can s h len here small =
         let n : ℕ = slice_index s.words (at + offset) in
         let is = (h.agrees id me.0 here).opening (acts me.0 can.0 can.1) in
-        let can' = subst (λ (y : Opening). CanFix y can.0 at offset) is can.2 in (
+        let can' = rw is at can.2 in (
           loaded me.0 at offset n,
           keeps,
           tt,
           unchanged s.words (set s.views id (loaded me.0 at offset n)) (at + offset) (fix_keeps o s.words s.views h id me.0 here can.0 can.1 at offset can').0,
-          ((refl, subst (λ (y : Opening). TellsFixed y at offset n) (sym is) (fix_room o s.words s.views h id me.0 here can.0 can.1 at offset can')), bare),
+          ((refl, rw is (fix_room o s.words s.views h id me.0 here can.0 can.1 at offset can')), bare),
         )
 
     pub take_allows : (at offset : ℕ) (c : Command) → Mutates (λ o p. CanTake o p at offset c) me.0 →
@@ -164,7 +140,7 @@ module _ (o : Opening) where
     take_allows at offset c can s h len here small =
         let n : ℕ = slice_index s.words (at + offset) in
         let is = (h.agrees id me.0 here).opening (acts me.0 can.0 can.1) in
-        let can' = subst (λ (y : Opening). CanTake y can.0 at offset c) is can.2 in (
+        let can' = rw is at can.2 in (
           taken me.0 at offset c n,
           keeps,
           tt,
@@ -173,8 +149,8 @@ module _ (o : Opening) where
           (
             (
               refl,
-              subst (λ (y : Opening). TellsField y offset n) (sym is) (take_safe o s.words s.views h id me.0 here can.0 can.1 at offset c can'),
-              (can.0, can.1, subst (λ (y : Opening). TellsQueue y can.0) (sym is) (queue_safe o s.words s.views h id me.0 here can.0 can.1)),
+              rw is (take_safe o s.words s.views h id me.0 here can.0 can.1 at offset c can'),
+              (can.0, can.1, rw is (queue_safe o s.words s.views h id me.0 here can.0 can.1)),
             ),
             bare,
           ),
@@ -190,5 +166,5 @@ module _ (o : Opening) where
           keeps,
           tt,
           unchanged s.words (set s.views id (scanned_by me.0 n)) (at + offset) (scan_keeps o s.words s.views h id me.0 here at offset can).1,
-          ((refl, subst (λ (e : Entry). TellsEntry me.0.opening e n) (sym first) tells), bare),
+          ((refl, rw first tells), bare),
         )

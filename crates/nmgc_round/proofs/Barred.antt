@@ -1,18 +1,5 @@
 -- A push onto a full stack and a pop off an empty one keep the rule, at a load of the header of g.
-use Rattle.std.proofs.Common.{◌≡◌, ℕ, List, [], set, ◌∙◌, arith, slice_index}
-use mathlib.Core.Option.{some}
-use lib.ListN.{get_elem?}
-use Rattle.nmgc_world_spec.specs.declared.command.Command.{Command}
-use Rattle.nmgc_world_spec.specs.Step.{shared_name}
-use Rattle.nmgc_object.specs.declared.layout.TheConstants.{SHARED_PLACE}
-use Rattle.nmgc_round.specs.View.{Answer, plain, Opening, Part, Seen, doing, loaded, answered}
-use Rattle.nmgc_round.specs.Rule.{IsFixed, Keeps}
-use Rattle.nmgc_round.specs.Added.{AddsCommand}
-use Rattle.nmgc_round.specs.Ready.{IsMutator}
-use Rattle.nmgc_round.specs.Stacks.{IsRefusedSlot, slot_refusal_reply, slot_refused}
-use Rattle.nmgc_round.proofs.Fixes.{there_again, first_fixed, is_doing, twice}
-use Rattle.nmgc_round.proofs.Moves.{fixed_keeps}
-use Rattle.nmgc_round.proofs.Pushes.{barred_answers}
+use Rattle.nmgc_round.proofs.{Vocabulary.◌≡◌, Vocabulary.ℕ, Vocabulary.List, Vocabulary.[], Vocabulary.set, Vocabulary.◌∙◌, Vocabulary.arith, Vocabulary.slice_index, Vocabulary.some, Vocabulary.get_elem?, Vocabulary.Command, Vocabulary.shared_name, Vocabulary.SHARED_PLACE, Vocabulary.Answer, Vocabulary.plain, Vocabulary.Opening, Vocabulary.Part, Vocabulary.Seen, Vocabulary.doing, Vocabulary.loaded, Vocabulary.answered, Vocabulary.IsFixed, Vocabulary.Keeps, Vocabulary.AddsCommand, Vocabulary.IsMutator, Vocabulary.IsRefusedSlot, Vocabulary.slot_refusal_reply, Vocabulary.slot_refused, Fixes.there_again, Fixes.first_fixed, Fixes.is_doing, Fixes.twice, Moves.fixed_keeps, Pushes.barred_answers}
 
 module _ (o : Opening) (words : List ℕ) (views : List Seen) (h : Keeps o words views) (id : ℕ) (v : Seen) (here : get_elem? views id ≡
     some v) (p : Part) (is : IsMutator v p) where

@@ -1,32 +1,7 @@
 -- The empty heap represents the new world, and opens the first round.
-use Rattle.std.proofs.Common.{◌≡◌, ℕ, zero, suc, ◌+◌, ◌*◌, ◌<◌, ◌≤◌, Bool, true, false, cond, eqb, List, [], ◌∷◌, ◌++◌, length, replicate, get_or, refl, sym, ap, subst, ◌∙◌, arith, slice_index, Some, inl}
-use Rattle.std.specs.Prelude.{Contains}
-use Rattle.std.proofs.lemmas.List.{length-replicate}
-use Rattle.std.proofs.lemmas.List.Elements.{All-get_or, All-replicate}
-use Rattle.nmgc_limits.specs.declared.mutators.TheConstants.{REGISTERS, SHARED_SLOTS}
-use Rattle.nmgc_world_spec.specs.declared.value.Name.{Name}
-use Rattle.nmgc_world_spec.specs.declared.value.Value.{Value}
+use Rattle.nmgc_round.proofs.Vocabulary.{◌≡◌, ℕ, zero, suc, ◌+◌, ◌<◌, Bool, true, false, cond, eqb, List, [], ◌∷◌, ◌++◌, length, replicate, get_or, refl, sym, ap, subst, ◌∙◌, arith, Some, inl, Contains, length-replicate, All-get_or, All-replicate, REGISTERS, SHARED_SLOTS, Name, Value, Node, MutatorState, World, node_of, state_of, new_world, new_mutator, no_mutator, shared_name, at_some, nothing_in, contains_one, one_is, IsLayout, Layout, SHARED_PLACE, HEADER_WORDS, NIL_WORD, new_nodes, new_is_world, slots_of, Place, HasSlots, AllMean, ListMeans, shared_place, IsNamed, IsPlaced, Represents, NoNode, all_item, values_fill, Slots, Hand, Opening, no_hand, hand_of, old_stacks, IsOpening, HandStands, CanOpen, empty_array, IsEmptyHeap, new_hand, first_opening}
+use Rattle.nmgc_heap_spec.specs.Represents.{IsObject}
 use Rattle.nmgc_world_spec.specs.declared.value.Value.TheVariants as value
-use Rattle.nmgc_world_spec.specs.declared.node.Node.{Node}
-use Rattle.nmgc_world_spec.specs.declared.mutator_state.MutatorState.{MutatorState}
-use Rattle.nmgc_world_spec.specs.World.{World, node_of, state_of, new_world, new_mutator, no_mutator}
-use Rattle.nmgc_world_spec.specs.Step.{shared_name}
-use Rattle.nmgc_lists.specs.laws.Items.{at_some, nothing_in, contains_one, one_is}
-use Rattle.nmgc_object.specs.Places.{IsLayout}
-use Rattle.nmgc_object.specs.declared.layout.Layout.{Layout}
-use Rattle.nmgc_object.specs.declared.layout.TheConstants.{SHARED_PLACE}
-use Rattle.nmgc_object.specs.declared.size.TheConstants.{HEADER_WORDS}
-use Rattle.nmgc_object.specs.declared.words.TheConstants.{NIL_WORD}
-use Rattle.nmgc_world_laws.specs.laws.NewWorlds.{new_nodes, new_is_world}
-use Rattle.nmgc_heap_spec.specs.Shape.{slots_of}
-use Rattle.nmgc_heap_spec.specs.Places.{Place, Means, HasSlots, AllMean, ListMeans, shared_place}
-use Rattle.nmgc_heap_spec.specs.Represents.{IsNamed, IsObject, IsPlaced, Represents, NoNode}
-use Rattle.nmgc_heap_spec.specs.laws.Kinds.{all_item, values_fill}
-use Rattle.nmgc_round.specs.View.{Slots, Hand, Opening, no_hand, hand_of}
-use Rattle.nmgc_round.specs.Own.{old_stacks}
-use Rattle.nmgc_round.specs.Rule.{IsOpening}
-use Rattle.nmgc_round.specs.Starting.{HandStands, CanOpen}
-use Rattle.nmgc_round.specs.Empty.{empty_array, IsEmptyHeap, new_hand, first_opening}
 use Rattle.nmgc_round.proofs.Makers.{replicate_means}
 
 -- an item of a list of equal ones
@@ -63,7 +38,7 @@ module _ (layout : Layout) (words : List ℕ) (is : IsLayout layout) (h : IsEmpt
     snapshot = λ m. omega arith;
     wide = λ e. shares e;
     in_segments = λ p c m lt.
-        inl (subst (λ (q : Place). q.at < 32 + layout.segments * layout.words + m * layout.nursery) (one_is shared_place p c) (omega arith));
+        inl (rw (← (one_is shared_place p c)) (omega arith));
   }
 
   g_slots : HasSlots P words (SHARED_PLACE + HEADER_WORDS) (slots_of empty_array)
@@ -71,14 +46,14 @@ module _ (layout : Layout) (words : List ℕ) (is : IsLayout layout) (h : IsEmpt
     where
       mean : AllMean P words (SHARED_PLACE + HEADER_WORDS) (replicate SHARED_SLOTS value.Nil)
       mean i v e = let t = all_item SHARED_SLOTS i value.Nil v e in
-          subst (λ (x : Value). Means P (slice_index words (SHARED_PLACE + HEADER_WORDS + i)) x) (sym t.0) (h.slots i t.1)
+          rw t.0 (h.slots i t.1)
 
   g_object : IsObject layout (shared_place ∷ []) words shared_place empty_array
   g_object = record {
     header = h.header;
     valid = (refl, omega arith);
     lies = inl (refl, refl, omega arith);
-    alone = λ q c. inl (subst (λ (r : Place). r.at ≤ SHARED_PLACE) (one_is shared_place q c) (omega arith));
+    alone = λ q c. inl (rw (← (one_is shared_place q c)) (omega arith));
   }
 
   -- g is the only name
@@ -128,8 +103,8 @@ module _ (layout : Layout) (words : List ℕ) (is : IsLayout layout) (h : IsEmpt
           sym state i,
         )) (replicate_means P REGISTERS NIL_WORD value.Nil refl);
         queue = subst (λ (k : Hand × MutatorState). ListMeans P k.0.queue k.1.queue) (λ i. (sym mine i, sym state i)) tt;
-        serial = ap (λ (k : Hand). k.serial) mine ∙ sym (ap (λ (s : MutatorState). length s.nodes) state);
-        stacks = ap (λ (k : Hand). k.stacks) mine ∙ sym (no_stacks m);
+        serial = rw (mine, state);
+        stacks = cc (mine, no_stacks m);
       }
 
   pub first_opens : CanOpen o words

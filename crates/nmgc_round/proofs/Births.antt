@@ -1,22 +1,6 @@
 -- Words that stand for a world, where a word of no object changes, and where an object is born.
-use Rattle.std.proofs.Common.{◌≡◌, ◌≢◌, ◌⊎◌, inl, inr, ℕ, ◌+◌, ◌<◌, ◌≤◌, List, [], ◌∷◌, ◌++◌, length, set, refl, sym, ap, subst, ◌∙◌, arith, slice_index, Some, None, get_or-set_same, get_or-set_other, length-set}
-use Rattle.std.specs.Prelude.{IsSome}
-use Rattle.std.proofs.lemmas.Bool.{cases_lt}
-use Rattle.std.proofs.lemmas.List.Elements.{Contains-append_left, Contains-push_cases}
-use Rattle.nmgc_world_spec.specs.declared.value.Name.{Name}
-use Rattle.nmgc_world_spec.specs.declared.node.Node.{Node}
-use Rattle.nmgc_world_spec.specs.World.{World, node_of, IsSized}
-use Rattle.nmgc_object.specs.Words.{header_word, name_word, IsHeader, IsName}
-use Rattle.nmgc_object.specs.declared.words.Header.{Header}
-use Rattle.nmgc_object.specs.declared.size.TheConstants.{HEADER_WORDS}
-use Rattle.nmgc_heap_spec.specs.Shape.{header_of, size_of, slots_of, fixed_slots}
-use Rattle.nmgc_heap_spec.specs.Places.{Place, HasSlots, LiesWell, IsBetween}
-use Rattle.nmgc_heap_spec.specs.Represents.{IsNamed}
-use Rattle.nmgc_round.specs.View.{Opening}
-use Rattle.nmgc_round.specs.Objects.{KeepsOf, Object, place_of, end_of, IsObject, IsIn, IsPlace, IsLater, IsApart, IsStanding, RepresentsInRound, IsFree}
-use Rattle.nmgc_round.proofs.Fields.{fields_same, kept_same, fixed_of_slots}
-use Rattle.nmgc_round.proofs.Standing.{placed, same_node}
-use Rattle.nmgc_heap_spec.specs.laws.Births.{lies_less}
+use Rattle.nmgc_round.proofs.Vocabulary.{◌≡◌, ◌≢◌, ◌⊎◌, inl, inr, ℕ, ◌+◌, ◌<◌, ◌≤◌, List, [], ◌∷◌, ◌++◌, length, set, refl, sym, ap, subst, ◌∙◌, arith, slice_index, Some, None, get_or-set_same, get_or-set_other, length-set, IsSome, cases_lt, Contains-append_left, Contains-push_cases, Name, Node, World, node_of, IsSized, header_word, name_word, IsHeader, IsName, Header, HEADER_WORDS, header_of, size_of, slots_of, Place, HasSlots, LiesWell, IsBetween, IsNamed, Opening, KeepsOf, Object, place_of, end_of, IsObject, IsIn, IsPlace, IsLater, IsApart, IsStanding, RepresentsInRound, IsFree, lies_less}
+use Rattle.nmgc_round.proofs.{Fields.fields_same, Fields.kept_same, Fields.fixed_of_slots, Standing.placed, Standing.same_node}
 
 -- one object more
 module _ (o : Opening) (born : List Object) (x : Object) where
@@ -102,8 +86,8 @@ module _ (o : Opening) (born : List Object) (w v : World) (ws : List ℕ) (st : 
 
   unlike : (n : Name) → IsSome (node_of w n) → n ≡ x.name → ⊥
   unlike n h e =
-      let none : node_of w n ≡ None = ap (λ m. node_of w m) e ∙ unknown in
-      let bad : IsSome {T = Node} None = subst (λ y. IsSome y) none h in
+      let none : node_of w n ≡ None = cc (e, unknown) in
+      let bad : IsSome {T = Node} None = rw none at h in
       absurd cc
 
   -- a place that was there is another
@@ -129,7 +113,7 @@ module _ (o : Opening) (born : List Object) (w v : World) (ws : List ℕ) (st : 
 
   new_named : IsNamed o.layout v vs (place_of x)
   new_named = record {
-    known = subst (λ y. IsSome y) (sym mine) refl;
+    known = rw mine refl;
     valid = valid_name;
     name = away (x.at + 1) (λ e. omega arith) ∙ name;
     lies = lies_less o.layout (place_of x) (size_of x.node) HEADER_WORDS (omega arith) lies;
@@ -140,7 +124,7 @@ module _ (o : Opening) (born : List Object) (w v : World) (ws : List ℕ) (st : 
       let h = st.named p hp in
       let ne : p.at + 1 ≢ x.at = λ e. elim (here.places p hp) [ inl l ↦ omega arith | inr l ↦ omega arith ] in
       record {
-        known = subst (λ y. IsSome y) (sym (others p.name (unlike p.name h.known))) h.known;
+        known = rw (others p.name (unlike p.name h.known)) h.known;
         valid = h.valid;
         name = away (p.at + 1) ne ∙
             h.name;
@@ -159,7 +143,7 @@ module _ (o : Opening) (born : List Object) (w v : World) (ws : List ℕ) (st : 
         ]
         | inr le ↦ inl le
       ]
-      | inr e ↦ inl (subst (λ (r : Place). r.at ≤ x.at) e (omega arith))
+      | inr e ↦ inl (rw (← e) (omega arith))
     ];
   }
 
@@ -170,7 +154,7 @@ module _ (o : Opening) (born : List Object) (w v : World) (ws : List ℕ) (st : 
         lies = h.lies;
         alone = λ q hq. elim (place_cases o born x q hq) [
           | inl a ↦ h.alone q a
-          | inr e ↦ subst (λ (r : Place). (r.at ≤ y.at) ⊎ (end_of y ≤ r.at)) e (elim (here.objects y hy) [ inl l ↦ inl (omega arith) | inr l ↦ inr l ])
+          | inr e ↦ rw (← e) (elim (here.objects y hy) [ inl l ↦ inl (omega arith) | inr l ↦ inr l ])
         ];
       }
 
@@ -183,7 +167,7 @@ module _ (o : Opening) (born : List Object) (w v : World) (ws : List ℕ) (st : 
     sized = sized;
     fields = grown;
     kept = λ before k. elim k as (λ k. IsLater before x.node × KeepsOf o x before (IsIn o more) vs (x.at + HEADER_WORDS) k) [
-      | inl e ↦ subst (λ (n : Node). IsLater n x.node × HasSlots (IsIn o more) vs (x.at + HEADER_WORDS) (fixed_slots n)) (sym e) (
+      | inl e ↦ rw e (
         same_node x.node,
         fixed_of_slots (IsIn o more) vs (x.at + HEADER_WORDS) x.node grown,
       )

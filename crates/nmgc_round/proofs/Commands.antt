@@ -1,27 +1,7 @@
 -- What a command does, where it is known, and what of it stands in words.
-use Rattle.std.proofs.Common.{get_or, length-set, ◌≡◌, ℕ, zero, suc, ◌+◌, ◌<◌, List, [], ◌∷◌, length, set, refl, sym, ap, subst, ◌∙◌, arith, slice_index, Some, cond, get_or-set_same, lt-ltb}
-use Rattle.std.specs.Prelude.{slice_get, option_to_list}
-use Rattle.std.proofs.lemmas.Option.{slice_get-get_or}
-use Rattle.nmgc_world_spec.specs.declared.value.Name.{Name}
-use Rattle.nmgc_world_spec.specs.declared.value.Value.{Value}
+use Rattle.nmgc_round.proofs.Vocabulary.{get_or, length-set, ◌≡◌, ℕ, zero, suc, ◌+◌, ◌<◌, List, [], ◌∷◌, length, set, refl, ap, arith, slice_index, Some, cond, get_or-set_same, lt-ltb, slice_get, slice_get-get_or, Name, Value, Node, Con, Var, Arr, Thunk, Weak, Stack, Change, Operand, Get, Set, Reply, Fine, Given, NoField, World, node_of, IsSized, given_or, field_set, field_read, value_for, with_node, with_register, step, field_held, names_among, owed_by, header_of, holds, slots_of, Place, Means, HasSlots, values_fill, slots_mean, slots_of_fields, IsLater, IsWritable, IsReadable}
 use Rattle.nmgc_world_spec.specs.declared.value.Value.TheVariants as value
-use Rattle.nmgc_world_spec.specs.declared.node.Node.{Node}
-use Rattle.nmgc_world_spec.specs.declared.node.Node.TheVariants.{Con, Var, Arr, Thunk, Weak, Stack}
-use Rattle.nmgc_world_spec.specs.declared.change.Change.{Change}
 use Rattle.nmgc_world_spec.specs.declared.change.Change.TheVariants as change
-use Rattle.nmgc_world_spec.specs.declared.command.Operand.{Operand}
-use Rattle.nmgc_world_spec.specs.declared.command.Command.TheVariants.{Get, Set}
-use Rattle.nmgc_world_spec.specs.declared.command.Reply.{Reply}
-use Rattle.nmgc_world_spec.specs.declared.command.Reply.TheVariants.{Fine, Given, NoField}
-use Rattle.nmgc_world_spec.specs.World.{World, node_of, IsSized}
-use Rattle.nmgc_world_spec.specs.Change.{given_or, field_set, field_read}
-use Rattle.nmgc_world_spec.specs.Step.{value_for, with_node, with_register, change_object, change_node, object_of, read_object, read_into, step}
-use Rattle.nmgc_world_spec.specs.Owed.{field_held, owed_of, owed_at, names_among, owed_by}
-use Rattle.nmgc_heap_spec.specs.Shape.{header_of, holds, slots_of}
-use Rattle.nmgc_heap_spec.specs.Places.{Place, Means, HasSlots}
-use Rattle.nmgc_heap_spec.specs.laws.Kinds.{values_fill, slots_mean, slots_of_fields}
-use Rattle.nmgc_round.specs.Objects.{IsLater}
-use Rattle.nmgc_round.specs.Ready.{IsWritable, IsReadable}
 use Rattle.nmgc_round.proofs.Fields.{all_set}
 
 -- `set` of a field that is there
@@ -29,7 +9,7 @@ pub step_set : (w : World) (m : ℕ) (object v : Operand) (index : ℕ) (name : 
     node_of w name ≡ Some found → field_set found index (value_for w m v) ≡ (made, Fine) → step w m (Set object index v) ≡ (with_node w name made, Fine)
 step_set w m object v index name found made is there does =
     let c : Change = change.Set index (value_for w m v) in
-    ap (λ y. change_object w y c) is ∙ ap (λ o. change_node w name o c) there ∙ ap (λ (r : Node × Reply). (with_node w name r.0, r.1)) does
+    rw (is, there, does)
 
 -- it owes the old value
 pub owes_set : (w : World) (m : ℕ) (object v : Operand) (index : ℕ) (name : Name) (found : Node) (old : Value) →
@@ -37,7 +17,7 @@ pub owes_set : (w : World) (m : ℕ) (object v : Operand) (index : ℕ) (name : 
     owed_by w m (Set object index v) ≡ names_among (old ∷ [])
 owes_set w m object v index name found old is there held =
     let c : Change = change.Set index (value_for w m v) in
-    ap (λ y. names_among (owed_of w y c)) is ∙ ap (λ o. names_among (owed_at c name o)) there ∙ ap (λ o. names_among (option_to_list o)) held
+    cc (is, there, held)
 
 -- `get` of a field that is there
 pub step_get : (w : World) (m dest : ℕ) (object : Operand) (index : ℕ) (name : Name) (found : Node) (v : Value) →
@@ -45,8 +25,7 @@ pub step_get : (w : World) (m dest : ℕ) (object : Operand) (index : ℕ) (name
     step w m (Get dest object index) ≡ (with_register w m dest v, Given v)
 step_get w m dest object index name found v is there reads =
     let read : Node → Reply = λ n. field_read n index in
-    ap (λ y. read_into w m dest (read_object (object_of w y) read)) is ∙ ap (λ o. read_into w m dest (read_object o read)) there ∙
-    ap (λ r. read_into w m dest r) reads
+    cc (is, there, reads)
 
 -- a field that is written, with its word
 pub record Written (P : Place → Type 0) (ws : List ℕ) (from index new : ℕ) (found : Node) (v : Value) : Type 0 where
@@ -69,13 +48,13 @@ written P ws from index new (Stack size values) v may within inside h m = absurd
 written P ws from (suc index) new (Var old) v may within inside h m = absurd (omega arith)
 written P ws from zero new (Var old) v may within inside h m =
     let z : from + 0 ≡ from = omega arith in
-    let here : slice_index (set ws (from + 0) new) from ≡ new = ap (λ j. slice_index (set ws j new) from) z ∙ get_or-set_same ws from new 0 (omega arith) in
+    let here : slice_index (set ws (from + 0) new) from ≡ new = cc (z, get_or-set_same ws from new 0 (omega arith)) in
     record {
       made = Var v;
       does = refl;
       later = record { header = refl; free = refl; result = λ e. e; alive = λ parts e. absurd cc };
       sized = tt;
-      fields = slots_of_fields P (set ws (from + 0) new) from (Var v) (subst (λ w. Means P w v) (sym here) m);
+      fields = slots_of_fields P (set ws (from + 0) new) from (Var v) (rw here m);
       old = old;
       held = refl;
       was = h zero (holds old) refl;

@@ -1,13 +1,5 @@
 -- The first seat is cut into one for each mutator, and all are gathered again.
-use Rattle.std.proofs.Common.{◌≡◌, ℕ, zero, suc, ◌+◌, ◌<◌, List, [], ◌∷◌, ◌++◌, map, length, get_or, drop, drop-cons, All, refl, sym, ap, ◌∙◌, subst, arith, append_assoc}
-use Rattle.std.proofs.lemmas.List.Elements.{All-append, All-cons, All-nil}
-use mathlib.Core.Option.{some, some-injective, some-ne-none}
-use lib.ListN.{get_elem?}
-use Rattle.atomic_table.specs.declared.shared.Seat.{Seat}
-use Rattle.nmgc_round.specs.declared.table.Round.{Round}
-use Rattle.nmgc_round.specs.View.{Hand, Opening, Part, Seen, no_hand, blank, blanks}
-use Rattle.nmgc_round.specs.Seating.{CanSplit, keeps_rest, gives_first, together, from, alone, alones, all_together}
-use Rattle.nmgc_round.specs.Seat.{RoundSeat, IsAt, seen, opening_of}
+use Rattle.nmgc_round.proofs.Vocabulary.{◌≡◌, ℕ, zero, suc, ◌+◌, ◌<◌, List, [], ◌∷◌, ◌++◌, map, length, get_or, drop, drop-cons, All, refl, sym, ap, ◌∙◌, subst, arith, append_assoc, All-append, All-cons, All-nil, some, some-injective, some-ne-none, get_elem?, Round, Hand, Opening, Part, Seen, no_hand, blank, blanks, CanSplit, keeps_rest, gives_first, from, alone, alones, RoundSeat, IsAt, seen, opening_of}
 
 -- the numbers of the parts rise
 blanks_above : (n m : ℕ) (hs : List Hand) (k : ℕ) (q : Part) → m < n → get_elem? (blanks n hs) k ≡ some q → m < q.number
@@ -23,7 +15,7 @@ module _ (o : Opening) (k : ℕ) (hs : List Hand) (h : k < length hs) where
   first = drop-cons hs k no_hand h
 
   pub can_split_at : CanSplit (from o k (drop k hs))
-  can_split_at = subst (λ l. CanSplit (from o k l)) (sym first) (can_split o k (get_or hs k no_hand) (drop (suc k) hs))
+  can_split_at = rw first (can_split o k (get_or hs k no_hand) (drop (suc k) hs))
 
   pub rest_at : keeps_rest (from o k (drop k hs)) ≡ from o (suc k) (drop (suc k) hs)
   rest_at = ap (λ l. keeps_rest (from o k l)) first
@@ -36,22 +28,12 @@ module _ (o : Opening) (k : ℕ) (hs : List Hand) (h : k < length hs) where
 
 pub last_at : (o : Opening) (k : ℕ) (hs : List Hand) → suc k ≡ length hs → alones o k (drop k hs) ≡ from o k (drop k hs) ∷ []
 last_at o k hs e = let h : k < length hs = omega arith in
-    let none : drop (suc k) hs ≡ [] = subst (λ n. drop n hs ≡ []) (sym e) (drop_all hs) in
-    alones_at o k hs h ∙ ap (λ l. alone o k ∷ alones o (suc k) l) none ∙
-    ap (λ x. x ∷ []) (sym (ap (λ l. from o k l) (first o k hs h) ∙ ap (λ l. from o k (get_or hs k no_hand ∷ l)) none))
+    let none : drop (suc k) hs ≡ [] = rw e (drop_all hs) in
+    cc (alones_at o k hs h, none, first o k hs h)
   where
     drop_all : (l : List Hand) → drop (length l) l ≡ []
     drop_all [] = refl
     drop_all (x ∷ xs) = drop_all xs
-
-pub gather_more : (p : Seat (Unit {0}) Seen) (xs : List (Seat (Unit {0}) Seen)) (x : Seat (Unit {0}) Seen) →
-    all_together (seen p) (map seen (xs ++ x ∷ [])) ≡ together (all_together (seen p) (map seen xs)) (seen x)
-gather_more p xs x = at_end_of (seen p) xs x
-  where
-    at_end_of : (v : Seen) (xs : List (Seat (Unit {0}) Seen)) (x : Seat (Unit {0}) Seen) →
-        all_together v (map seen (xs ++ x ∷ [])) ≡ together (all_together v (map seen xs)) (seen x)
-    at_end_of v [] x = refl
-    at_end_of v (y ∷ ys) x = at_end_of (together v (seen y)) ys x
 
 pub record IsCut (r : Round) (p : RoundSeat) (xs : List RoundSeat) (n : ℕ) : Type 0 where
   pub at : IsAt r p
@@ -85,12 +67,11 @@ cut_next r p q s xs n h lt atq ats isq iss =
     let is : seen s ≡ alone O (length xs) = iss ∙ ap gives_first h.rest ∙ first_at O (length xs) O.hands k in record {
       at = atq;
       count = omega arith;
-      rest = isq ∙ ap keeps_rest h.rest ∙ rest_at O (length xs) O.hands k ∙ ap (λ j. from O j (drop j O.hands)) (sym l);
+      rest = cc (isq, h.rest, rest_at O (length xs) O.hands k, l);
       seats =
-          let a : map seen (xs ++ s ∷ []) ≡ map seen xs ++ alone O (length xs) ∷ [] = map-snoc xs s ∙ ap (λ x. map seen xs ++ x ∷ []) is in
+          let a : map seen (xs ++ s ∷ []) ≡ map seen xs ++ alone O (length xs) ∷ [] = cc (map-snoc xs s, is) in
           let t : List Seen = alones O (suc (length xs)) (drop (suc (length xs)) O.hands) in
-          ap (λ j. map seen (xs ++ s ∷ []) ++ alones O j (drop j O.hands)) l ∙ ap (λ u. u ++ t) a ∙
-          append_assoc (map seen xs) (alone O (length xs) ∷ []) t ∙ ap (λ u. map seen xs ++ u) (sym (alones_at O (length xs) O.hands k)) ∙ h.seats;
+          cc (l, a, append_assoc (map seen xs) (alone O (length xs) ∷ []) t, alones_at O (length xs) O.hands k, h.seats);
       all = All-append (IsAt r) xs (s ∷ []) h.all (All-cons (IsAt r) s [] ats (All-nil (IsAt r)));
     }
 
@@ -99,6 +80,6 @@ pub cut_done : (r : Round) (p : RoundSeat) (xs : List RoundSeat) (n : ℕ) → I
 cut_done r p xs n h e =
     let c = h.count in
     let l = last_at (opening_of r) (length xs) (opening_of r).hands (omega arith) in (
-      map-snoc xs p ∙ ap (λ x. map seen xs ++ x ∷ []) h.rest ∙ ap (λ u. map seen xs ++ u) (sym l) ∙ h.seats,
+      cc (map-snoc xs p, h.rest, l, h.seats),
       All-append (IsAt r) xs (p ∷ []) h.all (All-cons (IsAt r) p [] h.at (All-nil (IsAt r))),
     )

@@ -1,40 +1,9 @@
 -- A compare-exchange of a field keeps the rule, whether it answers yes or no.
-use Rattle.std.proofs.Common.{◌≡◌, ℕ, ◌+◌, ◌<◌, Bool, true, false, cond, eqb, eqb-true, List, [], ◌∷◌, ◌++◌, set, refl, sym, ap, subst, ◌∙◌, arith, slice_index, Some}
-use mathlib.Core.Option.{some}
-use lib.ListN.{get_elem?}
-use Rattle.nmgc_world_spec.specs.declared.value.Name.{Name}
-use Rattle.nmgc_world_spec.specs.declared.value.Value.{Value}
+use Rattle.nmgc_round.proofs.Vocabulary.{◌≡◌, ℕ, ◌+◌, ◌<◌, Bool, true, false, cond, eqb, eqb-true, List, [], ◌∷◌, ◌++◌, set, refl, sym, ap, subst, ◌∙◌, arith, slice_index, Some, some, get_elem?, Name, Value, Node, Con, Var, Arr, Thunk, Weak, Stack, Change, Operand, Command, Cas, Reply, World, node_of, is_same, node_exchanged, field_set, field_exchanged, value_for, with_node, step, field_held, names_among, owed_by, HEADER_WORDS, State, names_of, header_of, MayChange, Place, Means, plain, Opening, Part, Seen, hand_now, doing, finding, owed_word, done_by, Object, IsObject, IsIn, now, Fits, Keeps, AddsCommand, IsMutator, IsWritable, CanExchange, exchanged, words_exchanged}
 use Rattle.nmgc_world_spec.specs.declared.value.Value.TheVariants as value
-use Rattle.nmgc_world_spec.specs.declared.node.Node.{Node}
-use Rattle.nmgc_world_spec.specs.declared.node.Node.TheVariants.{Con, Var, Arr, Thunk, Weak, Stack}
-use Rattle.nmgc_world_spec.specs.declared.change.Change.{Change}
 use Rattle.nmgc_world_spec.specs.declared.change.Change.TheVariants as change
-use Rattle.nmgc_world_spec.specs.declared.command.Operand.{Operand}
-use Rattle.nmgc_world_spec.specs.declared.command.Command.{Command}
-use Rattle.nmgc_world_spec.specs.declared.command.Command.TheVariants.{Cas}
-use Rattle.nmgc_world_spec.specs.declared.command.Reply.{Reply}
 use Rattle.nmgc_world_spec.specs.declared.command.Reply.TheVariants as reply
-use Rattle.nmgc_world_spec.specs.World.{World, node_of}
-use Rattle.nmgc_world_spec.specs.Change.{is_same, exchanged as node_exchanged, exchanged_at, field_set, field_exchanged}
-use Rattle.nmgc_world_spec.specs.Step.{value_for, with_node, change_object, change_node, step}
-use Rattle.nmgc_object.specs.declared.words.Header.{Header}
-use Rattle.nmgc_object.specs.declared.size.TheConstants.{HEADER_WORDS}
-use Rattle.nmgc_snapshot_laws.specs.State.{State, names_of}
-use Rattle.nmgc_world_spec.specs.Owed.{field_held, if_same, owed_of, owed_at, names_among, owed_by}
-use Rattle.nmgc_heap_spec.specs.Shape.{header_of, slots_of, MayChange}
-use Rattle.nmgc_heap_spec.specs.Places.{Place, Means, HasSlots}
-use Rattle.nmgc_round.specs.View.{plain, Opening, Part, Seen, hand_now, doing, finding, first_changed, owed_word, answered}
-use Rattle.nmgc_round.specs.Events.{done_by}
-use Rattle.nmgc_round.specs.Objects.{Object, IsObject, IsIn}
-use Rattle.nmgc_round.specs.Rule.{now, Owes, Fits, Keeps}
-use Rattle.nmgc_round.specs.Added.{AddsCommand}
-use Rattle.nmgc_round.specs.Ready.{IsMutator, CanGive, IsWritable}
-use Rattle.nmgc_round.specs.Compare.{CanExchange, exchanged, words_exchanged}
-use Rattle.nmgc_round.proofs.Frames.{node_frame}
-use Rattle.nmgc_round.proofs.Commands.{Written, written}
-use Rattle.nmgc_round.proofs.Moves.{may_change, meant, operand_is, inside, same_opening, owes_old, hand_kept, still_law}
-use Rattle.nmgc_round.proofs.Refusals.{same_words}
-use Rattle.nmgc_round.proofs.Writes.{Changes, field_law, own_same, node_now, node_again}
+use Rattle.nmgc_round.proofs.{Frames.node_frame, Commands.Written, Commands.written, Moves.may_change, Moves.meant, Moves.operand_is, Moves.inside, Moves.same_opening, Moves.owes_old, Moves.hand_kept, Refusals.same_words, Writes.Changes, Writes.field_law, Writes.own_same, Writes.node_now, Writes.node_again, Writes.still_law}
 
 -- `cas` of a field that is there compares its value, and then writes as `set` does
 compares : (found : Node) (index : ℕ) (expected v old : Value) (made : Node) → field_held found index ≡ Some old →
@@ -43,14 +12,12 @@ compares (Con tag values) index expected v old made held does = absurd cc
 compares (Thunk free result) index expected v old made held does = absurd cc
 compares (Weak parts) index expected v old made held does = absurd cc
 compares (Stack size values) index expected v old made held does = absurd cc
-compares (Var x) index expected v old made held does = ap (λ o. exchanged_at o expected (Var x) (Var v)) held ∙
-    ap (λ n. node_exchanged old expected (Var x) n) (var_made (eqb index 0) does)
+compares (Var x) index expected v old made held does = cc (held, var_made (eqb index 0) does)
   where
     var_made : (b : Bool) → cond {A = Node × Reply} b (Var v, reply.Fine) (Var x, reply.NoField) ≡ (made, reply.Fine) → Var v ≡ made
     var_made true e = ap (λ (r : Node × Reply). r.0) e
     var_made false e = let no : reply.NoField ≡ reply.Fine = ap (λ (r : Node × Reply). r.1) e in absurd cc
-compares (Arr values) index expected v old made held does = ap (λ o. exchanged_at o expected (Arr values) (Arr (set values index v))) held ∙
-    ap (λ n. node_exchanged old expected (Arr values) n) (arr_made _ does)
+compares (Arr values) index expected v old made held does = cc (held, arr_made _ does)
   where
     arr_made : (b : Bool) → cond {A = Node × Reply} b (Arr (set values index v), reply.Fine) (Arr values, reply.NoField) ≡ (made, reply.Fine) →
         Arr (set values index v) ≡ made
@@ -63,7 +30,7 @@ step_cas : (w : World) (m : ℕ) (object e v : Operand) (index : ℕ) (name : Na
     field_exchanged found index (value_for w m e) (value_for w m v) ≡ (made, r) → step w m (Cas object index e v) ≡ (with_node w name made, r)
 step_cas w m object e v index name found made r is there does =
     let c : Change = change.Exchange index (value_for w m e) (value_for w m v) in
-    ap (λ y. change_object w y c) is ∙ ap (λ o. change_node w name o c) there ∙ ap (λ (r : Node × Reply). (with_node w name r.0, r.1)) does
+    rw (is, there, does)
 
 -- it owes the old value, if that is the expected one
 owes_cas : (w : World) (m : ℕ) (object e v : Operand) (index : ℕ) (name : Name) (found : Node) (old : Value) (same : Bool) →
@@ -71,8 +38,7 @@ owes_cas : (w : World) (m : ℕ) (object e v : Operand) (index : ℕ) (name : Na
     owed_by w m (Cas object index e v) ≡ names_among (cond same (old ∷ []) [])
 owes_cas w m object e v index name found old same is there held hit =
     let c : Change = change.Exchange index (value_for w m e) (value_for w m v) in
-    ap (λ y. names_among (owed_of w y c)) is ∙ ap (λ o. names_among (owed_at c name o)) there ∙
-    ap (λ o. names_among (if_same (value_for w m e) o)) held ∙ ap (λ b. names_among (cond b (old ∷ []) [])) hit
+    cc (is, there, held, hit)
 
 module _ (o : Opening) (words : List ℕ) (views : List Seen) (h : Keeps o words views) (id : ℕ) (v : Seen) (here : get_elem? views id ≡
     some v) (p : Part) (is : IsMutator v p) where
@@ -108,11 +74,11 @@ module _ (o : Opening) (words : List ℕ) (views : List Seen) (h : Keeps o words
       let st = h.stands.objects x m.there in
       let val : Value = value_for W p.number can.value in
       let head : header_of st.node ≡ can.header = st.later.header ∙ m.head in
-      let means : Means P w val = subst (λ n. Means P n val) can.value_word (operand_is o words views h id v here p is can.value) in
-      let fields = subst (λ a. HasSlots P words (a + HEADER_WORDS) (slots_of st.node)) m.is_at st.fields in
-      let may : IsWritable (header_of st.node).kind = subst (λ (k : Header). IsWritable k.kind) (sym head) can.kind in
-      let within : index < (header_of st.node).fields = subst (λ (k : Header). index < k.fields) (sym head) can.within in
-      let within' : index < (header_of x.node).fields = subst (λ (k : Header). index < k.fields) (sym m.head) can.within in
+      let means : Means P w val = rw can.value_word at (operand_is o words views h id v here p is can.value) in
+      let fields = rw m.is_at at st.fields in
+      let may : IsWritable (header_of st.node).kind = rw head can.kind in
+      let within : index < (header_of st.node).fields = rw head can.within in
+      let within' : index < (header_of x.node).fields = rw m.head can.within in
       let far = inside o words views h id v here p is x m.there in
       let is_at = m.is_at in
       let t = written P words (at + HEADER_WORDS) index w st.node val may within (omega arith) fields means in
@@ -122,12 +88,11 @@ module _ (o : Opening) (words : List ℕ) (views : List Seen) (h : Keeps o words
         is_at = m.is_at;
         refers = m.refers;
         within = within';
-        may = subst (λ (k : Header). MayChange k.kind index) (sym m.head) (may_change can.header.kind index can.kind);
+        may = rw m.head (may_change can.header.kind index can.kind);
         write = t;
         compares = compares st.node index (value_for W p.number can.before) val t.old t.made t.held t.does;
         same = same_words o words views h id v here p is (slice_index words (at + HEADER_WORDS + index)) expected t.old
-            (value_for W p.number can.before) t.was (subst (λ n.
-            Means P n (value_for W p.number can.before)) can.before_word (operand_is o words views h id v here p is can.before));
+            (value_for W p.number can.before) t.was (rw can.before_word at (operand_is o words views h id v here p is can.before));
       }
 
   -- it found the expected word: the field changes, and the old word is owed
@@ -143,13 +108,12 @@ module _ (o : Opening) (words : List ℕ) (views : List Seen) (h : Keeps o words
       let u : World = with_node W x.name t.made in
       let same : is_same t.old (value_for W p.number can.before) ≡ true = f.same ∙ hit in
       let does : step W p.number C ≡ (u, reply.Yes) =
-      step_cas W p.number can.object can.before can.value index x.name st.node t.made reply.Yes f.refers st.there (f.compares ∙
-      ap (λ b. cond {A = Node × Reply} b (t.made, reply.Yes) (st.node, reply.No)) same) in
+      step_cas W p.number can.object can.before can.value index x.name st.node t.made reply.Yes f.refers st.there (rw (f.compares, same)) in
       let owes : owed_by W p.number C ≡ names_among (t.old ∷ []) =
       owes_cas W p.number can.object can.before can.value index x.name st.node t.old true f.refers st.there t.held same in
       let now_ = node_now o words views h id v here p is x f.there t.made in
       let is_word : slice_index words (at + HEADER_WORDS + index) ≡ expected = eqb-true (slice_index words (at + HEADER_WORDS + index)) expected hit in
-      let was : Means P expected t.old = subst (λ n. Means P n t.old) is_word t.was in
+      let was : Means P expected t.old = rw is_word at t.was in
       let ch : Changes o words views h id v here p is x f.there index w t.made u = record {
         within = f.within;
         may = f.may;
@@ -157,14 +121,10 @@ module _ (o : Opening) (words : List ℕ) (views : List Seen) (h : Keeps o words
         sized = t.sized;
         mine = now_.0;
         others = now_.1;
-        fields = subst (λ a. HasSlots P (set words (a + HEADER_WORDS + index) w) (a + HEADER_WORDS) (slots_of t.made)) (sym f.is_at) t.fields;
+        fields = rw f.is_at t.fields;
         stacks = λ size values e. absurd (t.no_stack size values e);
       } in
-      subst (λ l. AddsCommand o words views h p.number c (set words (at + HEADER_WORDS + index) w) (set views id (record v {
-        parts =
-            first_changed (λ q. doing (finding q expected) c (plain reply.Yes) (owed_word v.opening.marking expected)) l;
-      }))) (sym is.alone)
-      (subst (λ (y : Opening). AddsCommand o words views h p.number c (set words (at + HEADER_WORDS + index) w) (set views id (record v {
+      rw is.alone (subst (λ (y : Opening). AddsCommand o words views h p.number c (set words (at + HEADER_WORDS + index) w) (set views id (record v {
         parts =
             doing (finding p expected) c (plain reply.Yes) (owed_word y.marking expected) ∷ [];
       }))) (sym (same_opening o words views h id v here p is))
@@ -178,12 +138,10 @@ module _ (o : Opening) (words : List ℕ) (views : List Seen) (h : Keeps o words
       }))) f.is_at
       (field_law o words views h id v here p is x f.there index w t.made C reply.Yes (plain reply.Yes) u (p.found ++ expected ∷
       []) (owed_word o.marking expected) ch
-      (subst (λ (d : Command). CanGive o p d) can.command can.gives) does refl
+      (rw can.command at can.gives) does refl
       (hand_kept o words views h id v here p is u (hand_now o p) (node_frame W x.name st.node t.made st.there p.number) fits.hand)
-      (subst (λ ns. Owes o.marking P (p.owed ++ owed_word o.marking expected) (names_of S.owed p.number ++
-      ns)) (sym owes) (owes_old o words views h id v here p is o.marking p.owed (names_of S.owed p.number) expected t.old fits.owed was))
-      (subst (λ ns. Owes true P (p.found ++ expected ∷ []) (names_of S.owed p.number ++
-      ns)) (sym owes) (owes_old o words views h id v here p is true p.found (names_of S.owed p.number) expected t.old fits.found was))
+      (rw owes (owes_old o words views h id v here p is o.marking p.owed (names_of S.owed p.number) expected t.old fits.owed was))
+      (rw owes (owes_old o words views h id v here p is true p.found (names_of S.owed p.number) expected t.old fits.found was))
       (own_same o words views h id v here p is x f.there index w t.made u (hand_now o p) ch (λ size values e. t.no_stack size values e) refl)))))
 
   -- it found another word: nothing changes
@@ -199,14 +157,11 @@ module _ (o : Opening) (words : List ℕ) (views : List Seen) (h : Keeps o words
       let u : World = with_node W x.name st.node in
       let same : is_same t.old (value_for W p.number can.before) ≡ false = f.same ∙ no_ in
       let does : step W p.number C ≡ (u, reply.No) =
-      step_cas W p.number can.object can.before can.value index x.name st.node st.node reply.No f.refers st.there (f.compares ∙
-      ap (λ b. cond {A = Node × Reply} b (t.made, reply.Yes) (st.node, reply.No)) same) in
+      step_cas W p.number can.object can.before can.value index x.name st.node st.node reply.No f.refers st.there (rw (f.compares, same)) in
       let owes : owed_by W p.number C ≡ [] =
       owes_cas W p.number can.object can.before can.value index x.name st.node t.old false f.refers st.there t.held same in
       let again = node_again o words views h id v here p is x f.there in
-      subst (λ (d : Command). AddsCommand o words views h p.number d words (set views id (answered v d (plain reply.No)))) (sym can.command)
-      (still_law o words views h id v here p is C reply.No (plain reply.No) u (subst (λ (d : Command).
-      CanGive o p d) can.command can.gives) does again owes refl
+      rw can.command (still_law o words views h id v here p is C reply.No (plain reply.No) u (rw can.command at can.gives) does again owes refl
       (hand_kept o words views h id v here p is u (hand_now o p) (node_frame W x.name st.node st.node st.there p.number) fits.hand) refl)
 
   exchange_as : (at index expected w : ℕ) (c : Command) → CanExchange o p at index expected w c → (hit : Bool) →

@@ -1,20 +1,6 @@
 -- Field words that are as a node says, where other words change, and where more places are known.
-use Rattle.std.proofs.Common.{◌≡◌, ◌≢◌, ℕ, zero, suc, ◌+◌, ◌<◌, ◌≤◌, List, [], ◌∷◌, length, set, sym, subst, ◌∙◌, arith, slice_index, Some, None, get_or-set_same, get_or-set_other, length-set, inl, inr}
-use Rattle.std.specs.Prelude.{slice_get}
-use Rattle.std.proofs.lemmas.Option.{slice_get_within}
-use Rattle.std.proofs.lemmas.Bool.{cases_eq}
-use Rattle.nmgc_lists.specs.laws.Items.{slice_get-set_same, slice_get-set_other}
-use Rattle.nmgc_world_spec.specs.declared.value.Value.{Value}
+use Rattle.nmgc_round.proofs.Vocabulary.{◌≡◌, ◌≢◌, ℕ, zero, suc, ◌+◌, ◌<◌, ◌≤◌, List, [], ◌∷◌, length, set, sym, ◌∙◌, arith, slice_index, Some, None, get_or-set_same, get_or-set_other, length-set, inl, inr, slice_get, slice_get_within, cases_eq, slice_get-set_same, slice_get-set_other, Value, Node, Con, Var, Arr, Thunk, Weak, Stack, IsSized, Slot, holds, unset, untold, slots_of, fixed_slots, free_slots, header_of, MayChange, Place, Means, Fills, HasSlots, AllMean, ListMeans, map_item, slots_none, slots_of_kept, fields_of_slots, slot_count, free_fixed, Opening, Object, IsEarlierNode, KeepsOf}
 use Rattle.nmgc_world_spec.specs.declared.value.Value.TheVariants as value
-use Rattle.nmgc_world_spec.specs.declared.node.Node.{Node}
-use Rattle.nmgc_world_spec.specs.declared.node.Node.TheVariants.{Con, Var, Arr, Thunk, Weak, Stack}
-use Rattle.nmgc_world_spec.specs.World.{IsSized}
-use Rattle.nmgc_heap_spec.specs.Shape.{Slot, holds, unset, untold, slots_of, fixed_slots, free_slots, header_of, MayChange}
-use Rattle.nmgc_heap_spec.specs.Places.{Place, Means, Fills, HasSlots, AllMean, ListMeans}
-use Rattle.nmgc_heap_spec.specs.laws.Kinds.{map_item, slots_none, slots_of_kept, fields_of_slots}
-use Rattle.nmgc_heap_spec.specs.laws.Slots.{slot_count, free_fixed}
-use Rattle.nmgc_round.specs.View.{Opening}
-use Rattle.nmgc_round.specs.Objects.{Object, IsEarlierNode, KeepsOf}
 
 -- something is said of a field
 abbrev pub IsTold : Slot → Type 0
@@ -40,7 +26,7 @@ module _ (P Q : Place → Type 0) (more : (p : Place) → P p → Q p) where
   slots_same ws us from slots same h i s e = by_slot s e (h i s e)
     where
       by_slot : (s : Slot) → slice_get slots i ≡ Some s → Fills P (slice_index ws (from + i)) s → Fills Q (slice_index us (from + i)) s
-      by_slot (holds v) e k = subst (λ w. Means Q w v) (sym (same i (holds v) e (λ x. cc))) (means_more (slice_index ws (from + i)) v k)
+      by_slot (holds v) e k = rw (same i (holds v) e (λ x. cc)) (means_more (slice_index ws (from + i)) v k)
       by_slot unset e k = same i unset e (λ x. cc) ∙ k
       by_slot untold e k = tt
 
@@ -92,7 +78,7 @@ module _ (P Q : Place → Type 0) (more : (p : Place) → P p → Q p) (ws us : 
   word_same : IsSame → (i : ℕ) (s : Slot) → slice_get (fixed_slots n) i ≡ Some s → IsTold s → slice_index us (from + i) ≡ slice_index ws (from + i)
   word_same same i s e told = let k = never_changes n i s e told in
       same (from + i) (omega arith) (omega (arith, k.0)) (λ j at may. let z : j ≡ i = omega (arith, at) in
-      k.1 (subst (λ (l : ℕ). MayChange (header_of n).kind l) z may))
+      k.1 (rw z at may))
 
   pub fixed_same : IsSame → HasSlots P ws from (fixed_slots n) → HasSlots Q us from (fixed_slots n)
   fixed_same same h = slots_same P Q more ws us from (fixed_slots n) (word_same same) h
@@ -117,13 +103,10 @@ all_set P ws from index new values v inside h m i x e =
     elim (cases_eq i index) [
       | inl same ↦
           let within : index < length values = omega (arith, length-set values index v) in
-          let is : Some v ≡ Some x = sym (slice_get-set_same values index v within) ∙ subst (λ j. slice_get (set values index v) j ≡ Some x) same e in
+          let is : Some v ≡ Some x = sym (slice_get-set_same values index v within) ∙ rw same at e in
           let vx : v ≡ x = cc in
-          subst (λ y. Means P (slice_index (set ws (from + index) new) (from + i)) y) vx (subst (λ j.
-          Means P (slice_index (set ws (from + index) new) (from + j)) v) (sym same) (subst (λ w.
-          Means P w v) (sym (get_or-set_same ws (from + index) new 0 inside)) m))
+          rw (← vx) (rw same (rw (get_or-set_same ws (from + index) new 0 inside) m))
       | inr other ↦
           let far : from + i ≢ from + index = λ k. other (omega arith) in
-          subst (λ w. Means P w x) (sym (get_or-set_other ws (from + index) (from + i) new 0 far))
-          (h i x (sym (slice_get-set_other values index i v other) ∙ e))
+          rw (get_or-set_other ws (from + index) (from + i) new 0 far) (h i x (sym (slice_get-set_other values index i v other) ∙ e))
     ]

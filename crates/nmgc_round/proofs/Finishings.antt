@@ -1,43 +1,13 @@
 -- What a round leaves represents the world after it.
-use Rattle.std.proofs.Common.{Bool, true, false, cond, ◌≡◌, inl, inr, ℕ, ◌+◌, ◌<◌, List, [], ◌∷◌, ◌++◌, map, length, refl, sym, ap, subst, ◌∙◌, arith, slice_index, Some, None}
-use Rattle.std.specs.Prelude.{IsSome, Contains}
-use Rattle.std.proofs.lemmas.Bool.{cases_lt}
-use Rattle.std.proofs.lemmas.List.{get_or_past}
-use Rattle.std.proofs.lemmas.List.Elements.{Contains-append_left, Contains-append_right, Contains-append_cases}
-use Rattle.nmgc_lists.specs.laws.Items.{place_of as item_of, one_is, contains_head, contains_tail, contains_cases}
-use Rattle.nmgc_world_spec.specs.declared.value.Name.{Name}
-use Rattle.nmgc_world_spec.specs.declared.value.Value.{Value}
+use Rattle.nmgc_round.proofs.Vocabulary.{Bool, true, false, cond, ◌≡◌, inl, inr, ℕ, ◌+◌, List, [], ◌∷◌, map, length, refl, sym, ap, subst, ◌∙◌, arith, slice_index, Some, None, Contains, cases_lt, get_or_past, Contains-append_left, Contains-append_right, Contains-append_cases, item_of, one_is, contains_head, contains_tail, contains_cases, Name, Value, Parts, Node, Con, Var, Arr, Thunk, Weak, Stack, World, node_of, state_of, no_mutator, shared_name, IsAlive, strong_fields, IsReached, start, field, IsWideRoot, IsOfWeak, Header, SHARED_PLACE, HEADER_WORDS, size_of, unset, fixed_slots, free_slots, IsWideIn, IsTracked, Place, Means, HasSlots, AllMean, ListMeans, IsObjectAt, Represents, HasFields, fields_of_slots, Opening, Seen, hand_now, Object, place_of, earlier, IsObject, IsIn, IsPlace, now, IsFinished, HasEach, Leaves, places_then, IsKeptThen, same_count}
 use Rattle.nmgc_world_spec.specs.declared.value.Value.TheVariants as value
-use Rattle.nmgc_world_spec.specs.declared.node.Parts.{Parts}
-use Rattle.nmgc_world_spec.specs.declared.node.Node.{Node}
-use Rattle.nmgc_world_spec.specs.declared.node.Node.TheVariants.{Con, Var, Arr, Thunk, Weak, Stack}
-use Rattle.nmgc_world_spec.specs.declared.mutator_state.MutatorState.{MutatorState}
-use Rattle.nmgc_world_spec.specs.World.{World, node_of, state_of, no_mutator}
-use Rattle.nmgc_world_spec.specs.Step.{shared_name}
-use Rattle.nmgc_world_spec.specs.Reach.{IsAlive, strong_fields, IsReached, start, field}
-use Rattle.nmgc_object.specs.Words.{header_word, IsHeader}
-use Rattle.nmgc_object.specs.declared.words.Header.{Header}
-use Rattle.nmgc_object.specs.declared.layout.TheConstants.{SHARED_PLACE}
-use Rattle.nmgc_object.specs.declared.size.TheConstants.{HEADER_WORDS}
-use Rattle.nmgc_heap_spec.specs.Shape.{size_of, unset, slots_of, fixed_slots, free_slots}
-use Rattle.nmgc_world_spec.specs.Wide.{IsWide, IsWideRoot, IsOfWeak}
-use Rattle.nmgc_heap_spec.specs.Tracked.{IsWideIn, IsTracked}
-use Rattle.nmgc_heap_spec.specs.Places.{Place, Means, HasSlots, AllMean, ListMeans, LiesWell}
-use Rattle.nmgc_heap_spec.specs.laws.Kinds.{HasFields, fields_of_slots}
-use Rattle.nmgc_heap_spec.specs.Represents.{IsObject as IsObjectAt, Represents}
-use Rattle.nmgc_round.specs.View.{Opening, Seen, hand_now}
-use Rattle.nmgc_round.specs.Objects.{Object, place_of, earlier, IsObject, IsIn, IsPlace}
-use Rattle.nmgc_round.specs.Rule.{now}
-use Rattle.nmgc_round.specs.Finishing.{IsFinished, HasEach, Leaves, places_then, IsKeptThen}
-use Rattle.nmgc_round.proofs.Standing.{placed}
-use Rattle.nmgc_round.specs.laws.Common.{same_count}
-use Rattle.nmgc_round.proofs.Fields.{fields_same, fixed_same, free_same, free_of_fixed}
+use Rattle.nmgc_round.proofs.{Standing.placed, Fields.fields_same, Fields.fixed_same, Fields.free_same, Fields.free_of_fixed}
 
 -- a place is listed
 contains_map : (xs : List Object) (x : Object) → Contains xs x → Contains (map place_of xs) (place_of x)
 contains_map [] x c = absurd (let lt = c.1 in omega arith)
 contains_map (y ∷ ys) x c = elim (contains_cases y ys x c) [
-  | inl e ↦ subst (λ (p : Place). Contains (place_of y ∷ map place_of ys) p) (ap place_of e) (contains_head (place_of y) (map place_of ys))
+  | inl e ↦ rw (← (ap place_of e)) (contains_head (place_of y) (map place_of ys))
   | inr d ↦ contains_tail (place_of y) (map place_of ys) (place_of x) (contains_map ys x d)
 ]
 
@@ -55,7 +25,7 @@ list_refers P [] [] name h c = absurd (let lt = c.1 in omega arith)
 list_refers P [] (v ∷ vs) name h c = absurd h
 list_refers P (w ∷ ws) [] name h c = absurd h
 list_refers P (w ∷ ws) (v ∷ vs) name h c = elim (contains_cases v vs (value.Ref name) c) [
-  | inl e ↦ let m : Means P w (value.Ref name) = subst (λ x. Means P w x) e h.0 in (m.0, m.2)
+  | inl e ↦ let m : Means P w (value.Ref name) = rw e at h.0 in (m.0, m.2)
   | inr d ↦ list_refers P ws vs name h.1 d
 ]
 
@@ -89,8 +59,7 @@ module _ (o : Opening) (words : List ℕ) (v : Seen) (h : IsFinished o words v) 
 
   listed : (p : Place) → IsPlace o h.born p → Contains places p
   listed p (inl c) = Contains-append_left o.places (map place_of h.born) p c
-  listed p (inr t) = Contains-append_right o.places (map place_of h.born) p (subst (λ (q : Place).
-      Contains (map place_of h.born) q) t.2 (contains_map h.born t.0 t.1))
+  listed p (inr t) = Contains-append_right o.places (map place_of h.born) p (rw t.2 at (contains_map h.born t.0 t.1))
 
   is_place : (p : Place) → Contains places p → IsPlace o h.born p
   is_place p c = elim (Contains-append_cases o.places (map place_of h.born) p c) [ inl d ↦ inl d | inr d ↦ inr (map_contains h.born p d) ]
@@ -123,10 +92,10 @@ module _ (o : Opening) (words : List ℕ) (v : Seen) (h : IsFinished o words v) 
   reached_here R from name (field n target r refers) =
       let t = reached_here R from n r refers.0 refers.1 in
       let st = h.stands.objects t.0 t.1 in
-      let same : Some st.node ≡ Some refers.0 = sym st.there ∙ ap (λ k. node_of W k) t.2 ∙ refers.1 in
+      let same : Some st.node ≡ Some refers.0 = cc (st.there, t.2, refers.1) in
       let is : st.node ≡ refers.0 = cc in
       let place = strong_refers P words (t.0.at + HEADER_WORDS) st.node target (fields_of_slots P words (t.0.at + HEADER_WORDS) st.node st.fields)
-      (subst (λ k. Contains (strong_fields k) (value.Ref target)) (sym is) refers.2) in
+      (rw is refers.2) in
       in_here place.0 target place.1
 
   -- an alive weak pointer was tracked as the round began, or was born since; so were its parts
@@ -134,7 +103,7 @@ module _ (o : Opening) (words : List ℕ) (v : Seen) (h : IsFinished o words v) 
   weak_here weak parts alive = elim (h.known weak (Weak (Some parts)) alive) [
     | inl k ↦
         let before : k.0 ≡ Weak (Some parts) = k.2.alive parts refl in
-        let alive' : IsAlive o.core.world weak parts = k.1 ∙ ap (λ (n : Node). Some n) before in
+        let alive' : IsAlive o.core.world weak parts = cc (k.1, before) in
         old_here weak (start weak (
           o.core.world,
           contains_head o.core.world (earlier o),
@@ -147,10 +116,9 @@ module _ (o : Opening) (words : List ℕ) (v : Seen) (h : IsFinished o words v) 
   part_here weak parts name alive of node e =
       let t = weak_here weak parts alive in
       let st = h.stands.objects t.0 t.1 in
-      let same : Some st.node ≡ Some (Weak (Some parts)) = sym st.there ∙ ap (λ k. node_of W k) t.2 ∙ alive in
+      let same : Some st.node ≡ Some (Weak (Some parts)) = cc (st.there, t.2, alive) in
       let is : st.node ≡ Weak (Some parts) = cc in
-      let f = fields_of_slots P words (t.0.at + HEADER_WORDS) (Weak (Some parts)) (subst (λ k.
-      HasSlots P words (t.0.at + HEADER_WORDS) (slots_of k)) is st.fields) in
+      let f = fields_of_slots P words (t.0.at + HEADER_WORDS) (Weak (Some parts)) (rw is at st.fields) in
       let ws : List ℕ = slice_index words (t.0.at + HEADER_WORDS) ∷ slice_index words (t.0.at + HEADER_WORDS + 1) ∷
       slice_index words (t.0.at + HEADER_WORDS + 2) ∷ [] in
       let vs : List Value = parts.key ∷ parts.value ∷ parts.finaliser ∷ [] in
@@ -159,11 +127,11 @@ module _ (o : Opening) (words : List ℕ) (v : Seen) (h : IsFinished o words v) 
       elim of [
         | inl k ↦ (t.0, t.1, t.2 ∙ sym k)
         | inr a ↦ elim a [
-          | inl k ↦ by_place (subst (λ x. Contains vs x) k (contains_head parts.key (parts.value ∷ parts.finaliser ∷ [])))
+          | inl k ↦ by_place (rw (← k) (contains_head parts.key (parts.value ∷ parts.finaliser ∷ [])))
           | inr b ↦ elim b [
-            | inl k ↦ by_place (subst (λ x. Contains vs x) k (contains_tail parts.key (parts.value ∷ parts.finaliser ∷
+            | inl k ↦ by_place (rw (← k) (contains_tail parts.key (parts.value ∷ parts.finaliser ∷
                 []) parts.value (contains_head parts.value (parts.finaliser ∷ []))))
-            | inr k ↦ by_place (subst (λ x. Contains vs x) k (contains_tail parts.key (parts.value ∷ parts.finaliser ∷
+            | inr k ↦ by_place (rw (← k) (contains_tail parts.key (parts.value ∷ parts.finaliser ∷
                 []) parts.finaliser (contains_tail parts.value (parts.finaliser ∷ []) parts.finaliser (contains_head parts.finaliser []))))
           ]
         ]
@@ -174,24 +142,24 @@ module _ (o : Opening) (words : List ℕ) (v : Seen) (h : IsFinished o words v) 
   root_here name (inl (inl e)) = subst IsHere (sym e) (in_here SHARED_PLACE shared_name h.shared)
   root_here name (inl (inr (m, c))) = elim (cases_lt m (length W.mutators)) [
     | inl lt ↦
-        let t = each m (subst (λ n. m < n) count lt) in
+        let t = each m (rw count at lt) in
         let k = (h.parts t.0 t.1 t.2).0.hand in
         elim (Contains-append_cases (state_of W m).registers (state_of W m).queue (value.Ref name) c) [
-          | inl d ↦ let place = list_refers P (hand_now o t.1).registers (state_of W t.1.number).registers name k.registers (subst (λ j. Contains (state_of W j).registers (value.Ref name)) (sym t.3) d) in
+          | inl d ↦ let place = list_refers P (hand_now o t.1).registers (state_of W t.1.number).registers name k.registers (rw t.3 d) in
               in_here place.0 name place.1
-          | inr d ↦ let place = list_refers P (hand_now o t.1).queue (state_of W t.1.number).queue name k.queue (subst (λ j. Contains (state_of W j).queue (value.Ref name)) (sym t.3) d) in
+          | inr d ↦ let place = list_refers P (hand_now o t.1).queue (state_of W t.1.number).queue name k.queue (rw t.3 d) in
               in_here place.0 name place.1
         ]
     | inr le ↦
         let none : state_of W m ≡ no_mutator = get_or_past W.mutators m no_mutator le in
-        let bad : Contains [] (value.Ref name) = subst (λ (s : MutatorState). Contains (s.registers ++ s.queue) (value.Ref name)) none c in
+        let bad : Contains [] (value.Ref name) = rw none at c in
         absurd (let lt = bad.1 in omega arith)
   ]
   root_here name (inr (weak, parts, alive, of)) = part_here weak parts name alive of
 
   wide_here : (name : Name) → IsWideIn (W ∷ o.core.world ∷ earlier o) name → IsHere name
   wide_here name (e, c, wide) = elim (contains_cases W (o.core.world ∷ earlier o) e c) [
-    | inl same ↦ reached_here (IsWideRoot W) root_here name (subst (λ (k : World). IsWide k name) (sym same) wide)
+    | inl same ↦ reached_here (IsWideRoot W) root_here name (rw same wide)
     | inr d ↦ old_here name (start name (e, d, wide))
   ]
 
@@ -205,9 +173,9 @@ module _ (o : Opening) (words : List ℕ) (v : Seen) (h : IsFinished o words v) 
       let a = h.stands.apart x hx in
       let n : size_of st.node ≡ size_of x.node = ap (λ (k : Header). HEADER_WORDS + k.fields) st.later.header in
       record {
-        header = st.header ∙ ap (λ (k : Header). header_word k) (sym st.later.header);
-        valid = subst (λ (k : Header). IsHeader k) (sym st.later.header) a.valid;
-        lies = subst (λ k. LiesWell o.layout (place_of x) k) (sym n) a.lies;
+        header = cc (st.header, st.later.header);
+        valid = rw st.later.header a.valid;
+        lies = rw n a.lies;
         alone = λ q c. elim (a.alone q (is_place q c)) [ inl l ↦ inl l | inr l ↦ inr (omega arith) ];
       }
 
@@ -220,16 +188,14 @@ module _ (o : Opening) (words : List ℕ) (v : Seen) (h : IsFinished o words v) 
     tracked = λ name node t e.
         let x = tracked_here name t node e in
         let st = h.stands.objects x.0 x.1 in
-        let same : Some st.node ≡ Some node = sym st.there ∙ ap (λ k. node_of W k) x.2 ∙ e in
+        let same : Some st.node ≡ Some node = cc (st.there, x.2, e) in
         let is : st.node ≡ node = cc in
         let named = ap (λ (n : Name). let p : Place = record { at = x.0.at; name = n } in p) x.2 in
         record {
           at = x.0.at;
-          there = subst (λ (p : Place). Contains places p) named (in_listed (place_of x.0) (x.0.node, x.1));
-          object = subst (λ (p : Place). IsObjectAt o.layout places words p node) named (subst (λ k.
-              IsObjectAt o.layout places words (place_of x.0) k) is (object_then x.0 x.1));
-          fields = subst (λ k. HasSlots (Contains places) words (x.0.at + HEADER_WORDS) (slots_of k)) is
-              (fields_same P (Contains places) in_listed words words (x.0.at + HEADER_WORDS) st.node st.sized (λ j lo hi. refl) st.fields);
+          there = rw named at (in_listed (place_of x.0) (x.0.node, x.1));
+          object = rw (← named) (rw is at (object_then x.0 x.1));
+          fields = rw is at (fields_same P (Contains places) in_listed words words (x.0.at + HEADER_WORDS) st.node st.sized (λ j lo hi. refl) st.fields);
           free = λ w before c k. free_then x.0 x.1 x.2 w before c k;
           kept = λ before k. kept_then x.0 x.1 x.2 before k;
         };
@@ -244,10 +210,9 @@ module _ (o : Opening) (words : List ℕ) (v : Seen) (h : IsFinished o words v) 
           let st = h.stands.objects t.0 hx in
           let same : Some st.node ≡ Some node = sym st.there ∙ ap (λ (q : Place). node_of W q.name) t.2 ∙ e in
           let is : st.node ≡ node = cc in (
-            subst (λ (q : Place). IsObjectAt o.layout places words q node) t.2 (subst (λ k.
-                IsObjectAt o.layout places words (place_of t.0) k) is (object_then t.0 hx)),
-            λ dead. let f = subst (λ k. HasSlots P words (t.0.at + HEADER_WORDS) (slots_of k)) (is ∙ dead) st.fields in
-                subst (λ (q : Place). slice_index words (q.at + HEADER_WORDS + 1) ≡ 0) t.2 (f 1 unset refl),
+            rw (← t.2) (rw is at (object_then t.0 hx)),
+            λ dead. let f = rw (is ∙ dead) at st.fields in
+                rw (← t.2) (f 1 unset refl),
           )
     ];
     zeros = h.stands.zeros;
@@ -258,8 +223,7 @@ module _ (o : Opening) (words : List ℕ) (v : Seen) (h : IsFinished o words v) 
       kept_then x hx e before (y, hy, named, k) =
           let at : y.at ≡ x.at =
           ap (λ (p : Place). p.at) (h.stands.one (place_of y) (place_of x) (placed o h.born y hy) (placed o h.born x hx) (inl (named ∙ sym e))) in
-          subst (λ a. HasSlots (Contains places) words (a + HEADER_WORDS) (fixed_slots before)) at
-          (fixed_same P (Contains places) in_listed words words (y.at + HEADER_WORDS) before (λ j lo hi never.
+          rw at at (fixed_same P (Contains places) in_listed words words (y.at + HEADER_WORDS) before (λ j lo hi never.
           refl) ((h.stands.objects y hy).kept before (inl k)).1)
 
       free_in_opening : (x : Object) → IsObject o h.born x → (before : Node) → node_of o.core.world x.name ≡ Some before →
@@ -276,7 +240,7 @@ module _ (o : Opening) (words : List ℕ) (v : Seen) (h : IsFinished o words v) 
           free_same P (Contains places) in_listed words words (x.at + HEADER_WORDS) before (λ j lo hi never. refl)
           ((h.stands.objects x (inl old)).kept before (inr (record {
             marking = m;
-            wide = h.is.wide m x old (subst (λ y. IsSome y) (sym e) refl);
+            wide = h.is.wide m x old (rw e refl);
             there = e;
           }))).1
       free_in_snapshot x (inr c) m before e = let bad : None ≡ Some before = sym (h.new x c).no_snapshot ∙ e in absurd cc
@@ -288,9 +252,8 @@ module _ (o : Opening) (words : List ℕ) (v : Seen) (h : IsFinished o words v) 
       free_then : (x : Object) → IsObject o h.born x → {name : Name} → x.name ≡ name → (e : World) (before : Node) →
           Contains (o.core.world ∷ earlier o) e → node_of e name ≡ Some before → HasSlots (Contains places) words (x.at + HEADER_WORDS) (free_slots before)
       free_then x hx named e before c there = elim (contains_cases o.core.world (earlier o) e c) [
-        | inl same ↦ free_in_opening x hx before (ap (λ (k : World). node_of k x.name) same ∙ ap (λ n. node_of e n) named ∙ there)
-        | inr d ↦ let s = in_earlier o.marking refl e d in free_in_snapshot x hx s.0 before (ap (λ (k : World). node_of k x.name) s.1 ∙
-            ap (λ n. node_of e n) named ∙ there)
+        | inl same ↦ free_in_opening x hx before (cc (same, named, there))
+        | inr d ↦ let s = in_earlier o.marking refl e d in free_in_snapshot x hx s.0 before (cc (s.1, named, there))
       ]
 
 pub leaves : (o : Opening) (words : List ℕ) (v : Seen) → IsFinished o words v → HasEach o v → Leaves o words v

@@ -1,33 +1,7 @@
 -- A fixed load keeps the rule, also where a command takes its place there.
-use Rattle.std.proofs.Common.{◌≡◌, inl, inr, ℕ, zero, suc, ◌+◌, ◌*◌, ◌<◌, List, [], ◌∷◌, set, set-set, refl, sym, ap, subst, ◌∙◌, arith, slice_index}
-use mathlib.Core.Option.{some, some-ne-none}
-use lib.ListN.{get_elem?}
-use Rattle.nmgc_world_spec.specs.declared.value.Value.{Value}
-use Rattle.nmgc_world_spec.specs.declared.node.Kind.{Kind}
+use Rattle.nmgc_round.proofs.Vocabulary.{◌≡◌, inl, inr, ℕ, zero, suc, ◌+◌, ◌*◌, ◌<◌, List, [], ◌∷◌, set, set-set, refl, sym, ap, ◌∙◌, arith, slice_index, some, some-ne-none, get_elem?, Value, Kind, Command, state_of, shared_name, value_for, header_word, Header, SHARED_PLACE, HEADER_WORDS, header_of, size_of, MayChange, Means, Answer, word, Opening, Part, Seen, hand_now, doing, first_changed, loaded, answered, Object, place_of, IsObject, IsIn, now, IsFixed, Rests, Keeps, Stays, AddsCommand, Happening, IsMutator, IsReadable, IsWritable, CanLoad, CanSwap, Names, TellsHeader, TellsName, CanFix, CanTake, taken, told, told_by, TellsFixed, TellsField, TellsQueue, IsSafe, same_header, lies_within}
 use Rattle.nmgc_world_spec.specs.declared.node.Kind.TheVariants as kind
-use Rattle.nmgc_world_spec.specs.declared.command.Command.{Command}
-use Rattle.nmgc_world_spec.specs.World.{state_of}
-use Rattle.nmgc_world_spec.specs.Step.{shared_name, value_for}
-use Rattle.nmgc_object.specs.Words.{header_word}
-use Rattle.nmgc_object.specs.declared.words.Header.{Header}
-use Rattle.nmgc_object.specs.declared.layout.TheConstants.{SHARED_PLACE}
-use Rattle.nmgc_object.specs.declared.size.TheConstants.{HEADER_WORDS}
-use Rattle.nmgc_heap_spec.specs.Shape.{header_of, size_of, slots_of, MayChange}
-use Rattle.nmgc_heap_spec.specs.Places.{Means, HasSlots}
-use Rattle.nmgc_round.specs.View.{Answer, word, Opening, Part, Seen, hand_now, doing, first_changed, loaded, answered}
-use Rattle.nmgc_round.specs.Objects.{Object, place_of, IsObject, IsIn}
-use Rattle.nmgc_round.specs.Rule.{now, IsFixed, Rests, Keeps}
-use Rattle.nmgc_round.specs.Added.{Stays, AddsCommand}
-use Rattle.nmgc_round.specs.Events.{Happening}
-use Rattle.nmgc_round.specs.Ready.{IsMutator, IsReadable, IsWritable, CanLoad, CanSwap, Names}
-use Rattle.nmgc_round.specs.Told.{TellsHeader, TellsName, CanFix, CanTake, taken, told, told_by, TellsFixed, TellsField, TellsQueue, IsSafe}
-use Rattle.nmgc_round.proofs.Standing.{placed}
-use Rattle.nmgc_heap_spec.specs.laws.Headers.{same_header}
-use Rattle.nmgc_round.proofs.Lists.{pointer_means, word_means}
-use Rattle.nmgc_heap_spec.specs.laws.Common.{lies_within}
-use Rattle.nmgc_round.proofs.Moves.{operand_is, meant, fixed_keeps, load_keeps}
-use Rattle.nmgc_round.proofs.Commands.{read}
-use Rattle.nmgc_round.proofs.Refusals.{told_keeps}
+use Rattle.nmgc_round.proofs.{Standing.placed, Lists.pointer_means, Lists.word_means, Moves.operand_is, Moves.meant, Moves.fixed_keeps, Writes.load_keeps, Commands.read, Refusals.told_keeps}
 
 -- fields that are written are read
 may_read : (k : Kind) → IsWritable k → IsReadable k
@@ -60,24 +34,22 @@ module _ (o : Opening) (words : List ℕ) (views : List Seen) (h : Keeps o words
       let x : Object = f.0.object in
       let st = h.stands.objects x f.0.here in
       let z : at + 0 ≡ x.at = let e = f.0.is_at in omega arith in
-      let head : header_of x.node ≡ header = same_header (header_of x.node) header (h.stands.apart x f.0.here).valid names.valid (sym st.header ∙
-      ap (λ j. slice_index words j) (sym z) ∙ f.1) in
+      let head : header_of x.node ≡ header = same_header (header_of x.node) header (h.stands.apart x f.0.here).valid names.valid (cc (st.header, z, f.1)) in
       let n : (header_of x.node).fields ≡ header.fields = ap (λ (k : Header). k.fields) head in
       record {
         object = x;
         here = f.0.here;
         is_at = f.0.is_at;
         within = omega arith;
-        fixed = λ j e may. let same : j ≡ i = omega arith in never (subst (λ k.
-            MayChange header.kind k) same (subst (λ (k : Header). MayChange k.kind j) head may));
+        fixed = λ j e may. let same : j ≡ i = omega arith in never (rw (← same) (rw head at may));
       }
 
   is_fixed : (at offset : ℕ) → CanFix o p at offset → IsFixed o h.born at offset
   is_fixed at offset (inl (object, e, lt)) =
       let x : Value = value_for (now o h.events).world p.number object in
-      let q = pointer_means (IsIn o h.born) at x (subst (λ w. Means (IsIn o h.born) w x) e (operand_is o words views h id v here p is object)) in
+      let q = pointer_means (IsIn o h.born) at x (rw e at (operand_is o words views h id v here p is object)) in
       first_fixed (record { at = at; name = q.0; node = q.2.0 }) q.2.1 offset lt
-  is_fixed at offset (inr (inl (header, i, names, e, lt, never))) = subst (λ k. IsFixed o h.born at k) (sym e) (named_fixed at header i names lt never)
+  is_fixed at offset (inr (inl (header, i, names, e, lt, never))) = rw e (named_fixed at header i names lt never)
   is_fixed at offset (inr (inr (i, e, lt))) =
       let fits = ((h.agrees id v here).parts 0 p (ap (λ l. get_elem? l 0) is.alone)).1 in
       let m = word_means (IsIn o h.born) (hand_now o p).queue (state_of (now o h.events).world p.number).queue i (2 * at) fits.hand.queue e in
@@ -102,7 +74,7 @@ module _ (o : Opening) (words : List ℕ) (views : List Seen) (h : Keeps o words
           record {
             header = header_of x.node;
             valid = (h.stands.apart x g.here).valid;
-            word_is = ap (λ j. slice_index words j) z ∙ st.header;
+            word_is = cc (z, st.header);
             room = omega arith;
           }
 
@@ -113,12 +85,12 @@ module _ (o : Opening) (words : List ℕ) (views : List Seen) (h : Keeps o words
           let named = h.stands.named (place_of x) (placed o h.born x g.here) in
           let a = g.is_at in
           let z : at + offset ≡ x.at + 1 = omega arith in
-          record { name = x.name; valid = named.valid; word_is = ap (λ j. slice_index words j) z ∙ named.name }
+          record { name = x.name; valid = named.valid; word_is = cc (z, named.name) }
 
   -- a pointer that means something leads within the words
   pub safe_word : (w : ℕ) (x : Value) → Means (IsIn o h.born) w x → IsSafe o w
   safe_word w x m at e =
-      let q = pointer_means (IsIn o h.born) at x (subst (λ k. Means (IsIn o h.born) k x) e m) in
+      let q = pointer_means (IsIn o h.born) at x (rw e at m) in
       let y : Object = record { at = at; name = q.0; node = q.2.0 } in
       let l = lies_within o.layout (place_of y) (size_of y.node) (omega arith) (h.stands.apart y q.2.1).lies in
       omega arith
@@ -136,9 +108,7 @@ module _ (o : Opening) (words : List ℕ) (views : List Seen) (h : Keeps o words
       let m = meant o words views h id v here p is at can.header can.object can.object_word can.names in
       let st = h.stands.objects m.object m.there in
       let head : header_of st.node ≡ can.header = st.later.header ∙ m.head in
-      let t = read (IsIn o h.born) words (at + HEADER_WORDS) index st.node (subst (λ (k : Header).
-      IsReadable k.kind) (sym head) can.kind) (subst (λ (k : Header). index < k.fields) (sym head) can.within) (subst (λ a.
-      HasSlots (IsIn o h.born) words (a + HEADER_WORDS) (slots_of st.node)) m.is_at st.fields) in
+      let t = read (IsIn o h.born) words (at + HEADER_WORDS) index st.node (rw head can.kind) (rw head can.within) (rw m.is_at at st.fields) in
       safe_word (slice_index words (at + HEADER_WORDS + index)) t.value t.means
 
   -- the word that a swap finds
@@ -147,9 +117,7 @@ module _ (o : Opening) (words : List ℕ) (views : List Seen) (h : Keeps o words
       let m = meant o words views h id v here p is at can.header can.object can.object_word can.names in
       let st = h.stands.objects m.object m.there in
       let head : header_of st.node ≡ can.header = st.later.header ∙ m.head in
-      let t = read (IsIn o h.born) words (at + HEADER_WORDS) index st.node (may_read (header_of st.node).kind (subst (λ (k : Header).
-      IsWritable k.kind) (sym head) can.kind)) (subst (λ (k : Header). index < k.fields) (sym head) can.within) (subst (λ a.
-      HasSlots (IsIn o h.born) words (a + HEADER_WORDS) (slots_of st.node)) m.is_at st.fields) in
+      let t = read (IsIn o h.born) words (at + HEADER_WORDS) index st.node (may_read (header_of st.node).kind (rw head can.kind)) (rw head can.within) (rw m.is_at at st.fields) in
       safe_word (slice_index words (at + HEADER_WORDS + index)) t.value t.means
 
   -- the part after a command
@@ -165,7 +133,7 @@ module _ (o : Opening) (words : List ℕ) (views : List Seen) (h : Keeps o words
 -- a view that changed twice
 pub twice : (o : Opening) (words : List ℕ) (views : List Seen) (id : ℕ) (a b : Seen) (es : List Happening) →
     (n : Keeps o words (set (set views id a) id b)) × (n.events ≡ es) → (n : Keeps o words (set views id b)) × (n.events ≡ es)
-twice o words views id a b es h = subst (λ (l : List Seen). (n : Keeps o words l) × (n.events ≡ es)) (set-set views id a b) h
+twice o words views id a b es h = rw (set-set views id a b) at h
 
 module _ (o : Opening) (words : List ℕ) (views : List Seen) (h : Keeps o words views) (id : ℕ) (v : Seen) (here : get_elem? views id ≡
     some v) (p : Part) (is : IsMutator v p) where
@@ -180,7 +148,7 @@ module _ (o : Opening) (words : List ℕ) (views : List Seen) (h : Keeps o words
       let at' : at ≡ SHARED_PLACE = is_at in
       let here' = there_again views id v next here in
       let f : IsFixed o k.born at 0 =
-      subst (λ j. IsFixed o k.born j 0) (sym at') (first_fixed o words (set views id next) k id next here' _
+      rw at' (first_fixed o words (set views id next) k id next here' _
       (is_telling o words views h id v here p is c) (record { at = SHARED_PLACE; name = shared_name; node = k.shared.0 }) k.shared.1 0 (omega arith)) in
       let n = twice o words views id next (loaded next at 0 w) k.events
       (fixed_keeps o words (set views id next) k id next here' _ (is_telling o words views h id v here p is c) at 0 f) in
@@ -193,15 +161,14 @@ module _ (o : Opening) (words : List ℕ) (views : List Seen) (h : Keeps o words
       let next = answered v c a in
       let place : at + HEADER_WORDS + i ≡ at + suc offset = omega arith in
       let t : AddsCommand o words views h p.number c words (set views id next) =
-      subst (λ j. AddsCommand o words views h p.number c words (set views id (answered v c (word (slice_index words j))))) place
-      (load_keeps o words views h id v here p is at i c can.0) in
+      rw place at (load_keeps o words views h id v here p is at i c can.0) in
       let k : Keeps o words (set views id next) = t.1 in
       let here' = there_again views id v next here in
       let is' = is_doing o words views h id v here p is c a in
       let names : Names (doing p c a []) at can.0.header = record { valid = can.0.names.valid; there = can.0.names.there } in
       let f : IsFixed o k.born at (suc offset) =
-      subst (λ j. IsFixed o k.born at j) (sym e) (named_fixed o words (set views id next) k id next here' (doing p c a []) is' at can.0.header
-      i names can.0.within (λ may. subst (λ (t : Kind). MayChange t i) can.1 may)) in
+      rw e (named_fixed o words (set views id next) k id next here' (doing p c a []) is' at can.0.header
+      i names can.0.within (λ may. rw can.1 at may)) in
       let n = twice o words views id next (loaded next at (suc offset) w) k.events
       (fixed_keeps o words (set views id next) k id next here' (doing p c a []) is' at (suc offset) f) in
       (t.0, n.0, n.1 ∙ t.2)
@@ -211,4 +178,4 @@ module _ (o : Opening) (words : List ℕ) (views : List Seen) (h : Keeps o words
   take_safe at offset c (inl (is_at, z, can)) = record { safe = λ i e. absurd (omega (arith, z, e)) }
   take_safe at offset c (inr (j, z, can)) =
       let place : at + HEADER_WORDS + j ≡ at + offset = omega (arith, z) in
-      record { safe = λ i e. subst (λ k. IsSafe o (slice_index words k)) place (load_safe o words views h id v here p is at j c can.0) }
+      record { safe = λ i e. rw place at (load_safe o words views h id v here p is at j c can.0) }

@@ -1,24 +1,9 @@
 -- What a command leaves as it is.
-use Rattle.std.proofs.Common.{◌≡◌, ◌≢◌, ℕ, ◌<◌, length, refl, sym, ap, subst, ◌∙◌, arith, length-set, Option, Some, None, inl, inr}
-use Rattle.std.proofs.lemmas.Bool.{cases_eq}
-use Rattle.std.proofs.lemmas.Bool.Decides.{eqb_tells}
-use Rattle.nmgc_limits.specs.declared.mutators.TheConstants.{SHARED_MAKER}
-use Rattle.nmgc_world_spec.specs.declared.value.Name.{Name}
-use Rattle.nmgc_world_spec.specs.declared.value.Value.{Value}
+use Rattle.nmgc_round.proofs.Vocabulary.{◌≡◌, ◌≢◌, ℕ, ◌<◌, length, refl, ap, ◌∙◌, arith, length-set, Option, Some, None, inl, inr, cases_eq, eqb_tells, SHARED_MAKER, Name, Value, Node, MutatorState, Change, Command, Num, Nil, Mov, Get, Set, Cas, Update, Force, Push, Pop, Deref, Finalise, NextFin, Show, Same, Yield, Collect, Full, Reply, World, state_of, node_of, changed, value_for, with_state, with_nth, with_node, keeping, change_node, change_object, change_into, step, state_same, state_other, maker_there, change_count}
+use Rattle.nmgc_world_spec.specs.declared.command.Command.TheVariants.{Con, Var, Arr, Thunk, Weak, Stack}
 use Rattle.nmgc_world_spec.specs.declared.value.Value.TheVariants as value
-use Rattle.nmgc_world_spec.specs.declared.node.Node.{Node}
-use Rattle.nmgc_world_spec.specs.declared.mutator_state.MutatorState.{MutatorState}
-use Rattle.nmgc_world_spec.specs.declared.change.Change.{Change}
 use Rattle.nmgc_world_spec.specs.declared.change.Change.TheVariants as change
-use Rattle.nmgc_world_spec.specs.declared.command.Command.{Command}
-use Rattle.nmgc_world_spec.specs.declared.command.Command.TheVariants.{Num, Nil, Mov, Con, Var, Arr, Thunk, Weak, Stack, Get, Set, Cas, Update, Force, Push, Pop, Deref, Finalise, NextFin, Show, Same, Yield, Collect, Full}
-use Rattle.nmgc_world_spec.specs.declared.command.Reply.{Reply}
 use Rattle.nmgc_world_spec.specs.declared.command.Reply.TheVariants as reply
-use Rattle.nmgc_world_spec.specs.World.{World, state_of, node_of}
-use Rattle.nmgc_world_spec.specs.Change.{changed}
-use Rattle.nmgc_world_spec.specs.Step.{value_for, with_state, with_nth, with_node, keeping, change_node, change_object, change_into, step}
-use Rattle.nmgc_world_laws.specs.laws.NodeLaws.{state_same, state_other, maker_there}
-use Rattle.nmgc_world_laws.specs.laws.WorldSteps.{change_count}
 
 -- registers, queue and next serial are the same
 pub record IsSameState (s t : MutatorState) : Type 0 where
@@ -47,8 +32,7 @@ node_frame w name found made there k = elim (eqb_tells name.maker SHARED_MAKER) 
       let lt : m < length w.mutators = maker_there w name found made there p.1 in
       let mine : IsSameState q (state_of w m) = record { registers = refl; queue = refl; serial = length-set (state_of w m).nodes name.serial made } in
       rw p.0 (elim (cases_eq k m) [
-        | inl e ↦ subst (λ (j : ℕ). IsSameState (state_of (with_state w m q) j) (state_of w j)) (sym e) (subst (λ (s : MutatorState).
-            IsSameState s (state_of w m)) (sym (state_same w m q lt)) mine)
+        | inl e ↦ rw e (rw (state_same w m q lt) mine)
         | inr ne ↦ same_of _ _ (state_other w m q lt k ne)
       ])
 ]

@@ -1,13 +1,5 @@
 -- The commands among the events are a legal history of the never-collected heap.
-use Rattle.std.proofs.Common.{◌≡◌, ℕ, Bool, true, false, cond, eqb, List, [], ◌∷◌, map, refl, ap, ◌∙◌}
-use Rattle.nmgc_world_spec.specs.declared.command.Command.{Command}
-use Rattle.nmgc_world_spec.specs.declared.command.Reply.{Reply}
-use Rattle.nmgc_world_spec.specs.World.{World}
-use Rattle.nmgc_world_spec.specs.History.{Row, replayed, rows_of, IsLegal as IsLegalHistory}
-use Rattle.nmgc_snapshot_laws.specs.State.{State}
-use Rattle.nmgc_snapshot_laws.specs.Machine.{Does, after_command, after_scan}
-use Rattle.nmgc_round.specs.Events.{Happening, did, scanned, event_of, after, replay, IsLegal, done_by, rows_in}
-use Rattle.nmgc_round.proofs.Runs.{rest_scan}
+use Rattle.nmgc_round.proofs.{Vocabulary.◌≡◌, Vocabulary.ℕ, Vocabulary.Bool, Vocabulary.true, Vocabulary.false, Vocabulary.cond, Vocabulary.eqb, Vocabulary.List, Vocabulary.[], Vocabulary.◌∷◌, Vocabulary.map, Vocabulary.refl, Vocabulary.Command, Vocabulary.Reply, Vocabulary.Row, Vocabulary.replayed, Vocabulary.rows_of, Vocabulary.IsLegalHistory, Vocabulary.State, Vocabulary.Does, Vocabulary.after_command, Vocabulary.after_scan, Vocabulary.Happening, Vocabulary.did, Vocabulary.scanned, Vocabulary.event_of, Vocabulary.after, Vocabulary.replay, Vocabulary.IsLegal, Vocabulary.done_by, Vocabulary.rows_in, Runs.rest_scan}
 
 -- an event does what the core machine says
 pub does : (s : State) (h : Happening) → Does s (event_of h) (after s h)
@@ -24,7 +16,7 @@ legal_history s (scanned entry v ∷ hs) legal = let same = (rest_scan s s.queue
 pub world_then : (s : State) (hs : List Happening) → (replay s hs).world ≡ replayed s.world (rows_in hs)
 world_then s [] = refl
 world_then s (did m c r ∷ hs) = world_then (after_command s m c) hs
-world_then s (scanned entry v ∷ hs) = world_then (after_scan s s.queue) hs ∙ ap (λ (w : World). replayed w (rows_in hs)) (rest_scan s s.queue).world
+world_then s (scanned entry v ∷ hs) = cc (world_then (after_scan s s.queue) hs, (rest_scan s s.queue).world)
 
 -- a mutator's rows are its commands with their replies
 abbrev pub done : Row → Command × Reply
@@ -32,7 +24,7 @@ done row = (row.command, row.reply)
 
 pub rows_done : (m : ℕ) (hs : List Happening) → map done (rows_of m (rows_in hs)) ≡ done_by m hs
 rows_done m [] = refl
-rows_done m (did k c r ∷ hs) = by_test (eqb k m) (rows_of m (rows_in hs)) ∙ ap (λ (l : List (Command × Reply)). cond (eqb k m) ((c, r) ∷ l) l) (rows_done m hs)
+rows_done m (did k c r ∷ hs) = cc (by_test (eqb k m) (rows_of m (rows_in hs)), rows_done m hs)
   where
     by_test : (b : Bool) (l : List Row) → map done (cond b (record { mutator = k; command = c; reply = r } ∷ l) l) ≡ cond b ((c, r) ∷ map done l) (map done l)
     by_test true l = refl

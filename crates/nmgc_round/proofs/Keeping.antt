@@ -1,43 +1,7 @@
 -- The laws of the rule: what keeps it where a list of events grows by at most one.
-use Rattle.std.proofs.Common.{◌≡◌, ◌≢◌, ◌⊎◌, ◌<◌, ◌≤◌, ℕ, Bool, true, false, List, [], ◌∷◌, ◌++◌, zero, suc, length, set, refl, sym, ap, subst, ◌∙◌, length-set, Option, Some, None, inl, inr, ⊎_elim}
-use Rattle.std.specs.Prelude.{Contains}
-use mathlib.Core.Option.{some, some-injective, some-ne-none}
-use lib.ListN.{get_elem?}
-use Rattle.atomic_table.proofs.Lists.{at_set}
-use Rattle.nmgc_world_spec.specs.declared.value.Name.{Name}
-use Rattle.nmgc_world_spec.specs.declared.value.Value.{Value}
-use Rattle.nmgc_world_spec.specs.declared.node.Node.{Node}
-use Rattle.nmgc_world_spec.specs.declared.node.Node.TheVariants.{Stack}
-use Rattle.nmgc_world_spec.specs.declared.command.Command.{Command}
-use Rattle.nmgc_world_spec.specs.declared.command.Reply.{Reply}
-use Rattle.nmgc_world_spec.specs.World.{World, node_of}
-use Rattle.nmgc_world_spec.specs.Step.{step}
-use Rattle.nmgc_world_laws.specs.laws.Growth.{step_grows}
-use Rattle.nmgc_snapshot_laws.specs.declared.event.Entry.{Entry}
-use Rattle.nmgc_snapshot_laws.specs.State.{State, names_of}
-use Rattle.nmgc_world_spec.specs.Owed.{owed_by}
-use Rattle.nmgc_snapshot_laws.specs.Machine.{IsPossible, after_command, after_scan}
-use Rattle.nmgc_snapshot_laws.specs.Scan.{read_at}
+use Rattle.nmgc_round.proofs.Vocabulary.{◌≡◌, ◌≢◌, ◌⊎◌, ◌<◌, ◌≤◌, ℕ, Bool, true, false, List, [], ◌∷◌, ◌++◌, zero, suc, length, set, refl, sym, ap, subst, ◌∙◌, length-set, Option, Some, None, inl, inr, ⊎_elim, Contains, some, some-injective, some-ne-none, get_elem?, at_set, Name, Value, Node, Stack, Command, Reply, World, node_of, step, owed_by, step_grows, Entry, State, names_of, IsPossible, after_command, after_scan, read_at, names_same, names_other, Place, ListMeans, header_of, Happening, did, scanned, after, IsLegal, done_by, scans_in, Answer, FixedWord, UnbornWord, Opening, Part, Scan, Seen, hand_of, hand_now, leaves, doing, scanning, OwnSlots, Object, IsLater, IsObject, IsIn, RepresentsInRound, marks_of, after_word, now, Answers, Owes, IsHand, Fits, Rests, IsActive, Agrees, IsNew, AreKnown, IsQueued, IsRead, Keeps, Stays, AddsCommand, AddsScan, IsMutator, leave_more, folded_more}
 use Rattle.nmgc_snapshot_laws.specs.declared.event.Event.TheVariants as event
-use Rattle.nmgc_snapshot_laws.specs.laws.Listed.{names_same, names_other}
-use Rattle.nmgc_heap_spec.specs.Places.{Place, ListMeans}
-use Rattle.nmgc_round.specs.Events.{Happening, did, scanned, after, IsLegal, done_by, scans_in}
-use Rattle.nmgc_round.specs.View.{Answer, Hand, FixedWord, UnbornWord, Opening, Part, Scan, Seen, hand_of, hand_now, leaves, doing, scanning}
-use Rattle.nmgc_round.specs.Own.{OwnSlots}
-use Rattle.nmgc_round.specs.Objects.{Object, IsLater, IsObject, IsIn, RepresentsInRound}
-use Rattle.nmgc_round.proofs.Standing.{later_of}
-use Rattle.nmgc_round.proofs.Owners.{stack_of}
-use Rattle.nmgc_heap_spec.specs.Shape.{header_of}
-use Rattle.nmgc_round.specs.Marking.{marks_of, after_word}
-use Rattle.nmgc_round.specs.Rule.{now, Answers, AllRead, Owes, IsHand, Fits, Rests, IsActive, Agrees, IsNew, AreKnown, IsQueued, IsRead, Keeps}
-use Rattle.nmgc_round.specs.Added.{Stays, AddsCommand, AddsScan}
-use Rattle.nmgc_round.specs.Ready.{IsMutator}
-use Rattle.nmgc_round.proofs.Lists.{answer_push, read_push, answers_more, reads_more, owed_more}
-use Rattle.nmgc_round.specs.laws.Common.{leave_more, folded_more}
-use Rattle.nmgc_round.proofs.Fields.{list_more}
-use Rattle.nmgc_round.proofs.Logs.{replay_more, legal_more, scans_more, scans_same, done_scan, done_more, done_other}
-use Rattle.nmgc_round.proofs.Runs.{rest_scan, still_open}
-use Rattle.nmgc_round.proofs.Frames.{step_other}
+use Rattle.nmgc_round.proofs.{Standing.later_of, Owners.stack_of, Lists.answer_push, Lists.read_push, Lists.answers_more, Lists.reads_more, Lists.owed_more, Fields.list_more, Logs.replay_more, Logs.legal_more, Logs.scans_more, Logs.scans_same, Logs.done_scan, Logs.done_more, Logs.done_other, Runs.rest_scan, Runs.still_open, Frames.step_other}
 
 pub only_one : {A : Type 0} (R : A → Type 0) (x : A) → R x → (k : ℕ) (y : A) → get_elem? (x ∷ []) k ≡ some y → R y
 only_one R x h zero y e = subst R (some-injective x y e) h
@@ -65,19 +29,18 @@ module _ (o : Opening) (born more : List Object) (grow : (x : Object) → IsObje
   fits_other s done m c q lt ne stacks own f =
       let same = step_other m q.number ne s.world c lt in
       let count = (step_grows s.world m c lt).mutators in record {
-        exists = subst (λ n. q.number < n) (sym count) f.exists;
-        owing = subst (λ n. q.number < n) (sym (length-set s.owed m (names_of s.owed m ++ owed_by s.world m c))) f.owing;
+        exists = rw count f.exists;
+        owing = rw (length-set s.owed m (names_of s.owed m ++ owed_by s.world m c)) f.owing;
         rows = answers_more (IsIn o born) (IsIn o more) grown q.rows done f.rows;
         hand = record {
-          registers = subst (λ l.
-              ListMeans (IsIn o more) (hand_now o q).registers l) (sym same.registers) (list_more (IsIn o born) (IsIn o more) grown _ _ f.hand.registers);
-          queue = subst (λ l. ListMeans (IsIn o more) (hand_now o q).queue l) (sym same.queue) (list_more (IsIn o born) (IsIn o more) grown _ _ f.hand.queue);
+          registers = rw same.registers (list_more (IsIn o born) (IsIn o more) grown _ _ f.hand.registers);
+          queue = rw same.queue (list_more (IsIn o born) (IsIn o more) grown _ _ f.hand.queue);
           serial = f.hand.serial ∙ sym same.serial;
         };
-        found = subst (λ ns. Owes true (IsIn o more) q.found ns) (sym (names_other s.owed m q.number (names_of s.owed m ++
-            owed_by s.world m c) ne)) (owes_more true q.found _ f.found);
-        owed = subst (λ ns. Owes o.marking (IsIn o more) q.owed ns) (sym (names_other s.owed m q.number (names_of s.owed m ++
-            owed_by s.world m c) ne)) (owes_more o.marking q.owed _ f.owed);
+        found = rw (names_other s.owed m q.number (names_of s.owed m ++
+            owed_by s.world m c) ne) (owes_more true q.found _ f.found);
+        owed = rw (names_other s.owed m q.number (names_of s.owed m ++
+            owed_by s.world m c) ne) (owes_more o.marking q.owed _ f.owed);
         own = own;
       }
 
@@ -92,23 +55,20 @@ module _ (o : Opening) (born more : List Object) (grow : (x : Object) → IsObje
       []) (doing (record p { used = used; unborn = unborn; fixed = fixed; found = found }) c a owed)
   fits_mine s done p used unborn fixed found c r a owed says hand owes finds own f =
       let count = (step_grows s.world p.number c f.exists).mutators in record {
-        exists = subst (λ n. p.number < n) (sym count) f.exists;
-        owing = subst (λ n. p.number < n) (sym (length-set s.owed p.number (names_of s.owed p.number ++ owed_by s.world p.number c))) f.owing;
+        exists = rw count f.exists;
+        owing = rw (length-set s.owed p.number (names_of s.owed p.number ++ owed_by s.world p.number c)) f.owing;
         rows = answer_push (IsIn o more) p.rows done c a r (answers_more (IsIn o born) (IsIn o more) grown p.rows done f.rows) says;
-        hand = subst (λ (h : Hand).
-            IsHand o more (step s.world p.number c).0 p.number h) (sym (leave_more (hand_of o.hands p.number) p.rows (record {
-              command = c;
-              answer = a;
-            }))) hand;
-        found = subst (λ ns. Owes true (IsIn o more) found ns) (sym (names_same s.owed p.number (names_of s.owed p.number ++
-            owed_by s.world p.number c) f.owing)) finds;
-        owed = subst (λ ns. Owes o.marking (IsIn o more) (p.owed ++
-            owed) ns) (sym (names_same s.owed p.number (names_of s.owed p.number ++ owed_by s.world p.number c) f.owing)) owes;
-        own = subst (λ (h : Hand).
-            OwnSlots o more (step s.world p.number c).0 p.number h) (sym (leave_more (hand_of o.hands p.number) p.rows (record {
-              command = c;
-              answer = a;
-            }))) own;
+        hand = rw (leave_more (hand_of o.hands p.number) p.rows (record {
+          command = c;
+          answer = a;
+        })) hand;
+        found = rw (names_same s.owed p.number (names_of s.owed p.number ++
+            owed_by s.world p.number c) f.owing) finds;
+        owed = rw (names_same s.owed p.number (names_of s.owed p.number ++ owed_by s.world p.number c) f.owing) owes;
+        own = rw (leave_more (hand_of o.hands p.number) p.rows (record {
+          command = c;
+          answer = a;
+        })) own;
       }
 
 module _ (o : Opening) (words : List ℕ) (views : List Seen) (h : Keeps o words views) (id : ℕ) (v : Seen) (here : get_elem? views id ≡ some v) where
@@ -139,7 +99,7 @@ module _ (o : Opening) (words : List ℕ) (views : List Seen) (h : Keeps o words
       queued = queued;
       agrees = λ j u at. ⊎_elim
           (λ (t : (j ≡ id) × (w ≡ u)).
-          subst (λ (k : ℕ). Agrees o more new es h.owner h.scanner k u) (sym t.0) (subst (Agrees o more new es h.owner h.scanner id) t.1 mine))
+          rw t.0 (subst (Agrees o more new es h.owner h.scanner id) t.1 mine))
           (λ (t : (j ≢ id) × (get_elem? views j ≡ some u)). others j u t.0 t.1)
           (at_set views id j w u at);
     },
@@ -185,7 +145,7 @@ module _ (o : Opening) (words : List ℕ) (views : List Seen) (h : Keeps o words
         let is : Some after_.node ≡ Some (Stack size values) = sym after_.there ∙ e in
         let is_stack : after_.node ≡ Stack size values = cc in
         let t = stack_of before.node size values (before.later.header ∙ sym after_.later.header ∙ ap header_of is_stack) in
-        let was : node_of (now o h.events).world x.name ≡ Some (Stack size t.0) = before.there ∙ ap (λ (n : Node). Some n) t.1 in
+        let was : node_of (now o h.events).world x.name ≡ Some (Stack size t.0) = cc (before.there, t.1) in
         let still : Some (Stack size t.0) ≡ Some (Stack size values) = sym (stacks x.name size t.0 apart was) ∙ e in
         let same : t.0 ≡ values = cc in
         let r = own x size t.0 hx' mine was in
@@ -194,9 +154,7 @@ module _ (o : Opening) (words : List ℕ) (views : List Seen) (h : Keeps o words
     other_fits : (q : Part) → q.number ≢ m → Fits o h.born (now o h.events) (done_by q.number h.events) q →
         Fits o more (now o (h.events ++ did m c r ∷ [])) (done_by q.number (h.events ++ did m c r ∷ [])) q
     other_fits q ne f =
-        subst (λ (s : State). Fits o more s (done_by q.number (h.events ++ did m c r ∷ [])) q) (sym (now_more (did m c r)))
-        (subst (λ d. Fits o more (after_command (now o h.events) m c) d q) (sym (done_other q.number m h.events c r (λ e. ne (sym e))))
-        (fits_other o h.born more grow (now o h.events) (done_by q.number h.events) m c q lt ne stacks (other_own q ne f.own) f))
+        rw (now_more (did m c r)) (rw (done_other q.number m h.events c r (λ e. ne (sym e))) (fits_other o h.born more grow (now o h.events) (done_by q.number h.events) m c q lt ne stacks (other_own q ne f.own) f))
 
   -- a command more: every step with a place in the order is an instance
   pub command_law : (new : List ℕ) (more : List Object) (p : Part) (used : ℕ) (unborn : List UnbornWord) (fixed : List FixedWord) (found : List ℕ)
@@ -228,13 +186,11 @@ module _ (o : Opening) (words : List ℕ) (views : List Seen) (h : Keeps o words
       let mine = g.parts 0 p (ap (λ l. get_elem? l 0) is.alone) in
       let p' : Part = doing (record p { used = used; unborn = unborn; fixed = fixed; found = found }) c a owed in
       let fits : Fits o more (now o (h.events ++ e ∷ [])) (done_by m (h.events ++ e ∷ [])) p' =
-      subst (λ (t : State). Fits o more t (done_by m (h.events ++ e ∷ [])) p') (sym (now_more e)) (subst (λ d.
-      Fits o more (after_command s m c) d p') (sym (done_more m h.events c r))
-      (fits_mine o h.born more grow s (done_by m h.events) p used unborn fixed found c r a owed says hand owes finds own mine.1)) in
+      rw (now_more e) (rw (done_more m h.events c r) (fits_mine o h.born more grow s (done_by m h.events) p used unborn fixed found c r a owed says hand owes finds own mine.1)) in
       let n = change new (h.events ++ e ∷ []) more (record v { parts = p' ∷ [] }) grow news (legal_more o.core h.events e h.legal (can, tt))
-      (subst (λ (t : State). RepresentsInRound o more t.world new) (sym (now_more e)) st)
-      (subst (λ (t : State). AreKnown o more t.world) (sym (now_more e)) (known_more more grow (step s.world m c).0 names))
-      (λ entry q. h.queued entry (subst (λ (t : State). Contains t.queue entry) (now_more e) q))
+      (rw (now_more e) st)
+      (rw (now_more e) (known_more more grow (step s.world m c).0 names))
+      (λ entry q. h.queued entry (rw (now_more e) at q))
       (record {
         shares = g.shares;
         opening = λ _. g.opening (acts v p is);
@@ -251,10 +207,8 @@ module _ (o : Opening) (words : List ℕ) (views : List Seen) (h : Keeps o words
             (t.0, other_fits m c r mine.1.exists more grow stacks only new st q apart t.1, rest q apart t.2);
         scans = λ yes. let t = f.scans yes in (
           t.0,
-          subst (λ l.
-              AllRead (IsIn o more) u.scans l) (sym (scans_same h.events m c r))
-              (reads_more (IsIn o h.born) (IsIn o more) (grown o h.born more grow) u.scans (scans_in h.events) t.1),
-          ap (λ (s : State). marks_of s) (now_more e) ∙ t.2,
+          rw (scans_same h.events m c r) (reads_more (IsIn o h.born) (IsIn o more) (grown o h.born more grow) u.scans (scans_in h.events) t.1),
+          cc (now_more e, t.2),
         );
       }) in
       (r, n.0, n.1)
@@ -302,13 +256,13 @@ module _ (o : Opening) (words : List ℕ) (views : List Seen) (h : Keeps o words
   -- a part doesn't see a scan
   fits_rest : (s t : State) (done : List (Command × Reply)) (q : Part) → t.world ≡ s.world → t.owed ≡ s.owed → Fits o h.born s done q → Fits o h.born t done q
   fits_rest s t done q world owed f = record {
-    exists = subst (λ (w : World). q.number < length w.mutators) (sym world) f.exists;
-    owing = subst (λ (l : List (List Name)). q.number < length l) (sym owed) f.owing;
+    exists = rw world f.exists;
+    owing = rw owed f.owing;
     rows = f.rows;
-    hand = subst (λ (w : World). IsHand o h.born w q.number (hand_now o q)) (sym world) f.hand;
-    found = subst (λ (l : List (List Name)). Owes true (IsIn o h.born) q.found (names_of l q.number)) (sym owed) f.found;
-    owed = subst (λ (l : List (List Name)). Owes o.marking (IsIn o h.born) q.owed (names_of l q.number)) (sym owed) f.owed;
-    own = subst (λ (w : World). OwnSlots o h.born w q.number (hand_now o q)) (sym world) f.own;
+    hand = rw world f.hand;
+    found = rw owed f.found;
+    owed = rw owed f.owed;
+    own = rw world f.own;
   }
 
   -- a scan more
@@ -328,23 +282,20 @@ module _ (o : Opening) (words : List ℕ) (views : List Seen) (h : Keeps o words
       let full : s.queue ≡ [] → ⊥ = λ no. let bad : entry ∷ rest ≡ [] = sym queue ∙ no in cc in
       let fits : (q : Part) → Fits o h.born s (done_by q.number h.events) q →
       Fits o h.born (now o (h.events ++ e ∷ [])) (done_by q.number (h.events ++ e ∷ [])) q =
-      λ q f. subst (λ (u : State). Fits o h.born u (done_by q.number (h.events ++ e ∷ [])) q) (sym (now_more e)) (subst (λ d.
-      Fits o h.born t d q) (sym (done_scan q.number h.events entry x)) (fits_rest s t (done_by q.number h.events) q kept.world kept.owed f)) in
+      λ q f. rw (now_more e) (rw (done_scan q.number h.events entry x) (fits_rest s t (done_by q.number h.events) q kept.world kept.owed f)) in
       let n = change words (h.events ++ e ∷ []) h.born (scanning v one) (λ y hy.
       hy) h.new (legal_more o.core h.events e h.legal ((still_open o.core h.events h.is.not_closed, full), ((rest, queue), reads)))
-      (subst (λ (u : State). RepresentsInRound o h.born u.world words) (sym (now_more e)) (subst (λ (u : World).
-      RepresentsInRound o h.born u words) (sym kept.world) h.stands))
-      (subst (λ (u : State). AreKnown o h.born u.world) (sym (now_more e)) (subst (λ (u : World). AreKnown o h.born u) (sym kept.world) h.known))
-      (λ k c. queued k (subst (λ (u : State). Contains u.queue k) (now_more e) c))
+      (rw (now_more e) (rw kept.world h.stands))
+      (rw (now_more e) (rw kept.world h.known))
+      (λ k c. queued k (rw (now_more e) at c))
       (record {
         shares = g.shares;
         opening = g.opening;
         parts = λ k q at. let f = g.parts k q at in (f.0, fits q f.1, f.2);
         scans = λ yes. (
           mine.0,
-          subst (λ l. AllRead (IsIn o h.born) (v.scans ++ one ∷
-              []) l) (sym (scans_more h.events entry x)) (read_push (IsIn o h.born) v.scans (scans_in h.events) one x mine.1 means unset),
-          ap (λ (u : State). marks_of u) (now_more e) ∙ marks ∙ ap (λ m. after_word o m one) mine.2 ∙ sym (folded_more o (marks_of o.core) v.scans one),
+          rw (scans_more h.events entry x) (read_push (IsIn o h.born) v.scans (scans_in h.events) one x mine.1 means unset),
+          cc (now_more e, marks, mine.2, folded_more o (marks_of o.core) v.scans one),
         );
       })
       (λ j u ne at. let f = h.agrees j u at in record {

@@ -1,27 +1,6 @@
 -- The further kinds of step, lifted to the table's rule: whatever opening the round has.
-use Rattle.std.proofs.Common.{◌≡◌, ◌≢◌, ℕ, ◌+◌, Bool, true, false, eqb, List, [], set, refl, sym, subst, slice_index}
-use prog.Atomic.{either}
-use Rattle.atomic_table.specs.Table.{Me, Allows, keeps}
-use Rattle.nmgc_world_spec.specs.declared.command.Command.{Command}
-use Rattle.nmgc_object.specs.declared.size.TheConstants.{HEADER_WORDS}
-use Rattle.nmgc_object.specs.declared.layout.TheConstants.{SHARED_PLACE}
-use Rattle.nmgc_round.specs.View.{Opening, Seen}
-use Rattle.nmgc_round.specs.Rule.{Keeps}
-use Rattle.nmgc_round.specs.Ready.{Mutates}
-use Rattle.nmgc_round.specs.Compare.{CanExchange, exchanged, words_exchanged}
-use Rattle.nmgc_round.specs.Told.{IsSafe}
-use Rattle.nmgc_round.specs.Results.{CanForce, CanUpdate, forced, updated}
-use Rattle.nmgc_round.specs.Stacks.{CanPeek, CanSlot, TellsSlot, slot_swapped, IsRefusedSlot, slot_refused}
-use Rattle.nmgc_round.specs.Weaks.{CanDeref, CanFinalise, finaliser_named, weak_read, weak_taken}
-use Rattle.nmgc_round.proofs.Allows.{unchanged}
-use Rattle.nmgc_lists.specs.laws.Items.{word_again as set_again}
-use Rattle.nmgc_round.proofs.Modes.{holding, within}
-use Rattle.nmgc_round.proofs.Keeping.{acts}
-use Rattle.nmgc_round.proofs.Exchanges.{exchange_keeps}
-use Rattle.nmgc_round.proofs.Thunks.{force_keeps, force_safe, update_keeps}
-use Rattle.nmgc_round.proofs.Barred.{barred_keeps}
-use Rattle.nmgc_round.proofs.Pushes.{peek_keeps, slot_keeps, slot_safe}
-use Rattle.nmgc_round.proofs.Weakens.{deref_keeps, deref_safe, finalise_keeps, finalise_safe}
+use Rattle.nmgc_round.proofs.Vocabulary.{◌≡◌, ◌≢◌, ℕ, ◌+◌, Bool, true, false, eqb, List, [], set, refl, sym, slice_index, either, Me, Allows, keeps, Command, HEADER_WORDS, SHARED_PLACE, Seen, Mutates, CanExchange, exchanged, words_exchanged, IsSafe, CanForce, CanUpdate, forced, updated, CanPeek, CanSlot, TellsSlot, slot_swapped, IsRefusedSlot, slot_refused, CanDeref, CanFinalise, finaliser_named, weak_read, weak_taken, set_again}
+use Rattle.nmgc_round.proofs.{Allows.unchanged, Modes.holding, Modes.within, Keeping.acts, Exchanges.exchange_keeps, Thunks.force_keeps, Thunks.force_safe, Thunks.update_keeps, Barred.barred_keeps, Pushes.peek_keeps, Pushes.slot_keeps, Pushes.slot_safe, Weakens.deref_keeps, Weakens.deref_safe, Weakens.finalise_keeps, Weakens.finalise_safe}
 
 -- the words that a compare-exchange leaves
 exchanged_words : (words : List ℕ) (i expected w : ℕ) (hit : Bool) → eqb (slice_index words i) expected ≡ hit →
@@ -41,9 +20,8 @@ module _ (slots id : ℕ) (me : Me (Unit {0}) Seen) (bare : me.1 ≡ []) where
       let hit : Bool = eqb n expected in
       let u : Seen = exchanged me.0 c expected hit in
       let is = (h.agrees id me.0 here).opening (acts me.0 can.0 can.1) in
-      let k = exchange_keeps o s.words s.views h id me.0 here can.0 can.1 at index expected w c (subst (λ (y : Opening).
-      CanExchange y can.0 at index expected w c) is can.2) in
-      (u, keeps, tt, subst (λ (ws : List ℕ). Keeps o ws (set s.views id u)) (exchanged_words s.words i expected w hit refl) k.1, (refl, bare)))
+      let k = exchange_keeps o s.words s.views h id me.0 here can.0 can.1 at index expected w c (rw is at can.2) in
+      (u, keeps, tt, rw (exchanged_words s.words i expected w hit refl) at k.1, (refl, bare)))
     where
       i : ℕ
       i = at + HEADER_WORDS + index
@@ -55,13 +33,13 @@ module _ (slots id : ℕ) (me : Me (Unit {0}) Seen) (bare : me.1 ≡ []) where
       let n : ℕ = slice_index s.words (at + HEADER_WORDS) in
       let u : Seen = forced me.0 c n in
       let is = (h.agrees id me.0 here).opening (acts me.0 can.0 can.1) in
-      let can' = subst (λ (y : Opening). CanForce y can.0 at c) is can.2 in
+      let can' = rw is at can.2 in
       let k = force_keeps o s.words s.views h id me.0 here can.0 can.1 at c can' in (
         u,
         keeps,
         tt,
         unchanged o s.words (set s.views id u) (at + HEADER_WORDS) k.1,
-        ((refl, λ ne. subst (λ (y : Opening). IsSafe y n) (sym is) (force_safe o s.words s.views h id me.0 here can.0 can.1 at c can' ne)), bare),
+        ((refl, λ ne. rw is (force_safe o s.words s.views h id me.0 here can.0 can.1 at c can' ne)), bare),
       ))
 
   pub update_allows : (at w : ℕ) (c : Command) → Mutates (λ o p. CanUpdate o p at w c) me.0 →
@@ -71,8 +49,8 @@ module _ (slots id : ℕ) (me : Me (Unit {0}) Seen) (bare : me.1 ≡ []) where
       let n : ℕ = slice_index s.words (at + HEADER_WORDS) in
       let u : Seen = updated me.0 at c (eqb n 0) in
       let is = (h.agrees id me.0 here).opening (acts me.0 can.0 can.1) in
-      let k = update_keeps o s.words s.views h id me.0 here can.0 can.1 at w c (subst (λ (y : Opening). CanUpdate y can.0 at w c) is can.2) in
-      (u, keeps, tt, subst (λ (ws : List ℕ). Keeps o ws (set s.views id u)) (exchanged_words s.words (at + HEADER_WORDS) 0 w (eqb n 0) refl) k.1, (refl, bare)))
+      let k = update_keeps o s.words s.views h id me.0 here can.0 can.1 at w c (rw is at can.2) in
+      (u, keeps, tt, rw (exchanged_words s.words (at + HEADER_WORDS) 0 w (eqb n 0) refl) at k.1, (refl, bare)))
 
   pub deref_allows : (at : ℕ) (c : Command) → Mutates (λ o p. CanDeref o p at c) me.0 →
       Steps (at + HEADER_WORDS + 1) (λ n. n) (λ n u. (u ≡ weak_read me.0 c n) × (n ≢ 0 → IsSafe me.0.opening n))
@@ -82,13 +60,13 @@ module _ (slots id : ℕ) (me : Me (Unit {0}) Seen) (bare : me.1 ≡ []) where
       let n : ℕ = slice_index s.words i in
       let u : Seen = weak_read me.0 c n in
       let is = (h.agrees id me.0 here).opening (acts me.0 can.0 can.1) in
-      let can' = subst (λ (y : Opening). CanDeref y can.0 at c) is can.2 in
+      let can' = rw is at can.2 in
       let k = deref_keeps o s.words s.views h id me.0 here can.0 can.1 at c can' in (
         u,
         keeps,
         tt,
         unchanged o s.words (set s.views id u) i k.1,
-        ((refl, λ ne. subst (λ (y : Opening). IsSafe y n) (sym is) (deref_safe o s.words s.views h id me.0 here can.0 can.1 at c can' ne)), bare),
+        ((refl, λ ne. rw is (deref_safe o s.words s.views h id me.0 here can.0 can.1 at c can' ne)), bare),
       ))
 
   pub finalise_allows : (at : ℕ) (c : Command) → Mutates (λ o p. CanFinalise o p at c) me.0 →
@@ -99,7 +77,7 @@ module _ (slots id : ℕ) (me : Me (Unit {0}) Seen) (bare : me.1 ≡ []) where
       let n : ℕ = slice_index s.words i in
       let u : Seen = weak_taken me.0 at c n in
       let is = (h.agrees id me.0 here).opening (acts me.0 can.0 can.1) in
-      let can' = subst (λ (y : Opening). CanFinalise y can.0 at c) is can.2 in
+      let can' = rw is at can.2 in
       let k = finalise_keeps o s.words s.views h id me.0 here can.0 can.1 at c can' in (
         u,
         keeps,
@@ -111,8 +89,7 @@ module _ (slots id : ℕ) (me : Me (Unit {0}) Seen) (bare : me.1 ≡ []) where
             λ ne. (
               can.0,
               can.1,
-              subst (λ (y : Opening).
-                  IsSafe y (finaliser_named at can.0)) (sym is) (finalise_safe o s.words s.views h id me.0 here can.0 can.1 at c can' ne),
+              rw is (finalise_safe o s.words s.views h id me.0 here can.0 can.1 at c can' ne),
             ),
           ),
           bare,
@@ -126,12 +103,12 @@ module _ (slots id : ℕ) (me : Me (Unit {0}) Seen) (bare : me.1 ≡ []) where
       let i : ℕ = at + HEADER_WORDS + slot in
       let n : ℕ = slice_index s.words i in
       let is = (h.agrees id me.0 here).opening (acts me.0 can.0 can.1) in
-      let k = peek_keeps o s.words s.views h id me.0 here can.0 can.1 at slot (subst (λ (y : Opening). CanPeek y can.0 at slot) is can.2) in (
+      let k = peek_keeps o s.words s.views h id me.0 here can.0 can.1 at slot (rw is at can.2) in (
         me.0,
         keeps,
         tt,
         unchanged o s.words (set s.views id me.0) i k.0.0,
-        ((refl, (can.0, can.1, subst (λ (y : Opening). TellsSlot y can.0 at slot n) (sym is) k.1)), bare),
+        ((refl, (can.0, can.1, rw is k.1)), bare),
       ))
 
   pub slot_allows : (at slot w : ℕ) (c : Command) → Mutates (λ o p. CanSlot o p at slot w c) me.0 →
@@ -142,12 +119,12 @@ module _ (slots id : ℕ) (me : Me (Unit {0}) Seen) (bare : me.1 ≡ []) where
       let n : ℕ = slice_index s.words i in
       let u : Seen = slot_swapped me.0 c n in
       let is = (h.agrees id me.0 here).opening (acts me.0 can.0 can.1) in
-      let can' = subst (λ (y : Opening). CanSlot y can.0 at slot w c) is can.2 in (
+      let can' = rw is at can.2 in (
         u,
         keeps,
         tt,
         (slot_keeps o s.words s.views h id me.0 here can.0 can.1 at slot w c can').1,
-        ((refl, subst (λ (y : Opening). IsSafe y n) (sym is) (slot_safe o s.words s.views h id me.0 here can.0 can.1 at slot w c can')), bare),
+        ((refl, rw is (slot_safe o s.words s.views h id me.0 here can.0 can.1 at slot w c can')), bare),
       ))
 
   pub barred_allows : (at : ℕ) (c : Command) → Mutates (λ o p. IsRefusedSlot o p at c) me.0 →
@@ -157,5 +134,5 @@ module _ (slots id : ℕ) (me : Me (Unit {0}) Seen) (bare : me.1 ≡ []) where
       let n : ℕ = slice_index s.words SHARED_PLACE in
       let u : Seen = slot_refused me.0 c n in
       let is = (h.agrees id me.0 here).opening (acts me.0 can.0 can.1) in
-      let k = barred_keeps o s.words s.views h id me.0 here can.0 can.1 at c (subst (λ (y : Opening). IsRefusedSlot y can.0 at c) is can.2) in
+      let k = barred_keeps o s.words s.views h id me.0 here can.0 can.1 at c (rw is at can.2) in
       (u, keeps, tt, unchanged o s.words (set s.views id u) SHARED_PLACE k.1, (refl, bare)))

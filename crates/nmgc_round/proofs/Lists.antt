@@ -1,21 +1,6 @@
 -- Lists of words and what they mean, one more at the end or one that changes.
-use Rattle.std.proofs.Common.{◌≡◌, ℕ, zero, suc, ◌*◌, ◌≤◌, List, [], ◌∷◌, ◌++◌, get_or, set, refl, ap, subst, ◌∙◌, arith, Option, Some, None}
-use Rattle.std.specs.Prelude.{slice_get}
-use Rattle.nmgc_world_spec.specs.declared.value.Name.{Name}
-use Rattle.nmgc_world_spec.specs.declared.value.Value.{Value}
+use Rattle.nmgc_round.proofs.Vocabulary.{◌≡◌, ℕ, zero, suc, ◌*◌, ◌≤◌, List, [], ◌∷◌, ◌++◌, get_or, set, refl, ap, arith, Option, Some, None, slice_get, Name, Value, Operand, Register, Shared, Command, Reply, shared_name, value_of, names_among, SHARED_PLACE, NIL_WORD, Entry, Place, Means, ListMeans, Answer, plain, word, DoneRow, Scan, word_of, Answers, AllAnswer, IsRead, AllRead, AreOwed}
 use Rattle.nmgc_world_spec.specs.declared.value.Value.TheVariants as value
-use Rattle.nmgc_world_spec.specs.declared.command.Operand.{Operand}
-use Rattle.nmgc_world_spec.specs.declared.command.Operand.TheVariants.{Register, Shared}
-use Rattle.nmgc_world_spec.specs.declared.command.Command.{Command}
-use Rattle.nmgc_world_spec.specs.declared.command.Reply.{Reply}
-use Rattle.nmgc_world_spec.specs.Step.{shared_name, value_of}
-use Rattle.nmgc_object.specs.declared.layout.TheConstants.{SHARED_PLACE}
-use Rattle.nmgc_object.specs.declared.words.TheConstants.{NIL_WORD}
-use Rattle.nmgc_world_spec.specs.Owed.{names_among}
-use Rattle.nmgc_snapshot_laws.specs.declared.event.Entry.{Entry}
-use Rattle.nmgc_heap_spec.specs.Places.{Place, Means, ListMeans}
-use Rattle.nmgc_round.specs.View.{Answer, plain, word, DoneRow, Scan, word_of}
-use Rattle.nmgc_round.specs.Rule.{Answers, AllAnswer, IsRead, AllRead, AreOwed}
 use Rattle.nmgc_round.proofs.Fields.{means_more, list_more}
 
 module _ (P : Place → Type 0) where
@@ -31,7 +16,7 @@ module _ (P : Place → Type 0) where
   pub word_means : (ws : List ℕ) (vs : List Value) (i w : ℕ) → ListMeans P ws vs → slice_get ws i ≡ Some w → (v : Value) × Means P w v
   word_means [] vs i w h e = absurd cc
   word_means (x ∷ ws) [] i w h e = absurd h
-  word_means (x ∷ ws) (v ∷ vs) zero w h e = let same : x ≡ w = cc in (v, subst (λ k. Means P k v) same h.0)
+  word_means (x ∷ ws) (v ∷ vs) zero w h e = let same : x ≡ w = cc in (v, rw same at h.0)
   word_means (x ∷ ws) (v ∷ vs) (suc i) w h e = word_means ws vs i w h.1 e
 
   -- an operand's word means the operand's value
@@ -71,7 +56,7 @@ module _ (P : Place → Type 0) where
   pub pointer_means : (at : ℕ) (v : Value) → Means P (2 * at) v → (name : Name) × (v ≡ value.Ref name) × P (record { at = at; name = name })
   pointer_means at value.Nil m = absurd (omega arith)
   pointer_means at (value.Number n) m = absurd (omega arith)
-  pointer_means at (value.Ref name) m = let same : m.0 ≡ at = omega (arith, m.1) in (name, refl, subst (λ a. P (record { at = a; name = name })) same m.2)
+  pointer_means at (value.Ref name) m = let same : m.0 ≡ at = omega (arith, m.1) in (name, refl, rw same at m.2)
 
 names_append : (vs xs : List Value) → names_among (vs ++ xs) ≡ names_among vs ++ names_among xs
 names_append [] xs = refl
@@ -82,7 +67,7 @@ names_append (value.Ref name ∷ vs) xs = ap (λ (l : List Name). name ∷ l) (n
 -- what is owed, and more that is owed
 pub owed_append : (P : Place → Type 0) (ws us : List ℕ) (ns : List Name) (xs : List Value) → AreOwed P ws ns → ListMeans P us xs →
     AreOwed P (ws ++ us) (ns ++ names_among xs)
-owed_append P ws us ns xs h m = (h.0 ++ xs, list_append P ws us h.0 xs h.1 m, names_append h.0 xs ∙ ap (λ (l : List Name). l ++ names_among xs) h.2)
+owed_append P ws us ns xs h m = (h.0 ++ xs, list_append P ws us h.0 xs h.1 m, cc (names_append h.0 xs, h.2))
 
 module _ (P Q : Place → Type 0) (more : (p : Place) → P p → Q p) where
   answer_more : (a : Answer) (r : Reply) → Answers P a r → Answers Q a r

@@ -1,26 +1,7 @@
 -- A command that makes an object, in the world and in words.
-use Rattle.std.proofs.Common.{◌≡◌, ◌≢◌, Bool, cond, eq-eqb, ne_eqb, ℕ, zero, suc, ◌+◌, ◌*◌, ◌/◌, ◌≤◌, List, [], ◌∷◌, map, replicate, set, refl, sym, ap, subst, ◌∙◌, arith, slice_index, Some, None}
-use Rattle.std.specs.Prelude.{slice_get}
-use Rattle.std.proofs.lemmas.List.{length-map, length-replicate}
-use Rattle.nmgc_world_spec.specs.declared.value.Value.{Value}
-use Rattle.nmgc_world_spec.specs.declared.node.Node.{Node}
+use Rattle.nmgc_round.proofs.Vocabulary.{◌≡◌, ◌≢◌, Bool, cond, eq-eqb, ne_eqb, ℕ, zero, suc, ◌+◌, ◌*◌, ◌/◌, ◌≤◌, List, [], ◌∷◌, map, replicate, set, refl, sym, ap, ◌∙◌, arith, slice_index, Some, None, slice_get, length-map, length-replicate, Value, Node, Operand, Command, Num, Nil, Mov, Get, Set, Cas, Update, Force, Push, Pop, Deref, Finalise, NextFin, Show, Same, Yield, Collect, Full, World, state_of, IsSized, IsMaking, words_made, shared_name, value_of, born, step, owed_by, IsHeader, most_segment_words, SHARED_PLACE, header_of, size_of, slots_of, Place, Means, HasSlots, AllMean, ListMeans, item_all, values_fill, slots_of_fields, slots_at, word, Hand, word_of, leaves, header_made, fields_made}
+use Rattle.nmgc_world_spec.specs.{declared.command.Command.TheVariants.Con, declared.command.Command.TheVariants.Var, declared.command.Command.TheVariants.Arr, declared.command.Command.TheVariants.Thunk, declared.command.Command.TheVariants.Weak, declared.command.Command.TheVariants.Stack, Command.Fits}
 use Rattle.nmgc_world_spec.specs.declared.node.Node.TheVariants as node
-use Rattle.nmgc_world_spec.specs.declared.command.Operand.{Operand}
-use Rattle.nmgc_world_spec.specs.declared.command.Command.{Command}
-use Rattle.nmgc_world_spec.specs.declared.command.Command.TheVariants.{Num, Nil, Mov, Con, Var, Arr, Thunk, Weak, Stack, Get, Set, Cas, Update, Force, Push, Pop, Deref, Finalise, NextFin, Show, Same, Yield, Collect, Full}
-use Rattle.nmgc_world_spec.specs.World.{World, state_of, IsSized}
-use Rattle.nmgc_world_spec.specs.Command.{Fits, IsMaking, words_made}
-use Rattle.nmgc_object.specs.Words.{IsHeader}
-use Rattle.nmgc_limits.specs.Limits.{most_segment_words}
-use Rattle.nmgc_world_spec.specs.Step.{shared_name, value_of, born, step}
-use Rattle.nmgc_object.specs.declared.layout.TheConstants.{SHARED_PLACE}
-use Rattle.nmgc_world_spec.specs.Owed.{owed_by}
-use Rattle.nmgc_heap_spec.specs.Shape.{header_of, size_of, slots_of}
-use Rattle.nmgc_heap_spec.specs.Places.{Place, Means, HasSlots, AllMean, ListMeans}
-use Rattle.nmgc_heap_spec.specs.laws.Kinds.{item_all, values_fill, slots_of_fields}
-use Rattle.nmgc_round.specs.Own.{slots_at}
-use Rattle.nmgc_round.specs.View.{word, Hand, word_of, leaves}
-use Rattle.nmgc_round.specs.Making.{header_made, fields_made}
 use Rattle.nmgc_round.proofs.Lists.{operand_means}
 
 -- an object may have the header that a command makes, where it is no larger than a segment
@@ -80,12 +61,12 @@ all_from P words from [] [] h k i v e = absurd cc
 all_from P words from [] (y ∷ values) h k i v e = absurd h
 all_from P words from (u ∷ us) [] h k i v e = absurd h
 all_from P words from (u ∷ us) (y ∷ values) h k zero v e = let same : y ≡ v = cc in
-    subst (λ x. Means P (slice_index words (from + 0)) x) same (subst (λ w. Means P w y) (sym (k 0 u refl)) h.0)
+    rw (← same) (rw (k 0 u refl) h.0)
 all_from P words from (u ∷ us) (y ∷ values) h k (suc i) v e =
     let next : AllMean P words (from + 1) values = all_from P words (from + 1) us values h.1 (λ j w f.
-    let s : from + 1 + j ≡ from + suc j = omega arith in ap (λ n. slice_index words n) s ∙ k (suc j) w f) in
+    let s : from + 1 + j ≡ from + suc j = omega arith in cc (s, k (suc j) w f)) in
     let s : from + 1 + i ≡ from + suc i = omega arith in
-    subst (λ n. Means P (slice_index words n) v) s (next i v e)
+    rw s at (next i v e)
 
 operands_mean : (P : Place → Type 0) (ws : List ℕ) (vs : List Value) (operands : List Operand) →
     P (record { at = SHARED_PLACE; name = shared_name }) → ListMeans P ws vs → ListMeans P (map (word_of ws) operands) (map (value_of vs) operands)
@@ -114,10 +95,10 @@ module _ (P : Place → Type 0) (ws : List ℕ) (w : World) (m : ℕ) (g : P (re
   vs = (state_of w m).registers
 
   at_first : (words : List ℕ) (from : ℕ) (us : List ℕ) (u : ℕ) → StandFrom words from (u ∷ us) → slice_index words from ≡ u
-  at_first words from us u s = let z : from + 0 ≡ from = omega arith in ap (λ n. slice_index words n) (sym z) ∙ s 0 u refl
+  at_first words from us u s = let z : from + 0 ≡ from = omega arith in cc (z, s 0 u refl)
 
   later : (words : List ℕ) (from : ℕ) (us : List ℕ) (u : ℕ) → StandFrom words from (u ∷ us) → StandFrom words (from + 1) us
-  later words from us u s j x f = let e : from + 1 + j ≡ from + suc j = omega arith in ap (λ n. slice_index words n) e ∙ s (suc j) x f
+  later words from us u s j x f = let e : from + 1 + j ≡ from + suc j = omega arith in cc (e, s (suc j) x f)
 
   pub maker : (c : Command) → IsMaking c → IsMaker P ws w m c
   maker (Con dest tag fields) is = record {
@@ -141,8 +122,7 @@ module _ (P : Place → Type 0) (ws : List ℕ) (w : World) (m : ℕ) (g : P (re
     size = refl;
     sized = tt;
     owes = refl;
-    fields = λ words from s. slots_of_fields P words from (node.Var (value_of vs v)) (subst (λ n.
-        Means P n (value_of vs v)) (sym (at_first words from [] (word_of ws v) s)) (operand_means P ws vs v g k));
+    fields = λ words from s. slots_of_fields P words from (node.Var (value_of vs v)) (rw (at_first words from [] (word_of ws v) s) (operand_means P ws vs v g k));
     hand = λ h at. bearing_plain h dest at _ (λ n values e. cc);
   }
   maker (Arr dest count v) is = record {
@@ -188,10 +168,10 @@ module _ (P : Place → Type 0) (ws : List ℕ) (w : World) (m : ℕ) (g : P (re
       value = value_of vs v;
       finaliser = value_of vs finaliser;
     }))) (
-      subst (λ n. Means P n (value_of vs key)) (sym (at_first words from (word_of ws v ∷ word_of ws finaliser ∷
-          []) (word_of ws key) s)) (operand_means P ws vs key g k),
-      subst (λ n. Means P n (value_of vs v)) (sym (s 1 (word_of ws v) refl)) (operand_means P ws vs v g k),
-      subst (λ n. Means P n (value_of vs finaliser)) (sym (s 2 (word_of ws finaliser) refl)) (operand_means P ws vs finaliser g k),
+      rw (at_first words from (word_of ws v ∷ word_of ws finaliser ∷
+          []) (word_of ws key) s) (operand_means P ws vs key g k),
+      rw (s 1 (word_of ws v) refl) (operand_means P ws vs v g k),
+      rw (s 2 (word_of ws finaliser) refl) (operand_means P ws vs finaliser g k),
     );
     hand = λ h at. bearing_plain h dest at _ (λ n values e. cc);
   }

@@ -1,36 +1,19 @@
 -- The rule in its two modes: a step of a round finds the round, a step at a stop finds the stop.
-use Rattle.std.proofs.Common.{◌≡◌, ℕ, zero, suc, ◌+◌, Bool, true, false, cond, ◌||◌, ◌≢◌, ◌⊎◌, inl, inr, ⊎_elim, List, [], ◌∷◌, ◌++◌, refl, sym, ap, ◌∙◌, subst, set, slice_index, eqb, true≢false, append-nil}
-use mathlib.Core.Option.{some, some-injective, some-ne-none}
-use lib.ListN.{get_elem?}
-use Rattle.atomic_table.specs.Table.{State, Me, Allows, Splits, Joins, Final, Seen as SeenIn, keeps}
-use Rattle.atomic_table.proofs.Lists.{at_set}
-use Rattle.nmgc_world_spec.specs.declared.command.Command.{Command}
-use Rattle.nmgc_object.specs.declared.size.TheConstants.{HEADER_WORDS}
-use Rattle.nmgc_round.specs.View.{word, Opening, Part, Seen, exclusive, whole, nobody, loaded, answered, swapped, met, met_at_birth, stored, gave_birth}
-use Rattle.nmgc_round.specs.Seating.{CanSplit, keeps_rest, gives_first, mutates, collecting, together}
-use Rattle.nmgc_round.specs.Rule.{IsActive, IsIdle, Keeps, Stopped, Holding}
-use Rattle.nmgc_round.specs.Starting.{CanOpen}
-use Rattle.nmgc_round.specs.Finishing.{HasAll, Ended}
-use Rattle.nmgc_round.specs.Ready.{CanScan, scanned_by, Mutates, CanLoad, CanSwap, CanStore, CanBear}
-use Rattle.nmgc_round.specs.Told.{CanFix, CanTake, taken, TellsFixed, TellsField, TellsQueue, TellsScan, IsSafe}
+use Rattle.nmgc_round.proofs.Vocabulary.{◌≡◌, ℕ, zero, suc, ◌+◌, Bool, true, false, cond, ◌||◌, ◌≢◌, ◌⊎◌, inl, inr, ⊎_elim, List, [], ◌∷◌, ◌++◌, refl, sym, ap, ◌∙◌, subst, set, slice_index, eqb, true≢false, append-nil, some, some-injective, some-ne-none, get_elem?, Me, Allows, Splits, Joins, Final, SeenIn, keeps, at_set, Command, HEADER_WORDS, word, Opening, Part, Seen, exclusive, whole, nobody, loaded, answered, swapped, met, met_at_birth, stored, gave_birth, CanSplit, keeps_rest, gives_first, mutates, collecting, together, IsActive, IsIdle, Keeps, Stopped, Holding, CanOpen, HasAll, Ended, CanScan, scanned_by, Mutates, CanLoad, CanSwap, CanStore, CanBear, CanFix, CanTake, taken, TellsFixed, TellsField, TellsQueue, TellsScan, IsSafe, set_again}
+use Rattle.atomic_table.specs.Table.{State}
 use Rattle.nmgc_round.proofs.Allows as allows
-use Rattle.nmgc_lists.specs.laws.Items.{word_again as set_again}
-use Rattle.nmgc_round.proofs.Keeping.{acts}
-use Rattle.nmgc_round.proofs.Openings.{begins}
-use Rattle.nmgc_round.proofs.Parts.{splits, splits_collector, joins, closes, ends, long}
+use Rattle.nmgc_round.proofs.{Keeping.acts, Openings.begins, Parts.splits, Parts.splits_collector, Parts.joins, Parts.closes, Parts.ends, Parts.long}
 
 abbrev pub holding : State (Unit {0}) Seen → Type 0
 holding s = Holding s.words s.views
 
 -- an idle seat has no part
 idle_rests : (v : Seen) → IsIdle v → IsActive v → ⊥
-idle_rests v idle a = ⊎_elim (λ (t : (k : ℕ) × (p : Part) × (get_elem? v.parts k ≡ some p)). some-ne-none t.1 (sym t.2 ∙
-    ap (λ l. get_elem? l t.0) idle.1)) (λ (on : v.collects ≡ true). true≢false (sym on ∙ idle.2)) a
+idle_rests v idle a = ⊎_elim (λ (t : (k : ℕ) × (p : Part) × (get_elem? v.parts k ≡ some p)). some-ne-none t.1 (cc (t.2, idle.1))) (λ (on : v.collects ≡ true). true≢false (sym on ∙ idle.2)) a
 
 -- nor has the only one
 sole_rests : (ws : List ℕ) (v : Seen) → v ≡ exclusive ws → IsActive v → ⊥
-sole_rests ws v is a = ⊎_elim (λ (t : (k : ℕ) × (p : Part) × (get_elem? v.parts k ≡ some p)). some-ne-none t.1 (sym t.2 ∙
-    ap (λ (u : Seen). get_elem? u.parts t.0) is)) (λ (on : v.collects ≡ true). true≢false (sym on ∙ ap (λ (u : Seen). u.collects) is)) a
+sole_rests ws v is a = ⊎_elim (λ (t : (k : ℕ) × (p : Part) × (get_elem? v.parts k ≡ some p)). some-ne-none t.1 (cc (t.2, is))) (λ (on : v.collects ≡ true). true≢false (cc (on, is))) a
 
 -- a seat with a part stands in a round, whose opening it knows
 pub in_round : (words : List ℕ) (views : List Seen) → Holding words views → (id : ℕ) (v : Seen) → get_elem? views id ≡ some v → IsActive v →
@@ -156,20 +139,20 @@ module _ (slots id : ℕ) (me : Me (Unit {0}) Seen) (bare : me.1 ≡ []) where
       keeps,
       tt,
       unchanged s i h here,
-      ((refl, ap (λ (l : List ℕ). slice_index l i) (sym (stop s h here).0 ∙ sym (ap (λ (u : Seen). u.words) is))), bare),
+      ((refl, ap (λ (l : List ℕ). slice_index l i) (cc ((stop s h here).0, is))), bare),
     )
 
     pub write_allows : (i w : ℕ) → Steps i (λ _. w) (λ n u. u ≡ exclusive (set me.0.words i w))
     write_allows i w s h len here small =
         let t = stop s h here in
-        let e : s.words ≡ me.0.words = sym t.0 ∙ sym (ap (λ (u : Seen). u.words) is) in
+        let e : s.words ≡ me.0.words = cc (t.0, is) in
         (exclusive (set s.words i w), keeps, tt, inl (still (set s.words i w) s.views id t.1), (ap (λ (l : List ℕ). exclusive (set l i w)) e, bare))
 
     pub open_allows : (i : ℕ) (o : Opening) → CanOpen o ws → Steps i (λ n. n) (λ n w. w ≡ whole o)
     open_allows i o starts s h len here small =
         let t = stop s h here in
-        let k = (begins o s.words (subst (λ (l : List ℕ). CanOpen o l) t.0 starts) s.views id t.1).0 in
-        (whole o, keeps, tt, subst (λ (l : List ℕ). Holding l (set s.views id (whole o))) (sym (set_again s.words i)) (inr (o, k)), (refl, bare))
+        let k = (begins o s.words (rw t.0 at starts) s.views id t.1).0 in
+        (whole o, keeps, tt, rw (set_again s.words i) (inr (o, k)), (refl, bare))
 
   pub close_allows : (i : ℕ) → HasAll me.0 → Steps i (λ n. n) (λ n w. Ended me.0 w)
   close_allows i all s h len here small =
@@ -177,8 +160,7 @@ module _ (slots id : ℕ) (me : Me (Unit {0}) Seen) (bare : me.1 ≡ []) where
         exclusive s.words,
         keeps,
         tt,
-        subst (λ (l : List ℕ).
-            Holding l (set s.views id (exclusive s.words))) (sym (set_again s.words i)) (inl (closes r.0 s.words s.views r.1 id me.0 here all)),
+        rw (set_again s.words i) (inl (closes r.0 s.words s.views r.1 id me.0 here all)),
         ((refl, ends r.0 s.words s.views r.1 id me.0 here all, long r.0 s.words s.views r.1 id me.0 here all), bare),
       )
 

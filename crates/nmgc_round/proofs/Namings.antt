@@ -1,25 +1,7 @@
 -- The replies by loaded names are those of the events.
-use Rattle.std.proofs.Common.{◌≡◌, ℕ, ◌+◌, ◌≤◌, List, [], ◌∷◌, refl, sym, ap, ◌∙◌, arith, slice_index}
-use mathlib.Core.Option.{some}
-use lib.ListN.{get_elem?}
-use Rattle.nmgc_world_spec.specs.laws.Orders.{same_name}
-use Rattle.nmgc_world_spec.specs.declared.value.Name.{Name}
-use Rattle.nmgc_limits.specs.declared.mutators.TheConstants.{SHARED_MAKER}
-use Rattle.nmgc_world_spec.specs.declared.value.Value.{Value}
+use Rattle.nmgc_round.proofs.{Vocabulary.◌≡◌, Vocabulary.ℕ, Vocabulary.◌≤◌, Vocabulary.List, Vocabulary.[], Vocabulary.◌∷◌, Vocabulary.refl, Vocabulary.sym, Vocabulary.ap, Vocabulary.◌∙◌, Vocabulary.arith, Vocabulary.some, Vocabulary.get_elem?, Vocabulary.Name, Vocabulary.Value, Vocabulary.Command, Vocabulary.Reply, Vocabulary.SHARED_MAKER, Vocabulary.World, Vocabulary.name_word, Vocabulary.Place, Vocabulary.Means, Vocabulary.done_by, Vocabulary.Answer, Vocabulary.plain, Vocabulary.word, Vocabulary.DoneRow, Vocabulary.Opening, Vocabulary.Part, Vocabulary.Seen, Vocabulary.Object, Vocabulary.IsIn, Vocabulary.place_of, Vocabulary.now, Vocabulary.Answers, Vocabulary.AllAnswer, Vocabulary.IsFinished, Vocabulary.Replies, Vocabulary.AllReply, Vocabulary.same_name, Standing.placed}
+use Rattle.nmgc_round.specs.Naming.{IsNamed}
 use Rattle.nmgc_world_spec.specs.declared.value.Value.TheVariants as value
-use Rattle.nmgc_world_spec.specs.declared.command.Command.{Command}
-use Rattle.nmgc_world_spec.specs.declared.command.Reply.{Reply}
-use Rattle.nmgc_world_spec.specs.declared.command.Reply.TheVariants.{Given}
-use Rattle.nmgc_world_spec.specs.World.{World}
-use Rattle.nmgc_object.specs.Words.{name_word}
-use Rattle.nmgc_heap_spec.specs.Places.{Place, Means}
-use Rattle.nmgc_round.specs.Events.{done_by}
-use Rattle.nmgc_round.specs.View.{Answer, plain, word, DoneRow, Opening, Part, Seen}
-use Rattle.nmgc_round.specs.Objects.{Object, IsIn, place_of}
-use Rattle.nmgc_round.specs.Rule.{now, Answers, AllAnswer}
-use Rattle.nmgc_round.specs.Finishing.{IsFinished}
-use Rattle.nmgc_round.specs.Naming.{IsNamed, Replies, AllReply}
-use Rattle.nmgc_round.proofs.Standing.{placed}
 
 one_name : (a b : Name) → a.maker ≤ SHARED_MAKER → b.maker ≤ SHARED_MAKER → name_word a ≡ name_word b → a ≡ b
 one_name a b la lb e = same_name a b (omega arith) (omega arith)
@@ -47,12 +29,12 @@ module _ (o : Opening) (words : List ℕ) (v : Seen) (h : IsFinished o words v) 
       let x : Object = record { at = m.0; name = name; node = m.2.0 } in
       let named = h.stands.named (place_of x) (placed o h.born x m.2.1) in
       let loaded = ((h.parts k p here).1.fixed (record { at = n.0; offset = 1; word = name_word other }) n.3).1 in
-      let word_is : name_word name ≡ name_word other = sym named.name ∙ ap (λ j. slice_index words (j + 1)) at ∙ loaded in
+      let word_is : name_word name ≡ name_word other = cc (named.name, at, loaded) in
       ap (λ k. value.Ref k) (one_name name other named.valid.0 n.2.0 word_is)
 
   same_reply : (a : Answer) (r s : Reply) → Answers P a r → Replies p.fixed a s → r ≡ s
   same_reply (plain x) r s m n = sym m ∙ n.0
-  same_reply (word w) r s m n = sym m.1 ∙ ap (λ y. Given y) (same_value w m.0 n.0 m.2 n.2) ∙ n.1
+  same_reply (word w) r s m n = cc (m.1, same_value w m.0 n.0 m.2 n.2, n.1)
 
   all_same : (rows : List DoneRow) (xs ys : List (Command × Reply)) → AllAnswer P rows xs → AllReply p.fixed rows ys → xs ≡ ys
   all_same [] [] [] m n = refl

@@ -1,18 +1,5 @@
 -- The rest of each nursery: no object is there, and what a seat says of words stays so where another word changes.
-use Rattle.std.proofs.Common.{◌≡◌, ◌≢◌, ◌⊎◌, inl, inr, ℕ, suc, ◌+◌, ◌-◌, ◌*◌, ◌<◌, ◌≤◌, List, [], ◌∷◌, ◌++◌, length, set, refl, sym, ap, subst, ◌∙◌, arith, slice_index, get_or-set_same, get_or-set_other, mul-le-mul_right}
-use Rattle.std.specs.Prelude.{Contains}
-use Rattle.std.proofs.lemmas.Bool.{cases_eq, cases_lt}
-use Rattle.std.proofs.lemmas.List.Elements.{Contains-append_left, Contains-push, Contains-push_cases}
-use Rattle.nmgc_object.specs.Places.{InSegment, InNursery, segment_place}
-use Rattle.nmgc_object.specs.declared.words.Header.{Header}
-use Rattle.nmgc_object.specs.declared.size.TheConstants.{HEADER_WORDS}
-use Rattle.nmgc_world_spec.specs.World.{World}
-use Rattle.nmgc_heap_spec.specs.Shape.{header_of, size_of, MayChange}
-use Rattle.nmgc_heap_spec.specs.Places.{Place, LiesWell, IsBetween}
-use Rattle.nmgc_lists.specs.laws.Items.{contains_cases}
-use Rattle.nmgc_round.specs.View.{Opening, Part, UnbornWord, FixedWord, storing, bearing_object}
-use Rattle.nmgc_round.specs.Objects.{Object, place_of, end_of, IsObject, IsPlace, RepresentsInRound, IsFree}
-use Rattle.nmgc_round.specs.Rule.{IsOpening, IsNew, IsFixed, Rests, base_of, limit_of, top_of}
+use Rattle.nmgc_round.proofs.Vocabulary.{◌≡◌, ◌≢◌, ◌⊎◌, inl, inr, ℕ, suc, ◌+◌, ◌-◌, ◌*◌, ◌<◌, ◌≤◌, List, [], ◌∷◌, ◌++◌, length, set, refl, ◌∙◌, arith, slice_index, get_or-set_same, get_or-set_other, mul-le-mul_right, Contains, cases_eq, cases_lt, Contains-append_left, Contains-push, Contains-push_cases, InSegment, InNursery, segment_place, HEADER_WORDS, World, header_of, size_of, MayChange, Place, LiesWell, IsBetween, contains_cases, Opening, Part, UnbornWord, storing, bearing_object, Object, place_of, end_of, IsObject, IsPlace, RepresentsInRound, IsFree, IsOpening, IsNew, IsFixed, Rests, base_of, limit_of, top_of}
 use Rattle.nmgc_round.proofs.Standing.{one_or_apart, one_header}
 
 module _ (o : Opening) where
@@ -67,8 +54,7 @@ module _ (o : Opening) where
 
         places : (q : Place) → IsPlace o born q → (i < q.at) ⊎ (q.at + HEADER_WORDS ≤ i)
         places q (inl h) = let b = old_before q h HEADER_WORDS (omega arith) (st.named q (inl h)).lies p.number in inr (omega arith)
-        places q (inr h) = subst (λ (a : Place). (i < a.at) ⊎
-            (a.at + HEADER_WORDS ≤ i)) h.2 (elim (born_apart h.0 h.1) [ inl l ↦ inl l | inr l ↦ inr (omega arith) ])
+        places q (inr h) = rw (← h.2) (elim (born_apart h.0 h.1) [ inl l ↦ inl l | inr l ↦ inr (omega arith) ])
 
   -- what a part says of words stays so, where none of them changes
   pub rests_same : (born more : List Object) (ws us : List ℕ) (q : Part) → ((x : Object) → IsObject o born x → IsObject o more x) →
@@ -108,7 +94,7 @@ module _ (o : Opening) where
         | inl same ↦
             let s = same.1 in
             let head : header_of x.node ≡ header_of f.object.node = one_header o born w ws st x f.object hx f.here same.0 in
-            f.fixed i (omega arith) (subst (λ (h : Header). MayChange h.kind i) head may)
+            f.fixed i (omega arith) (rw head at may)
         | inr far ↦ elim far [ inl l ↦ omega arith | inr l ↦ omega arith ]
       ]
 
@@ -145,8 +131,7 @@ module _ (o : Opening) where
       below = r.below;
       unborn = λ u h. elim (contains_cases (record { at = i; word = n }) p.unborn u h) [
         | inr c ↦ let t = r.unborn u c in (get_or-set_other ws i u.at n 0 (fresh u c) ∙ t.0, t.1, t.2)
-        | inl e ↦ subst (λ (y : UnbornWord). (slice_index (set ws i n) y.at ≡ y.word) × (top_of o p ≤ y.at) ×
-            (y.at < limit_of o p.number)) e (get_or-set_same ws i n 0 inside, lo, hi)
+        | inl e ↦ rw (← e) (get_or-set_same ws i n 0 inside, lo, hi)
       ];
       fixed = λ f h. let t = r.fixed f h in
           (t.0, get_or-set_other ws i (f.at + f.offset) n 0 (fixed_away born i f.at f.offset (rest_free is born w ws p st new r i lo hi) t.0) ∙ t.1);
@@ -160,7 +145,7 @@ module _ (o : Opening) where
         (λ y h e. elim (Contains-push_cases born x y h) [
           | inl c ↦ r.below y c e
           | inr s ↦
-              absurd (ne (sym e ∙ sym (ap (λ (z : Object). z.name.maker) s) ∙ mine))
+              absurd (ne (cc (e, s, mine)))
         ])
         (λ k lo hi. get_or-set_other ws x.at k n 0 (λ e. elim (nurseries_apart q.number p.number ne) [ inl l ↦ omega arith | inr l ↦ omega arith ]))
         (λ at offset f. get_or-set_other ws x.at (at + offset) n 0
@@ -185,7 +170,7 @@ module _ (o : Opening) where
           room = omega arith;
           below = λ y h e. elim (Contains-push_cases born x y h) [
             | inl c ↦ let b = r.below y c e in omega arith
-            | inr s ↦ subst (λ (z : Object). end_of z ≤ base_of o p.number + (p.used + size_of x.node)) s (omega arith)
+            | inr s ↦ rw (← s) (omega arith)
           ];
           unborn = λ u h. absurd (let lt = h.1 in omega arith);
           fixed = λ f h. elim (contains_cases (record { at = x.at; offset = 0; word = n }) (record {
@@ -193,18 +178,16 @@ module _ (o : Opening) where
             offset = 1;
             word = slice_index ws (x.at + 1);
           } ∷ p.fixed) f h) [
-            | inl e ↦ subst (λ (g : FixedWord). IsFixed o (born ++ x ∷ []) g.at g.offset ×
-                (slice_index (set ws x.at n) (g.at + g.offset) ≡ g.word)) e (
-                  known 0 (omega arith),
-                  let z : x.at + 0 ≡ x.at = omega arith in
-                      ap (λ j. slice_index (set ws x.at n) j) z ∙ get_or-set_same ws x.at n 0 inside,
-                )
+            | inl e ↦ rw (← e) (
+              known 0 (omega arith),
+              let z : x.at + 0 ≡ x.at = omega arith in
+                  cc (z, get_or-set_same ws x.at n 0 inside),
+            )
             | inr c ↦ elim (contains_cases (record { at = x.at; offset = 1; word = slice_index ws (x.at + 1) }) p.fixed f c) [
-              | inl e ↦ subst (λ (g : FixedWord). IsFixed o (born ++ x ∷ []) g.at g.offset ×
-                  (slice_index (set ws x.at n) (g.at + g.offset) ≡ g.word)) e (
-                    known 1 (omega arith),
-                    get_or-set_other ws x.at (x.at + 1) n 0 (λ k. omega arith),
-                  )
+              | inl e ↦ rw (← e) (
+                known 1 (omega arith),
+                get_or-set_other ws x.at (x.at + 1) n 0 (λ k. omega arith),
+              )
               | inr d ↦ let t = r.fixed f d in (
                 record {
                   object = t.0.object;

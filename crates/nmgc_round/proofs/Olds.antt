@@ -1,27 +1,7 @@
 -- What an opening lists of a mutator's stacks are its own ones: each tracked stack that it made has its words there.
-use Rattle.std.proofs.Common.{◌≡◌, ◌≢◌, inl, inr, ℕ, suc, ◌+◌, ◌<◌, Bool, true, false, cond, eqb, List, [], ◌∷◌, ◌++◌, map, refl, sym, ap, subst, ◌∙◌, arith, slice_index, Option, Some, None, eq-eqb, ne_eqb, true≢false}
-use Rattle.std.specs.Prelude.{Contains, slice_get}
-use Rattle.std.proofs.lemmas.Bool.{cases_eq}
-use Rattle.nmgc_world_spec.specs.declared.value.Name.{Name}
-use Rattle.nmgc_world_spec.specs.declared.value.Value.{Value}
-use Rattle.nmgc_world_spec.specs.declared.value.Value.TheVariants as value
-use Rattle.nmgc_world_spec.specs.declared.node.Node.{Node}
-use Rattle.nmgc_world_spec.specs.declared.node.Node.TheVariants.{Con, Var, Arr, Thunk, Weak, Stack}
-use Rattle.nmgc_world_spec.specs.World.{World, node_of}
-use Rattle.nmgc_world_spec.specs.Change.{is_same_name}
-use Rattle.nmgc_lists.specs.laws.Items.{contains_head, contains_tail, contains_cases, slice_get-append as item_left, item_map, contains_at as contains_read, is_some_of}
-use Rattle.nmgc_object.specs.declared.size.TheConstants.{HEADER_WORDS}
-use Rattle.nmgc_heap_spec.specs.Shape.{holds, slots_of}
-use Rattle.nmgc_heap_spec.specs.Tracked.{IsTracked}
-use Rattle.nmgc_heap_spec.specs.Places.{Place, Means, ListMeans}
-use Rattle.nmgc_heap_spec.specs.laws.Kinds.{fields_of_slots}
-use Rattle.nmgc_heap_spec.specs.laws.Tracking.{slot_tracked}
-use Rattle.nmgc_round.specs.View.{Slots, Opening, hand_of}
-use Rattle.nmgc_round.specs.Objects.{place_of, IsIn, earlier}
-use Rattle.nmgc_round.specs.Own.{slots_at, OwnSlots, place_named, word_in, slots_of_node, stacks_at, old_stacks}
-use Rattle.nmgc_round.specs.Starting.{CanOpen}
+use Rattle.nmgc_round.proofs.Vocabulary.{◌≡◌, ◌≢◌, inl, inr, ℕ, suc, ◌+◌, ◌<◌, Bool, true, false, cond, eqb, List, [], ◌∷◌, ◌++◌, map, refl, sym, ap, ◌∙◌, arith, slice_index, Option, Some, None, eq-eqb, ne_eqb, true≢false, Contains, slice_get, cases_eq, Name, Value, Node, Con, Var, Arr, Thunk, Weak, Stack, World, node_of, is_same_name, contains_head, contains_tail, contains_cases, item_left, item_map, contains_read, is_some_of, HEADER_WORDS, holds, slots_of, IsTracked, Place, Means, ListMeans, fields_of_slots, slot_tracked, Slots, Opening, hand_of, place_of, IsIn, earlier, slots_at, OwnSlots, place_named, word_in, slots_of_node, stacks_at, old_stacks, CanOpen, name_itself}
 use Rattle.nmgc_snapshot_laws.specs.laws.Listed.{tested_same as same_name}
-use Rattle.nmgc_world_spec.specs.laws.Common.{name_itself}
+use Rattle.nmgc_world_spec.specs.declared.value.Value.TheVariants as value
 
 -- a name with a place has the one that is found
 place_there : (ps : List Place) (name : Name) (at : ℕ) → Contains ps (record { at = at; name = name }) →
@@ -35,12 +15,12 @@ place_there (p ∷ ps) name at c = by_test (λ d. place_there ps name at d) (is_
         let here : p.at ≡ place_named (p ∷ ps) name = ap (λ t. cond t p.at (place_named ps name)) (sym e) in
         let named : p.name ≡ name = same_name p.name name e in
         let is : p ≡ record { at = place_named (p ∷ ps) name; name = name } = λ i. record { at = here i; name = named i } in
-        subst (λ (q : Place). Contains (p ∷ ps) q) is (contains_head p ps)
+        rw (← is) (contains_head p ps)
     by_test rest false e = elim (contains_cases p ps (record { at = at; name = name }) c) [
-      | inl same ↦ absurd (true≢false (sym (name_itself p.name name (ap (λ (q : Place). q.name) same)) ∙ e))
+      | inl same ↦ absurd (true≢false (cc (name_itself p.name name (ap (λ (q : Place). q.name) same), e)))
       | inr d ↦
           let there : place_named ps name ≡ place_named (p ∷ ps) name = ap (λ t. cond t p.at (place_named ps name)) (sym e) in
-          subst (λ a. Contains (p ∷ ps) (record { at = a; name = name })) there (contains_tail p ps (record { at = place_named ps name; name = name }) (rest d))
+          rw there at (contains_tail p ps (record { at = place_named ps name; name = name }) (rest d))
     ]
 
 -- stacks elsewhere don't matter
@@ -66,11 +46,9 @@ module _ (places : List Place) (w : World) (m : ℕ) (x : Place) (size : ℕ) (v
   found (p ∷ ps) one c = elim (cases_eq p.at x.at) [
     | inl e ↦
         let is : p ≡ x = one p (contains_head p ps) e in
-        let maker : eqb p.name.maker m ≡ true = eq-eqb p.name.maker m (ap (λ (q : Place). q.name.maker) is ∙ mine) in
-        let there : node_of w p.name ≡ Some (Stack size values) = ap (λ (q : Place). node_of w q.name) is ∙ node in
-        ap (λ t. slots_at (cond t (slots_of_node places p.at (node_of w p.name)) [] ++ stacks_at places w m ps) x.at) maker
-        ∙ ap (λ o. slots_at (slots_of_node places p.at o ++ stacks_at places w m ps) x.at) there
-        ∙ ap (λ t. cond t (Some (map (word_in places) values)) (slots_at (stacks_at places w m ps) x.at)) (eq-eqb p.at x.at e)
+        let maker : eqb p.name.maker m ≡ true = eq-eqb p.name.maker m (cc (is, mine)) in
+        let there : node_of w p.name ≡ Some (Stack size values) = cc (is, node) in
+        cc (maker, there, eq-eqb p.at x.at e)
     | inr ne ↦
         let rest : Contains ps x = elim (contains_cases p ps x c) [ inl same ↦ absurd (ne (ap (λ (q : Place). q.at) same)) | inr d ↦ d ] in
         skip places p.at x.at (node_of w p.name) (eqb p.name.maker m) (stacks_at places w m ps) ne ∙ found ps (λ q d e. one q (contains_tail p ps q d) e) rest
@@ -106,10 +84,9 @@ module _ (o : Opening) (words : List ℕ) (h : CanOpen o words) where
       let listed : slots_at (old_stacks o.places W m) x.at ≡ Some (map (word_in o.places) values) =
       found o.places W m (place_of x) size values mine there o.places (λ p c e. h.represents.one p (place_of x) c old.there (inr e)) old.there in (
         map (word_in o.places) values,
-        ap (λ (l : List Slots). slots_at l x.at) (h.hands m lt).stacks ∙ listed,
+        cc ((h.hands m lt).stacks, listed),
         list_by (IsIn o []) (word_in o.places) values (λ i v e.
             word_means (slice_index words (t.at + HEADER_WORDS + i)) v (λ name is.
-            slot_tracked W (earlier o) x.name node name old.tracked there (subst (λ y.
-            Contains (slots_of node) (holds y)) is (contains_read (slots_of node) i (holds v)
+            slot_tracked W (earlier o) x.name node name old.tracked there (rw is at (contains_read (slots_of node) i (holds v)
             (item_left (map holds values) _ i (holds v) (item_map holds values i v e))))) (fields.0 i v e)),
       )

@@ -1,36 +1,8 @@
 -- Words that represent a world meet the rule: references in what is tracked lead to what is tracked.
-use Rattle.std.proofs.Common.{◌≡◌, ◌≢◌, inl, inr, ⊎_elim, set, ℕ, zero, suc, ◌+◌, ◌<◌, Bool, true, false, cond, List, [], ◌∷◌, ◌++◌, length, refl, sym, ap, subst, ◌∙◌, arith, slice_index, Some}
-use Rattle.std.specs.Prelude.{Contains, slice_get}
-use Rattle.nmgc_lists.specs.laws.Items.{contains_one, is_some_of, at_some, contains_head, contains_tail, contains_at as contains_read}
-use Rattle.nmgc_world_spec.specs.declared.value.Name.{Name}
-use Rattle.nmgc_world_spec.specs.declared.value.Value.{Value}
-use Rattle.nmgc_world_spec.specs.declared.value.Value.TheVariants as value
-use Rattle.nmgc_world_spec.specs.declared.node.Node.{Node}
-use Rattle.nmgc_world_spec.specs.World.{World, node_of, state_of, IsNodeOf, IsSized}
-use Rattle.nmgc_world_spec.specs.Step.{shared_name}
-use Rattle.nmgc_world_spec.specs.Reach.{strong_fields, start, field}
-use Rattle.nmgc_object.specs.declared.size.TheConstants.{HEADER_WORDS}
-use Rattle.nmgc_world_spec.specs.Wide.{IsWide, IsWideRoot}
-use Rattle.nmgc_heap_spec.specs.Tracked.{IsTracked}
-use Rattle.nmgc_heap_spec.specs.Places.{Place, Means, Fills, HasSlots, ListMeans}
+use Rattle.nmgc_round.proofs.Vocabulary.{◌≡◌, ◌≢◌, inl, inr, ⊎_elim, set, ℕ, zero, suc, ◌+◌, ◌<◌, Bool, true, false, List, [], ◌∷◌, ◌++◌, length, refl, sym, ap, subst, arith, slice_index, Some, Contains, slice_get, contains_one, is_some_of, at_some, contains_head, contains_tail, contains_read, Name, Value, Node, World, node_of, state_of, IsNodeOf, IsSized, shared_name, start, field, IsWide, IsWideRoot, HEADER_WORDS, SHARED_PLACE, IsTracked, Place, Means, Fills, HasSlots, ListMeans, Slot, holds, unset, untold, slots_of, free_slots, IsObjectAt, slot_tracked, Contains-append_left, Contains-append_right, some, some-injective, some-ne-none, get_elem?, at_set, names_of, Owes, IsHand, Fits, Rests, IsIdle, Agrees, Keeps, Hand, Part, Seen, Opening, hand_of, blank, blanks, nobody, whole, KeepsOf, Object, place_of, IsOld, IsIn, IsPlace, IsLater, IsStanding, RepresentsInRound, earlier, CanOpen}
 use Rattle.nmgc_heap_spec.specs.laws.Slots.{free_held}
-use Rattle.nmgc_heap_spec.specs.laws.Tracking.{slot_tracked}
-use Rattle.nmgc_heap_spec.specs.Shape.{Slot, holds, unset, untold, slots_of, fixed_slots, free_slots}
-use Rattle.nmgc_heap_spec.specs.Represents.{IsObject as IsObjectAt}
-use Rattle.std.proofs.lemmas.List.Elements.{Contains-append_left, Contains-append_right}
-use mathlib.Core.Option.{some, some-injective, some-ne-none}
-use lib.ListN.{get_elem?}
-use Rattle.atomic_table.proofs.Lists.{at_set}
-use Rattle.nmgc_object.specs.declared.layout.TheConstants.{SHARED_PLACE}
-use Rattle.nmgc_snapshot_laws.specs.State.{names_of}
-use Rattle.nmgc_round.specs.Rule.{Owes, IsHand, Fits, Rests, IsIdle, Agrees, Keeps}
-use Rattle.nmgc_round.specs.View.{Hand, Part, Seen, Opening, hand_of, blank, blanks, nobody, whole}
-use Rattle.nmgc_round.specs.Objects.{KeepsOf, Object, place_of, IsOld, IsIn, IsPlace, IsLater, IsStanding, RepresentsInRound, earlier}
-use Rattle.nmgc_round.specs.Starting.{CanOpen}
-use Rattle.nmgc_round.proofs.Parts.{idle_agrees}
-use Rattle.nmgc_round.proofs.Olds.{own_old}
-use Rattle.nmgc_round.proofs.Standing.{same_node}
-use Rattle.nmgc_round.proofs.Fields.{fixed_of_slots}
+use Rattle.nmgc_world_spec.specs.declared.value.Value.TheVariants as value
+use Rattle.nmgc_round.proofs.{Parts.idle_agrees, Olds.own_old, Standing.same_node, Fields.fixed_of_slots}
 
 -- references to these names, among these places
 abbrev Refers : (Name → Type 0) → Value → Type 0
@@ -100,21 +72,20 @@ module _ (o : Opening) (words : List ℕ) (h : CanOpen o words) where
   placed_at x old =
       let t = h.represents.tracked x.name x.node old.tracked old.node in
       let e = ap (λ (p : Place). p.at) (h.represents.one (record { at = t.at; name = x.name }) (place_of x) t.there old.there (inl refl)) in (
-        subst (λ a. IsObjectAt o.layout o.places words (record { at = a; name = x.name }) x.node) e t.object,
-        subst (λ a. HasSlots (Contains o.places) words (a + HEADER_WORDS) (slots_of x.node)) e t.fields,
-        λ w before c k. subst (λ a. HasSlots (Contains o.places) words (a + HEADER_WORDS) (free_slots before)) e (t.free w before c k),
+        rw e at t.object,
+        rw e at t.fields,
+        λ w before c k. rw e at (t.free w before c k),
       )
 
   snapshot_earlier : o.marking ≡ true → Contains (earlier o) o.core.snapshot
-  snapshot_earlier m = subst (λ (b : Bool). Contains (cond b (o.core.snapshot ∷ []) []) o.core.snapshot) (sym m) (contains_one o.core.snapshot)
+  snapshot_earlier m = rw m (contains_one o.core.snapshot)
 
   old_standing : (x : Object) → IsOld o x → IsStanding o [] W words x
   old_standing x old =
       let t = placed_at x old in
       let sized : IsSized x.node = (at_some (node_of W x.name) x.node (IsNodeOf W) old.node (h.world.nodes x.name)).sized in
       let mine = slots_among (Contains o.places) (IsIn o []) T among words (x.at + HEADER_WORDS) (slots_of x.node) (λ v c.
-      refers_if T v (λ target e. slot_tracked W (earlier o) x.name x.node target old.tracked old.node (subst (λ y.
-      Contains (slots_of x.node) (holds y)) e c))) t.1 in
+      refers_if T v (λ target e. slot_tracked W (earlier o) x.name x.node target old.tracked old.node (rw e at c))) t.1 in
       record {
         header = t.0.header;
         node = x.node;
@@ -123,11 +94,10 @@ module _ (o : Opening) (words : List ℕ) (h : CanOpen o words) where
         sized = sized;
         fields = mine;
         kept = λ before k. elim k as (λ k. IsLater before x.node × KeepsOf o x before (IsIn o []) words (x.at + HEADER_WORDS) k) [
-          | inl e ↦ subst (λ (n : Node). IsLater n x.node ×
-              HasSlots (IsIn o []) words (x.at + HEADER_WORDS) (fixed_slots n)) (sym e) (
-                same_node x.node,
-                fixed_of_slots (IsIn o []) words (x.at + HEADER_WORDS) x.node mine,
-              )
+          | inl e ↦ rw e (
+            same_node x.node,
+            fixed_of_slots (IsIn o []) words (x.at + HEADER_WORDS) x.node mine,
+          )
           | inr s ↦
               let S : World = o.core.snapshot in
               let c = snapshot_earlier s.marking in (
@@ -136,7 +106,7 @@ module _ (o : Opening) (words : List ℕ) (h : CanOpen o words) where
                     (λ v d. refers_if T v (λ target e. in_earlier S target c (field x.name target s.wide (
                       before,
                       s.there,
-                      subst (λ y. Contains (strong_fields before) y) e (free_held before v d),
+                      rw e at (free_held before v d),
                     ))))
                     (t.2 S before c s.there),
               )
@@ -161,7 +131,7 @@ module _ (o : Opening) (words : List ℕ) (h : CanOpen o words) where
       let t : T shared_name = roots shared_name (inl (inl refl)) in
       let placed = h.represents.tracked shared_name W.shared t refl in
       let at : placed.at ≡ SHARED_PLACE = elim placed.object.lies [ inl g ↦ g.1 | inr g ↦ absurd (g.0 refl) ] in
-      among (record { at = SHARED_PLACE; name = shared_name }) (subst (λ a. Contains o.places (record { at = a; name = shared_name })) at placed.there) t
+      among (record { at = SHARED_PLACE; name = shared_name }) (rw at at placed.there) t
 
   -- what a mutator has, by its words
   hand_stands : (m : ℕ) → m < length o.hands → IsHand o [] W m (hand_of o.hands m)
@@ -170,7 +140,7 @@ module _ (o : Opening) (words : List ℕ) (h : CanOpen o words) where
       let held : (v : Value) → Contains ((state_of W m).registers ++ (state_of W m).queue) v →
       Refers T v = λ v c. refers_if T v (λ name e. roots name (inl (inr (
         m,
-        subst (λ x. Contains ((state_of W m).registers ++ (state_of W m).queue) x) e c,
+        rw e at c,
       )))) in
       record {
         registers = list_among (Contains o.places) (IsIn o []) T among (hand_of o.hands m).registers (state_of W m).registers (λ v c.
@@ -232,9 +202,9 @@ module _ (o : Opening) (words : List ℕ) (h : CanOpen o words) where
       where
         part_is : (m : ℕ) (hs : List Hand) (k : ℕ) (p : Part) → get_elem? (blanks m hs) k ≡ some p → (p ≡ blank (m + k)) × (k < length hs)
         part_is m [] k p e = absurd (some-ne-none p (sym e))
-        part_is m (x ∷ hs) zero p e = (sym (some-injective (blank m) p e) ∙ ap (λ n. blank n) (let z : m ≡ m + 0 = omega arith in z), omega arith)
+        part_is m (x ∷ hs) zero p e = (cc (some-injective (blank m) p e, let z : m ≡ m + 0 = omega arith in z), omega arith)
         part_is m (x ∷ hs) (suc k) p e = let r = part_is (suc m) hs k p e in
-            (r.0 ∙ ap (λ n. blank n) (let z : suc m + k ≡ m + suc k = omega arith in z), (let lt = r.1 in omega arith))
+            (cc (r.0, let z : suc m + k ≡ m + suc k = omega arith in z), (let lt = r.1 in omega arith))
 
         first : Agrees o [] words [] (λ m. id) id id (whole o)
         first = record {
@@ -243,8 +213,8 @@ module _ (o : Opening) (words : List ℕ) (h : CanOpen o words) where
           parts = λ k p e.
               let r = part_is 0 o.hands k p e in
               let z : 0 + k ≡ k = omega arith in
-              let is : blank k ≡ p = sym (r.0 ∙ ap (λ n. blank n) z) in
-              subst (λ (q : Part). (id ≡ id) × Fits o [] o.core [] q × Rests o [] words q) is (refl, blank_fits k r.1, blank_rests k r.1);
+              let is : blank k ≡ p = sym (cc (r.0, z)) in
+              rw (← is) (refl, blank_fits k r.1, blank_rests k r.1);
           scans = λ e. (refl, tt, refl);
         }
 

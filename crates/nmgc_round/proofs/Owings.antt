@@ -1,26 +1,6 @@
 -- Words that fixed words name, and lists of words that are owed.
-use Rattle.std.proofs.Common.{◌≡◌, inl, inr, ℕ, suc, ◌+◌, ◌<◌, ◌≤◌, Bool, true, false, ◌&&◌, cond, eqb, List, [], ◌∷◌, ◌++◌, length, refl, sym, ap, subst, ◌∙◌, arith, slice_index, append-nil, eqb-true, eq-eqb}
-use Rattle.std.specs.Prelude.{Contains}
-use mathlib.Core.Option.{some}
-use lib.ListN.{get_elem?}
-use Rattle.nmgc_world_spec.specs.declared.value.Name.{Name}
-use Rattle.nmgc_world_spec.specs.declared.value.Value.{Value}
-use Rattle.nmgc_lists.specs.laws.Items.{contains_head, contains_tail, contains_cases}
-use Rattle.nmgc_object.specs.Words.{header_word}
-use Rattle.nmgc_object.specs.declared.words.Header.{Header}
-use Rattle.nmgc_world_spec.specs.Owed.{names_among}
-use Rattle.nmgc_heap_spec.specs.Shape.{size_of}
-use Rattle.nmgc_heap_spec.specs.Places.{Place, Means, AllMean, ListMeans}
-use Rattle.nmgc_heap_spec.specs.laws.Meanings.{lies_above}
-use Rattle.nmgc_round.specs.View.{FixedWord, Opening, Part, Seen}
-use Rattle.nmgc_round.specs.Objects.{Object, place_of, IsIn}
-use Rattle.nmgc_round.specs.Rule.{Owes, Rests, Keeps}
-use Rattle.nmgc_round.specs.Ready.{IsMutator, Names}
-use Rattle.nmgc_round.specs.Told.{header_at}
-use Rattle.nmgc_round.specs.Owing.{fixed_at, fixed_from, owed_words}
-use Rattle.nmgc_round.proofs.Lists.{owed_append}
-use Rattle.nmgc_round.proofs.Refusals.{header_there}
-use Rattle.nmgc_lists.specs.laws.Truths.{and_both}
+use Rattle.nmgc_round.proofs.Vocabulary.{◌≡◌, inl, inr, ℕ, suc, ◌+◌, ◌<◌, ◌≤◌, Bool, true, false, ◌&&◌, cond, eqb, List, [], ◌∷◌, ◌++◌, length, refl, sym, ap, ◌∙◌, arith, slice_index, append-nil, eqb-true, eq-eqb, Contains, some, get_elem?, Name, Value, contains_head, contains_tail, contains_cases, and_both, header_word, Header, names_among, size_of, Place, AllMean, ListMeans, lies_above, FixedWord, Opening, Part, Seen, Object, place_of, IsIn, Owes, Rests, Keeps, IsMutator, Names, header_at, fixed_at, fixed_from, owed_words}
+use Rattle.nmgc_round.proofs.{Lists.owed_append, Refusals.header_there}
 
 -- the word that is named is the one that all such fixed words have
 pub fixed_there : (fixed : List FixedWord) (at offset n w : ℕ) → ((f : FixedWord) → Contains fixed f → f.at ≡ at → f.offset ≡ offset → f.word ≡ w) →
@@ -35,8 +15,7 @@ fixed_there (f ∷ fs) at offset n w stand c = by_test (eqb f.at at && eqb f.off
         stand f (contains_head f fs) (eqb-true f.at at t.0) (eqb-true f.offset offset t.1)
     by_test false e rec = elim (contains_cases f fs (record { at = at; offset = offset; word = n }) c) [
       | inl same ↦
-          let yes : (eqb f.at at && eqb f.offset offset) ≡ true = ap (λ (g : FixedWord). eqb g.at at && eqb g.offset offset) same ∙
-          ap (λ (b : Bool). b && eqb offset offset) (eq-eqb at at refl) ∙ eq-eqb offset offset refl in
+          let yes : (eqb f.at at && eqb f.offset offset) ≡ true = cc (same, eq-eqb at at refl, eq-eqb offset offset refl) in
           let bad : true ≡ false = sym yes ∙ e in
           absurd cc
       | inr d ↦ rec d
@@ -49,12 +28,12 @@ pub named_list : (P : Place → Type 0) (fixed : List FixedWord) (words : List �
 named_list P fixed words at from offset [] stand means = tt
 named_list P fixed words at from offset (x ∷ values) stand means =
     let z : offset + 0 ≡ offset = omega arith in
-    let first : slice_index words (from + 0) ≡ fixed_at fixed at offset = sym (stand 0 (omega arith)) ∙ ap (λ k. fixed_at fixed at k) z in (
-      subst (λ w. Means P w x) first (means 0 x refl),
+    let first : slice_index words (from + 0) ≡ fixed_at fixed at offset = cc (stand 0 (omega arith), z) in (
+      rw first at (means 0 x refl),
       named_list P fixed words at (from + 1) (offset + 1) values
           (λ i lt. let a : offset + 1 + i ≡ offset + suc i = omega arith in let b : from + suc i ≡ from + 1 + i = omega arith in
-          ap (λ k. fixed_at fixed at k) a ∙ stand (suc i) (omega arith) ∙ ap (λ k. slice_index words k) b)
-          (λ i v e. let b : from + suc i ≡ from + 1 + i = omega arith in subst (λ k. Means P (slice_index words k) v) b (means (suc i) v e)),
+          cc (a, stand (suc i) (omega arith), b))
+          (λ i v e. let b : from + suc i ≡ from + 1 + i = omega arith in rw b at (means (suc i) v e)),
     )
 
 module _ (o : Opening) (words : List ℕ) (views : List Seen) (h : Keeps o words views) (id : ℕ) (v : Seen) (here : get_elem? views id ≡

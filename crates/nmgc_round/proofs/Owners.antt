@@ -1,19 +1,5 @@
 -- The own stacks of a hand, where nodes or hands change.
-use Rattle.std.proofs.Common.{◌≡◌, ◌≢◌, inl, inr, ℕ, List, [], sym, ap, subst, ◌∙◌, Some}
-use Rattle.nmgc_world_spec.specs.declared.value.Name.{Name}
-use Rattle.nmgc_world_spec.specs.declared.value.Value.{Value}
-use Rattle.nmgc_world_spec.specs.declared.node.Node.{Node}
-use Rattle.nmgc_world_spec.specs.declared.node.Node.TheVariants.{Con, Var, Arr, Thunk, Weak, Stack}
-use Rattle.nmgc_world_spec.specs.World.{World, node_of}
-use Rattle.nmgc_object.specs.declared.words.Header.{Header}
-use Rattle.nmgc_heap_spec.specs.Shape.{header_of}
-use Rattle.nmgc_heap_spec.specs.Places.{Place, ListMeans}
-use Rattle.std.proofs.lemmas.Bool.{cases_eq}
-use Rattle.nmgc_round.specs.View.{Slots, Hand, Opening}
-use Rattle.nmgc_round.specs.Objects.{Object, place_of, IsObject, IsIn, RepresentsInRound}
-use Rattle.nmgc_round.specs.Own.{slots_at, HasStack, OwnSlots}
-use Rattle.nmgc_round.proofs.Standing.{placed}
-use Rattle.nmgc_round.proofs.Fields.{list_more}
+use Rattle.nmgc_round.proofs.{Vocabulary.◌≡◌, Vocabulary.◌≢◌, Vocabulary.inl, Vocabulary.inr, Vocabulary.ℕ, Vocabulary.List, Vocabulary.[], Vocabulary.sym, Vocabulary.ap, Vocabulary.◌∙◌, Vocabulary.Some, Vocabulary.Name, Vocabulary.Value, Vocabulary.Node, Vocabulary.Con, Vocabulary.Var, Vocabulary.Arr, Vocabulary.Thunk, Vocabulary.Weak, Vocabulary.Stack, Vocabulary.World, Vocabulary.node_of, Vocabulary.Header, Vocabulary.header_of, Vocabulary.Place, Vocabulary.cases_eq, Vocabulary.Hand, Vocabulary.Opening, Vocabulary.Object, Vocabulary.place_of, Vocabulary.IsObject, Vocabulary.IsIn, Vocabulary.RepresentsInRound, Vocabulary.slots_at, Vocabulary.OwnSlots, Standing.placed, Fields.list_more}
 
 -- a node with a stack's header is one
 pub stack_of : (n : Node) (size : ℕ) (values : List Value) → header_of n ≡ header_of (Stack size values) → (vs : List Value) × (n ≡ Stack size vs)
@@ -29,7 +15,7 @@ pub own_kept : (o : Opening) (born : List Object) (w u : World) (m : ℕ) (h k :
     ((n : Name) (size : ℕ) (values : List Value) → node_of u n ≡ Some (Stack size values) → node_of w n ≡ Some (Stack size values)) →
     OwnSlots o born w m h → OwnSlots o born u m k
 own_kept o born w u m h k same before own x size values hx mine there =
-    subst (λ (l : List Slots). HasStack o born l x.at values) (sym same) (own x size values hx mine (before x.name size values there))
+    rw same (own x size values hx mine (before x.name size values there))
 
 -- an object more, whose stack is empty if it is one
 pub own_born : (o : Opening) (born more : List Object) (w u : World) (ws : List ℕ) → RepresentsInRound o more u ws →
@@ -41,8 +27,8 @@ pub own_born : (o : Opening) (born more : List Object) (w u : World) (ws : List 
 own_born o born more w u ws st m h k x hx grow before others first nodes own y size values hy mine there = elim (cases_eq y.at x.at) [
   | inl e ↦
       let one : place_of y ≡ place_of x = st.one (place_of y) (place_of x) (placed o more y hy) (placed o more x hx) (inr e) in
-      let t = first size values (subst (λ n. node_of u n ≡ Some (Stack size values)) (ap (λ (p : Place). p.name) one) there) in
-      ([], ap (λ a. slots_at k.stacks a) e ∙ t.1, subst (λ l. ListMeans (IsIn o more) [] l) (sym t.0) tt)
+      let t = first size values (rw (ap (λ (p : Place). p.name) one) at there) in
+      ([], cc (e, t.1), rw t.0 tt)
   | inr ne ↦
       let apart : y.name ≡ x.name → ⊥ = λ same. ne (ap (λ (p : Place).
       p.at) (st.one (place_of y) (place_of x) (placed o more y hy) (placed o more x hx) (inl same))) in

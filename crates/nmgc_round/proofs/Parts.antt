@@ -1,19 +1,8 @@
 -- Seats are split and joined, and a seat with every part ends the round.
-use Rattle.std.proofs.Common.{◌≡◌, ◌≢◌, ◌⊎◌, inl, inr, ⊎_elim, ℕ, zero, suc, ◌<◌, Bool, true, false, cond, ◌||◌, ◌==◌, List, [], ◌∷◌, ◌++◌, length, refl, sym, ap, ◌∙◌, subst, set, arith, eq-eqb, ne_eqb, length-set, true≢false}
-use mathlib.Core.Option.{some, some-injective, some-ne-none}
-use lib.ListN.{get_elem?}
-use Rattle.atomic_table.specs.Table.{State, Splits, Joins}
-use Rattle.atomic_table.proofs.Lists.{at_set}
-use Rattle.nmgc_object.specs.Places.{word_total}
-use Rattle.nmgc_round.specs.Events.{Happening, done_by, scans_in}
-use Rattle.nmgc_round.specs.Marking.{marks_of, marks_after}
-use Rattle.nmgc_round.specs.View.{Opening, Part, Seen, exclusive, nobody}
-use Rattle.nmgc_round.specs.Objects.{Object, IsIn}
-use Rattle.nmgc_round.specs.Added.{Stays}
-use Rattle.nmgc_round.specs.Rule.{now, AllRead, Fits, Rests, IsActive, IsIdle, Agrees, Keeps, Stopped}
-use Rattle.nmgc_round.specs.Finishing.{IsFinished, HasAll}
-use Rattle.nmgc_round.specs.Seating.{but_first, first_alone, keeps_rest, gives_first, mutates, collecting, together, CanSplit}
+use Rattle.nmgc_round.proofs.Vocabulary.{◌≡◌, ◌≢◌, ◌⊎◌, inl, inr, ⊎_elim, ℕ, zero, suc, ◌<◌, Bool, true, false, cond, ◌||◌, ◌==◌, List, [], ◌∷◌, ◌++◌, length, refl, sym, ap, ◌∙◌, subst, set, arith, eq-eqb, ne_eqb, length-set, true≢false, some, some-injective, some-ne-none, get_elem?, Splits, Joins, at_set, word_total, Happening, done_by, scans_in, marks_of, marks_after, Opening, Part, Seen, exclusive, nobody, Object, IsIn, Stays, now, AllRead, Fits, Rests, IsActive, IsIdle, Agrees, Keeps, Stopped, IsFinished, HasAll, keeps_rest, gives_first, mutates, collecting, together, CanSplit}
+use Rattle.atomic_table.specs.Table.{State}
 use Rattle.nmgc_round.proofs.Keeping.{only_one}
+use Rattle.nmgc_lists.specs.laws.Truths.{false_of}
 
 module _ {A : Type 0} where
   -- at the last place, or before
@@ -41,9 +30,8 @@ pub idle_agrees : (o : Opening) (born : List Object) (words : List ℕ) (es : Li
     Agrees o born words es owner scanner id v
 idle_agrees o born words es owner scanner id v idle = record {
   shares = idle.0;
-  opening = λ a. absurd (⊎_elim (λ (t : (k : ℕ) × (p : Part) × (get_elem? v.parts k ≡ some p)). some-ne-none t.1 (sym t.2 ∙
-      ap (λ l. get_elem? l t.0) idle.1)) (λ (on : v.collects ≡ true). true≢false (sym on ∙ idle.2)) a);
-  parts = λ k p e. absurd (some-ne-none p (sym e ∙ ap (λ l. get_elem? l k) idle.1));
+  opening = λ a. absurd (⊎_elim (λ (t : (k : ℕ) × (p : Part) × (get_elem? v.parts k ≡ some p)). some-ne-none t.1 (cc (t.2, idle.1))) (λ (on : v.collects ≡ true). true≢false (sym on ∙ idle.2)) a);
+  parts = λ k p e. absurd (some-ne-none p (cc (e, idle.1)));
   scans = λ on. absurd (true≢false (sym on ∙ idle.2));
 }
 
@@ -85,8 +73,8 @@ module _ (o : Opening) where
                 shares = g.shares;
                 opening = λ _. is_o;
                 parts = λ k q e.
-                    let e' : get_elem? ps k ≡ some q = ap (λ l. get_elem? l k) (sym (ap but_first can.2)) ∙ e in
-                    let f = g.parts (suc k) q (ap (λ l. get_elem? l (suc k)) can.2 ∙ e') in
+                    let e' : get_elem? ps k ≡ some q = cc (can.2, e) in
+                    let f = g.parts (suc k) q (cc (can.2, e')) in
                     (is_old q.number p.number n (h.owner q.number) (can.3 k q e') ∙ f.0, f.1, f.2);
                 scans = g.scans;
               }))
@@ -113,7 +101,7 @@ module _ (o : Opening) where
                       is_new p.number p.number n (h.owner p.number) refl,
                       mine.1,
                       mine.2,
-                    ) k q (ap (λ l. get_elem? l k) (sym (ap first_alone can.2)) ∙ e);
+                    ) k q (cc (can.2, e));
                 scans = λ off. absurd (true≢false (sym off));
               }))
               (at_end (set s.views id left) right u j at);
@@ -283,23 +271,19 @@ module _ (o : Opening) where
     owned : (m : ℕ) → m < o.layout.mutators → h.owner m ≡ id
     owned m l =
         let e = h.is.mutators in
-        let t = all.1 m (subst (λ (y : Opening). m < length y.core.world.mutators) (sym is_o) (omega arith)) in
+        let t = all.1 m (rw is_o (omega arith)) in
         ap h.owner (sym t.3) ∙ ((h.agrees id v here).parts t.0 t.1 t.2).0
 
     none_there : (l : List Part) → ((k : ℕ) (p : Part) → get_elem? l k ≡ some p → ⊥) → l ≡ []
     none_there [] f = refl
     none_there (p ∷ ps) f = absurd (f 0 p refl)
 
-    is_off : (b : Bool) → (b ≡ true → ⊥) → b ≡ false
-    is_off true f = absurd (f refl)
-    is_off false f = refl
-
     alone_left : (j : ℕ) (u : Seen) → j ≢ id → get_elem? views j ≡ some u → IsIdle u
     alone_left j u n at =
         let f = h.agrees j u at in (
           f.shares,
           none_there u.parts (λ k p e. let t = f.parts k p e in n (sym t.0 ∙ owned p.number t.2.exists)),
-          is_off u.collects (λ on. n (sym (f.scans on).0 ∙ ((h.agrees id v here).scans all.0).0)),
+          false_of u.collects (λ on. n (sym (f.scans on).0 ∙ ((h.agrees id v here).scans all.0).0)),
         )
 
     pub closes : Stopped words (set views id (exclusive words))
@@ -335,4 +319,4 @@ module _ (o : Opening) where
     ends = subst (λ (y : Opening). IsFinished y words v) (sym is_o) ends_law.0
 
     pub long : length words ≡ word_total v.opening.layout
-    long = h.stands.total ∙ ap (λ (y : Opening). word_total y.layout) (sym is_o)
+    long = cc (h.stands.total, is_o)

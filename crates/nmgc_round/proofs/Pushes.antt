@@ -1,60 +1,10 @@
 -- A load and a swap of a slot of an own stack keep the rule.
-use Rattle.std.proofs.Common.{◌≡◌, ◌≢◌, inl, inr, ℕ, ◌+◌, ◌-◌, ◌/◌, ◌<◌, ◌≤◌, true, cond, eqb, eq-eqb, List, [], ◌∷◌, ◌++◌, length, take, get_or, set, refl, sym, ap, subst, ◌∙◌, arith, slice_index, Some, lt-ltb, le-ltb, length-append}
-use Rattle.std.specs.Prelude.{slice_get, option_to_list}
-use Rattle.std.proofs.lemmas.Bool.{cases_lt}
-use Rattle.std.proofs.lemmas.Option.{slice_get-get_or}
-use mathlib.Core.Option.{some}
-use lib.ListN.{get_elem?}
-use Rattle.nmgc_world_spec.specs.declared.value.Name.{Name}
-use Rattle.nmgc_world_spec.specs.declared.value.Value.{Value}
+use Rattle.nmgc_round.proofs.Vocabulary.{◌≡◌, ◌≢◌, inl, inr, ℕ, ◌+◌, ◌-◌, ◌/◌, ◌<◌, ◌≤◌, true, eqb, eq-eqb, List, [], ◌∷◌, ◌++◌, length, take, get_or, set, refl, sym, ap, subst, ◌∙◌, arith, slice_index, Some, lt-ltb, le-ltb, length-append, slice_get, cases_lt, slice_get-get_or, some, get_elem?, Name, Value, Node, Con, Var, Arr, Thunk, Weak, Stack, Change, MutatorState, Operand, Command, Push, Pop, Reply, World, state_of, node_of, IsSized, given_or, stack_pushed, stack_popped, without_last, last_of, value_for, with_node, with_register, world_holding, keeping, step, top_held, names_among, owed_by, name_cases, name_word, Header, HEADER_WORDS, State, names_of, as_many, nodes_kept, header_of, slots_of, Place, Means, AllMean, HasSlots, ListMeans, AreUnset, fields_of_slots, slots_of_fields, same_header, plain, word, Hand, Opening, Part, Seen, with_slots, holding, hand_now, leaves, doing, finding, answered, owed_word, done_by, slots_at, OwnSlots, Object, place_of, IsObject, IsIn, now, IsHand, Fits, Rests, Keeps, Stays, AddsCommand, IsMutator, Names, operand_word, IsSafe, IsOwn, CanPeek, TellsSlot, CanPush, CanPop, CanSlot, slot_swapped, IsRefusedSlot, slot_refusal_reply, slots_same, slots_other}
 use Rattle.nmgc_world_spec.specs.declared.value.Value.TheVariants as value
 use Rattle.nmgc_world_spec.specs.declared.node.Kind.TheVariants as kind
-use Rattle.nmgc_world_spec.specs.declared.node.Node.{Node}
-use Rattle.nmgc_world_spec.specs.declared.node.Node.TheVariants.{Con, Var, Arr, Thunk, Weak, Stack}
-use Rattle.nmgc_world_spec.specs.declared.change.Change.{Change}
 use Rattle.nmgc_world_spec.specs.declared.change.Change.TheVariants as change
-use Rattle.nmgc_world_spec.specs.declared.mutator_state.MutatorState.{MutatorState}
-use Rattle.nmgc_world_spec.specs.declared.command.Operand.{Operand}
-use Rattle.nmgc_world_spec.specs.declared.command.Command.{Command}
-use Rattle.nmgc_world_spec.specs.declared.command.Command.TheVariants.{Push, Pop}
-use Rattle.nmgc_world_spec.specs.declared.command.Reply.{Reply}
 use Rattle.nmgc_world_spec.specs.declared.command.Reply.TheVariants as reply
-use Rattle.nmgc_world_spec.specs.World.{World, state_of, node_of, IsSized}
-use Rattle.nmgc_world_spec.specs.Change.{given_or, stack_pushed, stack_popped, without_last, last_of}
-use Rattle.nmgc_world_spec.specs.laws.Orders.{name_cases}
-use Rattle.nmgc_world_spec.specs.Step.{value_for, with_node, with_register, holding as world_holding, keeping, change_object, change_node, change_into, step}
-use Rattle.nmgc_object.specs.Words.{name_word}
-use Rattle.nmgc_object.specs.declared.words.Header.{Header}
-use Rattle.nmgc_object.specs.declared.size.TheConstants.{HEADER_WORDS}
-use Rattle.nmgc_snapshot_laws.specs.State.{State, names_of}
-use Rattle.nmgc_world_spec.specs.Owed.{top_held, owed_of, owed_at, names_among, owed_by}
-use Rattle.nmgc_world_laws.specs.laws.NodeLaws.{as_many, nodes_kept}
-use Rattle.nmgc_heap_spec.specs.Shape.{header_of, slots_of, MayChange}
-use Rattle.nmgc_heap_spec.specs.Places.{Place, Means, AllMean, HasSlots, ListMeans}
-use Rattle.nmgc_heap_spec.specs.laws.Kinds.{AreUnset, fields_of_slots, slots_of_fields}
-use Rattle.nmgc_round.specs.View.{plain, word, Slots, Hand, Opening, Part, Seen, with_slots, holding, hand_now, leaves, doing, finding, first_changed, answered, owed_word}
-use Rattle.nmgc_round.specs.Events.{done_by}
-use Rattle.nmgc_round.specs.Own.{slots_at, HasStack, OwnSlots}
-use Rattle.nmgc_round.specs.Objects.{Object, place_of, IsLater, IsObject, IsIn}
-use Rattle.nmgc_round.specs.Rule.{now, Owes, IsHand, Fits, Rests, Keeps}
-use Rattle.nmgc_round.specs.Added.{Stays, AddsCommand}
-use Rattle.nmgc_round.specs.Ready.{IsMutator, CanGive, Names, operand_word}
-use Rattle.nmgc_round.specs.Told.{IsSafe}
-use Rattle.nmgc_round.specs.Stacks.{IsOwn, CanPeek, TellsSlot, CanPush, CanPop, CanSlot, slot_swapped, IsRefusedSlot, slot_refusal_reply}
-use Rattle.nmgc_round.proofs.Standing.{placed}
-use Rattle.nmgc_round.proofs.Lists.{list_append}
-use Rattle.nmgc_round.proofs.Frames.{IsSameState, node_frame}
-use Rattle.nmgc_round.proofs.Scans.{means_some}
-use Rattle.nmgc_round.proofs.Fixes.{safe_word}
-use Rattle.nmgc_round.proofs.Refusals.{one_word, one_maker}
-use Rattle.nmgc_round.proofs.Keeping.{same_law}
-use Rattle.nmgc_round.proofs.Moves.{meant, operand_is, inside, same_opening, owes_nothing, finds_same, owes_old, still_law, hand_kept as moves_kept}
-use Rattle.nmgc_round.proofs.Writes.{Changes, field_law, node_now, node_again}
-use Rattle.nmgc_heap_spec.specs.laws.Headers.{same_header}
-use Rattle.nmgc_round.proofs.Owings.{above, named_header}
-use Rattle.nmgc_round.proofs.Weakens.{register_in}
-use Rattle.nmgc_round.specs.laws.Slots.{slots_same, slots_other}
-use Rattle.nmgc_round.proofs.Slotting.{past, last_apart, as_long, list_at, front_means, all_pushed, all_popped, unset_pushed, unset_popped}
+use Rattle.nmgc_round.proofs.{Standing.placed, Lists.list_append, Frames.IsSameState, Frames.node_frame, Scans.means_some, Fixes.safe_word, Refusals.one_word, Refusals.one_maker, Keeping.same_law, Moves.meant, Moves.operand_is, Moves.inside, Moves.same_opening, Moves.owes_nothing, Moves.finds_same, Moves.owes_old, Moves.hand_kept as moves_kept, Writes.Changes, Writes.field_law, Writes.node_now, Writes.node_again, Writes.still_law, Owings.above, Owings.named_header, Weakens.register_in, Slotting.past, Slotting.last_apart, Slotting.as_long, Slotting.list_at, Slotting.front_means, Slotting.all_pushed, Slotting.all_popped, Slotting.unset_pushed, Slotting.unset_popped}
 
 -- a node of a stack's kind is one
 stack_kind : (n : Node) → (header_of n).kind ≡ kind.Stack → (size : ℕ) × (values : List Value) × (n ≡ Stack size values)
@@ -75,27 +25,26 @@ step_push : (w : World) (m : ℕ) (object v : Operand) (name : Name) (found made
     node_of w name ≡ Some found → stack_pushed (eqb name.maker m) found (value_for w m v) ≡ (made, r) → step w m (Push object v) ≡ (with_node w name made, r)
 step_push w m object v name found made r is there does =
     let c : Change = change.Push m (value_for w m v) in
-    ap (λ y. change_object w y c) is ∙ ap (λ o. change_node w name o c) there ∙ ap (λ (r : Node × Reply). (with_node w name r.0, r.1)) does
+    rw (is, there, does)
 
 owes_push : (w : World) (m : ℕ) (object v : Operand) (name : Name) (found : Node) → value_for w m object ≡ value.Ref name →
     node_of w name ≡ Some found → owed_by w m (Push object v) ≡ []
 owes_push w m object v name found is there =
     let c : Change = change.Push m (value_for w m v) in
-    ap (λ y. names_among (owed_of w y c)) is ∙ ap (λ o. names_among (owed_at c name o)) there
+    cc (is, there)
 
 -- `pop` off a stack
 step_pop : (w : World) (m dest : ℕ) (object : Operand) (name : Name) (found made : Node) (r : Reply) → value_for w m object ≡ value.Ref name →
     node_of w name ≡ Some found → stack_popped (eqb name.maker m) found ≡ (made, r) → step w m (Pop dest object) ≡ (keeping (with_node w name made) m dest r, r)
 step_pop w m dest object name found made r is there does =
     let c : Change = change.Pop m in
-    ap (λ y. change_into m dest (change_object w y c)) is ∙ ap (λ o. change_into m dest (change_node w name o c)) there ∙
-    ap (λ (r : Node × Reply). change_into m dest (with_node w name r.0, r.1)) does
+    rw (is, there, does)
 
 owes_pop : (w : World) (m dest : ℕ) (object : Operand) (name : Name) (found : Node) → value_for w m object ≡ value.Ref name →
     node_of w name ≡ Some found → owed_by w m (Pop dest object) ≡ names_among (top_held (eqb name.maker m) found)
 owes_pop w m dest object name found is there =
     let c : Change = change.Pop m in
-    ap (λ y. names_among (owed_of w y c)) is ∙ ap (λ o. names_among (owed_at c name o)) there
+    cc (is, there)
 
 module _ (o : Opening) (words : List ℕ) (views : List Seen) (h : Keeps o words views) (id : ℕ) (v : Seen) (here : get_elem? views id ≡
     some v) (p : Part) (is : IsMutator v p) where
@@ -140,14 +89,14 @@ module _ (o : Opening) (words : List ℕ) (views : List Seen) (h : Keeps o words
       let x = m.object in
       let st = h.stands.objects x m.there in
       let head : header_of st.node ≡ stack.header = st.later.header ∙ m.head in
-      let t = stack_kind st.node (ap (λ (k : Header). k.kind) head ∙ stack.is_stack) in
-      let node_there : node_of W x.name ≡ Some (Stack t.0 t.1) = st.there ∙ ap (λ (n : Node). Some n) t.2 in
+      let t = stack_kind st.node (cc (head, stack.is_stack)) in
+      let node_there : node_of W x.name ≡ Some (Stack t.0 t.1) = cc (st.there, t.2) in
       let named = h.stands.named (place_of x) (placed o h.born x m.there) in
       let told = rests.fixed (record { at = at; offset = 1; word = name_word stack.name }) stack.named in
-      let same : name_word x.name ≡ name_word stack.name = sym named.name ∙ ap (λ a. slice_index words (a + 1)) m.is_at ∙ told.1 in
+      let same : name_word x.name ≡ name_word stack.name = cc (named.name, m.is_at, told.1) in
       let mine : x.name.maker ≡ p.number = one_maker x.name stack.name named.valid stack.valid same ∙ stack.own in
       let fields = fields_of_slots P words (at + HEADER_WORDS) (Stack t.0 t.1) (subst (λ (n : Node).
-      HasSlots P words (at + HEADER_WORDS) (slots_of n)) t.2 (subst (λ a. HasSlots P words (a + HEADER_WORDS) (slots_of st.node)) m.is_at st.fields)) in
+      HasSlots P words (at + HEADER_WORDS) (slots_of n)) t.2 (rw m.is_at at st.fields)) in
       let own = fits.own x t.0 t.1 m.there mine node_there in
       record {
         thing = x;
@@ -165,7 +114,7 @@ module _ (o : Opening) (words : List ℕ) (views : List Seen) (h : Keeps o words
         means = fields.0;
         unset = fields.1;
         slots = own.0;
-        listed = ap (λ a. slots_at (hand_now o p).stacks a) (sym m.is_at) ∙ own.1;
+        listed = cc (m.is_at, own.1);
         list = own.2;
       }
 
@@ -217,8 +166,8 @@ module _ (o : Opening) (words : List ℕ) (views : List Seen) (h : Keeps o words
   stack_hand at u g same =
       let k = fits.hand in
       record {
-        registers = subst (λ l. ListMeans P (hand_now o p).registers l) (sym same.registers) k.registers;
-        queue = subst (λ l. ListMeans P (hand_now o p).queue l) (sym same.queue) k.queue;
+        registers = rw same.registers k.registers;
+        queue = rw same.queue k.queue;
         serial = k.serial ∙ sym same.serial;
       }
 
@@ -228,17 +177,16 @@ module _ (o : Opening) (words : List ℕ) (views : List Seen) (h : Keeps o words
       node_of u f.thing.name ≡ Some made → ((n : Name) → (n ≡ f.thing.name → ⊥) → node_of u n ≡ node_of W n)
       → ((ws : List ℕ) → ListMeans P ws f.values → ListMeans P (g ws) values) → OwnSlots o h.born u p.number k
   stack_own at stack f made u g values k stacks is_made mine others more y size vs hy own there =
-      subst (λ (l : List Slots). HasStack o h.born l y.at vs) (sym stacks) (elim (name_cases y.name f.thing.name) [
+      rw stacks (elim (name_cases y.name f.thing.name) [
         | inl e ↦
             let one : place_of y ≡ place_of f.thing =
             h.stands.one (place_of y) (place_of f.thing) (placed o h.born y hy) (placed o h.born f.thing f.there) (inl e) in
             let at_one : y.at ≡ at = ap (λ (q : Place). q.at) one ∙ f.is_at in
-            let both : Some (Stack f.size values) ≡ Some (Stack size vs) = ap (λ (n : Node). Some n) (sym is_made) ∙ sym mine ∙
-            ap (λ n. node_of u n) (sym e) ∙ there in
+            let both : Some (Stack f.size values) ≡ Some (Stack size vs) = cc (is_made, mine, e, there) in
             let held : values ≡ vs = cc in (
               g f.slots,
-              ap (λ a. slots_at (with_slots (hand_now o p).stacks at g) a) at_one ∙ slots_same (hand_now o p).stacks at g f.slots f.listed,
-              subst (λ l. ListMeans P (g f.slots) l) held (more f.slots f.list),
+              cc (at_one, slots_same (hand_now o p).stacks at g f.slots f.listed),
+              rw held at (more f.slots f.list),
             )
         | inr ne ↦
             let apart : y.at ≢ at = λ e.
@@ -257,7 +205,7 @@ module _ (o : Opening) (words : List ℕ) (views : List Seen) (h : Keeps o words
       let object : Operand = can.stack.object in
       let val : Value = value_for W p.number can.value in
       let C : Command = Push object can.value in
-      let means : Means P w val = subst (λ n. Means P n val) can.value_word (operand_is o words views h id v here p is can.value) in
+      let means : Means P w val = rw can.value_word at (operand_is o words views h id v here p is can.value) in
       let top : slot ≡ length f.values = can.first f.slots f.listed ∙ as_long P f.slots f.values f.list in
       let made : Node = Stack f.size (f.values ++ val ∷ []) in
       let u : World = with_node W x.name made in
@@ -270,27 +218,24 @@ module _ (o : Opening) (words : List ℕ) (views : List Seen) (h : Keeps o words
       let count : (header_of x.node).fields ≡ f.size = ap (λ (k : Header). k.fields) f.head in
       let room : at + HEADER_WORDS + length f.values < length words = omega arith in
       let pushes : stack_pushed (eqb x.name.maker p.number) st.node val ≡ (made, reply.Fine) =
-      ap (λ b. stack_pushed b st.node val) (eq-eqb x.name.maker p.number f.mine) ∙ ap (λ n. stack_pushed true n val) f.node_is ∙
-      ap (λ b. cond {A = Node × Reply} b (made, reply.Fine) (Stack f.size f.values, reply.StackFull)) (lt-ltb (length f.values) f.size lt) in
+      cc (eq-eqb x.name.maker p.number f.mine, f.node_is, lt-ltb (length f.values) f.size lt) in
       let does : step W p.number C ≡ (u, reply.Fine) = step_push W p.number object can.value x.name st.node made reply.Fine f.refers st.there pushes in
       let owes : owed_by W p.number C ≡ [] = owes_push W p.number object can.value x.name st.node f.refers st.there in
       let now_ = node_now o words views h id v here p is x f.there made in
       let all : AllMean P (set words (at + HEADER_WORDS + length f.values) w) (at + HEADER_WORDS) (f.values ++ val ∷ []) =
       all_pushed P words (at + HEADER_WORDS) w f.values val room f.means means in
       let rest : AreUnset (set words (at + HEADER_WORDS + length f.values) w) (at + HEADER_WORDS) (length (f.values ++ val ∷ [])) f.size =
-      subst (λ n. AreUnset (set words (at + HEADER_WORDS + length f.values) w) (at + HEADER_WORDS) n f.size) (sym long)
-      (unset_pushed words (at + HEADER_WORDS) w (length f.values) f.size f.unset) in
+      rw long (unset_pushed words (at + HEADER_WORDS) w (length f.values) f.size f.unset) in
       let fields : HasSlots P (set words (at + HEADER_WORDS + slot) w) (at + HEADER_WORDS) (slots_of made) =
-      subst (λ n. HasSlots P (set words (at + HEADER_WORDS + n) w) (at + HEADER_WORDS) (slots_of made)) (sym top)
-      (slots_of_fields P (set words (at + HEADER_WORDS + length f.values) w) (at + HEADER_WORDS) made (all, rest)) in
+      rw top (slots_of_fields P (set words (at + HEADER_WORDS + length f.values) w) (at + HEADER_WORDS) made (all, rest)) in
       let ch : Changes o words views h id v here p is x f.there slot w made u = record {
         within = omega arith;
-        may = subst (λ (k : Header). MayChange k.kind slot) (sym f.head) tt;
-        later = subst (λ (n : Node). IsLater n made) (sym f.node_is) (record { header = refl; free = refl; result = λ e. e; alive = λ parts e. absurd cc });
+        may = rw f.head tt;
+        later = rw f.node_is (record { header = refl; free = refl; result = λ e. e; alive = λ parts e. absurd cc });
         sized = omega arith;
         mine = now_.0;
         others = now_.1;
-        fields = subst (λ a. HasSlots P (set words (a + HEADER_WORDS + slot) w) (a + HEADER_WORDS) (slots_of made)) (sym f.is_at) fields;
+        fields = rw f.is_at fields;
         stacks = λ size values e. f.mine;
       } in
       let g : List ℕ → List ℕ = λ ws. ws ++ w ∷ [] in
@@ -302,23 +247,11 @@ module _ (o : Opening) (words : List ℕ) (views : List Seen) (h : Keeps o words
         half i,
         can.value_word i,
       )) in
-      subst (λ (d : Command).
-      AddsCommand o words views h p.number d (set words (at + HEADER_WORDS + slot) w) (set views id (answered v d (plain reply.Fine)))) (sym can.command)
-      (subst (λ l. AddsCommand o words views h p.number C (set words (at + HEADER_WORDS + slot) w) (set views id (record v {
-        parts =
-            first_changed (λ q. doing q C (plain reply.Fine) []) l;
-      }))) (sym is.alone)
-      (subst (λ a. AddsCommand o words views h p.number C (set words (a + HEADER_WORDS + slot) w) (set views id (record v {
-        parts =
-            doing p C (plain reply.Fine) [] ∷ [];
-      }))) f.is_at
-      (field_law o words views h id v here p is x f.there slot w made C reply.Fine (plain reply.Fine) u p.found [] ch
-      (subst (λ (d : Command). CanGive o p d) can.command can.gives) does refl
-      (subst (λ (k : Hand). IsHand o h.born u p.number k) (sym left) (stack_hand at u g (node_frame W x.name st.node made st.there p.number)))
-      (subst (λ ns. Owes o.marking P (p.owed ++ []) (names_of S.owed p.number ++
-      ns)) (sym owes) (owes_nothing o words views h id v here p is o.marking p.owed (names_of S.owed p.number) fits.owed))
-      (subst (λ ns. Owes true P p.found (names_of S.owed p.number ++
-      ns)) (sym owes) (finds_same o words views h id v here p is p.found (names_of S.owed p.number) fits.found))
+      rw can.command (rw is.alone (rw f.is_at at (field_law o words views h id v here p is x f.there slot w made C reply.Fine (plain reply.Fine) u p.found [] ch
+      (rw can.command at can.gives) does refl
+      (rw left (stack_hand at u g (node_frame W x.name st.node made st.there p.number)))
+      (rw owes (owes_nothing o words views h id v here p is o.marking p.owed (names_of S.owed p.number) fits.owed))
+      (rw owes (finds_same o words views h id v here p is p.found (names_of S.owed p.number) fits.found))
       (stack_own at can.stack f made u g (f.values ++ val ∷ []) (leaves (hand_now o p) C (plain reply.Fine)) (ap (λ (k : Hand).
       k.stacks) left) refl now_.0 now_.1 more))))
 
@@ -348,7 +281,7 @@ module _ (o : Opening) (words : List ℕ) (views : List Seen) (h : Keeps o words
               front_is = r.3;
               last_is = r.4;
               depth = depth;
-              means = f.means slot r.1 (ap (λ k. slice_get f.values k) (sym last) ∙ r.4);
+              means = f.means slot r.1 (cc (last, r.4));
             }
       ]
 
@@ -378,24 +311,22 @@ module _ (o : Opening) (words : List ℕ) (views : List Seen) (h : Keeps o words
       (λ i. (Stack f.size (t.front_is i), given_or reply.StackEmpty (t.last_is i))) in
       let does : step W p.number C ≡ (v', reply.Given t.top) =
       step_pop W p.number can.dest object x.name st.node made (reply.Given t.top) f.refers st.there pops in
-      let owes : owed_by W p.number C ≡ names_among (t.top ∷ []) = owes_pop W p.number can.dest object x.name st.node f.refers st.there ∙
-      ap (λ b. names_among (top_held b st.node)) (eq-eqb x.name.maker p.number f.mine) ∙ ap (λ n. names_among (top_held true n)) f.node_is ∙
-      ap (λ l. names_among (option_to_list l)) t.last_is in
+      let owes : owed_by W p.number C ≡ names_among (t.top ∷ []) = rw (owes_pop W p.number can.dest object x.name st.node f.refers st.there, eq-eqb x.name.maker p.number f.mine, f.node_is, t.last_is) in
       let now_ = node_now o words views h id v here p is x f.there made in
       let q : MutatorState = world_holding (state_of u p.number) can.dest t.top in
-      let exists : p.number < length u.mutators = subst (λ n. p.number < n) (sym (as_many W x.name st.node made st.there)) fits.exists in
+      let exists : p.number < length u.mutators = rw (as_many W x.name st.node made st.there) fits.exists in
       let kept = nodes_kept u p.number q exists refl in
       let all : AllMean P (set words (at + HEADER_WORDS + length t.front) 0) (at + HEADER_WORDS) t.front =
-      all_popped P words (at + HEADER_WORDS) 0 t.front t.top (subst (λ l. AllMean P words (at + HEADER_WORDS) l) t.values_are f.means) in
+      all_popped P words (at + HEADER_WORDS) 0 t.front t.top (rw t.values_are at f.means) in
       let rest : AreUnset (set words (at + HEADER_WORDS + length t.front) 0) (at + HEADER_WORDS) (length t.front) f.size =
-      unset_popped words (at + HEADER_WORDS) (length t.front) f.size room (subst (λ n. AreUnset words (at + HEADER_WORDS) n f.size) long f.unset) in
+      unset_popped words (at + HEADER_WORDS) (length t.front) f.size room (rw long at f.unset) in
       let fields : HasSlots P (set words (at + HEADER_WORDS + slot) 0) (at + HEADER_WORDS) (slots_of made) =
       subst (λ n. HasSlots P (set words (at + HEADER_WORDS + n) 0) (at + HEADER_WORDS) (slots_of made)) (sym t.depth)
       (slots_of_fields P (set words (at + HEADER_WORDS + length t.front) 0) (at + HEADER_WORDS) made (all, rest)) in
       let ch : Changes o words views h id v here p is x f.there slot 0 made v' = record {
         within = omega arith;
-        may = subst (λ (k : Header). MayChange k.kind slot) (sym f.head) tt;
-        later = subst (λ (n : Node). IsLater n made) (sym f.node_is) (record { header = refl; free = refl; result = λ e. e; alive = λ parts e. absurd cc });
+        may = rw f.head tt;
+        later = rw f.node_is (record { header = refl; free = refl; result = λ e. e; alive = λ parts e. absurd cc });
         sized = omega arith;
         mine = kept x.name ∙ now_.0;
         others = λ n ne. kept n ∙ now_.1 n ne;
@@ -404,18 +335,12 @@ module _ (o : Opening) (words : List ℕ) (views : List Seen) (h : Keeps o words
       } in
       let g : List ℕ → List ℕ = λ ws. take (length ws - 1) ws in
       let more : (ws : List ℕ) → ListMeans P ws f.values → ListMeans P (g ws) t.front = λ ws l.
-      front_means P ws t.front t.top (subst (λ k. ListMeans P ws k) t.values_are l) in
+      front_means P ws t.front t.top (rw t.values_are at l) in
       let half : operand_word o p object / 2 ≡ at = let e = can.stack.object_word in omega arith in
       let popped : Hand = record (hand_now o p) { stacks = with_slots (hand_now o p).stacks at g } in
       let left : leaves (hand_now o p) C (word n) ≡ holding popped can.dest n =
       ap (λ a. holding (record (hand_now o p) { stacks = with_slots (hand_now o p).stacks a g }) can.dest n) half in
-      subst (λ (d : Command).
-      AddsCommand o words views h p.number d (set words (at + HEADER_WORDS + slot) 0) (set views id (slot_swapped v d n))) (sym can.command)
-      (subst (λ l. AddsCommand o words views h p.number C (set words (at + HEADER_WORDS + slot) 0) (set views id (record v {
-        parts =
-            first_changed (λ q. doing (finding q n) C (word n) (owed_word v.opening.marking n)) l;
-      }))) (sym is.alone)
-      (subst (λ (y : Opening). AddsCommand o words views h p.number C (set words (at + HEADER_WORDS + slot) 0) (set views id (record v {
+      rw can.command (rw is.alone (subst (λ (y : Opening). AddsCommand o words views h p.number C (set words (at + HEADER_WORDS + slot) 0) (set views id (record v {
         parts =
             doing (finding p n) C (word n) (owed_word y.marking n) ∷ [];
       }))) (sym (same_opening o words views h id v here p is))
@@ -424,14 +349,11 @@ module _ (o : Opening) (words : List ℕ) (views : List Seen) (h : Keeps o words
             doing (finding p n) C (word n) (owed_word o.marking n) ∷ [];
       }))) f.is_at
       (field_law o words views h id v here p is x f.there slot 0 made C (reply.Given t.top) (word n) v' (p.found ++ n ∷ []) (owed_word o.marking n) ch
-      (subst (λ (d : Command). CanGive o p d) can.command can.gives) does (t.top, refl, t.means)
-      (subst (λ (k : Hand).
-      IsHand o h.born v' p.number k) (sym left) (register_in o words views h id v here p is u popped can.dest n t.top exists
+      (rw can.command at can.gives) does (t.top, refl, t.means)
+      (rw left (register_in o words views h id v here p is u popped can.dest n t.top exists
       (stack_hand at u g (node_frame W x.name st.node made st.there p.number)) t.means))
-      (subst (λ ns. Owes o.marking P (p.owed ++ owed_word o.marking n) (names_of S.owed p.number ++
-      ns)) (sym owes) (owes_old o words views h id v here p is o.marking p.owed (names_of S.owed p.number) n t.top fits.owed t.means))
-      (subst (λ ns. Owes true P (p.found ++ n ∷ []) (names_of S.owed p.number ++
-      ns)) (sym owes) (owes_old o words views h id v here p is true p.found (names_of S.owed p.number) n t.top fits.found t.means))
+      (rw owes (owes_old o words views h id v here p is o.marking p.owed (names_of S.owed p.number) n t.top fits.owed t.means))
+      (rw owes (owes_old o words views h id v here p is true p.found (names_of S.owed p.number) n t.top fits.found t.means))
       (stack_own at can.stack f made v' g t.front (leaves (hand_now o p) C (word n)) (ap (λ (k : Hand). k.stacks) left) refl ch.mine ch.others more)))))
 
   pub slot_keeps : (at slot w : ℕ) (c : Command) → CanSlot o p at slot w c →
@@ -439,14 +361,9 @@ module _ (o : Opening) (words : List ℕ) (views : List Seen) (h : Keeps o words
       (set views id (slot_swapped v c (slice_index words (at + HEADER_WORDS + slot))))
   slot_keeps at slot w c (inl can) =
       let n : ℕ = slice_index words (at + HEADER_WORDS + slot) in
-      subst (λ (d : Command).
-      AddsCommand o words views h p.number d (set words (at + HEADER_WORDS + slot) w) (set views id (slot_swapped v d n))) (sym can.command)
-      (subst (λ (d : Command).
-      AddsCommand o words views h p.number d (set words (at + HEADER_WORDS + slot) w) (set views id (answered v d (plain reply.Fine))))
-      can.command (push_keeps at slot w c can))
+      rw can.command (rw can.command at (push_keeps at slot w c can))
   slot_keeps at slot w c (inr (can, z)) =
-      subst (λ k. AddsCommand o words views h p.number c (set words (at + HEADER_WORDS + slot) k)
-      (set views id (slot_swapped v c (slice_index words (at + HEADER_WORDS + slot))))) (sym z) (pop_keeps at slot c can)
+      rw z (pop_keeps at slot c can)
 
   -- a word that a pop finds
   pub pop_safe : (at slot : ℕ) (c : Command) → CanPop o p at slot c → IsSafe o (slice_index words (at + HEADER_WORDS + slot))
@@ -479,17 +396,11 @@ module _ (o : Opening) (words : List ℕ) (views : List Seen) (h : Keeps o words
       let full = can.full f.slots f.listed in
       let size = f.size_is in
       let pushes : stack_pushed (eqb x.name.maker p.number) st.node val ≡ (st.node, reply.StackFull) =
-      ap (λ b. stack_pushed b st.node val) (eq-eqb x.name.maker p.number f.mine) ∙ ap (λ n. stack_pushed true n val) f.node_is ∙
-      ap (λ b. cond {A = Node × Reply} b (Stack f.size (f.values ++ val ∷ []), reply.Fine) (
-        Stack f.size f.values,
-        reply.StackFull,
-      )) (le-ltb (length f.values) f.size (omega arith)) ∙ ap (λ (n : Node). (n, reply.StackFull)) (sym f.node_is) in
+      cc (eq-eqb x.name.maker p.number f.mine, f.node_is, le-ltb (length f.values) f.size (omega arith)) in
       let does : step W p.number C ≡ (u, reply.StackFull) =
       step_push W p.number object can.value x.name st.node st.node reply.StackFull f.refers st.there pushes in
       let again = node_again o words views h id v here p is x f.there in
-      subst (λ (d : Command). AddsCommand o words views h p.number d words (set views id (answered v d (plain (slot_refusal_reply d))))) (sym can.command)
-      (still_law o words views h id v here p is C reply.StackFull (plain reply.StackFull) u (subst (λ (d : Command).
-      CanGive o p d) can.command can.gives) does again (owes_push W p.number object can.value x.name st.node f.refers st.there) refl
+      rw can.command (still_law o words views h id v here p is C reply.StackFull (plain reply.StackFull) u (rw can.command at can.gives) does again (owes_push W p.number object can.value x.name st.node f.refers st.there) refl
       (moves_kept o words views h id v here p is u (hand_now o p) (node_frame W x.name st.node st.node st.there p.number) fits.hand) refl)
   barred_answers at c (inr can) =
       let f = found at can.stack in
@@ -504,16 +415,12 @@ module _ (o : Opening) (words : List ℕ) (views : List Seen) (h : Keeps o words
         | inr le ↦ let size = f.size_is in let sized = f.sized in
             omega arith
       ]) in
-      let was : st.node ≡ Stack f.size [] = f.node_is ∙ ap (λ l. Stack f.size l) none in
+      let was : st.node ≡ Stack f.size [] = cc (f.node_is, none) in
       let mine = eq-eqb x.name.maker p.number f.mine in
-      let pops : stack_popped (eqb x.name.maker p.number) st.node ≡ (st.node, reply.StackEmpty) = ap (λ b. stack_popped b st.node) mine ∙
-      ap (λ n. stack_popped true n) was ∙ ap (λ (n : Node). (n, reply.StackEmpty)) (sym was) in
+      let pops : stack_popped (eqb x.name.maker p.number) st.node ≡ (st.node, reply.StackEmpty) = cc (mine, was) in
       let does : step W p.number C ≡ (u, reply.StackEmpty) =
       step_pop W p.number can.dest object x.name st.node st.node reply.StackEmpty f.refers st.there pops in
-      let owes : owed_by W p.number C ≡ [] = owes_pop W p.number can.dest object x.name st.node f.refers st.there ∙
-      ap (λ b. names_among (top_held b st.node)) mine ∙ ap (λ n. names_among (top_held true n)) was in
+      let owes : owed_by W p.number C ≡ [] = cc (owes_pop W p.number can.dest object x.name st.node f.refers st.there, mine, was) in
       let again = node_again o words views h id v here p is x f.there in
-      subst (λ (d : Command). AddsCommand o words views h p.number d words (set views id (answered v d (plain (slot_refusal_reply d))))) (sym can.command)
-      (still_law o words views h id v here p is C reply.StackEmpty (plain reply.StackEmpty) u (subst (λ (d : Command).
-      CanGive o p d) can.command can.gives) does again owes refl
+      rw can.command (still_law o words views h id v here p is C reply.StackEmpty (plain reply.StackEmpty) u (rw can.command at can.gives) does again owes refl
       (moves_kept o words views h id v here p is u (hand_now o p) (node_frame W x.name st.node st.node st.there p.number) fits.hand) refl)

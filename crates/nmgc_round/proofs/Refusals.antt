@@ -1,57 +1,20 @@
 -- Commands that take their place at a fixed load of word 1 keep the rule.
-use Rattle.std.proofs.Common.{◌≡◌, ◌⊎◌, drop, inl, inr, ℕ, ◌+◌, ◌*◌, ◌/◌, ◌%◌, ◌≤◌, Bool, true, false, cond, eqb, leb, List, [], ◌∷◌, length, set, refl, sym, ap, subst, ◌∙◌, arith, slice_index, None, Some, ne_eqb, eq-eqb, eqb-true, le-ltb}
-use Rattle.std.specs.Prelude.{Contains, slice_get, option_to_list, ◌&&◌}
-use Rattle.std.proofs.lemmas.Option.{slice_get_past}
-use Rattle.std.proofs.lemmas.Bool.{and_parts}
-use mathlib.Core.Option.{some}
-use lib.ListN.{get_elem?}
-use Rattle.nmgc_world_spec.specs.declared.value.Name.{Name}
-use Rattle.nmgc_world_spec.specs.declared.value.Value.{Value}
+use Rattle.nmgc_round.proofs.Vocabulary.{◌≡◌, ◌⊎◌, drop, inl, inr, ℕ, ◌+◌, ◌*◌, ◌/◌, ◌%◌, ◌≤◌, Bool, true, false, cond, eqb, leb, List, [], ◌∷◌, length, set, refl, sym, ap, subst, ◌∙◌, arith, slice_index, None, Some, ne_eqb, eq-eqb, eqb-true, le-ltb, Contains, slice_get, slice_get_past, and_parts, some, get_elem?, Name, Value, Node, Change, Operand, Command, Num, Nil, Mov, Get, Set, Cas, Update, Force, Push, Pop, Deref, Finalise, NextFin, Show, Same, Yield, Collect, Full, Reply, Fine, Yes, No, Given, NoPointer, NoField, WrongKind, NotOwner, Fixed, Nothing, MutatorState, World, state_of, node_of, given_or, field_read, field_set, is_same, exchanged_at, field_exchanged, thunk_updated, result_read, value_read, weak_finalised, stack_pushed, stack_popped, changed, change_into, holding_given, with_state, value_for, object_of, read_object, read_into, keeping, change_object, with_register, with_node, step, field_held, if_same, free_held, top_held, weak_held, value_held, owed_in, owed_of, names_among, owed_by, header_word, name_word, IsName, Header, header_of, Place, Means, ListMeans, Hand, holding, leaves, Answer, plain, word, Opening, Part, Seen, FixedWord, hand_now, answered, doing, done_by, Object, place_of, IsObject, IsIn, now, Answers, IsHand, Fits, Rests, Keeps, IsMutator, CanGive, Names, IsReadable, IsWritable, operand_word, header_at, get_refusal, set_refusal, owner_refusal, first_told, refused, told_by, IsRefused, IsForeign, CanTell, told, AddsCommand, nodes_kept, node_cases, state_same, tested_same, is_same_name-refl, contains_head, contains_tail, contains_cases, both, ◌&&◌}
+use Rattle.nmgc_world_spec.specs.declared.command.Command.TheVariants.{Con, Var, Arr, Thunk, Weak, Stack}
 use Rattle.nmgc_world_spec.specs.declared.value.Value.TheVariants as value
-use Rattle.nmgc_world_spec.specs.declared.node.Node.{Node}
 use Rattle.nmgc_world_spec.specs.declared.node.Node.TheVariants as node
-use Rattle.nmgc_world_spec.specs.declared.change.Change.{Change}
 use Rattle.nmgc_world_spec.specs.declared.change.Change.TheVariants as change
-use Rattle.nmgc_world_spec.specs.declared.command.Operand.{Operand}
-use Rattle.nmgc_world_spec.specs.declared.command.Command.{Command}
-use Rattle.nmgc_world_spec.specs.declared.command.Command.TheVariants.{Num, Nil, Mov, Con, Var, Arr, Thunk, Weak, Stack, Get, Set, Cas, Update, Force, Push, Pop, Deref, Finalise, NextFin, Show, Same, Yield, Collect, Full}
-use Rattle.nmgc_world_spec.specs.declared.command.Reply.{Reply}
-use Rattle.nmgc_world_spec.specs.declared.command.Reply.TheVariants.{Fine, Yes, No, Given, NoPointer, NoField, WrongKind, NotOwner, Fixed, Nothing}
-use Rattle.nmgc_world_spec.specs.World.{World, state_of, node_of}
-use Rattle.nmgc_world_spec.specs.Change.{given_or, field_read, field_set, is_same, exchanged_at, field_exchanged, thunk_updated, result_read, value_read, weak_finalised, stack_pushed, stack_popped, changed}
 use Rattle.nmgc_world_spec.specs.declared.node.Kind.TheVariants as kind
-use Rattle.nmgc_world_spec.specs.declared.mutator_state.MutatorState.{MutatorState}
-use Rattle.nmgc_world_spec.specs.Step.{change_into, holding_given, with_state, value_for, object_of, read_object, read_into, keeping, change_object, change_node, with_register, with_node, step}
-use Rattle.nmgc_object.specs.Words.{header_word, name_word, IsName}
-use Rattle.nmgc_object.specs.declared.words.Header.{Header}
-use Rattle.nmgc_heap_spec.specs.Shape.{header_of}
-use Rattle.nmgc_heap_spec.specs.Places.{Place, Means, ListMeans}
-use Rattle.nmgc_round.proofs.Lists.{list_set}
-use Rattle.nmgc_round.specs.View.{Hand, holding, leaves, Answer, plain, word, Opening, Part, Seen, FixedWord, hand_now, answered, doing, first_changed}
-use Rattle.nmgc_round.specs.Events.{done_by}
-use Rattle.nmgc_round.specs.Objects.{Object, place_of, IsObject, IsIn}
-use Rattle.nmgc_round.specs.Rule.{now, Answers, IsHand, Fits, Rests, Keeps}
-use Rattle.nmgc_round.specs.Ready.{IsMutator, CanGive, Names, IsReadable, IsWritable, operand_word}
-use Rattle.nmgc_round.specs.Told.{header_at, get_refusal, set_refusal, owner_refusal, first_told, refused, told_by, IsRefused, IsForeign, CanTell, told}
-use Rattle.nmgc_world_spec.specs.Owed.{field_held, if_same, free_held, top_held, weak_held, value_held, owed_in, owed_of, owed_at, names_among, owed_by}
-use Rattle.nmgc_world_laws.specs.laws.NodeLaws.{nodes_kept, node_cases, state_same}
-use Rattle.nmgc_snapshot_laws.specs.laws.Listed.{tested_same, is_same_name-refl}
-use Rattle.nmgc_lists.specs.laws.Items.{contains_head, contains_tail, contains_cases}
-use Rattle.nmgc_round.specs.Added.{AddsCommand}
-use Rattle.nmgc_round.proofs.Moves.{still_law, register_hand, hand_kept, meant, operand_is}
-use Rattle.nmgc_round.proofs.Frames.{node_frame}
-use Rattle.nmgc_round.proofs.Standing.{placed}
-use Rattle.nmgc_round.proofs.Keeping.{acts}
-use Rattle.nmgc_lists.specs.laws.Truths.{same_test as both}
+use Rattle.nmgc_round.proofs.{Lists.list_set, Moves.register_hand, Moves.hand_kept, Moves.meant, Moves.operand_is, Writes.still_law, Frames.node_frame, Standing.placed, Keeping.acts}
 
 -- a field that isn't there, or isn't to be read
 get_refused : (n : Node) (index : ℕ) → (IsReadable (header_of n).kind → (header_of n).fields ≤ index) →
     field_read n index ≡ get_refusal (header_word (header_of n))
 get_refused (node.Con tag values) index bad = let e : header_word (header_of (node.Con tag values)) % 8 ≡ 1 = omega arith in
-    ap (λ o. given_or NoField o) (slice_get_past values index (bad tt)) ∙ sym (ap (λ k. cond (leb k 3) NoField WrongKind) e)
+    cc (slice_get_past values index (bad tt), e)
 get_refused (node.Var v) index bad = let le : 1 ≤ index = bad tt in ap (λ o. given_or NoField o) (slice_get_past (v ∷ []) index le)
 get_refused (node.Arr values) index bad = let e : header_word (header_of (node.Arr values)) % 8 ≡ 3 = omega arith in
-    ap (λ o. given_or NoField o) (slice_get_past values index (bad tt)) ∙ sym (ap (λ k. cond (leb k 3) NoField WrongKind) e)
+    cc (slice_get_past values index (bad tt), e)
 get_refused (node.Thunk free result) index bad = let e : header_word (header_of (node.Thunk free result)) % 8 ≡ 4 = omega arith in
     sym (ap (λ k. cond (leb k 3) NoField WrongKind) e)
 get_refused (node.Weak parts) index bad = refl
@@ -68,8 +31,7 @@ set_refused (node.Con tag values) index v bad = let e : header_word (header_of (
 set_refused (node.Var old) index v bad = let le : 1 ≤ index = bad tt in
     ap (λ b. cond {A = Node × Reply} b (node.Var v, Fine) (node.Var old, NoField)) (ne_eqb index 0 (λ z. omega arith))
 set_refused (node.Arr values) index v bad = let e : header_word (header_of (node.Arr values)) % 8 ≡ 3 = omega arith in
-    ap (λ b. cond {A = Node × Reply} b (node.Arr (set values index v), Fine) (node.Arr values, NoField)) (le-ltb index (length values) (bad tt)) ∙
-    ap (λ (r : Reply). (node.Arr values, r)) (sym (ap set_reply e))
+    cc (le-ltb index (length values) (bad tt), e)
 set_refused (node.Thunk free result) index v bad = let e : header_word (header_of (node.Thunk free result)) % 8 ≡ 4 = omega arith in
     ap (λ (r : Reply). (node.Thunk free result, r)) (sym (ap set_reply e))
 set_refused (node.Weak parts) index v bad = refl
@@ -96,8 +58,7 @@ header_there (f ∷ fs) at w stand c = by_test (eqb f.at at && eqb f.offset 0) r
     by_test true e rec = let t = and_parts (eqb f.at at) (eqb f.offset 0) e in stand f (contains_head f fs) (eqb-true f.at at t.0) (eqb-true f.offset 0 t.1)
     by_test false e rec = elim (contains_cases f fs (record { at = at; offset = 0; word = w }) c) [
       | inl same ↦
-          let yes : (eqb f.at at && eqb f.offset 0) ≡ true = ap (λ (g : FixedWord). eqb g.at at && eqb g.offset 0) same ∙
-          ap (λ (b : Bool). b && true) (eq-eqb at at refl) in
+          let yes : (eqb f.at at && eqb f.offset 0) ≡ true = cc (same, eq-eqb at at refl) in
           let bad : true ≡ false = sym yes ∙ e in
           absurd cc
       | inr d ↦ rec d
@@ -111,8 +72,7 @@ cas_refused (node.Con tag values) index e v bad = let k : header_word (header_of
 cas_refused (node.Var old) index e v bad = let le : 1 ≤ index = bad tt in
     ap (λ o. exchanged_at o e (node.Var old) (node.Var v)) (slice_get_past (old ∷ []) index le)
 cas_refused (node.Arr values) index e v bad = let k : header_word (header_of (node.Arr values)) % 8 ≡ 3 = omega arith in
-    ap (λ o. exchanged_at o e (node.Arr values) (node.Arr (set values index v))) (slice_get_past values index (bad tt)) ∙
-    ap (λ (r : Reply). (node.Arr values, r)) (sym (ap set_reply k))
+    cc (slice_get_past values index (bad tt), k)
 cas_refused (node.Thunk free result) index e v bad = let k : header_word (header_of (node.Thunk free result)) % 8 ≡ 4 = omega arith in
     ap (λ (r : Reply). (node.Thunk free result, r)) (sym (ap set_reply k))
 cas_refused (node.Weak parts) index e v bad = refl
@@ -199,10 +159,6 @@ keeping_refused : (w : World) (m dest : ℕ) (b : Bool) → keeping w m dest (co
 keeping_refused w m dest true = refl
 keeping_refused w m dest false = refl
 
-plain_if : (b : Bool) (r s : Reply) → cond b (plain r) (plain s) ≡ plain (cond b r s)
-plain_if true r s = refl
-plain_if false r s = refl
-
 -- values that are the same nil, number or reference
 told_same : (x y : Value) → is_same x y ≡ true → x ≡ y
 told_same value.Nil value.Nil e = refl
@@ -241,24 +197,21 @@ module _ (o : Opening) (words : List ℕ) (views : List Seen) (h : Keeps o words
       let V : List Part → Seen = λ l. record v { parts = l } in
       let f : Part → Part = λ q. doing q c a [] in
       let g : Part → Part = λ q. doing q c (told_by (hand_now v.opening q) q.fixed c) [] in
-      let here' : told_by (hand_now v.opening p) p.fixed c ≡ a = ap (λ (y : Opening). told_by (hand_now y p) p.fixed c) same ∙ e in
-      ap (λ (l : List Part). V (first_changed f l)) is.alone ∙ ap (λ (b : Answer). V (doing p c b [] ∷ [])) (sym here') ∙
-      sym (ap (λ (l : List Part). V (first_changed g l)) is.alone)
+      let here' : told_by (hand_now v.opening p) p.fixed c ≡ a = cc (same, e) in
+      cc (is.alone, here')
 
   pub tell : (c : Command) (r : Reply) (a : Answer) (u : World) → told_by (hand_now o p) p.fixed c ≡ a → CanGive o p c →
       step W p.number c ≡ (u, r) → ((n : Name) → node_of u n ≡ node_of W n) → owed_by W p.number c ≡ []
       → Answers P a r → IsHand o h.born u p.number (leaves (hand_now o p) c a) → (leaves (hand_now o p) c a).stacks ≡ (hand_now o p).stacks →
       AddsCommand o words views h p.number c words (set views id (told v c))
-  tell c r a u e gives does same owes says hand left = subst (λ (w : Seen).
-      AddsCommand o words views h p.number c words (set views id w)) (told_is c a e)
-      (still_law o words views h id v here p is c r a u gives does same owes says hand left)
+  tell c r a u e gives does same owes says hand left = rw (told_is c a e) at (still_law o words views h id v here p is c r a u gives does same owes says hand left)
 
   -- a command that takes its place there and leaves the world
   pub tell_same : (c : Command) (r : Reply) (a : Answer) → told_by (hand_now o p) p.fixed c ≡ a → CanGive o p c → step W p.number c ≡ (W, r) →
       owed_by W p.number c ≡ [] → Answers P a r → leaves (hand_now o p) c a ≡ hand_now o p →
       AddsCommand o words views h p.number c words (set views id (told v c))
   tell_same c r a e gives does owes says left = tell c r a W e gives does (λ n.
-      refl) owes says (subst (λ (k : Hand). IsHand o h.born W p.number k) (sym left) fits.hand) (ap (λ (k : Hand). k.stacks) left)
+      refl) owes says (rw left fits.hand) (ap (λ (k : Hand). k.stacks) left)
 
   -- a command that puts a word into a register
   tell_register : (c : Command) (dest w : ℕ) (x : Value) → told_by (hand_now o p) p.fixed c ≡ plain Fine → CanGive o p c →
@@ -267,8 +220,7 @@ module _ (o : Opening) (words : List ℕ) (views : List Seen) (h : Keeps o words
       AddsCommand o words views h p.number c words (set views id (told v c))
   tell_register c dest w x e gives does owes left m =
       tell c Fine (plain Fine) (with_register W p.number dest x) e gives does (nodes_kept W p.number _ fits.exists refl) owes refl
-      (subst (λ (k : Hand).
-      IsHand o h.born (with_register W p.number dest x) p.number k) (sym left) (register_hand o words views h id v here p is dest w x m))
+      (rw left (register_hand o words views h id v here p is dest w x m))
       (ap (λ (k : Hand). k.stacks) left)
 
   -- an odd word refers to no object
@@ -289,8 +241,7 @@ module _ (o : Opening) (words : List ℕ) (views : List Seen) (h : Keeps o words
       let there = rests.fixed (record { at = at; offset = 0; word = header_word header }) names.there in
       let found : header_at p.fixed at ≡ header_word header = header_there p.fixed at (header_word header) (λ f c a z. let t = rests.fixed f c in
       sym t.1 ∙ ap (λ j. slice_index words j) (λ i. a i + z i) ∙ there.1) names.there in
-      ap (λ (t : Bool). cond t (plain (refusal (header_at p.fixed (w / 2)))) (plain NoPointer)) b ∙
-      ap (λ k. plain (refusal k)) (ap (λ k. header_at p.fixed k) half ∙ found)
+      cc (b, half, found)
 
   -- `get` of an object that is none, or of a field that isn't there
   get_told : (dest : ℕ) (object : Operand) (index : ℕ) → CanGive o p (Get dest object index) →
@@ -311,12 +262,9 @@ module _ (o : Opening) (words : List ℕ) (views : List Seen) (h : Keeps o words
       let st = h.stands.objects m.object m.there in
       let head : header_of st.node ≡ header = st.later.header ∙ m.head in
       let r : Reply = get_refusal (header_word header) in
-      let refuses : field_read st.node index ≡ r = get_refused st.node index (subst (λ (k : Header). IsReadable k.kind →
-      k.fields ≤ index) (sym head) bad) ∙ ap (λ k. get_refusal (header_word k)) head in
+      let refuses : field_read st.node index ≡ r = cc (get_refused st.node index (rw head bad), head) in
       let read : Node → Reply = λ n. field_read n index in
-      let does : step W p.number c ≡ (W, r) = ap (λ y. read_into W p.number dest (read_object (object_of W y) read)) m.refers ∙
-      ap (λ y. read_into W p.number dest (read_object y read)) st.there ∙ ap (λ y. read_into W p.number dest y) refuses ∙
-      ap (λ (u : World). (u, r)) (keeping_refused W p.number dest (leb (header_word header % 8) 3)) in
+      let does : step W p.number c ≡ (W, r) = cc (m.refers, st.there, refuses, keeping_refused W p.number dest (leb (header_word header % 8) 3)) in
       tell_same c r (plain r) (refused_there (operand_word o p object) at header get_refusal e names) gives does refl refl refl
 
   -- `set` likewise
@@ -342,17 +290,14 @@ module _ (o : Opening) (words : List ℕ) (views : List Seen) (h : Keeps o words
       let head : header_of st.node ≡ header = st.later.header ∙ m.head in
       let r : Reply = set_refusal (header_word header) in
       let bad' = subst (λ (k : Header). IsWritable k.kind → k.fields ≤ index) (sym head) bad in
-      let refuses : field_set st.node index val ≡ (st.node, r) = set_refused st.node index val bad' ∙ ap (λ k. (st.node, set_refusal (header_word k))) head in
-      let changes : step W p.number c ≡ (with_node W name st.node, r) = ap (λ y. change_object W y d) m.refers ∙
-      ap (λ y. change_node W name y d) st.there ∙ ap (λ (y : Node × Reply). (with_node W name y.0, y.1)) refuses in
+      let refuses : field_set st.node index val ≡ (st.node, r) = cc (set_refused st.node index val bad', head) in
+      let changes : step W p.number c ≡ (with_node W name st.node, r) = cc (m.refers, st.there, refuses) in
       let cases = node_cases W name st.node st.node st.there in
       let same : (n : Name) → node_of (with_node W name st.node) n ≡ node_of W n = λ n. elim (cases n) [
-        | inl k ↦ k.1 ∙ sym st.there ∙
-            ap (λ (y : Name). node_of W y) (sym k.0)
+        | inl k ↦ cc (k.1, st.there, k.0)
         | inr k ↦ k.1
       ] in
-      let owes : owed_by W p.number c ≡ [] = ap (λ y. names_among (owed_of W y d)) m.refers ∙ ap (λ y. names_among (owed_at d name y)) st.there ∙
-      ap (λ y. names_among (option_to_list y)) (none_owed st.node index bad') in
+      let owes : owed_by W p.number c ≡ [] = cc (m.refers, st.there, none_owed st.node index bad') in
       tell c r (plain r) (with_node W name st.node) (refused_there (operand_word o p object) at header set_refusal e names) gives changes same owes refl
       (hand_kept o words views h id v here p is (with_node W name st.node) (hand_now o p) (node_frame W name st.node st.node st.there p.number) fits.hand) refl
 
@@ -369,7 +314,7 @@ module _ (o : Opening) (words : List ℕ) (views : List Seen) (h : Keeps o words
   one_word a b (value.Number k) m n = m ∙ sym n
   one_word a b (value.Ref name) m n =
       let e = ap (λ (q : Place). q.at) (one_place (record { at = m.0; name = name }) (record { at = n.0; name = name }) m.2 n.2 (inl refl)) in
-      m.1 ∙ ap (λ k. 2 * k) e ∙ sym n.1
+      cc (m.1, e, n.1)
 
   -- and a word one value
   pub one_value : (a : ℕ) (x y : Value) → Means P a x → Means P a y → x ≡ y
@@ -389,8 +334,8 @@ module _ (o : Opening) (words : List ℕ) (views : List Seen) (h : Keeps o words
 
   pub same_words : (a b : ℕ) (x y : Value) → Means P a x → Means P b y → is_same x y ≡ eqb a b
   same_words a b x y m n = both (is_same x y) (eqb a b)
-      (λ e. eq-eqb a b (one_word a b y (subst (λ z. Means P a z) (told_same x y e) m) n))
-      (λ e. let k = eqb-true a b e in subst (λ z. is_same x z ≡ true) (one_value a x y m (subst (λ z. Means P z y) (sym k) n)) (same_self x))
+      (λ e. eq-eqb a b (one_word a b y (rw (told_same x y e) at m) n))
+      (λ e. let k = eqb-true a b e in rw (← (one_value a x y m (rw k n))) (same_self x))
 
   -- a change that is refused at an object that is none
   change_none : (c : Command) (object : Operand) (d : Change) (refusal : ℕ → Reply) →
@@ -425,19 +370,16 @@ module _ (o : Opening) (words : List ℕ) (views : List Seen) (h : Keeps o words
       let r : Reply = refusal (header_word header) in
       let t = refuses m.object m.there m.is_at (st.later.header ∙ m.head) in
       let u : World = with_node W name st.node in
-      let changes : change_object W (value_for W p.number object) d ≡ (u, r) = ap (λ y. change_object W y d) m.refers ∙
-      ap (λ y. change_node W name y d) st.there ∙ ap (λ (y : Node × Reply). (with_node W name y.0, y.1)) t.0 in
+      let changes : change_object W (value_for W p.number object) d ≡ (u, r) = rw (m.refers, st.there, t.0) in
       let cases = node_cases W name st.node st.node st.there in
       let same : (n : Name) → node_of u n ≡ node_of W n = λ n. elim (cases n) [
-        | inl k ↦ k.1 ∙ sym st.there ∙
-            ap (λ (y : Name). node_of W y) (sym k.0)
+        | inl k ↦ cc (k.1, st.there, k.0)
         | inr k ↦ k.1
       ] in
-      let none : names_among (owed_of W (value_for W p.number object) d) ≡ [] = ap (λ y. names_among (owed_of W y d)) m.refers ∙
-      ap (λ y. names_among (owed_at d name y)) st.there ∙ ap (λ y. names_among y) t.1 in
+      let none : names_among (owed_of W (value_for W p.number object) d) ≡ [] = cc (m.refers, st.there, t.1) in
       let kept = hand_kept o words views h id v here p is u (hand_now o p) (node_frame W name st.node st.node st.there p.number) fits.hand in
       tell c r (plain r) u (tells ∙ refused_there (operand_word o p object) at header refusal e names) gives (does u changes) same (owes ∙
-      none) refl (subst (λ (k : Hand). IsHand o h.born u p.number k) (sym left) kept) (ap (λ (k : Hand). k.stacks) left)
+      none) refl (rw left kept) (ap (λ (k : Hand). k.stacks) left)
 
   -- a read that is refused
   read_none : (c : Command) (dest : ℕ) (object : Operand) (read : Node → Reply) →
@@ -465,8 +407,7 @@ module _ (o : Opening) (words : List ℕ) (views : List Seen) (h : Keeps o words
       let m = meant o words views h id v here p is at header object e names in
       let st = h.stands.objects m.object m.there in
       let t = refuses m.object.name st.node m.refers st.there (st.later.header ∙ m.head) in
-      let says : step W p.number c ≡ (W, WrongKind) = does (value.Ref m.object.name) m.refers ∙
-      ap (λ y. read_into W p.number dest (read_object y read)) st.there ∙ ap (λ y. read_into W p.number dest y) t.0 in
+      let says : step W p.number c ≡ (W, WrongKind) = cc (does (value.Ref m.object.name) m.refers, st.there, t.0) in
       tell_same c WrongKind (plain WrongKind) (tells ∙ refused_there (operand_word o p object) at header (λ n. WrongKind) e names) gives says t.1 refl left
 
   -- `cas` as `set`
@@ -481,7 +422,7 @@ module _ (o : Opening) (words : List ℕ) (views : List Seen) (h : Keeps o words
       header (λ u e. e) refl refl refl gives e names
       (λ y hy is_at head. let n : Node = (h.stands.objects y hy).node in
       let bad' = subst (λ (k : Header). IsWritable k.kind → k.fields ≤ index) (sym head) bad in (
-        cas_refused n index (value_for W p.number expected) (value_for W p.number x) bad' ∙ ap (λ k. (n, set_refusal (header_word k))) head,
+        cc (cas_refused n index (value_for W p.number expected) (value_for W p.number x) bad', head),
         ap (λ l. if_same (value_for W p.number expected) l) (none_owed n index bad'),
       ))
 
@@ -492,7 +433,7 @@ module _ (o : Opening) (words : List ℕ) (views : List Seen) (h : Keeps o words
       e) refl refl refl gives odd
   update_told object x gives (inr (at, header, e, names, bad)) =
       change_at (Update object x) object (change.Update (value_for W p.number x)) (λ n. WrongKind) at header (λ u e. e) refl refl refl gives e names
-      (λ y hy is_at head. no_thunk (h.stands.objects y hy).node (value_for W p.number x) (λ k. bad (sym (ap (λ (t : Header). t.kind) head) ∙ k)))
+      (λ y hy is_at head. no_thunk (h.stands.objects y hy).node (value_for W p.number x) (λ k. bad (cc (head, k))))
 
   -- `force` of what is no thunk, and `deref` of what is no weak pointer
   force_told : (dest : ℕ) (object : Operand) → CanGive o p (Force dest object) → IsRefused o p object (λ header. header.kind ≡ kind.Thunk → ⊥) →
@@ -502,7 +443,7 @@ module _ (o : Opening) (words : List ℕ) (views : List Seen) (h : Keeps o words
   force_told dest object gives (inr (at, header, e, names, bad)) =
       read_wrong (Force dest object) dest object result_read at header (λ x e.
       ap (λ y. read_into W p.number dest (read_object (object_of W y) result_read)) e) refl refl gives e names
-      (λ name n refers there head. (no_result n (λ k. bad (sym (ap (λ (t : Header). t.kind) head) ∙ k)), refl))
+      (λ name n refers there head. (no_result n (λ k. bad (cc (head, k))), refl))
 
   deref_told : (dest : ℕ) (object : Operand) → CanGive o p (Deref dest object) → IsRefused o p object (λ header. header.kind ≡ kind.Weak → ⊥) →
       AddsCommand o words views h p.number (Deref dest object) words (set views id (told v (Deref dest object)))
@@ -512,8 +453,8 @@ module _ (o : Opening) (words : List ℕ) (views : List Seen) (h : Keeps o words
   deref_told dest object gives (inr (at, header, e, names, bad)) =
       read_wrong (Deref dest object) dest object value_read at header (λ x e.
       ap (λ y. read_into W p.number dest (read_object (object_of W y) value_read)) e) refl refl gives e names
-      (λ name n refers there head. let t = no_weak name n (λ k. bad (sym (ap (λ (t : Header). t.kind) head) ∙ k)) in
-      (t.0, ap (λ y. names_among (value_held (object_of W y))) refers ∙ ap (λ y. names_among (value_held y)) there ∙ ap (λ y. names_among y) t.1))
+      (λ name n refers there head. let t = no_weak name n (λ k. bad (cc (head, k))) in
+      (t.0, cc (refers, there, t.1)))
 
   -- `finalise` likewise
   finalise_told : (dest : ℕ) (object : Operand) → CanGive o p (Finalise dest object) →
@@ -524,7 +465,7 @@ module _ (o : Opening) (words : List ℕ) (views : List Seen) (h : Keeps o words
   finalise_told dest object gives (inr (at, header, e, names, bad)) =
       change_at (Finalise dest object) object change.Finalise (λ n. WrongKind) at header (λ u e.
       ap (λ r. change_into p.number dest r) e) refl refl refl gives e names
-      (λ y hy is_at head. let t = no_weak y.name (h.stands.objects y hy).node (λ k. bad (sym (ap (λ (t : Header). t.kind) head) ∙ k)) in (t.2, t.3))
+      (λ y hy is_at head. let t = no_weak y.name (h.stands.objects y hy).node (λ k. bad (cc (head, k))) in (t.2, t.3))
 
   -- what another's name says of its maker
   foreign_maker : (at : ℕ) (x : Object) (hx : IsObject o h.born x) (name : Name) → x.at ≡ at → IsName name →
@@ -532,7 +473,7 @@ module _ (o : Opening) (words : List ℕ) (views : List Seen) (h : Keeps o words
   foreign_maker at x hx name is_at valid named =
       let there = h.stands.named (place_of x) (placed o h.born x hx) in
       let told_ = rests.fixed (record { at = at; offset = 1; word = name_word name }) named in
-      one_maker x.name name there.valid valid (sym there.name ∙ ap (λ a. slice_index words (a + 1)) is_at ∙ told_.1)
+      one_maker x.name name there.valid valid (cc (there.name, is_at, told_.1))
 
   push_told : (object x : Operand) → CanGive o p (Push object x) → IsRefused o p object (λ header. header.kind ≡ kind.Stack → ⊥) ⊎
       IsForeign o p object → AddsCommand o words views h p.number (Push object x) words (set views id (told v (Push object x)))
@@ -542,16 +483,16 @@ module _ (o : Opening) (words : List ℕ) (views : List Seen) (h : Keeps o words
       change_at (Push object x) object (change.Push p.number (value_for W p.number x)) owner_refusal at header (λ u e.
       e) refl refl (left_push (hand_now o p) object x (eqb (header_word header % 8) 6)) gives e names
       (λ y hy is_at head. let n : Node = (h.stands.objects y hy).node in
-      let t = no_stack (eqb y.name.maker p.number) n (value_for W p.number x) (λ k. bad (sym (ap (λ (t : Header). t.kind) head) ∙ k)) in
-      (t.0 ∙ ap (λ k. (n, owner_refusal (header_word k))) head, refl))
+      let t = no_stack (eqb y.name.maker p.number) n (value_for W p.number x) (λ k. bad (cc (head, k))) in
+      (cc (t.0, head), refl))
   push_told object x gives (inr f) =
       change_at (Push object x) object (change.Push p.number (value_for W p.number x)) owner_refusal f.at f.header (λ u e.
       e) refl refl (left_push (hand_now o p) object x (eqb (header_word f.header % 8) 6)) gives f.object_word f.names
       (λ y hy is_at head. let n : Node = (h.stands.objects y hy).node in
-      let t = foreign_stack n (value_for W p.number x) (ap (λ (k : Header). k.kind) head ∙ f.is_stack) in
+      let t = foreign_stack n (value_for W p.number x) (cc (head, f.is_stack)) in
       let off : eqb y.name.maker p.number ≡ false = ne_eqb y.name.maker p.number (λ k.
       f.other (sym (foreign_maker f.at y hy f.name is_at f.valid f.named) ∙ k)) in
-      (ap (λ b. stack_pushed b n (value_for W p.number x)) off ∙ t.0 ∙ ap (λ k. (n, owner_refusal (header_word k))) head, refl))
+      (cc (off, t.0, head), refl))
 
   pop_told : (dest : ℕ) (object : Operand) → CanGive o p (Pop dest object) → IsRefused o p object (λ header. header.kind ≡ kind.Stack → ⊥) ⊎
       IsForeign o p object → AddsCommand o words views h p.number (Pop dest object) words (set views id (told v (Pop dest object)))
@@ -561,17 +502,17 @@ module _ (o : Opening) (words : List ℕ) (views : List Seen) (h : Keeps o words
       change_at (Pop dest object) object (change.Pop p.number) owner_refusal at header (λ u e. ap (λ r. change_into p.number dest r) e ∙
       ap (λ w. (w, owner_refusal (header_word header))) (keeping_owner u p.number dest (eqb (header_word header % 8) 6))) refl refl refl gives e names
       (λ y hy is_at head. let n : Node = (h.stands.objects y hy).node in
-      let t = no_stack (eqb y.name.maker p.number) n value.Nil (λ k. bad (sym (ap (λ (t : Header). t.kind) head) ∙ k)) in
-      (t.1 ∙ ap (λ k. (n, owner_refusal (header_word k))) head, t.2))
+      let t = no_stack (eqb y.name.maker p.number) n value.Nil (λ k. bad (cc (head, k))) in
+      (cc (t.1, head), t.2))
   pop_told dest object gives (inr f) = change_at (Pop dest object) object (change.Pop p.number) owner_refusal f.at f.header (λ u e.
       ap (λ r. change_into p.number dest r) e ∙
       ap (λ w. (w, owner_refusal (header_word f.header))) (keeping_owner u p.number dest (eqb (header_word f.header % 8) 6))) refl refl refl gives
       f.object_word f.names
       (λ y hy is_at head. let n : Node = (h.stands.objects y hy).node in
-      let t = foreign_stack n value.Nil (ap (λ (k : Header). k.kind) head ∙ f.is_stack) in
+      let t = foreign_stack n value.Nil (cc (head, f.is_stack)) in
       let off : eqb y.name.maker p.number ≡ false = ne_eqb y.name.maker p.number (λ k.
       f.other (sym (foreign_maker f.at y hy f.name is_at f.valid f.named) ∙ k)) in
-      (ap (λ b. stack_popped b n) off ∙ t.1 ∙ ap (λ k. (n, owner_refusal (header_word k))) head, ap (λ b. top_held b n) off))
+      (cc (off, t.1, head), ap (λ b. top_held b n) off))
 
   -- `nextfin`: the first of the queue goes off into a register
   finaliser_told : (dest : ℕ) → CanGive o p (NextFin dest) → (ws : List ℕ) → (hand_now o p).queue ≡ ws → (vs : List Value) →
@@ -586,10 +527,9 @@ module _ (o : Opening) (words : List ℕ) (views : List Seen) (h : Keeps o words
       let k = fits.hand in
       tell (NextFin dest) Nothing (plain Nothing) u (ap (λ l. first_told l) e) gives (ap (λ l. (u, given_or Nothing (slice_get l 0))) f) nodes refl refl
       (record {
-        registers = subst (λ (t : MutatorState). ListMeans P (hand_now o p).registers t.registers) (sym st) k.registers;
-        queue = subst (λ (l : List ℕ). ListMeans P (drop 1 l) (state_of u p.number).queue) (sym e) (subst (λ (t : MutatorState).
-            ListMeans P [] t.queue) (sym st) tt);
-        serial = k.serial ∙ ap (λ (t : MutatorState). length t.nodes) (sym st);
+        registers = rw st k.registers;
+        queue = rw e (rw st tt);
+        serial = cc (k.serial, st);
       })
       refl
   finaliser_told dest gives [] e (x ∷ vs) f m = absurd m
@@ -604,11 +544,9 @@ module _ (o : Opening) (words : List ℕ) (views : List Seen) (h : Keeps o words
       let k = fits.hand in
       tell (NextFin dest) (Given x) (word w) u (ap (λ l. first_told l) e) gives (ap (λ l. (u, given_or Nothing (slice_get l 0))) f) nodes refl (x, refl, m.0)
       (record {
-        registers = subst (λ (t : MutatorState).
-            ListMeans P (set (hand_now o p).registers dest w) t.registers) (sym st) (list_set P (hand_now o p).registers s.registers dest w x k.registers m.0);
-        queue = subst (λ (l : List ℕ). ListMeans P (drop 1 l) (state_of u p.number).queue) (sym e) (subst (λ (t : MutatorState).
-            ListMeans P ws t.queue) (sym st) m.1);
-        serial = k.serial ∙ ap (λ (t : MutatorState). length t.nodes) (sym st);
+        registers = rw st (list_set P (hand_now o p).registers s.registers dest w x k.registers m.0);
+        queue = rw e (rw st m.1);
+        serial = cc (k.serial, st);
       })
       refl
 

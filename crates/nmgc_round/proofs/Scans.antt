@@ -1,48 +1,8 @@
 -- The scan load: what the core machine reads is what the word means, and the fold of the scans follows it.
-use Rattle.std.proofs.Common.{◌≡◌, ◌≢◌, ◌⊎◌, inl, inr, ℕ, zero, suc, ◌+◌, ◌*◌, ◌/◌, ◌%◌, ◌<◌, ◌≤◌, Bool, true, false, not, ◌&&◌, ◌||◌, cond, eqb, leb, List, [], ◌∷◌, ◌++◌, length, get_or, set, refl, sym, ap, subst, ◌∙◌, arith, slice_index, Option, Some, None, is_some, ne_eqb, eq-eqb, leb-false}
-use Rattle.std.specs.Prelude.{Contains, IsSome, slice_get}
-use Rattle.std.proofs.lemmas.Option.{slice_get-get_or, slice_get_past}
-use Rattle.std.proofs.lemmas.Bool.{cases_lt, and_parts}
-use Rattle.std.proofs.lemmas.Bool.Decides.{eqb_tells}
-use Rattle.std.proofs.lemmas.List.Elements.{Contains-append_cases, Contains-push_cases}
-use mathlib.Core.Option.{some}
-use lib.ListN.{get_elem?}
-use Rattle.nmgc_world_spec.specs.declared.value.Name.{Name}
-use Rattle.nmgc_world_spec.specs.declared.value.Value.{Value}
+use Rattle.nmgc_round.proofs.Vocabulary.{◌≡◌, ◌≢◌, ◌⊎◌, inl, inr, ℕ, zero, suc, ◌+◌, ◌*◌, ◌/◌, ◌%◌, ◌<◌, ◌≤◌, Bool, true, false, not, ◌&&◌, ◌||◌, cond, eqb, leb, List, [], ◌∷◌, ◌++◌, length, get_or, set, refl, sym, ap, subst, ◌∙◌, arith, slice_index, Option, Some, None, is_some, ne_eqb, eq-eqb, leb-false, Contains, IsSome, slice_get, slice_get-get_or, slice_get_past, cases_lt, and_parts, eqb_tells, Contains-append_cases, Contains-push_cases, some, get_elem?, Name, Value, Node, Con, Var, Arr, Thunk, Weak, Stack, Kind, World, node_of, is_some_of, contains_head, contains_tail, one_is, Header, HEADER_WORDS, FIRST_PLACE, header_word, IsHeader, word_total, IsSafe, TellsEntry, Opening, Seen, Marks, marks_of, marks_after, name_at, name_meant, name_read, with_name, is_thunk, is_last_word, entry_past, first_past, after_word, offset_of, Object, place_of, free_of, IsLater, IsObject, IsIn, now, IsRead, IsQueued, Keeps, AddsScan, CanScan, scanned_by, first_of, Entry, State, is_new, is_listed, mark_read, entry_of, fields_of, read_at, field_at, is_last, moved_on, advanced, after_scan, has_result, header_of, size_of, slots_of, Place, Means, HasSlots, AllMean, HasFields, KeepsFree, fields_of_slots, free_of_slots, lies_above, lies_within, marks_if, some_at, found_at}
 use Rattle.nmgc_world_spec.specs.declared.value.Value.TheVariants as value
-use Rattle.nmgc_world_spec.specs.declared.node.Node.{Node}
-use Rattle.nmgc_world_spec.specs.declared.node.Node.TheVariants.{Con, Var, Arr, Thunk, Weak, Stack}
-use Rattle.nmgc_world_spec.specs.declared.node.Kind.{Kind}
 use Rattle.nmgc_world_spec.specs.declared.node.Kind.TheVariants as kind
-use Rattle.nmgc_world_spec.specs.World.{World, node_of}
-use Rattle.nmgc_lists.specs.laws.Items.{is_some_of, contains_head, contains_tail, one_is}
-use Rattle.nmgc_object.specs.declared.words.Header.{Header}
-use Rattle.nmgc_object.specs.declared.size.TheConstants.{HEADER_WORDS}
-use Rattle.nmgc_object.specs.declared.layout.TheConstants.{FIRST_PLACE}
-use Rattle.nmgc_object.specs.Words.{header_word, IsHeader}
-use Rattle.nmgc_object.specs.Places.{word_total}
-use Rattle.nmgc_round.specs.Told.{IsSafe, TellsEntry}
-use Rattle.nmgc_snapshot_laws.specs.declared.event.Entry.{Entry}
-use Rattle.nmgc_snapshot_laws.specs.State.{State, is_new, is_listed, mark_read, entry_of}
-use Rattle.nmgc_snapshot_laws.specs.Scan.{fields_of, read_at, field_at, is_last, moved_on}
-use Rattle.nmgc_world_laws.specs.Holds.{has_result}
-use Rattle.nmgc_snapshot_laws.specs.Machine.{advanced, after_scan}
-use Rattle.nmgc_heap_spec.specs.Shape.{header_of, size_of, slots_of, free_slots}
-use Rattle.nmgc_heap_spec.specs.Places.{Place, Means, HasSlots, AllMean}
-use Rattle.nmgc_heap_spec.specs.laws.Kinds.{HasFields, KeepsFree, fields_of_slots, free_of_slots}
-use Rattle.nmgc_round.specs.View.{Opening, Seen, scanning}
-use Rattle.nmgc_round.specs.Marking.{Marks, marks_of, marks_after, name_at, name_meant, name_read, with_name, is_thunk, is_last_word, entry_past, first_past, after_word, offset_of}
-use Rattle.nmgc_round.specs.Objects.{Object, place_of, free_of, IsLater, IsObject, IsIn}
-use Rattle.nmgc_round.specs.Rule.{now, IsRead, IsQueued, Keeps}
-use Rattle.nmgc_round.specs.Added.{AddsScan}
-use Rattle.nmgc_round.specs.Ready.{CanScan, scanned_by, first_of}
-use Rattle.nmgc_round.proofs.Standing.{later_of}
-use Rattle.nmgc_heap_spec.specs.laws.Meanings.{lies_above}
-use Rattle.nmgc_heap_spec.specs.laws.Common.{lies_within}
-use Rattle.nmgc_round.proofs.Lists.{pointer_means}
-use Rattle.nmgc_round.proofs.Runs.{same_snapshot, rest_read}
-use Rattle.nmgc_round.proofs.Keeping.{scan_law}
-use Rattle.nmgc_round.specs.laws.Common.{marks_if, some_at, found_at}
+use Rattle.nmgc_round.proofs.{Standing.later_of, Lists.pointer_means, Runs.same_snapshot, Runs.rest_read, Keeping.scan_law}
 
 -- the word at a place is that of what was read: an unset field is 0
 pub record IsReadAt (P : Place → Type 0) (words : List ℕ) (j : ℕ) (v : Option Value) : Type 0 where
@@ -55,20 +15,19 @@ module _ (P : Place → Type 0) (words : List ℕ) where
 
   item_read : (from i : ℕ) (values : List Value) → i < length values → AllMean P words from values → IsReadAt P words (from + i) (slice_get values i)
   item_read from i values lt h = let e : slice_get values i ≡ Some (get_or values i value.Nil) = slice_get-get_or values i value.Nil lt in
-      subst (λ v. IsReadAt P words (from + i) v) (sym e) (one_read (from + i) (get_or values i value.Nil) (h i (get_or values i value.Nil) e))
+      rw e (one_read (from + i) (get_or values i value.Nil) (h i (get_or values i value.Nil) e))
 
   -- an item of a stack, or an unset slot
   slot_read : (from i size : ℕ) (values : List Value) → i < size → AllMean P words from values →
       ((k : ℕ) → length values ≤ k → k < size → slice_index words (from + k) ≡ 0) → IsReadAt P words (from + i) (slice_get values i)
   slot_read from i size values lt h u = elim (cases_lt i (length values)) [
     | inl in_ ↦ item_read from i values in_ h
-    | inr le ↦ subst (λ v. IsReadAt P words (from + i) v) (sym (slice_get_past values i le)) (record { means = tt; unset = λ e. u i le lt })
+    | inr le ↦ rw (slice_get_past values i le) (record { means = tt; unset = λ e. u i le lt })
   ]
 
   kept_free : (from i : ℕ) (free : List Value) (b : Node) → free_of b ≡ free → has_result b ≡ false → (header_of b).kind ≡ kind.Thunk →
       i < length free → KeepsFree P words from b → IsReadAt P words (from + 1 + i) (slice_get free i)
-  kept_free from i free (Thunk old None) e none k lt h = subst (λ (l : List Value).
-      IsReadAt P words (from + 1 + i) (slice_get l i)) e (item_read (from + 1) i old (subst (λ (l : List Value). i < length l) (sym e) lt) h)
+  kept_free from i free (Thunk old None) e none k lt h = rw e at (item_read (from + 1) i old (rw e lt) h)
   kept_free from i free (Thunk old (Some r)) e none k lt h = absurd (let bad : true ≡ false = none in cc)
   kept_free from i free (Con tag values) e none k lt h = absurd cc
   kept_free from i free (Var v) e none k lt h = absurd cc
@@ -80,18 +39,18 @@ module _ (P : Place → Type 0) (words : List ℕ) where
   field_read_at : (from i : ℕ) (n b : Node) → IsLater b n → i < fields_of n → (1 ≤ i → has_result b ≡ false) → HasFields P words from n →
       KeepsFree P words from b → IsReadAt P words (from + i) (field_at n i)
   field_read_at from i (Con tag values) b l lt passed h k = item_read from i values lt h
-  field_read_at from zero (Var v) b l lt passed h k = let z : from ≡ from + 0 = omega arith in subst (λ j. IsReadAt P words j (Some v)) z (one_read from v h)
+  field_read_at from zero (Var v) b l lt passed h k = let z : from ≡ from + 0 = omega arith in rw z at (one_read from v h)
   field_read_at from (suc i) (Var v) b l lt passed h k = absurd (omega arith)
   field_read_at from i (Arr values) b l lt passed h k = item_read from i values lt h
   field_read_at from zero (Thunk free None) b l lt passed h k = let z : from ≡ from + 0 = omega arith in
-      subst (λ j. IsReadAt P words j None) z (record { means = tt; unset = λ e. h.0 })
+      rw (← z) (record { means = tt; unset = λ e. h.0 })
   field_read_at from zero (Thunk free (Some r)) b l lt passed h k = let z : from ≡ from + 0 = omega arith in
-      subst (λ j. IsReadAt P words j (Some r)) z (one_read from r h)
+      rw z at (one_read from r h)
   field_read_at from (suc i) (Thunk free None) b l lt passed h k = let z : from + 1 + i ≡ from + suc i = omega arith in
-      subst (λ j. IsReadAt P words j (slice_get free i)) z (item_read (from + 1) i free (omega arith) h.1)
+      rw z at (item_read (from + 1) i free (omega arith) h.1)
   field_read_at from (suc i) (Thunk free (Some r)) b l lt passed h k =
       let z : from + 1 + i ≡ from + suc i = omega arith in
-      subst (λ j. IsReadAt P words j (slice_get free i)) z (kept_free from i free b (sym l.free) (passed (omega arith)) (ap (λ (r : Header).
+      rw z at (kept_free from i free b (sym l.free) (passed (omega arith)) (ap (λ (r : Header).
       r.kind) (sym l.header)) (omega arith) k)
   field_read_at from i (Weak parts) b l lt passed h k = absurd (omega arith)
   field_read_at from i (Stack size values) b l lt passed h k = slot_read from i size values lt h.0 h.1
@@ -114,7 +73,7 @@ by_header (Weak parts) = refl
 by_header (Stack size values) = refl
 
 pub same_fields : (b n : Node) → IsLater b n → fields_of n ≡ fields_of b
-same_fields b n l = by_header n ∙ ap (λ (h : Header). scanned_of h.kind h.fields) l.header ∙ sym (by_header b)
+same_fields b n l = cc (by_header n, l.header, by_header b)
 
 -- whether it is a thunk is told by the header
 abbrev thunk_kind : Kind → Bool
@@ -130,7 +89,7 @@ thunk_header (Weak parts) = refl
 thunk_header (Stack size values) = refl
 
 same_thunk : (b n : Node) → IsLater b n → is_thunk b ≡ is_thunk n
-same_thunk b n l = thunk_header b ∙ ap (λ (h : Header). thunk_kind h.kind) (sym l.header) ∙ sym (thunk_header n)
+same_thunk b n l = cc (thunk_header b, l.header, thunk_header n)
 
 -- a word that means a value isn't 0
 pub means_some : (P : Place → Type 0) → ((p : Place) → P p → 1 ≤ p.at) → (w : ℕ) (v : Value) → Means P w v → w ≢ 0
@@ -159,11 +118,8 @@ or_parts true b e = absurd cc
 last_same : (position w : ℕ) (b n : Node) → IsLater b n → (position ≡ 1 → has_result n ≡ (is_thunk n && not (eqb w 0))) →
     is_last n position ≡ is_last_word b position w
 last_same position w b n l f = elim (eqb_tells position 1) [
-  | inl e ↦ ap (λ k. leb k position || (eqb position 1 && has_result n)) (same_fields b n l) ∙
-      ap (λ (x : Bool). leb (fields_of b) position || (eqb position 1 && x)) (f e.1 ∙ ap (λ (t : Bool). t && not (eqb w 0)) (sym (same_thunk b n l)))
-  | inr e ↦ ap (λ k. leb k position || (eqb position 1 && has_result n)) (same_fields b n l) ∙
-      ap (λ (t : Bool). leb (fields_of b) position || (t && has_result n)) e.0 ∙
-      sym (ap (λ (t : Bool). leb (fields_of b) position || (t && (is_thunk b && not (eqb w 0)))) e.0)
+  | inl e ↦ cc (same_fields b n l, f e.1, same_thunk b n l)
+  | inr e ↦ cc (same_fields b n l, e.0)
 ]
 
 -- the name that was read, if one was
@@ -267,7 +223,7 @@ module _ (o : Opening) (words : List ℕ) (views : List Seen) (h : Keeps o words
   read_safe : (w : ℕ) (x : Option Value) → IsRead P w x → (x ≡ None → w ≡ 0) → IsSafe o w
   read_safe w None m unset at e = let z = unset refl in let l : FIRST_PLACE ≤ word_total o.layout = omega arith in omega arith
   read_safe w (Some x) m unset at e =
-      let q = pointer_means P at x (subst (λ k. Means P k x) e m) in
+      let q = pointer_means P at x (rw e at m) in
       let y : Object = record { at = at; name = q.0; node = q.2.0 } in
       let l = lies_within o.layout (place_of y) (size_of y.node) (omega arith) (h.stands.apart y q.2.1).lies in
       omega arith
@@ -284,10 +240,10 @@ module _ (o : Opening) (words : List ℕ) (views : List Seen) (h : Keeps o words
     is = (h.agrees id v here).opening (inr can.collects)
 
     folded_is : marks_of S ≡ marks_after v.opening v.scans
-    folded_is = ((h.agrees id v here).scans can.collects).2 ∙ ap (λ (y : Opening). marks_after y v.scans) (sym is)
+    folded_is = cc (((h.agrees id v here).scans can.collects).2, is)
 
     queue_is : S.queue ≡ can.entry ∷ can.rest
-    queue_is = ap (λ (m : Marks). m.queue) folded_is ∙ can.first
+    queue_is = cc (folded_is, can.first)
 
     -- what is known of the object that is scanned
     record Target : Type 0 where
@@ -303,29 +259,27 @@ module _ (o : Opening) (words : List ℕ) (views : List Seen) (h : Keeps o words
 
     target : Target
     target =
-        let q : IsQueued o can.entry = h.queued can.entry (subst (λ (l : List Entry).
-        Contains l can.entry) (sym queue_is) (contains_head can.entry can.rest)) in
+        let q : IsQueued o can.entry = h.queued can.entry (rw queue_is (contains_head can.entry can.rest)) in
         let x : Object = q.object in
         let x_at : x.at ≡ at = ap (λ (p : Place). p.at) (h.stands.one (place_of x) (record {
           at = at;
           name = can.entry.name;
-        }) (inl q.here.there) (inl (subst (λ (y : Opening).
-        Contains y.places (record { at = at; name = can.entry.name })) is can.there)) (inl q.name)) in
+        }) (inl q.here.there) (inl (rw is at can.there)) (inl q.name)) in
         let st = h.stands.objects x (inl q.here) in
-        let node_there : node_of S0 x.name ≡ Some q.node = ap (λ n. node_of S0 n) q.name ∙ q.there in
+        let node_there : node_of S0 x.name ≡ Some q.node = cc (q.name, q.there) in
         let k = st.kept q.node (inr (record {
           marking = q.marking;
-          wide = h.is.wide q.marking x q.here (subst (λ y. IsSome y) (sym node_there) refl);
+          wide = h.is.wide q.marking x q.here (rw node_there refl);
           there = node_there;
         })) in
         record {
           queued = q;
           node = st.node;
-          there = ap (λ n. node_of S.world n) (sym q.name) ∙ st.there;
+          there = cc (q.name, st.there);
           later = later_of x.node st.node st.later q.node k.0;
           fields = fields_of_slots P words (at + HEADER_WORDS) st.node (subst (λ a. HasSlots P words (a + HEADER_WORDS) (slots_of st.node)) x_at st.fields);
-          kept = free_of_slots P words (at + HEADER_WORDS) q.node (subst (λ a. HasSlots P words (a + HEADER_WORDS) (free_slots q.node)) x_at k.1);
-          header = ap (λ a. slice_index words a) (sym x_at) ∙ st.header ∙ ap header_word k.0.header;
+          kept = free_of_slots P words (at + HEADER_WORDS) q.node (rw x_at at k.1);
+          header = cc (x_at, st.header, k.0.header);
           valid = subst IsHeader k.0.header (h.stands.apart x (inl q.here)).valid;
           room =
               let l = lies_within o.layout (place_of x) (size_of x.node) (omega arith) (h.stands.apart x (inl q.here)).lies in
@@ -348,13 +302,12 @@ module _ (o : Opening) (words : List ℕ) (views : List Seen) (h : Keeps o words
         let r : IsReadAt P words (at + HEADER_WORDS + i) (field_at t.node i) =
         field_read_at P words (at + HEADER_WORDS) i t.node t.queued.node t.later (omega arith) (λ le. t.queued.passed (omega arith)) t.fields t.kept in
         let place : at + offset ≡ at + HEADER_WORDS + i = let q : offset ≡ HEADER_WORDS + i = can.position ∙ ap offset_of e in omega arith in
-        let r' : IsReadAt P words (at + offset) (field_at t.node i) = subst (λ j. IsReadAt P words j (field_at t.node i)) (sym place) r in
+        let r' : IsReadAt P words (at + offset) (field_at t.node i) = rw place r in
         record {
           means = r'.means;
           unset = λ a le. r'.unset a;
           name = λ m. word_name m w (field_at t.node i) r'.means r'.unset;
-          result = λ one. let z : i ≡ 0 = omega arith in result_word P least words (at + offset) t.node (subst (λ k.
-              IsReadAt P words (at + offset) (field_at t.node k)) z r');
+          result = λ one. let z : i ≡ 0 = omega arith in result_word P least words (at + offset) t.node (rw z at r');
         }
 
     pub scan_tells : TellsEntry o can.entry w
@@ -367,13 +320,12 @@ module _ (o : Opening) (words : List ℕ) (views : List Seen) (h : Keeps o words
                 node = t.queued.node;
                 there = t.queued.there;
                 valid = t.valid;
-                word_is = ap (λ j. slice_index words j) z ∙ t.header;
+                word_is = cc (z, t.header);
                 room = λ a c.
                     let same = h.stands.one (record { at = a; name = can.entry.name }) (record {
                       at = at;
                       name = can.entry.name;
-                    }) (inl c) (inl (subst (λ (y : Opening).
-                    Contains y.places (record { at = at; name = can.entry.name })) is can.there)) (inl refl) in
+                    }) (inl c) (inl (rw is at can.there)) (inl refl) in
                     let here = ap (λ (p : Place). p.at) same in
                     let room = t.room in
                     omega arith;
@@ -404,8 +356,8 @@ module _ (o : Opening) (words : List ℕ) (views : List Seen) (h : Keeps o words
               passed = λ le. absurd (omega arith);
             }
         by_object x (inr c) same =
-            let none : node_of S0 name ≡ None = ap (λ n. node_of S0 n) (sym same) ∙ (h.new x c).no_snapshot in
-            let bad : IsSome {T = Node} None = subst (λ y. IsSome y) none some_ in
+            let none : node_of S0 name ≡ None = cc (same, (h.new x c).no_snapshot) in
+            let bad : IsSome {T = Node} None = rw none at some_ in
             absurd cc
 
         by_value : (v : Option Value) → IsRead P w v → ref_of v ≡ Some name → IsQueued o (entry_of name)
@@ -433,7 +385,7 @@ module _ (o : Opening) (words : List ℕ) (views : List Seen) (h : Keeps o words
               within = omega arith;
               passed = λ le. elim (eqb_tells can.entry.position 1) [
                 | inl one ↦
-                    let none : has_result t.node ≡ false = ap (λ (b : Bool). b && has_result t.node) (sym one.0) ∙ parts.1 in
+                    let none : has_result t.node ≡ false = cc (one.0, parts.1) in
                     by_result (has_result t.queued.node) refl none
                 | inr two ↦ t.queued.passed (let ne = two.1 in omega arith)
               ];
@@ -459,32 +411,24 @@ module _ (o : Opening) (words : List ℕ) (views : List Seen) (h : Keeps o words
         let M : Marks = with_name S0 (marks_of S) (ref_of x) in
         let T : State = mark_read S x in
         let next : List Entry = record { name = entry.name; position = entry.position + 1 } ∷ [] in
-        let marked : marks_of T ≡ M = mark_is S x ∙ ap (λ (s : World). with_name s (marks_of S) (ref_of x)) snapshot_is in
+        let marked : marks_of T ≡ M = cc (mark_is S x, snapshot_is) in
         let world : T.world ≡ S.world = (rest_read S x).world in
-        let T_queue : T.queue ≡ entry ∷ f.0 = ap (λ (m : Marks). m.queue) marked ∙ f.1 in
-        let T_node : node_of T.world entry.name ≡ Some t.node = ap (λ (u : World). node_of u entry.name) world ∙ t.there in
-        let scans : after_scan S S.queue ≡ advanced T (entry ∷ f.0) = ap (λ (l : List Entry). after_scan S l) queue_is ∙
-        ap (λ (y : Option Value). advanced (mark_read S y) (mark_read S y).queue) read_is ∙ ap (λ (l : List Entry). advanced T l) T_queue in
+        let T_queue : T.queue ≡ entry ∷ f.0 = cc (marked, f.1) in
+        let T_node : node_of T.world entry.name ≡ Some t.node = cc (world, t.there) in
+        let scans : after_scan S S.queue ≡ advanced T (entry ∷ f.0) = cc (queue_is, read_is, T_queue) in
         let moved : moved_on (node_of T.world entry.name) entry ≡ entry_past (node_of S0 entry.name) entry w =
-        ap (λ (y : Option Node). moved_on y entry) T_node ∙ ap (λ (b : Bool).
-        cond b [] next) (last_same entry.position w t.queued.node t.node t.later r.result) ∙
-        sym (ap (λ (y : Option Node). entry_past y entry w) t.queued.there) in
+        cc (T_node, last_same entry.position w t.queued.node t.node t.later r.result, t.queued.there) in
         let marks : marks_of (after_scan S S.queue) ≡ after_word o (marks_of S) (record { entry = entry; word = w }) =
         ap (λ (s : State). marks_of s) scans ∙ (λ i. record { marked = (marked i).marked; queue = moved i ++ f.0 })
         ∙ sym (ap (λ (m : Marks). let n : Marks = record { marked = m.marked; queue = first_past S0 m.queue w } in n) (r.name (marks_of S)) ∙
         ap (λ (l : List Entry). let n : Marks = record { marked = M.marked; queue = first_past S0 l w } in n) f.1) in
-        let after_queue : (after_scan S S.queue).queue ≡ moved_on (Some t.node) entry ++ f.0 = ap (λ (s : State). s.queue) scans ∙
-        ap (λ (y : Option Node). moved_on y entry ++ f.0) T_node in
+        let after_queue : (after_scan S S.queue).queue ≡ moved_on (Some t.node) entry ++ f.0 = cc (scans, T_node) in
         let each : (e : Entry) → Contains (after_scan S S.queue).queue e → IsQueued o e =
-        λ e c. elim (Contains-append_cases (moved_on (Some t.node) entry) f.0 e (subst (λ (l : List Entry). Contains l e) after_queue c)) [
+        λ e c. elim (Contains-append_cases (moved_on (Some t.node) entry) f.0 e (rw after_queue at c)) [
           | inl d ↦ next_queued t e d
           | inr d ↦ elim (f.2 e d) [
-            | inl old ↦ h.queued e (subst (λ (l : List Entry). Contains l e) (sym queue_is) (contains_tail entry can.rest e old))
+            | inl old ↦ h.queued e (rw queue_is (contains_tail entry can.rest e old))
             | inr new ↦ subst (IsQueued o) (sym new.3) (name_queued t entry.position r new.0 new.1 new.2)
           ]
         ] in
-        subst (λ (k : Entry). AddsScan o words views h entry words (set views id (scanning v (record {
-          entry = k;
-          word = w;
-        })))) (sym (ap (λ (l : List Entry). first_of l) can.first))
-        (scan_law o words views h id v here entry can.rest w x can.collects queue_is read_is r.means r.unset marks each)
+        rw (ap (λ (l : List Entry). first_of l) can.first) (scan_law o words views h id v here entry can.rest w x can.collects queue_is read_is r.means r.unset marks each)

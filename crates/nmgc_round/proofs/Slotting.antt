@@ -1,13 +1,5 @@
 -- Lists of slots, where the top changes.
-use Rattle.std.proofs.Common.{◌≡◌, ◌≢◌, ◌⊎◌, inl, inr, ℕ, zero, suc, ◌+◌, ◌-◌, ◌<◌, ◌≤◌, List, [], ◌∷◌, ◌++◌, length, take, set, refl, sym, ap, subst, ◌∙◌, arith, slice_index, Some, get_or-set_same, get_or-set_other}
-use Rattle.std.specs.Prelude.{slice_get}
-use Rattle.std.proofs.lemmas.Bool.{cases_eq}
-use Rattle.std.proofs.lemmas.Option.{slice_get_within}
-use Rattle.nmgc_world_spec.specs.declared.value.Value.{Value}
-use Rattle.nmgc_world_spec.specs.Change.{without_last, last_of}
-use Rattle.nmgc_heap_spec.specs.Places.{Place, Means, AllMean, ListMeans}
-use Rattle.nmgc_heap_spec.specs.laws.Kinds.{AreUnset, item_cases}
-use Rattle.nmgc_lists.specs.laws.Items.{slice_get-append as item_left}
+use Rattle.nmgc_round.proofs.Vocabulary.{◌≡◌, ◌≢◌, ◌⊎◌, inl, inr, ℕ, zero, suc, ◌+◌, ◌-◌, ◌<◌, ◌≤◌, List, [], ◌∷◌, ◌++◌, length, take, set, refl, ap, ◌∙◌, arith, slice_index, Some, get_or-set_same, get_or-set_other, slice_get, cases_eq, slice_get_within, Value, without_last, last_of, Place, Means, AllMean, ListMeans, AreUnset, item_cases, item_left}
 
 -- nothing stands past the end
 pub past : (ws : List ℕ) (i : ℕ) → length ws ≤ i → slice_index ws i ≡ 0
@@ -28,8 +20,8 @@ last_apart (x ∷ y ∷ values) = elim (last_apart (y ∷ values)) [
         x ∷ h.0,
         h.1,
         ap (λ (l : List Value). x ∷ l) h.2,
-        ap (λ (k : ℕ). take k (x ∷ y ∷ values)) n ∙ ap (λ (l : List Value). x ∷ l) h.3,
-        ap (λ (k : ℕ). slice_get (x ∷ y ∷ values) k) n ∙ h.4,
+        cc (n, h.3),
+        cc (n, h.4),
       )
 ]
 
@@ -44,7 +36,7 @@ module _ (P : Place → Type 0) where
   list_at [] [] i v h e = absurd cc
   list_at [] (y ∷ vs) i v h e = absurd h
   list_at (w ∷ ws) [] i v h e = absurd h
-  list_at (w ∷ ws) (y ∷ vs) zero v h e = let same : y ≡ v = cc in subst (λ x. Means P w x) same h.0
+  list_at (w ∷ ws) (y ∷ vs) zero v h e = let same : y ≡ v = cc in rw same at h.0
   list_at (w ∷ ws) (y ∷ vs) (suc i) v h e = list_at ws vs i v h.1 e
 
   -- all words but the last mean all values but the last
@@ -57,7 +49,7 @@ module _ (P : Place → Type 0) where
   front_means (w ∷ []) (x ∷ y ∷ front) v h = absurd h.1
   front_means (w ∷ u ∷ ws) (x ∷ front) v h =
       let n : length (w ∷ u ∷ ws) - 1 ≡ suc (length (u ∷ ws) - 1) = omega arith in
-      subst (λ k. ListMeans P (take k (w ∷ u ∷ ws)) (x ∷ front)) (sym n) (h.0, front_means (u ∷ ws) front v h.1)
+      rw n (h.0, front_means (u ∷ ws) front v h.1)
 
   -- a value more, in the next slot
   pub all_pushed : (words : List ℕ) (from w : ℕ) (values : List Value) (v : Value) → from + length values < length words →
@@ -66,16 +58,14 @@ module _ (P : Place → Type 0) where
     | inl l ↦
         let lt = slice_get_within values i x l in
         let far : from + i ≢ from + length values = λ k. omega arith in
-        subst (λ n. Means P n x) (sym (get_or-set_other words (from + length values) (from + i) w 0 far)) (h i x l)
+        rw (get_or-set_other words (from + length values) (from + i) w 0 far) (h i x l)
     | inr r ↦
         let lt = slice_get_within (v ∷ []) r.0 x r.2 in
         let none : r.0 ≡ 0 = omega (arith, lt) in
-        let is : Some v ≡ Some x = subst (λ k. slice_get (v ∷ []) k ≡ Some x) none r.2 in
+        let is : Some v ≡ Some x = rw none at r.2 in
         let same : v ≡ x = cc in
         let at : from + i ≡ from + length values = omega (arith, r.1) in
-        subst (λ y. Means P (slice_index (set words (from + length values) w) (from + i)) y) same (subst (λ j.
-        Means P (slice_index (set words (from + length values) w) j) v) (sym at) (subst (λ n.
-        Means P n v) (sym (get_or-set_same words (from + length values) w 0 inside)) m))
+        rw (← same) (rw at (rw (get_or-set_same words (from + length values) w 0 inside) m))
   ]
 
   -- all values but the last, where the last slot changes
@@ -84,7 +74,7 @@ module _ (P : Place → Type 0) where
   all_popped words from w front v h i x e =
       let lt = slice_get_within front i x e in
       let far : from + i ≢ from + length front = λ k. omega arith in
-      subst (λ n. Means P n x) (sym (get_or-set_other words (from + length front) (from + i) w 0 far)) (h i x (item_left front (v ∷ []) i x e))
+      rw (get_or-set_other words (from + length front) (from + i) w 0 far) (h i x (item_left front (v ∷ []) i x e))
 
 -- slots past the top stay unset
 pub unset_pushed : (words : List ℕ) (from w depth size : ℕ) → AreUnset words from depth size → AreUnset (set words (from + depth) w) from (depth + 1) size
@@ -94,6 +84,6 @@ unset_pushed words from w depth size h i lo hi = get_or-set_other words (from + 
 pub unset_popped : (words : List ℕ) (from depth size : ℕ) → from + depth < length words → AreUnset words from (depth + 1) size →
     AreUnset (set words (from + depth) 0) from depth size
 unset_popped words from depth size inside h i lo hi = elim (cases_eq i depth) [
-  | inl e ↦ ap (λ k. slice_index (set words (from + depth) 0) (from + k)) e ∙ get_or-set_same words (from + depth) 0 0 inside
+  | inl e ↦ cc (e, get_or-set_same words (from + depth) 0 0 inside)
   | inr ne ↦ get_or-set_other words (from + depth) (from + i) 0 0 (λ k. ne (omega arith)) ∙ h i (omega arith) hi
 ]

@@ -1,19 +1,5 @@
 -- Words that stand for a world, where one word changes.
-use Rattle.std.proofs.Common.{◌≡◌, ◌≢◌, ◌⊎◌, inl, inr, ℕ, ◌+◌, ◌<◌, ◌≤◌, List, set, refl, sym, ap, subst, ◌∙◌, arith, slice_index, Some, get_or-set_other, length-set}
-use Rattle.std.specs.Prelude.{IsSome}
-use Rattle.std.proofs.lemmas.Bool.{cases_eq}
-use Rattle.nmgc_world_spec.specs.laws.Orders.{name_cases}
-use Rattle.nmgc_world_spec.specs.declared.value.Name.{Name}
-use Rattle.nmgc_world_spec.specs.declared.node.Node.{Node}
-use Rattle.nmgc_world_spec.specs.World.{World, node_of, IsSized}
-use Rattle.nmgc_object.specs.declared.words.Header.{Header}
-use Rattle.nmgc_object.specs.declared.size.TheConstants.{HEADER_WORDS}
-use Rattle.nmgc_heap_spec.specs.Shape.{header_of, size_of, slots_of, MayChange}
-use Rattle.nmgc_heap_spec.specs.Places.{Place, HasSlots, IsBetween}
-use Rattle.nmgc_heap_spec.specs.laws.Changes.{not_between}
-use Rattle.nmgc_heap_spec.specs.Represents.{IsNamed}
-use Rattle.nmgc_round.specs.View.{Opening}
-use Rattle.nmgc_round.specs.Objects.{Object, place_of, end_of, IsObject, IsIn, IsPlace, IsLater, IsStanding, RepresentsInRound}
+use Rattle.nmgc_round.proofs.Vocabulary.{◌≡◌, ◌≢◌, ◌⊎◌, inl, inr, ℕ, ◌+◌, ◌<◌, ◌≤◌, List, set, refl, sym, ap, subst, ◌∙◌, arith, slice_index, Some, get_or-set_other, length-set, IsSome, cases_eq, name_cases, Name, Node, World, node_of, IsSized, Header, HEADER_WORDS, header_of, size_of, slots_of, MayChange, Place, HasSlots, IsBetween, IsNamed, not_between, Opening, Object, place_of, end_of, IsObject, IsIn, IsPlace, IsLater, IsStanding, RepresentsInRound}
 use Rattle.nmgc_round.proofs.Fields.{fields_same, kept_same}
 
 -- what is later than what is later
@@ -32,10 +18,6 @@ same_node n = record { header = refl; free = refl; result = λ e. e; alive = λ 
 pub placed : (o : Opening) (born : List Object) (x : Object) → IsObject o born x → IsPlace o born (place_of x)
 placed o born x (inl h) = inl h.there
 placed o born x (inr h) = inr (x, h, refl)
-
--- the place of an object is one of those that a pointer may mean
-pub is_in : (o : Opening) (born : List Object) (x : Object) → IsObject o born x → IsIn o born (place_of x)
-is_in o born x h = (x.node, h)
 
 module _ (o : Opening) (born : List Object) (w : World) (ws : List ℕ) (st : RepresentsInRound o born w ws) where
   -- two objects are one, or lie apart
@@ -56,7 +38,7 @@ module _ (o : Opening) (born : List Object) (w : World) (ws : List ℕ) (st : Re
   one_node x y hx hy e =
       let a = st.objects x hx in
       let b = st.objects y hy in
-      let same : Some a.node ≡ Some b.node = sym a.there ∙ ap (λ n. node_of w n) e ∙ b.there in
+      let same : Some a.node ≡ Some b.node = cc (a.there, e, b.there) in
       cc
 
   -- and one header
@@ -81,8 +63,8 @@ module _ (o : Opening) (born : List Object) (w : World) (ws : List ℕ) (st : Re
 
     known : (n : Name) → IsSome (node_of w n) → IsSome (node_of v n)
     known n h = elim (name_cases n x.name) [
-      | inl e ↦ subst (λ m. IsSome (node_of v m)) (sym e) (subst (λ y. IsSome y) (sym mine) refl)
-      | inr ne ↦ subst (λ y. IsSome y) (sym (others n ne)) h
+      | inl e ↦ rw e (rw mine refl)
+      | inr ne ↦ rw (others n ne) h
     ]
 
     name_kept : (p : Place) → IsPlace o born p → IsNamed o.layout w ws p → IsNamed o.layout v us p
@@ -97,13 +79,13 @@ module _ (o : Opening) (born : List Object) (w : World) (ws : List ℕ) (st : Re
         record {
           header = away y.at (λ e. omega arith) ∙ h.header;
           node = made;
-          there = subst (λ n. node_of v n ≡ Some made) name mine;
-          later = later_of h.node made (subst (λ (n : Node). IsLater n made) (one_node x y hx hy name) later) y.node h.later;
+          there = rw name at mine;
+          later = later_of h.node made (rw (one_node x y hx hy name) at later) y.node h.later;
           sized = sized;
-          fields = subst (λ a. HasSlots (IsIn o born) us (a + HEADER_WORDS) (slots_of made)) at fields;
+          fields = rw (← at) fields;
           kept = λ before k.
               let g = h.kept before k in
-              let may' : MayChange (header_of before).kind i = subst (λ (r : Header). MayChange r.kind i) (head ∙ g.0.header) may in (
+              let may' : MayChange (header_of before).kind i = rw (head ∙ g.0.header) at may in (
                 g.0,
                 kept_same o y (IsIn o born) (IsIn o born) (λ p q. q) ws us (y.at + HEADER_WORDS) before k (λ j lo hi fixed.
                     away j (λ e. fixed i (omega arith) may')) g.1,
@@ -156,7 +138,7 @@ pub stands_nodes : (o : Opening) (born : List Object) (w v : World) (ws : List �
 stands_nodes o born w v ws same st = record {
   total = st.total;
   one = st.one;
-  named = λ p hp. let h = st.named p hp in record { known = subst (λ y. IsSome y) (sym (same p.name)) h.known; valid = h.valid; name = h.name; lies = h.lies };
+  named = λ p hp. let h = st.named p hp in record { known = rw (same p.name) h.known; valid = h.valid; name = h.name; lies = h.lies };
   apart = st.apart;
   objects = λ y hy. let h = st.objects y hy in record {
     header = h.header;

@@ -1,49 +1,10 @@
 -- A load and a compare-exchange of a thunk's result keep the rule.
-use Rattle.std.proofs.Common.{◌≡◌, ◌≢◌, ℕ, ◌+◌, ◌-◌, ◌*◌, ◌/◌, Bool, true, false, cond, eqb, eq-eqb, ne_eqb, List, [], ◌∷◌, ◌++◌, length, set, refl, sym, ap, subst, ◌∙◌, arith, slice_index, Option, Some, None, get_or-set_same}
-use mathlib.Core.Option.{some}
-use lib.ListN.{get_elem?}
-use Rattle.nmgc_world_spec.specs.declared.value.Name.{Name}
-use Rattle.nmgc_world_spec.specs.declared.value.Value.{Value}
+use Rattle.nmgc_round.proofs.Vocabulary.{◌≡◌, ◌≢◌, ℕ, ◌+◌, ◌-◌, ◌*◌, ◌/◌, Bool, true, false, cond, eqb, eq-eqb, ne_eqb, List, [], ◌∷◌, ◌++◌, length, set, refl, sym, ap, subst, ◌∙◌, arith, slice_index, Option, Some, None, get_or-set_same, some, get_elem?, Name, Value, Node, Con, Var, Arr, Thunk, Weak, Stack, Change, MutatorState, Operand, Command, Update, Force, Reply, World, state_of, node_of, given_or, thunk_updated, value_for, with_node, with_register, world_holding, keeping, step, free_held, names_among, owed_by, header_word, Header, HEADER_WORDS, State, names_of, nodes_kept, header_of, slots_of, Place, Means, HasSlots, ListMeans, fields_of_slots, slots_of_fields, plain, word, Opening, Part, Seen, hand_now, doing, done_by, Object, IsObject, IsIn, now, Fits, Keeps, AddsCommand, IsMutator, Names, operand_word, header_at, IsSafe, owed_words, finding_all, words_exchanged, CanForce, CanUpdate, result_told, forced, updated, free_named}
 use Rattle.nmgc_world_spec.specs.declared.value.Value.TheVariants as value
 use Rattle.nmgc_world_spec.specs.declared.node.Kind.TheVariants as kind
-use Rattle.nmgc_world_spec.specs.declared.node.Node.{Node}
-use Rattle.nmgc_world_spec.specs.declared.node.Node.TheVariants.{Con, Var, Arr, Thunk, Weak, Stack}
-use Rattle.nmgc_world_spec.specs.declared.change.Change.{Change}
 use Rattle.nmgc_world_spec.specs.declared.change.Change.TheVariants as change
-use Rattle.nmgc_world_spec.specs.declared.mutator_state.MutatorState.{MutatorState}
-use Rattle.nmgc_world_spec.specs.declared.command.Operand.{Operand}
-use Rattle.nmgc_world_spec.specs.declared.command.Command.{Command}
-use Rattle.nmgc_world_spec.specs.declared.command.Command.TheVariants.{Update, Force}
-use Rattle.nmgc_world_spec.specs.declared.command.Reply.{Reply}
 use Rattle.nmgc_world_spec.specs.declared.command.Reply.TheVariants as reply
-use Rattle.nmgc_world_spec.specs.World.{World, state_of, node_of}
-use Rattle.nmgc_world_spec.specs.Change.{given_or, result_read, thunk_updated}
-use Rattle.nmgc_world_spec.specs.Step.{value_for, with_node, with_register, holding as world_holding, keeping, change_object, change_node, object_of, read_object, read_into, step}
-use Rattle.nmgc_object.specs.Words.{header_word}
-use Rattle.nmgc_object.specs.declared.words.Header.{Header}
-use Rattle.nmgc_object.specs.declared.size.TheConstants.{HEADER_WORDS}
-use Rattle.nmgc_snapshot_laws.specs.State.{State, names_of}
-use Rattle.nmgc_world_spec.specs.Owed.{free_held, owed_of, owed_at, names_among, owed_by}
-use Rattle.nmgc_world_laws.specs.laws.NodeLaws.{nodes_kept}
-use Rattle.nmgc_heap_spec.specs.Shape.{header_of, slots_of, MayChange}
-use Rattle.nmgc_heap_spec.specs.Places.{Place, Means, HasSlots, ListMeans}
-use Rattle.nmgc_heap_spec.specs.laws.Kinds.{fields_of_slots, slots_of_fields}
-use Rattle.nmgc_round.specs.View.{plain, word, Answer, Opening, Part, Seen, hand_now, doing, first_changed, answered}
-use Rattle.nmgc_round.specs.Events.{done_by}
-use Rattle.nmgc_round.specs.Objects.{Object, IsLater, IsObject, IsIn}
-use Rattle.nmgc_round.specs.Rule.{now, Owes, Fits, Keeps}
-use Rattle.nmgc_round.specs.Added.{AddsCommand}
-use Rattle.nmgc_round.specs.Ready.{IsMutator, CanGive, Names, operand_word}
-use Rattle.nmgc_round.specs.Told.{header_at, IsSafe}
-use Rattle.nmgc_round.specs.Owing.{fixed_from, owed_words, finding_all}
-use Rattle.nmgc_round.specs.Compare.{words_exchanged}
-use Rattle.nmgc_round.specs.Results.{CanForce, CanUpdate, result_told, forced, updated, free_named}
-use Rattle.nmgc_round.proofs.Frames.{node_frame}
-use Rattle.nmgc_round.proofs.Scans.{means_some}
-use Rattle.nmgc_round.proofs.Fixes.{safe_word}
-use Rattle.nmgc_round.proofs.Moves.{meant, operand_is, inside, same_opening, register_hand, hand_kept, still_law}
-use Rattle.nmgc_round.proofs.Writes.{Changes, field_law, own_same, node_now, node_again}
-use Rattle.nmgc_round.proofs.Owings.{named_list, above, named_word, named_header, owes_list}
+use Rattle.nmgc_round.proofs.{Frames.node_frame, Scans.means_some, Fixes.safe_word, Moves.meant, Moves.operand_is, Moves.inside, Moves.same_opening, Moves.register_hand, Moves.hand_kept, Writes.Changes, Writes.field_law, Writes.own_same, Writes.node_now, Writes.node_again, Writes.still_law, Owings.named_list, Owings.above, Owings.named_word, Owings.named_header, Owings.owes_list}
 
 -- a node of a thunk's kind is one
 thunk_of : (n : Node) → (header_of n).kind ≡ kind.Thunk → (free : List Value) × (result : Option Value) × (n ≡ Thunk free result)
@@ -59,21 +20,21 @@ step_force : (w : World) (m dest : ℕ) (object : Operand) (name : Name) (free :
     value_for w m object ≡ value.Ref name → node_of w name ≡ Some (Thunk free result) →
     step w m (Force dest object) ≡ (keeping w m dest (given_or reply.Nothing result), given_or reply.Nothing result)
 step_force w m dest object name free result is there =
-    ap (λ y. read_into w m dest (read_object (object_of w y) result_read)) is ∙ ap (λ o. read_into w m dest (read_object o result_read)) there
+    cc (is, there)
 
 -- `update` of a thunk
 step_update : (w : World) (m : ℕ) (object v : Operand) (name : Name) (found made : Node) (r : Reply) → value_for w m object ≡ value.Ref name →
     node_of w name ≡ Some found → thunk_updated found (value_for w m v) ≡ (made, r) → step w m (Update object v) ≡ (with_node w name made, r)
 step_update w m object v name found made r is there does =
     let c : Change = change.Update (value_for w m v) in
-    ap (λ y. change_object w y c) is ∙ ap (λ o. change_node w name o c) there ∙ ap (λ (r : Node × Reply). (with_node w name r.0, r.1)) does
+    cc (is, there, does)
 
 -- it owes the free variables, where there was no result
 owes_update : (w : World) (m : ℕ) (object v : Operand) (name : Name) (found : Node) → value_for w m object ≡ value.Ref name →
     node_of w name ≡ Some found → owed_by w m (Update object v) ≡ names_among (free_held found)
 owes_update w m object v name found is there =
     let c : Change = change.Update (value_for w m v) in
-    ap (λ y. names_among (owed_of w y c)) is ∙ ap (λ o. names_among (owed_at c name o)) there
+    cc (is, there)
 
 module _ (o : Opening) (words : List ℕ) (views : List Seen) (h : Keeps o words views) (id : ℕ) (v : Seen) (here : get_elem? views id ≡
     some v) (p : Part) (is : IsMutator v p) where
@@ -109,7 +70,7 @@ module _ (o : Opening) (words : List ℕ) (views : List Seen) (h : Keeps o words
       let m = meant o words views h id v here p is at header object e names in
       let st = h.stands.objects m.object m.there in
       let head : header_of st.node ≡ header = st.later.header ∙ m.head in
-      let t = thunk_of st.node (ap (λ (k : Header). k.kind) head ∙ is_thunk) in
+      let t = thunk_of st.node (cc (head, is_thunk)) in
       record {
         thing = m.object;
         there = m.there;
@@ -118,11 +79,10 @@ module _ (o : Opening) (words : List ℕ) (views : List Seen) (h : Keeps o words
         free = t.0;
         result = t.1;
         node_is = t.2;
-        node_there = st.there ∙ ap (λ (n : Node). Some n) t.2;
+        node_there = cc (st.there, t.2);
         head = sym head ∙ ap header_of t.2;
         first = m.head;
-        fields = subst (λ (n : Node). HasSlots P words (at + HEADER_WORDS) (slots_of n)) t.2 (subst (λ a.
-            HasSlots P words (a + HEADER_WORDS) (slots_of st.node)) m.is_at st.fields);
+        fields = rw (← t.2) (rw m.is_at at st.fields);
       }
 
   -- a load of a result, by whether there is one
@@ -136,9 +96,7 @@ module _ (o : Opening) (words : List ℕ) (views : List Seen) (h : Keeps o words
       let w : ℕ = slice_index words (at + HEADER_WORDS) in
       let zero_ : w ≡ 0 = (fields_of_slots P words (at + HEADER_WORDS) (Thunk free None) fields).0 in
       let a : result_told w ≡ plain reply.Nothing = ap (λ (b : Bool). cond b (plain reply.Nothing) (word w)) (eq-eqb w 0 zero_) in
-      subst (λ (a : Answer). AddsCommand o words views h p.number C words (set views id (answered v C a))) (sym a)
-      (still_law o words views h id v here p is C reply.Nothing (plain reply.Nothing) W (subst (λ (d : Command).
-      CanGive o p d) can.command can.gives) (step_force W p.number can.dest can.object name free None refers there) (λ n. refl) refl refl fits.hand refl)
+      rw a (still_law o words views h id v here p is C reply.Nothing (plain reply.Nothing) W (rw can.command at can.gives) (step_force W p.number can.dest can.object name free None refers there) (λ n. refl) refl refl fits.hand refl)
   force_as at c can free (Some x) name refers there fields =
       let C : Command = Force can.dest can.object in
       let w : ℕ = slice_index words (at + HEADER_WORDS) in
@@ -146,18 +104,14 @@ module _ (o : Opening) (words : List ℕ) (views : List Seen) (h : Keeps o words
       let a : result_told w ≡ word w =
       ap (λ (b : Bool). cond b (plain reply.Nothing) (word w)) (ne_eqb w 0 (means_some P (above o words views h id v here p is) w x m)) in
       let q : MutatorState = world_holding (state_of W p.number) can.dest x in
-      subst (λ (a : Answer). AddsCommand o words views h p.number C words (set views id (answered v C a))) (sym a)
-      (still_law o words views h id v here p is C (reply.Given x) (word w) (with_register W p.number can.dest x) (subst (λ (d : Command).
-      CanGive o p d) can.command can.gives) (step_force W p.number can.dest can.object name free (Some x) refers there)
+      rw a (still_law o words views h id v here p is C (reply.Given x) (word w) (with_register W p.number can.dest x) (rw can.command at can.gives) (step_force W p.number can.dest can.object name free (Some x) refers there)
       (nodes_kept W p.number q fits.exists refl) refl (x, refl, m) (register_hand o words views h id v here p is can.dest w x m) refl)
 
   pub force_keeps : (at : ℕ) (c : Command) → CanForce o p at c →
       AddsCommand o words views h p.number c words (set views id (forced v c (slice_index words (at + HEADER_WORDS))))
   force_keeps at c can =
       let f = found at can.object can.header can.object_word can.names can.kind in
-      subst (λ (d : Command).
-      AddsCommand o words views h p.number d words (set views id (forced v d (slice_index words (at + HEADER_WORDS))))) (sym can.command)
-      (force_as at c can f.free f.result f.thing.name f.refers f.node_there f.fields)
+      rw can.command (force_as at c can f.free f.result f.thing.name f.refers f.node_there f.fields)
 
   safe_as : (at : ℕ) (free : List Value) (result : Option Value) → HasSlots P words (at + HEADER_WORDS) (slots_of (Thunk free result)) →
       slice_index words (at + HEADER_WORDS) ≢ 0 → IsSafe o (slice_index words (at + HEADER_WORDS))
@@ -174,8 +128,7 @@ module _ (o : Opening) (words : List ℕ) (views : List Seen) (h : Keeps o words
   free_count : (at : ℕ) (header : Header) (free : List Value) (result : Option Value) → Names p at header → header ≡ header_of (Thunk free result) →
       header_at p.fixed at / 2048 - 1 ≡ length free
   free_count at header free result names e =
-      let t : header_at p.fixed at ≡ header_word (header_of (Thunk free result)) = named_header o words views h id v here p is at header names ∙
-      ap (λ (k : Header). header_word k) e in
+      let t : header_at p.fixed at ≡ header_word (header_of (Thunk free result)) = cc (named_header o words views h id v here p is at header names, e) in
       omega arith
 
   -- an update of a thunk that has none
@@ -186,49 +139,41 @@ module _ (o : Opening) (words : List ℕ) (views : List Seen) (h : Keeps o words
       let st = h.stands.objects x f.there in
       let free = f.free in
       let val : Value = value_for W p.number can.value in
-      let was : st.node ≡ Thunk free None = f.node_is ∙ ap (λ r. Thunk free r) none in
+      let was : st.node ≡ Thunk free None = cc (f.node_is, none) in
       let made : Node = Thunk free (Some val) in
       let C : Command = Update can.object can.value in
       let u : World = with_node W x.name made in
       let does : step W p.number C ≡ (u, reply.Updated) =
       step_update W p.number can.object can.value x.name st.node made reply.Updated f.refers st.there (ap (λ n. thunk_updated n val) was) in
-      let owes : owed_by W p.number C ≡ names_among free = owes_update W p.number can.object can.value x.name st.node f.refers st.there ∙
-      ap (λ n. names_among (free_held n)) was in
+      let owes : owed_by W p.number C ≡ names_among free = cc (owes_update W p.number can.object can.value x.name st.node f.refers st.there, was) in
       let now_ = node_now o words views h id v here p is x f.there made in
-      let means : Means P w val = subst (λ n. Means P n val) can.value_word (operand_is o words views h id v here p is can.value) in
+      let means : Means P w val = rw can.value_word at (operand_is o words views h id v here p is can.value) in
       let far = inside o words views h id v here p is x f.there in
       let is_at = f.is_at in
       let head : header_of x.node ≡ header_of (Thunk free f.result) = f.first ∙ f.head in
       let count : (header_of x.node).fields ≡ length free + 1 = ap (λ (k : Header). k.fields) head in
       let z : x.at + HEADER_WORDS + 0 ≡ x.at + HEADER_WORDS = omega arith in
       let new : List ℕ = set words (x.at + HEADER_WORDS + 0) w in
-      let stored : slice_index new (x.at + HEADER_WORDS) ≡ w = ap (λ j. slice_index (set words j w) (x.at + HEADER_WORDS)) z ∙
-      get_or-set_same words (x.at + HEADER_WORDS) w 0 (omega arith) in
+      let stored : slice_index new (x.at + HEADER_WORDS) ≡ w = cc (z, get_or-set_same words (x.at + HEADER_WORDS) w 0 (omega arith)) in
       let ch : Changes o words views h id v here p is x f.there 0 w made u = record {
         within = omega arith;
-        may = subst (λ (k : Header). MayChange k.kind 0) (sym head) refl;
-        later = subst (λ (n : Node). IsLater n made) (sym was) (record { header = refl; free = refl; result = λ e. refl; alive = λ parts e. absurd cc });
+        may = rw head refl;
+        later = rw was (record { header = refl; free = refl; result = λ e. refl; alive = λ parts e. absurd cc });
         sized = tt;
         mine = now_.0;
         others = now_.1;
-        fields = slots_of_fields P new (x.at + HEADER_WORDS) made (subst (λ n. Means P n val) (sym stored) means);
+        fields = slots_of_fields P new (x.at + HEADER_WORDS) made (rw stored means);
         stacks = λ size values e. absurd (let both : Thunk free None ≡ Stack size values = sym was ∙ e in cc);
       } in
       let ws : List ℕ = free_named at p in
-      let all = fields_of_slots P words (at + HEADER_WORDS) (Thunk free None) (subst (λ r.
-      HasSlots P words (at + HEADER_WORDS) (slots_of (Thunk free r))) none f.fields) in
+      let all = fields_of_slots P words (at + HEADER_WORDS) (Thunk free None) (rw none at f.fields) in
       let as_many = free_count at can.header free f.result can.names f.head in
       let fields_are : can.header.fields ≡ length free + 1 = ap (λ (k : Header). k.fields) f.head in
-      let list : ListMeans P ws free = subst (λ n. ListMeans P (fixed_from p.fixed at (HEADER_WORDS + 1) n) free) (sym as_many)
-      (named_list P p.fixed words at (at + HEADER_WORDS + 1) (HEADER_WORDS + 1) free
+      let list : ListMeans P ws free = rw as_many (named_list P p.fixed words at (at + HEADER_WORDS + 1) (HEADER_WORDS + 1) free
       (λ i lt. let there = can.free i (omega arith) in let k : at + (HEADER_WORDS + 1 + i) ≡ at + HEADER_WORDS + 1 + i = omega arith in
-      named_word o words views h id v here p is at (HEADER_WORDS + 1 + i) there.0 there.1 ∙ ap (λ j. slice_index words j) k)
+      cc (named_word o words views h id v here p is at (HEADER_WORDS + 1 + i) there.0 there.1, k))
       all.1) in
-      subst (λ l. AddsCommand o words views h p.number c (set words (at + HEADER_WORDS) w) (set views id (record v {
-        parts =
-            first_changed (λ q. doing (finding_all q (free_named at q)) c (plain reply.Updated) (owed_words v.opening.marking (free_named at q))) l;
-      }))) (sym is.alone)
-      (subst (λ (y : Opening). AddsCommand o words views h p.number c (set words (at + HEADER_WORDS) w) (set views id (record v {
+      rw is.alone (subst (λ (y : Opening). AddsCommand o words views h p.number c (set words (at + HEADER_WORDS) w) (set views id (record v {
         parts =
             doing (finding_all p ws) c (plain reply.Updated) (owed_words y.marking ws) ∷ [];
       }))) (sym (same_opening o words views h id v here p is))
@@ -245,12 +190,10 @@ module _ (o : Opening) (words : List ℕ) (views : List Seen) (h : Keeps o words
             doing (finding_all p ws) C (plain reply.Updated) (owed_words o.marking ws) ∷ [];
       }))) z
       (field_law o words views h id v here p is x f.there 0 w made C reply.Updated (plain reply.Updated) u (p.found ++ ws) (owed_words o.marking ws) ch
-      (subst (λ (d : Command). CanGive o p d) can.command can.gives) does refl
+      (rw can.command at can.gives) does refl
       (hand_kept o words views h id v here p is u (hand_now o p) (node_frame W x.name st.node made st.there p.number) fits.hand)
-      (subst (λ ns. Owes o.marking P (p.owed ++ owed_words o.marking ws) (names_of S.owed p.number ++
-      ns)) (sym owes) (owes_list P o.marking p.owed ws (names_of S.owed p.number) free fits.owed list))
-      (subst (λ ns. Owes true P (p.found ++ ws) (names_of S.owed p.number ++
-      ns)) (sym owes) (owes_list P true p.found ws (names_of S.owed p.number) free fits.found list))
+      (rw owes (owes_list P o.marking p.owed ws (names_of S.owed p.number) free fits.owed list))
+      (rw owes (owes_list P true p.found ws (names_of S.owed p.number) free fits.found list))
       (own_same o words views h id v here p is x f.there 0 w made u (hand_now o p) ch (λ size values e.
       let both : Thunk free None ≡ Stack size values = sym was ∙ e in cc) refl))))))
 
@@ -262,17 +205,13 @@ module _ (o : Opening) (words : List ℕ) (views : List Seen) (h : Keeps o words
       let st = h.stands.objects thing f.there in
       let C : Command = Update can.object can.value in
       let val : Value = value_for W p.number can.value in
-      let was : st.node ≡ Thunk f.free (Some x) = f.node_is ∙ ap (λ r. Thunk f.free r) some_ in
+      let was : st.node ≡ Thunk f.free (Some x) = cc (f.node_is, some_) in
       let u : World = with_node W thing.name st.node in
       let does : step W p.number C ≡ (u, reply.Already) =
-      step_update W p.number can.object can.value thing.name st.node st.node reply.Already f.refers st.there (ap (λ n.
-      thunk_updated n val) was ∙ ap (λ (n : Node). (n, reply.Already)) (sym was)) in
-      let owes : owed_by W p.number C ≡ [] = owes_update W p.number can.object can.value thing.name st.node f.refers st.there ∙
-      ap (λ n. names_among (free_held n)) was in
+      step_update W p.number can.object can.value thing.name st.node st.node reply.Already f.refers st.there (cc was) in
+      let owes : owed_by W p.number C ≡ [] = cc (owes_update W p.number can.object can.value thing.name st.node f.refers st.there, was) in
       let again = node_again o words views h id v here p is thing f.there in
-      subst (λ (d : Command). AddsCommand o words views h p.number d words (set views id (answered v d (plain reply.Already)))) (sym can.command)
-      (still_law o words views h id v here p is C reply.Already (plain reply.Already) u (subst (λ (d : Command).
-      CanGive o p d) can.command can.gives) does again owes refl
+      rw can.command (still_law o words views h id v here p is C reply.Already (plain reply.Already) u (rw can.command at can.gives) does again owes refl
       (hand_kept o words views h id v here p is u (hand_now o p) (node_frame W thing.name st.node st.node st.there p.number) fits.hand) refl)
 
   -- by whether there is one, which the word there tells
@@ -282,16 +221,12 @@ module _ (o : Opening) (words : List ℕ) (views : List Seen) (h : Keeps o words
       (set views id (updated v at c (eqb (slice_index words (at + HEADER_WORDS)) 0)))
   update_as at w c can f None e =
       let n : ℕ = slice_index words (at + HEADER_WORDS) in
-      let zero_ : n ≡ 0 = (fields_of_slots P words (at + HEADER_WORDS) (Thunk f.free None) (subst (λ r.
-      HasSlots P words (at + HEADER_WORDS) (slots_of (Thunk f.free r))) e f.fields)).0 in
-      subst (λ (b : Bool). AddsCommand o words views h p.number c (words_exchanged words (at + HEADER_WORDS) w b) (set views id (updated v at c b)))
-      (sym (eq-eqb n 0 zero_)) (update_yes at w c can f e)
+      let zero_ : n ≡ 0 = (fields_of_slots P words (at + HEADER_WORDS) (Thunk f.free None) (rw e at f.fields)).0 in
+      rw (eq-eqb n 0 zero_) (update_yes at w c can f e)
   update_as at w c can f (Some x) e =
       let n : ℕ = slice_index words (at + HEADER_WORDS) in
-      let m : Means P n x = fields_of_slots P words (at + HEADER_WORDS) (Thunk f.free (Some x)) (subst (λ r.
-      HasSlots P words (at + HEADER_WORDS) (slots_of (Thunk f.free r))) e f.fields) in
-      subst (λ (b : Bool). AddsCommand o words views h p.number c (words_exchanged words (at + HEADER_WORDS) w b) (set views id (updated v at c b)))
-      (sym (ne_eqb n 0 (means_some P (above o words views h id v here p is) n x m))) (update_no at w c can f x e)
+      let m : Means P n x = fields_of_slots P words (at + HEADER_WORDS) (Thunk f.free (Some x)) (rw e at f.fields) in
+      rw (ne_eqb n 0 (means_some P (above o words views h id v here p is) n x m)) (update_no at w c can f x e)
 
   pub update_keeps : (at w : ℕ) (c : Command) → CanUpdate o p at w c →
       AddsCommand o words views h p.number c (words_exchanged words (at + HEADER_WORDS) w (eqb (slice_index words (at + HEADER_WORDS)) 0))

@@ -1,49 +1,10 @@
 -- A load and a swap of a weak pointer's value keep the rule.
-use Rattle.std.proofs.Common.{◌≡◌, ◌≢◌, ℕ, ◌+◌, ◌*◌, ◌<◌, Bool, true, cond, eq-eqb, ne_eqb, List, [], ◌∷◌, ◌++◌, length, set, refl, sym, ap, subst, ◌∙◌, arith, slice_index, Option, Some, None, get_or-set_same}
-use mathlib.Core.Option.{some}
-use lib.ListN.{get_elem?}
-use Rattle.nmgc_world_spec.specs.declared.value.Name.{Name}
-use Rattle.nmgc_world_spec.specs.declared.value.Value.{Value}
+use Rattle.nmgc_round.proofs.Vocabulary.{◌≡◌, ◌≢◌, ℕ, ◌+◌, ◌*◌, ◌<◌, Bool, true, cond, eq-eqb, ne_eqb, List, [], ◌∷◌, ◌++◌, length, set, refl, sym, ap, subst, ◌∙◌, arith, slice_index, Option, Some, None, get_or-set_same, some, get_elem?, Name, Value, Node, Parts, Con, Var, Arr, Thunk, Weak, Stack, MutatorState, Operand, Command, Deref, Finalise, Reply, World, state_of, node_of, given_or, value_part, weak_finalised, value_for, with_node, with_register, with_state, world_holding, keeping, step, weak_held, value_held, names_among, owed_by, Header, HEADER_WORDS, State, names_of, as_many, state_same, nodes_kept, header_of, slots_of, Place, Means, HasSlots, ListMeans, fields_of_slots, slots_of_fields, plain, word, Answer, Opening, Hand, Part, Seen, hand_now, holding, doing, finding, first_changed, answered, owed_word, done_by, Object, IsObject, IsIn, now, IsHand, Fits, Keeps, AddsCommand, IsMutator, Names, operand_word, IsSafe, owed_words, finding_all, CanDeref, CanFinalise, finaliser_named, derefed, finalised, weak_read, weak_taken, set_again}
 use Rattle.nmgc_world_spec.specs.declared.value.Value.TheVariants as value
 use Rattle.nmgc_world_spec.specs.declared.node.Kind.TheVariants as kind
-use Rattle.nmgc_world_spec.specs.declared.node.Node.{Node}
-use Rattle.nmgc_world_spec.specs.declared.node.Parts.{Parts}
-use Rattle.nmgc_world_spec.specs.declared.node.Node.TheVariants.{Con, Var, Arr, Thunk, Weak, Stack}
 use Rattle.nmgc_world_spec.specs.declared.change.Change.TheVariants as change
-use Rattle.nmgc_world_spec.specs.declared.mutator_state.MutatorState.{MutatorState}
-use Rattle.nmgc_world_spec.specs.declared.command.Operand.{Operand}
-use Rattle.nmgc_world_spec.specs.declared.command.Command.{Command}
-use Rattle.nmgc_world_spec.specs.declared.command.Command.TheVariants.{Deref, Finalise}
-use Rattle.nmgc_world_spec.specs.declared.command.Reply.{Reply}
 use Rattle.nmgc_world_spec.specs.declared.command.Reply.TheVariants as reply
-use Rattle.nmgc_world_spec.specs.World.{World, state_of, node_of}
-use Rattle.nmgc_world_spec.specs.Change.{given_or, value_part, value_read, weak_finalised}
-use Rattle.nmgc_world_spec.specs.Step.{value_for, with_node, with_register, with_state, holding as world_holding, keeping, change_object, change_node, change_into, object_of, read_object, read_into, step}
-use Rattle.nmgc_object.specs.declared.words.Header.{Header}
-use Rattle.nmgc_object.specs.declared.size.TheConstants.{HEADER_WORDS}
-use Rattle.nmgc_snapshot_laws.specs.State.{State, names_of}
-use Rattle.nmgc_world_spec.specs.Owed.{weak_held, value_held, owed_of, owed_at, names_among, owed_by}
-use Rattle.nmgc_world_laws.specs.laws.NodeLaws.{as_many, state_same, nodes_kept}
-use Rattle.nmgc_heap_spec.specs.Shape.{header_of, slots_of, MayChange}
-use Rattle.nmgc_heap_spec.specs.Places.{Place, Means, HasSlots, ListMeans}
-use Rattle.nmgc_heap_spec.specs.laws.Kinds.{fields_of_slots, slots_of_fields}
-use Rattle.nmgc_round.specs.View.{plain, word, Answer, Opening, Hand, Part, Seen, hand_now, holding, doing, finding, first_changed, answered, owed_word}
-use Rattle.nmgc_round.specs.Events.{done_by}
-use Rattle.nmgc_round.specs.Objects.{Object, IsLater, IsObject, IsIn}
-use Rattle.nmgc_round.specs.Rule.{now, Owes, IsHand, Fits, Keeps}
-use Rattle.nmgc_round.specs.Added.{AddsCommand}
-use Rattle.nmgc_round.specs.Ready.{IsMutator, CanGive, Names, operand_word}
-use Rattle.nmgc_round.specs.Told.{IsSafe}
-use Rattle.nmgc_round.specs.Owing.{owed_words, finding_all}
-use Rattle.nmgc_round.specs.Weaks.{CanDeref, CanFinalise, finaliser_named, derefed, finalised, weak_read, weak_taken}
-use Rattle.nmgc_round.proofs.Lists.{list_set}
-use Rattle.nmgc_round.proofs.Frames.{node_frame}
-use Rattle.nmgc_round.proofs.Scans.{means_some}
-use Rattle.nmgc_lists.specs.laws.Items.{word_again as set_again}
-use Rattle.nmgc_round.proofs.Fixes.{safe_word}
-use Rattle.nmgc_round.proofs.Moves.{meant, inside, same_opening, owes_old, register_hand, hand_kept, still_law}
-use Rattle.nmgc_round.proofs.Writes.{Changes, field_law, owing_law, own_same, node_now, node_again}
-use Rattle.nmgc_round.proofs.Owings.{above, named_word, owes_list}
+use Rattle.nmgc_round.proofs.{Lists.list_set, Frames.node_frame, Scans.means_some, Fixes.safe_word, Moves.meant, Moves.inside, Moves.same_opening, Moves.owes_old, Moves.register_hand, Moves.hand_kept, Writes.Changes, Writes.field_law, Writes.owing_law, Writes.own_same, Writes.node_now, Writes.node_again, Writes.still_law, Owings.above, Owings.named_word, Owings.owes_list}
 
 -- a node of a weak pointer's kind is one
 weak_of : (n : Node) → (header_of n).kind ≡ kind.Weak → (parts : Option Parts) × (n ≡ Weak parts)
@@ -61,24 +22,21 @@ step_deref : (w : World) (m dest : ℕ) (object : Operand) (name : Name) (parts 
       given_or reply.Dead (value_part parts),
     )
 step_deref w m dest object name parts is there =
-    ap (λ y. read_into w m dest (read_object (object_of w y) value_read)) is ∙ ap (λ o. read_into w m dest (read_object o value_read)) there
+    cc (is, there)
 
 owes_deref : (w : World) (m dest : ℕ) (object : Operand) (name : Name) (parts : Option Parts) → value_for w m object ≡ value.Ref name →
     node_of w name ≡ Some (Weak parts) → owed_by w m (Deref dest object) ≡ names_among (value_held (Some (Weak parts)))
-owes_deref w m dest object name parts is there = ap (λ y. names_among (value_held (object_of w y))) is ∙ ap (λ o. names_among (value_held o)) there
+owes_deref w m dest object name parts is there = cc (is, there)
 
 -- `finalise` of a weak pointer, and what it owes
 step_finalise : (w : World) (m dest : ℕ) (object : Operand) (name : Name) (found made : Node) (r : Reply) → value_for w m object ≡ value.Ref name →
     node_of w name ≡ Some found → weak_finalised found ≡ (made, r) → step w m (Finalise dest object) ≡ (keeping (with_node w name made) m dest r, r)
 step_finalise w m dest object name found made r is there does =
-    ap (λ y. change_into m dest (change_object w y change.Finalise)) is ∙
-    ap (λ o. change_into m dest (change_node w name o change.Finalise)) there ∙
-    ap (λ (r : Node × Reply). change_into m dest (with_node w name r.0, r.1)) does
+    rw (is, there, does)
 
 owes_finalise : (w : World) (m dest : ℕ) (object : Operand) (name : Name) (found : Node) → value_for w m object ≡ value.Ref name →
     node_of w name ≡ Some found → owed_by w m (Finalise dest object) ≡ names_among (weak_held name found)
-owes_finalise w m dest object name found is there = ap (λ y. names_among (owed_of w y change.Finalise)) is ∙
-    ap (λ o. names_among (owed_at change.Finalise name o)) there
+owes_finalise w m dest object name found is there = cc (is, there)
 
 module _ (o : Opening) (words : List ℕ) (views : List Seen) (h : Keeps o words views) (id : ℕ) (v : Seen) (here : get_elem? views id ≡
     some v) (p : Part) (is : IsMutator v p) where
@@ -100,11 +58,9 @@ module _ (o : Opening) (words : List ℕ) (views : List Seen) (h : Keeps o words
   register_in u hand dest w val exists k m =
       let q : MutatorState = world_holding (state_of u p.number) dest val in
       let same : state_of (with_state u p.number q) p.number ≡ q = state_same u p.number q exists in record {
-        registers = subst (λ (s : MutatorState).
-            ListMeans P (set hand.registers dest w) s.registers) (sym same)
-            (list_set P hand.registers (state_of u p.number).registers dest w val k.registers m);
-        queue = subst (λ (s : MutatorState). ListMeans P hand.queue s.queue) (sym same) k.queue;
-        serial = k.serial ∙ ap (λ (s : MutatorState). length s.nodes) (sym same);
+        registers = rw same (list_set P hand.registers (state_of u p.number).registers dest w val k.registers m);
+        queue = rw same k.queue;
+        serial = cc (k.serial, same);
       }
 
   -- the weak pointer at a place, where its header is named
@@ -125,7 +81,7 @@ module _ (o : Opening) (words : List ℕ) (views : List Seen) (h : Keeps o words
       let m = meant o words views h id v here p is at header object e names in
       let st = h.stands.objects m.object m.there in
       let head : header_of st.node ≡ header = st.later.header ∙ m.head in
-      let t = weak_of st.node (ap (λ (k : Header). k.kind) head ∙ is_weak) in
+      let t = weak_of st.node (cc (head, is_weak)) in
       record {
         thing = m.object;
         there = m.there;
@@ -133,10 +89,9 @@ module _ (o : Opening) (words : List ℕ) (views : List Seen) (h : Keeps o words
         refers = m.refers;
         parts = t.0;
         node_is = t.1;
-        node_there = st.there ∙ ap (λ (n : Node). Some n) t.1;
+        node_there = cc (st.there, t.1);
         head = m.head ∙ sym head ∙ ap header_of t.1;
-        fields = subst (λ (n : Node). HasSlots P words (at + HEADER_WORDS) (slots_of n)) t.1 (subst (λ a.
-            HasSlots P words (a + HEADER_WORDS) (slots_of st.node)) m.is_at st.fields);
+        fields = rw (← t.1) (rw m.is_at at st.fields);
       }
 
   -- the view in which this seat's part is another
@@ -153,53 +108,44 @@ module _ (o : Opening) (words : List ℕ) (views : List Seen) (h : Keeps o words
         parts = f y c p ∷
             [];
       }))) (sym (same_opening o words views h id v here p is))
-      (subst (λ (c : Command). AddsCommand o words views h p.number c new (set views id (record v { parts = f o c p ∷ [] }))) (sym command)
-      (subst (λ (q : Part). AddsCommand o words views h p.number d new (set views id (record v { parts = q ∷ [] }))) (sym is_part) t)))
+      (rw command (rw is_part t)))
 
   -- a still command whose part is known
   still_part : (c : Command) (a : Answer) (new : List ℕ) → AddsCommand o words views h p.number c new (set views id (answered v c a)) →
       AddsCommand o words views h p.number c new (set views id (record v { parts = doing p c a [] ∷ [] }))
-  still_part c a new t = subst (λ l. AddsCommand o words views h p.number c new (set views id (record v {
-    parts =
-        first_changed (λ q. doing q c a []) l;
-  }))) is.alone t
+  still_part c a new t = rw is.alone at t
 
   deref_as : (at : ℕ) (c : Command) (can : CanDeref o p at c) (f : Found at can.object can.header) (parts : Option Parts) → f.parts ≡ parts →
       AddsCommand o words views h p.number c words (set views id (weak_read v c (slice_index words (at + HEADER_WORDS + 1))))
   deref_as at c can f None e =
       let C : Command = Deref can.dest can.object in
       let w : ℕ = slice_index words (at + HEADER_WORDS + 1) in
-      let zero_ : w ≡ 0 = fields_of_slots P words (at + HEADER_WORDS) (Weak None) (subst (λ r.
-      HasSlots P words (at + HEADER_WORDS) (slots_of (Weak r))) e f.fields) in
-      let there : node_of W f.thing.name ≡ Some (Weak None) = f.node_there ∙ ap (λ r. Some (Weak r)) e in
+      let zero_ : w ≡ 0 = fields_of_slots P words (at + HEADER_WORDS) (Weak None) (rw e at f.fields) in
+      let there : node_of W f.thing.name ≡ Some (Weak None) = cc (f.node_there, e) in
       one_part c C words (λ o c p. derefed o c w p) (doing p C (plain reply.Dead) []) can.command (ap (λ (b : Bool).
       cond b (doing p C (plain reply.Dead) []) (doing (finding p w) C (word w) (owed_word o.marking w))) (eq-eqb w 0 zero_))
       (still_part C (plain reply.Dead) words
-      (still_law o words views h id v here p is C reply.Dead (plain reply.Dead) W (subst (λ (d : Command).
-      CanGive o p d) can.command can.gives) (step_deref W p.number can.dest can.object f.thing.name None f.refers there) (λ n.
+      (still_law o words views h id v here p is C reply.Dead (plain reply.Dead) W (rw can.command at can.gives) (step_deref W p.number can.dest can.object f.thing.name None f.refers there) (λ n.
       refl) (owes_deref W p.number can.dest can.object f.thing.name None f.refers there) refl fits.hand refl))
   deref_as at c can f (Some parts) e =
       let C : Command = Deref can.dest can.object in
       let w : ℕ = slice_index words (at + HEADER_WORDS + 1) in
-      let m : Means P w parts.value = (fields_of_slots P words (at + HEADER_WORDS) (Weak (Some parts)) (subst (λ r.
-      HasSlots P words (at + HEADER_WORDS) (slots_of (Weak r))) e f.fields)).1 in
-      let there : node_of W f.thing.name ≡ Some (Weak (Some parts)) = f.node_there ∙ ap (λ r. Some (Weak r)) e in
+      let m : Means P w parts.value = (fields_of_slots P words (at + HEADER_WORDS) (Weak (Some parts)) (rw e at f.fields)).1 in
+      let there : node_of W f.thing.name ≡ Some (Weak (Some parts)) = cc (f.node_there, e) in
       let q : MutatorState = world_holding (state_of W p.number) can.dest parts.value in
       let owes = owes_deref W p.number can.dest can.object f.thing.name (Some parts) f.refers there in
       one_part c C words (λ o c p. derefed o c w p) (doing (finding p w) C (word w) (owed_word o.marking w)) can.command (ap (λ (b : Bool).
       cond b (doing p C (plain reply.Dead) []) (doing (finding p w) C (word w) (owed_word o.marking w)))
       (ne_eqb w 0 (means_some P (above o words views h id v here p is) w parts.value m)))
       (owing_law o words views h id v here p is C (reply.Given parts.value) (word w) (with_register W p.number can.dest parts.value) (p.found ++ w ∷
-      []) (owed_word o.marking w) (subst (λ (d : Command). CanGive o p d) can.command can.gives)
+      []) (owed_word o.marking w) (rw can.command at can.gives)
       (step_deref W p.number can.dest can.object f.thing.name (Some parts) f.refers there) (nodes_kept W p.number q fits.exists refl) (
         parts.value,
         refl,
         m,
       ) (register_hand o words views h id v here p is can.dest w parts.value m)
-      (subst (λ ns. Owes o.marking P (p.owed ++ owed_word o.marking w) (names_of S.owed p.number ++
-      ns)) (sym owes) (owes_old o words views h id v here p is o.marking p.owed (names_of S.owed p.number) w parts.value fits.owed m))
-      (subst (λ ns. Owes true P (p.found ++ w ∷ []) (names_of S.owed p.number ++
-      ns)) (sym owes) (owes_old o words views h id v here p is true p.found (names_of S.owed p.number) w parts.value fits.found m))
+      (rw owes (owes_old o words views h id v here p is o.marking p.owed (names_of S.owed p.number) w parts.value fits.owed m))
+      (rw owes (owes_old o words views h id v here p is true p.found (names_of S.owed p.number) w parts.value fits.found m))
       refl)
 
   pub deref_keeps : (at : ℕ) (c : Command) → CanDeref o p at c →
@@ -224,12 +170,12 @@ module _ (o : Opening) (words : List ℕ) (views : List Seen) (h : Keeps o words
   -- the word of the finaliser is the one that stands there
   finaliser_is : (at : ℕ) (c : Command) (can : CanFinalise o p at c) → finaliser_named at p ≡ slice_index words (at + HEADER_WORDS + 2)
   finaliser_is at c can = let k : at + (HEADER_WORDS + 2) ≡ at + HEADER_WORDS + 2 = omega arith in
-      named_word o words views h id v here p is at (HEADER_WORDS + 2) can.finaliser.0 can.finaliser.1 ∙ ap (λ j. slice_index words j) k
+      cc (named_word o words views h id v here p is at (HEADER_WORDS + 2) can.finaliser.0 can.finaliser.1, k)
 
   -- the finaliser of a weak pointer that a swap finds alive
   pub finalise_safe : (at : ℕ) (c : Command) → CanFinalise o p at c → slice_index words (at + HEADER_WORDS + 1) ≢ 0 → IsSafe o (finaliser_named at p)
   finalise_safe at c can ne = let f = found at can.object can.header can.object_word can.names can.kind in
-      subst (λ w. IsSafe o w) (sym (finaliser_is at c can)) (safe_as at f.parts f.fields ne).1
+      rw (finaliser_is at c can) (safe_as at f.parts f.fields ne).1
 
   finalise_as : (at : ℕ) (c : Command) (can : CanFinalise o p at c) (f : Found at can.object can.header) (parts : Option Parts) → f.parts ≡ parts →
       AddsCommand o words views h p.number c (set words (at + HEADER_WORDS + 1) 0)
@@ -240,24 +186,19 @@ module _ (o : Opening) (words : List ℕ) (views : List Seen) (h : Keeps o words
       let st = h.stands.objects x f.there in
       let i : ℕ = at + HEADER_WORDS + 1 in
       let w : ℕ = slice_index words i in
-      let zero_ : w ≡ 0 = fields_of_slots P words (at + HEADER_WORDS) (Weak None) (subst (λ r.
-      HasSlots P words (at + HEADER_WORDS) (slots_of (Weak r))) e f.fields) in
-      let same : words ≡ set words i 0 = sym (set_again words i) ∙ ap (λ k. set words i k) zero_ in
-      let was : st.node ≡ Weak None = f.node_is ∙ ap (λ r. Weak r) e in
+      let zero_ : w ≡ 0 = fields_of_slots P words (at + HEADER_WORDS) (Weak None) (rw e at f.fields) in
+      let same : words ≡ set words i 0 = cc (set_again words i, zero_) in
+      let was : st.node ≡ Weak None = cc (f.node_is, e) in
       let u : World = with_node W x.name st.node in
       let does : step W p.number C ≡ (u, reply.Dead) =
-      step_finalise W p.number can.dest can.object x.name st.node st.node reply.Dead f.refers st.there (ap weak_finalised was ∙
-      ap (λ (n : Node). (n, reply.Dead)) (sym was)) in
-      let owes : owed_by W p.number C ≡ [] = owes_finalise W p.number can.dest can.object x.name st.node f.refers st.there ∙
-      ap (λ n. names_among (weak_held x.name n)) was in
+      step_finalise W p.number can.dest can.object x.name st.node st.node reply.Dead f.refers st.there (cc was) in
+      let owes : owed_by W p.number C ≡ [] = cc (owes_finalise W p.number can.dest can.object x.name st.node f.refers st.there, was) in
       let again = node_again o words views h id v here p is x f.there in
       one_part c C (set words i 0) (λ o c p. finalised o at c w p) (doing p C (plain reply.Dead) []) can.command (ap (λ (b : Bool).
       cond b (doing p C (plain reply.Dead) []) (doing (finding_all p (2 * at ∷ w ∷ finaliser_named at p ∷
       [])) C (word (finaliser_named at p)) (owed_words o.marking (2 * at ∷ w ∷ finaliser_named at p ∷ [])))) (eq-eqb w 0 zero_))
-      (subst (λ (ws : List ℕ). AddsCommand o words views h p.number C ws (set views id (record v { parts = doing p C (plain reply.Dead) [] ∷ [] }))) same
-      (still_part C (plain reply.Dead) words
-      (still_law o words views h id v here p is C reply.Dead (plain reply.Dead) u (subst (λ (d : Command).
-      CanGive o p d) can.command can.gives) does again owes refl
+      (rw same at (still_part C (plain reply.Dead) words
+      (still_law o words views h id v here p is C reply.Dead (plain reply.Dead) u (rw can.command at can.gives) does again owes refl
       (hand_kept o words views h id v here p is u (hand_now o p) (node_frame W x.name st.node st.node st.there p.number) fits.hand) refl)))
   finalise_as at c can f (Some parts) e =
       let C : Command = Finalise can.dest can.object in
@@ -265,20 +206,19 @@ module _ (o : Opening) (words : List ℕ) (views : List Seen) (h : Keeps o words
       let st = h.stands.objects x f.there in
       let i : ℕ = at + HEADER_WORDS + 1 in
       let w : ℕ = slice_index words i in
-      let t = fields_of_slots P words (at + HEADER_WORDS) (Weak (Some parts)) (subst (λ r.
-      HasSlots P words (at + HEADER_WORDS) (slots_of (Weak r))) e f.fields) in
-      let was : st.node ≡ Weak (Some parts) = f.node_is ∙ ap (λ r. Weak r) e in
+      let t = fields_of_slots P words (at + HEADER_WORDS) (Weak (Some parts)) (rw e at f.fields) in
+      let was : st.node ≡ Weak (Some parts) = cc (f.node_is, e) in
       let made : Node = Weak None in
       let u : World = with_node W x.name made in
       let fin : ℕ = finaliser_named at p in
-      let ends : Means P fin parts.finaliser = subst (λ k. Means P k parts.finaliser) (sym (finaliser_is at c can)) t.2 in
+      let ends : Means P fin parts.finaliser = rw (finaliser_is at c can) t.2 in
       let q : MutatorState = world_holding (state_of u p.number) can.dest parts.finaliser in
-      let exists : p.number < length u.mutators = subst (λ n. p.number < n) (sym (as_many W x.name st.node made st.there)) fits.exists in
+      let exists : p.number < length u.mutators = rw (as_many W x.name st.node made st.there) fits.exists in
       let v' : World = with_register u p.number can.dest parts.finaliser in
       let does : step W p.number C ≡ (v', reply.Given parts.finaliser) =
       step_finalise W p.number can.dest can.object x.name st.node made (reply.Given parts.finaliser) f.refers st.there (ap weak_finalised was) in
       let owes : owed_by W p.number C ≡ names_among (value.Ref x.name ∷ parts.value ∷ parts.finaliser ∷ []) =
-      owes_finalise W p.number can.dest can.object x.name st.node f.refers st.there ∙ ap (λ n. names_among (weak_held x.name n)) was in
+      cc (owes_finalise W p.number can.dest can.object x.name st.node f.refers st.there, was) in
       let now_ = node_now o words views h id v here p is x f.there made in
       let kept = nodes_kept u p.number q exists refl in
       let far = inside o words views h id v here p is x f.there in
@@ -287,8 +227,8 @@ module _ (o : Opening) (words : List ℕ) (views : List Seen) (h : Keeps o words
       let new : List ℕ = set words (x.at + HEADER_WORDS + 1) 0 in
       let ch : Changes o words views h id v here p is x f.there 1 0 made v' = record {
         within = omega arith;
-        may = subst (λ (k : Header). MayChange k.kind 1) (sym f.head) refl;
-        later = subst (λ (n : Node). IsLater n made) (sym was) (record { header = refl; free = refl; result = λ e. e; alive = λ parts e. absurd cc });
+        may = rw f.head refl;
+        later = rw was (record { header = refl; free = refl; result = λ e. e; alive = λ parts e. absurd cc });
         sized = tt;
         mine = kept x.name ∙ now_.0;
         others = λ n ne. kept n ∙ now_.1 n ne;
@@ -296,24 +236,18 @@ module _ (o : Opening) (words : List ℕ) (views : List Seen) (h : Keeps o words
         stacks = λ size values e. absurd (let both : Weak (Some parts) ≡ Stack size values = sym was ∙ e in cc);
       } in
       let ws : List ℕ = 2 * at ∷ w ∷ fin ∷ [] in
-      let itself : Means P (2 * at) (value.Ref x.name) = (at, refl, subst (λ a. P (record { at = a; name = x.name })) is_at (x.node, f.there)) in
+      let itself : Means P (2 * at) (value.Ref x.name) = (at, refl, rw (← is_at) (x.node, f.there)) in
       let list : ListMeans P ws (value.Ref x.name ∷ parts.value ∷ parts.finaliser ∷ []) = (itself, (t.1, (ends, tt))) in
       one_part c C (set words i 0) (λ o c p.
       finalised o at c w p) (doing (finding_all p ws) C (word fin) (owed_words o.marking ws)) can.command (ap (λ (b : Bool).
       cond b (doing p C (plain reply.Dead) []) (doing (finding_all p ws) C (word fin) (owed_words o.marking ws)))
       (ne_eqb w 0 (means_some P (above o words views h id v here p is) w parts.value t.1)))
-      (subst (λ a. AddsCommand o words views h p.number C (set words (a + HEADER_WORDS + 1) 0) (set views id (record v {
-        parts =
-            doing (finding_all p ws) C (word fin) (owed_words o.marking ws) ∷ [];
-      }))) is_at
-      (field_law o words views h id v here p is x f.there 1 0 made C (reply.Given parts.finaliser) (word fin) v' (p.found ++ ws) (owed_words o.marking ws) ch
-      (subst (λ (d : Command). CanGive o p d) can.command can.gives) does (parts.finaliser, refl, ends)
+      (rw is_at at (field_law o words views h id v here p is x f.there 1 0 made C (reply.Given parts.finaliser) (word fin) v' (p.found ++ ws) (owed_words o.marking ws) ch
+      (rw can.command at can.gives) does (parts.finaliser, refl, ends)
       (register_in u (hand_now o p) can.dest fin parts.finaliser exists
       (hand_kept o words views h id v here p is u (hand_now o p) (node_frame W x.name st.node made st.there p.number) fits.hand) ends)
-      (subst (λ ns. Owes o.marking P (p.owed ++ owed_words o.marking ws) (names_of S.owed p.number ++
-      ns)) (sym owes) (owes_list P o.marking p.owed ws (names_of S.owed p.number) (value.Ref x.name ∷ parts.value ∷ parts.finaliser ∷ []) fits.owed list))
-      (subst (λ ns. Owes true P (p.found ++ ws) (names_of S.owed p.number ++
-      ns)) (sym owes) (owes_list P true p.found ws (names_of S.owed p.number) (value.Ref x.name ∷ parts.value ∷ parts.finaliser ∷ []) fits.found list))
+      (rw owes (owes_list P o.marking p.owed ws (names_of S.owed p.number) (value.Ref x.name ∷ parts.value ∷ parts.finaliser ∷ []) fits.owed list))
+      (rw owes (owes_list P true p.found ws (names_of S.owed p.number) (value.Ref x.name ∷ parts.value ∷ parts.finaliser ∷ []) fits.found list))
       (own_same o words views h id v here p is x f.there 1 0 made v' (holding (hand_now o p) can.dest fin) ch (λ size values e.
       let both : Weak (Some parts) ≡ Stack size values = sym was ∙ e in cc) refl)))
 

@@ -1,12 +1,8 @@
 -- What a step adds to the events: nothing, or one at their end. So no step drops an event or reorders any.
 use Rattle.std.specs.Prelude.{◌≡◌, ℕ, List, [], ◌∷◌, ◌++◌, Option, Bool, true, false}
-use Rattle.nmgc_world_spec.specs.declared.value.Value.{Value}
-use Rattle.nmgc_world_spec.specs.declared.command.Command.{Command}
-use Rattle.nmgc_world_spec.specs.declared.command.Reply.{Reply}
+use Rattle.nmgc_world_spec.specs.{declared.value.Value.Value, declared.command.Command.Command, declared.command.Reply.Reply}
 use Rattle.nmgc_snapshot_laws.specs.declared.event.Entry.{Entry}
-use Rattle.nmgc_round.specs.Events.{did, scanned}
-use Rattle.nmgc_round.specs.View.{Opening, Seen}
-use Rattle.nmgc_round.specs.Rule.{Keeps}
+use Rattle.nmgc_round.specs.{Events.did, Events.scanned, View.Opening, View.Seen, Rule.Keeps}
 
 -- the rule holds again, of these words and views, for the same events
 abbrev pub Stays : (o : Opening) (words : List ℕ) (views : List Seen) → Keeps o words views → List ℕ → List Seen → Type 0

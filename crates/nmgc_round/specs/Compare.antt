@@ -1,14 +1,11 @@
 -- Compare-exchange of a field: when it may be taken, and what its seat knows after it.
 use Rattle.std.specs.Prelude.{◌≡◌, ◌≢◌, ℕ, ◌*◌, ◌<◌, Bool, true, false, List, set, if◌then◌else◌}
-use Rattle.nmgc_world_spec.specs.declared.command.Operand.{Operand}
-use Rattle.nmgc_world_spec.specs.declared.command.Command.{Command}
-use Rattle.nmgc_world_spec.specs.declared.command.Command.TheVariants.{Cas}
+use Rattle.nmgc_world_spec.specs.{declared.command.Operand.Operand, declared.command.Command.Command, declared.command.Command.TheVariants.Cas}
 use Rattle.nmgc_world_spec.specs.declared.command.Reply.TheVariants as reply
 use Rattle.nmgc_object.specs.declared.words.Header.{Header}
-use Rattle.nmgc_round.specs.declared.compare.Exchanged.{Exchanged}
+use Rattle.nmgc_round.specs.{declared.compare.Exchanged.Exchanged, Ready.CanGive, Ready.Names, Ready.IsWritable, Ready.operand_word}
 use Rattle.nmgc_round.specs.declared.compare.Exchanged.TheVariants as outcome
 use Rattle.nmgc_round.specs.View.{plain, Opening, Part, Seen, changing, doing, finding, owed_word, answered}
-use Rattle.nmgc_round.specs.Ready.{CanGive, Names, IsWritable, operand_word}
 
 -- `cas` of this field, from one word to another
 pub record CanExchange (o : Opening) (p : Part) (at index expected w : ℕ) (c : Command) : Type 0 where

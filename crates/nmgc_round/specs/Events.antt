@@ -1,16 +1,8 @@
 -- The events of a round: what its mutators and its collector did, in one order, as the core machine's events.
 use Rattle.std.specs.Prelude.{◌≡◌, ℕ, List, [], ◌∷◌, ◌==◌, Option, if◌then◌else◌}
-use Rattle.nmgc_world_spec.specs.declared.value.Value.{Value}
-use Rattle.nmgc_world_spec.specs.declared.command.Command.{Command}
-use Rattle.nmgc_world_spec.specs.declared.command.Reply.{Reply}
-use Rattle.nmgc_world_spec.specs.World.{node_of}
-use Rattle.nmgc_world_spec.specs.History.{Row}
-use Rattle.nmgc_snapshot_laws.specs.declared.event.Entry.{Entry}
-use Rattle.nmgc_snapshot_laws.specs.declared.event.Event.{Event}
+use Rattle.nmgc_world_spec.specs.{declared.value.Value.Value, declared.command.Command.Command, declared.command.Reply.Reply, World.node_of, History.Row}
+use Rattle.nmgc_snapshot_laws.specs.{declared.event.Entry.Entry, declared.event.Event.Event, State.State, Scan.read_at, Machine.IsPossible, Machine.after_command, Machine.after_scan}
 use Rattle.nmgc_snapshot_laws.specs.declared.event.Event.TheVariants as event
-use Rattle.nmgc_snapshot_laws.specs.State.{State}
-use Rattle.nmgc_snapshot_laws.specs.Scan.{read_at}
-use Rattle.nmgc_snapshot_laws.specs.Machine.{IsPossible, after_command, after_scan}
 
 -- a command of a mutator with its reply, or a scan of the first entry with what it read
 pub data Happening : Type 0 where

@@ -1,12 +1,7 @@
 -- The fold of the collector's scans: what is marked and queued, by the opening state and its places alone.
 use Rattle.std.specs.Prelude.{ℕ, ◌+◌, ◌/◌, ◌%◌, ◌==◌, ◌&&◌, ◌||◌, not, nat_le, Bool, true, false, List, [], ◌∷◌, ◌++◌, zero, suc, Option, Some, None, is_some, if◌then◌else◌}
-use Rattle.nmgc_world_spec.specs.declared.value.Name.{Name}
-use Rattle.nmgc_world_spec.specs.declared.node.Node.{Node}
-use Rattle.nmgc_world_spec.specs.declared.node.Node.TheVariants.{Thunk}
-use Rattle.nmgc_world_spec.specs.World.{World, node_of}
-use Rattle.nmgc_snapshot_laws.specs.declared.event.Entry.{Entry}
-use Rattle.nmgc_snapshot_laws.specs.State.{State, is_listed, entry_of}
-use Rattle.nmgc_snapshot_laws.specs.Scan.{fields_of}
+use Rattle.nmgc_world_spec.specs.{declared.value.Name.Name, declared.node.Node.Node, declared.node.Node.TheVariants.Thunk, World.World, World.node_of}
+use Rattle.nmgc_snapshot_laws.specs.{declared.event.Entry.Entry, State.State, State.is_listed, State.entry_of, Scan.fields_of}
 use Rattle.nmgc_object.specs.declared.size.TheConstants.{HEADER_WORDS}
 use Rattle.nmgc_heap_spec.specs.Places.{Place}
 use Rattle.nmgc_round.specs.View.{Scan, Opening}

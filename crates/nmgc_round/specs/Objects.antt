@@ -4,21 +4,10 @@
 -- the whole round where its words end, and which of them never change.
 use Rattle.std.specs.Prelude.{◌≡◌, ◌⊎◌, ℕ, ◌+◌, ◌<◌, ◌≤◌, List, [], ◌∷◌, length, slice_index, Contains, true, Some, if◌then◌else◌}
 use mathlib.Core.Logic.{inl, inr}
-use Rattle.nmgc_world_spec.specs.declared.value.Name.{Name}
-use Rattle.nmgc_world_spec.specs.declared.value.Value.{Value}
-use Rattle.nmgc_world_spec.specs.declared.node.Node.{Node}
-use Rattle.nmgc_world_spec.specs.declared.node.Node.TheVariants.{Thunk, Weak}
-use Rattle.nmgc_world_spec.specs.declared.node.Parts.{Parts}
+use Rattle.nmgc_world_spec.specs.{declared.value.Name.Name, declared.value.Value.Value, declared.node.Node.Node, declared.node.Node.TheVariants.Thunk, declared.node.Node.TheVariants.Weak, declared.node.Parts.Parts, World.World, World.node_of, World.IsSized, Wide.IsWide}
 use Rattle.nmgc_world_laws.specs.Holds.{has_result}
-use Rattle.nmgc_world_spec.specs.World.{World, node_of, IsSized}
-use Rattle.nmgc_object.specs.Words.{header_word, IsHeader}
-use Rattle.nmgc_object.specs.Places.{word_total}
-use Rattle.nmgc_object.specs.declared.size.TheConstants.{HEADER_WORDS}
-use Rattle.nmgc_heap_spec.specs.Shape.{header_of, size_of, slots_of, fixed_slots, free_slots}
-use Rattle.nmgc_heap_spec.specs.Tracked.{IsTracked}
-use Rattle.nmgc_world_spec.specs.Wide.{IsWide}
-use Rattle.nmgc_heap_spec.specs.Places.{Place, HasSlots, LiesWell, IsBetween, HasZeros}
-use Rattle.nmgc_heap_spec.specs.Represents.{IsNamed}
+use Rattle.nmgc_object.specs.{Words.header_word, Words.IsHeader, Places.word_total, declared.size.TheConstants.HEADER_WORDS}
+use Rattle.nmgc_heap_spec.specs.{Shape.header_of, Shape.size_of, Shape.slots_of, Shape.fixed_slots, Shape.free_slots, Tracked.IsTracked, Places.Place, Places.HasSlots, Places.LiesWell, Places.IsBetween, Places.HasZeros, Represents.IsNamed}
 use Rattle.nmgc_round.specs.View.{Opening}
 
 -- an object: where it begins, its name, and the first node that the round knows of it

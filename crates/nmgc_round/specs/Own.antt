@@ -3,17 +3,11 @@
 -- Only its maker pushes to a stack and pops off it, so a mutator's rows tell the words in the slots of its stacks,
 -- from those on that the round's opening tells: what the world's values are as words, by the places of objects.
 use Rattle.std.specs.Prelude.{◌≡◌, ℕ, ◌+◌, ◌*◌, ◌==◌, List, [], ◌∷◌, ◌++◌, map, Option, Some, None, if◌then◌else◌}
-use Rattle.nmgc_world_spec.specs.declared.value.Name.{Name}
-use Rattle.nmgc_world_spec.specs.declared.value.Value.{Value}
+use Rattle.nmgc_world_spec.specs.{declared.value.Name.Name, declared.value.Value.Value, declared.node.Node.Node, declared.node.Node.TheVariants.Stack, Change.is_same_name, World.World, World.node_of}
 use Rattle.nmgc_world_spec.specs.declared.value.Value.TheVariants as value
-use Rattle.nmgc_world_spec.specs.declared.node.Node.{Node}
-use Rattle.nmgc_world_spec.specs.declared.node.Node.TheVariants.{Stack}
-use Rattle.nmgc_world_spec.specs.Change.{is_same_name}
 use Rattle.nmgc_object.specs.declared.words.TheConstants.{NIL_WORD, ZERO_WORD}
-use Rattle.nmgc_world_spec.specs.World.{World, node_of}
 use Rattle.nmgc_heap_spec.specs.Places.{Place, ListMeans}
-use Rattle.nmgc_round.specs.View.{Slots, Hand, Opening}
-use Rattle.nmgc_round.specs.Objects.{Object, IsObject, IsIn}
+use Rattle.nmgc_round.specs.{View.Slots, View.Hand, View.Opening, Objects.Object, Objects.IsObject, Objects.IsIn}
 
 -- the words of the stack at a place, from the bottom up, if it is one of these
 abbrev pub slots_at : List Slots → ℕ → Option (List ℕ)

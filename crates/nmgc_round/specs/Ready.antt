@@ -1,21 +1,11 @@
 -- When a step may be taken, by what its seat knows.
 use Rattle.std.specs.Prelude.{◌≡◌, ◌≢◌, ℕ, ◌+◌, ◌-◌, ◌*◌, ◌<◌, ◌≤◌, ◌^◌, true, false, List, [], ◌∷◌, Contains, slice_get, Some}
-use Rattle.nmgc_world_spec.specs.declared.node.Kind.{Kind}
+use Rattle.nmgc_world_spec.specs.{declared.node.Kind.Kind, declared.command.Operand.Operand, declared.command.Command.Command, declared.command.Command.TheVariants.Get, declared.command.Command.TheVariants.Set, Command.Fits, Command.IsMaking, Command.words_made, Step.shared_name}
 use Rattle.nmgc_world_spec.specs.declared.node.Kind.TheVariants as kind
-use Rattle.nmgc_world_spec.specs.declared.command.Operand.{Operand}
-use Rattle.nmgc_world_spec.specs.declared.command.Command.{Command}
-use Rattle.nmgc_world_spec.specs.declared.command.Command.TheVariants.{Get, Set}
-use Rattle.nmgc_world_spec.specs.Command.{Fits, IsMaking, words_made}
-use Rattle.nmgc_object.specs.Words.{header_word, name_word, IsHeader}
-use Rattle.nmgc_object.specs.declared.words.Header.{Header}
-use Rattle.nmgc_object.specs.declared.size.TheConstants.{HEADER_WORDS, NAME_OFFSET}
-use Rattle.nmgc_world_spec.specs.Step.{shared_name}
-use Rattle.nmgc_snapshot_laws.specs.declared.event.Entry.{Entry}
-use Rattle.nmgc_snapshot_laws.specs.State.{entry_of}
-use Rattle.nmgc_round.specs.Marking.{marks_after, offset_of}
+use Rattle.nmgc_object.specs.{Words.header_word, Words.name_word, Words.IsHeader, declared.words.Header.Header, declared.size.TheConstants.HEADER_WORDS, declared.size.TheConstants.NAME_OFFSET}
+use Rattle.nmgc_snapshot_laws.specs.{declared.event.Entry.Entry, State.entry_of}
+use Rattle.nmgc_round.specs.{Marking.marks_after, Marking.offset_of, Making.header_made, Making.fields_made, Rule.top_of, Rule.limit_of}
 use Rattle.nmgc_round.specs.View.{scanning, UnbornWord, Opening, Part, Seen, hand_now, word_of, next_of}
-use Rattle.nmgc_round.specs.Making.{header_made, fields_made}
-use Rattle.nmgc_round.specs.Rule.{top_of, limit_of}
 
 -- the seat is one mutator's
 pub record IsMutator (v : Seen) (p : Part) : Type 0 where

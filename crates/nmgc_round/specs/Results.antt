@@ -1,17 +1,10 @@
 -- The result of a thunk: when it may be loaded or set, and what the seat knows then.
 use Rattle.std.specs.Prelude.{◌≡◌, ℕ, ◌+◌, ◌-◌, ◌*◌, ◌/◌, ◌<◌, ◌==◌, Bool, true, false, List, Contains, if◌then◌else◌}
 use Rattle.nmgc_world_spec.specs.declared.node.Kind.TheVariants as kind
-use Rattle.nmgc_world_spec.specs.declared.command.Operand.{Operand}
-use Rattle.nmgc_world_spec.specs.declared.command.Command.{Command}
-use Rattle.nmgc_world_spec.specs.declared.command.Command.TheVariants.{Update, Force}
-use Rattle.nmgc_world_spec.specs.declared.command.Reply.TheVariants.{Updated, Already, Nothing}
-use Rattle.nmgc_object.specs.declared.words.Header.{Header}
-use Rattle.nmgc_object.specs.declared.words.TheConstants.{FIELDS_UNIT}
-use Rattle.nmgc_object.specs.declared.size.TheConstants.{HEADER_WORDS}
+use Rattle.nmgc_world_spec.specs.{declared.command.Operand.Operand, declared.command.Command.Command, declared.command.Command.TheVariants.Update, declared.command.Command.TheVariants.Force, declared.command.Reply.TheVariants.Updated, declared.command.Reply.TheVariants.Already, declared.command.Reply.TheVariants.Nothing}
+use Rattle.nmgc_object.specs.{declared.words.Header.Header, declared.words.TheConstants.FIELDS_UNIT, declared.size.TheConstants.HEADER_WORDS}
 use Rattle.nmgc_round.specs.View.{Answer, plain, word, Opening, Part, Seen, answered}
-use Rattle.nmgc_round.specs.Ready.{CanGive, Names, operand_word}
-use Rattle.nmgc_round.specs.Told.{header_at}
-use Rattle.nmgc_round.specs.Owing.{fixed_from, owing}
+use Rattle.nmgc_round.specs.{Ready.CanGive, Ready.Names, Ready.operand_word, Told.header_at, Owing.fixed_from, Owing.owing}
 
 -- `force` of the thunk at this place
 pub record CanForce (o : Opening) (p : Part) (at : ℕ) (c : Command) : Type 0 where

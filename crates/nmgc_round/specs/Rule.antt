@@ -2,30 +2,13 @@
 use Rattle.std.specs.Prelude.{◌≡◌, ◌⊎◌, ℕ, ◌+◌, ◌<◌, ◌≤◌, Bool, true, false, List, [], ◌∷◌, length, slice_index, Contains, Option, Some, None, IsSome}
 use mathlib.Core.Option.{some}
 use lib.ListN.{get_elem?}
-use Rattle.nmgc_world_spec.specs.declared.value.Name.{Name}
-use Rattle.nmgc_world_spec.specs.declared.value.Value.{Value}
-use Rattle.nmgc_world_spec.specs.declared.node.Node.{Node}
-use Rattle.nmgc_world_spec.specs.declared.command.Command.{Command}
-use Rattle.nmgc_world_spec.specs.declared.command.Reply.{Reply}
-use Rattle.nmgc_world_spec.specs.declared.command.Reply.TheVariants.{Given}
-use Rattle.nmgc_world_spec.specs.World.{World, state_of, node_of, serial_of}
-use Rattle.nmgc_world_spec.specs.Step.{shared_name}
-use Rattle.nmgc_object.specs.Places.{IsLayout, nursery_place}
-use Rattle.nmgc_object.specs.declared.layout.TheConstants.{SHARED_PLACE}
-use Rattle.nmgc_object.specs.declared.size.TheConstants.{HEADER_WORDS}
-use Rattle.nmgc_snapshot_laws.specs.declared.event.Entry.{Entry}
-use Rattle.nmgc_snapshot_laws.specs.State.{State, names_of}
-use Rattle.nmgc_world_spec.specs.Owed.{names_among}
-use Rattle.nmgc_heap_spec.specs.Shape.{header_of, size_of, MayChange}
-use Rattle.nmgc_heap_spec.specs.Places.{Place, Means, ListMeans}
-use Rattle.nmgc_round.specs.Events.{Happening, replay, IsLegal, done_by, scans_in}
+use Rattle.nmgc_world_spec.specs.{declared.value.Name.Name, declared.value.Value.Value, declared.node.Node.Node, declared.command.Command.Command, declared.command.Reply.Reply, declared.command.Reply.TheVariants.Given, World.World, World.state_of, World.node_of, World.serial_of, Step.shared_name, Owed.names_among, Wide.IsWide}
+use Rattle.nmgc_object.specs.{Places.IsLayout, Places.nursery_place, declared.layout.TheConstants.SHARED_PLACE, declared.size.TheConstants.HEADER_WORDS}
+use Rattle.nmgc_snapshot_laws.specs.{declared.event.Entry.Entry, State.State, State.names_of, Scan.fields_of}
+use Rattle.nmgc_heap_spec.specs.{Shape.header_of, Shape.size_of, Shape.MayChange, Places.Place, Places.Means, Places.ListMeans, Tracked.IsTracked}
+use Rattle.nmgc_round.specs.{Events.Happening, Events.replay, Events.IsLegal, Events.done_by, Events.scans_in, Marking.marks_of, Marking.marks_after, Own.OwnSlots}
 use Rattle.nmgc_round.specs.View.{Answer, plain, word, DoneRow, Hand, FixedWord, UnbornWord, Scan, Opening, Part, Seen, exclusive, hand_now}
-use Rattle.nmgc_snapshot_laws.specs.Scan.{fields_of}
 use Rattle.nmgc_world_laws.specs.Holds.{has_result}
-use Rattle.nmgc_heap_spec.specs.Tracked.{IsTracked}
-use Rattle.nmgc_world_spec.specs.Wide.{IsWide}
-use Rattle.nmgc_round.specs.Marking.{marks_of, marks_after}
-use Rattle.nmgc_round.specs.Own.{OwnSlots}
 use Rattle.nmgc_round.specs.Objects.{Object, end_of, earlier, IsOld, IsLater, IsObject, IsIn, RepresentsInRound}
 
 -- the state after events

@@ -1,8 +1,7 @@
 -- A seat at a round.
 use Rattle.std.specs.Prelude.{◌≡◌, ℕ, []}
 use Rattle.atomic_table.specs.declared.shared.Seat.{Seat}
-use Rattle.nmgc_round.specs.declared.table.Round.{Round}
-use Rattle.nmgc_round.specs.View.{Opening, Seen}
+use Rattle.nmgc_round.specs.{declared.table.Round.Round, View.Opening, View.Seen}
 
 -- a seat as clauses see it
 abbrev pub RoundSeat : Type 0

@@ -1,18 +1,10 @@
 -- A slot of an own stack: when it may be loaded or swapped, and what the seat knows then.
 use Rattle.std.specs.Prelude.{◌≡◌, ◌≢◌, ◌⊎◌, ℕ, ◌+◌, ◌*◌, ◌<◌, ◌≤◌, List, length, slice_index, Contains, Some}
-use Rattle.nmgc_world_spec.specs.declared.value.Name.{Name}
+use Rattle.nmgc_world_spec.specs.{declared.value.Name.Name, declared.command.Operand.Operand, declared.command.Command.Command, declared.command.Command.TheVariants.Push, declared.command.Command.TheVariants.Pop, declared.command.Reply.Reply, declared.command.Reply.TheVariants.Fine, declared.command.Reply.TheVariants.StackFull, declared.command.Reply.TheVariants.StackEmpty}
 use Rattle.nmgc_world_spec.specs.declared.node.Kind.TheVariants as kind
-use Rattle.nmgc_world_spec.specs.declared.command.Operand.{Operand}
-use Rattle.nmgc_world_spec.specs.declared.command.Command.{Command}
-use Rattle.nmgc_world_spec.specs.declared.command.Command.TheVariants.{Push, Pop}
-use Rattle.nmgc_world_spec.specs.declared.command.Reply.{Reply}
-use Rattle.nmgc_world_spec.specs.declared.command.Reply.TheVariants.{Fine, StackFull, StackEmpty}
-use Rattle.nmgc_object.specs.Words.{name_word, IsName}
-use Rattle.nmgc_object.specs.declared.words.Header.{Header}
-use Rattle.nmgc_object.specs.declared.layout.TheConstants.{SHARED_PLACE}
+use Rattle.nmgc_object.specs.{Words.name_word, Words.IsName, declared.words.Header.Header, declared.layout.TheConstants.SHARED_PLACE}
 use Rattle.nmgc_round.specs.View.{plain, word, Opening, Part, Seen, hand_now, changing, doing, finding, owed_word, loaded, answered}
-use Rattle.nmgc_round.specs.Own.{slots_at}
-use Rattle.nmgc_round.specs.Ready.{CanGive, Names, operand_word}
+use Rattle.nmgc_round.specs.{Own.slots_at, Ready.CanGive, Ready.Names, Ready.operand_word}
 
 -- an operand refers to a stack that this mutator made: the seat names its header and its name
 pub record IsOwn (o : Opening) (p : Part) (at : ℕ) : Type 0 where

@@ -1,15 +1,9 @@
 -- When a round may start: the words represent the world, and what is outside them stands for it.
 use Rattle.std.specs.Prelude.{◌≡◌, ℕ, ◌<◌, false, List, [], length, Contains, Some}
-use Rattle.nmgc_world_spec.specs.declared.node.Node.{Node}
-use Rattle.nmgc_world_spec.specs.World.{IsWorld, state_of, node_of, serial_of}
-use Rattle.nmgc_snapshot_laws.specs.declared.event.Entry.{Entry}
-use Rattle.nmgc_snapshot_laws.specs.State.{names_of, unmarked}
-use Rattle.nmgc_heap_spec.specs.Places.{ListMeans}
-use Rattle.nmgc_heap_spec.specs.Represents.{Represents, NoNode}
-use Rattle.nmgc_round.specs.View.{Hand, Opening, hand_of}
-use Rattle.nmgc_round.specs.Objects.{Object, IsLater, IsSnapshot, earlier}
-use Rattle.nmgc_round.specs.Own.{old_stacks}
-use Rattle.nmgc_round.specs.Rule.{IsOpening, IsQueued}
+use Rattle.nmgc_world_spec.specs.{declared.node.Node.Node, World.IsWorld, World.state_of, World.node_of, World.serial_of}
+use Rattle.nmgc_snapshot_laws.specs.{declared.event.Entry.Entry, State.names_of, State.unmarked}
+use Rattle.nmgc_heap_spec.specs.{Places.ListMeans, Represents.Represents, Represents.NoNode}
+use Rattle.nmgc_round.specs.{View.Hand, View.Opening, View.hand_of, Objects.Object, Objects.IsLater, Objects.IsSnapshot, Objects.earlier, Own.old_stacks, Rule.IsOpening, Rule.IsQueued}
 
 -- what a mutator has stands for what it has in the world, and lists the stacks there that it made
 pub record HandStands (o : Opening) (m : ℕ) (h : Hand) : Type 0 where

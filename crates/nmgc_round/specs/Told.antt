@@ -2,21 +2,11 @@
 -- `TakesPlace`, `CanTell`). They read no word that changes. A refusal rests on the header of its object, or on the maker in
 -- its name. And what loads tell their caller of the word that they find (`TellsFixed` and what begins so).
 use Rattle.std.specs.Prelude.{◌≡◌, ◌≢◌, ◌⊎◌, ℕ, zero, suc, ◌+◌, ◌<◌, ◌*◌, ◌/◌, ◌%◌, ◌≤◌, ◌==◌, ◌&&◌, nat_le, List, [], ◌∷◌, Contains, Some, slice_get, if◌then◌else◌}
-use Rattle.nmgc_world_spec.specs.declared.value.Name.{Name}
-use Rattle.nmgc_world_spec.specs.declared.node.Node.{Node}
+use Rattle.nmgc_world_spec.specs.{declared.value.Name.Name, declared.node.Node.Node, declared.command.Operand.Operand, declared.command.Command.Command, declared.command.Reply.Reply, World.node_of}
 use Rattle.nmgc_world_spec.specs.declared.node.Kind.TheVariants as kind
-use Rattle.nmgc_world_spec.specs.declared.command.Operand.{Operand}
-use Rattle.nmgc_world_spec.specs.declared.command.Command.{Command}
 use Rattle.nmgc_world_spec.specs.declared.command.Command.TheVariants.{Num, Nil, Mov, Get, Set, Cas, Update, Force, Push, Pop, Deref, Finalise, NextFin, Show, Same, Yield, Collect, Full}
-use Rattle.nmgc_world_spec.specs.declared.command.Reply.{Reply}
 use Rattle.nmgc_world_spec.specs.declared.command.Reply.TheVariants.{Fine, Yes, No, NoPointer, NoField, WrongKind, NotOwner, Fixed, Nothing}
-use Rattle.nmgc_object.specs.Words.{kind_number, header_word, name_word, IsHeader, IsName}
-use Rattle.nmgc_object.specs.declared.words.Header.{Header}
-use Rattle.nmgc_object.specs.declared.words.TheConstants.{TAG_UNIT}
-use Rattle.nmgc_object.specs.declared.size.TheConstants.{HEADER_WORDS}
-use Rattle.nmgc_object.specs.declared.layout.TheConstants.{SHARED_PLACE}
-use Rattle.nmgc_object.specs.Places.{word_total}
-use Rattle.nmgc_world_spec.specs.World.{node_of}
+use Rattle.nmgc_object.specs.{Words.kind_number, Words.header_word, Words.name_word, Words.IsHeader, Words.IsName, declared.words.Header.Header, declared.words.TheConstants.TAG_UNIT, declared.size.TheConstants.HEADER_WORDS, declared.layout.TheConstants.SHARED_PLACE, Places.word_total}
 use Rattle.nmgc_snapshot_laws.specs.declared.event.Entry.{Entry}
 use Rattle.nmgc_heap_spec.specs.Shape.{MayChange, header_of, size_of}
 use Rattle.nmgc_round.specs.Marking.{marks_after}

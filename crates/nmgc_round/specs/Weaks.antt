@@ -1,15 +1,10 @@
 -- The value of a weak pointer: when it may be loaded or taken, and what the seat knows then.
 use Rattle.std.specs.Prelude.{◌≡◌, ℕ, ◌+◌, ◌*◌, ◌==◌, [], ◌∷◌, Contains, if◌then◌else◌}
 use Rattle.nmgc_world_spec.specs.declared.node.Kind.TheVariants as kind
-use Rattle.nmgc_world_spec.specs.declared.command.Operand.{Operand}
-use Rattle.nmgc_world_spec.specs.declared.command.Command.{Command}
-use Rattle.nmgc_world_spec.specs.declared.command.Command.TheVariants.{Deref, Finalise}
-use Rattle.nmgc_world_spec.specs.declared.command.Reply.TheVariants.{Dead}
-use Rattle.nmgc_object.specs.declared.words.Header.{Header}
-use Rattle.nmgc_object.specs.declared.size.TheConstants.{HEADER_WORDS}
+use Rattle.nmgc_world_spec.specs.{declared.command.Operand.Operand, declared.command.Command.Command, declared.command.Command.TheVariants.Deref, declared.command.Command.TheVariants.Finalise, declared.command.Reply.TheVariants.Dead}
+use Rattle.nmgc_object.specs.{declared.words.Header.Header, declared.size.TheConstants.HEADER_WORDS}
 use Rattle.nmgc_round.specs.View.{plain, word, Opening, Part, Seen, changing, doing, owed_word, finding}
-use Rattle.nmgc_round.specs.Ready.{CanGive, Names, operand_word}
-use Rattle.nmgc_round.specs.Owing.{fixed_at, owed_words, finding_all}
+use Rattle.nmgc_round.specs.{Ready.CanGive, Ready.Names, Ready.operand_word, Owing.fixed_at, Owing.owed_words, Owing.finding_all}
 
 -- `deref` of the weak pointer at this place
 pub record CanDeref (o : Opening) (p : Part) (at : ℕ) (c : Command) : Type 0 where

@@ -1,3 +1,4 @@
 pub mod Common
 pub mod Gathering
 pub mod Slots
+mod Vocabulary

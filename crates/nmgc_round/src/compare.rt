@@ -4,9 +4,7 @@
 //! Where it writes it is a swap, so while marking it owes the word that it took out.
 ghost use Rattle.std.specs.Prelude.{◌≡◌, ◌+◌, ◌<◌, ◌==◌, []};
 ghost use Rattle.nmgc_object.specs.declared.size.TheConstants.{HEADER_WORDS};
-ghost use Rattle.nmgc_round.specs.Ready.{Mutates};
-ghost use Rattle.nmgc_round.specs.Compare.{CanExchange, FoundOther, exchanged, wrote};
-ghost use Rattle.nmgc_round.specs.Seat.{IsAt, Knows, seen, word_count};
+ghost use Rattle.nmgc_round.specs.{Ready.Mutates, Compare.CanExchange, Compare.FoundOther, Compare.exchanged, Compare.wrote, Seat.IsAt, Seat.Knows, Seat.seen, Seat.word_count};
 
 use crate::plays::Asked;
 use crate::table::{MutatorSeat, Round};

@@ -9,31 +9,13 @@
 ghost use Rattle.std.specs.Prelude.{◌≡◌, ◌≢◌, ◌+◌, ◌<◌, ◌==◌, ℕ, true, List, [], ◌∷◌, ◌++◌, set, slice_index, length, map};
 ghost use mathlib.Core.Option.{some};
 ghost use lib.ListN.{get_elem?};
-ghost use Rattle.nmgc_world_spec.specs.declared.command.Command.{Command};
-ghost use Rattle.nmgc_world_spec.specs.declared.command.Reply.{Reply};
-ghost use Rattle.nmgc_world_spec.specs.History.{replayed, rows_of, IsLegal as IsLegalHistory};
-ghost use Rattle.nmgc_object.specs.declared.size.TheConstants.{HEADER_WORDS};
-ghost use Rattle.nmgc_object.specs.declared.layout.TheConstants.{SHARED_PLACE};
-ghost use Rattle.nmgc_object.specs.declared.layout.Layout.{Layout};
-ghost use Rattle.nmgc_object.specs.Places.{IsLayout};
-ghost use Rattle.nmgc_snapshot_laws.specs.State.{State};
-ghost use Rattle.nmgc_snapshot_laws.specs.Machine.{Does};
-ghost use Rattle.nmgc_round.specs.Own.{OwnSlots};
+ghost use Rattle.nmgc_world_spec.specs.{declared.command.Command.Command, declared.command.Reply.Reply, History.replayed, History.rows_of, History.IsLegal as IsLegalHistory};
+ghost use Rattle.nmgc_object.specs.{declared.size.TheConstants.HEADER_WORDS, declared.layout.TheConstants.SHARED_PLACE, declared.layout.Layout.Layout, Places.IsLayout};
+ghost use Rattle.nmgc_snapshot_laws.specs.{State.State, Machine.Does};
+ghost use Rattle.nmgc_round.specs.{Own.OwnSlots, Rule.Keeps, Rule.Stopped, Added.Stays, Added.AddsCommand, Added.AddsIfMet, Added.AddsScan, Seating.CanSplit, Seating.keeps_rest, Seating.gives_first, Seating.mutates, Seating.collecting, Seating.together, Compare.CanExchange, Compare.exchanged, Compare.words_exchanged, Results.CanForce, Results.CanUpdate, Results.forced, Results.updated, Stacks.CanPeek, Stacks.CanSlot, Stacks.TellsSlot, Stacks.slot_swapped, Stacks.IsRefusedSlot, Stacks.slot_refused, Weaks.CanDeref, Weaks.CanFinalise, Weaks.weak_read, Weaks.weak_taken, Told.CanFix, Told.CanTake, Told.taken, Naming.AllReply, Empty.IsEmptyHeap, Empty.first_opening, Starting.CanOpen, Finishing.IsFinished, Finishing.HasAll, Finishing.HasEach, Finishing.Leaves};
 ghost use Rattle.nmgc_round.specs.View.{hand_of, Opening, Part, Seen, word, whole, exclusive, nobody, loaded, answered, swapped, met, met_at_birth, stored, gave_birth};
-ghost use Rattle.nmgc_round.specs.Rule.{Keeps, Stopped};
-ghost use Rattle.nmgc_round.specs.Added.{Stays, AddsCommand, AddsIfMet, AddsScan};
-ghost use Rattle.nmgc_round.specs.Seating.{CanSplit, keeps_rest, gives_first, mutates, collecting, together};
 ghost use Rattle.nmgc_round.specs.Ready.{IsMutator, CanLoad, CanSwap, CanStore, CanBear, CanScan, scanned_by};
-ghost use Rattle.nmgc_round.specs.Compare.{CanExchange, exchanged, words_exchanged};
-ghost use Rattle.nmgc_round.specs.Results.{CanForce, CanUpdate, forced, updated};
-ghost use Rattle.nmgc_round.specs.Stacks.{CanPeek, CanSlot, TellsSlot, slot_swapped, IsRefusedSlot, slot_refused};
-ghost use Rattle.nmgc_round.specs.Weaks.{CanDeref, CanFinalise, weak_read, weak_taken};
-ghost use Rattle.nmgc_round.specs.Told.{CanFix, CanTake, taken};
 ghost use Rattle.nmgc_round.specs.Events.{Happening, event_of, after, replay, IsLegal, done_by, rows_in};
-ghost use Rattle.nmgc_round.specs.Naming.{AllReply};
-ghost use Rattle.nmgc_round.specs.Empty.{IsEmptyHeap, first_opening};
-ghost use Rattle.nmgc_round.specs.Starting.{CanOpen};
-ghost use Rattle.nmgc_round.specs.Finishing.{IsFinished, HasAll, HasEach, Leaves};
 
 /// A load of a word that never changes, without a place in the order: no word changes, and no event is added.
 pub fn fixed_load()

@@ -5,14 +5,9 @@
 //! no place for a command or a place in the heap, so those come by a type parameter, which each public step
 //! picks from its own arguments.
 ghost use Rattle.std.specs.Prelude.{◌≡◌, ◌==◌, ℕ, [], set, slice_index};
-ghost use Rattle.nmgc_world_spec.specs.declared.command.Command.{Command};
-ghost use Rattle.nmgc_world_spec.specs.declared.command.Command.TheVariants.{Yield};
+ghost use Rattle.nmgc_world_spec.specs.{declared.command.Command.Command, declared.command.Command.TheVariants.Yield};
 ghost use Rattle.nmgc_round.specs.View.{Opening, no_opening, word, answered, swapped, met, met_at_birth, stored, loaded, gave_birth, whole, exclusive, nobody};
-ghost use Rattle.nmgc_round.specs.Ready.{Mutates, scanned_by};
-ghost use Rattle.nmgc_round.specs.Told.{taken, TellsFixed, TellsField, TellsQueue, TellsScan, IsSafe};
-ghost use Rattle.nmgc_round.specs.Seating.{keeps_rest, gives_first, mutates, collecting, together};
-ghost use Rattle.nmgc_round.specs.Rule.{Holding};
-ghost use Rattle.nmgc_round.specs.Finishing.{Ended};
+ghost use Rattle.nmgc_round.specs.{Ready.Mutates, Ready.scanned_by, Told.taken, Told.TellsFixed, Told.TellsField, Told.TellsQueue, Told.TellsScan, Told.IsSafe, Seating.keeps_rest, Seating.gives_first, Seating.mutates, Seating.collecting, Seating.together, Rule.Holding, Finishing.Ended};
 
 use crate::chosen::Chosen;
 use crate::view::{Stored, View};

@@ -8,11 +8,7 @@
 //! of the free variables.
 ghost use Rattle.std.specs.Prelude.{◌≡◌, ◌≢◌, ◌+◌, ◌<◌, ◌==◌, []};
 ghost use Rattle.nmgc_object.specs.declared.size.TheConstants.{HEADER_WORDS};
-ghost use Rattle.nmgc_round.specs.Ready.{Mutates};
-ghost use Rattle.nmgc_round.specs.Told.{IsSafe};
-ghost use Rattle.nmgc_round.specs.Compare.{FoundOther, wrote};
-ghost use Rattle.nmgc_round.specs.Results.{CanForce, CanUpdate, forced, updated};
-ghost use Rattle.nmgc_round.specs.Seat.{IsAt, Knows, seen, word_count};
+ghost use Rattle.nmgc_round.specs.{Ready.Mutates, Told.IsSafe, Compare.FoundOther, Compare.wrote, Results.CanForce, Results.CanUpdate, Results.forced, Results.updated, Seat.IsAt, Seat.Knows, Seat.seen, Seat.word_count};
 
 use crate::compare::Exchanged;
 use crate::plays::{Asked, Located};

@@ -7,12 +7,7 @@
 //! Easy to get wrong: an error between the two ends would lose the words. So `start` takes the room for
 //! the seats from its caller, and neither end can fail.
 ghost use Rattle.std.specs.Prelude.{map, All, [], ◌≡◌, ◌<◌, ◌≤◌, length, vec_capacity};
-ghost use Rattle.nmgc_round.specs.Starting.{CanOpen};
-ghost use Rattle.nmgc_round.specs.Finishing.{HasAll, IsFinished, Leaves};
-ghost use Rattle.nmgc_round.specs.Stop.{IsSole, words_of};
-ghost use Rattle.nmgc_round.specs.Seating.{alones, all_together, collecting};
-ghost use Rattle.nmgc_round.specs.View.{whole};
-ghost use Rattle.nmgc_round.specs.Seat.{IsAt, seen, word_count, opening_of};
+ghost use Rattle.nmgc_round.specs.{Starting.CanOpen, Finishing.HasAll, Finishing.IsFinished, Finishing.Leaves, Stop.IsSole, Stop.words_of, Seating.alones, Seating.all_together, Seating.collecting, View.whole, Seat.IsAt, Seat.seen, Seat.word_count, Seat.opening_of};
 
 use crate::chosen::{Chosen, Wanted};
 use crate::plays::{Begun, Ends, Opens};

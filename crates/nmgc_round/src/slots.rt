@@ -9,12 +9,8 @@
 //! Easy to get wrong: a slot above the top is the word 0, which stands for no value. So the first such slot tells the
 //! depth, and a stack that has none is full.
 ghost use Rattle.std.specs.Prelude.{◌≡◌, ◌+◌, ◌<◌, [], ℕ};
-ghost use Rattle.nmgc_object.specs.declared.layout.TheConstants.{SHARED_PLACE};
-ghost use Rattle.nmgc_object.specs.declared.size.TheConstants.{HEADER_WORDS};
-ghost use Rattle.nmgc_round.specs.Ready.{Mutates};
-ghost use Rattle.nmgc_round.specs.Told.{IsSafe};
-ghost use Rattle.nmgc_round.specs.Stacks.{CanPeek, CanSlot, TellsSlot, slot_swapped, IsRefusedSlot, slot_refused};
-ghost use Rattle.nmgc_round.specs.Seat.{IsAt, Knows, seen, word_count};
+ghost use Rattle.nmgc_object.specs.{declared.layout.TheConstants.SHARED_PLACE, declared.size.TheConstants.HEADER_WORDS};
+ghost use Rattle.nmgc_round.specs.{Ready.Mutates, Told.IsSafe, Stacks.CanPeek, Stacks.CanSlot, Stacks.TellsSlot, Stacks.slot_swapped, Stacks.IsRefusedSlot, Stacks.slot_refused, Seat.IsAt, Seat.Knows, Seat.seen, Seat.word_count};
 
 use crate::plays::{Asked, Located};
 use crate::table::{MutatorSeat, Round};

@@ -8,10 +8,7 @@
 //! whether it is alive is told by the value's word alone, at the step itself.
 ghost use Rattle.std.specs.Prelude.{◌≡◌, ◌≢◌, ◌+◌, ◌<◌, []};
 ghost use Rattle.nmgc_object.specs.declared.size.TheConstants.{HEADER_WORDS};
-ghost use Rattle.nmgc_round.specs.Ready.{Mutates};
-ghost use Rattle.nmgc_round.specs.Told.{IsSafe};
-ghost use Rattle.nmgc_round.specs.Weaks.{CanDeref, CanFinalise, finaliser_named, weak_read, weak_taken};
-ghost use Rattle.nmgc_round.specs.Seat.{IsAt, Knows, seen, word_count};
+ghost use Rattle.nmgc_round.specs.{Ready.Mutates, Told.IsSafe, Weaks.CanDeref, Weaks.CanFinalise, Weaks.finaliser_named, Weaks.weak_read, Weaks.weak_taken, Seat.IsAt, Seat.Knows, Seat.seen, Seat.word_count};
 
 use crate::plays::{Asked, Located};
 use crate::table::{MutatorSeat, Round};

@@ -7,8 +7,7 @@
 //!
 //! Easy to get wrong: each store is ordered with all others and costs several times a load. So a stop writes
 //! no word that stays as it is.
-ghost use Rattle.std.specs.Prelude.{◌≡◌, ◌<◌, IfOk, length, set, slice_index};
-ghost use Rattle.std.specs.Slots.{slots_items, slots_len, IsFull};
+ghost use Rattle.std.specs.{Prelude.◌≡◌, Prelude.◌<◌, Prelude.IfOk, Prelude.length, Prelude.set, Prelude.slice_index, Slots.slots_items, Slots.slots_len, Slots.IsFull};
 ghost use Rattle.nmgc_round.specs.Stop.{IsSole};
 
 use crate::chosen::{Chosen, Wanted};

@@ -1,17 +1,12 @@
 -- What holds of the cycle in progress beside its world: its number, when it began, and which segments wait for it.
 use Rattle.std.specs.Prelude.{ℕ, ◌≡◌, ◌<◌, ◌≤◌, List}
-use Rattle.nmgc_world_spec.specs.declared.command.Reply.{Reply}
-use Rattle.nmgc_world_spec.specs.World.{World}
-use Rattle.nmgc_world_spec.specs.History.{Row}
+use Rattle.nmgc_world_spec.specs.{declared.command.Reply.Reply, World.World, History.Row}
 use Rattle.nmgc_segment.specs.declared.state.State.TheVariants as stands
 use Rattle.nmgc_object.specs.declared.layout.Layout.{Layout}
 use Rattle.nmgc_script.specs.declared.script.Config.{Config}
 use Rattle.nmgc_alloc.specs.AllocState.{AllocState, IsIn, NoneIs, cells}
-use Rattle.nmgc_blocks_spec.specs.Cycle.{IsSweptIn, Cycle}
-use Rattle.nmgc_blocks_spec.specs.Waiting.{AreAsNoted}
-use Rattle.nmgc_run_spec.specs.Stop.{Promotes}
-use Rattle.nmgc_run_spec.specs.Round.{IsRound}
-use Rattle.nmgc_run_spec.specs.Run.{Run, IsRun, last_state}
+use Rattle.nmgc_blocks_spec.specs.{Cycle.IsSweptIn, Cycle.Cycle, Waiting.AreAsNoted}
+use Rattle.nmgc_run_spec.specs.{Stop.Promotes, Round.IsRound, Run.Run, Run.IsRun, Run.last_state}
 use Rattle.nmgc_run_spec.specs.State.{Plan, State, Progress, idle, marking, sweeping, cycle_started}
 
 -- the cycle is the last that was begun, at this stop or before, and so it isn't the 0th

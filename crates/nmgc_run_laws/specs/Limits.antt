@@ -1,18 +1,11 @@
 -- What the limits of a script give its runs: a layout, and numbers and objects within the limits at every state.
 use Rattle.std.specs.Prelude.{ℕ, ◌-◌, ◌<◌, ◌^◌, List, length, All}
-use Rattle.nmgc_world_spec.specs.declared.command.Command.{Command}
-use Rattle.nmgc_world_spec.specs.declared.command.Reply.{Reply}
-use Rattle.nmgc_world_spec.specs.Command.{Fits}
-use Rattle.nmgc_world_spec.specs.History.{Row}
+use Rattle.nmgc_world_spec.specs.{declared.command.Command.Command, declared.command.Reply.Reply, Command.Fits, History.Row}
 use Rattle.nmgc_world_laws.specs.Limits.{IsWithin}
 use Rattle.nmgc_object.specs.Places.{IsLayout}
-use Rattle.nmgc_script.specs.Limits.{FitsScript}
-use Rattle.nmgc_script.specs.declared.script.Script.{Script}
-use Rattle.nmgc_run_spec.specs.Round.{IsRound}
-use Rattle.nmgc_run_spec.specs.Run.{Run, IsRun, last_state}
-use Rattle.nmgc_run_spec.specs.Slice.{program_of}
+use Rattle.nmgc_script.specs.{Limits.FitsScript, declared.script.Script.Script}
+use Rattle.nmgc_run_spec.specs.{Round.IsRound, Run.Run, Run.IsRun, Run.last_state, Slice.program_of, State.Plan, State.State, State.plan_of, State.layout_of}
 use Rattle.nmgc_run_laws.specs.Sound.{IsRunnable, IsSoundState}
-use Rattle.nmgc_run_spec.specs.State.{Plan, State, plan_of, layout_of}
 
 -- each command of the programs is one that a script may have
 abbrev pub AreFitting : Plan → List (List Command) → Type 0

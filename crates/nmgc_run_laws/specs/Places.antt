@@ -2,19 +2,12 @@
 -- promotion.
 use Rattle.std.specs.Prelude.{ℕ, ◌≡◌, ◌↔◌, ◌<◌, List, Contains}
 use Rattle.nmgc_world_spec.specs.World.{World}
-use Rattle.nmgc_object.specs.declared.layout.Layout.{Layout}
-use Rattle.nmgc_object.specs.Places.{nursery_place}
-use Rattle.nmgc_alloc.specs.Numbered.{Segments}
-use Rattle.nmgc_alloc.specs.Segments.{IsSegments}
-use Rattle.nmgc_alloc.specs.AllocState.{AllocState}
-use Rattle.nmgc_alloc.specs.Stands.{StandsFor}
-use Rattle.nmgc_heap_spec.specs.Places.{Place}
-use Rattle.nmgc_heap_spec.specs.Represents.{Represents, NoNode}
-use Rattle.nmgc_blocks_spec.specs.Occupied.{AreBlocks}
+use Rattle.nmgc_object.specs.{declared.layout.Layout.Layout, Places.nursery_place}
+use Rattle.nmgc_alloc.specs.{Numbered.Segments, Segments.IsSegments, AllocState.AllocState, Stands.StandsFor}
+use Rattle.nmgc_heap_spec.specs.{Places.Place, Represents.Represents, Represents.NoNode}
+use Rattle.nmgc_blocks_spec.specs.{Occupied.AreBlocks, Placed.IsPlaceAtStop}
 use Rattle.nmgc_journal.specs.declared.report.MutatorEnd.{MutatorEnd}
-use Rattle.nmgc_run_spec.specs.State.{State}
-use Rattle.nmgc_run_spec.specs.Heap.{HoldsAtStop, HoldsAfterRound, FitBlocks}
-use Rattle.nmgc_blocks_spec.specs.Placed.{IsPlaceAtStop}
+use Rattle.nmgc_run_spec.specs.{State.State, Heap.HoldsAtStop, Heap.HoldsAfterRound, Heap.FitBlocks}
 
 -- at a stop, the places are those of the blocks in use
 abbrev pub BlocksAtStop : Type 0

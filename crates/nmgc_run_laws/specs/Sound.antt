@@ -4,26 +4,15 @@
 -- was closed since, and commands came after its closing. The segments that wait hold names of the snapshot
 -- alone. And every name that anybody may still speak of has its block.
 use Rattle.std.specs.Prelude.{ℕ, ◌≡◌, ◌≢◌, ◌+◌, ◌-◌, ◌<◌, ◌≤◌, ◌^◌, List, length, IsSome, All, Contains}
-use Rattle.nmgc_world_spec.specs.Command.{HasRegisters}
-use Rattle.nmgc_world_spec.specs.declared.value.Name.{Name}
+use Rattle.nmgc_world_spec.specs.{Command.HasRegisters, declared.value.Name.Name, declared.command.Command.Command, declared.command.Reply.Reply, World.World, World.IsWorld, World.serial_of, World.node_of, Step.shared_name, History.Row, History.replayed, Reach.Lists, Reach.closed}
 use Rattle.nmgc_limits.specs.declared.mutators.TheConstants.{MAKERS}
-use Rattle.nmgc_world_spec.specs.declared.command.Command.{Command}
-use Rattle.nmgc_world_spec.specs.declared.command.Reply.{Reply}
-use Rattle.nmgc_world_spec.specs.World.{World, IsWorld, serial_of, node_of}
-use Rattle.nmgc_world_spec.specs.Step.{shared_name}
-use Rattle.nmgc_world_spec.specs.History.{Row, replayed}
-use Rattle.nmgc_world_spec.specs.Reach.{Lists, closed}
 use Rattle.nmgc_world_laws.specs.Reachable.{CanReplay, IsSound}
 use Rattle.nmgc_segment.specs.declared.state.State.TheVariants as stands
 use Rattle.nmgc_object.specs.declared.layout.Layout.{Layout}
 use Rattle.nmgc_alloc.specs.AllocState.{AllocState, IsAllocState, HasBlock, LiesIn, LieOnce, LiesNowhere, IsIn, cells}
-use Rattle.nmgc_heap_spec.specs.Represents.{IsEarlier}
-use Rattle.nmgc_heap_spec.specs.Tracked.{IsTracked}
+use Rattle.nmgc_heap_spec.specs.{Represents.IsEarlier, Tracked.IsTracked}
 use Rattle.nmgc_blocks_spec.specs.Cycle.{interval_of, IsDeadIn, Cycle}
-use Rattle.nmgc_run_spec.specs.Heap.{snapshots}
-use Rattle.nmgc_run_spec.specs.Round.{IsRound}
-use Rattle.nmgc_run_spec.specs.Run.{Run, IsRun, last_state}
-use Rattle.nmgc_run_spec.specs.Slice.{program_of}
+use Rattle.nmgc_run_spec.specs.{Heap.snapshots, Round.IsRound, Run.Run, Run.IsRun, Run.last_state, Slice.program_of}
 use Rattle.nmgc_run_spec.specs.State.{Plan, State, Progress, idle, marking, sweeping, layout_of}
 
 -- the plan of a script: one to `MAKERS` programs, whose registers exist, and which are short enough for serials of 32 bits

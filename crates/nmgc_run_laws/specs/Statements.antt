@@ -1,24 +1,13 @@
 -- Laws of runs, as statements. Each is proved where a function of `laws` has it.
 use Rattle.std.specs.Prelude.{ℕ, ◌≡◌, ◌≤◌, ◌↔◌, ◌+◌, ◌-◌, ◌*◌, ◌/◌, ◌^◌, List, [], ◌∷◌, ◌++◌, length, drop, slice_index_or, count_by, All, Some}
-use Rattle.nmgc_object.specs.Places.{IsLayout, class_count}
-use Rattle.nmgc_object.specs.declared.layout.Layout.{Layout}
-use Rattle.nmgc_object.specs.declared.size.TheConstants.{DENSE_CLASS, DENSE_WORDS}
+use Rattle.nmgc_object.specs.{Places.IsLayout, Places.class_count, declared.layout.Layout.Layout, declared.size.TheConstants.DENSE_CLASS, declared.size.TheConstants.DENSE_WORDS}
 use Rattle.nmgc_segment.specs.declared.state.State.TheVariants as stands
 use Rattle.nmgc_segment.specs.Segment.{Segment}
 use Rattle.nmgc_alloc.specs.Numbered.{is}
-use Rattle.nmgc_journal.specs.declared.report.RoundRows.{RoundRows}
-use Rattle.nmgc_script.specs.Limits.{FitsScript, upgraded, HasFewCommands}
-use Rattle.nmgc_script.specs.declared.script.Script.{Script}
-use Rattle.nmgc_journal.specs.declared.report.Report.{Report}
-use Rattle.nmgc_journal.specs.declared.report.StopRow.{StopRow}
-use Rattle.nmgc_journal.specs.declared.report.CycleRow.{CycleRow}
-use Rattle.nmgc_run_spec.specs.Slice.{program_of}
-use Rattle.nmgc_run_spec.specs.State.{Plan}
-use Rattle.nmgc_journal.specs.declared.report.End.{End}
-use Rattle.nmgc_run_spec.specs.Stop.{answer_of}
+use Rattle.nmgc_journal.specs.{declared.report.RoundRows.RoundRows, declared.report.Report.Report, declared.report.StopRow.StopRow, declared.report.CycleRow.CycleRow, declared.report.End.End}
+use Rattle.nmgc_script.specs.{Limits.FitsScript, Limits.upgraded, Limits.HasFewCommands, declared.script.Script.Script}
+use Rattle.nmgc_run_spec.specs.{Slice.program_of, State.Plan, Stop.answer_of, Lawful.IsLawful, Lawful.IsLawfulFor, Crowded.IsRunOf}
 use Rattle.nmgc_run_spec.specs.Run.{Run, Turn, IsRun, IsTurn, Tells, last_state, with_turn}
-use Rattle.nmgc_run_spec.specs.Lawful.{IsLawful, IsLawfulFor}
-use Rattle.nmgc_run_spec.specs.Crowded.{IsRunOf}
 
 -- the classes of a layout: those of dense blocks, and one more for each doubling of the words of its segments above them
 abbrev pub ClassesAreCounted : Type 0

@@ -20,3 +20,4 @@ pub mod Stops
 pub mod Sweeps
 pub mod Tracks
 pub mod Turns
+mod Vocabulary

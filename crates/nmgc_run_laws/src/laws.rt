@@ -3,10 +3,7 @@
 //! Each function's contract is a law, so that the definitions of `nmgc_run_spec` are seen to say what they should. A body does
 //! nothing but call the laws that its proof rests on.
 ghost use Rattle.nmgc_run_laws.specs.Statements.{ClassesAreCounted, RunGoesOn, TellsOneMore, LastIsOfTurn, LeftIsTold, FreeIsReal, VersionIsNothing, UpgradeIsNothing, EachCycleHasItsRow, ClosingsAreSoon, LawfulAreOfRuns};
-ghost use Rattle.nmgc_run_laws.specs.Places.{BlocksAtStop, BlocksAfterRound, BlocksArePlaces};
-ghost use Rattle.nmgc_run_laws.specs.Sound.{StatesAreSound, RoundsAreSound, TrackedHaveBlocks};
-ghost use Rattle.nmgc_run_laws.specs.Course.{RunsAreInCourse, RoundsStayInCourse, PromotionsStayInCourse, CyclesBeginInCourse};
-ghost use Rattle.nmgc_run_laws.specs.Limits.{ScriptsHaveGoodPlans, StatesAreWithin, RoundsAreWithin};
+ghost use Rattle.nmgc_run_laws.specs.{Places.BlocksAtStop, Places.BlocksAfterRound, Places.BlocksArePlaces, Sound.StatesAreSound, Sound.RoundsAreSound, Sound.TrackedHaveBlocks, Course.RunsAreInCourse, Course.RoundsStayInCourse, Course.PromotionsStayInCourse, Course.CyclesBeginInCourse, Limits.ScriptsHaveGoodPlans, Limits.StatesAreWithin, Limits.RoundsAreWithin};
 
 use nmgc_alloc::laws::counts;
 use nmgc_object::laws::words_differ;

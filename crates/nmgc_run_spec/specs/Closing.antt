@@ -6,13 +6,7 @@
 -- snapshot's roots reach. A closing that a full cycle forces keeps the first bound alone: it may come before the marker has
 -- nothing left.
 use Rattle.std.specs.Prelude.{ℕ, ◌≡◌, ◌≢◌, ◌⊎◌, ◌+◌, ◌-◌, ◌*◌, ◌<◌, ◌≤◌, List, [], ◌∷◌, ◌++◌}
-use Rattle.nmgc_world_spec.specs.declared.value.Name.{Name}
-use Rattle.nmgc_world_spec.specs.World.{World}
-use Rattle.nmgc_world_spec.specs.Step.{step, shared_name}
-use Rattle.nmgc_world_spec.specs.History.{Row}
-use Rattle.nmgc_world_spec.specs.Reach.{IsRoot, Lists, closed, IsReached}
-use Rattle.nmgc_world_spec.specs.Owed.{owed_by}
-use Rattle.nmgc_world_spec.specs.Listing.{Counts}
+use Rattle.nmgc_world_spec.specs.{declared.value.Name.Name, World.World, Step.step, Step.shared_name, History.Row, Reach.IsRoot, Reach.Lists, Reach.closed, Reach.IsReached, Owed.owed_by, Listing.Counts}
 use Rattle.nmgc_blocks_spec.specs.Cycle.{IsDeadIn, IsKeptObject, Cycle}
 use Rattle.nmgc_run_spec.specs.State.{State, Progress, marking, sweeping}
 

@@ -5,21 +5,10 @@
 -- leaves in use has an object that it kept. So where too few segments are free after it, it kept more objects
 -- than there are segments above the reserve.
 use Rattle.std.specs.Prelude.{ℕ, ◌≡◌, ◌≢◌, ◌+◌, ◌<◌, ◌↔◌, List, [], ◌∷◌, length, true}
-use Rattle.nmgc_world_spec.specs.declared.value.Name.{Name}
-use Rattle.nmgc_world_spec.specs.World.{World, new_world}
-use Rattle.nmgc_world_spec.specs.Step.{shared_name}
-use Rattle.nmgc_world_spec.specs.Reach.{IsKept}
-use Rattle.nmgc_journal.specs.declared.report.Report.{Report}
-use Rattle.nmgc_journal.specs.declared.report.End.{End}
-use Rattle.nmgc_journal.specs.declared.report.End.TheVariants.{Done, HeapFull}
+use Rattle.nmgc_world_spec.specs.{declared.value.Name.Name, World.World, World.new_world, Step.shared_name, Reach.IsKept, Listing.Counts}
+use Rattle.nmgc_journal.specs.{declared.report.Report.Report, declared.report.End.End, declared.report.End.TheVariants.Done, declared.report.End.TheVariants.HeapFull, Summary.kept_count}
 use Rattle.nmgc_script.specs.declared.script.Script.{Script}
-use Rattle.nmgc_run_spec.specs.Closing.{ClosesNow}
-use Rattle.nmgc_run_spec.specs.Lawful.{IsLawful}
-use Rattle.nmgc_world_spec.specs.Listing.{Counts}
-use Rattle.nmgc_run_spec.specs.Run.{Run, Stop, Turn, IsRun, IsTurn, AreTurns}
-use Rattle.nmgc_run_spec.specs.State.{Plan, State, plan_of, reserve_of, start}
-use Rattle.nmgc_journal.specs.Summary.{kept_count}
-use Rattle.nmgc_run_spec.specs.Stop.{IsStop, DoesFullCycle, is_short}
+use Rattle.nmgc_run_spec.specs.{Closing.ClosesNow, Lawful.IsLawful, Run.Run, Run.Stop, Run.Turn, Run.IsRun, Run.IsTurn, Run.AreTurns, State.Plan, State.State, State.plan_of, State.reserve_of, State.start, Stop.IsStop, Stop.DoesFullCycle, Stop.is_short}
 
 -- a stop in a run: the world as the round before it began, the state after that round, and what the stop did
 pub record StopInRun (plan : Plan) : Type 0 where

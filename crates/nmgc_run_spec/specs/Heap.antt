@@ -2,23 +2,13 @@
 -- for a world and an allocation state.
 use Rattle.std.specs.Prelude.{ℕ, ◌≡◌, ◌⊎◌, ◌↔◌, ◌≤◌, List, [], ◌∷◌, length, map, flat_map, Some, Contains, All}
 use Rattle.nmgc_limits.specs.declared.mutators.TheConstants.{REGISTERS}
-use Rattle.nmgc_world_spec.specs.declared.value.Name.{Name}
-use Rattle.nmgc_world_spec.specs.declared.node.Node.{Node}
-use Rattle.nmgc_world_spec.specs.World.{World, node_of}
-use Rattle.nmgc_object.specs.Size.{block_size}
-use Rattle.nmgc_object.specs.Places.{InNursery}
-use Rattle.nmgc_object.specs.declared.layout.Layout.{Layout}
-use Rattle.nmgc_alloc.specs.Numbered.{Segments}
-use Rattle.nmgc_alloc.specs.AllocState.{AllocState, LiesIn, cells}
-use Rattle.nmgc_alloc.specs.Stands.{StandsFor}
-use Rattle.nmgc_heap_spec.specs.Shape.{size_of}
-use Rattle.nmgc_heap_spec.specs.Places.{Place}
-use Rattle.nmgc_heap_spec.specs.Represents.{Represents, NoNode}
-use Rattle.nmgc_heap_spec.specs.Roots.{RepresentsRoots, ListsWeaks}
-use Rattle.nmgc_blocks_spec.specs.Promoted.{IsYoung}
+use Rattle.nmgc_world_spec.specs.{declared.value.Name.Name, declared.node.Node.Node, World.World, World.node_of}
+use Rattle.nmgc_object.specs.{Size.block_size, Places.InNursery, declared.layout.Layout.Layout}
+use Rattle.nmgc_alloc.specs.{Numbered.Segments, AllocState.AllocState, AllocState.LiesIn, AllocState.cells, Stands.StandsFor}
+use Rattle.nmgc_heap_spec.specs.{Shape.size_of, Places.Place, Represents.Represents, Represents.NoNode, Roots.RepresentsRoots, Roots.ListsWeaks}
+use Rattle.nmgc_blocks_spec.specs.{Promoted.IsYoung, Placed.IsPlaceAtStop}
 use Rattle.nmgc_journal.specs.declared.report.MutatorEnd.{MutatorEnd}
 use Rattle.nmgc_run_spec.specs.State.{State, Progress, marking}
-use Rattle.nmgc_blocks_spec.specs.Placed.{IsPlaceAtStop}
 
 -- the object of each block, tracked or not, is no larger than the block
 abbrev pub FitBlocks : World → AllocState → Type 0

@@ -3,10 +3,7 @@ use Rattle.std.specs.Prelude.{◌≡◌, List, map, Some}
 use Rattle.nmgc_heap_spec.specs.Places.{Place}
 use Rattle.nmgc_journal.specs.declared.report.Report.{Report}
 use Rattle.nmgc_script.specs.declared.script.Script.{Script}
-use Rattle.nmgc_run_spec.specs.State.{Plan, plan_of, layout_of}
-use Rattle.nmgc_run_spec.specs.Stop.{answer_of}
-use Rattle.nmgc_run_spec.specs.Run.{Run, IsRun, Tells, last_state}
-use Rattle.nmgc_run_spec.specs.Heap.{HoldsAtStop}
+use Rattle.nmgc_run_spec.specs.{State.Plan, State.plan_of, State.layout_of, Stop.answer_of, Run.Run, Run.IsRun, Run.Tells, Run.last_state, Heap.HoldsAtStop}
 
 -- the report tells one run of the plan to its end, and what it left; of the listed weak pointers it tells the names
 pub record IsLawfulFor (plan : Plan) (report : Report) : Type 0 where

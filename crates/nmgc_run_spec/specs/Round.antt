@@ -1,12 +1,8 @@
 -- A round: each mutator does a slice of its program, and the collector works beside them.
 use Rattle.std.specs.Prelude.{ℕ, ◌≡◌, ◌+◌, List, [], ◌∷◌, ◌++◌, length, map, slice_index_or, ◌||◌, min}
-use Rattle.nmgc_world_spec.specs.declared.command.Command.{Command}
-use Rattle.nmgc_world_spec.specs.declared.command.Reply.{Reply}
-use Rattle.nmgc_world_spec.specs.World.{World}
-use Rattle.nmgc_world_spec.specs.History.{Row, IsOrderOf, IsLegal, replayed}
+use Rattle.nmgc_world_spec.specs.{declared.command.Command.Command, declared.command.Reply.Reply, World.World, History.Row, History.IsOrderOf, History.IsLegal, History.replayed}
 use Rattle.nmgc_script.specs.declared.script.Config.{Config}
-use Rattle.nmgc_run_spec.specs.Slice.{slices, rest_of, some_asks, is_collect, is_full}
-use Rattle.nmgc_run_spec.specs.State.{State, Progress, marking, sweeping, waiting_count}
+use Rattle.nmgc_run_spec.specs.{Slice.slices, Slice.rest_of, Slice.some_asks, Slice.is_collect, Slice.is_full, State.State, State.Progress, State.marking, State.sweeping, State.waiting_count}
 use Rattle.nmgc_alloc.specs.AllocState.{AllocState, SweepsSome}
 use Rattle.nmgc_blocks_spec.specs.Cycle.{IsKeptIn}
 

@@ -3,14 +3,9 @@
 -- It is data, so that the one choice of an order for each round is made once, for all that is said of
 -- the run.
 use Rattle.std.specs.Prelude.{◌≡◌, List, [], ◌∷◌, ◌++◌, length, map, None, flat_map}
-use Rattle.nmgc_world_spec.specs.World.{new_world}
-use Rattle.nmgc_world_spec.specs.History.{Row}
-use Rattle.nmgc_journal.specs.declared.report.RoundRows.{RoundRows}
-use Rattle.nmgc_journal.specs.declared.report.StopRow.{StopRow}
-use Rattle.nmgc_journal.specs.declared.report.CycleRow.{CycleRow}
-use Rattle.nmgc_run_spec.specs.State.{Plan, State, start}
-use Rattle.nmgc_run_spec.specs.Round.{IsRound}
-use Rattle.nmgc_run_spec.specs.Stop.{IsStop, answer_of}
+use Rattle.nmgc_world_spec.specs.{World.new_world, History.Row}
+use Rattle.nmgc_journal.specs.{declared.report.RoundRows.RoundRows, declared.report.StopRow.StopRow, declared.report.CycleRow.CycleRow}
+use Rattle.nmgc_run_spec.specs.{State.Plan, State.State, State.start, Round.IsRound, Stop.IsStop, Stop.answer_of}
 
 -- a stop: the state after it, its row, and the rows of the cycles that it ended
 pub record Stop : Type 0 where

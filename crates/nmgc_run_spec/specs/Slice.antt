@@ -1,9 +1,7 @@
 -- What a mutator does of its program in one round.
 use Rattle.std.specs.Prelude.{ℕ, ◌-◌, List, [], ◌∷◌, length, map, drop, slice_index_or, Bool, true, false, ◌&&◌, nat_lt, nat_le, if◌then◌else◌}
 use Rattle.std.specs.List.{list_any}
-use Rattle.nmgc_world_spec.specs.declared.command.Command.{Command}
-use Rattle.nmgc_world_spec.specs.declared.command.Command.TheVariants.{Yield, Collect, Full}
-use Rattle.nmgc_world_spec.specs.Command.{words_made}
+use Rattle.nmgc_world_spec.specs.{declared.command.Command.Command, declared.command.Command.TheVariants.Yield, declared.command.Command.TheVariants.Collect, declared.command.Command.TheVariants.Full, Command.words_made}
 use Rattle.nmgc_script.specs.declared.script.Config.{Config}
 
 -- the command asks for a cycle

@@ -3,16 +3,12 @@
 -- It has the never-collected world and the allocation state: no words, no marks and no addresses. What
 -- the collector has marked so far isn't in it, since a cycle is judged by its closing alone.
 use Rattle.std.specs.Prelude.{ℕ, ◌+◌, List, [], length, Bool, true, false}
-use Rattle.nmgc_world_spec.specs.declared.command.Command.{Command}
-use Rattle.nmgc_world_spec.specs.World.{World, new_world}
+use Rattle.nmgc_world_spec.specs.{declared.command.Command.Command, World.World, World.new_world}
 use Rattle.nmgc_segment.specs.declared.state.State.TheVariants as stands
-use Rattle.nmgc_object.specs.declared.layout.Layout.{Layout}
-use Rattle.nmgc_object.specs.Places.{reserve_count}
+use Rattle.nmgc_object.specs.{declared.layout.Layout.Layout, Places.reserve_count}
 use Rattle.nmgc_alloc.specs.AllocState.{AllocState, all_empty, cycle_begun, count_in}
-use Rattle.nmgc_script.specs.declared.script.Config.{Config}
-use Rattle.nmgc_script.specs.declared.script.Script.{Script}
-use Rattle.nmgc_journal.specs.declared.report.Phase.{Phase}
-use Rattle.nmgc_journal.specs.declared.report.Phase.TheVariants.{Idle, Marking, Sweeping}
+use Rattle.nmgc_script.specs.{declared.script.Config.Config, declared.script.Script.Script}
+use Rattle.nmgc_journal.specs.{declared.report.Phase.Phase, declared.report.Phase.TheVariants.Idle, declared.report.Phase.TheVariants.Marking, declared.report.Phase.TheVariants.Sweeping}
 use Rattle.nmgc_blocks_spec.specs.Cycle.{Cycle}
 
 -- what a run is given: the sizes of the heap, and a program for each mutator

@@ -1,20 +1,13 @@
 -- A stop, step by step: promote; close; end; full cycle, or begin; and what the stop answers.
 use Rattle.std.specs.Prelude.{ℕ, ◌≡◌, ◌⊎◌, ◌≤◌, List, [], ◌∷◌, ◌++◌, Bool, true, false, not, ◌&&◌, nat_lt, Option, Some, None, if◌then◌else◌, length}
-use Rattle.nmgc_world_spec.specs.World.{World}
+use Rattle.nmgc_world_spec.specs.{World.World, Reach.Lists, Listing.ListsNumbers, Listing.Counts, declared.value.Name.Name}
 use Rattle.nmgc_segment.specs.declared.state.State.TheVariants as stands
 use Rattle.nmgc_alloc.specs.AllocState.{IsIn, NoneIs, all_retired, count_in, AllocState, SweepsSome}
 use Rattle.nmgc_script.specs.declared.script.Config.{Config}
-use Rattle.nmgc_journal.specs.declared.report.StopRow.{StopRow}
-use Rattle.nmgc_journal.specs.declared.report.CycleRow.{CycleRow}
-use Rattle.nmgc_journal.specs.declared.report.End.{End}
-use Rattle.nmgc_journal.specs.declared.report.End.TheVariants.{Done, HeapFull}
-use Rattle.nmgc_run_spec.specs.Slice.{has_left}
+use Rattle.nmgc_journal.specs.{declared.report.StopRow.StopRow, declared.report.CycleRow.CycleRow, declared.report.End.End, declared.report.End.TheVariants.Done, declared.report.End.TheVariants.HeapFull}
+use Rattle.nmgc_run_spec.specs.{Slice.has_left, Closing.ClosesOrWaits, Closing.ClosesNow, Closing.IsForcedSoon}
 use Rattle.nmgc_run_spec.specs.State.{Plan, State, Progress, idle, sweeping, phase_of, is_idle, free_count, waiting_count, layout_of, reserve_of, cycle_started}
 use Rattle.nmgc_blocks_spec.specs.Cycle.{Cycle, IsDeadIn, IsSweptIn, IsHadIn, IsFreedIn, IsKeptObject, IsKeptIn}
-use Rattle.nmgc_run_spec.specs.Closing.{ClosesOrWaits, ClosesNow, IsForcedSoon}
-use Rattle.nmgc_world_spec.specs.Reach.{Lists}
-use Rattle.nmgc_world_spec.specs.Listing.{ListsNumbers, Counts}
-use Rattle.nmgc_world_spec.specs.declared.value.Name.{Name}
 use Rattle.nmgc_object.specs.declared.layout.Layout.{Layout}
 use Rattle.nmgc_blocks_spec.specs.Promoted.{IsPromoted, PlacesEach}
 

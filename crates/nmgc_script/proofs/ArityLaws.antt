@@ -1,25 +1,7 @@
 -- A verb is read with so many words exactly where a command of its name has so many.
-use Rattle.std.proofs.Common.{◌≡◌, ◌≤◌, ◌+◌, ◌-◌, ℕ, zero, suc, List, [], ◌∷◌, length, refl, sym, ap, subst, ◌∙◌, arith, codes, Result, Ok}
-use Rattle.std.specs.List.{AllByRecursion}
-use Rattle.std.proofs.lemmas.List.{length-map}
-use Rattle.std.proofs.lemmas.List.Elements.{All-from_recursion}
-use Rattle.nmgc_world_spec.specs.declared.command.Operand.{Operand}
-use Rattle.nmgc_world_spec.specs.declared.command.Operand.TheVariants.{Shared}
-use Rattle.nmgc_world_spec.specs.declared.command.Command.{Command}
-use Rattle.nmgc_world_spec.specs.declared.command.Command.TheVariants.{Num, Nil, Mov, Con, Var, Arr, Thunk, Weak, Stack, Get, Set, Cas, Update, Force, Push, Pop, Deref, Finalise, NextFin, Show, Same, Yield, Collect, Full}
-use Rattle.nmgc_world_spec.specs.Command.{IsOperandBelow, HasRegistersBelow, HasNumbers}
-use Rattle.nmgc_script.specs.declared.fault.Cause.{Cause}
-use Rattle.nmgc_script.specs.declared.verbs.Verb.{Verb}
+use Rattle.nmgc_script.proofs.Vocabulary.{◌≡◌, ◌≤◌, ◌+◌, ◌-◌, ℕ, zero, suc, List, [], ◌∷◌, length, refl, sym, ap, subst, ◌∙◌, arith, codes, Result, Ok, AllByRecursion, length-map, All-from_recursion, Operand, Shared, Command, Num, Nil, Mov, Con, Var, Arr, Thunk, Weak, Stack, Get, Set, Cas, Update, Force, Push, Pop, Deref, Finalise, NextFin, Show, Same, Yield, Collect, Full, IsOperandBelow, HasRegistersBelow, HasNumbers, Cause, Verb, Version, IsUsable, operand_word, verb_name, command_words, first_of, HasArity, verb_at, operands_at}
 use Rattle.nmgc_script.specs.declared.verbs.Verb.TheVariants as verb
-use Rattle.nmgc_script.specs.declared.version.Version.{Version}
-use Rattle.nmgc_script.specs.laws.Versions.{IsUsable}
-use Rattle.nmgc_script.specs.Spelling.{operand_word, verb_name, command_words}
-use Rattle.nmgc_script.specs.Faults.{first_of, HasArity}
-use Rattle.nmgc_script.specs.Reading.{verb_at, operands_at}
-use Rattle.nmgc_script.proofs.WordLaws.{ok_is}
-use Rattle.nmgc_script.proofs.VerbLaws.{verb_again}
-use Rattle.nmgc_script.proofs.CommandLaws.{words_read}
-use Rattle.nmgc_script.proofs.CauseLaws.{HasCount, TellsArity, operands_tell}
+use Rattle.nmgc_script.proofs.{WordLaws.ok_is, VerbLaws.verb_again, CommandLaws.words_read, CauseLaws.HasCount, CauseLaws.TellsArity, CauseLaws.operands_tell}
 
 -- what reading tells of the number of words, where it did not fail
 pub right_of : (P : Type 0) (c : Command) (r : Result Command Cause) → r ≡ Ok c → TellsArity r P → P

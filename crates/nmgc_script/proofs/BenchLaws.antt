@@ -1,16 +1,5 @@
 -- The bench's script is within the limits, and its programs are short.
-use Rattle.std.proofs.Common.{◌≡◌, ◌≤◌, ◌<◌, ◌∙◌, ℕ, zero, suc, ◌+◌, ◌*◌, List, [], ◌∷◌, ◌++◌, length, refl, arith, add-one, lit<, lit≤, length-append, ap, append_assoc}
-use Rattle.std.proofs.lemmas.List.{length-replicate}
-use Rattle.std.proofs.lemmas.List.Elements.{All-append, All-cons, All-nil, All-replicate}
-use Rattle.std.specs.Prelude.{All, replicate}
-use lib.Count.{ones}
-use Rattle.nmgc_limits.specs.Limits.{most_script_bytes}
-use Rattle.nmgc_world_spec.specs.Command.{Fits, HasRegistersBelow, IsOperand, IsOperandBelow}
-use Rattle.nmgc_world_spec.specs.declared.command.Command.{Command}
-use Rattle.nmgc_world_spec.specs.declared.command.Command.TheVariants.{Nil, Set}
-use Rattle.nmgc_world_spec.specs.declared.command.Operand.TheVariants.{Register, Shared}
-use Rattle.nmgc_script.specs.Limits.{FitsConfig, FitsScript, HasFewCommands}
-use Rattle.nmgc_script.specs.Bench.{most_batches, list_cells, cell, batch, repeated, bench_program, bench_config, bench_script}
+use Rattle.nmgc_script.proofs.Vocabulary.{◌≡◌, ◌≤◌, ◌<◌, ◌∙◌, ℕ, zero, suc, ◌+◌, ◌*◌, List, [], ◌∷◌, ◌++◌, length, refl, arith, add-one, lit<, lit≤, length-append, ap, append_assoc, length-replicate, All-append, All-cons, All-nil, All-replicate, All, replicate, ones, most_script_bytes, Fits, HasRegistersBelow, IsOperand, IsOperandBelow, Command, Nil, Set, Register, Shared, FitsConfig, FitsScript, HasFewCommands, most_batches, list_cells, cell, batch, repeated, bench_program, bench_config, bench_script}
 
 -- a list once more
 pub once_more : {A : Type 0} (n : ℕ) (xs : List A) → repeated (n + 1) xs ≡ repeated n xs ++ xs

@@ -1,17 +1,7 @@
 -- Which cause reading gives where it fails.
-use Rattle.std.proofs.Common.{◌≡◌, ◌≤◌, ◌-◌, ◌^◌, ◌⊎◌, ℕ, suc, List, [], ◌∷◌, length, refl, sym, ◌∙◌, arith, inl, inr, Bool, true, false, cond, codes, leb, eqb, Result, Ok, Err}
-use Rattle.std.specs.Str.{bytes_eq}
-use Rattle.std.specs.Str.Parse.{digits_value}
-use Rattle.std.proofs.lemmas.Bool.{le-leb, leb-true}
-use Rattle.nmgc_world_spec.specs.declared.command.Command.{Command}
-use Rattle.nmgc_world_spec.specs.declared.command.Command.TheVariants.{Num, Nil, Mov, Con, Var, Arr, Thunk, Weak, Stack, Get, Set, Cas, Update, Force, Push, Pop, Deref, Finalise, NextFin, Show, Same, Yield, Collect, Full}
-use Rattle.nmgc_script.specs.declared.fault.Cause.{Cause}
+use Rattle.nmgc_script.proofs.Vocabulary.{◌≡◌, ◌≤◌, ◌-◌, ◌^◌, ◌⊎◌, ℕ, suc, List, [], ◌∷◌, length, refl, sym, ◌∙◌, arith, inl, inr, Bool, true, false, cond, codes, leb, eqb, Result, Ok, Err, bytes_eq, digits_value, le-leb, leb-true, Command, Num, Nil, Mov, Con, Var, Arr, Thunk, Weak, Stack, Get, Set, Cas, Update, Force, Push, Pop, Deref, Finalise, NextFin, Show, Same, Yield, Collect, Full, Cause, Verb, Version, IsUsable, ◌>>=◌, number_at, register_at, operand_at, long_at, short_at, each_at, none_at, one_at, two_at, three_at, four_at, con_at, thunk_at, operands_at}
 use Rattle.nmgc_script.specs.declared.fault.Cause.TheVariants as cause
-use Rattle.nmgc_script.specs.declared.verbs.Verb.{Verb}
 use Rattle.nmgc_script.specs.declared.verbs.Verb.TheVariants as verb
-use Rattle.nmgc_script.specs.declared.version.Version.{Version}
-use Rattle.nmgc_script.specs.laws.Versions.{IsUsable}
-use Rattle.nmgc_script.specs.Reading.{◌>>=◌, number_at, register_at, operand_at, long_at, short_at, each_at, none_at, one_at, two_at, three_at, four_at, con_at, thunk_at, operands_at}
 use Rattle.nmgc_script.proofs.WordLaws.{FailsBy, fails_choose}
 
 pub result_cases : {A E : Type 0} (r : Result A E) → ((a : A) × (r ≡ Ok a)) ⊎ ((e : E) × (r ≡ Err e))

@@ -1,21 +1,8 @@
 -- A command that is read is spelled so, and what is spelled so is read.
-use Rattle.std.proofs.Common.{◌≡◌, ◌≤◌, ℕ, List, [], ◌∷◌, map, refl, sym, ap, ◌∙◌, subst, decimal, leb, Result, Ok}
-use Rattle.std.proofs.lemmas.Bool.{le-leb, leb-true}
-use Rattle.std.proofs.lemmas.List.Elements.{All-from_recursion, recursion_from_All}
-use Rattle.nmgc_world_spec.specs.declared.command.Command.{Command}
-use Rattle.nmgc_world_spec.specs.declared.command.Command.TheVariants.{Num, Nil, Mov, Con, Var, Arr, Thunk, Weak, Stack, Get, Set, Cas, Update, Force, Push, Pop, Deref, Finalise, NextFin, Show, Same, Yield, Collect, Full}
-use Rattle.nmgc_world_spec.specs.Command.{IsOperandBelow, HasRegistersBelow, HasNumbers, words_made, Fits}
-use Rattle.nmgc_script.specs.declared.fault.Cause.{Cause}
+use Rattle.nmgc_script.proofs.Vocabulary.{◌≡◌, ◌≤◌, ℕ, List, [], ◌∷◌, map, refl, sym, ap, ◌∙◌, subst, decimal, leb, Result, Ok, le-leb, leb-true, All-from_recursion, recursion_from_All, Command, Num, Nil, Mov, Con, Var, Arr, Thunk, Weak, Stack, Get, Set, Cas, Update, Force, Push, Pop, Deref, Finalise, NextFin, Show, Same, Yield, Collect, Full, IsOperandBelow, HasRegistersBelow, HasNumbers, words_made, Fits, Cause, Verb, Version, IsUsable, registers_wider, register_word, operand_word, verb_name, command_words, ◌>>=◌, none_at, operands_at, verb_at, sized, command_at}
 use Rattle.nmgc_script.specs.declared.fault.Cause.TheVariants as cause
-use Rattle.nmgc_script.specs.declared.verbs.Verb.{Verb}
 use Rattle.nmgc_script.specs.declared.verbs.Verb.TheVariants as verb
-use Rattle.nmgc_script.specs.declared.version.Version.{Version}
-use Rattle.nmgc_script.specs.laws.Versions.{IsUsable, registers_wider}
-use Rattle.nmgc_script.specs.Spelling.{register_word, operand_word, verb_name, command_words}
-use Rattle.nmgc_script.specs.Reading.{◌>>=◌, none_at, operands_at, verb_at, sized, command_at}
-use Rattle.nmgc_script.proofs.WordLaws.{Reads, bind_ok, guard_ok, ok_is, register_reads, operand_reads}
-use Rattle.nmgc_script.proofs.VerbLaws.{verb_takes, verb_again}
-use Rattle.nmgc_script.proofs.ShapeLaws.{long_reads, short_reads, one_reads, two_reads, three_reads, four_reads, con_reads, thunk_reads}
+use Rattle.nmgc_script.proofs.{WordLaws.Reads, WordLaws.bind_ok, WordLaws.guard_ok, WordLaws.ok_is, WordLaws.register_reads, WordLaws.operand_reads, VerbLaws.verb_takes, VerbLaws.verb_again, ShapeLaws.long_reads, ShapeLaws.short_reads, ShapeLaws.one_reads, ShapeLaws.two_reads, ShapeLaws.three_reads, ShapeLaws.four_reads, ShapeLaws.con_reads, ShapeLaws.thunk_reads}
 
 -- a script of the version may have the command, where a segment has so many words
 abbrev pub Fit : Version → ℕ → Command → Type 0

@@ -1,19 +1,7 @@
 -- A heap line is read exactly from its words.
-use Rattle.std.proofs.Common.{◌≡◌, ◌≤◌, ◌<◌, ◌^◌, ℕ, List, [], ◌∷◌, refl, subst, ap, ◌∙◌, arith, inl, inr, codes, decimal, Ok, Err, leb}
-use Rattle.std.specs.Int.{is_power_of_two}
-use Rattle.std.specs.Str.{bytes_eq}
-use Rattle.std.proofs.lemmas.Slice.Eq.{bytes_eq-Decides}
-use Rattle.std.proofs.lemmas.Bool.{le-leb, leb-true}
-use Rattle.nmgc_script.specs.declared.fault.Cause.{Cause}
+use Rattle.nmgc_script.proofs.Vocabulary.{◌≡◌, ◌≤◌, ◌<◌, ◌^◌, ℕ, List, [], ◌∷◌, refl, subst, ap, ◌∙◌, arith, inl, inr, codes, decimal, Ok, Err, leb, is_power_of_two, bytes_eq, bytes_eq-Decides, le-leb, leb-true, Cause, Config, IsSegmentSize, least_segment_words, most_nursery_words, most_quota, most_segment_words, most_segments, most_slice, most_trigger, FitsConfig, heap_words, number_at, between_at, segment_size_at, sizes_at, pace_at, config_at, numbers_at, or_cause, heap_words_at, chosen}
 use Rattle.nmgc_script.specs.declared.fault.Cause.TheVariants as cause
-use Rattle.nmgc_script.specs.declared.script.Config.{Config}
-use Rattle.nmgc_limits.specs.Limits.{IsSegmentSize, least_segment_words, most_nursery_words, most_quota, most_segment_words, most_segments, most_slice, most_trigger}
-use Rattle.nmgc_script.specs.Limits.{FitsConfig}
-use Rattle.nmgc_script.specs.Spelling.{heap_words}
-use Rattle.nmgc_script.specs.Reading.{number_at, between_at, segment_size_at, sizes_at, pace_at, config_at, numbers_at, or_cause, heap_words_at}
-use Rattle.nmgc_script.proofs.WordLaws.{Reads, bind_ok, guard_ok, ok_is, number_reads}
-use Rattle.nmgc_lists.specs.laws.Truths.{chosen}
-use Rattle.nmgc_script.proofs.SectionLaws.{or_cause_ok}
+use Rattle.nmgc_script.proofs.{WordLaws.Reads, WordLaws.bind_ok, WordLaws.guard_ok, WordLaws.ok_is, WordLaws.number_reads, SectionLaws.or_cause_ok}
 
 -- the number is within two limits
 abbrev pub IsBetween : ℕ → ℕ → ℕ → Type 0

@@ -1,11 +1,5 @@
 -- A text is cut at its first separator.
-use Rattle.std.proofs.Common.{◌≡◌, ◌≢◌, ◌<◌, ℕ, List, [], ◌∷◌, ◌++◌, ◌+◌, true, false, length, take, drop, refl, sym, ap, ◌∙◌, arith, append_assoc, length-append}
-use Rattle.std.specs.Prelude.{◌==◌, if◌then◌else◌, All}
-use Rattle.std.specs.List.{AllByRecursion}
-use Rattle.std.proofs.lemmas.List.{take_at, drop_at, drop-take, drop-drop, length_push}
-use Rattle.std.proofs.lemmas.List.Elements.{recursion_from_All}
-use Rattle.std.proofs.lemmas.Bool.{eq-eqb, ne_eqb}
-use Rattle.nmgc_script.specs.Text.{onto_first, lines_of, words_of, is_passed, kept_from}
+use Rattle.nmgc_script.proofs.Vocabulary.{◌≡◌, ◌≢◌, ◌<◌, ℕ, List, [], ◌∷◌, ◌++◌, ◌+◌, true, false, length, take, drop, refl, sym, ap, ◌∙◌, arith, append_assoc, length-append, ◌==◌, if◌then◌else◌, All, AllByRecursion, take_at, drop_at, drop-take, drop-drop, length_push, recursion_from_All, eq-eqb, ne_eqb, onto_first, lines_of, words_of, is_passed, kept_from}
 
 -- f cuts at a byte
 pub record CutsAt (separator : ℕ) (f : List ℕ → List (List ℕ)) : Type 0 where
@@ -36,14 +30,6 @@ pub last_line : (bytes : List ℕ) → 0 < length bytes → All (λ b. b ≢ 10)
 last_line [] some none = absurd (omega arith)
 last_line (b ∷ bytes) some none = last_on b bytes (recursion_from_All (λ b. b ≢ 10) (b ∷ bytes) none)
 
-word_on : (bytes : List ℕ) → AllByRecursion (λ b. b ≢ 32) bytes → words_of bytes ≡ bytes ∷ []
-word_on [] none = refl
-word_on (b ∷ bytes) none = rw (words_cut.more b bytes, ne_eqb b 32 none.0, word_on bytes none.1) refl
-
--- a word without a space after it is the last
-pub last_word : (bytes : List ℕ) → All (λ b. b ≢ 32) bytes → words_of bytes ≡ bytes ∷ []
-last_word bytes none = word_on bytes (recursion_from_All (λ b. b ≢ 32) bytes none)
-
 module _ (n : ℕ) (bytes line rest : List ℕ) (split : lines_of bytes ≡ line ∷ lines_of rest) where
   -- a line that is passed over is counted
   pub passed : is_passed line ≡ true → kept_from (n + 1) (lines_of rest) ≡ kept_from n (lines_of bytes)
@@ -73,10 +59,8 @@ pub rest_on : (s : ℕ) (text rest word after : List ℕ) (from : ℕ) → rest 
 rest_on s text rest word after from is e =
     let n : ℕ = length word + 1 in
     let long : length rest ≡ n + length after = ap (λ (l : List ℕ). length l) e ∙ length-append word (s ∷ after) ∙ omega arith in
-    let behind : drop n rest ≡ after = ap (λ (l : List ℕ). drop n l) (e ∙ sym (append_assoc word (s ∷ []) after)) ∙
-    drop_at (word ++ s ∷ []) after n (length_push word s) in
-    sym behind ∙ ap (λ (l : List ℕ). drop n l) is ∙ ap (λ (k : ℕ). drop n (take k (drop from text))) long ∙ drop-take n (length after) (drop from text) ∙
-    ap (λ (l : List ℕ). take (length after) l) (drop-drop n from text)
+    let behind : drop n rest ≡ after = cc (e, append_assoc word (s ∷ []) after, drop_at (word ++ s ∷ []) after n (length_push word s)) in
+    cc (behind, is, long, drop-take n (length after) (drop from text), drop-drop n from text)
 
 -- and is shorter by both
 pub rest_less : (s : ℕ) (rest word after : List ℕ) → rest ≡ word ++ s ∷ after → length word + 1 + length after ≡ length rest

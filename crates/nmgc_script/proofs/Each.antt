@@ -1,9 +1,5 @@
 -- Reading items one after the other, as a loop does.
-use Rattle.std.proofs.Common.{◌≡◌, ℕ, ◌+◌, ◌<◌, ◌≤◌, List, [], ◌∷◌, ◌++◌, map, length, drop, get_or, Result, Ok, Err, refl, sym, ap, ◌∙◌, append_assoc, add-one, drop-cons}
-use Rattle.std.proofs.lemmas.List.{append-nil, drop_all}
-use Rattle.nmgc_script.specs.Reading.{◌>>=◌, each_at, Fails}
-use Rattle.nmgc_script.specs.declared.fault.Cause.{Cause}
-use Rattle.nmgc_script.specs.declared.fault.LineFault.{LineFault}
+use Rattle.nmgc_script.proofs.Vocabulary.{◌≡◌, ℕ, ◌+◌, ◌<◌, ◌≤◌, List, [], ◌∷◌, ◌++◌, map, length, drop, get_or, Result, Ok, Err, refl, sym, ap, ◌∙◌, append_assoc, add-one, drop-cons, append-nil, drop_all, ◌>>=◌, each_at, Fails, Cause, LineFault}
 use Rattle.nmgc_script.specs.declared.fault.LineFault.TheVariants as fault
 
 -- what was read before, and what is still read

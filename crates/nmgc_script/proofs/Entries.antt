@@ -1,19 +1,9 @@
 -- Reading entries one after the other, as a loop does.
-use Rattle.std.proofs.Common.{◌≡◌, ℕ, ◌+◌, ◌<◌, List, [], ◌∷◌, ◌++◌, Result, Ok, Err, IfOk, refl, ap, sym, ◌∙◌, append_assoc}
-use Rattle.std.proofs.lemmas.List.{append-nil}
-use Rattle.nmgc_world_spec.specs.declared.command.Command.{Command}
-use Rattle.nmgc_script.specs.declared.fault.Cause.{Cause}
+use Rattle.nmgc_script.proofs.Vocabulary.{◌≡◌, ℕ, ◌+◌, ◌<◌, List, [], ◌∷◌, ◌++◌, Result, Ok, Err, IfOk, refl, ap, sym, ◌∙◌, append_assoc, append-nil, Command, Cause, LineFault, ScriptFault, Config, Version, Entry, words_of, ◌>>=◌, Gives, GivesAt, FailsAt, placed, at_line, section_at, entry_at, with_entry, rest_at, programs_at, threads_at}
 use Rattle.nmgc_script.specs.declared.fault.Cause.TheVariants as cause
-use Rattle.nmgc_script.specs.declared.fault.LineFault.{LineFault}
 use Rattle.nmgc_script.specs.declared.fault.LineFault.TheVariants as fault
-use Rattle.nmgc_script.specs.declared.fault.ScriptFault.{ScriptFault}
 use Rattle.nmgc_script.specs.declared.fault.ScriptFault.TheVariants as script_fault
-use Rattle.nmgc_script.specs.declared.script.Config.{Config}
-use Rattle.nmgc_script.specs.declared.version.Version.{Version}
-use Rattle.nmgc_script.specs.declared.sections.Entry.{Entry}
 use Rattle.nmgc_script.specs.declared.sections.Entry.TheVariants as entry
-use Rattle.nmgc_script.specs.Text.{words_of}
-use Rattle.nmgc_script.specs.Reading.{◌>>=◌, Gives, GivesAt, FailsAt, placed, at_line, section_at, entry_at, with_entry, rest_at, programs_at, threads_at}
 
 -- a result of a line, with the line's number
 pub gives_at : {X : Type 0} (n : ℕ) (given : Result X LineFault) (read : Result X Cause) → Gives given read → GivesAt (λ x. x) (placed n given) (at_line n read)

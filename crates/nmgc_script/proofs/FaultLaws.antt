@@ -1,36 +1,14 @@
 -- The line and the cause that reading gives are the first bad line and its first cause.
-use Rattle.std.proofs.Common.{◌≡◌, ◌≢◌, ◌≤◌, ◌<◌, ◌+◌, ℕ, List, [], ◌∷◌, length, refl, sym, ap, subst, ◌∙◌, arith, inl, inr, Bool, true, false, cond, codes, leb, eqb, Result, Ok, Err, IfErr}
+use Rattle.std.proofs.{Common.◌≡◌, Common.◌≢◌, Common.◌≤◌, Common.◌<◌, Common.◌+◌, Common.ℕ, Common.List, Common.[], Common.◌∷◌, Common.length, Common.refl, Common.sym, Common.ap, Common.subst, Common.◌∙◌, Common.arith, Common.inl, Common.inr, Common.Bool, Common.true, Common.false, Common.cond, Common.codes, Common.leb, Common.eqb, Common.Result, Common.Ok, Common.Err, Common.IfErr, lemmas.Bool.leb-false, lemmas.Bool.eq-eqb, lemmas.Bool.eqb-true, lemmas.Slice.Eq.bytes_eq-Decides}
 use Rattle.std.specs.Str.{bytes_eq}
-use Rattle.std.proofs.lemmas.Bool.{leb-false, eq-eqb, eqb-true}
-use Rattle.std.proofs.lemmas.Slice.Eq.{bytes_eq-Decides}
 use Rattle.nmgc_limits.specs.Limits.{most_heap_words}
-use Rattle.nmgc_world_spec.specs.declared.command.Command.{Command}
-use Rattle.nmgc_world_spec.specs.Command.{HasRegistersBelow, HasNumbers, words_made}
-use Rattle.nmgc_script.specs.declared.fault.Cause.{Cause}
+use Rattle.nmgc_world_spec.specs.{declared.command.Command.Command, Command.HasRegistersBelow, Command.HasNumbers, Command.words_made}
+use Rattle.nmgc_script.specs.{declared.fault.Cause.Cause, declared.fault.ScriptFault.ScriptFault, declared.script.Config.Config, declared.script.Script.Script, declared.version.Version.Version, declared.sections.Entry.Entry, declared.verbs.Verb.Verb, laws.Versions.IsUsable, laws.Versions.usable_version, laws.Versions.registers_wider, Limits.IsVersion, Limits.total_words, Limits.version_1, Limits.version_2, Spelling.spaced, Spelling.verb_name, Spelling.command_words, Spelling.heap_words, Spelling.section_words, Spelling.version_words, Text.words_of, Text.kept_lines, Text.end_of, Faults.first_of, Faults.HasArity, Faults.HasToBegin, Faults.HasFault, Faults.order_of, Faults.IsFirstFault, Faults.IsFaultless, Faults.begun_with, Faults.TellsRest, Faults.TellsHeap, Faults.TellsFault, Faults.IsToldOf, Reading.◌>>=◌, Reading.or_cause, Reading.verb_at, Reading.operands_at, Reading.sized, Reading.command_at, Reading.thread_at, Reading.section_at, Reading.is_section, Reading.entry_at, Reading.begun_after, Reading.with_entry, Reading.rest_at, Reading.programs_at, Reading.threads_at, Reading.version_at, Reading.heap_words_at, Reading.numbers_at, Reading.heap_at, Reading.script_at, Reading.at_line, Reading.GivesAt, laws.Lines.spaced-words_of, laws.Lines.words_of-line, laws.Lines.heap_line_words, laws.Lines.first_line, laws.Lines.second_line}
 use Rattle.nmgc_script.specs.declared.fault.Cause.TheVariants as cause
-use Rattle.nmgc_script.specs.declared.fault.ScriptFault.{ScriptFault}
 use Rattle.nmgc_script.specs.declared.fault.ScriptFault.TheVariants as script_fault
-use Rattle.nmgc_script.specs.declared.script.Config.{Config}
-use Rattle.nmgc_script.specs.declared.script.Script.{Script}
-use Rattle.nmgc_script.specs.declared.version.Version.{Version}
-use Rattle.nmgc_script.specs.declared.sections.Entry.{Entry}
 use Rattle.nmgc_script.specs.declared.sections.Entry.TheVariants as entry
-use Rattle.nmgc_script.specs.declared.verbs.Verb.{Verb}
-use Rattle.nmgc_script.specs.laws.Versions.{IsUsable, usable_version, registers_wider}
-use Rattle.nmgc_script.specs.Limits.{IsVersion, total_words, version_1, version_2}
-use Rattle.nmgc_script.specs.Spelling.{spaced, verb_name, command_words, heap_words, section_words, version_words}
-use Rattle.nmgc_script.specs.Text.{words_of, kept_lines, end_of}
-use Rattle.nmgc_script.specs.Faults.{first_of, HasArity, HasToBegin, HasFault, order_of, IsFirstFault, IsFaultless, begun_with, TellsRest, TellsHeap, TellsFault, IsToldOf}
-use Rattle.nmgc_script.specs.Reading.{◌>>=◌, or_cause, verb_at, operands_at, sized, command_at, thread_at, section_at, is_section, entry_at, begun_after, with_entry, rest_at, programs_at, threads_at, version_at, heap_words_at, numbers_at, heap_at, script_at, at_line, GivesAt}
-use Rattle.nmgc_script.proofs.WordLaws.{FailsBy, fails_choose, bind_ok, ok_is}
+use Rattle.nmgc_script.proofs.{WordLaws.FailsBy, WordLaws.fails_choose, WordLaws.bind_ok, WordLaws.ok_is, VerbLaws.verb_takes, VerbLaws.verb_again, VerbLaws.verb_fails, VerbLaws.verb_of_nothing, CommandLaws.Spell, CommandLaws.operands_spell, CommandLaws.sized_takes, CommandLaws.command_again, CauseLaws.result_cases, CauseLaws.fails_is, CauseLaws.HasCount, CauseLaws.TellsArity, CauseLaws.operands_tell, ArityLaws.right_of, ArityLaws.count_of, ArityLaws.count_some, ConfigLaws.heap_takes, ConfigLaws.heap_again, SectionLaws.at_line_ok, SectionLaws.thread_reads, SectionLaws.Begins, SectionLaws.section_takes}
 use Rattle.nmgc_lists.specs.laws.Truths.{chosen}
-use Rattle.nmgc_script.proofs.VerbLaws.{verb_takes, verb_again, verb_fails, verb_of_nothing}
-use Rattle.nmgc_script.proofs.CommandLaws.{Spell, operands_spell, sized_takes, command_again}
-use Rattle.nmgc_script.proofs.CauseLaws.{result_cases, fails_is, HasCount, TellsArity, operands_tell}
-use Rattle.nmgc_script.proofs.ArityLaws.{right_of, count_of, count_some}
-use Rattle.nmgc_script.proofs.LineLaws.{spaced-words_of, words_of-line, heap_line_words, first_line, second_line}
-use Rattle.nmgc_script.proofs.ConfigLaws.{heap_takes, heap_again}
-use Rattle.nmgc_script.proofs.SectionLaws.{at_line_ok, thread_reads, Begins, section_takes}
 
 -- the same reading can't give two results
 two_results : {A E : Type 0} (r : Result A E) (a : A) (e : E) → r ≡ Ok a → r ≡ Err e → ⊥

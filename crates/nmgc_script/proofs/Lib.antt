@@ -7,7 +7,6 @@ pub mod Cut
 pub mod Each
 pub mod Entries
 pub mod FaultLaws
-pub mod LineLaws
 pub mod OneFault
 pub mod PrintLaws
 pub mod ScriptLaws
@@ -16,3 +15,4 @@ pub mod ShapeLaws
 pub mod Totals
 pub mod VerbLaws
 pub mod WordLaws
+mod Vocabulary

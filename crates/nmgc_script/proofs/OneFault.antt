@@ -1,24 +1,9 @@
 -- A text spells a script or has one first bad line with one first cause, and never both.
-use Rattle.std.proofs.Common.{◌≡◌, ◌≢◌, ℕ, zero, suc, List, [], ◌∷◌, get_or, refl, sym, ap, subst, ◌∙◌, arith, inl, inr, codes, Ok}
-use Rattle.std.proofs.lemmas.Bool.{cases_order}
+use Rattle.std.proofs.{Common.◌≡◌, Common.◌≢◌, Common.ℕ, Common.zero, Common.suc, Common.List, Common.[], Common.◌∷◌, Common.get_or, Common.refl, Common.sym, Common.ap, Common.subst, Common.◌∙◌, Common.arith, Common.inl, Common.inr, Common.codes, Common.Ok, lemmas.Bool.cases_order}
 use Rattle.nmgc_world_spec.specs.declared.command.Command.{Command}
-use Rattle.nmgc_script.specs.declared.fault.Cause.{Cause}
+use Rattle.nmgc_script.specs.{declared.fault.Cause.Cause, declared.script.Config.Config, declared.script.Script.Script, declared.version.Version.Version, laws.Versions.IsUsable, laws.Versions.usable_version, Limits.FitsConfig, Limits.IsVersion, Spelling.spaced, Spelling.heap_words, Spelling.version_words, Spelling.Spells, Text.words_of, Text.kept_lines, Text.end_of, Faults.order_of, Faults.IsFirstFault, Faults.begun_with, Faults.TellsRest, Faults.TellsHeap, Faults.TellsFault, Reading.heap_words_at, Reading.section_at, Reading.entry_at, Reading.begun_after, Reading.at_line, Reading.rest_at, Reading.programs_at, Reading.threads_at, Reading.version_at, Reading.heap_at, Reading.script_at, laws.Lines.spaced-words_of, laws.Lines.words_of-line, laws.Lines.heap_line_words, laws.Lines.first_line, laws.Lines.second_line}
 use Rattle.nmgc_script.specs.declared.fault.Cause.TheVariants as cause
-use Rattle.nmgc_script.specs.declared.script.Config.{Config}
-use Rattle.nmgc_script.specs.declared.script.Script.{Script}
-use Rattle.nmgc_script.specs.declared.version.Version.{Version}
-use Rattle.nmgc_script.specs.laws.Versions.{IsUsable, usable_version}
-use Rattle.nmgc_script.specs.Limits.{FitsConfig, IsVersion}
-use Rattle.nmgc_script.specs.Spelling.{spaced, heap_words, version_words, Spells}
-use Rattle.nmgc_script.specs.Text.{words_of, kept_lines, end_of}
-use Rattle.nmgc_script.specs.Faults.{order_of, IsFirstFault, begun_with, TellsRest, TellsHeap, TellsFault}
-use Rattle.nmgc_script.specs.Reading.{heap_words_at, section_at, entry_at, begun_after, at_line, rest_at, programs_at, threads_at, version_at, heap_at, script_at}
-use Rattle.nmgc_script.proofs.WordLaws.{bind_ok, ok_is}
-use Rattle.nmgc_script.proofs.ConfigLaws.{heap_takes, heap_again}
-use Rattle.nmgc_script.proofs.LineLaws.{spaced-words_of, words_of-line, heap_line_words, first_line, second_line}
-use Rattle.nmgc_script.proofs.SectionLaws.{at_line_ok, section_takes}
-use Rattle.nmgc_script.proofs.ScriptLaws.{script_again, version_found}
-use Rattle.nmgc_script.proofs.FaultLaws.{entry_good, section_faultless, some_after}
+use Rattle.nmgc_script.proofs.{WordLaws.bind_ok, WordLaws.ok_is, ConfigLaws.heap_takes, ConfigLaws.heap_again, SectionLaws.at_line_ok, SectionLaws.section_takes, ScriptLaws.script_again, ScriptLaws.version_found, FaultLaws.entry_good, FaultLaws.section_faultless, FaultLaws.some_after}
 
 -- the cause at a place of the order
 cause_of : ℕ → Cause

@@ -1,24 +1,9 @@
 -- What was printed is the plain spelling, and is read again.
-use Rattle.std.proofs.Common.{◌≡◌, ◌≢◌, ◌<◌, ◌+◌, ◌^◌, ℕ, List, [], ◌∷◌, ◌++◌, map, length, refl, sym, ap, ◌∙◌, arith, append_assoc, false}
+use Rattle.std.proofs.{Common.◌≡◌, Common.◌<◌, Common.◌+◌, Common.◌^◌, Common.ℕ, Common.List, Common.[], Common.◌∷◌, Common.◌++◌, Common.map, Common.length, Common.refl, Common.sym, Common.ap, Common.◌∙◌, Common.arith, Common.append_assoc, lemmas.List.Elements.recursion_from_All}
 use Rattle.std.specs.List.{AllByRecursion, All}
-use Rattle.std.proofs.lemmas.Bool.{ne_eqb}
-use Rattle.std.proofs.lemmas.List.{append-nil}
-use Rattle.std.proofs.lemmas.List.Elements.{recursion_from_All}
-use Rattle.nmgc_world_spec.specs.declared.command.Command.{Command}
-use Rattle.nmgc_world_spec.specs.Command.{Fits}
-use Rattle.nmgc_script.specs.declared.script.Script.{Script}
-use Rattle.nmgc_script.specs.Limits.{FitsScript}
-use Rattle.nmgc_script.specs.laws.Versions.{threads_few, usable_number}
-use Rattle.nmgc_script.specs.Text.{lines_of, kept_from, is_passed}
-use Rattle.nmgc_script.specs.Printing.{after_spaces}
-use Rattle.nmgc_script.specs.Spelling.{spaced, command_words, heap_words, section_words, version_words, program_lines, section_lines, script_lines, ended, plain, Spells}
-use Rattle.nmgc_script.proofs.Cut.{cut_on, lines_cut}
-use Rattle.nmgc_script.proofs.SectionLaws.{text}
-use Rattle.nmgc_script.proofs.LineLaws.{IsBare, MakeLine, command_line_words, heap_line_words, section_line_words, version_line_words}
-
-pub spaced_after : (word : List ℕ) (words : List (List ℕ)) → spaced (word ∷ words) ≡ word ++ after_spaces words
-spaced_after word [] = sym (append-nil word)
-spaced_after word (v ∷ vs) = ap (λ (l : List ℕ). word ++ 32 ∷ l) (spaced_after v vs)
+use Rattle.nmgc_world_spec.specs.{declared.command.Command.Command, Command.Fits}
+use Rattle.nmgc_script.specs.{declared.script.Script.Script, Limits.FitsScript, laws.Versions.threads_few, laws.Versions.usable_number, Text.lines_of, Text.kept_from, Printing.after_spaces, Spelling.spaced, Spelling.command_words, Spelling.heap_words, Spelling.section_words, Spelling.version_words, Spelling.program_lines, Spelling.section_lines, Spelling.script_lines, Spelling.ended, Spelling.plain, Spelling.Spells, laws.Lines.IsKept, laws.Lines.made_kept, laws.Lines.spaced_after, laws.Lines.command_line, laws.Lines.heap_line_words, laws.Lines.section_line_words, laws.Lines.version_line_words}
+use Rattle.nmgc_script.proofs.{Cut.cut_on, Cut.lines_cut, SectionLaws.text}
 
 pub after_append : (xs ys : List (List ℕ)) → after_spaces (xs ++ ys) ≡ after_spaces xs ++ after_spaces ys
 after_append [] ys = refl
@@ -29,41 +14,6 @@ pub spaced_longer : (word : List ℕ) (xs ys : List (List ℕ)) → spaced (word
 spaced_longer word xs ys =
     ap (λ (l : List ℕ). l ++ after_spaces ys) (spaced_after word xs) ∙ append_assoc word (after_spaces xs) (after_spaces ys) ∙
     ap (λ (l : List ℕ). word ++ l) (sym (after_append xs ys)) ∙ sym (spaced_after word (xs ++ ys))
-
-pub ended_append : (xs ys : List (List ℕ)) → ended (xs ++ ys) ≡ ended xs ++ ended ys
-ended_append [] ys = refl
-ended_append (x ∷ xs) ys = ap (λ (l : List ℕ). (x ++ 10 ∷ []) ++ l) (ended_append xs ys) ∙ sym (append_assoc (x ++ 10 ∷ []) (ended xs) (ended ys))
-
--- the line has no line feed
-abbrev IsLine : List ℕ → Type 0
-IsLine line = AllByRecursion (λ b. b ≢ 10) line
-
--- the line is one line, which isn't passed over
-record IsKept (line : List ℕ) : Type 0 where
-  one : IsLine line
-  kept : is_passed line ≡ false
-
-line_append : (a b : List ℕ) → IsLine a → IsLine b → IsLine (a ++ b)
-line_append [] b h k = k
-line_append (x ∷ a) b h k = (h.0, line_append a b h.1 k)
-
-bare_line : (word : List ℕ) → IsBare word → IsLine word
-bare_line [] h = tt
-bare_line (b ∷ word) h = ((λ e. omega (arith, h.0)), bare_line word h.1)
-
-after_line : (words : List (List ℕ)) → AllByRecursion IsBare words → IsLine (after_spaces words)
-after_line [] h = tt
-after_line (w ∷ ws) h = ((λ e. omega arith), line_append w (after_spaces ws) (bare_line w h.0) (after_line ws h.1))
-
--- a line of such words
-made_kept : (words : List (List ℕ)) → MakeLine words → IsKept (spaced words)
-made_kept [] h = absurd h
-made_kept ([] ∷ words) h = absurd h
-made_kept ((b ∷ word) ∷ words) h =
-    rw spaced_after (record {
-      one = line_append (b ∷ word) (after_spaces words) (bare_line (b ∷ word) h.0) (after_line words h.1);
-      kept = ne_eqb b 35 (λ e. omega (arith, h.0.0));
-    })
 
 lines_ended : (lines : List (List ℕ)) → AllByRecursion IsKept lines → lines_of (ended lines) ≡ lines
 lines_ended [] h = refl
@@ -81,7 +31,7 @@ kept_append (x ∷ xs) ys h k = (h.0, kept_append xs ys h.1 k)
 
 program_kept : (size : ℕ) (program : List Command) → AllByRecursion (Fits size) program → AllByRecursion IsKept (program_lines program)
 program_kept size [] h = tt
-program_kept size (c ∷ cs) h = (made_kept (command_words c) (command_line_words size c h.0), program_kept size cs h.1)
+program_kept size (c ∷ cs) h = (made_kept (command_words c) (command_line size c h.0), program_kept size cs h.1)
 
 sections_kept : (size n : ℕ) (threads : List (List Command)) → n + length threads < 2 ^ 64 → AllByRecursion (All (Fits size)) threads →
     AllByRecursion IsKept (section_lines n threads)

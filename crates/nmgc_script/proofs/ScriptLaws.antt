@@ -1,34 +1,14 @@
 -- A script is read exactly from its lines.
-use Rattle.std.proofs.Common.{◌≡◌, ◌≤◌, ◌+◌, ℕ, List, [], ◌∷◌, ◌++◌, map, length, refl, sym, ap, subst, ◌∙◌, arith, inl, inr, Bool, true, false, cond, suc, Result, Ok, Err, IfOk, MatchResult, codes}
-use Rattle.std.specs.List.{AllByRecursion, All, sum_by}
-use Rattle.std.specs.Str.{bytes_eq}
-use Rattle.std.proofs.lemmas.Bool.Decides.{eqb_tells}
-use Rattle.std.proofs.lemmas.List.{length-map, length-append}
-use Rattle.std.proofs.lemmas.List.Sums.{sum_by-cons}
-use Rattle.std.proofs.lemmas.List.Elements.{All-from_recursion, All-weaker, recursion_from_All}
-use Rattle.std.proofs.lemmas.Slice.Eq.{bytes_eq-Decides}
+use Rattle.std.proofs.{Common.◌≡◌, Common.◌≤◌, Common.◌+◌, Common.ℕ, Common.List, Common.[], Common.◌∷◌, Common.◌++◌, Common.map, Common.length, Common.refl, Common.sym, Common.ap, Common.subst, Common.◌∙◌, Common.arith, Common.inl, Common.inr, Common.Bool, Common.true, Common.false, Common.cond, Common.suc, Common.Result, Common.Ok, Common.Err, Common.IfOk, Common.MatchResult, Common.codes, lemmas.Bool.Decides.eqb_tells, lemmas.List.length-map, lemmas.List.length-append, lemmas.List.Sums.sum_by-cons, lemmas.List.Elements.All-from_recursion, lemmas.List.Elements.All-weaker, lemmas.List.Elements.recursion_from_All, lemmas.Slice.Eq.bytes_eq-Decides}
+use Rattle.std.specs.{List.AllByRecursion, List.All, List.sum_by, Str.bytes_eq}
 use Rattle.nmgc_limits.specs.Limits.{most_heap_words}
-use Rattle.nmgc_world_spec.specs.declared.command.Command.{Command}
-use Rattle.nmgc_world_spec.specs.Command.{Fits, HasRegistersBelow}
-use Rattle.nmgc_script.specs.declared.fault.Cause.{Cause}
+use Rattle.nmgc_world_spec.specs.{declared.command.Command.Command, Command.Fits, Command.HasRegistersBelow}
+use Rattle.nmgc_script.specs.{declared.fault.Cause.Cause, declared.fault.ScriptFault.ScriptFault, declared.script.Config.Config, declared.script.Script.Script, declared.version.Version.Version, laws.Versions.IsUsable, laws.Versions.usable_version, laws.Versions.usable_number, laws.Versions.version_is, Limits.FitsConfig, Limits.FitsScript, Limits.IsVersion, Limits.total_words, Limits.version_1, Limits.version_2, Limits.version_of, Text.lines_of, Text.words_of, Text.kept_from, Text.kept_lines, Text.end_of, Text.onto_first, Text.is_passed, Spelling.spaced, Spelling.heap_words, Spelling.section_words, Spelling.version_words, Spelling.command_words, Spelling.program_lines, Spelling.section_lines, Spelling.script_lines, Spelling.Spells, Reading.heap_words_at, Reading.section_at, Reading.rest_at, Reading.programs_at, Reading.threads_at, Reading.version_at, Reading.heap_at, Reading.script_at, Reading.at_line, Reading.GivesAt, laws.Lines.spaced-words_of, laws.Lines.words_of-line, laws.Lines.heap_line_words, laws.Lines.section_line_words, laws.Lines.first_line, laws.Lines.second_line}
 use Rattle.nmgc_script.specs.declared.fault.Cause.TheVariants as cause
-use Rattle.nmgc_script.specs.declared.fault.ScriptFault.{ScriptFault}
 use Rattle.nmgc_script.specs.declared.fault.ScriptFault.TheVariants as script_fault
-use Rattle.nmgc_script.specs.declared.script.Config.{Config}
-use Rattle.nmgc_script.specs.declared.script.Script.{Script}
-use Rattle.nmgc_script.specs.declared.version.Version.{Version}
 use Rattle.nmgc_script.specs.declared.sections.Entry.TheVariants as entry
-use Rattle.nmgc_script.specs.laws.Versions.{IsUsable, usable_version, usable_number, version_is}
-use Rattle.nmgc_script.specs.Limits.{FitsConfig, FitsScript, IsVersion, total_words, version_1, version_2, version_of}
-use Rattle.nmgc_script.specs.Text.{lines_of, words_of, kept_from, kept_lines, end_of, onto_first, is_passed}
-use Rattle.nmgc_script.specs.Spelling.{spaced, heap_words, section_words, version_words, command_words, program_lines, section_lines, script_lines, Spells}
-use Rattle.nmgc_script.specs.Reading.{heap_words_at, section_at, rest_at, programs_at, threads_at, version_at, heap_at, script_at, at_line, GivesAt}
-use Rattle.nmgc_script.proofs.WordLaws.{bind_ok, guard_ok, ok_is}
+use Rattle.nmgc_script.proofs.{WordLaws.bind_ok, WordLaws.guard_ok, WordLaws.ok_is, CommandLaws.Fit, ConfigLaws.heap_takes, ConfigLaws.heap_again, SectionLaws.text, SectionLaws.at_line_ok, SectionLaws.section_takes, SectionLaws.section_again, SectionLaws.rest_takes, SectionLaws.rest_again, SectionLaws.fewer}
 use Rattle.nmgc_lists.specs.laws.Truths.{chosen}
-use Rattle.nmgc_script.proofs.CommandLaws.{Fit}
-use Rattle.nmgc_script.proofs.LineLaws.{spaced-words_of, words_of-line, heap_line_words, section_line_words, first_line, second_line}
-use Rattle.nmgc_script.proofs.ConfigLaws.{heap_takes, heap_again}
-use Rattle.nmgc_script.proofs.SectionLaws.{text, at_line_ok, section_takes, section_again, rest_takes, rest_again, fewer}
 
 -- `All` and the same by recursion, in two levels
 all_of : {X : Type 0} (P Q : X → Type 0) → ((x : X) → P x → Q x) → (xss : List (List X)) → AllByRecursion (AllByRecursion P) xss → All (λ xs. All Q xs) xss

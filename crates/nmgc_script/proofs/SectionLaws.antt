@@ -1,29 +1,14 @@
 -- Sections are read exactly from their lines.
-use Rattle.std.proofs.Common.{◌≡◌, ◌≤◌, ◌<◌, ◌-◌, ◌+◌, ℕ, List, [], ◌∷◌, ◌++◌, map, length, refl, sym, ap, subst, ◌∙◌, arith, inl, inr, false, codes, eqb, leb, Result, Ok, Err}
-use Rattle.std.specs.List.{AllByRecursion}
-use Rattle.std.specs.Str.{bytes_eq}
-use Rattle.std.proofs.lemmas.Bool.{le-leb, leb-true, eq-eqb, eqb-true}
-use Rattle.std.proofs.Math.Nat.{mul-le-mul_right}
-use Rattle.std.proofs.lemmas.Slice.Eq.{bytes_eq-Decides}
+use Rattle.std.proofs.{Common.◌≡◌, Common.◌≤◌, Common.◌<◌, Common.◌-◌, Common.◌+◌, Common.ℕ, Common.List, Common.[], Common.◌∷◌, Common.◌++◌, Common.map, Common.length, Common.refl, Common.sym, Common.ap, Common.subst, Common.◌∙◌, Common.arith, Common.inl, Common.inr, Common.false, Common.codes, Common.eqb, Common.leb, Common.Result, Common.Ok, Common.Err, lemmas.Bool.le-leb, lemmas.Bool.leb-true, lemmas.Bool.eq-eqb, lemmas.Bool.eqb-true, Math.Nat.mul-le-mul_right, lemmas.Slice.Eq.bytes_eq-Decides}
+use Rattle.std.specs.{List.AllByRecursion, Str.bytes_eq}
 use Rattle.nmgc_limits.specs.Limits.{most_heap_words}
 use Rattle.nmgc_world_spec.specs.declared.command.Command.{Command}
-use Rattle.nmgc_script.specs.declared.fault.Cause.{Cause}
+use Rattle.nmgc_script.specs.{declared.fault.Cause.Cause, declared.script.Config.Config, declared.verbs.Verb.Verb, declared.sections.Entry.Entry, declared.version.Version.Version, laws.Versions.IsUsable, Limits.total_words, Text.words_of, Spelling.spaced, Spelling.verb_name, Spelling.command_words, Spelling.section_words, Spelling.program_lines, Spelling.section_lines, Reading.◌>>=◌, Reading.number_at, Reading.or_cause, Reading.thread_at, Reading.section_at, Reading.is_section, Reading.entry_at, Reading.command_at, Reading.at_line, Reading.with_entry, Reading.begun_after, Reading.rest_at, laws.Lines.spaced-words_of, laws.Lines.words_of-line, laws.Lines.command_line, laws.Lines.section_line_words}
 use Rattle.nmgc_script.specs.declared.fault.Cause.TheVariants as cause
-use Rattle.nmgc_script.specs.declared.script.Config.{Config}
-use Rattle.nmgc_script.specs.declared.verbs.Verb.{Verb}
 use Rattle.nmgc_script.specs.declared.verbs.Verb.TheVariants as verb
-use Rattle.nmgc_script.specs.declared.sections.Entry.{Entry}
 use Rattle.nmgc_script.specs.declared.sections.Entry.TheVariants as entry
-use Rattle.nmgc_script.specs.declared.version.Version.{Version}
-use Rattle.nmgc_script.specs.laws.Versions.{IsUsable}
-use Rattle.nmgc_script.specs.Limits.{total_words}
-use Rattle.nmgc_script.specs.Text.{words_of}
-use Rattle.nmgc_script.specs.Spelling.{spaced, verb_name, command_words, section_words, program_lines, section_lines}
-use Rattle.nmgc_script.specs.Reading.{◌>>=◌, number_at, or_cause, thread_at, section_at, is_section, entry_at, command_at, at_line, with_entry, begun_after, rest_at}
-use Rattle.nmgc_script.proofs.WordLaws.{Reads, bind_ok, guard_ok, ok_is, number_reads}
+use Rattle.nmgc_script.proofs.{WordLaws.Reads, WordLaws.bind_ok, WordLaws.guard_ok, WordLaws.ok_is, WordLaws.number_reads, CommandLaws.Fit, CommandLaws.words_read, CommandLaws.command_reads}
 use Rattle.nmgc_lists.specs.laws.Truths.{chosen}
-use Rattle.nmgc_script.proofs.CommandLaws.{Fit, words_read, command_reads}
-use Rattle.nmgc_script.proofs.LineLaws.{spaced-words_of, words_of-line, command_line_words, section_line_words}
 
 pub at_line_ok : {A : Type 0} (n : ℕ) (r : Result A Cause) (x : A) → at_line n r ≡ Ok x → r ≡ Ok x
 at_line_ok n (Ok y) x e = ap Ok (ok_is {E = ℕ × Cause} y x e)
@@ -217,7 +202,7 @@ module _ (ver : Version) (usable : IsUsable ver) (h : Config) where
   rest_again n (line ∷ lines) [] [] fit fits few total e = absurd cc
   rest_again n (line ∷ lines) (c ∷ cs) ts fit fits few total e =
       let here : line.1 ≡ spaced (command_words c) = cc in
-      let words : words_of line.1 ≡ command_words c = ap words_of here ∙ words_of-line (command_words c) (command_line_words h.words c fit.0.0) in
+      let words : words_of line.1 ≡ command_words c = ap words_of here ∙ words_of-line (command_words c) (command_line h.words c fit.0.0) in
       let read : entry_at ver h n (words_of line.1) ≡ Ok (entry.Order c) = ap (entry_at ver h n) words ∙ order_again ver usable h n c fit.0 in
       let after : map text lines ≡ program_lines cs ++ section_lines n ts = cc in
       rw (read, rest_again n lines cs ts fit.1 fits few total after) refl

@@ -1,20 +1,7 @@
 -- What stands after a name is read exactly as it is written, shape by shape.
-use Rattle.std.proofs.Common.{◌≡◌, ◌≤◌, ◌<◌, ◌-◌, ◌^◌, ℕ, List, [], ◌∷◌, map, length, get_or, refl, ap, subst, arith, inl, inr, decimal, leb, Result, Ok, Err}
-use Rattle.std.specs.List.{AllByRecursion}
-use Rattle.std.proofs.lemmas.Bool.{le-leb, leb-true}
-use Rattle.std.proofs.lemmas.List.{length-map}
-use Rattle.nmgc_world_spec.specs.declared.command.Operand.{Operand}
-use Rattle.nmgc_world_spec.specs.Command.{IsRegisterBelow, IsOperandBelow}
-use Rattle.nmgc_script.specs.declared.fault.Cause.{Cause}
+use Rattle.nmgc_script.proofs.Vocabulary.{◌≡◌, ◌≤◌, ◌<◌, ◌-◌, ◌^◌, ℕ, List, [], ◌∷◌, map, length, get_or, refl, ap, subst, arith, inl, inr, decimal, leb, Result, Ok, Err, AllByRecursion, le-leb, leb-true, length-map, Operand, IsRegisterBelow, IsOperandBelow, Cause, LineFault, Version, IsUsable, register_word, operand_word, ◌>>=◌, Fails, register_at, operand_at, long_at, short_at, tag_at, each_at, one_at, two_at, three_at, four_at, con_at, thunk_at, chosen}
 use Rattle.nmgc_script.specs.declared.fault.Cause.TheVariants as cause
-use Rattle.nmgc_script.specs.declared.fault.LineFault.{LineFault}
-use Rattle.nmgc_script.specs.declared.version.Version.{Version}
-use Rattle.nmgc_script.specs.laws.Versions.{IsUsable}
-use Rattle.nmgc_script.specs.Spelling.{register_word, operand_word}
-use Rattle.nmgc_script.specs.Reading.{◌>>=◌, Fails, register_at, operand_at, long_at, short_at, tag_at, each_at, one_at, two_at, three_at, four_at, con_at, thunk_at}
-use Rattle.nmgc_script.proofs.WordLaws.{Reads, bind_ok, ok_is, number_reads, register_reads, operand_reads, each_reads}
-use Rattle.nmgc_lists.specs.laws.Truths.{chosen}
-use Rattle.nmgc_script.proofs.Each.{fails_bind}
+use Rattle.nmgc_script.proofs.{WordLaws.Reads, WordLaws.bind_ok, WordLaws.ok_is, WordLaws.number_reads, WordLaws.register_reads, WordLaws.operand_reads, WordLaws.each_reads, Each.fails_bind}
 
 pub long_reads : Reads long_at decimal (λ n. n < 2 ^ 62)
 long_reads = let reads = number_reads (2 ^ 62 - 1) (omega arith) in

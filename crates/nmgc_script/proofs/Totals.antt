@@ -1,8 +1,5 @@
 -- The words of a heap are few.
-use Rattle.std.proofs.Common.{◌≤◌, ◌*◌, ℕ}
-use Rattle.std.proofs.Math.Nat.{mul-le-mul}
-use Rattle.nmgc_script.specs.declared.script.Config.{Config}
-use Rattle.nmgc_script.specs.Limits.{FitsConfig}
+use Rattle.nmgc_script.proofs.Vocabulary.{◌≤◌, ◌*◌, ℕ, mul-le-mul, Config, FitsConfig}
 
 pub segments_small : (c : Config) → FitsConfig c → c.segments * c.words ≤ 268435456
 segments_small c h = mul-le-mul h.segments h.words.most

@@ -1,16 +1,7 @@
 -- The name of a verb is looked up as the verb, and no other name is.
-use Rattle.std.proofs.Common.{◌≡◌, ℕ, List, [], ◌∷◌, refl, ap, ◌∙◌, inl, inr, Ok, Err}
-use Rattle.std.specs.Str.{bytes_eq}
-use Rattle.std.proofs.lemmas.Slice.Eq.{bytes_eq-Decides}
-use Rattle.nmgc_script.specs.declared.fault.Cause.{Cause}
+use Rattle.nmgc_script.proofs.{Vocabulary.◌≡◌, Vocabulary.ℕ, Vocabulary.List, Vocabulary.[], Vocabulary.◌∷◌, Vocabulary.refl, Vocabulary.ap, Vocabulary.◌∙◌, Vocabulary.inl, Vocabulary.inr, Vocabulary.Ok, Vocabulary.Err, Vocabulary.bytes_eq, Vocabulary.bytes_eq-Decides, Vocabulary.Cause, Vocabulary.Verb, Vocabulary.VERBS, Vocabulary.verb_name, Vocabulary.first_named, Vocabulary.verb_at, Vocabulary.chosen, WordLaws.FailsBy, WordLaws.fails_choose, WordLaws.ok_is}
 use Rattle.nmgc_script.specs.declared.fault.Cause.TheVariants as cause
-use Rattle.nmgc_script.specs.declared.verbs.Verb.{Verb}
 use Rattle.nmgc_script.specs.declared.verbs.Verb.TheVariants as verb
-use Rattle.nmgc_script.specs.declared.verbs.TheConstants.{VERBS}
-use Rattle.nmgc_script.specs.Spelling.{verb_name}
-use Rattle.nmgc_script.specs.Reading.{first_named, verb_at}
-use Rattle.nmgc_script.proofs.WordLaws.{FailsBy, fails_choose, ok_is}
-use Rattle.nmgc_lists.specs.laws.Truths.{chosen}
 
 first_takes : (name : List ℕ) (vs : List Verb) (v : Verb) → first_named name vs ≡ Ok v → name ≡ verb_name v
 unfolding first_named

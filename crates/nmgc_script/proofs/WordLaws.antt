@@ -1,21 +1,6 @@
 -- A word that is read is the word that was written, and what was written is read again.
-use Rattle.std.proofs.Common.{◌≡◌, ◌≤◌, ◌<◌, ◌-◌, ◌^◌, ℕ, List, [], ◌∷◌, map, refl, subst, arith, inl, inr, Bool, true, false, cond, decimal, codes, Result, Ok, Err, ◌&&◌, leb, eqb}
-use Rattle.std.specs.List.{AllByRecursion}
-use Rattle.std.proofs.lemmas.Fmt.{decimal_is_IsNumeral}
-use Rattle.std.proofs.lemmas.Slice.Eq.{bytes_eq-Decides}
-use Rattle.std.proofs.lemmas.Bool.{le-leb, leb-true, eqb-true}
-use Rattle.std.specs.Str.{bytes_eq}
-use Rattle.std.specs.Str.Parse.{digits_value}
-use Rattle.nmgc_world_spec.specs.declared.command.Operand.{Operand}
-use Rattle.nmgc_world_spec.specs.declared.command.Operand.TheVariants.{Register, Shared}
-use Rattle.nmgc_script.specs.declared.fault.Cause.{Cause}
+use Rattle.nmgc_script.proofs.Vocabulary.{◌≡◌, ◌≤◌, ◌<◌, ◌-◌, ◌^◌, ℕ, List, [], ◌∷◌, map, refl, subst, arith, inl, inr, Bool, true, false, cond, decimal, codes, Result, Ok, Err, ◌&&◌, leb, eqb, AllByRecursion, decimal_is_IsNumeral, bytes_eq-Decides, le-leb, leb-true, eqb-true, bytes_eq, digits_value, Operand, Register, Shared, Cause, Version, IsUsable, IsRegisterBelow, IsOperandBelow, register_word, operand_word, ◌>>=◌, number_at, register_at, operand_at, each_at, both_true, chosen}
 use Rattle.nmgc_script.specs.declared.fault.Cause.TheVariants as cause
-use Rattle.nmgc_script.specs.declared.version.Version.{Version}
-use Rattle.nmgc_script.specs.laws.Versions.{IsUsable}
-use Rattle.nmgc_world_spec.specs.Command.{IsRegisterBelow, IsOperandBelow}
-use Rattle.nmgc_script.specs.Spelling.{register_word, operand_word}
-use Rattle.nmgc_script.specs.Reading.{◌>>=◌, number_at, register_at, operand_at, each_at}
-use Rattle.nmgc_lists.specs.laws.Truths.{and_both as both_true, chosen}
 
 -- f reads exactly what g writes of the values with P
 pub record Reads {A B E : Type 0} (f : A → Result B E) (g : B → A) (P : B → Type 0) : Type 0 where

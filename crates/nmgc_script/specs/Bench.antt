@@ -1,11 +1,7 @@
 -- The bench's script: each of four mutators makes lists, and keeps the last one in a slot of its own.
 use Rattle.std.specs.Prelude.{ℕ, zero, suc, List, [], ◌∷◌, ◌++◌, replicate}
-use Rattle.nmgc_world_spec.specs.declared.command.Operand.TheVariants.{Register, Shared}
-use Rattle.nmgc_world_spec.specs.declared.command.Command.{Command}
-use Rattle.nmgc_world_spec.specs.declared.command.Command.TheVariants.{Nil, Con, Set}
-use Rattle.nmgc_script.specs.declared.script.Config.{Config}
-use Rattle.nmgc_script.specs.declared.script.Script.{Script}
-use Rattle.nmgc_script.specs.Limits.{version_1}
+use Rattle.nmgc_world_spec.specs.{declared.command.Operand.TheVariants.Register, declared.command.Operand.TheVariants.Shared, declared.command.Command.Command, declared.command.Command.TheVariants.Nil, declared.command.Command.TheVariants.Con, declared.command.Command.TheVariants.Set}
+use Rattle.nmgc_script.specs.{declared.script.Config.Config, declared.script.Script.Script, Limits.version_1}
 
 -- the most batches of a bench
 abbrev pub most_batches : ℕ

@@ -2,18 +2,10 @@
 use Rattle.std.specs.Prelude.{◌≡◌, ◌≢◌, ◌<◌, ◌+◌, ℕ, List, [], ◌∷◌, ◌⊎◌, length, codes, if◌then◌else◌}
 use Rattle.std.specs.Str.{bytes_eq}
 use Rattle.nmgc_limits.specs.Limits.{most_heap_words}
-use Rattle.nmgc_world_spec.specs.declared.command.Command.{Command}
-use Rattle.nmgc_world_spec.specs.Command.{HasRegistersBelow, HasNumbers, words_made}
-use Rattle.nmgc_script.specs.declared.fault.Cause.{Cause}
+use Rattle.nmgc_world_spec.specs.{declared.command.Command.Command, Command.HasRegistersBelow, Command.HasNumbers, Command.words_made}
+use Rattle.nmgc_script.specs.{declared.fault.Cause.Cause, declared.fault.ScriptFault.ScriptFault, declared.script.Config.Config, declared.verbs.Verb.Verb, declared.version.Version.Version, Limits.FitsConfig, Limits.IsVersion, Limits.total_words, Spelling.spaced, Spelling.verb_name, Spelling.command_words, Spelling.heap_words, Spelling.section_words, Spelling.version_words, Text.words_of, Text.kept_lines, Text.end_of}
 use Rattle.nmgc_script.specs.declared.fault.Cause.TheVariants as cause
-use Rattle.nmgc_script.specs.declared.fault.ScriptFault.{ScriptFault}
 use Rattle.nmgc_script.specs.declared.fault.ScriptFault.TheVariants as script_fault
-use Rattle.nmgc_script.specs.declared.script.Config.{Config}
-use Rattle.nmgc_script.specs.declared.verbs.Verb.{Verb}
-use Rattle.nmgc_script.specs.declared.version.Version.{Version}
-use Rattle.nmgc_script.specs.Limits.{FitsConfig, IsVersion, total_words}
-use Rattle.nmgc_script.specs.Spelling.{spaced, verb_name, command_words, heap_words, section_words, version_words}
-use Rattle.nmgc_script.specs.Text.{words_of, kept_lines, end_of}
 
 -- the first word of a line
 abbrev pub first_of : List (List ℕ) → List ℕ

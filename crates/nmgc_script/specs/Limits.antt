@@ -2,11 +2,8 @@
 use Rattle.std.specs.Prelude.{◌≡◌, ℕ, ◌+◌, ◌*◌, ◌≤◌, ◌⊎◌, List, length, All, ◌==◌, if◌then◌else◌}
 use Rattle.nmgc_limits.specs.Limits.{IsSegmentSize, most_heap_words, most_nursery_words, most_quota, most_script_bytes, most_segments, most_slice, most_trigger}
 use Rattle.nmgc_limits.specs.declared.mutators.TheConstants.{MAKERS, REGISTERS}
-use Rattle.nmgc_world_spec.specs.Command.{Fits, HasRegistersBelow}
-use Rattle.nmgc_world_spec.specs.declared.command.Command.{Command}
-use Rattle.nmgc_script.specs.declared.script.Config.{Config}
-use Rattle.nmgc_script.specs.declared.script.Script.{Script}
-use Rattle.nmgc_script.specs.declared.version.Version.{Version}
+use Rattle.nmgc_world_spec.specs.{Command.Fits, Command.HasRegistersBelow, declared.command.Command.Command}
+use Rattle.nmgc_script.specs.{declared.script.Config.Config, declared.script.Script.Script, declared.version.Version.Version}
 
 -- the versions: a script has at most so many threads, and a command names the registers below this number
 abbrev pub version_1 : Version

@@ -1,8 +1,6 @@
 -- What printing appends.
 use Rattle.std.specs.Prelude.{ℕ, List, [], ◌∷◌, ◌++◌, decimal}
-use Rattle.nmgc_script.specs.declared.printing.Word.{Word}
-use Rattle.nmgc_script.specs.declared.printing.Word.TheVariants.{Register, Tag, Short, Number, Operand}
-use Rattle.nmgc_script.specs.Spelling.{register_word, operand_word}
+use Rattle.nmgc_script.specs.{declared.printing.Word.Word, declared.printing.Word.TheVariants.Register, declared.printing.Word.TheVariants.Tag, declared.printing.Word.TheVariants.Short, declared.printing.Word.TheVariants.Number, declared.printing.Word.TheVariants.Operand, Spelling.register_word, Spelling.operand_word}
 
 -- the text of a word
 abbrev pub word_text : Word → List ℕ

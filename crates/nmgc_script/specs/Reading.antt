@@ -3,32 +3,16 @@
 -- This is what the functions of the parser promise each other: each tries the causes of its words in
 -- the order in which they are told. What a caller of `parse` is promised stands in Spelling and Faults.
 use Rattle.std.specs.Prelude.{◌≡◌, ℕ, ◌+◌, ◌-◌, ◌^◌, List, [], ◌∷◌, length, codes, decimal, Bool, false, Result, Ok, Err, ◌==◌, ◌&&◌, nat_le, if◌then◌else◌}
-use Rattle.std.specs.Int.{is_power_of_two}
-use Rattle.std.specs.Str.{bytes_eq}
-use Rattle.std.specs.Str.Parse.{digits_value}
+use Rattle.std.specs.{Int.is_power_of_two, Str.bytes_eq, Str.Parse.digits_value}
 use Rattle.nmgc_limits.specs.Limits.{most_heap_words, most_nursery_words, most_quota, most_segment_words, most_segments, least_segment_words, most_slice, most_trigger}
-use Rattle.nmgc_world_spec.specs.declared.command.Operand.{Operand}
-use Rattle.nmgc_world_spec.specs.declared.command.Operand.TheVariants.{Register, Shared}
-use Rattle.nmgc_world_spec.specs.declared.command.Command.{Command}
+use Rattle.nmgc_world_spec.specs.{declared.command.Operand.Operand, declared.command.Operand.TheVariants.Register, declared.command.Operand.TheVariants.Shared, declared.command.Command.Command, Command.words_made}
 use Rattle.nmgc_world_spec.specs.declared.command.Command.TheVariants.{Num, Nil, Mov, Con, Var, Arr, Thunk, Weak, Stack, Get, Set, Cas, Update, Force, Push, Pop, Deref, Finalise, NextFin, Show, Same, Yield, Collect, Full}
-use Rattle.nmgc_world_spec.specs.Command.{words_made}
-use Rattle.nmgc_script.specs.declared.fault.Cause.{Cause}
+use Rattle.nmgc_script.specs.{declared.fault.Cause.Cause, declared.fault.LineFault.LineFault, declared.fault.ScriptFault.ScriptFault, declared.script.Config.Config, declared.script.Script.Script, declared.verbs.Verb.Verb, declared.verbs.TheConstants.VERBS, declared.version.Version.Version, declared.sections.Entry.Entry, Limits.total_words, Limits.version_1, Limits.version_2, Spelling.verb_name, Text.words_of}
 use Rattle.nmgc_script.specs.declared.fault.Cause.TheVariants as cause
-use Rattle.nmgc_script.specs.declared.fault.LineFault.{LineFault}
 use Rattle.nmgc_script.specs.declared.fault.LineFault.TheVariants as fault
-use Rattle.nmgc_script.specs.declared.fault.ScriptFault.{ScriptFault}
 use Rattle.nmgc_script.specs.declared.fault.ScriptFault.TheVariants as script_fault
-use Rattle.nmgc_script.specs.declared.script.Config.{Config}
-use Rattle.nmgc_script.specs.declared.script.Script.{Script}
-use Rattle.nmgc_script.specs.declared.verbs.Verb.{Verb}
 use Rattle.nmgc_script.specs.declared.verbs.Verb.TheVariants as verb
-use Rattle.nmgc_script.specs.declared.verbs.TheConstants.{VERBS}
-use Rattle.nmgc_script.specs.declared.version.Version.{Version}
-use Rattle.nmgc_script.specs.declared.sections.Entry.{Entry}
 use Rattle.nmgc_script.specs.declared.sections.Entry.TheVariants as entry
-use Rattle.nmgc_script.specs.Limits.{total_words, version_1, version_2}
-use Rattle.nmgc_script.specs.Spelling.{verb_name}
-use Rattle.nmgc_script.specs.Text.{words_of}
 
 infixl 10 ◌>>=◌
 abbrev pub ◌>>=◌ : {A B E : Type 0} → Result A E → (A → Result B E) → Result B E

@@ -7,8 +7,7 @@
 //! is the script; the code appends its commands one after the other, into room that is taken once.
 //! Easy to get wrong: a batch begins with nil in its register, or its list would end in the one before.
 ghost use Rattle.std.specs.Prelude.{◌≡◌, ◌≤◌, ◌++◌, replicate, IfOk, OnOk};
-ghost use Rattle.nmgc_script.specs.Bench.{most_batches, cell, batch, bench_program, bench_script};
-ghost use Rattle.nmgc_script.specs.Limits.{FitsScript, HasFewCommands};
+ghost use Rattle.nmgc_script.specs.{Bench.most_batches, Bench.cell, Bench.batch, Bench.bench_program, Bench.bench_script, Limits.FitsScript, Limits.HasFewCommands};
 
 use crate::{Config, Script};
 use nmgc_lists::{List, NoMemory};

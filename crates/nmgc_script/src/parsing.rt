@@ -5,14 +5,8 @@
 //! is told. Easy to get wrong: where the text ends before the first section, the line told is the one
 //! after the last, counting those that were passed over.
 ghost use Rattle.std.specs.Prelude.{◌≡◌, ℕ, ◌+◌, ◌<◌, ◌≤◌, ◌^◌, length, sum_by, IfErr, IfOk, MatchResult};
-ghost use Rattle.nmgc_script.specs.Faults.{IsToldOf, TellsFault};
-ghost use Rattle.nmgc_script.specs.Limits.{FitsConfig};
+ghost use Rattle.nmgc_script.specs.{Faults.IsToldOf, Faults.TellsFault, Limits.FitsConfig, Spelling.Spells, declared.fault.Cause.Cause as Why, declared.script.Script.Script as Spelled, Text.kept_after, Text.end_after, Text.kept_lines, Text.end_of, declared.fault.ScriptFault.TheVariants.NoMemory as no_memory};
 ghost use Rattle.nmgc_script.specs.Reading.{GivesAt, at_line, version_at, heap_at, programs_at, threads_at, script_at, placed};
-ghost use Rattle.nmgc_script.specs.Spelling.{Spells};
-ghost use Rattle.nmgc_script.specs.declared.fault.Cause.{Cause as Why};
-ghost use Rattle.nmgc_script.specs.declared.script.Script.{Script as Spelled};
-ghost use Rattle.nmgc_script.specs.Text.{kept_after, end_after, kept_lines, end_of};
-ghost use Rattle.nmgc_script.specs.declared.fault.ScriptFault.TheVariants.{NoMemory as no_memory};
 
 use crate::config::heap_words;
 use crate::sections::{Entry, read_entry, section};

@@ -5,8 +5,7 @@
 //! thunk without free variables ends with its register and no space after it.
 ghost use Rattle.std.specs.Prelude.{◌≡◌, ◌∷◌, [], ◌++◌, decimal, map, IfOk, OnOk};
 ghost use Rattle.nmgc_program.specs.Packed.{command_of};
-ghost use Rattle.nmgc_script.specs.Limits.{FitsScript};
-ghost use Rattle.nmgc_script.specs.Printing.{word_text, after_spaces};
+ghost use Rattle.nmgc_script.specs.{Limits.FitsScript, Printing.word_text, Printing.after_spaces};
 ghost use Rattle.nmgc_script.specs.Spelling.{Spells, command_words, ended, heap_words, operand_word, plain, program_lines, section_lines, section_words, spaced, version_words};
 
 use crate::verbs::Verb;

@@ -4,8 +4,7 @@
 //! section begins and not at the heap line. Easy to get wrong: the section that begins counts towards
 //! the total itself, and a first word `thread` makes a section line of any line after the heap line.
 ghost use Rattle.std.specs.Prelude.{◌≡◌, ◌+◌, ◌<◌, ◌≤◌, map, IfOk};
-ghost use Rattle.nmgc_script.specs.Limits.{FitsConfig, total_words};
-ghost use Rattle.nmgc_script.specs.Reading.{Gives, thread_at, section_at, is_section, entry_at};
+ghost use Rattle.nmgc_script.specs.{Limits.FitsConfig, Limits.total_words, Reading.Gives, Reading.thread_at, Reading.section_at, Reading.is_section, Reading.entry_at};
 
 use crate::commands::command;
 use crate::version::Version;

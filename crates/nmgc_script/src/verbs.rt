@@ -6,8 +6,7 @@
 //! nothing rests on the guess but the time of a long script.
 //! Easy to get wrong: a verb that is missing in `VERBS` could be printed and not be read.
 ghost use Rattle.std.specs.Prelude.{◌≡◌};
-ghost use Rattle.nmgc_script.specs.Reading.{Gives, first_named, verb_at};
-ghost use Rattle.nmgc_script.specs.Spelling.{verb_name};
+ghost use Rattle.nmgc_script.specs.{Reading.Gives, Reading.first_named, Reading.verb_at, Spelling.verb_name};
 
 use crate::{Cause, LineFault};
 

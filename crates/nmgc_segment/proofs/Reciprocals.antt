@@ -1,11 +1,5 @@
 -- A product in place of a division by the words of a block.
-use Rattle.std.proofs.Common.{ℕ, ◌≡◌, ◌↔◌, inl, inr, ◌+◌, ◌-◌, ◌*◌, ◌/◌, ◌%◌, ◌<◌, ◌≤◌, ◌∙◌, refl, ap, sym, arith, Bool, true, ◌&&◌, leb, ltb, get_or, mul-le-mul_right, div-add-mod'}
-use Rattle.std.proofs.lemmas.Bool.{agree_below_at, and_parts, cases_lt, leb-true, ltb-true}
-use Rattle.std.proofs.Math.Nat.{mul-mod_left}
-use Rattle.std.proofs.lemmas.Nat.{div-mul-add, mod-mul-add, le-div, mod_below}
-use Rattle.nmgc_object.specs.Size.{block_size}
-use Rattle.nmgc_object.specs.laws.Classes.{least_block}
-use Rattle.nmgc_segment.specs.declared.lookup.TheConstants.{RECIPROCALS}
+use Rattle.nmgc_segment.proofs.Vocabulary.{ℕ, ◌≡◌, ◌↔◌, inl, inr, ◌+◌, ◌-◌, ◌*◌, ◌/◌, ◌%◌, ◌<◌, ◌≤◌, ◌∙◌, refl, ap, sym, arith, Bool, true, ◌&&◌, leb, ltb, get_or, mul-le-mul_right, div-add-mod', agree_below_at, and_parts, cases_lt, leb-true, ltb-true, mul-mod_left, div-mul-add, mod-mul-add, le-div, mod_below, block_size, least_block, RECIPROCALS}
 
 -- 65536 / d, rounded up, times so many words never errs by a whole block
 record IsReciprocal (d r : ℕ) : Type 0 where

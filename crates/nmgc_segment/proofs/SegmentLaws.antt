@@ -1,17 +1,6 @@
 -- What keeps a segment's invariant, and which blocks are in use afterwards.
-use Rattle.std.proofs.Common.{ℕ, ◌≡◌, ◌≢◌, ◌<◌, ◌≤◌, ◌*◌, ◌/◌, ◌↔◌, ◌∙◌, ◌⊎◌, inl, inr, ap, subst, sym, arith, List, length, slice_index, map, take, drop, ◌++◌, Bool, IsTrue}
-use Rattle.std.proofs.lemmas.List.{take_at}
-use Rattle.std.proofs.lemmas.Bool.{cases_eq, cases_lt}
-use Rattle.std.proofs.Math.Nat.{le-div_iff_mul-le}
+use Rattle.nmgc_segment.proofs.Vocabulary.{ℕ, ◌≡◌, ◌≢◌, ◌<◌, ◌≤◌, ◌*◌, ◌/◌, ◌↔◌, ◌∙◌, ◌⊎◌, inl, inr, ap, subst, sym, arith, List, length, slice_index, map, take, drop, ◌++◌, Bool, IsTrue, take_at, cases_eq, cases_lt, le-div_iff_mul-le, block_size, State, Free, Current, IsEpoch, carried, swept, IsFirstUnmarked, class_few, least_block, few_blocks, mark-map, all_carried, swept_bounds, swept_is, zero_swept, TellsMarked, Segment, IsSegment, IsUnused, HasBlocks, InUse, IsMarked, block_count, segment_words, mark_of}
 use Rattle.std.proofs.Math.ListN.{length-map}
-use Rattle.nmgc_object.specs.Size.{block_size}
-use Rattle.nmgc_segment.specs.declared.state.State.{State}
-use Rattle.nmgc_segment.specs.declared.state.State.TheVariants.{Free, Current}
-use Rattle.nmgc_segment.specs.Marks.{IsEpoch, carried, swept, IsFirstUnmarked}
-use Rattle.nmgc_object.specs.laws.Classes.{class_few, least_block}
-use Rattle.nmgc_segment.specs.laws.Segments.{few_blocks, mark-map, all_carried, swept_bounds, swept_is, zero_swept}
-use Rattle.nmgc_segment.specs.Kept.{TellsMarked}
-use Rattle.nmgc_segment.specs.Segment.{Segment, IsSegment, IsUnused, HasBlocks, InUse, IsMarked, block_count, segment_words, mark_of}
 
 -- nothing is in use
 pub unused_from : (s : Segment) → ((b : ℕ) → InUse s b → ⊥) → IsUnused s

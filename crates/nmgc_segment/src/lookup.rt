@@ -5,8 +5,7 @@
 //! exactly where the block begins there. A segment has at most 4,096 words, and in so few the rounding never adds up to
 //! the factor.
 ghost use Rattle.std.specs.Prelude.{ℕ, ◌≡◌, ◌≢◌, ◌*◌, ◌<◌, ◌≤◌, IfSome, IfNone};
-ghost use Rattle.nmgc_object.specs.Size.{block_size};
-ghost use Rattle.nmgc_object.specs.declared.size.TheConstants.{MAX_BLOCK_WORDS};
+ghost use Rattle.nmgc_object.specs.{Size.block_size, declared.size.TheConstants.MAX_BLOCK_WORDS};
 
 use nmgc_object::size::MAX_CLASS;
 

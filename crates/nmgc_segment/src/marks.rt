@@ -6,10 +6,8 @@
 //! Easy to get wrong: a search that goes on by how many bytes it just found waits for each sixteen before it loads the
 //! next. So it goes on by sixteen, and looks at the number only where it ends.
 ghost use Rattle.std.specs.Prelude.{◌≡◌, ◌≢◌, ℕ, ◌↔◌, ◌+◌, ◌<◌, ◌≤◌, ◌==◌, not, map, length, slice_index, IsTrue};
-ghost use Rattle.std.specs.List.{prefix_len};
-ghost use Rattle.std.specs.Simd.Lanes.{chunk, put_chunk};
-ghost use Rattle.nmgc_segment.specs.Marks.{IsEpoch, carried, swept, IsFirst, IsFirstUnmarked};
-ghost use Rattle.nmgc_segment.specs.Kept.{TellsMarked};
+ghost use Rattle.std.specs.{List.prefix_len, Simd.Lanes.chunk, Simd.Lanes.put_chunk};
+ghost use Rattle.nmgc_segment.specs.{Marks.IsEpoch, Marks.carried, Marks.swept, Marks.IsFirst, Marks.IsFirstUnmarked, Kept.TellsMarked};
 
 use std::simd::prelude::*;
 

@@ -1,11 +1,8 @@
 -- How marking ends: by the weak pointers of the snapshot, which may keep what is only reached through
 -- them. Each set is the least one with its rules. Everything here follows fields in the world as it is.
 use Rattle.std.specs.Prelude.{◌≡◌, ◌⊎◌, ◌↔◌, List, Contains, IsSome, true}
-use Rattle.nmgc_world_spec.specs.declared.value.Name.{Name}
+use Rattle.nmgc_world_spec.specs.{declared.value.Name.Name, declared.node.Parts.Parts, World.node_of, Reach.RefersTo, Reach.IsAlive, Reach.IsPlain, Reach.IsKeptBy, Reach.Lists, Reach.closed}
 use Rattle.nmgc_world_spec.specs.declared.value.Value.TheVariants as value
-use Rattle.nmgc_world_spec.specs.declared.node.Parts.{Parts}
-use Rattle.nmgc_world_spec.specs.World.{node_of}
-use Rattle.nmgc_world_spec.specs.Reach.{RefersTo, IsAlive, IsPlain, IsKeptBy, Lists, closed}
 use Rattle.nmgc_snapshot_laws.specs.State.{State}
 
 -- a weak pointer of the snapshot that was alive there, with its parts there, and wasn't finalised since

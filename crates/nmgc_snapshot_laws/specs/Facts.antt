@@ -8,14 +8,9 @@
 -- What is opened makes more names live. So no fact may ask whether a name isn't live yet: `fields` says of
 -- every field that it was there in the snapshot or holds what may be held, and stays true as names are opened.
 use Rattle.std.specs.Prelude.{◌≡◌, ◌≤◌, ◌+◌, ◌⊎◌, ℕ, length, Some, false, IsSome, All, Contains}
-use Rattle.nmgc_world_spec.specs.declared.value.Name.{Name}
+use Rattle.nmgc_world_spec.specs.{declared.value.Name.Name, declared.node.Parts.Parts, declared.node.Node.Node, World.World, World.node_of, World.serial_of, World.IsWorld, Reach.IsLive, Reach.IsRoot, Reach.IsAlive, Reach.IsKeptBy, Reach.RefersTo}
 use Rattle.nmgc_world_spec.specs.declared.value.Value.TheVariants as value
-use Rattle.nmgc_world_spec.specs.declared.node.Parts.{Parts}
-use Rattle.nmgc_world_spec.specs.declared.node.Node.{Node}
-use Rattle.nmgc_world_spec.specs.World.{World, node_of, serial_of, IsWorld}
-use Rattle.nmgc_world_spec.specs.Reach.{IsLive, IsRoot, IsAlive, IsKeptBy, RefersTo}
-use Rattle.nmgc_snapshot_laws.specs.declared.event.Entry.{Entry}
-use Rattle.nmgc_snapshot_laws.specs.State.{State, names_of}
+use Rattle.nmgc_snapshot_laws.specs.{declared.event.Entry.Entry, State.State, State.names_of}
 use Rattle.nmgc_world_laws.specs.Holds.{CoversReach, OfParts, HasStrongField, StillThere, has_result}
 
 -- live in the snapshot

@@ -1,18 +1,8 @@
 -- The core machine: when an event can happen, and what it does.
 use Rattle.std.specs.Prelude.{◌≡◌, ◌≢◌, ℕ, List, [], ◌∷◌, ◌++◌, slice_set, is_some, Bool, true, false, not, ◌&&◌, if◌then◌else◌, All}
-use Rattle.nmgc_world_spec.specs.declared.value.Name.{Name}
-use Rattle.nmgc_world_spec.specs.declared.command.Command.{Command}
-use Rattle.nmgc_world_spec.specs.World.{World, node_of}
-use Rattle.nmgc_world_spec.specs.Change.{is_same_name}
-use Rattle.nmgc_world_spec.specs.Step.{CanApply, step, shared_name}
-use Rattle.nmgc_world_spec.specs.History.{opened_by, finalised_by}
-use Rattle.nmgc_snapshot_laws.specs.declared.event.Entry.{Entry}
-use Rattle.nmgc_snapshot_laws.specs.declared.event.Event.{Event}
+use Rattle.nmgc_world_spec.specs.{declared.value.Name.Name, declared.command.Command.Command, World.World, World.node_of, Change.is_same_name, Step.CanApply, Step.step, Step.shared_name, History.opened_by, History.finalised_by, Owed.owed_by}
+use Rattle.nmgc_snapshot_laws.specs.{declared.event.Entry.Entry, declared.event.Event.Event, State.State, State.names_of, State.mark_name, State.mark_read, Scan.read_at, Scan.moved_on, Closing.IsClosing}
 use Rattle.nmgc_snapshot_laws.specs.declared.event.Event.TheVariants as event
-use Rattle.nmgc_snapshot_laws.specs.State.{State, names_of, mark_name, mark_read}
-use Rattle.nmgc_world_spec.specs.Owed.{owed_by}
-use Rattle.nmgc_snapshot_laws.specs.Scan.{read_at, moved_on}
-use Rattle.nmgc_snapshot_laws.specs.Closing.{IsClosing}
 
 -- each mutator's list is empty
 abbrev pub AreEmpty : List (List Name) → Type 0

@@ -1,15 +1,8 @@
 -- A run of the machine, and the snapshot theorem: what a run has marked.
 use Rattle.std.specs.Prelude.{◌≡◌, ◌↔◌, List, [], ◌∷◌, ◌++◌, Contains, Bool, true, false, if◌then◌else◌}
-use Rattle.nmgc_world_spec.specs.declared.value.Name.{Name}
-use Rattle.nmgc_world_spec.specs.World.{World, IsWorld}
-use Rattle.nmgc_world_spec.specs.History.{Row, replayed, IsLegal, opened, finalised}
-use Rattle.nmgc_world_spec.specs.Reach.{IsLive, IsDead, IsKept, Lists, closed}
-use Rattle.nmgc_snapshot_laws.specs.declared.event.Event.{Event}
+use Rattle.nmgc_world_spec.specs.{declared.value.Name.Name, World.World, World.IsWorld, History.Row, History.replayed, History.IsLegal, History.opened, History.finalised, Reach.IsLive, Reach.IsDead, Reach.IsKept, Reach.Lists, Reach.closed}
+use Rattle.nmgc_snapshot_laws.specs.{declared.event.Event.Event, State.State, State.opening, Machine.IsPossible, Machine.Passes, Facts.Facts, Closing.IsMarkedFirst, Closing.IsClosing}
 use Rattle.nmgc_snapshot_laws.specs.declared.event.Event.TheVariants as event
-use Rattle.nmgc_snapshot_laws.specs.State.{State, opening}
-use Rattle.nmgc_snapshot_laws.specs.Machine.{IsPossible, Passes}
-use Rattle.nmgc_snapshot_laws.specs.Facts.{Facts}
-use Rattle.nmgc_snapshot_laws.specs.Closing.{IsMarkedFirst, IsClosing}
 
 -- the row of an event that is a command
 abbrev pub row_of : Event → List Row

@@ -11,3 +11,4 @@ pub mod Runs
 pub mod ScanReads
 pub mod Scans
 pub mod Turns
+mod Vocabulary

@@ -1,30 +1,5 @@
 -- A sweeper as its cycle begins, as it is closed, and as it ends.
-use Rattle.std.proofs.Common.{ℕ, ◌≡◌, ◌≢◌, ◌⊎◌, ◌↔◌, ◌+◌, ◌*◌, ◌<◌, ◌≤◌, ◌∙◌, inl, inr, refl, sym, ap, subst, arith, List, [], ◌∷◌, length, set, cond, sum_by, Option, Some, None}
-use Rattle.std.specs.Prelude.{Contains, count_by}
-use Rattle.std.proofs.Math.ListN.{get_or-eq_default}
-use Rattle.std.proofs.lemmas.Bool.{cases_lt}
-use Rattle.std.proofs.lemmas.List.Sums.{sum_by-set}
-use Rattle.nmgc_world_spec.specs.declared.value.Name.{Name}
-use Rattle.nmgc_lists.specs.laws.Items.{contains_head, contains_tail, contains_cases}
-use Rattle.nmgc_object.specs.declared.layout.Layout.{Layout}
-use Rattle.nmgc_object.specs.declared.size.TheConstants.{MIN_BLOCK_WORDS}
-use Rattle.nmgc_segment.specs.Segment.{Segment, free_segment}
-use Rattle.nmgc_segment.specs.declared.state.State.{State}
-use Rattle.nmgc_segment.specs.declared.state.State.TheVariants.{Free, Current, Active, Filled, Sweeping}
-use Rattle.nmgc_alloc.specs.Numbered.{nth, is, Segments}
-use Rattle.nmgc_alloc.specs.Segments.{IsWaiting}
-use Rattle.nmgc_alloc.specs.AllocState.{prepared_state, AllocState, Cells, IsIn, NoneIs, Exists, cells, cycle_begun}
-use Rattle.nmgc_alloc.specs.Stands.{StandsFor}
-use Rattle.nmgc_alloc.specs.laws.Cells.{begun_cells}
-use Rattle.nmgc_alloc.specs.laws.Counts.{sweeping_none}
-use Rattle.nmgc_alloc.specs.laws.Keeping.{counts_stand}
-use Rattle.nmgc_alloc.specs.laws.Numbers.{nth-set_same, nth-set_other}
-use Rattle.nmgc_alloc.specs.laws.Sound.{used_exists}
-use Rattle.nmgc_blocks_spec.specs.Cycle.{IsSweptIn, IsHadIn, IsFreedIn, Cycle}
-use Rattle.nmgc_world_spec.specs.Listing.{ListsNumbers}
-use Rattle.nmgc_sweep.specs.Sweeping.{IsWithoutDoubles}
-use Rattle.nmgc_sweep.specs.Statements.{StartIsNoted, LeftStays, ClosingBeginsWork, EndTellsCensus, LeftIsCounted}
-use Rattle.nmgc_names.specs.laws.Order.{lists_in_order}
+use Rattle.nmgc_sweep.proofs.Vocabulary.{ℕ, ◌≡◌, ◌≢◌, ◌⊎◌, ◌↔◌, ◌+◌, ◌*◌, ◌<◌, ◌≤◌, ◌∙◌, inl, inr, refl, sym, ap, subst, arith, List, [], ◌∷◌, length, set, cond, sum_by, Option, Some, None, Contains, count_by, get_or-eq_default, cases_lt, sum_by-set, Name, contains_head, contains_tail, contains_cases, Layout, MIN_BLOCK_WORDS, Segment, free_segment, State, Free, Current, Active, Filled, Sweeping, nth, is, Segments, IsWaiting, prepared_state, AllocState, Cells, IsIn, NoneIs, Exists, cells, cycle_begun, StandsFor, begun_cells, sweeping_none, counts_stand, nth-set_same, nth-set_other, used_exists, IsSweptIn, IsHadIn, IsFreedIn, Cycle, ListsNumbers, IsWithoutDoubles, StartIsNoted, LeftStays, ClosingBeginsWork, EndTellsCensus, LeftIsCounted, lists_in_order}
 use Rattle.nmgc_sweep.proofs.Lists.{ascends_first, ascends_rest, once_distinct}
 
 -- a segment that waits has its number
@@ -78,7 +53,7 @@ start_is_noted c words segments epoch sweeper stands none once e h =
     record {
       noted = record {
         epoch = h.epoch_is ∙ e;
-        swept = subst (λ (l : List ℕ). ListsNumbers (IsSweptIn c) l) (sym h.swept) (record {
+        swept = rw h.swept (record {
           ordered = h.left.numbers.ordered;
           sound = λ n has. (waits_swept n).0 (h.left.numbers.sound n has);
           complete = λ n is. h.left.numbers.complete n ((waits_swept n).1 is);

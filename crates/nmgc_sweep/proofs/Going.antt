@@ -1,21 +1,5 @@
 -- A sweeper at work while blocks are placed elsewhere.
-use Rattle.std.proofs.Common.{ℕ, ◌≡◌, ◌≢◌, ◌↔◌, ◌∙◌, inl, inr, sym, ap, subst, arith, List, length, Option, length-set}
-use Rattle.std.proofs.lemmas.Bool.{cases_eq}
-use Rattle.std.proofs.lemmas.List.{get_or-set_other}
-use Rattle.nmgc_world_spec.specs.declared.value.Name.{Name}
-use Rattle.nmgc_segment.specs.Segment.{Segment, mark_of}
-use Rattle.nmgc_segment.specs.declared.state.State.TheVariants.{Sweeping}
-use Rattle.nmgc_alloc.specs.Numbered.{nth, Segments, HasNumber}
-use Rattle.nmgc_alloc.specs.Segments.{IsChosen, IsWaiting}
-use Rattle.nmgc_alloc.specs.AllocState.{AllocState, Cells, IsIn, IsTarget, LiesIn, cells, name_in, no_cells}
-use Rattle.nmgc_alloc.specs.Stands.{StandsFor}
-use Rattle.nmgc_alloc.specs.laws.Numbers.{nth-set_other}
-use Rattle.nmgc_blocks_spec.specs.Cycle.{IsKeptIn, Cycle}
-use Rattle.nmgc_alloc.specs.Settled.{IsSettledByte}
-use Rattle.nmgc_sweep.specs.Seen.{CycleSeen}
-use Rattle.nmgc_sweep.specs.Sweeper.{Sweeper}
-use Rattle.nmgc_sweep.specs.Work.{IsAtWork}
-use Rattle.nmgc_sweep.specs.Statements.{KeepsWaiting, WorkGoesOn, PlacingKeepsWaiting}
+use Rattle.nmgc_sweep.proofs.Vocabulary.{ℕ, ◌≡◌, ◌≢◌, ◌↔◌, ◌∙◌, inl, inr, sym, ap, subst, arith, List, length, length-set, cases_eq, get_or-set_other, Segment, mark_of, Sweeping, nth, Segments, HasNumber, IsChosen, IsWaiting, AllocState, Cells, IsIn, IsTarget, LiesIn, cells, no_cells, StandsFor, nth-set_other, IsKeptIn, Cycle, IsSettledByte, CycleSeen, Sweeper, IsAtWork, KeepsWaiting, WorkGoesOn, PlacingKeepsWaiting}
 use Rattle.nmgc_sweep.proofs.Begins.{left_stays, waits_there}
 
 module _ (c : Cycle) (closed : ℕ) (words after : List ℕ) (a b : AllocState) (old new : Segments) (cycle : CycleSeen) (sweeper : Sweeper)
@@ -40,8 +24,7 @@ module _ (c : Cycle) (closed : ℕ) (words after : List ℕ) (a b : AllocState) 
       noted = work.sweeping.noted;
       as_noted = λ n is. let was = work.sweeping.as_noted n (waited n is) in (was.0, k.names n (waited n is) ∙ was.1);
       marked = λ n block name is lies.
-          let lay : LiesIn a n block name = ap (λ (names : List (Option Name)).
-          name_in (record (cells a n) { names = names }) block) (sym (k.names n (waited n is))) ∙ lies in
+          let lay : LiesIn a n block name = cc (k.names n (waited n is), lies) in
           subst (λ (m : ℕ). (m ≡ sweeper.seen.epoch) ↔ IsKeptIn c name) (sym (k.marks n block)) (work.sweeping.marked n block name (waited n is) lay);
       had = λ n. (
         (λ has. let f = (work.sweeping.had n).0 has in (f.0, f.1, f.2, (λ w. f.3 (waited f.0 w)), f.4)),
@@ -98,12 +81,11 @@ placing_keeps_waiting layout old new a b mutator class at name h p =
         )
       ];
       marks = λ i block. elim (cases_eq i h.number) [
-        | inl e ↦ ap (λ (j : ℕ). mark_of (nth new.segments j) block) e ∙ ap (λ (s : Segment). mark_of s block) h.takes.rest ∙
-            ap (λ (j : ℕ). mark_of (nth old.segments j) block) (sym e)
+        | inl e ↦ cc (e, h.takes.rest)
         | inr ne ↦ ap (λ (s : Segment). mark_of s block) (other i ne)
       ];
       names = λ i is.
-          let ne : i ≢ p.number = λ e. target_not a mutator class p.number p.target (subst (λ (j : ℕ). IsIn Sweeping (cells a j)) e is) in
+          let ne : i ≢ p.number = λ e. target_not a mutator class p.number p.target (rw e at is) in
           elim p.placed [
             | inl full ↦ ap (λ (x : AllocState). (cells x i).names) full.1 ∙ ap (λ (x : Cells). x.names) (get_or-set_other a.segments p.number i _ no_cells ne)
             | inr room ↦ ap (λ (x : AllocState). (cells x i).names) room.1 ∙ ap (λ (x : Cells). x.names) (get_or-set_other a.segments p.number i _ no_cells ne)

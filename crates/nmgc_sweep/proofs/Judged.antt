@@ -1,17 +1,5 @@
 -- What was listed of segments, whatever the marks are: the names of their blocks in use, and as freed those that aren't marked.
-use Rattle.std.proofs.Common.{ℕ, zero, suc, ◌≡◌, ◌<◌, ◌∙◌, inl, inr, sym, ap, subst, arith, List, [], ◌∷◌, ◌++◌, length, Some, append-nil, append_assoc}
-use Rattle.std.specs.Prelude.{Contains}
-use Rattle.std.proofs.lemmas.List.Elements.{Contains-append_left, Contains-append_right, Contains-append_cases}
-use Rattle.nmgc_world_spec.specs.declared.value.Name.{Name}
-use Rattle.nmgc_lists.specs.laws.Items.{contains_head, contains_tail, contains_cases}
-use Rattle.nmgc_segment.specs.Segment.{Segment, InUse, block_count}
-use Rattle.nmgc_alloc.specs.Halves.{SweepsMany}
-use Rattle.nmgc_alloc.specs.Numbered.{nth, Segments}
-use Rattle.nmgc_world_spec.specs.Listing.{Ascends, AreDistinct}
-use Rattle.nmgc_sweep.specs.Listing.{ListsBlocks, IsLost}
-use Rattle.nmgc_sweep.specs.Names.{named_at}
-use Rattle.nmgc_sweep.specs.Sweeper.{Sweeper, AreLeft}
-use Rattle.nmgc_sweep.specs.Work.{HaveListed, IsNameIn, AreNamedOnce, GrowsBy, HasJudged}
+use Rattle.nmgc_sweep.proofs.Vocabulary.{ℕ, zero, suc, ◌≡◌, ◌<◌, ◌∙◌, inl, inr, sym, ap, subst, arith, List, [], ◌∷◌, ◌++◌, length, Some, append-nil, append_assoc, Contains, Contains-append_left, Contains-append_right, Contains-append_cases, Name, contains_head, contains_tail, contains_cases, Segment, InUse, block_count, SweepsMany, nth, Segments, Ascends, AreDistinct, ListsBlocks, IsLost, named_at, Sweeper, AreLeft, HaveListed, IsNameIn, AreNamedOnce, GrowsBy, HasJudged}
 use Rattle.nmgc_sweep.proofs.Lists.{ascends_first, ascends_rest, distinct_append}
 
 module _ (Passes : Segment → ℕ → Type 0) (uses : (segment : Segment) (block : ℕ) → Passes segment block → InUse segment block)

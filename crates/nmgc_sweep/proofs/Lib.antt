@@ -4,3 +4,4 @@ pub mod Judged
 pub mod Listed
 pub mod Lists
 pub mod Steps
+mod Vocabulary

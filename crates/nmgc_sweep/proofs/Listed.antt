@@ -1,30 +1,6 @@
 -- Listing the names of a segment, block after block.
-use Rattle.std.proofs.Common.{ℕ, zero, suc, ◌≡◌, ◌≢◌, ◌+◌, ◌-◌, ◌*◌, ◌/◌, ◌%◌, ◌^◌, ◌<◌, ◌≤◌, ◌∙◌, inl, inr, refl, sym, ap, subst, arith, List, [], ◌∷◌, ◌++◌, length, drop, append-nil, slice_index_or, Option, Some, mul-le-mul_right}
-use Rattle.std.specs.Prelude.{Contains}
-use Rattle.std.proofs.lemmas.Bool.{cases_eq, cases_lt}
-use Rattle.std.proofs.lemmas.List.Elements.{Contains-append_left, Contains-push, Contains-push_cases}
-use Rattle.nmgc_world_spec.specs.declared.value.Name.{Name}
-use Rattle.nmgc_lists.specs.laws.Items.{contains_head, contains_cases}
-use Rattle.nmgc_object.specs.declared.layout.Layout.{Layout}
-use Rattle.nmgc_object.specs.declared.layout.TheConstants.{FIRST_PLACE}
-use Rattle.nmgc_object.specs.declared.size.TheConstants.{MIN_BLOCK_WORDS}
-use Rattle.nmgc_object.specs.Places.{segment_place}
-use Rattle.nmgc_object.specs.Size.{block_size}
-use Rattle.nmgc_object.specs.laws.Classes.{none_left, least_block as large}
-use Rattle.nmgc_limits.specs.Limits.{IsSegmentSize}
-use Rattle.nmgc_segment.specs.Segment.{block_count}
-use Rattle.nmgc_segment.specs.laws.Segments.{few_blocks}
-use Rattle.nmgc_segment.specs.declared.state.State.TheVariants.{Free, Sweeping}
-use Rattle.nmgc_alloc.specs.Numbered.{nth, Segments, HasNumber, block_place}
-use Rattle.nmgc_alloc.specs.Segments.{IsSegments, IsBlockAt, IsWaiting}
-use Rattle.nmgc_alloc.specs.laws.Apart.{lies_in}
-use Rattle.nmgc_world_spec.specs.Listing.{ListsNumbers}
-use Rattle.nmgc_sweep.specs.Listing.{ListsBlocks}
-use Rattle.nmgc_sweep.specs.Names.{HaveEntries, entry_of}
-use Rattle.nmgc_sweep.specs.laws.Names.{entry_there, place_above}
-use Rattle.nmgc_sweep.specs.Sweeper.{Sweeper, CanList}
-use Rattle.nmgc_sweep.proofs.Begins.{waits_exists}
-use Rattle.nmgc_sweep.proofs.Lists.{ascends_push, distinct_append}
+use Rattle.nmgc_sweep.proofs.Vocabulary.{ℕ, zero, suc, ◌≡◌, ◌≢◌, ◌+◌, ◌-◌, ◌*◌, ◌/◌, ◌%◌, ◌<◌, ◌≤◌, ◌∙◌, inl, inr, refl, sym, ap, subst, arith, List, [], ◌∷◌, ◌++◌, length, drop, append-nil, slice_index_or, Option, Some, mul-le-mul_right, Contains, cases_eq, cases_lt, Contains-append_left, Contains-push, Contains-push_cases, Name, contains_head, contains_cases, Layout, FIRST_PLACE, MIN_BLOCK_WORDS, segment_place, block_size, none_left, large, IsSegmentSize, block_count, few_blocks, Free, Sweeping, nth, Segments, HasNumber, block_place, IsSegments, IsBlockAt, IsWaiting, lies_in, ListsNumbers, ListsBlocks, HaveEntries, entry_of, entry_there, place_above, Sweeper, CanList}
+use Rattle.nmgc_sweep.proofs.{Lists.ascends_push, Lists.distinct_append}
 
 pub none_listed : (P : ℕ → Type 0) (name : ℕ → Option Name) (xs : List Name) → ListsBlocks P name 0 xs xs
 none_listed P name xs = record {
@@ -84,8 +60,7 @@ one_listed P name block n xs ys zs passes is more h = record {
 pub placed_at : (layout told : Layout) (number class given block base size : ℕ) → told ≡ layout → given ≡ class → base ≡ segment_place told number →
     size ≡ block_size given → base + block * size ≡ block_place layout number class block
 placed_at layout told number class given block base size e f b s =
-    ap (λ (x : ℕ). x + block * size) b ∙ ap (λ (x : ℕ). segment_place told number + block * x) s
-    ∙ ap (λ (l : Layout). segment_place l number + block * block_size given) e ∙ ap (λ (k : ℕ). block_place layout number k block) f
+    cc (b, s, e, f)
 
 -- it lies below the nurseries
 pub place_low : (s : Segments) (number block : ℕ) → IsSegments s → HasNumber s number → IsWaiting s number →
@@ -122,14 +97,6 @@ place_named s names number block sound there waits within enough =
     let low = place_low s number block sound there waits within in
     entry_there at (length names) (place_above s number block at sound begins) (omega (arith, low, enough))
 
--- and fits into a place's 32 bits
-pub place_fits : (s : Segments) (number block : ℕ) → IsSegments s → HasNumber s number → IsWaiting s number →
-    block < block_count (nth s.segments number) → block_place s.layout number (nth s.segments number).class block < 2 ^ 32
-place_fits s number block sound there waits within =
-    let low = place_low s number block sound there waits within in
-    let heap = sound.layout.heap in
-    omega (arith, low, heap)
-
 -- a segment is so many of the least blocks
 pub whole_words : (words : ℕ) → IsSegmentSize words → MIN_BLOCK_WORDS * (words / MIN_BLOCK_WORDS) ≡ words
 whole_words words size =
@@ -158,8 +125,7 @@ drop_first : (numbers : List ℕ) (done number : ℕ) → done < length numbers 
     drop done numbers ≡ number ∷ drop (done + 1) numbers
 drop_first [] done number low e = absurd (omega (arith, low))
 drop_first (x ∷ xs) zero number low e = ap (λ (n : ℕ). n ∷ xs) (sym e)
-drop_first (x ∷ xs) (suc done) number low e = drop_first xs done number (omega (arith, low)) e ∙
-    ap (λ (k : ℕ). number ∷ drop k (x ∷ xs)) (let f : suc (done + 1) ≡ suc done + 1 = omega arith in f)
+drop_first (x ∷ xs) (suc done) number low e = cc (drop_first xs done number (omega (arith, low)) e, let f : suc (done + 1) ≡ suc done + 1 = omega arith in f)
 
 drop_past : (numbers : List ℕ) (done : ℕ) → length numbers ≤ done → drop done numbers ≡ []
 drop_past [] zero past = refl
@@ -207,9 +173,6 @@ room_for_others count done most words spare after low few room used =
 
 -- the segments below a number that wait
 
-pub none_below : (s : Segments) → ListsNumbers (λ n. (n < 0) × IsWaiting s n) []
-none_below s = record { ordered = tt; sound = λ n c. absurd (omega (arith, c.1)); complete = λ n h. let low = h.0 in absurd (omega (arith, low)) }
-
 pub below_skip : (s : Segments) (number : ℕ) (numbers : List ℕ) → (IsWaiting s number → ⊥) →
     ListsNumbers (λ n. (n < number) × IsWaiting s n) numbers → ListsNumbers (λ n. (n < number + 1) × IsWaiting s n) numbers
 below_skip s number numbers not_waiting h = record {
@@ -233,12 +196,4 @@ below_more s number numbers waits h = record {
     | inl e ↦ subst (λ (k : ℕ). Contains (numbers ++ number ∷ []) k) (sym e) (Contains-push numbers number)
     | inr other ↦ let low = is.0 in Contains-append_left numbers (number ∷ []) n (h.complete n (omega (arith, low, other), is.1))
   ];
-}
-
-pub below_all : (s : Segments) (number : ℕ) (numbers : List ℕ) → length s.segments ≤ number →
-    ListsNumbers (λ n. (n < number) × IsWaiting s n) numbers → ListsNumbers (IsWaiting s) numbers
-below_all s number numbers past h = record {
-  ordered = h.ordered;
-  sound = λ n c. (h.sound n c).1;
-  complete = λ n is. let low = waits_exists s.segments n is in h.complete n (omega (arith, low, past), is);
 }

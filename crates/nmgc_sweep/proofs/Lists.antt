@@ -1,13 +1,9 @@
 -- Lists of names without doubles, and ascending numbers.
-use Rattle.std.proofs.Common.{ℕ, zero, suc, ◌≡◌, ◌<◌, ◌∙◌, inl, inr, refl, sym, ap, subst, arith, List, [], ◌∷◌, ◌++◌, Option, Some, None}
+use Rattle.std.proofs.{Common.ℕ, Common.zero, Common.suc, Common.◌≡◌, Common.◌<◌, Common.◌∙◌, Common.inl, Common.inr, Common.refl, Common.sym, Common.ap, Common.subst, Common.arith, Common.List, Common.[], Common.◌∷◌, Common.◌++◌, Common.Option, Common.Some, Common.None, lemmas.Option.slice_get-get_or, lemmas.List.Elements.Contains-append_cases}
 use Rattle.std.specs.Prelude.{Contains, slice_get}
-use Rattle.std.proofs.lemmas.Option.{slice_get-get_or}
-use Rattle.std.proofs.lemmas.List.Elements.{Contains-append_cases}
-use Rattle.nmgc_world_spec.specs.declared.value.Name.{Name}
-use Rattle.nmgc_lists.specs.laws.Items.{contains_head, contains_tail, contains_cases}
-use Rattle.nmgc_world_spec.specs.Listing.{Ascends, AreDistinct}
+use Rattle.nmgc_world_spec.specs.{declared.value.Name.Name, Listing.Ascends, Listing.AreDistinct}
+use Rattle.nmgc_lists.specs.{laws.Items.contains_head, laws.Items.contains_tail, laws.Items.contains_cases, laws.Options.some_is as same_some}
 use Rattle.nmgc_sweep.specs.Sweeping.{IsWithoutDoubles}
-use Rattle.nmgc_alloc.specs.laws.Cells.{some_name as same_some}
 
 pub get_contains : (xs : List Name) (i : ℕ) (x : Name) → slice_get xs i ≡ Some x → Contains xs x
 get_contains [] i x e = absurd (let f : ◌≡◌ {A = Option Name} None (Some x) = e in cc)

@@ -1,38 +1,14 @@
 -- Segments are swept: what was in them is listed, what was lost in them is freed, and the sweeper is at work still.
-use Rattle.std.proofs.Common.{ℕ, zero, suc, ◌≡◌, ◌≢◌, ◌↔◌, ◌+◌, ◌-◌, ◌*◌, ◌^◌, ◌<◌, ◌≤◌, ◌∙◌, inl, inr, refl, sym, ap, subst, arith, List, [], ◌∷◌, ◌++◌, length, Option, Some, None, length-set, length-append}
+use Rattle.std.proofs.{Common.ℕ, Common.zero, Common.suc, Common.◌≡◌, Common.◌≢◌, Common.◌↔◌, Common.◌+◌, Common.◌-◌, Common.◌*◌, Common.◌^◌, Common.◌<◌, Common.◌≤◌, Common.◌∙◌, Common.inl, Common.inr, Common.refl, Common.sym, Common.ap, Common.subst, Common.arith, Common.List, Common.[], Common.◌∷◌, Common.◌++◌, Common.length, Common.Option, Common.Some, Common.None, Common.length-set, Common.length-append, lemmas.Bool.cases_eq, lemmas.Bool.Decides.nat_tests, lemmas.List.Elements.Contains-append_left, lemmas.List.Elements.Contains-append_right, lemmas.List.Elements.Contains-append_cases}
 use Rattle.std.specs.Prelude.{Contains, IsSome, min}
-use Rattle.std.proofs.lemmas.Bool.{cases_eq}
-use Rattle.std.proofs.lemmas.Bool.Decides.{nat_tests}
-use Rattle.std.proofs.lemmas.List.Elements.{Contains-append_left, Contains-append_right, Contains-append_cases}
-use Rattle.nmgc_world_spec.specs.declared.value.Name.{Name}
-use Rattle.nmgc_lists.specs.laws.Items.{contains_head, contains_tail, contains_cases}
-use Rattle.nmgc_object.specs.declared.layout.Layout.{Layout}
-use Rattle.nmgc_object.specs.declared.size.TheConstants.{MIN_BLOCK_WORDS}
-use Rattle.nmgc_segment.specs.Marks.{IsEpoch, swept, epoch_of}
-use Rattle.nmgc_segment.specs.Segment.{Segment, InUse, IsMarked, mark_of, block_count}
-use Rattle.nmgc_segment.specs.declared.state.State.TheVariants.{Sweeping}
-use Rattle.nmgc_segment.specs.laws.Segments.{mark-map, zero_swept}
-use Rattle.nmgc_alloc.specs.Halves.{SweepsMany}
-use Rattle.nmgc_alloc.specs.Numbered.{nth, Segments, HasNumber}
-use Rattle.nmgc_alloc.specs.Segments.{SweepsNext, IsWaiting}
-use Rattle.nmgc_alloc.specs.AllocState.{AllocState, Cells, Sweeps, SweepsEach, SweepsSome, HoldsKept, LieOnce, LiesIn, IsIn, cells, name_in}
-use Rattle.nmgc_alloc.specs.Stands.{Shows, StandsFor}
-use Rattle.nmgc_alloc.specs.laws.Cells.{swept_by_names, swept_other, swept_state}
-use Rattle.nmgc_alloc.specs.laws.Numbers.{nth-set_other}
-use Rattle.nmgc_alloc.specs.laws.Placing.{inside}
-use Rattle.nmgc_alloc.specs.laws.Sweeping.{swept_stands}
+use Rattle.nmgc_world_spec.specs.{declared.value.Name.Name, Listing.ListsNumbers}
+use Rattle.nmgc_lists.specs.laws.Items.{contains_head, contains_tail, contains_cases, is_some_of}
+use Rattle.nmgc_object.specs.{declared.layout.Layout.Layout, declared.size.TheConstants.MIN_BLOCK_WORDS}
+use Rattle.nmgc_segment.specs.{Marks.IsEpoch, Marks.swept, Marks.epoch_of, Segment.Segment, Segment.InUse, Segment.IsMarked, Segment.mark_of, Segment.block_count, declared.state.State.TheVariants.Sweeping, laws.Segments.mark-map, laws.Segments.zero_swept}
+use Rattle.nmgc_alloc.specs.{Halves.SweepsMany, Numbered.nth, Numbered.Segments, Numbered.HasNumber, Segments.SweepsNext, Segments.IsWaiting, Stands.Shows, Stands.StandsFor, laws.Cells.swept_by_names, laws.Cells.swept_other, laws.Cells.swept_state, laws.Numbers.nth-set_other, laws.Placing.inside, laws.Sweeping.swept_stands, Settled.IsSettledByte, AllocState.AllocState, AllocState.Cells, AllocState.Sweeps, AllocState.SweepsEach, AllocState.SweepsSome, AllocState.HoldsKept, AllocState.LieOnce, AllocState.LiesIn, AllocState.IsIn, AllocState.cells, AllocState.name_in}
 use Rattle.nmgc_round.specs.Gate.{next_turn, passed}
-use Rattle.nmgc_blocks_spec.specs.Cycle.{IsKeptIn, IsSweptIn, Cycle}
-use Rattle.nmgc_world_spec.specs.Listing.{ListsNumbers}
-use Rattle.nmgc_blocks_spec.specs.Waiting.{AreAsNoted}
-use Rattle.nmgc_alloc.specs.Settled.{IsSettledByte}
-use Rattle.nmgc_sweep.specs.Sweeping.{IsWithoutDoubles}
-use Rattle.nmgc_sweep.specs.Seen.{CycleSeen}
-use Rattle.nmgc_sweep.specs.Listing.{ListsBlocks, IsLost}
-use Rattle.nmgc_sweep.specs.Names.{AreNamed, named_at}
-use Rattle.nmgc_sweep.specs.Sweeper.{Sweeper, AreLeft, CanList}
-use Rattle.nmgc_sweep.specs.Work.{HasListed, HaveListed, HasSwept, IsAtWork}
-use Rattle.nmgc_sweep.specs.laws.Names.{lies_class, named_swept}
+use Rattle.nmgc_blocks_spec.specs.{Cycle.IsKeptIn, Cycle.IsSweptIn, Cycle.Cycle, Waiting.AreAsNoted}
+use Rattle.nmgc_sweep.specs.{Sweeping.IsWithoutDoubles, Seen.CycleSeen, Listing.ListsBlocks, Listing.IsLost, Names.AreNamed, Names.named_at, Sweeper.Sweeper, Sweeper.AreLeft, Sweeper.CanList, Work.HasListed, Work.HaveListed, Work.HasSwept, Work.IsAtWork, laws.Names.lies_class, laws.Names.named_swept}
 use Rattle.nmgc_sweep.proofs.Lists.{ascends_first, ascends_rest, distinct_append, distinct_once, once_distinct}
 
 -- a segment that was swept doesn't wait any more
@@ -143,13 +119,9 @@ module _ (old new : Segments) (epoch number : ℕ) (first : ℕ) (rest : List �
     entry_lies : (block : ℕ) (n : Name) → InUse (nth old.segments number) block →
         named_at old.layout names number (nth old.segments number).class block ≡ Some n → LiesIn a number block n
     entry_lies block n used is =
-        let m = some_of (name_in (cells a number) block) ((shows.used block).1 used) in
+        let m = is_some_of (name_in (cells a number) block) ((shows.used block).1 used) in
         let same : Some m.0 ≡ Some n = sym (entry_is block m.0 m.1) ∙ is in
         m.1 ∙ same
-      where
-        some_of : (o : Option Name) → IsSome o → (n : Name) × (o ≡ Some n)
-        some_of None h = absurd (cc)
-        some_of (Some n) h = (n, refl)
 
     lies_used : (block : ℕ) (n : Name) → LiesIn a number block n → InUse (nth old.segments number) block
     lies_used block n lies = (shows.used block).0 (subst (λ (o : Option Name). IsSome o) (sym lies) (is_some n))

@@ -1,8 +1,7 @@
 -- What a sweeper lists of a segment.
 use Rattle.std.specs.Prelude.{ℕ, ◌≡◌, ◌<◌, ◌++◌, List, Contains, Option, Some}
-use Rattle.nmgc_world_spec.specs.declared.value.Name.{Name}
+use Rattle.nmgc_world_spec.specs.{declared.value.Name.Name, Listing.AreDistinct}
 use Rattle.nmgc_segment.specs.Segment.{Segment, InUse, IsMarked}
-use Rattle.nmgc_world_spec.specs.Listing.{AreDistinct}
 
 -- names were listed behind those before: the names of the blocks below a number that pass, each once where no two of these blocks have one name
 pub record ListsBlocks (Passes : ℕ → Type 0) (name : ℕ → Option Name) (below : ℕ) (old new : List Name) : Type 0 where

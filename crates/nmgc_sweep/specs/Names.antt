@@ -1,11 +1,8 @@
 -- The names of objects in segments, in an array by their places: they are noted as objects move there, and read as their segment is swept.
 use Rattle.std.specs.Prelude.{ℕ, ◌≡◌, ◌≢◌, ◌⊎◌, ◌-◌, ◌*◌, ◌/◌, ◌≤◌, List, length, slice_get, Contains, Option, Some}
 use Rattle.nmgc_world_spec.specs.declared.value.Name.{Name}
-use Rattle.nmgc_object.specs.declared.layout.Layout.{Layout}
-use Rattle.nmgc_object.specs.declared.layout.TheConstants.{FIRST_PLACE}
-use Rattle.nmgc_object.specs.declared.size.TheConstants.{MIN_BLOCK_WORDS}
-use Rattle.nmgc_alloc.specs.Numbered.{block_place}
-use Rattle.nmgc_alloc.specs.AllocState.{AllocState, LiesIn, cells}
+use Rattle.nmgc_object.specs.{declared.layout.Layout.Layout, declared.layout.TheConstants.FIRST_PLACE, declared.size.TheConstants.MIN_BLOCK_WORDS}
+use Rattle.nmgc_alloc.specs.{Numbered.block_place, AllocState.AllocState, AllocState.LiesIn, AllocState.cells}
 use Rattle.nmgc_heap_spec.specs.Moves.{Moved}
 
 -- which entry of the array is that of the block that begins at a place: no two blocks have the same, since none has fewer words

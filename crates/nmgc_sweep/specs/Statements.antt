@@ -1,24 +1,14 @@
 -- What a sweeper tells of its cycle, from the cycle's beginning to its end.
 use Rattle.std.specs.Prelude.{ℕ, ◌≡◌, ◌↔◌, ◌<◌, List, [], length}
-use Rattle.nmgc_world_spec.specs.declared.value.Name.{Name}
-use Rattle.nmgc_world_spec.specs.Reach.{Lists}
+use Rattle.nmgc_world_spec.specs.{declared.value.Name.Name, Reach.Lists, Listing.ListsNumbers, Listing.Counts}
 use Rattle.nmgc_object.specs.declared.layout.Layout.{Layout}
-use Rattle.nmgc_segment.specs.Segment.{mark_of}
-use Rattle.nmgc_alloc.specs.Numbered.{nth, Segments}
-use Rattle.nmgc_alloc.specs.Segments.{Allocates, IsWaiting}
+use Rattle.nmgc_segment.specs.{Segment.mark_of, Marks.epoch_of}
+use Rattle.nmgc_alloc.specs.{Numbered.nth, Numbered.Segments, Segments.Allocates, Segments.IsWaiting, Stands.StandsFor, Settled.AreSettled}
 use Rattle.nmgc_alloc.specs.AllocState.{AllocState, LieOnce, NoneIs, IsIn, count_in, cycle_begun, cells, PlacesName}
-use Rattle.nmgc_alloc.specs.Stands.{StandsFor}
 use Rattle.nmgc_segment.specs.declared.state.State.TheVariants as stands
-use Rattle.nmgc_blocks_spec.specs.Cycle.{IsDeadIn, IsKeptObject, IsSweptIn, IsHadIn, IsFreedIn, Cycle}
-use Rattle.nmgc_world_spec.specs.Listing.{ListsNumbers, Counts}
-use Rattle.nmgc_blocks_spec.specs.Waiting.{AreAsNoted}
-use Rattle.nmgc_sweep.specs.Sweeping.{AreKeptMarked}
-use Rattle.nmgc_alloc.specs.Settled.{AreSettled}
-use Rattle.nmgc_segment.specs.Marks.{epoch_of}
-use Rattle.nmgc_sweep.specs.Seen.{CycleSeen}
+use Rattle.nmgc_blocks_spec.specs.{Cycle.IsDeadIn, Cycle.IsKeptObject, Cycle.IsSweptIn, Cycle.IsHadIn, Cycle.IsFreedIn, Cycle.Cycle, Waiting.AreAsNoted}
+use Rattle.nmgc_sweep.specs.{Sweeping.AreKeptMarked, Seen.CycleSeen, Sweeper.Sweeper, Sweeper.AreLeft, Sweeper.HasNotes, Work.HasBegun, Work.IsAtWork}
 use Rattle.nmgc_names.specs.Order.{in_order}
-use Rattle.nmgc_sweep.specs.Sweeper.{Sweeper, AreLeft, HasNotes}
-use Rattle.nmgc_sweep.specs.Work.{HasBegun, IsAtWork}
 
 -- a sweeper that starts as a cycle begins is the cycle's
 abbrev pub StartIsNoted : Type 0

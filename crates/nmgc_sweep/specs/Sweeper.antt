@@ -1,12 +1,9 @@
 -- What contracts see of a sweeper, and what it keeps from its cycle's beginning on.
 use Rattle.std.specs.Prelude.{ℕ, ◌*◌, ◌≤◌, List, Contains}
 use Rattle.nmgc_object.specs.declared.size.TheConstants.{MIN_BLOCK_WORDS}
-use Rattle.nmgc_alloc.specs.Numbered.{Segments}
-use Rattle.nmgc_alloc.specs.Segments.{IsWaiting}
-use Rattle.nmgc_alloc.specs.AllocState.{LieOnce}
+use Rattle.nmgc_alloc.specs.{Numbered.Segments, Segments.IsWaiting, AllocState.LieOnce}
 use Rattle.nmgc_world_spec.specs.Listing.{ListsNumbers}
-use Rattle.nmgc_sweep.specs.Sweeping.{HasNoted}
-use Rattle.nmgc_sweep.specs.Seen.{SweeperSeen}
+use Rattle.nmgc_sweep.specs.{Sweeping.HasNoted, Seen.SweeperSeen}
 use Rattle.nmgc_blocks_spec.specs.Cycle.{Cycle}
 
 -- what every collector's sweeper shows, the segments that it hasn't swept, in order, for how many names of each of

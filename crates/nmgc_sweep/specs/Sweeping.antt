@@ -1,15 +1,10 @@
 -- What holds of the sweeper of a cycle: what it noted, and once the cycle was closed what it has listed and freed.
 use Rattle.std.specs.Prelude.{ℕ, ◌≡◌, List, slice_get, Some, [], ◌↔◌, Contains}
-use Rattle.nmgc_world_spec.specs.Listing.{ListsNumbers, Counts}
-use Rattle.nmgc_world_spec.specs.declared.value.Name.{Name}
-use Rattle.nmgc_world_spec.specs.Reach.{Lists}
-use Rattle.nmgc_segment.specs.Marks.{epoch_of}
-use Rattle.nmgc_segment.specs.Segment.{IsMarked}
+use Rattle.nmgc_world_spec.specs.{Listing.ListsNumbers, Listing.Counts, declared.value.Name.Name, Reach.Lists}
+use Rattle.nmgc_segment.specs.{Marks.epoch_of, Segment.IsMarked}
 use Rattle.nmgc_segment.specs.declared.state.State.TheVariants as stands
-use Rattle.nmgc_alloc.specs.Numbered.{nth, Segments}
-use Rattle.nmgc_alloc.specs.AllocState.{AllocState, LiesIn, IsIn, cells}
-use Rattle.nmgc_blocks_spec.specs.Cycle.{IsSweptIn, Cycle, IsKeptIn, IsDeadIn, IsKeptObject}
-use Rattle.nmgc_blocks_spec.specs.Waiting.{AreAsNoted}
+use Rattle.nmgc_alloc.specs.{Numbered.nth, Numbered.Segments, AllocState.AllocState, AllocState.LiesIn, AllocState.IsIn, AllocState.cells}
+use Rattle.nmgc_blocks_spec.specs.{Cycle.IsSweptIn, Cycle.Cycle, Cycle.IsKeptIn, Cycle.IsDeadIn, Cycle.IsKeptObject, Waiting.AreAsNoted}
 use Rattle.nmgc_sweep.specs.Seen.{SweeperSeen, CycleSeen}
 
 -- no item stands at two places: of names the same as AreDistinct, said by places, and of a list of anything

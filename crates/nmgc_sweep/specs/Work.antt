@@ -1,19 +1,10 @@
 -- What each call of a sweeper does to its cycle.
 use Rattle.std.specs.Prelude.{ℕ, zero, suc, ◌≡◌, ◌↔◌, ◌+◌, ◌<◌, List, [], ◌∷◌, ◌++◌, length, Contains, Some}
-use Rattle.nmgc_world_spec.specs.declared.value.Name.{Name}
+use Rattle.nmgc_world_spec.specs.{declared.value.Name.Name, Listing.AreDistinct}
 use Rattle.nmgc_segment.specs.Segment.{Segment, InUse, block_count}
-use Rattle.nmgc_alloc.specs.Halves.{SweepsMany}
-use Rattle.nmgc_alloc.specs.Numbered.{nth, Segments}
-use Rattle.nmgc_alloc.specs.AllocState.{AllocState, SweepsSome}
-use Rattle.nmgc_alloc.specs.Stands.{StandsFor}
+use Rattle.nmgc_alloc.specs.{Halves.SweepsMany, Numbered.nth, Numbered.Segments, AllocState.AllocState, AllocState.SweepsSome, Stands.StandsFor, Settled.AreSettled}
 use Rattle.nmgc_blocks_spec.specs.Cycle.{IsKeptIn, Cycle}
-use Rattle.nmgc_world_spec.specs.Listing.{AreDistinct}
-use Rattle.nmgc_sweep.specs.Sweeping.{IsSweeping}
-use Rattle.nmgc_alloc.specs.Settled.{AreSettled}
-use Rattle.nmgc_sweep.specs.Seen.{CycleSeen}
-use Rattle.nmgc_sweep.specs.Listing.{ListsBlocks, IsLost}
-use Rattle.nmgc_sweep.specs.Names.{AreNamed, named_at}
-use Rattle.nmgc_sweep.specs.Sweeper.{Sweeper, AreLeft, HasNotes}
+use Rattle.nmgc_sweep.specs.{Sweeping.IsSweeping, Seen.CycleSeen, Listing.ListsBlocks, Listing.IsLost, Names.AreNamed, Names.named_at, Sweeper.Sweeper, Sweeper.AreLeft, Sweeper.HasNotes}
 
 -- a sweeper as a cycle begins: all segments that wait are left, and nothing was listed or freed
 pub record HasBegun (segments : Segments) (epoch : ℕ) (sweeper : Sweeper) : Type 0 where

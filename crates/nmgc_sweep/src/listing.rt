@@ -4,12 +4,9 @@
 //! in use exactly what was marked with its epoch.
 ghost use Rattle.std.specs.Prelude.{◌+◌, ◌*◌, ◌≤◌};
 ghost use Rattle.nmgc_object.specs.declared.size.TheConstants.{MIN_BLOCK_WORDS as LEAST};
-ghost use Rattle.nmgc_segment.specs.Marks.{IsEpoch};
-ghost use Rattle.nmgc_segment.specs.Segment.{InUse, block_count};
-ghost use Rattle.nmgc_alloc.specs.Numbered.{nth, HasNumber};
-ghost use Rattle.nmgc_alloc.specs.Segments.{IsWaiting};
-ghost use Rattle.nmgc_sweep.specs.Listing.{ListsBlocks, IsLost};
-ghost use Rattle.nmgc_sweep.specs.Names.{HaveEntries, named_at};
+ghost use Rattle.nmgc_segment.specs.{Marks.IsEpoch, Segment.InUse, Segment.block_count};
+ghost use Rattle.nmgc_alloc.specs.{Numbered.nth, Numbered.HasNumber, Segments.IsWaiting};
+ghost use Rattle.nmgc_sweep.specs.{Listing.ListsBlocks, Listing.IsLost, Names.HaveEntries, Names.named_at};
 
 use crate::names::Names;
 use nmgc_alloc::Segments;

@@ -15,14 +15,11 @@
 //! alternate. So a cycle's row, as a report tells it, has them in order, and the sweeper's lists haven't.
 ghost use Rattle.std.specs.Prelude.{ℕ, ◌≡◌, ◌≢◌, ◌-◌, ◌/◌, ◌<◌, ◌≤◌, [], length, min, IsTrue, IfOk, ◌↔◌};
 ghost use Rattle.nmgc_segment.specs.Marks.{IsEpoch};
-ghost use Rattle.nmgc_alloc.specs.Halves.{IsInHalf};
-ghost use Rattle.nmgc_alloc.specs.Segments.{IsWaiting};
+ghost use Rattle.nmgc_alloc.specs.{Halves.IsInHalf, Segments.IsWaiting};
 ghost use Rattle.nmgc_world_spec.specs.Listing.{ListsNumbers};
 ghost use Rattle.nmgc_names.specs.Spans.{names_in};
 ghost use Rattle.nmgc_round.specs.Gate.{passed};
-ghost use Rattle.nmgc_sweep.specs.Names.{HaveEntries};
-ghost use Rattle.nmgc_sweep.specs.Sweeper.{AreLeft, CanList};
-ghost use Rattle.nmgc_sweep.specs.Work.{HasBegun, HasListed, HaveListed, HasSwept, HasJudged};
+ghost use Rattle.nmgc_sweep.specs.{Names.HaveEntries, Sweeper.AreLeft, Sweeper.CanList, Work.HasBegun, Work.HasListed, Work.HaveListed, Work.HasSwept, Work.HasJudged};
 
 use crate::listing::list_segment;
 use crate::names::Names;

@@ -14,9 +14,7 @@
 ghost use Rattle.std.specs.Prelude.{◌≡◌, ◌+◌, ◌<◌, ◌≤◌, ◌↔◌, List, [], ◌∷◌, ◌++◌, length, take, IsTrue, IsNone, IfOk, IfSome, IfNone, OnOk, OnErr, vec_len, vec_capacity};
 ghost use Rattle.rtrb.specs.Ring.{received, known_items, SameConsumer};
 ghost use Rattle.nmgc_object.specs.declared.words.Address.{Address};
-ghost use Rattle.nmgc_updrem.specs.declared.block.TheConstants.{BLOCK_ENTRIES};
-ghost use Rattle.nmgc_updrem.specs.declared.polled.Polled.TheVariants.{NoRoom};
-ghost use Rattle.nmgc_updrem.specs.declared.ring.TheConstants.{RING_BLOCKS};
+ghost use Rattle.nmgc_updrem.specs.{declared.block.TheConstants.BLOCK_ENTRIES, declared.polled.Polled.TheVariants.NoRoom, declared.ring.TheConstants.RING_BLOCKS};
 ghost use Rattle.nmgc_updrem.specs.Rings.{IsPair, AreNew, HasSent, HasLooked, HasReceived, KnowsNone, Polls, HasMet, TakesRest, IsLevel};
 
 use crate::block::{BLOCK_ENTRIES, UpdBlock};

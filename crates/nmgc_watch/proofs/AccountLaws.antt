@@ -1,23 +1,13 @@
 -- What is owed after names came due, and after debts that no longer count left a queue.
-use Rattle.std.proofs.Common.{◌≡◌, ◌≢◌, ◌<◌, ◌≤◌, ◌+◌, ℕ, List, [], ◌∷◌, ◌++◌, zero, suc, length, set, take, get_or, refl, sym, ap, subst, ◌∙◌, arith, length-set, replicate, append-nil, append_assoc, Option, Some, None, Bool, true, false, not, cond, inl, inr, ◌⊎◌}
+use Rattle.std.proofs.{Common.◌≡◌, Common.◌≢◌, Common.◌<◌, Common.◌≤◌, Common.◌+◌, Common.ℕ, Common.List, Common.[], Common.◌∷◌, Common.◌++◌, Common.zero, Common.suc, Common.length, Common.set, Common.take, Common.get_or, Common.refl, Common.sym, Common.ap, Common.subst, Common.◌∙◌, Common.arith, Common.length-set, Common.replicate, Common.append-nil, Common.append_assoc, Common.Option, Common.Some, Common.None, Common.Bool, Common.true, Common.false, Common.not, Common.cond, Common.inl, Common.inr, Common.◌⊎◌, lemmas.Bool.cases_Bool, lemmas.Bool.cases_eq, lemmas.Bool.cases_lt, lemmas.Bool.and_cases, lemmas.Bool.and_parts, lemmas.Bool.not-false, lemmas.List.get_or-set_same, lemmas.List.get_or-set_other, lemmas.List.get_or_past, lemmas.List.take_more, lemmas.List.length-replicate, lemmas.Option.slice_get_within, lemmas.Option.slice_get-get_or, lemmas.Option.get_or_from_slice_get, lemmas.List.Elements.filter-append, lemmas.List.Elements.Contains-append_left, lemmas.List.Elements.Contains-append_right, lemmas.List.Elements.Contains-append_cases}
 use Rattle.std.specs.Prelude.{All, Contains, IsSome, filter, slice_get, ◌&&◌}
-use Rattle.std.proofs.lemmas.Bool.{cases_Bool, cases_eq, cases_lt, and_cases, and_parts, not-false}
-use Rattle.std.proofs.lemmas.List.{get_or-set_same, get_or-set_other, get_or_past, take_more, length-replicate}
-use Rattle.std.proofs.lemmas.Option.{slice_get_within, slice_get-get_or, get_or_from_slice_get}
-use Rattle.std.proofs.lemmas.List.Elements.{filter-append, Contains-append_left, Contains-append_right, Contains-append_cases}
-use Rattle.nmgc_world_spec.specs.declared.value.Name.{Name}
-use Rattle.nmgc_world_spec.specs.World.{World, node_of}
-use Rattle.nmgc_graph.specs.Marks.{HasPlace, HasPlaces, IsMarked, mark_of, with_mark}
-use Rattle.nmgc_graph.specs.laws.Rows.{kept_others, places_kept, makers_kept, name_placed}
-use Rattle.nmgc_world_spec.specs.laws.Orders.{name_cases}
-use Rattle.nmgc_lists.specs.laws.Items.{contains_head, nothing_in, one_is, contains_one, contains_at, place_of, contains_flat, flat_contains}
+use Rattle.nmgc_world_spec.specs.{declared.value.Name.Name, World.World, World.node_of, laws.Orders.name_cases}
+use Rattle.nmgc_graph.specs.{Marks.HasPlace, Marks.HasPlaces, Marks.IsMarked, Marks.mark_of, Marks.with_mark, laws.Rows.kept_others, laws.Rows.places_kept, laws.Rows.makers_kept, laws.Rows.name_placed}
+use Rattle.nmgc_lists.specs.{laws.Items.contains_head, laws.Items.nothing_in, laws.Items.one_is, laws.Items.contains_one, laws.Items.contains_at, laws.Items.place_of, laws.Items.contains_flat, laws.Items.flat_contains, laws.Truths.unmarked}
 use Rattle.nmgc_barrier_laws.specs.declared.debt.Debt.{Debt}
-use Rattle.nmgc_watch.specs.declared.accounts.Accounts.{Accounts}
-use Rattle.nmgc_watch.specs.Dues.{is_owable}
-use Rattle.nmgc_watch.specs.Accounts.{is_unpaid, unpaid, IsPaidUp, queue_of, set_of, all_debts, debt_of, AreAccounts, AreNew, is_new, owed_one, IsOwing, IsForgotten, IsLeastIn}
-use Rattle.nmgc_watch.proofs.Filters.{kept_in, in_kept}
-use Rattle.nmgc_watch.proofs.DueLaws.{owable_is}
-use Rattle.nmgc_lists.specs.laws.Truths.{unmarked}
+use Rattle.nmgc_watch.specs.{declared.accounts.Accounts.Accounts, Accounts.is_unpaid, Accounts.unpaid, Accounts.IsPaidUp, Accounts.queue_of, Accounts.set_of, Accounts.all_debts, Accounts.debt_of, Accounts.AreAccounts, Accounts.AreNew, Accounts.is_new, Accounts.owed_one, Accounts.IsOwing, Accounts.IsForgotten, Accounts.IsLeastIn}
+use Rattle.nmgc_snapshot_laws.specs.Machine.{is_pushed_in}
+use Rattle.nmgc_watch.proofs.{Filters.kept_in, Filters.in_kept, DueLaws.owable_is}
 
 -- the debts of a queue are among all, and each of all is one of some queue
 pub in_all : (queues : List (List Debt)) (m : ℕ) (debt : Debt) → Contains (queue_of queues m) debt → Contains (all_debts queues) debt
@@ -105,7 +95,7 @@ module _ (snapshot : World) (marks : List (List Bool)) (a : Accounts) (d : Debt)
   owes_more j n (inr p) = inr (p.0, queue_more j p.0 p.1, p.2)
 
   -- it is new
-  module _ (owable : is_owable snapshot d.name ≡ true) (free : mark_of marks d.name ≡ false) where
+  module _ (owable : is_pushed_in snapshot d.name ≡ true) (free : mark_of marks d.name ≡ false) where
     there : IsSome (node_of snapshot d.name)
     there = (owable_is snapshot d.name owable).0
 
@@ -155,26 +145,26 @@ module _ (snapshot : World) (marks : List (List Bool)) (a : Accounts) (d : Debt)
         | inr p ↦ inr (
           sym (ap (λ (x : Debt). x.line) p.1),
           sym (ap (λ (x : Debt). x.mutator) p.1),
-          kept_in (is_owable snapshot) (d.name ∷ []) debt.name (subst (λ (x : Debt).
-              Contains (d.name ∷ []) x.name) p.1 (contains_one d.name)) (subst (λ (x : Debt). is_owable snapshot x.name ≡ true) p.1 owable),
+          kept_in (is_pushed_in snapshot) (d.name ∷ []) debt.name (subst (λ (x : Debt).
+              Contains (d.name ∷ []) x.name) p.1 (contains_one d.name)) (subst (λ (x : Debt). is_pushed_in snapshot x.name ≡ true) p.1 owable),
         )
       ];
       due = λ n c. inr (
         d,
         unpaid_all marks after.debts d.mutator d own_there (ap not free),
-        one_is d.name n (in_kept (is_owable snapshot) (d.name ∷ []) n c).0,
+        one_is d.name n (in_kept (is_pushed_in snapshot) (d.name ∷ []) n c).0,
         refl,
       );
     }
 
   -- it isn't
-  old_due : is_new snapshot marks a d ≡ false → (n : Name) → Contains (filter (is_owable snapshot) (d.name ∷ [])) n → IsMarked marks n ⊎
+  old_due : is_new snapshot marks a d ≡ false → (n : Name) → Contains (filter (is_pushed_in snapshot) (d.name ∷ [])) n → IsMarked marks n ⊎
       ((debt : Debt) × Contains (unpaid marks (all_debts a.debts)) debt × (debt.name ≡ n) × (debt.mutator ≡ d.mutator))
   old_due h n c =
-      let p : Contains (d.name ∷ []) n × (is_owable snapshot n ≡ true) = in_kept (is_owable snapshot) (d.name ∷ []) n c in
+      let p : Contains (d.name ∷ []) n × (is_pushed_in snapshot n ≡ true) = in_kept (is_pushed_in snapshot) (d.name ∷ []) n c in
       let e : d.name ≡ n = one_is d.name n p.0 in
-      elim (and_cases (is_owable snapshot d.name) (not (mark_of marks d.name) && not (mark_of (set_of a.names d.mutator) d.name)) h) [
-        | inl refused ↦ absurd (let yes : is_owable snapshot d.name ≡ true = subst (λ (x : Name). is_owable snapshot x ≡ true) (sym e) p.1 in
+      elim (and_cases (is_pushed_in snapshot d.name) (not (mark_of marks d.name) && not (mark_of (set_of a.names d.mutator) d.name)) h) [
+        | inl refused ↦ absurd (let yes : is_pushed_in snapshot d.name ≡ true = subst (λ (x : Name). is_pushed_in snapshot x ≡ true) (sym e) p.1 in
             let bad : true ≡ false = sym yes ∙ refused in cc)
         | inr rest ↦ elim (and_cases (not (mark_of marks d.name)) (not (mark_of (set_of a.names d.mutator) d.name)) rest) [
           | inl x ↦ inl (subst (IsMarked marks) e (not-false (mark_of marks d.name) x))
@@ -202,8 +192,8 @@ module _ (snapshot : World) (marks : List (List Bool)) (a : Accounts) (d : Debt)
     where
       by_test : (b : Bool) → is_new snapshot marks a d ≡ b → Owed snapshot marks d.line d.mutator (d.name ∷ []) a (cond b after a)
       by_test true e =
-          let p : (is_owable snapshot d.name ≡ true) × ((not (mark_of marks d.name) && not (mark_of (set_of a.names d.mutator) d.name)) ≡ true) =
-          and_parts (is_owable snapshot d.name) (not (mark_of marks d.name) && not (mark_of (set_of a.names d.mutator) d.name)) e in
+          let p : (is_pushed_in snapshot d.name ≡ true) × ((not (mark_of marks d.name) && not (mark_of (set_of a.names d.mutator) d.name)) ≡ true) =
+          and_parts (is_pushed_in snapshot d.name) (not (mark_of marks d.name) && not (mark_of (set_of a.names d.mutator) d.name)) e in
           let q : (not (mark_of marks d.name) ≡ true) × (not (mark_of (set_of a.names d.mutator) d.name) ≡ true) =
           and_parts (not (mark_of marks d.name)) (not (mark_of (set_of a.names d.mutator) d.name)) p.1 in
           let free : mark_of marks d.name ≡ false = unmarked (mark_of marks d.name) q.0 in
@@ -223,23 +213,23 @@ owing_more snapshot marks line m names name a b c f g = record {
     | inr p ↦ inr (p.0, p.1, right d.name p.2)
   ];
   due = λ n h.
-      let p : Contains (names ++ name ∷ []) n × (is_owable snapshot n ≡ true) = in_kept (is_owable snapshot) (names ++ name ∷ []) n h in
+      let p : Contains (names ++ name ∷ []) n × (is_pushed_in snapshot n ≡ true) = in_kept (is_pushed_in snapshot) (names ++ name ∷ []) n h in
       elim (Contains-append_cases names (name ∷ []) n p.0) [
-        | inl old ↦ elim (f.due n (kept_in (is_owable snapshot) names n old p.1)) [
+        | inl old ↦ elim (f.due n (kept_in (is_pushed_in snapshot) names n old p.1)) [
           | inl x ↦ inl x
           | inr o ↦ inr (o.0, g.old o.0 o.1, o.2, o.3)
         ]
-        | inr new ↦ g.due n (kept_in (is_owable snapshot) (name ∷ []) n new p.1)
+        | inr new ↦ g.due n (kept_in (is_pushed_in snapshot) (name ∷ []) n new p.1)
       ];
 }
   where
-    left : (n : Name) → Contains (filter (is_owable snapshot) names) n → Contains (filter (is_owable snapshot) (names ++ name ∷ [])) n
-    left n h = let p : Contains names n × (is_owable snapshot n ≡ true) = in_kept (is_owable snapshot) names n h in
-        kept_in (is_owable snapshot) (names ++ name ∷ []) n (Contains-append_left names (name ∷ []) n p.0) p.1
+    left : (n : Name) → Contains (filter (is_pushed_in snapshot) names) n → Contains (filter (is_pushed_in snapshot) (names ++ name ∷ [])) n
+    left n h = let p : Contains names n × (is_pushed_in snapshot n ≡ true) = in_kept (is_pushed_in snapshot) names n h in
+        kept_in (is_pushed_in snapshot) (names ++ name ∷ []) n (Contains-append_left names (name ∷ []) n p.0) p.1
 
-    right : (n : Name) → Contains (filter (is_owable snapshot) (name ∷ [])) n → Contains (filter (is_owable snapshot) (names ++ name ∷ [])) n
-    right n h = let p : Contains (name ∷ []) n × (is_owable snapshot n ≡ true) = in_kept (is_owable snapshot) (name ∷ []) n h in
-        kept_in (is_owable snapshot) (names ++ name ∷ []) n (Contains-append_right names (name ∷ []) n p.0) p.1
+    right : (n : Name) → Contains (filter (is_pushed_in snapshot) (name ∷ [])) n → Contains (filter (is_pushed_in snapshot) (names ++ name ∷ [])) n
+    right n h = let p : Contains (name ∷ []) n × (is_pushed_in snapshot n ≡ true) = in_kept (is_pushed_in snapshot) (name ∷ []) n h in
+        kept_in (is_pushed_in snapshot) (names ++ name ∷ []) n (Contains-append_right names (name ∷ []) n p.0) p.1
 
 -- the next of the names came due
 pub owed_more : (snapshot : World) (marks : List (List Bool)) (line m : ℕ) (names : List Name) (i : ℕ) (blank : Name) (a b c : Accounts) →
@@ -323,16 +313,6 @@ owing_none snapshot marks line m a b e = record {
   old = λ d c. subst (λ (l : List Debt). Contains l d) (sym e) c;
   new = λ d c. inl (subst (λ (l : List Debt). Contains l d) e c);
   due = λ n c. absurd (nothing_in n c);
-}
-
--- a new one has no debts
-pub new_accounts_are : (snapshot : World) (marks : List (List Bool)) (a : Accounts) → AreNew snapshot a → AreAccounts marks snapshot a
-new_accounts_are snapshot marks a n = record {
-  sets = n.sets ∙ sym n.count;
-  places = λ j lt. n.places j (subst (λ (l : ℕ). j < l) n.count lt);
-  own = λ j debt c. absurd (nothing_in debt (subst (λ (l : List Debt). Contains l debt) (n.queues j) c));
-  there = λ j debt c. absurd (nothing_in debt (subst (λ (l : List Debt). Contains l debt) (n.queues j) c));
-  owes = λ j name c. absurd (let bad : false ≡ true = sym (n.free j name) ∙ c in cc);
 }
 
 pub new_debts : (snapshot : World) (marks : List (List Bool)) (a : Accounts) → AreNew snapshot a → unpaid marks (all_debts a.debts) ≡ []

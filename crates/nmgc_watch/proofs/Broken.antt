@@ -1,31 +1,8 @@
 -- What a command breaks: a field that stood and is gone afterwards is one of the object that the command changes, at a
 -- place that it may write or take away.
-use Rattle.std.proofs.Common.{◌≡◌, ◌≢◌, ◌<◌, ◌≤◌, ◌+◌, ◌-◌, ℕ, List, [], ◌∷◌, ◌++◌, zero, suc, length, set, take, refl, sym, ap, subst, ◌∙◌, arith, Option, Some, None, Bool, true, false, cond, eqb, ltb, inl, inr, ◌⊎◌}
-use Rattle.std.specs.Prelude.{slice_get}
-use Rattle.std.proofs.lemmas.Bool.{ne_eqb, cases_eq}
-use Rattle.std.proofs.lemmas.Option.{slice_get_within}
-use Rattle.nmgc_limits.specs.declared.mutators.TheConstants.{SHARED_MAKER}
-use Rattle.nmgc_world_spec.specs.declared.value.Name.{Name}
-use Rattle.nmgc_world_spec.specs.declared.value.Value.{Value}
+use Rattle.nmgc_watch.proofs.Vocabulary.{◌≡◌, ◌≢◌, ◌<◌, ◌≤◌, ◌-◌, ℕ, [], ◌∷◌, ◌++◌, zero, suc, length, set, take, refl, sym, ap, subst, ◌∙◌, arith, Some, None, Bool, true, false, eqb, ltb, inl, inr, ◌⊎◌, slice_get, ne_eqb, cases_eq, slice_get_within, SHARED_MAKER, Name, Value, Node, Con, Var, Arr, Thunk, Weak, Stack, Command, Fine, NoField, StackFull, Change, changed, field_set, field_exchanged, stack_pushed, stack_popped, World, node_of, asked, step, slice_get-set_other, slice_get-append, slice_get-take, strong_at, two_nodes, exchanged_node, node_born, next_is_new, node_cases, Object, Stepped, Any, stepped, still_there, hand_nodes, IsBroken, first_place, end_place}
 use Rattle.nmgc_world_spec.specs.declared.value.Value.TheVariants as value
-use Rattle.nmgc_world_spec.specs.declared.node.Node.{Node}
-use Rattle.nmgc_world_spec.specs.declared.node.Node.TheVariants.{Con, Var, Arr, Thunk, Weak, Stack}
-use Rattle.nmgc_world_spec.specs.declared.command.Command.{Command}
-use Rattle.nmgc_world_spec.specs.declared.command.Reply.{Reply}
-use Rattle.nmgc_world_spec.specs.declared.command.Reply.TheVariants.{Fine, NoField, StackFull}
-use Rattle.nmgc_world_spec.specs.declared.change.Change.{Change}
 use Rattle.nmgc_world_spec.specs.declared.change.Change.TheVariants as change
-use Rattle.nmgc_world_spec.specs.Change.{changed, field_set, field_exchanged, stack_pushed, stack_popped}
-use Rattle.nmgc_world_spec.specs.World.{World, node_of, state_of}
-use Rattle.nmgc_world_spec.specs.Step.{asked, step, next_name}
-use Rattle.nmgc_lists.specs.laws.Items.{slice_get-set_other, slice_get-append, slice_get-take}
-use Rattle.nmgc_world_laws.specs.Holds.{strong_at, HasStrongField}
-use Rattle.nmgc_world_laws.specs.laws.Barrier.{two_nodes, exchanged_node}
-use Rattle.nmgc_world_laws.specs.laws.NodeLaws.{node_born, next_is_new, node_cases}
-use Rattle.nmgc_world_laws.specs.laws.Steps.{Object, Stepped}
-use Rattle.nmgc_world_laws.specs.laws.Keeps.{Any, stepped, still_there, hand_nodes}
-use Rattle.nmgc_barrier_laws.specs.Due.{IsBroken}
-use Rattle.nmgc_watch.specs.Dues.{first_place, end_place}
 
 abbrev Stays : Node → ℕ → Value → Type 0
 Stays made i x = strong_at made i ≡ Some x

@@ -1,31 +1,7 @@
 -- What dies at an end is alive until then, what is told as dying, and what the weak pointers keep that live on.
-use Rattle.std.proofs.Common.{◌≡◌, List, [], ◌∷◌, ◌++◌, get_or, refl, sym, subst, Option, Some, None, Bool, true, not, inl, inr}
-use Rattle.std.specs.Prelude.{All, Contains, IsSome, filter, ◌↔◌}
-use Rattle.std.proofs.lemmas.Bool.{and_parts, and_from}
-use Rattle.std.proofs.lemmas.List.Elements.{Contains-get_or, Contains-append_left, Contains-append_right, Contains-append_cases, All-append, All-contains}
-use Rattle.nmgc_world_spec.specs.declared.value.Name.{Name}
-use Rattle.nmgc_world_spec.specs.declared.value.Value.{Value}
+use Rattle.nmgc_watch.proofs.Vocabulary.{◌≡◌, List, [], ◌∷◌, ◌++◌, get_or, refl, sym, subst, Option, Some, None, Bool, true, not, inl, inr, All, Contains, IsSome, filter, ◌↔◌, and_parts, and_from, Contains-get_or, Contains-append_left, Contains-append_right, Contains-append_cases, All-append, All-contains, Name, Value, Parts, Weak, World, node_of, IsKnown, IsNodeOf, IsWorld, IsMarked, mark_of, IsSetOf, parts_of, IsAlive, IsDead, IsKept, IsAliveWeak, Lists, contains_head, at_some, nothing_in, one_is, contains_one, contains_flat, flat_contains, contains_filter, filter_contains, name_among, Cycle, IsKeyLeft, AreKeysLeft, Needs, IsDeadTold, dead_same, kept_same, Accounts, Listed, IsCycle, is_outside, key_names, keys_then, IsOpenedWith, IsMissingIf, IsDeadIf, alive_parts, parts_alive, weak_there}
 use Rattle.nmgc_world_spec.specs.declared.value.Value.TheVariants as value
-use Rattle.nmgc_world_spec.specs.declared.node.Parts.{Parts}
-use Rattle.nmgc_world_spec.specs.declared.node.Node.TheVariants.{Weak}
-use Rattle.nmgc_world_spec.specs.World.{World, node_of, IsKnown, IsNodeOf, IsWorld}
-use Rattle.nmgc_graph.specs.Marks.{IsMarked, mark_of}
-use Rattle.nmgc_graph.specs.Search.{IsSetOf, parts_of}
-use Rattle.nmgc_world_spec.specs.Reach.{IsAlive, IsDead, IsKept, IsAliveWeak, Lists}
-use Rattle.nmgc_lists.specs.laws.Items.{contains_head, at_some, nothing_in, one_is, contains_one, contains_flat, flat_contains}
-use Rattle.nmgc_world_spec.specs.laws.Orders.{contains_filter, filter_contains}
-use Rattle.nmgc_snapshot_laws.specs.laws.Listed.{name_among}
-use Rattle.nmgc_barrier_laws.specs.Cycle.{Cycle, IsKeyLeft, AreKeysLeft, Needs, IsDeadTold}
-use Rattle.nmgc_barrier_laws.specs.laws.TiedPush.{dead_same, kept_same}
-use Rattle.nmgc_watch.specs.declared.accounts.Accounts.{Accounts}
-use Rattle.nmgc_watch.specs.declared.listed.Listed.{Listed}
-use Rattle.nmgc_watch.specs.Cycles.{IsCycle, is_outside, key_names, keys_then, IsOpenedWith}
-use Rattle.nmgc_watch.specs.Watching.{IsMissingIf, IsDeadIf}
-use Rattle.nmgc_watch.proofs.CycleLaws.{seen, not_both, not_so}
-use Rattle.nmgc_watch.proofs.DueLaws.{among_ref}
-use Rattle.nmgc_graph.specs.laws.Common.{alive_from_parts as alive_parts, parts_from_alive as parts_alive}
-use Rattle.nmgc_watch.proofs.ListedLaws.{all_listed}
-use Rattle.nmgc_world_spec.specs.laws.Common.{weak_there}
+use Rattle.nmgc_watch.proofs.{CycleLaws.seen, CycleLaws.not_both, CycleLaws.not_so, DueLaws.among_ref, ListedLaws.all_listed}
 
 lists_alike : (P Q : Name → Type 0) (names : List Name) → ((n : Name) → P n → Q n) → ((n : Name) → Q n → P n) → Lists P names → Lists Q names
 lists_alike P Q names pq qp l = record { ordered = l.ordered; sound = λ n c. pq n (l.sound n c); complete = λ n q. l.complete n (qp n q) }
@@ -68,8 +44,7 @@ module _ (h : Cycle) (dead weaks : List Name) (test : Name → Bool)
   key_complete key k =
       contains_flat (λ weak. key_names (parts_of h.snapshot weak)) (filter test weaks) k.weak key
       (contains_filter test weaks k.weak (all k.weak k.parts k.alive) (no k.weak k.not_finalised k.lives))
-      (subst (λ (o : Option Parts). Contains (key_names o) key) (sym (parts_alive h.snapshot k.weak k.parts k.alive))
-      (name_among (k.parts.key ∷ []) key (subst (λ (v : Value). Contains (k.parts.key ∷ []) v) k.key_is (contains_one k.parts.key))))
+      (rw (parts_alive h.snapshot k.weak k.parts k.alive) (name_among (k.parts.key ∷ []) key (subst (λ (v : Value). Contains (k.parts.key ∷ []) v) k.key_is (contains_one k.parts.key))))
 
   pub keys_are : AreKeysLeft h dead keys_found
   keys_are key = (key_sound key, key_complete key)
@@ -105,7 +80,7 @@ keys_there h is dead keys are i d lt =
 
 pub opened_with_there : (h : Cycle) → IsWorld h.snapshot → All (λ n. IsSome (node_of h.snapshot n)) h.opened → (dead names : List Name) →
     IsOpenedWith h dead names → All (λ n. IsSome (node_of h.snapshot n)) names
-opened_with_there h is opened dead names o = subst (λ (l : List Name). All (λ n. IsSome (node_of h.snapshot n)) l) (sym o.2) (All-append (λ n.
+opened_with_there h is opened dead names o = rw o.2 (All-append (λ n.
     IsSome (node_of h.snapshot n)) h.opened o.0 opened (keys_there h is dead o.0 o.1))
 
 -- in which list the keys stand doesn't matter

@@ -1,39 +1,8 @@
 -- What is kept of a cycle by a command, by a push, and by a take.
-use Rattle.std.proofs.Common.{◌≡◌, ◌≢◌, ◌<◌, ℕ, List, [], ◌++◌, length, get_or, refl, sym, ap, subst, ◌∙◌, Option, Some, None, Bool, true, false, not, inl, inr, Bor}
-use Rattle.std.specs.Prelude.{All, Contains, IsSome, is_some, is_none, option_copied, filter, ◌↔◌}
-use Rattle.std.proofs.lemmas.Bool.{and_cases, and_parts, not-false}
-use Rattle.std.proofs.lemmas.List.Elements.{Contains-append_left, Contains-append_right}
-use Rattle.nmgc_limits.specs.declared.mutators.TheConstants.{SHARED_MAKER}
-use Rattle.nmgc_world_spec.specs.declared.value.Name.{Name}
-use Rattle.nmgc_world_spec.specs.declared.value.Value.{Value}
+use Rattle.nmgc_watch.proofs.Vocabulary.{◌≡◌, ◌≢◌, ◌<◌, ℕ, List, [], ◌++◌, length, get_or, refl, sym, ap, subst, ◌∙◌, Option, Some, None, Bool, true, false, not, inl, inr, Bor, All, Contains, IsSome, is_some, is_none, option_copied, filter, ◌↔◌, and_cases, and_parts, not-false, Contains-append_left, Contains-append_right, SHARED_MAKER, Name, Value, Command, World, node_of, state_of, IsWorld, is_same_name, CanApply, step, shared_name, IsAlive, opened_by, finalised_by, mark_of, IsMarked, not_shared, Names, step_alive, tested_same, is_same_name-refl, Debt, Cycle, watching, IsPushed, IsTook, Accounts, Listed, Field, stands_in, IsStanding, kept_then, targets, is_unpaid, unpaid, all_debts, AreAccounts, AreNew, IsOwing, IsListed, Joins, joined, IsCycle, IsTaken, IsUntakenIn, IsUntakenIf, copied_is_some}
 use Rattle.nmgc_world_spec.specs.declared.value.Value.TheVariants as value
-use Rattle.nmgc_world_spec.specs.declared.command.Command.{Command}
-use Rattle.nmgc_world_spec.specs.World.{World, node_of, state_of, IsWorld}
-use Rattle.nmgc_world_spec.specs.Change.{is_same_name}
-use Rattle.nmgc_world_spec.specs.Step.{CanApply, step, shared_name}
-use Rattle.nmgc_world_spec.specs.Reach.{IsAlive}
-use Rattle.nmgc_world_spec.specs.History.{opened_by, finalised_by}
-use Rattle.nmgc_graph.specs.Marks.{mark_of, IsMarked}
-use Rattle.nmgc_world_laws.specs.laws.Worlds.{not_shared}
-use Rattle.nmgc_world_laws.specs.Holds.{Names}
-use Rattle.nmgc_snapshot_laws.specs.laws.Turns.{step_alive}
-use Rattle.nmgc_snapshot_laws.specs.laws.Listed.{tested_same, is_same_name-refl}
-use Rattle.nmgc_barrier_laws.specs.declared.debt.Debt.{Debt}
-use Rattle.nmgc_barrier_laws.specs.Cycle.{Cycle, watching, IsPushed, IsTook}
-use Rattle.nmgc_watch.specs.declared.accounts.Accounts.{Accounts}
-use Rattle.nmgc_watch.specs.declared.listed.Listed.{Listed}
-use Rattle.nmgc_watch.specs.declared.due.Field.{Field}
-use Rattle.nmgc_watch.specs.Dues.{stands_in, IsStanding, kept_then, targets}
-use Rattle.nmgc_watch.specs.Accounts.{is_unpaid, unpaid, all_debts, AreAccounts, AreNew, IsOwing}
-use Rattle.nmgc_watch.specs.Listed.{IsListed, Joins, joined}
 use Rattle.nmgc_watch.specs.declared.event.Why.TheVariants as why
-use Rattle.nmgc_watch.specs.Cycles.{IsCycle, IsTaken, IsLeastDebt, IsUntakenIn, IsUntakenIf}
-use Rattle.nmgc_watch.specs.Watching.{IsAgainstIf}
-use Rattle.nmgc_watch.proofs.Filters.{kept_in, in_kept}
-use Rattle.nmgc_watch.proofs.AccountLaws.{StandsIn, stands, new_accounts_are, new_debts}
-use Rattle.nmgc_watch.proofs.DueLaws.{found_due, due_found}
-use Rattle.nmgc_watch.proofs.ListedLaws.{listed_there, joined_is, joined_names, joined_keeps, joined_marks, joined_marked}
-use Rattle.nmgc_lists.specs.laws.Options.{copied_is_some}
+use Rattle.nmgc_watch.proofs.{Filters.kept_in, Filters.in_kept, AccountLaws.StandsIn, AccountLaws.stands, AccountLaws.new_debts, DueLaws.found_due, DueLaws.due_found, ListedLaws.listed_there, ListedLaws.joined_is, ListedLaws.joined_names, ListedLaws.joined_keeps, ListedLaws.joined_marks, ListedLaws.joined_marked}
 
 pub not_both : (b : Bool) → b ≡ true → not b ≡ true → ⊥
 not_both true e f = cc
@@ -56,20 +25,6 @@ seen w s remembered accounts opened taken finalised = record {
 }
 
 -- as it begins
-module _ (w : World) (is : IsWorld w) (remembered opened taken : Listed) (accounts : Accounts) (r : IsListed w remembered) (o : IsListed w opened)
-    (t : IsListed w taken) (n : AreNew w accounts) where
-  pub new_cycle : IsCycle w w remembered accounts opened taken []
-  new_cycle = record {
-    remembered = r;
-    opened = o;
-    taken = t;
-    accounts = new_accounts_are w remembered.set accounts n;
-    count = n.count;
-    alive = λ weak parts a not. a;
-    snapshot = is;
-    world = is;
-  }
-
 pub new_seen : (w v s : World) (remembered opened taken : Listed) (accounts : Accounts) (finalised : List Name) → v ≡ w → s ≡ w →
     remembered.names ≡ [] → opened.names ≡ [] → taken.names ≡ [] → finalised ≡ [] → AreNew w accounts →
     seen v s remembered accounts opened taken finalised ≡ watching w
@@ -201,9 +156,8 @@ module _ (w s : World) (remembered : Listed) (accounts : Accounts) (opened taken
           kept_in (is_unpaid remembered.set) all d p.0 (not_so (mark_of remembered.set d.name) (λ m.
               not_both (mark_of (joined s remembered name).set d.name) (joined_keeps s remembered k.remembered name d.name m) p.1)),
           λ e.
-              let there : IsSome (node_of s name) = subst (λ (n : Name). IsSome (node_of s n)) e (k.accounts.there at.m d at.there) in
-              not_both (mark_of (joined s remembered name).set d.name) (subst (λ (n : Name).
-              IsMarked (joined s remembered name).set n) (sym e) (joined_marked s remembered k.remembered name there)) p.1,
+              let there : IsSome (node_of s name) = rw e at (k.accounts.there at.m d at.there) in
+              not_both (mark_of (joined s remembered name).set d.name) (rw e (joined_marked s remembered k.remembered name there)) p.1,
         ),
     λ c. let p : Contains all d × (is_unpaid remembered.set d ≡ true) = in_kept (is_unpaid remembered.set) all d c.0 in
         kept_in (is_unpaid (joined s remembered name).set) all d p.0 (not_so (mark_of (joined s remembered name).set d.name) (λ m.
@@ -296,16 +250,6 @@ untaken_if w s remembered accounts opened taken finalised k (Some name) some h =
       λ same. not_both (is_same_name name shared_name) (subst (λ (n : Name). is_same_name n shared_name ≡ true) (sym same) (is_same_name-refl shared_name)) p.0,
       λ c. not_both (mark_of taken.set name) ((k.taken.same name).1 c) p.1,
     )
-
--- what stands against an end
-pub debt_against : (h : Cycle) (o : Option Debt) (debt : Debt) → IsLeastDebt h o → o ≡ Some debt → IsAgainstIf h (Some (why.Due debt))
-debt_against h o debt l e = let p = subst (IsLeastDebt h) e l in inl (debt, refl, p.0, p.1)
-
-pub untaken_against : (h : Cycle) (o : Option Name) (name : Name) → IsUntakenIf h o → o ≡ Some name → IsAgainstIf h (Some (why.Untaken name))
-untaken_against h o name l e = inr (name, refl, subst (IsUntakenIf h) e l)
-
-pub none_against : (h : Cycle) (o : Option Debt) (p : Option Name) → IsLeastDebt h o → o ≡ None → IsUntakenIf h p → p ≡ None → IsAgainstIf h None
-none_against h o p l e m f = (subst (IsLeastDebt h) e l, subst (IsUntakenIf h) f m)
 
 -- a reference that isn't there
 pub none_there : {A : Type 0} (r : Option (Bor A)) (o : Option A) → option_copied r ≡ o → is_some r ≡ false → IsSome o → ⊥

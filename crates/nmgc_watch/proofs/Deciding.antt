@@ -1,20 +1,10 @@
 -- What can be decided of the names of a world, and how the names with a fact are listed.
-use Rattle.std.proofs.Common.{◌≡◌, ◌≢◌, ◌<◌, ◌≤◌, ◌+◌, ℕ, List, [], ◌∷◌, ◌++◌, zero, suc, length, refl, sym, ap, subst, ◌∙◌, arith, Bool, true, false, not, cond, inl, inr, ◌⊎◌, Option, Some, None}
-use Rattle.std.specs.Prelude.{Contains, IsSome, is_some, filter, slice_get, ◌&&◌, ◌||◌}
-use Rattle.std.proofs.lemmas.Bool.{cases_Bool, cases_lt, false≢true, and_parts, or_cases}
-use Rattle.std.proofs.lemmas.Bool.Decides.{eqb_tells}
-use Rattle.std.proofs.lemmas.List.{get_or_past}
+use Rattle.std.proofs.{Common.◌≡◌, Common.◌≢◌, Common.◌<◌, Common.◌≤◌, Common.◌+◌, Common.ℕ, Common.List, Common.[], Common.◌∷◌, Common.◌++◌, Common.zero, Common.suc, Common.length, Common.refl, Common.sym, Common.ap, Common.subst, Common.◌∙◌, Common.arith, Common.Bool, Common.true, Common.false, Common.not, Common.cond, Common.inl, Common.inr, Common.◌⊎◌, lemmas.Bool.cases_Bool, lemmas.Bool.cases_lt, lemmas.Bool.false≢true, lemmas.Bool.or_cases, lemmas.Bool.Decides.eqb_tells, lemmas.List.get_or_past}
+use Rattle.std.specs.Prelude.{Contains, IsSome, is_some, filter, ◌||◌}
 use Rattle.nmgc_limits.specs.declared.mutators.TheConstants.{SHARED_MAKER}
-use Rattle.nmgc_world_spec.specs.declared.value.Name.{Name}
-use Rattle.nmgc_world_spec.specs.declared.mutator_state.MutatorState.{MutatorState}
-use Rattle.nmgc_world_spec.specs.Change.{is_same_name}
-use Rattle.nmgc_world_spec.specs.World.{World, node_of, state_of, serial_of, no_mutator}
-use Rattle.nmgc_world_spec.specs.Order.{ListsBefore}
-use Rattle.nmgc_world_spec.specs.Reach.{Lists}
-use Rattle.nmgc_lists.specs.laws.Items.{contains_head, contains_tail, contains_cases, get_is_some, nothing_in}
-use Rattle.nmgc_world_spec.specs.laws.Orders.{contains_filter, filter_contains, in_order_filter, lists_none, lists_more, lists_same, lists_maker, lists_all}
-use Rattle.nmgc_snapshot_laws.specs.State.{is_listed}
-use Rattle.nmgc_snapshot_laws.specs.laws.Listed.{tested_same, is_same_name-refl, contains_listed, not_listed, listed_from}
+use Rattle.nmgc_world_spec.specs.{declared.value.Name.Name, declared.mutator_state.MutatorState.MutatorState, Change.is_same_name, World.World, World.node_of, World.state_of, World.serial_of, World.no_mutator, Order.ListsBefore, Reach.Lists, laws.Orders.contains_filter, laws.Orders.filter_contains, laws.Orders.in_order_filter, laws.Orders.lists_none, laws.Orders.lists_more, laws.Orders.lists_same, laws.Orders.lists_maker, laws.Orders.lists_all}
+use Rattle.nmgc_lists.specs.{laws.Items.contains_head, laws.Items.contains_tail, laws.Items.contains_cases, laws.Items.get_is_some, laws.Items.nothing_in, laws.Truths.or_first, laws.Truths.or_second}
+use Rattle.nmgc_snapshot_laws.specs.{State.is_listed, laws.Listed.tested_same, laws.Listed.is_same_name-refl, laws.Listed.contains_listed, laws.Listed.not_listed}
 
 -- some name of the list passes the test
 abbrev pub some_of : (Name → Bool) → List Name → Bool
@@ -22,14 +12,6 @@ some_of test [] = false
 some_of test (x ∷ xs) = test x || some_of test xs
 
 module _ (test : Name → Bool) where
-  or_left : (a b : Bool) → a ≡ true → (a || b) ≡ true
-  or_left true b e = refl
-  or_left false b e = absurd cc
-
-  or_right : (a b : Bool) → b ≡ true → (a || b) ≡ true
-  or_right true b e = refl
-  or_right false b e = e
-
   pub some_in : (xs : List Name) → some_of test xs ≡ true → (x : Name) × Contains xs x × (test x ≡ true)
   some_in [] h = absurd (false≢true h)
   some_in (x ∷ xs) h = elim (or_cases (test x) (some_of test xs) h) [
@@ -40,8 +22,8 @@ module _ (test : Name → Bool) where
   pub in_some : (xs : List Name) (x : Name) → Contains xs x → test x ≡ true → some_of test xs ≡ true
   in_some [] x c e = absurd (nothing_in x c)
   in_some (y ∷ xs) x c e = elim (contains_cases y xs x c) [
-    | inl same ↦ or_left (test y) (some_of test xs) (subst (λ (n : Name). test n ≡ true) (sym same) e)
-    | inr d ↦ or_right (test y) (some_of test xs) (in_some xs x d e)
+    | inl same ↦ or_first (test y) (some_of test xs) (subst (λ (n : Name). test n ≡ true) (sym same) e)
+    | inr d ↦ or_second (test y) (some_of test xs) (in_some xs x d e)
   ]
 
 -- a test of names that tells a fact of them

@@ -1,32 +1,16 @@
 -- The names that are found due are exactly those that are.
-use Rattle.std.proofs.Common.{◌≡◌, ◌≢◌, ◌<◌, ℕ, List, [], ◌∷◌, ◌++◌, length, refl, sym, ap, subst, ◌∙◌, Option, Some, None, Bool, true, false, not, inl, inr, ◌⊎◌}
+use Rattle.std.proofs.{Common.◌≡◌, Common.◌≢◌, Common.◌<◌, Common.ℕ, Common.List, Common.[], Common.◌∷◌, Common.◌++◌, Common.length, Common.refl, Common.sym, Common.ap, Common.subst, Common.◌∙◌, Common.Option, Common.Some, Common.None, Common.Bool, Common.true, Common.false, Common.not, Common.inl, Common.inr, Common.◌⊎◌, lemmas.List.Elements.Contains-append_left, lemmas.List.Elements.Contains-append_right, lemmas.List.Elements.Contains-append_cases}
 use Rattle.std.specs.Prelude.{Contains, IsSome, is_some, filter, ◌&&◌}
-use Rattle.std.proofs.lemmas.List.Elements.{Contains-append_left, Contains-append_right, Contains-append_cases}
 use Rattle.nmgc_limits.specs.declared.mutators.TheConstants.{SHARED_MAKER}
-use Rattle.nmgc_world_spec.specs.declared.value.Name.{Name}
-use Rattle.nmgc_world_spec.specs.declared.value.Value.{Value}
+use Rattle.nmgc_world_spec.specs.{declared.value.Name.Name, declared.value.Value.Value, declared.node.Parts.Parts, declared.node.Node.Node, declared.command.Command.Command, World.World, World.node_of, Change.is_same_name, Step.shared_name, Step.step, Reach.IsKeptBy, History.opened_by, History.finalised_by, History.name_in, laws.Orders.contains_filter, laws.Orders.filter_contains, Owed.names_among, laws.Common.same_ref as ref_is}
 use Rattle.nmgc_world_spec.specs.declared.value.Value.TheVariants as value
-use Rattle.nmgc_world_spec.specs.declared.node.Parts.{Parts}
-use Rattle.nmgc_world_spec.specs.declared.node.Node.{Node}
-use Rattle.nmgc_world_spec.specs.declared.command.Command.{Command}
-use Rattle.nmgc_world_spec.specs.World.{World, node_of}
-use Rattle.nmgc_world_spec.specs.Change.{is_same_name}
-use Rattle.nmgc_world_spec.specs.Step.{shared_name, step}
-use Rattle.nmgc_world_spec.specs.Reach.{IsKeptBy}
-use Rattle.nmgc_graph.specs.Search.{parts_of}
-use Rattle.nmgc_world_spec.specs.History.{opened_by, finalised_by, name_in}
+use Rattle.nmgc_graph.specs.{Search.parts_of, laws.Common.alive_from_parts as alive_parts, laws.Common.parts_from_alive as parts_alive}
 use Rattle.nmgc_lists.specs.laws.Items.{contains_head, contains_tail, contains_cases, nothing_in, one_is, contains_flat, flat_contains}
-use Rattle.nmgc_world_spec.specs.laws.Orders.{contains_filter, filter_contains}
 use Rattle.nmgc_world_laws.specs.Holds.{strong_at, HasStrongField}
-use Rattle.nmgc_world_spec.specs.Owed.{names_among}
-use Rattle.nmgc_snapshot_laws.specs.laws.Listed.{tested_same, is_same_name-refl, name_among}
+use Rattle.nmgc_snapshot_laws.specs.{laws.Listed.tested_same, laws.Listed.is_same_name-refl, laws.Listed.name_among, Machine.is_pushed_in}
 use Rattle.nmgc_barrier_laws.specs.Due.{IsBroken, IsEnded, IsDue}
-use Rattle.nmgc_watch.specs.declared.due.Field.{Field}
-use Rattle.nmgc_watch.specs.Dues.{strong_in, is_ref_to, stands_in, IsStanding, is_owable, kept_of, kept_then, targets}
-use Rattle.nmgc_watch.proofs.Filters.{kept_in, in_kept, mapped_in, in_mapped}
-use Rattle.nmgc_watch.proofs.Broken.{BrokenAt, broken_at}
-use Rattle.nmgc_world_spec.specs.laws.Common.{same_ref as ref_is}
-use Rattle.nmgc_graph.specs.laws.Common.{alive_from_parts as alive_parts, parts_from_alive as parts_alive}
+use Rattle.nmgc_watch.specs.{declared.due.Field.Field, Dues.strong_in, Dues.is_ref_to, Dues.stands_in, Dues.IsStanding, Dues.kept_of, Dues.kept_then, Dues.targets}
+use Rattle.nmgc_watch.proofs.{Filters.kept_in, Filters.in_kept, Filters.mapped_in, Filters.in_mapped, Broken.BrokenAt, Broken.broken_at}
 
 -- a test of a field is the field
 pub stands_is : (w : World) (f : Field) → stands_in w f ≡ true → HasStrongField w f.name f.place (value.Ref f.target)
@@ -95,7 +79,7 @@ is_kept weak parts t k = name_among (value.Ref weak ∷ parts.value ∷ parts.fi
         []) parts.finaliser (contains_tail parts.value (parts.finaliser ∷ []) parts.finaliser (contains_head parts.finaliser [])))
 
 -- a name that may be due
-pub owable_is : (snapshot : World) (t : Name) → is_owable snapshot t ≡ true → IsSome (node_of snapshot t) × (t ≢ shared_name)
+pub owable_is : (snapshot : World) (t : Name) → is_pushed_in snapshot t ≡ true → IsSome (node_of snapshot t) × (t ≢ shared_name)
 owable_is snapshot t h = by_tests (is_some (node_of snapshot t)) (is_same_name t shared_name) refl refl h
   where
     by_tests : (a b : Bool) → is_some (node_of snapshot t) ≡ a → is_same_name t shared_name ≡ b → (a && not b) ≡ true →
@@ -107,7 +91,7 @@ owable_is snapshot t h = by_tests (is_some (node_of snapshot t)) (is_same_name t
     by_tests true true e f k = absurd cc
     by_tests false b e f k = absurd cc
 
-is_owable_by : (snapshot : World) (t : Name) → IsSome (node_of snapshot t) → t ≢ shared_name → is_owable snapshot t ≡ true
+is_owable_by : (snapshot : World) (t : Name) → IsSome (node_of snapshot t) → t ≢ shared_name → is_pushed_in snapshot t ≡ true
 is_owable_by snapshot t there own = by_tests (is_some (node_of snapshot t)) (is_same_name t shared_name) refl refl
   where
     by_tests : (a b : Bool) → is_some (node_of snapshot t) ≡ a → is_same_name t shared_name ≡ b → (a && not b) ≡ true
@@ -174,9 +158,9 @@ module _ (snapshot w : World) (m : ℕ) (c : Command) (lt : m < length w.mutator
       contains_flat (λ weak. kept_of weak (parts_of snapshot weak)) (finalised_by w m c) e.weak t e.ended
       (subst (λ (o : Option Parts). Contains (kept_of e.weak o) t) (sym (parts_alive snapshot e.weak e.parts e.alive)) (is_kept e.weak e.parts t e.kept))
 
-  pub found_due : (t : Name) → Contains (filter (is_owable snapshot) found) t → IsDue snapshot w m c t
+  pub found_due : (t : Name) → Contains (filter (is_pushed_in snapshot) found) t → IsDue snapshot w m c t
   found_due t k =
-      let p : Contains found t × (is_owable snapshot t ≡ true) = filter_contains (is_owable snapshot) found t k in
+      let p : Contains found t × (is_pushed_in snapshot t ≡ true) = filter_contains (is_pushed_in snapshot) found t k in
       let q : IsSome (node_of snapshot t) × (t ≢ shared_name) = owable_is snapshot t p.1 in
       record { there = q.0; own = q.1; why = why p.0 }
     where
@@ -189,8 +173,8 @@ module _ (snapshot w : World) (m : ℕ) (c : Command) (lt : m < length w.mutator
         ]
       ]
 
-  pub due_found : (t : Name) → IsDue snapshot w m c t → Contains (filter (is_owable snapshot) found) t
-  due_found t d = contains_filter (is_owable snapshot) found t (by_why d.why) (is_owable_by snapshot t d.there d.own)
+  pub due_found : (t : Name) → IsDue snapshot w m c t → Contains (filter (is_pushed_in snapshot) found) t
+  due_found t d = contains_filter (is_pushed_in snapshot) found t (by_why d.why) (is_owable_by snapshot t d.there d.own)
     where
       by_why : IsBroken snapshot w after t ⊎ (Contains (opened_by w m c) t ⊎ IsEnded snapshot w m c t) → Contains found t
       by_why (inl b) = Contains-append_left (targets lost) (opened_by w m c ++ kept_then snapshot (finalised_by w m c)) t (to_lost t b)

@@ -1,10 +1,5 @@
 -- What filters and maps of lists contain.
-use Rattle.std.proofs.Common.{◌≡◌, ◌<◌, ◌≤◌, ◌+◌, ℕ, List, [], ◌∷◌, ◌++◌, length, map, take, get_or, refl, subst, sym, Bool, true, false, inl, inr}
-use Rattle.std.proofs.lemmas.List.{take_more, take_all}
-use Rattle.std.proofs.lemmas.List.Elements.{Contains-append_cases}
-use Rattle.std.specs.Prelude.{Contains, filter}
-use Rattle.std.proofs.lemmas.Bool.{cases_Bool}
-use Rattle.nmgc_lists.specs.laws.Items.{contains_head, contains_tail, contains_cases, nothing_in, one_is}
+use Rattle.nmgc_watch.proofs.Vocabulary.{◌≡◌, ◌<◌, ◌≤◌, ◌+◌, ℕ, List, [], ◌∷◌, length, map, take, get_or, subst, sym, Bool, true, inl, inr, take_more, take_all, Contains-append_cases, Contains, filter, cases_Bool, contains_head, contains_tail, contains_cases, nothing_in, one_is}
 
 module _ {A : Type 0} (test : A → Bool) where
   -- what passes is kept

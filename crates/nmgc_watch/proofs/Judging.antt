@@ -1,41 +1,9 @@
 -- An event can happen, or has a reason.
-use Rattle.std.proofs.Common.{◌≡◌, ◌≢◌, ◌<◌, ◌≤◌, ℕ, List, [], ◌∷◌, ◌++◌, length, map, refl, sym, ap, subst, ◌∙◌, arith, Bool, true, false, not, cond, inl, inr, ◌⊎◌, Option, Some, None, eqb}
-use Rattle.std.specs.Prelude.{Contains, IsSome, is_some, filter, ◌&&◌, ◌↔◌}
-use Rattle.std.proofs.lemmas.Bool.{cases_Bool, cases_lt, cases_eq, false≢true, and_cases, and_parts, and_from, not-false, eqb-true, eq-eqb}
-use Rattle.std.proofs.lemmas.List.Elements.{Contains-append_left, Contains-append_right, Contains-append_cases}
-use Rattle.nmgc_world_spec.specs.declared.value.Name.{Name}
-use Rattle.nmgc_world_spec.specs.declared.mutator_state.MutatorState.{MutatorState}
-use Rattle.nmgc_world_spec.specs.declared.command.Command.{Command}
-use Rattle.nmgc_world_spec.specs.declared.command.Reply.{Reply}
-use Rattle.nmgc_world_spec.specs.Change.{is_same_name}
-use Rattle.nmgc_world_spec.specs.World.{World, node_of, IsWorld}
-use Rattle.nmgc_world_spec.specs.Step.{CanApply, step, shared_name}
-use Rattle.nmgc_world_spec.specs.declared.node.Parts.{Parts}
-use Rattle.nmgc_world_spec.specs.Reach.{IsAlive, IsDead, IsKept, Lists, closed}
-use Rattle.nmgc_lists.specs.laws.Items.{contains_head, contains_tail, contains_cases, nothing_in, one_is, contains_one}
-use Rattle.nmgc_world_spec.specs.laws.Orders.{name_cases}
-use Rattle.nmgc_world_laws.specs.laws.WorldSteps.{step_keeps_world}
-use Rattle.nmgc_snapshot_laws.specs.State.{is_listed}
-use Rattle.nmgc_snapshot_laws.specs.laws.Listed.{tested_same, is_same_name-refl, contains_listed, not_listed, listed_from}
-use Rattle.nmgc_barrier_laws.specs.declared.debt.Debt.{Debt}
-use Rattle.nmgc_barrier_laws.specs.Cycle.{Cycle, watching, IsWatched, IsPushed, IsTook, IsAllTaken, IsDeadTold}
-use Rattle.nmgc_watch.specs.declared.event.Event.{Event}
+use Rattle.nmgc_watch.proofs.Vocabulary.{◌≡◌, ◌≢◌, ◌<◌, ◌≤◌, ℕ, List, [], ◌∷◌, ◌++◌, length, map, refl, sym, ap, subst, ◌∙◌, arith, Bool, true, false, not, cond, inl, inr, ◌⊎◌, eqb, Contains, IsSome, is_some, filter, ◌&&◌, ◌↔◌, cases_Bool, cases_lt, false≢true, and_cases, and_parts, and_from, not-false, eqb-true, eq-eqb, Contains-append_left, Contains-append_right, Contains-append_cases, Name, MutatorState, Command, Reply, is_same_name, World, node_of, IsWorld, step, shared_name, Parts, IsAlive, IsDead, IsKept, Lists, closed, contains_head, contains_tail, contains_cases, nothing_in, one_is, contains_one, step_keeps_world, is_listed, tested_same, is_same_name-refl, contains_listed, not_listed, listed_from, Debt, Cycle, watching, IsWatched, IsPushed, IsAllTaken, IsDeadTold, Event, Why, Left, Watch, IsUntakenName, IsTaken, keys_then, IsOpenedWith, is_done, CanAct, WhyNoAct, AreDone, StopsAt, mutators_of, IsAbsent, IsAgainst, IsLeft, IsLeftTold, is_old, MayFree, WhyKept, Can, IsWhy, AreClosed, EveryEventIsJudged, alive_there}
 use Rattle.nmgc_watch.specs.declared.event.Event.TheVariants as event
-use Rattle.nmgc_watch.specs.declared.event.Why.{Why}
 use Rattle.nmgc_watch.specs.declared.event.Why.TheVariants as why
-use Rattle.nmgc_watch.specs.declared.left.Left.{Left}
-use Rattle.nmgc_watch.specs.declared.watch.Watch.{Watch}
 use Rattle.nmgc_watch.specs.declared.watch.Watch.TheVariants as watch
-use Rattle.nmgc_watch.specs.Cycles.{IsUntakenName, IsTaken, keys_then, IsOpenedWith}
-use Rattle.nmgc_watch.specs.Rows.{is_done}
-use Rattle.nmgc_watch.specs.Watching.{CanAct, WhyNoAct, AreDone, StopsAt, mutators_of, IsAbsent, IsAgainst, IsLeft, IsLeftTold, is_old, IsOld, MayFree, WhyKept, Can, IsWhy, AreClosed, EveryEventIsJudged}
-use Rattle.nmgc_watch.proofs.Filters.{kept_in, in_kept}
-use Rattle.nmgc_watch.proofs.ClosingLaws.{keys_are, dead_told, needs_listed}
-use Rattle.nmgc_watch.proofs.CycleLaws.{not_both, not_so}
-use Rattle.nmgc_watch.proofs.Deciding.{Decided, search, all_names, listed}
-use Rattle.nmgc_watch.proofs.Living.{dead_decided, dead_listed, kept_listed}
-use Rattle.nmgc_world_spec.specs.laws.Common.{weak_there as alive_there}
-use Rattle.nmgc_watch.proofs.Watched.{Cases, can_cases, reply_cases, after, watched}
+use Rattle.nmgc_watch.proofs.{Filters.kept_in, Filters.in_kept, ClosingLaws.keys_are, ClosingLaws.dead_told, ClosingLaws.needs_listed, CycleLaws.not_both, CycleLaws.not_so, Deciding.Decided, Deciding.search, Deciding.all_names, Deciding.listed, Living.dead_decided, Living.dead_listed, Living.kept_listed, Watched.can_cases, Watched.reply_cases, Watched.after, Watched.watched}
 
 -- an event at a line, from where the watch has come
 abbrev Judged : ℕ → Watch → Event → Type 0

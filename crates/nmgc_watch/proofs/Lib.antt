@@ -14,3 +14,4 @@ pub mod Reasons
 pub mod RowLaws
 pub mod Standing
 pub mod Watched
+mod Vocabulary

@@ -1,19 +1,5 @@
 -- Names that join a list and its set.
-use Rattle.std.proofs.Common.{◌≡◌, ◌<◌, ℕ, List, [], ◌∷◌, ◌++◌, ◌+◌, length, take, get_or, refl, sym, ap, subst, ◌∙◌, arith, Bool, true, false, not, cond, inl, inr, ◌⊎◌}
-use Rattle.std.specs.Prelude.{All, Contains, IsSome, is_some, ◌&&◌, ◌↔◌}
-use Rattle.std.proofs.lemmas.Bool.{and_cases, and_parts, not-false}
-use Rattle.std.proofs.lemmas.Bool.Decides.{eqb_tells}
-use Rattle.std.proofs.lemmas.List.{take_more}
-use Rattle.std.proofs.lemmas.List.Elements.{Contains-get_or, Contains-append_left, Contains-append_right, Contains-append_cases}
-use Rattle.nmgc_limits.specs.declared.mutators.TheConstants.{SHARED_MAKER}
-use Rattle.nmgc_world_spec.specs.declared.value.Name.{Name}
-use Rattle.nmgc_world_spec.specs.World.{World, state_of, node_of}
-use Rattle.nmgc_graph.specs.Marks.{HasPlace, HasPlaces, IsMarked, mark_of, with_mark}
-use Rattle.nmgc_graph.specs.laws.Rows.{marked_place, added, kept_others, places_kept, makers_kept, name_placed}
-use Rattle.nmgc_world_spec.specs.laws.Orders.{name_cases}
-use Rattle.nmgc_lists.specs.laws.Items.{is_some_get, nothing_in, one_is, contains_one}
-use Rattle.nmgc_watch.specs.declared.listed.Listed.{Listed}
-use Rattle.nmgc_watch.specs.Listed.{IsListed, Joins, joined}
+use Rattle.nmgc_watch.proofs.Vocabulary.{◌≡◌, ◌<◌, ℕ, List, [], ◌∷◌, ◌++◌, ◌+◌, length, take, get_or, refl, sym, subst, ◌∙◌, arith, Bool, true, false, not, cond, inl, inr, ◌⊎◌, All, Contains, IsSome, is_some, ◌&&◌, ◌↔◌, and_cases, and_parts, not-false, eqb_tells, take_more, Contains-get_or, Contains-append_left, Contains-append_right, Contains-append_cases, SHARED_MAKER, Name, World, state_of, node_of, HasPlace, HasPlaces, IsMarked, mark_of, with_mark, marked_place, added, kept_others, places_kept, makers_kept, name_placed, name_cases, is_some_get, nothing_in, one_is, contains_one, Listed, IsListed, Joins, joined}
 
 -- a name of a set with a place for each name of a world is one of that world
 pub marked_there : (w : World) (marks : List (List Bool)) (name : Name) → HasPlaces w marks → IsMarked marks name → IsSome (node_of w name)
@@ -155,8 +141,5 @@ pub listed_more : (w : World) (before names : List Name) (i : ℕ) (blank : Name
     Joins w before (take i names) k.names → k' ≡ joined w k (get_or names i blank) → (IsListed w k') × Joins w before (take (i + 1) names) k'.names
 listed_more w before names i blank k k' lt is j e = (
   subst (IsListed w) (sym e) (joined_is w k is (get_or names i blank)),
-  subst (λ (x : Listed). Joins w before (take (i + 1) names) x.names) (sym e)
-      (subst (λ (l : List Name).
-      Joins w before l (joined w k (get_or names i blank)).names) (sym (take_more names i blank lt))
-      (joins_more w before (take i names) k (get_or names i blank) is j)),
+  rw e (rw (take_more names i blank lt) (joins_more w before (take i names) k (get_or names i blank) is j)),
 )

@@ -1,32 +1,8 @@
 -- Which names of a world are live, dead and kept can be decided, so they can be listed.
-use Rattle.std.proofs.Common.{◌≡◌, ◌≢◌, ℕ, List, [], ◌∷◌, ◌++◌, length, refl, sym, ap, subst, ◌∙◌, Bool, true, false, not, cond, inl, inr, Option, Some, None}
-use Rattle.std.specs.Prelude.{Contains, IsSome, slice_get, flat_map, ◌&&◌, ◌||◌}
-use Rattle.std.proofs.lemmas.Bool.{cases_Bool, cases_lt, false≢true, and_parts, and_from, or_cases}
-use Rattle.std.proofs.lemmas.List.{get_or_past}
-use Rattle.std.proofs.lemmas.Option.{slice_get-get_or, get_or_from_slice_get}
-use Rattle.std.proofs.lemmas.List.Elements.{Contains-append_left, Contains-append_right, Contains-append_cases}
-use Rattle.nmgc_world_spec.specs.declared.value.Name.{Name}
-use Rattle.nmgc_world_spec.specs.declared.value.Value.{Value}
+use Rattle.nmgc_watch.proofs.Vocabulary.{◌≡◌, ℕ, List, [], ◌∷◌, ◌++◌, length, refl, sym, ap, subst, ◌∙◌, Bool, true, false, not, cond, inl, inr, Option, Some, None, Contains, IsSome, slice_get, flat_map, ◌&&◌, ◌||◌, cases_Bool, cases_lt, false≢true, and_parts, and_from, or_cases, get_or_past, slice_get-get_or, get_or_from_slice_get, Contains-append_left, Contains-append_right, Contains-append_cases, Name, Value, Parts, Node, MutatorState, World, node_of, state_of, no_mutator, IsWorld, shared_name, parts_of, strong_fields, RefersTo, IsAlive, IsPlain, IsKeptBy, IsLive, IsDead, IsKept, Lists, contains_head, contains_tail, contains_cases, nothing_in, one_is, contains_at, place_of, contains_flat, flat_contains, names_among, is_listed, contains_listed, not_listed, listed_from, name_among, target_there, part_there, live_there, kept_of, alive_parts, parts_alive, or_left, or_right, not_true, alive_there}
 use Rattle.nmgc_world_spec.specs.declared.value.Value.TheVariants as value
-use Rattle.nmgc_world_spec.specs.declared.node.Parts.{Parts}
-use Rattle.nmgc_world_spec.specs.declared.node.Node.{Node}
-use Rattle.nmgc_world_spec.specs.declared.mutator_state.MutatorState.{MutatorState}
-use Rattle.nmgc_world_spec.specs.World.{World, node_of, state_of, no_mutator, IsWorld}
-use Rattle.nmgc_world_spec.specs.Step.{shared_name}
-use Rattle.nmgc_graph.specs.Search.{parts_of}
-use Rattle.nmgc_world_spec.specs.Reach.{strong_fields, RefersTo, IsAlive, IsPlain, IsKeptBy, IsLive, IsDead, IsKept, Lists}
 use Rattle.nmgc_world_spec.specs.Reach as reach
-use Rattle.nmgc_lists.specs.laws.Items.{contains_head, contains_tail, contains_cases, nothing_in, one_is, contains_at, place_of, contains_flat, flat_contains}
-use Rattle.nmgc_world_spec.specs.Owed.{names_among}
-use Rattle.nmgc_snapshot_laws.specs.State.{is_listed}
-use Rattle.nmgc_snapshot_laws.specs.laws.Listed.{contains_listed, not_listed, listed_from, name_among}
-use Rattle.nmgc_snapshot_laws.specs.laws.Lives.{target_there, part_there, live_there}
-use Rattle.nmgc_watch.specs.Dues.{kept_of}
-use Rattle.nmgc_watch.proofs.DueLaws.{among_ref, kept_is, is_kept}
-use Rattle.nmgc_graph.specs.laws.Common.{alive_from_parts as alive_parts, parts_from_alive as parts_alive}
-use Rattle.nmgc_watch.proofs.Deciding.{some_of, some_in, in_some, Decided, all_names, listed, Settled, settled}
-use Rattle.nmgc_lists.specs.laws.Truths.{or_first as or_left, or_second as or_right, unmarked as not_true}
-use Rattle.nmgc_world_spec.specs.laws.Common.{weak_there as alive_there}
+use Rattle.nmgc_watch.proofs.{DueLaws.among_ref, DueLaws.kept_is, DueLaws.is_kept, Deciding.some_of, Deciding.some_in, Deciding.in_some, Deciding.Decided, Deciding.all_names, Deciding.listed, Deciding.Settled, Deciding.settled}
 
 -- what the strong fields of a node refer to, if there is one
 abbrev refs_in : Option Node → List Name
@@ -85,8 +61,7 @@ root_held : (w : World) (n : Name) (m : ℕ) → Contains ((state_of w m).regist
 root_held w n m c = elim (cases_lt m (length w.mutators)) [
   | inl lt ↦ name_among (held w) n (contains_flat (λ (s : MutatorState). s.registers ++
       s.queue) w.mutators (state_of w m) (value.Ref n) (contains_at w.mutators m (state_of w m) (slice_get-get_or w.mutators m no_mutator lt)) c)
-  | inr le ↦ absurd (nothing_in (value.Ref n) (subst (λ (s : MutatorState).
-      Contains (s.registers ++ s.queue) (value.Ref n)) (get_or_past w.mutators m no_mutator le) c))
+  | inr le ↦ absurd (nothing_in (value.Ref n) (rw (get_or_past w.mutators m no_mutator le) at c))
 ]
 
 module _ (w : World) (is : IsWorld w) (extra : List Name) where
@@ -181,9 +156,7 @@ module _ (w : World) (is : IsWorld w) (extra : List Name) where
       IsKeptBy weak parts target → is_listed target live_set.free ≡ false
   weak_fires weak target parts alive e kept =
       let there : Contains (kept_if (known live_set.free) weak (parts_of w weak)) target =
-      subst (λ (o : Option Parts).
-      Contains (kept_if (known live_set.free) weak o) target) (sym (parts_alive w weak parts alive))
-      (kept_if_in (known live_set.free) weak parts target e kept) in
+      rw (parts_alive w weak parts alive) (kept_if_in (known live_set.free) weak parts target e kept) in
       fires target (or_right (is_listed target starts) (by_field live_set.free target || by_weak live_set.free target)
       (or_right (by_field live_set.free target) (by_weak live_set.free target)
       (in_some (λ x. is_listed target (kept_if (known live_set.free) x (parts_of w x))) all weak (complete weak (alive_there w weak parts alive))
@@ -198,8 +171,7 @@ module _ (w : World) (is : IsWorld w) (extra : List Name) where
   plain_passes (value.Ref n) p = absurd p
 
   live_out : (n : Name) → IsLive w extra n → is_listed n live_set.free ≡ false
-  live_out n (reach.root n' (inl g)) = start_fires n' (subst (λ (x : Name).
-      Contains starts x) (sym g) (contains_head shared_name (names_among (held w) ++ extra)))
+  live_out n (reach.root n' (inl g)) = start_fires n' (rw g (contains_head shared_name (names_among (held w) ++ extra)))
   live_out n (reach.root n' (inr h)) = start_fires n' (contains_tail shared_name (names_among (held w) ++
       extra) n' (Contains-append_left (names_among (held w)) extra n' (root_held w n' h.0 h.1)))
   live_out n (reach.further n' c there) = start_fires n' (contains_tail shared_name (names_among (held w) ++
@@ -207,8 +179,7 @@ module _ (w : World) (is : IsWorld w) (extra : List Name) where
   live_out n (reach.field m target l r) = field_fires m target (live_there w extra is m l) (live_out m l) r
   live_out n (reach.plain_key weak target parts alive plain kept) = weak_fires weak target parts alive (plain_passes parts.key plain) kept
   live_out n (reach.live_key weak target key parts alive e l kept) =
-      weak_fires weak target parts alive (subst (λ (v : Value). key_passes (known live_set.free) v ≡
-      true) (sym e) (known_from live_set.free key (live_there w extra is key l) (live_out key l))) kept
+      weak_fires weak target parts alive (rw e (known_from live_set.free key (live_there w extra is key l) (live_out key l))) kept
 
   pub live_decided : Decided (IsLive w extra)
   live_decided = record {
@@ -254,9 +225,7 @@ module _ (w : World) (is : IsWorld w) (extra : List Name) where
     live_not n never = elim (cases_Bool (live_decided.test n)) [ inl t ↦ absurd (never (live_decided.yes n t)) | inr f ↦ f ]
 
     dead_no : (weak : Name) → IsDead w extra finalised weak → dead_test weak (parts_of w weak) ≡ true
-    dead_no weak d = subst (λ (o : Option Parts). dead_test weak o ≡ true) (sym (parts_alive w weak d.parts d.alive))
-        (and_from (not (is_listed weak finalised)) (key_lost d.parts.key) (ap not (listed_not weak finalised d.not_finalised)) (subst (λ (v : Value).
-        key_lost v ≡ true) (sym d.key_is) (ap not (live_not d.key d.lost))))
+    dead_no weak d = rw (parts_alive w weak d.parts d.alive) (and_from (not (is_listed weak finalised)) (key_lost d.parts.key) (ap not (listed_not weak finalised d.not_finalised)) (rw d.key_is (ap not (live_not d.key d.lost))))
 
     pub dead_decided : Decided (IsDead w extra finalised)
     dead_decided = record { test = λ weak. dead_test weak (parts_of w weak); yes = λ weak t. dead_yes weak (parts_of w weak) refl t; no = dead_no }
@@ -284,8 +253,7 @@ module _ (w : World) (is : IsWorld w) (extra : List Name) where
           and_parts (dead_decided.test f.0) (is_listed n (finaliser_names (parts_of w f.0))) f.2 in
           let d : IsDead w extra finalised f.0 = dead_decided.yes f.0 p.0 in
           let c : Contains (names_among (d.parts.finaliser ∷ [])) n =
-          subst (λ (o : Option Parts).
-          Contains (finaliser_names o) n) (parts_alive w f.0 d.parts d.alive) (contains_listed n (finaliser_names (parts_of w f.0)) p.1) in
+          rw (parts_alive w f.0 d.parts d.alive) at (contains_listed n (finaliser_names (parts_of w f.0)) p.1) in
           IsKept.finaliser f.0 n d (one_is d.parts.finaliser (value.Ref n) (among_ref (d.parts.finaliser ∷ []) n c))
 
       field_kept : (n : Name) → by_field free n ≡ true → IsKept w extra finalised n
@@ -320,8 +288,7 @@ module _ (w : World) (is : IsWorld w) (extra : List Name) where
     kept_out n (IsKept.live n' l) = kept_fires n' (or_left (live_decided.test n') (by_dead n' || by_field kept_set.free n') (live_decided.no n' l))
     kept_out n (IsKept.finaliser weak target d e) =
         let there : Contains (finaliser_names (parts_of w weak)) target =
-        subst (λ (o : Option Parts).
-        Contains (finaliser_names o) target) (sym (parts_alive w weak d.parts d.alive)) (name_among (d.parts.finaliser ∷
+        rw (parts_alive w weak d.parts d.alive) (name_among (d.parts.finaliser ∷
         []) target (subst (λ (v : Value). Contains (d.parts.finaliser ∷ []) v) e (contains_head d.parts.finaliser []))) in
         kept_fires target (or_right (live_decided.test target) (by_dead target || by_field kept_set.free target)
         (or_left (by_dead target) (by_field kept_set.free target)

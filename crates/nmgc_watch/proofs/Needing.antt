@@ -1,17 +1,6 @@
 -- What the commands keep, and the weak pointers that live on, is among what each marker marks that took all that was pushed.
-use Rattle.std.proofs.Common.{◌≡◌, List, ◌++◌, refl, sym, ◌∙◌, Bool, true, false, inl, inr, ◌⊎◌}
-use Rattle.std.specs.Prelude.{Contains}
-use Rattle.std.proofs.lemmas.Bool.{cases_Bool, false≢true}
-use Rattle.std.proofs.lemmas.List.Elements.{Contains-append_left, Contains-append_cases}
-use Rattle.nmgc_world_spec.specs.declared.value.Name.{Name}
-use Rattle.nmgc_world_spec.specs.World.{World, IsWorld}
-use Rattle.nmgc_world_spec.specs.Reach.{IsLive, IsDead, IsKept, Lists}
+use Rattle.nmgc_watch.proofs.{Vocabulary.List, Vocabulary.◌++◌, Vocabulary.sym, Vocabulary.◌∙◌, Vocabulary.inl, Vocabulary.inr, Vocabulary.◌⊎◌, Vocabulary.Contains, Vocabulary.cases_Bool, Vocabulary.false≢true, Vocabulary.Contains-append_left, Vocabulary.Contains-append_cases, Vocabulary.Name, Vocabulary.IsWorld, Vocabulary.IsLive, Vocabulary.IsDead, Vocabulary.IsKept, Vocabulary.Lists, Vocabulary.Cycle, Vocabulary.IsKeyLeft, Vocabulary.Needs, Vocabulary.KeptIsMarked, Vocabulary.NeededIsKept, Deciding.Decided, Living.live_decided}
 use Rattle.nmgc_world_spec.specs.Reach as reach
-use Rattle.nmgc_barrier_laws.specs.Cycle.{Cycle, IsKeyLeft, Needs, MarksName}
-use Rattle.nmgc_watch.specs.declared.left.Left.{Left}
-use Rattle.nmgc_watch.specs.Watching.{IsLeft, KeptIsMarked, NeededIsKept}
-use Rattle.nmgc_watch.proofs.Deciding.{Decided}
-use Rattle.nmgc_watch.proofs.Living.{live_decided}
 
 module _ (h : Cycle) (is : IsWorld h.snapshot) where
   abbrev more : List Name

@@ -1,16 +1,5 @@
 -- Where a name stands in a list in order, and which names of such a list are met.
-use Rattle.std.proofs.Common.{◌≡◌, ◌<◌, ◌≤◌, ◌+◌, ℕ, zero, suc, List, [], ◌∷◌, ◌++◌, length, replicate, take, get_or, set, inl, inr, refl, sym, ap, subst, ◌∙◌, arith, Bool, true, false, ◌⊎◌}
-use Rattle.std.specs.Prelude.{◌↔◌, Contains}
-use Rattle.std.proofs.lemmas.Bool.{cases_lt, false≢true}
-use Rattle.std.proofs.lemmas.Bool.Decides.{eqb_tells}
-use Rattle.std.proofs.lemmas.List.{get_or_default, get_or-replicate, get_or-set_same, get_or-set_other, length-replicate, length-set}
-use Rattle.std.proofs.lemmas.List.Elements.{Contains-append_left, Contains-append_right, Contains-append_cases}
-use Rattle.nmgc_world_spec.specs.declared.value.Name.{Name}
-use Rattle.nmgc_world_spec.specs.Reach.{IsBefore, IsInOrder}
-use Rattle.nmgc_world_spec.specs.laws.Orders.{before_trans, not_before_itself, in_order_first, in_order_rest}
-use Rattle.nmgc_lists.specs.laws.Items.{nothing_in, one_is, contains_one}
-use Rattle.nmgc_watch.specs.Ordered.{StandsAt, IsBetween, IsPlaceOf, AreMet}
-use Rattle.nmgc_watch.specs.Watching.{IsMissing}
+use Rattle.nmgc_watch.proofs.Vocabulary.{◌≡◌, ◌<◌, ◌≤◌, ◌+◌, ℕ, zero, suc, List, [], ◌∷◌, ◌++◌, length, get_or, set, inl, inr, sym, ap, subst, ◌∙◌, arith, Bool, true, false, Contains, cases_lt, eqb_tells, get_or_default, get_or-set_same, get_or-set_other, Contains-append_left, Contains-append_right, Contains-append_cases, Name, IsBefore, IsInOrder, before_trans, not_before_itself, in_order_first, in_order_rest, one_is, contains_one, StandsAt, IsBetween, IsPlaceOf, AreMet, length-set}
 
 -- the earlier of two places has the earlier name
 order_at : (xs : List Name) (i j : ℕ) (a b : Name) → IsInOrder xs → i < j → StandsAt xs i a → StandsAt xs j b → IsBefore a b
@@ -37,13 +26,6 @@ same_at : (xs : List Name) (i : ℕ) (a b : Name) → StandsAt xs i a → Stands
 same_at xs i a b s t = sym s.1 ∙ get_or_default xs i a b s.0 ∙ t.1
 
 -- BY HALVES
-
-pub nothing_looked_at : (xs : List Name) (name : Name) → IsBetween xs name 0 (length xs)
-nothing_looked_at xs name = record {
-  most = omega arith;
-  before = λ i n s lt. absurd (omega arith);
-  others = λ i n s le b. absurd (let lt : i < length xs = s.0 in omega arith);
-}
 
 module _ (xs : List Name) (name : Name) (least end middle : ℕ) (o : IsInOrder xs) (h : IsBetween xs name least end) (a : Name) (s : StandsAt xs middle a) where
   pub after_middle : IsBefore a name → IsBetween xs name (middle + 1) end
@@ -74,11 +56,6 @@ module _ (xs : List Name) (name : Name) (least end middle : ℕ) (o : IsInOrder 
     ];
   }
 
-pub place_found : (xs : List Name) (name : Name) (least end : ℕ) → end ≤ least → least ≤ end → IsBetween xs name least end → IsPlaceOf xs name least
-place_found xs name least end le ge h =
-    let same : end ≡ least = omega arith in
-    subst (λ (k : ℕ). IsBetween xs name least k) same h
-
 -- a name that stands elsewhere than at its place stands nowhere
 pub not_there : (xs : List Name) (name : Name) (place : ℕ) → IsInOrder xs → IsPlaceOf xs name place → (StandsAt xs place name → ⊥) → Contains xs name → ⊥
 not_there xs name place o h never c =
@@ -98,15 +75,6 @@ not_there xs name place o h never c =
     ]
 
 -- WHICH ARE MET
-
-pub none_met : (xs : List Name) → AreMet xs [] (replicate (length xs) false)
-none_met xs = record {
-  places = length-replicate (length xs) false;
-  same = λ i n s. (
-    λ t. absurd (false≢true (sym (get_or-replicate (length xs) i false false s.0) ∙ t)),
-    λ c. absurd (nothing_in n c),
-  );
-}
 
 module _ (xs others : List Name) (met : List Bool) (h : AreMet xs others met) (other : Name) where
   -- it isn't one of the names
@@ -152,17 +120,3 @@ module _ (xs others : List Name) (met : List Bool) (h : AreMet xs others met) (o
 -- the names before a place are all met
 abbrev pub MetBefore : List Bool → ℕ → Type 0
 MetBefore met place = (i : ℕ) → i < place → get_or met i false ≡ true
-
-pub met_more : (met : List Bool) (place : ℕ) → MetBefore met place → get_or met place false ≡ true → MetBefore met (place + 1)
-met_more met place h here i lt = elim (cases_lt i place) [
-  | inl less ↦ h i less
-  | inr more ↦ let same : place ≡ i = omega arith in ap (λ (k : ℕ). get_or met k false) (sym same) ∙ here
-]
-
-pub all_met : (xs others : List Name) (met : List Bool) (place : ℕ) → AreMet xs others met → MetBefore met place → length xs ≤ place →
-    (n : Name) → Contains xs n → Contains others n
-all_met xs others met place h before le n c = (h.same c.0 n (c.1, c.2)).0 (before c.0 (let lt : c.0 < length xs = c.1 in omega arith))
-
-pub one_not_met : (xs others : List Name) (met : List Bool) (place : ℕ) (n : Name) → AreMet xs others met → StandsAt xs place n →
-    get_or met place false ≡ false → IsMissing others xs n
-one_not_met xs others met place n h s missed = ((place, s.0, s.1), λ c. false≢true (sym missed ∙ (h.same place n s).1 c))

@@ -1,26 +1,9 @@
 -- What has a reason can't happen.
-use Rattle.std.proofs.Common.{◌≡◌, ℕ, List, [], ◌∷◌, refl, sym, ap, subst, ◌∙◌, Option, Some, None, inl, inr, ◌⊎◌}
-use Rattle.std.specs.Prelude.{Contains, slice_get, IsSome}
-use Rattle.nmgc_world_spec.specs.declared.value.Name.{Name}
-use Rattle.nmgc_world_spec.specs.declared.command.Command.{Command}
-use Rattle.nmgc_world_spec.specs.declared.command.Reply.{Reply}
-use Rattle.nmgc_world_spec.specs.World.{World, IsWorld}
-use Rattle.nmgc_world_spec.specs.Step.{CanApply, step}
-use Rattle.nmgc_world_spec.specs.Reach.{Lists}
-use Rattle.nmgc_lists.specs.laws.Items.{nothing_in}
-use Rattle.nmgc_barrier_laws.specs.declared.debt.Debt.{Debt}
-use Rattle.nmgc_barrier_laws.specs.Cycle.{Cycle, MarksName, IsAllTaken}
-use Rattle.nmgc_barrier_laws.specs.laws.Beside.{barrier_theorem}
-use Rattle.nmgc_watch.specs.declared.event.Event.{Event}
+use Rattle.nmgc_watch.proofs.Vocabulary.{◌≡◌, ℕ, List, [], sym, subst, ◌∙◌, inl, inr, Contains, Name, Command, Reply, World, CanApply, step, Lists, nothing_in, Debt, Cycle, MarksName, IsAllTaken, barrier_theorem, Event, Why, Left, Watch, IsWhyNot, WhyGive, CanGive, WhyMark, CanMark, WhyPush, CanPush, WhySettle, CanSettle, WhyTake, CanTake, WhyClose, CanClose, WhyCloseTold, CanCloseTold, WhyMarked, CanMarked, WhyFreed, CanFreed, WhyKept, MayFree, IsAgainst, WhyStop, CanStop, ReasonsRefuse, ClosedIsExact}
 use Rattle.nmgc_watch.specs.declared.event.Event.TheVariants as event
-use Rattle.nmgc_watch.specs.declared.event.Why.{Why}
 use Rattle.nmgc_watch.specs.declared.event.Why.TheVariants as why
-use Rattle.nmgc_watch.specs.declared.left.Left.{Left}
-use Rattle.nmgc_watch.specs.declared.watch.Watch.{Watch}
 use Rattle.nmgc_watch.specs.declared.watch.Watch.TheVariants as watch
-use Rattle.nmgc_watch.specs.Cycles.{IsWhyNot}
 use Rattle.nmgc_watch.proofs.RowLaws.{no_rows}
-use Rattle.nmgc_watch.specs.Watching.{WhyGive, CanGive, WhyMark, CanMark, WhyPush, CanPush, WhySettle, CanSettle, WhyTake, CanTake, WhyClose, CanClose, WhyCloseTold, CanCloseTold, WhyMarked, CanMarked, WhyFreed, CanFreed, WhyKept, MayFree, IsAgainst, WhyStop, CanStop, IsWhy, Can, ReasonsRefuse, ClosedIsExact}
 
 no_command : (w : World) (m : ℕ) (c : Command) (answer : Reply) (y : Why) → IsWhyNot w m c answer y → CanApply w m c → (step w m c).1 ≡ answer → ⊥
 no_command w m c answer why.CannotApply h can says = h can

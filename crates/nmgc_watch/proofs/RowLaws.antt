@@ -1,22 +1,8 @@
 -- Commands of one line: what the first of them did, and what stops them.
-use Rattle.std.proofs.Common.{◌≡◌, ◌<◌, ◌+◌, ◌^◌, ℕ, List, [], ◌∷◌, ◌++◌, zero, suc, length, take, drop, get_or, refl, sym, ap, subst, ◌∙◌, arith, append_assoc, Option, Some, None, Bool, true, false, inl, inr, ◌⊎◌}
-use Rattle.std.specs.Prelude.{is_some}
-use Rattle.nmgc_world_spec.specs.declared.command.Command.{Command}
-use Rattle.nmgc_world_spec.specs.declared.command.Reply.{Reply}
-use Rattle.nmgc_world_spec.specs.World.{World}
-use Rattle.nmgc_world_spec.specs.Step.{CanApply, step}
-use Rattle.nmgc_barrier_laws.specs.Cycle.{Cycle}
-use Rattle.nmgc_watch.specs.declared.event.Event.{Event}
+use Rattle.nmgc_watch.proofs.Vocabulary.{◌≡◌, ◌<◌, ◌+◌, ℕ, List, [], ◌∷◌, ◌++◌, zero, suc, length, take, drop, get_or, refl, sym, ap, subst, ◌∙◌, arith, append_assoc, Option, Some, None, true, false, inl, inr, ◌⊎◌, is_some, Command, World, CanApply, step, Cycle, Event, Why, Copying, Filling, Watch, IsNotDone, is_done, load_of, store_of, write_of, copied, filled, CanAct, WhyNoAct, IsAct, AreDone, StopsAt, AreActed, is_stopped, mutators_of, CanRows, IsAbsent, IsWhy, IsStep}
 use Rattle.nmgc_watch.specs.declared.event.Event.TheVariants as event
-use Rattle.nmgc_watch.specs.declared.event.Why.{Why}
 use Rattle.nmgc_watch.specs.declared.event.Why.TheVariants as why
-use Rattle.nmgc_watch.specs.declared.rows.Copying.{Copying}
-use Rattle.nmgc_watch.specs.declared.rows.Filling.{Filling}
-use Rattle.nmgc_watch.specs.declared.watch.Watch.{Watch}
 use Rattle.nmgc_watch.specs.declared.watch.Watch.TheVariants as watch
-use Rattle.nmgc_watch.specs.Cycles.{IsNotDone}
-use Rattle.nmgc_watch.specs.Rows.{is_done, load_of, store_of, write_of, copied, filled}
-use Rattle.nmgc_watch.specs.Watching.{CanAct, WhyNoAct, IsAct, AreDone, StopsAt, AreActed, is_stopped, mutators_of, CanRows, IsAbsent, IsWhy, IsStep}
 
 -- the commands of one more turn
 pub copied_more : (copying : Copying) (turn : ℕ) (a b c : List Command) (x y : Command) → a ≡ copied copying turn → b ≡ a ++ x ∷ [] →
@@ -171,8 +157,7 @@ no_stop line line' m (x ∷ before) c later p q next last y e d d' h =
 -- what has a reason can't happen
 no_stops : (line line' m : ℕ) (commands : List Command) (p next last : Watch) (y : Why) → AreDone line m commands p next → StopsAt line' m commands p y last → ⊥
 no_stops line line' m commands p next last y d s =
-    no_stop line line' m s.before s.command s.later p p next last y refl (subst (λ (l : List Command).
-    AreDone line m l p next) s.commands_are d) s.done s.reason
+    no_stop line line' m s.before s.command s.later p p next last y refl (rw s.commands_are at d) s.done s.reason
 
 stops_or : (line line' m : ℕ) (commands : List Command) (p next last : Watch) (y : Why) → m < mutators_of p → AreDone line m commands p next →
     StopsAt line' m commands p y last ⊎ IsAbsent m p y last → ⊥

@@ -1,13 +1,5 @@
 -- The fields that stand in two worlds, noted place by place.
-use Rattle.std.proofs.Common.{◌≡◌, ◌<◌, ◌≤◌, ◌+◌, ℕ, List, [], ◌∷◌, ◌++◌, refl, sym, ap, subst, ◌∙◌, arith, Option, Some, None, Bool, true, inl, inr}
-use Rattle.std.specs.Prelude.{Contains, option_to_list}
-use Rattle.std.proofs.lemmas.List.Elements.{Contains-append_left, Contains-append_right, Contains-append_cases}
-use Rattle.std.proofs.lemmas.Bool.{cases_eq}
-use Rattle.nmgc_world_spec.specs.declared.value.Name.{Name}
-use Rattle.nmgc_world_spec.specs.World.{World}
-use Rattle.nmgc_lists.specs.laws.Items.{nothing_in, one_is, contains_option}
-use Rattle.nmgc_watch.specs.declared.due.Field.{Field}
-use Rattle.nmgc_watch.specs.Dues.{stands_in}
+use Rattle.nmgc_watch.proofs.Vocabulary.{◌≡◌, ◌<◌, ◌≤◌, ◌+◌, ℕ, List, [], ◌++◌, ap, arith, Option, Some, None, true, inl, inr, Contains, option_to_list, Contains-append_left, Contains-append_right, Contains-append_cases, cases_eq, Name, World, nothing_in, one_is, contains_option, Field, stands_in}
 
 option_is : (o : Option Field) (f : Field) → Contains (option_to_list o) f → o ≡ Some f
 option_is None f c = absurd (nothing_in f c)

@@ -1,40 +1,16 @@
 -- Whether a command can be given is decided, and where it can, a watched cycle has a next one.
-use Rattle.std.proofs.Common.{◌≡◌, ◌≢◌, ◌<◌, ◌≤◌, ◌+◌, ◌-◌, ◌^◌, ℕ, List, [], ◌∷◌, ◌++◌, zero, suc, length, map, refl, sym, ap, subst, ◌∙◌, arith, Bool, true, false, not, cond, inl, inr, ◌⊎◌, Option, Some, None}
+use Rattle.std.proofs.{Common.◌≡◌, Common.◌≢◌, Common.◌<◌, Common.◌≤◌, Common.◌+◌, Common.◌-◌, Common.◌^◌, Common.ℕ, Common.List, Common.[], Common.◌∷◌, Common.◌++◌, Common.zero, Common.suc, Common.length, Common.map, Common.refl, Common.sym, Common.ap, Common.subst, Common.◌∙◌, Common.arith, Common.Bool, Common.true, Common.false, Common.not, Common.cond, Common.inl, Common.inr, Common.◌⊎◌, Common.Option, Common.Some, Common.None, lemmas.Bool.cases_Bool, lemmas.Bool.cases_lt, lemmas.Bool.cases_eq, lemmas.Bool.false≢true, lemmas.List.Elements.All-nil, lemmas.List.Elements.All-cons, lemmas.List.Elements.All-head, lemmas.List.Elements.All-tail, lemmas.List.Elements.Contains-append_left, lemmas.List.Elements.Contains-append_right, lemmas.List.Elements.Contains-append_cases}
 use Rattle.std.specs.Prelude.{All, Contains, IsSome, is_some, filter, option_to_list, ◌↔◌}
-use Rattle.std.proofs.lemmas.Bool.{cases_Bool, cases_lt, cases_eq, false≢true}
-use Rattle.std.proofs.lemmas.List.Elements.{All-nil, All-cons, All-head, All-tail, Contains-append_left, Contains-append_right, Contains-append_cases}
 use Rattle.nmgc_limits.specs.declared.mutators.TheConstants.{REGISTERS, SHARED_MAKER}
-use Rattle.nmgc_world_spec.specs.declared.value.Name.{Name}
-use Rattle.nmgc_world_spec.specs.declared.value.Value.{Value}
+use Rattle.nmgc_world_spec.specs.{declared.value.Name.Name, declared.value.Value.Value, declared.node.Node.Node, declared.change.Change.Change, declared.command.Operand.Operand, declared.command.Operand.TheVariants.Register, declared.command.Operand.TheVariants.Shared, declared.command.Command.Command, declared.command.Command.TheVariants.Num, declared.command.Command.TheVariants.Nil, declared.command.Command.TheVariants.Mov, declared.command.Command.TheVariants.Con, declared.command.Command.TheVariants.Var, declared.command.Command.TheVariants.Arr, declared.command.Command.TheVariants.Thunk, declared.command.Command.TheVariants.Weak, declared.command.Command.TheVariants.Stack, declared.command.Command.TheVariants.Get, declared.command.Command.TheVariants.Set, declared.command.Command.TheVariants.Cas, declared.command.Command.TheVariants.Update, declared.command.Command.TheVariants.Force, declared.command.Command.TheVariants.Push, declared.command.Command.TheVariants.Pop, declared.command.Command.TheVariants.Deref, declared.command.Command.TheVariants.Finalise, declared.command.Command.TheVariants.NextFin, declared.command.Command.TheVariants.Show, declared.command.Command.TheVariants.Same, declared.command.Command.TheVariants.Yield, declared.command.Command.TheVariants.Collect, declared.command.Command.TheVariants.Full, declared.command.Reply.Reply, Command.IsRegister, Command.IsOperand, Command.HasRegisters, World.World, World.node_of, World.serial_of, World.IsWorld, Step.CanApply, Step.asked, Step.step, History.opened_by, History.finalised_by, laws.Orders.contains_filter, laws.Orders.filter_contains, laws.Orders.name_cases, laws.Common.same_ref as ref_is}
 use Rattle.nmgc_world_spec.specs.declared.value.Value.TheVariants as value
-use Rattle.nmgc_world_spec.specs.declared.node.Node.{Node}
-use Rattle.nmgc_world_spec.specs.declared.change.Change.{Change}
-use Rattle.nmgc_world_spec.specs.declared.command.Operand.{Operand}
-use Rattle.nmgc_world_spec.specs.declared.command.Operand.TheVariants.{Register, Shared}
-use Rattle.nmgc_world_spec.specs.declared.command.Command.{Command}
-use Rattle.nmgc_world_spec.specs.declared.command.Command.TheVariants.{Num, Nil, Mov, Con, Var, Arr, Thunk, Weak, Stack, Get, Set, Cas, Update, Force, Push, Pop, Deref, Finalise, NextFin, Show, Same, Yield, Collect, Full}
-use Rattle.nmgc_world_spec.specs.declared.command.Reply.{Reply}
 use Rattle.nmgc_world_spec.specs.declared.command.Reply.TheVariants as reply
-use Rattle.nmgc_world_spec.specs.Command.{IsRegister, IsOperand, HasRegisters}
-use Rattle.nmgc_world_spec.specs.World.{World, node_of, serial_of, IsWorld}
-use Rattle.nmgc_world_spec.specs.Step.{CanApply, asked, step}
-use Rattle.nmgc_world_spec.specs.History.{opened_by, finalised_by}
-use Rattle.nmgc_world_spec.specs.laws.Orders.{contains_filter, filter_contains, name_cases}
 use Rattle.nmgc_world_laws.specs.laws.Worlds.{not_shared}
 use Rattle.nmgc_lists.specs.laws.Items.{nothing_in}
-use Rattle.nmgc_snapshot_laws.specs.State.{is_listed}
-use Rattle.nmgc_snapshot_laws.specs.laws.Listed.{tested_same, is_same_name-refl, contains_listed, not_listed, listed_from}
-use Rattle.nmgc_barrier_laws.specs.declared.debt.Debt.{Debt}
-use Rattle.nmgc_barrier_laws.specs.Due.{IsDue}
-use Rattle.nmgc_barrier_laws.specs.Cycle.{Cycle, IsWatched, OwesBy}
-use Rattle.nmgc_watch.specs.declared.due.Field.{Field}
-use Rattle.nmgc_watch.specs.Dues.{strong_in, is_ref_to, stands_in, first_place, end_place, IsStanding, is_owable, kept_then, targets}
-use Rattle.nmgc_watch.specs.Accounts.{debt_of}
-use Rattle.nmgc_watch.specs.Cycles.{IsTaken}
-use Rattle.nmgc_watch.proofs.Filters.{mapped_in, in_mapped}
-use Rattle.nmgc_watch.proofs.Standing.{noted_sound, noted_all}
-use Rattle.nmgc_world_spec.specs.laws.Common.{same_ref as ref_is}
-use Rattle.nmgc_watch.proofs.DueLaws.{found_due, due_found}
+use Rattle.nmgc_snapshot_laws.specs.{State.is_listed, laws.Listed.tested_same, laws.Listed.is_same_name-refl, laws.Listed.contains_listed, laws.Listed.not_listed, laws.Listed.listed_from, Machine.is_pushed_in}
+use Rattle.nmgc_barrier_laws.specs.{declared.debt.Debt.Debt, Due.IsDue, Cycle.Cycle, Cycle.IsWatched, Cycle.OwesBy}
+use Rattle.nmgc_watch.specs.{declared.due.Field.Field, Dues.strong_in, Dues.is_ref_to, Dues.stands_in, Dues.first_place, Dues.end_place, Dues.IsStanding, Dues.kept_then, Dues.targets, Accounts.debt_of, Cycles.IsTaken}
+use Rattle.nmgc_watch.proofs.{Filters.mapped_in, Filters.in_mapped, Standing.noted_sound, Standing.noted_all, DueLaws.found_due, DueLaws.due_found}
 
 -- what can be decided of both is decided
 abbrev pub Cases : Type 0 → Type 0
@@ -278,7 +254,7 @@ module _ (h : Cycle) (is : IsWorld h.world) (line m : ℕ) (c : Command) (can : 
   fields_stand = (standing h.snapshot h.world m c).1
 
   abbrev found : List Name
-  found = filter (is_owable h.snapshot) (targets (filter (λ g. not (stands_in (step h.world m c).0 g)) fields) ++
+  found = filter (is_pushed_in h.snapshot) (targets (filter (λ g. not (stands_in (step h.world m c).0 g)) fields) ++
       (opened_by h.world m c ++ kept_then h.snapshot (finalised_by h.world m c)))
 
   abbrev fresh : Name → Bool

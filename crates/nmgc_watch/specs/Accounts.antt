@@ -1,12 +1,11 @@
 -- What each mutator owes: a queue of debts, and the set of names that came due by it.
 use Rattle.std.specs.Prelude.{◌≡◌, ◌⊎◌, ◌<◌, ◌≤◌, ℕ, List, [], ◌∷◌, ◌++◌, length, filter, slice_get, slice_set, slice_index_or, Option, Some, None, Bool, false, not, ◌&&◌, IsSome, IfSome, Contains, if◌then◌else◌}
 use Rattle.std.specs.List.{flat_map}
-use Rattle.nmgc_world_spec.specs.declared.value.Name.{Name}
-use Rattle.nmgc_world_spec.specs.World.{World, node_of}
+use Rattle.nmgc_world_spec.specs.{declared.value.Name.Name, World.World, World.node_of}
 use Rattle.nmgc_graph.specs.Marks.{HasPlaces, IsMarked, mark_of, with_mark}
 use Rattle.nmgc_barrier_laws.specs.declared.debt.Debt.{Debt}
 use Rattle.nmgc_watch.specs.declared.accounts.Accounts.{Accounts}
-use Rattle.nmgc_watch.specs.Dues.{is_owable}
+use Rattle.nmgc_snapshot_laws.specs.Machine.{is_pushed_in}
 
 -- a debt counts
 abbrev pub is_unpaid : List (List Bool) → Debt → Bool
@@ -56,7 +55,7 @@ pub record AreNew (snapshot : World) (a : Accounts) : Type 0 where
 
 -- whether a debt is a new one: its name may be due, wasn't pushed, and didn't come due by its mutator before
 abbrev pub is_new : World → List (List Bool) → Accounts → Debt → Bool
-is_new snapshot marks a debt = is_owable snapshot debt.name && (not (mark_of marks debt.name) && not (mark_of (set_of a.names debt.mutator) debt.name))
+is_new snapshot marks a debt = is_pushed_in snapshot debt.name && (not (mark_of marks debt.name) && not (mark_of (set_of a.names debt.mutator) debt.name))
 
 -- after a debt was added, if it is new: it goes behind those of its mutator
 abbrev pub owed_one : World → List (List Bool) → Accounts → Debt → Accounts
@@ -73,8 +72,8 @@ owed_one snapshot marks a debt =
 pub record IsOwing (snapshot : World) (marks : List (List Bool)) (line m : ℕ) (names : List Name) (before after : Accounts) : Type 0 where
   pub old : (debt : Debt) → Contains (unpaid marks (all_debts before.debts)) debt → Contains (unpaid marks (all_debts after.debts)) debt
   pub new : (debt : Debt) → Contains (unpaid marks (all_debts after.debts)) debt → Contains (unpaid marks (all_debts before.debts)) debt ⊎
-      ((debt.line ≡ line) × (debt.mutator ≡ m) × Contains (filter (is_owable snapshot) names) debt.name)
-  pub due : (name : Name) → Contains (filter (is_owable snapshot) names) name → IsMarked marks name ⊎
+      ((debt.line ≡ line) × (debt.mutator ≡ m) × Contains (filter (is_pushed_in snapshot) names) debt.name)
+  pub due : (name : Name) → Contains (filter (is_pushed_in snapshot) names) name → IsMarked marks name ⊎
       ((debt : Debt) × Contains (unpaid marks (all_debts after.debts)) debt × (debt.name ≡ name) × (debt.mutator ≡ m))
 
 -- debts that no longer count left the front of a mutator's queue

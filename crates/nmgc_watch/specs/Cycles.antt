@@ -1,25 +1,10 @@
 -- What holds of every cycle, and what its calls promise.
 use Rattle.std.specs.Prelude.{◌≡◌, ◌≢◌, ℕ, List, [], ◌∷◌, ◌++◌, length, flat_map, Option, Some, None, Bool, true, false, not, ◌&&◌, IsSome, Contains, ◌<◌, ◌⊎◌}
-use Rattle.nmgc_world_spec.specs.declared.value.Name.{Name}
-use Rattle.nmgc_world_spec.specs.declared.node.Parts.{Parts}
-use Rattle.nmgc_world_spec.specs.declared.command.Command.{Command}
-use Rattle.nmgc_world_spec.specs.declared.command.Reply.{Reply}
-use Rattle.nmgc_world_spec.specs.World.{World, node_of, IsWorld}
-use Rattle.nmgc_world_spec.specs.Change.{is_same_name}
-use Rattle.nmgc_world_spec.specs.Step.{CanApply, step, shared_name}
-use Rattle.nmgc_graph.specs.Marks.{mark_of}
-use Rattle.nmgc_world_spec.specs.Reach.{IsAlive}
-use Rattle.nmgc_graph.specs.Search.{parts_of}
-use Rattle.nmgc_world_spec.specs.Owed.{names_among}
-use Rattle.nmgc_barrier_laws.specs.declared.debt.Debt.{Debt}
-use Rattle.nmgc_barrier_laws.specs.Cycle.{Cycle, IsWatched, IsPushed, IsTook, IsAllTaken, AreKeysLeft}
-use Rattle.nmgc_watch.specs.declared.accounts.Accounts.{Accounts}
-use Rattle.nmgc_watch.specs.declared.listed.Listed.{Listed}
-use Rattle.nmgc_watch.specs.declared.event.Why.{Why}
+use Rattle.nmgc_world_spec.specs.{declared.value.Name.Name, declared.node.Parts.Parts, declared.command.Command.Command, declared.command.Reply.Reply, World.World, World.node_of, World.IsWorld, Change.is_same_name, Step.CanApply, Step.step, Step.shared_name, Reach.IsAlive, Owed.names_among}
+use Rattle.nmgc_graph.specs.{Marks.mark_of, Search.parts_of}
+use Rattle.nmgc_barrier_laws.specs.{declared.debt.Debt.Debt, Cycle.Cycle, Cycle.IsWatched, Cycle.IsPushed, Cycle.IsTook, Cycle.IsAllTaken, Cycle.AreKeysLeft}
+use Rattle.nmgc_watch.specs.{declared.accounts.Accounts.Accounts, declared.listed.Listed.Listed, declared.event.Why.Why, Accounts.AreAccounts, Accounts.IsLeastIn, Listed.IsListed, Rows.is_done}
 use Rattle.nmgc_watch.specs.declared.event.Why.TheVariants as why
-use Rattle.nmgc_watch.specs.Accounts.{AreAccounts, IsLeastIn}
-use Rattle.nmgc_watch.specs.Listed.{IsListed}
-use Rattle.nmgc_watch.specs.Rows.{is_done}
 
 -- names that were pushed, opened and taken are listed; what is owed is due; a weak pointer of the snapshot that
 -- wasn't finalised is as it was there; and both worlds are closed

@@ -1,20 +1,10 @@
 -- How it is found what a command makes due: which places of the object that it changes may go, and which fields stand.
-use Rattle.std.specs.Prelude.{◌≡◌, ◌+◌, ◌-◌, ◌<◌, ◌≤◌, ℕ, zero, suc, List, [], ◌∷◌, length, map, flat_map, Option, Some, None, Bool, true, false, not, ◌&&◌, is_some, Contains}
-use Rattle.nmgc_world_spec.specs.declared.value.Name.{Name}
-use Rattle.nmgc_world_spec.specs.declared.value.Value.{Value}
+use Rattle.std.specs.Prelude.{◌≡◌, ◌+◌, ◌-◌, ◌<◌, ◌≤◌, ℕ, zero, suc, List, [], ◌∷◌, length, map, flat_map, Option, Some, None, Bool, true, false, Contains}
+use Rattle.nmgc_world_spec.specs.{declared.value.Name.Name, declared.value.Value.Value, declared.node.Parts.Parts, declared.node.Node.Node, declared.node.Node.TheVariants.Con, declared.node.Node.TheVariants.Var, declared.node.Node.TheVariants.Arr, declared.node.Node.TheVariants.Thunk, declared.node.Node.TheVariants.Weak, declared.node.Node.TheVariants.Stack, declared.change.Change.Change, declared.command.Command.Command, World.World, World.node_of, Change.is_same_name, Step.asked, Owed.names_among}
 use Rattle.nmgc_world_spec.specs.declared.value.Value.TheVariants as value
-use Rattle.nmgc_world_spec.specs.declared.node.Parts.{Parts}
-use Rattle.nmgc_world_spec.specs.declared.node.Node.{Node}
-use Rattle.nmgc_world_spec.specs.declared.node.Node.TheVariants.{Con, Var, Arr, Thunk, Weak, Stack}
-use Rattle.nmgc_world_spec.specs.declared.change.Change.{Change}
 use Rattle.nmgc_world_spec.specs.declared.change.Change.TheVariants as change
-use Rattle.nmgc_world_spec.specs.declared.command.Command.{Command}
-use Rattle.nmgc_world_spec.specs.World.{World, node_of}
-use Rattle.nmgc_world_spec.specs.Change.{is_same_name}
-use Rattle.nmgc_world_spec.specs.Step.{shared_name, asked}
 use Rattle.nmgc_graph.specs.Search.{parts_of}
 use Rattle.nmgc_world_laws.specs.Holds.{strong_at}
-use Rattle.nmgc_world_spec.specs.Owed.{names_among}
 use Rattle.nmgc_watch.specs.declared.due.Field.{Field}
 
 -- the strong field of a node that may not be there
@@ -75,10 +65,6 @@ pub record IsStanding (snapshot w : World) (m : ℕ) (c : Command) (fields : Lis
 -- the targets of fields
 abbrev pub targets : List Field → List Name
 targets fields = map (λ (f : Field). f.target) fields
-
--- the name is one of the snapshot, and not g
-abbrev pub is_owable : World → Name → Bool
-is_owable snapshot name = is_some (node_of snapshot name) && not (is_same_name name shared_name)
 
 -- what a weak pointer kept with these parts, itself among it
 abbrev pub kept_of : Name → Option Parts → List Name

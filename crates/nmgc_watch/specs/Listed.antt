@@ -1,7 +1,6 @@
 -- Names of a snapshot, each listed once, with a set of the same names.
 use Rattle.std.specs.Prelude.{◌≡◌, ◌↔◌, ◌⊎◌, List, [], ◌∷◌, ◌++◌, not, ◌&&◌, is_some, IsSome, Contains, if◌then◌else◌}
-use Rattle.nmgc_world_spec.specs.declared.value.Name.{Name}
-use Rattle.nmgc_world_spec.specs.World.{World, node_of}
+use Rattle.nmgc_world_spec.specs.{declared.value.Name.Name, World.World, World.node_of}
 use Rattle.nmgc_graph.specs.Marks.{HasPlaces, IsMarked, mark_of, with_mark}
 use Rattle.nmgc_watch.specs.declared.listed.Listed.{Listed}
 

@@ -1,7 +1,6 @@
 -- Names in order, each once, and where a name stands among them.
 use Rattle.std.specs.Prelude.{◌≡◌, ◌↔◌, ◌<◌, ◌≤◌, ℕ, List, length, slice_index_or, Bool, true, false, Contains}
-use Rattle.nmgc_world_spec.specs.declared.value.Name.{Name}
-use Rattle.nmgc_world_spec.specs.Reach.{IsBefore}
+use Rattle.nmgc_world_spec.specs.{declared.value.Name.Name, Reach.IsBefore}
 
 -- the name stands at this place
 abbrev pub StandsAt : List Name → ℕ → Name → Type 0

@@ -1,12 +1,10 @@
 -- Commands that one line tells: a copy of many fields, and a fill.
 use Rattle.std.specs.Prelude.{◌≡◌, ◌+◌, ◌-◌, ◌^◌, min, ℕ, zero, suc, List, [], ◌∷◌, ◌++◌, Bool, true, false, if◌then◌else◌}
 use Rattle.nmgc_world_spec.specs.declared.command.Operand.TheVariants as operand
-use Rattle.nmgc_world_spec.specs.declared.command.Command.{Command}
+use Rattle.nmgc_world_spec.specs.{declared.command.Command.Command, declared.command.Reply.Reply}
 use Rattle.nmgc_world_spec.specs.declared.command.Command.TheVariants as command
-use Rattle.nmgc_world_spec.specs.declared.command.Reply.{Reply}
 use Rattle.nmgc_world_spec.specs.declared.command.Reply.TheVariants as reply
-use Rattle.nmgc_watch.specs.declared.rows.Copying.{Copying}
-use Rattle.nmgc_watch.specs.declared.rows.Filling.{Filling}
+use Rattle.nmgc_watch.specs.{declared.rows.Copying.Copying, declared.rows.Filling.Filling}
 
 -- whether a command was done that gave this answer: it gave a value, or there was none to give
 abbrev pub is_done : Reply → Bool

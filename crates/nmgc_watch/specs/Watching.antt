@@ -1,29 +1,14 @@
 -- What it is for an event to happen, and why one can't: by the heap, the lax rule and nothing else.
 use Rattle.std.specs.Prelude.{◌≡◌, ◌≤◌, ◌↔◌, ◌⊎◌, ◌++◌, ℕ, List, [], ◌∷◌, length, map, slice_index_or, Option, Some, None, Result, Ok, Err, IsSome, Contains, Bool, true, false, ◌||◌, ltb, ◌<◌}
-use Rattle.nmgc_world_spec.specs.declared.value.Name.{Name}
-use Rattle.nmgc_world_spec.specs.declared.command.Command.{Command}
-use Rattle.nmgc_world_spec.specs.declared.command.Reply.{Reply}
-use Rattle.nmgc_world_spec.specs.declared.mutator_state.MutatorState.{MutatorState}
-use Rattle.nmgc_world_spec.specs.World.{World, node_of, IsWorld}
-use Rattle.nmgc_world_spec.specs.Change.{is_same_name}
-use Rattle.nmgc_world_spec.specs.Step.{CanApply, step, shared_name}
-use Rattle.nmgc_world_spec.specs.Reach.{Lists, IsKept}
+use Rattle.nmgc_world_spec.specs.{declared.value.Name.Name, declared.command.Command.Command, declared.command.Reply.Reply, declared.mutator_state.MutatorState.MutatorState, World.World, World.node_of, World.IsWorld, Change.is_same_name, Step.CanApply, Step.step, Step.shared_name, Reach.Lists, Reach.IsKept}
 use Rattle.nmgc_snapshot_laws.specs.declared.event.Event.TheVariants as core
-use Rattle.nmgc_snapshot_laws.specs.State.{State}
-use Rattle.nmgc_snapshot_laws.specs.Machine.{IsPossible}
-use Rattle.nmgc_snapshot_laws.specs.Closing.{IsClosing}
-use Rattle.nmgc_barrier_laws.specs.declared.debt.Debt.{Debt}
+use Rattle.nmgc_snapshot_laws.specs.{State.State, Machine.IsPossible, Closing.IsClosing}
+use Rattle.nmgc_barrier_laws.specs.{declared.debt.Debt.Debt, Barrier.Beside}
 use Rattle.nmgc_barrier_laws.specs.Cycle.{Cycle, watching, IsWatched, IsPushed, IsTook, IsAllTaken, IsEnd, IsEndTold, IsDeadTold, Needs, MarksName}
-use Rattle.nmgc_barrier_laws.specs.Barrier.{Beside}
-use Rattle.nmgc_watch.specs.declared.event.Event.{Event}
+use Rattle.nmgc_watch.specs.{declared.event.Event.Event, declared.event.Why.Why, declared.left.Left.Left, declared.watch.Watch.Watch, Cycles.IsWhyNot, Cycles.IsNotDone, Cycles.IsTaken, Cycles.IsSettled, Cycles.IsUnsettled, Cycles.IsUntakenName, Rows.is_done}
 use Rattle.nmgc_watch.specs.declared.event.Event.TheVariants as event
-use Rattle.nmgc_watch.specs.declared.event.Why.{Why}
 use Rattle.nmgc_watch.specs.declared.event.Why.TheVariants as why
-use Rattle.nmgc_watch.specs.declared.left.Left.{Left}
-use Rattle.nmgc_watch.specs.declared.watch.Watch.{Watch}
 use Rattle.nmgc_watch.specs.declared.watch.Watch.TheVariants as watch
-use Rattle.nmgc_watch.specs.Cycles.{IsWhyNot, IsNotDone, IsTaken, IsSettled, IsUnsettled, IsUntakenName}
-use Rattle.nmgc_watch.specs.Rows.{is_done}
 
 -- outside of a cycle the heap takes a command with this answer
 abbrev pub IsGiven : World → ℕ → Command → Reply → World → Type 0

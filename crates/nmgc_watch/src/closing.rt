@@ -9,8 +9,7 @@
 //! whether or not anybody holds it; whoever does can still read its value. So its key counts for what may be freed, and for what else dies.
 ghost use Rattle.std.specs.Prelude.{◌≡◌, ◌++◌, [], None, IfOk, All, filter};
 ghost use Rattle.nmgc_world_spec.specs.Reach.{IsInOrder, IsAliveWeak, closed};
-ghost use Rattle.nmgc_watch.specs.Cycles.{is_outside, keys_then};
-ghost use Rattle.nmgc_watch.specs.Watching.{AreSerials};
+ghost use Rattle.nmgc_watch.specs.{Cycles.is_outside, Cycles.keys_then, Watching.AreSerials};
 
 use crate::cycle::Cycle;
 use crate::event::Why;
@@ -25,8 +24,7 @@ use std::alloc::Global;
 impl Cycle {
     ghost use Rattle.nmgc_world_spec.specs.Reach.{IsDead, Lists};
     ghost use Rattle.nmgc_barrier_laws.specs.Cycle.{MarksName as HasToMark, Needs, IsAllTaken};
-    ghost use Rattle.nmgc_watch.specs.Cycles.{IsOpenedWith};
-    ghost use Rattle.nmgc_watch.specs.Watching.{IsEnding, IsEndingTold, IsAgainstIf, IsDeadIf, IsLeft, IsLeftTold};
+    ghost use Rattle.nmgc_watch.specs.{Cycles.IsOpenedWith, Watching.IsEnding, Watching.IsEndingTold, Watching.IsAgainstIf, Watching.IsDeadIf, Watching.IsLeft, Watching.IsLeftTold};
 
     /// What the cycle leaves if it can end; else what stands against that: the debt of the least line, or a name that was
     /// pushed and wasn't taken.

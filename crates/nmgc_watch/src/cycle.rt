@@ -9,8 +9,7 @@
 //! Easy to get wrong: a name of no snapshot has no place in a set. It can't be due, and a push of it changes nothing.
 ghost use Rattle.std.specs.Prelude.{◌≡◌, ◌↔◌, ◌<◌, ◌++◌, length, IfOk, OnOk, IsSome, IsTrue};
 ghost use Rattle.nmgc_world_spec.specs.World.{node_of};
-ghost use Rattle.nmgc_watch.specs.Dues.{targets};
-ghost use Rattle.nmgc_watch.specs.Cycles.{IsUntakenIn, is_untaken};
+ghost use Rattle.nmgc_watch.specs.{Dues.targets, Cycles.IsUntakenIn, Cycles.is_untaken};
 
 use crate::accounts::Accounts;
 use crate::due::{Field, gone, is_owable, kept_then, standing};
@@ -40,8 +39,7 @@ pub struct Cycle {
 
 impl Model for Cycle {
     ghost use Rattle.nmgc_barrier_laws.specs.Cycle.{Cycle as Seen};
-    ghost use Rattle.nmgc_watch.specs.Accounts.{unpaid, all_debts};
-    ghost use Rattle.nmgc_watch.specs.Cycles.{IsCycle};
+    ghost use Rattle.nmgc_watch.specs.{Accounts.unpaid, Accounts.all_debts, Cycles.IsCycle};
 
     ghost Value = { Seen };
 

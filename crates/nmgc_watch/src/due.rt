@@ -8,13 +8,12 @@
 //! Easy to get wrong: a field that holds its target again, where the snapshot's has long gone, is no field of the
 //! snapshot any more, unless it is written back to the same place of the same object.
 ghost use Rattle.std.specs.Prelude.{◌≡◌, ◌<◌, ◌≤◌, ◌++◌, true, length, filter, not, option_to_list, Some, IfOk, OnOk, Contains};
-ghost use Rattle.nmgc_world_spec.specs.Command.{HasRegisters};
-ghost use Rattle.nmgc_world_spec.specs.World.{node_of};
+ghost use Rattle.nmgc_world_spec.specs.{Command.HasRegisters, World.node_of, Owed.names_among};
 ghost use Rattle.nmgc_world_laws.specs.Holds.{strong_at};
-ghost use Rattle.nmgc_world_spec.specs.Owed.{names_among};
+ghost use Rattle.nmgc_snapshot_laws.specs.Machine.{is_pushed_in};
 ghost use Rattle.nmgc_watch.specs.declared.due.Field.{Field as FieldAt};
 ghost use Rattle.nmgc_world_spec.specs.declared.node.Node.TheVariants as NodeIs;
-ghost use Rattle.nmgc_watch.specs.Dues.{strong_in, is_ref_to, stands_in, first_place, end_place, IsStanding, is_owable, kept_then};
+ghost use Rattle.nmgc_watch.specs.Dues.{strong_in, is_ref_to, stands_in, first_place, end_place, IsStanding, kept_then};
 
 use nmgc_graph::World;
 use nmgc_graph::opened::names_among;
@@ -239,7 +238,7 @@ pub(crate) fn kept_then(snapshot: &World, weaks: &[Name]) -> Result<Vec<Name>, N
 
 /// Whether the name is one of the snapshot, and not g: no other can be due. Takes no memory, and constant time.
 pub fn is_owable(snapshot: &World, name: Name) -> bool
-    ensures { result ≡ is_owable snapshot.now name }
+    ensures { result ≡ is_pushed_in snapshot.now name }
 {
     snapshot.node(name).is_some() && name != Name::SHARED
 }

@@ -7,8 +7,7 @@
 //! garbage; a sweep that frees it is wrong, whether or not something refers to it.
 ghost use Rattle.std.specs.Prelude.{◌≡◌, ◌↔◌, slice_index_or, IfOk, IsTrue, Contains};
 ghost use Rattle.nmgc_world_spec.specs.declared.value.Name.{Name as NameAt};
-ghost use Rattle.nmgc_graph.specs.Marks.{IsMarked};
-ghost use Rattle.nmgc_graph.specs.Search.{IsSetOf};
+ghost use Rattle.nmgc_graph.specs.{Marks.IsMarked, Search.IsSetOf};
 ghost use Rattle.nmgc_watch.specs.Watching.{IsMissingIf, is_old};
 
 use crate::event::Why;

@@ -4,8 +4,7 @@
 //! what is told and what was kept, and not for all names that the heap ever had.
 ghost use Rattle.std.specs.Prelude.{◌≡◌, ◌↔◌, IsTrue, IfSome, IfNone, IfOk, Contains};
 ghost use Rattle.nmgc_world_spec.specs.Reach.{IsBefore, IsInOrder};
-ghost use Rattle.nmgc_watch.specs.Ordered.{StandsAt, IsPlaceOf, AreMet};
-ghost use Rattle.nmgc_watch.specs.Watching.{IsMissingIf};
+ghost use Rattle.nmgc_watch.specs.{Ordered.StandsAt, Ordered.IsPlaceOf, Ordered.AreMet, Watching.IsMissingIf};
 
 use nmgc_lists::{List, NoMemory};
 use nmgc_world_spec::Name;
@@ -20,8 +19,7 @@ pub struct Ordered {
 
 impl Model for Ordered {
     ghost use Rattle.std.specs.Prelude.{List};
-    ghost use Rattle.nmgc_world_spec.specs.declared.value.Name.{Name as NameAt};
-    ghost use Rattle.nmgc_world_spec.specs.Reach.{IsInOrder};
+    ghost use Rattle.nmgc_world_spec.specs.{declared.value.Name.Name as NameAt, Reach.IsInOrder};
 
     ghost Value = { List NameAt };
 

@@ -39,8 +39,7 @@ impl Model for Running {
 
 impl Running {
     ghost use Rattle.nmgc_barrier_laws.specs.Cycle.{watching};
-    ghost use Rattle.nmgc_watch.specs.Cycles.{IsSettle};
-    ghost use Rattle.nmgc_watch.specs.Watching.{IsEnding, IsEndingTold};
+    ghost use Rattle.nmgc_watch.specs.{Cycles.IsSettle, Watching.IsEnding, Watching.IsEndingTold};
 
     // Marking begins: the world is the snapshot. Takes what `Cycle::new` takes.
     fn new(world: &World) -> Result<Self, NoMemory>

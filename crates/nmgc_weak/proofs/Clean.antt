@@ -1,25 +1,7 @@
 -- What scans mark at a stop: all of it has a fact that strong fields of the world hand on.
-use Rattle.std.proofs.Common.{◌≡◌, ◌≤◌, ◌+◌, ℕ, zero, suc, Bool, true, false, cond, eqb, leb, List, [], ◌∷◌, refl, sym, ap, subst, ◌∙◌, arith, Option, Some, None, inl, inr, ◌⊎◌}
-use Rattle.std.specs.Prelude.{Contains, IsSome, ◌&&◌}
-use Rattle.std.proofs.lemmas.Bool.{or_parts, and_cases, eq-eqb, cases_eq}
-use Rattle.std.proofs.lemmas.List.Elements.{Contains-append_cases, Contains-push_cases}
-use Rattle.nmgc_world_spec.specs.declared.value.Name.{Name}
-use Rattle.nmgc_world_spec.specs.declared.value.Value.{Value}
-use Rattle.nmgc_world_spec.specs.declared.value.Value.TheVariants as value
-use Rattle.nmgc_world_spec.specs.declared.node.Node.{Node}
-use Rattle.nmgc_world_spec.specs.World.{World, node_of}
-use Rattle.nmgc_world_spec.specs.Reach.{RefersTo}
-use Rattle.nmgc_lists.specs.laws.Items.{contains_head, contains_tail, nothing_in, one_is}
+use Rattle.nmgc_weak.proofs.Vocabulary.{◌≡◌, ◌≤◌, ◌+◌, ℕ, zero, suc, Bool, true, false, cond, eqb, leb, List, [], ◌∷◌, refl, sym, ap, subst, ◌∙◌, arith, Option, Some, None, inl, inr, ◌⊎◌, Contains, IsSome, ◌&&◌, or_parts, and_cases, cases_eq, Contains-append_cases, Contains-push_cases, Name, Value, Node, World, node_of, RefersTo, contains_head, contains_tail, nothing_in, one_is, after_scan, advanced, read_at, moved_on, fields_of, is_last, State, entry_of, mark_name, mark_read, mark_cases, new_there, read_cases, has_result, field_at_place, Happening, did, scanned, replay, AreScans, eq-eqb}
 use Rattle.nmgc_snapshot_laws.specs.declared.event.Entry.{Entry}
-use Rattle.nmgc_snapshot_laws.specs.Machine.{after_scan, advanced}
-use Rattle.nmgc_snapshot_laws.specs.Scan.{read_at, moved_on, fields_of, is_last}
-use Rattle.nmgc_snapshot_laws.specs.State.{State, entry_of, mark_name, mark_read}
-use Rattle.nmgc_snapshot_laws.specs.laws.Marking.{mark_cases, new_there}
-use Rattle.nmgc_snapshot_laws.specs.laws.ScanReads.{read_cases}
-use Rattle.nmgc_world_laws.specs.Holds.{has_result}
-use Rattle.nmgc_world_laws.specs.laws.Barrier.{field_at_place}
-use Rattle.nmgc_round.specs.Events.{Happening, did, scanned, replay}
-use Rattle.nmgc_mark.specs.Stopped.{AreScans}
+use Rattle.nmgc_world_spec.specs.declared.value.Value.TheVariants as value
 
 module _ (P : Name → Type 0) (w snapshot : World) (hands_on : (name target : Name) → P name → RefersTo w name target →
     IsSome (node_of snapshot target) → P target) where
@@ -104,7 +86,7 @@ module _ (P : Name → Type 0) (w snapshot : World) (hands_on : (name target : N
     marked = h.marked;
     queued = λ other c. elim (Contains-append_cases (moved_on (node_of s.world entry.name) entry) rest other c) [
       | inl mine ↦ moved entry other (node_of s.world entry.name) (ap (λ (x : World).
-          node_of x entry.name) (sym h.world)) (h.queued entry (subst (λ (q : List Entry). Contains q entry) (sym e) (contains_head entry rest))) mine
+          node_of x entry.name) (sym h.world)) (h.queued entry (rw e (contains_head entry rest))) mine
       | inr old ↦ h.queued other (subst (λ (q : List Entry). Contains q other) (sym e) (contains_tail entry rest other old))
     ];
   }
@@ -133,6 +115,3 @@ module _ (P : Name → Type 0) (w snapshot : World) (hands_on : (name target : N
     queued = λ entry c. let q = queued entry c in
         record { name = q.0; passed = inl q.1 };
   }
-
-  pub all_have : (s : State) → AreClean s → (name : Name) → Contains s.marked name → P name
-  all_have s c name k = c.marked name k

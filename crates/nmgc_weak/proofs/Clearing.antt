@@ -1,9 +1,5 @@
 -- Value words that become 0 one after another.
-use Rattle.std.proofs.Common.{◌≡◌, ◌+◌, ◌<◌, ℕ, zero, suc, List, [], ◌∷◌, ◌++◌, length, take, get_or, set, refl, ap, ◌∙◌, arith, length-set}
-use Rattle.std.specs.Prelude.{slice_index}
-use Rattle.nmgc_weak.specs.declared.weaks.OldWeak.{OldWeak}
-use Rattle.nmgc_weak.specs.declared.weaks.Death.{Death}
-use Rattle.nmgc_weak.specs.Weaks.{value_place, finaliser_place, without_values, deaths_of}
+use Rattle.nmgc_weak.proofs.Vocabulary.{◌≡◌, ◌+◌, ◌<◌, ℕ, zero, suc, List, [], ◌∷◌, ◌++◌, length, take, get_or, set, refl, ap, ◌∙◌, arith, length-set, slice_index, OldWeak, Death, value_place, finaliser_place, without_values, deaths_of}
 
 pub cleared_length : (words : List ℕ) (dying : List OldWeak) → length (without_values words dying) ≡ length words
 cleared_length words [] = refl

@@ -1,35 +1,7 @@
 -- The mutators' queues once the finalisers of the deaths have joined them.
-use Rattle.std.proofs.Common.{◌≡◌, ◌≢◌, ◌*◌, ◌<◌, ℕ, zero, suc, List, [], ◌∷◌, ◌++◌, map, length, refl, sym, ap, subst, ◌∙◌, append-nil, append_assoc, arith, Option, Some, None, inl, inr}
-use Rattle.std.specs.Prelude.{Contains, slice_get}
-use Rattle.std.proofs.lemmas.Bool.{cases_eq}
-use Rattle.nmgc_limits.specs.declared.mutators.TheConstants.{REGISTERS, SHARED_MAKER}
-use Rattle.nmgc_world_spec.specs.declared.value.Name.{Name}
-use Rattle.nmgc_world_spec.specs.declared.value.Value.{Value}
+use Rattle.nmgc_weak.proofs.Vocabulary.{◌≡◌, ◌≢◌, ◌*◌, ◌<◌, ℕ, zero, suc, List, [], ◌∷◌, ◌++◌, map, length, refl, sym, ap, subst, ◌∙◌, append-nil, append_assoc, arith, Option, Some, None, inl, inr, Contains, slice_get, cases_eq, REGISTERS, SHARED_MAKER, Name, Value, Node, Weak, Parts, MutatorState, World, IsWorld, node_of, state_of, IsAlive, IsBefore, IsInOrder, closed, closed_by, queued, with_nth, with_state, with_dead, closed_state, contains_head, contains_tail, get_at, in_order_first, in_order_rest, not_before_itself, weak_maker, not_shared, FinQueue, dies_by, closing_leaves_hands, closed_mutators, closed_serials, state_same, state_other, Place, Means, ListMeans, Opening, Death, QueuesClose, joined, AreDeaths, get_within}
 use Rattle.nmgc_world_spec.specs.declared.value.Value.TheVariants as value
-use Rattle.nmgc_world_spec.specs.declared.node.Node.{Node}
-use Rattle.nmgc_world_spec.specs.declared.node.Node.TheVariants.{Weak}
-use Rattle.nmgc_world_spec.specs.declared.node.Parts.{Parts}
-use Rattle.nmgc_world_spec.specs.declared.mutator_state.MutatorState.{MutatorState}
-use Rattle.nmgc_world_spec.specs.World.{World, IsWorld, node_of, state_of}
-use Rattle.nmgc_world_spec.specs.Reach.{IsAlive, IsBefore, IsInOrder, closed, closed_by, queued}
-use Rattle.nmgc_world_spec.specs.Step.{with_nth, with_state}
-use Rattle.nmgc_world_laws.specs.laws.Closings.{with_dead, closed_state}
-use Rattle.nmgc_lists.specs.laws.Items.{contains_head, contains_tail, item as get_at}
-use Rattle.nmgc_world_spec.specs.laws.Orders.{in_order_first, in_order_rest, not_before_itself}
-use Rattle.nmgc_world_laws.specs.laws.Weaks.{weak_maker}
-use Rattle.nmgc_world_laws.specs.laws.Worlds.{not_shared}
-use Rattle.nmgc_object.specs.FinQueue.{FinQueue}
-use Rattle.nmgc_world_laws.specs.laws.Deaths.{dies_by, closing_leaves_hands, closed_mutators, closed_serials}
-use Rattle.nmgc_world_laws.specs.laws.NodeLaws.{state_same, state_other}
-use Rattle.nmgc_heap_spec.specs.Places.{Place, Means, ListMeans, AllMean}
-use Rattle.nmgc_round.specs.View.{Opening}
-use Rattle.nmgc_weak.specs.declared.weaks.Death.{Death}
-use Rattle.nmgc_weak.specs.Closes.{QueuesClose}
-use Rattle.nmgc_weak.specs.Queues.{joined}
-use Rattle.nmgc_weak.specs.Resolve.{AreDeaths}
-use Rattle.nmgc_weak.proofs.Dying.{others_stay}
-use Rattle.nmgc_weak.proofs.Joining.{one_of, joined_cons, own_joins, others_none, nil_none}
-use Rattle.std.proofs.lemmas.Option.{slice_get_within as get_within}
+use Rattle.nmgc_weak.proofs.{Dying.others_stay, Joining.one_of, Joining.joined_cons, Joining.own_joins, Joining.others_none, Joining.nil_none}
 
 -- the deaths of a world
 abbrev DeathsAt : (Place → Type 0) → World → List Name → List Death → Type 0
@@ -67,17 +39,15 @@ means_push P (x ∷ ws) (y ∷ vs) w v h m = (h.0, means_push P ws vs w v h.1 m)
 -- the finaliser joins the queue of the maker
 own_queue : (P : Place → Type 0) (state : MutatorState) (q : List ℕ) (x : Death) (fin : Value) → ListMeans P q state.queue →
     Means P x.finaliser fin → ListMeans P (q ++ one_of x.weak.maker x) (queued state fin).queue
-own_queue P state q x value.Nil h m = subst (λ (l : List ℕ). ListMeans P l state.queue) (sym (ap (λ (l : List ℕ). q ++
-    l) (nil_none x.weak.maker x m) ∙ append-nil q)) h
+own_queue P state q x value.Nil h m = rw (ap (λ (l : List ℕ). q ++
+    l) (nil_none x.weak.maker x m) ∙ append-nil q) h
 own_queue P state q x (value.Number n) h m =
     let ne : x.finaliser ≢ 1 = λ e. omega arith in
-    subst (λ (l : List ℕ). ListMeans P (q ++ l) (state.queue ++ value.Number n ∷
-    [])) (sym (own_joins x ne)) (means_push P q state.queue x.finaliser (value.Number n) h m)
+    rw (own_joins x ne) (means_push P q state.queue x.finaliser (value.Number n) h m)
 own_queue P state q x (value.Ref name) h m =
     let is = m.1 in
     let ne : x.finaliser ≢ 1 = λ e. omega arith in
-    subst (λ (l : List ℕ). ListMeans P (q ++ l) (state.queue ++ value.Ref name ∷
-    [])) (sym (own_joins x ne)) (means_push P q state.queue x.finaliser (value.Ref name) h m)
+    rw (own_joins x ne) (means_push P q state.queue x.finaliser (value.Ref name) h m)
 
 -- one death
 one_queue : (P : Place → Type 0) (w : World) → IsWorld w → (d : Name) (x : Death) (parts : Parts) → x.weak ≡ d → IsAlive w d parts →
@@ -92,8 +62,7 @@ one_queue P w world d x parts same alive means m q h =
     subst R (sym is) (elim (cases_eq m d.maker) [
       | inl e ↦
           let own : ListMeans P (q ++ one_of x.weak.maker x) (queued (with_nth (state_of w d.maker) d.serial (Weak None)) parts.finaliser).queue =
-          own_queue P (with_nth (state_of w d.maker) d.serial (Weak None)) q x parts.finaliser (subst (λ (k : ℕ).
-          ListMeans P q (state_of w k).queue) e h) means in
+          own_queue P (with_nth (state_of w d.maker) d.serial (Weak None)) q x parts.finaliser (rw e at h) means in
           let maker : x.weak.maker ≡ m = ap (λ (n : Name). n.maker) same ∙ sym e in
           let at : ListMeans P (q ++ one_of m x) dead.queue = subst (λ (k : ℕ). ListMeans P (q ++ one_of k x) dead.queue) maker own in
           let st : state_of (with_state w d.maker dead) m ≡ dead = ap (λ (k : ℕ). state_of (with_state w d.maker dead) k) e ∙ state_same w d.maker dead lt in
@@ -101,8 +70,7 @@ one_queue P w world d x parts same alive means m q h =
       | inr other ↦
           let none : one_of m x ≡ [] = others_none m x (λ e. other (sym e ∙ ap (λ (n : Name). n.maker) same)) in
           let st : state_of (with_state w d.maker dead) m ≡ state_of w m = state_other w d.maker dead lt m other in
-          subst (λ (s : MutatorState). ListMeans P (q ++ one_of m x) s.queue) (sym st) (subst (λ (l : List ℕ).
-          ListMeans P l (state_of w m).queue) (sym (ap (λ (l : List ℕ). q ++ l) none ∙ append-nil q)) h)
+          rw st (rw (ap (λ (l : List ℕ). q ++ l) none ∙ append-nil q) h)
     ])
 
 -- all of them
@@ -117,8 +85,8 @@ all_queues P w (d ∷ ds) (x ∷ xs) world o h m q means =
     let one = one_queue P w world d x k.0 h.0.0 k.1 k.2 m q means in
     let later = still_deaths P w world d k.0 k.1 ds xs (λ n c e. not_before_itself d (subst (λ (y : Name). IsBefore d y) e (in_order_first d ds o n c))) h.1 in
     let rest = all_queues P v ds xs (dies_by w world d).world (in_order_rest d ds o) later m (q ++ one_of m x) one in
-    subst (λ (l : List ℕ). ListMeans P l (state_of (closed v ds) m).queue) (append_assoc q (one_of m x) (joined m xs) ∙
-    ap (λ (l : List ℕ). q ++ l) (sym (joined_cons m x xs))) rest
+    rw (append_assoc q (one_of m x) (joined m xs) ∙
+    ap (λ (l : List ℕ). q ++ l) (sym (joined_cons m x xs))) at rest
 
 -- the words of queues
 map_get : (qs : List FinQueue) (m : ℕ) (own : List ℕ) → slice_get (map (λ (q : FinQueue). q.words) qs) m ≡ Some own → (q : FinQueue) ×
@@ -144,9 +112,7 @@ queues_close o dead deaths registers old new serials world h ordered roots joins
     record {
       count = roots.count ∙ ap (λ (n : ℕ). REGISTERS * n) (sym many);
       mutators = (words_length new ∙ joins.0 ∙ sym (words_length old) ∙ roots.mutators.0 ∙ sym many, roots.mutators.1 ∙ sym many);
-      held = λ m lt. subst (λ (values : List Value).
-          AllMean (Contains o.places) registers (REGISTERS * m) values) (sym (closing_leaves_hands w dead world m).registers)
-          (roots.held m (subst (λ (n : ℕ). m < n) many lt));
+      held = λ m lt. rw (closing_leaves_hands w dead world m).registers (roots.held m (subst (λ (n : ℕ). m < n) many lt));
       queued = λ m own e.
           let q = map_get new m own e in
           let lt : m < length old = (let l = get_within new m q.0 q.1 in let k = joins.0 in omega arith) in

@@ -1,41 +1,21 @@
 -- Where no weak pointer is left that keeps something new, what is marked is what is live; and once the finalisers of those
 -- that die are marked, what is kept: so the machine has closed.
-use Rattle.std.proofs.Common.{◌≡◌, ◌↔◌, ℕ, Bool, true, false, List, [], refl, sym, subst, inl, inr}
+use Rattle.std.proofs.Common.{◌≡◌, ◌↔◌, Bool, true, false, List, [], refl, sym, subst, inl, inr}
 use Rattle.std.specs.Prelude.{Contains}
-use Rattle.nmgc_world_spec.specs.declared.value.Name.{Name}
-use Rattle.nmgc_world_spec.specs.declared.value.Value.{Value}
+use Rattle.nmgc_world_spec.specs.{declared.value.Name.Name, declared.value.Value.Value, declared.node.Parts.Parts, Reach.IsAlive, Reach.IsPlain, Reach.IsKeptBy, Reach.IsDead, Reach.IsKept, Reach.Lists, Reach.RefersTo, Reach.closed}
 use Rattle.nmgc_world_spec.specs.declared.value.Value.TheVariants as value
-use Rattle.nmgc_world_spec.specs.declared.node.Parts.{Parts}
-use Rattle.nmgc_world_spec.specs.Reach.{IsAlive, IsPlain, IsKeptBy, IsDead, IsKept, Lists, RefersTo, closed}
 use Rattle.nmgc_world_spec.specs.Reach as reach
-use Rattle.nmgc_snapshot_laws.specs.Closing.{IsWaiting, IsDying, IsClosing}
-use Rattle.nmgc_snapshot_laws.specs.Facts.{IsLiveIn, IsSafe, IsAhead, Facts}
-use Rattle.nmgc_snapshot_laws.specs.Facts as facts
-use Rattle.nmgc_snapshot_laws.specs.Machine.{AreEmpty}
-use Rattle.nmgc_snapshot_laws.specs.State.{State, is_listed}
-use Rattle.nmgc_snapshot_laws.specs.laws.Ending.{live_first, first_live, last_kept, kept_last, dying_lists, none_of}
-use Rattle.nmgc_snapshot_laws.specs.laws.Listed.{contains_listed, not_listed}
-use Rattle.nmgc_snapshot_laws.specs.laws.Lives.{stands}
-use Rattle.nmgc_lists.specs.laws.Items.{nothing_in}
+use Rattle.nmgc_snapshot_laws.specs.{Closing.IsWaiting, Closing.IsClosing, Facts.IsLiveIn, Facts.Facts, Machine.AreEmpty, State.State, State.is_listed, laws.Listed.contains_listed, laws.Listed.not_listed, laws.Lives.stands, laws.Ending.dead_dying, laws.Ending.dying_dead, laws.Ending.kept_last, laws.Ending.last_kept, laws.Ending.dying_lists, laws.Ending.none_ahead, laws.Ending.safe_marked}
 use Rattle.nmgc_weak.specs.Steps.{IsKeyMarked, IsLost}
 
 -- where nothing waits, is owed or is pushed, what is safe is marked, and a marked name has its fields marked
 module _ (s : State) (f : Facts s) (queue : s.queue ≡ []) (owed : AreEmpty s.owed) (pushed : AreEmpty s.pushed) where
-  pub safe_marked : (name : Name) → IsSafe s name → Contains s.marked name
-  safe_marked name (facts.marked c) = c
-  safe_marked name (facts.owed m c) = absurd (nothing_in name (rw (none_of s.owed owed m) at c))
-  safe_marked name (facts.pushed m c) = absurd (nothing_in name (rw (none_of s.pushed pushed m) at c))
-
-  none_ahead : (name : Name) (i : ℕ) → Contains s.marked name → IsAhead s name i → ⊥
-  none_ahead name i h (facts.unmarked c) = c h
-  none_ahead name i h (facts.queued entry c e le) = nothing_in entry (rw queue at c)
-
   pub field_marked : (name target : Name) → Contains s.marked name → RefersTo s.snapshot name target → Contains s.marked target
   field_marked name target c r =
       let i = stands s.snapshot name target r in
       elim (f.kept name i.0 target i.1) [
-        | inl safe ↦ safe_marked target safe
-        | inr ahead ↦ absurd (none_ahead name i.0 c ahead.1)
+        | inl safe ↦ safe_marked s f queue owed pushed target safe
+        | inr ahead ↦ absurd (none_ahead s f queue owed pushed name i.0 c ahead.1)
       ]
 
   -- every waiting weak pointer whose key is marked has marked its parts: then what is live is marked
@@ -46,7 +26,7 @@ module _ (s : State) (f : Facts s) (queue : s.queue ≡ []) (owed : AreEmpty s.o
     by_weak weak target parts alive shown kept = by_test (is_listed weak s.finalised) refl
       where
         by_test : (b : Bool) → is_listed weak s.finalised ≡ b → Contains s.marked target
-        by_test true e = safe_marked target (f.finalised weak target parts (contains_listed weak s.finalised e) alive kept)
+        by_test true e = safe_marked s f queue owed pushed target (f.finalised weak target parts (contains_listed weak s.finalised e) alive kept)
         by_test false e = full weak target parts (record { alive = alive; not_finalised = not_listed weak s.finalised e }) shown kept
 
     plain_shown : (v : Value) → IsPlain v → IsKeyMarked s.marked v
@@ -56,7 +36,7 @@ module _ (s : State) (f : Facts s) (queue : s.queue ≡ []) (owed : AreEmpty s.o
 
     pub live_marked : (name : Name) → IsLiveIn s name → Contains s.marked name
     live_marked name (reach.root n r) = f.roots n r
-    live_marked name (reach.further n c there) = safe_marked n (f.opened n c there)
+    live_marked name (reach.further n c there) = safe_marked s f queue owed pushed n (f.opened n c there)
     live_marked name (reach.field n target l r) = field_marked n target (live_marked n l) r
     live_marked name (reach.plain_key weak target parts alive plain kept) = by_weak weak target parts alive (plain_shown parts.key plain) kept
     live_marked name (reach.live_key weak target key parts alive is l kept) =
@@ -87,25 +67,6 @@ module _ (s : State) (f : Facts s) (queue : s.queue ≡ []) (owed : AreEmpty s.o
 
 -- a state that may close, whose end is told by live and kept names alone
 module _ (s : State) (f : Facts s) (queue : s.queue ≡ []) (owed : AreEmpty s.owed) (pushed : AreEmpty s.pushed) where
-  dead_dying : (weak : Name) → IsDead s.snapshot s.opened s.finalised weak → IsDying s weak
-  dead_dying weak d = record {
-    parts = d.parts;
-    waiting = record { alive = d.alive; not_finalised = d.not_finalised };
-    key = d.key;
-    key_is = d.key_is;
-    lost = λ c. d.lost (first_live s f queue owed pushed d.key c);
-  }
-
-  dying_dead : (weak : Name) → IsDying s weak → IsDead s.snapshot s.opened s.finalised weak
-  dying_dead weak d = record {
-    parts = d.parts;
-    alive = d.waiting.alive;
-    not_finalised = d.waiting.not_finalised;
-    key = d.key;
-    key_is = d.key_is;
-    lost = λ l. d.lost (live_first s f queue owed pushed d.key l);
-  }
-
   pub closes : (dead marked : List Name) → Lists (IsDead s.snapshot s.opened s.finalised) dead →
       ((name : Name) → Contains marked name ↔ IsKept s.snapshot s.opened s.finalised name) →
       (c : IsClosing s (record s { world = closed s.world dead; marked = marked; is_closed = true })) × (c.dead ≡ dead)
@@ -114,8 +75,8 @@ module _ (s : State) (f : Facts s) (queue : s.queue ≡ []) (owed : AreEmpty s.o
       dead = dead;
       lists = record {
         ordered = lists.ordered;
-        sound = λ name c. dead_dying name (lists.sound name c);
-        complete = λ name d. lists.complete name (dying_dead name d);
+        sound = λ name c. dead_dying s f queue owed pushed name (lists.sound name c);
+        complete = λ name d. lists.complete name (dying_dead s f queue owed pushed name d);
       };
       marked = λ name. (λ c. kept_last s f queue owed pushed name ((kept name).0 c), λ l. (kept name).1 (last_kept s f queue owed pushed name l));
       rest = refl;

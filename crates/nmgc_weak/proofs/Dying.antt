@@ -1,34 +1,7 @@
 -- Weak pointers that die, in the words: their value words become 0, and words and list stand for the closed world.
-use Rattle.std.proofs.Common.{◌≡◌, ◌≢◌, ◌+◌, ◌≤◌, ℕ, zero, suc, Bool, true, false, cond, eqb, ne_eqb, eq-eqb, List, [], ◌∷◌, set, refl, sym, ap, subst, ◌∙◌, arith, Some, None, inl, inr, ◌⊎◌}
-use Rattle.std.specs.Prelude.{Contains, slice_index, filter, not}
-use Rattle.std.proofs.lemmas.Bool.{cases_eq}
-use Rattle.nmgc_world_spec.specs.declared.value.Name.{Name}
-use Rattle.nmgc_world_spec.specs.declared.value.Value.{Value}
+use Rattle.nmgc_weak.proofs.Vocabulary.{◌≡◌, ◌≢◌, ◌+◌, ◌≤◌, ℕ, zero, suc, Bool, true, false, cond, eqb, ne_eqb, eq-eqb, List, [], ◌∷◌, set, refl, sym, ap, subst, ◌∙◌, arith, Some, None, inl, inr, ◌⊎◌, Contains, slice_index, filter, not, cases_eq, Name, Value, Weak, Parts, World, IsWorld, node_of, IsAlive, IsAliveWeak, IsBefore, IsInOrder, IsReached, closed, closed_by, contains_head, contains_tail, contains_cases, in_order_first, in_order_rest, not_before_itself, Layout, HEADER_WORDS, Dies, dies_by, Slot, holds, unset, Place, Means, Fills, LiesWell, get_or-set_other, Represents, NoNode, AreEarlier, ListsWeaks, IsListedWeak, IsTracked, field_changed, closing_tracks, closing_keeps_earlier, OldWeak, place_of, places_of, names_of, value_place, without_values, alive_of, is_alive, names_same, of_place, dead_at}
 use Rattle.nmgc_world_spec.specs.declared.value.Value.TheVariants as value
-use Rattle.nmgc_world_spec.specs.declared.node.Node.TheVariants.{Weak}
-use Rattle.nmgc_world_spec.specs.declared.node.Parts.{Parts}
-use Rattle.nmgc_world_spec.specs.World.{World, IsWorld, node_of}
-use Rattle.nmgc_world_spec.specs.Reach.{IsAlive, IsAliveWeak, IsBefore, IsInOrder, IsReached, closed, closed_by}
-use Rattle.nmgc_lists.specs.laws.Items.{contains_head, contains_tail, contains_cases}
-use Rattle.nmgc_world_spec.specs.laws.Orders.{in_order_first, in_order_rest, not_before_itself}
-use Rattle.nmgc_object.specs.declared.layout.Layout.{Layout}
-use Rattle.nmgc_object.specs.declared.size.TheConstants.{HEADER_WORDS}
-use Rattle.nmgc_world_laws.specs.laws.Deaths.{Dies, dies_by}
-use Rattle.nmgc_heap_spec.specs.Shape.{Slot, holds, unset}
-use Rattle.nmgc_heap_spec.specs.Places.{Place, Means, Fills, LiesWell}
-use Rattle.std.proofs.lemmas.List.{get_or-set_other}
-use Rattle.nmgc_heap_spec.specs.Represents.{Represents, NoNode}
-use Rattle.nmgc_heap_spec.specs.Changes.{AreEarlier}
-use Rattle.nmgc_heap_spec.specs.Roots.{ListsWeaks, IsListedWeak}
-use Rattle.nmgc_heap_spec.specs.Tracked.{IsTracked}
-use Rattle.nmgc_heap_spec.specs.laws.Changes.{field_changed}
-use Rattle.nmgc_heap_spec.specs.laws.CommandLaws.{closing_tracks, closing_keeps_earlier}
-use Rattle.nmgc_weak.specs.declared.weaks.OldWeak.{OldWeak}
-use Rattle.nmgc_weak.specs.Weaks.{place_of, places_of, names_of, value_place, without_values, alive_of, is_alive}
-use Rattle.nmgc_weak.specs.laws.Common.{names_same, of_place}
-use Rattle.nmgc_weak.proofs.Leaving.{filter_ordered}
-use Rattle.nmgc_weak.proofs.Saving.{has_place}
-use Rattle.nmgc_heap_spec.specs.laws.NodeChanges.{died as dead_at}
+use Rattle.nmgc_weak.proofs.{Leaving.filter_ordered, Saving.has_place}
 
 -- a weak pointer that is alive is tracked
 pub alive_tracked : (w : World) (earlier : List World) (weak : Name) (parts : Parts) → IsAlive w weak parts → IsTracked w earlier weak
@@ -54,8 +27,7 @@ module _ (w : World) (world : IsWorld w) (d : Name) (parts : Parts) (alive : IsA
   one_dies layout earlier places words at past c r =
       let p : Place = record { at = at; name = d } in
       let z : at + HEADER_WORDS + 1 ≡ value_place at = omega arith in
-      subst (λ (i : ℕ). Represents layout earlier NoNode places v (set words i 0)) z
-      (field_changed layout earlier NoNode places w v words p 1 0 (Weak (Some parts)) (Weak None) world past (λ name before now k is. absurd k) (record {
+      rw z at (field_changed layout earlier NoNode places w v words p 1 0 (Weak (Some parts)) (Weak None) world past (λ name before now k is. absurd k) (record {
         there = c;
         is_tracked = alive_tracked w earlier d parts alive;
         before = alive;

@@ -1,22 +1,6 @@
 -- Entries of a row: in order, found by halves, those that left, and what of them is in the list.
-use Rattle.std.proofs.Common.{◌≡◌, ◌≢◌, ◌⊎◌, ◌↔◌, ◌+◌, ◌-◌, ◌/◌, ◌<◌, ◌≤◌, ℕ, zero, suc, Bool, true, false, cond, eqb, eq-eqb, ne_eqb, slice_index, get_or, List, [], ◌∷◌, ◌++◌, append-nil, length, length-append, take, drop, map, set, refl, sym, ap, subst, ◌∙◌, arith, Some, inl, inr}
-use Rattle.std.specs.Prelude.{Contains, filter, slice_get, not, ◌&&◌}
-use Rattle.std.proofs.lemmas.List.{drop_all, get_or_default, take-append-drop, take_all, take_more}
-use Rattle.std.proofs.lemmas.List.Edits.{map_over_more}
-use Rattle.std.proofs.lemmas.Bool.{and_from, cases_lt, cases_order}
-use Rattle.std.proofs.lemmas.Option.{none-some, same_Some, slice_get-get_or, slice_get_within}
-use Rattle.std.proofs.lemmas.List.Elements.{Contains-append_left, Contains-append_right, Contains-append_cases}
-use Rattle.nmgc_world_spec.specs.declared.value.Name.{Name}
-use Rattle.nmgc_world_spec.specs.Reach.{IsBefore, IsInOrder}
-use Rattle.nmgc_world_spec.specs.laws.Orders.{same_name, before_trans, not_before_itself, in_order_first, in_order_rest, in_order_cons}
-use Rattle.nmgc_object.specs.declared.words.Address.{Address}
-use Rattle.nmgc_lists.specs.laws.Items.{contains_head, contains_tail, contains_cases, contains_at, contains_map, map_contains, contains_filter, filter_contains, item_map, nothing_in, place_of}
-use Rattle.nmgc_lists.specs.laws.Truths.{eq_true, and_both, false_of, unmarked}
-use Rattle.nmgc_weak.specs.declared.row.Entry.{Entry}
-use Rattle.nmgc_weak.specs.declared.weaks.OldWeak.{OldWeak}
-use Rattle.nmgc_weak.specs.Rows.{Row, listed, entry_names, IsEntryAt, is_same, without}
-use Rattle.nmgc_weak.specs.Weaks.{names_of, is_alive, alive_of, value_place}
-use Rattle.nmgc_weak.specs.laws.Left.{filter_all, filter_cond, filter_same, filter_twice}
+use Rattle.nmgc_weak.proofs.Vocabulary.{◌≡◌, ◌≢◌, ◌⊎◌, ◌↔◌, ◌+◌, ◌-◌, ◌/◌, ◌<◌, ◌≤◌, ℕ, zero, suc, Bool, true, false, cond, eqb, eq-eqb, ne_eqb, get_or, List, [], ◌∷◌, ◌++◌, append-nil, length, length-append, take, drop, map, set, refl, sym, ap, subst, ◌∙◌, arith, Some, inl, inr, Contains, filter, slice_get, not, ◌&&◌, drop_all, get_or_default, take-append-drop, take_all, take_more, map_over_more, and_from, cases_lt, cases_order, none-some, same_Some, slice_get-get_or, slice_get_within, Contains-append_left, Contains-append_right, Contains-append_cases, Name, IsBefore, IsInOrder, same_name, before_trans, not_before_itself, in_order_first, in_order_rest, in_order_cons, Address, contains_head, contains_tail, contains_cases, contains_at, contains_map, map_contains, contains_filter, filter_contains, item_map, nothing_in, eq_true, and_both, false_of, unmarked, Entry, OldWeak, Row, listed, entry_names, IsEntryAt, is_same, without, names_of, is_alive, alive_of, value_place, filter_all, filter_cond, filter_same, filter_twice, slice_index}
+use Rattle.nmgc_lists.specs.laws.Items.{place_of}
 
 -- of two names of a list in order the one that comes first is before the other
 pub before_at : (ns : List Name) (i j : ℕ) (a b : Name) → IsInOrder ns → slice_get ns i ≡ Some a → slice_get ns j ≡ Some b → i < j → IsBefore a b
@@ -183,8 +167,7 @@ listed_names es n c =
 pub listed_ordered : (es : List Entry) → IsInOrder (entry_names es) → IsInOrder (names_of (listed es))
 listed_ordered [] o = tt
 listed_ordered (e ∷ es) o =
-    subst (λ (l : List OldWeak). IsInOrder (names_of l)) (sym (listed_cons e es))
-    (by_test (not e.left) (listed_ordered es (in_order_rest e.weak.weak (entry_names es) o)))
+    rw (listed_cons e es) (by_test (not e.left) (listed_ordered es (in_order_rest e.weak.weak (entry_names es) o)))
   where
     by_test : (b : Bool) → IsInOrder (names_of (listed es)) → IsInOrder (names_of (cond b (e.weak ∷ listed es) (listed es)))
     by_test true rest = in_order_cons e.weak.weak (names_of (listed es)) rest (λ n c. in_order_first e.weak.weak (entry_names es) o n (listed_names es n c))
@@ -250,13 +233,13 @@ inserted_has es k x w in_ =
           | inr d ↦ inl (subst (λ (l : List OldWeak). Contains l w) (listed_parts es k) (Contains-append_right first second w d))
         ]
       ],
-      λ h. subst (λ (l : List OldWeak). Contains l w) (sym (inserted_list es k x in_)) (elim h [
+      λ h. rw (inserted_list es k x in_) (elim h [
         | inl c ↦ elim (Contains-append_cases first second w (subst (λ (l : List OldWeak). Contains l w) (sym (listed_parts es k)) c)) [
           | inl a ↦ Contains-append_left first (x.weak ∷ second) w a
           | inr b ↦ Contains-append_right first (x.weak ∷ second) w (contains_tail x.weak second w b)
         ]
         | inr e ↦ Contains-append_right first (x.weak ∷ second) w
-            (subst (λ (y : OldWeak). Contains (x.weak ∷ second) y) (sym e) (contains_head x.weak second))
+            (rw e (contains_head x.weak second))
       ]),
     )
 
@@ -270,8 +253,7 @@ inserted_count es k x in_ =
 pub listed_more : (es : List Entry) (i : ℕ) (d : Entry) → i < length es →
     listed (take (i + 1) es) ≡ listed (take i es) ++ cond (not (get_or es i d).left) ((get_or es i d).weak ∷ []) []
 listed_more es i d lt =
-    ap listed (take_more es i d lt) ∙ listed_append (take i es) (get_or es i d ∷ []) ∙
-    ap (λ (l : List OldWeak). listed (take i es) ++ l) (listed_cons (get_or es i d) [])
+    cc (take_more es i d lt, listed_append (take i es) (get_or es i d ∷ []), listed_cons (get_or es i d) [])
 
 -- an entry that left is used again
 pub reused_has : (es : List Entry) (i : ℕ) (old x : Entry) (w : OldWeak) → slice_get es i ≡ Some old → old.left ≡ true → x.left ≡ false →
@@ -285,7 +267,7 @@ reused_has (y ∷ ys) zero old x w there out in_ =
         | inl e ↦ inr (sym e)
         | inr d ↦ inl (subst (λ (l : List OldWeak). Contains l w) (sym was) d)
       ],
-      λ h. subst (λ (l : List OldWeak). Contains l w) (sym now) (elim h [
+      λ h. rw now (elim h [
         | inl c ↦ contains_tail x.weak (listed ys) w (subst (λ (l : List OldWeak). Contains l w) was c)
         | inr e ↦ subst (λ (z : OldWeak). Contains (x.weak ∷ listed ys) z) (sym e) (contains_head x.weak (listed ys))
       ]),
@@ -331,8 +313,7 @@ together_ordered (e ∷ es) o = by_test (not e.left) (together_ordered es (in_or
     by_test true rest = in_order_cons e.weak.weak (entry_names (filter (λ (x : Entry). not x.left) es)) rest (λ n c.
         let r = map_contains (λ (x : Entry). x.weak.weak) (filter (λ (x : Entry). not x.left) es) n c in
         let was = (filter_contains (λ (x : Entry). not x.left) es r.0 r.1).0 in
-        in_order_first e.weak.weak (entry_names es) o n (subst (λ (m : Name). Contains (entry_names es) m) (sym r.2)
-        (contains_map (λ (x : Entry). x.weak.weak) es r.0 was)))
+        in_order_first e.weak.weak (entry_names es) o n (rw r.2 (contains_map (λ (x : Entry). x.weak.weak) es r.0 was)))
     by_test false rest = rest
 
 -- two of the same name at the same place
@@ -403,10 +384,8 @@ only_entry es i e b o there c same =
     elim (cases_order at.0 i) [
       | inl is ↦ same_Some b e (sym at.1 ∙ ap (λ k. slice_get es k) is ∙ there)
       | inr apart ↦ absurd (elim apart [
-        | inl lt ↦ not_before_itself e.weak.weak (subst (λ (n : Name). IsBefore n e.weak.weak) same
-            (before_at (entry_names es) at.0 i b.weak.weak e.weak.weak o (name_at es at.0 b at.1) (name_at es i e there) lt))
-        | inr lt ↦ not_before_itself e.weak.weak (subst (λ (n : Name). IsBefore e.weak.weak n) same
-            (before_at (entry_names es) i at.0 e.weak.weak b.weak.weak o (name_at es i e there) (name_at es at.0 b at.1) lt))
+        | inl lt ↦ not_before_itself e.weak.weak (rw same at (before_at (entry_names es) at.0 i b.weak.weak e.weak.weak o (name_at es at.0 b at.1) (name_at es i e there) lt))
+        | inr lt ↦ not_before_itself e.weak.weak (rw same at (before_at (entry_names es) i at.0 e.weak.weak b.weak.weak o (name_at es i e there) (name_at es at.0 b at.1) lt))
       ])
     ]
 
@@ -428,7 +407,7 @@ without_name es w none = without_none w (listed es) (λ x c same.
 -- no more are in the list than there are entries
 pub listed_few : (es : List Entry) → length (listed es) ≤ length es
 listed_few [] = omega arith
-listed_few (e ∷ es) = subst (λ (l : List OldWeak). length l ≤ length (e ∷ es)) (sym (listed_cons e es)) (by_test (not e.left) (listed_few es))
+listed_few (e ∷ es) = rw (listed_cons e es) (by_test (not e.left) (listed_few es))
   where
     by_test : (b : Bool) → length (listed es) ≤ length es → length (cond b (e.weak ∷ listed es) (listed es)) ≤ length (e ∷ es)
     by_test true rest = omega (arith, rest)
@@ -479,10 +458,7 @@ marked_listed words [] = refl
 marked_listed words (e ∷ es) =
     let rest = marked_listed words es in
     let l : List OldWeak = alive_of words (listed es) in
-    listed_cons (marked words e) (map (marked words) es) ∙
-    ap (λ (m : List OldWeak). cond (not (marked words e).left) (e.weak ∷ m) m) rest ∙
-    ap (λ (b : Bool). cond b (e.weak ∷ l) l) (in_and_alive (is_alive words e.weak) e.left) ∙
-    sym (filter_cond (not e.left) (is_alive words) e.weak (listed es)) ∙ ap (alive_of words) (sym (listed_cons e es))
+    cc (listed_cons (marked words e) (map (marked words) es), rest, in_and_alive (is_alive words e.weak) e.left, filter_cond (not e.left) (is_alive words) e.weak (listed es), listed_cons e es)
 
 pub marked_dead : (words : List ℕ) (x : Entry) → slice_index words (value_place x.weak.at.0) ≡ 0 → marked words x ≡ record { weak = x.weak; left = true }
 marked_dead words x e =
@@ -514,18 +490,15 @@ module _ (words : List ℕ) (was es : List Entry) (i : ℕ) (lt : i < length was
   -- one that is in the list lies where its words are read
   pub next_listed : (nth_entry es i).left ≡ false → Contains (listed was) (nth_entry es i).weak
   next_listed in_ =
-      subst (λ (e : Entry). Contains (listed was) e.weak) (sym next_read)
-      (listed_has was (nth_entry was i) (contains_at was i (nth_entry was i) (entry_there was i lt)) (ap (λ (e : Entry). e.left) (sym next_read) ∙ in_))
+      rw next_read (listed_has was (nth_entry was i) (contains_at was i (nth_entry was i) (entry_there was i lt)) (ap (λ (e : Entry). e.left) (sym next_read) ∙ in_))
 
   pub marked_more : (y : Entry) → marked words (nth_entry es i) ≡ y → set es i y ≡ map (marked words) (take (i + 1) was) ++ drop (i + 1) was
-  marked_more y is = subst (λ (z : Entry). set es i z ≡ map (marked words) (take (i + 1) was) ++ drop (i + 1) was) is
-      (map_over_more (marked words) was es i (nth_entry es i) lt done (get_or_default es i no_entry (nth_entry es i) (omega (arith, lt, size))))
+  marked_more y is = rw is at (map_over_more (marked words) was es i (nth_entry es i) lt done (get_or_default es i no_entry (nth_entry es i) (omega (arith, lt, size))))
 
 pub marked_all : (words : List ℕ) (was es : List Entry) (i : ℕ) → length was ≤ i → es ≡ map (marked words) (take i was) ++ drop i was →
     es ≡ map (marked words) was
 marked_all words was es i le done =
-    done ∙ ap (λ (l : List Entry). map (marked words) l ++ drop i was) (take_all i was le) ∙
-    ap (λ (l : List Entry). map (marked words) was ++ l) (drop_all i was le) ∙ append-nil (map (marked words) was)
+    cc (done, take_all i was le, drop_all i was le, append-nil (map (marked words) was))
 
 -- who stands before a place, where the one just before it comes before a name
 pub before_last : (es : List Entry) (place : ℕ) (x : Entry) (weak : Name) → IsInOrder (entry_names es) → slice_get es place ≡ Some x →

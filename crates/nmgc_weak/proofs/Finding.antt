@@ -1,23 +1,6 @@
 -- Those that die, found one after another: in order, since the list is.
-use Rattle.std.proofs.Common.{◌≡◌, ◌+◌, ◌<◌, ℕ, zero, suc, List, [], ◌∷◌, ◌++◌, length, take, drop, get_or, refl, sym, ap, subst, ◌∙◌, append-nil, append_assoc, arith, inl, inr, ◌⊎◌}
-use Rattle.std.specs.Prelude.{Contains, slice_index}
-use Rattle.std.proofs.lemmas.List.Elements.{Contains-append_left, Contains-push, Contains-push_cases}
-use Rattle.nmgc_world_spec.specs.declared.value.Name.{Name}
-use Rattle.nmgc_world_spec.specs.Reach.{IsInOrder}
-use Rattle.nmgc_lists.specs.laws.Items.{contains_head, contains_tail, contains_cases}
-use Rattle.nmgc_world_spec.specs.laws.Orders.{in_order_first, in_order_rest, in_order_cons}
-use Rattle.nmgc_segment.specs.Marks.{IsEpoch}
-use Rattle.nmgc_alloc.specs.Numbered.{Segments}
-use Rattle.nmgc_heap_spec.specs.Places.{Place}
-use Rattle.nmgc_round.specs.View.{Opening}
-use Rattle.nmgc_mark.specs.Seen.{MarkerSeen}
-use Rattle.nmgc_weak.specs.declared.weaks.OldWeak.{OldWeak}
-use Rattle.nmgc_weak.specs.Resolve.{CanResolve}
-use Rattle.nmgc_weak.specs.Steps.{IsLostAt, IsLost, AreLost}
-use Rattle.nmgc_weak.specs.Weaks.{place_of, places_of, names_of, key_place}
-use Rattle.nmgc_weak.proofs.Showing.{lost_is}
-use Rattle.nmgc_weak.proofs.Saving.{has_place}
-use Rattle.nmgc_weak.specs.laws.Common.{names_same}
+use Rattle.nmgc_weak.proofs.Vocabulary.{◌≡◌, ◌+◌, ◌<◌, ℕ, zero, suc, List, [], ◌∷◌, ◌++◌, length, take, drop, get_or, refl, sym, ap, subst, ◌∙◌, append-nil, append_assoc, arith, inl, inr, ◌⊎◌, Contains, slice_index, Contains-append_left, Contains-push, Contains-push_cases, Name, IsInOrder, contains_head, contains_tail, contains_cases, in_order_first, in_order_rest, in_order_cons, IsEpoch, Segments, Place, Opening, MarkerSeen, OldWeak, CanResolve, IsLostAt, IsLost, AreLost, place_of, places_of, names_of, key_place, names_same}
+use Rattle.nmgc_weak.proofs.{Showing.lost_is, Saving.has_place}
 
 pub names_append : (xs ys : List OldWeak) → names_of (xs ++ ys) ≡ names_of xs ++ names_of ys
 names_append [] ys = refl
@@ -95,8 +78,7 @@ module _ (o : Opening) (words : List ℕ) (s : Segments) (k : MarkerSeen) (list 
   found_one lost =
       let is : IsLost o.core x.weak = (lost_is o words s k (places_of list) can epoch x.at.0 x.weak here).0 lost in
       let names : names_of (dying ++ x ∷ []) ++ names_of (drop (i + 1) list) ≡ names_of dying ++ names_of (drop i list) =
-      ap (λ (l : List Name). l ++ names_of (drop (i + 1) list)) (names_append dying (x ∷ [])) ∙
-      append_assoc (names_of dying) (x.weak ∷ []) (names_of (drop (i + 1) list)) ∙ ap (λ (l : List Name). names_of dying ++ l) (sym rest_is) in
+      cc (names_append dying (x ∷ []), append_assoc (names_of dying) (x.weak ∷ []) (names_of (drop (i + 1) list)), rest_is) in
       let places : places_of (dying ++ x ∷ []) ≡ places_of dying ++ place_of x ∷ [] = places_append dying (x ∷ []) in
       record {
         ordered = subst IsInOrder (sym names) h.ordered;
@@ -104,7 +86,7 @@ module _ (o : Opening) (words : List ℕ) (s : Segments) (k : MarkerSeen) (list 
           | inl old ↦ h.sound p old
           | inr same ↦ subst (λ (q : Place). Contains (places_of list) q × IsLost o.core q.name) same (here, is)
         ];
-        complete = λ p c l. subst (λ (m : List Place). Contains m p) (sym places) (elim (passed_more list i d p lt c) [
+        complete = λ p c l. rw places (elim (passed_more list i d p lt c) [
           | inl old ↦ Contains-append_left (places_of dying) (place_of x ∷ []) p (h.complete p old l)
           | inr same ↦ subst (λ (q : Place). Contains (places_of dying ++ place_of x ∷ []) q) same (Contains-push (places_of dying) (place_of x))
         ]);

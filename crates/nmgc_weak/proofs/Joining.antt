@@ -1,15 +1,5 @@
 -- Finalisers join their makers' queues one after another.
-use Rattle.std.proofs.Common.{◌≡◌, ◌≢◌, ◌+◌, ◌<◌, ◌≤◌, ℕ, zero, suc, Bool, true, false, cond, List, [], ◌∷◌, ◌++◌, map, length, take, set, get_or, refl, sym, ap, subst, ◌∙◌, append-nil, append_assoc, length-append, length-set, arith, inl, inr}
-use Rattle.std.specs.Prelude.{filter, slice_get, Some}
-use Rattle.std.specs.Option.{option_map}
-use Rattle.std.proofs.lemmas.List.{length-map, map-set}
-use Rattle.std.proofs.lemmas.Option.{slice_get-map, slice_get_within as get_within}
-use Rattle.std.proofs.lemmas.Bool.{cases_eq}
-use Rattle.std.proofs.lemmas.Bool.Decides.{eqb_tells}
-use Rattle.nmgc_lists.specs.laws.Items.{slice_get-set_same, slice_get-set_other, item as get_at}
-use Rattle.nmgc_object.specs.FinQueue.{FinQueue}
-use Rattle.nmgc_weak.specs.declared.weaks.Death.{Death}
-use Rattle.nmgc_weak.specs.Queues.{joins, joined, HaveRoom, Joins, AllJoin, HaveJoined}
+use Rattle.nmgc_weak.proofs.Vocabulary.{◌≡◌, ◌≢◌, ◌+◌, ◌<◌, ◌≤◌, ℕ, zero, suc, Bool, true, false, cond, List, [], ◌∷◌, ◌++◌, map, length, take, set, get_or, refl, sym, ap, subst, ◌∙◌, append-nil, append_assoc, length-append, length-set, arith, inl, inr, filter, slice_get, option_map, length-map, map-set, slice_get-map, get_within, cases_eq, eqb_tells, slice_get-set_same, slice_get-set_other, get_at, FinQueue, Death, joins, joined, HaveRoom, Joins, AllJoin, HaveJoined, Some}
 
 -- the word of a death, where it joins this queue
 abbrev pub one_of : ℕ → Death → List ℕ
@@ -29,10 +19,7 @@ joined_more maker [] i e lt = absurd (omega arith)
 joined_more maker (d ∷ ds) zero e lt = joined_cons maker d [] ∙ append-nil (one_of maker d)
 joined_more maker (d ∷ ds) (suc i) e lt =
     let z : suc i + 1 ≡ suc (i + 1) = omega arith in
-    ap (λ n. joined maker (take n (d ∷ ds))) z ∙ joined_cons maker d (take (i + 1) ds) ∙
-    ap (λ (l : List ℕ). one_of maker d ++ l) (joined_more maker ds i e (omega arith)) ∙
-    sym (append_assoc (one_of maker d) (joined maker (take i ds)) (one_of maker (get_or ds i e))) ∙
-    ap (λ (l : List ℕ). l ++ one_of maker (get_or ds i e)) (sym (joined_cons maker d (take i ds)))
+    cc (z, joined_cons maker d (take (i + 1) ds), joined_more maker ds i e (omega arith), append_assoc (one_of maker d) (joined maker (take i ds)) (one_of maker (get_or ds i e)), joined_cons maker d (take i ds))
 
 -- no more join of the first so many than in all
 pub joined_part : (maker : ℕ) (ds : List Death) (i : ℕ) (e : Death) → i < length ds →
@@ -87,8 +74,7 @@ one_word before between after words all w h is added spare =
     let l = ap length is ∙ length-append words (w ∷ []) in
     let s = h.spare in
     record {
-      words_are = added ∙ ap (λ (x : List ℕ). x ++ w ∷ []) h.words_are ∙ append_assoc before.words words (w ∷ []) ∙
-          ap (λ (x : List ℕ). before.words ++ x) (sym is);
+      words_are = cc (added, h.words_are, append_assoc before.words words (w ∷ []), is);
       spare = omega (arith, l, s);
     }
 
@@ -125,13 +111,11 @@ module _ (ds : List Death) (i : ℕ) (e : Death) (old now : List FinQueue) (lt :
         | inl same ↦
             let both : Some a.0 ≡ Some q = sym a.1 ∙ ap (λ (m : ℕ). slice_get now m) same ∙ here in
             let eq : a.0 ≡ q = cc in
-            let all : joined maker (take (i + 1) ds) ≡ joined maker (take i ds) ++ d.finaliser ∷ [] = joined_more maker ds i e lt ∙
-            ap (λ (l : List ℕ). joined maker (take i ds) ++ l) (ap (λ (m : ℕ). one_of m d) same ∙ own_joins d ne) in
+            let all : joined maker (take (i + 1) ds) ≡ joined maker (take i ds) ++ d.finaliser ∷ [] = cc (joined_more maker ds i e lt, same, own_joins d ne) in
             let within : d.weak.maker < length now = get_within now d.weak.maker q here in (
               r,
               ap (λ (m : ℕ). slice_get (set now d.weak.maker r) m) same ∙ slice_get-set_same now d.weak.maker r within,
-              one_word before a.0 r (joined maker (take i ds)) (joined maker (take (i + 1) ds)) d.finaliser a.2 all (words ∙
-                  ap (λ (x : FinQueue). x.words ++ d.finaliser ∷ []) (sym eq)) (spare ∙ ap (λ (x : FinQueue). x.spare) (sym eq)),
+              one_word before a.0 r (joined maker (take i ds)) (joined maker (take (i + 1) ds)) d.finaliser a.2 all (cc (words, eq)) (cc (spare, eq)),
             )
         | inr other ↦ (
           a.0,
@@ -183,9 +167,7 @@ module _ {M : Type 0} (queue : M → FinQueue) (with_queue : M → FinQueue → 
         slice_get now (get_or ds i e).weak.maker ≡ Some m → r.words ≡ (queue m).words ++ (get_or ds i e).finaliser ∷ [] →
         r.spare + 1 ≡ (queue m).spare → HaveJoined queue with_queue (take (i + 1) ds) old (set now (get_or ds i e).weak.maker (with_queue m r))
     one_joined own last m r ne here words spare = record {
-      joined = subst (λ (l : List FinQueue). AllJoin (take (i + 1) ds) (map queue old) l)
-          (sym (map-set queue now maker (with_queue m r) ∙ ap (λ (q : FinQueue). set (map queue now) maker q) (own m r)))
-          (one_joins ds i e (map queue old) (map queue now) lt h.joined (queue m) r ne (queue_at now maker m here) words spare);
+      joined = rw (map-set queue now maker (with_queue m r) ∙ ap (λ (q : FinQueue). set (map queue now) maker q) (own m r)) (one_joins ds i e (map queue old) (map queue now) lt h.joined (queue m) r ne (queue_at now maker m here) words spare);
       rest = λ k before is. by_maker k before (h.rest k before is);
     }
       where
@@ -200,8 +182,7 @@ module _ {M : Type 0} (queue : M → FinQueue) (with_queue : M → FinQueue → 
               let eq : m ≡ with_queue before a.0 = cc in
               let within : maker < length now = get_within now maker m here in (
                 r,
-                ap (λ (n : ℕ). slice_get (set now maker (with_queue m r)) n) same ∙ slice_get-set_same now maker (with_queue m r) within ∙
-                    ap (λ (x : M). Some (with_queue x r)) eq ∙ ap (λ (x : M). Some x) (last before a.0 r),
+                cc (same, slice_get-set_same now maker (with_queue m r) within, eq, last before a.0 r),
               )
           | inr other ↦ (a.0, slice_get-set_other now maker k (with_queue m r) other ∙ a.1)
         ]

@@ -1,29 +1,7 @@
 -- A weak pointer whose key is marked keeps its parts: they are marked, and the state may close as before.
-use Rattle.std.proofs.Common.{◌≡◌, ℕ, List, refl, sym, ap, subst, ◌∙◌, Option, Some, inl, inr}
-use Rattle.std.specs.Prelude.{Contains, IsSome, slice_index}
-use Rattle.nmgc_world_spec.specs.declared.value.Name.{Name}
-use Rattle.nmgc_world_spec.specs.declared.value.Value.{Value}
+use Rattle.nmgc_weak.proofs.Vocabulary.{◌≡◌, ℕ, List, refl, sym, ap, subst, ◌∙◌, Option, Some, inl, inr, Contains, IsSome, slice_index, Name, Value, Parts, node_of, IsAlive, IsKeptBy, IsLive, IsPlain, plain_key, live_key, Facts, State, part_there, Segments, Place, Means, Marks, marks_of, name_at, name_meant, with_name, now, Opening, MarkerSeen, IsReady, HasFinished, IsTied, AreApart, IsKeyMarked, CanKeep, HasKept, value_place, finaliser_place, one_parts, of_weak}
 use Rattle.nmgc_world_spec.specs.declared.value.Value.TheVariants as value
-use Rattle.nmgc_world_spec.specs.declared.node.Parts.{Parts}
-use Rattle.nmgc_world_spec.specs.World.{node_of}
-use Rattle.nmgc_world_spec.specs.Reach.{IsAlive, IsKeptBy, IsLive, IsPlain, plain_key, live_key}
-use Rattle.nmgc_snapshot_laws.specs.Facts.{Facts}
-use Rattle.nmgc_snapshot_laws.specs.State.{State}
-use Rattle.nmgc_snapshot_laws.specs.laws.Lives.{part_there}
-use Rattle.nmgc_alloc.specs.Numbered.{Segments}
-use Rattle.nmgc_heap_spec.specs.Places.{Place, Means}
-use Rattle.nmgc_round.specs.Marking.{Marks, marks_of, name_at, name_meant, with_name}
-use Rattle.nmgc_round.specs.Rule.{now}
-use Rattle.nmgc_round.specs.View.{Opening}
-use Rattle.nmgc_mark.specs.Seen.{MarkerSeen}
-use Rattle.nmgc_mark.specs.Stopped.{IsReady, HasFinished}
-use Rattle.nmgc_mark.specs.Tie.{IsTied, AreApart}
-use Rattle.nmgc_weak.specs.Steps.{IsKeyMarked, CanKeep, HasKept}
-use Rattle.nmgc_weak.specs.Weaks.{value_place, finaliser_place}
-use Rattle.nmgc_weak.proofs.Parts.{ref_in, named_at, meant, HasParts, has_parts, of_weak_tracked, may_queue}
-use Rattle.nmgc_weak.proofs.Stages.{with_marks, done_marks, Stage, CanMark, stage_mark, marked_there, marked_still, stage_ready, stage_begins, stage_done, done_goes}
-use Rattle.nmgc_world_laws.specs.laws.Closes.{same_parts as one_parts}
-use Rattle.nmgc_world_spec.specs.laws.Common.{of_weak}
+use Rattle.nmgc_weak.proofs.{Parts.ref_in, Parts.named_at, Parts.meant, Parts.HasParts, Parts.has_parts, Parts.of_weak_tracked, Parts.may_queue, Stages.with_marks, Stages.done_marks, Stages.Stage, Stages.CanMark, Stages.stage_mark, Stages.marked_there, Stages.marked_still, Stages.stage_ready, Stages.stage_begins, Stages.stage_done, Stages.done_goes}
 
 -- where the key of a weak pointer of the snapshot is marked, what it keeps is live
 kept_live : (s : State) → Facts s → (weak target : Name) (parts : Parts) → IsAlive s.snapshot weak parts → (key : Value) → parts.key ≡ key →
@@ -101,8 +79,7 @@ module _ (o : Opening) (words : List ℕ) (s : Segments) (marker : MarkerSeen) (
   -- so each is marked
   one_marked : (m : Marks) (name : Option Name) (target : Name) → name ≡ Some target → IsSome (node_of o.core.snapshot target) →
       Contains (with_name o.core.snapshot m name).marked target
-  one_marked m name target e there = subst (λ (n : Option Name).
-      Contains (with_name o.core.snapshot m n).marked target) (sym e) (marked_there o.core.snapshot m target there)
+  one_marked m name target e there = rw e (marked_there o.core.snapshot m target there)
 
   third_has : (target : Name) → IsKeptBy weak parts target → Contains third.marked target
   third_has target (inl e) =

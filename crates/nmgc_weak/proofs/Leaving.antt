@@ -1,12 +1,5 @@
 -- The list as weak pointers leave it: it stays in order.
-use Rattle.std.proofs.Common.{Bool, true, false, cond, List, [], ◌∷◌, subst, inl, inr}
-use Rattle.std.specs.Prelude.{Contains, filter}
-use Rattle.nmgc_world_spec.specs.declared.value.Name.{Name}
-use Rattle.nmgc_world_spec.specs.Reach.{IsInOrder, IsBefore}
-use Rattle.nmgc_world_spec.specs.laws.Orders.{in_order_first, in_order_rest, in_order_cons}
-use Rattle.nmgc_lists.specs.laws.Items.{contains_head, contains_tail, contains_cases}
-use Rattle.nmgc_weak.specs.declared.weaks.OldWeak.{OldWeak}
-use Rattle.nmgc_weak.specs.Weaks.{names_of}
+use Rattle.nmgc_weak.proofs.Vocabulary.{Bool, true, false, cond, List, [], ◌∷◌, subst, inl, inr, Contains, filter, Name, IsInOrder, IsBefore, in_order_first, in_order_rest, in_order_cons, contains_head, contains_tail, contains_cases, OldWeak, names_of}
 
 -- a part of a list in order
 in_kept : (b : Bool) (w : OldWeak) (kept ws : List OldWeak) (n : Name) → (Contains (names_of kept) n → Contains (names_of ws) n) →

@@ -21,3 +21,4 @@ pub mod Resolving
 pub mod Lists
 pub mod Closed
 pub mod Room
+mod Vocabulary

@@ -1,26 +1,6 @@
 -- What is left of the list once those with no value have left.
-use Rattle.std.proofs.Common.{◌≡◌, ◌+◌, ℕ, true, List, ◌∷◌, refl, sym, ap, subst, ◌∙◌, arith, Option, Some, None, inl, inr}
-use Rattle.std.specs.Prelude.{Contains, slice_index}
-use Rattle.nmgc_world_spec.specs.declared.value.Name.{Name}
-use Rattle.nmgc_world_spec.specs.declared.node.Node.TheVariants.{Weak}
-use Rattle.nmgc_world_spec.specs.declared.node.Parts.{Parts}
-use Rattle.nmgc_world_spec.specs.World.{World, node_of}
-use Rattle.nmgc_world_spec.specs.Reach.{IsAlive, IsAliveWeak, IsInOrder, IsReached}
-use Rattle.nmgc_lists.specs.laws.Items.{contains_head, contains_tail}
-use Rattle.nmgc_object.specs.declared.layout.Layout.{Layout}
-use Rattle.nmgc_object.specs.declared.size.TheConstants.{HEADER_WORDS}
-use Rattle.nmgc_heap_spec.specs.Places.{Place, Means}
-use Rattle.nmgc_heap_spec.specs.Represents.{Represents, NoNode}
-use Rattle.nmgc_heap_spec.specs.Roots.{ListsWeaks, IsListedWeak}
-use Rattle.nmgc_heap_spec.specs.Shape.{holds, unset}
-use Rattle.nmgc_heap_spec.specs.Tracked.{IsTracked}
-use Rattle.nmgc_weak.specs.declared.weaks.OldWeak.{OldWeak}
-use Rattle.nmgc_weak.specs.Closes.{KeepsOldWeaks, LeavingLists}
-use Rattle.nmgc_weak.specs.Weaks.{place_of, places_of, value_place, alive_of, is_alive}
-use Rattle.nmgc_weak.proofs.Dying.{alive_word, word_alive, set_word, filter_keeps, filter_had}
-use Rattle.nmgc_weak.specs.laws.Common.{names_same, of_place}
-use Rattle.nmgc_weak.proofs.Leaving.{filter_ordered}
-use Rattle.nmgc_weak.proofs.Saving.{has_place}
+use Rattle.nmgc_weak.proofs.Vocabulary.{◌≡◌, ◌+◌, ℕ, true, List, ◌∷◌, refl, sym, ap, subst, ◌∙◌, arith, Option, Some, None, inl, inr, Contains, slice_index, Name, Weak, Parts, World, node_of, IsAlive, IsAliveWeak, IsInOrder, IsReached, contains_head, contains_tail, Layout, HEADER_WORDS, Place, Means, Represents, NoNode, ListsWeaks, IsListedWeak, holds, unset, IsTracked, OldWeak, KeepsOldWeaks, LeavingLists, place_of, places_of, value_place, alive_of, is_alive, names_same, of_place}
+use Rattle.nmgc_weak.proofs.{Dying.alive_word, Dying.word_alive, Dying.set_word, Dying.filter_keeps, Dying.filter_had, Leaving.filter_ordered, Saving.has_place}
 
 module _ (layout : Layout) (past : List World) (places : List Place) (began w : World) (words : List ℕ) (list : List OldWeak)
     (r : Represents layout (began ∷

@@ -1,20 +1,8 @@
 -- A name of the snapshot that is opened and marked at once keeps the facts: so the machine goes on from the finalisers of
 -- those that die as if they had been opened.
-use Rattle.std.proofs.Common.{◌≡◌, ℕ, List, [], ◌∷◌, ◌++◌, refl, sym, subst, get_or, Option, Some, None, inl, inr}
-use Rattle.std.specs.Prelude.{Contains, IsSome, IfSome, All}
-use Rattle.std.proofs.lemmas.List.Elements.{Contains-push, Contains-push_cases}
-use Rattle.nmgc_world_spec.specs.declared.value.Name.{Name}
-use Rattle.nmgc_world_spec.specs.declared.value.Value.{Value}
+use Rattle.nmgc_weak.proofs.Vocabulary.{◌≡◌, ℕ, List, [], ◌∷◌, ◌++◌, refl, sym, subst, get_or, Option, Some, None, inl, inr, Contains, IsSome, IfSome, All, Contains-push, Contains-push_cases, Name, Value, Node, World, node_of, state_of, IsAlive, IsRoot, field, further, Names, Fields, CoversReach, HasStrongField, MayHold, AsThen, IsSafe, Kept, Base, Facts, owed, pushed, marked, State, mark_name, all_from_contains, live_more, mark_base, mark_cases, still_marked, kept_then}
+use Rattle.nmgc_snapshot_laws.specs.{Facts.queued, Facts.unmarked, State.names_of, laws.Marking.marked_then}
 use Rattle.nmgc_world_spec.specs.declared.value.Value.TheVariants as value
-use Rattle.nmgc_world_spec.specs.declared.node.Node.{Node}
-use Rattle.nmgc_world_spec.specs.World.{World, node_of, state_of}
-use Rattle.nmgc_world_spec.specs.Reach.{IsAlive, IsRoot, field, further}
-use Rattle.nmgc_world_laws.specs.Holds.{Names, Fields, CoversReach, HasStrongField}
-use Rattle.nmgc_snapshot_laws.specs.Facts.{MayHold, AsThen, IsSafe, Kept, Base, Facts, owed, pushed, queued, marked, unmarked}
-use Rattle.nmgc_snapshot_laws.specs.State.{State, names_of, mark_name}
-use Rattle.nmgc_snapshot_laws.specs.laws.Listed.{all_from_contains}
-use Rattle.nmgc_snapshot_laws.specs.laws.Lives.{live_more}
-use Rattle.nmgc_snapshot_laws.specs.laws.Marking.{mark_base, mark_cases, marked_then, still_marked, kept_then}
 
 module _ (s : State) (f : Facts s) (added : Name) (there : IsSome (node_of s.snapshot added)) where
   -- the name is opened

@@ -1,29 +1,6 @@
 -- The words of a weak pointer, and which names they mark.
-use Rattle.std.proofs.Common.{ne_eqb, eq-eqb, ◌≡◌, ◌+◌, ◌*◌, ◌/◌, ◌%◌, ℕ, true, false, eqb, List, [], ◌∷◌, refl, sym, ap, subst, ◌∙◌, arith, Option, Some, None, inl, inr}
-use Rattle.std.specs.Prelude.{Contains, IsSome, slice_index, slice_get}
-use Rattle.nmgc_world_spec.specs.declared.value.Name.{Name}
-use Rattle.nmgc_world_spec.specs.declared.value.Value.{Value}
+use Rattle.nmgc_weak.proofs.Vocabulary.{ne_eqb, eq-eqb, ◌≡◌, ◌+◌, ◌*◌, ◌/◌, ◌%◌, ℕ, true, false, eqb, List, [], ◌∷◌, refl, sym, ap, subst, ◌∙◌, arith, Option, Some, None, inl, inr, Contains, IsSome, slice_index, slice_get, Name, Value, Weak, Parts, World, node_of, IsAlive, IsReached, contains_head, is_some_of, HEADER_WORDS, entry_of, IsWide, IsOfWeak, Place, Means, holds, slots_of, IsTracked, AreEarlier, name_at, name_meant, earlier, IsQueued, CanOpen, Opening, AreApart, key_place, value_place, finaliser_place, some_at}
 use Rattle.nmgc_world_spec.specs.declared.value.Value.TheVariants as value
-use Rattle.nmgc_world_spec.specs.declared.node.Node.TheVariants.{Weak}
-use Rattle.nmgc_world_spec.specs.declared.node.Parts.{Parts}
-use Rattle.nmgc_world_spec.specs.World.{World, node_of}
-use Rattle.nmgc_world_spec.specs.Reach.{IsAlive, IsReached}
-use Rattle.nmgc_lists.specs.laws.Items.{contains_head, is_some_of}
-use Rattle.nmgc_object.specs.declared.size.TheConstants.{HEADER_WORDS}
-use Rattle.nmgc_snapshot_laws.specs.State.{entry_of}
-use Rattle.nmgc_world_spec.specs.Wide.{IsWide, IsOfWeak}
-use Rattle.nmgc_heap_spec.specs.Places.{Place, Means}
-use Rattle.nmgc_heap_spec.specs.Shape.{holds, slots_of}
-use Rattle.nmgc_heap_spec.specs.Tracked.{IsTracked}
-use Rattle.nmgc_heap_spec.specs.Changes.{AreEarlier}
-use Rattle.nmgc_round.specs.Marking.{name_at, name_meant}
-use Rattle.nmgc_round.specs.Objects.{earlier}
-use Rattle.nmgc_round.specs.Rule.{IsQueued}
-use Rattle.nmgc_round.specs.Starting.{CanOpen}
-use Rattle.nmgc_round.specs.View.{Opening}
-use Rattle.nmgc_mark.specs.Tie.{AreApart}
-use Rattle.nmgc_weak.specs.Weaks.{key_place, value_place, finaliser_place}
-use Rattle.nmgc_round.specs.laws.Common.{some_at}
 
 -- the name that a value refers to
 abbrev pub ref_in : Value → Option Name

@@ -1,31 +1,7 @@
 -- A pass over the list, and that one which marks nothing leaves nothing to be kept.
-use Rattle.std.proofs.Common.{◌≡◌, ◌+◌, ◌<◌, ℕ, zero, suc, List, [], ◌∷◌, ◌++◌, length, take, get_or, refl, sym, ap, subst, ◌∙◌, append-nil, append_assoc, length-append, arith, inl, inr, ◌⊎◌}
-use Rattle.std.specs.Prelude.{Contains, IsSome, slice_index}
-use Rattle.std.proofs.lemmas.List.Elements.{Contains-append_left, Contains-push_cases}
-use Rattle.nmgc_world_spec.specs.declared.value.Name.{Name}
-use Rattle.nmgc_world_spec.specs.declared.value.Value.{Value}
+use Rattle.nmgc_weak.proofs.Vocabulary.{◌≡◌, ◌+◌, ◌<◌, ℕ, zero, suc, List, [], ◌∷◌, ◌++◌, length, take, get_or, refl, sym, ap, subst, ◌∙◌, append-nil, append_assoc, length-append, arith, inl, inr, ◌⊎◌, Contains, IsSome, slice_index, Contains-append_left, Contains-push_cases, Name, Value, Parts, node_of, IsAlive, IsKeptBy, contains_head, one_is, IsWaiting, IsEpoch, Segments, IsSnapshotAt, Place, Opening, MarkerSeen, HasRoomToMark, HasMarked, marked_none, OldWeak, CanResolve, IsKeyMarked, IsKeyMarkedWord, IsLostAt, IsLost, MarksOn, GoesTo, GoesOn, CanKeep, HasKept, HasPassed, HasRevived, place_of, places_of, names_of, key_place, one_parts}
 use Rattle.nmgc_world_spec.specs.declared.value.Value.TheVariants as value
-use Rattle.nmgc_world_spec.specs.declared.node.Parts.{Parts}
-use Rattle.nmgc_world_spec.specs.World.{node_of}
-use Rattle.nmgc_world_spec.specs.Reach.{IsAlive, IsKeptBy}
-use Rattle.nmgc_lists.specs.laws.Items.{contains_head, one_is}
-use Rattle.nmgc_snapshot_laws.specs.Closing.{IsWaiting}
-use Rattle.nmgc_segment.specs.Marks.{IsEpoch}
-use Rattle.nmgc_alloc.specs.Numbered.{Segments}
-use Rattle.nmgc_alloc.specs.Blocks.{IsSnapshotAt}
-use Rattle.nmgc_heap_spec.specs.Places.{Place}
-use Rattle.nmgc_round.specs.View.{Opening}
-use Rattle.nmgc_mark.specs.Seen.{MarkerSeen}
-use Rattle.nmgc_mark.specs.Marker.{HasRoomToMark, HasMarked}
-use Rattle.nmgc_mark.specs.laws.Common.{marked_none}
-use Rattle.nmgc_weak.specs.declared.weaks.OldWeak.{OldWeak}
-use Rattle.nmgc_weak.specs.Resolve.{CanResolve}
-use Rattle.nmgc_weak.specs.Steps.{IsKeyMarked, IsKeyMarkedWord, IsLostAt, IsLost, MarksOn, GoesTo, GoesOn, CanKeep, HasKept, HasPassed, HasRevived}
-use Rattle.nmgc_weak.specs.Weaks.{place_of, places_of, names_of, key_place}
-use Rattle.nmgc_weak.proofs.Showing.{snapshot_is, snapshot_back, lost_is, shown_is}
-use Rattle.nmgc_world_laws.specs.laws.Closes.{same_parts as one_parts}
-use Rattle.nmgc_weak.proofs.Counting.{marked_sum}
-use Rattle.nmgc_weak.proofs.Saving.{listed_place, place_has_name}
+use Rattle.nmgc_weak.proofs.{Showing.snapshot_is, Showing.snapshot_back, Showing.lost_is, Showing.shown_is, Counting.marked_sum, Saving.listed_place, Saving.place_has_name}
 
 -- the same opening with more marks
 abbrev marking : Opening → List Name → Opening
@@ -67,9 +43,6 @@ waiting_back o p m weak parts h =
       alive = subst (λ w. IsAlive w weak parts) back h.alive;
       not_finalised = λ c. h.not_finalised (subst (λ (l : List Name). Contains l weak) (sym fin) c);
     }
-
-alive_on : (o p : Opening) → MarksOn o p → (weak : Name) (parts : Parts) → IsAlive o.core.world weak parts → IsAlive p.core.world weak parts
-alive_on o p m weak parts h = subst (λ w. IsAlive w weak parts) (sym (ap (λ (x : Opening). x.core.world) m.rest)) h
 
 pub then_goes : (o p q : Opening) (words : List ℕ) (s t : Segments) (k l : MarkerSeen) (weaks : List Place) → GoesTo o p words s k weaks →
     GoesTo p q words t l weaks → GoesTo o q words t l weaks

@@ -1,38 +1,7 @@
 -- The steps of a closing together.
-use Rattle.std.proofs.Common.{true, map, ◌≡◌, ◌+◌, ◌*◌, ◌<◌, ◌^◌, ℕ, zero, suc, List, [], ◌∷◌, refl, sym, ap, subst, ◌∙◌, arith, Some, inl}
-use Rattle.std.specs.Prelude.{Contains, slice_index}
-use Rattle.nmgc_world_spec.specs.declared.value.Name.{Name}
-use Rattle.nmgc_world_spec.specs.declared.value.Value.{Value}
+use Rattle.nmgc_weak.proofs.Vocabulary.{true, map, ◌≡◌, ◌+◌, ◌*◌, ◌<◌, ◌^◌, ℕ, zero, suc, List, [], ◌∷◌, refl, sym, ap, subst, ◌∙◌, arith, Some, inl, Contains, slice_index, Name, Value, Weak, Parts, World, closed, HEADER_WORDS, IsClosing, State, Segments, Place, Means, size_of, Marks, marks_of, earlier, contains_head, contains_tail, Represents, NoNode, ListsWeaks, Opening, MarkerSeen, IsTied, OldWeak, Death, CanResolve, AreDeaths, HasResolved, AreLost, MarksOn, HasRescued, place_of, places_of, names_of, deaths_of, without_values, alive_of, IsWithin, AreWithin, HaveLostValues, of_place, lies_within}
 use Rattle.nmgc_world_spec.specs.declared.value.Value.TheVariants as value
-use Rattle.nmgc_world_spec.specs.declared.node.Node.TheVariants.{Weak}
-use Rattle.nmgc_world_spec.specs.declared.node.Parts.{Parts}
-use Rattle.nmgc_world_spec.specs.World.{World}
-use Rattle.nmgc_world_spec.specs.Reach.{closed}
-use Rattle.nmgc_object.specs.declared.size.TheConstants.{HEADER_WORDS}
-use Rattle.nmgc_snapshot_laws.specs.Closing.{IsClosing}
-use Rattle.nmgc_snapshot_laws.specs.State.{State}
-use Rattle.nmgc_alloc.specs.Numbered.{Segments}
-use Rattle.nmgc_heap_spec.specs.Places.{Place, Means}
-use Rattle.nmgc_heap_spec.specs.Shape.{size_of}
-use Rattle.nmgc_round.specs.Marking.{Marks, marks_of}
-use Rattle.nmgc_round.specs.Objects.{earlier}
-use Rattle.nmgc_lists.specs.laws.Items.{contains_head, contains_tail}
-use Rattle.nmgc_heap_spec.specs.Represents.{Represents, NoNode}
-use Rattle.nmgc_heap_spec.specs.Roots.{ListsWeaks}
-use Rattle.nmgc_round.specs.View.{Opening}
-use Rattle.nmgc_mark.specs.Seen.{MarkerSeen}
-use Rattle.nmgc_mark.specs.Tie.{IsTied}
-use Rattle.nmgc_weak.specs.declared.weaks.OldWeak.{OldWeak}
-use Rattle.nmgc_weak.specs.declared.weaks.Death.{Death}
-use Rattle.nmgc_weak.specs.Resolve.{CanResolve, AreDeaths, HasResolved}
-use Rattle.nmgc_weak.specs.Steps.{AreLost, MarksOn, HasRescued}
-use Rattle.nmgc_weak.specs.Weaks.{place_of, places_of, names_of, deaths_of, without_values, alive_of, IsWithin, AreWithin, HaveLostValues}
-use Rattle.nmgc_weak.proofs.Parts.{HasParts, has_parts, of_weak_tracked}
-use Rattle.nmgc_weak.proofs.Closing.{closes, closed_dead, closed_kept}
-use Rattle.nmgc_weak.proofs.Dying.{AreAlive, all_die, lists_closed}
-use Rattle.nmgc_weak.proofs.Saving.{has_place}
-use Rattle.nmgc_weak.specs.laws.Common.{of_place}
-use Rattle.nmgc_heap_spec.specs.laws.Common.{lies_within}
+use Rattle.nmgc_weak.proofs.{Parts.HasParts, Parts.has_parts, Parts.of_weak_tracked, Closing.closes, Closing.closed_dead, Closing.closed_kept, Dying.AreAlive, Dying.all_die, Dying.lists_closed, Saving.has_place}
 
 -- a pointer is no larger than a place may be
 small_word : (o : Opening) (words : List ℕ) (s : Segments) (k : MarkerSeen) (weaks : List Place) (w : ℕ) (v : Value) →
@@ -61,8 +30,7 @@ can_within o words s k list h x c =
     record { inside = omega arith; small = small has }
   where
     at_place : (i j : ℕ) (v : Value) → i ≡ j → Means (Contains o.places) (slice_index words i) v → (to : ℕ) → slice_index words j ≡ 2 * to → to < 2 ^ 32
-    at_place i j v e m to f = small_word o words s k (places_of list) (slice_index words j) v h (subst (λ (n : ℕ).
-        Means (Contains o.places) (slice_index words n) v) e m) to f
+    at_place i j v e m to f = small_word o words s k (places_of list) (slice_index words j) v h (rw e at m) to f
 
     small : {parts : Parts} → HasParts o words x.at.0 parts → (i to : ℕ) → i < 3 → slice_index words (x.at.0 + HEADER_WORDS + i) ≡ 2 * to → to < 2 ^ 32
     small {parts} m zero to lt e = at_place (x.at.0 + 2) (x.at.0 + HEADER_WORDS + 0) parts.key (omega arith) m.key to e
@@ -130,8 +98,7 @@ module _ (o : Opening) (words : List ℕ) (s t u : Segments) (k l n : MarkerSeen
   from_marks m g lost saved =
       let c = closing_back o m words s t k l (places_of list) h g saved.next saved.closing in
       let dead : c.0.dead ≡ names_of dying = c.1 ∙ saved.dead in
-      let world : saved.next.world ≡ closed o.core.world (names_of dying) = ap (λ (x : State). x.world) c.0.rest ∙
-      ap (λ (x : List Name). closed o.core.world x) dead in
+      let world : saved.next.world ≡ closed o.core.world (names_of dying) = cc (c.0.rest, dead) in
       let opens = h.ready.opens in
       let alive : AreAlive o.places o.core.world dying = λ x d.
       let y = h.listed.sound (place_of x) (lost.sound (place_of x) (has_place dying x d)).0 in (y.0, y.1) in
@@ -143,7 +110,7 @@ module _ (o : Opening) (words : List ℕ) (s t u : Segments) (k l n : MarkerSeen
         closing = c.0;
         once = saved.once;
         tied = tied_back m (marks_of saved.next) saved.tied;
-        deaths_are = subst (λ (x : List Name). AreDeaths o x (deaths_of words dying)) (sym dead) (deaths_told o words s k list dying h (λ x d.
+        deaths_are = rw dead (deaths_told o words s k list dying h (λ x d.
             (lost.sound (place_of x) (has_place dying x d)).0));
         represents = subst (λ (w : World). Represents o.layout (earlier o) NoNode o.places w (without_values words dying)) (sym world) repr;
         listed = subst (λ (w : World). ListsWeaks o.layout o.places w (places_of (alive_of (without_values words dying) list))) (sym world) lists;

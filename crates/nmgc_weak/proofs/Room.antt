@@ -1,24 +1,6 @@
 -- The deaths have room in the queues of their makers.
-use Rattle.std.proofs.Common.{◌≡◌, ◌+◌, ◌≤◌, ◌<◌, ℕ, Bool, true, false, cond, eqb, List, [], ◌∷◌, map, length, refl, sym, ap, subst, ◌∙◌, length-append, arith, Option, inl, inr}
-use Rattle.std.specs.Prelude.{Contains, is_some, count_by, ◌==◌, ◌&&◌}
-use Rattle.std.proofs.lemmas.Bool.Decides.{eqb_tells}
-use Rattle.std.proofs.lemmas.List.Sums.{sum_by-cons}
-use Rattle.nmgc_world_spec.specs.declared.value.Name.{Name}
-use Rattle.nmgc_world_spec.specs.declared.node.Node.{Node}
-use Rattle.nmgc_world_spec.specs.World.{World, node_of}
-use Rattle.nmgc_world_spec.specs.Reach.{IsBefore, IsInOrder}
-use Rattle.nmgc_lists.specs.laws.Items.{contains_head, contains_tail, contains_cases}
-use Rattle.nmgc_world_spec.specs.laws.Orders.{in_order_first, in_order_rest, not_before_itself, before_trans, name_cases}
-use Rattle.nmgc_world_laws.specs.laws.Weaks.{weak_maker}
-use Rattle.nmgc_snapshot_laws.specs.Closing.{IsDying}
-use Rattle.nmgc_heap_spec.specs.Places.{Place}
-use Rattle.nmgc_round.specs.View.{Opening}
-use Rattle.nmgc_weak.specs.declared.weaks.Death.{Death}
-use Rattle.nmgc_weak.specs.Closes.{DeathsHaveRoom}
-use Rattle.nmgc_weak.specs.Queues.{joins, joined}
-use Rattle.nmgc_weak.specs.Resolve.{AreDeaths}
-use Rattle.nmgc_weak.proofs.Joining.{one_of, joined_cons}
-use Rattle.nmgc_weak.proofs.Saving.{listed_place}
+use Rattle.nmgc_weak.proofs.Vocabulary.{◌≡◌, ◌+◌, ◌≤◌, ◌<◌, ℕ, Bool, true, false, cond, eqb, List, [], ◌∷◌, map, length, refl, sym, ap, subst, ◌∙◌, length-append, arith, Option, inl, inr, Contains, is_some, count_by, ◌==◌, ◌&&◌, eqb_tells, sum_by-cons, Name, Node, World, node_of, IsBefore, IsInOrder, contains_head, contains_tail, contains_cases, in_order_first, in_order_rest, not_before_itself, before_trans, name_cases, weak_maker, IsDying, Place, Opening, Death, DeathsHaveRoom, joins, joined, AreDeaths}
+use Rattle.nmgc_weak.proofs.{Joining.one_of, Joining.joined_cons, Saving.listed_place}
 
 -- how many a test passes
 abbrev pub one_if : Bool → ℕ
@@ -67,8 +49,7 @@ part_counts f (x ∷ xs) (y ∷ ys) o p sub = elim (name_cases x y) [
 -- a count over places is one over their names
 names_count : (g : Name → Bool) (weaks : List Place) → count_by g (map (λ (p : Place). p.name) weaks) ≡ count_by (λ (p : Place). g p.name) weaks
 names_count g [] = refl
-names_count g (p ∷ ps) = count_cons g p.name (map (λ (q : Place). q.name) ps) ∙ ap (λ (n : ℕ). one_if (g p.name) + n) (names_count g ps) ∙
-    sym (count_cons (λ (q : Place). g q.name) p ps)
+names_count g (p ∷ ps) = cc (count_cons g p.name (map (λ (q : Place). q.name) ps), names_count g ps, count_cons (λ (q : Place). g q.name) p ps)
 
 -- the test of a queue
 abbrev of_queue : World → ℕ → Name → Bool
@@ -109,8 +90,7 @@ makers_there o [] [] h a x c = absurd (omega (arith, c.1))
 makers_there o [] (y ∷ ys) h a x c = absurd a
 makers_there o (d ∷ ds) [] h a x c = absurd a
 makers_there o (d ∷ ds) (y ∷ ys) h a x c = elim (contains_cases y ys x c) [
-  | inl same ↦ subst (λ (z : Death). z.weak.maker < length o.core.world.mutators) same (subst (λ (n : Name).
-      n.maker < length o.core.world.mutators) (sym a.0.0) (h d (contains_head d ds)))
+  | inl same ↦ rw (← same) (rw a.0.0 (h d (contains_head d ds)))
   | inr e ↦ makers_there o ds ys (λ n k. h n (contains_tail d ds n k)) a.1 x e
 ]
 

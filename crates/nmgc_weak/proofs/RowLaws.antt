@@ -1,26 +1,11 @@
 -- Rows of the list, one after another: who joins and who leaves.
-use Rattle.std.proofs.Common.{◌≡◌, ◌≢◌, ◌⊎◌, ◌↔◌, ◌+◌, ◌<◌, ◌≤◌, ℕ, zero, suc, Bool, true, false, cond, eqb, eq-eqb, ne_eqb, slice_index, List, [], ◌∷◌, ◌++◌, length, length-append, length-set, take, drop, get_or, append-nil, set, refl, sym, ap, subst, ◌∙◌, arith, Some, inl, inr}
-use Rattle.std.specs.Prelude.{Contains, filter, slice_get, not}
-use Rattle.std.specs.List.{count_by}
-use Rattle.std.proofs.lemmas.Grind.{flat_map-append}
-use Rattle.std.proofs.lemmas.List.{take_at}
-use Rattle.std.proofs.lemmas.List.Sums.{count_by-le-length, length-filter, sum_by-append, sum_by-cons}
-use Rattle.std.proofs.lemmas.Bool.{and_from, cases_eq, cases_lt}
-use Rattle.std.proofs.lemmas.Option.{none-some, same_Some, slice_get_within}
-use Rattle.std.proofs.lemmas.List.Elements.{Contains-append_left, Contains-append_right, Contains-append_cases, filter-append}
+use Rattle.std.proofs.{Common.◌≡◌, Common.◌≢◌, Common.◌⊎◌, Common.◌↔◌, Common.◌+◌, Common.◌<◌, Common.◌≤◌, Common.ℕ, Common.zero, Common.suc, Common.Bool, Common.true, Common.false, Common.cond, Common.eqb, Common.eq-eqb, Common.ne_eqb, Common.slice_index, Common.List, Common.[], Common.◌∷◌, Common.◌++◌, Common.length, Common.length-append, Common.length-set, Common.take, Common.drop, Common.get_or, Common.append-nil, Common.set, Common.refl, Common.sym, Common.ap, Common.subst, Common.◌∙◌, Common.arith, Common.Some, Common.inl, Common.inr, lemmas.Grind.flat_map-append, lemmas.List.take_at, lemmas.List.Sums.count_by-le-length, lemmas.List.Sums.length-filter, lemmas.List.Sums.sum_by-append, lemmas.List.Sums.sum_by-cons, lemmas.Bool.and_from, lemmas.Bool.cases_eq, lemmas.Bool.cases_lt, lemmas.Option.none-some, lemmas.Option.same_Some, lemmas.Option.slice_get_within, lemmas.List.Elements.Contains-append_left, lemmas.List.Elements.Contains-append_right, lemmas.List.Elements.Contains-append_cases, lemmas.List.Elements.filter-append}
+use Rattle.std.specs.{Prelude.Contains, Prelude.filter, Prelude.slice_get, Prelude.not, List.count_by}
 use Rattle.nmgc_limits.specs.declared.mutators.TheConstants.{MAKERS}
-use Rattle.nmgc_world_spec.specs.declared.value.Name.{Name}
-use Rattle.nmgc_world_spec.specs.Reach.{IsBefore, IsInOrder}
-use Rattle.nmgc_world_spec.specs.laws.Orders.{same_name, in_order_first, in_order_rest, in_order_cons}
-use Rattle.nmgc_object.specs.Words.{IsName, name_word}
-use Rattle.nmgc_lists.specs.laws.Items.{contains_head, contains_tail, map_contains, filter_contains, item, nothing_in, slice_get-set_same, slice_get-set_other}
-use Rattle.nmgc_lists.specs.laws.Truths.{eq_true, and_both, false_of, same_test, unmarked}
-use Rattle.nmgc_weak.specs.declared.weaks.OldWeak.{OldWeak}
-use Rattle.nmgc_weak.specs.Rows.{Row, is_same, without, list_of, row_of, AreRows, leaves_at, left_at}
-use Rattle.nmgc_weak.specs.Weaks.{names_of, is_alive, value_place}
-use Rattle.nmgc_weak.specs.laws.Left.{filter_all, filter_same}
-use Rattle.nmgc_weak.proofs.Finding.{names_append}
-use Rattle.nmgc_weak.proofs.Entries.{is_same_itself, is_same_true, same_old}
+use Rattle.nmgc_world_spec.specs.{declared.value.Name.Name, Reach.IsBefore, Reach.IsInOrder, laws.Orders.in_order_first, laws.Orders.in_order_rest, laws.Orders.in_order_cons}
+use Rattle.nmgc_lists.specs.{laws.Items.contains_head, laws.Items.contains_tail, laws.Items.map_contains, laws.Items.filter_contains, laws.Items.item, laws.Items.nothing_in, laws.Items.slice_get-set_same, laws.Items.slice_get-set_other, laws.Truths.eq_true, laws.Truths.and_both, laws.Truths.false_of, laws.Truths.same_test, laws.Truths.unmarked}
+use Rattle.nmgc_weak.specs.{declared.weaks.OldWeak.OldWeak, Weaks.names_of, Weaks.is_alive, Weaks.value_place, laws.Left.filter_all, laws.Left.filter_same, Rows.Row, Rows.is_same, Rows.without, Rows.list_of, Rows.row_of, Rows.AreRows, Rows.leaves_at, Rows.left_at}
+use Rattle.nmgc_weak.proofs.{Finding.names_append, Entries.is_same_itself, Entries.is_same_true, Entries.same_old}
 
 -- rows one after another: names of an earlier row come before those of a later one
 rows_before : (a b : Name) → row_of a < row_of b → IsBefore a b
@@ -236,13 +221,6 @@ filtered_few p l =
     let counted : length (filter p l) ≡ count_by p l = length-filter p l in
     let most : count_by p l ≤ length l = count_by-le-length p l in
     omega (arith, counted, most)
-
--- two names of one word are one
-pub one_name : (a b : Name) → IsName a → IsName b → name_word a ≡ name_word b → a ≡ b
-one_name a b p q e =
-    let first = p.0 in
-    let second = q.0 in
-    same_name a b (omega (arith, first, second, e)) (omega (arith, first, second, e))
 
 -- who leaves at a place: one whose value word is 0, and nobody where there is none such
 pub none_leaves : (words : List ℕ) (at : ℕ) (list : List OldWeak) →

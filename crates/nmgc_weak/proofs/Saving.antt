@@ -1,43 +1,9 @@
 -- The finalisers of those that die are marked, with all that they reach: then the machine has closed but for the words.
-use Rattle.std.proofs.Common.{◌≡◌, ◌<◌, ◌+◌, ℕ, Bool, true, cond, List, [], ◌∷◌, ◌++◌, length, refl, sym, ap, subst, ◌∙◌, append_assoc, ◌≤◌, arith, Option, Some, None, inl, inr}
-use Rattle.std.specs.Prelude.{Contains, IsSome, slice_get, slice_index}
-use Rattle.std.proofs.lemmas.Bool.{cases_lt}
-use Rattle.std.proofs.lemmas.List.Elements.{Contains-append_left, Contains-push_cases}
-use Rattle.nmgc_world_spec.specs.declared.value.Name.{Name}
-use Rattle.nmgc_world_spec.specs.declared.value.Value.{Value}
-use Rattle.nmgc_world_spec.specs.declared.value.Value.TheVariants as value
-use Rattle.nmgc_world_spec.specs.declared.node.Node.TheVariants.{Weak}
-use Rattle.nmgc_world_spec.specs.declared.node.Parts.{Parts}
-use Rattle.nmgc_world_spec.specs.World.{node_of}
-use Rattle.nmgc_world_spec.specs.Reach.{IsAlive, IsKept, IsDead, Lists, RefersTo, closed}
-use Rattle.nmgc_lists.specs.laws.Items.{contains_head, contains_tail, contains_cases, get_is_some, contains_at, place_of}
-use Rattle.nmgc_world_laws.specs.laws.Weaks.{weak_maker}
-use Rattle.nmgc_world_laws.specs.laws.Worlds.{not_shared}
-use Rattle.nmgc_object.specs.Places.{InSegment}
-use Rattle.nmgc_snapshot_laws.specs.Closing.{IsWaiting}
-use Rattle.nmgc_snapshot_laws.specs.Facts.{Facts}
-use Rattle.nmgc_snapshot_laws.specs.State.{State, entry_of, with_mark, mark_name}
+use Rattle.nmgc_weak.proofs.Vocabulary.{◌≡◌, ◌<◌, ◌+◌, ℕ, Bool, true, cond, List, [], ◌∷◌, ◌++◌, length, refl, sym, ap, subst, ◌∙◌, append_assoc, ◌≤◌, arith, Option, Some, None, inl, inr, Contains, IsSome, slice_get, slice_index, cases_lt, Contains-append_left, Contains-push_cases, Name, Value, Weak, Parts, node_of, IsAlive, IsKept, IsDead, Lists, RefersTo, closed, contains_head, contains_tail, contains_cases, get_is_some, contains_at, weak_maker, not_shared, InSegment, IsWaiting, Facts, State, entry_of, with_mark, mark_name, part_there, Segments, Place, Means, Marks, marks_of, name_meant, with_name, IsQueued, now, Opening, MarkerSeen, IsReady, HasFinished, IsTied, AreQueued, OldWeak, CanResolve, IsLost, CanRescue, HasRescued, place_at, places_of, names_of, finaliser_place, one_parts, of_place}
+use Rattle.nmgc_lists.specs.laws.Items.{place_of}
 use Rattle.nmgc_snapshot_laws.specs.declared.event.Entry.{Entry}
-use Rattle.nmgc_snapshot_laws.specs.laws.Lives.{part_there}
-use Rattle.nmgc_alloc.specs.Numbered.{Segments}
-use Rattle.nmgc_heap_spec.specs.Places.{Place, Means}
-use Rattle.nmgc_round.specs.Marking.{Marks, marks_of, name_meant, with_name}
-use Rattle.nmgc_round.specs.Rule.{IsQueued, now}
-use Rattle.nmgc_round.specs.View.{Opening}
-use Rattle.nmgc_mark.specs.Seen.{MarkerSeen}
-use Rattle.nmgc_mark.specs.Stopped.{IsReady, HasFinished}
-use Rattle.nmgc_mark.specs.Tie.{IsTied, AreQueued}
-use Rattle.nmgc_weak.specs.declared.weaks.OldWeak.{OldWeak}
-use Rattle.nmgc_weak.specs.Resolve.{CanResolve}
-use Rattle.nmgc_weak.specs.Steps.{IsLost, CanRescue, HasRescued}
-use Rattle.nmgc_weak.specs.Weaks.{place_of as place_at, places_of, names_of, finaliser_place}
-use Rattle.nmgc_weak.proofs.Parts.{ref_in, meant, has_parts, of_weak_tracked, may_queue}
-use Rattle.nmgc_world_laws.specs.laws.Closes.{same_parts as one_parts}
-use Rattle.nmgc_weak.proofs.Stages.{remade, done_marks, name_cases, push_once, marked_there, marked_still, Stage, stage_mark, stage_ready, stage_begins, IsDone, stage_done}
-use Rattle.nmgc_weak.proofs.Opens.{opened_facts}
-use Rattle.nmgc_weak.proofs.Clean.{scans_clean, clean_from}
-use Rattle.nmgc_weak.proofs.Closing.{live_marked, field_marked, lost_dead, dead_lost, closes}
-use Rattle.nmgc_weak.specs.laws.Common.{of_place}
+use Rattle.nmgc_world_spec.specs.declared.value.Value.TheVariants as value
+use Rattle.nmgc_weak.proofs.{Parts.ref_in, Parts.meant, Parts.has_parts, Parts.of_weak_tracked, Parts.may_queue, Stages.remade, Stages.done_marks, Stages.name_cases, Stages.push_once, Stages.marked_there, Stages.marked_still, Stages.Stage, Stages.stage_mark, Stages.stage_ready, Stages.stage_begins, Stages.IsDone, Stages.stage_done, Opens.opened_facts, Clean.scans_clean, Clean.clean_from, Closing.live_marked, Closing.field_marked, Closing.lost_dead, Closing.dead_lost, Closing.closes}
 
 -- lists of weak pointers by their names
 pub name_of_place : (list : List OldWeak) (name : Name) → Contains (names_of list) name → (p : Place) × Contains (places_of list) p × (p.name ≡ name)
@@ -182,10 +148,8 @@ module _ (o : Opening) (words : List ℕ) (s0 : Segments) (marker0 : MarkerSeen)
       let alive : IsAlive o.core.world w.weak dead.parts = f.base.alive w.weak dead.parts dead.alive dead.not_finalised in
       let listed = (h.can.listed.sound (place_at w) (h.lost.sound (place_at w) (has_place dying w c)).0).0 in
       let means : Means (Contains o.places) word dead.parts.finaliser =
-      subst (λ (x : ℕ). Means (Contains o.places) x dead.parts.finaliser) (sym word_is)
-      (has_parts o words w.at.0 w.weak dead.parts h.can.ready.opens listed alive).finaliser in
-      let tied = subst (λ (x : Option Name).
-      IsTied o (with_name o.core.snapshot b.m x) t l) (meant o word dead.parts.finaliser h.can.ready.tied.snapshot.apart means) (mark b.m b.stage.tied) in
+      rw word_is (has_parts o words w.at.0 w.weak dead.parts h.can.ready.opens listed alive).finaliser in
+      let tied = rw (meant o word dead.parts.finaliser h.can.ready.tied.snapshot.apart means) at (mark b.m b.stage.tied) in
       by_value dead alive dead.parts.finaliser refl tied
     where
       only : (dead : IsDead o.core.snapshot o.core.opened o.core.finalised w.weak) → IsAlive o.core.world w.weak dead.parts → (parts : Parts) →
@@ -200,7 +164,7 @@ module _ (o : Opening) (words : List ℕ) (s0 : Segments) (marker0 : MarkerSeen)
         stage = stage_mark o b.opened b.m s t k l None b.stage tt tied;
         sound = b.sound;
         saved = saved_more b.m b.m count w (λ name c. c) is (λ parts a target e.
-            absurd (none target (ap (λ (p : Parts). p.finaliser) (only dead alive parts a) ∙ e))) b.saved;
+            absurd (none target (cc (only dead alive parts a, e)))) b.saved;
       }
 
       by_value : (dead : IsDead o.core.snapshot o.core.opened o.core.finalised w.weak) → IsAlive o.core.world w.weak dead.parts → (v : Value) →
@@ -246,8 +210,7 @@ module _ (o : Opening) (words : List ℕ) (s0 : Segments) (marker0 : MarkerSeen)
       record {
         ordered = h.lost.ordered;
         sound = λ name c. let p = name_of_place dying name c in
-            subst (λ (n : Name). IsDead o.core.snapshot o.core.opened o.core.finalised n) p.2
-            (lost_dead o.core f empty cc_.2 cc_.3 h.saturated p.0.name (h.lost.sound p.0 p.1).1);
+            rw p.2 at (lost_dead o.core f empty cc_.2 cc_.3 h.saturated p.0.name (h.lost.sound p.0 p.1).1);
         complete = λ name d. listed_dead name d;
       }
     where

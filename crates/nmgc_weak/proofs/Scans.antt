@@ -1,23 +1,7 @@
 -- Scans alone change marks and queue, mark more, and keep the facts.
-use Rattle.std.proofs.Common.{◌≡◌, List, [], ◌∷◌, ◌++◌, refl, sym, ap, subst, ◌∙◌, append-nil, append_assoc, Option, Some, None}
-use Rattle.std.specs.Prelude.{is_some, not}
-use Rattle.std.proofs.lemmas.Bool.{and_parts, not-true}
-use Rattle.nmgc_snapshot_laws.specs.laws.Listed.{not_listed}
-use Rattle.nmgc_world_spec.specs.declared.value.Name.{Name}
-use Rattle.nmgc_world_spec.specs.declared.value.Value.{Value}
-use Rattle.nmgc_world_spec.specs.declared.value.Value.TheVariants as value
-use Rattle.nmgc_world_spec.specs.World.{IsWorld, node_of}
+use Rattle.nmgc_weak.proofs.Vocabulary.{◌≡◌, List, [], ◌∷◌, ◌++◌, refl, sym, ap, subst, ◌∙◌, append-nil, append_assoc, Option, Some, None, is_some, not, and_parts, not-true, not_listed, Name, Value, IsWorld, node_of, Facts, after_scan, advanced, read_at, State, mark_name, mark_value, mark_read, is_listed, mark_cases, scan_facts, Happening, did, scanned, replay, AreDistinct, distinct_push, AreScans}
 use Rattle.nmgc_snapshot_laws.specs.declared.event.Entry.{Entry}
-use Rattle.nmgc_snapshot_laws.specs.Facts.{Facts}
-use Rattle.nmgc_snapshot_laws.specs.Machine.{after_scan, advanced}
-use Rattle.nmgc_snapshot_laws.specs.Scan.{read_at}
-use Rattle.nmgc_snapshot_laws.specs.State.{State, mark_name, mark_value, mark_read, is_listed}
-use Rattle.nmgc_snapshot_laws.specs.laws.Marking.{mark_cases}
-use Rattle.nmgc_snapshot_laws.specs.laws.Scans.{scan_facts}
-use Rattle.nmgc_round.specs.Events.{Happening, did, scanned, replay}
-use Rattle.nmgc_world_spec.specs.Listing.{AreDistinct}
-use Rattle.nmgc_world_laws.specs.laws.Distinct.{distinct_push}
-use Rattle.nmgc_mark.specs.Stopped.{AreScans}
+use Rattle.nmgc_world_spec.specs.declared.value.Value.TheVariants as value
 
 -- marks and queue alone are others, and more is marked
 pub record MarksMore (s t : State) : Type 0 where

@@ -1,30 +1,7 @@
 -- A key's word tells whether it keeps the weak pointer, and which of the list are lost.
-use Rattle.std.proofs.Common.{◌≡◌, ◌↔◌, ◌*◌, ◌/◌, ℕ, refl, sym, ap, subst, ◌∙◌, arith, List, inl, inr, ◌⊎◌}
-use Rattle.std.specs.Prelude.{Contains, IsSome, slice_index}
-use Rattle.nmgc_world_spec.specs.declared.value.Name.{Name}
-use Rattle.nmgc_world_spec.specs.declared.value.Value.{Value}
+use Rattle.nmgc_weak.proofs.Vocabulary.{◌≡◌, ◌↔◌, ◌*◌, ◌/◌, ℕ, refl, sym, ap, subst, ◌∙◌, arith, List, inl, inr, ◌⊎◌, Contains, IsSome, slice_index, Name, Value, SHARED_MAKER, Parts, node_of, IsAlive, IsReached, shared_name, same_name, SHARED_PLACE, HEADER_WORDS, IsEpoch, IsWaiting, Segments, IsSnapshotAt, IsMarkedAt, Place, Means, LiesWell, Opening, MarkerSeen, CanResolve, IsKeyMarked, IsKeyMarkedWord, IsLostAt, IsLost, key_place, one_parts, wide_known}
 use Rattle.nmgc_world_spec.specs.declared.value.Value.TheVariants as value
-use Rattle.nmgc_limits.specs.declared.mutators.TheConstants.{SHARED_MAKER}
-use Rattle.nmgc_world_spec.specs.declared.node.Parts.{Parts}
-use Rattle.nmgc_world_spec.specs.World.{node_of}
-use Rattle.nmgc_world_spec.specs.Reach.{IsAlive, IsReached}
-use Rattle.nmgc_world_spec.specs.Step.{shared_name}
-use Rattle.nmgc_world_spec.specs.laws.Orders.{same_name}
-use Rattle.nmgc_object.specs.declared.layout.TheConstants.{SHARED_PLACE}
-use Rattle.nmgc_object.specs.declared.size.TheConstants.{HEADER_WORDS}
-use Rattle.nmgc_segment.specs.Marks.{IsEpoch}
-use Rattle.nmgc_snapshot_laws.specs.Closing.{IsWaiting}
-use Rattle.nmgc_alloc.specs.Numbered.{Segments}
-use Rattle.nmgc_alloc.specs.Blocks.{IsSnapshotAt, IsMarkedAt}
-use Rattle.nmgc_heap_spec.specs.Places.{Place, Means, LiesWell}
-use Rattle.nmgc_round.specs.View.{Opening}
-use Rattle.nmgc_mark.specs.Seen.{MarkerSeen}
-use Rattle.nmgc_weak.specs.Resolve.{CanResolve}
-use Rattle.nmgc_weak.specs.Steps.{IsKeyMarked, IsKeyMarkedWord, IsLostAt, IsLost}
-use Rattle.nmgc_weak.specs.Weaks.{key_place}
 use Rattle.nmgc_weak.proofs.Parts.{has_parts}
-use Rattle.nmgc_world_laws.specs.laws.Closes.{same_parts as one_parts}
-use Rattle.nmgc_world_laws.specs.laws.Reached.{wide_known}
 
 -- a marked block is one of the snapshot
 marked_is : (s : Segments) (epoch at : ℕ) → IsEpoch epoch → IsMarkedAt s epoch at → IsSnapshotAt s at
@@ -146,8 +123,7 @@ module _ (o : Opening) (words : List ℕ) (s : Segments) (marker : MarkerSeen) (
             let same : lost.parts ≡ parts = one_parts o.core.world weak lost.parts parts alive l.1.1 in
             let there : IsSome (node_of o.core.snapshot weak) = subst (λ o. IsSome o) (sym lost.waiting.alive) refl in (
               snap.1 there,
-              λ shown. lost.lost (subst (λ (p : Parts).
-                  IsKeyMarked o.core.marked p.key) (sym same) ((word_shown (slice_index words (key_place at)) parts.key means
+              λ shown. lost.lost (rw same ((word_shown (slice_index words (key_place at)) parts.key means
                   (key_known weak parts (subst (λ (p : Parts). IsAlive o.core.snapshot weak p) same lost.waiting.alive))).0 shown)),
             ),
       )

@@ -1,30 +1,6 @@
 -- A core state at a stop with more marks: what is known on the way from one that could close to the next.
-use Rattle.std.proofs.Common.{◌≡◌, ℕ, Bool, true, false, cond, List, [], ◌∷◌, ◌++◌, refl, sym, ap, subst, ◌∙◌, append-nil, append_assoc, arith, Option, Some, None, inl, inr}
-use Rattle.std.specs.Prelude.{Contains, IsSome, is_some, not, ◌&&◌}
-use Rattle.std.proofs.lemmas.Bool.{cond_both, and_parts, not-true}
-use Rattle.std.proofs.lemmas.List.Elements.{Contains-append_left, Contains-push, Contains-push_cases}
-use Rattle.nmgc_world_spec.specs.declared.value.Name.{Name}
-use Rattle.nmgc_world_spec.specs.Reach.{IsLive}
-use Rattle.nmgc_world_spec.specs.World.{World, IsWorld, node_of}
+use Rattle.nmgc_weak.proofs.Vocabulary.{◌≡◌, ℕ, Bool, true, false, cond, List, [], ◌∷◌, ◌++◌, refl, sym, ap, subst, ◌∙◌, append-nil, append_assoc, arith, Option, Some, None, inl, inr, Contains, IsSome, is_some, not, ◌&&◌, cond_both, and_parts, not-true, Contains-append_left, Contains-push, Contains-push_cases, Name, IsLive, World, IsWorld, node_of, Facts, State, is_listed, with_mark, entry_of, mark_facts, contains_listed, not_listed, Segments, Place, Marks, marks_of, with_name, Object, IsOld, IsOpening, IsQueued, now, CanOpen, HandStands, Opening, Hand, AreDistinct, MarkerSeen, distinct_push, IsReady, HasFinished, IsTied, CanResolve, GoesTo}
 use Rattle.nmgc_snapshot_laws.specs.declared.event.Entry.{Entry}
-use Rattle.nmgc_snapshot_laws.specs.Facts.{Facts}
-use Rattle.nmgc_snapshot_laws.specs.State.{State, is_listed, with_mark, entry_of}
-use Rattle.nmgc_snapshot_laws.specs.laws.Marking.{mark_facts}
-use Rattle.nmgc_snapshot_laws.specs.laws.Listed.{contains_listed, not_listed}
-use Rattle.nmgc_alloc.specs.Numbered.{Segments}
-use Rattle.nmgc_heap_spec.specs.Places.{Place}
-use Rattle.nmgc_round.specs.Marking.{Marks, marks_of, with_name}
-use Rattle.nmgc_round.specs.Objects.{Object, IsOld}
-use Rattle.nmgc_round.specs.Rule.{IsOpening, IsQueued, now}
-use Rattle.nmgc_round.specs.Starting.{CanOpen, HandStands}
-use Rattle.nmgc_round.specs.View.{Opening, Hand}
-use Rattle.nmgc_world_spec.specs.Listing.{AreDistinct}
-use Rattle.nmgc_mark.specs.Seen.{MarkerSeen}
-use Rattle.nmgc_world_laws.specs.laws.Distinct.{distinct_push}
-use Rattle.nmgc_mark.specs.Stopped.{IsReady, HasFinished}
-use Rattle.nmgc_mark.specs.Tie.{IsTied}
-use Rattle.nmgc_weak.specs.Resolve.{CanResolve}
-use Rattle.nmgc_weak.specs.Steps.{GoesTo}
 use Rattle.nmgc_weak.proofs.Scans.{MarksMore, scans_mark, scans_facts}
 
 -- the opening with other opened names and other marks

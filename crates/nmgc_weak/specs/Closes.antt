@@ -1,24 +1,12 @@
 -- What the queues of finalisers are once a cycle was closed with its weak pointers, and what the list is after a round.
 use Rattle.std.specs.Prelude.{Option, ℕ, ◌≡◌, ◌≤◌, List, ◌∷◌, length, map, Some, slice_get, Contains, IsSome}
-use Rattle.nmgc_world_spec.specs.declared.value.Name.{Name}
-use Rattle.nmgc_world_spec.specs.declared.node.Parts.{Parts}
-use Rattle.nmgc_world_spec.specs.declared.node.Node.TheVariants.{Weak}
-use Rattle.nmgc_world_spec.specs.World.{World, IsWorld, node_of}
-use Rattle.nmgc_world_spec.specs.Reach.{IsInOrder, IsAlive, closed}
-use Rattle.nmgc_object.specs.FinQueue.{FinQueue}
-use Rattle.nmgc_object.specs.Places.{InSegment}
-use Rattle.nmgc_object.specs.declared.layout.Layout.{Layout}
+use Rattle.nmgc_world_spec.specs.{declared.value.Name.Name, declared.node.Parts.Parts, declared.node.Node.TheVariants.Weak, World.World, World.IsWorld, World.node_of, Reach.IsInOrder, Reach.IsAlive, Reach.closed}
+use Rattle.nmgc_object.specs.{FinQueue.FinQueue, Places.InSegment, declared.layout.Layout.Layout}
 use Rattle.nmgc_alloc.specs.Numbered.{Segments}
-use Rattle.nmgc_heap_spec.specs.Places.{Place}
-use Rattle.nmgc_heap_spec.specs.Represents.{Represents, NoNode}
-use Rattle.nmgc_heap_spec.specs.Roots.{RepresentsRoots, ListsWeaks}
+use Rattle.nmgc_heap_spec.specs.{Places.Place, Represents.Represents, Represents.NoNode, Roots.RepresentsRoots, Roots.ListsWeaks}
 use Rattle.nmgc_round.specs.View.{Opening}
-use Rattle.nmgc_weak.specs.Queues.{weak_count, HaveRoom, AllJoin}
+use Rattle.nmgc_weak.specs.{Queues.weak_count, Queues.HaveRoom, Queues.AllJoin, declared.weaks.Death.Death, declared.weaks.OldWeak.OldWeak, Resolve.CanResolve, Resolve.AreDeaths, Resolve.HasResolved, Weaks.places_of, Weaks.alive_of}
 use Rattle.nmgc_mark.specs.Seen.{MarkerSeen}
-use Rattle.nmgc_weak.specs.declared.weaks.Death.{Death}
-use Rattle.nmgc_weak.specs.declared.weaks.OldWeak.{OldWeak}
-use Rattle.nmgc_weak.specs.Resolve.{CanResolve, AreDeaths, HasResolved}
-use Rattle.nmgc_weak.specs.Weaks.{places_of, alive_of}
 
 -- the deaths have room in the queues of their makers, where each queue has room for the listed weak pointers of the snapshot that its mutator made
 abbrev pub DeathsHaveRoom : Type 0

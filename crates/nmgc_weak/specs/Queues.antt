@@ -1,7 +1,6 @@
 -- Finalisers that join their makers' queues.
 use Rattle.std.specs.Prelude.{ℕ, ◌≡◌, ◌+◌, ◌<◌, ◌≤◌, ◌==◌, ◌&&◌, not, Bool, List, ◌++◌, length, filter, map, slice_get, Some, Contains, count_by, is_some}
-use Rattle.nmgc_object.specs.FinQueue.{FinQueue}
-use Rattle.nmgc_object.specs.declared.words.TheConstants.{NIL_WORD}
+use Rattle.nmgc_object.specs.{FinQueue.FinQueue, declared.words.TheConstants.NIL_WORD}
 use Rattle.nmgc_weak.specs.declared.weaks.Death.{Death}
 use Rattle.nmgc_world_spec.specs.World.{World, node_of}
 use Rattle.nmgc_heap_spec.specs.Places.{Place}

@@ -1,28 +1,13 @@
 -- The closing of a cycle, as the words and the marker show it: what it asks, and that it is the core machine's.
 use Rattle.std.specs.Prelude.{ℕ, ◌≡◌, true, List, [], ◌∷◌, Contains}
-use Rattle.nmgc_world_spec.specs.declared.value.Name.{Name}
-use Rattle.nmgc_world_spec.specs.declared.node.Parts.{Parts}
-use Rattle.nmgc_world_spec.specs.Reach.{IsAlive}
+use Rattle.nmgc_world_spec.specs.{declared.value.Name.Name, declared.node.Parts.Parts, Reach.IsAlive, Listing.AreDistinct}
 use Rattle.nmgc_snapshot_laws.specs.declared.event.Event.TheVariants as event
-use Rattle.nmgc_snapshot_laws.specs.Closing.{IsClosing}
-use Rattle.nmgc_snapshot_laws.specs.Facts.{Facts}
-use Rattle.nmgc_snapshot_laws.specs.Machine.{IsPossible}
-use Rattle.nmgc_snapshot_laws.specs.State.{State as Core}
+use Rattle.nmgc_snapshot_laws.specs.{Closing.IsClosing, Facts.Facts, Machine.IsPossible, State.State as Core}
 use Rattle.nmgc_alloc.specs.Numbered.{Segments}
-use Rattle.nmgc_heap_spec.specs.Places.{Place, Means}
-use Rattle.nmgc_heap_spec.specs.Changes.{AreEarlier}
-use Rattle.nmgc_heap_spec.specs.Represents.{Represents, NoNode}
-use Rattle.nmgc_heap_spec.specs.Roots.{ListsWeaks}
-use Rattle.nmgc_round.specs.Marking.{marks_of}
-use Rattle.nmgc_round.specs.Objects.{earlier}
-use Rattle.nmgc_round.specs.View.{Opening}
-use Rattle.nmgc_world_spec.specs.Listing.{AreDistinct}
-use Rattle.nmgc_mark.specs.Seen.{MarkerSeen}
-use Rattle.nmgc_mark.specs.Stopped.{IsReady}
-use Rattle.nmgc_mark.specs.Tie.{IsTied}
-use Rattle.nmgc_weak.specs.declared.weaks.OldWeak.{OldWeak}
-use Rattle.nmgc_weak.specs.declared.weaks.Death.{Death}
-use Rattle.nmgc_weak.specs.Weaks.{places_of}
+use Rattle.nmgc_heap_spec.specs.{Places.Place, Places.Means, Changes.AreEarlier, Represents.Represents, Represents.NoNode, Roots.ListsWeaks}
+use Rattle.nmgc_round.specs.{Marking.marks_of, Objects.earlier, View.Opening}
+use Rattle.nmgc_mark.specs.{Seen.MarkerSeen, Stopped.IsReady, Tie.IsTied}
+use Rattle.nmgc_weak.specs.{declared.weaks.OldWeak.OldWeak, declared.weaks.Death.Death, Weaks.places_of}
 
 -- the words represent the world of a core state that could open a round, and marks are that state's; it has the
 -- facts, has marked each name once and may close, and these are the weak pointers alive in its world that have a

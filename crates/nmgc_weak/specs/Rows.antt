@@ -2,13 +2,9 @@
 use Rattle.std.specs.Prelude.{ℕ, ◌≡◌, ◌+◌, ◌<◌, ◌≤◌, ◌==◌, ◌&&◌, min, not, Bool, List, [], ◌∷◌, map, filter, length, slice_get, slice_index, Contains, Some}
 use Rattle.std.specs.List.{flat_map}
 use Rattle.nmgc_limits.specs.declared.mutators.TheConstants.{MAKERS}
-use Rattle.nmgc_world_spec.specs.declared.value.Name.{Name}
-use Rattle.nmgc_world_spec.specs.Reach.{IsInOrder}
-use Rattle.nmgc_object.specs.Words.{IsName, name_word}
-use Rattle.nmgc_object.specs.declared.size.TheConstants.{NAME_OFFSET}
-use Rattle.nmgc_weak.specs.declared.row.Entry.{Entry}
-use Rattle.nmgc_weak.specs.declared.weaks.OldWeak.{OldWeak}
-use Rattle.nmgc_weak.specs.Weaks.{is_alive, names_of}
+use Rattle.nmgc_world_spec.specs.{declared.value.Name.Name, Reach.IsInOrder}
+use Rattle.nmgc_object.specs.{Words.IsName, Words.name_word, declared.size.TheConstants.NAME_OFFSET}
+use Rattle.nmgc_weak.specs.{declared.row.Entry.Entry, declared.weaks.OldWeak.OldWeak, Weaks.is_alive, Weaks.names_of}
 
 -- what contracts see of a row: those of the list, and for how many more there is room
 pub record Row : Type 0 where

@@ -1,25 +1,14 @@
 -- What each step of a closing does to the core state: it marks more, and changes nothing else.
 use Rattle.std.specs.Prelude.{ℕ, ◌≡◌, ◌≢◌, ◌⊎◌, ◌/◌, ◌%◌, ◌++◌, List, Contains, IsSome}
-use Rattle.nmgc_world_spec.specs.declared.value.Name.{Name}
-use Rattle.nmgc_world_spec.specs.declared.value.Value.{Value}
+use Rattle.nmgc_world_spec.specs.{declared.value.Name.Name, declared.value.Value.Value, declared.node.Parts.Parts, World.node_of, Reach.IsAlive, Reach.IsKeptBy, Reach.IsInOrder, Listing.AreDistinct}
 use Rattle.nmgc_world_spec.specs.declared.value.Value.TheVariants as value
-use Rattle.nmgc_world_spec.specs.declared.node.Parts.{Parts}
-use Rattle.nmgc_world_spec.specs.World.{node_of}
-use Rattle.nmgc_world_spec.specs.Reach.{IsAlive, IsKeptBy, IsInOrder}
 use Rattle.nmgc_object.specs.declared.layout.TheConstants.{SHARED_PLACE}
-use Rattle.nmgc_snapshot_laws.specs.Closing.{IsWaiting, IsClosing}
-use Rattle.nmgc_snapshot_laws.specs.State.{State as Core}
-use Rattle.nmgc_alloc.specs.Blocks.{IsSnapshotAt, IsMarkedAt}
-use Rattle.nmgc_alloc.specs.Numbered.{Segments}
+use Rattle.nmgc_snapshot_laws.specs.{Closing.IsWaiting, Closing.IsClosing, State.State as Core}
+use Rattle.nmgc_alloc.specs.{Blocks.IsSnapshotAt, Blocks.IsMarkedAt, Numbered.Segments}
 use Rattle.nmgc_heap_spec.specs.Places.{Place}
-use Rattle.nmgc_round.specs.Marking.{marks_of}
-use Rattle.nmgc_round.specs.View.{Opening}
-use Rattle.nmgc_world_spec.specs.Listing.{AreDistinct}
-use Rattle.nmgc_mark.specs.Seen.{MarkerSeen}
-use Rattle.nmgc_mark.specs.Tie.{IsTied}
-use Rattle.nmgc_weak.specs.declared.weaks.OldWeak.{OldWeak}
-use Rattle.nmgc_weak.specs.Resolve.{CanResolve}
-use Rattle.nmgc_weak.specs.Weaks.{names_of, places_of}
+use Rattle.nmgc_round.specs.{Marking.marks_of, View.Opening}
+use Rattle.nmgc_mark.specs.{Seen.MarkerSeen, Tie.IsTied}
+use Rattle.nmgc_weak.specs.{declared.weaks.OldWeak.OldWeak, Resolve.CanResolve, Weaks.names_of, Weaks.places_of}
 
 -- a key by which a weak pointer keeps its parts: nil, a number, or a marked name
 abbrev pub IsKeyMarked : List Name → Value → Type 0

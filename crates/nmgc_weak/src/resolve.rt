@@ -16,13 +16,10 @@
 ghost use Rattle.std.specs.Prelude.{ℕ, ◌≡◌, ◌↔◌, ◌*◌, ◌^◌, ◌+◌, ◌<◌, ◌≤◌, List, length, slice_index, vec_len, vec_capacity, Contains, IsTrue, IfSome, IfNone, [], ◌∷◌};
 ghost use Rattle.nmgc_world_spec.specs.declared.value.Name.{Name};
 ghost use Rattle.nmgc_segment.specs.Marks.{IsEpoch};
-ghost use Rattle.nmgc_alloc.specs.Blocks.{IsSnapshotAt, IsMarkedAt};
-ghost use Rattle.nmgc_alloc.specs.Segments.{IsBlockAt};
+ghost use Rattle.nmgc_alloc.specs.{Blocks.IsSnapshotAt, Blocks.IsMarkedAt, Segments.IsBlockAt};
 ghost use Rattle.nmgc_heap_spec.specs.Places.{Place};
-ghost use Rattle.nmgc_round.specs.View.{Opening};
-ghost use Rattle.nmgc_round.specs.Marking.{Marks, with_name, name_meant};
-ghost use Rattle.nmgc_mark.specs.Marker.{HasRoomToMark, HasMarked};
-ghost use Rattle.nmgc_mark.specs.Tie.{IsTied};
+ghost use Rattle.nmgc_round.specs.{View.Opening, Marking.Marks, Marking.with_name, Marking.name_meant};
+ghost use Rattle.nmgc_mark.specs.{Marker.HasRoomToMark, Marker.HasMarked, Tie.IsTied};
 ghost use Rattle.nmgc_weak.specs.Resolve.{CanResolve};
 ghost use Rattle.nmgc_weak.specs.Steps.{IsKeyMarkedWord, IsLostAt, CanKeep, HasKept, HasPassed, GoesOn, HasRevived, CanRescue, AreLost, HasRescued};
 ghost use Rattle.nmgc_weak.specs.Weaks.{IsWithin, AreWithin, key_place, place_of, places_of, names_of, deaths_of, without_values};

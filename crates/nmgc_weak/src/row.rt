@@ -7,10 +7,7 @@
 //! Easy to get wrong: an entry that left still stands in the order, and its name may join again.
 ghost use Rattle.std.specs.Prelude.{ℕ, ◌≡◌, ◌≢◌, ◌⊎◌, ◌↔◌, ◌+◌, ◌<◌, ◌≤◌, [], ◌++◌, length, slice_get, Some, vec_len, vec_capacity, Contains, IfSome, IfNone, OnOk};
 ghost use Rattle.nmgc_world_spec.specs.Reach.{IsBefore, IsInOrder};
-ghost use Rattle.nmgc_weak.specs.declared.weaks.OldWeak.{OldWeak as Old};
-ghost use Rattle.nmgc_weak.specs.declared.row.Entry.{Entry as Kept};
-ghost use Rattle.nmgc_weak.specs.Weaks.{AreInside, names_of, alive_of};
-ghost use Rattle.nmgc_weak.specs.Rows.{listed, entry_names, without, IsEntryAt};
+ghost use Rattle.nmgc_weak.specs.{declared.weaks.OldWeak.OldWeak as Old, declared.row.Entry.Entry as Kept, Weaks.AreInside, Weaks.names_of, Weaks.alive_of, Rows.listed, Rows.entry_names, Rows.without, Rows.IsEntryAt};
 
 use crate::weaks::{OldWeak, VALUE, is_before};
 use nmgc_heap_spec::HeapWords;

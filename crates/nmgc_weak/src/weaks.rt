@@ -23,9 +23,7 @@ ghost use Rattle.nmgc_world_spec.specs.Reach.{IsBefore, IsInOrder};
 ghost use Rattle.nmgc_object.specs.declared.size.TheConstants.{HEADER_WORDS};
 ghost use Rattle.nmgc_round.specs.View.{Opening};
 ghost use Rattle.nmgc_mark.specs.Marker.{HasRoomToMark, HasMarked};
-ghost use Rattle.nmgc_weak.specs.declared.weaks.OldWeak.{OldWeak as Old};
-ghost use Rattle.nmgc_weak.specs.Resolve.{CanResolve, HasResolved};
-ghost use Rattle.nmgc_weak.specs.Rows.{Row as RowShown, IsNamedAt, list_of, left_at};
+ghost use Rattle.nmgc_weak.specs.{declared.weaks.OldWeak.OldWeak as Old, Resolve.CanResolve, Resolve.HasResolved, Rows.Row as RowShown, Rows.IsNamedAt, Rows.list_of, Rows.left_at};
 ghost use Rattle.nmgc_weak.specs.Weaks.{AreInside, HaveLostValues, alive_of, count_made_by, names_of, places_of, value_place};
 
 use crate::resolve::{Waiter, clear_values, find_dying, revive, save_finalisers};
@@ -74,8 +72,7 @@ pub struct Weaks {
 
 impl Model for Weaks {
     ghost use Rattle.std.specs.Prelude.{◌≡◌, [], ◌+◌, ◌≤◌, length, vec_len, vec_capacity};
-    ghost use Rattle.nmgc_weak.specs.Rows.{AreRows, list_of};
-    ghost use Rattle.nmgc_weak.specs.Weaks.{Weaks as Shown};
+    ghost use Rattle.nmgc_weak.specs.{Rows.AreRows, Rows.list_of, Weaks.Weaks as Shown};
 
     ghost Value = { Shown };
 

@@ -1,12 +1,6 @@
 -- What a command leaves of the other mutators, and a closing of all.
 use Rattle.std.specs.Prelude.{◌≡◌, ◌≢◌, ◌++◌, ℕ, List, length}
-use Rattle.nmgc_world_spec.specs.declared.value.Name.{Name}
-use Rattle.nmgc_world_spec.specs.declared.value.Value.{Value}
-use Rattle.nmgc_world_spec.specs.declared.command.Command.{Command}
-use Rattle.nmgc_world_spec.specs.declared.mutator_state.MutatorState.{MutatorState}
-use Rattle.nmgc_world_spec.specs.World.{World, state_of, IsWorld}
-use Rattle.nmgc_world_spec.specs.Step.{CanApply, step}
-use Rattle.nmgc_world_spec.specs.Reach.{closed}
+use Rattle.nmgc_world_spec.specs.{declared.value.Name.Name, declared.value.Value.Value, declared.command.Command.Command, declared.mutator_state.MutatorState.MutatorState, World.World, World.state_of, World.IsWorld, Step.CanApply, Step.step, Reach.closed}
 
 -- the same registers and the same finaliser queue, and as many objects made
 pub record SameHands (before after : MutatorState) : Type 0 where

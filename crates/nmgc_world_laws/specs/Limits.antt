@@ -1,20 +1,10 @@
 -- A world within the limits that a script keeps: numbers that fit a field's word, and objects that fit a
 -- segment and whose headers can be written.
 use Rattle.std.specs.Prelude.{◌≢◌, ◌<◌, ◌≤◌, ◌^◌, ℕ, List, IfSome, All}
-use Rattle.nmgc_world_spec.specs.declared.value.Name.{Name}
-use Rattle.nmgc_world_spec.specs.declared.value.Value.{Value}
+use Rattle.nmgc_world_spec.specs.{declared.value.Name.Name, declared.value.Value.Value, declared.node.Kind.Kind, declared.node.Node.Node, declared.command.Command.Command, Command.Fits, World.World, World.state_of, World.node_of, World.new_world, World.held_by, World.IsWorld, Step.CanApply, Step.shared_name, Step.step, History.Row, History.replayed, Reach.closed}
 use Rattle.nmgc_world_spec.specs.declared.value.Value.TheVariants as value
-use Rattle.nmgc_world_spec.specs.declared.node.Kind.{Kind}
 use Rattle.nmgc_world_spec.specs.declared.node.Kind.TheVariants as kind
-use Rattle.nmgc_world_spec.specs.declared.node.Node.{Node}
-use Rattle.nmgc_world_spec.specs.declared.command.Command.{Command}
-use Rattle.nmgc_world_spec.specs.Command.{Fits}
-use Rattle.nmgc_world_spec.specs.World.{World, state_of, node_of, new_world, held_by, IsWorld}
-use Rattle.nmgc_world_spec.specs.Step.{CanApply, shared_name, step}
-use Rattle.nmgc_world_spec.specs.History.{Row, replayed}
-use Rattle.nmgc_world_spec.specs.Reach.{closed}
-use Rattle.nmgc_world_laws.specs.Reachable.{CanReplay}
-use Rattle.nmgc_world_laws.specs.Shape.{kind_of, tag_of, part_count, words_of}
+use Rattle.nmgc_world_laws.specs.{Reachable.CanReplay, Shape.kind_of, Shape.tag_of, Shape.part_count, Shape.words_of}
 
 -- a number is below 2^62
 abbrev pub IsSmall : Value → Type 0

@@ -9,16 +9,8 @@
 -- so a wide reach has no other. For a snapshot, P says of each of its names that it isn't lost.
 use Rattle.std.specs.Prelude.{◌≡◌, ◌⊎◌, ◌≤◌, ℕ, List, [], ◌∷◌, Bool, IsSome, IsTrue, Contains}
 use Rattle.nmgc_limits.specs.declared.mutators.TheConstants.{MAKERS}
-use Rattle.nmgc_world_spec.specs.declared.value.Name.{Name}
-use Rattle.nmgc_world_spec.specs.declared.node.Parts.{Parts}
-use Rattle.nmgc_world_spec.specs.declared.command.Command.{Command}
-use Rattle.nmgc_world_spec.specs.World.{World, state_of, node_of, new_world, IsWorld}
-use Rattle.nmgc_world_spec.specs.Step.{CanApply, next_name, step}
-use Rattle.nmgc_world_spec.specs.History.{Row, replayed, opened}
-use Rattle.nmgc_world_spec.specs.Reach.{IsRoot, RefersTo, IsAlive, IsLive, Lists, closed}
+use Rattle.nmgc_world_spec.specs.{declared.value.Name.Name, declared.node.Parts.Parts, declared.command.Command.Command, World.World, World.state_of, World.node_of, World.new_world, World.IsWorld, Step.CanApply, Step.next_name, Step.step, History.Row, History.replayed, History.opened, Reach.IsRoot, Reach.RefersTo, Reach.IsAlive, Reach.IsLive, Reach.Lists, Reach.closed, Wide.IsOfWeak, Wide.IsWide, Interval.Interval, Interval.IsKeptAfter, Interval.IsDeadAfter}
 use Rattle.nmgc_world_laws.specs.Holds.{CoversReach}
-use Rattle.nmgc_world_spec.specs.Wide.{IsOfWeak, IsWide}
-use Rattle.nmgc_world_spec.specs.Interval.{Interval, IsKeptAfter, IsDeadAfter}
 
 -- all that is held is of the names: what roots hold, what strong fields of such names hold, and the alive weak pointers with their parts
 pub record HoldsOnly (P : Name → Type 0) (w : World) : Type 0 where

@@ -1,17 +1,9 @@
 -- The shape of an object: its kind, its tag and how many fields it has. No command changes it, so an object
 -- never changes its size, and its header is written once.
 use Rattle.std.specs.Prelude.{◌≡◌, ◌+◌, ℕ, List, [], length, replicate, Option, Some, None}
-use Rattle.nmgc_world_spec.specs.declared.value.Name.{Name}
-use Rattle.nmgc_world_spec.specs.declared.node.Kind.{Kind}
+use Rattle.nmgc_world_spec.specs.{declared.value.Name.Name, declared.node.Kind.Kind, declared.node.Node.Node, declared.node.Node.TheVariants.Con, declared.node.Node.TheVariants.Var, declared.node.Node.TheVariants.Arr, declared.node.Node.TheVariants.Thunk, declared.node.Node.TheVariants.Weak, declared.node.Node.TheVariants.Stack, declared.command.Command.Command, World.World, World.node_of, World.IsWorld, Step.CanApply, Step.value_for, Step.values_for, Step.step, History.Row, History.replayed, Reach.closed}
 use Rattle.nmgc_world_spec.specs.declared.node.Kind.TheVariants as kind
-use Rattle.nmgc_world_spec.specs.declared.node.Node.{Node}
-use Rattle.nmgc_world_spec.specs.declared.node.Node.TheVariants.{Con, Var, Arr, Thunk, Weak, Stack}
-use Rattle.nmgc_world_spec.specs.declared.command.Command.{Command}
 use Rattle.nmgc_world_spec.specs.declared.command.Command.TheVariants as command
-use Rattle.nmgc_world_spec.specs.World.{World, node_of, IsWorld}
-use Rattle.nmgc_world_spec.specs.Step.{CanApply, value_for, values_for, step}
-use Rattle.nmgc_world_spec.specs.History.{Row, replayed}
-use Rattle.nmgc_world_spec.specs.Reach.{closed}
 use Rattle.nmgc_world_laws.specs.Reachable.{CanReplay}
 
 abbrev pub kind_of : Node → Kind

@@ -5,24 +5,10 @@
 -- it, and that command reached the old object, so the object was in the wide reach as the round began. The
 -- parts of an old weak pointer never change, so they are old too.
 use Rattle.std.specs.Prelude.{◌≡◌, ◌⊎◌, ◌++◌, ℕ, List, ◌∷◌, length, Option, Some, None, IsSome}
-use Rattle.nmgc_world_spec.specs.declared.value.Name.{Name}
-use Rattle.nmgc_world_spec.specs.declared.value.Value.{Value}
+use Rattle.nmgc_world_spec.specs.{declared.value.Name.Name, declared.value.Value.Value, declared.node.Parts.Parts, declared.node.Node.Node, declared.node.Node.TheVariants.Stack, declared.change.Change.Change, declared.command.Command.Command, declared.command.Command.TheVariants.Finalise, declared.command.Operand.Operand, World.World, World.state_of, World.node_of, World.IsWorld, Step.CanApply, Step.next_name, Step.value_for, Step.asked, Step.step, History.Row, History.replayed, Reach.IsAlive, Wide.IsWide}
 use Rattle.nmgc_world_spec.specs.declared.value.Value.TheVariants as value
-use Rattle.nmgc_world_spec.specs.declared.node.Parts.{Parts}
-use Rattle.nmgc_world_spec.specs.declared.node.Node.{Node}
-use Rattle.nmgc_world_spec.specs.declared.node.Node.TheVariants.{Stack}
-use Rattle.nmgc_world_spec.specs.declared.change.Change.{Change}
 use Rattle.nmgc_world_spec.specs.declared.change.Change.TheVariants as change
-use Rattle.nmgc_world_spec.specs.declared.command.Command.{Command}
-use Rattle.nmgc_world_spec.specs.declared.command.Command.TheVariants.{Finalise}
-use Rattle.nmgc_world_spec.specs.declared.command.Operand.{Operand}
-use Rattle.nmgc_world_spec.specs.World.{World, state_of, node_of, IsWorld}
-use Rattle.nmgc_world_spec.specs.Step.{CanApply, next_name, value_for, asked, step}
-use Rattle.nmgc_world_spec.specs.History.{Row, replayed}
-use Rattle.nmgc_world_spec.specs.Reach.{IsAlive}
-use Rattle.nmgc_world_laws.specs.Holds.{HasStrongField}
-use Rattle.nmgc_world_spec.specs.Wide.{IsWide}
-use Rattle.nmgc_world_laws.specs.Reachable.{CanReplay}
+use Rattle.nmgc_world_laws.specs.{Holds.HasStrongField, Reachable.CanReplay}
 
 -- the value that a change writes, if it writes one
 abbrev pub value_written : Change → Option Value

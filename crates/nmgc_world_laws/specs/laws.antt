@@ -23,3 +23,4 @@ pub mod WeakMoves
 pub mod Weaks
 pub mod WorldSteps
 pub mod Worlds
+mod Vocabulary

@@ -6,10 +6,7 @@
 ghost use Rattle.std.specs.Prelude.{Bool};
 ghost use Rattle.nmgc_world_spec.specs.declared.value.Name.{Name};
 ghost use Rattle.nmgc_world_laws.specs.Reachable.{StepHoldsOnly, ClosingHoldsOnly, Passes, StepKeepsWorld, RowsKeepWorld, ClosingKeepsWorld, NewIsWorld, StepAddsOne, ClosingAddsNone, StaysUnreached, RowsHoldLive, NeverComesBack, ClosesWell, NothingReachableIsFreed, NothingReachableIsEverFreed, ReachableIsKept, ReachableIsEverKept};
-ghost use Rattle.nmgc_world_laws.specs.Leaves.{StepLeavesOthers, ClosingLeavesHands};
-ghost use Rattle.nmgc_world_laws.specs.Shape.{StepKeepsShapes, RowsKeepShapes, ClosingKeepsShapes};
-ghost use Rattle.nmgc_world_laws.specs.Stored.{StepStores, OldRefersToYoung, OldWeaksStay, OldWeaksAreFinalised};
-ghost use Rattle.nmgc_world_laws.specs.Limits.{NewIsWithin, StepKeepsLimits, RowsKeepLimits, ClosingKeepsLimits};
+ghost use Rattle.nmgc_world_laws.specs.{Leaves.StepLeavesOthers, Leaves.ClosingLeavesHands, Shape.StepKeepsShapes, Shape.RowsKeepShapes, Shape.ClosingKeepsShapes, Stored.StepStores, Stored.OldRefersToYoung, Stored.OldWeaksStay, Stored.OldWeaksAreFinalised, Limits.NewIsWithin, Limits.StepKeepsLimits, Limits.RowsKeepLimits, Limits.ClosingKeepsLimits};
 
 /// What `World::new` makes is a world, a command leaves a world, and so does closing with whichever
 /// weak pointers: every reference names a node, and each part has its size.

@@ -1,9 +1,6 @@
 -- What is dead and what is kept after some commands, by the snapshot with which they began.
 use Rattle.std.specs.Prelude.{List}
-use Rattle.nmgc_world_spec.specs.World.{World}
-use Rattle.nmgc_world_spec.specs.History.{Row, opened, finalised}
-use Rattle.nmgc_world_spec.specs.declared.value.Name.{Name}
-use Rattle.nmgc_world_spec.specs.Reach.{IsDead, IsKept}
+use Rattle.nmgc_world_spec.specs.{World.World, History.Row, History.opened, History.finalised, declared.value.Name.Name, Reach.IsDead, Reach.IsKept}
 
 -- a snapshot, and the commands since
 pub record Interval : Type 0 where

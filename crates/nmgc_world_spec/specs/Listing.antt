@@ -1,7 +1,6 @@
 -- What lists of numbers and of names list.
 use Rattle.std.specs.Prelude.{ℕ, ◌≡◌, ◌<◌, List, [], ◌∷◌, length, Contains}
-use Rattle.nmgc_world_spec.specs.declared.value.Name.{Name}
-use Rattle.nmgc_world_spec.specs.Reach.{Lists}
+use Rattle.nmgc_world_spec.specs.{declared.value.Name.Name, Reach.Lists}
 
 -- each number is less than the one that follows
 abbrev pub Ascends : List ℕ → Type 0

@@ -1,7 +1,6 @@
 -- Listing names in order: what a list has before a place in the order of names.
 use Rattle.std.specs.Prelude.{ℕ, List}
-use Rattle.nmgc_world_spec.specs.declared.value.Name.{Name}
-use Rattle.nmgc_world_spec.specs.Reach.{Lists, IsBefore}
+use Rattle.nmgc_world_spec.specs.{declared.value.Name.Name, Reach.Lists, Reach.IsBefore}
 
 -- the name has P, and is before that of this maker and serial
 abbrev pub IsEarlier : (Name → Type 0) → ℕ → ℕ → Name → Type 0

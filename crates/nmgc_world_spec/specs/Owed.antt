@@ -1,19 +1,9 @@
 -- What a command owes: the values that it took out of an object, or read out of a weak pointer.
 -- The deletion barrier is this table.
 use Rattle.std.specs.Prelude.{ℕ, List, [], ◌∷◌, slice_get, Option, Some, None, Bool, true, if◌then◌else◌, ◌==◌, flat_map, option_to_list}
-use Rattle.nmgc_world_spec.specs.declared.value.Name.{Name}
-use Rattle.nmgc_world_spec.specs.declared.value.Value.{Value}
+use Rattle.nmgc_world_spec.specs.{declared.value.Name.Name, declared.value.Value.Value, declared.node.Node.Node, declared.node.Node.TheVariants.Var, declared.node.Node.TheVariants.Arr, declared.node.Node.TheVariants.Thunk, declared.node.Node.TheVariants.Weak, declared.node.Node.TheVariants.Stack, declared.change.Change.Change, declared.command.Command.Command, declared.command.Command.TheVariants.Deref, World.World, World.node_of, Change.is_same, Change.last_of, Step.value_for, Step.object_of, Step.asked, History.name_in}
 use Rattle.nmgc_world_spec.specs.declared.value.Value.TheVariants as value
-use Rattle.nmgc_world_spec.specs.declared.node.Node.{Node}
-use Rattle.nmgc_world_spec.specs.declared.node.Node.TheVariants.{Var, Arr, Thunk, Weak, Stack}
-use Rattle.nmgc_world_spec.specs.declared.change.Change.{Change}
 use Rattle.nmgc_world_spec.specs.declared.change.Change.TheVariants as change
-use Rattle.nmgc_world_spec.specs.declared.command.Command.{Command}
-use Rattle.nmgc_world_spec.specs.declared.command.Command.TheVariants.{Deref}
-use Rattle.nmgc_world_spec.specs.World.{World, node_of}
-use Rattle.nmgc_world_spec.specs.Change.{is_same, last_of}
-use Rattle.nmgc_world_spec.specs.Step.{value_for, object_of, asked}
-use Rattle.nmgc_world_spec.specs.History.{name_in}
 
 -- the field of a variable or an array, which can be written
 abbrev pub field_held : Node → ℕ → Option Value

@@ -1,24 +1,12 @@
 -- What a command does to a world: the next world, and the reply. It is the whole behaviour of a heap
 -- that is never collected.
 use Rattle.std.specs.Prelude.{ℕ, ◌-◌, ◌<◌, ◌^◌, List, [], ◌∷◌, ◌++◌, length, map, drop, replicate, slice_get, slice_index_or, slice_set, Option, Some, None, if◌then◌else◌, ◌==◌}
-use Rattle.nmgc_world_spec.specs.World.{World, state_of, serial_of, node_of}
-use Rattle.nmgc_world_spec.specs.Command.{HasRegisters}
-use Rattle.nmgc_world_spec.specs.Change.{is_same, given_or, field_read, result_read, value_read, changed}
+use Rattle.nmgc_world_spec.specs.{World.World, World.state_of, World.serial_of, World.node_of, Command.HasRegisters, Change.is_same, Change.given_or, Change.field_read, Change.result_read, Change.value_read, Change.changed, declared.value.Name.Name, declared.value.Value.Value, declared.node.Node.Node, declared.change.Change.Change, declared.mutator_state.MutatorState.MutatorState, declared.command.Operand.Operand, declared.command.Operand.TheVariants.Register, declared.command.Operand.TheVariants.Shared, declared.command.Command.Command, declared.command.Reply.Reply, declared.command.Reply.TheVariants.Fine, declared.command.Reply.TheVariants.Yes, declared.command.Reply.TheVariants.No, declared.command.Reply.TheVariants.Given, declared.command.Reply.TheVariants.NoPointer, declared.command.Reply.TheVariants.Nothing}
 use Rattle.nmgc_limits.specs.declared.mutators.TheConstants.{SHARED_MAKER}
-use Rattle.nmgc_world_spec.specs.declared.value.Name.{Name}
-use Rattle.nmgc_world_spec.specs.declared.value.Value.{Value}
 use Rattle.nmgc_world_spec.specs.declared.value.Value.TheVariants as value
-use Rattle.nmgc_world_spec.specs.declared.node.Node.{Node}
 use Rattle.nmgc_world_spec.specs.declared.node.Node.TheVariants as node
-use Rattle.nmgc_world_spec.specs.declared.change.Change.{Change}
 use Rattle.nmgc_world_spec.specs.declared.change.Change.TheVariants as change
-use Rattle.nmgc_world_spec.specs.declared.mutator_state.MutatorState.{MutatorState}
-use Rattle.nmgc_world_spec.specs.declared.command.Operand.{Operand}
-use Rattle.nmgc_world_spec.specs.declared.command.Operand.TheVariants.{Register, Shared}
-use Rattle.nmgc_world_spec.specs.declared.command.Command.{Command}
 use Rattle.nmgc_world_spec.specs.declared.command.Command.TheVariants.{Num, Nil, Mov, Con, Var, Arr, Thunk, Weak, Stack, Get, Set, Cas, Update, Force, Push, Pop, Deref, Finalise, NextFin, Show, Same, Yield, Collect, Full}
-use Rattle.nmgc_world_spec.specs.declared.command.Reply.{Reply}
-use Rattle.nmgc_world_spec.specs.declared.command.Reply.TheVariants.{Fine, Yes, No, Given, NoPointer, Nothing}
 
 -- a world takes a command: the mutator and the registers exist, and one more object still has a serial
 pub record CanApply (w : World) (m : ℕ) (c : Command) : Type 0 where

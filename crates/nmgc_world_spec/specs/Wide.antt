@@ -3,11 +3,7 @@
 -- A weak pointer that is alive gives its value to whoever reads it, and its finaliser to a queue once it
 -- dies, whether anybody refers to it or not. So the wide reach begins with the alive weak pointers too.
 use Rattle.std.specs.Prelude.{◌≡◌, ◌⊎◌}
-use Rattle.nmgc_world_spec.specs.declared.value.Name.{Name}
-use Rattle.nmgc_world_spec.specs.declared.value.Value.TheVariants.{Ref}
-use Rattle.nmgc_world_spec.specs.declared.node.Parts.{Parts}
-use Rattle.nmgc_world_spec.specs.World.{World}
-use Rattle.nmgc_world_spec.specs.Reach.{IsReached, IsRoot, IsAlive}
+use Rattle.nmgc_world_spec.specs.{declared.value.Name.Name, declared.value.Value.TheVariants.Ref, declared.node.Parts.Parts, World.World, Reach.IsReached, Reach.IsRoot, Reach.IsAlive}
 
 -- the name is the weak pointer, or one of its three parts refers to it
 abbrev pub IsOfWeak : Name → Parts → Name → Type 0

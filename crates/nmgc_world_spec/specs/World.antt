@@ -1,18 +1,10 @@
 -- What contracts see of a world: a finite map from names to nodes, and what each mutator has.
 use Rattle.std.specs.Prelude.{◌≡◌, ℕ, ◌+◌, ◌<◌, ◌≤◌, ◌^◌, List, [], ◌∷◌, ◌++◌, length, slice_get, slice_index_or, Option, Some, None, IsSome, IfSome, All, replicate, if◌then◌else◌, ◌==◌}
 use Rattle.std.specs.Option.{option_to_list}
-use Rattle.nmgc_world_spec.specs.declared.value.Name.{Name}
-use Rattle.nmgc_world_spec.specs.declared.value.Value.{Value}
+use Rattle.nmgc_world_spec.specs.{declared.value.Name.Name, declared.value.Value.Value, declared.node.Parts.Parts, declared.node.Node.Node, declared.node.Node.TheVariants.Con, declared.node.Node.TheVariants.Var, declared.node.Node.TheVariants.Arr, declared.node.Node.TheVariants.Thunk, declared.node.Node.TheVariants.Weak, declared.node.Node.TheVariants.Stack, declared.command.Reply.Reply, declared.command.Reply.TheVariants.Given, declared.change.Change.Change, declared.mutator_state.MutatorState.MutatorState}
 use Rattle.nmgc_world_spec.specs.declared.value.Value.TheVariants as value
-use Rattle.nmgc_world_spec.specs.declared.node.Parts.{Parts}
-use Rattle.nmgc_world_spec.specs.declared.node.Node.{Node}
-use Rattle.nmgc_world_spec.specs.declared.node.Node.TheVariants.{Con, Var, Arr, Thunk, Weak, Stack}
 use Rattle.nmgc_limits.specs.declared.mutators.TheConstants.{REGISTERS, MAKERS, SHARED_MAKER, SHARED_SLOTS}
-use Rattle.nmgc_world_spec.specs.declared.command.Reply.{Reply}
-use Rattle.nmgc_world_spec.specs.declared.command.Reply.TheVariants.{Given}
-use Rattle.nmgc_world_spec.specs.declared.change.Change.{Change}
 use Rattle.nmgc_world_spec.specs.declared.change.Change.TheVariants as change
-use Rattle.nmgc_world_spec.specs.declared.mutator_state.MutatorState.{MutatorState}
 
 -- g, and for each mutator its registers, its finaliser queue and its objects by their serial
 pub record World : Type 0 where

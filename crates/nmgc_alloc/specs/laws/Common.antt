@@ -1,12 +1,6 @@
 -- Lemmas that crates above need too.
-use Rattle.std.proofs.Common.{ℕ, ◌≡◌, ◌≤◌, arith}
-use Rattle.nmgc_object.specs.declared.layout.Layout.{Layout}
-use Rattle.nmgc_segment.specs.Segment.{Segment, IsSegment}
-use Rattle.nmgc_segment.specs.declared.state.State.{State}
-use Rattle.nmgc_segment.specs.declared.state.State.TheVariants.{Free, Current, Active, Filled, Sweeping}
-use Rattle.nmgc_alloc.specs.Segments.{IsMember, IsCurrent}
-use Rattle.nmgc_alloc.specs.CycleSteps.{prepared_snap}
-use Rattle.nmgc_alloc.specs.AllocState.{prepared_state}
+use Rattle.std.specs.Prelude.{◌≡◌, ◌≤◌}
+use Rattle.nmgc_alloc.specs.laws.Vocabulary.{ℕ, arith, Layout, Segment, IsSegment, State, Free, Current, Active, Filled, Sweeping, IsMember, IsCurrent, prepared_snap, prepared_state}
 
 -- a segment in a state that isn't free, with a snapshot
 pub restated : (s : Segment) (state : State) (snap : ℕ) → IsSegment s → (state ≡ Free → ⊥) → snap ≤ s.next_free →

@@ -1,25 +1,7 @@
 -- The reserve suffices: it is there at the beginning, each placing keeps it, and it gives room.
-use Rattle.std.proofs.Common.{ℕ, ◌≡◌, ◌≢◌, ◌+◌, ◌-◌, ◌*◌, ◌/◌, ◌%◌, ◌<◌, ◌≤◌, ◌⊎◌, ◌∙◌, inl, inr, refl, ap, subst, sym, arith, true, false, cond, List, length, set, replicate, slice_index}
-use Rattle.std.proofs.Math.ListN.{length-set, length-replicate}
-use Rattle.std.proofs.Math.Nat.{mul-le-mul_left, mul-le-mul_right}
-use Rattle.std.proofs.lemmas.List.{get_or-set_same, get_or-set_other, get_or-replicate}
-use Rattle.std.proofs.lemmas.List.Sums.{sum_by-set, sum_by-le}
-use Rattle.std.proofs.lemmas.List.Elements.{All-set, All-replicate, All-get_or}
-use Rattle.std.proofs.lemmas.Nat.{div-add-mod'}
-use Rattle.std.proofs.lemmas.Bool.{cases_eq, cases_lt, cases_order}
-use Rattle.nmgc_object.specs.declared.layout.Layout.{Layout}
-use Rattle.nmgc_object.specs.Size.{block_size, IsClassOf}
-use Rattle.nmgc_object.specs.Places.{IsSegmentSize, class_count, reserve_count, left_over}
-use Rattle.nmgc_object.specs.laws.Classes.{object_half, class_fits}
-use Rattle.nmgc_segment.specs.Segment.{Segment, InUse, HasFree, mark_of, segment_words, block_count, free_segment}
-use Rattle.nmgc_segment.specs.declared.state.State.{State}
-use Rattle.nmgc_segment.specs.declared.state.State.TheVariants.{Free, Current, Active, Filled}
-use Rattle.nmgc_alloc.specs.Numbered.{nth, is, Segments}
-use Rattle.nmgc_alloc.specs.Segments.{IsSegments, HasRoom, IsCurrent, Allocates, TakesBlock, as_current}
-use Rattle.nmgc_alloc.specs.Reserve.{free_count, pair, HasLeft, KeepsReserve}
-use Rattle.nmgc_alloc.specs.laws.Numbers.{nth-set_same, nth-set_other}
-use Rattle.nmgc_alloc.specs.laws.Counts.{one_counted, is_free}
-use Rattle.nmgc_alloc.specs.laws.Placing.{step}
+use Rattle.std.specs.Prelude.{◌≡◌, ◌≢◌, ◌+◌, ◌-◌, ◌*◌, ◌/◌, ◌%◌, ◌<◌, ◌≤◌, ◌⊎◌}
+use Rattle.nmgc_alloc.specs.laws.Vocabulary.{ℕ, ◌∙◌, inl, inr, refl, ap, subst, sym, arith, true, false, cond, List, length, set, replicate, slice_index, length-set, length-replicate, mul-le-mul_left, mul-le-mul_right, get_or-set_same, get_or-set_other, get_or-replicate, sum_by-set, sum_by-le, All-set, All-replicate, All-get_or, div-add-mod', cases_eq, cases_lt, cases_order, Layout, block_size, IsClassOf, IsSegmentSize, class_count, reserve_count, left_over, object_half, class_fits, Segment, InUse, HasFree, mark_of, segment_words, block_count, free_segment, State, Free, Current, Active, Filled, nth, is, Segments, IsSegments, HasRoom, IsCurrent, Allocates, TakesBlock, as_current, free_count, pair, HasLeft, KeepsReserve}
+use Rattle.nmgc_alloc.specs.laws.{Numbers.nth-set_same, Numbers.nth-set_other, Counts.one_counted, Counts.is_free, Placing.step}
 
 -- taking the first unused block of a segment without marks moves the index on by one
 took_next : (old new : Segment) (block : ℕ) → TakesBlock old new block → ((b : ℕ) → mark_of old b ≡ 0) → (new.next_free ≡ old.next_free + 1) ×
@@ -102,7 +84,7 @@ module _ (layout : Layout) (size : IsSegmentSize layout.words) where
               | inr h ↦ inr (
                 h.0,
                 untouched xs n y a b (slice_index r.left (pair layout a b)) h.0 (λ s.
-                    ne (mine a b (subst (λ (k : ℕ). IsCurrent a b (nth xs k)) s h.1.current))) h.1,
+                    ne (mine a b (rw s at h.1.current))) h.1,
               )
             ]) in
             elim (cases_eq a m) [
@@ -144,8 +126,7 @@ module _ (layout : Layout) (size : IsSegmentSize layout.words) where
       let same_words : segment_words y ≡ layout.words = ap (λ (b : List ℕ). 4 * length b) marks ∙ words in
       let q : ℕ = layout.words / block_size c in
       let whole : q * block_size c + left_over layout c ≡ layout.words = div-add-mod' layout.words (block_size c) in
-      let blocks : block_count y ≡ q = subst (λ (k : ℕ). segment_words y / block_size k ≡
-      layout.words / block_size c) (sym same_class) (ap (λ (k : ℕ). k / block_size c) same_words) in
+      let blocks : block_count y ≡ q = rw same_class (ap (λ (k : ℕ). k / block_size c) same_words) in
       let grown : y.next_free * block_size c ≡ was.next_free * block_size c + block_size c = let e = ap (λ (k : ℕ). k * block_size c) next.0 in
       omega (arith, e) in
       elim (cases_eq v 0) [

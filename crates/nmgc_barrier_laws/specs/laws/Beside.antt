@@ -1,14 +1,6 @@
 -- Each step of a watched cycle and of the marker beside it keeps the two tied, so an end is exact.
-use Rattle.std.proofs.Common.{◌≡◌, ◌<◌, ◌≤◌, length, sym, ap, subst, arith}
-use Rattle.nmgc_world_spec.specs.World.{World, IsWorld}
-use Rattle.nmgc_world_spec.specs.Reach.{closed}
-use Rattle.nmgc_snapshot_laws.specs.State.{State, opening}
-use Rattle.nmgc_barrier_laws.specs.Cycle.{Cycle}
-use Rattle.nmgc_barrier_laws.specs.Lax.{after_owing}
-use Rattle.nmgc_barrier_laws.specs.Barrier.{Beside, BarrierTheorem, IsOnItsWay, JointTheorem, SomeMarkerIsBeside, names_in, after_pushing}
+use Rattle.nmgc_barrier_laws.specs.{laws.Vocabulary.◌≡◌, laws.Vocabulary.◌<◌, laws.Vocabulary.◌≤◌, laws.Vocabulary.length, laws.Vocabulary.sym, laws.Vocabulary.ap, laws.Vocabulary.subst, laws.Vocabulary.arith, laws.Vocabulary.World, laws.Vocabulary.IsWorld, laws.Vocabulary.closed, laws.Vocabulary.State, laws.Vocabulary.opening, laws.Vocabulary.Cycle, laws.Vocabulary.after_owing, laws.Vocabulary.Beside, laws.Vocabulary.BarrierTheorem, laws.Vocabulary.IsOnItsWay, laws.Vocabulary.JointTheorem, laws.Vocabulary.SomeMarkerIsBeside, laws.Vocabulary.names_in, laws.Vocabulary.after_pushing, laws.Tied.IsTied, laws.Tied.tied_command, laws.TiedPush.tied_push, laws.TiedPush.tied_mark, laws.TiedPush.tied_scan, laws.TiedPush.tied_order, laws.TiedPush.tied_opening, laws.TiedPush.tied_end, laws.TiedPush.tied_dies, laws.TiedPush.tied_took, laws.TiedPush.tied_possible, laws.TiedPush.nothing_owed}
 use Rattle.nmgc_barrier_laws.specs.Barrier as barrier
-use Rattle.nmgc_barrier_laws.specs.laws.Tied.{IsTied, tied_command}
-use Rattle.nmgc_barrier_laws.specs.laws.TiedPush.{tied_push, tied_mark, tied_scan, tied_order, tied_opening, tied_end, tied_dies, tied_took, tied_possible, nothing_owed}
 
 pub beside_tied : (w : World) → IsWorld w → (h : Cycle) (s : State) → Beside w h s → IsTied h s
 beside_tied w is h s barrier.start = tied_opening w is

@@ -1,37 +1,11 @@
 -- Beside each list of commands and pushes there is a marker that has finished: it marks each name as it is pushed, and lets go
 -- of it; and then it scans until nothing is queued. A scan marks a new name of the snapshot, or the queue has less to read.
-use Rattle.std.proofs.Common.{◌≡◌, ◌≢◌, ◌<◌, ◌≤◌, ◌+◌, ◌-◌, ℕ, List, [], ◌∷◌, ◌++◌, zero, suc, length, replicate, refl, sym, ap, subst, ◌∙◌, arith, Bool, true, false, not, cond, inl, inr, ◌⊎◌, Option, Some, None, eqb, leb}
-use Rattle.std.specs.Prelude.{IsSome, is_some, Contains, All, filter, ◌&&◌}
-use Rattle.std.proofs.lemmas.List.{length-replicate, get_or_past}
-use Rattle.std.proofs.lemmas.List.Elements.{All-nil, All-cons, Contains-append_left, Contains-append_right, Contains-push}
-use Rattle.std.proofs.lemmas.Bool.{cases_eq, cases_lt, false≢true, and_parts, and_from, and_right, or_parts, leb-false, not-true, not_from_true, not_from_false, false_from_ne_true}
-use Rattle.std.proofs.lemmas.Bool.Decides.{eqb_tells}
-use Rattle.nmgc_limits.specs.declared.mutators.TheConstants.{SHARED_MAKER}
-use Rattle.nmgc_world_spec.specs.declared.value.Name.{Name}
-use Rattle.nmgc_world_spec.specs.declared.value.Value.{Value}
+use Rattle.std.specs.Prelude.{◌≡◌, ◌≢◌, ◌<◌, ◌≤◌, ◌+◌, ◌-◌, ◌∷◌, ◌++◌, ◌⊎◌, ◌&&◌}
+use Rattle.nmgc_barrier_laws.specs.laws.Vocabulary.{ℕ, List, [], zero, suc, length, replicate, refl, sym, ap, subst, ◌∙◌, arith, Bool, true, false, not, cond, inl, inr, Option, Some, None, eqb, leb, IsSome, is_some, Contains, All, filter, length-replicate, get_or_past, All-nil, All-cons, Contains-append_left, Contains-append_right, Contains-push, cases_eq, cases_lt, false≢true, and_parts, and_from, and_right, or_parts, leb-false, not-true, not_from_true, not_from_false, false_from_ne_true, eqb_tells, SHARED_MAKER, Name, Value, Node, MutatorState, World, node_of, state_of, serial_of, no_mutator, IsWorld, shared_name, contains_cases, contains_head, contains_tail, get_is_some, nothing_in, contains_one, one_is, has_result, Entry, State, names_of, is_listed, is_new, with_mark, mark_name, mark_read, root_values, unmarked, opening, read_at, fields_of, is_last, moved_on, AreEmpty, after_scan, advanced, MayHold, IsSafe, owed, pushed, marked, contains_listed, listed_from, names_same, names_other, mark_cases, marked_then, Cycle, IsPushed, after_owing, Watches, Beside, IsSorted, HasFinished, SomeMarkerFinishes, names_in, after_pushing, no_names}
 use Rattle.nmgc_world_spec.specs.declared.value.Value.TheVariants as value
-use Rattle.nmgc_world_spec.specs.declared.node.Node.{Node}
-use Rattle.nmgc_world_spec.specs.declared.mutator_state.MutatorState.{MutatorState}
-use Rattle.nmgc_world_spec.specs.World.{World, node_of, state_of, serial_of, no_mutator, IsWorld}
-use Rattle.nmgc_world_spec.specs.Step.{shared_name}
 use Rattle.nmgc_world_spec.specs.Reach as reach
-use Rattle.nmgc_lists.specs.laws.Items.{contains_cases, contains_head, contains_tail, get_is_some, nothing_in, contains_one, one_is}
-use Rattle.nmgc_world_laws.specs.Holds.{has_result}
-use Rattle.nmgc_snapshot_laws.specs.declared.event.Entry.{Entry}
-use Rattle.nmgc_snapshot_laws.specs.State.{State, names_of, is_listed, is_new, with_mark, mark_name, mark_read, root_values, unmarked, opening}
-use Rattle.nmgc_snapshot_laws.specs.Scan.{read_at, fields_of, is_last, moved_on}
-use Rattle.nmgc_snapshot_laws.specs.Machine.{AreEmpty, after_scan, advanced}
-use Rattle.nmgc_snapshot_laws.specs.Facts.{MayHold, IsSafe, owed, pushed, marked}
-use Rattle.nmgc_snapshot_laws.specs.laws.Listed.{contains_listed, listed_from, names_same, names_other}
-use Rattle.nmgc_snapshot_laws.specs.laws.Marking.{mark_cases, marked_then}
-use Rattle.nmgc_barrier_laws.specs.Cycle.{Cycle, IsPushed}
-use Rattle.nmgc_barrier_laws.specs.Lax.{after_owing}
-use Rattle.nmgc_barrier_laws.specs.Barrier.{Watches, Beside, IsSorted, HasFinished, SomeMarkerFinishes, names_in, after_pushing}
 use Rattle.nmgc_barrier_laws.specs.Barrier as barrier
-use Rattle.nmgc_barrier_laws.specs.laws.Tied.{IsTied}
-use Rattle.nmgc_snapshot_laws.specs.laws.Openings.{no_names}
-use Rattle.nmgc_barrier_laws.specs.laws.TiedPush.{MarksOn, marks_name, marks_scan, opening_marks}
-use Rattle.nmgc_barrier_laws.specs.laws.Beside.{beside_tied}
+use Rattle.nmgc_barrier_laws.specs.laws.{Tied.IsTied, TiedPush.MarksOn, TiedPush.marks_name, TiedPush.marks_scan, TiedPush.opening_marks, Beside.beside_tied}
 
 -- THE NAMES OF A WORLD
 

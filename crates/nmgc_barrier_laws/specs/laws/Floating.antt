@@ -1,20 +1,8 @@
 -- Pushing a name that nobody need hold keeps the facts: it counts as opened, and it is safe.
-use Rattle.std.proofs.Common.{◌≡◌, ◌<◌, ℕ, List, [], ◌∷◌, ◌++◌, length, get_or, set, refl, sym, subst, ◌∙◌, length-set, Option, Some, None, inl, inr}
-use Rattle.std.specs.Prelude.{IsSome, IfSome, All, Contains}
-use Rattle.std.proofs.lemmas.List.Elements.{All-append, All-cons, All-nil, Contains-append_left, Contains-append_right, Contains-append_cases}
-use Rattle.std.proofs.lemmas.Bool.{cases_eq}
-use Rattle.nmgc_world_spec.specs.declared.value.Name.{Name}
-use Rattle.nmgc_world_spec.specs.declared.value.Value.{Value}
+use Rattle.std.specs.Prelude.{◌≡◌, ◌<◌, ◌∷◌, ◌++◌}
+use Rattle.nmgc_barrier_laws.specs.laws.Vocabulary.{ℕ, List, [], length, get_or, set, refl, sym, subst, ◌∙◌, length-set, Option, Some, None, inl, inr, IsSome, IfSome, All, Contains, All-append, All-cons, All-nil, Contains-append_left, Contains-append_right, Contains-append_cases, cases_eq, Name, Value, Node, state_of, node_of, further, field, State, names_of, live_more, each_names, names_same, names_other, all_from_contains, Names, Fields, CoversReach, contains_one, one_is, AsThen, MayHold, IsSafe, IsAhead, Kept, Base, Facts, owed, pushed, queued, marked}
+use Rattle.nmgc_snapshot_laws.specs.Facts.{unmarked}
 use Rattle.nmgc_world_spec.specs.declared.value.Value.TheVariants as value
-use Rattle.nmgc_world_spec.specs.declared.node.Node.{Node}
-use Rattle.nmgc_world_spec.specs.World.{state_of, node_of}
-use Rattle.nmgc_world_spec.specs.Reach.{further, field}
-use Rattle.nmgc_snapshot_laws.specs.State.{State, names_of}
-use Rattle.nmgc_snapshot_laws.specs.laws.Lives.{live_more}
-use Rattle.nmgc_snapshot_laws.specs.laws.Listed.{each_names, names_same, names_other, all_from_contains}
-use Rattle.nmgc_world_laws.specs.Holds.{Names, Fields, CoversReach}
-use Rattle.nmgc_lists.specs.laws.Items.{contains_one, one_is}
-use Rattle.nmgc_snapshot_laws.specs.Facts.{AsThen, MayHold, IsSafe, IsAhead, Kept, Base, Facts, owed, pushed, queued, marked, unmarked}
 
 module _ (s : State) (f : Facts s) (m : ℕ) (place : m < length s.pushed) (name : Name) where
   abbrev pub floated : State

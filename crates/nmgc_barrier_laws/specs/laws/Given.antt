@@ -1,40 +1,12 @@
 -- A command that owes at least what is due, and at most what may be held, keeps the facts.
-use Rattle.std.proofs.Common.{◌≡◌, ◌≢◌, ◌<◌, ◌≤◌, ℕ, List, ◌++◌, length, get_or, refl, sym, subst, ◌∙◌, arith, length-set, Option, Some, None, inl, inr, ◌⊎◌, ap}
-use Rattle.std.specs.Prelude.{IsSome, IfSome, All, Contains}
-use Rattle.std.proofs.lemmas.List.Elements.{All-append, Contains-append_left, Contains-append_right, Contains-append_cases}
-use Rattle.std.proofs.lemmas.Bool.{cases_eq}
-use Rattle.nmgc_limits.specs.declared.mutators.TheConstants.{SHARED_MAKER}
-use Rattle.nmgc_world_spec.specs.declared.value.Name.{Name}
-use Rattle.nmgc_world_spec.specs.declared.value.Value.{Value}
+use Rattle.std.proofs.{Common.◌≡◌, Common.◌<◌, Common.◌≤◌, Common.ℕ, Common.List, Common.◌++◌, Common.length, Common.refl, Common.sym, Common.subst, Common.◌∙◌, Common.arith, Common.length-set, Common.Option, Common.Some, Common.None, Common.inl, Common.inr, Common.◌⊎◌, Common.ap, lemmas.List.Elements.All-append, lemmas.List.Elements.Contains-append_left, lemmas.List.Elements.Contains-append_cases, lemmas.Bool.cases_eq}
+use Rattle.std.specs.Prelude.{IsSome, All, Contains}
+use Rattle.nmgc_world_spec.specs.{declared.value.Name.Name, declared.value.Value.Value, declared.node.Parts.Parts, declared.node.Node.Node, declared.node.Node.TheVariants.Weak, declared.command.Command.Command, World.World, World.node_of, World.serial_of, World.IsWorld, Step.shared_name, Step.step, Reach.IsAlive, Reach.IsKeptBy, Reach.field, History.opened_by, History.finalised_by, laws.Orders.name_cases, Owed.values_owed, Owed.owed_by}
 use Rattle.nmgc_world_spec.specs.declared.value.Value.TheVariants as value
-use Rattle.nmgc_world_spec.specs.declared.node.Parts.{Parts}
-use Rattle.nmgc_world_spec.specs.declared.node.Node.{Node}
-use Rattle.nmgc_world_spec.specs.declared.node.Node.TheVariants.{Weak}
-use Rattle.nmgc_world_spec.specs.declared.command.Operand.{Operand}
-use Rattle.nmgc_world_spec.specs.declared.command.Command.{Command}
-use Rattle.nmgc_world_spec.specs.World.{World, state_of, node_of, serial_of, IsWorld, Grows}
-use Rattle.nmgc_world_spec.specs.Step.{shared_name, next_name, value_for, step}
-use Rattle.nmgc_world_spec.specs.Reach.{IsAlive, IsKeptBy, RefersTo, further, field}
-use Rattle.nmgc_world_spec.specs.History.{opened_by, finalised_by}
-use Rattle.nmgc_world_laws.specs.laws.Growth.{step_grows}
-use Rattle.nmgc_world_laws.specs.laws.Worlds.{not_shared}
-use Rattle.nmgc_lists.specs.laws.Items.{at_some}
-use Rattle.nmgc_world_laws.specs.Holds.{Names, Fields, CoversReach, StillThere, HasStrongField, strong_at}
-use Rattle.nmgc_snapshot_laws.specs.Facts.{AsThen, MayHold, IsSafe, IsAhead, Kept, Base, Facts, owed, pushed, queued, marked, unmarked}
-use Rattle.nmgc_world_laws.specs.laws.Alive.{AliveOk, WeaksOk, step_weaks}
-use Rattle.nmgc_world_laws.specs.laws.Moves.{RespectsBarrier, operand_has}
-use Rattle.nmgc_snapshot_laws.specs.laws.Turns.{step_adds, step_alive}
-use Rattle.nmgc_snapshot_laws.specs.State.{State, names_of}
-use Rattle.nmgc_snapshot_laws.specs.laws.Lives.{live_more, target_there, part_there, refers}
-use Rattle.nmgc_snapshot_laws.specs.laws.Listed.{each_names, names_same, names_other, names_among_have, name_among, all_from_contains}
-use Rattle.nmgc_snapshot_laws.specs.Machine.{after_command}
-use Rattle.nmgc_world_spec.specs.laws.Orders.{name_cases}
-use Rattle.nmgc_world_spec.specs.Owed.{values_owed, owed_by}
-use Rattle.nmgc_world_laws.specs.laws.WeakMoves.{all_moves, opened_owed, Ends, finalised_owed}
-use Rattle.nmgc_barrier_laws.specs.Due.{IsBroken, IsEnded, IsDue}
-use Rattle.nmgc_barrier_laws.specs.Lax.{after_owing}
-use Rattle.nmgc_snapshot_laws.specs.laws.Commands.{holds_shared, next_absent}
-use Rattle.nmgc_world_laws.specs.laws.HeldSteps.{alive_ok as each_weak}
+use Rattle.nmgc_world_laws.specs.{Holds.StillThere, Holds.HasStrongField, Holds.strong_at, laws.Moves.RespectsBarrier, laws.WeakMoves.opened_owed, laws.WeakMoves.Ends, laws.WeakMoves.finalised_owed}
+use Rattle.nmgc_snapshot_laws.specs.{Facts.MayHold, Facts.IsSafe, Facts.IsAhead, Facts.Kept, Facts.Base, Facts.Facts, Facts.owed, Facts.pushed, Facts.queued, Facts.marked, Facts.unmarked, State.State, State.names_of, laws.Lives.live_more, laws.Lives.target_there, laws.Lives.part_there, laws.Lives.refers, laws.Listed.each_names, laws.Listed.names_same, laws.Listed.names_other, laws.Listed.names_among_have, laws.Listed.name_among, Machine.after_command}
+use Rattle.nmgc_barrier_laws.specs.{Due.IsBroken, Due.IsEnded, Due.IsDue, Lax.after_owing}
+use Rattle.nmgc_snapshot_laws.specs.laws.Commands as command
 
 -- a field stands, or it doesn't
 stands_or : (w : World) (name : Name) (i : ℕ) (target : Name) → HasStrongField w name i (value.Ref target) ⊎ (HasStrongField w name i (value.Ref target) → ⊥)
@@ -66,88 +38,8 @@ module _ (s : State) (f : Facts s) (w : IsWorld s.world) (m : ℕ) (c : Command)
   abbrev next : State
   next = after_command s m c
 
-  -- what may be held before may be held afterwards
-  more : (name : Name) → MayHold s name → MayHold next name
-  more name h there = live_more s.snapshot s.opened (opened_by s.world m c) name (h there)
-
-  more_value : (v : Value) → Names (MayHold s) v → Names (MayHold next) v
-  more_value value.Nil h = tt
-  more_value (value.Number n) h = tt
-  more_value (value.Ref name) h = more name h
-
-  more_values : (values : List Value) → All (Names (MayHold s)) values → All (Names (MayHold next)) values
-  more_values values h k d at = more_value (get_or values k d) (h k d at)
-
-  more_names : (names : List Name) → All (MayHold s) names → All (MayHold next) names
-  more_names names h k d at = more (get_or names k d) (h k d at)
-
-  more_holds : CoversReach (MayHold next) s.world
-  more_holds = record {
-    registers = λ k. more_values (state_of s.world k).registers (f.base.holds.registers k);
-    queues = λ k. more_values (state_of s.world k).queue (f.base.holds.queues k);
-    fields = λ name may. by_node name may (node_of s.world name) refl;
-  }
-    where
-      by_node : (name : Name) → MayHold next name → (o : Option Node) → node_of s.world name ≡ o → IfSome o (Fields (Names (MayHold next)))
-      by_node name may None e = tt
-      by_node name may (Some node) e = all_from_contains (MayHold next) _ (λ target k. elim (f.base.fields name target (node, e, k)) [
-        | inl p ↦ more target p
-        | inr r ↦ λ there. field name target (may (subst (λ (o : Option Node). IsSome o) (sym r.1) refl)) r
-      ])
-
-  own : m ≢ SHARED_MAKER
-  own = not_shared s.world m w lt
-
-  shared_may : MayHold next shared_name
-  shared_may = more shared_name (holds_shared s)
-
-  next_may : MayHold next (next_name (state_of s.world m) m)
-  next_may there = absurd (next_absent s m f.base own there)
-
-  opened_may : (name : Name) → Contains (opened_by s.world m c) name → MayHold next name
-  opened_may name k there = further name (Contains-append_right s.opened (opened_by s.world m c) name k) there
-
   moves : RespectsBarrier (MayHold next) s.world (step s.world m c).0 (values_owed s.world m c)
-  moves = all_moves (MayHold next) s.world m c lt own shared_may next_may opened_may more_holds
-
-  grows : Grows s.world (step s.world m c).0 m
-  grows = step_grows s.world m c lt
-
-  owed_place : m < length s.owed
-  owed_place = let e : length s.owed ≡ length s.world.mutators = f.base.owed_lists in omega arith
-
-  next_fields : (name target : Name) → RefersTo (step s.world m c).0 name target → MayHold next target ⊎ RefersTo s.snapshot name target
-  next_fields name target r = elim (step_adds (MayHold next) s.world m lt own shared_may (more_holds.registers m) c name target r) [
-    | inl old ↦ elim (f.base.fields name target old) [ inl p ↦ inl (more target p) | inr q ↦ inr q ]
-    | inr p ↦ inl p
-  ]
-
-  has : (o : Operand) → Names (MayHold next) (value_for s.world m o)
-  has o = operand_has (MayHold next) (state_of s.world m).registers o shared_may (more_holds.registers m)
-
-  still_as : (weak : Name) (parts : Parts) → IsAlive s.world weak parts → AsThen s.snapshot (MayHold next) weak parts
-  still_as weak parts a =
-      let h : AsThen s.snapshot (MayHold s) weak parts = f.base.weaks weak parts a in
-      record {
-        old = h.old;
-        new = λ gone. let p = h.new gone in (more_value parts.key p.0, more_value parts.value p.1, more_value parts.finaliser p.2);
-      }
-
-  next_weaks : (weak : Name) (parts : Parts) → IsAlive (step s.world m c).0 weak parts → AsThen s.snapshot (MayHold next) weak parts
-  next_weaks weak parts a =
-      let R : Name → Parts → Type 0 = AsThen s.snapshot (MayHold next) in
-      let all : WeaksOk R (step s.world m c).0 = step_weaks R s.world m c lt own
-      (λ key v finaliser. record { old = λ there. absurd (next_absent s m f.base own there); new = λ gone. (has key, has v, has finaliser) })
-      (each_weak R s.world still_as) in
-      at_some (node_of (step s.world m c).0 weak) (Weak (Some parts)) (AliveOk R weak) a (all weak)
-
-  next_alive : (weak : Name) (parts : Parts) → IsAlive s.snapshot weak parts → (Contains next.finalised weak → ⊥) → IsAlive (step s.world m c).0 weak parts
-  next_alive weak parts a not =
-      let now : IsAlive s.world weak parts = f.base.alive weak parts a (λ k. not (Contains-append_left s.finalised (finalised_by s.world m c) weak k)) in
-      elim (step_alive (MayHold next) s.world m lt own shared_may (more_holds.registers m) c weak parts now) [
-        | inl b ↦ b
-        | inr k ↦ absurd (not (Contains-append_right s.finalised (finalised_by s.world m c) weak k))
-      ]
+  moves = command.moves s f w m c lt
 
   -- what the command owes by the core machine may be held
   pub owes_may : All (MayHold (after_command s m c)) (owed_by s.world m c)
@@ -180,17 +72,17 @@ module _ (s : State) (f : Facts s) (w : IsWorld s.world) (m : ℕ) (c : Command)
       snapshot = f.base.snapshot;
       mutators = moves.mutators ∙ f.base.mutators;
       serials = λ k. let a : serial_of s.snapshot k ≤ serial_of s.world k = f.base.serials k in
-          let b : serial_of s.world k ≤ serial_of (step s.world m c).0 k = grows.serials k in omega arith;
+          let b : serial_of s.world k ≤ serial_of (step s.world m c).0 k = (command.grows s f w m c lt).serials k in omega arith;
       owed_lists = length-set s.owed m _ ∙ f.base.owed_lists ∙ sym moves.mutators;
       pushed_lists = f.base.pushed_lists ∙ sym moves.mutators;
       holds = moves.holds;
-      fields = next_fields;
-      weaks = next_weaks;
-      alive = next_alive;
-      owed = each_names (All (MayHold after)) s.owed m _ owed_place
-          (All-append (MayHold after) (names_of s.owed m) names (more_names (names_of s.owed m) (f.base.owed m)) given) (λ k.
-          more_names (names_of s.owed k) (f.base.owed k));
-      pushed = λ k. more_names (names_of s.pushed k) (f.base.pushed k);
+      fields = command.next_fields s f w m c lt;
+      weaks = command.next_weaks s f w m c lt;
+      alive = command.next_alive s f w m c lt;
+      owed = each_names (All (MayHold after)) s.owed m _ (command.owed_place s f w m c lt)
+          (All-append (MayHold after) (names_of s.owed m) names (command.more_names s f w m c lt (names_of s.owed m) (f.base.owed m)) given) (λ k.
+          command.more_names s f w m c lt (names_of s.owed k) (f.base.owed k));
+      pushed = λ k. command.more_names s f w m c lt (names_of s.pushed k) (f.base.pushed k);
       others = λ name there dead.
           let old : node_of s.world name ≡ node_of s.snapshot name =
           f.base.others name there (λ l. dead (live_more s.snapshot s.opened (opened_by s.world m c) name l)) in
@@ -207,7 +99,7 @@ module _ (s : State) (f : Facts s) (w : IsWorld s.world) (m : ℕ) (c : Command)
     -- what is owed stays owed
     more_owed : (k : ℕ) (name : Name) → Contains (names_of s.owed k) name → Contains (names_of after.owed k) name
     more_owed k name h = elim (cases_eq k m) [
-      | inl e ↦ rw (e, names_same s.owed m _ owed_place) (Contains-append_left (names_of s.owed m) names name (rw e at h))
+      | inl e ↦ rw (e, names_same s.owed m _ (command.owed_place s f w m c lt)) (Contains-append_left (names_of s.owed m) names name (rw e at h))
       | inr ne ↦ rw (names_other s.owed m k (names_of s.owed m ++ names) ne) h
     ]
 

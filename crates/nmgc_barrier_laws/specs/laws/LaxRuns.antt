@@ -1,27 +1,8 @@
 -- What a lax run does to the history.
-use Rattle.std.proofs.Common.{◌≡◌, ℕ, List, [], ◌∷◌, ◌++◌, refl, sym, subst, ◌∙◌, append-nil, inl, inr}
-use Rattle.std.specs.Prelude.{Contains, All, ◌↔◌, ◌⊎◌}
-use Rattle.nmgc_world_spec.specs.declared.value.Name.{Name}
-use Rattle.nmgc_world_spec.specs.declared.command.Command.{Command}
-use Rattle.nmgc_world_spec.specs.declared.command.Reply.{Reply}
-use Rattle.nmgc_world_spec.specs.World.{World, IsWorld}
-use Rattle.nmgc_world_spec.specs.Step.{step}
-use Rattle.nmgc_world_spec.specs.History.{Row, replayed, IsLegal, opened, finalised, opened_by}
-use Rattle.nmgc_world_laws.specs.laws.WorldSteps.{step_keeps_world}
-use Rattle.nmgc_snapshot_laws.specs.State.{State, opening, unmarked, mark_name, root_values}
-use Rattle.nmgc_snapshot_laws.specs.Machine.{after_scan}
-use Rattle.nmgc_snapshot_laws.specs.laws.Marking.{mark_facts}
-use Rattle.nmgc_snapshot_laws.specs.laws.Scans.{scan_facts}
-use Rattle.nmgc_snapshot_laws.specs.laws.Openings.{opening_facts}
-use Rattle.nmgc_snapshot_laws.specs.laws.Runs.{SameHistory, mark_history, scan_history, values_history, closing_is_exact, opened-push, replayed-push, legal_push, finalised-push, live_from}
-use Rattle.nmgc_snapshot_laws.specs.Facts.{MayHold, IsSafe, Facts}
-use Rattle.nmgc_barrier_laws.specs.Lax.{after_owing, IsGiven, IsFloated, LaxKeepsFacts, LaxRow, LaxRuns, LaxTheorem}
+use Rattle.std.specs.Prelude.{◌≡◌, ◌∷◌, ◌++◌, ◌↔◌, ◌⊎◌}
+use Rattle.nmgc_barrier_laws.specs.laws.Vocabulary.{ℕ, List, [], refl, sym, subst, ◌∙◌, append-nil, inl, inr, Contains, All, Name, Command, Reply, World, IsWorld, step, Row, replayed, IsLegal, opened, finalised, opened_by, step_keeps_world, State, opening, unmarked, mark_name, root_values, after_scan, mark_facts, scan_facts, opening_facts, SameHistory, mark_history, scan_history, values_history, closing_is_exact, opened-push, replayed-push, legal_push, finalised-push, live_from, MayHold, IsSafe, Facts, after_owing, IsGiven, IsFloated, LaxKeepsFacts, LaxRow, LaxRuns, LaxTheorem, Contains-append_left, Contains-append_right, Contains-append_cases, nothing_in}
 use Rattle.nmgc_barrier_laws.specs.Lax as lax
-use Rattle.nmgc_barrier_laws.specs.laws.Given.{given_facts}
-use Rattle.nmgc_barrier_laws.specs.laws.Laxer.{shuffled_facts}
-use Rattle.nmgc_barrier_laws.specs.laws.Floating.{floated_facts}
-use Rattle.std.proofs.lemmas.List.Elements.{Contains-append_left, Contains-append_right, Contains-append_cases}
-use Rattle.nmgc_lists.specs.laws.Items.{nothing_in}
+use Rattle.nmgc_barrier_laws.specs.laws.{Given.given_facts, Laxer.shuffled_facts, Floating.floated_facts}
 
 -- what counts as opened: what commands opened and what was floated
 abbrev Opens : World → List Row → List Name → List Name → Type 0
@@ -79,10 +60,6 @@ lax_keeps_facts s next f w (lax.scanned e) = (
   subst Facts (sym e) (scan_facts s f w s.queue refl),
   subst (λ (t : State). IsWorld t.world) (sym e) (world_of s (after_scan s s.queue) (scan_history s s.queue) w),
 )
-
--- a push of whatever keeps the facts
-floated_keeps : (s next : State) (name : Name) → Facts s → (h : IsFloated s name next) → Facts next
-floated_keeps s next name f h = subst Facts (sym h.next_is) (floated_facts s f h.m h.place name)
 
 -- a quiet step of a run that is under way
 quiet_on : (w : World) (rows row : List Row) (extra one : List Name) (s t next : State) → IsUnderWay w rows extra s → row ≡ [] → one ≡ [] →

@@ -1,12 +1,6 @@
 -- Lax steps keep the facts.
-use Rattle.std.proofs.Common.{ℕ, refl, subst, inl, inr}
-use Rattle.std.specs.Prelude.{IsSome}
-use Rattle.nmgc_world_spec.specs.declared.value.Name.{Name}
-use Rattle.nmgc_world_spec.specs.World.{node_of}
-use Rattle.nmgc_snapshot_laws.specs.State.{State}
-use Rattle.nmgc_snapshot_laws.specs.laws.Lives.{target_there, part_there, refers}
-use Rattle.nmgc_snapshot_laws.specs.Facts.{IsSafe, IsAhead, Kept, Base, Facts, owed, pushed, queued, unmarked}
-use Rattle.nmgc_barrier_laws.specs.Lax.{IsShuffled}
+use Rattle.nmgc_barrier_laws.specs.laws.Vocabulary.{ℕ, subst, inl, inr, IsSome, Name, node_of, State, target_there, part_there, refers, IsSafe, IsAhead, Kept, Base, Facts, owed, pushed, queued, IsShuffled}
+use Rattle.nmgc_snapshot_laws.specs.Facts.{unmarked}
 
 -- what waits, in another order: the same state but for the three lists
 module _ (s : State) (f : Facts s) (next : State) (h : IsShuffled s next) where

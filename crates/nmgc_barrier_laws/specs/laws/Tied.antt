@@ -1,29 +1,12 @@
 -- A watch and a state that a marker is in: what is remembered is on its way to be marked, and what the state owes
 -- is what the watch calls due. Each event keeps that, so a watch that ends without debts has an exact end.
-use Rattle.std.proofs.Common.{◌≡◌, ◌<◌, ℕ, List, [], ◌∷◌, ◌++◌, zero, suc, length, get_or, set, refl, sym, ap, subst, ◌∙◌, arith, inl, inr, ◌⊎◌, false}
+use Rattle.std.proofs.{Common.◌≡◌, Common.◌<◌, Common.ℕ, Common.List, Common.[], Common.◌∷◌, Common.◌++◌, Common.length, Common.get_or, Common.set, Common.refl, Common.sym, Common.ap, Common.subst, Common.◌∙◌, Common.arith, Common.inl, Common.inr, Common.◌⊎◌, Common.false, lemmas.List.Elements.Contains-append_left, lemmas.List.Elements.Contains-append_right, lemmas.List.Elements.Contains-append_cases, lemmas.List.Elements.Contains-get_or, lemmas.Bool.cases_eq}
 use Rattle.std.specs.Prelude.{IsSome, Contains, All, ◌↔◌}
-use Rattle.std.proofs.lemmas.List.Elements.{Contains-append_left, Contains-append_right, Contains-append_cases, Contains-get_or}
-use Rattle.std.proofs.lemmas.Bool.{cases_eq}
-use Rattle.nmgc_world_spec.specs.declared.value.Name.{Name}
-use Rattle.nmgc_world_spec.specs.declared.command.Command.{Command}
-use Rattle.nmgc_world_spec.specs.declared.command.Reply.{Reply}
-use Rattle.nmgc_world_spec.specs.World.{World, node_of, IsWorld}
-use Rattle.nmgc_world_spec.specs.Step.{step}
-use Rattle.nmgc_world_spec.specs.History.{opened_by, finalised_by}
+use Rattle.nmgc_world_spec.specs.{declared.value.Name.Name, declared.command.Command.Command, declared.command.Reply.Reply, World.World, World.node_of, World.IsWorld, Step.step, History.opened_by, History.finalised_by, Owed.owed_by}
 use Rattle.nmgc_lists.specs.laws.Items.{contains_cases, contains_head, contains_tail, nothing_in}
-use Rattle.nmgc_world_spec.specs.Owed.{owed_by}
 use Rattle.nmgc_world_laws.specs.laws.WorldSteps.{step_keeps_world}
-use Rattle.nmgc_snapshot_laws.specs.State.{State, names_of}
-use Rattle.nmgc_snapshot_laws.specs.Machine.{after_command}
-use Rattle.nmgc_snapshot_laws.specs.Facts.{MayHold, IsSafe, Facts, owed, pushed, marked}
-use Rattle.nmgc_snapshot_laws.specs.laws.Listed.{names_same, names_other}
-use Rattle.nmgc_snapshot_laws.specs.laws.Lives.{live_more}
-use Rattle.nmgc_barrier_laws.specs.Due.{IsDue}
-use Rattle.nmgc_barrier_laws.specs.Barrier.{names_in, IsOnItsWay}
-use Rattle.nmgc_barrier_laws.specs.Lax.{after_owing}
-use Rattle.nmgc_barrier_laws.specs.declared.debt.Debt.{Debt}
-use Rattle.nmgc_barrier_laws.specs.Cycle.{Cycle, Owes, IsWatched}
-use Rattle.nmgc_barrier_laws.specs.laws.Given.{given_facts, owes_may, due_owed}
+use Rattle.nmgc_snapshot_laws.specs.{State.State, State.names_of, Machine.after_command, Facts.MayHold, Facts.IsSafe, Facts.Facts, Facts.owed, Facts.pushed, Facts.marked, laws.Listed.names_same, laws.Listed.names_other, laws.Lives.live_more}
+use Rattle.nmgc_barrier_laws.specs.{Due.IsDue, Barrier.names_in, Barrier.IsOnItsWay, Lax.after_owing, declared.debt.Debt.Debt, Cycle.Cycle, Cycle.Owes, Cycle.IsWatched, laws.Given.given_facts, laws.Given.owes_may, laws.Given.due_owed}
 
 pub listed_debt : (debts : List Debt) (debt : Debt) → Contains debts debt → Contains (names_in debts) debt.name
 listed_debt [] debt c = absurd (nothing_in debt c)
@@ -53,10 +36,6 @@ pub record IsTied (h : Cycle) (s : State) : Type 0 where
   pub remembered : (name : Name) → Contains h.remembered name → IsSome (node_of s.snapshot name) → IsOnItsWay s name
   pub only : (m : ℕ) (name : Name) → Contains (names_of s.owed m) name → Owes h name
   pub held : (debt : Debt) → Contains h.debts debt → MayHold s debt.name
-
-on_its_way : (s : State) (name : Name) → IsOnItsWay s name → IsSafe s name
-on_its_way s name (inl c) = marked c
-on_its_way s name (inr (m, c)) = pushed m c
 
 -- a command that is watched
 module _ (h next : Cycle) (s : State) (t : IsTied h s) (line m : ℕ) (c : Command) (answer : Reply) (w : IsWatched h line m c answer next) where

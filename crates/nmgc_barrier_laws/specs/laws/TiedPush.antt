@@ -1,38 +1,10 @@
 -- A push of whatever keeps a watch and a state tied, and so does the marker; and the end is exact.
-use Rattle.std.proofs.Common.{◌≡◌, ◌<◌, ℕ, List, [], ◌∷◌, ◌++◌, zero, suc, length, replicate, set, refl, sym, ap, subst, ◌∙◌, arith, length-set, inl, inr, Option, Some, None}
-use Rattle.std.specs.Prelude.{IsSome, Contains, All, ◌↔◌}
-use Rattle.std.proofs.lemmas.List.{length-replicate}
-use Rattle.std.proofs.lemmas.List.Elements.{All-nil, All-cons, Contains-append_left, Contains-append_right, Contains-append_cases}
-use Rattle.std.proofs.lemmas.Bool.{cases_eq}
-use Rattle.nmgc_world_spec.specs.declared.value.Name.{Name}
-use Rattle.nmgc_world_spec.specs.declared.value.Value.{Value}
+use Rattle.std.specs.Prelude.{◌≡◌, ◌<◌, ◌∷◌, ◌++◌, ◌↔◌}
+use Rattle.nmgc_barrier_laws.specs.laws.Vocabulary.{ℕ, List, [], zero, suc, length, replicate, set, refl, sym, ap, subst, ◌∙◌, arith, length-set, inl, inr, Option, Some, None, IsSome, Contains, All, length-replicate, All-nil, All-cons, Contains-append_left, Contains-append_right, Contains-append_cases, cases_eq, Name, Value, World, node_of, IsWorld, IsLive, IsDead, IsKept, Lists, contains_head, nothing_in, contains_one, one_is, name_cases, Entry, State, names_of, mark_name, mark_read, mark_values, root_values, unmarked, opening, read_at, IsPossible, AreEmpty, after_scan, advanced, IsClosing, MayHold, IsSafe, Facts, owed, pushed, marked, names_same, names_other, live_more, mark_cases, mark_facts, scan_facts, closing_is_exact, IsExactClosing, IsShuffled, Debt, Cycle, Owes, IsPushed, IsTook, MarksName, watching, opening_facts, no_names, names_in, IsOnItsWay}
 use Rattle.nmgc_world_spec.specs.declared.value.Value.TheVariants as value
-use Rattle.nmgc_world_spec.specs.World.{World, node_of, IsWorld}
-use Rattle.nmgc_world_spec.specs.Reach.{IsLive, IsDead, IsKept, Lists}
 use Rattle.nmgc_world_spec.specs.Reach as reach
-use Rattle.nmgc_lists.specs.laws.Items.{contains_head, nothing_in, contains_one, one_is}
-use Rattle.nmgc_world_spec.specs.laws.Orders.{name_cases}
-use Rattle.nmgc_snapshot_laws.specs.declared.event.Entry.{Entry}
 use Rattle.nmgc_snapshot_laws.specs.declared.event.Event.TheVariants as event
-use Rattle.nmgc_snapshot_laws.specs.State.{State, names_of, mark_name, mark_read, mark_values, root_values, unmarked, opening}
-use Rattle.nmgc_snapshot_laws.specs.Scan.{read_at}
-use Rattle.nmgc_snapshot_laws.specs.Machine.{IsPossible, AreEmpty, after_scan, advanced}
-use Rattle.nmgc_snapshot_laws.specs.Closing.{IsClosing}
-use Rattle.nmgc_snapshot_laws.specs.Facts.{MayHold, IsSafe, Facts, owed, pushed, marked}
-use Rattle.nmgc_snapshot_laws.specs.laws.Listed.{names_same, names_other}
-use Rattle.nmgc_snapshot_laws.specs.laws.Lives.{live_more}
-use Rattle.nmgc_snapshot_laws.specs.laws.Marking.{mark_cases, mark_facts}
-use Rattle.nmgc_snapshot_laws.specs.laws.Scans.{scan_facts}
-use Rattle.nmgc_snapshot_laws.specs.laws.Runs.{closing_is_exact}
-use Rattle.nmgc_snapshot_laws.specs.Run.{IsExactClosing}
-use Rattle.nmgc_barrier_laws.specs.Lax.{IsShuffled}
-use Rattle.nmgc_barrier_laws.specs.declared.debt.Debt.{Debt}
-use Rattle.nmgc_barrier_laws.specs.Cycle.{Cycle, Owes, IsPushed, IsTook, MarksName, watching}
-use Rattle.nmgc_snapshot_laws.specs.laws.Openings.{opening_facts, no_names}
-use Rattle.nmgc_barrier_laws.specs.laws.Floating.{floated, floated_facts}
-use Rattle.nmgc_barrier_laws.specs.laws.Laxer.{shuffled_facts}
-use Rattle.nmgc_barrier_laws.specs.laws.Tied.{listed_debt, debt_listed, all_names, IsTied}
-use Rattle.nmgc_barrier_laws.specs.Barrier.{names_in, IsOnItsWay}
+use Rattle.nmgc_barrier_laws.specs.laws.{Floating.floated, Floating.floated_facts, Laxer.shuffled_facts, Tied.listed_debt, Tied.debt_listed, Tied.all_names, Tied.IsTied}
 
 module _ (h next : Cycle) (s : State) (t : IsTied h s) (name : Name) (w : IsPushed h name next) (m : ℕ) (place : m < length s.pushed) where
   abbrev owing : List (List Name)

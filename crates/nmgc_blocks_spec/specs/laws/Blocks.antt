@@ -1,17 +1,6 @@
 -- Blocks in use lie apart, above g and below the nurseries.
-use Rattle.std.proofs.Common.{◌≡◌, ◌<◌, ◌≤◌, ◌+◌, ◌-◌, ◌*◌, ◌/◌, ℕ, inl, inr, sym, ap, ◌∙◌, arith, ◌⊎◌}
-use Rattle.std.proofs.Math.Nat.{mul-le-mul_right}
-use Rattle.std.proofs.lemmas.Bool.{cases_eq}
-use Rattle.nmgc_object.specs.Size.{block_size}
-use Rattle.nmgc_object.specs.Places.{InSegment, nursery_place}
-use Rattle.nmgc_object.specs.declared.layout.TheConstants.{FIRST_PLACE}
-use Rattle.nmgc_object.specs.declared.size.TheConstants.{MIN_BLOCK_WORDS}
-use Rattle.nmgc_alloc.specs.Numbered.{nth, Segments, block_place}
-use Rattle.nmgc_alloc.specs.Segments.{IsSegments}
-use Rattle.nmgc_alloc.specs.laws.Apart.{blocks_lie_apart}
-use Rattle.nmgc_alloc.specs.laws.Placing.{fits}
-use Rattle.nmgc_object.specs.laws.Classes.{least_block as large}
-use Rattle.nmgc_blocks_spec.specs.Occupied.{IsOccupied}
+use Rattle.std.specs.Prelude.{◌≡◌, ◌<◌, ◌≤◌, ◌+◌, ◌-◌, ◌*◌, ◌/◌, ◌⊎◌}
+use Rattle.nmgc_blocks_spec.specs.laws.Vocabulary.{ℕ, inl, inr, sym, ap, ◌∙◌, arith, mul-le-mul_right, cases_eq, block_size, InSegment, nursery_place, FIRST_PLACE, MIN_BLOCK_WORDS, nth, Segments, block_place, IsSegments, blocks_lie_apart, fits, large, IsOccupied}
 
 -- a block in use lies in one segment
 pub occupied_in : (s : Segments) (p size : ℕ) → IsSegments s → (o : IsOccupied s p size) → (i : ℕ) → p ≤ i → i < p + size → InSegment s.layout o.number i

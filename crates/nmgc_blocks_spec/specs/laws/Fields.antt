@@ -1,27 +1,7 @@
 -- The strong fields that the words of a tracked object show are those of its node.
-use Rattle.std.proofs.Common.{◌≡◌, ◌<◌, ◌≤◌, ◌+◌, ◌-◌, ◌*◌, ℕ, zero, suc, List, [], ◌∷◌, ◌++◌, length, map, replicate, get_or, inl, inr, refl, sym, ap, subst, ◌∙◌, arith, ◌⊎◌, Bool, true, false, eqb, Some, None, eq-eqb}
-use Rattle.std.specs.Prelude.{Contains, slice_get, slice_index}
-use Rattle.std.proofs.lemmas.Bool.{cases_lt, ne_eqb}
-use Rattle.std.proofs.lemmas.List.{length-map, length-replicate, get_or-replicate, get_or-map}
-use Rattle.std.proofs.lemmas.Option.{slice_get-get_or}
-use Rattle.std.proofs.lemmas.List.Elements.{Contains-get_or}
-use Rattle.nmgc_world_spec.specs.declared.value.Name.{Name}
-use Rattle.nmgc_world_spec.specs.declared.value.Value.{Value}
+use Rattle.std.specs.Prelude.{◌≡◌, ◌<◌, ◌≤◌, ◌+◌, ◌-◌, ◌*◌, ◌∷◌, ◌++◌, ◌⊎◌}
+use Rattle.nmgc_blocks_spec.specs.laws.Vocabulary.{ℕ, zero, suc, List, [], length, map, replicate, get_or, inl, inr, refl, sym, ap, subst, ◌∙◌, arith, Bool, true, false, eqb, Some, None, eq-eqb, Contains, slice_get, slice_index, cases_lt, ne_eqb, length-map, length-replicate, get_or-replicate, get_or-map, slice_get-get_or, Contains-get_or, Name, Value, Node, Con, Var, Arr, Thunk, Weak, Stack, World, node_of, IsWorld, IsNodeOf, IsSized, strong_fields, RefersTo, at_some, header_word, IsHeader, Header, Layout, HEADER_WORDS, Slot, holds, unset, header_of, slots_of, IsTracked, Place, Means, HasSlots, IsObject, Represents, strong_part, HasStrong}
 use Rattle.nmgc_world_spec.specs.declared.value.Value.TheVariants as value
-use Rattle.nmgc_world_spec.specs.declared.node.Node.{Node}
-use Rattle.nmgc_world_spec.specs.declared.node.Node.TheVariants.{Con, Var, Arr, Thunk, Weak, Stack}
-use Rattle.nmgc_world_spec.specs.World.{World, node_of, IsWorld, IsNodeOf, IsSized}
-use Rattle.nmgc_world_spec.specs.Reach.{strong_fields, RefersTo}
-use Rattle.nmgc_lists.specs.laws.Items.{at_some}
-use Rattle.nmgc_object.specs.Words.{header_word, IsHeader}
-use Rattle.nmgc_object.specs.declared.words.Header.{Header}
-use Rattle.nmgc_object.specs.declared.layout.Layout.{Layout}
-use Rattle.nmgc_object.specs.declared.size.TheConstants.{HEADER_WORDS}
-use Rattle.nmgc_heap_spec.specs.Shape.{Slot, holds, unset, header_of, slots_of}
-use Rattle.nmgc_heap_spec.specs.Tracked.{IsTracked}
-use Rattle.nmgc_heap_spec.specs.Places.{Place, Means, HasSlots}
-use Rattle.nmgc_heap_spec.specs.Represents.{IsObject, Represents}
-use Rattle.nmgc_blocks_spec.specs.Strong.{strong_part, HasStrong}
 
 -- a slot that holds a strong field, or is unset
 abbrev IsStrongAt : Node → ℕ → Type 0

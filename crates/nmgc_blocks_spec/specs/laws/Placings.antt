@@ -1,16 +1,6 @@
 -- What placing an object does to the blocks in use: they stay, and one more is, which shares no word with them. No mark changes.
-use Rattle.std.proofs.Common.{ℕ, ◌≡◌, ◌≢◌, ◌+◌, ◌*◌, ◌/◌, ◌<◌, ◌≤◌, ◌⊎◌, ◌∙◌, inl, inr, refl, ap, subst, sym, arith, List, length}
-use Rattle.std.proofs.Math.ListN.{length-set}
-use Rattle.std.proofs.lemmas.Bool.{cases_eq}
-use Rattle.nmgc_object.specs.declared.layout.Layout.{Layout}
-use Rattle.nmgc_object.specs.Size.{block_size}
-use Rattle.nmgc_segment.specs.Segment.{Segment, InUse, block_count, segment_words}
-use Rattle.nmgc_segment.specs.declared.state.State.TheVariants.{Free, Current, Filled}
-use Rattle.nmgc_alloc.specs.Numbered.{nth, Segments, block_place}
-use Rattle.nmgc_alloc.specs.Segments.{IsSegments, Allocates}
-use Rattle.nmgc_alloc.specs.laws.Numbers.{nth-set_other}
-use Rattle.nmgc_alloc.specs.laws.Apart.{blocks_lie_apart}
-use Rattle.nmgc_blocks_spec.specs.Occupied.{IsOccupied, KeepsMarks}
+use Rattle.std.specs.Prelude.{◌≡◌, ◌≢◌, ◌+◌, ◌*◌, ◌/◌, ◌<◌, ◌≤◌, ◌⊎◌}
+use Rattle.nmgc_blocks_spec.specs.laws.Vocabulary.{ℕ, ◌∙◌, inl, inr, refl, ap, subst, sym, arith, List, length, length-set, cases_eq, Layout, block_size, Segment, InUse, block_count, segment_words, Free, Current, Filled, nth, Segments, block_place, IsSegments, Allocates, nth-set_other, blocks_lie_apart, IsOccupied, KeepsMarks}
 
 module _ (s new : Segments) (m c at : ℕ) (sound : IsSegments s) (after : IsSegments new) (a : Allocates s new m c at) where
   within : a.number < length s.segments

@@ -1,8 +1,7 @@
 -- Lemmas that crates above need too.
 use Rattle.std.proofs.Common.{ℕ, List, Ok, Err}
 use Rattle.std.specs.Prelude.{IfOk}
-use Rattle.nmgc_cli.specs.Answer.{Reported, IsRan, IsOfScript}
-use Rattle.nmgc_cli.specs.Told.{AnswersBytes}
+use Rattle.nmgc_cli.specs.{Answer.Reported, Answer.IsRan, Answer.IsOfScript, Told.AnswersBytes}
 
 -- a report that was answered to bytes is one of a script
 pub of_bytes : (bytes : List ℕ) (answer : Reported) → AnswersBytes IsRan bytes answer → IfOk answer IsOfScript

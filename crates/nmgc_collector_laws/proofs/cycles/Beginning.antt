@@ -1,26 +1,8 @@
 -- A cycle begins: no byte is its epoch, and the machine that has marked the roots is at rest.
-use Rattle.std.proofs.Common.{◌≡◌, ◌≢◌, ◌+◌, ◌%◌, ℕ, Bool, true, false, List, [], ◌∷◌, length, replicate, refl, sym, ap, ◌∙◌, arith, inl, inr, cond}
-use Rattle.std.specs.Prelude.{All}
-use Rattle.std.proofs.lemmas.Bool.Decides.{eqb_tells}
-use Rattle.std.proofs.lemmas.List.Elements.{All-nil, All-cons, All-append}
-use Rattle.nmgc_world_spec.specs.declared.value.Name.{Name}
-use Rattle.nmgc_world_spec.specs.declared.value.Value.{Value}
+use Rattle.nmgc_collector_laws.proofs.Vocabulary.{◌≡◌, ◌≢◌, ◌+◌, ◌%◌, ℕ, Bool, true, false, List, [], ◌∷◌, length, replicate, refl, sym, ap, ◌∙◌, arith, inl, inr, cond, All, eqb_tells, All-nil, All-cons, All-append, Name, Value, World, IsWorld, epoch_of, mark_of, State, names_of, entry_of, mark_name, mark_values, opening, root_values, unmarked, mark_cases, nth, Segments, HasNumber, NoneIs, IsIn, StandsFor, AreSettled, IsUnread, RunState, next_cycle, IsMachineAtRest, none_at_first}
 use Rattle.nmgc_world_spec.specs.declared.value.Value.TheVariants as value
-use Rattle.nmgc_world_spec.specs.World.{World, IsWorld}
-use Rattle.nmgc_segment.specs.Marks.{epoch_of}
-use Rattle.nmgc_segment.specs.Segment.{mark_of}
 use Rattle.nmgc_segment.specs.declared.state.State.TheVariants as stands
-use Rattle.nmgc_snapshot_laws.specs.State.{State, names_of, entry_of, mark_name, mark_values, opening, root_values, unmarked}
-use Rattle.nmgc_snapshot_laws.specs.laws.Marking.{mark_cases}
-use Rattle.nmgc_alloc.specs.Numbered.{nth, Segments, HasNumber}
-use Rattle.nmgc_alloc.specs.AllocState.{NoneIs, IsIn}
-use Rattle.nmgc_alloc.specs.Stands.{StandsFor}
-use Rattle.nmgc_alloc.specs.Settled.{AreSettled}
-use Rattle.nmgc_collector_laws.specs.Marker.{IsUnread}
-use Rattle.nmgc_run_spec.specs.State.{State as RunState, next_cycle}
-use Rattle.nmgc_collector_laws.specs.RestMarking.{IsMachineAtRest}
 use Rattle.nmgc_collector_laws.proofs.cycles.Pushing.{all_empty}
-use Rattle.nmgc_snapshot_laws.specs.laws.Openings.{no_names as none_at_first}
 
 -- epochs follow one another, and none is 0
 abbrev one_or_two : Bool → ℕ

@@ -1,34 +1,6 @@
 -- Places of blocks, and the tie by blocks.
-use Rattle.std.proofs.Common.{◌≡◌, ◌≢◌, inl, inr, ℕ, ◌<◌, ◌≤◌, ◌%◌, ◌==◌, Bool, true, false, cond, List, [], ◌∷◌, map, length, refl, sym, ap, subst, ◌∙◌, arith, None}
-use Rattle.std.specs.Prelude.{Contains, IsSome, All}
-use Rattle.std.proofs.Math.ListN.{get_or-eq_default}
-use Rattle.std.proofs.lemmas.Bool.{cases_lt}
-use Rattle.std.proofs.lemmas.List.Elements.{All-nil, All-cons, All-head, All-tail}
-use Rattle.nmgc_world_spec.specs.declared.value.Name.{Name}
-use Rattle.nmgc_world_spec.specs.World.{World, node_of}
-use Rattle.nmgc_world_spec.specs.Step.{shared_name}
-use Rattle.nmgc_object.specs.Size.{block_size}
-use Rattle.nmgc_object.specs.laws.Classes.{least_block}
-use Rattle.nmgc_segment.specs.Segment.{Segment, InSnapshot, IsMarked, mark_of, free_segment}
-use Rattle.nmgc_segment.specs.declared.state.State.TheVariants.{Free}
-use Rattle.nmgc_snapshot_laws.specs.declared.event.Entry.{Entry}
-use Rattle.nmgc_snapshot_laws.specs.State.{State}
-use Rattle.nmgc_alloc.specs.Numbered.{nth, Segments, HasNumber, block_place}
-use Rattle.nmgc_alloc.specs.Segments.{IsBlockAt}
-use Rattle.nmgc_alloc.specs.AllocState.{AllocState, LiesIn, cells, name_in, Cells}
-use Rattle.nmgc_alloc.specs.laws.Apart.{lies_in, same_block}
-use Rattle.nmgc_alloc.specs.laws.Blocks.{snapshot_within}
-use Rattle.nmgc_alloc.specs.laws.Placing.{inside}
-use Rattle.nmgc_alloc.specs.laws.Sound.{stands_sound, used_exists}
-use Rattle.nmgc_heap_spec.specs.Places.{Place, shared_place}
-use Rattle.nmgc_round.specs.View.{Opening}
-use Rattle.nmgc_round.specs.Marking.{marks_of}
-use Rattle.nmgc_blocks_spec.specs.Cycle.{Cycle}
-use Rattle.nmgc_segment.specs.Marks.{epoch_of}
-use Rattle.nmgc_collector_laws.specs.Marker.{AreAt, IsUnread, IsTied as IsTiedByBlocks, IsRightSnapshot as IsRightByBlocks}
-use Rattle.nmgc_mark.specs.Seen.{MarkerSeen}
-use Rattle.nmgc_collector_laws.specs.Blocks.{AreOfBlocks, TiesAgree}
-use Rattle.nmgc_mark.specs.Tie.{AreQueued, IsTied}
+use Rattle.nmgc_collector_laws.proofs.Vocabulary.{◌≡◌, ◌≢◌, inl, inr, ℕ, ◌<◌, ◌≤◌, ◌%◌, Bool, true, false, cond, List, [], ◌∷◌, map, length, refl, sym, ap, subst, ◌∙◌, arith, None, Contains, IsSome, All, get_or-eq_default, cases_lt, All-nil, All-cons, All-head, All-tail, Name, World, node_of, shared_name, block_size, least_block, Segment, InSnapshot, IsMarked, mark_of, free_segment, Free, Entry, State, nth, Segments, HasNumber, block_place, IsBlockAt, AllocState, LiesIn, cells, name_in, Cells, lies_in, same_block, snapshot_within, inside, stands_sound, used_exists, Place, shared_place, Opening, marks_of, Cycle, epoch_of, AreAt, IsUnread, IsTiedByBlocks, IsRightByBlocks, MarkerSeen, AreOfBlocks, TiesAgree, AreQueued, ◌==◌}
+use Rattle.nmgc_mark.specs.Tie.{IsTied}
 
 to_queued : (places : List Place) (ats : List ℕ) (entries : List Entry) → AreAt places ats (map (λ (e : Entry). e.name) entries) →
     All IsUnread entries → AreQueued places ats entries
@@ -129,14 +101,12 @@ module _ (o : Opening) (c : Cycle) (s : Segments) (words : List ℕ) (a : AllocS
         marks = λ p d g.
             let r = (h.snapshot g.0 g.1).0 g.3 in
             let is : block_place o.layout g.0 (cells a g.0).class g.1 ≡ p.at = (lies_at g.0 g.1 r.0 r.1).place ∙ sym g.2.place in
-            let same = k.apart.one (record { at = p.at; name = r.0 }) p (subst (λ x.
-            Contains o.places (record { at = x; name = r.0 })) is (k.blocks g.0 g.1 r.0 r.1)) d (inr refl) in
+            let same = k.apart.one (record { at = p.at; name = r.0 }) p (rw is at (k.blocks g.0 g.1 r.0 r.1)) d (inr refl) in
             let name : r.0 ≡ p.name = ap (λ (q : Place). q.name) same in
             let m = h.marks g.0 g.1 r.0 r.1 in (
               λ t.
                   let one = same_block s g.0 g.1 t.0 t.1 p.at k.sound g.2 t.2 in
-                  subst (λ x. Contains core.marked x) name (m.0 (subst (λ x.
-                  IsMarked (nth s.segments x) marker.epoch g.1) (sym one.0) (subst (λ x. IsMarked (nth s.segments t.0) marker.epoch x) (sym one.1) t.3))),
+                  rw name at (m.0 (rw one.0 (subst (λ x. IsMarked (nth s.segments t.0) marker.epoch x) (sym one.1) t.3))),
               λ t. (g.0, g.1, g.2, m.1 (subst (λ x. Contains core.marked x) (sym name) t)),
             );
         queue = to_queued o.places marker.queue core.queue h.queue h.fresh;
@@ -153,8 +123,7 @@ module _ (o : Opening) (c : Cycle) (s : Segments) (words : List ℕ) (a : AllocS
           elim (k.named (record { at = at; name = r.0 }) r.1 r.2) [
             | inl e ↦ absurd (let is : at ≡ 1 = ap (λ (p : Place). p.at) e in let up = above n b at g in omega arith)
             | inr x ↦
-                let one = same_block s x.number x.block n b at k.sound (subst (λ y.
-                IsBlockAt s x.number x.block y) (sym x.at) (lies_at x.number x.block r.0 x.lies)) g in
+                let one = same_block s x.number x.block n b at k.sound (rw x.at (lies_at x.number x.block r.0 x.lies)) g in
                 (r.0, subst (λ y. LiesIn a y b r.0) one.0 (subst (λ y. LiesIn a x.number y r.0) one.1 x.lies), of_cycle r.0 r.2)
           ],
       λ q.

@@ -1,34 +1,6 @@
 -- The marker's calls, over the laws of the machine.
-use Rattle.std.proofs.Common.{ℕ, ◌≡◌, ◌++◌, true, List, [], ◌∷◌, length, map, refl, sym, ap, subst, ◌∙◌, inr}
-use Rattle.std.specs.List.{flat_map}
-use Rattle.std.proofs.lemmas.List.{length-map}
-use Rattle.nmgc_world_spec.specs.World.{World}
-use Rattle.nmgc_snapshot_laws.specs.State.{State as Core, names_of, opening}
-use Rattle.nmgc_heap_spec.specs.Places.{Place}
-use Rattle.nmgc_heap_spec.specs.laws.Kinds.{map_item}
-use Rattle.nmgc_alloc.specs.AllocState.{AllocState}
-use Rattle.nmgc_round.specs.Events.{rows_in}
-use Rattle.nmgc_round.specs.Finishing.{places_then}
-use Rattle.nmgc_round.specs.View.{Opening, Scan, Seen as View}
-use Rattle.nmgc_collector_laws.specs.Collector.{IsMarking}
-use Rattle.nmgc_round.specs.Marking.{Marks, marks_of, marks_after}
-use Rattle.nmgc_collector_laws.specs.Marker.{AreAt, AreRemembered, IsTied}
-use Rattle.nmgc_collector_laws.specs.Seen.{MutatorSeen}
-use Rattle.nmgc_blocks_spec.specs.Cycle.{Cycle}
-use Rattle.nmgc_run_spec.specs.State.{next_cycle, cycle_started}
-use Rattle.nmgc_collector_laws.specs.Blocks.{AreOfBlocks, TiesAgree}
-use Rattle.nmgc_mark.specs.Tie.{IsTied as IsTiedByPlaces, with_places}
-use Rattle.nmgc_collector_laws.specs.Prepares.{all_prepared}
-use Rattle.nmgc_collector_laws.specs.Calls.{all_entries, SnapshotIsMarking, RoundIsMarking, AddIsMarking}
-use Rattle.nmgc_collector_laws.specs.Owed.{gathered}
-use Rattle.nmgc_collector_laws.specs.RestMarking.{with_rows}
-use Rattle.nmgc_collector_laws.proofs.cycles.Beginning.{opening_rests}
-use Rattle.nmgc_collector_laws.proofs.cycles.Keeping.{add_keeps_marking, cycle_is_marking, round_keeps_marking}
-use Rattle.nmgc_collector_laws.proofs.cycles.Preparing.{stop_begins}
-use Rattle.nmgc_collector_laws.proofs.cycles.RoundHeap.{marked_holds}
-use Rattle.nmgc_collector_laws.proofs.cycles.Taking.{machine_takes, places_mark, with_names}
-use Rattle.nmgc_collector_laws.proofs.cycles.Tying.{MarksLaw, EndsLaw, core_snapshot, heap_of_blocks, round_ends}
-use Rattle.nmgc_collector_laws.specs.laws.Common.{core_facts}
+use Rattle.nmgc_collector_laws.proofs.Vocabulary.{ℕ, ◌≡◌, ◌++◌, true, List, [], ◌∷◌, length, map, refl, sym, ap, subst, ◌∙◌, inr, flat_map, length-map, World, Core, names_of, opening, Place, map_item, AllocState, rows_in, places_then, Opening, Scan, View, IsMarking, Marks, marks_of, marks_after, AreAt, AreRemembered, IsTied, MutatorSeen, Cycle, next_cycle, cycle_started, AreOfBlocks, TiesAgree, IsTiedByPlaces, with_places, all_prepared, all_entries, SnapshotIsMarking, RoundIsMarking, AddIsMarking, gathered, with_rows, core_facts}
+use Rattle.nmgc_collector_laws.proofs.{cycles.Beginning.opening_rests, cycles.Keeping.add_keeps_marking, cycles.Keeping.cycle_is_marking, cycles.Keeping.round_keeps_marking, cycles.Preparing.stop_begins, cycles.RoundHeap.marked_holds, cycles.Taking.machine_takes, cycles.Taking.places_mark, cycles.Tying.MarksLaw, cycles.Tying.EndsLaw, cycles.Tying.core_snapshot, cycles.Tying.heap_of_blocks, cycles.Tying.round_ends}
 
 pub snapshot_is_marking : MarksLaw → TiesAgree → SnapshotIsMarking
 snapshot_is_marking law agree layout s words old new ends weaks o spare h world sound_new same places snapshot marked tied queue_room nothing from
@@ -46,8 +18,7 @@ snapshot_is_marking law agree layout s words old new ends weaks o spare h world 
     subst (λ (w : World). IsTiedByPlaces o (marks_of (opening w)) new.segments new.marker) snapshot tied in
     let by_blocks : IsTied c (cycle_started s).allocation new.segments o.places new.marker core =
     (agree o c new.segments words (cycle_started s).allocation core new.marker blocks).1 (marked.scanned.epoch, here) in
-    cycle_is_marking s new h.places world (subst (λ (l : List Place).
-    IsTied c (cycle_started s).allocation new.segments l new.marker core) places by_blocks) marked.room queue_room nothing from noted nothing_listed
+    cycle_is_marking s new h.places world (rw places at by_blocks) marked.room queue_room nothing from noted nothing_listed
 
 pub round_is_marking : MarksLaw → TiesAgree → EndsLaw → RoundIsMarking
 round_is_marking law agree ending layout c s t old new before after ends weaks o scans seats mutators done core scanned h f sound interval was same
@@ -90,8 +61,7 @@ add_is_marking law agree layout c s old new words ends weaks h sound sound_new i
     let after : Core = taken.1 in
     let at : AreAt h.places (all_entries old.mutators) taken.0 = subst (λ (l : List ℕ). AreAt h.places l taken.0) (entries_flat old.mutators) taken.2 in
     let marks : with_places o (marks_of core) (all_entries old.mutators) ≡ marks_of after =
-    places_mark o (marks_of core) (all_entries old.mutators) taken.0 (λ p q d e is. h.holds.represents.one p q d e (inr is)) at ∙
-    ap (λ (w : World). with_names w (marks_of core) taken.0) snapshot ∙ sym taken.3.marks in
+    cc (places_mark o (marks_of core) (all_entries old.mutators) taken.0 (λ p q d e is. h.holds.represents.one p q d e (inr is)) at, snapshot, taken.3.marks) in
     let then : IsTiedByPlaces o (marks_of after) new.segments new.marker =
     subst (λ (m : Marks). IsTiedByPlaces o m new.segments new.marker) marks (added o (marks_of core) by_places.1) in
     let k = marked_holds layout s words old.segments new.segments ends weaks h (marked.layout ∙

@@ -1,19 +1,5 @@
 -- At a stop the machine goes on by scans alone.
-use Rattle.std.proofs.Common.{◌≡◌, ◌+◌, ◌++◌, List, [], ◌∷◌, map, refl, sym, ap, subst, ◌∙◌, append-nil}
-use Rattle.std.specs.Prelude.{All}
-use Rattle.nmgc_world_spec.specs.History.{Row}
-use Rattle.nmgc_world_spec.specs.World.{World}
-use Rattle.nmgc_snapshot_laws.specs.Machine.{AreEmpty, after_scan}
-use Rattle.nmgc_snapshot_laws.specs.Run.{Runs}
-use Rattle.nmgc_snapshot_laws.specs.State.{State, opening}
-use Rattle.nmgc_round.specs.Events.{Happening, IsLegal, did, scanned, event_of, replay, rows_in}
-use Rattle.nmgc_collector_laws.specs.Marker.{IsUnread}
-use Rattle.nmgc_blocks_spec.specs.Cycle.{Cycle}
-use Rattle.nmgc_round.specs.laws.Common.{world_scanned}
-use Rattle.nmgc_mark.specs.Stopped.{AreScans}
-use Rattle.nmgc_collector_laws.specs.RestMarking.{IsMachineAtRest}
-use Rattle.nmgc_collector_laws.proofs.cycles.Going.{Leaves, round_runs, leaves_round, same_owed}
-use Rattle.nmgc_snapshot_laws.specs.laws.Common.{runs_join as runs_then}
+use Rattle.nmgc_collector_laws.proofs.{Vocabulary.◌≡◌, Vocabulary.◌++◌, Vocabulary.List, Vocabulary.[], Vocabulary.◌∷◌, Vocabulary.map, Vocabulary.refl, Vocabulary.sym, Vocabulary.ap, Vocabulary.subst, Vocabulary.◌∙◌, Vocabulary.append-nil, Vocabulary.All, Vocabulary.Row, Vocabulary.World, Vocabulary.AreEmpty, Vocabulary.after_scan, Vocabulary.Runs, Vocabulary.State, Vocabulary.opening, Vocabulary.Happening, Vocabulary.IsLegal, Vocabulary.did, Vocabulary.scanned, Vocabulary.event_of, Vocabulary.replay, Vocabulary.rows_in, Vocabulary.IsUnread, Vocabulary.Cycle, Vocabulary.world_scanned, Vocabulary.AreScans, Vocabulary.IsMachineAtRest, Vocabulary.runs_then, cycles.Going.Leaves, cycles.Going.round_runs, cycles.Going.leaves_round, cycles.Going.same_owed}
 
 -- scans alone have no rows
 no_rows : (hs : List Happening) → AreScans hs → rows_in hs ≡ []
@@ -35,8 +21,8 @@ machine_scans c w core events h legal scans fresh =
       sound = h.sound;
       machine = record {
         events = m.events ++ map event_of events;
-        runs = subst (λ (rows : List Row). Runs (opening c.snapshot) (m.events ++ map event_of events) rows t) (ap (λ (x : List Row). c.rows ++
-            x) none ∙ append-nil c.rows) runs;
+        runs = rw (ap (λ (x : List Row). c.rows ++
+            x) none ∙ append-nil c.rows) at runs;
         open_yet = l.is_closed ∙ m.open_yet;
         world_is = same_world core events none ∙ m.world_is;
         nothing_owed = subst AreEmpty (sym (same_owed core events none)) m.nothing_owed;

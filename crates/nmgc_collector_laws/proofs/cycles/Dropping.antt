@@ -1,47 +1,7 @@
 -- The places of freed names go, and what is left stands for what was swept.
-use Rattle.std.proofs.Common.{ℕ, ◌≡◌, ◌≢◌, ◌⊎◌, ◌+◌, ◌<◌, ◌≤◌, List, [], ◌∷◌, refl, sym, ap, subst, ◌∙◌, arith, inl, inr, Option, Some, None, cond, set}
-use Rattle.std.specs.Prelude.{Contains, IsSome, sum_by}
-use Rattle.std.proofs.lemmas.List.Sums.{sum_by-set}
-use Rattle.std.proofs.lemmas.Bool.{cases_eq}
-use Rattle.nmgc_world_spec.specs.declared.value.Name.{Name}
-use Rattle.nmgc_world_spec.specs.World.{World, node_of}
-use Rattle.nmgc_world_spec.specs.Step.{shared_name}
-use Rattle.nmgc_world_spec.specs.History.{replayed}
-use Rattle.nmgc_lists.specs.laws.Items.{contains_head, contains_tail, contains_cases, nothing_in}
-use Rattle.nmgc_world_laws.specs.laws.HeldSteps.{absent, some_of}
-use Rattle.nmgc_object.specs.Places.{nursery_place}
-use Rattle.nmgc_object.specs.Size.{block_size}
-use Rattle.nmgc_object.specs.declared.layout.Layout.{Layout}
-use Rattle.nmgc_segment.specs.declared.state.State.{State as Stands}
+use Rattle.nmgc_collector_laws.proofs.Vocabulary.{ℕ, ◌≡◌, ◌≢◌, ◌⊎◌, ◌+◌, ◌<◌, ◌≤◌, List, [], ◌∷◌, refl, sym, ap, subst, ◌∙◌, arith, inl, inr, Option, Some, None, cond, set, Contains, IsSome, sum_by, sum_by-set, cases_eq, Name, World, node_of, shared_name, replayed, contains_head, contains_tail, contains_cases, nothing_in, absent, some_of, nursery_place, block_size, Layout, Stands, is, Segments, block_place, IsSegments, AllocState, Cells, Sweeps, SweepsEach, HoldsKept, LiesIn, HasBlock, cells, name_in, count_in, no_cells, StandsFor, none_some, swept_back, swept_other, DropsPlaces, Place, NoNode, ListsWeaks, IsTracked, places_dropped, roots_dropped, tracked_wide, free_tracked, is_block, MutatorEnd, IsKeptIn, FitBlocks, HeapStandsFor, IsBornPlace, snapshots, IsBlockPlace, IsPlaceAtStop, last_state, IsInCycle, IsSoundState, Progress, sweeping, SweepsBeside, free, block_used, states_are_sound, rounds_are_sound, sweeps_keep, tracked_before, tracked_itself, FreesUntracked, RoundFreesUntracked, StopFreesUntracked, FreeGrows, DropsFreed, SweptHoldsAfterRound, SweptHoldsAtStop, DropKeepsRound}
+use Rattle.nmgc_run_spec.specs.State.{State}
 use Rattle.nmgc_segment.specs.declared.state.State.TheVariants as stands
-use Rattle.nmgc_alloc.specs.Numbered.{is, Segments, block_place}
-use Rattle.nmgc_alloc.specs.Segments.{IsSegments}
-use Rattle.nmgc_alloc.specs.AllocState.{AllocState, Cells, Sweeps, SweepsEach, HoldsKept, LiesIn, HasBlock, cells, name_in, count_in, no_cells}
-use Rattle.nmgc_alloc.specs.Stands.{StandsFor}
-use Rattle.nmgc_alloc.specs.laws.Cells.{none_some, swept_back, swept_other}
-use Rattle.nmgc_heap_spec.specs.Changes.{DropsPlaces}
-use Rattle.nmgc_heap_spec.specs.Places.{Place}
-use Rattle.nmgc_heap_spec.specs.Represents.{NoNode}
-use Rattle.nmgc_heap_spec.specs.Roots.{ListsWeaks}
-use Rattle.nmgc_heap_spec.specs.Tracked.{IsTracked}
-use Rattle.nmgc_heap_spec.specs.laws.Changes.{places_dropped}
-use Rattle.nmgc_heap_spec.specs.laws.Roots.{roots_dropped, tracked_wide}
-use Rattle.nmgc_heap_spec.specs.laws.Tracking.{free_tracked}
-use Rattle.nmgc_blocks_spec.specs.laws.Blocks.{is_block}
-use Rattle.nmgc_journal.specs.declared.report.MutatorEnd.{MutatorEnd}
-use Rattle.nmgc_blocks_spec.specs.Cycle.{IsKeptIn}
-use Rattle.nmgc_run_spec.specs.Heap.{FitBlocks, HeapStandsFor, IsBornPlace, snapshots}
-use Rattle.nmgc_blocks_spec.specs.Placed.{IsBlockPlace, IsPlaceAtStop}
-use Rattle.nmgc_run_spec.specs.Run.{last_state}
-use Rattle.nmgc_run_laws.specs.Sound.{IsInCycle, IsSoundState}
-use Rattle.nmgc_run_spec.specs.State.{Progress, State, sweeping}
-use Rattle.nmgc_run_spec.specs.Round.{SweepsBeside}
-use Rattle.nmgc_run_laws.specs.laws.CycleCounts.{free}
-use Rattle.nmgc_run_laws.specs.laws.Places.{block_used}
-use Rattle.nmgc_run_laws.specs.laws.Runs.{states_are_sound, rounds_are_sound}
-use Rattle.nmgc_run_laws.specs.laws.Sweeps.{sweeps_keep}
-use Rattle.nmgc_run_laws.specs.laws.Tracks.{tracked_before, tracked_itself}
-use Rattle.nmgc_collector_laws.specs.Drops.{FreesUntracked, RoundFreesUntracked, StopFreesUntracked, FreeGrows, DropsFreed, SweptHoldsAfterRound, SweptHoldsAtStop, DropKeepsRound}
 
 -- places, each of which is to stay or to go, without those that go
 split_places : (P Q : Place → Type 0) (places : List Place) → ((p : Place) → Contains places p → P p ⊎ Q p) → (fewer : List Place) ×
@@ -91,8 +51,7 @@ module _ (layout : Layout) (earlier : List World) (began w : World) (allocation 
         number = b.number;
         block = b.block;
         lies = e ∙ both;
-        at = b.at ∙
-            ap (λ (class : ℕ). block_place layout b.number class b.block) (sym was.1);
+        at = cc (b.at, was.1);
       })))
 
   decide : (p : Place) → Contains places p → Stays p ⊎ Goes p
@@ -119,8 +78,7 @@ module _ (layout : Layout) (earlier : List World) (began w : World) (allocation 
   not_gone p gone has =
       let b = gone.0 in
       let same = f.once has.0 has.1 b.number b.block p.name (f.lies has.0 has.1 p.name has.2).0 b.lies in
-      let there : LiesIn swept b.number b.block p.name = subst (λ (n : ℕ).
-      LiesIn swept n b.block p.name) same.0 (subst (λ (k : ℕ). LiesIn swept has.0 k p.name) same.1 has.2) in
+      let there : LiesIn swept b.number b.block p.name = rw (← same.0) (subst (λ (k : ℕ). LiesIn swept has.0 k p.name) same.1 has.2) in
       none_some (name_in (cells swept b.number) b.block) p.name gone.1 there
 
   keep_if : (p : Place) → Contains places p → (Goes p → ⊥) → Contains fewer p
@@ -149,8 +107,7 @@ module _ (layout : Layout) (earlier : List World) (began w : World) (allocation 
 
   keep_left : (p : Place) → Contains places p → IsPlaceAtStop layout swept p → Contains fewer p
   keep_left p d h = elim h [
-    | inl g ↦ keep_if p d (λ gone. f.shared gone.0.number gone.0.block (subst (λ (n : Name).
-        LiesIn allocation gone.0.number gone.0.block n) (ap (λ (q : Place). q.name) g) gone.0.lies))
+    | inl g ↦ keep_if p d (λ gone. f.shared gone.0.number gone.0.block (rw (ap (λ (q : Place). q.name) g) at gone.0.lies))
     | inr b ↦ keep_if p d (λ gone. not_gone p gone (b.number, b.block, b.lies))
   ]
 
@@ -263,7 +220,7 @@ module _ (K : Name → Type 0) where
   one_left a b number s k block name lies = (
     swept_back a b number (HoldsKept K a number) s k block name lies,
     elim (cases_eq k number) [
-      | inl e ↦ subst (λ (i : ℕ). (cells b i).class ≡ (cells a i).class) (sym e) (elim s.swept [
+      | inl e ↦ rw e (elim s.swept [
         | inl none ↦ absurd (none_some (name_in (cells b number) block) name (ap (λ (c : Cells). name_in c block) none.1) (ap (λ (i : ℕ).
             name_in (cells b i) block) (sym e) ∙ lies))
         | inr (inl full) ↦ ap (λ (c : Cells). c.class) full.1

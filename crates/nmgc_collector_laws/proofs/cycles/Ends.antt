@@ -1,26 +1,6 @@
 -- A cycle that closes with weak pointers: what is marked is what it keeps, and what dies is what is dead.
-use Rattle.std.proofs.Common.{ℕ, List, refl, sym, subst, inl, inr}
-use Rattle.std.specs.Prelude.{Contains, IsSome}
-use Rattle.nmgc_world_spec.specs.declared.value.Name.{Name}
-use Rattle.nmgc_world_spec.specs.World.{World, node_of}
-use Rattle.nmgc_world_spec.specs.Step.{shared_name}
-use Rattle.nmgc_world_spec.specs.Reach.{IsAlive, IsDead, IsKept, Lists}
-use Rattle.nmgc_world_laws.specs.Reachable.{IsSound}
-use Rattle.nmgc_world_laws.specs.laws.Deaths.{finalised_dead}
-use Rattle.nmgc_snapshot_laws.specs.Closing.{IsClosing, IsRevived, IsRescued}
-use Rattle.nmgc_snapshot_laws.specs.Run.{IsMarking, IsExactClosing}
-use Rattle.nmgc_snapshot_laws.specs.State.{State, opening}
-use Rattle.nmgc_snapshot_laws.specs.laws.Runs.{closing_is_exact, snapshot_theorem}
-use Rattle.nmgc_alloc.specs.Numbered.{Segments}
-use Rattle.nmgc_alloc.specs.AllocState.{AllocState}
-use Rattle.nmgc_round.specs.View.{Opening}
-use Rattle.nmgc_blocks_spec.specs.Cycle.{IsDeadIn, IsKeptIn, interval_of, Cycle}
-use Rattle.nmgc_collector_laws.specs.Marker.{IsCoreOf}
-use Rattle.nmgc_world_laws.specs.laws.Distinct.{others_counted}
-use Rattle.nmgc_snapshot_laws.specs.laws.MarkedOnce.{once_runs, once_opening}
-use Rattle.nmgc_collector_laws.specs.Blocks.{AreOfBlocks, TiesAgree}
-use Rattle.nmgc_collector_laws.specs.CycleCloses.{CycleMayResolve, CycleCloses}
-use Rattle.nmgc_collector_laws.specs.laws.Common.{core_facts as facts_of}
+use Rattle.nmgc_collector_laws.proofs.Vocabulary.{ℕ, List, refl, sym, subst, inl, inr, Contains, IsSome, Name, World, node_of, shared_name, IsDead, IsKept, Lists, IsSound, finalised_dead, IsClosing, IsRevived, IsRescued, IsExactClosing, State, opening, closing_is_exact, snapshot_theorem, Segments, AllocState, Opening, IsDeadIn, IsKeptIn, interval_of, Cycle, IsCoreOf, others_counted, once_runs, once_opening, AreOfBlocks, TiesAgree, CycleMayResolve, CycleCloses, facts_of}
+use Rattle.nmgc_snapshot_laws.specs.Run.{IsMarking}
 
 marking_of : (c : Cycle) (w : World) (core : State) → IsSound (interval_of c) → IsCoreOf c w core → IsMarking c.snapshot c.rows core
 marking_of c w core sound m = (snapshot_theorem c.snapshot sound.world m.events c.rows core m.runs).before m.open_yet
@@ -33,8 +13,7 @@ may_resolve c o words s marker weaks sound m pushed empty marking spoken ready l
       marking = marking;
       facts = facts_of c o.core.world o.core sound m;
       once = (once_runs (opening c.snapshot) m.events c.rows o.core m.runs m.open_yet (once_opening c.snapshot)).once;
-      gone = λ weak parts c_fin alive. finalised_dead c.snapshot c.rows sound.world sound.rows weak parts (subst (λ (w : World).
-          IsAlive w weak parts) k.world alive) (subst (λ (l : List Name). Contains l weak) k.finalised c_fin);
+      gone = λ weak parts c_fin alive. finalised_dead c.snapshot c.rows sound.world sound.rows weak parts (rw k.world at alive) (rw k.finalised at c_fin);
       can_close = (m.open_yet, empty, m.nothing_owed, pushed);
       earlier_are = spoken;
       listed = listed;

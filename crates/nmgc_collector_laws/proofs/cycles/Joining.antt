@@ -1,38 +1,7 @@
 -- Of what moved, the weak pointers that are alive join the list; and no more of a snapshot are listed than before.
-use Rattle.std.proofs.Common.{ℕ, ◌≡◌, ◌≢◌, ◌+◌, ◌≤◌, List, [], ◌∷◌, Bool, true, false, map, refl, sym, ap, subst, ◌∙◌, arith, inl, inr, Option, Some, None, slice_index, cond}
-use Rattle.std.specs.Prelude.{Contains, IsSome, count_by, is_some, ◌==◌, ◌&&◌}
-use Rattle.std.proofs.lemmas.Bool.{and_parts}
-use Rattle.std.proofs.lemmas.List.Sums.{sum_by-cons}
+use Rattle.nmgc_collector_laws.proofs.Vocabulary.{ℕ, ◌≡◌, ◌≢◌, ◌+◌, ◌≤◌, List, [], ◌∷◌, Bool, true, false, map, refl, sym, ap, subst, ◌∙◌, arith, inl, inr, Option, Some, None, slice_index, cond, Contains, IsSome, count_by, is_some, ◌==◌, and_parts, sum_by-cons, Node, Con, Var, Arr, Thunk, Weak, Stack, Parts, Name, SHARED_MAKER, Value, IsAlive, IsAliveWeak, IsInOrder, IsReached, World, node_of, contains_head, contains_tail, contains_cases, is_some_of, nothing_in, contains_map, in_order_first, in_order_rest, not_before_itself, InSegment, InNursery, nursery_place, header_word, IsHeader, Layout, Nursery, HEADER_WORDS, Header, Segments, Moved, Copies, new_place, old_place, Place, Means, Represents, NoNode, IsObject, ListsWeaks, IsListedWeak, header_of, holds, IsTracked, settled_cases, settled_comes, settled_stays, Stopped, IsStopped, IsSettled, young_base, JoiningLists, JoinersAreNew, FewerListed, HaveMoved, HaveJoinedList, IsAliveAt, weak_header, places_after, in_segment_low, ◌&&◌}
 use Rattle.nmgc_world_spec.specs.declared.node.Kind.TheVariants as kind
-use Rattle.nmgc_world_spec.specs.declared.node.Node.{Node}
-use Rattle.nmgc_world_spec.specs.declared.node.Node.TheVariants.{Con, Var, Arr, Thunk, Weak, Stack}
-use Rattle.nmgc_world_spec.specs.declared.node.Parts.{Parts}
-use Rattle.nmgc_world_spec.specs.declared.value.Name.{Name}
-use Rattle.nmgc_limits.specs.declared.mutators.TheConstants.{SHARED_MAKER}
-use Rattle.nmgc_world_spec.specs.declared.value.Value.{Value}
 use Rattle.nmgc_world_spec.specs.declared.value.Value.TheVariants as value
-use Rattle.nmgc_world_spec.specs.Reach.{IsAlive, IsAliveWeak, IsBefore, IsInOrder, IsReached}
-use Rattle.nmgc_world_spec.specs.World.{World, node_of}
-use Rattle.nmgc_lists.specs.laws.Items.{contains_head, contains_tail, contains_cases, is_some_of, nothing_in, contains_map}
-use Rattle.nmgc_world_spec.specs.laws.Orders.{in_order_first, in_order_rest, not_before_itself}
-use Rattle.nmgc_object.specs.Places.{InSegment, InNursery, nursery_place}
-use Rattle.nmgc_object.specs.Words.{header_word, IsHeader}
-use Rattle.nmgc_object.specs.declared.layout.Layout.{Layout}
-use Rattle.nmgc_object.specs.declared.layout.Nursery.{Nursery}
-use Rattle.nmgc_object.specs.declared.size.TheConstants.{HEADER_WORDS}
-use Rattle.nmgc_object.specs.declared.words.Header.{Header}
-use Rattle.nmgc_alloc.specs.Numbered.{Segments}
-use Rattle.nmgc_heap_spec.specs.Moves.{Moved, Copies, new_place, old_place}
-use Rattle.nmgc_heap_spec.specs.Places.{Place, Means}
-use Rattle.nmgc_heap_spec.specs.Represents.{Represents, NoNode, IsObject}
-use Rattle.nmgc_heap_spec.specs.Roots.{ListsWeaks, IsListedWeak}
-use Rattle.nmgc_heap_spec.specs.Shape.{header_of, holds}
-use Rattle.nmgc_heap_spec.specs.Tracked.{IsTracked}
-use Rattle.nmgc_heap_spec.specs.laws.Moving.{settled_cases, settled_comes, settled_stays}
-use Rattle.nmgc_blocks_spec.specs.Stopped.{Stopped, IsStopped, IsSettled, young_base}
-use Rattle.nmgc_collector_laws.specs.Joins.{JoiningLists, JoinersAreNew, FewerListed, HaveMoved, HaveJoinedList, IsAliveAt, weak_header}
-use Rattle.nmgc_collector_laws.specs.Stays.{places_after}
-use Rattle.nmgc_object.specs.laws.Common.{in_segment_low}
 
 -- different headers have different words
 abbrev pub HeadersDiffer : Type 0
@@ -166,8 +135,7 @@ module _ (law : HeadersDiffer) (t : Stopped) (s new : Segments) (words after : L
         let at : placed.at + HEADER_WORDS + 1 ≡ m.to + (HEADER_WORDS + 1) = omega arith in
         record {
           header = header_then m c (Weak (Some parts)) alive;
-          value = subst (λ (i : ℕ).
-              slice_index after i ≢ 0) at (set_word new.layout t.later places t.world after (slice_index after (placed.at + HEADER_WORDS + 1))
+          value = rw at at (set_word new.layout t.later places t.world after (slice_index after (placed.at + HEADER_WORDS + 1))
               parts.value k.represents above (placed.fields 1 (holds parts.value) refl));
         }
 
@@ -185,8 +153,7 @@ module _ (law : HeadersDiffer) (t : Stopped) (s new : Segments) (words after : L
         | inr (m, d, is, a) ↦ subst (λ (q : Place). IsListedWeak new.layout places t.world q) (sym is) (there m d, alive_then m d a, in_segment m d)
       ];
       complete = λ p l. elim (settled_cases (young_base new) moves t.places p l.0) [
-        | inl (m, d, is) ↦ subst (λ (q : Place). Contains list q) (sym is) (joined.new_join m d (alive_words m d l.1.0 (subst (λ (q : Place).
-            IsAlive t.world q.name l.1.0) is l.1.1)))
+        | inl (m, d, is) ↦ rw is (joined.new_join m d (alive_words m d l.1.0 (rw is at l.1.1)))
         | inr (was, low) ↦ joined.old_stay p (listed.complete p (was, l.1, (l.2.0, subst (λ (y : Layout). InSegment y l.2.0 p.at) layout_is l.2.1)))
       ];
     }
@@ -250,8 +217,8 @@ step_by f x xs ys order among rest true e =
     let less : (zs : List Place) × IsLess f x ys zs = remove f x ys (among x (contains_head x xs) e) in
     let many = less.1.many in
     let other : (p : Place) → Contains xs p → p ≢ x = λ p c same.
-    not_before_itself x.name (subst (λ (n : Name). IsBefore x.name n) (ap (λ (q : Place).
-    q.name) same) (in_order_first x.name (map (λ (q : Place). q.name) xs) order p.name (contains_map (λ (q : Place). q.name) xs p c))) in
+    not_before_itself x.name (rw (ap (λ (q : Place).
+    q.name) same) at (in_order_first x.name (map (λ (q : Place). q.name) xs) order p.name (contains_map (λ (q : Place). q.name) xs p c))) in
     let fewer = rest less.0 (λ p c is. less.1.kept p (among p (contains_tail x xs p c) is) (other p c)) in
     let step = count_step f x xs in
     let one : one_if f x ≡ 1 = ap (λ (b : Bool). let n : ℕ = cond b 1 0 in n) e in

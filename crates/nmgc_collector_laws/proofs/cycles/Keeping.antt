@@ -1,48 +1,8 @@
 -- A marking cycle, kept over a round, a promotion and an add; and its pace.
-use Rattle.std.proofs.Common.{◌≡◌, ◌≢◌, ◌-◌, ◌*◌, ◌<◌, ◌≤◌, ℕ, true, false, List, [], ◌∷◌, map, length, refl, sym, ap, subst, ◌∙◌, arith, inl, inr, Some}
-use Rattle.std.specs.Prelude.{Contains, slice_get}
-use Rattle.std.specs.List.{filter}
-use Rattle.nmgc_world_spec.specs.declared.value.Name.{Name}
-use Rattle.nmgc_world_spec.specs.World.{World, IsWorld}
-use Rattle.nmgc_world_laws.specs.Reachable.{IsSound}
-use Rattle.nmgc_lists.specs.laws.Items.{nothing_in, item, some_wait as not_none}
-use Rattle.nmgc_object.specs.Places.{nursery_place}
-use Rattle.nmgc_object.specs.declared.layout.Layout.{Layout}
-use Rattle.nmgc_snapshot_laws.specs.declared.event.Entry.{Entry}
-use Rattle.nmgc_snapshot_laws.specs.Machine.{is_pushed_in}
-use Rattle.nmgc_snapshot_laws.specs.State.{State as Core, names_of, opening}
+use Rattle.nmgc_collector_laws.proofs.Vocabulary.{◌≡◌, ◌≢◌, ◌-◌, ◌*◌, ◌<◌, ◌≤◌, ℕ, true, false, List, [], ◌∷◌, map, length, refl, sym, ap, subst, ◌∙◌, arith, inl, inr, Some, Contains, slice_get, filter, Name, World, IsWorld, IsSound, nothing_in, item, not_none, nursery_place, Layout, Entry, is_pushed_in, Core, names_of, opening, AllocState, IsOne, IsIn, cycle_begun, Place, rows_in, IsFinished, places_then, now, Opening, View, Mutator, interval_of, Cycle, IsMarking, EachMutator, weak_count, ListsNumbers, AreAt, AreRemembered, IsCoreOf, IsTied, HasRoomToMark, HasListedNothing, HasNoted, epoch_of, CollectorSeen, MutatorSeen, CycleSeen, SweeperSeen, MarkerSeen, next_cycle, cycle_started, one_more, GoesOn, IsMachineAtRest, with_rows, places_after, NoneRemember, HasLeft, ShowEntries, PromotionKeepsMarking, PaceAfterRound, PaceAtStop, PaceBegins, none_at_first, each_empty}
+use Rattle.nmgc_run_spec.specs.State.{State}
 use Rattle.nmgc_segment.specs.declared.state.State.TheVariants as stands
-use Rattle.nmgc_alloc.specs.AllocState.{AllocState, IsOne, IsIn, cycle_begun}
-use Rattle.nmgc_heap_spec.specs.Places.{Place}
-use Rattle.nmgc_round.specs.Events.{rows_in}
-use Rattle.nmgc_round.specs.Finishing.{IsFinished, places_then}
-use Rattle.nmgc_round.specs.Rule.{now}
-use Rattle.nmgc_round.specs.View.{Opening, Seen as View}
-use Rattle.nmgc_mutator.specs.declared.mutator.Mutator.{Mutator}
-use Rattle.nmgc_blocks_spec.specs.Cycle.{interval_of, Cycle}
-use Rattle.nmgc_collector_laws.specs.Collector.{IsMarking, EachMutator}
-use Rattle.nmgc_weak.specs.Queues.{weak_count}
-use Rattle.nmgc_world_spec.specs.Listing.{ListsNumbers}
-use Rattle.nmgc_collector_laws.specs.Marker.{AreAt, AreRemembered, IsCoreOf, IsTied}
-use Rattle.nmgc_mark.specs.Marker.{HasRoomToMark}
-use Rattle.nmgc_sweep.specs.Sweeping.{HasListedNothing, HasNoted}
-use Rattle.nmgc_segment.specs.Marks.{epoch_of}
-use Rattle.nmgc_collector_laws.specs.Seen.{CollectorSeen, MutatorSeen}
-use Rattle.nmgc_sweep.specs.Seen.{CycleSeen, SweeperSeen}
-use Rattle.nmgc_mark.specs.Seen.{MarkerSeen}
-use Rattle.nmgc_run_spec.specs.State.{State, next_cycle, cycle_started}
-use Rattle.nmgc_run_laws.specs.laws.Closings.{one_more}
-use Rattle.nmgc_collector_laws.specs.Owed.{GoesOn}
-use Rattle.nmgc_collector_laws.specs.RestMarking.{IsMachineAtRest, with_rows}
-use Rattle.nmgc_collector_laws.specs.Stays.{places_after}
-use Rattle.nmgc_collector_laws.specs.Keeps.{NoneRemember, HasLeft, ShowEntries, PromotionKeepsMarking, PaceAfterRound, PaceAtStop, PaceBegins}
-use Rattle.nmgc_collector_laws.proofs.cycles.Beginning.{IsBegun, begun}
-use Rattle.nmgc_snapshot_laws.specs.laws.Openings.{no_names as none_at_first}
-use Rattle.nmgc_collector_laws.proofs.cycles.Pushing.{all_empty}
-use Rattle.nmgc_snapshot_laws.specs.laws.Ending.{none_of as each_empty}
-use Rattle.nmgc_collector_laws.proofs.cycles.Snapshots.{IsReachedBy, reached_core}
-use Rattle.nmgc_collector_laws.proofs.cycles.Staying.{remembered_stays, tie_is_kept}
-use Rattle.nmgc_collector_laws.proofs.cycles.Taking.{HasTaken}
+use Rattle.nmgc_collector_laws.proofs.{cycles.Beginning.IsBegun, cycles.Beginning.begun, cycles.Pushing.all_empty, cycles.Snapshots.IsReachedBy, cycles.Snapshots.reached_core, cycles.Staying.remembered_stays, cycles.Staying.tie_is_kept, cycles.Taking.HasTaken}
 
 -- where nothing is remembered, nothing that counts was pushed
 none_at : (places : List Place) (names : List Name) → AreAt places [] names → names ≡ []
@@ -160,8 +120,7 @@ promotion_keeps_marking c s old new t words after registers queues moves placed 
       tied = subst (λ (m : MarkerSeen). IsTied c placed new.segments (places_after new.segments moves t) m core) (sym same) kept.0;
       remembered = λ k mutator there.
           let m = entries k mutator there in
-          subst (λ (l : List ℕ). AreRemembered c (places_after new.segments moves t) l (names_of core.pushed k)) (sym m.2)
-          (remembered_stays c t new.segments moves m.0.entries (names_of core.pushed k) (low k m.0 m.1) (was.remembered k m.0 m.1));
+          rw m.2 (remembered_stays c t new.segments moves m.0.entries (names_of core.pushed k) (low k m.0 m.1) (was.remembered k m.0 m.1));
       low = λ k mutator there at d. let m = entries k mutator there in low k m.0 m.1 at (subst (λ (l : List ℕ). Contains l at) m.2 d);
       room = subst (λ (m : MarkerSeen). HasRoomToMark new.segments m) (sym same) (kept.1 was.room);
       queue_room = left.queue_room;

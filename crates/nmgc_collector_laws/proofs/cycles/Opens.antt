@@ -1,29 +1,6 @@
 -- A heap at rest beside a cycle opens a round.
-use Rattle.std.proofs.Common.{◌≡◌, ℕ, ◌<◌, List, [], ◌∷◌, length, get_or, map, refl, sym, ap, subst, ◌∙◌, arith, inl, inr}
-use Rattle.std.specs.Prelude.{IsSome, Contains}
-use Rattle.std.proofs.lemmas.List.{length-map}
-use Rattle.std.proofs.lemmas.Option.{get_or_from_slice_get}
-use Rattle.nmgc_world_spec.specs.World.{World, IsWorld, node_of, state_of}
-use Rattle.nmgc_lists.specs.laws.Items.{contains_cases, is_some_of, nothing_in, item_map, item}
-use Rattle.nmgc_object.specs.Places.{nursery_place}
-use Rattle.nmgc_snapshot_laws.specs.declared.event.Entry.{Entry}
-use Rattle.nmgc_snapshot_laws.specs.State.{State}
-use Rattle.nmgc_alloc.specs.Numbered.{Segments}
-use Rattle.nmgc_heap_spec.specs.Places.{Place}
-use Rattle.nmgc_heap_spec.specs.Represents.{Represents, NoNode}
-use Rattle.nmgc_heap_spec.specs.Roots.{RepresentsRoots}
-use Rattle.nmgc_round.specs.View.{Hand, Opening, no_hand}
-use Rattle.nmgc_round.specs.Rule.{IsOpening, IsQueued}
-use Rattle.nmgc_round.specs.Own.{old_stacks}
-use Rattle.nmgc_round.specs.Starting.{HandStands, CanOpen}
-use Rattle.nmgc_mutator.specs.declared.mutator.Mutator.{Mutator}
-use Rattle.nmgc_collector_laws.specs.Rest.{hand_of}
-use Rattle.nmgc_collector_laws.specs.Worked.{registers_of, queues_of, serials_of}
-use Rattle.nmgc_collector_laws.specs.laws.Registers.{HaveAll, own_mean}
-use Rattle.nmgc_collector_laws.specs.Marker.{AreAt}
-use Rattle.nmgc_blocks_spec.specs.Cycle.{Cycle}
-use Rattle.nmgc_collector_laws.specs.RestMarking.{IsAtRestMarking, opening_beside, RestOpens}
-use Rattle.nmgc_snapshot_laws.specs.laws.Ending.{none_of as each_empty}
+use Rattle.nmgc_collector_laws.proofs.Vocabulary.{◌≡◌, ℕ, ◌<◌, List, [], ◌∷◌, length, get_or, map, refl, sym, ap, subst, ◌∙◌, arith, inl, inr, IsSome, Contains, length-map, get_or_from_slice_get, World, IsWorld, node_of, state_of, contains_cases, is_some_of, nothing_in, item_map, item, nursery_place, Entry, State, Segments, Place, Represents, NoNode, RepresentsRoots, Opening, no_hand, IsOpening, IsQueued, old_stacks, HandStands, CanOpen, Mutator, hand_of, queues_of, HaveAll, own_mean, AreAt, Cycle, IsAtRestMarking, opening_beside, RestOpens, each_empty}
+use Rattle.nmgc_collector_laws.specs.Worked.{registers_of, serials_of}
 use Rattle.nmgc_collector_laws.proofs.cycles.Snapshots.{IsReachedBy, reached_by, tracked_wide, marked_there, marked_tracked, queued_marked, are_earlier, node_later, fresh_at}
 
 -- what waits is at a place
@@ -88,7 +65,7 @@ module _ (c : Cycle) (core : State) (s : Segments) (places : List Place) (w : Wo
       let is : get_or o.hands m no_hand ≡ hand_of core.world places n.0 =
       get_or_from_slice_get o.hands m (hand_of core.world places n.0) no_hand (item_map (hand_of core.world places) mutators m n.0 n.1) in
       let exists : m < length core.world.mutators = subst (λ (k : ℕ). m < k) (sym as_many) lt in
-      subst (λ (x : Hand). HandStands o m x) (sym is) (record {
+      rw is (record {
         registers = own_mean (Contains places) mutators all_whole m n.0 n.1 (state_of core.world m).registers (world.registers m exists) (roots.held m exists);
         queue = roots.queued m n.0.queue.words (item_map (λ (x : Mutator). x.queue.words) mutators m n.0 n.1);
         serial = roots.next m n.0.serial (item_map (λ (x : Mutator). x.serial) mutators m n.0 n.1);

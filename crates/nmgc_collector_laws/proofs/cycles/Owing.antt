@@ -1,48 +1,12 @@
 -- The machine goes on after a round, and has pushed what the mutators remember.
-use Rattle.std.proofs.Common.{◌≡◌, ◌<◌, ℕ, Bool, true, false, List, [], ◌++◌, map, sym, ap, subst, ◌∙◌, arith, append-nil, Some}
-use Rattle.std.specs.Prelude.{slice_get, Contains}
-use Rattle.std.specs.List.{filter}
-use Rattle.std.proofs.lemmas.Option.{slice_get_within}
-use Rattle.nmgc_world_spec.specs.declared.value.Name.{Name}
-use Rattle.nmgc_world_spec.specs.World.{World}
-use Rattle.nmgc_world_spec.specs.History.{Row}
-use Rattle.nmgc_object.specs.Places.{nursery_place}
-use Rattle.nmgc_snapshot_laws.specs.declared.event.Event.{Event}
-use Rattle.nmgc_snapshot_laws.specs.Facts.{Facts}
-use Rattle.nmgc_snapshot_laws.specs.Machine.{is_pushed_in}
-use Rattle.nmgc_snapshot_laws.specs.Run.{Runs}
-use Rattle.nmgc_snapshot_laws.specs.State.{State, names_of, opening}
-use Rattle.nmgc_snapshot_laws.specs.laws.Runs.{facts_kept, snapshot_theorem}
-use Rattle.nmgc_heap_spec.specs.laws.Kinds.{map_item}
-use Rattle.nmgc_round.specs.Events.{event_of, rows_in}
-use Rattle.nmgc_round.specs.View.{Opening, Part, Seen}
-use Rattle.nmgc_round.specs.Marking.{marks_of}
+use Rattle.nmgc_collector_laws.proofs.Vocabulary.{◌≡◌, ◌<◌, ℕ, Bool, true, false, List, [], ◌++◌, map, sym, ap, subst, ◌∙◌, arith, append-nil, Some, slice_get, Contains, filter, slice_get_within, Name, World, Row, nursery_place, Event, Facts, is_pushed_in, Runs, State, names_of, opening, facts_kept, snapshot_theorem, map_item, event_of, rows_in, Opening, Part, Seen, marks_of, now, Owes, AreOwed, CanOpen, IsFinished, places_then, Mutator, remembered_of, all_pushed, Done, HaveWorked, own_part, parts_are, slice_at, item, item_found, AreRemembered, IsCoreOf, Cycle, IsMachineAtRest, with_rows, HaveOwed, SlicesAreOwed, GoesOn, MachineGoesOn, runs_then, each_empty}
 use Rattle.nmgc_round.specs.Objects.{IsIn}
-use Rattle.nmgc_round.specs.Rule.{now, Owes, AreOwed}
-use Rattle.nmgc_round.specs.Starting.{CanOpen}
-use Rattle.nmgc_round.specs.Finishing.{IsFinished, places_then}
-use Rattle.nmgc_mutator.specs.declared.mutator.Mutator.{Mutator}
-use Rattle.nmgc_mutator.specs.Does.{remembered as remembered_of}
-use Rattle.nmgc_mutator.specs.Records.{all_pushed}
-use Rattle.nmgc_collector_laws.specs.Worked.{Done, HaveWorked}
-use Rattle.nmgc_collector_laws.specs.laws.Gathered.{own_part, parts_are, slice_at}
-use Rattle.nmgc_lists.specs.laws.Items.{item}
-use Rattle.nmgc_collector_laws.specs.laws.Reading.{item_found}
-use Rattle.nmgc_collector_laws.specs.Marker.{AreRemembered, IsCoreOf}
-use Rattle.nmgc_blocks_spec.specs.Cycle.{Cycle}
-use Rattle.nmgc_collector_laws.specs.RestMarking.{IsMachineAtRest, with_rows}
-use Rattle.nmgc_collector_laws.specs.Owed.{HaveOwed, SlicesAreOwed, GoesOn, MachineGoesOn}
-use Rattle.nmgc_collector_laws.proofs.cycles.Going.{Leaves, round_runs, leaves_round}
-use Rattle.nmgc_snapshot_laws.specs.laws.Common.{runs_join as runs_then}
-use Rattle.nmgc_collector_laws.proofs.cycles.Pushing.{AllPushed, push_all}
-use Rattle.nmgc_snapshot_laws.specs.laws.Ending.{none_of as each_empty}
-use Rattle.nmgc_collector_laws.proofs.cycles.Remembering.{all_found, pushed_low}
-use Rattle.nmgc_collector_laws.proofs.cycles.Seats.{parts_gathered}
+use Rattle.nmgc_collector_laws.proofs.{cycles.Going.Leaves, cycles.Going.round_runs, cycles.Going.leaves_round, cycles.Pushing.AllPushed, cycles.Pushing.push_all, cycles.Remembering.all_found, cycles.Remembering.pushed_low, cycles.Seats.parts_gathered}
 
 pub slices_owed : SlicesAreOwed
 slices_owed o before round old mutators seats done scans opens h nothing k p n there new =
-    let here : slice_get (map own_part seats) k ≡ Some p = subst (λ (ps : List Part). slice_get ps k ≡ Some p) (parts_gathered o scans seats ∙
-    parts_are o before round old mutators seats done opens h) there in
+    let here : slice_get (map own_part seats) k ≡ Some p = rw (parts_gathered o scans seats ∙
+    parts_are o before round old mutators seats done opens h) at there in
     let seat = map_item own_part seats k p here in
     let s = slice_at o before round old mutators seats done opens h k seat.0 seat.1 in
     let both : Some s.n ≡ Some n = sym s.new ∙ new in
@@ -90,8 +54,7 @@ module _ (c : Cycle) (o : Opening) (before words : List ℕ) (v : Seen) (mutator
   machine : IsCoreOf (with_rows c (rows_in h.events)) then.world core
   machine = record {
     events = events ++ all.1.events;
-    runs = subst (λ (l : List Row). Runs (opening c.snapshot) (events ++
-        all.1.events) l core) (append-nil rows) (runs_then (opening c.snapshot) then core events all.1.events rows [] runs all.1.runs);
+    runs = rw (append-nil rows) at (runs_then (opening c.snapshot) then core events all.1.events rows [] runs all.1.runs);
     open_yet = ap (λ (x : State). x.is_closed) all.1.rest ∙ running;
     world_is = ap (λ (x : State). x.world) all.1.rest;
     nothing_owed = all.1.none;
@@ -127,7 +90,7 @@ module _ (c : Cycle) (o : Opening) (before words : List ℕ) (v : Seen) (mutator
       let own = own_at k m e in
       let f = all_found o before words v can h own.part.owed own.owes.0 own.owes.1 in
       let same : c.snapshot ≡ o.core.snapshot = sym snapshot_is ∙ left.snapshot in
-      subst (λ (l : List ℕ). AreRemembered (with_rows c (rows_in h.events)) (places_then o h.born) l (names_of core.pushed k)) (sym own.entries) (record {
+      rw own.entries (record {
         names = f.names;
         at = f.at;
         counted =

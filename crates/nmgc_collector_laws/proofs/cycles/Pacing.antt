@@ -1,21 +1,5 @@
 -- The bounds of a closing, by the pace of marking.
-use Rattle.std.proofs.Common.{◌≡◌, ◌+◌, ℕ, List, [], ◌∷◌, length, map, refl, sym, ap, subst, ◌∙◌, arith, inl, inr}
-use Rattle.std.specs.Prelude.{Contains}
-use Rattle.std.proofs.lemmas.Bool.{cases_lt}
-use Rattle.nmgc_world_spec.specs.declared.value.Name.{Name}
-use Rattle.nmgc_world_spec.specs.Step.{shared_name}
-use Rattle.nmgc_lists.specs.laws.Items.{contains_head}
-use Rattle.nmgc_snapshot_laws.specs.declared.event.Entry.{Entry}
-use Rattle.nmgc_snapshot_laws.specs.State.{opening}
-use Rattle.nmgc_heap_spec.specs.Places.{Place}
-use Rattle.nmgc_run_spec.specs.Closing.{IsStrongObject}
-use Rattle.nmgc_world_spec.specs.Listing.{Counts}
-use Rattle.nmgc_collector_laws.specs.Marker.{AreAt}
-use Rattle.nmgc_run_laws.specs.laws.Closings.{one_more, within_rounds}
-use Rattle.nmgc_world_laws.specs.laws.Distinct.{others_counted}
-use Rattle.nmgc_snapshot_laws.specs.laws.MarkedOnce.{IsOnce, once_runs, once_opening}
-use Rattle.nmgc_collector_laws.specs.Closes.{ClosingIsSoon, ClosingComes, ClosingIsPaced}
-use Rattle.nmgc_collector_laws.proofs.cycles.Strong.{IsExactlyStrong, Strong, exactly_strong}
+use Rattle.nmgc_collector_laws.proofs.{Vocabulary.◌≡◌, Vocabulary.◌+◌, Vocabulary.ℕ, Vocabulary.List, Vocabulary.[], Vocabulary.◌∷◌, Vocabulary.length, Vocabulary.map, Vocabulary.refl, Vocabulary.sym, Vocabulary.ap, Vocabulary.◌∙◌, Vocabulary.arith, Vocabulary.inl, Vocabulary.inr, Vocabulary.cases_lt, Vocabulary.Name, Vocabulary.shared_name, Vocabulary.contains_head, Vocabulary.Entry, Vocabulary.opening, Vocabulary.Place, Vocabulary.IsStrongObject, Vocabulary.Counts, Vocabulary.AreAt, Vocabulary.one_more, Vocabulary.within_rounds, Vocabulary.others_counted, Vocabulary.IsOnce, Vocabulary.once_runs, Vocabulary.once_opening, Vocabulary.ClosingIsSoon, Vocabulary.ClosingComes, Vocabulary.ClosingIsPaced, cycles.Strong.IsExactlyStrong, cycles.Strong.Strong, cycles.Strong.exactly_strong}
 
 pub closing_is_soon : ClosingIsSoon
 closing_is_soon quota c t seen kept h more counts = elim (cases_lt (c.from + 1) t.number) [
@@ -36,15 +20,13 @@ closing_is_paced quota c t seen allocation places core sound m tied after paced 
   after = after;
   work = λ none.
       let queue : seen.marker.queue ≡ [] = (paced.empty).0 empty in
-      let waits : core.queue ≡ [] = none_waits places core.queue (subst (λ (l : List ℕ).
-      AreAt places l (map (λ (entry : Entry). entry.name) core.queue)) queue tied.queue) in
+      let waits : core.queue ≡ [] = none_waits places core.queue (rw queue at tied.queue) in
       let e : IsExactlyStrong c.snapshot sound.world core = exactly_strong c.snapshot sound.world m.events c.rows core m.runs m.open_yet none waits in
       let o : IsOnce core = once_runs (opening c.snapshot) m.events c.rows core m.runs m.open_yet (once_opening c.snapshot) in
       let long : length core.marked ≡ length o.others + 1 = ap (λ (l : List Name). length l) o.marked_are ∙ (omega arith) in
       let counted = tied.count in
       let all : Counts (IsStrongObject c.snapshot) (length o.others) =
-      others_counted (Strong c.snapshot sound.world) shared_name core.marked o.once (subst (λ (l : List Name).
-      Contains l shared_name) (sym o.marked_are) (contains_head shared_name o.others)) e.sound e.complete (length o.others) (sym long) in
+      others_counted (Strong c.snapshot sound.world) shared_name core.marked o.once (rw o.marked_are (contains_head shared_name o.others)) e.sound e.complete (length o.others) (sym long) in
       let none_left : length seen.marker.queue ≡ 0 = ap (λ (l : List ℕ). length l) queue in
       let scanned = paced.scanned in let most = paced.most in let more = one_more t.number c.from quota after in
       (length o.others, all, omega arith);

@@ -1,16 +1,5 @@
 -- Names that are placed: the others stay where they lay, and segments in use keep their class.
-use Rattle.std.proofs.Common.{◌≡◌, ◌≢◌, ◌⊎◌, ℕ, List, [], ◌∷◌, sym, ap, subst, ◌∙◌, refl, inl, inr}
-use Rattle.std.specs.Prelude.{Contains}
-use Rattle.std.proofs.lemmas.Bool.{cases_eq}
-use Rattle.std.proofs.lemmas.List.{get_or-set_same, get_or-set_other}
-use Rattle.nmgc_world_spec.specs.declared.value.Name.{Name}
-use Rattle.nmgc_world_spec.specs.World.{World}
-use Rattle.nmgc_lists.specs.laws.Items.{contains_head, contains_tail}
-use Rattle.nmgc_object.specs.declared.layout.Layout.{Layout}
-use Rattle.nmgc_segment.specs.declared.state.State.TheVariants.{Free}
-use Rattle.nmgc_alloc.specs.AllocState.{AllocState, Cells, Exists, IsIn, IsTarget, LiesIn, PlacesName, cells, no_cells, with_cells}
-use Rattle.nmgc_alloc.specs.laws.Cells.{AreFreeEmpty, placed_stays, placed_where, placed_free}
-use Rattle.nmgc_blocks_spec.specs.Promoted.{PlacesEach}
+use Rattle.nmgc_collector_laws.proofs.Vocabulary.{◌≡◌, ◌≢◌, ◌⊎◌, ℕ, List, [], ◌∷◌, sym, ap, subst, ◌∙◌, refl, inl, inr, Contains, cases_eq, get_or-set_same, get_or-set_other, Name, World, contains_head, contains_tail, Layout, Free, AllocState, Cells, Exists, IsIn, IsTarget, LiesIn, PlacesName, cells, no_cells, with_cells, AreFreeEmpty, placed_stays, placed_where, placed_free, PlacesEach}
 
 module _ (layout : Layout) (a b : AllocState) (m class : ℕ) (name : Name) (p : PlacesName layout a b m class name) where
   exists : IsTarget a m class p.number → Exists a p.number
@@ -31,10 +20,8 @@ module _ (layout : Layout) (a b : AllocState) (m class : ℕ) (name : Name) (p :
       (IsIn Free (cells a number) → ⊥) → Keeps number
   by_cells c fresh is not_free e number used = elim (cases_eq number p.number) [
     | inl here ↦
-        let now : cells b number ≡ c = ap (λ (k : ℕ). cells b k) here ∙ ap (λ (x : AllocState). cells x p.number) e ∙
-        get_or-set_same a.segments p.number c no_cells (exists p.target) in
-        let was : (cells a number).class ≡ class = ap (λ (k : ℕ). (cells a k).class) here ∙
-        class_is p.target (subst (λ (k : ℕ). IsIn Free (cells a k) → ⊥) here used) in
+        let now : cells b number ≡ c = cc (here, e, get_or-set_same a.segments p.number c no_cells (exists p.target)) in
+        let was : (cells a number).class ≡ class = cc (here, class_is p.target (subst (λ (k : ℕ). IsIn Free (cells a k) → ⊥) here used)) in
         (ap (λ (x : Cells). x.class) now ∙ is ∙ sym was, λ free. not_free (ap (λ (x : Cells). x.state) (sym now) ∙ free))
     | inr other ↦
         let same : cells b number ≡ cells a number = ap (λ (x : AllocState). cells x number) e ∙ get_or-set_other a.segments p.number number c no_cells other in

@@ -1,29 +1,5 @@
 -- A heap at a stop, as a cycle begins there, and once its snapshot is forgotten.
-use Rattle.std.proofs.Common.{ℕ, ◌≡◌, ◌+◌, ◌↔◌, List, [], ◌∷◌, refl, sym, ap, subst, ◌∙◌, arith, inl, inr}
-use Rattle.std.specs.Prelude.{Contains}
-use Rattle.std.proofs.lemmas.List.{length-map}
-use Rattle.nmgc_world_spec.specs.World.{World, IsWorld}
-use Rattle.nmgc_lists.specs.laws.Items.{contains_head, contains_cases, nothing_in}
-use Rattle.nmgc_object.specs.Size.{block_size}
-use Rattle.nmgc_object.specs.declared.layout.Layout.{Layout}
-use Rattle.nmgc_segment.specs.Segment.{Segment, InUse, InSnapshot, mark_of}
-use Rattle.nmgc_alloc.specs.Numbered.{nth, Segments, HasNumber, block_place}
-use Rattle.nmgc_alloc.specs.Segments.{IsSegments}
-use Rattle.nmgc_alloc.specs.AllocState.{AllocState, Cells, cells, cycle_begun}
-use Rattle.nmgc_alloc.specs.Blocks.{IsSnapshotAt, IsUsedAt}
-use Rattle.nmgc_alloc.specs.CycleSteps.{prepared}
-use Rattle.nmgc_alloc.specs.laws.Blocks.{prepared_snapshot}
-use Rattle.nmgc_alloc.specs.laws.Cells.{begun_cells, begun_names}
-use Rattle.nmgc_alloc.specs.laws.Numbers.{nth-map}
-use Rattle.nmgc_alloc.specs.laws.Turning.{prepared_stands}
-use Rattle.nmgc_heap_spec.specs.Places.{Place}
-use Rattle.nmgc_heap_spec.specs.Represents.{Represents, NoNode}
-use Rattle.nmgc_heap_spec.specs.Roots.{RepresentsRoots}
-use Rattle.nmgc_heap_spec.specs.laws.Changes.{remembered}
-use Rattle.nmgc_blocks_spec.specs.Placed.{IsPlaceAtStop}
-use Rattle.nmgc_run_spec.specs.Heap.{registers_of, serials_of, snapshots}
-use Rattle.nmgc_segment.specs.Marks.{epoch_of}
-use Rattle.nmgc_collector_laws.specs.Prepares.{StopIsPrepared, StopBegins, all_prepared}
+use Rattle.nmgc_collector_laws.proofs.Vocabulary.{ℕ, ◌≡◌, ◌+◌, ◌↔◌, List, [], ◌∷◌, refl, sym, ap, subst, ◌∙◌, arith, inl, inr, Contains, length-map, World, IsWorld, contains_head, contains_cases, nothing_in, block_size, Layout, Segment, InUse, InSnapshot, nth, Segments, HasNumber, IsSegments, AllocState, Cells, cells, cycle_begun, IsSnapshotAt, IsUsedAt, prepared, prepared_snapshot, begun_cells, begun_names, nth-map, prepared_stands, Place, Represents, NoNode, RepresentsRoots, remembered, IsPlaceAtStop, registers_of, serials_of, snapshots, epoch_of, StopIsPrepared, StopBegins, all_prepared}
 use Rattle.nmgc_collector_laws.proofs.cycles.Beginning.{unmarked_there}
 
 -- a segment keeps its class as a cycle begins, and so each block its place
@@ -38,8 +14,7 @@ begun_place layout a p = (
       number = b.number;
       block = b.block;
       lies = (begun_names a b.number b.block p.name).1 b.lies;
-      at = b.at ∙
-          ap (λ (class : ℕ). block_place layout b.number class b.block) (sym (begun_class a b.number));
+      at = cc (b.at, begun_class a b.number);
     })
   ],
   λ h. elim h [
@@ -48,8 +23,7 @@ begun_place layout a p = (
       number = b.number;
       block = b.block;
       lies = (begun_names a b.number b.block p.name).0 b.lies;
-      at = b.at ∙
-          ap (λ (class : ℕ). block_place layout b.number class b.block) (begun_class a b.number);
+      at = cc (b.at, begun_class a b.number);
     })
   ],
 )
@@ -134,15 +108,11 @@ stop_is_prepared layout s words segments ends weaks queues o h world sound sound
       allocation = cycle_begun s.allocation;
       stands = prepared_stands segments words s.allocation h.holds.stands;
       places = λ p. (
-        λ d. subst (λ (l : Layout).
-            IsPlaceAtStop l (cycle_begun s.allocation) p) (sym same_layout)
-            ((begun_place layout s.allocation p).0 ((h.all p).0 (subst (λ (l : List Place). Contains l p) same_places d))),
-        λ is. subst (λ (l : List Place). Contains l p) (sym same_places) ((h.all p).1 ((begun_place layout s.allocation p).1 (subst (λ (l : Layout).
-            IsPlaceAtStop l (cycle_begun s.allocation) p) same_layout is))),
+        λ d. rw same_layout ((begun_place layout s.allocation p).0 ((h.all p).0 (subst (λ (l : List Place). Contains l p) same_places d))),
+        λ is. rw same_places ((h.all p).1 ((begun_place layout s.allocation p).1 (rw same_layout at is))),
       );
       in_use = in_use segments sound;
       unmarked = λ at m.
           let lt = there segments sound m.0 m.2.exists in
-          unmarked_there s segments words h.holds.stands none settled m.0 m.1 lt (ap (λ (x : Segment).
-          mark_of x m.1) (sym (segment_is segments sound m.0 lt)) ∙ m.3);
+          unmarked_there s segments words h.holds.stands none settled m.0 m.1 lt (cc (segment_is segments sound m.0 lt, m.3));
     }

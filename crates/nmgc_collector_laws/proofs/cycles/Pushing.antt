@@ -1,17 +1,6 @@
 -- All that is owed is pushed: mutator after mutator, and of each one name after another.
-use Rattle.std.proofs.Common.{◌≡◌, ◌≢◌, ◌<◌, ◌≤◌, ℕ, zero, suc, Bool, true, false, cond, List, [], ◌∷◌, ◌++◌, length, refl, sym, ap, subst, ◌∙◌, arith, append_assoc, append-nil, length-set, inl, inr}
-use Rattle.std.specs.List.{filter}
-use Rattle.std.proofs.lemmas.List.{get_or_default, get_or_past}
-use Rattle.std.proofs.lemmas.Bool.{cases_eq, cases_lt}
-use Rattle.nmgc_world_spec.specs.declared.value.Name.{Name}
-use Rattle.nmgc_world_spec.specs.World.{World}
-use Rattle.nmgc_snapshot_laws.specs.declared.event.Event.{Event}
+use Rattle.nmgc_collector_laws.proofs.Vocabulary.{◌≡◌, ◌≢◌, ◌<◌, ◌≤◌, ℕ, zero, suc, Bool, true, false, cond, List, [], ◌∷◌, ◌++◌, length, refl, sym, ap, subst, ◌∙◌, arith, append_assoc, append-nil, length-set, inl, inr, filter, get_or_default, get_or_past, cases_eq, cases_lt, Name, World, Event, AreEmpty, after_push, is_pushed_in, pushed_of, Runs, State, names_of, names_same, names_other, runs_then}
 use Rattle.nmgc_snapshot_laws.specs.declared.event.Event.TheVariants as event
-use Rattle.nmgc_snapshot_laws.specs.Machine.{AreEmpty, after_push, is_pushed_in, pushed_of}
-use Rattle.nmgc_snapshot_laws.specs.Run.{Runs}
-use Rattle.nmgc_snapshot_laws.specs.State.{State, names_of}
-use Rattle.nmgc_snapshot_laws.specs.laws.Listed.{names_same, names_other}
-use Rattle.nmgc_snapshot_laws.specs.laws.Common.{runs_join as runs_then}
 
 -- the name as a list where a test passes it, before the others that the test passes
 one_passed : (b : Bool) (name : Name) (rest : List Name) → cond b (name ∷ []) [] ++ rest ≡ cond b (name ∷ rest) rest
@@ -20,8 +9,7 @@ one_passed false name rest = refl
 
 passed_first : (test : Name → Bool) (old : List Name) (name : Name) (rest : List Name) →
     (old ++ cond (test name) (name ∷ []) []) ++ filter test rest ≡ old ++ filter test (name ∷ rest)
-passed_first test old name rest = append_assoc old (cond (test name) (name ∷ []) []) (filter test rest) ∙
-    ap (λ (l : List Name). old ++ l) (one_passed (test name) name (filter test rest))
+passed_first test old name rest = cc (append_assoc old (cond (test name) (name ∷ []) []) (filter test rest), one_passed (test name) name (filter test rest))
 
 -- a mutator that owed these names has pushed those that count, and nothing else changed
 record HasPushed (s t : State) (m : ℕ) (names : List Name) : Type 0 where
@@ -58,8 +46,7 @@ push_first s t m name rest running lt there e h =
       owed_count = h.owed_count ∙ length-set s.owed m rest;
       pushed_count = h.pushed_count ∙ length-set s.pushed m more;
       none = h.none;
-      pushed_is = h.pushed_is ∙ ap (λ (l : List Name). l ++ filter (is_pushed_in s.snapshot) rest) (names_same s.pushed m more there) ∙
-          passed_first (is_pushed_in s.snapshot) (names_of s.pushed m) name rest;
+      pushed_is = cc (h.pushed_is, names_same s.pushed m more there, passed_first (is_pushed_in s.snapshot) (names_of s.pushed m) name rest);
       others_owed = λ k ne. h.others_owed k ne ∙ names_other s.owed m k rest ne;
       others_pushed = λ k ne. h.others_pushed k ne ∙ names_other s.pushed m k more ne;
     }
@@ -82,8 +69,7 @@ push_names s m [] running lt there e = (
 )
 push_names s m (name ∷ rest) running lt there e =
     let more : List Name = names_of s.pushed m ++ pushed_of s name in
-    let later = push_names (after_push s m (name ∷ rest)) m rest running (subst (λ n. m < n) (sym (length-set s.owed m rest)) lt) (subst (λ n.
-    m < n) (sym (length-set s.pushed m more)) there) (names_same s.owed m rest lt) in
+    let later = push_names (after_push s m (name ∷ rest)) m rest running (subst (λ n. m < n) (sym (length-set s.owed m rest)) lt) (rw (length-set s.pushed m more) there) (names_same s.owed m rest lt) in
     (later.0, push_first s later.0 m name rest running lt there e later.1)
 
 -- the mutators below one have pushed all that they owed
@@ -114,8 +100,7 @@ push_next s u t m h p =
         | inr ne ↦ p.others_owed k ne ∙ h.none k (omega arith)
       ];
       pushed_is = λ k lt. elim (cases_eq k m) [
-        | inl is ↦ subst (λ (j : ℕ). names_of t.pushed j ≡ names_of s.pushed j ++ filter (is_pushed_in s.snapshot) (names_of s.owed j)) (sym is)
-            (p.pushed_is ∙ ap (λ (l : List Name). l ++ filter (is_pushed_in u.snapshot) own) (h.others_pushed m (omega arith)) ∙
+        | inl is ↦ rw is (p.pushed_is ∙ ap (λ (l : List Name). l ++ filter (is_pushed_in u.snapshot) own) (h.others_pushed m (omega arith)) ∙
             ap (λ (w : World). names_of s.pushed m ++ filter (is_pushed_in w) own) snapshot)
         | inr ne ↦ p.others_pushed k ne ∙ h.pushed_is k (omega arith)
       ];
@@ -142,8 +127,7 @@ push_below s (suc m) running le same =
     let before = push_below s m running (omega arith) same in
     let h : HavePushed s before.0 m = before.1 in
     let many = h.owed_count in let as_many = h.pushed_count in
-    let last = push_names before.0 m (names_of s.owed m) (ap (λ (x : State). x.is_closed) h.rest ∙
-    running) (omega arith) (omega arith) (h.others_owed m (omega arith)) in
+    let last = push_names before.0 m (names_of s.owed m) (cc (h.rest, running)) (omega arith) (omega arith) (h.others_owed m (omega arith)) in
     (last.0, push_next s before.0 last.0 m h last.1)
 
 -- lists of names that are empty one by one
@@ -174,8 +158,7 @@ push_all s running same =
         pushed_count = h.pushed_count;
         pushed_is = λ k. elim (cases_lt k (length s.owed)) [
           | inl lt ↦ h.pushed_is k lt
-          | inr le ↦ h.others_pushed k le ∙ sym (append-nil (names_of s.pushed k)) ∙
-              ap (λ (l : List Name). names_of s.pushed k ++ filter (is_pushed_in s.snapshot) l) (sym (get_or_past s.owed k [] le))
+          | inr le ↦ cc (h.others_pushed k le, append-nil (names_of s.pushed k), get_or_past s.owed k [] le)
         ];
       },
     )

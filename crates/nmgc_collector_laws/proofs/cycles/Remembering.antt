@@ -1,33 +1,7 @@
 -- What words that are owed leave to remember: places of names, of which exactly those count that count among all.
-use Rattle.std.proofs.Common.{◌≡◌, ◌*◌, ◌+◌, ◌/◌, ◌%◌, ◌<◌, ◌&&◌, ◌⊎◌, ◌++◌, ℕ, Bool, true, false, not, cond, eqb, leb, List, [], ◌∷◌, refl, sym, ap, subst, ◌∙◌, arith, inl, inr, Option, None, leb-true}
-use Rattle.std.specs.Prelude.{Contains, is_some}
-use Rattle.std.specs.List.{filter}
-use Rattle.std.proofs.lemmas.Bool.{and_parts}
-use Rattle.nmgc_world_spec.specs.declared.node.Node.{Node}
-use Rattle.nmgc_world_spec.specs.declared.value.Name.{Name}
-use Rattle.nmgc_world_spec.specs.declared.value.Value.{Value}
-use Rattle.nmgc_world_spec.specs.declared.value.Value.TheVariants as value
-use Rattle.nmgc_world_spec.specs.World.{World, node_of}
-use Rattle.nmgc_world_spec.specs.Change.{is_same_name}
-use Rattle.nmgc_world_spec.specs.Step.{shared_name}
-use Rattle.nmgc_lists.specs.laws.Items.{contains_cases, nothing_in}
-use Rattle.nmgc_object.specs.declared.layout.Layout.{Layout}
-use Rattle.nmgc_object.specs.declared.layout.TheConstants.{SHARED_PLACE, FIRST_PLACE}
-use Rattle.nmgc_object.specs.declared.size.TheConstants.{HEADER_WORDS}
-use Rattle.nmgc_object.specs.Places.{nursery_place}
-use Rattle.nmgc_world_spec.specs.Owed.{names_among}
-use Rattle.nmgc_snapshot_laws.specs.Machine.{is_pushed_in}
-use Rattle.nmgc_snapshot_laws.specs.laws.Listed.{is_same_name-refl}
-use Rattle.nmgc_heap_spec.specs.Places.{Place, ListMeans, LiesWell}
-use Rattle.nmgc_round.specs.View.{Opening, Seen}
+use Rattle.nmgc_collector_laws.proofs.Vocabulary.{◌≡◌, ◌*◌, ◌+◌, ◌/◌, ◌%◌, ◌<◌, ◌&&◌, ◌⊎◌, ◌++◌, ℕ, Bool, true, false, not, cond, eqb, leb, List, [], ◌∷◌, refl, sym, ap, subst, ◌∙◌, arith, inl, inr, Option, None, leb-true, Contains, is_some, filter, and_parts, Node, Name, Value, World, node_of, is_same_name, shared_name, contains_cases, nothing_in, Layout, SHARED_PLACE, FIRST_PLACE, HEADER_WORDS, nursery_place, names_among, is_pushed_in, is_same_name-refl, Place, ListMeans, LiesWell, Opening, Seen, CanOpen, IsFinished, places_then, is_old, all_pushed, opened_below, in_place, is_place, AreAt, old_word, odd_word}
 use Rattle.nmgc_round.specs.Objects.{IsIn}
-use Rattle.nmgc_round.specs.Starting.{CanOpen}
-use Rattle.nmgc_round.specs.Finishing.{IsFinished, places_then}
-use Rattle.nmgc_mutator.specs.Records.{is_old, all_pushed}
-use Rattle.nmgc_collector_laws.specs.laws.Openings.{opened_below}
-use Rattle.nmgc_collector_laws.specs.laws.Placed.{in_place, is_place}
-use Rattle.nmgc_collector_laws.specs.Marker.{AreAt}
-use Rattle.nmgc_mutator.specs.laws.Common.{old_word, old_odd as odd_word}
+use Rattle.nmgc_world_spec.specs.declared.value.Value.TheVariants as value
 
 -- its place is below the nurseries
 old_low : (layout : Layout) (w : ℕ) → is_old layout w ≡ true → w / 2 < nursery_place layout 0
@@ -128,13 +102,10 @@ module _ (o : Opening) (before words : List ℕ) (v : Seen) (can : CanOpen o bef
   all_found (w ∷ ws) [] means = absurd means
   all_found (w ∷ ws) (value.Nil ∷ values) means =
       let none : is_old o.layout w ≡ false = odd_word o.layout w (let e = means.0 in omega arith) in
-      subst (λ (b : Bool). AreFound snapshot places (cond b (w / 2 ∷ []) [] ++
-      all_pushed o.layout ws) (names_among values)) (sym none) (all_found ws values means.1)
+      rw none (all_found ws values means.1)
   all_found (w ∷ ws) (value.Number n ∷ values) means =
       let none : is_old o.layout w ≡ false = odd_word o.layout w (let e = means.0 in omega arith) in
-      subst (λ (b : Bool). AreFound snapshot places (cond b (w / 2 ∷ []) [] ++
-      all_pushed o.layout ws) (names_among values)) (sym none) (all_found ws values means.1)
+      rw none (all_found ws values means.1)
   all_found (w ∷ ws) (value.Ref name ∷ values) means =
       let at : ℕ = means.0.0 in
-      subst (λ n. AreFound snapshot places (cond (is_old o.layout n) (n / 2 ∷ []) [] ++ all_pushed o.layout ws) (name ∷ names_among values)) (sym means.0.1)
-      (found_first at name (is_old o.layout (2 * at)) (all_pushed o.layout ws) (names_among values) refl means.0.2 (all_found ws values means.1))
+      rw means.0.1 (found_first at name (is_old o.layout (2 * at)) (all_pushed o.layout ws) (names_among values) refl means.0.2 (all_found ws values means.1))

@@ -1,57 +1,7 @@
 -- A closing by its calls: the machine at rest scans on, closes, and what it closes is the cycle. Words, roots and list stand for the closed world.
-use Rattle.std.proofs.Common.{ℕ, ◌≡◌, ◌+◌, List, [], map, refl, sym, ap, subst, ◌∙◌, arith, inr, slice_index}
-use Rattle.std.specs.Prelude.{All, IsSome}
-use Rattle.std.proofs.lemmas.List.Elements.{All-nil}
-use Rattle.nmgc_world_spec.specs.declared.value.Name.{Name}
-use Rattle.nmgc_world_spec.specs.World.{World, IsWorld, node_of}
-use Rattle.nmgc_world_spec.specs.Reach.{closed}
-use Rattle.nmgc_lists.specs.laws.Items.{is_some_of}
-use Rattle.nmgc_object.specs.FinQueue.{FinQueue}
-use Rattle.nmgc_object.specs.Places.{word_total}
-use Rattle.nmgc_object.specs.declared.layout.Layout.{Layout}
-use Rattle.nmgc_object.specs.declared.size.TheConstants.{HEADER_WORDS}
-use Rattle.nmgc_object.specs.declared.words.Header.{Header}
-use Rattle.nmgc_snapshot_laws.specs.declared.event.Entry.{Entry}
-use Rattle.nmgc_snapshot_laws.specs.State.{State as Core}
-use Rattle.nmgc_alloc.specs.AllocState.{Cells, LiesIn, cells}
-use Rattle.nmgc_alloc.specs.Stands.{StandsFor, Shows}
-use Rattle.nmgc_alloc.specs.Numbered.{nth, Segments, block_place}
-use Rattle.nmgc_heap_spec.specs.Places.{Place}
-use Rattle.nmgc_heap_spec.specs.Represents.{Represents, NoNode, IsEarlier}
-use Rattle.nmgc_heap_spec.specs.Roots.{RepresentsRoots, ListsWeaks}
-use Rattle.nmgc_heap_spec.specs.Shape.{size_of}
-use Rattle.nmgc_heap_spec.specs.laws.CommandLaws.{closing_keeps_earlier, world_is_earlier}
-use Rattle.nmgc_journal.specs.declared.report.MutatorEnd.{MutatorEnd}
-use Rattle.nmgc_round.specs.Marking.{marks_of}
-use Rattle.nmgc_round.specs.Objects.{earlier}
-use Rattle.nmgc_round.specs.Rule.{now}
-use Rattle.nmgc_round.specs.Starting.{CanOpen}
-use Rattle.nmgc_round.specs.View.{Opening}
-use Rattle.nmgc_mutator.specs.declared.mutator.Mutator.{Mutator}
-use Rattle.nmgc_collector_laws.specs.Rest.{hand_of}
-use Rattle.nmgc_run_spec.specs.Heap.{FitBlocks, HoldsAtStop, registers_of, queues_of, serials_of}
-use Rattle.nmgc_collector_laws.specs.Marker.{AreAt, IsCoreOf, IsUnread}
-use Rattle.nmgc_segment.specs.Marks.{epoch_of}
-use Rattle.nmgc_collector_laws.specs.Seen.{CollectorSeen, ends_of}
-use Rattle.nmgc_mark.specs.Seen.{MarkerSeen}
-use Rattle.nmgc_blocks_spec.specs.Cycle.{Cycle}
-use Rattle.nmgc_run_spec.specs.State.{State}
-use Rattle.nmgc_collector_laws.specs.Blocks.{AreOfBlocks}
-use Rattle.nmgc_mark.specs.Stopped.{HasFinished}
-use Rattle.nmgc_mark.specs.Tie.{IsTied as IsTiedByPlaces}
-use Rattle.nmgc_weak.specs.declared.weaks.Death.{Death}
-use Rattle.nmgc_weak.specs.declared.weaks.OldWeak.{OldWeak}
-use Rattle.nmgc_collector_laws.specs.CycleCloses.{CycleMayResolve, CycleCloses, HasClosed}
-use Rattle.nmgc_weak.specs.Closes.{QueuesClose}
-use Rattle.nmgc_weak.specs.Resolve.{CanResolve}
-use Rattle.nmgc_weak.specs.Weaks.{places_of}
-use Rattle.nmgc_collector_laws.specs.Resolves.{FinishMayResolve, ResolveCloses, ClosedHolds, IsStopOf, IsClosingOf, FinalisersInHand, stop_opening, finished_on, closed_state}
-use Rattle.nmgc_collector_laws.specs.RestMarking.{IsAtRestMarking, IsMachineAtRest}
-use Rattle.nmgc_collector_laws.proofs.cycles.Closing.{machine_scans}
-use Rattle.nmgc_collector_laws.proofs.cycles.Opens.{rest_opens}
-use Rattle.nmgc_collector_laws.proofs.cycles.Preparing.{no_snapshot}
-use Rattle.nmgc_collector_laws.proofs.cycles.RoundHeap.{marked_holds, not_free}
-use Rattle.nmgc_collector_laws.proofs.cycles.Tying.{MarksLaw, core_snapshot, heap_of_blocks}
+use Rattle.nmgc_collector_laws.proofs.Vocabulary.{ℕ, ◌≡◌, ◌+◌, List, [], map, refl, sym, ap, subst, ◌∙◌, arith, inr, slice_index, IsSome, All-nil, Name, World, IsWorld, node_of, closed, is_some_of, FinQueue, word_total, Layout, HEADER_WORDS, Header, Entry, Core, Cells, LiesIn, cells, StandsFor, Shows, nth, Segments, block_place, Place, Represents, NoNode, IsEarlier, RepresentsRoots, ListsWeaks, size_of, closing_keeps_earlier, world_is_earlier, MutatorEnd, marks_of, earlier, now, CanOpen, Opening, Mutator, FitBlocks, HoldsAtStop, registers_of, serials_of, AreAt, IsCoreOf, IsUnread, epoch_of, CollectorSeen, ends_of, MarkerSeen, Cycle, AreOfBlocks, HasFinished, IsTiedByPlaces, Death, OldWeak, CycleMayResolve, CycleCloses, HasClosed, QueuesClose, CanResolve, places_of, FinishMayResolve, ResolveCloses, ClosedHolds, IsStopOf, IsClosingOf, FinalisersInHand, stop_opening, finished_on, closed_state, IsAtRestMarking, IsMachineAtRest}
+use Rattle.nmgc_run_spec.specs.{Heap.queues_of, State.State}
+use Rattle.nmgc_collector_laws.proofs.{cycles.Closing.machine_scans, cycles.Opens.rest_opens, cycles.Preparing.no_snapshot, cycles.RoundHeap.marked_holds, cycles.RoundHeap.not_free, cycles.Tying.MarksLaw, cycles.Tying.core_snapshot, cycles.Tying.heap_of_blocks}
 
 -- the machine once the marker has finished
 
@@ -76,8 +26,7 @@ module _ (layout : Layout) (c : Cycle) (s : State) (seen : CollectorSeen) (mutat
   same_snapshot = ap (λ (x : Core). x.snapshot) (sym f.rest)
 
   at_rest : IsMachineAtRest c s.world core
-  at_rest = machine_scans c s.world h.kept.core f.events h.rest.machine f.legal f.scans (subst (λ (l : List Entry).
-      All IsUnread l) (sym empty) (All-nil IsUnread))
+  at_rest = machine_scans c s.world h.kept.core f.events h.rest.machine f.legal f.scans (rw empty (All-nil IsUnread))
 
   rests : IsAtRestMarking c core seen.segments places s.world seen.words mutators []
   rests = record {
@@ -125,8 +74,7 @@ module _ (layout : Layout) (c : Cycle) (s : State) (seen : CollectorSeen) (mutat
   can_resolve : CycleMayResolve → CanResolve then seen.words marked marker seen.weaks
   can_resolve may =
       let rested = rest_opens c core seen.segments places s.world seen.words mutators [] rests in
-      let opens : CanOpen then seen.words = subst (λ (w : World).
-      CanOpen (record then { hands = map (hand_of w places) mutators }) seen.words) same_world rested.0 in
+      let opens : CanOpen then seen.words = rw same_world at rested.0 in
       may c then seen.words marked marker seen.weaks at_rest.sound machine_now at_rest.none_pushed empty refl rested.1 (record {
         opens = opens;
         tied = tied;

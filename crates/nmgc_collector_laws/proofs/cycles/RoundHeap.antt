@@ -1,36 +1,7 @@
 -- What a round leaves of the heap of a stop, in the words of a run; and what a promotion makes of it.
-use Rattle.std.proofs.Common.{◌≡◌, ◌≢◌, ◌⊎◌, ◌+◌, ℕ, List, ◌∷◌, map, refl, sym, ap, subst, ◌∙◌, arith, inl, inr, Some, None, slice_index}
-use Rattle.std.specs.Prelude.{IsSome, Contains}
-use Rattle.std.proofs.lemmas.List.Elements.{Contains-append_left, Contains-append_right}
-use Rattle.nmgc_world_spec.specs.declared.value.Name.{Name}
-use Rattle.nmgc_world_spec.specs.World.{World, node_of}
-use Rattle.nmgc_lists.specs.laws.Items.{contains_tail, is_some_of, contains_map}
-use Rattle.nmgc_world_laws.specs.laws.HeldSteps.{absent, some_of}
-use Rattle.nmgc_object.specs.Places.{InNursery, word_total}
-use Rattle.nmgc_object.specs.declared.layout.Layout.{Layout}
-use Rattle.nmgc_object.specs.declared.size.TheConstants.{HEADER_WORDS}
-use Rattle.nmgc_object.specs.declared.words.Header.{Header}
-use Rattle.nmgc_segment.specs.declared.state.State.TheVariants as stands
-use Rattle.nmgc_alloc.specs.AllocState.{AllocState, Cells, LiesIn, cells, no_cells, name_in}
-use Rattle.nmgc_alloc.specs.Stands.{StandsFor, Shows}
-use Rattle.nmgc_alloc.specs.Numbered.{nth, Segments, block_place}
-use Rattle.nmgc_heap_spec.specs.Shape.{size_of}
-use Rattle.nmgc_heap_spec.specs.Places.{Place}
-use Rattle.nmgc_heap_spec.specs.Represents.{Represents, NoNode, IsEarlier}
-use Rattle.nmgc_heap_spec.specs.Roots.{ListsWeaks}
-use Rattle.nmgc_heap_spec.specs.laws.Changes.{remembered}
-use Rattle.nmgc_heap_spec.specs.laws.CommandLaws.{world_is_earlier}
-use Rattle.nmgc_journal.specs.declared.report.MutatorEnd.{MutatorEnd}
-use Rattle.nmgc_round.specs.View.{Opening, Seen as View}
-use Rattle.nmgc_round.specs.Objects.{Object, place_of, earlier}
-use Rattle.nmgc_round.specs.Rule.{now}
-use Rattle.nmgc_round.specs.Finishing.{IsKeptThen, places_then}
-use Rattle.nmgc_collector_laws.specs.laws.Placed.{place_cases}
-use Rattle.nmgc_collector_laws.specs.laws.Replays.{still_earlier}
-use Rattle.nmgc_run_spec.specs.Heap.{FitBlocks, HeapStandsFor, HoldsAfterRound, IsBornPlace, snapshots}
-use Rattle.nmgc_blocks_spec.specs.Placed.{IsPlaceAtStop}
+use Rattle.nmgc_collector_laws.proofs.Vocabulary.{◌≡◌, ◌≢◌, ◌⊎◌, ◌+◌, ℕ, List, ◌∷◌, map, refl, sym, ap, subst, ◌∙◌, arith, inl, inr, Some, None, slice_index, IsSome, Contains, Contains-append_left, Contains-append_right, Name, World, node_of, contains_tail, is_some_of, contains_map, absent, some_of, word_total, Layout, HEADER_WORDS, Header, AllocState, Cells, LiesIn, cells, no_cells, name_in, StandsFor, Shows, nth, Segments, block_place, size_of, Place, Represents, NoNode, IsEarlier, ListsWeaks, remembered, world_is_earlier, MutatorEnd, Opening, View, Object, place_of, earlier, now, IsKeptThen, places_then, place_cases, still_earlier, FitBlocks, HeapStandsFor, HoldsAfterRound, IsBornPlace, snapshots, IsPlaceAtStop, IsRoundFrom, RoundHolds, MarkedHolds}
 use Rattle.nmgc_run_spec.specs.State.{State}
-use Rattle.nmgc_collector_laws.specs.Heaps.{IsRoundFrom, RoundHolds, MarkedHolds}
+use Rattle.nmgc_segment.specs.declared.state.State.TheVariants as stands
 
 -- a segment with a name isn't free
 pub not_free : (own : Cells) (block : ℕ) (name : Name) → (own.state ≡ stands.Free → own ≡ no_cells) → name_in own block ≡ Some name → own.state ≢ stands.Free
@@ -133,7 +104,7 @@ module _ (layout : Layout) (s t : State) (o : Opening) (before after : List ℕ)
         let to = new_one.to in
         inr (subst (IsBornPlace layout s.world t.world) (sym is) (record {
           young = (subst (λ (w : World). node_of w x.name ≡ None) r.began new_one.unknown, (represents.named (place_of x) (born_there x is_born)).known);
-          nursery = subst (λ (l : Layout). InNursery l x.name.maker x.at) r.layout_is (record {
+          nursery = rw (← r.layout_is) (record {
             exists = maker;
             from = from;
             before = omega (arith, from, to);
@@ -160,14 +131,13 @@ module _ (layout : Layout) (s t : State) (o : Opening) (before after : List ℕ)
         complete = λ p one. elim (place_cases o born p one.0) [
           | inl there ↦ was.complete p (subst (λ (l : List Place). Contains l p) r.places_are there, one.1, one.2)
           | inr (x, d, is) ↦
-              let none : node_of s.world p.name ≡ None = ap (λ (q : Place). node_of s.world q.name) is ∙
-              subst (λ (w : World). node_of w x.name ≡ None) r.began (r.left.0.new x d).unknown in
+              let none : node_of s.world p.name ≡ None = cc (is, subst (λ (w : World). node_of w x.name ≡ None) r.began (r.left.0.new x d).unknown) in
               absurd (absent (node_of s.world p.name) none (some_of (node_of s.world p.name) _ one.1.1))
         ];
       }
 
   holds_by : (a : AllocState) → a ≡ s.allocation → HeapStandsFor layout (s.world ∷ snapshots t.progress) places t.world a after new later
-  holds_by a e = subst (λ (x : AllocState). HeapStandsFor layout (s.world ∷ snapshots t.progress) places t.world x after new later) (sym e) (record {
+  holds_by a e = rw e (record {
     fit = fit;
     represents = represents;
     registers = r.registers;

@@ -1,15 +1,5 @@
 -- The view of all seats together, where the collector's has scans.
-use Rattle.std.proofs.Common.{◌≡◌, ℕ, suc, Bool, false, cond, List, [], ◌∷◌, ◌++◌, map, refl, sym, ap, subst, ◌∙◌, Some}
-use Rattle.std.specs.Prelude.{slice_get}
-use Rattle.nmgc_heap_spec.specs.laws.Kinds.{map_item}
-use Rattle.nmgc_round.specs.View.{Opening, Part, Scan, Seen, whole}
-use Rattle.nmgc_round.specs.Seat.{RoundSeat, seen}
-use Rattle.nmgc_round.specs.Seating.{collecting, together, all_together}
-use Rattle.nmgc_round.specs.Finishing.{HasEach}
-use Rattle.nmgc_collector_laws.specs.Worked.{HaveWorked}
-use Rattle.nmgc_collector_laws.specs.laws.Gathered.{slice_at, slices_gathered}
-use Rattle.nmgc_collector_laws.specs.Owed.{gathered, SlicesAreGathered}
-use Rattle.nmgc_round.specs.laws.Gathering.{same_opening, still_collects}
+use Rattle.nmgc_collector_laws.proofs.Vocabulary.{◌≡◌, ℕ, suc, Bool, false, cond, List, [], ◌∷◌, ◌++◌, map, refl, sym, ap, subst, ◌∙◌, Some, slice_get, map_item, Opening, Part, Scan, Seen, whole, RoundSeat, seen, collecting, together, all_together, HasEach, HaveWorked, slice_at, slices_gathered, gathered, SlicesAreGathered, same_opening, still_collects}
 
 same_parts : (u v : Seen) (ws : List Seen) → u.parts ≡ v.parts → (all_together u ws).parts ≡ (all_together v ws).parts
 same_parts u v [] e = e
@@ -31,16 +21,16 @@ seats_gathered o before round old mutators seats done scans opens h =
     let parts = parts_gathered o scans seats in
     let opening : (gathered o scans seats).opening ≡ o = same_opening first (map seen seats) in
     let each : HasEach o (all_together (collecting (whole o)) (map seen seats)) =
-    subst (λ (y : Opening).
-    HasEach y (all_together (collecting (whole o)) (map seen seats))) (same_opening (collecting (whole o)) (map seen seats)) plain.0.1 in
+    rw (same_opening (collecting (whole o)) (map seen seats)) at plain.0.1 in
     record {
       all = (
         still_collects first (map seen seats) refl,
-        subst (λ (y : Opening). HasEach y (gathered o scans seats)) (sym opening) (subst (λ (ps : List Part).
-            HasEach o (record (gathered o scans seats) { parts = ps })) (sym parts) each),
+        rw opening (rw parts each),
       );
       worked = subst (λ (ps : List Part). HaveWorked o ps mutators done) (sym parts) plain.2;
       opening = opening;
-      scans_are = same_scans first (map seen seats) (λ k w e. let seat = map_item seen seats k w e in ap (λ (x : Seen). x.collects) seat.2 ∙
-          (slice_at o before round old mutators seats done opens h k seat.0 seat.1).did.went.is.no_collector);
+      scans_are = same_scans first (map seen seats) (λ k w e. let seat = map_item seen seats k w e in cc (
+        seat.2,
+        (slice_at o before round old mutators seats done opens h k seat.0 seat.1).did.went.is.no_collector,
+      ));
     }

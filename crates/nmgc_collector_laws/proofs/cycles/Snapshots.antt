@@ -1,42 +1,6 @@
 -- A machine that is reached from its snapshot: what it still speaks of, and what its nodes have become.
-use Rattle.std.proofs.Common.{◌≡◌, List, [], ◌∷◌, refl, sym, ap, subst, ◌∙◌, inl, inr, Option, Some, None}
-use Rattle.std.specs.Prelude.{IsSome, All, Contains}
-use Rattle.std.proofs.lemmas.List.Elements.{All-contains, Contains-append_cases}
-use Rattle.nmgc_world_spec.specs.declared.node.Node.{Node}
-use Rattle.nmgc_world_spec.specs.declared.node.Node.TheVariants.{Con, Var, Arr, Thunk, Weak, Stack}
-use Rattle.nmgc_world_spec.specs.declared.node.Parts.{Parts}
-use Rattle.nmgc_world_spec.specs.declared.value.Name.{Name}
-use Rattle.nmgc_world_spec.specs.declared.value.Value.{Value}
-use Rattle.nmgc_world_spec.specs.World.{World, IsWorld, node_of, state_of}
-use Rattle.nmgc_world_spec.specs.Step.{next_name, step}
-use Rattle.nmgc_world_spec.specs.History.{Row, opened, opened_by}
-use Rattle.nmgc_world_spec.specs.Reach.{IsLive, IsReached, root, further, plain_key, live_key}
-use Rattle.nmgc_world_laws.specs.laws.Growth.{step_grows}
-use Rattle.nmgc_lists.specs.laws.Items.{contains_head, nothing_in, one_is}
-use Rattle.nmgc_world_laws.specs.laws.Worlds.{not_shared}
-use Rattle.nmgc_world_laws.specs.Holds.{free_of as free_if}
-use Rattle.nmgc_world_laws.specs.Reachable.{CanReplay, CountsNew, HoldsOnly, IsSound}
-use Rattle.nmgc_world_spec.specs.Wide.{IsWide}
-use Rattle.nmgc_world_laws.specs.laws.HeldSteps.{absent, opened_has, step_holds_only, weaks_held}
-use Rattle.nmgc_world_laws.specs.laws.NodeLaws.{next_is_new}
-use Rattle.nmgc_world_laws.specs.laws.Reached.{OfOld, rows_hold, wide_or_new_holds}
-use Rattle.nmgc_world_laws.specs.laws.WorldSteps.{step_keeps_world}
-use Rattle.nmgc_snapshot_laws.specs.declared.event.Entry.{Entry}
-use Rattle.nmgc_snapshot_laws.specs.Facts.{Facts}
+use Rattle.nmgc_collector_laws.proofs.Vocabulary.{◌≡◌, List, [], ◌∷◌, refl, sym, ap, subst, ◌∙◌, inl, inr, Option, Some, None, IsSome, All, Contains, All-contains, Contains-append_cases, Node, Con, Var, Arr, Thunk, Weak, Stack, Parts, Name, Value, World, IsWorld, node_of, state_of, next_name, step, Row, opened, opened_by, IsLive, IsReached, root, further, plain_key, live_key, step_grows, contains_head, nothing_in, one_is, not_shared, free_if, CanReplay, CountsNew, HoldsOnly, IsSound, IsWide, absent, opened_has, step_holds_only, weaks_held, next_is_new, OfOld, rows_hold, wide_or_new_holds, step_keeps_world, Entry, Facts, State, live_there, facts_kept, snapshot_theorem, AreEarlier, IsEarlier, IsTracked, held_tracked, past_tracked, free_of, IsLater, interval_of, Cycle, IsCoreOf, IsUnread, rows_keep_headers, IsMachineAtRest, of_kept}
 use Rattle.nmgc_snapshot_laws.specs.Run.{IsMarking}
-use Rattle.nmgc_snapshot_laws.specs.State.{State}
-use Rattle.nmgc_snapshot_laws.specs.laws.Lives.{live_there}
-use Rattle.nmgc_snapshot_laws.specs.laws.Runs.{facts_kept, snapshot_theorem}
-use Rattle.nmgc_heap_spec.specs.Changes.{AreEarlier}
-use Rattle.nmgc_heap_spec.specs.Represents.{IsEarlier}
-use Rattle.nmgc_heap_spec.specs.Tracked.{IsTracked}
-use Rattle.nmgc_heap_spec.specs.laws.CommandLaws.{held_tracked, past_tracked}
-use Rattle.nmgc_round.specs.Objects.{free_of, IsLater}
-use Rattle.nmgc_blocks_spec.specs.Cycle.{interval_of, Cycle}
-use Rattle.nmgc_collector_laws.specs.Marker.{IsCoreOf, IsUnread}
-use Rattle.nmgc_run_laws.specs.laws.Leaving.{rows_keep_headers}
-use Rattle.nmgc_collector_laws.specs.RestMarking.{IsMachineAtRest}
-use Rattle.nmgc_world_spec.specs.laws.Common.{of_weak as of_kept}
 
 -- what is live is in the wide reach, if what was opened is
 live_wide : (S : World) (X : List Name) → ((n : Name) → Contains X n → IsSome (node_of S n) → IsWide S n) → (n : Name) → IsLive S X n → IsWide S n
@@ -102,9 +66,8 @@ module _ (S : World) (rows : List Row) (core : State) (h : IsReachedBy S rows co
   pub tracked_wide : (n : Name) → IsTracked core.world (core.snapshot ∷ []) n → IsSome (node_of core.snapshot n) → IsWide core.snapshot n
   tracked_wide n t there =
       let same = h.marking.snapshot in
-      subst (λ (x : World). IsWide x n) (sym same)
-      (held_tracked core.world (core.snapshot ∷ []) Old (λ e k in_ wide known. subst (λ (x : World). IsWide x k) (sym (one_is core.snapshot e in_) ∙
-      same) wide) holds n t (subst (λ (x : World). IsSome (node_of x n)) same there))
+      rw same (held_tracked core.world (core.snapshot ∷ []) Old (λ e k in_ wide known. rw (sym (one_is core.snapshot e in_) ∙
+      same) at wide) holds n t (subst (λ (x : World). IsSome (node_of x n)) same there))
 
   -- what is marked was in it
   pub marked_wide : (n : Name) → Contains core.marked n → IsWide S n
@@ -115,7 +78,7 @@ module _ (S : World) (rows : List Row) (core : State) (h : IsReachedBy S rows co
 
   pub marked_tracked : (n : Name) → Contains core.marked n → IsTracked core.world (core.snapshot ∷ []) n
   marked_tracked n c = past_tracked core.world (core.snapshot ∷
-      []) core.snapshot n (contains_head core.snapshot []) (subst (λ (x : World). IsWide x n) (sym h.marking.snapshot) (marked_wide n c))
+      []) core.snapshot n (contains_head core.snapshot []) (rw h.marking.snapshot (marked_wide n c))
 
   -- and so was what waits
   pub queued_marked : (entry : Entry) → Contains core.queue entry → Contains core.marked entry.name
@@ -137,7 +100,7 @@ module _ (S : World) (rows : List Row) (core : State) (h : IsReachedBy S rows co
       let there = h.facts.base.later name before was in
       let both : Some there.node ≡ Some now = sym there.node_is ∙ is in
       let same : there.node ≡ now = cc in
-      subst (λ (node : Node). IsLater before node) same (record {
+      rw (← same) (record {
         header = sym (snapshot_earlier.headers name before there.node was there.node_is);
         free = free_same before there.node there.later.free;
         result = there.later.result;

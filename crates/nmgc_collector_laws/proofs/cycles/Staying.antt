@@ -1,41 +1,6 @@
 -- A promotion keeps the tie: what it moved is young, and so it is in no snapshot; and blocks of the snapshot keep their marks and their places.
-use Rattle.std.proofs.Common.{◌≡◌, ◌≢◌, ◌⊎◌, ◌<◌, ◌≤◌, ℕ, List, [], ◌∷◌, length, map, sym, ap, subst, ◌∙◌, arith, inl, inr, Some, None, slice_index}
-use Rattle.std.specs.Prelude.{IsSome, Contains}
-use Rattle.std.proofs.lemmas.Bool.{cases_eq}
-use Rattle.nmgc_world_spec.specs.declared.value.Name.{Name}
-use Rattle.nmgc_world_spec.specs.World.{World, IsWorld, node_of}
-use Rattle.nmgc_lists.specs.laws.Items.{contains_head, contains_tail, is_some_of, contains_one, map_contains}
-use Rattle.nmgc_object.specs.declared.layout.Layout.{Layout}
-use Rattle.nmgc_object.specs.Places.{nursery_place}
-use Rattle.nmgc_world_laws.specs.laws.HeldSteps.{absent}
-use Rattle.nmgc_segment.specs.Marks.{IsEpoch}
-use Rattle.nmgc_segment.specs.Segment.{Segment, InUse, InSnapshot, IsMarked, mark_of}
-use Rattle.nmgc_segment.specs.declared.state.State.TheVariants.{Free}
-use Rattle.nmgc_snapshot_laws.specs.declared.event.Entry.{Entry}
-use Rattle.nmgc_snapshot_laws.specs.Facts.{Facts}
-use Rattle.nmgc_snapshot_laws.specs.State.{State as Core}
-use Rattle.nmgc_snapshot_laws.specs.laws.Lives.{live_there}
-use Rattle.nmgc_snapshot_laws.specs.laws.Runs.{facts_kept, snapshot_theorem}
-use Rattle.nmgc_alloc.specs.Numbered.{nth, Segments, HasNumber}
-use Rattle.nmgc_alloc.specs.AllocState.{AllocState, LiesIn, IsIn, cells, name_in}
-use Rattle.nmgc_alloc.specs.Blocks.{IsSnapshotAt, IsMarkedAt}
-use Rattle.nmgc_alloc.specs.laws.Blocks.{Carries, Within, carried_at, snapshot_within, marked_within}
-use Rattle.nmgc_alloc.specs.laws.Cells.{free_empty}
-use Rattle.nmgc_alloc.specs.laws.Placing.{free_or_not}
-use Rattle.nmgc_alloc.specs.laws.Sound.{stands_sound}
-use Rattle.nmgc_heap_spec.specs.Places.{Place}
-use Rattle.nmgc_heap_spec.specs.Moves.{Moved, old_place}
-use Rattle.nmgc_heap_spec.specs.laws.Moving.{settled_stays}
-use Rattle.nmgc_blocks_spec.specs.Stopped.{Stopped, young_base}
-use Rattle.nmgc_collector_laws.specs.Marker.{AreAt, AreRemembered, IsCoreOf, IsRightSnapshot, AreMarked, IsTied}
-use Rattle.nmgc_mark.specs.Marker.{HasRoomToMark}
-use Rattle.nmgc_mark.specs.Seen.{MarkerSeen}
-use Rattle.nmgc_blocks_spec.specs.Cycle.{Cycle}
-use Rattle.nmgc_collector_laws.specs.Stays.{HasPromoted, places_after}
-use Rattle.nmgc_collector_laws.proofs.cycles.Beginning.{epoch_is_some}
-use Rattle.nmgc_segment.specs.laws.Common.{epoch_sound as epoch_is_epoch}
-use Rattle.nmgc_sweep.specs.laws.Names.{lies_exists as lies_within}
-use Rattle.nmgc_collector_laws.proofs.cycles.Placing.{Stay, each_stay}
+use Rattle.nmgc_collector_laws.proofs.Vocabulary.{◌≡◌, ◌≢◌, ◌⊎◌, ◌<◌, ◌≤◌, ℕ, List, [], ◌∷◌, length, map, sym, ap, subst, ◌∙◌, arith, inl, inr, Some, None, slice_index, IsSome, Contains, cases_eq, Name, World, IsWorld, node_of, contains_head, contains_tail, is_some_of, contains_one, map_contains, Layout, nursery_place, absent, IsEpoch, Segment, InUse, InSnapshot, IsMarked, mark_of, Free, Entry, Facts, Core, live_there, facts_kept, snapshot_theorem, nth, Segments, HasNumber, AllocState, LiesIn, IsIn, cells, name_in, IsSnapshotAt, IsMarkedAt, Carries, Within, carried_at, snapshot_within, marked_within, free_empty, free_or_not, stands_sound, Place, Moved, old_place, settled_stays, Stopped, young_base, AreAt, AreRemembered, IsCoreOf, IsRightSnapshot, AreMarked, IsTied, HasRoomToMark, MarkerSeen, Cycle, HasPromoted, places_after, epoch_is_epoch, lies_within}
+use Rattle.nmgc_collector_laws.proofs.{cycles.Beginning.epoch_is_some, cycles.Placing.Stay, cycles.Placing.each_stay}
 
 -- places of names that are kept among others
 pub at_kept : (places more : List Place) (ats : List ℕ) (names : List Name) →

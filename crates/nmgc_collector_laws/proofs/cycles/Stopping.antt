@@ -1,57 +1,19 @@
 -- At a stop while a cycle marks, the heap is at rest beside the cycle.
-use Rattle.std.proofs.Common.{◌≡◌, ◌+◌, ◌++◌, ◌<◌, ℕ, List, [], ◌∷◌, length, map, refl, sym, ap, subst, ◌∙◌, arith, inl, inr, Some}
+use Rattle.std.proofs.{Common.◌≡◌, Common.◌+◌, Common.◌<◌, Common.ℕ, Common.List, Common.length, Common.map, Common.refl, Common.sym, Common.ap, Common.subst, Common.◌∙◌, Common.arith, Common.inl, Common.inr, Common.Some, lemmas.List.length-map, lemmas.Option.slice_get_within, lemmas.Option.get_or_from_slice_get}
 use Rattle.std.specs.Prelude.{slice_get, Contains}
-use Rattle.std.proofs.lemmas.List.{length-map}
-use Rattle.std.proofs.lemmas.Option.{slice_get_within, get_or_from_slice_get}
 use Rattle.nmgc_world_spec.specs.World.{World}
-use Rattle.nmgc_object.specs.Places.{nursery_place}
-use Rattle.nmgc_object.specs.declared.layout.Layout.{Layout}
-use Rattle.nmgc_object.specs.declared.layout.Nursery.{Nursery}
-use Rattle.nmgc_object.specs.declared.layout.TheConstants.{SHARED_PLACE}
+use Rattle.nmgc_object.specs.{Places.nursery_place, declared.layout.Layout.Layout, declared.layout.Nursery.Nursery, declared.layout.TheConstants.SHARED_PLACE}
 use Rattle.nmgc_alloc.specs.Segments.{IsSegments}
-use Rattle.nmgc_heap_spec.specs.Places.{Place}
-use Rattle.nmgc_heap_spec.specs.Represents.{Represents, NoNode}
-use Rattle.nmgc_heap_spec.specs.Roots.{RepresentsRoots}
+use Rattle.nmgc_heap_spec.specs.{Places.Place, Represents.Represents, Represents.NoNode, Roots.RepresentsRoots}
 use Rattle.nmgc_lists.specs.laws.Items.{item_map}
-use Rattle.nmgc_blocks_spec.specs.Nurseries.{nursery_at}
-use Rattle.nmgc_blocks_spec.specs.Occupied.{AreBlocks}
-use Rattle.nmgc_blocks_spec.specs.Stopped.{young_base}
-use Rattle.nmgc_blocks_spec.specs.laws.Blocks.{is_block}
-use Rattle.nmgc_mutator.specs.declared.mutator.Mutator.{Mutator}
-use Rattle.nmgc_mutator.specs.Ready.{IsUnused}
-use Rattle.nmgc_collector_laws.specs.Rest.{IsResting}
+use Rattle.nmgc_blocks_spec.specs.{Nurseries.nursery_at, Occupied.AreBlocks, Stopped.young_base, laws.Blocks.is_block, Cycle.Cycle}
+use Rattle.nmgc_mutator.specs.{declared.mutator.Mutator.Mutator, Ready.IsUnused, laws.Common.none_told}
+use Rattle.nmgc_collector_laws.specs.{Rest.IsResting, Collector.AreAtRest, Collector.IsMarking, Seen.CollectorSeen, Seen.MutatorSeen, Seen.end_of, Seen.ends_of, Seen.nurseries_of, Blocks.AreOfBlocks, Blocks.TiesAgree, Heaps.seen_mutator, Heaps.AreShown, Heaps.HeapRests, RestMarking.IsAtRestMarking, RestMarking.opening_beside, laws.Roots.same_registers, laws.Roots.same_queues, laws.Roots.same_serials}
 use Rattle.nmgc_collector_laws.specs.Worked as turn
-use Rattle.nmgc_collector_laws.specs.Collector.{AreAtRest, IsMarking}
-use Rattle.nmgc_run_spec.specs.Heap.{HoldsAtStop, registers_of, queues_of, serials_of, snapshots}
-use Rattle.nmgc_collector_laws.specs.Seen.{CollectorSeen, MutatorSeen, end_of, ends_of, nurseries_of}
-use Rattle.nmgc_run_laws.specs.Sound.{IsSoundState, IsInCycle}
-use Rattle.nmgc_run_spec.specs.State.{Plan, State, Progress, marking, layout_of}
-use Rattle.nmgc_blocks_spec.specs.Cycle.{Cycle}
-use Rattle.nmgc_run_laws.specs.laws.Places.{blocks_at_stop, block_used}
+use Rattle.nmgc_run_spec.specs.{Heap.HoldsAtStop, Heap.registers_of, Heap.queues_of, Heap.serials_of, Heap.snapshots, State.Plan, State.State, State.Progress, State.marking, State.layout_of}
+use Rattle.nmgc_run_laws.specs.{Sound.IsSoundState, Sound.IsInCycle, laws.Places.blocks_at_stop, laws.Places.block_used}
 use Rattle.nmgc_round.specs.View.{Opening}
-use Rattle.nmgc_collector_laws.specs.Blocks.{AreOfBlocks, TiesAgree}
-use Rattle.nmgc_collector_laws.specs.Heaps.{seen_mutator, AreShown, HeapRests}
-use Rattle.nmgc_collector_laws.specs.RestMarking.{IsAtRestMarking, opening_beside}
-use Rattle.nmgc_collector_laws.proofs.cycles.Keeping.{stop_is_at_rest}
-use Rattle.nmgc_collector_laws.proofs.cycles.Opens.{rest_opens}
-use Rattle.nmgc_collector_laws.proofs.cycles.Tying.{MarksLaw, core_snapshot, heap_of_blocks}
-use Rattle.nmgc_mutator.specs.laws.Common.{none_told}
-
--- the roots of mutators, as a run reads them and as a turn does
-abbrev told : List Mutator → List MutatorSeen
-told mutators = map seen_mutator mutators
-
-same_registers : (ms : List Mutator) → registers_of (map end_of (map seen_mutator ms)) ≡ turn.registers_of ms
-same_registers [] = refl
-same_registers (m ∷ ms) = ap (λ (l : List ℕ). m.registers ++ l) (same_registers ms)
-
-same_queues : (ms : List Mutator) → queues_of (map end_of (map seen_mutator ms)) ≡ turn.queues_of ms
-same_queues [] = refl
-same_queues (m ∷ ms) = ap (λ (l : List (List ℕ)). m.queue.words ∷ l) (same_queues ms)
-
-same_serials : (ms : List Mutator) → serials_of (map end_of (map seen_mutator ms)) ≡ turn.serials_of ms
-same_serials [] = refl
-same_serials (m ∷ ms) = ap (λ (l : List ℕ). m.serial ∷ l) (same_serials ms)
+use Rattle.nmgc_collector_laws.proofs.{cycles.Keeping.stop_is_at_rest, cycles.Opens.rest_opens, cycles.Tying.MarksLaw, cycles.Tying.core_snapshot, cycles.Tying.heap_of_blocks}
 
 module _ (plan : Plan) (s : State) (seen : CollectorSeen) (c : Cycle) (mutators : List Mutator) (sound : IsSoundState plan s)
     (heap : HoldsAtStop (layout_of plan) s seen.words seen.segments (ends_of seen) seen.weaks)

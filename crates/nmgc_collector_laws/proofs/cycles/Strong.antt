@@ -1,50 +1,11 @@
 -- Where no command owes anything, what is marked is what strong fields reach from the roots of the snapshot.
-use Rattle.std.proofs.Common.{◌≡◌, ◌<◌, ℕ, zero, suc, Bool, true, false, List, [], ◌∷◌, ◌++◌, length, refl, sym, ap, subst, ◌∙◌, arith, inl, inr, Option, Some, None}
-use Rattle.std.specs.Prelude.{IsSome, IfSome, All, Contains, is_some, not}
-use Rattle.std.specs.List.{flat_map}
-use Rattle.std.proofs.lemmas.Bool.{and_parts}
-use Rattle.std.proofs.lemmas.List.Elements.{All-nil, All-append, All-head, All-tail, All-contains, Contains-append_left, Contains-append_right, Contains-append_cases}
-use Rattle.std.proofs.lemmas.Option.{get_or_from_slice_get}
-use Rattle.nmgc_world_spec.specs.declared.command.Command.{Command}
-use Rattle.nmgc_world_spec.specs.declared.command.Reply.{Reply}
-use Rattle.nmgc_world_spec.specs.declared.mutator_state.MutatorState.{MutatorState}
-use Rattle.nmgc_world_spec.specs.declared.node.Node.{Node}
-use Rattle.nmgc_world_spec.specs.declared.node.Node.TheVariants.{Con, Var, Arr, Thunk, Weak, Stack}
-use Rattle.nmgc_world_spec.specs.declared.value.Name.{Name}
-use Rattle.nmgc_world_spec.specs.declared.value.Value.{Value}
+use Rattle.nmgc_collector_laws.proofs.Vocabulary.{◌≡◌, ◌<◌, ℕ, zero, suc, Bool, true, false, List, [], ◌∷◌, ◌++◌, length, refl, sym, ap, subst, ◌∙◌, arith, inl, inr, Option, Some, None, IsSome, IfSome, All, Contains, is_some, flat_map, and_parts, All-nil, All-append, All-head, All-tail, All-contains, Contains-append_left, Contains-append_right, Contains-append_cases, get_or_from_slice_get, Command, Reply, MutatorState, Node, Con, Var, Arr, Thunk, Weak, Stack, Name, Value, World, IsWorld, node_of, state_of, no_mutator, CanApply, next_name, shared_name, step, Row, IsReached, IsRoot, RefersTo, strong_fields, contains_head, contains_tail, at_some, is_some_of, nothing_in, one_is, not_shared, Names, Fields, CoversReach, has_result, strong_at, owed_by, field_at_place, some_of, all_moves, opened_owed, Entry, Event, Facts, IsSafe, IsAhead, marked, owed, queued, Passes, after_scan, advanced, Runs, read_at, field_at, State, names_of, is_listed, mark_name, mark_read, mark_values, opening, root_values, first_state, next_absent, all_from_contains, each_names, live_there, stands, mark_cases, event_keeps_facts, opening_has_facts, opening_world, snapshot_theorem, read_cases, world_scanned, owed_along, stays_closed, none_at_first, thunk_free, not}
+use Rattle.nmgc_lists.specs.laws.Items.{place_of}
+use Rattle.nmgc_world_laws.specs.Holds.{free_of}
+use Rattle.nmgc_snapshot_laws.specs.Facts.{pushed, unmarked}
 use Rattle.nmgc_world_spec.specs.declared.value.Value.TheVariants as value
-use Rattle.nmgc_world_spec.specs.World.{World, IsWorld, node_of, state_of, no_mutator}
-use Rattle.nmgc_world_spec.specs.Step.{CanApply, next_name, shared_name, step}
-use Rattle.nmgc_world_spec.specs.History.{Row}
-use Rattle.nmgc_world_spec.specs.Reach.{IsReached, IsRoot, RefersTo, strong_fields}
-use Rattle.nmgc_lists.specs.laws.Items.{contains_head, contains_tail, at_some, is_some_of, nothing_in, one_is, place_of}
-use Rattle.nmgc_world_laws.specs.laws.Worlds.{not_shared}
-use Rattle.nmgc_world_laws.specs.Holds.{Names, Fields, CoversReach, has_result, strong_at, free_of}
-use Rattle.nmgc_world_spec.specs.Owed.{owed_by}
-use Rattle.nmgc_world_laws.specs.laws.Barrier.{field_at_place}
-use Rattle.nmgc_world_laws.specs.laws.HeldSteps.{some_of}
-use Rattle.nmgc_world_laws.specs.laws.WeakMoves.{all_moves, opened_owed}
-use Rattle.nmgc_snapshot_laws.specs.declared.event.Entry.{Entry}
-use Rattle.nmgc_snapshot_laws.specs.declared.event.Event.{Event}
 use Rattle.nmgc_snapshot_laws.specs.declared.event.Event.TheVariants as event
-use Rattle.nmgc_snapshot_laws.specs.Facts.{Facts, IsSafe, IsAhead, marked, owed, pushed, unmarked, queued}
-use Rattle.nmgc_snapshot_laws.specs.Machine.{Passes, after_scan, advanced}
-use Rattle.nmgc_snapshot_laws.specs.Run.{Runs}
-use Rattle.nmgc_snapshot_laws.specs.Scan.{read_at, field_at}
-use Rattle.nmgc_snapshot_laws.specs.State.{State, names_of, is_listed, mark_name, mark_read, mark_values, opening, root_values, unmarked as first_state}
-use Rattle.nmgc_snapshot_laws.specs.laws.Commands.{next_absent}
-use Rattle.nmgc_snapshot_laws.specs.laws.Listed.{all_from_contains, each_names}
-use Rattle.nmgc_snapshot_laws.specs.laws.Lives.{live_there, stands}
-use Rattle.nmgc_snapshot_laws.specs.laws.Marking.{mark_cases}
-use Rattle.nmgc_snapshot_laws.specs.laws.Runs.{event_keeps_facts, opening_has_facts, opening_world, snapshot_theorem}
-use Rattle.nmgc_snapshot_laws.specs.laws.ScanReads.{read_cases}
-use Rattle.nmgc_round.specs.laws.Common.{world_scanned}
-use Rattle.nmgc_run_spec.specs.Closing.{owed as owed_along}
-use Rattle.nmgc_snapshot_laws.specs.laws.MarkedOnce.{stays_closed}
-use Rattle.nmgc_collector_laws.proofs.cycles.Beginning.{IsBegun, begun}
-use Rattle.nmgc_snapshot_laws.specs.laws.Openings.{no_names as none_at_first}
-use Rattle.nmgc_collector_laws.proofs.cycles.Going.{Leaves, leaves_scan, owed_scan}
-use Rattle.nmgc_snapshot_laws.specs.laws.Scans.{has_free as thunk_free}
+use Rattle.nmgc_collector_laws.proofs.{cycles.Beginning.IsBegun, cycles.Beginning.begun, cycles.Going.Leaves, cycles.Going.leaves_scan, cycles.Going.owed_scan}
 
 -- both parts of a list without items have none
 none_first : (xs ys : List Name) → xs ++ ys ≡ [] → xs ≡ []
@@ -115,8 +76,7 @@ module _ (S : World) (is : IsWorld S) where
   strong_name s name same kept h = mark_cases AreStrong s name
       (λ new n c. elim (Contains-append_cases s.marked (name ∷ []) n c) [
         | inl old ↦ h n old
-        | inr last ↦ subst Strong (one_is name n last) (kept (subst (λ (w : World).
-            IsSome (node_of w name)) same (and_parts (is_some (node_of s.snapshot name)) (not (is_listed name s.marked)) new).0))
+        | inr last ↦ subst Strong (one_is name n last) (kept (rw same at (and_parts (is_some (node_of s.snapshot name)) (not (is_listed name s.marked)) new).0))
       ])
       (λ old. h)
 
@@ -145,8 +105,7 @@ module _ (S : World) (is : IsWorld S) where
     entry_strong = h.strong entry.name (h.facts.base.queued entry waits)
 
     entry_there : IsSome (node_of S entry.name)
-    entry_there = subst (λ (w : World).
-        IsSome (node_of w entry.name)) h.snapshot_is (live_there s.snapshot s.opened h.facts.base.snapshot entry.name
+    entry_there = rw h.snapshot_is at (live_there s.snapshot s.opened h.facts.base.snapshot entry.name
         (h.facts.base.live entry.name (h.facts.base.queued entry waits)))
 
     read_field : (node : Node) (i : ℕ) (n : Name) → node_of s.world entry.name ≡ Some node → entry.position ≡ suc i →
@@ -248,8 +207,8 @@ module _ (S : World) (is : IsWorld S) where
   strong_runs s (event.Command m c answer ∷ es) rows t (true, next, rest, first, same, later) running none so =
       let own : owed_by s.world m c ++ owed_along (step s.world m c).0 rest ≡ [] = ap (λ (l : List Row). owed_along s.world l) (sym same) ∙ none in
       strong_runs next es rest t later running
-      (subst (λ (w : World). owed_along w rest ≡ []) (ap (λ (x : State).
-      x.world) (sym first.1)) (none_last (owed_by s.world m c) (owed_along (step s.world m c).0 rest) own))
+      (rw (ap (λ (x : State).
+      x.world) (sym first.1)) at (none_last (owed_by s.world m c) (owed_along (step s.world m c).0 rest) own))
       (strong_command s next m c answer so first (open_before next es rest t later running)
       (none_first (owed_by s.world m c) (owed_along (step s.world m c).0 rest) own))
   strong_runs s (event.Push m ∷ es) rows t (true, next, rest, first, same, later) running none so = absurd (first.0.1 (so.none_owed m))
@@ -285,8 +244,7 @@ module _ (S : World) (is : IsWorld S) where
   pub exactly_strong : (es : List Event) (rows : List Row) (core : State) → Runs (opening S) es rows core → core.is_closed ≡ false →
       owed_along S rows ≡ [] → core.queue ≡ [] → IsExactlyStrong core
   exactly_strong es rows core runs running none empty =
-      let so : IsStrongSo core = strong_runs (opening S) es rows core runs running (subst (λ (w : World). owed_along w rows ≡
-      []) (sym (opening_world S)) none) strong_opening in
+      let so : IsStrongSo core = strong_runs (opening S) es rows core runs running (rw (opening_world S) none) strong_opening in
       record { sound = so.strong; complete = all_marked so }
     where
       all_marked : IsStrongSo core → (n : Name) → Strong n → Contains core.marked n

@@ -1,36 +1,6 @@
 -- A cycle is closed and begins to sweep, and a promotion touches no segment that waits.
-use Rattle.std.proofs.Common.{ℕ, ◌≡◌, ◌≢◌, ◌↔◌, ◌<◌, List, [], ◌∷◌, length, map, refl, sym, ap, subst, ◌∙◌, arith, inl, inr, Some, cond, true, false, ◌==◌, Bool}
-use Rattle.std.specs.Prelude.{Contains, slice_get, slice_index}
-use Rattle.std.proofs.Math.ListN.{get_or-eq_default}
-use Rattle.std.proofs.lemmas.Bool.{cases_lt}
-use Rattle.std.proofs.lemmas.List.{length-map}
-use Rattle.nmgc_world_spec.specs.declared.value.Name.{Name}
-use Rattle.nmgc_world_spec.specs.World.{World}
-use Rattle.nmgc_world_spec.specs.Reach.{Lists}
-use Rattle.nmgc_lists.specs.laws.Items.{nothing_in}
-use Rattle.nmgc_object.specs.declared.layout.Layout.{Layout}
-use Rattle.nmgc_segment.specs.Marks.{carried, epoch_of}
-use Rattle.nmgc_segment.specs.Segment.{Segment, IsSegment, IsMarked, mark_of, free_segment}
-use Rattle.nmgc_segment.specs.declared.state.State.{State as Stands}
+use Rattle.nmgc_collector_laws.proofs.Vocabulary.{ℕ, ◌≡◌, ◌≢◌, ◌↔◌, ◌<◌, List, [], ◌∷◌, length, map, refl, sym, ap, subst, ◌∙◌, arith, inl, inr, Some, cond, true, false, Bool, Contains, slice_get, get_or-eq_default, cases_lt, length-map, Name, World, Lists, nothing_in, Layout, carried, epoch_of, Segment, IsSegment, IsMarked, mark_of, free_segment, Stands, mark-map, nth, Segments, HasNumber, IsSegments, IsWaiting, AllocState, Cells, IsIn, cells, name_in, StandsFor, carried_in, carried_over, placed_size, nth-map, used_exists, PlacesEach, IsDeadIn, IsKeptIn, IsKeptObject, Cycle, WaitsWhole, Counts, AreSettled, IsSettledByte, IsHadSoFar, IsFreedSoFar, SameWait, all_placing_waits, still_noted, ClosedCycleSweeps, HasPlaced, MarkedWait, PlacedWait, SweepingStays, SettledStays, all_carried, ◌==◌, slice_index}
 use Rattle.nmgc_segment.specs.declared.state.State.TheVariants as stands
-use Rattle.nmgc_segment.specs.laws.Segments.{mark-map}
-use Rattle.nmgc_alloc.specs.Numbered.{nth, Segments, HasNumber}
-use Rattle.nmgc_alloc.specs.Segments.{IsSegments, IsWaiting}
-use Rattle.nmgc_alloc.specs.AllocState.{AllocState, Cells, IsIn, cells, name_in}
-use Rattle.nmgc_alloc.specs.Stands.{StandsFor}
-use Rattle.nmgc_alloc.specs.CycleSteps.{carried_in, carried_over}
-use Rattle.nmgc_alloc.specs.laws.Cells.{placed_size}
-use Rattle.nmgc_alloc.specs.laws.Numbers.{nth-map}
-use Rattle.nmgc_alloc.specs.laws.Sound.{used_exists}
-use Rattle.nmgc_blocks_spec.specs.Promoted.{PlacesEach}
-use Rattle.nmgc_blocks_spec.specs.Cycle.{IsDeadIn, IsKeptIn, IsKeptObject, Cycle}
-use Rattle.nmgc_run_laws.specs.Course.{WaitsWhole}
-use Rattle.nmgc_world_spec.specs.Listing.{Counts}
-use Rattle.nmgc_alloc.specs.Settled.{AreSettled, IsSettledByte}
-use Rattle.nmgc_sweep.specs.Sweeping.{IsHadSoFar, IsFreedSoFar}
-use Rattle.nmgc_run_laws.specs.laws.Course.{SameWait, all_placing_waits, still_noted}
-use Rattle.nmgc_collector_laws.specs.Resolves.{ClosedCycleSweeps}
-use Rattle.nmgc_collector_laws.specs.Sweeps.{HasPlaced, MarkedWait, PlacedWait, SweepingStays, SettledStays, all_carried}
 
 -- a byte that was carried over is settled
 carried_byte : (begun mark : ℕ) → 0 < begun → IsSettledByte begun (carried (epoch_of begun) mark)
@@ -72,8 +42,7 @@ carry_settles begun segments sound some number block there awake =
     let is : nth (all_carried (epoch_of begun) segments).segments number ≡ carried_over (epoch_of begun) x =
     nth-map (carried_over (epoch_of begun)) segments.segments number lt in
     let not : x.state ≢ stands.Sweeping = λ e. awake (ap (λ (y : Segment). y.state) is ∙ carried_state (epoch_of begun) x x.state ∙ e) in
-    subst (λ (y : Segment).
-    IsSettledByte begun (mark_of y block)) (sym is) (carried_settled begun x x.state block (sound.members number lt).sound refl not some)
+    rw is (carried_settled begun x x.state block (sound.members number lt).sound refl not some)
 
 -- a segment that waits exists, and stands for its cells
 waits_there : (s : Segments) (words : List ℕ) (a : AllocState) → StandsFor s words a → (number : ℕ) → IsIn stands.Sweeping (cells a number) →
@@ -87,8 +56,7 @@ waits_there s words a stood number is =
 -- and carrying leaves it as it was
 carry_leaves : (epoch : ℕ) (s : Segments) (number : ℕ) → HasNumber s number → (nth s.segments number).state ≡ stands.Sweeping →
     nth (all_carried epoch s).segments number ≡ nth s.segments number
-carry_leaves epoch s number lt is = nth-map (carried_over epoch) s.segments number lt ∙
-    ap (λ (state : Stands). carried_in state epoch (nth s.segments number)) is
+carry_leaves epoch s number lt is = cc (nth-map (carried_over epoch) s.segments number lt, is)
 
 none_freed : (c : Cycle) (allocation : AllocState) → WaitsWhole c allocation → (freed : List Name) → freed ≡ [] → (name : Name) →
     Contains freed name ↔ IsFreedSoFar c allocation name

@@ -1,32 +1,7 @@
 -- The machine takes all that was pushed: mutator after mutator, and of each one name after another.
-use Rattle.std.proofs.Common.{eqb, eq-eqb, eqb-true, Option, ◌≡◌, ◌≢◌, ◌+◌, ◌<◌, ◌≤◌, ℕ, suc, Bool, true, false, not, ◌&&◌, cond, List, [], ◌∷◌, ◌++◌, length, set, refl, sym, ap, subst, ◌∙◌, arith, append-nil, length-set, inl, inr, Some}
-use Rattle.std.specs.Prelude.{Contains, slice_get, is_some}
-use Rattle.std.specs.List.{filter, flat_map}
-use Rattle.std.proofs.lemmas.Bool.{cases_eq, and_cases, not-false}
-use Rattle.std.proofs.lemmas.List.Elements.{Contains-append_left}
-use Rattle.nmgc_world_spec.specs.declared.value.Name.{Name}
-use Rattle.nmgc_world_spec.specs.World.{World, IsWorld, node_of}
-use Rattle.nmgc_world_spec.specs.Change.{is_same_name}
-use Rattle.nmgc_world_spec.specs.Step.{shared_name}
-use Rattle.nmgc_lists.specs.laws.Items.{contains_head, contains_tail, contains_cases, nothing_in}
-use Rattle.nmgc_snapshot_laws.specs.declared.event.Event.{Event}
+use Rattle.nmgc_collector_laws.proofs.Vocabulary.{eqb, eq-eqb, eqb-true, ◌≡◌, ◌≢◌, ◌+◌, ◌<◌, ◌≤◌, ℕ, suc, Bool, true, false, not, ◌&&◌, cond, List, [], ◌∷◌, ◌++◌, length, set, refl, sym, ap, subst, ◌∙◌, arith, append-nil, length-set, inl, inr, Some, Contains, slice_get, is_some, filter, flat_map, cases_eq, and_cases, not-false, Contains-append_left, Name, World, IsWorld, node_of, is_same_name, shared_name, contains_head, contains_tail, contains_cases, nothing_in, Event, Facts, AreEmpty, after_take, is_pushed_in, Runs, State, names_of, is_listed, is_new, entry_of, mark_name, opening, names_same, names_other, listed_from, tested_same, mark_cases, facts_kept, snapshot_theorem, Place, Marks, marks_of, name_at, with_name, Opening, AreAt, AreRemembered, IsCoreOf, Cycle, with_places, runs_then, marks_if}
 use Rattle.nmgc_snapshot_laws.specs.declared.event.Event.TheVariants as event
-use Rattle.nmgc_snapshot_laws.specs.Facts.{Facts}
-use Rattle.nmgc_snapshot_laws.specs.Machine.{AreEmpty, after_take, is_pushed_in}
-use Rattle.nmgc_snapshot_laws.specs.Run.{Runs}
-use Rattle.nmgc_snapshot_laws.specs.State.{State, names_of, is_listed, is_new, entry_of, mark_name, opening}
-use Rattle.nmgc_snapshot_laws.specs.laws.Listed.{names_same, names_other, listed_from, tested_same}
-use Rattle.nmgc_snapshot_laws.specs.laws.Marking.{mark_cases}
-use Rattle.nmgc_snapshot_laws.specs.laws.Runs.{facts_kept, snapshot_theorem}
-use Rattle.nmgc_heap_spec.specs.Places.{Place}
-use Rattle.nmgc_round.specs.Marking.{Marks, marks_of, name_at, with_name}
-use Rattle.nmgc_round.specs.View.{Opening}
-use Rattle.nmgc_collector_laws.specs.Marker.{AreAt, AreRemembered, IsCoreOf}
-use Rattle.nmgc_blocks_spec.specs.Cycle.{Cycle}
-use Rattle.nmgc_mark.specs.Tie.{with_places}
-use Rattle.nmgc_snapshot_laws.specs.laws.Common.{runs_join as runs_then}
 use Rattle.nmgc_collector_laws.proofs.cycles.Pushing.{all_empty}
-use Rattle.nmgc_round.specs.laws.Common.{marks_if}
 
 -- names are marked one after another, each that is of the snapshot and wasn't marked
 abbrev pub with_names : World → Marks → List Name → Marks
@@ -89,8 +64,7 @@ uncounted snapshot m name shared none =
     let off : (is_some (node_of snapshot name) && not (is_listed name m.marked)) ≡ false =
     elim (and_cases (is_some (node_of snapshot name)) (not (is_same_name name shared_name)) none) [
       | inl gone ↦ not_both (is_some (node_of snapshot name)) (is_listed name m.marked) gone
-      | inr same ↦ listed_not (is_some (node_of snapshot name)) (is_listed name m.marked) (listed_from name m.marked (subst (λ (n : Name).
-          Contains m.marked n) (sym (tested_same name shared_name (not-false (is_same_name name shared_name) same))) shared))
+      | inr same ↦ listed_not (is_some (node_of snapshot name)) (is_listed name m.marked) (listed_from name m.marked (rw (tested_same name shared_name (not-false (is_same_name name shared_name) same)) shared))
     ] in
     ap (λ (b : Bool). cond b made m) off
 
@@ -98,8 +72,7 @@ counted_first : (b : Bool) (snapshot : World) (m : Marks) (name : Name) (counted
     Contains m.marked shared_name → ((k : Marks) → Contains k.marked shared_name → with_names snapshot k counted ≡ with_names snapshot k names) →
     with_names snapshot m (cond b (name ∷ counted) counted) ≡ with_names snapshot m (name ∷ names)
 counted_first true snapshot m name counted names is shared rest = rest (with_name snapshot m (Some name)) (still_named snapshot m name shared_name shared)
-counted_first false snapshot m name counted names is shared rest = rest m shared ∙
-    ap (λ (k : Marks). with_names snapshot k names) (sym (uncounted snapshot m name shared is))
+counted_first false snapshot m name counted names is shared rest = cc (rest m shared, uncounted snapshot m name shared is)
 
 -- so names mark the same as those of them that count
 counted_same : (snapshot : World) (names : List Name) (m : Marks) → Contains m.marked shared_name →
@@ -169,8 +142,7 @@ take_names s m (name ∷ rest) running lt e =
     let n = named (record s { pushed = set s.pushed m rest }) name in
     let next : State = after_take s m (name ∷ rest) in
     let here : length next.pushed ≡ length s.pushed = ap (λ (l : List (List Name)). length l) n.1 ∙ length-set s.pushed m rest in
-    let later = take_names next m rest (n.0.is_closed ∙ running) (omega arith) (ap (λ (l : List (List Name)). names_of l m) n.1 ∙
-    names_same s.pushed m rest lt) in
+    let later = take_names next m rest (n.0.is_closed ∙ running) (omega arith) (cc (n.1, names_same s.pushed m rest lt)) in
     (later.0, take_first s later.0 m name rest running e later.1)
 
 -- places of names, one list after another
@@ -199,10 +171,7 @@ module _ (c : Cycle) (places : List Place) where
       (r : AreRemembered c places entry (names_of s.pushed first)) → HasTakenOwn s u first (names_of s.pushed first) →
       marks_of u ≡ with_names c.snapshot (marks_of s) r.names
   own_marks s u first entry snapshot shared r h =
-      h.marks
-      ∙ ap (λ (w : World). with_names w (marks_of s) (names_of s.pushed first)) snapshot
-      ∙ ap (λ (l : List Name). with_names c.snapshot (marks_of s) l) (sym r.counted)
-      ∙ counted_same c.snapshot r.names (marks_of s) shared
+      cc (h.marks, snapshot, r.counted, counted_same c.snapshot r.names (marks_of s) shared)
 
   -- one mutator, and those after it
   take_next : (s u t : State) (first : ℕ) (entry : List ℕ) (entries : List (List ℕ)) → s.snapshot ≡ c.snapshot → Contains s.marked shared_name →
@@ -225,8 +194,7 @@ module _ (c : Cycle) (places : List Place) where
       | inr ne ↦ g.none k (omega arith) (omega arith)
     ];
     others = λ k lt. g.others k (omega arith) ∙ h.others k (λ e. omega arith);
-    marks = g.marks ∙ ap (λ (k : Marks). with_names c.snapshot k g.names) (own_marks s u first entry snapshot shared r h) ∙
-        sym (names_then c.snapshot (marks_of s) r.names g.names);
+    marks = cc (g.marks, own_marks s u first entry snapshot shared r h, names_then c.snapshot (marks_of s) r.names g.names);
   }
 
   take_from : (s : State) (first : ℕ) (entries : List (List ℕ)) → s.snapshot ≡ c.snapshot → Contains s.marked shared_name → s.is_closed ≡ false →
@@ -287,8 +255,7 @@ machine_takes c w core places entries world m many own =
       record {
         machine = record {
           events = m.events ++ h.events;
-          runs = subst (λ l. Runs (opening c.snapshot) (m.events ++
-              h.events) l t) (append-nil c.rows) (runs_then (opening c.snapshot) core t m.events h.events c.rows [] m.runs h.runs);
+          runs = rw (append-nil c.rows) at (runs_then (opening c.snapshot) core t m.events h.events c.rows [] m.runs h.runs);
           open_yet = h.only.is_closed ∙ m.open_yet;
           world_is = h.only.world ∙ m.world_is;
           nothing_owed = subst AreEmpty (sym h.only.owed) m.nothing_owed;
@@ -328,5 +295,4 @@ places_mark o m [] [] one h = refl
 places_mark o m [] (name ∷ names) one h = absurd h
 places_mark o m (at ∷ ats) [] one h = absurd h
 places_mark o m (at ∷ ats) (name ∷ names) one h =
-    ap (λ (n : Option Name). with_places o (with_name o.core.snapshot m n) ats) (found_at o.places o.places one (λ p c. c) at name h.0)
-    ∙ places_mark o (with_name o.core.snapshot m (Some name)) ats names one h.1
+    cc (found_at o.places o.places one (λ p c. c) at name h.0, places_mark o (with_name o.core.snapshot m (Some name)) ats names one h.1)

@@ -1,45 +1,7 @@
 -- A marker's tie by places and by blocks, at a stop.
-use Rattle.std.proofs.Common.{◌≡◌, ◌⊎◌, ℕ, List, [], ◌∷◌, map, true, sym, ap, subst, ◌∙◌, inl, inr}
-use Rattle.std.specs.Prelude.{Contains, IsSome}
-use Rattle.nmgc_world_spec.specs.declared.value.Name.{Name}
-use Rattle.nmgc_world_spec.specs.Step.{shared_name}
-use Rattle.nmgc_world_spec.specs.World.{World, node_of}
-use Rattle.nmgc_world_laws.specs.Reachable.{IsSound}
-use Rattle.nmgc_object.specs.declared.layout.Layout.{Layout}
-use Rattle.nmgc_snapshot_laws.specs.Facts.{Facts}
-use Rattle.nmgc_snapshot_laws.specs.State.{State as Core}
-use Rattle.nmgc_snapshot_laws.specs.laws.Runs.{snapshot_theorem}
-use Rattle.std.proofs.lemmas.List.Elements.{Contains-append_left}
-use Rattle.nmgc_alloc.specs.Numbered.{Segments, block_place}
-use Rattle.nmgc_alloc.specs.Segments.{IsSegments}
-use Rattle.nmgc_alloc.specs.Stands.{StandsFor}
-use Rattle.nmgc_alloc.specs.AllocState.{cells}
-use Rattle.nmgc_heap_spec.specs.Places.{Place, shared_place}
-use Rattle.nmgc_journal.specs.declared.report.MutatorEnd.{MutatorEnd}
-use Rattle.nmgc_mutator.specs.declared.mutator.Mutator.{Mutator}
-use Rattle.nmgc_round.specs.Events.{rows_in}
-use Rattle.nmgc_round.specs.Finishing.{IsFinished, places_then}
-use Rattle.nmgc_round.specs.Marking.{Marks, marks_of}
-use Rattle.nmgc_round.specs.Objects.{place_of}
-use Rattle.nmgc_round.specs.Rule.{now}
-use Rattle.nmgc_round.specs.Seating.{collecting}
-use Rattle.nmgc_round.specs.View.{Opening, Seen, whole}
-use Rattle.nmgc_blocks_spec.specs.Cycle.{interval_of, Cycle}
-use Rattle.nmgc_run_spec.specs.Heap.{HoldsAtStop}
-use Rattle.nmgc_blocks_spec.specs.Placed.{IsBlockPlace}
-use Rattle.nmgc_collector_laws.specs.Marker.{AreAt, IsCoreOf, IsTied}
-use Rattle.nmgc_segment.specs.Marks.{epoch_of}
-use Rattle.nmgc_mark.specs.Seen.{MarkerSeen}
+use Rattle.nmgc_collector_laws.proofs.Vocabulary.{◌≡◌, ℕ, List, [], ◌∷◌, map, true, sym, ap, subst, ◌∙◌, inl, inr, Contains, IsSome, Name, shared_name, World, node_of, IsSound, Layout, Facts, Core, snapshot_theorem, Contains-append_left, Segments, block_place, IsSegments, StandsFor, cells, Place, shared_place, MutatorEnd, Mutator, rows_in, IsFinished, places_then, marks_of, place_of, now, collecting, Opening, Seen, whole, interval_of, Cycle, HoldsAtStop, AreAt, IsCoreOf, IsTied, epoch_of, MarkerSeen, AreOfBlocks, TiesAgree, AreApart, IsTiedByPlaces, marks_seen, with_rows, GoesOn, CoreHasSnapshot, RoundBeginsTied, places_apart, core_facts}
 use Rattle.nmgc_run_spec.specs.State.{State}
-use Rattle.nmgc_collector_laws.specs.Blocks.{AreOfBlocks, TiesAgree}
-use Rattle.nmgc_mark.specs.Tie.{AreApart, IsTied as IsTiedByPlaces}
-use Rattle.nmgc_mark.specs.Work.{marks_seen}
-use Rattle.nmgc_collector_laws.specs.RestMarking.{with_rows}
-use Rattle.nmgc_collector_laws.specs.Owed.{GoesOn}
-use Rattle.nmgc_collector_laws.specs.Tie.{CoreHasSnapshot, RoundBeginsTied}
 use Rattle.nmgc_collector_laws.proofs.cycles.RoundHeap.{marked_holds}
-use Rattle.nmgc_mark.specs.laws.Common.{places_apart}
-use Rattle.nmgc_collector_laws.specs.laws.Common.{core_facts}
 
 -- places of names, among more places
 pub at_more : (places more : List Place) (ats : List ℕ) (names : List Name) → ((p : Place) → Contains places p → Contains more p) →
@@ -83,8 +45,7 @@ heap_of_blocks law layout s words segments ends weaks c w core o h segments_are 
         lies = lies;
         at = ap (λ (l : Layout). block_place l number (cells s.allocation number).class block) same;
       })));
-      named = λ p d known. subst (λ (l : Layout). (p ≡ shared_place) ⊎
-          IsBlockPlace l s.allocation p) (sym same) ((h.all p).0 (subst (λ (l : List Place). Contains l p) places d));
+      named = λ p d known. rw same ((h.all p).0 (rw places at d));
       marked = λ name d. subst (λ (x : World). IsSome (node_of x name)) (core_snapshot c w core sound machine ∙ sym snapshot) (marked.0 name d);
       shared_marked = marked.1;
     }
@@ -120,8 +81,7 @@ round_ends law agree ending layout s before after old new ends weaks c o v mutat
     opening same places snapshot epoch tied =
     let d : Cycle = with_rows c (rows_in f.events) in
     let k = marked_holds layout s before old new ends weaks h same_layout stands in
-    let then : IsTiedByPlaces o (marks_of core) new marker = subst (λ (m : Marks).
-    IsTiedByPlaces o m new marker) (sym goes.marks) (ending o after v new marker f on opening tied) in
+    let then : IsTiedByPlaces o (marks_of core) new marker = rw goes.marks (ending o after v new marker f on opening tied) in
     let blocks : AreOfBlocks o d new before s.allocation core =
     heap_of_blocks law layout s before new ends weaks d (now o f.events).world core o k.0 sound interval goes.machine same (places ∙ sym k.1) snapshot in
     let t : IsTied d s.allocation new o.places marker core = (agree o d new before s.allocation core marker blocks).1 (epoch, then) in

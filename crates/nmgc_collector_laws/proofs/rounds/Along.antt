@@ -1,29 +1,6 @@
 -- A mutator's rows along the history of the round: before each of them its registers mean those of the world.
-use Rattle.std.proofs.Common.{◌≡◌, ◌≢◌, ◌⊎◌, ◌<◌, ℕ, Bool, cond, List, [], ◌∷◌, length, refl, sym, ap, subst, ◌∙◌, inl, inr, All}
-use Rattle.std.proofs.lemmas.Bool.Decides.{eqb_tells}
-use Rattle.std.proofs.lemmas.List.Elements.{All-nil, All-cons, All-head, All-tail}
-use Rattle.nmgc_world_spec.specs.declared.value.Value.{Value}
-use Rattle.nmgc_world_spec.specs.declared.command.Command.{Command}
-use Rattle.nmgc_world_spec.specs.declared.command.Reply.{Reply}
-use Rattle.nmgc_world_spec.specs.World.{World, IsWorld, state_of}
-use Rattle.nmgc_world_spec.specs.Step.{CanApply, shared_name, step}
-use Rattle.nmgc_world_spec.specs.History.{Row}
-use Rattle.nmgc_object.specs.declared.layout.TheConstants.{SHARED_PLACE}
-use Rattle.nmgc_world_laws.specs.laws.WorldSteps.{step_keeps_world}
-use Rattle.nmgc_world_laws.specs.laws.Keeps.{step_leaves_others}
-use Rattle.nmgc_snapshot_laws.specs.State.{State}
-use Rattle.nmgc_snapshot_laws.specs.Machine.{after_command, after_scan}
-use Rattle.nmgc_heap_spec.specs.Places.{Place, ListMeans}
-use Rattle.nmgc_round.specs.Events.{Happening, did, scanned, IsLegal, done_by, rows_in}
-use Rattle.nmgc_round.specs.View.{Answer, plain, word, FixedWord, Hand, leaves, DoneRow as OwnRow}
-use Rattle.nmgc_round.specs.Naming.{AllReply, Replies}
-use Rattle.nmgc_round.specs.Rule.{Answers, AllAnswer}
-use Rattle.nmgc_collector_laws.specs.Worked.{Done}
-use Rattle.nmgc_limits.specs.declared.mutators.TheConstants.{SHARED_MAKER}
-use Rattle.nmgc_world_laws.specs.laws.Worlds.{not_shared}
-use Rattle.nmgc_collector_laws.proofs.rounds.RowRegisters.{IsPlain, registers_left}
-use Rattle.nmgc_collector_laws.proofs.rounds.Depths.{Depths, depths_other, depths_left}
-use Rattle.nmgc_round.specs.laws.Common.{world_scanned}
+use Rattle.nmgc_collector_laws.proofs.Vocabulary.{◌≡◌, ◌≢◌, ◌⊎◌, ◌<◌, ℕ, List, [], ◌∷◌, length, refl, sym, ap, subst, ◌∙◌, inl, inr, eqb_tells, All-nil, All-cons, All-head, All-tail, Command, Reply, World, IsWorld, state_of, CanApply, shared_name, step, Row, SHARED_PLACE, step_keeps_world, step_leaves_others, State, after_command, after_scan, Place, ListMeans, Happening, did, scanned, IsLegal, done_by, rows_in, Answer, plain, word, FixedWord, Hand, leaves, OwnRow, AllReply, Replies, Answers, AllAnswer, Done, SHARED_MAKER, not_shared, world_scanned, All}
+use Rattle.nmgc_collector_laws.proofs.{rounds.RowRegisters.IsPlain, rounds.RowRegisters.registers_left, rounds.Depths.Depths, rounds.Depths.depths_other, rounds.Depths.depths_left}
 
 plain_reply : (fixed : List FixedWord) (a : Answer) (r : Reply) → Replies fixed a r → IsPlain a
 plain_reply fixed (plain x) r h = h.1
@@ -71,9 +48,8 @@ module _ (P : Place → Type 0) (m : ℕ) where
     goes_by : k ≢ m → Goes w done (record { mutator = k; command = c; reply = r } ∷ rows)
     goes_by ne h own says told means d = inl (
       ne,
-      go h own says told (subst (λ (l : List Value).
-          ListMeans P h.registers l) (sym (step_leaves_others w k c is can m (λ e.
-          ne (sym e))).registers) means) (depths_other P one m w mine h d k c can.mutator (not_shared w k is can.mutator) ne),
+      go h own says told (rw (step_leaves_others w k c is can m (λ e.
+          ne (sym e))).registers means) (depths_other P one m w mine h d k c can.mutator (not_shared w k is can.mutator) ne),
     )
 
     -- over a command of its own
@@ -92,10 +68,8 @@ module _ (P : Place → Type 0) (m : ℕ) where
           refl,
           record { number = e; command = says.0.0; plain = plainly; answers = says.0.1; registers = means; depths = d },
           go (leaves h x.command x.answer) rest says.1 (All-tail (λ (r : OwnRow). IsPlain r.answer) x rest told)
-              (subst (λ d. ListMeans P (leaves h x.command x.answer).registers (state_of (step w k d).0 m).registers) says.0.0
-              (subst (λ j. ListMeans P (leaves h x.command x.answer).registers (state_of (step w j x.command).0 m).registers) (sym e) left))
-              (subst (λ c. Depths P m (step w k c).0 (leaves h x.command x.answer)) says.0.0 (subst (λ j.
-              Depths P m (step w j x.command).0 (leaves h x.command x.answer)) (sym e) deep)),
+              (rw (← says.0.0) (subst (λ j. ListMeans P (leaves h x.command x.answer).registers (state_of (step w j x.command).0 m).registers) (sym e) left))
+              (rw (← says.0.0) (rw e deep)),
         )
 
   -- the rows of a part go along the events of the round
@@ -106,16 +80,12 @@ module _ (P : Place → Type 0) (m : ℕ) where
   along one mine g s [] is legal h (x ∷ own) says told means d = absurd says
   along one mine g s (scanned entry v ∷ hs) is legal h own says told means d =
       let e : (after_scan s s.queue).world ≡ s.world = world_scanned s s.queue in
-      subst (λ (w : World). Along w h own (rows_in hs)) e
-      (along one mine g (after_scan s s.queue) hs (subst IsWorld (sym e) is) legal.1 h own says told (subst (λ (w : World).
-      ListMeans P h.registers (state_of w m).registers) (sym e) means) (subst (λ (w : World). Depths P m w h) (sym e) d))
+      rw e at (along one mine g (after_scan s s.queue) hs (subst IsWorld (sym e) is) legal.1 h own says told (rw e means) (subst (λ (w : World). Depths P m w h) (sym e) d))
   along one mine g s (did k c r ∷ hs) is legal h own says told means d =
       let can : CanApply s.world k c = legal.0.0.1 in
       let go : Goes (step s.world k c).0 (done_by m hs) (rows_in hs) =
       along one mine g (after_command s k c) hs (step_keeps_world s.world k c is can) legal.1 in
       elim (eqb_tells k m) [
-        | inl t ↦ goes_on one mine g s.world k c r is can (done_by m hs) (rows_in hs) go t.1 legal.0.0.2 h own (subst (λ (b : Bool).
-            AllAnswer P own (cond b ((c, r) ∷ done_by m hs) (done_by m hs))) t.0 says) told means d
-        | inr t ↦ goes_by one mine g s.world k c r is can (done_by m hs) (rows_in hs) go t.1 h own (subst (λ (b : Bool).
-            AllAnswer P own (cond b ((c, r) ∷ done_by m hs) (done_by m hs))) t.0 says) told means d
+        | inl t ↦ goes_on one mine g s.world k c r is can (done_by m hs) (rows_in hs) go t.1 legal.0.0.2 h own (rw t.0 at says) told means d
+        | inr t ↦ goes_by one mine g s.world k c r is can (done_by m hs) (rows_in hs) go t.1 h own (rw t.0 at says) told means d
       ]

@@ -1,42 +1,7 @@
 -- What was born lies in the used parts of the nurseries, in the order of names.
-use Rattle.std.proofs.Common.{◌≡◌, inl, inr, ℕ, ◌+◌, ◌*◌, ◌<◌, ◌≤◌, List, [], ◌∷◌, refl, sym, ap, subst, ◌∙◌, arith, Some, None, mul-le-mul_right}
-use Rattle.std.specs.Prelude.{Contains, IsSome, slice_get}
-use Rattle.std.proofs.lemmas.Bool.{cases_lt, cases_eq}
-use Rattle.std.proofs.lemmas.List.{length-map}
-use Rattle.std.proofs.lemmas.Option.{get_or_from_slice_get}
-use Rattle.nmgc_world_spec.specs.declared.value.Name.{Name}
-use Rattle.nmgc_world_spec.specs.declared.value.Value.TheVariants.{Ref}
-use Rattle.nmgc_world_spec.specs.declared.node.Node.{Node}
-use Rattle.nmgc_world_spec.specs.declared.command.Reply.{Reply}
-use Rattle.nmgc_world_spec.specs.declared.command.Reply.TheVariants.{Given}
-use Rattle.nmgc_world_spec.specs.Command.{IsMaking, words_made}
-use Rattle.nmgc_world_spec.specs.World.{World, node_of, serial_of, state_of}
-use Rattle.nmgc_world_spec.specs.laws.Orders.{same_name}
-use Rattle.nmgc_lists.specs.laws.Items.{is_some_get, get_is_some, item_map}
-use Rattle.nmgc_world_laws.specs.laws.Worlds.{not_shared}
-use Rattle.nmgc_world_laws.specs.laws.NodeLaws.{own_node}
-use Rattle.nmgc_world_spec.specs.Reach.{IsBefore}
-use Rattle.nmgc_object.specs.Places.{nursery_place}
-use Rattle.nmgc_object.specs.declared.layout.Nursery.{Nursery}
-use Rattle.nmgc_object.specs.declared.words.Header.{Header}
-use Rattle.nmgc_object.specs.declared.size.TheConstants.{HEADER_WORDS}
-use Rattle.nmgc_object.specs.declared.layout.Layout.{Layout}
-use Rattle.nmgc_blocks_spec.specs.Nurseries.{nursery_at, AreUsed, LieInOrder}
-use Rattle.nmgc_heap_spec.specs.Shape.{size_of}
-use Rattle.nmgc_heap_spec.specs.Places.{Place, Means}
-use Rattle.nmgc_round.specs.View.{Answer, word, DoneRow, Opening, Seen}
-use Rattle.nmgc_round.specs.Objects.{Object, place_of, end_of, IsIn}
-use Rattle.nmgc_round.specs.Rule.{now, Answers, AllAnswer}
-use Rattle.nmgc_round.specs.Events.{done_by}
-use Rattle.nmgc_round.specs.Starting.{CanOpen}
-use Rattle.nmgc_round.specs.Finishing.{IsFinished, places_then}
-use Rattle.nmgc_mutator.specs.declared.mutator.Mutator.{Mutator}
-use Rattle.nmgc_mutator.specs.Ready.{LieFrom, words_by}
-use Rattle.nmgc_collector_laws.specs.Worked.{Done, HaveWorked, nurseries_of}
+use Rattle.nmgc_collector_laws.proofs.Vocabulary.{◌≡◌, inl, inr, ℕ, ◌+◌, ◌*◌, ◌<◌, ◌≤◌, List, [], ◌∷◌, refl, sym, ap, subst, ◌∙◌, arith, Some, None, mul-le-mul_right, Contains, IsSome, slice_get, cases_lt, cases_eq, length-map, get_or_from_slice_get, Name, Ref, Node, Reply, Given, IsMaking, words_made, World, node_of, serial_of, state_of, same_name, is_some_get, get_is_some, item_map, not_shared, own_node, IsBefore, nursery_place, Nursery, Header, HEADER_WORDS, Layout, nursery_at, AreUsed, LieInOrder, size_of, Place, Means, Answer, word, DoneRow, Opening, Seen, Object, place_of, now, Answers, AllAnswer, done_by, CanOpen, IsFinished, places_then, Mutator, LieFrom, words_by, Done, HaveWorked, nurseries_of, opened_below, place_cases, is_place, Worker, worker_at}
+use Rattle.nmgc_round.specs.Objects.{end_of, IsIn}
 use Rattle.nmgc_collector_laws.proofs.rounds.Names.{made_count, all_made, makes_or_not, NamedFrom, gives}
-use Rattle.nmgc_collector_laws.specs.laws.Openings.{opened_below}
-use Rattle.nmgc_collector_laws.specs.laws.Placed.{place_cases, is_place}
-use Rattle.nmgc_collector_laws.specs.laws.Workers.{Worker, worker_at}
 
 -- objects that commands made lie one after another from a place on, with names from a serial on
 abbrev pub MadeFrom : (Place → Type 0) → ℕ → ℕ → ℕ → List Done → Type 0
@@ -60,8 +25,7 @@ made_from P m at serial [] (d ∷ ds) a l n = absurd a
 made_from P m at serial (r ∷ rs) [] a l n = absurd a
 made_from P m at serial (r ∷ rs) (d ∷ ds) a l n = (
   here,
-  made_from P m (at + words_made d.0) (serial + made_count d.0) rs ds a.1 (subst (λ c.
-      LieFrom (at + words_made c) rs) a.0.0 l.1) n.1,
+  made_from P m (at + words_made d.0) (serial + made_count d.0) rs ds a.1 (rw a.0.0 at l.1) n.1,
 )
   where
     here : IsMaking d.0 → P (record { at = at; name = record { maker = m; serial = serial } })
@@ -159,8 +123,7 @@ module _ (o : Opening) (before words : List ℕ) (v : Seen) (mutators : List Mut
   worker_of m lt = worker_at o v.parts mutators done worked m lt
 
   base_is : (m : ℕ) (t : Worker o v.parts mutators done m) → t.mutator.nursery.base ≡ nursery_place o.layout m
-  base_is m t = t.worked.nursery.base ∙ ap (λ (l : Layout). nursery_place l t.mutator.number) t.worked.layout ∙
-      ap (λ n. nursery_place o.layout n) (sym t.worked.number ∙ t.number)
+  base_is m t = cc (t.worked.nursery.base, t.worked.layout, t.worked.number, t.number)
 
   -- a maker's objects lie one after another from its nursery's base on, in the order of their serials
   lie : (m : ℕ) → m < o.layout.mutators → MadeFrom P m (nursery_place o.layout m) (serial_of o.core.world m) (done_by m h.events)
@@ -234,9 +197,7 @@ module _ (o : Opening) (before words : List ℕ) (v : Seen) (mutators : List Mut
     count = length-map mutators (λ (n : Mutator). n.nursery) ∙ worked.mutators_are;
     places_are = λ m lt. let t = worker_of m lt in ap (λ (n : Nursery). n.base) (nursery_is m t) ∙ base_is m t;
     tops = λ m lt. let t = worker_of m lt in subst (λ (n : Nursery). (n.base ≤ n.top) × (n.top ≤ n.base + o.layout.nursery)) (sym (nursery_is m t)) (within t);
-    used = λ p node c up there. let x = born_there p c up in subst (λ (q : Place).
-        q.at + size_of node ≤ (nursery_at (nurseries_of mutators) q.name.maker).top) (sym x.2) (below_top x.0 node x.1 (subst (λ (q : Place).
-        node_of W q.name ≡ Some node) x.2 there));
+    used = λ p node c up there. let x = born_there p c up in rw x.2 (below_top x.0 node x.1 (rw x.2 at there));
   }
     where
       within : {m : ℕ} (t : Worker o v.parts mutators done m) → (t.mutator.nursery.base ≤ t.mutator.nursery.top) ×
@@ -244,7 +205,6 @@ module _ (o : Opening) (before words : List ℕ) (v : Seen) (mutators : List Mut
       within t =
           let n = t.worked.nursery in
           let top = n.top in
-          let end : t.mutator.nursery.end ≡ t.mutator.nursery.base + o.layout.nursery = n.end ∙
-          ap (λ (l : Layout). t.mutator.nursery.base + l.nursery) t.worked.layout in
+          let end : t.mutator.nursery.end ≡ t.mutator.nursery.base + o.layout.nursery = cc (n.end, t.worked.layout) in
           let fits = n.within in
           (omega arith, omega arith)

@@ -1,40 +1,12 @@
 -- How deep each own stack is, as a hand lists it, along the commands of a round.
-use Rattle.std.proofs.Common.{◌≡◌, ◌≢◌, ◌⊎◌, ℕ, ◌+◌, ◌-◌, ◌/◌, ◌<◌, Bool, true, false, cond, eqb, ltb, List, [], ◌∷◌, ◌++◌, length, take, refl, sym, ap, subst, ◌∙◌, arith, Option, Some, None, inl, inr, eq-eqb, ne_eqb, lt-ltb, le-ltb, length-append, length-take}
-use Rattle.std.specs.Prelude.{min}
-use Rattle.std.proofs.lemmas.Bool.{cases_lt}
-use Rattle.std.proofs.lemmas.Bool.Decides.{eqb_tells}
-use Rattle.std.proofs.lemmas.Option.{none-some, same_Some, some_pair_parts}
-use Rattle.nmgc_limits.specs.declared.mutators.TheConstants.{SHARED_MAKER}
-use Rattle.nmgc_world_spec.specs.declared.value.Name.{Name}
-use Rattle.nmgc_world_spec.specs.declared.value.Value.{Value}
+use Rattle.nmgc_collector_laws.proofs.Vocabulary.{◌≡◌, ◌≢◌, ◌⊎◌, ℕ, ◌+◌, ◌-◌, ◌/◌, ◌<◌, Bool, true, false, cond, eqb, ltb, List, [], ◌∷◌, ◌++◌, length, take, refl, sym, ap, subst, ◌∙◌, arith, Option, Some, None, inl, inr, eq-eqb, ne_eqb, lt-ltb, le-ltb, length-append, length-take, min, cases_lt, eqb_tells, none-some, same_Some, some_pair_parts, SHARED_MAKER, Name, Value, Node, Con, Var, Arr, Thunk, Weak, Stack, Change, Operand, Command, Reply, World, state_of, node_of, given, changed, stack_pushed, stack_popped, given_or, without_last, last_of, shared_name, value_for, with_node, with_register, world_holding, keeping, next_name, asked, born, change_node, change_object, step, kind_of, made_by, next_is_new, node_cases, node_born, nodes_kept, as_many, changed_shape, Stepped, Any, stepped, hand_nodes, still_there, Place, Means, ListMeans, Answer, plain, word, Hand, with_slots, taking, pushed, leaves, word_of, slots_at, Answers, slots_same, slots_other, SHARED_PLACE, empty_last, plain_is}
+use Rattle.nmgc_world_laws.specs.laws.Steps.{Object}
 use Rattle.nmgc_world_spec.specs.declared.value.Value.TheVariants as value
 use Rattle.nmgc_world_spec.specs.declared.node.Kind.TheVariants as kind
-use Rattle.nmgc_world_spec.specs.declared.node.Node.{Node}
-use Rattle.nmgc_world_spec.specs.declared.node.Node.TheVariants.{Con, Var, Arr, Thunk, Weak, Stack}
-use Rattle.nmgc_world_spec.specs.declared.change.Change.{Change}
 use Rattle.nmgc_world_spec.specs.declared.change.Change.TheVariants as change
-use Rattle.nmgc_world_spec.specs.declared.command.Operand.{Operand}
-use Rattle.nmgc_world_spec.specs.declared.command.Command.{Command}
 use Rattle.nmgc_world_spec.specs.declared.command.Command.TheVariants as command
-use Rattle.nmgc_world_spec.specs.declared.command.Reply.{Reply}
 use Rattle.nmgc_world_spec.specs.declared.command.Reply.TheVariants as reply
-use Rattle.nmgc_world_spec.specs.World.{World, state_of, node_of, given}
-use Rattle.nmgc_world_spec.specs.Change.{changed, stack_pushed, stack_popped, given_or, without_last, last_of}
-use Rattle.nmgc_world_spec.specs.Step.{shared_name, value_for, with_node, with_register, holding as world_holding, keeping, next_name, asked, born, change_node, change_object, step}
-use Rattle.nmgc_world_laws.specs.Shape.{kind_of, made_by}
-use Rattle.nmgc_world_laws.specs.laws.NodeLaws.{next_is_new, node_cases, node_born, nodes_kept, as_many}
-use Rattle.nmgc_world_laws.specs.laws.NodeShapes.{changed_shape}
-use Rattle.nmgc_world_laws.specs.laws.Steps.{Object, Stepped}
-use Rattle.nmgc_world_laws.specs.laws.Keeps.{Any, stepped, hand_nodes, still_there}
-use Rattle.nmgc_heap_spec.specs.Places.{Place, Means, ListMeans}
-use Rattle.nmgc_round.specs.View.{Answer, plain, word, Hand, with_slots, taking, pushed, leaves, word_of}
-use Rattle.nmgc_round.specs.Own.{slots_at}
-use Rattle.nmgc_round.specs.Rule.{Answers}
-use Rattle.nmgc_round.specs.laws.Slots.{slots_same, slots_other}
-use Rattle.nmgc_object.specs.declared.layout.TheConstants.{SHARED_PLACE}
 use Rattle.nmgc_collector_laws.proofs.rounds.RowRegisters.{IsPlain, operand_means, kept_none}
-use Rattle.nmgc_world_spec.specs.laws.Common.{none_left as empty_last}
-use Rattle.nmgc_round.specs.laws.Common.{plain_is}
 
 -- the hand lists as many words at a place as the stack there has values
 abbrev pub HasDepth : Hand → ℕ → List Value → Type 0
@@ -220,8 +192,7 @@ push_cases w m (value.Ref name) x = by_node (node_of w name) refl
         elim (eqb_tells name.maker m) [
           | inl t ↦ elim (cases_lt (length values) size) [
             | inl lt ↦
-                let is : stack_pushed (eqb name.maker m) (Stack size values) x ≡ (made, reply.Fine) = ap (λ a. F a (ltb (length values) size)) t.0 ∙
-                ap (λ b. F true b) (lt-ltb (length values) size lt) in
+                let is : stack_pushed (eqb name.maker m) (Stack size values) x ≡ (made, reply.Fine) = cc (t.0, lt-ltb (length values) size lt) in
                 inl (record {
                   name = name;
                   refers = refl;
@@ -234,8 +205,7 @@ push_cases w m (value.Ref name) x = by_node (node_of w name) refl
                   after = ap (λ o. (change_node w name o (change.Push m x)).0) there ∙ ap (λ (y : Node × Reply). with_node w name y.0) is;
                 })
             | inr le ↦
-                let is : stack_pushed (eqb name.maker m) (Stack size values) x ≡ full = ap (λ a. F a (ltb (length values) size)) t.0 ∙
-                ap (λ b. F true b) (le-ltb (length values) size le) in
+                let is : stack_pushed (eqb name.maker m) (Stack size values) x ≡ full = cc (t.0, le-ltb (length values) size le) in
                 kept (Stack size values) there (ap (λ (y : Node × Reply). y.0) is) (λ e.
                 let bad : reply.StackFull ≡ reply.Fine = sym (ap (λ (y : Node × Reply). y.1) is) ∙ e in cc)
           ]
@@ -279,8 +249,7 @@ pop_stack w m name size values there = elim (eqb_tells name.maker m) [ inl t ↦
 
     by_last : eqb name.maker m ≡ true → name.maker ≡ m → (o : Option Value) → last_of values ≡ o →
         PopCases w m (value.Ref name) (change_node w name (Some (Stack size values)) (change.Pop m))
-    by_last on mine None e = pop_kept w m name (Stack size values) there (ap (λ a. (popped_as size values a).0) on ∙
-        ap (λ l. Stack size l) (empty_last values e)) (ap (λ a. given (popped_as size values a).1) on ∙ ap (λ o. given (given_or reply.StackEmpty o)) e)
+    by_last on mine None e = pop_kept w m name (Stack size values) there (cc (on, empty_last values e)) (cc (on, e))
     by_last on mine (Some top) e = inl (record {
       name = name;
       refers = refl;
@@ -384,8 +353,7 @@ module _ (P : Place → Type 0) (one : (p q : Place) → P p → P q → (p.name
               let r = d p n old here mine (ap (λ k. node_of w k) b.0 ∙ was) in (
                 g r.0,
                 ap (λ y. slots_at (with_slots h.stacks y g) p.at) at ∙ slots_same h.stacks p.at g r.0 r.1,
-                long r.0 r.2 ∙
-                    ap (λ (l : List Value). length l) held,
+                cc (long r.0 r.2, held),
               )
           | inr b ↦
               let r = d p size values here mine (sym b.1 ∙ now) in
@@ -398,8 +366,7 @@ module _ (P : Place → Type 0) (one : (p q : Place) → P p → P q → (p.name
     push_left object v a e = elim (push_cases w m (value_for w m object) (value_for w m v)) [
       | inl f ↦
           let is : a ≡ plain reply.Fine = plain_is P a reply.Fine refl (subst (λ (r : Reply). Answers P a r) f.gives e) in
-          subst (λ (b : Answer). Depths P m (step w m (command.Push object v)).0 (pushed h (word_of h.registers object) (word_of h.registers v) b)) (sym is)
-          (changed_left object f.name f.size f.values (f.values ++ value_for w m v ∷ []) (λ ws. ws ++ word_of h.registers v ∷
+          rw is (changed_left object f.name f.size f.values (f.values ++ value_for w m v ∷ []) (λ ws. ws ++ word_of h.registers v ∷
           []) (step w m (command.Push object v)).0 f.refers f.mine f.there f.after
           (λ ws long. length-append ws (word_of h.registers v ∷ []) ∙ ap (λ k. k + 1) long ∙ sym (length-append f.values (value_for w m v ∷ []))))
       | inr f ↦ λ p size values here mine there.

@@ -1,34 +1,10 @@
 -- A command that finalised a weak pointer in a segment told its place.
-use Rattle.std.proofs.Common.{◌≡◌, ◌+◌, ◌*◌, ◌/◌, ◌%◌, ◌<◌, ◌≤◌, ◌&&◌, ℕ, Bool, true, cond, eqb, leb, List, [], ◌∷◌, ◌++◌, sym, ap, subst, ◌∙◌, arith, Option, Some, None, inl, inr, refl, false, leb-true}
-use Rattle.std.specs.Prelude.{Contains}
-use Rattle.std.proofs.lemmas.Bool.{and_parts}
-use Rattle.std.proofs.lemmas.List.Elements.{Contains-append_left, Contains-append_right, Contains-append_cases}
-use Rattle.nmgc_world_spec.specs.declared.value.Name.{Name}
-use Rattle.nmgc_world_spec.specs.declared.value.Value.{Value}
+use Rattle.nmgc_collector_laws.proofs.Vocabulary.{◌≡◌, ◌+◌, ◌*◌, ◌/◌, ◌%◌, ◌<◌, ◌≤◌, ◌&&◌, ℕ, Bool, true, cond, eqb, leb, List, [], ◌∷◌, ◌++◌, sym, ap, subst, ◌∙◌, arith, Option, Some, None, inl, inr, refl, false, leb-true, Contains, and_parts, Contains-append_left, Contains-append_right, Contains-append_cases, Name, Value, Node, Parts, Operand, Command, Finalise, Reply, World, state_of, given, shared_name, value_for, change_object, change_node, step, Row, replayed, IsAlive, SHARED_PLACE, FIRST_PLACE, Layout, nursery_place, contains_one, nothing_in, one_is, Place, Means, Answer, plain, word, Hand, word_of, leaves, OwnRow, Answers, is_old, pushed_at, finalised_by, all_finalised, old_word}
+use Rattle.nmgc_world_spec.specs.History.{IsLegal}
 use Rattle.nmgc_world_spec.specs.declared.value.Value.TheVariants as value
-use Rattle.nmgc_world_spec.specs.declared.node.Node.{Node}
-use Rattle.nmgc_world_spec.specs.declared.node.Parts.{Parts}
 use Rattle.nmgc_world_spec.specs.declared.change.Change.TheVariants as change
-use Rattle.nmgc_world_spec.specs.declared.command.Operand.{Operand}
-use Rattle.nmgc_world_spec.specs.declared.command.Command.{Command}
-use Rattle.nmgc_world_spec.specs.declared.command.Command.TheVariants.{Finalise}
-use Rattle.nmgc_world_spec.specs.declared.command.Reply.{Reply}
 use Rattle.nmgc_world_spec.specs.declared.command.Reply.TheVariants as reply
-use Rattle.nmgc_world_spec.specs.World.{World, state_of, given}
-use Rattle.nmgc_world_spec.specs.Step.{shared_name, value_for, change_object, change_node, step}
-use Rattle.nmgc_world_spec.specs.History.{Row, replayed, IsLegal}
-use Rattle.nmgc_world_spec.specs.Reach.{IsAlive}
-use Rattle.nmgc_object.specs.declared.layout.TheConstants.{SHARED_PLACE, FIRST_PLACE}
-use Rattle.nmgc_object.specs.declared.layout.Layout.{Layout}
-use Rattle.nmgc_object.specs.Places.{nursery_place}
-use Rattle.nmgc_lists.specs.laws.Items.{contains_one, nothing_in, one_is}
-use Rattle.nmgc_heap_spec.specs.Places.{Place, Means}
-use Rattle.nmgc_round.specs.View.{Answer, plain, word, Hand, word_of, leaves, DoneRow as OwnRow}
-use Rattle.nmgc_round.specs.Rule.{Answers}
-use Rattle.nmgc_mutator.specs.Records.{is_old, pushed_at, finalised_by, all_finalised}
-use Rattle.nmgc_mutator.specs.laws.Common.{old_word}
-use Rattle.nmgc_collector_laws.proofs.rounds.RowRegisters.{IsPlain, operand_means}
-use Rattle.nmgc_collector_laws.proofs.rounds.Along.{IsOwn, Along}
+use Rattle.nmgc_collector_laws.proofs.{rounds.RowRegisters.IsPlain, rounds.RowRegisters.operand_means, rounds.Along.IsOwn, rounds.Along.Along}
 
 -- an answer that gives a value is a word
 gives_word : (P : Place → Type 0) (a : Answer) (r : Reply) (v : Value) → r ≡ reply.Given v → Answers P a r → IsPlain a → (w : ℕ) × (a ≡ word w)
@@ -82,16 +58,13 @@ module _ (P : Place → Type 0) (layout : Layout) (p : Place) (one : (at : ℕ) 
       row.command ≡ Finalise dest object → value_for w row.mutator object ≡ value.Ref p.name → IsAlive w p.name parts →
       Contains (finalised_by layout h r.command r.answer) p.at
   finalised_put w row h r gives own is refers alive =
-      let said : row.reply ≡ reply.Given parts.finaliser = sym gives ∙ ap (λ (c : Command). (step w row.mutator c).1) is ∙
-      finalised_gives w row.mutator dest object p.name parts refers alive in
+      let said : row.reply ≡ reply.Given parts.finaliser = cc (gives, is, finalised_gives w row.mutator dest object p.name parts refers alive) in
       let a = gives_word P r.answer row.reply parts.finaliser said own.answers own.plain in
       let mine : value_for w m object ≡ value.Ref p.name = ap (λ j. value_for w j object) (sym own.number) ∙ refers in
       let meant = subst (Means P (word_of h.registers object)) mine
       (operand_means P shared h.registers (state_of w m).registers object own.registers) in
       let word_is : word_of h.registers object ≡ 2 * p.at = meant.1 ∙ ap (λ at. 2 * at) (one meant.0 meant.2) in
-      subst (λ (c : Command). Contains (finalised_by layout h c r.answer) p.at) (sym (own.command ∙ is))
-      (subst (λ (x : Answer). Contains (finalised_by layout h (Finalise dest object) x) p.at) (sym a.1)
-      (subst (λ y. Contains (pushed_at layout y) p.at) (sym word_is) (place_told layout p.at above low)))
+      rw (own.command ∙ is) (rw a.1 (subst (λ y. Contains (pushed_at layout y) p.at) (sym word_is) (place_told layout p.at above low)))
 
   -- the place is told among the rows of the mutator that did it
   pub finalised_then : (w : World) (before : List Row) (row : Row) (after : List Row) (h : Hand) (own : List OwnRow) → row.mutator ≡ m →
@@ -101,13 +74,11 @@ module _ (P : Place → Type 0) (layout : Layout) (p : Place) (one : (at : ℕ) 
   finalised_then w [] row after h own is legal (inl other) command refers alive = absurd (other.0 is)
   finalised_then w [] row after h own is legal (inr mine) command refers alive =
       let r : OwnRow = mine.0 in
-      subst (λ (l : List OwnRow). Contains (all_finalised layout h l) p.at) (sym mine.2)
-      (Contains-append_left (finalised_by layout h r.command r.answer) (all_finalised layout (leaves h r.command r.answer) mine.1) p.at
+      rw mine.2 (Contains-append_left (finalised_by layout h r.command r.answer) (all_finalised layout (leaves h r.command r.answer) mine.1) p.at
       (finalised_put w row h r legal.0 mine.3 command refers alive))
   finalised_then w (first ∷ before) row after h own is legal (inl other) command refers alive =
       finalised_then (step w first.mutator first.command).0 before row after h own is legal.1 other.1 command refers alive
   finalised_then w (first ∷ before) row after h own is legal (inr mine) command refers alive =
       let r : OwnRow = mine.0 in
-      subst (λ (l : List OwnRow). Contains (all_finalised layout h l) p.at) (sym mine.2)
-      (Contains-append_right (finalised_by layout h r.command r.answer) (all_finalised layout (leaves h r.command r.answer) mine.1) p.at
+      rw mine.2 (Contains-append_right (finalised_by layout h r.command r.answer) (all_finalised layout (leaves h r.command r.answer) mine.1) p.at
       (finalised_then (step w first.mutator first.command).0 before row after (leaves h r.command r.answer) mine.1 is legal.1 mine.4 command refers alive))

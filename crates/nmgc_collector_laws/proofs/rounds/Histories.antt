@@ -1,27 +1,5 @@
 -- The commands of a finished round are one history, in which each mutator has its own.
-use Rattle.std.proofs.Common.{◌≡◌, ℕ, ◌≤◌, List, [], ◌∷◌, length, get_or, map, refl, sym, ap, ◌∙◌, arith, inl, inr}
-use Rattle.std.proofs.lemmas.Bool.{cases_lt, ne_eqb}
-use Rattle.std.proofs.lemmas.List.{get_or_past}
-use Rattle.std.proofs.lemmas.Option.{get_or_from_slice_get}
-use mathlib.Core.Option.{some}
-use lib.ListN.{get_elem?}
-use Rattle.nmgc_world_spec.specs.declared.command.Command.{Command}
-use Rattle.nmgc_world_spec.specs.declared.command.Reply.{Reply}
-use Rattle.nmgc_world_spec.specs.World.{World}
-use Rattle.nmgc_world_spec.specs.History.{Row, rows_of}
-use Rattle.nmgc_world_laws.specs.laws.Growth.{step_grows}
-use Rattle.nmgc_snapshot_laws.specs.State.{State}
-use Rattle.nmgc_snapshot_laws.specs.Machine.{after_command, after_scan}
-use Rattle.nmgc_round.specs.Events.{Happening, did, scanned, IsLegal, done_by, rows_in}
-use Rattle.nmgc_round.specs.View.{Opening, Part, Seen}
-use Rattle.nmgc_round.specs.Naming.{AllReply}
-use Rattle.nmgc_round.specs.Finishing.{IsFinished}
-use Rattle.nmgc_mutator.specs.declared.mutator.Mutator.{Mutator}
-use Rattle.nmgc_collector_laws.specs.Worked.{Done, HaveWorked}
-use Rattle.nmgc_collector_laws.specs.Turn.{RoundIsHistory}
-use Rattle.nmgc_collector_laws.specs.laws.Replays.{EventsAreHistory}
-use Rattle.nmgc_round.specs.laws.Common.{world_scanned}
-use Rattle.nmgc_collector_laws.specs.laws.Workers.{worker_at}
+use Rattle.nmgc_collector_laws.proofs.Vocabulary.{◌≡◌, ℕ, ◌≤◌, List, [], ◌∷◌, length, get_or, map, refl, sym, ap, ◌∙◌, arith, inl, inr, cases_lt, get_or_past, get_or_from_slice_get, some, get_elem?, Command, Reply, World, Row, rows_of, step_grows, State, after_command, after_scan, Happening, did, scanned, IsLegal, done_by, rows_in, Opening, Part, Seen, AllReply, IsFinished, Mutator, Done, HaveWorked, RoundIsHistory, EventsAreHistory, world_scanned, worker_at, ne_eqb}
 
 -- what `nmgc_round` says of one mutator's rows of the commands among events, and of its replies
 abbrev pub HistoriesHaveRows : Type 0
@@ -49,8 +27,7 @@ module _ (history : EventsAreHistory) (rows : HistoriesHaveRows) (named : Replie
   own_done o words v mutators done h all m = elim (cases_lt m o.layout.mutators) [
     | inl lt ↦
         let w = worker_at o v.parts mutators done all m lt in
-        ap (λ (k : ℕ). done_by k h.events) (sym w.number) ∙ named o words v h m w.part w.part_there w.own w.worked.replied ∙
-        sym (get_or_from_slice_get done m w.own [] w.own_there)
+        cc (w.number, named o words v h m w.part w.part_there w.own w.worked.replied, get_or_from_slice_get done m w.own [] w.own_there)
     | inr le ↦
         let lists = all.done_are in let many = h.is.mutators in
         none_done o.core h.events m h.legal (omega arith) ∙ sym (get_or_past done m [] (omega arith))

@@ -1,29 +1,8 @@
 -- The names that commands of a mutator give: one after another, from its next serial on.
-use Rattle.std.proofs.Common.{◌≡◌, ◌≢◌, ◌⊎◌, inl, inr, ℕ, ◌+◌, ◌<◌, ◌≤◌, List, [], ◌∷◌, length, refl, sym, ap, subst, ◌∙◌, arith, Some, None, length-append, length-set}
-use Rattle.std.proofs.lemmas.Bool.{cases_eq}
-use Rattle.std.proofs.lemmas.Bool.Decides.{eqb_tells}
-use Rattle.nmgc_limits.specs.declared.mutators.TheConstants.{SHARED_MAKER}
-use Rattle.nmgc_world_spec.specs.declared.value.Name.{Name}
-use Rattle.nmgc_world_spec.specs.declared.value.Value.TheVariants as value
-use Rattle.nmgc_world_spec.specs.declared.node.Node.{Node}
-use Rattle.nmgc_world_spec.specs.declared.mutator_state.MutatorState.{MutatorState}
-use Rattle.nmgc_world_spec.specs.declared.command.Command.{Command}
+use Rattle.nmgc_collector_laws.proofs.Vocabulary.{◌≡◌, ◌≢◌, ◌⊎◌, inl, inr, ℕ, ◌+◌, ◌<◌, ◌≤◌, List, [], ◌∷◌, length, refl, sym, ap, subst, ◌∙◌, arith, Some, None, length-append, length-set, cases_eq, eqb_tells, SHARED_MAKER, Name, Node, MutatorState, Command, Reply, Given, World, state_of, node_of, serial_of, IsMaking, words_made, changed, with_state, with_new, with_nth, with_node, born, step, made_by, state_same, state_other, maker_there, Any, stepped, still_there, State, after_command, after_scan, Happening, did, scanned, replay, IsLegal, done_by, Done, world_scanned}
 use Rattle.nmgc_world_spec.specs.declared.command.Command.TheVariants.{Con, Var, Arr, Thunk, Weak, Stack}
-use Rattle.nmgc_world_spec.specs.declared.command.Reply.{Reply}
-use Rattle.nmgc_world_spec.specs.declared.command.Reply.TheVariants.{Given}
-use Rattle.nmgc_world_spec.specs.World.{World, state_of, node_of, serial_of}
-use Rattle.nmgc_world_spec.specs.Command.{IsMaking, words_made}
-use Rattle.nmgc_world_spec.specs.Change.{changed}
-use Rattle.nmgc_world_spec.specs.Step.{with_state, with_new, with_nth, with_node, born, step}
-use Rattle.nmgc_world_laws.specs.Shape.{made_by}
-use Rattle.nmgc_world_laws.specs.laws.NodeLaws.{state_same, state_other, maker_there}
 use Rattle.nmgc_world_laws.specs.laws.Steps.{Hand, Object}
-use Rattle.nmgc_world_laws.specs.laws.Keeps.{Any, stepped, still_there}
-use Rattle.nmgc_snapshot_laws.specs.State.{State}
-use Rattle.nmgc_snapshot_laws.specs.Machine.{after_command, after_scan}
-use Rattle.nmgc_round.specs.Events.{Happening, did, scanned, replay, IsLegal, done_by}
-use Rattle.nmgc_collector_laws.specs.Worked.{Done}
-use Rattle.nmgc_round.specs.laws.Common.{world_scanned}
+use Rattle.nmgc_world_spec.specs.declared.value.Value.TheVariants as value
 
 -- how many objects a command makes
 abbrev pub made_count : Command → ℕ
@@ -76,13 +55,11 @@ module _ (w : World) (m : ℕ) (c : Command) (none : made_by w m c ≡ None) (lt
   object_serial : (v : World) → Object Any w m c v → (k : ℕ) → serial_of v k ≡ serial_of w k
   object_serial v (Object.same e) k = ap (λ (u : World). serial_of u k) e
   object_serial v (Object.birth register made is e) k = let bad : Some made ≡ None = sym is ∙ none in absurd cc
-  object_serial v (Object.write name found ch there asks q e) k = ap (λ (u : World). serial_of u k) e ∙
-      write_serial w name found (changed ch name.maker found).0 there k
+  object_serial v (Object.write name found ch there asks q e) k = cc (e, write_serial w name found (changed ch name.maker found).0 there k)
 
   hand_serial : (v u : World) → m < length v.mutators → Hand Any v m u → (k : ℕ) → serial_of u k ≡ serial_of v k
   hand_serial v u there (Hand.same e) k = ap (λ (x : World). serial_of x k) e
-  hand_serial v u there (Hand.other registers queue e hr hq) k = ap (λ (x : World). serial_of x k) e ∙
-      kept_serial v m (record { registers = registers; queue = queue; nodes = (state_of v m).nodes }) there refl k
+  hand_serial v u there (Hand.other registers queue e hr hq) k = cc (e, kept_serial v m (record { registers = registers; queue = queue; nodes = (state_of v m).nodes }) there refl k)
 
   same_serial : (k : ℕ) → serial_of (step w m c).0 k ≡ serial_of w k
   same_serial k = let s = stepped w m c in hand_serial s.between (step w m c).0 (still_there Any w m c (step w m c).0 lt s) s.hand k ∙
@@ -98,8 +75,7 @@ born_names : (w : World) (m register : ℕ) (made : Node) (c : Command) → m < 
     Names w m c (born w m register made).0 (born w m register made).1
 born_names w m register made c lt one =
     let q : MutatorState = with_new (state_of w m) m register made in record {
-      own = ap (λ (s : MutatorState). length s.nodes) (state_same w m q lt) ∙ length-append (state_of w m).nodes (made ∷ []) ∙
-          ap (λ n. serial_of w m + n) (sym one);
+      own = cc (state_same w m q lt, length-append (state_of w m).nodes (made ∷ []), one);
       others = λ k other. ap (λ (s : MutatorState). length s.nodes) (state_other w m q lt k other);
       gives = λ is. refl;
     }

@@ -1,29 +1,8 @@
 -- A command that put a reference to a young object into an older one is recorded.
-use Rattle.std.proofs.Common.{◌≡◌, ◌+◌, ◌*◌, ◌/◌, ◌%◌, ◌<◌, ◌≤◌, ◌&&◌, ℕ, Bool, true, cond, eqb, leb, List, [], ◌∷◌, ◌++◌, sym, ap, subst, ◌∙◌, arith, inl, inr, eq-eqb, le-leb}
-use Rattle.std.specs.Prelude.{Contains}
-use Rattle.std.proofs.lemmas.List.Elements.{Contains-append_left, Contains-append_right}
-use Rattle.std.proofs.lemmas.Bool.{and_from}
+use Rattle.nmgc_collector_laws.proofs.Vocabulary.{◌≡◌, ◌+◌, ◌*◌, ◌/◌, ◌%◌, ◌<◌, ◌≤◌, ◌&&◌, ℕ, Bool, true, cond, eqb, leb, List, [], ◌∷◌, ◌++◌, sym, ap, subst, ◌∙◌, arith, inl, inr, eq-eqb, le-leb, Contains, Contains-append_left, Contains-append_right, and_from, World, state_of, shared_name, value_for, step, Row, replayed, HEADER_WORDS, SHARED_PLACE, FIRST_PLACE, Layout, nursery_place, contains_one, Place, Means, plain, Hand, word_of, leaves, OwnRow, is_old, is_young, recorded_at, noted_by, all_recorded, depth_of, slots_at, old_word, plain_answer}
+use Rattle.nmgc_world_spec.specs.History.{IsLegal}
 use Rattle.nmgc_world_spec.specs.declared.value.Value.TheVariants as value
-use Rattle.nmgc_world_spec.specs.declared.command.Command.{Command}
-use Rattle.nmgc_world_spec.specs.declared.command.Reply.{Reply}
-use Rattle.nmgc_world_spec.specs.World.{World, state_of}
-use Rattle.nmgc_world_spec.specs.Step.{shared_name, value_for, step}
-use Rattle.nmgc_world_spec.specs.History.{Row, replayed, IsLegal}
-use Rattle.nmgc_object.specs.declared.size.TheConstants.{HEADER_WORDS}
-use Rattle.nmgc_object.specs.declared.layout.TheConstants.{SHARED_PLACE, FIRST_PLACE}
-use Rattle.nmgc_object.specs.declared.layout.Layout.{Layout}
-use Rattle.nmgc_object.specs.Places.{nursery_place}
-use Rattle.nmgc_lists.specs.laws.Items.{contains_one}
-use Rattle.nmgc_heap_spec.specs.Places.{Place, Means}
-use Rattle.nmgc_round.specs.View.{Answer, plain, Hand, word_of, leaves, DoneRow as OwnRow}
-use Rattle.nmgc_round.specs.Rule.{Answers}
-use Rattle.nmgc_mutator.specs.Records.{is_old, is_young, recorded_at, noted_by, all_recorded, depth_of}
-use Rattle.nmgc_round.specs.Own.{slots_at}
-use Rattle.nmgc_collector_laws.proofs.rounds.RowRegisters.{operand_means}
-use Rattle.nmgc_collector_laws.proofs.rounds.Along.{IsOwn, Along}
-use Rattle.nmgc_collector_laws.proofs.rounds.Puts.{TellsDepth, Puts}
-use Rattle.nmgc_mutator.specs.laws.Common.{old_word}
-use Rattle.nmgc_round.specs.laws.Common.{plain_is as plain_answer}
+use Rattle.nmgc_collector_laws.proofs.{rounds.RowRegisters.operand_means, rounds.Along.IsOwn, rounds.Along.Along, rounds.Puts.TellsDepth, rounds.Puts.Puts}
 
 young_word : (layout : Layout) (at : ℕ) → nursery_place layout 0 ≤ at → is_young layout (2 * at) ≡ true
 young_word layout at high =
@@ -55,8 +34,7 @@ module _ (P : Place → Type 0) (layout : Layout) (p q : Place) (apart : AreApar
   recorded_put : (w : World) (row : Row) (h : Hand) (r : OwnRow) → (step w row.mutator row.command).1 ≡ row.reply → IsOwn P m w h r row →
       Puts w row.mutator row.command p.name i (value.Ref q.name) → Contains (noted_by layout h r.command r.answer) (p.at + HEADER_WORDS + i)
   recorded_put w row h r gives own puts =
-      let done : r.answer ≡ plain puts.reply = plain_answer P r.answer puts.reply puts.plainly (subst (λ (y : Reply).
-      Answers P r.answer y) (sym gives ∙ puts.gives) own.answers) in
+      let done : r.answer ≡ plain puts.reply = plain_answer P r.answer puts.reply puts.plainly (rw (sym gives ∙ puts.gives) at own.answers) in
       let refers : value_for w m puts.object ≡ value.Ref p.name = ap (λ j. value_for w j puts.object) (sym own.number) ∙ puts.refers in
       let value : value_for w m puts.v ≡ value.Ref q.name = ap (λ j. value_for w j puts.v) (sym own.number) ∙ puts.value in
       let object = subst (Means P (word_of h.registers puts.object)) refers
@@ -69,10 +47,7 @@ module _ (P : Place → Type 0) (layout : Layout) (p q : Place) (apart : AreApar
       let t = own.depths p size values here (mine ∙ own.number) there in
       let half : word_of h.registers puts.object / 2 ≡ p.at = omega arith in
       ap (λ y. depth_of (slots_at h.stacks y)) half ∙ ap depth_of t.1 ∙ t.2 in
-      subst (λ (c : Command). Contains (noted_by layout h c r.answer) (p.at + HEADER_WORDS + i)) (sym own.command)
-      (subst (λ (a : Answer). Contains (noted_by layout h row.command a) (p.at + HEADER_WORDS + i)) (sym done)
-      (subst (λ (l : List ℕ). Contains l (p.at + HEADER_WORDS + i)) (sym (puts.notes layout h deep))
-      (rw (object_is, target_is) (recorded_old layout p.at i q.at apart.above apart.low apart.high))))
+      rw own.command (rw done (rw (puts.notes layout h deep) (rw (object_is, target_is) (recorded_old layout p.at i q.at apart.above apart.low apart.high))))
 
   -- the place is recorded among the rows of the mutator that did it
   pub recorded_then : (w : World) (before : List Row) (row : Row) (after : List Row) (h : Hand) (own : List OwnRow) → row.mutator ≡ m →
@@ -81,13 +56,11 @@ module _ (P : Place → Type 0) (layout : Layout) (p q : Place) (apart : AreApar
   recorded_then w [] row after h own is legal (inl other) puts = absurd (other.0 is)
   recorded_then w [] row after h own is legal (inr mine) puts =
       let r : OwnRow = mine.0 in
-      subst (λ (l : List OwnRow). Contains (all_recorded layout h l) (p.at + HEADER_WORDS + i)) (sym mine.2)
-      (Contains-append_left (noted_by layout h r.command r.answer) (all_recorded layout (leaves h r.command r.answer) mine.1)
+      rw mine.2 (Contains-append_left (noted_by layout h r.command r.answer) (all_recorded layout (leaves h r.command r.answer) mine.1)
       (p.at + HEADER_WORDS + i) (recorded_put w row h r legal.0 mine.3 puts))
   recorded_then w (first ∷ before) row after h own is legal (inl other) puts =
       recorded_then (step w first.mutator first.command).0 before row after h own is legal.1 other.1 puts
   recorded_then w (first ∷ before) row after h own is legal (inr mine) puts =
       let r : OwnRow = mine.0 in
-      subst (λ (l : List OwnRow). Contains (all_recorded layout h l) (p.at + HEADER_WORDS + i)) (sym mine.2)
-      (Contains-append_right (noted_by layout h r.command r.answer) (all_recorded layout (leaves h r.command r.answer) mine.1) (p.at + HEADER_WORDS + i)
+      rw mine.2 (Contains-append_right (noted_by layout h r.command r.answer) (all_recorded layout (leaves h r.command r.answer) mine.1) (p.at + HEADER_WORDS + i)
       (recorded_then (step w first.mutator first.command).0 before row after (leaves h r.command r.answer) mine.1 is legal.1 mine.4 puts))

@@ -1,23 +1,6 @@
 -- A heap at rest opens a round: what its mutators have stands for what they have in the world.
-use Rattle.std.proofs.Common.{◌≡◌, ℕ, ◌<◌, List, [], length, get_or, refl, sym, ap, subst, ◌∙◌, arith, inl}
-use Rattle.std.specs.Prelude.{Contains}
-use Rattle.std.proofs.lemmas.Bool.{false≢true}
-use Rattle.std.proofs.lemmas.List.{length-map, length-replicate}
-use Rattle.std.proofs.lemmas.Option.{get_or_from_slice_get}
-use Rattle.nmgc_world_spec.specs.World.{World, state_of}
-use Rattle.nmgc_object.specs.Places.{nursery_place}
-use Rattle.nmgc_alloc.specs.Numbered.{Segments}
-use Rattle.nmgc_heap_spec.specs.Places.{Place}
-use Rattle.nmgc_lists.specs.laws.Items.{item_map, item}
-use Rattle.nmgc_round.specs.View.{Hand, Opening, no_hand}
-use Rattle.nmgc_round.specs.Rule.{IsOpening}
-use Rattle.nmgc_round.specs.Own.{old_stacks}
-use Rattle.nmgc_round.specs.Starting.{HandStands, CanOpen}
-use Rattle.nmgc_mutator.specs.declared.mutator.Mutator.{Mutator}
-use Rattle.nmgc_collector_laws.specs.Rest.{IsAtRest, hand_of, opening_at}
+use Rattle.nmgc_collector_laws.proofs.Vocabulary.{◌≡◌, ℕ, ◌<◌, List, [], length, get_or, refl, sym, ap, subst, ◌∙◌, arith, inl, Contains, false≢true, length-map, length-replicate, get_or_from_slice_get, World, state_of, nursery_place, Segments, Place, item_map, item, Opening, no_hand, IsOpening, old_stacks, HandStands, CanOpen, Mutator, IsAtRest, hand_of, opening_at, HaveAll, own_mean, none_owed}
 use Rattle.nmgc_collector_laws.specs.Turn.{RestOpens}
-use Rattle.nmgc_collector_laws.specs.laws.Registers.{HaveAll, own_mean}
-use Rattle.nmgc_snapshot_laws.specs.laws.Openings.{no_names as none_owed}
 
 module _ (s : Segments) (places : List Place) (w : World) (words : List ℕ) (mutators : List Mutator) (h : IsAtRest s places w words mutators) where
   abbrev o : Opening
@@ -52,7 +35,7 @@ module _ (s : Segments) (places : List Place) (w : World) (words : List ℕ) (mu
       let is : get_or o.hands m no_hand ≡ hand_of w places n.0 =
       get_or_from_slice_get o.hands m (hand_of w places n.0) no_hand (item_map (hand_of w places) mutators m n.0 n.1) in
       let exists : m < length w.mutators = subst (λ (k : ℕ). m < k) (sym as_many) lt in
-      subst (λ (x : Hand). HandStands o m x) (sym is) (record {
+      rw is (record {
         registers = own_mean (Contains places) mutators all_whole m n.0 n.1 (state_of w m).registers (h.world.registers m exists) (h.roots.held m exists);
         queue = h.roots.queued m n.0.queue.words (item_map (λ (x : Mutator). x.queue.words) mutators m n.0 n.1);
         serial = h.roots.next m n.0.serial (item_map (λ (x : Mutator). x.serial) mutators m n.0 n.1);

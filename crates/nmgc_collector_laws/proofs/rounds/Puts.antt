@@ -1,37 +1,9 @@
 -- What stands in a field of an object that was there as the round began stood there then, or a command put it there.
-use Rattle.std.proofs.Common.{◌≡◌, ◌⊎◌, ◌/◌, ℕ, Bool, true, false, cond, eqb, ltb, List, [], ◌∷◌, ◌++◌, length, set, refl, sym, ap, subst, ◌∙◌, Option, Some, None, inl, inr}
-use Rattle.std.specs.Prelude.{IsSome, slice_get}
-use Rattle.std.proofs.lemmas.Option.{none-some, same_Some, some_pair_parts}
-use Rattle.nmgc_world_spec.specs.declared.value.Name.{Name}
-use Rattle.nmgc_world_spec.specs.declared.value.Value.{Value}
+use Rattle.nmgc_collector_laws.proofs.Vocabulary.{◌≡◌, ◌⊎◌, ◌/◌, ℕ, Bool, true, false, cond, eqb, ltb, List, [], ◌∷◌, ◌++◌, length, set, refl, sym, ap, ◌∙◌, Option, Some, None, inl, inr, IsSome, slice_get, none-some, same_Some, some_pair_parts, Name, Value, Node, Con, Var, Arr, Thunk, Weak, Stack, Change, Operand, Command, Reply, Fine, Yes, No, Updated, NoField, World, IsWorld, state_of, node_of, given, is_same, exchanged_at, field_set, field_exchanged, thunk_updated, changed, value_for, next_name, change_node, change_object, step, Row, replayed, step_grows, not_shared, HasStrongField, value_written, place_written, Stores, CanReplay, next_is_new, node_cases, absent, step_stores, step_keeps_world, Layout, plain, Hand, word_of, slots_at, recorded_at, noted_by, depth_of}
 use Rattle.nmgc_world_spec.specs.declared.value.Value.TheVariants as value
-use Rattle.nmgc_world_spec.specs.declared.node.Node.{Node}
-use Rattle.nmgc_world_spec.specs.declared.node.Node.TheVariants.{Con, Var, Arr, Thunk, Weak, Stack}
-use Rattle.nmgc_world_spec.specs.declared.change.Change.{Change}
 use Rattle.nmgc_world_spec.specs.declared.change.Change.TheVariants as change
-use Rattle.nmgc_world_spec.specs.declared.command.Operand.{Operand}
-use Rattle.nmgc_world_spec.specs.declared.command.Command.{Command}
 use Rattle.nmgc_world_spec.specs.declared.command.Command.TheVariants as command
-use Rattle.nmgc_world_spec.specs.declared.command.Reply.{Reply}
-use Rattle.nmgc_world_spec.specs.declared.command.Reply.TheVariants.{Fine, Yes, No, Updated, NoField}
-use Rattle.nmgc_world_spec.specs.World.{World, IsWorld, state_of, node_of, given}
-use Rattle.nmgc_world_spec.specs.Change.{is_same, exchanged_at, field_set, field_exchanged, thunk_updated, changed}
-use Rattle.nmgc_world_spec.specs.Step.{value_for, next_name, with_node, change_node, change_object, step}
-use Rattle.nmgc_world_spec.specs.History.{Row, replayed}
-use Rattle.nmgc_world_laws.specs.laws.Growth.{step_grows}
-use Rattle.nmgc_world_laws.specs.laws.Worlds.{not_shared}
-use Rattle.nmgc_world_laws.specs.Holds.{HasStrongField}
-use Rattle.nmgc_world_laws.specs.Stored.{value_written, place_written, Stores}
-use Rattle.nmgc_world_laws.specs.Reachable.{CanReplay}
-use Rattle.nmgc_world_laws.specs.laws.NodeLaws.{next_is_new, node_cases}
-use Rattle.nmgc_world_laws.specs.laws.HeldSteps.{absent}
-use Rattle.nmgc_world_laws.specs.laws.StoredLaws.{step_stores}
-use Rattle.nmgc_world_laws.specs.laws.WorldSteps.{step_keeps_world}
-use Rattle.nmgc_object.specs.declared.layout.Layout.{Layout}
-use Rattle.nmgc_round.specs.View.{plain, Hand, word_of}
-use Rattle.nmgc_round.specs.Own.{slots_at}
 use Rattle.nmgc_collector_laws.proofs.rounds.Depths.{push_cases}
-use Rattle.nmgc_mutator.specs.Records.{recorded_at, noted_by, depth_of}
 
 -- a test that chooses between a node that is written and one that is kept
 fine_or_kept : (b : Bool) (written kept : Node) → ((cond {A = Node × Reply} b (written, Fine) (kept, NoField)).1 ≡ Fine) ⊎
@@ -89,7 +61,7 @@ node_changed : (w : World) (name : Name) (c : Change) (done : Reply) → Splits 
 node_changed w name c done splits None there = inr (λ n. refl)
 node_changed w name c done splits (Some found) there = elim (splits name.maker found) [
   | inl fine ↦ inl fine
-  | inr kept ↦ inr (λ n. subst (λ (made : Node). node_of (with_node w name made) n ≡ node_of w n) (sym kept) (elim (node_cases w name found found there n) [
+  | inr kept ↦ inr (λ n. rw kept (elim (node_cases w name found found there n) [
     | inl is ↦ is.1 ∙ sym there ∙ ap (λ (k : Name). node_of w k) (sym is.0)
     | inr other ↦ other.1
   ]))
@@ -189,8 +161,7 @@ stored_put w m (command.Push object v) name i x s st =
       | inl f ↦
           let same : f.name ≡ name = let e = sym f.refers ∙ t.0 in cc in
           let node : st.node ≡ Stack f.size f.values = same_Some _ _ (sym st.there ∙ ap (λ n. node_of w n) (sym same) ∙ f.there) in
-          let place : Some (length f.values) ≡ Some i = ap (λ (n : Node). place_written (change.Push m (value_for w m v)) n) (sym node) ∙
-          ap (λ (c : Change). place_written c st.node) t.1 ∙ st.place in
+          let place : Some (length f.values) ≡ Some i = cc (node, t.1, st.place) in
           let at : length f.values ≡ i = cc in
           inr (record {
             object = object;
@@ -201,8 +172,10 @@ stored_put w m (command.Push object v) name i x s st =
             gives = f.gives;
             plainly = refl;
             notes = λ layout h deep.
-                same_field layout h object v (depth_of (slots_at h.stacks (word_of h.registers object / 2))) i (deep f.size f.values (ap (λ n.
-                node_of w n) (sym same) ∙ f.there) (ap (λ (n : Name). n.maker) (sym same) ∙ f.mine) ∙ at);
+                same_field layout h object v (depth_of (slots_at h.stacks (word_of h.registers object / 2))) i (cc (
+                  deep f.size f.values (ap (λ n. node_of w n) (sym same) ∙ f.there) (ap (λ (n : Name). n.maker) (sym same) ∙ f.mine),
+                  at,
+                ));
           })
       | inr f ↦ inl (record { node = s.node; node_is = sym (f.1 name) ∙ s.node_is; field = s.field })
     ]
@@ -232,8 +205,7 @@ rows_put w (row ∷ rows) is can name i x there s =
     let m : ℕ = row.mutator in
     let v : World = (step w m row.command).0 in
     let next : Name = next_name (state_of w m) m in
-    let new : name ≡ next → ⊥ = λ e. absent (node_of w next) (next_is_new w m (not_shared w m is can.0.mutator)) (subst (λ (n : Name).
-    IsSome (node_of w n)) e there) in
+    let new : name ≡ next → ⊥ = λ e. absent (node_of w next) (next_is_new w m (not_shared w m is can.0.mutator)) (rw e at there) in
     elim (rows_put v rows (step_keeps_world w m row.command is can.0) can.1 name i x ((step_grows w m row.command can.0.mutator).names name there) s) [
       | inl then ↦ elim (step_stores w m row.command is can.0 name i x then) [
         | inl was ↦ inl was

@@ -1,56 +1,10 @@
 -- Recorded places are of fields that are there, of objects below the nurseries that the round reached.
-use Rattle.std.proofs.Common.{◌≡◌, ◌+◌, ◌*◌, ◌/◌, ◌%◌, ◌<◌, ◌&&◌, ℕ, Bool, true, false, cond, eqb, leb, List, [], ◌∷◌, length, set, refl, sym, ap, subst, ◌∙◌, arith, Option, Some, None, inl, inr, eqb-true, leb-true}
-use Rattle.std.specs.Prelude.{IsSome, Contains, slice_get}
-use Rattle.std.proofs.lemmas.Option.{slice_get_past}
-use Rattle.std.proofs.lemmas.List.{get_or_past}
-use Rattle.std.proofs.lemmas.List.Elements.{Contains-append_left, Contains-append_cases, Contains-get_or}
-use Rattle.std.proofs.lemmas.Bool.{and_parts, cases_lt, le-ltb}
-use Rattle.std.proofs.lemmas.Bool.Decides.{eqb_tells}
-use Rattle.nmgc_world_spec.specs.declared.value.Name.{Name}
-use Rattle.nmgc_world_spec.specs.declared.value.Value.{Value}
+use Rattle.nmgc_collector_laws.proofs.Vocabulary.{◌≡◌, ◌+◌, ◌*◌, ◌/◌, ◌%◌, ◌<◌, ◌&&◌, ℕ, Bool, true, false, cond, eqb, leb, List, [], ◌∷◌, length, set, refl, sym, ap, subst, ◌∙◌, arith, Option, Some, None, inl, inr, eqb-true, leb-true, IsSome, Contains, slice_get, slice_get_past, get_or_past, Contains-append_left, Contains-append_cases, Contains-get_or, and_parts, cases_lt, eqb_tells, Name, Value, Node, Con, Var, Arr, Thunk, Weak, Stack, Kind, Change, Operand, Register, Shared, Command, Set, Cas, Update, Push, Reply, Fine, Yes, Updated, NoField, NoPointer, World, IsWorld, state_of, node_of, exchanged_at, field_set, field_exchanged, thunk_updated, changed, CanApply, shared_name, value_for, next_name, change_node, change_object, step, Row, replayed, start, step_grows, not_shared, HEADER_WORDS, SHARED_PLACE, FIRST_PLACE, Layout, nursery_place, IsWide, kind_of, part_count, SameShape, CanReplay, nothing_in, one_is, next_is_new, absent, step_adds_one, rows_keep_shapes, step_keeps_world, Place, Means, root_wide, Answer, plain, word, Hand, word_of, leaves, OwnRow, Answers, is_old, is_young, recorded_at, noted_by, all_recorded, depth_of, slots_at, le-ltb}
+use Rattle.nmgc_world_spec.specs.History.{IsLegal}
 use Rattle.nmgc_world_spec.specs.declared.value.Value.TheVariants as value
-use Rattle.nmgc_world_spec.specs.declared.node.Node.{Node}
-use Rattle.nmgc_world_spec.specs.declared.node.Node.TheVariants.{Con, Var, Arr, Thunk, Weak, Stack}
-use Rattle.nmgc_world_spec.specs.declared.node.Kind.{Kind}
-use Rattle.nmgc_world_spec.specs.declared.change.Change.{Change}
 use Rattle.nmgc_world_spec.specs.declared.change.Change.TheVariants as change
 use Rattle.nmgc_world_spec.specs.declared.node.Kind.TheVariants as kind
-use Rattle.nmgc_world_spec.specs.declared.command.Operand.{Operand}
-use Rattle.nmgc_world_spec.specs.declared.command.Operand.TheVariants.{Register, Shared}
-use Rattle.nmgc_world_spec.specs.declared.command.Command.{Command}
-use Rattle.nmgc_world_spec.specs.declared.command.Command.TheVariants.{Set, Cas, Update, Push}
-use Rattle.nmgc_world_spec.specs.declared.command.Reply.{Reply}
-use Rattle.nmgc_world_spec.specs.declared.command.Reply.TheVariants.{Fine, Yes, No, Updated, NoField, NoPointer}
-use Rattle.nmgc_world_spec.specs.World.{World, IsWorld, state_of, node_of}
-use Rattle.nmgc_world_spec.specs.Change.{exchanged_at, field_set, field_exchanged, thunk_updated, changed}
-use Rattle.nmgc_world_spec.specs.Step.{CanApply, shared_name, value_for, next_name, change_node, change_object, step}
-use Rattle.nmgc_world_spec.specs.History.{Row, replayed, IsLegal}
-use Rattle.nmgc_world_spec.specs.Reach.{start}
-use Rattle.nmgc_world_laws.specs.laws.Growth.{step_grows}
-use Rattle.nmgc_world_laws.specs.laws.Worlds.{not_shared}
-use Rattle.nmgc_object.specs.declared.size.TheConstants.{HEADER_WORDS}
-use Rattle.nmgc_object.specs.declared.layout.TheConstants.{SHARED_PLACE, FIRST_PLACE}
-use Rattle.nmgc_object.specs.declared.layout.Layout.{Layout}
-use Rattle.nmgc_object.specs.Places.{nursery_place}
-use Rattle.nmgc_world_spec.specs.Wide.{IsWide}
-use Rattle.nmgc_world_laws.specs.Shape.{kind_of, part_count, SameShape}
-use Rattle.nmgc_world_laws.specs.Reachable.{CanReplay}
-use Rattle.nmgc_lists.specs.laws.Items.{nothing_in, one_is}
-use Rattle.nmgc_world_laws.specs.laws.NodeLaws.{next_is_new}
-use Rattle.nmgc_world_laws.specs.laws.HeldSteps.{absent}
-use Rattle.nmgc_world_laws.specs.laws.Reached.{step_adds_one}
-use Rattle.nmgc_world_laws.specs.laws.Shapes.{rows_keep_shapes}
-use Rattle.nmgc_world_laws.specs.laws.WorldSteps.{step_keeps_world}
-use Rattle.nmgc_heap_spec.specs.Places.{Place, Means}
-use Rattle.nmgc_heap_spec.specs.laws.Roots.{root_wide}
-use Rattle.nmgc_round.specs.View.{Answer, plain, word, Hand, word_of, leaves, DoneRow as OwnRow}
-use Rattle.nmgc_round.specs.Rule.{Answers}
-use Rattle.nmgc_mutator.specs.Records.{is_old, is_young, recorded_at, noted_by, all_recorded, depth_of}
-use Rattle.nmgc_round.specs.Own.{slots_at}
-use Rattle.nmgc_collector_laws.proofs.rounds.Depths.{push_cases}
-use Rattle.nmgc_collector_laws.proofs.rounds.RowRegisters.{operand_means}
-use Rattle.nmgc_collector_laws.proofs.rounds.Along.{IsOwn, Along}
-use Rattle.nmgc_collector_laws.proofs.rounds.Puts.{TellsDepth}
+use Rattle.nmgc_collector_laws.proofs.{rounds.Depths.push_cases, rounds.RowRegisters.operand_means, rounds.Along.IsOwn, rounds.Along.Along, rounds.Puts.TellsDepth}
 
 -- a field that a command may write into an object that is there
 abbrev pub IsWritten : Kind → ℕ → Type 0
@@ -84,11 +38,6 @@ fine_in (Arr values) index v e = elim (cases_lt index (length values)) [
 fine_in (Thunk free result) index v e = absurd cc
 fine_in (Weak parts) index v e = absurd cc
 fine_in (Stack size values) index v e = absurd cc
-
--- so does a comparison that answers yes
-yes_in : (b : Bool) (written kept : Node) → (cond {A = Node × Reply} b (written, Yes) (kept, No)).1 ≡ Yes → b ≡ true
-yes_in true written kept e = refl
-yes_in false written kept e = absurd cc
 
 there_in : (values : List Value) (index : ℕ) (expected : Value) (kept written : Node) →
     (exchanged_at (slice_get values index) expected kept written).1 ≡ Yes → index < length values
@@ -148,8 +97,7 @@ push_field w m object x name index is e deep = elim (push_cases w m object x) [
 -- what an operand refers to is in the wide reach
 operand_wide : (w : World) (m : ℕ) (o : Operand) (name : Name) → value_for w m o ≡ value.Ref name → IsWide w name
 operand_wide w m (Register r) name e = elim (cases_lt r (length (state_of w m).registers)) [
-  | inl lt ↦ root_wide w m name (Contains-append_left (state_of w m).registers (state_of w m).queue (value.Ref name) (subst (λ (v : Value).
-      Contains (state_of w m).registers v) e (Contains-get_or (state_of w m).registers r value.Nil lt)))
+  | inl lt ↦ root_wide w m name (Contains-append_left (state_of w m).registers (state_of w m).queue (value.Ref name) (rw e at (Contains-get_or (state_of w m).registers r value.Nil lt)))
   | inr le ↦ let none : value.Nil ≡ value.Ref name = sym (get_or_past (state_of w m).registers r value.Nil le) ∙ e in absurd cc
 ]
 operand_wide w m Shared name e = let same : name ≡ shared_name = cc in start name (inl (inl same))
@@ -342,8 +290,7 @@ module _ (P : Place → Type 0) (layout : Layout) (began : World) where
           | inr mine ↦
               let r : OwnRow = mine.0 in
               let here : List ℕ = noted_by layout h r.command r.answer in
-              elim (Contains-append_cases here (all_recorded layout (leaves h r.command r.answer) mine.1) at (subst (λ (l : List OwnRow).
-              Contains (all_recorded layout h l) at) mine.2 c)) [
+              elim (Contains-append_cases here (all_recorded layout (leaves h r.command r.answer) mine.1) at (rw mine.2 at c)) [
                 | inl a ↦ recorded_here w row rows h r since is can legal.0 mine.3 at a
                 | inr a ↦ recorded_is v rows (leaves h r.command r.answer) mine.1 later next can.1 legal.1 mine.4 at a
               ]

@@ -1,68 +1,13 @@
 -- What the mutators recorded in a round is what a promotion asks.
-use Rattle.std.proofs.Common.{◌≡◌, ◌≢◌, ◌⊎◌, ◌+◌, ◌<◌, ◌≤◌, ℕ, List, [], ◌∷◌, ◌++◌, length, map, refl, sym, ap, subst, ◌∙◌, arith, Option, Some, None, inl, inr}
-use Rattle.std.specs.Prelude.{slice_get, IsSome, Contains}
-use Rattle.std.proofs.lemmas.Option.{same_Some, slice_get_within}
-use Rattle.std.proofs.lemmas.List.Elements.{All-contains, Contains-append_left}
-use Rattle.nmgc_limits.specs.declared.mutators.TheConstants.{SHARED_MAKER}
-use Rattle.nmgc_world_spec.specs.declared.value.Name.{Name}
-use Rattle.nmgc_world_spec.specs.declared.value.Value.TheVariants.{Ref}
-use Rattle.nmgc_world_spec.specs.declared.node.Node.{Node}
-use Rattle.nmgc_world_spec.specs.declared.node.Node.TheVariants.{Stack, Weak}
-use Rattle.nmgc_world_spec.specs.declared.node.Parts.{Parts}
-use Rattle.nmgc_world_spec.specs.World.{World, state_of, node_of, held_by, IsKnown, IsNodeOf}
-use Rattle.nmgc_world_spec.specs.Step.{step}
-use Rattle.nmgc_world_spec.specs.History.{Row, replayed, IsLegal as IsLegalHistory}
-use Rattle.nmgc_world_spec.specs.Reach.{start, IsAlive}
-use Rattle.nmgc_world_laws.specs.laws.Growth.{step_grows}
-use Rattle.nmgc_lists.specs.laws.Items.{contains_head, contains_tail, is_some_of, at_some, contains_at, place_of as index_of, contains_flat, flat_contains}
-use Rattle.nmgc_object.specs.Places.{nursery_place}
-use Rattle.nmgc_object.specs.declared.layout.Layout.{Layout}
-use Rattle.nmgc_object.specs.declared.layout.TheConstants.{FIRST_PLACE}
-use Rattle.nmgc_object.specs.declared.size.TheConstants.{HEADER_WORDS}
-use Rattle.nmgc_world_laws.specs.Holds.{HasStrongField}
-use Rattle.nmgc_world_laws.specs.Reachable.{CanReplay}
-use Rattle.nmgc_world_laws.specs.laws.Barrier.{field_at_place}
-use Rattle.nmgc_world_laws.specs.laws.HeldSteps.{absent, some_of}
-use Rattle.nmgc_world_laws.specs.laws.Reached.{world_holds}
-use Rattle.nmgc_world_laws.specs.laws.StoredLaws.{old_weaks_stay, old_weaks_are_finalised}
-use Rattle.nmgc_heap_spec.specs.Shape.{Slot, holds, untold, slots_of}
-use Rattle.nmgc_heap_spec.specs.Tracked.{IsTracked}
-use Rattle.nmgc_heap_spec.specs.Places.{Place, ListMeans, LiesWell}
-use Rattle.nmgc_heap_spec.specs.laws.Roots.{root_wide, wide_tracked, list_in}
-use Rattle.nmgc_blocks_spec.specs.Remembers.{Remembers}
-use Rattle.nmgc_round.specs.Events.{done_by, rows_in}
-use Rattle.nmgc_round.specs.View.{Opening, Seen, hand_of}
-use Rattle.nmgc_round.specs.Objects.{Object, place_of, earlier, IsIn, IsPlace}
-use Rattle.nmgc_round.specs.Rule.{now, AllAnswer}
-use Rattle.nmgc_round.specs.Starting.{CanOpen}
-use Rattle.nmgc_round.specs.Finishing.{IsFinished, places_then}
-use Rattle.nmgc_mutator.specs.declared.mutator.Mutator.{Mutator}
-use Rattle.nmgc_mutator.specs.Records.{numbers, all_recorded, all_weaks, all_finalised}
-use Rattle.nmgc_collector_laws.specs.Worked.{Done, HaveWorked, recorded_of, weaks_of, finalised_of}
-use Rattle.nmgc_collector_laws.specs.Turn.{RoundIsRemembered, RoundTellsFinalised}
-use Rattle.nmgc_collector_laws.specs.laws.Replays.{EventsAreHistory, can_replay}
-use Rattle.nmgc_collector_laws.specs.laws.Placed.{place_cases, is_place, in_place}
-use Rattle.nmgc_collector_laws.specs.laws.Workers.{Worker, worker_at}
-use Rattle.nmgc_collector_laws.specs.laws.Openings.{opened_below}
-use Rattle.nmgc_round.specs.Own.{OwnSlots}
-use Rattle.nmgc_collector_laws.specs.laws.Registers.{list_long}
-use Rattle.nmgc_collector_laws.proofs.rounds.Depths.{Depths}
-use Rattle.nmgc_collector_laws.proofs.rounds.Along.{Along, all_plain, along}
-use Rattle.nmgc_collector_laws.proofs.rounds.Recorded.{IsFieldOf, since_itself, recorded_is}
-use Rattle.nmgc_collector_laws.proofs.rounds.Puts.{IsPut, rows_put}
-use Rattle.nmgc_collector_laws.proofs.rounds.Noted.{AreApart, recorded_then}
-use Rattle.nmgc_collector_laws.proofs.rounds.Slots.{told_slot, held_at}
-use Rattle.nmgc_collector_laws.proofs.rounds.Finalised.{finalised_low, finalised_then}
-use Rattle.nmgc_world_laws.specs.laws.Weaks.{weak_maker}
-use Rattle.nmgc_collector_laws.proofs.rounds.Weaks.{IsMade, IsNewWeak, rows_made, weak_then, weak_is}
-use Rattle.std.proofs.lemmas.Bool.{cases_lt}
+use Rattle.nmgc_collector_laws.proofs.Vocabulary.{◌≡◌, ◌≢◌, ◌⊎◌, ◌+◌, ◌<◌, ◌≤◌, ℕ, List, [], ◌∷◌, ◌++◌, length, map, refl, sym, ap, subst, ◌∙◌, arith, Option, Some, None, inl, inr, slice_get, IsSome, Contains, same_Some, slice_get_within, All-contains, Contains-append_left, SHARED_MAKER, Name, Ref, Node, Stack, Weak, Parts, World, state_of, node_of, held_by, IsKnown, IsNodeOf, step, Row, replayed, IsLegalHistory, start, IsAlive, step_grows, contains_head, contains_tail, is_some_of, at_some, contains_at, index_of, contains_flat, flat_contains, nursery_place, Layout, FIRST_PLACE, HEADER_WORDS, HasStrongField, CanReplay, field_at_place, absent, some_of, world_holds, old_weaks_stay, old_weaks_are_finalised, Slot, holds, untold, slots_of, IsTracked, Place, ListMeans, LiesWell, root_wide, wide_tracked, list_in, Remembers, done_by, rows_in, Opening, Seen, Object, place_of, earlier, IsPlace, now, AllAnswer, CanOpen, IsFinished, places_then, Mutator, numbers, all_recorded, all_weaks, all_finalised, Done, HaveWorked, recorded_of, weaks_of, finalised_of, RoundIsRemembered, RoundTellsFinalised, EventsAreHistory, can_replay, place_cases, is_place, in_place, Worker, worker_at, opened_below, OwnSlots, list_long, weak_maker, cases_lt}
+use Rattle.nmgc_round.specs.{View.hand_of, Objects.IsIn}
+use Rattle.nmgc_collector_laws.proofs.{rounds.Depths.Depths, rounds.Along.Along, rounds.Along.all_plain, rounds.Along.along, rounds.Recorded.IsFieldOf, rounds.Recorded.since_itself, rounds.Recorded.recorded_is, rounds.Puts.IsPut, rounds.Puts.rows_put, rounds.Noted.AreApart, rounds.Noted.recorded_then, rounds.Slots.told_slot, rounds.Slots.held_at, rounds.Finalised.finalised_low, rounds.Finalised.finalised_then, rounds.Weaks.IsMade, rounds.Weaks.IsNewWeak, rounds.Weaks.rows_made, rounds.Weaks.weak_then, rounds.Weaks.weak_is}
 
 -- whoever did a command of a history is there as it begins
 maker_there : (w : World) (before : List Row) (row : Row) (after : List Row) → CanReplay w (before ++ row ∷ after) → row.mutator < length w.mutators
 maker_there w [] row after can = can.0.mutator
 maker_there w (first ∷ before) row after can =
-    subst (λ n. row.mutator < n) (step_grows w first.mutator first.command can.0.mutator).mutators
-    (maker_there (step w first.mutator first.command).0 before row after can.1)
+    rw (step_grows w first.mutator first.command can.0.mutator).mutators at (maker_there (step w first.mutator first.command).0 before row after can.1)
 
 -- a place of an object but g is above g's words
 above_shared : (layout : Layout) (p : Place) (size : ℕ) → p.name.maker ≢ SHARED_MAKER → 1 ≤ size → LiesWell layout p size → FIRST_PLACE ≤ p.at
@@ -235,8 +180,7 @@ module _ (history : EventsAreHistory) (listed : StacksAreListed) (o : Opening) (
       let l = maker_there B put.before put.row put.after (subst (CanReplay B) put.rows_are takes) in omega arith) in
       let t : IsThere k = there k lt in
       contains_flat (λ (m : Mutator). numbers m.recorded.items) mutators t.mutator (p.at + HEADER_WORDS + i) (contains_at mutators k t.mutator t.mutator_there)
-      (subst (λ (l : List ℕ). Contains l (p.at + HEADER_WORDS + i)) (sym (recorded_are k t))
-      (recorded_then P o.layout p q a k h.shared i B put.before put.row put.after (hand_of o.hands k) t.part.rows refl
+      (rw (recorded_are k t) (recorded_then P o.layout p q a k h.shared i B put.before put.row put.after (hand_of o.hands k) t.part.rows refl
       (subst (IsLegalHistory B) put.rows_are legal)
       (subst (λ (l : List Row). Along P k B (hand_of o.hands k) t.part.rows l) put.rows_are (follows k lt t)) put.puts))
 
@@ -312,8 +256,7 @@ module _ (history : EventsAreHistory) (listed : StacksAreListed) (o : Opening) (
       let l = maker_there B made.before made.row made.after (subst (CanReplay B) made.rows_are takes) in omega arith) in
       let t : IsThere k = there k lt in
       contains_flat (λ (m : Mutator). numbers m.young_weaks.items) mutators t.mutator p.at (contains_at mutators k t.mutator t.mutator_there)
-      (subst (λ (l : List ℕ). Contains l p.at) (sym (weaks_are k t))
-      (weak_then P p (one_place p c) k B made.before made.row made.after (hand_of o.hands k) t.part.rows refl (subst (IsLegalHistory B) made.rows_are legal)
+      (rw (weaks_are k t) (weak_then P p (one_place p c) k B made.before made.row made.after (hand_of o.hands k) t.part.rows refl (subst (IsLegalHistory B) made.rows_are legal)
       (subst (λ (l : List Row). Along P k B (hand_of o.hands k) t.part.rows l) made.rows_are (follows k lt t)) made.made))
 
   -- what it finalised
@@ -334,8 +277,7 @@ module _ (history : EventsAreHistory) (listed : StacksAreListed) (o : Opening) (
       let own : p.name.maker ≢ SHARED_MAKER = λ e. let within = weak_maker B can.world p.name (parts, alive) in
       let few = can.world.few in absurd (omega (arith, e, within, few)) in
       contains_flat (λ (m : Mutator). numbers m.finalised.items) mutators t.mutator p.at (contains_at mutators k t.mutator t.mutator_there)
-      (subst (λ (l : List ℕ). Contains l p.at) (sym (finalised_are k t))
-      (finalised_then P o.layout p (one_place p c)
+      (rw (finalised_are k t) (finalised_then P o.layout p (one_place p c)
       (above_shared o.layout p HEADER_WORDS own (omega arith) (can.represents.named p (old_place p c low)).lies) low k h.shared fin.dest fin.object fin.parts
       B fin.before fin.row fin.after (hand_of o.hands k) t.part.rows refl (subst (IsLegalHistory B) fin.rows_are legal)
       (subst (λ (l : List Row). Along P k B (hand_of o.hands k) t.part.rows l) fin.rows_are (follows k lt t)) fin.command fin.refers fin.alive))

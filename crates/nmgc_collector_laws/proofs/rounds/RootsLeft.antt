@@ -1,26 +1,7 @@
 -- What mutators have after a round stands for the roots of its world.
-use Rattle.std.proofs.Common.{◌≡◌, ℕ, ◌*◌, ◌<◌, List, [], length, sym, ap, subst, ◌∙◌, arith, Some}
-use Rattle.std.specs.Prelude.{slice_get, Contains}
-use Rattle.std.proofs.lemmas.List.{length-map}
-use Rattle.std.proofs.lemmas.Option.{slice_get_within}
-use Rattle.nmgc_limits.specs.declared.mutators.TheConstants.{REGISTERS}
-use Rattle.nmgc_world_spec.specs.World.{World, state_of, serial_of}
-use Rattle.nmgc_heap_spec.specs.Places.{AllMean, ListMeans}
-use Rattle.nmgc_heap_spec.specs.Roots.{RepresentsRoots}
-use Rattle.nmgc_heap_spec.specs.laws.Kinds.{map_item}
-use Rattle.nmgc_heap_spec.specs.laws.Slots.{list_more}
-use Rattle.nmgc_round.specs.View.{Hand, Opening, Seen, hand_now}
+use Rattle.nmgc_collector_laws.proofs.Vocabulary.{◌≡◌, ℕ, ◌*◌, ◌<◌, List, [], length, sym, ap, subst, ◌∙◌, arith, Some, slice_get, Contains, length-map, slice_get_within, REGISTERS, World, state_of, serial_of, AllMean, ListMeans, RepresentsRoots, map_item, list_more, Hand, Opening, Seen, hand_now, now, IsHand, IsFinished, places_then, Mutator, Done, HaveWorked, queues_of, RootsAreLeft, same_count, in_place, item, worker_at, HaveAll, registers_count, all_mean}
 use Rattle.nmgc_round.specs.Objects.{IsIn}
-use Rattle.nmgc_round.specs.Rule.{now, IsHand}
-use Rattle.nmgc_round.specs.Finishing.{IsFinished, places_then}
-use Rattle.nmgc_mutator.specs.declared.mutator.Mutator.{Mutator}
-use Rattle.nmgc_collector_laws.specs.Worked.{Done, HaveWorked, registers_of, queues_of, serials_of}
-use Rattle.nmgc_collector_laws.specs.Turn.{RootsAreLeft}
-use Rattle.nmgc_round.specs.laws.Common.{same_count}
-use Rattle.nmgc_collector_laws.specs.laws.Placed.{in_place}
-use Rattle.nmgc_lists.specs.laws.Items.{item}
-use Rattle.nmgc_collector_laws.specs.laws.Workers.{worker_at}
-use Rattle.nmgc_collector_laws.specs.laws.Registers.{HaveAll, registers_count, all_mean}
+use Rattle.nmgc_collector_laws.specs.Worked.{registers_of, serials_of}
 
 -- its roots as a hand
 abbrev roots_in : Mutator → Hand
@@ -71,8 +52,7 @@ module _ (o : Opening) (words : List ℕ) (v : Seen) (mutators : List Mutator) (
   queued : (k : ℕ) (own : List ℕ) → slice_get (queues_of mutators) k ≡ Some own → ListMeans (Contains (places_then o h.born)) own (state_of W k).queue
   queued k own e =
       let m = map_item (λ (x : Mutator). x.queue.words) mutators k own e in
-      subst (λ (l : List ℕ). ListMeans (Contains (places_then o h.born)) l (state_of W k).queue) (sym m.2)
-      (list_more (IsIn o h.born) (Contains (places_then o h.born)) (in_place o h.born) m.0.queue.words (state_of W k).queue (own_at k m.0 m.1).hand.queue)
+      rw m.2 (list_more (IsIn o h.born) (Contains (places_then o h.born)) (in_place o h.born) m.0.queue.words (state_of W k).queue (own_at k m.0 m.1).hand.queue)
 
   next : (k serial : ℕ) → slice_get (serials_of mutators) k ≡ Some serial → serial ≡ serial_of W k
   next k serial e = let m = map_item (λ (x : Mutator). x.serial) mutators k serial e in m.2 ∙ (own_at k m.0 m.1).hand.serial

@@ -1,34 +1,8 @@
 -- What a row leaves its mutator in registers means what the command leaves it in the world.
-use Rattle.std.proofs.Common.{◌≡◌, ℕ, zero, suc, ◌+◌, ◌*◌, ◌<◌, List, [], ◌∷◌, length, get_or, set, refl, sym, ap, subst, ◌∙◌, Option, Some, None, inl, inr}
-use Rattle.std.proofs.lemmas.List.{set_past}
-use Rattle.std.proofs.lemmas.Bool.{cases_lt, cases_eq}
-use Rattle.std.proofs.lemmas.Bool.Decides.{eqb_tells}
-use Rattle.nmgc_limits.specs.declared.mutators.TheConstants.{SHARED_MAKER}
-use Rattle.nmgc_world_spec.specs.declared.value.Name.{Name}
-use Rattle.nmgc_world_spec.specs.declared.value.Value.{Value}
+use Rattle.nmgc_collector_laws.proofs.Vocabulary.{◌≡◌, ℕ, zero, suc, ◌+◌, ◌*◌, ◌<◌, List, [], ◌∷◌, length, get_or, set, refl, sym, ap, subst, ◌∙◌, Option, Some, None, inl, inr, set_past, cases_lt, cases_eq, eqb_tells, SHARED_MAKER, Name, Value, Node, MutatorState, Change, Operand, Register, Shared, Command, Num, Mov, Get, Set, Cas, Update, Force, Push, Pop, Deref, Finalise, NextFin, Show, Same, Yield, Collect, Full, Reply, Given, Fine, Nothing, World, state_of, node_of, given, slice_get, drop, same_Some, given_or, changed, shared_name, value_of, value_for, with_state, with_register, with_nth, with_node, keeping, with_finaliser, holding_given, next_name, born, change_node, change_object, change_into, step, SHARED_PLACE, NIL_WORD, ZERO_WORD, state_same, state_other, Place, Means, ListMeans, Answer, plain, word, Hand, word_of, taking, bearing, stacking, pushed, popped, leaves, Answers, count_changed}
+use Rattle.nmgc_world_spec.specs.declared.command.Command.TheVariants.{Nil, Con, Var, Arr, Thunk, Weak, Stack}
 use Rattle.nmgc_world_spec.specs.declared.value.Value.TheVariants as value
-use Rattle.nmgc_world_spec.specs.declared.node.Node.{Node}
-use Rattle.nmgc_world_spec.specs.declared.mutator_state.MutatorState.{MutatorState}
-use Rattle.nmgc_world_spec.specs.declared.change.Change.{Change}
 use Rattle.nmgc_world_spec.specs.declared.change.Change.TheVariants as change
-use Rattle.nmgc_world_spec.specs.declared.command.Operand.{Operand}
-use Rattle.nmgc_world_spec.specs.declared.command.Operand.TheVariants.{Register, Shared}
-use Rattle.nmgc_world_spec.specs.declared.command.Command.{Command}
-use Rattle.nmgc_world_spec.specs.declared.command.Command.TheVariants.{Num, Nil, Mov, Con, Var, Arr, Thunk, Weak, Stack, Get, Set, Cas, Update, Force, Push, Pop, Deref, Finalise, NextFin, Show, Same, Yield, Collect, Full}
-use Rattle.nmgc_world_spec.specs.declared.command.Reply.{Reply}
-use Rattle.nmgc_world_spec.specs.declared.command.Reply.TheVariants.{Given, Fine, Nothing}
-use Rattle.nmgc_world_spec.specs.World.{World, state_of, node_of, given}
-use Rattle.std.specs.Prelude.{slice_get, drop}
-use Rattle.std.proofs.lemmas.Option.{same_Some}
-use Rattle.nmgc_world_spec.specs.Change.{given_or, changed}
-use Rattle.nmgc_world_spec.specs.Step.{shared_name, value_of, value_for, with_state, with_register, with_nth, with_node, keeping, with_finaliser, holding_given, next_name, born, change_node, change_object, change_into, step}
-use Rattle.nmgc_object.specs.declared.layout.TheConstants.{SHARED_PLACE}
-use Rattle.nmgc_object.specs.declared.words.TheConstants.{NIL_WORD, ZERO_WORD}
-use Rattle.nmgc_world_laws.specs.laws.NodeLaws.{state_same, state_other}
-use Rattle.nmgc_heap_spec.specs.Places.{Place, Means, ListMeans}
-use Rattle.nmgc_round.specs.View.{Answer, plain, word, Hand, word_of, taking, bearing, stacking, pushed, popped, leaves}
-use Rattle.nmgc_round.specs.Rule.{Answers}
-use Rattle.nmgc_world_laws.specs.laws.WorldSteps.{change_count as count_changed}
 
 -- a plain answer gives no value
 abbrev pub IsPlain : Answer → Type 0
@@ -106,8 +80,7 @@ module _ (P : Place → Type 0) where
   module _ (w : World) (m : ℕ) (lt : m < length w.mutators) (h : Hand) (means : ListMeans P h.registers (state_of w m).registers) where
     -- a register takes a word, and in the world its value
     held : (dest wd : ℕ) (v : Value) → Means P wd v → ListMeans P (set h.registers dest wd) (state_of (with_register w m dest v) m).registers
-    held dest wd v k = subst (λ (s : MutatorState).
-        ListMeans P (set h.registers dest wd) s.registers) (sym (state_same w m _ lt)) (list_set h.registers (state_of w m).registers dest wd v means k)
+    held dest wd v k = rw (state_same w m _ lt) (list_set h.registers (state_of w m).registers dest wd v means k)
 
     -- a register takes what was given, if something was
     taken : (dest : ℕ) (a : Answer) (r : Reply) → Answers P a r → IsPlain a →
@@ -123,9 +96,7 @@ module _ (P : Place → Type 0) where
     birth dest made (plain x) e none = let bad : given x ≡ Some (value.Ref (next_name (state_of w m) m)) = ap given e in absurd cc
     birth dest made (word wd) (v, e, k) none =
         let is : v ≡ value.Ref (next_name (state_of w m) m) = cc in
-        subst (λ (s : MutatorState).
-        ListMeans P (set h.registers dest wd) s.registers) (sym (state_same w m _ lt))
-        (list_set h.registers (state_of w m).registers dest wd (value.Ref (next_name (state_of w m) m)) means (subst (Means P wd) is k))
+        rw (state_same w m _ lt) (list_set h.registers (state_of w m).registers dest wd (value.Ref (next_name (state_of w m) m)) means (subst (Means P wd) is k))
 
   module _ (w : World) (m : ℕ) (lt : m < length w.mutators) (h : Hand) (means : ListMeans P h.registers (state_of w m).registers) where
     -- a change gives a register what it answers

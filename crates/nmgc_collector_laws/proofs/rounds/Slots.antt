@@ -1,19 +1,6 @@
 -- What is said of a field, by its place.
-use Rattle.std.proofs.Common.{◌≡◌, ◌≢◌, ◌⊎◌, ℕ, zero, suc, ◌+◌, ◌-◌, ◌<◌, List, [], ◌∷◌, ◌++◌, get_or, length, map, replicate, refl, sym, ap, subst, ◌∙◌, arith, Some, None, inl, inr}
-use Rattle.std.specs.Prelude.{slice_get, Contains}
-use Rattle.std.proofs.lemmas.Option.{slice_get-get_or}
-use Rattle.std.proofs.lemmas.Bool.{cases_lt}
-use Rattle.std.proofs.lemmas.List.{length-map}
-use Rattle.nmgc_world_spec.specs.declared.value.Value.{Value}
+use Rattle.nmgc_collector_laws.proofs.Vocabulary.{◌≡◌, ◌≢◌, ◌⊎◌, ℕ, zero, suc, ◌+◌, ◌-◌, ◌<◌, List, [], ◌∷◌, ◌++◌, get_or, length, map, replicate, refl, sym, ap, ◌∙◌, arith, Some, None, inl, inr, slice_get, Contains, slice_get-get_or, cases_lt, length-map, Value, Node, Con, Var, Arr, Thunk, Weak, Stack, Parts, held_by, strong_at, contains_at, item_map, item_left, Slot, holds, unset, untold, slots_of, map_item, item_right, item_all}
 use Rattle.nmgc_world_spec.specs.declared.value.Value.TheVariants as value
-use Rattle.nmgc_world_spec.specs.declared.node.Node.{Node}
-use Rattle.nmgc_world_spec.specs.declared.node.Node.TheVariants.{Con, Var, Arr, Thunk, Weak, Stack}
-use Rattle.nmgc_world_spec.specs.declared.node.Parts.{Parts}
-use Rattle.nmgc_world_spec.specs.World.{held_by}
-use Rattle.nmgc_world_laws.specs.Holds.{strong_at}
-use Rattle.nmgc_lists.specs.laws.Items.{contains_at, item_map, slice_get-append as item_left}
-use Rattle.nmgc_heap_spec.specs.Shape.{Slot, holds, unset, untold, slots_of}
-use Rattle.nmgc_heap_spec.specs.laws.Kinds.{map_item, item_right, item_all}
 use Rattle.nmgc_collector_laws.proofs.rounds.Recorded.{IsField}
 
 -- each slot of a stack is told
@@ -30,8 +17,7 @@ stack_slot values size index lt =
           let j : ℕ = index - length values in
           let place : length front + j ≡ index = omega arith in (
             unset,
-            subst (λ k. slice_get (front ++ replicate n unset) k ≡
-                Some unset) place (item_right front (replicate n unset) j unset (item_all n j unset (omega arith))),
+            rw place at (item_right front (replicate n unset) j unset (item_all n j unset (omega arith))),
             λ e. cc,
           )
     ]

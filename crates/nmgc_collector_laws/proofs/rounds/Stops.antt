@@ -1,45 +1,5 @@
 -- What a round leaves is what a promotion asks.
-use Rattle.std.proofs.Common.{◌≡◌, ◌↔◌, inl, inr, ℕ, ◌+◌, ◌<◌, ◌≤◌, Bool, true, false, cond, List, [], ◌∷◌, map, sym, ap, subst, arith, None}
-use Rattle.std.specs.Prelude.{Contains, IsSome}
-use Rattle.std.proofs.lemmas.List.Elements.{Contains-append_left}
-use Rattle.nmgc_world_spec.specs.declared.value.Name.{Name}
-use Rattle.nmgc_world_spec.specs.declared.value.Value.TheVariants.{Ref}
-use Rattle.nmgc_world_spec.specs.World.{World, IsWorld, node_of}
-use Rattle.nmgc_world_spec.specs.History.{Row}
-use Rattle.nmgc_world_spec.specs.Reach.{RefersTo, IsAlive}
-use Rattle.nmgc_lists.specs.laws.Items.{contains_head, contains_tail, contains_cases, is_some_of, nothing_in, one_is}
-use Rattle.nmgc_world_laws.specs.Holds.{HasStrongField}
-use Rattle.nmgc_world_laws.specs.laws.Barrier.{place_of_field}
-use Rattle.nmgc_world_laws.specs.laws.HeldSteps.{absent}
-use Rattle.nmgc_world_laws.specs.laws.StoredLaws.{old_refers_to_young, old_weaks_stay}
-use Rattle.nmgc_object.specs.Places.{nursery_place}
-use Rattle.nmgc_object.specs.declared.layout.Layout.{Layout}
-use Rattle.nmgc_object.specs.declared.words.Header.{Header}
-use Rattle.nmgc_object.specs.declared.size.TheConstants.{HEADER_WORDS}
-use Rattle.nmgc_alloc.specs.Numbered.{Segments}
-use Rattle.nmgc_heap_spec.specs.Shape.{size_of}
-use Rattle.nmgc_heap_spec.specs.Tracked.{IsTracked}
-use Rattle.nmgc_heap_spec.specs.Places.{Place}
-use Rattle.nmgc_heap_spec.specs.Represents.{Represents, NoNode, IsEarlier}
-use Rattle.nmgc_heap_spec.specs.Changes.{AreEarlier}
-use Rattle.nmgc_heap_spec.specs.laws.Changes.{remembered}
-use Rattle.nmgc_heap_spec.specs.laws.CommandLaws.{world_is_earlier, past_tracked}
-use Rattle.nmgc_blocks_spec.specs.Nurseries.{AreUsed, LieInOrder}
-use Rattle.nmgc_blocks_spec.specs.Occupied.{AreBlocks}
-use Rattle.nmgc_blocks_spec.specs.Remembers.{Remembers}
-use Rattle.nmgc_blocks_spec.specs.Stopped.{Stopped, IsRoundOf, young_base}
-use Rattle.nmgc_round.specs.Events.{rows_in}
-use Rattle.nmgc_round.specs.View.{Opening, Seen}
-use Rattle.nmgc_round.specs.Objects.{Object, place_of, earlier}
-use Rattle.nmgc_round.specs.Rule.{now}
-use Rattle.nmgc_round.specs.Starting.{CanOpen}
-use Rattle.nmgc_round.specs.Finishing.{IsFinished, places_then, IsKeptThen}
-use Rattle.nmgc_mutator.specs.declared.mutator.Mutator.{Mutator}
-use Rattle.nmgc_collector_laws.specs.Worked.{nurseries_of, recorded_of, weaks_of}
-use Rattle.nmgc_collector_laws.specs.Turn.{RootsAreLeft, BirthsAreInOrder, RoundIsRemembered, RoundIsStopped, stop_after}
-use Rattle.nmgc_collector_laws.specs.laws.Replays.{EventsAreHistory, can_replay, still_world, still_earlier}
-use Rattle.nmgc_collector_laws.specs.laws.Openings.{opened_below}
-use Rattle.nmgc_collector_laws.specs.laws.Placed.{place_cases}
+use Rattle.nmgc_collector_laws.proofs.Vocabulary.{◌≡◌, ◌↔◌, inl, inr, ℕ, ◌+◌, ◌<◌, ◌≤◌, Bool, true, false, cond, List, [], ◌∷◌, map, sym, ap, subst, arith, None, Contains, IsSome, Contains-append_left, Name, Ref, World, IsWorld, node_of, Row, RefersTo, contains_head, contains_tail, contains_cases, is_some_of, nothing_in, one_is, HasStrongField, place_of_field, absent, old_refers_to_young, old_weaks_stay, nursery_place, Layout, Header, HEADER_WORDS, Segments, size_of, IsTracked, Place, Represents, NoNode, IsEarlier, AreEarlier, remembered, world_is_earlier, past_tracked, AreUsed, LieInOrder, AreBlocks, Stopped, IsRoundOf, young_base, rows_in, Opening, Seen, Object, place_of, earlier, now, CanOpen, IsFinished, places_then, IsKeptThen, Mutator, nurseries_of, RootsAreLeft, BirthsAreInOrder, RoundIsRemembered, RoundIsStopped, stop_after, EventsAreHistory, can_replay, still_world, still_earlier, opened_below, place_cases}
 
 -- the earlier world while a cycle marks is the snapshot
 one_earlier : (marking : Bool) (snapshot e : World) → Contains (cond marking (snapshot ∷ []) []) e → snapshot ≡ e
@@ -85,8 +45,7 @@ module _ (history : EventsAreHistory) (o : Opening) (before words : List ℕ) (v
     | inl d ↦ low p d
     | inr (x, d, is) ↦
         let same : o.core.snapshot ≡ e = one_earlier o.marking o.core.snapshot e in_ in
-        absurd (absent (node_of o.core.snapshot x.name) (h.new x d).no_snapshot (subst (λ (w : World).
-        IsSome (node_of w x.name)) (sym same) (subst (λ (q : Place). IsSome (node_of e q.name)) is known)))
+        absurd (absent (node_of o.core.snapshot x.name) (h.new x d).no_snapshot (rw same (subst (λ (q : Place). IsSome (node_of e q.name)) is known)))
   ]
 
   young : (p : Place) → Contains places p → (nursery_place o.layout 0 ≤ p.at) ↔ (node_of o.core.world p.name ≡ None)
@@ -105,8 +64,7 @@ module _ (history : EventsAreHistory) (o : Opening) (before words : List ℕ) (v
       let at = place_of_field refers.0 (Ref name) refers.2 in
       let stands : HasStrongField W holder at.0 (Ref name) = record { node = refers.0; node_is = refers.1; field = at.1 } in
       let stored = old_refers_to_young o.core.world rows can.world (can_replay o.core h.events h.legal) holder name at.0 there (λ known.
-      absent (node_of o.core.world name) new known) (subst (λ (w : World).
-      HasStrongField w holder at.0 (Ref name)) (history o.core h.events h.legal).1 stands) in
+      absent (node_of o.core.world name) new known) (rw (history o.core h.events h.legal).1 at stands) in
       past_tracked W (o.core.world ∷ earlier o) o.core.world holder (contains_head o.core.world (earlier o)) stored.wide
 
   pub round_of : IsRoundOf (nursery_place o.layout 0) t
@@ -116,8 +74,7 @@ module _ (history : EventsAreHistory) (o : Opening) (before words : List ℕ) (v
     young = young;
     changed = changed;
     parts = λ weak parts there alive.
-        old_weaks_stay o.core.world rows can.world (can_replay o.core h.events h.legal) weak parts there (subst (λ (w : World).
-        IsAlive w weak parts) (history o.core h.events h.legal).1 alive);
+        old_weaks_stay o.core.world rows can.world (can_replay o.core h.events h.legal) weak parts there (rw (history o.core h.events h.legal).1 at alive);
   }
 
   -- blocks in use have the objects that they had, of the same sizes
@@ -152,15 +109,12 @@ stopped history roots births remembers o before words v mutators done s can past
     record {
       world = world history o before words v mutators can past h;
       round = subst (λ n. IsRoundOf n (stop_after o words v h mutators)) (sym base) (round_of history o before words v mutators can past h);
-      represents = subst (λ (l : Layout). Represents l (o.core.world ∷
-          earlier o) NoNode (places_then o h.born) w words) (sym same) (no_nodes history o before words v mutators can past h left.1);
+      represents = rw same (no_nodes history o before words v mutators can past h left.1);
       roots = roots o words v mutators done h worked;
       segments = segments;
-      blocks = subst (λ n. AreBlocks s n (places_then o h.born) w) (sym base)
-          (blocks_then history o before words v mutators can past h s (subst (λ n. AreBlocks s n o.places o.core.world) base blocks));
+      blocks = rw base (blocks_then history o before words v mutators can past h s (rw base at blocks));
       used = subst (λ (l : Layout). AreUsed l (nursery_place l 0) (places_then o h.born) w (nurseries_of mutators)) (sym same) in_order.1;
       order = subst (λ n. LieInOrder n (places_then o h.born)) (sym base) in_order.0;
-      left = subst (λ n. Remembers n (o.core.world ∷
-          earlier o) (places_then o h.born) w (recorded_of mutators) (weaks_of mutators)) (sym base) (remembers o before words v mutators done can h worked);
+      left = rw base (remembers o before words v mutators done can h worked);
       reserve = reserve;
     }

@@ -1,41 +1,12 @@
 -- The weak pointers that a round made, and the places that their makers noted.
-use Rattle.std.proofs.Common.{◌≡◌, ◌≢◌, ℕ, ◌*◌, ◌/◌, ◌<◌, List, [], ◌∷◌, ◌++◌, length, refl, sym, ap, subst, ◌∙◌, arith, Option, Some, None, inl, inr}
-use Rattle.std.specs.Prelude.{Contains}
-use Rattle.std.proofs.lemmas.Option.{none-some, same_Some}
-use Rattle.std.proofs.lemmas.List.Elements.{Contains-append_left, Contains-append_right, Contains-append_cases}
-use Rattle.nmgc_limits.specs.declared.mutators.TheConstants.{SHARED_MAKER}
-use Rattle.nmgc_world_spec.specs.declared.value.Name.{Name}
+use Rattle.nmgc_collector_laws.proofs.Vocabulary.{◌≡◌, ◌≢◌, ℕ, ◌*◌, ◌/◌, ◌<◌, List, [], ◌∷◌, ◌++◌, length, refl, sym, ap, subst, ◌∙◌, arith, Option, Some, None, inl, inr, Contains, none-some, same_Some, Contains-append_left, Contains-append_right, Contains-append_cases, SHARED_MAKER, Name, Node, Con, Var, Arr, Thunk, Weak, Stack, Parts, Operand, Command, Reply, World, IsWorld, state_of, node_of, given, changed, next_name, with_node, with_new, born, step, Row, replayed, not_shared, kind_of, made_by, CanReplay, absent, some_of, nothing_in, one_is, contains_one, last_there, next_is_new, node_cases, node_born, node_same, rows_keep_shapes, step_keeps_world, Stepped, Any, stepped, hand_nodes, still_there, Place, Means, Answer, plain, word, OwnRow, Hand, leaves, Answers, weaks_by, all_weaks}
+use Rattle.nmgc_world_spec.specs.History.{IsLegal}
+use Rattle.nmgc_world_laws.specs.laws.Steps.{Object}
 use Rattle.nmgc_world_spec.specs.declared.value.Value.TheVariants as value
 use Rattle.nmgc_world_spec.specs.declared.node.Kind.TheVariants as kind
-use Rattle.nmgc_world_spec.specs.declared.node.Node.{Node}
-use Rattle.nmgc_world_spec.specs.declared.node.Node.TheVariants.{Con, Var, Arr, Thunk, Weak, Stack}
-use Rattle.nmgc_world_spec.specs.declared.node.Parts.{Parts}
-use Rattle.nmgc_world_spec.specs.declared.command.Operand.{Operand}
-use Rattle.nmgc_world_spec.specs.declared.command.Command.{Command}
 use Rattle.nmgc_world_spec.specs.declared.command.Command.TheVariants as command
-use Rattle.nmgc_world_spec.specs.declared.command.Reply.{Reply}
 use Rattle.nmgc_world_spec.specs.declared.command.Reply.TheVariants as reply
-use Rattle.nmgc_world_spec.specs.World.{World, IsWorld, state_of, node_of, given}
-use Rattle.nmgc_world_spec.specs.Change.{changed}
-use Rattle.nmgc_world_spec.specs.Step.{next_name, with_node, with_new, born, step}
-use Rattle.nmgc_world_spec.specs.History.{Row, replayed, IsLegal}
-use Rattle.nmgc_world_laws.specs.laws.Worlds.{not_shared}
-use Rattle.nmgc_world_laws.specs.Shape.{kind_of, made_by}
-use Rattle.nmgc_world_laws.specs.Reachable.{CanReplay}
-use Rattle.nmgc_world_laws.specs.laws.HeldSteps.{absent, some_of}
-use Rattle.nmgc_lists.specs.laws.Items.{nothing_in, one_is, contains_one, slice_get-append_last as last_there}
-use Rattle.nmgc_world_laws.specs.laws.NodeLaws.{next_is_new, node_cases, node_born, node_same}
-use Rattle.nmgc_world_laws.specs.laws.Shapes.{rows_keep_shapes}
-use Rattle.nmgc_world_laws.specs.laws.WorldSteps.{step_keeps_world}
-use Rattle.nmgc_world_laws.specs.laws.Steps.{Object, Stepped}
-use Rattle.nmgc_world_laws.specs.laws.Keeps.{Any, stepped, hand_nodes, still_there}
-use Rattle.nmgc_heap_spec.specs.Places.{Place, Means}
-use Rattle.nmgc_round.specs.View.{Answer, plain, word, DoneRow as OwnRow, Hand, leaves}
-use Rattle.nmgc_round.specs.Rule.{Answers}
-use Rattle.nmgc_mutator.specs.Records.{weaks_by, all_weaks}
-use Rattle.nmgc_collector_laws.proofs.rounds.RowRegisters.{IsPlain}
-use Rattle.nmgc_collector_laws.proofs.rounds.Along.{IsOwn, Along}
-use Rattle.nmgc_collector_laws.proofs.rounds.Recorded.{IsSince, since_step}
+use Rattle.nmgc_collector_laws.proofs.{rounds.RowRegisters.IsPlain, rounds.Along.IsOwn, rounds.Along.Along, rounds.Recorded.IsSince, rounds.Recorded.since_step}
 
 -- the command that makes a weak pointer
 pub record IsWeak (c : Command) : Type 0 where
@@ -137,14 +108,11 @@ module _ (P : Place → Type 0) (p : Place) (one : (at : ℕ) → P (record { at
       MadeWeak w row.mutator row.command p.name → Contains (weaks_by r.command r.answer) p.at
   weak_put w row h r gives own made =
       let k = row.mutator in
-      let t : IsNamed P r.answer p.name = named P r.answer p.name row.reply (gave_name w k row.command row.reply gives made.weak ∙
-      ap (λ n. reply.Given (value.Ref n)) (sym made.new)) own.answers own.plain in
+      let t : IsNamed P r.answer p.name = named P r.answer p.name row.reply (cc (gave_name w k row.command row.reply gives made.weak, made.new)) own.answers own.plain in
       let at : t.at ≡ p.at = one t.at t.there in
       let half : t.w / 2 ≡ p.at = let e = t.word_is in omega arith in
       let weak = made.weak in
-      subst (λ (c : Command). Contains (weaks_by c r.answer) p.at) (sym (own.command ∙ weak.is))
-      (subst (λ (a : Answer). Contains (weaks_by (command.Weak weak.dest weak.key weak.v weak.finaliser) a) p.at) (sym t.is)
-      (subst (λ j. Contains (t.w / 2 ∷ []) j) half (contains_one (t.w / 2))))
+      rw (own.command ∙ weak.is) (rw t.is (subst (λ j. Contains (t.w / 2 ∷ []) j) half (contains_one (t.w / 2))))
 
   -- its place is noted by the mutator that made it
   pub weak_then : (w : World) (before : List Row) (row : Row) (after : List Row) (h : Hand) (own : List OwnRow) → row.mutator ≡ m →
@@ -153,14 +121,12 @@ module _ (P : Place → Type 0) (p : Place) (one : (at : ℕ) → P (record { at
   weak_then w [] row after h own is legal (inl other) made = absurd (other.0 is)
   weak_then w [] row after h own is legal (inr mine) made =
       let r : OwnRow = mine.0 in
-      subst (λ (l : List OwnRow). Contains (all_weaks l) p.at) (sym mine.2)
-      (Contains-append_left (weaks_by r.command r.answer) (all_weaks mine.1) p.at (weak_put w row h r legal.0 mine.3 made))
+      rw mine.2 (Contains-append_left (weaks_by r.command r.answer) (all_weaks mine.1) p.at (weak_put w row h r legal.0 mine.3 made))
   weak_then w (first ∷ before) row after h own is legal (inl other) made =
       weak_then (step w first.mutator first.command).0 before row after h own is legal.1 other.1 made
   weak_then w (first ∷ before) row after h own is legal (inr mine) made =
       let r : OwnRow = mine.0 in
-      subst (λ (l : List OwnRow). Contains (all_weaks l) p.at) (sym mine.2)
-      (Contains-append_right (weaks_by r.command r.answer) (all_weaks mine.1) p.at
+      rw mine.2 (Contains-append_right (weaks_by r.command r.answer) (all_weaks mine.1) p.at
       (weak_then (step w first.mutator first.command).0 before row after (leaves h r.command r.answer) mine.1 is legal.1 mine.4 made))
 
 -- a row that notes a place made a weak pointer
@@ -194,8 +160,7 @@ born_there w m register made lt own = node_same w m (with_new (state_of w m) m r
 
 weak_there : (w : World) (k : ℕ) (c : Command) → k < length w.mutators → k ≢ SHARED_MAKER → IsWeak c → (parts : Option Parts) ×
     (node_of (step w k c).0 (next_name (state_of w k) k) ≡ Some (Weak parts))
-weak_there w k c lt own weak = subst (λ (d : Command). (parts : Option Parts) ×
-    (node_of (step w k d).0 (next_name (state_of w k) k) ≡ Some (Weak parts))) (sym weak.is) (_, born_there w k weak.dest _ lt own)
+weak_there w k c lt own weak = rw weak.is (_, born_there w k weak.dest _ lt own)
 
 weak_kind : (n : Node) → kind_of n ≡ kind.Weak → (parts : Option Parts) × (n ≡ Weak parts)
 weak_kind (Con tag values) e = absurd cc
@@ -259,8 +224,7 @@ module _ (P : Place → Type 0) (began : World) where
           | inl other ↦ weak_is v rows h own later next can.1 legal.1 other.1 at c
           | inr mine ↦
               let r : OwnRow = mine.0 in
-              elim (Contains-append_cases (weaks_by r.command r.answer) (all_weaks mine.1) at (subst (λ (l : List OwnRow).
-              Contains (all_weaks l) at) mine.2 c)) [
+              elim (Contains-append_cases (weaks_by r.command r.answer) (all_weaks mine.1) at (rw mine.2 at c)) [
                 | inl a ↦ noted_here w row rows h r since is can legal.0 mine.3 at a
                 | inr a ↦ weak_is v rows (leaves h r.command r.answer) mine.1 later next can.1 legal.1 mine.4 at a
               ]

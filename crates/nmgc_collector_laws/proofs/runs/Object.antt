@@ -1,29 +1,13 @@
 -- A script that makes one object: one round, and a stop that places the object.
-use Rattle.std.proofs.Common.{ℕ, zero, suc, ◌≡◌, List, [], ◌∷◌, set, replicate, arith, refl, ap, inl, inr, Option, Some, None, Bool, true, false, lit≤, lit<}
-use Rattle.std.specs.Prelude.{IsSome, slice_get, ◌==◌, if◌then◌else◌}
-use Rattle.std.proofs.lemmas.Bool.{eqb-true, false_from_ne_true}
-use Rattle.nmgc_limits.specs.declared.mutators.TheConstants.{SHARED_MAKER}
-use Rattle.nmgc_world_spec.specs.declared.node.Node.{Node}
-use Rattle.nmgc_world_spec.specs.History.{Row, replayed, IsOrderOf}
-use Rattle.nmgc_world_spec.specs.Reach.{start as begins}
+use Rattle.nmgc_collector_laws.proofs.Vocabulary.{ℕ, zero, suc, ◌≡◌, List, [], ◌∷◌, set, replicate, arith, refl, ap, inl, inr, Option, Some, None, Bool, true, false, lit≤, lit<, IsSome, slice_get, ◌==◌, if◌then◌else◌, false_from_ne_true, SHARED_MAKER, Node, node_of, Row, replayed, IsOrderOf, begins, AllocState, Cells, all_empty, with_cells, NoneIs, IsOf, IsFull, layout_of, answered, own_rows, slices, IsYoung, IsPromoted, PlacesObject, IsFullDue, IsCycleDue, Run, IsRun, small_plan, small_heap, quiet_stop, object_program, object_replies, object_name, all_free, not_there, eqb-true}
+use Rattle.nmgc_run_spec.specs.State.{State, start}
 use Rattle.nmgc_segment.specs.declared.state.State.TheVariants as stands
-use Rattle.nmgc_alloc.specs.AllocState.{AllocState, Cells, all_empty, with_cells, NoneIs, IsOf, IsFull}
-use Rattle.nmgc_run_spec.specs.State.{State, start, layout_of}
-use Rattle.nmgc_run_spec.specs.Round.{answered, own_rows}
-use Rattle.nmgc_run_spec.specs.Slice.{slices}
-use Rattle.nmgc_blocks_spec.specs.Promoted.{IsYoung, IsPromoted, PlacesObject}
-use Rattle.nmgc_run_spec.specs.Stop.{IsFullDue, IsCycleDue}
-use Rattle.nmgc_run_spec.specs.Run.{Run, IsRun}
-use Rattle.nmgc_collector_laws.specs.Samples.{ObjectIsTold, small_plan, small_heap, quiet_stop, object_program, object_replies, object_name}
 use Rattle.nmgc_collector_laws.proofs.runs.Listed.{lists_none, lists_one}
-use Rattle.nmgc_collector_laws.proofs.runs.Nothing.{none_young}
-use Rattle.nmgc_alloc.specs.laws.OneState.{first_cells as all_free}
-use Rattle.nmgc_lists.specs.laws.Options.{not_none as not_there}
 
-abbrev pub opened : State
+abbrev opened : State
 opened = start (small_plan object_program)
 
-abbrev pub rows : List Row
+abbrev rows : List Row
 rows = answered 0 object_program object_replies
 
 -- after the round
@@ -38,35 +22,35 @@ placed = with_cells (all_empty 32) 0 (record { state = stands.Current 0; class =
 abbrev pub last : State
 last = record worked { allocation = placed }
 
-pub not_full_first : IsFullDue (small_plan object_program) opened → ⊥
+not_full_first : IsFullDue (small_plan object_program) opened → ⊥
 not_full_first (inl e) = cc
 not_full_first (inr e) = cc
 
-pub not_full_last : IsFullDue (small_plan object_program) last → ⊥
+not_full_last : IsFullDue (small_plan object_program) last → ⊥
 not_full_last (inl e) = cc
 not_full_last (inr e) = cc
 
 -- nobody asks for a cycle, and none begins by itself
-pub no_trigger : (s : State) → s.collect ≡ false → IsCycleDue small_heap s → ⊥
+no_trigger : (s : State) → s.collect ≡ false → IsCycleDue small_heap s → ⊥
 no_trigger s none d = elim d.1 [ inl e ↦ cc | inr both ↦ omega (arith, both.0) ]
 
-pub not_zero : (k : ℕ) → (0 == suc k) ≡ false
+not_zero : (k : ℕ) → (0 == suc k) ≡ false
 not_zero k = false_from_ne_true (0 == suc k) (λ e. let same = eqb-true 0 (suc k) e in omega (arith, same))
 
 -- the rows are those of mutator 0, and of no other
-pub order : IsOrderOf (own_rows (slices small_heap opened.left) (object_replies ∷ [])) rows
+order : IsOrderOf (own_rows (slices small_heap opened.left) (object_replies ∷ [])) rows
 order zero = refl
 order (suc k) = rw (not_zero k) refl
 
 -- the empty heap has no segment that is current, and none that is active
-pub none_current : NoneIs (IsOf (stands.Current 0) 0) (all_empty 32)
+none_current : NoneIs (IsOf (stands.Current 0) 0) (all_empty 32)
 none_current number exists is = let free = ap (λ (c : Cells). c.state) (all_free 32 number) in let same = is.0 in cc
 
-pub none_active : NoneIs (IsOf stands.Active 0) (all_empty 32)
+none_active : NoneIs (IsOf stands.Active 0) (all_empty 32)
 none_active number exists is = let free = ap (λ (c : Cells). c.state) (all_free 32 number) in let same = is.0 in cc
 
 -- the object's name is placed
-pub places : PlacesObject (layout_of (small_plan object_program)) worked.world (all_empty 32) placed object_name
+places : PlacesObject (layout_of (small_plan object_program)) worked.world (all_empty 32) placed object_name
 places = record {
   node = _;
   there = refl;
@@ -86,11 +70,11 @@ places = record {
     not_full : IsFull (set (replicate 16 None) 0 (Some object_name)) → ⊥
     not_full full = let some = full 1 (lit< tt) in cc
 
-pub nothing_at : (serial : ℕ) → IsSome (slice_get {X = Node} [] serial) → ⊥
+nothing_at : (serial : ℕ) → IsSome (slice_get {X = Node} [] serial) → ⊥
 nothing_at serial there = cc
 
 -- a name that is new is none of g's
-pub not_shared : (b : Bool) (shared old new : Option Node) → (if b then shared else old) ≡ None → IsSome (if b then shared else new) → IsSome new
+not_shared : (b : Bool) (shared old new : Option Node) → (if b then shared else old) ≡ None → IsSome (if b then shared else new) → IsSome new
 not_shared true shared old new none some = absurd (not_there shared none some)
 not_shared false shared old new none some = some
 
@@ -119,7 +103,7 @@ object_is_run = record {
     count = 0;
     promotes = record {
       names = [];
-      lists = lists_none (IsPromoted opened.world opened.world) (λ n p. none_young opened.world n p.0);
+      lists = lists_none (IsPromoted opened.world opened.world) (λ n p. not_there (node_of opened.world n) p.0.0 p.0.1);
       places = refl;
       many = refl;
       rest = refl;
@@ -168,12 +152,4 @@ object_is_run = record {
     },
     tt,
   );
-}
-
-pub object_is_told : ObjectIsTold
-object_is_told = record {
-  run = object_run;
-  is_run = object_is_run;
-  tells = record { rounds_are = refl; stops_are = refl; cycles_are = refl };
-  end_is = refl;
 }

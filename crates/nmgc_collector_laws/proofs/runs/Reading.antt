@@ -1,13 +1,5 @@
 -- Words that are as they are said to be, read one by one.
-use Rattle.std.proofs.Common.{ℕ, zero, suc, ◌≡◌, ◌+◌, List, [], ◌∷◌, ◌++◌, length, map, replicate, get_or, arith, refl, subst, Option, Some, None, Bool, true, false}
-use Rattle.std.specs.Prelude.{slice_get, if◌then◌else◌}
-use Rattle.std.proofs.lemmas.List.{get_or-append-add}
-use Rattle.nmgc_world_spec.specs.declared.value.Value.{Value}
-use Rattle.nmgc_world_spec.specs.declared.value.Value.TheVariants.{Nil}
-use Rattle.nmgc_world_spec.specs.declared.node.Node.{Node}
-use Rattle.nmgc_heap_spec.specs.Shape.{Slot, holds}
-use Rattle.nmgc_heap_spec.specs.Places.{Place, Means, Fills, HasSlots, AllMean}
-use Rattle.nmgc_lists.specs.laws.Options.{some_is}
+use Rattle.nmgc_collector_laws.proofs.Vocabulary.{ℕ, zero, suc, ◌≡◌, ◌+◌, List, [], ◌∷◌, ◌++◌, length, map, replicate, get_or, arith, refl, subst, Option, Some, None, Bool, true, false, slice_get, if◌then◌else◌, get_or-append-add, Value, Nil, Node, Slot, holds, Place, Means, Fills, HasSlots, AllMean, some_is}
 
 -- a name of g's maker has g's node, if it has one, and any other its own
 pub shared_or : (b d : Bool) (shared : Node) (o : Option Node) (node : Node) (A : Type 0) → (b ≡ true → d ≡ true → A) → (o ≡ Some node → A) →

@@ -1,46 +1,8 @@
 -- The words and segments that a script leaves that makes one object.
-use Rattle.std.proofs.Common.{◌-◌, ℕ, zero, suc, ◌≡◌, ◌+◌, ◌*◌, ◌<◌, ◌≤◌, ◌⊎◌, ◌↔◌, List, [], ◌∷◌, ◌++◌, length, map, replicate, get_or, slice_index, arith, refl, sym, ap, subst, ◌∙◌, inl, inr, Option, Some, None, lit≤, lit<}
-use Rattle.std.specs.Prelude.{IsSome, Contains, slice_get, ◌==◌}
-use Rattle.std.proofs.lemmas.List.{get_or-replicate}
-use Rattle.nmgc_limits.specs.declared.mutators.TheConstants.{REGISTERS, SHARED_MAKER, SHARED_SLOTS}
-use Rattle.nmgc_world_spec.specs.declared.value.Name.{Name}
-use Rattle.nmgc_world_spec.specs.declared.value.Value.TheVariants.{Nil, Number}
-use Rattle.nmgc_world_spec.specs.declared.node.Node.{Node}
-use Rattle.nmgc_world_spec.specs.declared.node.Node.TheVariants.{Con, Arr, Weak}
-use Rattle.nmgc_world_spec.specs.declared.node.Parts.{Parts}
-use Rattle.nmgc_world_spec.specs.World.{node_of, state_of, serial_of}
-use Rattle.nmgc_world_spec.specs.Step.{shared_name}
-use Rattle.nmgc_world_spec.specs.Reach.{IsAlive}
-use Rattle.nmgc_lists.specs.laws.Items.{contains_head, contains_tail, contains_cases, nothing_in as none_in}
-use Rattle.nmgc_object.specs.declared.layout.Layout.{Layout}
-use Rattle.nmgc_object.specs.Places.{InNursery, nursery_place, word_total}
-use Rattle.nmgc_segment.specs.Segment.{Segment, InUse, mark_of, free_segment}
-use Rattle.nmgc_alloc.specs.Numbered.{nth, HasNumber, block_place}
+use Rattle.nmgc_collector_laws.proofs.Vocabulary.{◌-◌, ℕ, zero, suc, ◌≡◌, ◌+◌, ◌*◌, ◌<◌, ◌≤◌, ◌⊎◌, ◌↔◌, List, [], ◌∷◌, ◌++◌, length, map, replicate, get_or, slice_index, arith, refl, sym, ap, subst, ◌∙◌, inl, inr, Option, Some, None, lit≤, lit<, IsSome, Contains, slice_get, ◌==◌, REGISTERS, SHARED_MAKER, SHARED_SLOTS, Name, Nil, Number, Node, Con, Arr, Weak, Parts, node_of, state_of, serial_of, shared_name, IsAlive, contains_head, contains_tail, contains_cases, none_in, Layout, InNursery, word_total, InUse, nth, HasNumber, block_place, block_size, name_word, IsName, All-cons, All-nil, StandsFor, Shows, LiesIn, AreNames, all_empty, cells, no_cells, name_in, holds, size_of, zeros_first, Place, HasSlots, AllMean, ListMeans, LiesWell, LiesInSegment, shared_place, IsNamed, IsPlaced, Represents, NoNode, layout_of, ListsWeaks, IsPlaceAtStop, FitBlocks, HasAllRegisters, HoldsAtStop, ObjectIsLawful, small_plan, object_program, object_name, object_words, object_segments, object_mutator, some_is, not_known, eqb-true}
 use Rattle.nmgc_alloc.specs.Segments.{all_free}
-use Rattle.nmgc_object.specs.Size.{block_size}
-use Rattle.nmgc_object.specs.Words.{name_word, IsName}
-use Rattle.std.proofs.lemmas.List.Elements.{All-cons, All-nil}
-use Rattle.std.proofs.lemmas.Bool.{eqb-true, cases_lt}
-use Rattle.std.proofs.Math.ListN.{get_or-eq_default}
-use Rattle.nmgc_blocks_spec.specs.Nurseries.{AreUsed, AreEmpty, nursery_at}
-use Rattle.nmgc_collector_laws.specs.Collector.{EachMutator, IsEmptied}
-use Rattle.nmgc_collector_laws.specs.Seen.{nurseries_of}
-use Rattle.nmgc_alloc.specs.Stands.{StandsFor, Shows}
-use Rattle.nmgc_alloc.specs.AllocState.{LiesIn, AreNames, all_empty, cells, no_cells, name_in}
-use Rattle.nmgc_heap_spec.specs.Shape.{holds, size_of}
-use Rattle.nmgc_heap_spec.specs.laws.Zeros.{zeros_first}
-use Rattle.nmgc_heap_spec.specs.Places.{Place, HasSlots, AllMean, ListMeans, LiesWell, LiesInSegment, shared_place}
-use Rattle.nmgc_heap_spec.specs.Represents.{IsNamed, IsPlaced, Represents, NoNode}
-use Rattle.nmgc_run_spec.specs.State.{layout_of}
-use Rattle.nmgc_heap_spec.specs.Roots.{ListsWeaks}
-use Rattle.nmgc_blocks_spec.specs.Placed.{IsPlaceAtStop}
-use Rattle.nmgc_run_spec.specs.Heap.{FitBlocks, HasAllRegisters, HoldsAtStop}
-use Rattle.nmgc_collector_laws.specs.Samples.{ObjectIsLawful, ObjectIsSeen, object_seen, small_plan, object_program, object_name, object_words, object_segments, object_mutator}
-use Rattle.nmgc_lists.specs.laws.Options.{some_is}
-use Rattle.nmgc_world_spec.specs.laws.Common.{not_known}
-use Rattle.nmgc_collector_laws.proofs.runs.Reading.{shared_or, EachMeans, has_slots, all_mean, fills_nil, means_nil}
-use Rattle.nmgc_collector_laws.proofs.runs.Listed.{all_same}
-use Rattle.nmgc_collector_laws.proofs.runs.Object.{worked, placed, last, object_run, object_is_run}
+use Rattle.nmgc_lists.specs.laws.Options.{not_none}
+use Rattle.nmgc_collector_laws.proofs.{runs.Reading.shared_or, runs.Reading.EachMeans, runs.Reading.has_slots, runs.Reading.all_mean, runs.Reading.fills_nil, runs.Reading.means_nil, runs.Listed.all_same, runs.Object.worked, runs.Object.placed, runs.Object.last, runs.Object.object_run, runs.Object.object_is_run}
 
 abbrev layout : Layout
 layout = layout_of (small_plan object_program)
@@ -96,8 +58,7 @@ only_names : (maker serial : ℕ) (node : Node) → node_of worked.world (record
 only_names zero zero node e = inr refl
 only_names zero (suc serial) node e = absurd (not_known serial node e)
 only_names (suc maker) serial node e = shared_or (suc maker == SHARED_MAKER) (serial == 0) _ _ node _
-    (λ b d. inl (ap (λ (m : ℕ). record { maker = m; serial = 0 }) (sym (eqb-true (suc maker) SHARED_MAKER b)) ∙
-    ap (λ (s : ℕ). record { maker = suc maker; serial = s }) (sym (eqb-true serial 0 d))))
+    (λ b d. inl (cc (eqb-true (suc maker) SHARED_MAKER b, eqb-true serial 0 d)))
     (λ o. absurd (not_known serial node o)) e
 
 each_name : (P : Name → Node → Type 0) → P shared_name (Arr (replicate 16 Nil)) → P object_name (Con 7 (Number 5 ∷ [])) → (n : Name) (node : Node) →
@@ -222,16 +183,12 @@ next (suc m) serial e = absurd cc
 used_first : (block : ℕ) → IsSome (name_in (cells placed 0) block) ↔ InUse (nth object_segments.segments 0) block
 used_first zero = (λ some. inl (lit< tt), λ used. refl)
 used_first (suc block) = (
-  λ some. absurd (not_some _ (all_same {A = Option Name} 15 None block) some),
+  λ some. absurd (not_none _ (all_same {A = Option Name} 15 None block) some),
   λ used. elim used [
     | inl below ↦ absurd (omega (arith, below))
     | inr marked ↦ absurd (marked (all_same 15 0 block))
   ],
 )
-  where
-    not_some : (o : Option Name) → o ≡ None → IsSome o → ⊥
-    not_some None e some = cc
-    not_some (Some n) e some = cc
 
 named_first : (block : ℕ) (n : Name) → name_in (cells placed 0) block ≡ Some n → slice_index object_words (block_place layout 0 0 block + 1) ≡ name_word n
 named_first zero n e = ap name_word (some_is object_name n e)
@@ -291,63 +248,3 @@ object_is_lawful new = record {
   weaks_are = refl;
   heap = in_words new;
 }
-
--- no mark byte was ever set
-
-bytes_zero : (number block : ℕ) → mark_of (nth object_segments.segments number) block ≡ 0
-bytes_zero zero block = all_same 16 0 block
-bytes_zero (suc number) block = elim (cases_lt number 31) [
-  | inl lt ↦ ap (λ (s : Segment). mark_of s block) (get_or-replicate 31 number (free_segment 64) (free_segment 0) lt) ∙ all_same 16 0 block
-  | inr ge ↦ ap (λ (s : Segment). mark_of s block) (past number ge)
-]
-  where
-    past : (number : ℕ) → 31 ≤ number → get_or (replicate 31 (free_segment 64)) number (free_segment 0) ≡ free_segment 0
-    past number ge = get_or-eq_default (replicate 31 (free_segment 64)) (free_segment 0) {n = number} (omega (arith, ge))
-
-pub object_is_seen : NewStands → ObjectIsSeen
-unfolding in_words
-object_is_seen new = (
-  object_run,
-  record {
-    is_run = object_is_run;
-    tells = record { rounds_are = refl; stops_are = refl; cycles_are = refl };
-    matches = record { phase = refl; begun = refl; collect = refl; full = refl };
-    answered = refl;
-    heap = in_words new;
-    at_rest = record {
-      nurseries = record { used = used; ends = ends };
-      empty = empty;
-      nothing = nothing;
-    };
-    cycle = λ number block has waiting. inl (bytes_zero number block);
-  },
-)
-  where
-    ends : (maker : ℕ) → maker < 1 → (nursery_at (nurseries_of object_seen) maker).end ≡ (nursery_at (nurseries_of object_seen) maker).base + 64
-    ends zero lt = refl
-    ends (suc maker) lt = absurd (omega (arith, lt))
-
-    bases : (maker : ℕ) → maker < 1 → (nursery_at (nurseries_of object_seen) maker).base ≡ nursery_place layout maker
-    bases zero lt = refl
-    bases (suc maker) lt = absurd (omega (arith, lt))
-
-    tops : (maker : ℕ) → maker < 1 → ((nursery_at (nurseries_of object_seen) maker).base ≤ (nursery_at (nurseries_of object_seen) maker).top) ×
-        ((nursery_at (nurseries_of object_seen) maker).top ≤ (nursery_at (nurseries_of object_seen) maker).base + 64)
-    tops zero lt = (lit≤ tt, lit≤ tt)
-    tops (suc maker) lt = absurd (omega (arith, lt))
-
-    used : AreUsed layout (nursery_place layout 0) places worked.world (nurseries_of object_seen)
-    used = record {
-      count = refl;
-      places_are = bases;
-      tops = tops;
-      used = λ p node c high there. absurd (each_place (λ q. 2080 ≤ q.at → ⊥) (λ h. omega (arith, h)) (λ h. omega (arith, h)) p c high);
-    }
-
-    empty : AreEmpty (nurseries_of object_seen)
-    empty zero = refl
-    empty (suc maker) = refl
-
-    nothing : EachMutator object_seen (λ m mutator. IsEmptied mutator)
-    nothing zero mutator e = subst IsEmptied (some_is _ mutator e) (record { recorded = refl; young_weaks = refl; finalised = refl; entries = refl })
-    nothing (suc m) mutator e = absurd cc

@@ -1,11 +1,5 @@
 -- Lemmas that crates above need too.
-use Rattle.nmgc_world_spec.specs.World.{World}
-use Rattle.nmgc_world_laws.specs.Reachable.{IsSound}
-use Rattle.nmgc_snapshot_laws.specs.Facts.{Facts}
-use Rattle.nmgc_snapshot_laws.specs.State.{State as Core}
-use Rattle.nmgc_snapshot_laws.specs.laws.Runs.{facts_kept}
-use Rattle.nmgc_blocks_spec.specs.Cycle.{interval_of, Cycle}
-use Rattle.nmgc_collector_laws.specs.Marker.{IsCoreOf}
+use Rattle.nmgc_collector_laws.specs.laws.Vocabulary.{World, IsSound, Facts, Core, facts_kept, interval_of, Cycle, IsCoreOf}
 
 -- the facts of a cycle's machine, and its snapshot
 

@@ -1,26 +1,7 @@
 -- The seats of mutators that did their slices have every part of the round, and each mutator has what its part says.
-use Rattle.std.proofs.Common.{◌≡◌, ℕ, suc, List, [], ◌∷◌, ◌++◌, get_or, map, refl, sym, ap, subst, ◌∙◌, arith, append_assoc, append-nil, Some}
-use Rattle.std.specs.Prelude.{slice_get, All}
-use Rattle.std.proofs.lemmas.List.{length-map}
-use Rattle.std.proofs.lemmas.Option.{slice_get-get_or, slice_get_within}
-use Rattle.nmgc_lists.specs.laws.Items.{item_map, item}
-use Rattle.nmgc_heap_spec.specs.laws.Kinds.{map_item}
-use Rattle.nmgc_round.specs.declared.table.Round.{Round}
-use Rattle.nmgc_round.specs.View.{DoneRow, Opening, Part, Seen, whole, hand_of, hand_now}
-use Rattle.nmgc_round.specs.Naming.{AllReply}
-use Rattle.nmgc_round.specs.Seat.{RoundSeat, IsAt, seen}
-use Rattle.nmgc_round.specs.Seating.{alone, collecting, together, all_together}
-use Rattle.nmgc_round.specs.Starting.{CanOpen}
-use Rattle.nmgc_round.specs.Finishing.{HasAll, HasEach}
-use Rattle.nmgc_mutator.specs.declared.mutator.Mutator.{Mutator}
-use Rattle.nmgc_mutator.specs.Ready.{part_of, HasHand}
-use Rattle.nmgc_mutator.specs.Records.{numbers, all_recorded, all_weaks, all_finalised}
-use Rattle.nmgc_mutator.specs.Does.{HasDone}
-use Rattle.nmgc_collector_laws.specs.Worked.{Done, HasWorked, HaveWorked}
-use Rattle.nmgc_collector_laws.specs.Rest.{IsResting}
-use Rattle.nmgc_collector_laws.specs.Turn.{SlicesAreDone, SlicesAreGathered}
+use Rattle.std.specs.Prelude.{◌≡◌, ◌∷◌, ◌++◌}
+use Rattle.nmgc_collector_laws.specs.laws.Vocabulary.{ℕ, suc, List, [], get_or, map, refl, sym, ap, subst, ◌∙◌, arith, append_assoc, append-nil, Some, slice_get, All, length-map, slice_get-get_or, slice_get_within, item_map, item, map_item, Round, DoneRow, Opening, Part, Seen, whole, hand_of, hand_now, AllReply, RoundSeat, IsAt, seen, alone, collecting, together, all_together, CanOpen, HasAll, HasEach, Mutator, part_of, HasHand, numbers, all_recorded, all_weaks, all_finalised, HasDone, Done, HasWorked, HaveWorked, IsResting, SlicesAreDone, SlicesAreGathered, same_opening, still_collects}
 use Rattle.nmgc_collector_laws.specs.laws.Reading.{item_found}
-use Rattle.nmgc_round.specs.laws.Gathering.{same_opening, still_collects}
 
 -- the part of a mutator's seat
 abbrev pub own_part : RoundSeat → Part
@@ -31,9 +12,7 @@ parts_together : (v : Seen) (seats : List RoundSeat) → ((k : ℕ) (seat : Roun
     (seen seat).parts ≡ own_part seat ∷ []) → (all_together v (map seen seats)).parts ≡ v.parts ++ map own_part seats
 parts_together v [] one = sym (append-nil v.parts)
 parts_together v (s ∷ ss) one =
-    parts_together (together v (seen s)) ss (λ k seat e. one (suc k) seat e)
-    ∙ ap (λ (ps : List Part). (v.parts ++ ps) ++ map own_part ss) (one 0 s refl)
-    ∙ append_assoc v.parts (own_part s ∷ []) (map own_part ss)
+    cc (parts_together (together v (seen s)) ss (λ k seat e. one (suc k) seat e), one 0 s refl, append_assoc v.parts (own_part s ∷ []) (map own_part ss))
 
 module _ (o : Opening) (before : List ℕ) (round : Round) (old mutators : List Mutator) (seats : List RoundSeat) (done : List (List Done))
     (opens : CanOpen o before) (h : SlicesAreDone o round old mutators seats done) where

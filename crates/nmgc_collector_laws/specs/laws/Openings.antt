@@ -1,12 +1,6 @@
 -- Where the objects lie that were there as a round began.
-use Rattle.std.proofs.Common.{ℕ, suc, ◌*◌, ◌<◌, ◌≤◌, List, arith, inl, inr}
-use Rattle.std.specs.Prelude.{Contains}
-use Rattle.std.proofs.Math.Nat.{mul-le-mul_right}
-use Rattle.nmgc_object.specs.Places.{nursery_place}
-use Rattle.nmgc_object.specs.declared.size.TheConstants.{HEADER_WORDS}
-use Rattle.nmgc_heap_spec.specs.Places.{Place, LiesWell}
-use Rattle.nmgc_round.specs.View.{Opening}
-use Rattle.nmgc_round.specs.Starting.{CanOpen}
+use Rattle.std.specs.Prelude.{◌*◌, ◌<◌, ◌≤◌}
+use Rattle.nmgc_collector_laws.specs.laws.Vocabulary.{ℕ, suc, List, arith, inl, inr, Contains, mul-le-mul_right, nursery_place, HEADER_WORDS, Place, LiesWell, Opening, CanOpen}
 
 -- they lie below the nurseries: g in its own words, the others in segments
 pub opened_below : (o : Opening) (before : List ℕ) → CanOpen o before → (p : Place) → Contains o.places p → p.at < nursery_place o.layout 0

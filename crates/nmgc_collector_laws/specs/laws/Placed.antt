@@ -1,12 +1,6 @@
 -- The places after a round: those of what was there as it began, and those of what was born.
-use Rattle.std.proofs.Common.{◌≡◌, ◌⊎◌, List, map, refl, inl, inr}
-use Rattle.std.specs.Prelude.{Contains}
-use Rattle.std.proofs.lemmas.List.Elements.{Contains-append_left, Contains-append_right, Contains-append_cases}
-use Rattle.nmgc_heap_spec.specs.Places.{Place}
-use Rattle.nmgc_lists.specs.laws.Items.{contains_map, map_contains}
-use Rattle.nmgc_round.specs.View.{Opening}
-use Rattle.nmgc_round.specs.Objects.{Object, place_of, IsIn, IsPlace}
-use Rattle.nmgc_round.specs.Finishing.{places_then}
+use Rattle.std.specs.Prelude.{◌≡◌, ◌⊎◌}
+use Rattle.nmgc_collector_laws.specs.laws.Vocabulary.{List, map, refl, inl, inr, Contains, Contains-append_left, Contains-append_right, Contains-append_cases, Place, contains_map, map_contains, Opening, Object, place_of, IsIn, IsPlace, places_then}
 
 -- a place was there as the round began, or is that of an object that was born
 pub place_cases : (o : Opening) (born : List Object) (p : Place) → Contains (places_then o born) p → Contains o.places p ⊎

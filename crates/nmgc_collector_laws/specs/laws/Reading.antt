@@ -1,8 +1,6 @@
 -- Items of lists: the two ways to read one say the same.
-use Rattle.std.proofs.Common.{◌≡◌, ℕ, zero, suc, List, [], ◌∷◌, ap, Some}
-use Rattle.std.specs.Prelude.{slice_get}
-use mathlib.Core.Option.{some}
-use lib.ListN.{get_elem?}
+use Rattle.std.specs.Prelude.{◌≡◌, ◌∷◌}
+use Rattle.nmgc_collector_laws.specs.laws.Vocabulary.{ℕ, zero, suc, List, [], ap, Some, slice_get, some, get_elem?}
 
 -- what one way finds, the other finds
 pub item_found : {A : Type 0} (xs : List A) (k : ℕ) (x : A) → slice_get xs k ≡ Some x → get_elem? xs k ≡ some x

@@ -1,13 +1,6 @@
 -- The registers of all mutators in one list, `REGISTERS` a mutator.
-use Rattle.std.proofs.Common.{◌≡◌, ℕ, zero, suc, ◌+◌, ◌*◌, ◌<◌, List, [], ◌∷◌, ◌++◌, length, get_or, refl, sym, ap, subst, ◌∙◌, arith, length-append, slice_index, Some}
-use Rattle.std.specs.Prelude.{slice_get}
-use Rattle.std.proofs.lemmas.Option.{slice_get_within}
-use Rattle.std.proofs.lemmas.List.{get_or_append_left, get_or-append-add}
-use Rattle.nmgc_limits.specs.declared.mutators.TheConstants.{REGISTERS}
-use Rattle.nmgc_world_spec.specs.declared.value.Value.{Value}
-use Rattle.nmgc_heap_spec.specs.Places.{Place, Means, AllMean, ListMeans}
-use Rattle.nmgc_mutator.specs.declared.mutator.Mutator.{Mutator}
-use Rattle.nmgc_collector_laws.specs.Worked.{registers_of}
+use Rattle.std.specs.Prelude.{◌≡◌, ◌+◌, ◌*◌, ◌<◌, ◌∷◌}
+use Rattle.nmgc_collector_laws.specs.laws.Vocabulary.{ℕ, zero, suc, List, [], length, refl, sym, ap, subst, arith, length-append, slice_index, Some, slice_get, slice_get_within, get_or_append_left, get_or-append-add, REGISTERS, Value, Place, Means, AllMean, ListMeans, Mutator, registers_of}
 
 -- each mutator has all its registers
 abbrev pub HaveAll : List Mutator → Type 0
@@ -29,13 +22,11 @@ registers_at (n ∷ ms) all zero m i e lt =
     let same : n ≡ m = cc in
     let own = all zero n refl in
     let at : REGISTERS * zero + i ≡ i = omega arith in
-    ap (λ j. get_or (n.registers ++ registers_of ms) j 0) at ∙ get_or_append_left n.registers (registers_of ms) 0 i (omega arith) ∙
-    ap (λ (x : Mutator). get_or x.registers i 0) same
+    cc (at, get_or_append_left n.registers (registers_of ms) 0 i (omega arith), same)
 registers_at (n ∷ ms) all (suc k) m i e lt =
     let own = all zero n refl in
     let at : REGISTERS * suc k + i ≡ length n.registers + (REGISTERS * k + i) = omega arith in
-    ap (λ j. get_or (n.registers ++ registers_of ms) j 0) at ∙ get_or-append-add n.registers (registers_of ms) (REGISTERS * k + i) 0 ∙
-    registers_at ms (λ j x is. all (suc j) x is) k m i e lt
+    cc (at, get_or-append-add n.registers (registers_of ms) (REGISTERS * k + i) 0, registers_at ms (λ j x is. all (suc j) x is) k m i e lt)
 
 module _ (P : Place → Type 0) where
   -- words that stand for values one by one are a list that stands for them

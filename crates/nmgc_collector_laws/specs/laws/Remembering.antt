@@ -1,39 +1,6 @@
 -- A round leaves what the promotion of its stop asks.
-use Rattle.std.proofs.Common.{◌≡◌, ◌<◌, ◌≤◌, List, ◌∷◌, arith, sym, ap, subst, ◌∙◌, inl, inr, None}
-use Rattle.std.specs.Prelude.{IsSome, Contains}
-use Rattle.nmgc_world_spec.specs.declared.value.Name.{Name}
-use Rattle.nmgc_world_spec.specs.declared.value.Value.TheVariants.{Ref}
-use Rattle.nmgc_world_spec.specs.declared.node.Parts.{Parts}
-use Rattle.nmgc_world_spec.specs.World.{World, IsWorld, node_of}
-use Rattle.nmgc_world_spec.specs.Step.{shared_name}
-use Rattle.nmgc_world_spec.specs.History.{Row, replayed}
-use Rattle.nmgc_world_spec.specs.Reach.{RefersTo, IsAlive}
-use Rattle.nmgc_lists.specs.laws.Items.{contains_head, contains_tail, contains_cases}
-use Rattle.nmgc_world_laws.specs.Holds.{HasStrongField}
-use Rattle.nmgc_world_laws.specs.laws.Barrier.{place_of_field}
-use Rattle.nmgc_world_laws.specs.laws.HeldSteps.{absent}
-use Rattle.nmgc_world_laws.specs.laws.StoredLaws.{old_refers_to_young, old_weaks_stay}
-use Rattle.nmgc_object.specs.Places.{nursery_place}
-use Rattle.nmgc_object.specs.declared.layout.Layout.{Layout}
-use Rattle.nmgc_alloc.specs.Segments.{IsSegments}
-use Rattle.nmgc_heap_spec.specs.Places.{Place}
-use Rattle.nmgc_heap_spec.specs.Represents.{Represents, NoNode, IsEarlier}
-use Rattle.nmgc_heap_spec.specs.Tracked.{IsTracked}
-use Rattle.nmgc_heap_spec.specs.laws.CommandLaws.{past_tracked}
-use Rattle.nmgc_blocks_spec.specs.Nurseries.{AreUsed, LieInOrder}
-use Rattle.nmgc_blocks_spec.specs.Occupied.{AreBlocks}
-use Rattle.nmgc_blocks_spec.specs.Remembers.{Remembers}
-use Rattle.nmgc_blocks_spec.specs.Stopped.{IsRoundOf}
-use Rattle.nmgc_collector_laws.specs.Collector.{HasReserve}
-use Rattle.nmgc_run_spec.specs.Heap.{HoldsAfterRound, snapshots}
-use Rattle.nmgc_collector_laws.specs.Leaving.{RoundIsRemembered, RoundIsForgotten, stopped_after}
-use Rattle.nmgc_run_spec.specs.Run.{last_state}
-use Rattle.nmgc_collector_laws.specs.Seen.{CollectorSeen, ends_of, nurseries_of, recorded_in, young_weaks_in}
-use Rattle.nmgc_run_laws.specs.Sound.{IsSoundRound}
-use Rattle.nmgc_run_spec.specs.State.{State, Plan, layout_of}
-use Rattle.nmgc_run_laws.specs.laws.Leaving.{block_low, born_high, old_low, rows_keep_headers}
-use Rattle.nmgc_run_laws.specs.laws.Places.{blocks_after_round}
-use Rattle.nmgc_run_laws.specs.laws.Runs.{states_are_sound, rounds_are_sound}
+use Rattle.std.specs.Prelude.{◌≡◌, ◌<◌, ◌≤◌, ◌∷◌}
+use Rattle.nmgc_collector_laws.specs.laws.Vocabulary.{List, arith, sym, ap, subst, ◌∙◌, inl, inr, None, IsSome, Contains, Name, Ref, Parts, World, IsWorld, node_of, shared_name, Row, replayed, RefersTo, IsAlive, contains_head, contains_tail, contains_cases, HasStrongField, place_of_field, absent, old_refers_to_young, old_weaks_stay, nursery_place, Layout, IsSegments, Place, Represents, NoNode, IsEarlier, IsTracked, past_tracked, AreUsed, LieInOrder, AreBlocks, Remembers, IsRoundOf, HasReserve, HoldsAfterRound, snapshots, RoundIsRemembered, RoundIsForgotten, stopped_after, last_state, CollectorSeen, ends_of, nurseries_of, recorded_in, young_weaks_in, IsSoundRound, State, Plan, layout_of, block_low, born_high, old_low, rows_keep_headers, blocks_after_round, states_are_sound, rounds_are_sound}
 
 module _ (plan : Plan) (s t : State) (rows : List Row) (places : List Place) (seen : CollectorSeen)
     (is : IsWorld s.world)
@@ -44,8 +11,7 @@ module _ (plan : Plan) (s t : State) (rows : List Row) (places : List Place) (se
   -- the worlds before
   past : (e : World) → Contains (s.world ∷ snapshots t.progress) e → IsEarlier e t.world
   past e c = elim (contains_cases s.world (snapshots t.progress) e c) [
-    | inl same ↦ subst (λ (x : World). IsEarlier x t.world) same (subst (λ (x : World).
-        IsEarlier s.world x) (sym world_is) (rows_keep_headers s.world rows is sound.can))
+    | inl same ↦ rw (← same) (rw world_is (rows_keep_headers s.world rows is sound.can))
     | inr later ↦ sound.earlier e later
   ]
 

@@ -1,15 +1,7 @@
 -- The events of a round as rows of a history: the world takes their commands in turn, and keeps what it was.
-use Rattle.std.proofs.Common.{◌≡◌, List, [], ◌∷◌, sym, subst}
-use Rattle.nmgc_world_spec.specs.World.{World, IsWorld}
-use Rattle.nmgc_world_spec.specs.History.{replayed, IsLegal as IsLegalHistory}
-use Rattle.nmgc_world_laws.specs.Reachable.{CanReplay}
-use Rattle.nmgc_world_laws.specs.laws.WorldSteps.{step_keeps_world}
+use Rattle.std.specs.Prelude.{◌≡◌, ◌∷◌}
+use Rattle.nmgc_collector_laws.specs.laws.Vocabulary.{List, [], sym, subst, World, IsWorld, replayed, IsLegalHistory, CanReplay, step_keeps_world, after_command, after_scan, IsEarlier, step_keeps_earlier, Happening, did, scanned, replay, IsLegal, rows_in, world_scanned}
 use Rattle.nmgc_snapshot_laws.specs.State.{State}
-use Rattle.nmgc_snapshot_laws.specs.Machine.{after_command, after_scan}
-use Rattle.nmgc_heap_spec.specs.Represents.{IsEarlier}
-use Rattle.nmgc_heap_spec.specs.laws.CommandLaws.{step_keeps_earlier}
-use Rattle.nmgc_round.specs.Events.{Happening, did, scanned, replay, IsLegal, rows_in}
-use Rattle.nmgc_round.specs.laws.Common.{world_scanned}
 
 -- what `nmgc_round` says of the commands among events
 abbrev pub EventsAreHistory : Type 0
@@ -20,8 +12,7 @@ EventsAreHistory = (s : State) (events : List Happening) → IsLegal s events �
 pub can_replay : (s : State) (hs : List Happening) → IsLegal s hs → CanReplay s.world (rows_in hs)
 can_replay s [] legal = tt
 can_replay s (did m c r ∷ hs) legal = (legal.0.0.1, can_replay (after_command s m c) hs legal.1)
-can_replay s (scanned entry v ∷ hs) legal = subst (λ (w : World).
-    CanReplay w (rows_in hs)) (world_scanned s s.queue) (can_replay (after_scan s s.queue) hs legal.1)
+can_replay s (scanned entry v ∷ hs) legal = rw (world_scanned s s.queue) at (can_replay (after_scan s s.queue) hs legal.1)
 
 -- it stays a world
 pub still_world : (s : State) (hs : List Happening) → IsLegal s hs → IsWorld s.world → IsWorld (replay s hs).world

@@ -1,15 +1,6 @@
 -- After its promotion the heap is at rest.
-use Rattle.std.proofs.Common.{◌<◌, ℕ, List, inl, inr, sym, subst}
-use Rattle.std.specs.Prelude.{Contains}
-use Rattle.nmgc_world_spec.specs.World.{World}
-use Rattle.nmgc_alloc.specs.Numbered.{Segments}
-use Rattle.nmgc_heap_spec.specs.Moves.{Moved, settled}
-use Rattle.nmgc_heap_spec.specs.Places.{Place}
-use Rattle.nmgc_heap_spec.specs.Represents.{Represents, NoNode}
-use Rattle.nmgc_heap_spec.specs.Roots.{RepresentsRoots}
-use Rattle.nmgc_heap_spec.specs.laws.Moving.{settled_cases}
-use Rattle.nmgc_blocks_spec.specs.Stopped.{Stopped, IsSettled, young_base}
-use Rattle.nmgc_collector_laws.specs.Turn.{SettledIsAtRest}
+use Rattle.std.specs.Prelude.{◌<◌}
+use Rattle.nmgc_collector_laws.specs.laws.Vocabulary.{ℕ, List, inl, inr, sym, subst, Contains, World, Segments, Moved, settled, Place, Represents, NoNode, RepresentsRoots, settled_cases, Stopped, IsSettled, young_base, SettledIsAtRest}
 
 -- what moved lies in segments, and what didn't lay there
 pub settled_low : (t : Stopped) (s : Segments) (words registers : List ℕ) (queues : List (List ℕ)) (moves : List Moved) →

@@ -1,13 +1,5 @@
 -- A mutator of a round by its number: its part of the view, itself, and what it did.
-use Rattle.std.proofs.Common.{◌≡◌, ℕ, ◌<◌, List, ◌∙◌, arith, Some}
-use Rattle.std.specs.Prelude.{slice_get}
-use mathlib.Core.Option.{some}
-use lib.ListN.{get_elem?}
-use Rattle.nmgc_round.specs.View.{Opening, Part}
-use Rattle.nmgc_mutator.specs.declared.mutator.Mutator.{Mutator}
-use Rattle.nmgc_collector_laws.specs.Worked.{Done, HasWorked, HaveWorked}
-use Rattle.nmgc_lists.specs.laws.Items.{item}
-use Rattle.nmgc_collector_laws.specs.laws.Reading.{item_found}
+use Rattle.nmgc_collector_laws.specs.{laws.Vocabulary.◌≡◌, laws.Vocabulary.ℕ, laws.Vocabulary.◌<◌, laws.Vocabulary.List, laws.Vocabulary.◌∙◌, laws.Vocabulary.arith, laws.Vocabulary.Some, laws.Vocabulary.slice_get, laws.Vocabulary.some, laws.Vocabulary.get_elem?, laws.Vocabulary.Opening, laws.Vocabulary.Part, laws.Vocabulary.Mutator, laws.Vocabulary.Done, laws.Vocabulary.HasWorked, laws.Vocabulary.HaveWorked, laws.Vocabulary.item, laws.Reading.item_found}
 
 -- mutator k, with its part of the view and what it did
 pub record Worker (o : Opening) (parts : List Part) (mutators : List Mutator) (done : List (List Done)) (k : ℕ) : Type 0 where

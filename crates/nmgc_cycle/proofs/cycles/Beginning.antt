@@ -1,15 +1,7 @@
 -- A cycle begins at a stop exactly where one is due by the rule of the run.
-use Rattle.std.proofs.Common.{◌≡◌, true, false, refl, sym, ap, subst, ◌∙◌, arith, inl, inr}
+use Rattle.nmgc_cycle.proofs.Vocabulary.{◌≡◌, true, false, refl, sym, ap, subst, ◌∙◌, arith, inl, inr, State, Progress, idle, marking, sweeping, phase_of, is_idle, IsCycleDue, Script, Collector, Doing, IsDue, phase_in, StandsAt, StartingLeads, BeginningLeads}
 use Rattle.nmgc_journal.specs.declared.report.Phase.TheVariants as phase
-use Rattle.nmgc_run_spec.specs.State.{State, Progress, idle, marking, sweeping, phase_of, is_idle}
-use Rattle.nmgc_run_spec.specs.Stop.{IsCycleDue}
-use Rattle.nmgc_script.specs.declared.script.Script.{Script}
-use Rattle.nmgc_cycle.specs.declared.collector.Collector.{Collector}
-use Rattle.nmgc_cycle.specs.declared.progress.Progress.{Progress as Doing}
 use Rattle.nmgc_cycle.specs.declared.progress.Progress.TheVariants as doing
-use Rattle.nmgc_cycle.specs.Cycles.{IsDue}
-use Rattle.nmgc_cycle.specs.Shown.{phase_in}
-use Rattle.nmgc_cycle.specs.Steps.{StandsAt, StartingLeads, BeginningLeads}
 
 -- the collector is idle exactly where the run's state is
 idle_then : (p : Doing) (q : Progress) → phase_in p ≡ phase_of q → p ≡ doing.Idle → is_idle q ≡ true

@@ -1,21 +1,7 @@
 -- A cycle is closed at a stop, or goes on, as a run allows it.
-use Rattle.std.proofs.Common.{ℕ, ◌≡◌, List, Option, Some, None, refl, sym, ap, subst, ◌∙◌, inl, inr}
-use Rattle.std.specs.Prelude.{IsSome}
-use Rattle.nmgc_heap_spec.specs.Places.{Place}
+use Rattle.nmgc_cycle.proofs.Vocabulary.{ℕ, ◌≡◌, List, Option, Some, None, refl, sym, ap, subst, ◌∙◌, inl, inr, IsSome, Place, ClosesOrWaits, HoldsInCycle, IsPacedAtStop, CollectorSeen, State, Progress, idle, marking, sweeping, phase_of, Cycle, Script, Collector, Doing, Closes, HasClosed, seen, phase_in, work_in, words_in, IsInLimits, StandsWithin, StandsAt, IsPacedWithin, FinishingLeads, ClosingLeads}
 use Rattle.nmgc_journal.specs.declared.report.Phase.TheVariants as phase
-use Rattle.nmgc_run_spec.specs.Closing.{ClosesOrWaits}
-use Rattle.nmgc_collector_laws.specs.Collector.{HoldsInCycle, IsPacedAtStop}
-use Rattle.nmgc_collector_laws.specs.Seen.{CollectorSeen}
-use Rattle.nmgc_run_spec.specs.State.{State, Progress, idle, marking, sweeping, phase_of}
-use Rattle.nmgc_blocks_spec.specs.Cycle.{Cycle}
-use Rattle.nmgc_script.specs.declared.script.Script.{Script}
-use Rattle.nmgc_cycle.specs.declared.collector.Collector.{Collector}
-use Rattle.nmgc_cycle.specs.declared.progress.Progress.{Progress as Doing}
 use Rattle.nmgc_cycle.specs.declared.progress.Progress.TheVariants as doing
-use Rattle.nmgc_cycle.specs.Cycles.{Closes, HasClosed}
-use Rattle.nmgc_cycle.specs.Shown.{seen, phase_in, work_in, words_in}
-use Rattle.nmgc_script.specs.Limits.{IsInLimits}
-use Rattle.nmgc_cycle.specs.Steps.{StandsWithin, StandsAt, IsPacedWithin, FinishingLeads, ClosingLeads}
 
 pub words_same : (a b : Option (List ℕ)) → IsSome a → IsSome b → words_in a ≡ words_in b → a ≡ b
 words_same None b some other e = absurd cc

@@ -1,36 +1,9 @@
 -- The end of a cycle at a stop: its row tells its census, and the collector stands for the state in which none is in progress.
-use Rattle.std.proofs.Common.{ℕ, ◌≡◌, List, [], ◌∷◌, ◌++◌, refl, sym, ap, subst, ◌∙◌, inl, inr, append-nil}
-use Rattle.nmgc_world_spec.specs.World.{World}
-use Rattle.nmgc_alloc.specs.Segments.{HasNone}
+use Rattle.nmgc_cycle.proofs.Vocabulary.{ℕ, ◌≡◌, List, [], ◌∷◌, ◌++◌, refl, sym, ap, subst, ◌∙◌, inl, inr, append-nil, World, HasNone, none_to_sweep, Represents, NoNode, IsTracked, CycleRow, IsCensus, EndsOrWaits, IsSwept, HoldsInCycle, IsPacedAtStop, IsInCourse, HoldsAtStop, snapshots, ends_of, IsSoundState, State, Plan, Progress, idle, marking, sweeping, phase_of, plan_of, layout_of, Cycle, Script, EndTellsCensus, TellsCensus, IsAtWork, map-append, Collector, Doing, Sweeping, row_of, Ends, Sweeps, seen, cycle_in, phase_in, died, told_row, told_cycles, StandsAt, EndLeads, nothing_in}
 use Rattle.nmgc_alloc.specs.declared.search.Sought.TheVariants as sought
-use Rattle.nmgc_alloc.specs.laws.Sweeping.{none_to_sweep}
-use Rattle.nmgc_heap_spec.specs.Represents.{Represents, NoNode}
-use Rattle.nmgc_heap_spec.specs.Tracked.{IsTracked}
-use Rattle.nmgc_journal.specs.declared.report.CycleRow.{CycleRow}
 use Rattle.nmgc_journal.specs.declared.report.Phase.TheVariants as phase
-use Rattle.nmgc_run_spec.specs.Stop.{IsCensus, EndsOrWaits, IsSwept}
-use Rattle.nmgc_collector_laws.specs.Collector.{HoldsInCycle, IsPacedAtStop}
-use Rattle.nmgc_run_laws.specs.Course.{IsInCourse}
-use Rattle.nmgc_run_spec.specs.Heap.{HoldsAtStop, snapshots}
-use Rattle.nmgc_collector_laws.specs.Seen.{ends_of}
-use Rattle.nmgc_run_laws.specs.Sound.{IsSoundState}
-use Rattle.nmgc_run_spec.specs.State.{State, Plan, Progress, idle, marking, sweeping, phase_of, plan_of, layout_of}
-use Rattle.nmgc_blocks_spec.specs.Cycle.{Cycle}
-use Rattle.nmgc_script.specs.declared.script.Script.{Script}
-use Rattle.nmgc_sweep.specs.Statements.{EndTellsCensus, TellsCensus}
-use Rattle.nmgc_sweep.specs.Work.{IsAtWork}
-use Rattle.std.proofs.lemmas.List.{map-append}
-use Rattle.nmgc_cycle.specs.declared.collector.Collector.{Collector}
-use Rattle.nmgc_cycle.specs.declared.progress.Progress.{Progress as Doing}
 use Rattle.nmgc_cycle.specs.declared.progress.Progress.TheVariants as doing
-use Rattle.nmgc_cycle.specs.declared.progress.Sweeping.{Sweeping}
-use Rattle.nmgc_cycle.specs.Cycles.{row_of, Ends}
-use Rattle.nmgc_cycle.specs.Keeps.{Sweeps}
-use Rattle.nmgc_cycle.specs.Shown.{seen, sweeper_in, cycle_in, phase_in, died, told_row, told_cycles}
-use Rattle.nmgc_cycle.specs.Steps.{StandsAt, EndLeads}
-use Rattle.nmgc_lists.specs.laws.Items.{nothing_in}
-use Rattle.nmgc_cycle.proofs.cycles.StepReady.{none_back}
-use Rattle.nmgc_cycle.proofs.stops.Telling.{kept_told}
+use Rattle.nmgc_cycle.proofs.{cycles.StepReady.none_back, stops.Telling.kept_told}
 
 -- the collector once the cycle has ended, and its state
 abbrev pub ended : Collector → ℕ → ℕ → CycleRow → Collector
@@ -80,8 +53,7 @@ module _ (script : Script) (c : Collector) (s : State) (h : StandsAt script c s)
   swept_by = subst (λ (q : Progress). Sweeps q s c) is h.sweeper
 
   work : IsAtWork k closed (seen c).words s.allocation c.heap.segments (cycle_in (doing.Sweeping w) (died c.heap.weaks.deaths)) w.sweeper
-  work = subst (λ (p : Doing). IsAtWork k closed (seen c).words s.allocation c.heap.segments (cycle_in p (died c.heap.weaks.deaths)) (sweeper_in p)) at
-      swept_by.1
+  work = rw at at swept_by.1
 
   course : IsInCourse (sweeping k closed) s.number s.begun s.allocation
   course = subst (λ (q : Progress). IsInCourse q s.number s.begun s.allocation) is h.course
@@ -128,7 +100,7 @@ module _ (script : Script) (c : Collector) (s : State) (h : StandsAt script c s)
       let swept : IsSwept s = none_to_sweep c.heap.segments (seen c).words s.allocation h.heap.holds.stands waits in (
         idled s,
         told_row row ∷ [],
-        subst (λ (q : Progress). EndsOrWaits q s (idled s) (told_row row ∷ [])) (sym is) (inl (
+        rw is (inl (
           swept,
           record { row = told_row row; census = census law swept; told = refl; rest = refl },
         )),

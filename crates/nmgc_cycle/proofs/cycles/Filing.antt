@@ -1,39 +1,8 @@
 -- Once current and active segments are filed as filled, the collector stands for the state with them filed.
-use Rattle.std.proofs.Common.{ℕ, ◌≡◌, ◌<◌, length, map, refl, sym, ap, subst, ◌∙◌, arith, inl, inr}
-use Rattle.std.proofs.lemmas.List.{length-map}
-use Rattle.nmgc_world_spec.specs.World.{World}
-use Rattle.nmgc_object.specs.Size.{block_size}
-use Rattle.nmgc_object.specs.declared.layout.Layout.{Layout}
-use Rattle.nmgc_segment.specs.Segment.{Segment, mark_of}
+use Rattle.nmgc_cycle.proofs.Vocabulary.{ℕ, ◌≡◌, ◌<◌, length, map, refl, sym, ap, subst, ◌∙◌, arith, inl, inr, length-map, World, block_size, Layout, Segment, AllocState, Cells, cells, all_retired, retired_state, nth, Segments, block_place, IsSegments, retired, retired_cells, retired_names, nth-map, retired_stands, Place, FitBlocks, HoldsAtStop, IsPlaceAtStop, AreSettled, ends_of, IsSoundState, State, Progress, idle, plan_of, layout_of, with_all_retired, retired_filed, Script, named_retired, Collector, Doing, filed_by, FilingLeads, IsWellFormed, seen, words_in, phase_in, StandsAt, none_then}
 use Rattle.nmgc_segment.specs.declared.state.State.TheVariants as stands
-use Rattle.nmgc_alloc.specs.AllocState.{AllocState, Cells, cells, all_retired, retired_state}
-use Rattle.nmgc_alloc.specs.Numbered.{nth, Segments, block_place}
-use Rattle.nmgc_alloc.specs.Segments.{IsSegments}
-use Rattle.nmgc_alloc.specs.CycleSteps.{retired}
-use Rattle.nmgc_alloc.specs.laws.Cells.{retired_cells, retired_names}
-use Rattle.nmgc_alloc.specs.laws.Numbers.{nth-map}
-use Rattle.nmgc_alloc.specs.laws.Turning.{retired_stands}
-use Rattle.nmgc_heap_spec.specs.Places.{Place}
-use Rattle.nmgc_run_spec.specs.Heap.{FitBlocks, HoldsAtStop}
-use Rattle.nmgc_blocks_spec.specs.Placed.{IsPlaceAtStop}
-use Rattle.nmgc_alloc.specs.Settled.{AreSettled, IsSettledByte}
-use Rattle.nmgc_collector_laws.specs.Seen.{ends_of}
-use Rattle.nmgc_run_laws.specs.Sound.{IsSoundState}
-use Rattle.nmgc_run_spec.specs.State.{State, Progress, idle, plan_of, layout_of}
-use Rattle.nmgc_run_spec.specs.Stop.{with_all_retired}
-use Rattle.nmgc_run_laws.specs.laws.Filing.{retired_filed}
-use Rattle.nmgc_script.specs.declared.script.Script.{Script}
-use Rattle.nmgc_sweep.specs.laws.Names.{named_retired}
-use Rattle.nmgc_cycle.specs.declared.collector.Collector.{Collector}
-use Rattle.nmgc_cycle.specs.declared.progress.Progress.{Progress as Doing}
 use Rattle.nmgc_cycle.specs.declared.progress.Progress.TheVariants as doing
-use Rattle.nmgc_cycle.specs.Full.{with_all_retired as filed_by}
-use Rattle.nmgc_cycle.specs.FullLaws.{FilingLeads}
-use Rattle.nmgc_cycle.specs.Keeps.{IsWellFormed}
-use Rattle.nmgc_cycle.specs.Shown.{seen, words_in, phase_in}
-use Rattle.nmgc_cycle.specs.Steps.{StandsAt}
 use Rattle.nmgc_cycle.proofs.cycles.StepReady.{idle_state}
-use Rattle.nmgc_run_laws.specs.laws.Course.{none_retired as none_then}
 
 -- names stay in their blocks, and these where they are
 
@@ -70,7 +39,7 @@ settled_then : (begun : ℕ) (s : Segments) → AreSettled begun s → AreSettle
 settled_then begun s settled number block exists other =
     let there : number < length s.segments = (let count = length-map s.segments retired in omega (arith, exists, count)) in
     let is : nth (map retired s.segments) number ≡ retired (nth s.segments number) = nth-map retired s.segments number there in
-    subst (λ (x : Segment). IsSettledByte begun (mark_of x block)) (sym is) (settled number block there (λ waits.
+    rw is (settled number block there (λ waits.
     other (ap (λ (x : Segment). x.state) is ∙ ap retired_state waits)))
 
 module _ (script : Script) (c : Collector) (st : State) (h : StandsAt script (record c { cycle = record c.cycle { progress = doing.Idle } }) (record st {
@@ -160,5 +129,4 @@ filing_leads script c s limits h at sound =
     subst (λ (x : Collector). StandsAt script x (record s { progress = idle })) was (subst (λ (y : State). StandsAt script c y) state h) in
     let there : StandsAt script (filed_by (record c { cycle = record c.cycle { progress = doing.Idle } })) (with_all_retired (record s { progress = idle })) =
     stands_filed script c s stood sound in
-    subst (λ (x : Collector). StandsAt script (filed_by x) (with_all_retired s)) (sym was) (subst (λ (y : State).
-    StandsAt script (filed_by (record c { cycle = record c.cycle { progress = doing.Idle } })) (with_all_retired y)) (sym state) there)
+    rw was (rw state there)

@@ -1,74 +1,12 @@
 -- A marker that finished, with the weak pointers resolved, closes its cycle within the bounds, and the collector
 -- stands for the closed state, in which the cycle sweeps.
-use Rattle.std.proofs.Common.{ℕ, ◌≡◌, ◌+◌, ◌-◌, ◌^◌, ◌<◌, ◌≤◌, List, [], ◌∷◌, length, refl, sym, ap, subst, ◌∙◌, arith}
-use Rattle.std.specs.Prelude.{IsSome}
-use Rattle.std.proofs.lemmas.List.{length-map}
-use Rattle.nmgc_alloc.specs.Stands.{StandsFor}
-use Rattle.nmgc_alloc.specs.Numbered.{Segments}
-use Rattle.nmgc_alloc.specs.Segments.{IsSegments}
-use Rattle.nmgc_alloc.specs.laws.Keeping.{carried_stands}
-use Rattle.nmgc_collector_laws.specs.Heaps.{HeapRests, MarkedHolds}
-use Rattle.nmgc_collector_laws.specs.Resolves.{FinishMayResolve, ResolveCloses, ClosedHolds, ClosedCycleSweeps, IsStopOf, IsClosingOf, FinalisersInHand as HaveJoinedInRun, TellsDeaths, closed_state, finished_on, stop_opening}
-use Rattle.nmgc_collector_laws.specs.Sweeps.{MarkedWait, all_carried}
-use Rattle.nmgc_blocks_spec.specs.Nurseries.{AreEmpty}
-use Rattle.nmgc_world_spec.specs.declared.value.Name.{Name}
-use Rattle.nmgc_world_spec.specs.Reach.{closed}
-use Rattle.nmgc_world_spec.specs.World.{World, node_of}
-use Rattle.nmgc_lists.specs.laws.Items.{is_some_of, item_map, nothing_in}
-use Rattle.nmgc_heap_spec.specs.Places.{Place}
-use Rattle.nmgc_heap_spec.specs.Represents.{IsEarlier}
-use Rattle.nmgc_heap_spec.specs.Shape.{size_of}
-use Rattle.nmgc_heap_spec.specs.laws.CommandLaws.{closing_keeps_earlier, closing_tracks, world_is_earlier}
-use Rattle.nmgc_heap_spec.specs.laws.Kinds.{map_item}
+use Rattle.nmgc_cycle.proofs.Vocabulary.{ℕ, ◌≡◌, ◌+◌, ◌-◌, ◌^◌, ◌<◌, ◌≤◌, List, [], ◌∷◌, length, refl, sym, ap, subst, ◌∙◌, arith, IsSome, length-map, StandsFor, Segments, IsSegments, carried_stands, HeapRests, MarkedHolds, FinishMayResolve, ResolveCloses, ClosedHolds, ClosedCycleSweeps, IsStopOf, IsClosingOf, HaveJoinedInRun, TellsDeaths, closed_state, finished_on, stop_opening, MarkedWait, all_carried, AreEmpty, Name, closed, World, node_of, is_some_of, item_map, nothing_in, Place, IsEarlier, size_of, closing_keeps_earlier, closing_tracks, world_is_earlier, map_item, IsFor, Mutator, IsWhole, Layout, Nursery, HEADER_WORDS, Header, closed_world, closed_names, closed_mutators, closed_serials, Opening, IsKeptObject, Cycle, ClosesNow, IsForcedSoon, IsSoon, AreNurseries, EachMutator, IsEmptied, IsMarking, IsPacedAtStop, HoldsAtStop, Counts, AreSettled, IsSweeping, epoch_of, IsEpoch, CollectorSeen, ends_of, nurseries_of, IsSoundState, State, Progress, idle, marking, sweeping, phase_of, plan_of, layout_of, tracked_fewer, Script, ClosingBeginsWork, IsClosedNow, LeftStays, AreLeft, HasNotes, turned, IsAtWork, Death, IsClosedBy, AreDeaths, HasResolved, places_of, Weaks, HaveEntries, Collector, Marking, Doing, Sweeping, HasClosed, IsClosed, ClosesNowBy, FinishingNowLeads, IsWellFormed, queues_in, died, phase_in, seen, seen_mutator, words_in, StandsAt, IsPacedWithin, FinishingLeads, IsLined, epoch_sound}
 use Rattle.nmgc_mark.specs.Stopped.{HasFinished}
-use Rattle.nmgc_minor.specs.Promotion.{IsFor}
-use Rattle.nmgc_mutator.specs.declared.mutator.Mutator.{Mutator}
-use Rattle.nmgc_mutator.specs.Ready.{IsWhole}
-use Rattle.nmgc_object.specs.declared.layout.Layout.{Layout}
-use Rattle.nmgc_object.specs.declared.layout.Nursery.{Nursery}
-use Rattle.nmgc_object.specs.declared.size.TheConstants.{HEADER_WORDS}
-use Rattle.nmgc_object.specs.declared.words.Header.{Header}
-use Rattle.nmgc_world_laws.specs.laws.Deaths.{closed_world, closed_names, closed_mutators, closed_serials}
-use Rattle.nmgc_round.specs.View.{Opening}
-use Rattle.nmgc_blocks_spec.specs.Cycle.{IsKeptObject, Cycle}
-use Rattle.nmgc_run_spec.specs.Closing.{Closes, ClosesNow, IsForcedSoon, IsSoon}
-use Rattle.nmgc_collector_laws.specs.Collector.{AreNurseries, EachMutator, IsEmptied, IsMarking, IsPacedAtStop}
-use Rattle.nmgc_run_spec.specs.Heap.{HoldsAtStop}
-use Rattle.nmgc_world_spec.specs.Listing.{Counts}
-use Rattle.nmgc_alloc.specs.Settled.{AreSettled}
-use Rattle.nmgc_sweep.specs.Sweeping.{IsSweeping}
-use Rattle.nmgc_segment.specs.Marks.{epoch_of, IsEpoch}
-use Rattle.nmgc_collector_laws.specs.Seen.{CollectorSeen, ends_of, nurseries_of}
-use Rattle.nmgc_run_laws.specs.Sound.{IsSoundState, left_of}
-use Rattle.nmgc_run_spec.specs.State.{State, Progress, idle, marking, sweeping, phase_of, plan_of, layout_of}
-use Rattle.nmgc_run_laws.specs.laws.Tracks.{tracked_fewer}
+use Rattle.nmgc_run_spec.specs.Closing.{Closes}
+use Rattle.nmgc_run_laws.specs.Sound.{left_of}
 use Rattle.nmgc_journal.specs.declared.report.Phase.TheVariants as phase
-use Rattle.nmgc_script.specs.declared.script.Script.{Script}
-use Rattle.nmgc_sweep.specs.Statements.{ClosingBeginsWork, IsClosedNow, LeftStays}
-use Rattle.nmgc_sweep.specs.Sweeper.{AreLeft, HasNotes, turned}
-use Rattle.nmgc_sweep.specs.Work.{IsAtWork}
-use Rattle.nmgc_weak.specs.declared.weaks.Death.{Death}
-use Rattle.nmgc_collector_laws.specs.CycleCloses.{HasClosed as IsClosedBy}
-use Rattle.nmgc_weak.specs.Resolve.{AreDeaths, HasResolved}
-use Rattle.nmgc_weak.specs.Weaks.{places_of, Weaks}
-use Rattle.nmgc_sweep.specs.Names.{HaveEntries}
-use Rattle.nmgc_cycle.specs.declared.collector.Collector.{Collector}
-use Rattle.nmgc_cycle.specs.declared.progress.Marking.{Marking}
-use Rattle.nmgc_cycle.specs.declared.progress.Progress.{Progress as Doing}
 use Rattle.nmgc_cycle.specs.declared.progress.Progress.TheVariants as doing
-use Rattle.nmgc_cycle.specs.declared.progress.Sweeping.{Sweeping}
-use Rattle.nmgc_cycle.specs.Cycles.{HasClosed, IsClosed}
-use Rattle.nmgc_cycle.specs.Full.{ClosesNow as ClosesNowBy}
-use Rattle.nmgc_cycle.specs.FullLaws.{FinishingNowLeads}
-use Rattle.nmgc_cycle.specs.Keeps.{IsWellFormed}
-use Rattle.nmgc_cycle.specs.Roots.{queues_in}
-use Rattle.nmgc_cycle.specs.Shown.{died, phase_in, seen, seen_mutator, words_in}
-use Rattle.nmgc_cycle.specs.Steps.{StandsAt, IsPacedWithin, FinishingLeads}
-use Rattle.nmgc_cycle.proofs.cycles.Pacing.{forced_soon}
-use Rattle.nmgc_cycle.proofs.cycles.Queued.{AreWith, are_with, new_queues, old_queues, one_with, same_nurseries, same_registers, same_serials, same_whole}
-use Rattle.nmgc_cycle.proofs.cycles.StepReady.{StandsInPace, marks, rests_there}
-use Rattle.nmgc_cycle.specs.Lined.{IsLined}
-use Rattle.nmgc_segment.specs.laws.Common.{epoch_sound}
+use Rattle.nmgc_cycle.proofs.{cycles.Pacing.forced_soon, cycles.Queued.AreWith, cycles.Queued.are_with, cycles.Queued.new_queues, cycles.Queued.old_queues, cycles.Queued.one_with, cycles.Queued.same_nurseries, cycles.Queued.same_registers, cycles.Queued.same_serials, cycles.Queued.same_whole, cycles.StepReady.StandsInPace, cycles.StepReady.marks, cycles.StepReady.rests_there}
 
 -- the laws on which a closing rests
 pub record ClosingLaws : Type 0 where
@@ -390,8 +328,7 @@ module _ (Paced : Cycle → State → CollectorSeen →
       let was : old ≡ record old { cycle = record old.cycle { progress = doing.Marking m } } =
       ap (λ (p : Doing). record old { cycle = record old.cycle { progress = p } }) at in
       let state : s ≡ record s { progress = marking k } = ap (λ (q : Progress). record s { progress = q }) is in
-      subst (λ (x : Collector). StandsInPace Paced script x (record s { progress = marking k })) was (subst (λ (y : State).
-      StandsInPace Paced script old y) state h)
+      rw (← was) (rw state at h)
 
   pub paced_there : Paced k (record s { progress = marking k }) (seen (record old { cycle = record old.cycle { progress = doing.Marking m } }))
   paced_there = in_pace Paced laws script old s k m stood new some w cl
@@ -419,17 +356,7 @@ module _ (Paced : Cycle → State → CollectorSeen →
         };
         mutators = new.mutators;
       } =
-      rest
-      ∙ ap (λ (g : Segments). record old {
-        heap = record old.heap { words = new.heap.words; segments = g; weaks = new.heap.weaks };
-        cycle = record old.cycle { progress = new.cycle.progress };
-        mutators = new.mutators;
-      }) cl.carried
-      ∙ ap (λ (p : Doing). record old {
-        heap = record old.heap { words = new.heap.words; segments = carried; weaks = new.heap.weaks };
-        cycle = record old.cycle { progress = p };
-        mutators = new.mutators;
-      }) (progress ∙ ap doing.Sweeping cl.is) in (
+      cc (rest, cl.carried, progress, cl.is) in (
         t,
         subst (λ (q : Progress). Closes k (record s { progress = q }) t) (sym is) all.0,
         subst (λ (x : Collector). StandsAt script x t) (sym next) all.1,

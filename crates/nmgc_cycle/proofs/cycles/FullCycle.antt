@@ -1,37 +1,11 @@
 -- A full cycle is the run's, and a stop goes on as the run does.
-use Rattle.std.proofs.Common.{ℕ, ◌≡◌, List, [], ◌++◌, length, Bool, false, refl, sym, ap, subst, ◌∙◌, inl, inr, arith, append-nil, append_assoc}
-use Rattle.std.specs.Prelude.{◌≤◌, ◌&&◌, nat_lt, IsSome}
-use Rattle.nmgc_alloc.specs.Numbered.{Segments}
-use Rattle.nmgc_alloc.specs.Segments.{HasNone, IsSegments}
-use Rattle.nmgc_object.specs.declared.layout.TheConstants.{FIRST_PLACE}
+use Rattle.nmgc_cycle.proofs.Vocabulary.{ℕ, ◌≡◌, List, [], ◌++◌, length, Bool, false, refl, sym, ap, subst, ◌∙◌, inl, inr, arith, append-nil, append_assoc, IsSome, Segments, HasNone, IsSegments, FIRST_PLACE, counts_stand, CycleRow, ClosesNow, has_left, Plan, State, Progress, idle, marking, sweeping, cycle_started, free_count, plan_of, Finishes, DoesFullCycle, EndsOrWaits, IsFullDue, Proceeds, is_short, with_all_retired, Script, Name, Collector, Marking, Doing, Sweeping, Begins, Ends, CanBegin, HasClosed, HasStarted, HasFinished, StandsAtStop, FinishingNowLeads, SweepingRestLeads, FinishLeads, FilingLeads, FullLeads, ProceedingLeads, words_in, told_cycles, IsInLimits, StandsAt, StartingLeads, EndLeads, BeginReady, BeginningLeads, ◌≤◌}
 use Rattle.nmgc_alloc.specs.Reserve as reserve
 use Rattle.nmgc_alloc.specs.declared.search.Sought.TheVariants as sought
-use Rattle.nmgc_alloc.specs.laws.Keeping.{counts_stand}
-use Rattle.nmgc_journal.specs.declared.report.CycleRow.{CycleRow}
-use Rattle.nmgc_object.specs.Places.{reserve_count}
-use Rattle.nmgc_object.specs.declared.layout.Layout.{Layout}
 use Rattle.nmgc_segment.specs.declared.state.State.TheVariants as stands
-use Rattle.nmgc_run_spec.specs.Closing.{ClosesNow}
-use Rattle.nmgc_run_spec.specs.Slice.{has_left}
-use Rattle.nmgc_run_spec.specs.State.{Plan, State, Progress, idle, marking, sweeping, cycle_started, free_count, plan_of}
-use Rattle.nmgc_run_spec.specs.Stop.{Finishes, DoesFullCycle, EndsOrWaits, IsFullDue, Proceeds, is_short, with_all_retired}
-use Rattle.nmgc_script.specs.declared.script.Script.{Script}
-use Rattle.nmgc_world_spec.specs.declared.value.Name.{Name}
-use Rattle.nmgc_cycle.specs.declared.collector.Collector.{Collector}
-use Rattle.nmgc_cycle.specs.declared.progress.Marking.{Marking}
-use Rattle.nmgc_cycle.specs.declared.progress.Progress.{Progress as Doing}
 use Rattle.nmgc_cycle.specs.declared.progress.Progress.TheVariants as doing
-use Rattle.nmgc_cycle.specs.declared.progress.Sweeping.{Sweeping}
-use Rattle.nmgc_cycle.specs.Cycles.{Begins, Ends, CanBegin, HasClosed, HasStarted}
 use Rattle.nmgc_cycle.specs.Full as full
-use Rattle.nmgc_cycle.specs.Full.{HasFinished}
-use Rattle.nmgc_cycle.specs.FullLaws.{StandsAtStop, FinishingNowLeads, SweepingRestLeads, FinishLeads, FilingLeads, FullLeads, ProceedingLeads}
-use Rattle.nmgc_cycle.specs.Shown.{words_in, told_cycles}
-use Rattle.nmgc_script.specs.Limits.{IsInLimits}
-use Rattle.nmgc_cycle.specs.Steps.{StandsAt, StartingLeads, EndLeads, BeginReady, BeginningLeads}
-use Rattle.nmgc_cycle.proofs.lengths.StopFew.{none_waits}
-use Rattle.nmgc_cycle.proofs.stops.Telling.{stands_told}
-use Rattle.nmgc_cycle.proofs.stops.WholeStop.{KeepsOn, ending_keeps, beginning_keeps}
+use Rattle.nmgc_cycle.proofs.{lengths.StopFew.none_waits, stops.Telling.stands_told, stops.WholeStop.KeepsOn, stops.WholeStop.ending_keeps, stops.WholeStop.beginning_keeps}
 
 -- What a finish does with the run
 
@@ -156,8 +130,7 @@ full_leads finish filing starting script old new s limits h d =
     let idled : State = first.0 in
     let number : idled.number ≡ s.number = (finishing_keeps s idled first.1 first.2).number in
     let filed : StandsAt script (full.with_all_retired d.idled) (with_all_retired idled) = filing script d.idled idled limits first.4 first.5 d.sound in
-    let started = starting script (full.with_all_retired d.idled) d.started (with_all_retired idled) limits filed first.5 (subst (λ (n : ℕ).
-    HasStarted n (full.with_all_retired d.idled) d.started) (sym number) d.starts) in
+    let started = starting script (full.with_all_retired d.idled) d.started (with_all_retired idled) limits filed first.5 (rw number d.starts) in
     let again = finish script d.started d.last (record (cycle_started (with_all_retired idled)) {
       collect =
           false;
@@ -166,10 +139,7 @@ full_leads finish filing starting script old new s limits h d =
     let own : Finishes (cycle_started (with_all_retired idled)) last again.1 =
     finishes_asking idled.collect (record (cycle_started (with_all_retired idled)) { collect = false }) again.0 again.1 again.2 in
     let cycles : told_cycles new ≡ told_cycles old ++ (first.1 ++ again.1) =
-    ap told_cycles d.is
-    ∙ again.3
-    ∙ ap (λ (rows : List CycleRow). rows ++ again.1) (started_cycles s.number (full.with_all_retired d.idled) d.started d.starts ∙ first.3)
-    ∙ append_assoc (told_cycles old) first.1 again.1 in (
+    cc (d.is, again.3, started_cycles s.number (full.with_all_retired d.idled) d.started d.starts, first.3, append_assoc (told_cycles old) first.1 again.1) in (
       record again.0 { collect = false; full = false },
       first.1 ++ again.1,
       record {
@@ -183,10 +153,7 @@ full_leads finish filing starting script old new s limits h d =
         rest = refl {a = record again.0 { collect = false; full = false }};
       },
       cycles,
-      subst (λ (x : Collector). StandsAt script x (record again.0 {
-        collect = false;
-        full = false;
-      })) (sym d.is) (stands_told script d.last (record d.last { cycle = record d.last.cycle { collect = false; full = false } }) again.0 (record again.0 {
+      rw d.is (stands_told script d.last (record d.last { cycle = record d.last.cycle { collect = false; full = false } }) again.0 (record again.0 {
         collect = false;
         full = false;
       }) refl (refl {a = record again.0 { collect = false; full = false }}) refl refl again.4),
@@ -200,9 +167,7 @@ module _ (script : Script) (c : Collector) (s : State) (left : Bool) (h : Stands
   short_same =
       let free : reserve.free_count c.heap.segments.segments ≡ free_count s =
       counts_stand c.heap.segments (words_in c.heap.words) s.allocation stands.Free h.heap.holds.stands in
-      ap (λ (b : Bool). b && nat_lt (reserve.free_count c.heap.segments.segments) (reserve_count c.heap.segments.layout)) left_is
-      ∙ ap (λ (n : ℕ). has_left s.left && nat_lt n (reserve_count c.heap.segments.layout)) free
-      ∙ ap (λ (l : Layout). has_left s.left && nat_lt (free_count s) (reserve_count l)) h.kept.layout
+      cc (left_is, free, h.kept.layout)
 
   pub full_due : full.IsFullDue left c → IsFullDue (plan_of script) s
   full_due (inl asked) = inl (sym h.matches.full ∙ asked)

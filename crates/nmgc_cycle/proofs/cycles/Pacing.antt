@@ -1,23 +1,6 @@
 -- The pace of marking within a stop.
-use Rattle.std.proofs.Common.{ℕ, ◌≡◌, ◌+◌, ◌≤◌, List, sym, ap, ◌∙◌, arith, inl, inr}
-use Rattle.std.proofs.lemmas.Bool.{cases_lt}
-use Rattle.nmgc_alloc.specs.AllocState.{AllocState}
-use Rattle.nmgc_collector_laws.specs.Closes.{ClosingIsSoon, ClosingIsPaced}
-use Rattle.nmgc_collector_laws.specs.Keeps.{PaceAtStop, Scans}
-use Rattle.nmgc_snapshot_laws.specs.State.{State as Core}
-use Rattle.nmgc_world_laws.specs.Reachable.{IsSound}
-use Rattle.nmgc_heap_spec.specs.Places.{Place}
-use Rattle.nmgc_blocks_spec.specs.Cycle.{IsKeptObject, interval_of, Cycle}
-use Rattle.nmgc_run_spec.specs.Closing.{IsSoon}
-use Rattle.nmgc_collector_laws.specs.Collector.{IsPacedAfterRound, IsPacedAtStop}
-use Rattle.nmgc_world_spec.specs.Listing.{Counts}
-use Rattle.nmgc_collector_laws.specs.Marker.{IsCoreOf, IsTied}
-use Rattle.nmgc_collector_laws.specs.Seen.{CollectorSeen}
-use Rattle.nmgc_mark.specs.Seen.{WorkSeen}
-use Rattle.nmgc_run_spec.specs.State.{State}
-use Rattle.nmgc_run_laws.specs.laws.Closings.{one_more}
-use Rattle.nmgc_cycle.specs.Steps.{IsPacedWithin}
-use Rattle.nmgc_lists.specs.laws.Items.{some_wait}
+use Rattle.nmgc_cycle.proofs.Vocabulary.{ℕ, ◌≡◌, ◌+◌, ◌≤◌, List, sym, ap, ◌∙◌, arith, inl, inr, cases_lt, AllocState, ClosingIsSoon, ClosingIsPaced, PaceAtStop, Scans, Core, IsSound, Place, IsKeptObject, interval_of, Cycle, IsSoon, IsPacedAfterRound, IsPacedAtStop, Counts, IsCoreOf, CollectorSeen, WorkSeen, State, one_more, IsPacedWithin, some_wait}
+use Rattle.nmgc_collector_laws.specs.Marker.{IsTied}
 
 -- what the round left is in pace, and what was added since only waits behind it
 pub paced_within : ClosingIsSoon → ClosingIsPaced → PaceAtStop →

@@ -1,13 +1,7 @@
 -- Segments whose snapshot was taken are segments still.
-use Rattle.std.proofs.Common.{ℕ, ◌<◌, length, sym, subst, ◌∙◌, arith}
+use Rattle.nmgc_cycle.proofs.Vocabulary.{ℕ, ◌<◌, length, sym, subst, ◌∙◌, arith, Segment, nth, Segments, IsMember, IsSegments, IsCurrent, prepared, nth-map, all_prepared, prepared_current, prepared_in}
 use Rattle.std.proofs.Math.ListN.{length-map}
-use Rattle.nmgc_segment.specs.Segment.{Segment}
-use Rattle.nmgc_alloc.specs.Numbered.{nth, Segments}
-use Rattle.nmgc_alloc.specs.Segments.{IsMember, IsSegments, IsCurrent, IsOwn}
-use Rattle.nmgc_alloc.specs.CycleSteps.{prepared}
-use Rattle.nmgc_alloc.specs.laws.Numbers.{nth-map}
-use Rattle.nmgc_collector_laws.specs.Prepares.{all_prepared}
-use Rattle.nmgc_alloc.specs.laws.Common.{prepared_current, prepared_in}
+use Rattle.nmgc_alloc.specs.Segments.{IsOwn}
 
 own_before : (s : Segments) (m c number : ℕ) → IsOwn (all_prepared s) m c number → IsOwn s m c number
 own_before s m c number h =

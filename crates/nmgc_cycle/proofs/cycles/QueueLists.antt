@@ -1,11 +1,5 @@
 -- Loops over the mutators' queues: what one more step leaves.
-use Rattle.std.proofs.Common.{ℕ, ◌≡◌, ◌+◌, ◌<◌, ◌≤◌, List, length, get_or, slice_index_or, arith, subst, ◌∙◌}
-use Rattle.std.specs.Prelude.{slice_set}
-use Rattle.std.proofs.lemmas.List.{get_or_default}
-use Rattle.nmgc_mutator.specs.declared.mutator.Mutator.{Mutator}
-use Rattle.nmgc_weak.specs.declared.weaks.OldWeak.{OldWeak}
-use Rattle.nmgc_cycle.specs.Listed.{HasQueueRoom, count_made_by}
-use Rattle.nmgc_cycle.proofs.rounds.Reserving.{up_to}
+use Rattle.nmgc_cycle.proofs.{Vocabulary.ℕ, Vocabulary.◌≡◌, Vocabulary.◌+◌, Vocabulary.◌<◌, Vocabulary.◌≤◌, Vocabulary.List, Vocabulary.length, Vocabulary.get_or, Vocabulary.slice_index_or, Vocabulary.arith, Vocabulary.subst, Vocabulary.◌∙◌, Vocabulary.slice_set, Vocabulary.get_or_default, Vocabulary.Mutator, Vocabulary.OldWeak, Vocabulary.HasQueueRoom, Vocabulary.count_made_by, rounds.Reserving.up_to}
 
 -- one queue more has room
 pub room_more : (list : List OldWeak) (was now : List Mutator) (n : ℕ) (m next : Mutator) → n < length was → length now ≡ length was →

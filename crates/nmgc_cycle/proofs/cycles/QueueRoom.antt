@@ -1,19 +1,5 @@
 -- Mutators whose queues got more room are seen as before but for that, and it is room for each listed weak pointer of a snapshot.
-use Rattle.std.proofs.Common.{ℕ, suc, ◌≡◌, ◌+◌, ◌<◌, ◌≤◌, Bool, true, false, cond, List, [], ◌∷◌, length, map, arith, refl, ap, subst, ◌∙◌, slice_index_or, Some}
-use Rattle.std.specs.Prelude.{slice_get, is_some, ◌==◌, ◌&&◌}
-use Rattle.std.proofs.lemmas.List.Sums.{sum_by-cons}
-use Rattle.std.proofs.lemmas.Option.{get_or_from_slice_get, slice_get_within, slice_get-get_or}
-use Rattle.nmgc_world_spec.specs.World.{World, node_of}
-use Rattle.nmgc_heap_spec.specs.Places.{Place}
-use Rattle.nmgc_journal.specs.declared.report.MutatorEnd.{MutatorEnd}
-use Rattle.nmgc_object.specs.declared.layout.Nursery.{Nursery}
-use Rattle.nmgc_mutator.specs.declared.mutator.Mutator.{Mutator}
-use Rattle.nmgc_weak.specs.Queues.{weak_count}
-use Rattle.nmgc_collector_laws.specs.Seen.{MutatorSeen, end_of}
-use Rattle.nmgc_weak.specs.declared.weaks.OldWeak.{OldWeak}
-use Rattle.nmgc_weak.specs.Weaks.{place_of, places_of}
-use Rattle.nmgc_cycle.specs.Listed.{HasQueueRoom, HaveQueueRoom, count_made_by}
-use Rattle.nmgc_cycle.specs.Shown.{seen_mutator}
+use Rattle.nmgc_cycle.proofs.Vocabulary.{ℕ, suc, ◌≡◌, ◌+◌, ◌<◌, ◌≤◌, Bool, true, false, cond, List, [], ◌∷◌, length, map, arith, refl, subst, slice_index_or, Some, slice_get, is_some, ◌==◌, ◌&&◌, sum_by-cons, get_or_from_slice_get, slice_get_within, slice_get-get_or, World, node_of, Place, Mutator, weak_count, MutatorSeen, end_of, OldWeak, place_of, places_of, HasQueueRoom, HaveQueueRoom, count_made_by, seen_mutator}
 
 -- the first mutator, and the others
 first_room : (list : List OldWeak) (m n : Mutator) (old new : List Mutator) → HaveQueueRoom list (m ∷ old) (n ∷ new) →
@@ -29,8 +15,7 @@ rest_room list m n old new h = record {
 -- a report tells the same of them
 one_end : (count : ℕ) (m n : Mutator) → HasQueueRoom count m n → end_of (seen_mutator n) ≡ end_of (seen_mutator m)
 one_end count m n h =
-    ap (λ (x : Mutator). end_of (seen_mutator x)) h.rest
-    ∙ ap (λ (ws : List ℕ). record (end_of (seen_mutator m)) { queue = ws }) h.words
+    cc (h.rest, h.words)
 
 pub room_ends : (list : List OldWeak) (old new : List Mutator) → HaveQueueRoom list old new →
     map end_of (map seen_mutator new) ≡ map end_of (map seen_mutator old)
@@ -38,8 +23,7 @@ room_ends list [] [] h = refl
 room_ends list [] (n ∷ new) h = absurd (let all : length (n ∷ new) ≡ 0 = h.count in omega (arith, all))
 room_ends list (m ∷ old) [] h = absurd (let all : 0 ≡ length (m ∷ old) = h.count in omega (arith, all))
 room_ends list (m ∷ old) (n ∷ new) h =
-    ap (λ (e : MutatorEnd). e ∷ map end_of (map seen_mutator new)) (one_end (count_made_by m.number list) m n (first_room list m n old new h))
-    ∙ ap (λ (l : List MutatorEnd). end_of (seen_mutator m) ∷ l) (room_ends list old new (rest_room list m n old new h))
+    cc (one_end (count_made_by m.number list) m n (first_room list m n old new h), room_ends list old new (rest_room list m n old new h))
 
 -- and their nurseries are the same
 pub room_nurseries : (list : List OldWeak) (old new : List Mutator) → HaveQueueRoom list old new →
@@ -48,8 +32,7 @@ room_nurseries list [] [] h = refl
 room_nurseries list [] (n ∷ new) h = absurd (let all : length (n ∷ new) ≡ 0 = h.count in omega (arith, all))
 room_nurseries list (m ∷ old) [] h = absurd (let all : 0 ≡ length (m ∷ old) = h.count in omega (arith, all))
 room_nurseries list (m ∷ old) (n ∷ new) h =
-    ap (λ (x : Mutator). x.nursery ∷ map (λ (y : MutatorSeen). y.nursery) (map seen_mutator new)) (first_room list m n old new h).rest
-    ∙ ap (λ (l : List Nursery). m.nursery ∷ l) (room_nurseries list old new (rest_room list m n old new h))
+    cc ((first_room list m n old new h).rest, room_nurseries list old new (rest_room list m n old new h))
 
 -- each is one of before
 pub one_room : (list : List OldWeak) (old new : List Mutator) → HaveQueueRoom list old new → (k : ℕ) (n : Mutator) → slice_get new k ≡ Some n →

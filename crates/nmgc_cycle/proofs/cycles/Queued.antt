@@ -1,16 +1,5 @@
 -- The mutators once finalisers have joined their queues: nothing else of them changed.
-use Rattle.std.proofs.Common.{ℕ, suc, ◌≡◌, ◌<◌, List, [], ◌∷◌, ◌++◌, length, map, arith, refl, sym, ap, ◌∙◌, slice_index_or, Some}
-use Rattle.std.specs.Prelude.{All, slice_get}
-use Rattle.std.proofs.lemmas.Option.{slice_get_within, slice_get-get_or}
-use Rattle.std.proofs.lemmas.List.Elements.{All-cons, All-head, All-tail}
-use Rattle.nmgc_object.specs.FinQueue.{FinQueue}
-use Rattle.nmgc_object.specs.declared.layout.Nursery.{Nursery}
-use Rattle.nmgc_mutator.specs.declared.mutator.Mutator.{Mutator}
-use Rattle.nmgc_run_spec.specs.Heap.{registers_of, queues_of, serials_of, HasAllRegisters}
-use Rattle.nmgc_collector_laws.specs.Seen.{MutatorSeen, end_of}
-use Rattle.nmgc_cycle.specs.Listed.{HaveQueues, no_queue}
-use Rattle.nmgc_cycle.specs.Roots.{queues_in}
-use Rattle.nmgc_cycle.specs.Shown.{seen_mutator}
+use Rattle.nmgc_cycle.proofs.Vocabulary.{ℕ, suc, ◌≡◌, ◌<◌, List, [], ◌∷◌, length, map, arith, refl, sym, ap, ◌∙◌, slice_index_or, Some, All, slice_get, slice_get_within, slice_get-get_or, All-cons, All-head, All-tail, FinQueue, Mutator, registers_of, queues_of, serials_of, HasAllRegisters, MutatorSeen, end_of, HaveQueues, no_queue, queues_in, seen_mutator}
 
 -- mutator by mutator
 abbrev pub AreWith : List FinQueue → List Mutator → List Mutator → Type 0
@@ -40,8 +29,7 @@ same_registers [] [] (n ∷ new) h = absurd h
 same_registers [] (m ∷ old) new h = absurd h
 same_registers (q ∷ qs) [] new h = absurd h
 same_registers (q ∷ qs) (m ∷ old) [] h = absurd h
-same_registers (q ∷ qs) (m ∷ old) (n ∷ new) h = ap (λ (x : Mutator). x.registers ++ registers_of (map end_of (map seen_mutator new))) h.0 ∙
-    ap (λ (l : List ℕ). m.registers ++ l) (same_registers qs old new h.1)
+same_registers (q ∷ qs) (m ∷ old) (n ∷ new) h = cc (h.0, same_registers qs old new h.1)
 
 pub same_serials : (queues : List FinQueue) (old new : List Mutator) → AreWith queues old new →
     serials_of (map end_of (map seen_mutator new)) ≡ serials_of (map end_of (map seen_mutator old))
@@ -50,8 +38,7 @@ same_serials [] [] (n ∷ new) h = absurd h
 same_serials [] (m ∷ old) new h = absurd h
 same_serials (q ∷ qs) [] new h = absurd h
 same_serials (q ∷ qs) (m ∷ old) [] h = absurd h
-same_serials (q ∷ qs) (m ∷ old) (n ∷ new) h = ap (λ (x : Mutator). x.serial ∷ serials_of (map end_of (map seen_mutator new))) h.0 ∙
-    ap (λ (l : List ℕ). m.serial ∷ l) (same_serials qs old new h.1)
+same_serials (q ∷ qs) (m ∷ old) (n ∷ new) h = cc (h.0, same_serials qs old new h.1)
 
 pub new_queues : (queues : List FinQueue) (old new : List Mutator) → AreWith queues old new →
     queues_of (map end_of (map seen_mutator new)) ≡ map (λ (q : FinQueue). q.words) queues
@@ -60,8 +47,7 @@ new_queues [] [] (n ∷ new) h = absurd h
 new_queues [] (m ∷ old) new h = absurd h
 new_queues (q ∷ qs) [] new h = absurd h
 new_queues (q ∷ qs) (m ∷ old) [] h = absurd h
-new_queues (q ∷ qs) (m ∷ old) (n ∷ new) h = ap (λ (x : Mutator). x.queue.words ∷ queues_of (map end_of (map seen_mutator new))) h.0 ∙
-    ap (λ (l : List (List ℕ)). q.words ∷ l) (new_queues qs old new h.1)
+new_queues (q ∷ qs) (m ∷ old) (n ∷ new) h = cc (h.0, new_queues qs old new h.1)
 
 pub old_queues : (old : List Mutator) → queues_of (map end_of (map seen_mutator old)) ≡ map (λ (q : FinQueue). q.words) (queues_in old)
 old_queues [] = refl
@@ -74,8 +60,7 @@ same_nurseries [] [] (n ∷ new) h = absurd h
 same_nurseries [] (m ∷ old) new h = absurd h
 same_nurseries (q ∷ qs) [] new h = absurd h
 same_nurseries (q ∷ qs) (m ∷ old) [] h = absurd h
-same_nurseries (q ∷ qs) (m ∷ old) (n ∷ new) h = ap (λ (x : Mutator). x.nursery ∷ map (λ (m : MutatorSeen). m.nursery) (map seen_mutator new)) h.0 ∙
-    ap (λ (l : List Nursery). m.nursery ∷ l) (same_nurseries qs old new h.1)
+same_nurseries (q ∷ qs) (m ∷ old) (n ∷ new) h = cc (h.0, same_nurseries qs old new h.1)
 
 pub same_whole : (queues : List FinQueue) (old new : List Mutator) → AreWith queues old new →
     All HasAllRegisters (map end_of (map seen_mutator old)) → All HasAllRegisters (map end_of (map seen_mutator new))
@@ -85,7 +70,7 @@ same_whole [] (m ∷ old) new h all = absurd h
 same_whole (q ∷ qs) [] new h all = absurd h
 same_whole (q ∷ qs) (m ∷ old) [] h all = absurd h
 same_whole (q ∷ qs) (m ∷ old) (n ∷ new) h all = All-cons HasAllRegisters (end_of (seen_mutator n)) (map end_of (map seen_mutator new))
-    (ap (λ (x : Mutator). length x.registers) h.0 ∙ All-head HasAllRegisters (end_of (seen_mutator m)) (map end_of (map seen_mutator old)) all)
+    (cc (h.0, All-head HasAllRegisters (end_of (seen_mutator m)) (map end_of (map seen_mutator old)) all))
     (same_whole qs old new h.1 (All-tail HasAllRegisters (end_of (seen_mutator m)) (map end_of (map seen_mutator old)) all))
 
 -- each is one of before

@@ -1,63 +1,8 @@
 -- A cycle that was started where one is due is the run's next cycle.
-use Rattle.std.proofs.Common.{ℕ, ◌≡◌, ◌≢◌, ◌+◌, ◌≤◌, List, [], false, refl, sym, ap, subst, ◌∙◌, arith, Option, Some, inl, inr}
-use Rattle.std.specs.Prelude.{slice_get}
-use Rattle.nmgc_world_spec.specs.declared.value.Name.{Name}
-use Rattle.nmgc_world_spec.specs.World.{World}
-use Rattle.nmgc_world_spec.specs.Step.{shared_name}
-use Rattle.nmgc_lists.specs.laws.Items.{contains_cases, nothing_in}
-use Rattle.nmgc_object.specs.declared.layout.Layout.{Layout}
-use Rattle.nmgc_object.specs.declared.layout.Nursery.{Nursery}
+use Rattle.nmgc_cycle.proofs.Vocabulary.{ℕ, ◌≡◌, ◌≢◌, ◌+◌, ◌≤◌, List, [], false, refl, sym, ap, subst, ◌∙◌, arith, Some, inl, inr, slice_get, Name, World, shared_name, contains_cases, nothing_in, Layout, Nursery, StandsFor, HasBlock, NoneIs, IsIn, cycle_begun, Segments, begun_names, SnapshotIsMarking, MarkedHolds, PaceBegins, StopIsPrepared, StopBegins, all_prepared, MarkedWait, AreEmpty, Place, IsEarlier, IsTracked, world_is_earlier, map_item, MutatorEnd, most_blocks, HasMarked, blank, IsFor, Mutator, Opening, AreNurseries, EachMutator, IsEmptied, IsMarking, IsPacedAtStop, weak_count, CyclesBeginInCourse, HoldsAtStop, snapshots, epoch_of, MutatorSeen, ends_of, nurseries_of, IsSoundState, State, next_cycle, cycle_started, plan_of, layout_of, Cycle, begun_filed, tracked_fewer, tracked_itself, Script, StartIsNoted, LeftStays, AreLeft, HasNotes, HasBegun, named_begun, HaveEntries, Collector, Marking, StartsMarking, next_epoch, IsWellFormed, IsOwn, HasQueueRoom, count_made_by, seen, seen_mutator, words_in, StandsAt, StartingLeads}
 use Rattle.nmgc_segment.specs.declared.state.State.TheVariants as stands
-use Rattle.nmgc_alloc.specs.Stands.{StandsFor}
-use Rattle.nmgc_alloc.specs.AllocState.{HasBlock, NoneIs, IsIn, cycle_begun}
-use Rattle.nmgc_alloc.specs.Numbered.{Segments}
-use Rattle.nmgc_alloc.specs.laws.Cells.{begun_names}
-use Rattle.nmgc_collector_laws.specs.Calls.{SnapshotIsMarking}
-use Rattle.nmgc_collector_laws.specs.Heaps.{MarkedHolds}
-use Rattle.nmgc_collector_laws.specs.Keeps.{PaceBegins}
-use Rattle.nmgc_collector_laws.specs.Prepares.{StopIsPrepared, StopBegins, all_prepared}
-use Rattle.nmgc_collector_laws.specs.Sweeps.{MarkedWait}
-use Rattle.nmgc_blocks_spec.specs.Nurseries.{AreEmpty}
-use Rattle.nmgc_heap_spec.specs.Places.{Place}
-use Rattle.nmgc_heap_spec.specs.Represents.{IsEarlier}
-use Rattle.nmgc_heap_spec.specs.Tracked.{IsTracked}
-use Rattle.nmgc_heap_spec.specs.laws.CommandLaws.{world_is_earlier}
-use Rattle.nmgc_heap_spec.specs.laws.Kinds.{map_item}
-use Rattle.nmgc_journal.specs.declared.report.MutatorEnd.{MutatorEnd}
-use Rattle.nmgc_mark.specs.Beginning.{most_blocks}
-use Rattle.nmgc_mark.specs.Marker.{HasMarked, blank}
-use Rattle.nmgc_minor.specs.Promotion.{IsFor}
-use Rattle.nmgc_mutator.specs.declared.mutator.Mutator.{Mutator}
-use Rattle.nmgc_round.specs.View.{Opening}
-use Rattle.nmgc_collector_laws.specs.Collector.{AreNurseries, EachMutator, IsEmptied, IsMarking, IsPacedAtStop}
-use Rattle.nmgc_weak.specs.Queues.{weak_count}
-use Rattle.nmgc_run_laws.specs.Course.{CyclesBeginInCourse}
-use Rattle.nmgc_run_spec.specs.Heap.{HoldsAtStop, snapshots}
-use Rattle.nmgc_segment.specs.Marks.{epoch_of}
-use Rattle.nmgc_collector_laws.specs.Seen.{MutatorSeen, ends_of, nurseries_of}
-use Rattle.nmgc_run_laws.specs.Sound.{IsSoundState}
-use Rattle.nmgc_run_spec.specs.State.{State, next_cycle, cycle_started, plan_of, layout_of}
-use Rattle.nmgc_blocks_spec.specs.Cycle.{Cycle}
-use Rattle.nmgc_run_laws.specs.laws.Filing.{begun_filed}
-use Rattle.nmgc_run_laws.specs.laws.Tracks.{tracked_fewer, tracked_itself}
-use Rattle.nmgc_script.specs.declared.script.Script.{Script}
-use Rattle.nmgc_sweep.specs.Statements.{StartIsNoted, LeftStays}
-use Rattle.nmgc_sweep.specs.Sweeper.{AreLeft, HasNotes}
-use Rattle.nmgc_sweep.specs.Work.{HasBegun}
-use Rattle.nmgc_sweep.specs.laws.Names.{named_begun}
-use Rattle.nmgc_sweep.specs.Names.{HaveEntries}
-use Rattle.nmgc_cycle.specs.declared.collector.Collector.{Collector}
-use Rattle.nmgc_cycle.specs.declared.progress.Marking.{Marking}
 use Rattle.nmgc_cycle.specs.declared.progress.Progress.TheVariants as doing
-use Rattle.nmgc_cycle.specs.Cycles.{StartsMarking, next_epoch}
-use Rattle.nmgc_cycle.specs.Keeps.{IsWellFormed, IsOwn}
-use Rattle.nmgc_cycle.specs.Listed.{HasQueueRoom, count_made_by}
-use Rattle.nmgc_cycle.specs.Shown.{seen, seen_mutator, words_in}
-use Rattle.nmgc_cycle.specs.Steps.{StandsAt, StartingLeads}
-use Rattle.nmgc_cycle.proofs.cycles.Closing.{words_same}
-use Rattle.nmgc_cycle.proofs.cycles.QueueRoom.{counted, one_room, room_ends, room_nurseries}
-use Rattle.nmgc_cycle.proofs.lists.RootLists.{seen_at}
-use Rattle.nmgc_cycle.proofs.cycles.StepReady.{PreparedBegins, none, snapshot_opening, beginning, prepared_shown}
+use Rattle.nmgc_cycle.proofs.{cycles.Closing.words_same, cycles.QueueRoom.counted, cycles.QueueRoom.one_room, cycles.QueueRoom.room_ends, cycles.QueueRoom.room_nurseries, lists.RootLists.seen_at, cycles.StepReady.PreparedBegins, cycles.StepReady.none, cycles.StepReady.snapshot_opening, cycles.StepReady.beginning, cycles.StepReady.prepared_shown}
 
 -- the laws on which a beginning rests
 pub record BeginningLaws : Type 0 where
@@ -119,7 +64,7 @@ module _ (laws : BeginningLaws) (script : Script) (c : Collector) (s : State) (h
   own_then n m e =
       let b = was n m e in
       let own = h.kept.own n b.0 b.1 in
-      subst (λ (x : Mutator). IsOwn next n x) (sym b.2.rest) (record {
+      rw b.2.rest (record {
         number = own.number;
         layout = own.layout ∙ sym layout_is;
         whole = record { layout = own.whole.layout; number = own.whole.number; size = own.whole.size };
@@ -212,8 +157,7 @@ module _ (laws : BeginningLaws) (script : Script) (c : Collector) (s : State) (h
   epoch_is = ap (λ (n : ℕ). epoch_of (n + 1)) h.matches.begun
 
   marked_then : HasMarked (all_prepared c.heap.segments) segments (blank (epoch_of (s.begun + 1)) (most_blocks c.heap.segments.layout)) mk.marker 0
-  marked_then = subst (λ (n : ℕ). HasMarked (all_prepared c.heap.segments) segments (blank n (most_blocks c.heap.segments.layout)) mk.marker 0) epoch_is
-      st.marked
+  marked_then = rw epoch_is at st.marked
 
   begun_then : HasBegun (all_prepared c.heap.segments) (epoch_of (s.begun + 1)) mk.sweeper
   begun_then = subst (λ (n : ℕ). HasBegun (all_prepared c.heap.segments) n mk.sweeper) epoch_is st.sweeper
@@ -234,7 +178,7 @@ module _ (laws : BeginningLaws) (script : Script) (c : Collector) (s : State) (h
       let m = laws.marks plan s words c.heap.segments (seen next) (ends_of (seen c)) (seen c).weaks o (most_blocks c.heap.segments.layout) h.heap
       h.sound.world st.sound refl refl refl marked_then tied
       queue_room_then (λ n mutator e. (rest_then n mutator e).entries) st.from_is notes.noted (begun_then.had, begun_then.freed) in
-      subst (λ (l : List Place). IsMarking k t (seen next) l) (sym same_places) (record {
+      rw same_places (record {
         core = m.core;
         machine = m.machine;
         tied = m.tied;
@@ -270,23 +214,11 @@ starting_leads laws script old new s limits h idle started =
     let st = started.starts in
     let words : started.marked.heap.words ≡ old.heap.words = words_same started.marked.heap.words old.heap.words st.words.1 h.kept.has_words st.words.0 in
     let before : started.marked ≡ record old { heap = record old.heap { segments = started.marked.heap.segments }; mutators = started.marked.mutators } =
-    st.rest ∙ ap (λ (x : Option (List ℕ)). record old {
-      heap = record old.heap { words = x; segments = started.marked.heap.segments };
-      mutators = started.marked.mutators;
-    }) words in
+    cc (st.rest, words) in
     let next : new ≡ record old {
       heap = record old.heap { segments = started.marked.heap.segments };
       mutators = started.marked.mutators;
       cycle = record old.cycle { progress = doing.Marking started.marking; begun = old.cycle.begun + 1; collect = false };
     } =
-    started.is ∙ ap (λ (x : Collector). record x {
-      cycle = record x.cycle {
-        progress = doing.Marking started.marking;
-        begun = old.cycle.begun + 1;
-        collect = false;
-      };
-    }) before in
-    subst (λ (x : Collector). StandsAt script x (record (cycle_started s) {
-      collect =
-          false;
-    })) (sym next) (leads laws script old s h idle started.marked started.marking st)
+    cc (started.is, before) in
+    rw next (leads laws script old s h idle started.marked started.marking st)

@@ -1,58 +1,12 @@
 -- What the closing of a cycle and its beginning ask for holds at a stop.
-use Rattle.std.proofs.Common.{ℕ, ◌≡◌, ◌+◌, ◌≤◌, List, [], length, map, refl, sym, ap, subst, ◌∙◌, arith, true, Some}
-use Rattle.std.specs.Prelude.{slice_get}
-use Rattle.std.proofs.lemmas.List.{length-map}
-use Rattle.nmgc_collector_laws.specs.Resolves.{FinishMayResolve, IsStopOf, finished_on, stop_opening}
-use Rattle.nmgc_collector_laws.specs.Tie.{CoreHasSnapshot}
-use Rattle.nmgc_snapshot_laws.specs.State.{State as Core, unmarked}
-use Rattle.nmgc_world_spec.specs.World.{World}
-use Rattle.nmgc_heap_spec.specs.laws.Kinds.{map_item}
-use Rattle.nmgc_lists.specs.laws.Items.{item_map}
-use Rattle.nmgc_journal.specs.declared.report.MutatorEnd.{MutatorEnd}
-use Rattle.nmgc_mutator.specs.declared.mutator.Mutator.{Mutator}
-use Rattle.nmgc_weak.specs.Queues.{weak_count}
-use Rattle.nmgc_mark.specs.Marker.{HasRoomToMark}
-use Rattle.nmgc_mark.specs.Seen.{MarkerSeen}
-use Rattle.nmgc_collector_laws.specs.Seen.{end_of, CollectorSeen, ends_of}
-use Rattle.nmgc_weak.specs.Closes.{DeathsHaveRoom}
-use Rattle.nmgc_weak.specs.declared.weaks.OldWeak.{OldWeak}
-use Rattle.nmgc_cycle.specs.declared.progress.Marking.{Marking}
-use Rattle.nmgc_cycle.specs.Shown.{seen_mutator, seen, words_in, phase_in, marker_in}
-use Rattle.nmgc_alloc.specs.AllocState.{AllocState, NoneIs, IsIn, cycle_begun}
-use Rattle.nmgc_alloc.specs.Stands.{StandsFor}
-use Rattle.nmgc_alloc.specs.Numbered.{Segments}
-use Rattle.nmgc_alloc.specs.Segments.{HasNone}
-use Rattle.nmgc_alloc.specs.declared.search.Sought.TheVariants as sought
-use Rattle.nmgc_alloc.specs.laws.Turning.{prepared_stands}
-use Rattle.nmgc_collector_laws.specs.Heaps.{AreShown, HeapRests}
-use Rattle.nmgc_collector_laws.specs.Prepares.{StopIsPrepared, all_prepared}
-use Rattle.nmgc_collector_laws.specs.RestMarking.{IsAtRestMarking as RestsBeside, opening_beside}
-use Rattle.nmgc_journal.specs.declared.report.Phase.TheVariants as phase
-use Rattle.nmgc_mark.specs.Beginning.{IsBeginning, IsPrepared}
-use Rattle.nmgc_mark.specs.Stopped.{IsReady}
-use Rattle.nmgc_object.specs.FinQueue.{FinQueue}
-use Rattle.nmgc_round.specs.View.{Opening}
-use Rattle.nmgc_collector_laws.specs.Collector.{AreAtRest, HoldsInCycle, IsEmptied, IsMarking, IsPacedAtStop}
-use Rattle.nmgc_run_laws.specs.Course.{IsInCourse}
-use Rattle.nmgc_run_spec.specs.Heap as run
-use Rattle.nmgc_alloc.specs.Settled.{AreSettled}
-use Rattle.nmgc_segment.specs.Marks.{epoch_of}
-use Rattle.nmgc_run_spec.specs.State.{State, Progress, idle, marking, sweeping, phase_of, plan_of, layout_of}
-use Rattle.nmgc_blocks_spec.specs.Cycle.{Cycle}
-use Rattle.nmgc_script.specs.declared.script.Script.{Script}
-use Rattle.nmgc_segment.specs.declared.state.State.TheVariants as stands
+use Rattle.nmgc_cycle.proofs.Vocabulary.{ℕ, ◌≡◌, ◌+◌, ◌≤◌, List, [], length, map, refl, sym, ap, subst, ◌∙◌, arith, true, Some, slice_get, length-map, FinishMayResolve, IsStopOf, finished_on, stop_opening, CoreHasSnapshot, Core, unmarked, World, map_item, item_map, MutatorEnd, Mutator, weak_count, HasRoomToMark, end_of, CollectorSeen, ends_of, DeathsHaveRoom, OldWeak, Marking, seen_mutator, seen, words_in, phase_in, marker_in, AllocState, NoneIs, IsIn, cycle_begun, StandsFor, Segments, HasNone, prepared_stands, AreShown, HeapRests, StopIsPrepared, all_prepared, RestsBeside, opening_beside, IsBeginning, IsPrepared, IsReady, FinQueue, Opening, AreAtRest, HoldsInCycle, IsEmptied, IsMarking, IsPacedAtStop, IsInCourse, AreSettled, epoch_of, State, Progress, idle, marking, sweeping, phase_of, plan_of, layout_of, Cycle, Script, Collector, Doing, CanClose, IsReadyToClose, CanBegin, next_epoch, queues_in, CanCloseNow, CloseNowReady, StandsForState, StandsAt, IsPacedWithin, CloseReady, BeginReady}
 use Rattle.nmgc_collector_laws.specs.Worked.{registers_of}
-use Rattle.nmgc_cycle.specs.declared.collector.Collector.{Collector}
-use Rattle.nmgc_cycle.specs.declared.progress.Progress.{Progress as Doing}
+use Rattle.nmgc_alloc.specs.declared.search.Sought.TheVariants as sought
+use Rattle.nmgc_journal.specs.declared.report.Phase.TheVariants as phase
+use Rattle.nmgc_run_spec.specs.Heap as run
+use Rattle.nmgc_segment.specs.declared.state.State.TheVariants as stands
 use Rattle.nmgc_cycle.specs.declared.progress.Progress.TheVariants as doing
-use Rattle.nmgc_cycle.specs.Cycles.{CanClose, IsReadyToClose, CanBegin, next_epoch}
-use Rattle.nmgc_cycle.specs.Roots.{queues_in}
-use Rattle.nmgc_cycle.specs.Full.{CanCloseNow}
-use Rattle.nmgc_cycle.specs.FullLaws.{CloseNowReady}
-use Rattle.nmgc_cycle.specs.Steps.{StandsForState, StandsAt, IsPacedWithin, CloseReady, BeginReady}
-use Rattle.nmgc_cycle.proofs.lists.MutatorLists.{words_of_queues}
-use Rattle.nmgc_cycle.proofs.cycles.PreparedSegments.{prepared_sound}
-use Rattle.nmgc_cycle.proofs.lists.Views.{registers_seen, queues_seen}
+use Rattle.nmgc_cycle.proofs.{lists.MutatorLists.words_of_queues, cycles.PreparedSegments.prepared_sound, lists.Views.registers_seen, lists.Views.queues_seen}
 
 -- Closing
 
@@ -110,17 +64,21 @@ module _ (Paced : Cycle → State → CollectorSeen →
       )) (now.0.queue_room m (seen_mutator own.0) (item_map seen_mutator c.mutators.items m own.0 own.1))
 
   many_queues : length (queues_in c.mutators.items) ≡ length now.0.core.world.mutators
-  many_queues = length-map c.mutators.items (λ (x : Mutator). x.queue) ∙ sym (length-map c.mutators.items seen_mutator) ∙
-      sym (length-map (map seen_mutator c.mutators.items) end_of) ∙ sym (length-map (ends_of (seen c)) (λ (m : MutatorEnd). m.queue)) ∙
-      h.heap.holds.roots.mutators.0 ∙ ap (λ (w : World). length w.mutators) (sym now.0.machine.world_is)
+  many_queues = cc (
+    length-map c.mutators.items (λ (x : Mutator). x.queue),
+    length-map c.mutators.items seen_mutator,
+    length-map (map seen_mutator c.mutators.items) end_of,
+    length-map (ends_of (seen c)) (λ (m : MutatorEnd). m.queue),
+    h.heap.holds.roots.mutators.0,
+    now.0.machine.world_is,
+  )
 
   pub ready : (m : Marking) → m.marker ≡ (seen c).marker →
       IsReadyToClose (words_in c.heap.words) c.heap.segments c.heap.weaks.list (queues_in c.mutators.items) m
   ready m marker = record {
     room = subst (HasRoomToMark c.heap.segments) (sym marker) now.0.room;
     opening = stop_opening (layout_of (plan_of script)) k s (seen c) c.mutators.items here;
-    ready = subst (λ (x : MarkerSeen).
-        IsReady (stop_opening (layout_of (plan_of script)) k s (seen c) c.mutators.items here) (words_in c.heap.words) c.heap.segments x) (sym marker) there.1;
+    ready = rw marker there.1;
     resolves = λ between finisher f. may (layout_of (plan_of script)) k s (seen c) c.mutators.items between finisher here f;
     queue_room = λ between marked finisher then after list deaths f r.
         deaths_room (finished_on (stop_opening (layout_of (plan_of script)) k s (seen c) c.mutators.items here) between finisher f) after
@@ -210,10 +168,7 @@ module _ (prepares : StopIsPrepared) (begins : PreparedBegins) (script : Script)
   beginning =
       let there = begins snapshot_opening (all_prepared c.heap.segments) (epoch_of (s.begun + 1)) (words_in c.heap.words)
       (run.registers_of (ends_of (seen c))) (queues_in c.mutators.items) prepared_there in
-      subst (λ (l : List ℕ).
-      IsBeginning snapshot_opening (all_prepared c.heap.segments) (next_epoch c) (words_in c.heap.words) l (queues_in c.mutators.items)) (registers_seen c)
-      (subst (λ (n : ℕ). IsBeginning snapshot_opening (all_prepared c.heap.segments) (epoch_of (n + 1)) (words_in c.heap.words)
-      (run.registers_of (ends_of (seen c))) (queues_in c.mutators.items)) (sym h.matches.begun) there)
+      rw (← (registers_seen c)) (rw h.matches.begun there)
 
   pub prepared_shown : StandsFor (all_prepared c.heap.segments) (words_in c.heap.words) (cycle_begun s.allocation)
   prepared_shown = prepared_stands c.heap.segments (words_in c.heap.words) s.allocation h.heap.holds.stands

@@ -1,46 +1,8 @@
 -- At a stop all that waits is swept: the places of freed names are gone, and the collector stands for what is left.
-use Rattle.std.proofs.Common.{ℕ, ◌≡◌, ◌≢◌, List, [], length, refl, sym, ap, subst, ◌∙◌, inl, inr, Some}
-use Rattle.std.specs.Prelude.{Contains, IsSome}
-use Rattle.nmgc_world_spec.specs.declared.node.Node.TheVariants.{Weak}
-use Rattle.nmgc_world_spec.specs.declared.value.Name.{Name}
-use Rattle.nmgc_world_spec.specs.Reach.{IsAliveWeak, start}
-use Rattle.nmgc_world_spec.specs.Step.{shared_name}
-use Rattle.nmgc_world_spec.specs.World.{World, IsWorld, node_of}
-use Rattle.nmgc_object.specs.declared.layout.Layout.{Layout}
-use Rattle.nmgc_alloc.specs.AllocState.{AllocState, HasBlock, SweepsSome}
-use Rattle.nmgc_alloc.specs.Numbered.{Segments}
-use Rattle.nmgc_collector_laws.specs.Drops.{DropsFreed, FreesUntracked, StopFreesUntracked, SweptHoldsAtStop}
-use Rattle.nmgc_heap_spec.specs.Places.{Place}
-use Rattle.nmgc_heap_spec.specs.Tracked.{IsTracked}
-use Rattle.nmgc_heap_spec.specs.laws.Roots.{tracked_wide, wide_tracked}
+use Rattle.nmgc_cycle.proofs.Vocabulary.{ℕ, ◌≡◌, ◌≢◌, List, [], length, refl, sym, ap, subst, ◌∙◌, inl, inr, Some, Contains, IsSome, Weak, Name, IsAliveWeak, shared_name, World, IsWorld, node_of, Layout, AllocState, HasBlock, SweepsSome, Segments, DropsFreed, FreesUntracked, StopFreesUntracked, SweptHoldsAtStop, Place, IsTracked, tracked_wide, wide_tracked, IsFor, IsKeptIn, Cycle, AreNurseries, HoldsAtStop, AreSettled, CollectorSeen, ends_of, nurseries_of, IsOfSnapshot, IsSoundState, State, Progress, idle, marking, sweeping, phase_of, plan_of, layout_of, waiting_count, SweepsRest, each_filed, each_waits, each_lie, sweeps_keep, Script, LeftIsCounted, AreLeft, IsAtWork, HaveEntries, named_swept, Collector, Doing, Sweeping, CanSweepRest, HasSweptAll, SweepsRestBy, SweepingRestLeads, SweepRestReady, IsWellFormed, Sweeps, died, seen, words_in, sweeper_in, cycle_in, phase_in, StandsAt, no_weak}
+use Rattle.nmgc_world_spec.specs.Reach.{start}
 use Rattle.nmgc_journal.specs.declared.report.Phase.TheVariants as phase
-use Rattle.nmgc_minor.specs.Promotion.{IsFor}
-use Rattle.nmgc_blocks_spec.specs.Cycle.{IsKeptIn, Cycle}
-use Rattle.nmgc_collector_laws.specs.Collector.{AreNurseries}
-use Rattle.nmgc_run_spec.specs.Heap.{HoldsAtStop}
-use Rattle.nmgc_alloc.specs.Settled.{AreSettled}
-use Rattle.nmgc_collector_laws.specs.Seen.{CollectorSeen, ends_of, nurseries_of}
-use Rattle.nmgc_run_laws.specs.Sound.{IsOfSnapshot, IsSoundState}
-use Rattle.nmgc_run_spec.specs.State.{State, Progress, idle, marking, sweeping, phase_of, plan_of, layout_of, waiting_count}
-use Rattle.nmgc_run_spec.specs.Stop.{SweepsRest}
-use Rattle.nmgc_run_laws.specs.laws.Filing.{each_filed}
-use Rattle.nmgc_run_laws.specs.laws.Sweeps.{each_waits, each_lie, sweeps_keep}
-use Rattle.nmgc_script.specs.declared.script.Script.{Script}
-use Rattle.nmgc_sweep.specs.Statements.{LeftIsCounted}
-use Rattle.nmgc_sweep.specs.Sweeper.{AreLeft}
-use Rattle.nmgc_sweep.specs.Work.{IsAtWork}
-use Rattle.nmgc_sweep.specs.Names.{AreNamed, HaveEntries}
-use Rattle.nmgc_sweep.specs.laws.Names.{named_swept}
-use Rattle.nmgc_cycle.specs.declared.collector.Collector.{Collector}
-use Rattle.nmgc_cycle.specs.declared.progress.Progress.{Progress as Doing}
 use Rattle.nmgc_cycle.specs.declared.progress.Progress.TheVariants as doing
-use Rattle.nmgc_cycle.specs.declared.progress.Sweeping.{Sweeping}
-use Rattle.nmgc_cycle.specs.Full.{CanSweepRest, HasSweptAll, SweepsRest as SweepsRestBy}
-use Rattle.nmgc_cycle.specs.FullLaws.{SweepingRestLeads, SweepRestReady}
-use Rattle.nmgc_cycle.specs.Keeps.{IsWellFormed, Sweeps}
-use Rattle.nmgc_cycle.specs.Shown.{died, seen, words_in, sweeper_in, cycle_in, phase_in}
-use Rattle.nmgc_cycle.specs.Steps.{StandsAt}
-use Rattle.nmgc_world_laws.specs.laws.Weaks.{not_array as no_weak}
 
 -- the laws on which a sweep at a stop rests
 pub record SweepingLaws : Type 0 where
@@ -91,8 +53,7 @@ module _ (laws : SweepingLaws) (script : Script) (c : Collector) (st : State) (k
 
   pub swept : (b : AllocState) × SweepsSome (IsKeptIn k) (length w.sweeper.left) st.allocation b ×
       IsAtWork k since words b new (cycle_in (doing.Sweeping w) (died c.heap.weaks.deaths)) v.sweeper
-  swept = sw.swept.sweeps k since words st.allocation (cycle_in (doing.Sweeping w) (died c.heap.weaks.deaths)) (subst (λ (l : Layout).
-      AreNamed l c.heap.names st.allocation) (sym h.kept.layout) h.named) h.sweeper.1
+  swept = sw.swept.sweeps k since words st.allocation (cycle_in (doing.Sweeping w) (died c.heap.weaks.deaths)) (rw h.kept.layout h.named) h.sweeper.1
 
   abbrev pub b : AllocState
   b = swept.0
@@ -104,8 +65,7 @@ module _ (laws : SweepingLaws) (script : Script) (c : Collector) (st : State) (k
   next = record c { heap = record c.heap { segments = new }; cycle = record c.cycle { progress = doing.Sweeping (record w { sweeper = v.sweeper }) } }
 
   rest : SweepsSome (IsKeptIn k) (waiting_count st.allocation) st.allocation b
-  rest = subst (λ (count : ℕ).
-      SweepsSome (IsKeptIn k) count st.allocation b) (sym (laws.counted words st.allocation c.heap.segments w.sweeper h.heap.holds.stands h.sweeper.0)) swept.1
+  rest = rw (laws.counted words st.allocation c.heap.segments w.sweeper h.heap.holds.stands h.sweeper.0) swept.1
 
   frees : FreesUntracked [] st.world st.world st.allocation b
   frees = laws.frees layout k st.world st.allocation b (waiting_count st.allocation) h.sound.sound_blocks h.sound.known h.sound.cycle.0

@@ -1,15 +1,5 @@
 -- The rounds that may still follow: what leaves them as few, and that the numbers of a run fit 32 bits.
-use Rattle.std.proofs.Common.{ℕ, ◌≡◌, ◌+◌, ◌<◌, ◌≤◌, ◌^◌, List, [], length, ap, ◌∙◌, arith, inl, inr}
-use Rattle.nmgc_journal.specs.declared.report.RoundRows.{RoundRows}
-use Rattle.nmgc_journal.specs.declared.report.StopRow.{StopRow}
-use Rattle.nmgc_script.specs.declared.script.Script.{Script}
-use Rattle.nmgc_script.specs.laws.Versions.{threads_few}
-use Rattle.nmgc_cycle.specs.declared.collector.Collector.{Collector}
-use Rattle.nmgc_cycle.specs.Bound.{commands_left, most_stops, phase_left, MayFollow, AreFew, NoneIsDue, commands, one_cycle, no_cycle}
-use Rattle.nmgc_cycle.specs.Keeps.{CanStop, IsFresh}
-use Rattle.nmgc_script.specs.Limits.{IsInLimits}
-use Rattle.nmgc_cycle.proofs.lengths.Measures.{commands_most}
-use Rattle.nmgc_cycle.proofs.lists.Phases.{when_idle}
+use Rattle.nmgc_cycle.proofs.{Vocabulary.ℕ, Vocabulary.◌≡◌, Vocabulary.◌+◌, Vocabulary.◌<◌, Vocabulary.◌≤◌, Vocabulary.◌^◌, Vocabulary.List, Vocabulary.[], Vocabulary.length, Vocabulary.ap, Vocabulary.◌∙◌, Vocabulary.arith, Vocabulary.inl, Vocabulary.inr, Vocabulary.RoundRows, Vocabulary.StopRow, Vocabulary.Script, Vocabulary.threads_few, Vocabulary.Collector, Vocabulary.commands_left, Vocabulary.most_stops, Vocabulary.phase_left, Vocabulary.MayFollow, Vocabulary.AreFew, Vocabulary.NoneIsDue, Vocabulary.commands, Vocabulary.one_cycle, Vocabulary.no_cycle, Vocabulary.CanStop, Vocabulary.IsFresh, Vocabulary.IsInLimits, lengths.Measures.commands_most, lists.Phases.when_idle}
 
 -- the stops that were counted are no more than a run has
 pub within : (N : Type 0) (script : Script) (c : Collector) (stops : ℕ) → MayFollow N script c stops → stops ≤ most_stops script

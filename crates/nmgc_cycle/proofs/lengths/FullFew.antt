@@ -1,24 +1,8 @@
 -- A full cycle leaves no more rounds to follow, and begins one cycle.
-use Rattle.std.proofs.Common.{ℕ, ◌≡◌, ◌+◌, ◌≤◌, List, Bool, false, sym, ap, subst, ◌∙◌, arith, inl, inr}
-use Rattle.nmgc_alloc.specs.AllocState.{AllocState}
-use Rattle.nmgc_alloc.specs.Stands.{StandsFor}
-use Rattle.nmgc_journal.specs.declared.report.CycleRow.{CycleRow}
-use Rattle.nmgc_journal.specs.declared.report.RoundRows.{RoundRows}
-use Rattle.nmgc_blocks_spec.specs.Cycle.{IsKeptIn}
-use Rattle.nmgc_run_spec.specs.Closing.{ClosesNow}
-use Rattle.nmgc_run_spec.specs.State.{Plan, State, Progress, idle, marking, sweeping, cycle_started}
-use Rattle.nmgc_run_spec.specs.Stop.{Finishes, DoesFullCycle, IsFullDue, Proceeds, with_all_retired, SweepsRest}
-use Rattle.nmgc_script.specs.declared.script.Script.{Script}
-use Rattle.nmgc_cycle.specs.declared.collector.Collector.{Collector}
+use Rattle.nmgc_cycle.proofs.Vocabulary.{ℕ, ◌≡◌, ◌+◌, ◌≤◌, List, Bool, false, sym, ap, subst, ◌∙◌, arith, inl, inr, AllocState, StandsFor, CycleRow, RoundRows, IsKeptIn, ClosesNow, Plan, State, Progress, idle, marking, sweeping, cycle_started, Finishes, DoesFullCycle, IsFullDue, Proceeds, with_all_retired, SweepsRest, Script, Collector, commands_left, heap_of, phase_left, MayFollow, AreFew, HasMore, NoneIsDue, commands, one_cycle, no_cycle, HasStood, IsDueBy, HasDoneFull, ProceedsThen, words_in}
+use Rattle.nmgc_cycle.specs.Cycles.{all_prepared}
 use Rattle.nmgc_cycle.specs.declared.progress.Progress.TheVariants as doing
-use Rattle.nmgc_cycle.specs.Bound.{commands_left, heap_of, phase_left, MayFollow, AreFew, HasMore, NoneIsDue, commands, one_cycle, no_cycle}
-use Rattle.nmgc_cycle.specs.Cycles.{all_prepared, HasStood}
-use Rattle.nmgc_cycle.specs.Full.{IsFullDue as IsDueBy, HasDoneFull, Proceeds as ProceedsThen}
-use Rattle.nmgc_cycle.specs.Shown.{words_in}
-use Rattle.nmgc_cycle.proofs.cycles.FullCycle.{finished_idle, finished_begun}
-use Rattle.nmgc_cycle.proofs.rounds.NoneLeft.{each_fresh}
-use Rattle.nmgc_cycle.proofs.lengths.StopFew.{beginning_few, beginning_more, beginning_begun}
-use Rattle.nmgc_cycle.proofs.stops.WholeStop.{ending_keeps}
+use Rattle.nmgc_cycle.proofs.{cycles.FullCycle.finished_idle, cycles.FullCycle.finished_begun, rounds.NoneLeft.each_fresh, lengths.StopFew.beginning_few, lengths.StopFew.beginning_more, lengths.StopFew.beginning_begun, stops.WholeStop.ending_keeps}
 
 -- since the cycle began nothing was filled by placing
 
@@ -34,9 +18,7 @@ sweeping_fresh (sweeping k since) a b h = each_fresh (IsKeptIn k) a b h.numbers 
 
 finishing_fresh : (s t : State) (rows : List CycleRow) → Finishes s t rows → t.allocation.fresh ≡ s.allocation.fresh
 finishing_fresh s t rows f =
-    ap (λ (x : AllocState). x.fresh) (ending_keeps f.swept.progress f.swept t rows f.ends).1
-    ∙ sweeping_fresh f.closed.progress f.closed.allocation f.swept.allocation f.sweeps
-    ∙ ap (λ (x : AllocState). x.fresh) (closing_fresh s.progress s f.closed f.closes)
+    cc ((ending_keeps f.swept.progress f.swept t rows f.ends).1, sweeping_fresh f.closed.progress f.closed.allocation f.swept.allocation f.sweeps, closing_fresh s.progress s f.closed f.closes)
 
 full_fresh : (s t : State) (rows : List CycleRow) → DoesFullCycle s t rows → t.allocation.fresh ≡ 0
 full_fresh s t rows d = ap (λ (x : State). x.allocation.fresh) d.rest ∙ finishing_fresh (cycle_started (with_all_retired d.idled)) d.last d.own d.again

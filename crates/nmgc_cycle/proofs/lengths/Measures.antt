@@ -1,25 +1,5 @@
 -- How many commands are left, and that a round answers one where any is.
-use Rattle.std.proofs.Common.{ℕ, zero, suc, ◌≡◌, ◌+◌, ◌-◌, ◌*◌, ◌<◌, ◌≤◌, List, [], ◌∷◌, ◌++◌, length, drop, refl, sym, ap, subst, ◌∙◌, arith, Bool, true, slice_index_or, inl, inr}
-use Rattle.std.specs.Prelude.{All, ◌&&◌, nat_lt, nat_le, if◌then◌else◌}
-use Rattle.std.proofs.lemmas.Bool.{le-leb, lt-ltb, cases_lt}
-use Rattle.std.proofs.lemmas.List.{length-drop}
-use Rattle.std.proofs.lemmas.List.Elements.{All-drop, All-head, All-tail}
-use Rattle.nmgc_world_spec.specs.Command.{Fits, words_made}
-use Rattle.nmgc_world_spec.specs.History.{Row}
-use Rattle.nmgc_world_spec.specs.declared.command.Command.{Command}
-use Rattle.nmgc_world_spec.specs.declared.command.Reply.{Reply}
-use Rattle.nmgc_limits.specs.Limits.{most_script_bytes}
-use Rattle.nmgc_journal.specs.declared.report.RoundRows.{RoundRows}
-use Rattle.nmgc_script.specs.declared.script.Config.{Config}
-use Rattle.nmgc_script.specs.declared.script.Script.{Script}
-use Rattle.nmgc_run_spec.specs.Round.{IsRound}
-use Rattle.nmgc_run_spec.specs.Slice.{slice, slice_of, is_next, ends_slice, program_of}
-use Rattle.nmgc_run_spec.specs.State.{Plan, State, plan_of}
-use Rattle.nmgc_run_laws.specs.Statements.{answered_count}
-use Rattle.nmgc_run_laws.specs.laws.Lefts.{slice_count}
-use Rattle.nmgc_run_laws.specs.laws.Limits.{scripts_have_good_plans}
-use Rattle.nmgc_cycle.specs.Bound.{left_from, commands_left}
-use Rattle.nmgc_script.specs.Limits.{IsInLimits}
+use Rattle.nmgc_cycle.proofs.Vocabulary.{ℕ, zero, suc, ◌≡◌, ◌+◌, ◌-◌, ◌*◌, ◌<◌, ◌≤◌, List, [], ◌∷◌, ◌++◌, length, drop, refl, sym, ap, subst, ◌∙◌, arith, Bool, true, slice_index_or, inl, inr, All, ◌&&◌, nat_lt, nat_le, if◌then◌else◌, le-leb, lt-ltb, cases_lt, length-drop, All-drop, All-head, All-tail, Fits, words_made, Row, Command, Reply, most_script_bytes, RoundRows, Config, Script, IsRound, slice, slice_of, is_next, ends_slice, program_of, Plan, State, plan_of, answered_count, slice_count, scripts_have_good_plans, left_from, commands_left, IsInLimits}
 
 -- where more were answered of each, no more are left
 no_more : (old new : ℕ → ℕ) (m : ℕ) (programs : List (List Command)) → ((k : ℕ) → old k ≤ new k) → left_from new m programs ≤ left_from old m programs

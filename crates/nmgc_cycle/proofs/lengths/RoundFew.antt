@@ -1,38 +1,9 @@
 -- A round leaves fewer rounds to follow.
-use Rattle.std.proofs.Common.{ℕ, ◌≡◌, ◌+◌, ◌<◌, ◌≤◌, ◌⊎◌, List, [], ◌∷◌, ◌++◌, length, refl, sym, ap, subst, ◌∙◌, arith, Bool, true, false, None, inl, inr}
-use Rattle.std.specs.Prelude.{◌&&◌, not, nat_lt, if◌then◌else◌, Some}
-use Rattle.std.proofs.lemmas.Bool.{cases_lt}
-use Rattle.nmgc_alloc.specs.Numbered.{Segments}
-use Rattle.nmgc_world_spec.specs.History.{Row}
-use Rattle.nmgc_world_spec.specs.declared.command.Reply.{Reply}
-use Rattle.nmgc_journal.specs.declared.report.End.{End}
-use Rattle.nmgc_journal.specs.declared.report.End.TheVariants.{Done, HeapFull}
+use Rattle.nmgc_cycle.proofs.Vocabulary.{ℕ, ◌≡◌, ◌+◌, ◌<◌, ◌≤◌, ◌⊎◌, List, [], ◌∷◌, ◌++◌, length, refl, sym, ap, subst, ◌∙◌, arith, Bool, true, false, None, inl, inr, ◌&&◌, not, nat_lt, if◌then◌else◌, cases_lt, Segments, Row, Reply, End, HeapFull, RoundRows, StopRow, Round, RoundSeat, Script, IsAfterRound, Run, last_state, has_left, program_of, Plan, State, Progress, idle, marking, sweeping, phase_of, is_idle, plan_of, free_count, reserve_of, answered_count, answer_of, left_is_told, Name, Collector, Marking, Doing, Sweeping, commands_left, cycle_most, heap_of, most_stops, phase_left, MayFollow, AreFewBeforeStop, HasMore, NoneIsDue, commands, one_cycle, no_cycle, HasHelped, HasScanned, HasSweptSome, IsAfterStop, seen, phase_in, told_cycles, IsInLimits, Some}
+use Rattle.nmgc_journal.specs.declared.report.End.TheVariants.{Done}
 use Rattle.nmgc_journal.specs.declared.report.Phase.TheVariants as phase
-use Rattle.nmgc_journal.specs.declared.report.RoundRows.{RoundRows}
-use Rattle.nmgc_journal.specs.declared.report.StopRow.{StopRow}
-use Rattle.nmgc_round.specs.declared.table.Round.{Round}
-use Rattle.nmgc_round.specs.Seat.{RoundSeat}
-use Rattle.nmgc_script.specs.declared.script.Script.{Script}
-use Rattle.nmgc_collector_laws.specs.Collector.{IsAfterRound}
-use Rattle.nmgc_run_spec.specs.Run.{Run, last_state}
-use Rattle.nmgc_run_spec.specs.Slice.{has_left, program_of}
-use Rattle.nmgc_run_spec.specs.State.{Plan, State, Progress, idle, marking, sweeping, phase_of, is_idle, plan_of, free_count, reserve_of}
-use Rattle.nmgc_run_laws.specs.Statements.{answered_count}
-use Rattle.nmgc_run_spec.specs.Stop.{answer_of}
-use Rattle.nmgc_run_laws.specs.laws.Lefts.{left_is_told}
-use Rattle.nmgc_world_spec.specs.declared.value.Name.{Name}
-use Rattle.nmgc_cycle.specs.declared.collector.Collector.{Collector}
-use Rattle.nmgc_cycle.specs.declared.progress.Marking.{Marking}
-use Rattle.nmgc_cycle.specs.declared.progress.Progress.{Progress as Doing}
 use Rattle.nmgc_cycle.specs.declared.progress.Progress.TheVariants as doing
-use Rattle.nmgc_cycle.specs.declared.progress.Sweeping.{Sweeping}
-use Rattle.nmgc_cycle.specs.Bound.{commands_left, cycle_most, heap_of, most_stops, phase_left, MayFollow, AreFewBeforeStop, HasMore, NoneIsDue, commands, one_cycle, no_cycle}
-use Rattle.nmgc_cycle.specs.Cycles.{HasHelped, HasScanned, HasSweptSome}
-use Rattle.nmgc_cycle.specs.Keeps.{IsAfterStop}
-use Rattle.nmgc_cycle.specs.Shown.{seen, phase_in, told_cycles}
-use Rattle.nmgc_script.specs.Limits.{IsInLimits}
-use Rattle.nmgc_cycle.proofs.lengths.Measures.{AreLeft, nothing_left, round_falls, left_then, left_less, left_is}
-use Rattle.nmgc_cycle.proofs.rounds.NoneLeft.{DoesNothing, nothing_done, none_has}
+use Rattle.nmgc_cycle.proofs.{lengths.Measures.AreLeft, lengths.Measures.nothing_left, lengths.Measures.round_falls, lengths.Measures.left_then, lengths.Measures.left_less, lengths.Measures.left_is, rounds.NoneLeft.DoesNothing, rounds.NoneLeft.nothing_done, rounds.NoneLeft.none_has}
 
 -- The collector's part
 
@@ -75,10 +46,8 @@ module _ (segments quota : ℕ) (round : Round) (from seat : RoundSeat) (old new
   helped : (p q : Doing) → HasMore p → HasHelped round quota from seat old new names p q → ((p ≡ doing.Idle) × (q ≡ doing.Idle)) ⊎
       (phase_left segments q < phase_left segments p)
   helped doing.Idle q more h = inl (refl, h.2)
-  helped (doing.Marking m) q more h = inr (subst (λ (x : Doing).
-      phase_left segments x < phase_left segments (doing.Marking m)) (sym h.1) (scanned_falls m h.0 more h.2))
-  helped (doing.Sweeping w) q more h = inr (subst (λ (x : Doing).
-      phase_left segments x < phase_left segments (doing.Sweeping w)) (sym h.1) (swept_falls w h.0 more h.3))
+  helped (doing.Marking m) q more h = inr (rw h.1 (scanned_falls m h.0 more h.2))
+  helped (doing.Sweeping w) q more h = inr (rw h.1 (swept_falls w h.0 more h.3))
 
 -- a run goes on where commands are left, or a cycle is in progress
 busy : (plan : Plan) (s : State) → has_left s.left ≡ false → answer_of plan s ≡ None → is_idle s.progress ≡ false

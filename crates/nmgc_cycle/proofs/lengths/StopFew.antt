@@ -1,40 +1,22 @@
 -- The steps of a stop leave no more rounds to follow.
-use Rattle.std.proofs.Common.{ℕ, suc, ◌≡◌, ◌+◌, ◌<◌, ◌≤◌, List, [], ◌∷◌, ◌++◌, length, refl, sym, ap, subst, ◌∙◌, arith, Bool, true, false, None, Some, inl, inr, length-append}
-use Rattle.std.specs.Prelude.{if◌then◌else◌, Contains, IsSome, Option}
-use Rattle.std.proofs.lemmas.Bool.{cases_lt}
-use Rattle.std.proofs.lemmas.List.{get_or_past}
-use Rattle.nmgc_alloc.specs.AllocState.{AllocState}
-use Rattle.nmgc_alloc.specs.Stands.{StandsFor}
-use Rattle.nmgc_alloc.specs.Numbered.{Segments}
-use Rattle.nmgc_alloc.specs.Segments.{HasNone, IsWaiting}
+use Rattle.std.proofs.{Common.ℕ, Common.suc, Common.◌≡◌, Common.◌+◌, Common.◌<◌, Common.◌≤◌, Common.List, Common.[], Common.◌∷◌, Common.◌++◌, Common.length, Common.refl, Common.sym, Common.ap, Common.subst, Common.◌∙◌, Common.arith, Common.Bool, Common.true, Common.false, Common.inl, Common.inr, Common.length-append, lemmas.Bool.cases_lt, lemmas.List.get_or_past}
+use Rattle.std.specs.Prelude.{if◌then◌else◌, Contains, Option}
+use Rattle.nmgc_alloc.specs.{AllocState.AllocState, Stands.StandsFor, Numbered.Segments, Segments.HasNone, Segments.IsWaiting}
 use Rattle.nmgc_alloc.specs.declared.search.Sought.TheVariants as sought
 use Rattle.nmgc_segment.specs.Segment.{Segment, free_segment}
 use Rattle.nmgc_segment.specs.declared.state.State.TheVariants as stands
 use Rattle.nmgc_blocks_spec.specs.Promoted.{IsPromoted, PlacesEach}
-use Rattle.nmgc_world_spec.specs.World.{World, node_of}
-use Rattle.nmgc_world_spec.specs.declared.value.Name.{Name}
-use Rattle.nmgc_mark.specs.Marker.{StandAsBefore}
-use Rattle.nmgc_mark.specs.Beginning.{most_blocks}
-use Rattle.nmgc_mark.specs.declared.marker.Work.{Work}
+use Rattle.nmgc_world_spec.specs.{World.World, World.node_of, declared.value.Name.Name, Listing.Ascends}
+use Rattle.nmgc_mark.specs.{Marker.StandAsBefore, Beginning.most_blocks, declared.marker.Work.Work}
 use Rattle.nmgc_object.specs.declared.layout.Layout.{Layout}
-use Rattle.nmgc_journal.specs.declared.report.End.{End}
-use Rattle.nmgc_journal.specs.declared.report.RoundRows.{RoundRows}
-use Rattle.nmgc_journal.specs.declared.report.StopRow.{StopRow}
+use Rattle.nmgc_journal.specs.{declared.report.End.End, declared.report.RoundRows.RoundRows, declared.report.StopRow.StopRow}
 use Rattle.nmgc_script.specs.declared.script.Script.{Script}
 use Rattle.nmgc_sweep.specs.Sweeper.{Sweeper, AreLeft}
-use Rattle.nmgc_world_spec.specs.Listing.{Ascends}
-use Rattle.nmgc_run_spec.specs.Stop.{Promotes}
-use Rattle.nmgc_run_spec.specs.State.{State}
-use Rattle.nmgc_cycle.specs.declared.collector.Collector.{Collector}
-use Rattle.nmgc_cycle.specs.declared.progress.Marking.{Marking}
-use Rattle.nmgc_cycle.specs.declared.progress.Progress.{Progress as Doing}
+use Rattle.nmgc_run_spec.specs.{Stop.Promotes, State.State}
+use Rattle.nmgc_cycle.specs.{declared.collector.Collector.Collector, declared.progress.Marking.Marking, declared.progress.Progress.Progress as Doing, declared.progress.Sweeping.Sweeping, Shown.words_in, Shown.work_in, Stopping.HasPromoted, Bound.commands_left, Bound.heap_of, Bound.phase_left, Bound.MayFollow, Bound.AreFew, Bound.AreFewAtStop, Bound.HasMore, Bound.NoneIsDue, Bound.commands, Bound.one_cycle, Bound.no_cycle, Cycles.HasTaken, Cycles.AddsTo, Cycles.HasClosed, Cycles.Closes, Cycles.Ends, Cycles.IsDue, Cycles.Begins, Cycles.HasStarted, Cycles.all_prepared, Cycles.remembered_by, Cycles.HasStood}
 use Rattle.nmgc_cycle.specs.declared.progress.Progress.TheVariants as doing
-use Rattle.nmgc_cycle.specs.declared.progress.Sweeping.{Sweeping}
-use Rattle.nmgc_cycle.specs.Bound.{commands_left, heap_of, phase_left, MayFollow, AreFew, AreFewAtStop, HasMore, NoneIsDue, commands, one_cycle, no_cycle}
-use Rattle.nmgc_cycle.specs.Cycles.{HasTaken, AddsTo, HasClosed, Closes, Ends, IsDue, Begins, HasStarted, all_prepared, remembered_by, HasStood}
-use Rattle.nmgc_cycle.specs.Shown.{words_in, work_in}
-use Rattle.nmgc_cycle.specs.Stopping.{HasPromoted}
 use Rattle.nmgc_cycle.proofs.lengths.Few.{leaves_few, same_few}
+use Rattle.nmgc_lists.specs.laws.Options.{not_none}
 
 -- segments that stand for the same allocation state count as many filled ones
 fresh_by : (old new : Segments) (words after : List ℕ) (a : AllocState) → StandsFor old words a → StandsFor new after a → new.fresh ≡ old.fresh
@@ -47,11 +29,7 @@ fresh_before old new words a h stays = fresh_by old new words words a h (stays w
 
 -- where the world is as it was nothing is young
 none_young : (w : World) (name : Name) → IsPromoted w w name → ⊥
-none_young w name h = no (node_of w name) h.0.0 h.0.1
-  where
-    no : {A : Type 0} (o : Option A) → o ≡ None → IsSome o → ⊥
-    no None e some = cc
-    no (Some x) e some = cc
+none_young w name h = not_none (node_of w name) h.0.0 h.0.1
 
 none_placed : (layout : Layout) (w : World) (a b : AllocState) (names : List Name) → ((name : Name) → Contains names name → ⊥) →
     PlacesEach layout w a names b → b ≡ a

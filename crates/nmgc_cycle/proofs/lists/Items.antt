@@ -1,6 +1,5 @@
 -- Items of lists.
-use Rattle.std.proofs.Common.{ℕ, zero, suc, ◌≡◌, List, [], ◌∷◌, length, refl, ap, subst, Some}
-use Rattle.std.specs.Prelude.{slice_get}
+use Rattle.nmgc_cycle.proofs.Vocabulary.{ℕ, zero, suc, ◌≡◌, List, [], ◌∷◌, length, refl, ap, subst, Some, slice_get}
 
 -- where each item has something that fits it, there is a list of these
 pub chosen : {A B : Type 0} (P : ℕ → A → B → Type 0) (xs : List A) → ((k : ℕ) (x : A) → slice_get xs k ≡ Some x → (y : B) × P k x y) →

@@ -1,19 +1,8 @@
 -- Lists over all mutators at a stop.
-use Rattle.std.proofs.Common.{◌≡◌, ℕ, List, [], ◌∷◌, ◌++◌, length, refl, sym, ap, subst, ◌∙◌, Vec, Option, Some}
-use Rattle.std.specs.List.{flat_map}
-use Rattle.std.specs.Vec.{with_items}
-use Rattle.std.proofs.lemmas.List.{map-append, with_items_is}
-use Rattle.nmgc_object.specs.declared.words.Address.{Address}
-use Rattle.nmgc_object.specs.declared.layout.Nursery.{Nursery}
-use Rattle.nmgc_alloc.specs.Numbered.{Segments}
-use Rattle.nmgc_blocks_spec.specs.Stopped.{Stopped, IsStopped}
-use Rattle.nmgc_minor.specs.Start.{words_of, places_of}
-use Rattle.nmgc_mutator.specs.declared.mutator.Mutator.{Mutator}
-use Rattle.nmgc_mutator.specs.Records.{numbers}
-use Rattle.nmgc_collector_laws.specs.Worked.{registers_of, queues_of, nurseries_of, recorded_of}
-use Rattle.nmgc_cycle.specs.Stopping.{young_weaks_of}
-use Rattle.nmgc_cycle.specs.Roots.{queues_in}
-use Rattle.nmgc_cycle.specs.Shown.{words_in}
+use Rattle.nmgc_cycle.proofs.Vocabulary.{◌≡◌, ℕ, List, [], ◌∷◌, length, refl, sym, ap, subst, ◌∙◌, Option, Some, flat_map, with_items, map-append, with_items_is, Address, Nursery, Segments, Stopped, IsStopped, words_of, Mutator, recorded_of, young_weaks_of, queues_in, words_in}
+use Rattle.std.proofs.Common.{Vec}
+use Rattle.nmgc_minor.specs.Start.{places_of}
+use Rattle.nmgc_collector_laws.specs.Worked.{registers_of, queues_of, nurseries_of}
 
 -- the places of all fields that they recorded
 abbrev pub addresses_of : List Mutator → List Address
@@ -26,14 +15,12 @@ young_in mutators = flat_map (λ (m : Mutator). m.young_weaks.items) mutators
 -- the places of what was recorded
 pub places_of_addresses : (mutators : List Mutator) → places_of (addresses_of mutators) ≡ recorded_of mutators
 places_of_addresses [] = refl
-places_of_addresses (m ∷ mutators) = map-append (λ (at : Address). at.0) m.recorded.items (addresses_of mutators) ∙
-    ap (λ (rest : List ℕ). numbers m.recorded.items ++ rest) (places_of_addresses mutators)
+places_of_addresses (m ∷ mutators) = cc (map-append (λ (at : Address). at.0) m.recorded.items (addresses_of mutators), places_of_addresses mutators)
 
 -- and of the weak pointers that were made
 pub places_of_young : (mutators : List Mutator) → places_of (young_in mutators) ≡ young_weaks_of mutators
 places_of_young [] = refl
-places_of_young (m ∷ mutators) = map-append (λ (at : Address). at.0) m.young_weaks.items (young_in mutators) ∙
-    ap (λ (rest : List ℕ). numbers m.young_weaks.items ++ rest) (places_of_young mutators)
+places_of_young (m ∷ mutators) = cc (map-append (λ (at : Address). at.0) m.young_weaks.items (young_in mutators), places_of_young mutators)
 
 -- the words of the queues
 pub words_of_queues : (mutators : List Mutator) → words_of (queues_in mutators) ≡ queues_of mutators
@@ -50,12 +37,7 @@ pub same_stopped : (t : Stopped) (s : Segments) (words words' : List ℕ) (nurse
     queues ≡ queues' → recorded ≡ recorded' → weaks ≡ weaks' → IsStopped t s words nurseries registers queues recorded weaks →
     IsStopped t s words' nurseries' registers' queues' recorded' weaks'
 same_stopped t s words words' nurseries nurseries' registers registers' queues queues' recorded recorded' weaks weaks' w n r q f y h =
-    subst (λ (x : List ℕ). IsStopped t s words' nurseries' registers' queues' recorded' x) y
-    (subst (λ (x : List ℕ). IsStopped t s words' nurseries' registers' queues' x weaks) f
-    (subst (λ (x : List (List ℕ)). IsStopped t s words' nurseries' registers' x recorded weaks) q
-    (subst (λ (x : List ℕ). IsStopped t s words' nurseries' x queues recorded weaks) r
-    (subst (λ (x : List Nursery). IsStopped t s words' x registers queues recorded weaks) n
-    (subst (λ (x : List ℕ). IsStopped t s x nurseries registers queues recorded weaks) w h)))))
+    rw (← y) (rw (← f) (rw (← q) (rw (← r) (rw (← n) (subst (λ (x : List ℕ). IsStopped t s x nurseries registers queues recorded weaks) w h)))))
 
 -- read as lists of what each mutator has, they stand for what they stood for
 pub stopped_now : (t : Stopped) (s : Segments) (held : Option (List ℕ)) (words : List ℕ) (old was : List Mutator) → held ≡ Some words → was ≡ old →

@@ -1,16 +1,10 @@
 -- The phase that a collector tells is that of its run: so it has what the phase asks for.
-use Rattle.std.proofs.Common.{◌≡◌, List, refl, Bool, true, false}
-use Rattle.nmgc_world_spec.specs.History.{Row}
-use Rattle.nmgc_journal.specs.declared.report.Phase.{Phase}
+use Rattle.nmgc_cycle.proofs.Vocabulary.{◌≡◌, List, refl, Bool, true, false, Row, Phase, snapshots, noted, Progress, idle, marking, sweeping, phase_of, phase_in, is_marking_in}
 use Rattle.nmgc_journal.specs.declared.report.Phase.TheVariants as phase
-use Rattle.nmgc_run_spec.specs.Heap.{snapshots}
-use Rattle.nmgc_run_spec.specs.Round.{noted}
-use Rattle.nmgc_run_spec.specs.State.{Progress, idle, marking, sweeping, phase_of}
 use Rattle.nmgc_cycle.specs.declared.progress.Marking as of_marking
 use Rattle.nmgc_cycle.specs.declared.progress.Progress as held
 use Rattle.nmgc_cycle.specs.declared.progress.Progress.TheVariants as doing
 use Rattle.nmgc_cycle.specs.declared.progress.Sweeping as of_sweeping
-use Rattle.nmgc_cycle.specs.Shown.{phase_in, is_marking_in}
 
 pub when_idle : (q : held.Progress) → phase_in q ≡ phase.Idle → q ≡ doing.Idle
 when_idle doing.Idle e = refl

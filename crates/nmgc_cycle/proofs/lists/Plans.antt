@@ -1,19 +1,5 @@
 -- What a script within the limits gives: its plan is runnable, and the states of its runs are sound.
-use Rattle.std.proofs.Common.{ℕ, ◌≤◌, length}
-use Rattle.nmgc_limits.specs.Limits.{most_script_bytes}
-use Rattle.nmgc_object.specs.Places.{IsLayout}
-use Rattle.nmgc_script.specs.declared.script.Script.{Script}
-use Rattle.nmgc_run_laws.specs.Limits.{HasGoodPlan}
-use Rattle.nmgc_run_spec.specs.Run.{Run, last_state}
-use Rattle.nmgc_run_spec.specs.Slice.{program_of}
-use Rattle.nmgc_run_laws.specs.Sound.{IsRunnable, IsSoundState}
-use Rattle.nmgc_run_spec.specs.State.{plan_of, layout_of}
-use Rattle.nmgc_run_laws.specs.laws.Crowding.{few_in_each, runnable_of}
-use Rattle.nmgc_run_laws.specs.laws.Limits.{scripts_have_good_plans}
-use Rattle.nmgc_run_laws.specs.laws.Runs.{states_are_sound}
-use Rattle.nmgc_cycle.specs.declared.collector.Collector.{Collector}
-use Rattle.nmgc_cycle.specs.Keeps.{IsAfterStop}
-use Rattle.nmgc_script.specs.Limits.{IsInLimits}
+use Rattle.nmgc_cycle.proofs.Vocabulary.{ℕ, ◌≤◌, length, most_script_bytes, IsLayout, Script, HasGoodPlan, Run, last_state, program_of, IsRunnable, IsSoundState, plan_of, layout_of, few_in_each, runnable_of, scripts_have_good_plans, states_are_sound, Collector, IsAfterStop, IsInLimits}
 
 pub good_plan : (script : Script) → IsInLimits script → HasGoodPlan script
 good_plan script limits = scripts_have_good_plans script limits.fits

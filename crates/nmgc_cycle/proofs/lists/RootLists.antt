@@ -1,26 +1,12 @@
 -- What contracts see of the mutators of a collector, read in the words of a run and in those of a turn.
-use Rattle.std.proofs.Common.{ℕ, ◌≡◌, List, [], ◌∷◌, ◌++◌, map, refl, ap, ◌∙◌, Some}
+use Rattle.std.proofs.{Common.ℕ, Common.◌≡◌, Common.List, Common.[], Common.◌∷◌, Common.◌++◌, Common.map, Common.refl, Common.ap, Common.◌∙◌, Common.Some, lemmas.Option.slice_get-map}
 use Rattle.std.specs.Prelude.{flat_map, slice_get, option_map}
-use Rattle.std.proofs.lemmas.Option.{slice_get-map}
 use Rattle.nmgc_object.specs.declared.layout.Nursery.{Nursery}
-use Rattle.nmgc_mutator.specs.declared.mutator.Mutator.{Mutator}
-use Rattle.nmgc_mutator.specs.Records.{numbers}
+use Rattle.nmgc_mutator.specs.{declared.mutator.Mutator.Mutator, Records.numbers}
 use Rattle.nmgc_collector_laws.specs.Worked as turn
-use Rattle.nmgc_run_spec.specs.Heap.{registers_of, queues_of, serials_of}
-use Rattle.nmgc_collector_laws.specs.Seen.{MutatorSeen, end_of}
+use Rattle.nmgc_run_spec.specs.Heap.{serials_of}
+use Rattle.nmgc_collector_laws.specs.{laws.Roots.same_serials, Seen.MutatorSeen, Seen.end_of}
 use Rattle.nmgc_cycle.specs.Shown.{seen_mutator}
-
-pub same_registers : (ms : List Mutator) → registers_of (map end_of (map seen_mutator ms)) ≡ turn.registers_of ms
-same_registers [] = refl
-same_registers (m ∷ ms) = ap (λ (l : List ℕ). m.registers ++ l) (same_registers ms)
-
-pub same_queues : (ms : List Mutator) → queues_of (map end_of (map seen_mutator ms)) ≡ turn.queues_of ms
-same_queues [] = refl
-same_queues (m ∷ ms) = ap (λ (l : List (List ℕ)). m.queue.words ∷ l) (same_queues ms)
-
-pub same_serials : (ms : List Mutator) → serials_of (map end_of (map seen_mutator ms)) ≡ turn.serials_of ms
-same_serials [] = refl
-same_serials (m ∷ ms) = ap (λ (l : List ℕ). m.serial ∷ l) (same_serials ms)
 
 pub same_nurseries : (ms : List Mutator) → map (λ (m : MutatorSeen). m.nursery) (map seen_mutator ms) ≡ turn.nurseries_of ms
 same_nurseries [] = refl

@@ -1,17 +1,14 @@
 -- The lists over all mutators, as contracts see them of the collector, and as the mutators have them.
-use Rattle.std.proofs.Common.{◌≡◌, List, [], ◌∷◌, map}
+use Rattle.std.proofs.{Common.◌≡◌, Common.List, Common.[], Common.◌∷◌, Common.map, lemmas.List.Elements.All-nil, lemmas.List.Elements.All-cons, lemmas.List.Elements.All-head, lemmas.List.Elements.All-tail}
 use Rattle.std.specs.Prelude.{All}
-use Rattle.std.proofs.lemmas.List.Elements.{All-nil, All-cons, All-head, All-tail}
 use Rattle.nmgc_journal.specs.declared.report.MutatorEnd.{MutatorEnd}
 use Rattle.nmgc_mutator.specs.declared.mutator.Mutator.{Mutator}
 use Rattle.nmgc_collector_laws.specs.Worked as worked
 use Rattle.nmgc_run_spec.specs.Heap as told
 use Rattle.nmgc_run_spec.specs.Heap.{HasAllRegisters}
-use Rattle.nmgc_collector_laws.specs.Seen.{ends_of, end_of, nurseries_of, recorded_in, young_weaks_in, finalised_in}
-use Rattle.nmgc_cycle.specs.declared.collector.Collector.{Collector}
-use Rattle.nmgc_cycle.specs.Roots.{HasRegisters}
-use Rattle.nmgc_cycle.specs.Shown.{seen, seen_mutator}
-use Rattle.nmgc_cycle.proofs.lists.RootLists.{same_registers, same_queues, same_serials, same_nurseries, same_recorded, same_weaks, same_finalised}
+use Rattle.nmgc_collector_laws.specs.{Seen.ends_of, Seen.end_of, Seen.nurseries_of, Seen.recorded_in, Seen.young_weaks_in, Seen.finalised_in, laws.Roots.same_registers, laws.Roots.same_queues, laws.Roots.same_serials}
+use Rattle.nmgc_cycle.specs.{declared.collector.Collector.Collector, Roots.HasRegisters, Shown.seen, Shown.seen_mutator}
+use Rattle.nmgc_cycle.proofs.lists.RootLists.{same_nurseries, same_recorded, same_weaks, same_finalised}
 
 -- the mutators, as a report would tell them
 abbrev ends_in : List Mutator → List MutatorEnd
@@ -40,9 +37,6 @@ module _ (c : Collector) where
 
   pub young_seen : young_weaks_in (seen c) ≡ worked.weaks_of c.mutators.items
   young_seen = same_weaks c.mutators.items
-
-  pub finalised_seen : finalised_in (seen c) ≡ worked.finalised_of c.mutators.items
-  finalised_seen = same_finalised c.mutators.items
 
   -- each has all its registers
   pub whole_seen : All HasRegisters c.mutators.items → All HasAllRegisters (ends_of (seen c))

@@ -1,22 +1,6 @@
 -- After a round the collector has what the run says of it.
-use Rattle.std.proofs.Common.{◌≡◌, ◌≤◌, refl, sym, subst, inl, inr, arith}
-use Rattle.nmgc_object.specs.Places.{reserve_count}
-use Rattle.nmgc_object.specs.declared.layout.Layout.{Layout}
+use Rattle.nmgc_cycle.proofs.{Vocabulary.◌≡◌, Vocabulary.◌≤◌, Vocabulary.refl, Vocabulary.sym, Vocabulary.subst, Vocabulary.inl, Vocabulary.inr, Vocabulary.arith, Vocabulary.reserve_count, Vocabulary.Layout, Vocabulary.AreEmpty, Vocabulary.Opening, Vocabulary.Script, Vocabulary.HasReserve, Vocabulary.IsAfterRound, Vocabulary.Progress, Vocabulary.idle, Vocabulary.marking, Vocabulary.sweeping, Vocabulary.Collector, stops.EnoughFree.went_on, rounds.GoneOn.HasLaws, rounds.GoneOn.HasGoneOn, rounds.MarkedBeside.idled, rounds.MarkedBeside.marked_on, rounds.Over.IsOver, rounds.Over.plan, rounds.Over.s, rounds.Over.t, rounds.Over.rows, rounds.Over.told, rounds.Over.shown, lists.RootLists.same_nurseries, rounds.RoundOver.layout, rounds.RoundOver.has_reserve, rounds.Rounded.is_round, rounds.Rounded.matches, rounds.SweptBeside.swept_on}
 use Rattle.nmgc_alloc.specs.Reserve as reserve
-use Rattle.nmgc_blocks_spec.specs.Nurseries.{AreEmpty}
-use Rattle.nmgc_round.specs.View.{Opening}
-use Rattle.nmgc_script.specs.declared.script.Script.{Script}
-use Rattle.nmgc_collector_laws.specs.Collector.{HasReserve, IsAfterRound}
-use Rattle.nmgc_run_spec.specs.State.{Progress, idle, marking, sweeping}
-use Rattle.nmgc_cycle.specs.declared.collector.Collector.{Collector}
-use Rattle.nmgc_cycle.proofs.stops.EnoughFree.{went_on}
-use Rattle.nmgc_cycle.proofs.rounds.GoneOn.{HasLaws, HasGoneOn}
-use Rattle.nmgc_cycle.proofs.rounds.MarkedBeside.{idled, marked_on}
-use Rattle.nmgc_cycle.proofs.rounds.Over.{IsOver, plan, s, t, rows, told, shown}
-use Rattle.nmgc_cycle.proofs.lists.RootLists.{same_nurseries}
-use Rattle.nmgc_cycle.proofs.rounds.RoundOver.{layout, has_reserve}
-use Rattle.nmgc_cycle.proofs.rounds.Rounded.{is_round, matches}
-use Rattle.nmgc_cycle.proofs.rounds.SweptBeside.{swept_on}
 
 module _ (laws : HasLaws) (script : Script) (c new : Collector) (o : Opening) (x : IsOver script c new o) where
   by_phase : (p : Progress) → (s script c new o x).progress ≡ p → HasGoneOn script c new o x

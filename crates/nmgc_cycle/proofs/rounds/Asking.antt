@@ -1,17 +1,6 @@
 -- A cycle, or a full one, is asked for exactly where a slice did the command that asks for it.
-use Rattle.std.proofs.Common.{ℕ, zero, suc, ◌≡◌, ◌<◌, ◌↔◌, List, [], ◌∷◌, length, map, take, refl, sym, ap, ◌∙◌, inl, inr, arith, Bool, true, false, IsTrue, Some}
-use Rattle.std.specs.Prelude.{slice_get, ◌||◌}
-use Rattle.std.specs.List.{list_any}
-use Rattle.std.proofs.lemmas.Bool.{cases_lt}
-use Rattle.nmgc_world_spec.specs.declared.command.Command.{Command}
-use Rattle.nmgc_world_spec.specs.declared.command.Command.TheVariants.{Yield, Collect, Full}
-use Rattle.nmgc_mutator.specs.declared.mutator.Mutator.{Mutator}
-use Rattle.nmgc_mutator.specs.declared.mutator.SliceEnd.{SliceEnd}
+use Rattle.nmgc_cycle.proofs.Vocabulary.{ℕ, zero, suc, ◌≡◌, ◌<◌, ◌↔◌, List, [], ◌∷◌, length, map, take, refl, sym, ap, ◌∙◌, inl, inr, arith, Bool, true, false, IsTrue, Some, slice_get, ◌||◌, list_any, cases_lt, Command, Yield, Collect, Full, Mutator, SliceEnd, IsYield, GoesOn, IsLast, Ended, is_collect, is_full, or_true, not_true}
 use Rattle.nmgc_mutator.specs.declared.mutator.SliceEnd.TheVariants as ending
-use Rattle.nmgc_mutator.specs.Does.{IsYield}
-use Rattle.nmgc_mutator.specs.Slice.{GoesOn, IsLast, Ended}
-use Rattle.nmgc_run_spec.specs.Slice.{is_collect, is_full}
-use Rattle.nmgc_lists.specs.laws.Truths.{or_second as or_true, false_of as not_true}
 
 -- a command that ends no slice asks for nothing
 
@@ -29,8 +18,7 @@ module _ (such : Command → Bool) (plain : (c : Command) → (IsYield c → ⊥
       list_any such (take n program) ≡ false
   none_asks program zero h = refl
   none_asks [] (suc n) h = refl
-  none_asks (c ∷ program) (suc n) h = ap (λ (b : Bool). b || list_any such (take n program)) (h 0 c (omega arith) refl) ∙
-      none_asks program n (λ i d lt e. h (suc i) d (omega arith) e)
+  none_asks (c ∷ program) (suc n) h = cc (h 0 c (omega arith) refl, none_asks program n (λ i d lt e. h (suc i) d (omega arith) e))
 
   none_goes : (program : List Command) (n : ℕ) → GoesOn program n → list_any such (take n program) ≡ false
   none_goes program n on = none_asks program n (λ i c lt e. plain c (on i c lt e))
@@ -95,8 +83,7 @@ pub same_any : {A B : Type 0} (f : A → Bool) (g : B → Bool) (xs : List A) (y
 same_any f g [] [] e h = refl
 same_any f g [] (y ∷ ys) e h = absurd (omega arith)
 same_any f g (x ∷ xs) [] e h = absurd (omega arith)
-same_any {A} {B} f g (x ∷ xs) (y ∷ ys) e h = ap (λ (b : Bool). b || list_any f xs) (h 0 x y refl refl) ∙
-    ap (λ (b : Bool). g y || b) (same_any f g xs ys (omega arith) (λ k a b i j. h (suc k) a b i j))
+same_any {A} {B} f g (x ∷ xs) (y ∷ ys) e h = cc (h 0 x y refl refl, same_any f g xs ys (omega arith) (λ k a b i j. h (suc k) a b i j))
 
 -- and so of a mapped list
 pub any_mapped : {A B : Type 0} (f : B → Bool) (g : A → B) (xs : List A) → list_any f (map g xs) ≡ list_any (λ (x : A). f (g x)) xs

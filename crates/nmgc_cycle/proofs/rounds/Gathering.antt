@@ -1,33 +1,6 @@
 -- What the slices of all mutators leave, by their numbers.
-use Rattle.std.proofs.Common.{ℕ, ◌≡◌, List, length, map, slice_index_or, sym, ap, subst, ◌∙◌, arith, Some}
-use Rattle.std.specs.Prelude.{slice_get}
-use Rattle.std.proofs.lemmas.List.{length-map}
-use Rattle.std.proofs.lemmas.Option.{slice_get_within, get_or_from_slice_get}
-use Rattle.nmgc_world_spec.specs.declared.command.Command.{Command}
-use Rattle.nmgc_heap_spec.specs.laws.Kinds.{map_item}
-use Rattle.nmgc_object.specs.declared.layout.Layout.{Layout}
-use Rattle.nmgc_round.specs.declared.table.Round.{Round}
-use Rattle.nmgc_round.specs.View.{Opening}
-use Rattle.nmgc_round.specs.Seat.{RoundSeat}
-use Rattle.nmgc_round.specs.Seating.{alone}
-use Rattle.nmgc_mutator.specs.declared.mutator.Mutator.{Mutator}
-use Rattle.nmgc_mutator.specs.Does.{HasDone}
-use Rattle.nmgc_collector_laws.specs.Rest.{IsResting}
-use Rattle.nmgc_collector_laws.specs.Turn.{SlicesAreDone}
-use Rattle.nmgc_collector_laws.specs.Worked.{Done}
-use Rattle.nmgc_script.specs.declared.script.Script.{Script}
-use Rattle.nmgc_run_spec.specs.Run.{Run}
-use Rattle.nmgc_cycle.specs.declared.collector.Collector.{Collector}
-use Rattle.nmgc_cycle.specs.declared.worker.Worker.{Worker}
-use Rattle.nmgc_cycle.specs.Keeps.{IsAfterStop}
-use Rattle.nmgc_script.specs.Limits.{IsInLimits}
-use Rattle.nmgc_cycle.specs.Working.{left_at, HaveAllWorked, HasWorkedOn, worker_of, workers_of, mutator_of, seat_of}
-use Rattle.nmgc_lists.specs.laws.Items.{item}
-use Rattle.nmgc_cycle.proofs.lists.Items.{chosen}
-use Rattle.nmgc_cycle.proofs.rounds.Opened.{IsOpened}
-use Rattle.nmgc_cycle.proofs.rounds.Readiness.{HasSeats, seats_counted, seat_alone, workers_at, workers_count}
-use Rattle.nmgc_cycle.proofs.rounds.Resting.{resting, mutators_counted}
-use Rattle.nmgc_cycle.proofs.rounds.Slicing.{IsSlice, slice_done}
+use Rattle.nmgc_cycle.proofs.Vocabulary.{ℕ, ◌≡◌, List, length, map, slice_index_or, sym, ap, subst, ◌∙◌, arith, Some, slice_get, length-map, slice_get_within, get_or_from_slice_get, Command, map_item, Layout, Round, Opening, RoundSeat, alone, Mutator, HasDone, IsResting, SlicesAreDone, Done, Script, Run, Collector, Worker, IsAfterStop, IsInLimits, left_at, HaveAllWorked, HasWorkedOn, worker_of, workers_of, mutator_of, seat_of, item}
+use Rattle.nmgc_cycle.proofs.{lists.Items.chosen, rounds.Opened.IsOpened, rounds.Readiness.HasSeats, rounds.Readiness.seats_counted, rounds.Readiness.seat_alone, rounds.Readiness.workers_at, rounds.Readiness.workers_count, rounds.Resting.resting, rounds.Resting.mutators_counted, rounds.Slicing.IsSlice, rounds.Slicing.slice_done}
 
 -- what worker k did, from what its mutator was
 pub record OneDid (script : Script) (c : Collector) (round : Round) (o : Opening) (k : ℕ) (new : Worker) (done : List Done) : Type 0 where
@@ -61,8 +34,7 @@ module _ (script : Script) (c : Collector) (run : Run) (limits : IsInLimits scri
       let now : slice_index_or new k x ≡ x = get_or_from_slice_get new k x x e in
       let left : List Command = left_at script c.positions.items k in
       let did : HasWorkedOn round script.config.slice left (worker_of (m.0, seat.0)) x =
-      subst (HasWorkedOn round script.config.slice left (worker_of (m.0, seat.0))) now (subst (λ (w : Worker).
-      HasWorkedOn round script.config.slice left w (slice_index_or new k x)) was (worked.each k x (omega (arith, within, count)))) in
+      subst (HasWorkedOn round script.config.slice left (worker_of (m.0, seat.0))) now (rw was at (worked.each k x (omega (arith, within, count)))) in
       let nursery : m.0.layout.nursery ≡ script.config.nursery =
       ap (λ (l : Layout). l.nursery) ((resting script c run limits still k m.0 m.1).layout_is ∙ still.kept.layout) in
       let h = slice_done script.config round o k left m.0 seat.0 x (seat_alone c.mutators.items o op.hands_are round seats has k seat.0 seat.1) nursery did in
@@ -102,5 +74,4 @@ module _ (script : Script) (c : Collector) (run : Run) (limits : IsInLimits scri
           let old_is = h.old_is in
           let old : h.old ≡ m = cc (old_is, e) in
           let place : x.0.seat ≡ seat = ap seat_of same ∙ sym y.2 in
-          subst (λ (u : Mutator). HasDone round (alone o k) seat u n d) old (subst (λ (u : RoundSeat).
-          HasDone round (alone o k) u h.old n d) place (subst (λ (u : Mutator). HasDone round (alone o k) x.0.seat h.old u d) (sym x.2) h.slice.did))
+          rw (← old) (rw (← place) (subst (λ (u : Mutator). HasDone round (alone o k) x.0.seat h.old u d) (sym x.2) h.slice.did))

@@ -1,34 +1,7 @@
 -- What a round leaves of the cycle in progress and of the heap, by what the collector did beside it.
-use Rattle.std.proofs.Common.{◌≡◌, ◌≤◌, List, ◌∷◌}
-use Rattle.nmgc_object.specs.Places.{nursery_place}
-use Rattle.nmgc_alloc.specs.AllocState.{AllocState}
+use Rattle.nmgc_cycle.proofs.Vocabulary.{◌≡◌, ◌≤◌, List, ◌∷◌, nursery_place, AllocState, Place, LieInOrder, Remembers, Opening, RoundIsHistory, RoundIsStopped, RoundTellsFinalised, TellsFinalised, Script, RoundIsMarking, RoundFreesUntracked, SweptHoldsAfterRound, DropKeepsRound, FreeGrows, RoundHolds, PaceAfterRound, MachineGoesOn, MarkedWait, LeftStays, LeftIsCounted, AreNurseries, HoldsInCycle, IsPacedAfterRound, HoldsAfterRound, snapshots, ends_of, nurseries_of, recorded_in, young_weaks_in, finalised_in, Cycle, SweepsBeside, AreNamed, Collector, Sweeps, seen, phase_in}
 use Rattle.nmgc_alloc.specs.Reserve as reserve
-use Rattle.nmgc_heap_spec.specs.Places.{Place}
-use Rattle.nmgc_blocks_spec.specs.Nurseries.{LieInOrder}
-use Rattle.nmgc_blocks_spec.specs.Remembers.{Remembers}
-use Rattle.nmgc_round.specs.View.{Opening}
-use Rattle.nmgc_collector_laws.specs.Turn.{RoundIsHistory, RoundIsStopped, RoundTellsFinalised}
-use Rattle.nmgc_collector_laws.specs.Worked.{TellsFinalised}
-use Rattle.nmgc_script.specs.declared.script.Script.{Script}
-use Rattle.nmgc_collector_laws.specs.Calls.{RoundIsMarking}
-use Rattle.nmgc_collector_laws.specs.Drops.{RoundFreesUntracked, SweptHoldsAfterRound, DropKeepsRound, FreeGrows}
-use Rattle.nmgc_collector_laws.specs.Heaps.{RoundHolds}
-use Rattle.nmgc_collector_laws.specs.Keeps.{PaceAfterRound}
-use Rattle.nmgc_collector_laws.specs.Owed.{MachineGoesOn}
-use Rattle.nmgc_collector_laws.specs.Sweeps.{MarkedWait}
-use Rattle.nmgc_sweep.specs.Statements.{LeftStays, LeftIsCounted}
-use Rattle.nmgc_collector_laws.specs.Collector.{AreNurseries, HoldsInCycle, IsPacedAfterRound}
-use Rattle.nmgc_run_spec.specs.Heap.{HoldsAfterRound, snapshots}
-use Rattle.nmgc_collector_laws.specs.Seen.{ends_of, nurseries_of, recorded_in, young_weaks_in, finalised_in}
-use Rattle.nmgc_blocks_spec.specs.Cycle.{Cycle}
-use Rattle.nmgc_run_spec.specs.Round.{SweepsBeside}
-use Rattle.nmgc_sweep.specs.Names.{AreNamed}
-use Rattle.nmgc_cycle.specs.declared.collector.Collector.{Collector}
-use Rattle.nmgc_cycle.specs.Keeps.{Sweeps}
-use Rattle.nmgc_cycle.specs.Shown.{seen, phase_in}
-use Rattle.nmgc_cycle.proofs.rounds.Opened.{CanOpenRounds}
-use Rattle.nmgc_cycle.proofs.rounds.Over.{IsOver, s, w, t, last, shown}
-use Rattle.nmgc_cycle.proofs.rounds.RoundOver.{layout}
+use Rattle.nmgc_cycle.proofs.{rounds.Opened.CanOpenRounds, rounds.Over.IsOver, rounds.Over.s, rounds.Over.w, rounds.Over.t, rounds.Over.last, rounds.Over.shown, rounds.RoundOver.layout}
 
 -- the laws of a round
 pub record HasLaws : Type 0 where

@@ -1,28 +1,7 @@
 -- Of a collector only the inbox changed, and what its mutators know of their rings: contracts see the same.
-use Rattle.std.proofs.Common.{ℕ, ◌≡◌, ◌+◌, ◌≤◌, ◌++◌, List, length, map, refl, sym, ap, subst, ◌∙◌, Some, Global, arith}
-use Rattle.std.specs.Prelude.{slice_get}
-use Rattle.std.specs.declared.vec.Vec.{Vec}
-use Rattle.std.proofs.lemmas.Option.{slice_get_within}
-use Rattle.nmgc_world_spec.specs.World.{World}
-use Rattle.nmgc_limits.specs.declared.mutators.TheConstants.{MAKERS}
-use Rattle.nmgc_object.specs.declared.words.Address.{Address}
-use Rattle.nmgc_mutator.specs.declared.mutator.Mutator.{Mutator}
-use Rattle.nmgc_mutator.specs.Ready.{IsWhole}
-use Rattle.nmgc_mutator.specs.Records.{numbers}
-use Rattle.nmgc_updrem.specs.Rings.{Receiver, HavePolled}
-use Rattle.nmgc_script.specs.declared.script.Script.{Script}
-use Rattle.nmgc_collector_laws.specs.Collector.{IsAfterRound}
-use Rattle.nmgc_run_spec.specs.Run.{Run, last_state}
+use Rattle.nmgc_cycle.proofs.Vocabulary.{ℕ, ◌≡◌, ◌+◌, ◌≤◌, ◌++◌, List, length, map, refl, sym, ap, subst, ◌∙◌, Some, Global, arith, slice_get, Vec, slice_get_within, World, MAKERS, Address, Mutator, IsWhole, numbers, Receiver, HavePolled, Script, IsAfterRound, Run, last_state, State, Progress, idle, marking, sweeping, plan_of, Collector, MayFollow, commands, one_cycle, no_cycle, AreFewAtStop, AreFewBeforeStop, IsWellFormed, IsOwn, IsAfterStop, HasStopped, HasWorked, DidRound, Sweeps, HasMetSender, HaveLines, HaveMet, seen, seen_mutator, item}
 use Rattle.nmgc_collector_laws.specs.Seen as run
-use Rattle.nmgc_run_spec.specs.State.{State, Progress, idle, marking, sweeping, plan_of}
-use Rattle.nmgc_cycle.specs.declared.collector.Collector.{Collector}
-use Rattle.nmgc_cycle.specs.Bound.{MayFollow, commands, one_cycle, no_cycle, AreFewAtStop, AreFewBeforeStop}
-use Rattle.nmgc_cycle.specs.Keeps.{IsWellFormed, IsOwn, IsAfterStop, HasStopped, HasWorked, DidRound, Sweeps}
-use Rattle.nmgc_cycle.specs.Lined.{HasMetSender, HaveLines, HaveMet}
-use Rattle.nmgc_cycle.specs.Shown.{seen, seen_mutator}
-use Rattle.nmgc_lists.specs.laws.Items.{item}
-use Rattle.nmgc_cycle.proofs.rounds.Lining.{lined_on}
-use Rattle.nmgc_cycle.proofs.lists.Mapped.{same_maps}
+use Rattle.nmgc_cycle.proofs.{rounds.Lining.lined_on, lists.Mapped.same_maps}
 
 -- inbox and mutators are no part of what sweeps, nor of how many stops may follow
 
@@ -97,15 +76,13 @@ pub inbox_stopped : (script : Script) (old new : Collector) → HasStopped scrip
     HavePolled old.inbox new.inbox → HasStopped script new
 inbox_stopped script old new (r, still) rest polled = (
   r,
-  subst (λ (x : Collector).
-      IsAfterStop script x r) (sym rest) (stop_inbox script old new.inbox r (kept_inbox script old new.inbox polled still.kept) still),
+  rw rest (stop_inbox script old new.inbox r (kept_inbox script old new.inbox polled still.kept) still),
 )
 
 -- and so is the other way round
 pub inbox_before : (script : Script) (old new : Collector) (r : Run) → IsWellFormed script old → new ≡ record old { inbox = new.inbox } →
     IsAfterStop script new r → IsAfterStop script old r
-inbox_before script old new r kept rest still = stop_inbox script (record old { inbox = new.inbox }) old.inbox r kept (subst (λ (x : Collector).
-    IsAfterStop script x r) rest still)
+inbox_before script old new r kept rest still = stop_inbox script (record old { inbox = new.inbox }) old.inbox r kept (rw rest at still)
 
 -- Both, once the ends of the rings have met
 
@@ -173,8 +150,7 @@ module _ (script : Script) (c : Collector) (inbox : List Receiver) (mutators : V
 pub round_met : (script : Script) (old mid new : Collector) (many : ℕ) → new ≡ record mid { inbox = new.inbox; mutators = new.mutators } →
     HaveMet many mid.inbox new.inbox mid.mutators.items new.mutators.items → DidRound script old mid → DidRound script old new
 unfolding worked_met
-round_met script old mid new many rest met did = subst (λ (x : Collector).
-    DidRound script old x) (sym rest) (worked_met script mid new.inbox new.mutators many met did.0, did.1)
+round_met script old mid new many rest met did = rw rest (worked_met script mid new.inbox new.mutators many met did.0, did.1)
 
 -- each of a collector's mutators has its ring
 pub lines_of : (script : Script) (c : Collector) → length script.threads ≤ MAKERS → IsWellFormed script c → HaveLines c.inbox c.mutators.items

@@ -1,10 +1,6 @@
 -- A step of the loop that makes room in the inbox.
-use Rattle.std.proofs.Common.{ℕ, ◌≡◌, ◌+◌, ◌<◌, ◌≤◌, List, inl, inr, sym, subst, ◌∙◌, arith, Some}
-use Rattle.std.specs.Prelude.{slice_get}
-use Rattle.std.proofs.lemmas.Bool.{cases_lt}
+use Rattle.nmgc_cycle.proofs.{Vocabulary.ℕ, Vocabulary.◌≡◌, Vocabulary.◌+◌, Vocabulary.◌<◌, Vocabulary.◌≤◌, Vocabulary.List, Vocabulary.inl, Vocabulary.inr, Vocabulary.sym, Vocabulary.subst, Vocabulary.◌∙◌, Vocabulary.arith, Vocabulary.Some, Vocabulary.slice_get, Vocabulary.cases_lt, Vocabulary.Receiver, Vocabulary.AtLine, rounds.Lining.line_here, rounds.Lining.line_other, rounds.Lining.same_item}
 use Rattle.nmgc_updrem.specs.Lines.{Reserves}
-use Rattle.nmgc_updrem.specs.Rings.{Receiver, AtLine}
-use Rattle.nmgc_cycle.proofs.rounds.Lining.{line_here, line_other, same_item}
 
 -- one receiver got its room, and those before it have theirs
 pub inbox_more : (room_at : ℕ → ℕ) (n entries : ℕ) (old new : List Receiver) → AtLine (Reserves entries) n old new → room_at n ≤ entries →

@@ -1,41 +1,7 @@
 -- The collector after a round, its replies told: what it keeps, and that it worked.
-use Rattle.std.proofs.Common.{ℕ, ◌≡◌, ◌<◌, List, [], ◌∷◌, ◌++◌, length, map, slice_index, refl, sym, ap, subst, ◌∙◌, arith, Some, Global}
-use Rattle.std.specs.Prelude.{slice_get, slice_index_or}
-use Rattle.std.specs.declared.vec.Vec.{Vec}
-use Rattle.std.proofs.Math.ListN.{get_or-map}
-use Rattle.std.proofs.lemmas.List.{length-map}
-use Rattle.std.proofs.lemmas.Option.{get_or_from_slice_get, slice_get_within}
-use Rattle.nmgc_heap_spec.specs.laws.Kinds.{map_item}
-use Rattle.nmgc_world_spec.specs.declared.command.Reply.{Reply}
-use Rattle.nmgc_object.specs.declared.layout.Layout.{Layout}
-use Rattle.nmgc_object.specs.Places.{IsLayout}
-use Rattle.nmgc_journal.specs.declared.report.RoundRows.{RoundRows}
-use Rattle.nmgc_minor.specs.Promotion.{IsFor}
-use Rattle.nmgc_mutator.specs.declared.mutator.Mutator.{Mutator}
-use Rattle.nmgc_round.specs.View.{Opening}
-use Rattle.nmgc_collector_laws.specs.Worked.{Done}
-use Rattle.nmgc_script.specs.declared.script.Script.{Script}
-use Rattle.nmgc_collector_laws.specs.Collector.{IsAfterRound}
+use Rattle.nmgc_cycle.proofs.Vocabulary.{ℕ, ◌≡◌, ◌<◌, List, [], ◌∷◌, ◌++◌, length, map, slice_index, refl, sym, ap, subst, ◌∙◌, arith, Some, Global, slice_get, Vec, get_or-map, length-map, get_or_from_slice_get, slice_get_within, map_item, Reply, Layout, IsLayout, RoundRows, IsFor, Mutator, Opening, Done, Script, IsAfterRound, plan_of, answered_count, HaveEntries, Collector, IsWellFormed, IsOwn, DidRound, seen, seen_mutator, cleared, item, slice_index_or}
 use Rattle.nmgc_collector_laws.specs.Seen as run
-use Rattle.nmgc_run_spec.specs.State.{plan_of}
-use Rattle.nmgc_run_laws.specs.Statements.{answered_count}
-use Rattle.nmgc_sweep.specs.Names.{HaveEntries}
-use Rattle.nmgc_cycle.specs.declared.collector.Collector.{Collector}
-use Rattle.nmgc_cycle.specs.Keeps.{IsWellFormed, IsOwn, DidRound}
-use Rattle.nmgc_cycle.specs.Shown.{seen, seen_mutator}
-use Rattle.nmgc_cycle.specs.Working.{cleared}
-use Rattle.nmgc_cycle.proofs.rounds.AfterRound.{gone_on, is_after}
-use Rattle.nmgc_cycle.proofs.rounds.GoneOn.{HasLaws, HasGoneOn}
-use Rattle.nmgc_lists.specs.laws.Items.{item}
-use Rattle.nmgc_cycle.proofs.lengths.Measures.{answered_more}
-use Rattle.nmgc_cycle.proofs.rounds.Over.{IsOver, t, rows, told, last, shown, worked, done_count, mutators_count, one}
-use Rattle.nmgc_cycle.proofs.rounds.OwnRows.{replies_in}
-use Rattle.nmgc_cycle.proofs.lists.Plans.{is_layout}
-use Rattle.nmgc_cycle.proofs.rounds.Reserved.{sweeps_on}
-use Rattle.nmgc_cycle.proofs.lengths.RoundFew.{round_few}
-use Rattle.nmgc_cycle.proofs.rounds.Rounded.{one_did, told_is}
-use Rattle.nmgc_cycle.specs.Lined.{IsLined}
-use Rattle.nmgc_cycle.proofs.rounds.Lining.{lined_on, same_item}
+use Rattle.nmgc_cycle.proofs.{rounds.AfterRound.gone_on, rounds.AfterRound.is_after, rounds.GoneOn.HasLaws, rounds.GoneOn.HasGoneOn, lengths.Measures.answered_more, rounds.Over.IsOver, rounds.Over.t, rounds.Over.rows, rounds.Over.told, rounds.Over.last, rounds.Over.shown, rounds.Over.worked, rounds.Over.done_count, rounds.Over.mutators_count, rounds.Over.one, rounds.OwnRows.replies_in, lists.Plans.is_layout, rounds.Reserved.sweeps_on, lengths.RoundFew.round_few, rounds.Rounded.one_did, rounds.Rounded.told_is, rounds.Lining.lined_on, rounds.Lining.same_item}
 
 -- contracts see no replies of a mutator
 same_cleared : (ms : List Mutator) → map seen_mutator (map cleared ms) ≡ map seen_mutator ms
@@ -57,8 +23,7 @@ module _ (laws : HasLaws) (script : Script) (c new : Collector) (o : Opening) (x
   }) (sym (ap (λ (l : List Mutator). map seen_mutator l) mutators_are ∙ same_cleared new.mutators.items))
 
   same_count : length mutators.items ≡ length c.mutators.items
-  same_count = ap (λ (l : List Mutator). length l) mutators_are ∙ length-map new.mutators.items cleared ∙ mutators_count script c new o x ∙
-      sym x.still.kept.count
+  same_count = cc (mutators_are, length-map new.mutators.items cleared, mutators_count script c new o x, x.still.kept.count)
 
   same_layout : new.heap.segments.layout ≡ c.heap.segments.layout
   same_layout = (gone_on laws script c new o x).heap.holds.layout_is ∙ sym x.still.kept.layout
@@ -87,8 +52,7 @@ module _ (laws : HasLaws) (script : Script) (c new : Collector) (o : Opening) (x
             let many = mutators_count script c new o x in omega (arith, there, many, n)) in
             let h = one script c new o x k d.0 d.1 in
             let is : h.1 ≡ was.0 = same_item new.mutators.items k h.1 was.0 h.3 was.1 in
-            subst (λ (y : Mutator).
-            IsLined new.inbox k y.sender) is (lined_on c.inbox new.inbox x.did.polled k h.0.sender h.1.sender h.4.sends.0 h.4.sends.1
+            rw is at (lined_on c.inbox new.inbox x.did.polled k h.0.sender h.1.sender h.4.sends.0 h.4.sends.1
             (x.still.kept.own k h.0 h.2).line);
       })
 
@@ -98,8 +62,7 @@ module _ (laws : HasLaws) (script : Script) (c new : Collector) (o : Opening) (x
       let own : slice_index_or x.did.done k [] ≡ d.0 = get_or_from_slice_get x.did.done k d.0 [] d.1 in
       let replied : slice_index_or (told script c new o x) k [] ≡ replies_in d.0 =
       ap (λ (l : List (List Reply)). slice_index_or l k []) (told_is script c new o x) ∙ get_or-map replies_in x.did.done k [] ∙ ap replies_in own in
-      let many : length (slice_index_or (told script c new o x) k []) ≡ length d.0 = ap (λ (l : List Reply). length l) replied ∙
-      length-map d.0 (λ (y : Done). y.1) in
+      let many : length (slice_index_or (told script c new o x) k []) ≡ length d.0 = cc (replied, length-map d.0 (λ (y : Done). y.1)) in
       let before = x.still.kept.positions k lt in
       let now = (one script c new o x k d.0 d.1).4.position in
       let more = answered_more c.rows.rounds row k in

@@ -1,15 +1,6 @@
 -- The collector's ends of the rings stay those of the mutators, whatever was polled and sent.
-use Rattle.std.proofs.Common.{ℕ, zero, suc, ◌≡◌, ◌≢◌, ◌<◌, ◌∙◌, sym, ap, subst, List, [], ◌∷◌, ◌++◌, length, get_or, length-set, append-nil, Some, refl}
-use Rattle.std.specs.Prelude.{slice_get}
-use Rattle.std.proofs.lemmas.Option.{slice_get-get_or, slice_get_within}
-use Rattle.nmgc_lists.specs.Room.{Room}
-use Rattle.nmgc_object.specs.declared.words.Address.{Address}
-use Rattle.nmgc_updrem.specs.Lines.{HasMetSo, Reserves}
-use Rattle.nmgc_updrem.specs.Rings.{Sender, Receiver, AreNew, AtLine, HasPolled, HavePolled}
-use Rattle.nmgc_updrem.specs.laws.Lines.{line_goes_on, new_line}
-use Rattle.nmgc_updrem.specs.laws.Polls.{at_polled}
-use Rattle.nmgc_cycle.specs.Lined.{IsLined, IsPaired}
-use Rattle.nmgc_lists.specs.laws.Items.{slice_get-set_same as set_here, slice_get-set_other as set_other, slice_get-append_last as last_item}
+use Rattle.nmgc_cycle.proofs.Vocabulary.{ℕ, zero, suc, ◌≡◌, ◌≢◌, ◌<◌, ◌∙◌, sym, ap, subst, List, [], ◌∷◌, ◌++◌, length, get_or, length-set, append-nil, Some, refl, slice_get, slice_get-get_or, slice_get_within, Room, Address, HasMetSo, Sender, Receiver, AreNew, AtLine, HasPolled, HavePolled, line_goes_on, new_line, at_polled, IsLined, IsPaired, set_here, set_other, last_item}
+use Rattle.nmgc_updrem.specs.Lines.{Reserves}
 
 -- two items at one place are one
 pub same_item : {X : Type 0} (l : List X) (k : ℕ) (x y : X) → slice_get l k ≡ Some x → slice_get l k ≡ Some y → x ≡ y

@@ -1,17 +1,6 @@
 -- A sweep frees no weak pointer of the list: those that are alive are tracked.
-use Rattle.std.proofs.Common.{◌≡◌, List, ◌∷◌, inl, inr, ap, refl, subst, sym, arith}
-use Rattle.std.specs.Prelude.{Contains, IsSome}
-use Rattle.nmgc_world_spec.specs.declared.value.Name.{Name}
-use Rattle.nmgc_limits.specs.declared.mutators.TheConstants.{SHARED_MAKER}
-use Rattle.nmgc_world_spec.specs.World.{World, IsWorld}
-use Rattle.nmgc_world_spec.specs.Reach.{IsAliveWeak, start}
-use Rattle.nmgc_world_spec.specs.Step.{shared_name}
-use Rattle.nmgc_world_laws.specs.laws.Weaks.{weak_maker}
-use Rattle.nmgc_object.specs.declared.layout.Layout.{Layout}
-use Rattle.nmgc_alloc.specs.AllocState.{AllocState, HasBlock}
-use Rattle.nmgc_heap_spec.specs.Places.{Place}
-use Rattle.nmgc_heap_spec.specs.Roots.{ListsWeaks}
-use Rattle.nmgc_collector_laws.specs.Drops.{FreesUntracked}
+use Rattle.nmgc_cycle.proofs.Vocabulary.{◌≡◌, List, ◌∷◌, inl, inr, ap, refl, subst, sym, arith, Contains, IsSome, Name, SHARED_MAKER, World, IsWorld, IsAliveWeak, shared_name, weak_maker, Layout, AllocState, HasBlock, Place, ListsWeaks, FreesUntracked}
+use Rattle.nmgc_world_spec.specs.Reach.{start}
 
 -- an alive weak pointer isn't g
 not_shared : (w : World) (weak : Name) → IsWorld w → IsAliveWeak w weak → weak ≡ shared_name → ⊥

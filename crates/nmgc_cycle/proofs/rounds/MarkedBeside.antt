@@ -1,52 +1,12 @@
 -- A round beside which a cycle marked, or no cycle was in progress: blocks and places are those of the stop, and what was born.
-use Rattle.std.proofs.Common.{◌≡◌, ◌≤◌, ◌⊎◌, ◌↔◌, List, [], refl, sym, ap, subst, ◌∙◌, inl, inr, arith, true}
-use Rattle.std.proofs.lemmas.Bool.{cases_lt}
-use Rattle.nmgc_snapshot_laws.specs.State.{State as Core}
-use Rattle.nmgc_world_laws.specs.Reachable.{IsSound}
-use Rattle.nmgc_heap_spec.specs.laws.Kinds.{map_item}
-use Rattle.nmgc_world_spec.specs.declared.value.Name.{Name}
-use Rattle.nmgc_world_spec.specs.World.{World}
-use Rattle.nmgc_segment.specs.declared.state.State.TheVariants as stands
-use Rattle.nmgc_alloc.specs.Stands.{StandsFor}
-use Rattle.nmgc_alloc.specs.Reserve as reserve
-use Rattle.nmgc_alloc.specs.Numbered.{Segments}
-use Rattle.nmgc_alloc.specs.laws.Keeping.{counts_stand}
-use Rattle.nmgc_mark.specs.Marker.{HasMarked}
-use Rattle.nmgc_mark.specs.Tie.{IsTied as IsTiedByPlaces}
-use Rattle.nmgc_mark.specs.Work.{marks_seen}
-use Rattle.nmgc_round.specs.Marking.{marks_after}
-use Rattle.nmgc_round.specs.View.{Opening, Seen as View}
-use Rattle.nmgc_script.specs.declared.script.Script.{Script}
-use Rattle.nmgc_collector_laws.specs.Keeps.{HasLeft, ShowEntries}
+use Rattle.nmgc_cycle.proofs.Vocabulary.{◌≡◌, ◌≤◌, ◌⊎◌, ◌↔◌, List, [], refl, sym, ap, subst, ◌∙◌, inl, inr, arith, true, cases_lt, Core, IsSound, map_item, Name, StandsFor, Segments, counts_stand, HasMarked, IsTiedByPlaces, marks_seen, marks_after, Opening, View, Script, HasLeft, ShowEntries, IsMachineAtRest, with_rows, Sweeper, HasNotes, AreLeft, interval_of, Cycle, HoldsInCycle, IsMarking, IsPacedAtStop, IsPacedAfterRound, IsLastBegun, AreSettled, noted, SweepsBeside, MarkerSeen, WorkSeen, MutatorSeen, ends_of, IsInCycle, Progress, idle, marking, phase_of, runs_are, rounds_are_sound, Collector, HasHelped, HasScanned, Sweeps, seen, seen_mutator, died, phase_in, marker_in, work_in, sweeper_in, OpensIn}
 use Rattle.nmgc_collector_laws.specs.Owed.{GoesOn}
-use Rattle.nmgc_collector_laws.specs.RestMarking.{IsMachineAtRest, with_rows}
-use Rattle.nmgc_sweep.specs.Sweeper.{Sweeper, HasNotes, AreLeft}
-use Rattle.nmgc_blocks_spec.specs.Cycle.{interval_of, Cycle}
-use Rattle.nmgc_collector_laws.specs.Collector.{HoldsInCycle, IsMarking, IsPacedAtStop, IsPacedAfterRound}
-use Rattle.nmgc_run_laws.specs.Course.{IsInCourse, IsLastBegun}
-use Rattle.nmgc_alloc.specs.Settled.{AreSettled}
-use Rattle.nmgc_run_spec.specs.Round.{noted, SweepsBeside}
-use Rattle.nmgc_mark.specs.Seen.{MarkerSeen, WorkSeen}
-use Rattle.nmgc_collector_laws.specs.Seen.{MutatorSeen, ends_of}
-use Rattle.nmgc_run_laws.specs.Sound.{IsInCycle}
-use Rattle.nmgc_run_spec.specs.State.{Progress, idle, marking, phase_of}
-use Rattle.nmgc_run_laws.specs.laws.Course.{runs_are}
-use Rattle.nmgc_run_laws.specs.laws.Runs.{rounds_are_sound}
-use Rattle.nmgc_cycle.specs.declared.collector.Collector.{Collector}
+use Rattle.nmgc_segment.specs.declared.state.State.TheVariants as stands
+use Rattle.nmgc_alloc.specs.Reserve as reserve
 use Rattle.nmgc_cycle.specs.declared.progress.Marking as held_marking
 use Rattle.nmgc_cycle.specs.declared.progress.Progress as held
 use Rattle.nmgc_cycle.specs.declared.progress.Progress.TheVariants as doing
-use Rattle.nmgc_cycle.specs.Cycles.{HasHelped, HasScanned}
-use Rattle.nmgc_cycle.specs.Keeps.{Sweeps}
-use Rattle.nmgc_cycle.specs.Shown.{seen, seen_mutator, died, phase_in, marker_in, work_in, sweeper_in, cycle_in}
-use Rattle.nmgc_cycle.specs.Working.{OpensIn}
-use Rattle.nmgc_cycle.proofs.rounds.GoneOn.{HasLaws, HasGoneOn}
-use Rattle.nmgc_cycle.proofs.rounds.Opened.{in_cycle, rests_beside}
-use Rattle.nmgc_cycle.proofs.rounds.Over.{IsOver, plan, s, w, t, rows, places, told, last, shown, view, worked, can, queue_kept}
-use Rattle.nmgc_cycle.proofs.lists.Phases.{when_idle, when_marking}
-use Rattle.nmgc_cycle.proofs.lists.Plans.{sound_state}
-use Rattle.nmgc_cycle.proofs.rounds.RoundOver.{layout, opening_layout, nurseries_left, in_order, remembered, finalised_told, round_from}
-use Rattle.nmgc_cycle.proofs.rounds.Rounded.{is_round}
+use Rattle.nmgc_cycle.proofs.{rounds.GoneOn.HasLaws, rounds.GoneOn.HasGoneOn, rounds.Opened.in_cycle, rounds.Opened.rests_beside, rounds.Over.IsOver, rounds.Over.plan, rounds.Over.s, rounds.Over.w, rounds.Over.t, rounds.Over.rows, rounds.Over.places, rounds.Over.told, rounds.Over.last, rounds.Over.shown, rounds.Over.view, rounds.Over.worked, rounds.Over.can, rounds.Over.queue_kept, lists.Phases.when_idle, lists.Phases.when_marking, lists.Plans.sound_state, rounds.RoundOver.layout, rounds.RoundOver.opening_layout, rounds.RoundOver.nurseries_left, rounds.RoundOver.in_order, rounds.RoundOver.remembered, rounds.RoundOver.finalised_told, rounds.RoundOver.round_from, rounds.Rounded.is_round}
 
 module _ (laws : HasLaws) (script : Script) (c new : Collector) (o : Opening) (x : IsOver script c new o) where
   -- the phase of the stop's state tells what the collector has
@@ -55,9 +15,7 @@ module _ (laws : HasLaws) (script : Script) (c new : Collector) (o : Opening) (x
 
   pub helped_as : (q : held.Progress) → c.cycle.progress ≡ q →
       HasHelped x.did.helped.round script.config.quota x.did.helped.from x.did.helped.seat c.heap.segments new.heap.segments c.heap.names q new.cycle.progress
-  helped_as q e = subst (λ (r : held.Progress).
-      HasHelped x.did.helped.round script.config.quota x.did.helped.from x.did.helped.seat c.heap.segments new.heap.segments c.heap.names r
-      new.cycle.progress) e x.did.helped.helped
+  helped_as q e = rw e at x.did.helped.helped
 
   -- as many segments are free where they stand for the same blocks
   same_free : StandsFor new.heap.segments (seen c).words (s script c new o x).allocation →
@@ -90,12 +48,8 @@ module _ (laws : HasLaws) (script : Script) (c new : Collector) (o : Opening) (x
       remembers = remembered script c new o x laws.stopped;
       told = finalised_told script c new o x laws.finalised;
       free = same_free stands_still;
-      cycle = subst (λ (p : Progress). HoldsInCycle (λ (k : Cycle).
-          IsPacedAfterRound script.config.quota k (t script c new o x (s script c new o x).allocation) (shown script c new o x))
-          (noted p (rows script c new o x)) (t script c new o x (s script c new o x).allocation) (shown script c new o x) (places script c new o x))
-          (sym e) settled;
-      sweeper = subst (λ (p : Progress).
-          Sweeps (noted p (rows script c new o x)) (t script c new o x (s script c new o x).allocation) (last script c new o x)) (sym e) tt;
+      cycle = rw e settled;
+      sweeper = rw e tt;
       named = x.still.named;
     }
       where
@@ -106,10 +60,7 @@ module _ (laws : HasLaws) (script : Script) (c new : Collector) (o : Opening) (x
         stands_still = subst (λ (g : Segments). StandsFor g (seen c).words (s script c new o x).allocation) (sym nothing.1) x.still.at_stop.heap.holds.stands
 
         settled : AreSettled (s script c new o x).begun new.heap.segments
-        settled = subst (AreSettled (s script c new o x).begun) (sym nothing.1) (subst (λ (p : Progress).
-            HoldsInCycle (λ (k : Cycle).
-            IsPacedAtStop script.config.quota k (s script c new o x) (seen c)) p (s script c new o x) (seen c) x.still.at_stop.heap.places) e
-            x.still.at_stop.cycle)
+        settled = subst (AreSettled (s script c new o x).begun) (sym nothing.1) (rw e at x.still.at_stop.cycle)
 
   -- a cycle marks
   module _ (k : Cycle) (e : (s script c new o x).progress ≡ marking k) where
@@ -142,18 +93,15 @@ module _ (laws : HasLaws) (script : Script) (c new : Collector) (o : Opening) (x
     same_cycle : (shown script c new o x).cycle ≡ (seen c).cycle
     same_cycle =
         let dead : List Name = died c.heap.weaks.deaths in
-        ap (λ (q : held.Progress). cycle_in q dead) did.1 ∙ ap (λ (y : held_marking.Marking). cycle_in (doing.Marking y) dead) did.2.rest ∙
-        sym (ap (λ (q : held.Progress). cycle_in q dead) before.1)
+        cc (did.1, did.2.rest, before.1)
 
     marked : HasMarked c.heap.segments new.heap.segments (seen c).marker (shown script c new o x).marker n.last.scanned
     marked =
-        subst (λ (y : MarkerSeen). HasMarked c.heap.segments new.heap.segments y (shown script c new o x).marker n.last.scanned) (sym marker_was)
-        (subst (λ (y : MarkerSeen). HasMarked c.heap.segments new.heap.segments m.marker y n.last.scanned) (sym marker_now) did.2.worked.marked)
+        rw marker_was (subst (λ (y : MarkerSeen). HasMarked c.heap.segments new.heap.segments m.marker y n.last.scanned) (sym marker_now) did.2.worked.marked)
 
     tied : IsTiedByPlaces o (marks_after o x.did.scans) new.heap.segments (shown script c new o x).marker
     tied =
-        subst (λ (y : MarkerSeen). IsTiedByPlaces o (marks_after o x.did.scans) new.heap.segments y) (sym marker_now)
-        (subst (λ (v : View). IsTiedByPlaces v.opening (marks_seen v) new.heap.segments n.marker) x.did.helped.knows did.2.worked.tied)
+        rw marker_now (subst (λ (v : View). IsTiedByPlaces v.opening (marks_seen v) new.heap.segments n.marker) x.did.helped.knows did.2.worked.tied)
 
     -- segments and words stand for what they stood for
     same_layout : new.heap.segments.layout ≡ layout script c new o x
@@ -174,17 +122,14 @@ module _ (laws : HasLaws) (script : Script) (c new : Collector) (o : Opening) (x
 
     at_rest : IsMachineAtRest k o.core.world o.core
     at_rest =
-        subst (λ (core : Core). IsMachineAtRest k core.world core) (sym same_core)
-        (subst (λ (world : World).
-        IsMachineAtRest k world opens.0.core) (sym opens.0.machine.world_is) (rests_beside laws.opens script c x.run x.limits x.still k e opens.0).machine)
+        rw same_core (rw opens.0.machine.world_is (rests_beside laws.opens script c x.run x.limits x.still k e opens.0).machine)
 
     goes_on : (core : Core) × GoesOn k o x.did.words (view script c new o x) x.did.leaves.0 new.mutators.items core
     goes_on = laws.goes_on k o x.before x.did.words (view script c new o x) new.mutators.items x.did.done (ap (λ (y : Opening).
         y.marking) opens.1) (can script c new o x) at_rest x.did.leaves.0 (worked script c new o x) x.did.owed
 
     snapshot : o.core.snapshot ≡ k.snapshot
-    snapshot = ap (λ (core : Core). core.snapshot) same_core ∙
-        laws.opens.snapshot k (s script c new o x).world opens.0.core (in_cycle laws.opens script c x.run x.limits x.still (marking k) e).0 opens.0.machine
+    snapshot = cc (same_core, laws.opens.snapshot k (s script c new o x).world opens.0.core (in_cycle laws.opens script c x.run x.limits x.still (marking k) e).0 opens.0.machine)
 
     swept_none : SweepsBeside script.config.quota (s script c new o x).progress (s script c new o x).allocation (s script c new o x).allocation
     swept_none = subst (λ (p : Progress). SweepsBeside script.config.quota p (s script c new o x).allocation (s script c new o x).allocation) (sym e) refl
@@ -219,14 +164,10 @@ module _ (laws : HasLaws) (script : Script) (c new : Collector) (o : Opening) (x
 
     -- the pace
     paced_before : IsPacedAtStop script.config.quota k (s script c new o x) (seen c)
-    paced_before = (subst (λ (p : Progress). HoldsInCycle (λ (j : Cycle).
-        IsPacedAtStop script.config.quota j (s script c new o x) (seen c)) p (s script c new o x) (seen c) x.still.at_stop.heap.places) e
-        x.still.at_stop.cycle).1
+    paced_before = (rw e at x.still.at_stop.cycle).1
 
     course : IsLastBegun k (s script c new o x).number (s script c new o x).begun
-    course = (subst (λ (p : Progress).
-        IsInCourse p (s script c new o x).number (s script c new o x).begun (s script c new o x).allocation) e
-        (runs_are (plan script c new o x) x.run x.still.at_stop.is_run)).0
+    course = (rw e at (runs_are (plan script c new o x) x.run x.still.at_stop.is_run)).0
 
     scanned_is : (shown script c new o x).work.scanned ≡ n.last.scanned
     scanned_is = ap (λ (y : WorkSeen). y.scanned) work_now

@@ -1,18 +1,6 @@
 -- The two ends of each ring meet, one mutator after the other.
-use Rattle.std.proofs.Common.{ℕ, ◌≡◌, ◌+◌, ◌<◌, ◌∙◌, sym, ap, subst, List, ◌++◌, length, set, length-set, Some, inl, inr, refl, arith}
-use Rattle.std.specs.Prelude.{slice_get}
-use Rattle.std.proofs.lemmas.Bool.{cases_eq}
-use Rattle.std.proofs.lemmas.Option.{slice_get_within}
-use Rattle.nmgc_object.specs.declared.words.Address.{Address}
-use Rattle.nmgc_mutator.specs.declared.mutator.Mutator.{Mutator}
-use Rattle.nmgc_mutator.specs.Records.{numbers}
-use Rattle.nmgc_updrem.specs.Lines.{HasMetSo}
-use Rattle.nmgc_updrem.specs.Rings.{Receiver, AtLine, IsInOrder, IsLine}
-use Rattle.nmgc_updrem.specs.laws.Lines.{line_is}
-use Rattle.nmgc_updrem.specs.laws.Polls.{polled_all_none, polled_all_then}
-use Rattle.nmgc_cycle.specs.Lined.{IsLined, HasMetSender, HaveLines, HaveMet, RememberInOrder}
-use Rattle.nmgc_lists.specs.laws.Items.{slice_get-set_same as set_here, slice_get-set_other as set_other}
-use Rattle.nmgc_cycle.proofs.rounds.Lining.{same_item, line_here, line_other, lined_on, all_met}
+use Rattle.nmgc_cycle.proofs.{Vocabulary.ℕ, Vocabulary.◌≡◌, Vocabulary.◌+◌, Vocabulary.◌<◌, Vocabulary.◌∙◌, Vocabulary.sym, Vocabulary.ap, Vocabulary.subst, Vocabulary.List, Vocabulary.◌++◌, Vocabulary.length, Vocabulary.set, Vocabulary.length-set, Vocabulary.Some, Vocabulary.inl, Vocabulary.inr, Vocabulary.refl, Vocabulary.arith, Vocabulary.slice_get, Vocabulary.cases_eq, Vocabulary.slice_get_within, Vocabulary.Address, Vocabulary.Mutator, Vocabulary.numbers, Vocabulary.HasMetSo, Vocabulary.Receiver, Vocabulary.AtLine, Vocabulary.IsLine, Vocabulary.line_is, Vocabulary.polled_all_none, Vocabulary.polled_all_then, Vocabulary.IsLined, Vocabulary.HasMetSender, Vocabulary.HaveLines, Vocabulary.HaveMet, Vocabulary.RememberInOrder, Vocabulary.set_here, Vocabulary.set_other, rounds.Lining.same_item, rounds.Lining.line_here, rounds.Lining.line_other, rounds.Lining.lined_on, rounds.Lining.all_met}
+use Rattle.nmgc_updrem.specs.Rings.{IsInOrder}
 
 -- none met
 met_self : (m : Mutator) → HasMetSender m m
@@ -67,8 +55,7 @@ module _ (first inbox after : List Receiver) (was now : List Mutator) (k : ℕ) 
   in_order j r b lt e f = elim (cases_eq j k) [
     | inl same ↦
         let is : n ≡ b = same_item then k n b there (ap (λ (i : ℕ). slice_get then i) (sym same) ∙ f) in
-        let own : line.is ≡ r = same_item after k line.is r (line_here (HasMetSo m.sender n.sender) k inbox after line) (ap (λ (i : ℕ).
-        slice_get after i) (sym same) ∙ e) in
+        let own : line.is ≡ r = same_item after k line.is r (line_here (HasMetSo m.sender n.sender) k inbox after line) (cc (same, e)) in
         subst (λ (x : Mutator). IsInOrder r x.sender) is (subst (λ (x : Receiver). IsInOrder x n.sender) own line.changes.in_order)
     | inr ne ↦ h.in_order j r b (omega (arith, lt, ne)) (sym (line_other (HasMetSo m.sender n.sender) k inbox after line j ne) ∙
         e) (sym (set_other now k j n ne) ∙ f)

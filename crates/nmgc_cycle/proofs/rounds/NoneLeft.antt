@@ -1,21 +1,5 @@
 -- A round in which no command is left: nothing is done, nothing is born, and no cycle is asked for.
-use Rattle.std.proofs.Common.{ℕ, ◌≡◌, ◌<◌, List, [], ◌∷◌, length, cond, refl, sym, ap, subst, ◌∙◌, arith, Bool, true, false, slice_index_or, eqb}
-use Rattle.std.specs.Prelude.{◌||◌, nat_lt}
-use Rattle.std.specs.List.{list_any}
-use Rattle.std.proofs.Math.ListN.{get_or-map}
-use Rattle.std.proofs.lemmas.Bool.{ltb-true, eq-eqb}
-use Rattle.std.proofs.lemmas.List.{get_or_default}
-use Rattle.std.proofs.lemmas.List.Folds.{Any-from_list_any}
-use Rattle.nmgc_world_spec.specs.History.{Row, IsOrderOf, rows_of, replayed}
-use Rattle.nmgc_world_spec.specs.declared.command.Command.{Command}
-use Rattle.nmgc_world_spec.specs.declared.command.Reply.{Reply}
-use Rattle.nmgc_alloc.specs.AllocState.{AllocState, SweepsEach}
-use Rattle.nmgc_script.specs.declared.script.Config.{Config}
-use Rattle.nmgc_blocks_spec.specs.Cycle.{IsKeptIn}
-use Rattle.nmgc_run_spec.specs.Round.{IsRound, answered, own_rows, SweepsBeside}
-use Rattle.nmgc_run_spec.specs.Slice.{slice_of, slices, some_asks, is_collect, has_left, program_of}
-use Rattle.nmgc_run_spec.specs.State.{State, Progress, idle, marking, sweeping}
-use Rattle.nmgc_world_spec.specs.declared.value.Name.{Name}
+use Rattle.nmgc_cycle.proofs.Vocabulary.{ℕ, ◌≡◌, ◌<◌, List, [], ◌∷◌, length, cond, refl, sym, ap, subst, ◌∙◌, arith, Bool, true, false, slice_index_or, eqb, ◌||◌, nat_lt, list_any, get_or-map, ltb-true, eq-eqb, get_or_default, Any-from_list_any, Row, IsOrderOf, rows_of, replayed, Command, Reply, AllocState, SweepsEach, Config, IsKeptIn, IsRound, answered, own_rows, SweepsBeside, slice_of, slices, some_asks, is_collect, has_left, program_of, State, Progress, idle, marking, sweeping, Name}
 
 empty_list : {A : Type 0} (xs : List A) → length xs ≡ 0 → xs ≡ []
 empty_list [] e = refl

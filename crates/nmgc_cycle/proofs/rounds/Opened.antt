@@ -1,32 +1,9 @@
 -- The opening of the round after a stop, whatever the collector does there.
-use Rattle.std.proofs.Common.{ℕ, ◌≡◌, List, [], ◌∷◌, map, refl, sym, ap, subst, ◌∙◌, false, Some}
-use Rattle.nmgc_world_spec.specs.World.{World}
-use Rattle.nmgc_lists.specs.laws.Items.{nothing_in}
-use Rattle.nmgc_heap_spec.specs.Changes.{AreEarlier}
-use Rattle.nmgc_heap_spec.specs.Places.{Place}
-use Rattle.nmgc_round.specs.Objects.{earlier}
-use Rattle.nmgc_round.specs.Starting.{CanOpen}
-use Rattle.nmgc_round.specs.View.{Opening}
+use Rattle.nmgc_cycle.proofs.Vocabulary.{ℕ, ◌≡◌, List, [], ◌∷◌, map, refl, sym, ap, subst, ◌∙◌, false, Some, World, nothing_in, AreEarlier, Place, earlier, CanOpen, Opening, Script, HoldsInCycle, IsMarking, snapshots, Run, last_state, IsInCycle, State, Progress, idle, marking, sweeping, phase_of, plan_of, Cycle, HeapRests, AreShown, CoreHasSnapshot, Collector, IsAfterStop, HasStopped, seen, words_in, is_marking_in, IsInLimits, OpensIn, OpensAt}
 use Rattle.nmgc_collector_laws.specs.Rest as turn
 use Rattle.nmgc_collector_laws.specs.Turn as turns
-use Rattle.nmgc_script.specs.declared.script.Script.{Script}
-use Rattle.nmgc_collector_laws.specs.Collector.{HoldsInCycle, IsMarking}
-use Rattle.nmgc_run_spec.specs.Heap.{snapshots}
-use Rattle.nmgc_run_spec.specs.Run.{Run, last_state}
-use Rattle.nmgc_run_laws.specs.Sound.{IsInCycle}
-use Rattle.nmgc_run_spec.specs.State.{State, Progress, idle, marking, sweeping, phase_of, plan_of}
-use Rattle.nmgc_blocks_spec.specs.Cycle.{Cycle}
-use Rattle.nmgc_collector_laws.specs.Heaps.{HeapRests, AreShown}
 use Rattle.nmgc_collector_laws.specs.RestMarking as beside
-use Rattle.nmgc_collector_laws.specs.Tie.{CoreHasSnapshot}
-use Rattle.nmgc_cycle.specs.declared.collector.Collector.{Collector}
-use Rattle.nmgc_cycle.specs.Keeps.{IsAfterStop, HasStopped}
-use Rattle.nmgc_cycle.specs.Shown.{seen, words_in, is_marking_in}
-use Rattle.nmgc_script.specs.Limits.{IsInLimits}
-use Rattle.nmgc_cycle.specs.Working.{OpensIn, OpensAt}
-use Rattle.nmgc_cycle.proofs.lists.Phases.{is_marking_phase, marks_by_phase}
-use Rattle.nmgc_cycle.proofs.lists.Plans.{sound_state}
-use Rattle.nmgc_cycle.proofs.rounds.Resting.{still_rests}
+use Rattle.nmgc_cycle.proofs.{lists.Phases.is_marking_phase, lists.Phases.marks_by_phase, lists.Plans.sound_state, rounds.Resting.still_rests}
 
 -- the laws of what opens a round
 pub record CanOpenRounds : Type 0 where

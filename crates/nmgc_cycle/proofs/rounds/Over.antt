@@ -1,36 +1,7 @@
 -- A round that is over: what it began with, what it did, and the state of the run after it.
-use Rattle.std.proofs.Common.{ℕ, ◌≡◌, ◌+◌, ◌≤◌, List, [], ◌∷◌, ◌++◌, length, map, sym, ap, ◌∙◌, arith, Some, None}
-use Rattle.std.specs.Prelude.{slice_get, ◌||◌}
-use Rattle.std.proofs.lemmas.Option.{slice_get_within}
-use Rattle.nmgc_heap_spec.specs.laws.Kinds.{map_item}
-use Rattle.nmgc_world_spec.specs.World.{World}
-use Rattle.nmgc_world_spec.specs.History.{Row}
-use Rattle.nmgc_world_spec.specs.declared.command.Reply.{Reply}
-use Rattle.nmgc_object.specs.declared.layout.Layout.{Layout}
-use Rattle.nmgc_alloc.specs.AllocState.{AllocState}
-use Rattle.nmgc_heap_spec.specs.Places.{Place}
-use Rattle.nmgc_round.specs.Events.{rows_in}
-use Rattle.nmgc_round.specs.Finishing.{IsFinished, places_then}
-use Rattle.nmgc_round.specs.Rule.{now}
-use Rattle.nmgc_round.specs.Starting.{CanOpen}
-use Rattle.nmgc_round.specs.View.{Opening, Seen}
-use Rattle.nmgc_mutator.specs.declared.mutator.Mutator.{Mutator}
-use Rattle.nmgc_collector_laws.specs.Worked.{Done, HaveWorked}
-use Rattle.nmgc_script.specs.declared.script.Script.{Script}
-use Rattle.nmgc_collector_laws.specs.Owed.{gathered}
-use Rattle.nmgc_run_spec.specs.Round.{noted}
-use Rattle.nmgc_run_spec.specs.Run.{Run, last_state}
+use Rattle.nmgc_cycle.proofs.Vocabulary.{ℕ, ◌≡◌, ◌+◌, ◌≤◌, List, [], ◌∷◌, ◌++◌, length, map, ap, ◌∙◌, arith, Some, None, slice_get, ◌||◌, slice_get_within, map_item, World, Row, Reply, Layout, AllocState, Place, rows_in, IsFinished, places_then, now, CanOpen, Opening, Seen, Mutator, Done, HaveWorked, Script, gathered, noted, Run, last_state, slices, rest_of, some_asks, is_collect, is_full, State, Plan, plan_of, Collector, IsAfterStop, seen, seen_mutator, IsInLimits, OpensIn, DidSlice, DidSlices, replies_of, item}
 use Rattle.nmgc_collector_laws.specs.Seen as run
-use Rattle.nmgc_run_spec.specs.Slice.{slices, rest_of, some_asks, is_collect, is_full}
-use Rattle.nmgc_run_spec.specs.State.{State, Plan, plan_of}
-use Rattle.nmgc_cycle.specs.declared.collector.Collector.{Collector}
-use Rattle.nmgc_cycle.specs.Keeps.{IsAfterStop}
-use Rattle.nmgc_cycle.specs.Shown.{seen, seen_mutator}
-use Rattle.nmgc_script.specs.Limits.{IsInLimits}
-use Rattle.nmgc_cycle.specs.Working.{OpensIn, DidSlice, DidSlices, replies_of}
-use Rattle.nmgc_lists.specs.laws.Items.{item}
-use Rattle.nmgc_cycle.proofs.rounds.Opened.{IsOpened}
-use Rattle.nmgc_cycle.proofs.lists.RootLists.{seen_at}
+use Rattle.nmgc_cycle.proofs.{rounds.Opened.IsOpened, lists.RootLists.seen_at}
 
 -- a round after this stop is over, and may be followed by a stop
 pub record IsOver (script : Script) (c new : Collector) (o : Opening) : Type 0 where
@@ -144,5 +115,4 @@ module _ (script : Script) (c new : Collector) (o : Opening) (x : IsOver script 
       let h = one k d f in
       let there = h.3 in
       let same : h.1 ≡ n = cc (there, e) in
-      ap (λ (m : Mutator). m.replies.items) (sym same) ∙ h.4.replies ∙
-      ap (λ (l : List Reply). l ++ map (λ (y : Done). y.1) d) (x.still.kept.own k h.0 h.2).no_replies
+      cc (same, h.4.replies, (x.still.kept.own k h.0 h.2).no_replies)

@@ -1,11 +1,5 @@
 -- A round's order has each mutator's commands with their replies.
-use Rattle.std.proofs.Common.{ℕ, suc, ◌≡◌, List, [], ◌∷◌, length, map, refl, sym, ap, ◌∙◌, inl, inr}
-use Rattle.std.proofs.lemmas.Bool.{cases_eq, eq-eqb, ne_eqb}
-use Rattle.nmgc_world_spec.specs.History.{Row, rows_of}
-use Rattle.nmgc_world_spec.specs.declared.command.Reply.{Reply}
-use Rattle.nmgc_run_spec.specs.Round.{answered}
-use Rattle.nmgc_collector_laws.specs.Worked.{Done}
-use Rattle.nmgc_cycle.proofs.rounds.Slicing.{commands_of}
+use Rattle.nmgc_cycle.proofs.{Vocabulary.ℕ, Vocabulary.suc, Vocabulary.◌≡◌, Vocabulary.List, Vocabulary.[], Vocabulary.◌∷◌, Vocabulary.length, Vocabulary.map, Vocabulary.refl, Vocabulary.sym, Vocabulary.ap, Vocabulary.◌∙◌, Vocabulary.inl, Vocabulary.inr, Vocabulary.cases_eq, Vocabulary.eq-eqb, Vocabulary.ne_eqb, Vocabulary.Row, Vocabulary.rows_of, Vocabulary.Reply, Vocabulary.answered, Vocabulary.Done, rounds.Slicing.commands_of}
 
 -- the replies that were given
 abbrev pub replies_in : List Done → List Reply
@@ -29,7 +23,7 @@ own_again m (row ∷ rows) = elim (cases_eq row.mutator m) [
 -- there are as many replies as commands
 pub same_lengths : (done : List (List Done)) → map length (map replies_in done) ≡ map length (map commands_of done)
 same_lengths [] = refl
-same_lengths (d ∷ done) = ap (λ (n : ℕ). n ∷ map length (map replies_in done)) (same d) ∙ ap (λ (l : List ℕ). length (commands_of d) ∷ l) (same_lengths done)
+same_lengths (d ∷ done) = cc (same d, same_lengths done)
   where
     same : (d : List Done) → length (replies_in d) ≡ length (commands_of d)
     same [] = refl

@@ -1,27 +1,17 @@
 -- Workers in parts: each part may work where all may, and all have worked where each part has.
-use Rattle.std.proofs.Common.{ℕ, ◌≡◌, ◌+◌, ◌-◌, ◌≤◌, ◌∙◌, List, ◌++◌, length, slice_index, slice_index_or, inl, inr, refl, sym, ap, subst, arith, length-append}
-use Rattle.std.proofs.lemmas.Bool.{cases_lt}
-use Rattle.std.proofs.lemmas.List.{get_or_append_left, get_or-append-add, get_or-append_right}
-use Rattle.nmgc_round.specs.declared.table.Round.{Round}
-use Rattle.nmgc_run_spec.specs.Slice.{program_of}
-use Rattle.nmgc_script.specs.declared.script.Script.{Script}
-use Rattle.nmgc_cycle.specs.declared.worker.Worker.{Worker}
-use Rattle.nmgc_cycle.specs.Working.{left_at, CanWork, HasWorkedOn, CanAllWork, HaveAllWorked, CanWorkFrom, HaveWorkedFrom}
+use Rattle.nmgc_cycle.proofs.Vocabulary.{ℕ, ◌≡◌, ◌+◌, ◌-◌, ◌≤◌, ◌∙◌, List, ◌++◌, length, slice_index, slice_index_or, inl, inr, refl, sym, ap, subst, arith, length-append, cases_lt, get_or_append_left, get_or-append-add, get_or-append_right, Round, program_of, Script, Worker, left_at, CanWork, HasWorkedOn, CanAllWork, HaveAllWorked, CanWorkFrom, HaveWorkedFrom}
 
 module _ (round : Round) (script : Script) (positions : List ℕ) where
   -- what holds of a worker and its number holds of the same worker and number
   can_same : (i j : ℕ) (x y : Worker) → i ≡ j → x ≡ y → CanWork round script.config.slice (left_at script positions i) x →
       CanWork round script.config.slice (left_at script positions j) y
   can_same i j x y e f h =
-      subst (λ (w : Worker). CanWork round script.config.slice (left_at script positions j) w) f
-      (subst (λ (k : ℕ). CanWork round script.config.slice (left_at script positions k) x) e h)
+      rw (← f) (subst (λ (k : ℕ). CanWork round script.config.slice (left_at script positions k) x) e h)
 
   did_same : (i j : ℕ) (x y v w : Worker) → i ≡ j → x ≡ y → v ≡ w → HasWorkedOn round script.config.slice (left_at script positions i) x v →
       HasWorkedOn round script.config.slice (left_at script positions j) y w
   did_same i j x y v w e f g h =
-      subst (λ (u : Worker). HasWorkedOn round script.config.slice (left_at script positions j) y u) g
-      (subst (λ (u : Worker). HasWorkedOn round script.config.slice (left_at script positions j) u v) f
-      (subst (λ (k : ℕ). HasWorkedOn round script.config.slice (left_at script positions k) x v) e h))
+      rw (← g) (rw (← f) (subst (λ (k : ℕ). HasWorkedOn round script.config.slice (left_at script positions k) x v) e h))
 
   -- all workers are those from 0 on
   pub from_first : (workers : List Worker) → CanAllWork round script positions workers → CanWorkFrom round script positions 0 workers
@@ -38,8 +28,7 @@ module _ (round : Round) (script : Script) (positions : List ℕ) where
   all_first old new h = record {
     count = h.count;
     each = λ k d lt. let e : 0 + k ≡ k = omega arith in
-        subst (λ (i : ℕ). HasWorkedOn round script.config.slice (left_at script positions i) (slice_index_or old k d) (slice_index_or new k d)) e
-        (h.each k d lt);
+        rw e at (h.each k d lt);
   }
 
   -- the first part
@@ -54,8 +43,7 @@ module _ (round : Round) (script : Script) (positions : List ℕ) where
         each = λ k d lt.
             let same : slice_index_or all k d ≡ slice_index_or front k d =
             ap (λ (l : List Worker). slice_index_or l k d) e ∙ get_or_append_left front back d k lt in
-            subst (λ (w : Worker). CanWork round script.config.slice (left_at script positions (from + k)) w) same
-            (h.each k d (omega (arith, lt, sum)));
+            rw same at (h.each k d (omega (arith, lt, sum)));
       }
 
   -- and the second, which begins with another number
@@ -68,8 +56,7 @@ module _ (round : Round) (script : Script) (positions : List ℕ) where
         positions_are = let t = h.positions_are in omega (arith, t, sum, l);
         within = λ k lt.
             let i : from + (length front + k) ≡ next + k = omega (arith, l) in
-            subst (λ (n : ℕ). slice_index positions n ≤ length (program_of script.threads n)) i
-            (h.within (length front + k) (omega (arith, lt, sum)));
+            rw i at (h.within (length front + k) (omega (arith, lt, sum)));
         each = λ k d lt.
             let i : from + (length front + k) ≡ next + k = omega (arith, l) in
             let same : slice_index_or all (length front + k) d ≡ slice_index_or back k d =

@@ -1,32 +1,10 @@
 -- The workers of a round, in the lists that the round fills; and what they and the collector leave.
-use Rattle.std.proofs.Common.{ℕ, ◌≡◌, ◌+◌, ◌<◌, ◌^◌, List, [], ◌++◌, length, map, take, drop, slice_index, refl, sym, ap, subst, ◌∙◌, Bool, Some, Global}
-use Rattle.std.specs.Prelude.{All, ◌||◌}
-use Rattle.std.specs.declared.vec.Vec.{Vec}
-use Rattle.nmgc_alloc.specs.Numbered.{Segments}
-use Rattle.nmgc_alloc.specs.Segments.{IsSegments}
+use Rattle.nmgc_cycle.proofs.Vocabulary.{ℕ, ◌≡◌, ◌+◌, ◌<◌, ◌^◌, List, [], ◌++◌, length, map, take, drop, slice_index, refl, sym, ap, subst, ◌∙◌, Bool, Some, Global, All, ◌||◌, Vec, Segments, IsSegments, Round, Opening, Scan, Seen, whole, RoundSeat, IsAt, opening_of, all_together, collecting, HasAll, Leaves, Mutator, SlicesAreGathered, Script, Name, Collector, Worker, HasHelped, list_any, asks_of, asks_full_of, DidSlices, HaveSliceRoom, CanAllWork, HaveAllWorked, workers_of, mutator_of, seat_of, done_by, seen_mutator, Receiver, HavePolled}
+use Rattle.nmgc_round.specs.Seat.{seen}
 use Rattle.nmgc_collector_laws.specs.Owed as owed
-use Rattle.nmgc_round.specs.declared.table.Round.{Round}
-use Rattle.nmgc_round.specs.View.{Opening, Scan, Seen, whole}
-use Rattle.nmgc_round.specs.Seat.{RoundSeat, IsAt, seen, opening_of}
-use Rattle.nmgc_round.specs.Seating.{all_together, collecting}
-use Rattle.nmgc_round.specs.Finishing.{HasAll, Leaves}
-use Rattle.nmgc_mutator.specs.declared.mutator.Mutator.{Mutator}
-use Rattle.nmgc_collector_laws.specs.Turn.{SlicesAreGathered}
-use Rattle.nmgc_script.specs.declared.script.Script.{Script}
-use Rattle.nmgc_world_spec.specs.declared.value.Name.{Name}
-use Rattle.nmgc_cycle.specs.declared.collector.Collector.{Collector}
 use Rattle.nmgc_cycle.specs.declared.progress.Progress as held
 use Rattle.nmgc_cycle.specs.declared.progress.Progress.TheVariants as doing
-use Rattle.nmgc_cycle.specs.declared.worker.Worker.{Worker}
-use Rattle.nmgc_cycle.specs.Cycles.{HasHelped}
-use Rattle.std.specs.List.{list_any}
-use Rattle.nmgc_cycle.specs.Working.{asks_of, asks_full_of, DidSlices, HaveSliceRoom, CanAllWork, HaveAllWorked, workers_of, mutator_of, seat_of, done_by}
-use Rattle.nmgc_cycle.proofs.rounds.Ran.{MayBegin, HasBegun, HasRun, can_open, may_work, workers_are, has_run}
-use Rattle.nmgc_cycle.proofs.rounds.Readiness.{BeginReady}
-use Rattle.nmgc_cycle.proofs.lists.RootLists.{seen_at}
-use Rattle.nmgc_cycle.specs.Shown.{seen_mutator}
-use Rattle.nmgc_cycle.proofs.rounds.Sliced.{overwritten, asks_told, asks_full_told, each_did}
-use Rattle.nmgc_updrem.specs.Rings.{Receiver, HavePolled}
+use Rattle.nmgc_cycle.proofs.{rounds.Ran.MayBegin, rounds.Ran.HasBegun, rounds.Ran.HasRun, rounds.Ran.can_open, rounds.Ran.may_work, rounds.Ran.workers_are, rounds.Ran.has_run, rounds.Readiness.BeginReady, lists.RootLists.seen_at, rounds.Sliced.overwritten, rounds.Sliced.asks_told, rounds.Sliced.asks_full_told, rounds.Sliced.each_did}
 
 -- positions that can move on by so many commands
 abbrev pub CanMove : List ℕ → List ℕ → Type 0
@@ -65,8 +43,7 @@ module _ (script : Script) (c : Collector) (o : Opening) (round : Round) (was : 
       subst (λ (l : List Worker). CanAllWork round script c.positions.items l) (sym u.seated) (may_work begin script c o round u.seats u.begun room)
 
   pub played : SlicesAreGathered → (new : List Worker) → HaveAllWorked round script c.positions.items was new → HasRun script c o round new
-  played gather new worked = has_run gather script c o round u.seats new u.begun (subst (λ (l : List Worker).
-      HaveAllWorked round script c.positions.items l new) u.seated worked)
+  played gather new worked = has_run gather script c o round u.seats new u.begun (rw u.seated at worked)
 
 -- what the collector's seat knows once it did its part: its scans
 pub record HasScanned (o : Opening) (round : Round) (seat : RoundSeat) : Type 0 where
@@ -105,8 +82,7 @@ module _ (script : Script) (c : Collector) (o : Opening) (may : MayBegin script 
 
   -- the seats have every part of the round between them
   pub has_all : owed.SlicesAreGathered → (seats : List RoundSeat) → seats ≡ map seat_of new → HasAll (all_together (seen seat) (map seen seats))
-  has_all law seats same = subst (λ (v : Seen). HasAll (all_together v (map seen seats))) (sym has.knows) (subst (λ (l : List RoundSeat).
-      HasAll (owed.gathered o has.scans l)) (sym same) (gathers law).all)
+  has_all law seats same = rw has.knows (rw same (gathers law).all)
 
   pub seats_at : (seats : List RoundSeat) → seats ≡ map seat_of new → All (IsAt round) seats
   seats_at seats same = subst (λ (l : List RoundSeat). All (IsAt round) l) (sym same) ran.at

@@ -1,25 +1,6 @@
 -- A position is how many commands of its program were answered: there are as many, and what is left are the others.
-use Rattle.std.proofs.Common.{ℕ, ◌≡◌, ◌+◌, ◌-◌, ◌<◌, ◌≤◌, ◌^◌, List, [], ◌∷◌, length, map, drop, slice_index_or, slice_index, sym, ap, ◌∙◌, arith, Some}
-use Rattle.std.specs.Prelude.{slice_get}
-use Rattle.std.proofs.lemmas.List.{length-drop}
-use Rattle.nmgc_world_spec.specs.declared.command.Command.{Command}
-use Rattle.nmgc_world_spec.specs.World.{serial_of}
-use Rattle.nmgc_mutator.specs.declared.mutator.Mutator.{Mutator}
-use Rattle.nmgc_journal.specs.declared.report.RoundRows.{RoundRows}
-use Rattle.nmgc_script.specs.declared.script.Script.{Script}
-use Rattle.nmgc_run_spec.specs.Run.{Run, Turn, AreTurns, state_after, last_state}
-use Rattle.nmgc_run_spec.specs.Slice.{program_of}
-use Rattle.nmgc_run_spec.specs.State.{State, Plan, plan_of, start}
-use Rattle.nmgc_run_laws.specs.Statements.{answered_count}
-use Rattle.nmgc_run_laws.specs.laws.Lefts.{left_is_told, slice_count, round_left, stop_left}
-use Rattle.nmgc_cycle.specs.Shown.{told_cycles}
-use Rattle.nmgc_cycle.specs.declared.collector.Collector.{Collector}
-use Rattle.nmgc_cycle.specs.Keeps.{IsAfterStop}
-use Rattle.nmgc_script.specs.Limits.{IsInLimits}
-use Rattle.nmgc_cycle.specs.Working.{left_at}
-use Rattle.nmgc_cycle.proofs.lists.Plans.{sound_state}
-use Rattle.nmgc_cycle.proofs.lists.RootLists.{serial_seen}
-use Rattle.nmgc_run_laws.specs.laws.Programs.{slice_few}
+use Rattle.nmgc_cycle.proofs.Vocabulary.{ℕ, ◌≡◌, ◌+◌, ◌-◌, ◌<◌, ◌≤◌, ◌^◌, List, [], ◌∷◌, length, map, slice_index_or, slice_index, ap, arith, Some, slice_get, length-drop, Command, serial_of, Mutator, Script, Run, Turn, AreTurns, state_after, last_state, program_of, State, Plan, plan_of, start, answered_count, left_is_told, slice_count, round_left, stop_left, told_cycles, Collector, IsAfterStop, IsInLimits, left_at, slice_few}
+use Rattle.nmgc_cycle.proofs.{lists.Plans.sound_state, lists.RootLists.serial_seen}
 
 -- what was answered and what is left are the whole program
 turns_count : (plan : Plan) (s : State) (turns : List Turn) (m : ℕ) → AreTurns plan s turns →
@@ -32,8 +13,7 @@ turns_count plan s (turn ∷ turns) m h =
     length (program_of left m)) (stop_left plan s.world turn.worked turn.stop.state turn.stop.row turn.stop.cycles h.0.stop) in
     let own : ℕ = length (slice_index_or turn.replies.replies m []) in
     let worked : length (program_of turn.worked.left m) ≡ length (program_of s.left m) - own =
-    ap (λ (program : List Command). length program) (round_left plan.config s turn.worked turn.replies.replies turn.history m h.0.round) ∙
-    length-drop own (program_of s.left m) in
+    cc (round_left plan.config s turn.worked turn.replies.replies turn.history m h.0.round, length-drop own (program_of s.left m)) in
     let many = slice_count plan.config s turn.worked turn.replies.replies turn.history m h.0.round in
     let few = slice_few plan.config.slice plan.config.nursery (program_of s.left m) in
     omega (arith, rest, stopped, worked, many, few)
@@ -41,16 +21,14 @@ turns_count plan s (turn ∷ turns) m h =
 module _ (script : Script) (c : Collector) (run : Run) (still : IsAfterStop script c run) (k : ℕ) (exists : k < length script.threads) where
   -- what is left of a program in the run
   pub left_is : program_of (last_state run).left k ≡ left_at script c.positions.items k
-  left_is = left_is_told (plan_of script) run c.rows.rounds c.rows.stops (told_cycles c) still.at_stop.is_run still.at_stop.tells k ∙
-      ap (λ (n : ℕ). drop n (program_of script.threads k)) (sym (still.kept.positions k exists))
+  left_is = cc (left_is_told (plan_of script) run c.rows.rounds c.rows.stops (told_cycles c) still.at_stop.is_run still.at_stop.tells k, still.kept.positions k exists)
 
   -- a position lies within its program
   pub position_within : slice_index c.positions.items k ≤ length (program_of script.threads k)
   position_within =
       let plan : Plan = plan_of script in
       let turns : answered_count c.rows.rounds k + length (program_of (last_state run).left k) ≡ length (program_of run.opening.state.left k) =
-      ap (λ (rows : List RoundRows). answered_count rows k + length (program_of (last_state run).left k)) still.at_stop.tells.rounds_are ∙
-      turns_count plan run.opening.state run.turns k still.at_stop.is_run.turns in
+      cc (still.at_stop.tells.rounds_are, turns_count plan run.opening.state run.turns k still.at_stop.is_run.turns) in
       let opening : length (program_of run.opening.state.left k) ≡ length (program_of script.threads k) =
       ap (λ (left : List (List Command)).
       length (program_of left k)) (stop_left plan _ (start plan) run.opening.state run.opening.row run.opening.cycles still.at_stop.is_run.opening) in

@@ -1,21 +1,5 @@
 -- A round, from its beginning to the end of its slices.
-use Rattle.std.proofs.Common.{ℕ, ◌≡◌, List, length, map, ◌∙◌, Some}
-use Rattle.std.specs.Prelude.{All}
-use Rattle.nmgc_round.specs.declared.table.Round.{Round}
-use Rattle.nmgc_round.specs.View.{Opening}
-use Rattle.nmgc_round.specs.Seat.{RoundSeat, IsAt}
-use Rattle.nmgc_round.specs.Starting.{CanOpen}
-use Rattle.nmgc_collector_laws.specs.Turn.{SlicesAreDone, SlicesAreGathered}
-use Rattle.nmgc_script.specs.declared.script.Script.{Script}
-use Rattle.nmgc_run_spec.specs.Run.{Run, last_state}
-use Rattle.nmgc_cycle.specs.declared.collector.Collector.{Collector}
-use Rattle.nmgc_cycle.specs.declared.worker.Worker.{Worker}
-use Rattle.nmgc_cycle.specs.Keeps.{IsAfterStop}
-use Rattle.nmgc_script.specs.Limits.{IsInLimits}
-use Rattle.nmgc_cycle.specs.Working.{OpensAt, OpensIn, HaveSliceRoom, CanAllWork, HaveAllWorked, workers_of, mutator_of, seat_of}
-use Rattle.nmgc_cycle.proofs.rounds.Gathering.{AllDid, all_did, slices_done}
-use Rattle.nmgc_cycle.proofs.rounds.Opened.{CanOpenRounds, IsOpened, opened}
-use Rattle.nmgc_cycle.proofs.rounds.Readiness.{BeginReady, HasSeats, can_all_work, seats_counted, workers_count}
+use Rattle.nmgc_cycle.proofs.{Vocabulary.ℕ, Vocabulary.◌≡◌, Vocabulary.List, Vocabulary.length, Vocabulary.map, Vocabulary.◌∙◌, Vocabulary.Some, Vocabulary.All, Vocabulary.Round, Vocabulary.Opening, Vocabulary.RoundSeat, Vocabulary.IsAt, Vocabulary.CanOpen, Vocabulary.SlicesAreDone, Vocabulary.SlicesAreGathered, Vocabulary.Script, Vocabulary.Run, Vocabulary.last_state, Vocabulary.Collector, Vocabulary.Worker, Vocabulary.IsAfterStop, Vocabulary.IsInLimits, Vocabulary.OpensAt, Vocabulary.OpensIn, Vocabulary.HaveSliceRoom, Vocabulary.CanAllWork, Vocabulary.HaveAllWorked, Vocabulary.workers_of, Vocabulary.mutator_of, Vocabulary.seat_of, rounds.Gathering.AllDid, rounds.Gathering.all_did, rounds.Gathering.slices_done, rounds.Opened.CanOpenRounds, rounds.Opened.IsOpened, rounds.Opened.opened, rounds.Readiness.BeginReady, rounds.Readiness.HasSeats, rounds.Readiness.can_all_work, rounds.Readiness.seats_counted, rounds.Readiness.workers_count}
 
 -- the round after a stop may begin
 pub record MayBegin (script : Script) (c : Collector) (o : Opening) : Type 0 where

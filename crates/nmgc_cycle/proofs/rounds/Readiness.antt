@@ -1,33 +1,9 @@
 -- As a round begins, each mutator with its seat may do its slice.
-use Rattle.std.proofs.Common.{ℕ, zero, suc, ◌≡◌, ◌+◌, ◌<◌, List, [], ◌∷◌, length, map, slice_index, slice_index_or, refl, sym, ap, subst, ◌∙◌, arith, Some}
-use Rattle.std.specs.Prelude.{All, slice_get, option_map}
-use Rattle.std.proofs.lemmas.List.{length-map}
-use Rattle.std.proofs.lemmas.List.Elements.{All-drop}
-use Rattle.std.proofs.lemmas.Option.{slice_get-map, slice_get_within, get_or_from_slice_get}
-use Rattle.nmgc_world_spec.specs.Command.{Fits}
-use Rattle.nmgc_object.specs.declared.layout.Layout.{Layout}
-use Rattle.nmgc_round.specs.declared.table.Round.{Round}
-use Rattle.nmgc_round.specs.View.{Hand, Opening, Seen, no_hand, hand_of}
-use Rattle.nmgc_round.specs.Seat.{RoundSeat, IsAt, seen, opening_of}
-use Rattle.nmgc_round.specs.Seating.{alone, alones}
-use Rattle.nmgc_round.specs.Starting.{CanOpen}
-use Rattle.nmgc_mutator.specs.declared.mutator.Mutator.{Mutator}
-use Rattle.nmgc_mutator.specs.Ready.{IsReady, IsWhole, IsUnused, HasHand}
+use Rattle.nmgc_cycle.proofs.Vocabulary.{ℕ, zero, suc, ◌≡◌, ◌+◌, ◌<◌, List, [], ◌∷◌, length, map, slice_index, slice_index_or, refl, sym, ap, subst, ◌∙◌, arith, Some, All, slice_get, option_map, length-map, All-drop, slice_get-map, slice_get_within, get_or_from_slice_get, Fits, Layout, Round, Hand, Opening, no_hand, hand_of, RoundSeat, IsAt, opening_of, alone, alones, CanOpen, Mutator, IsWhole, IsUnused, HasHand, Script, Run, program_of, Collector, Worker, IsAfterStop, IsInLimits, left_at, CanWork, CanAllWork, worker_of, workers_of, HaveSliceRoom, item, of_item, alones_count}
+use Rattle.nmgc_round.specs.Seat.{seen}
+use Rattle.nmgc_mutator.specs.Ready.{IsReady}
 use Rattle.nmgc_collector_laws.specs.Rest as rest
-use Rattle.nmgc_script.specs.declared.script.Script.{Script}
-use Rattle.nmgc_run_spec.specs.Run.{Run}
-use Rattle.nmgc_run_spec.specs.Slice.{program_of}
-use Rattle.nmgc_cycle.specs.declared.collector.Collector.{Collector}
-use Rattle.nmgc_cycle.specs.declared.worker.Worker.{Worker}
-use Rattle.nmgc_cycle.specs.Keeps.{IsAfterStop}
-use Rattle.nmgc_script.specs.Limits.{IsInLimits}
-use Rattle.nmgc_cycle.specs.Working.{left_at, CanWork, CanAllWork, worker_of, workers_of, HaveSliceRoom}
-use Rattle.nmgc_lists.specs.laws.Items.{item, of_item}
-use Rattle.nmgc_cycle.proofs.rounds.Opened.{IsOpened}
-use Rattle.nmgc_cycle.proofs.lists.Plans.{good_plan}
-use Rattle.nmgc_cycle.proofs.rounds.Positions.{position_within}
-use Rattle.nmgc_cycle.proofs.rounds.Resting.{resting}
-use Rattle.nmgc_round.specs.laws.Common.{alones_count}
+use Rattle.nmgc_cycle.proofs.{rounds.Opened.IsOpened, lists.Plans.good_plan, rounds.Positions.position_within, rounds.Resting.resting}
 
 -- the law of mutators that this rests on
 abbrev pub BeginReady : Type 0
@@ -76,8 +52,7 @@ module _ (ms : List Mutator) (o : Opening) (hands_are : o.hands ≡
   seat_alone k seat e =
       let within = slice_get_within seats k seat e in
       let here : slice_get (map seen seats) k ≡ Some (seen seat) = slice_get-map seen seats k ∙ ap (option_map seen) e in
-      let there : slice_get (map seen seats) k ≡ Some (alone o (0 + k)) = ap (λ (l : List Seen). slice_get l k) has.seen_are ∙
-      alones_at o 0 o.hands k (omega (arith, within, hands_counted, seats_counted)) in
+      let there : slice_get (map seen seats) k ≡ Some (alone o (0 + k)) = cc (has.seen_are, alones_at o 0 o.hands k (omega (arith, within, hands_counted, seats_counted))) in
       let zero_first : 0 + k ≡ k = omega arith in
       let same : seen seat ≡ alone o (0 + k) = cc (here, there) in
       same ∙ ap (alone o) zero_first
@@ -98,14 +73,14 @@ module _ (begin : BeginReady) (script : Script) (c : Collector) (run : Run) (lim
   pub is_ready : (k : ℕ) (m : Mutator) (seat : RoundSeat) → slice_get c.mutators.items k ≡ Some m → slice_get seats k ≡ Some seat → IsReady round seat m
   is_ready k m seat e f =
       let r = resting script c run limits still k m e in
-      let hand : hand_of o.hands m.number ≡ own_hand m = ap (λ (hs : List Hand). hand_of hs m.number) hands ∙
-      ap (hand_of (map own_hand c.mutators.items)) r.number_is ∙
-      get_or_from_slice_get (map own_hand c.mutators.items) k (own_hand m) no_hand (slice_get-map own_hand c.mutators.items k ∙
-      ap (option_map own_hand) e) in
+      let hand : hand_of o.hands m.number ≡ own_hand m = cc (
+        hands,
+        r.number_is,
+        get_or_from_slice_get (map own_hand c.mutators.items) k (own_hand m) no_hand (slice_get-map own_hand c.mutators.items k ∙ ap (option_map own_hand) e),
+      ) in
       let place : IsAt round seat = of_item (IsAt round) seats k seat has.at f in
       begin o words round seat m can has.opened place (seat_alone c.mutators.items o hands round seats has k seat f ∙
-      ap (alone o) (sym r.number_is)) (op.layout_is ∙ sym r.layout_is) r.whole r.unused (subst (λ (h : Hand).
-      HasHand h m) (sym hand) (record { registers = refl; queue = refl; serial = refl }))
+      ap (alone o) (sym r.number_is)) (op.layout_is ∙ sym r.layout_is) r.whole r.unused (rw hand (record { registers = refl; queue = refl; serial = refl }))
 
   pub can_all_work : HaveSliceRoom script c → CanAllWork round script c.positions.items (workers_of c.mutators.items seats)
   can_all_work room = record {

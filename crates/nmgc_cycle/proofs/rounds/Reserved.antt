@@ -1,29 +1,6 @@
 -- Room for a round changes nothing that contracts see of a collector.
-use Rattle.std.proofs.Common.{ℕ, ◌≡◌, ◌++◌, List, length, map, sym, ap, subst, ◌∙◌, arith, Some, Global}
-use Rattle.std.specs.Prelude.{slice_get, slice_index_or}
-use Rattle.std.specs.declared.vec.Vec.{Vec}
-use Rattle.std.proofs.lemmas.Option.{slice_get_within, get_or_from_slice_get}
-use Rattle.nmgc_object.specs.Places.{IsLayout}
-use Rattle.nmgc_object.specs.declared.layout.Layout.{Layout}
-use Rattle.nmgc_object.specs.declared.words.Address.{Address}
-use Rattle.nmgc_mutator.specs.declared.mutator.Mutator.{Mutator}
-use Rattle.nmgc_mutator.specs.Ready.{Reserves}
-use Rattle.nmgc_mutator.specs.Records.{numbers}
-use Rattle.nmgc_script.specs.declared.script.Script.{Script}
-use Rattle.nmgc_collector_laws.specs.Collector.{IsAtStop}
-use Rattle.nmgc_run_spec.specs.Run.{Run, last_state}
-use Rattle.nmgc_collector_laws.specs.Seen.{MutatorSeen}
-use Rattle.nmgc_run_spec.specs.State.{State, Progress, idle, marking, sweeping, plan_of, layout_of}
-use Rattle.nmgc_sweep.specs.Names.{AreNamed}
-use Rattle.nmgc_cycle.specs.declared.collector.Collector.{Collector}
-use Rattle.nmgc_cycle.specs.Bound.{MayFollow, commands, one_cycle, no_cycle, AreFewAtStop}
-use Rattle.nmgc_cycle.specs.Keeps.{IsWellFormed, IsOwn, IsAfterStop, HasStopped, Sweeps}
-use Rattle.nmgc_cycle.specs.Shown.{seen, seen_mutator}
-use Rattle.nmgc_cycle.specs.Working.{AreReserved}
-use Rattle.nmgc_lists.specs.laws.Items.{item}
+use Rattle.nmgc_cycle.proofs.Vocabulary.{ℕ, ◌≡◌, ◌++◌, List, length, map, sym, ap, subst, ◌∙◌, arith, Some, Global, slice_get, Vec, slice_get_within, get_or_from_slice_get, IsLayout, Layout, Address, Mutator, Reserves, numbers, Script, IsAtStop, Run, last_state, MutatorSeen, State, Progress, idle, marking, sweeping, plan_of, layout_of, AreNamed, Collector, MayFollow, commands, one_cycle, no_cycle, AreFewAtStop, IsWellFormed, IsOwn, IsAfterStop, HasStopped, Sweeps, seen, seen_mutator, AreReserved, item, IsLined, Sender, slice_index_or}
 use Rattle.nmgc_cycle.proofs.lists.Mapped.{same_maps}
-use Rattle.nmgc_cycle.specs.Lined.{IsLined}
-use Rattle.nmgc_updrem.specs.Rings.{Sender}
 
 -- a mutator whose lists have more room is seen as before
 noting : Mutator → List Address → List Address → List Address → List Address → MutatorSeen
@@ -43,11 +20,7 @@ unfolding noting
 same_seen m n r =
     let first : seen_mutator n ≡ noting m n.recorded.items n.young_weaks.items n.finalised.items n.updrem.items =
     ap (λ (x : Mutator). noting x n.recorded.items n.young_weaks.items n.finalised.items n.updrem.items) r.rest in
-    first
-    ∙ ap (λ (l : List Address). noting m l n.young_weaks.items n.finalised.items n.updrem.items) r.recorded.items
-    ∙ ap (λ (l : List Address). noting m m.recorded.items l n.finalised.items n.updrem.items) r.young_weaks.items
-    ∙ ap (λ (l : List Address). noting m m.recorded.items m.young_weaks.items l n.updrem.items) r.finalised.items
-    ∙ ap (λ (l : List Address). noting m m.recorded.items m.young_weaks.items m.finalised.items l) r.updrem.items
+    cc (first, r.recorded.items, r.young_weaks.items, r.finalised.items, r.updrem.items)
 
 -- an item of the new list, with what it was
 pub was_at : (old new : List Mutator) (k : ℕ) (n : Mutator) → AreReserved old new → slice_get new k ≡ Some n → (m : Mutator) ×
@@ -134,10 +107,7 @@ module _ (script : Script) (c : Collector) (run : Run) (still : IsAfterStop scri
   pub still_reserved : IsAfterStop script roomy run
   still_reserved = record {
     kept = kept;
-    at_stop = subst (λ (l : List MutatorSeen). IsAtStop (plan_of script) run (record (seen c) {
-      mutators =
-          l;
-    })) (sym (reserved_seen c.mutators.items mutators.items reserved)) still.at_stop;
+    at_stop = rw (reserved_seen c.mutators.items mutators.items reserved) still.at_stop;
     sweeper = sweeps_on (last_state run).progress (last_state run) c mutators still.sweeper;
     named = still.named;
     few = few_on script c mutators still.few;
@@ -147,8 +117,7 @@ module _ (script : Script) (c : Collector) (run : Run) (still : IsAfterStop scri
 pub still_before : (script : Script) (old new : Collector) (run : Run) → IsWellFormed script old → new ≡ record old { mutators = new.mutators } →
     AreReserved old.mutators.items new.mutators.items → IsAfterStop script new run → IsAfterStop script old run
 still_before script old new run kept rest reserved still =
-    let same : seen new ≡ seen old = ap seen rest ∙ ap (λ (l : List MutatorSeen).
-    record (seen old) { mutators = l }) (reserved_seen old.mutators.items new.mutators.items reserved) in
+    let same : seen new ≡ seen old = cc (rest, reserved_seen old.mutators.items new.mutators.items reserved) in
     record {
       kept = kept;
       at_stop = subst (IsAtStop (plan_of script) run) same still.at_stop;

@@ -1,14 +1,5 @@
 -- A step of the loop that makes room in the lists of the mutators.
-use Rattle.std.proofs.Common.{ℕ, ◌≡◌, ◌+◌, ◌-◌, ◌<◌, ◌≤◌, List, [], length, min, get_or, slice_index, slice_index_or, inl, inr, sym, ap, subst, ◌∙◌, arith}
-use Rattle.std.specs.Prelude.{slice_set}
-use Rattle.std.proofs.lemmas.Bool.{cases_lt}
-use Rattle.std.proofs.lemmas.List.{length-drop, get_or_default, get_or-set_same, get_or-set_other}
-use Rattle.nmgc_world_spec.specs.declared.command.Command.{Command}
-use Rattle.nmgc_mutator.specs.declared.mutator.Mutator.{Mutator}
-use Rattle.nmgc_mutator.specs.Ready.{Reserves}
-use Rattle.nmgc_script.specs.declared.script.Script.{Script}
-use Rattle.nmgc_run_spec.specs.Slice.{program_of}
-use Rattle.nmgc_cycle.specs.Working.{left_at, HasLists}
+use Rattle.nmgc_cycle.proofs.Vocabulary.{ℕ, ◌≡◌, ◌+◌, ◌-◌, ◌<◌, ◌≤◌, List, [], length, min, get_or, slice_index, slice_index_or, inl, inr, sym, ap, subst, ◌∙◌, arith, slice_set, cases_lt, length-drop, get_or_default, get_or-set_same, get_or-set_other, Command, Mutator, Reserves, Script, program_of, left_at, HasLists}
 
 -- what holds of the new item and of those before it holds of all up to it
 pub up_to : {A : Type 0} (P : ℕ → A → Type 0) (xs : List A) (n : ℕ) (x d : A) → n < length xs → (k : ℕ) → k < n + 1 →

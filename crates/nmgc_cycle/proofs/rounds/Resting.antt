@@ -1,39 +1,19 @@
 -- After a stop the mutators are at rest, and so is the heap while no cycle marks.
-use Rattle.std.proofs.Common.{ℕ, ◌≡◌, ◌+◌, ◌<◌, List, [], length, map, refl, sym, ap, subst, ◌∙◌, inl, inr, arith, Some}
+use Rattle.std.proofs.{Common.ℕ, Common.◌≡◌, Common.◌+◌, Common.◌<◌, Common.List, Common.[], Common.length, Common.map, Common.refl, Common.sym, Common.ap, Common.subst, Common.◌∙◌, Common.inl, Common.inr, Common.arith, Common.Some, lemmas.Option.slice_get_within, lemmas.Option.get_or_from_slice_get, lemmas.Option.slice_get-map}
 use Rattle.std.specs.Prelude.{Contains, slice_get, option_map}
-use Rattle.std.proofs.lemmas.Option.{slice_get_within, get_or_from_slice_get, slice_get-map}
 use Rattle.nmgc_world_spec.specs.World.{World}
-use Rattle.nmgc_object.specs.Places.{nursery_place}
-use Rattle.nmgc_object.specs.declared.layout.Layout.{Layout}
-use Rattle.nmgc_object.specs.declared.layout.Nursery.{Nursery}
-use Rattle.nmgc_object.specs.declared.layout.TheConstants.{SHARED_PLACE}
-use Rattle.nmgc_alloc.specs.AllocState.{cells}
-use Rattle.nmgc_alloc.specs.Numbered.{block_place}
-use Rattle.nmgc_heap_spec.specs.Places.{Place}
-use Rattle.nmgc_heap_spec.specs.Represents.{Represents, NoNode}
-use Rattle.nmgc_heap_spec.specs.Roots.{RepresentsRoots}
-use Rattle.nmgc_object.specs.Size.{block_size}
-use Rattle.nmgc_blocks_spec.specs.Nurseries.{nursery_at}
-use Rattle.nmgc_blocks_spec.specs.Occupied.{AreBlocks}
-use Rattle.nmgc_blocks_spec.specs.Stopped.{young_base}
-use Rattle.nmgc_blocks_spec.specs.laws.Blocks.{is_block}
-use Rattle.nmgc_mutator.specs.declared.mutator.Mutator.{Mutator}
-use Rattle.nmgc_mutator.specs.Ready.{IsUnused}
-use Rattle.nmgc_collector_laws.specs.Rest.{IsAtRest, IsResting}
+use Rattle.nmgc_object.specs.{Places.nursery_place, declared.layout.Layout.Layout, declared.layout.Nursery.Nursery, declared.layout.TheConstants.SHARED_PLACE, Size.block_size}
+use Rattle.nmgc_alloc.specs.{AllocState.cells, Numbered.block_place}
+use Rattle.nmgc_heap_spec.specs.{Places.Place, Represents.Represents, Represents.NoNode, Roots.RepresentsRoots}
+use Rattle.nmgc_blocks_spec.specs.{Nurseries.nursery_at, Occupied.AreBlocks, Stopped.young_base, laws.Blocks.is_block}
+use Rattle.nmgc_mutator.specs.{declared.mutator.Mutator.Mutator, Ready.IsUnused, laws.Common.none_told as none_noted}
+use Rattle.nmgc_collector_laws.specs.{Rest.IsAtRest, Rest.IsResting, Seen.MutatorSeen, Seen.end_of, Seen.ends_of, Seen.nurseries_of, laws.Roots.same_registers, laws.Roots.same_queues, laws.Roots.same_serials}
 use Rattle.nmgc_collector_laws.specs.Worked as turn
-use Rattle.nmgc_script.specs.declared.script.Script.{Script}
-use Rattle.nmgc_run_spec.specs.Heap.{snapshots, registers_of, queues_of, serials_of}
-use Rattle.nmgc_run_spec.specs.Run.{Run, last_state}
-use Rattle.nmgc_collector_laws.specs.Seen.{MutatorSeen, end_of, ends_of, nurseries_of}
-use Rattle.nmgc_run_spec.specs.State.{plan_of, layout_of}
+use Rattle.nmgc_script.specs.{declared.script.Script.Script, Limits.IsInLimits}
+use Rattle.nmgc_run_spec.specs.{Heap.snapshots, Heap.registers_of, Heap.queues_of, Heap.serials_of, Run.Run, Run.last_state, State.plan_of, State.layout_of}
 use Rattle.nmgc_run_laws.specs.laws.Places.{blocks_at_stop, block_used}
-use Rattle.nmgc_cycle.specs.declared.collector.Collector.{Collector}
-use Rattle.nmgc_cycle.specs.Keeps.{IsAfterStop}
-use Rattle.nmgc_cycle.specs.Shown.{seen, words_in, seen_mutator}
-use Rattle.nmgc_script.specs.Limits.{IsInLimits}
-use Rattle.nmgc_cycle.proofs.lists.Plans.{sound_state}
-use Rattle.nmgc_cycle.proofs.lists.RootLists.{same_registers, same_queues, same_serials, seen_at}
-use Rattle.nmgc_mutator.specs.laws.Common.{none_told as none_noted}
+use Rattle.nmgc_cycle.specs.{declared.collector.Collector.Collector, Keeps.IsAfterStop, Shown.seen, Shown.words_in, Shown.seen_mutator}
+use Rattle.nmgc_cycle.proofs.{lists.Plans.sound_state, lists.RootLists.seen_at}
 
 -- words represent a world in another wording
 restated : {layout other : Layout} {earlier none : List World} {words same : List ℕ} (places : List Place) (w : World) → layout ≡ other →

@@ -1,52 +1,21 @@
 -- What a round leaves for the promotion of its stop, whatever the collector did beside it.
-use Rattle.std.proofs.Common.{ℕ, suc, ◌≡◌, ◌+◌, ◌<◌, ◌≤◌, ◌⊎◌, List, [], ◌∷◌, length, map, refl, sym, ap, subst, ◌∙◌, inl, inr, arith, Some}
+use Rattle.std.proofs.{Common.ℕ, Common.suc, Common.◌≡◌, Common.◌+◌, Common.◌<◌, Common.◌≤◌, Common.◌⊎◌, Common.List, Common.[], Common.◌∷◌, Common.length, Common.map, Common.refl, Common.sym, Common.ap, Common.subst, Common.◌∙◌, Common.inl, Common.inr, Common.arith, Common.Some, lemmas.Bool.cases_lt, lemmas.List.get_or_past, lemmas.List.length-map, lemmas.List.Elements.All-nil, lemmas.List.Elements.All-cons, lemmas.Option.slice_get-map, lemmas.Option.get_or_from_slice_get}
 use Rattle.std.specs.Prelude.{All, slice_get, option_map}
-use Rattle.std.proofs.lemmas.Bool.{cases_lt}
-use Rattle.std.proofs.lemmas.List.{get_or_past, length-map}
-use Rattle.std.proofs.lemmas.List.Elements.{All-nil, All-cons}
-use Rattle.std.proofs.lemmas.Option.{slice_get-map, get_or_from_slice_get}
 use Rattle.nmgc_world_spec.specs.World.{World}
-use Rattle.nmgc_object.specs.Places.{nursery_place, reserve_count}
-use Rattle.nmgc_object.specs.declared.layout.Layout.{Layout}
-use Rattle.nmgc_object.specs.declared.layout.Nursery.{Nursery}
-use Rattle.nmgc_alloc.specs.Stands.{StandsFor}
+use Rattle.nmgc_object.specs.{Places.nursery_place, Places.reserve_count, declared.layout.Layout.Layout, declared.layout.Nursery.Nursery}
+use Rattle.nmgc_alloc.specs.{Stands.StandsFor, Numbered.Segments}
 use Rattle.nmgc_alloc.specs.Reserve as reserve
-use Rattle.nmgc_alloc.specs.Numbered.{Segments}
-use Rattle.nmgc_heap_spec.specs.Places.{Place}
-use Rattle.nmgc_heap_spec.specs.Roots.{RepresentsRoots}
-use Rattle.nmgc_blocks_spec.specs.Nurseries.{AreUsed, AreEmpty, LieInOrder, nursery_at}
-use Rattle.nmgc_blocks_spec.specs.Occupied.{AreBlocks}
-use Rattle.nmgc_blocks_spec.specs.Remembers.{Remembers}
-use Rattle.nmgc_blocks_spec.specs.Stopped.{IsStopped, young_base}
-use Rattle.nmgc_mutator.specs.declared.mutator.Mutator.{Mutator}
-use Rattle.nmgc_mutator.specs.Ready.{words_by}
-use Rattle.nmgc_round.specs.Naming.{AllReply}
-use Rattle.nmgc_round.specs.Objects.{earlier}
-use Rattle.nmgc_round.specs.Starting.{CanOpen}
-use Rattle.nmgc_round.specs.View.{FixedWord, Opening, DoneRow}
-use Rattle.nmgc_collector_laws.specs.Turn.{RoundIsStopped, RoundTellsFinalised, stop_after}
+use Rattle.nmgc_heap_spec.specs.{Places.Place, Roots.RepresentsRoots}
+use Rattle.nmgc_blocks_spec.specs.{Nurseries.AreUsed, Nurseries.AreEmpty, Nurseries.LieInOrder, Nurseries.nursery_at, Occupied.AreBlocks, Remembers.Remembers, Stopped.IsStopped, Stopped.young_base}
+use Rattle.nmgc_mutator.specs.{declared.mutator.Mutator.Mutator, Ready.words_by}
+use Rattle.nmgc_round.specs.{Naming.AllReply, Objects.earlier, Starting.CanOpen, View.FixedWord, View.Opening, View.DoneRow}
+use Rattle.nmgc_collector_laws.specs.{Turn.RoundIsStopped, Turn.RoundTellsFinalised, Turn.stop_after, Worked.Done, Worked.TellsFinalised, Heaps.IsRoundFrom, Collector.AreNurseries, Seen.end_of, Seen.ends_of, Seen.nurseries_of, Seen.recorded_in, Seen.young_weaks_in, Seen.finalised_in, laws.Roots.same_registers, laws.Roots.same_queues, laws.Roots.same_serials}
 use Rattle.nmgc_collector_laws.specs.Worked as turn
-use Rattle.nmgc_collector_laws.specs.Worked.{Done, TellsFinalised}
 use Rattle.nmgc_script.specs.declared.script.Script.{Script}
-use Rattle.nmgc_collector_laws.specs.Heaps.{IsRoundFrom}
-use Rattle.nmgc_collector_laws.specs.Collector.{AreNurseries}
-use Rattle.nmgc_run_spec.specs.Heap.{HasAllRegisters, snapshots, registers_of, queues_of, serials_of}
-use Rattle.nmgc_collector_laws.specs.Seen.{end_of, ends_of, nurseries_of, recorded_in, young_weaks_in, finalised_in}
-use Rattle.nmgc_run_spec.specs.Slice.{slice_of, program_of}
-use Rattle.nmgc_run_spec.specs.State.{layout_of}
-use Rattle.nmgc_cycle.specs.declared.collector.Collector.{Collector}
-use Rattle.nmgc_cycle.specs.Roots.{HasRegisters}
-use Rattle.nmgc_cycle.specs.Shown.{seen, seen_mutator, words_in}
-use Rattle.nmgc_cycle.proofs.stops.EnoughFree.{reserve_free}
+use Rattle.nmgc_run_spec.specs.{Heap.HasAllRegisters, Heap.snapshots, Heap.registers_of, Heap.queues_of, Heap.serials_of, Slice.slice_of, Slice.program_of, State.layout_of}
+use Rattle.nmgc_cycle.specs.{declared.collector.Collector.Collector, Roots.HasRegisters, Shown.seen, Shown.seen_mutator, Shown.words_in}
+use Rattle.nmgc_cycle.proofs.{stops.EnoughFree.reserve_free, lists.Phases.noted_snapshots, lists.Plans.sound_state, rounds.Positions.left_is, rounds.Resting.blocks_there, lists.RootLists.same_nurseries, lists.RootLists.same_recorded, lists.RootLists.same_weaks, lists.RootLists.same_finalised, rounds.Rounded.one_did, rounds.Slicing.commands_of, rounds.Over.IsOver, rounds.Over.plan, rounds.Over.s, rounds.Over.w, rounds.Over.t, rounds.Over.rows, rounds.Over.places, rounds.Over.shown, rounds.Over.view, rounds.Over.worked, rounds.Over.can, rounds.Over.mutators_count, rounds.Over.one}
 use Rattle.nmgc_lists.specs.laws.Items.{item}
-use Rattle.nmgc_cycle.proofs.rounds.Over.{IsOver, plan, s, w, t, rows, places, shown, view, worked, can, mutators_count, one}
-use Rattle.nmgc_cycle.proofs.lists.Phases.{noted_snapshots}
-use Rattle.nmgc_cycle.proofs.lists.Plans.{sound_state}
-use Rattle.nmgc_cycle.proofs.rounds.Positions.{left_is}
-use Rattle.nmgc_cycle.proofs.rounds.Resting.{blocks_there}
-use Rattle.nmgc_cycle.proofs.lists.RootLists.{same_registers, same_queues, same_serials, same_nurseries, same_recorded, same_weaks, same_finalised}
-use Rattle.nmgc_cycle.proofs.rounds.Rounded.{one_did}
-use Rattle.nmgc_cycle.proofs.rounds.Slicing.{commands_of}
 
 -- each has all its registers
 pub all_registers : (ms : List Mutator) → ((k : ℕ) (m : Mutator) → slice_get ms k ≡ Some m → HasRegisters m) →

@@ -1,21 +1,5 @@
 -- The collector did a round, once its replies are told.
-use Rattle.std.proofs.Common.{ℕ, ◌≡◌, List, [], ◌∷◌, ◌++◌, map, sym, ap, subst, ◌∙◌, Option, Some, None, Global}
-use Rattle.std.specs.Prelude.{OnOk, Result, Ok, Err}
-use Rattle.std.specs.declared.vec.Vec.{Vec}
-use Rattle.nmgc_world_spec.specs.declared.command.Reply.{Reply}
-use Rattle.nmgc_lists.specs.laws.Items.{is_some_of}
-use Rattle.nmgc_journal.specs.declared.report.RoundRows.{RoundRows}
-use Rattle.nmgc_round.specs.View.{Opening}
-use Rattle.nmgc_mutator.specs.declared.mutator.Mutator.{Mutator}
-use Rattle.nmgc_script.specs.declared.script.Script.{Script}
-use Rattle.nmgc_cycle.specs.declared.collector.Collector.{Collector}
-use Rattle.nmgc_cycle.specs.Keeps.{DidRound}
-use Rattle.nmgc_script.specs.Limits.{IsInLimits}
-use Rattle.nmgc_cycle.specs.Working.{OpensAt, DidSlices, cleared, replies_of}
-use Rattle.nmgc_cycle.proofs.rounds.GoneOn.{HasLaws}
-use Rattle.nmgc_cycle.proofs.rounds.KeptAfter.{did_round}
-use Rattle.nmgc_cycle.proofs.rounds.Opened.{opened}
-use Rattle.nmgc_cycle.proofs.rounds.Over.{IsOver}
+use Rattle.nmgc_cycle.proofs.{Vocabulary.ℕ, Vocabulary.◌≡◌, Vocabulary.List, Vocabulary.[], Vocabulary.◌∷◌, Vocabulary.◌++◌, Vocabulary.map, Vocabulary.sym, Vocabulary.ap, Vocabulary.subst, Vocabulary.◌∙◌, Vocabulary.Option, Vocabulary.Some, Vocabulary.None, Vocabulary.Global, Vocabulary.OnOk, Vocabulary.Result, Vocabulary.Ok, Vocabulary.Err, Vocabulary.Vec, Vocabulary.Reply, Vocabulary.is_some_of, Vocabulary.RoundRows, Vocabulary.Opening, Vocabulary.Mutator, Vocabulary.Script, Vocabulary.Collector, Vocabulary.DidRound, Vocabulary.IsInLimits, Vocabulary.OpensAt, Vocabulary.DidSlices, Vocabulary.cleared, Vocabulary.replies_of, rounds.GoneOn.HasLaws, rounds.KeptAfter.did_round, rounds.Opened.opened, rounds.Over.IsOver}
 
 -- what follows from what holds of an answer
 pub on_ok : {A E P Q : Type 0} (r : Result A E) → OnOk r P → (P → Q) → OnOk r Q

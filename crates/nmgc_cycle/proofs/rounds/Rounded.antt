@@ -1,31 +1,7 @@
 -- A round that is over is one of the run: its order of all commands is legal, and it has each mutator's own.
-use Rattle.std.proofs.Common.{ℕ, ◌≡◌, ◌<◌, List, [], length, map, sym, ap, subst, ◌∙◌, arith, Bool, Some}
-use Rattle.std.specs.Prelude.{slice_get, slice_index_or, ◌||◌}
-use Rattle.std.proofs.Math.ListN.{get_or-map}
-use Rattle.std.proofs.lemmas.Option.{slice_get_within, get_or_from_slice_get}
-use Rattle.nmgc_world_spec.specs.World.{World}
-use Rattle.nmgc_world_spec.specs.History.{IsLegal, rows_of, replayed}
-use Rattle.nmgc_world_spec.specs.declared.command.Command.{Command}
-use Rattle.nmgc_world_spec.specs.declared.command.Reply.{Reply}
-use Rattle.nmgc_alloc.specs.AllocState.{AllocState}
-use Rattle.nmgc_mutator.specs.declared.mutator.Mutator.{Mutator}
-use Rattle.nmgc_round.specs.View.{Opening, Part}
-use Rattle.nmgc_collector_laws.specs.Turn.{RoundIsHistory}
-use Rattle.nmgc_collector_laws.specs.Worked.{Done, HasWorked}
-use Rattle.nmgc_script.specs.declared.script.Script.{Script}
-use Rattle.nmgc_collector_laws.specs.Collector.{Matches}
-use Rattle.nmgc_run_spec.specs.Round.{IsRound, answered, own_rows, SweepsBeside}
-use Rattle.nmgc_run_spec.specs.Slice.{slices, slice_of, some_asks, is_collect, is_full, program_of}
-use Rattle.nmgc_cycle.specs.declared.collector.Collector.{Collector}
-use Rattle.nmgc_cycle.specs.Shown.{phase_in}
-use Rattle.nmgc_lists.specs.laws.Items.{item}
-use Rattle.nmgc_cycle.proofs.lists.Mapped.{same_maps}
-use Rattle.nmgc_cycle.proofs.rounds.Over.{IsOver, s, rows, w, t, told, shown, view, worked, with_world, done_count, one, replied}
-use Rattle.nmgc_cycle.proofs.rounds.OwnRows.{replies_in, done_in, own_again, same_lengths}
-use Rattle.nmgc_cycle.proofs.lists.Phases.{noted_phase}
-use Rattle.nmgc_cycle.proofs.lists.Plans.{sound_state}
-use Rattle.nmgc_cycle.proofs.rounds.Positions.{left_is}
-use Rattle.nmgc_cycle.proofs.rounds.Slicing.{commands_of}
+use Rattle.nmgc_cycle.proofs.Vocabulary.{ℕ, ◌≡◌, ◌<◌, List, [], length, map, sym, ap, ◌∙◌, arith, Some, slice_get, ◌||◌, get_or-map, slice_get_within, get_or_from_slice_get, World, IsLegal, rows_of, replayed, Command, AllocState, Mutator, Opening, Part, RoundIsHistory, Done, Script, Matches, IsRound, own_rows, SweepsBeside, slices, slice_of, some_asks, is_collect, is_full, program_of, Collector, phase_in, item, slice_index_or}
+use Rattle.nmgc_collector_laws.specs.Worked.{HasWorked}
+use Rattle.nmgc_cycle.proofs.{lists.Mapped.same_maps, rounds.Over.IsOver, rounds.Over.s, rounds.Over.rows, rounds.Over.w, rounds.Over.t, rounds.Over.told, rounds.Over.shown, rounds.Over.view, rounds.Over.worked, rounds.Over.with_world, rounds.Over.done_count, rounds.Over.one, rounds.Over.replied, rounds.OwnRows.replies_in, rounds.OwnRows.done_in, rounds.OwnRows.own_again, rounds.OwnRows.same_lengths, lists.Phases.noted_phase, lists.Plans.sound_state, rounds.Positions.left_is, rounds.Slicing.commands_of}
 
 module _ (script : Script) (c new : Collector) (o : Opening) (x : IsOver script c new o) where
   -- what a mutator did, with its part of the view
@@ -60,29 +36,23 @@ module _ (script : Script) (c new : Collector) (o : Opening) (x : IsOver script 
   -- the law's facts
   module _ (history : RoundIsHistory) where
     legal : IsLegal (s script c new o x).world (rows script c new o x)
-    legal = subst (λ (world : World).
-        IsLegal world (rows script c new o x)) x.op.world_is (history o x.did.words (view script c new o x) new.mutators.items x.did.done
+    legal = rw x.op.world_is at (history o x.did.words (view script c new o x) new.mutators.items x.did.done
         x.did.leaves.0 (worked script c new o x)).0
 
     each_done : (m : ℕ) → done_in (rows_of m (rows script c new o x)) ≡ slice_index_or x.did.done m []
     each_done = (history o x.did.words (view script c new o x) new.mutators.items x.did.done x.did.leaves.0 (worked script c new o x)).1
 
     pub world_is : w script c new o x ≡ replayed (s script c new o x).world (rows script c new o x)
-    world_is = (history o x.did.words (view script c new o x) new.mutators.items x.did.done x.did.leaves.0 (worked script c new o x)).2 ∙
-        ap (λ (world : World). replayed world (rows script c new o x)) x.op.world_is
+    world_is = cc ((history o x.did.words (view script c new o x) new.mutators.items x.did.done x.did.leaves.0 (worked script c new o x)).2, x.op.world_is)
 
     order : (m : ℕ) → rows_of m (rows script c new o x) ≡ own_rows (slices script.config (s script c new o x).left) (told script c new o x) m
     order m =
         let own : List Done = slice_index_or x.did.done m [] in
         let commands : slice_index_or (slices script.config (s script c new o x).left) m [] ≡ commands_of own =
         ap (λ (l : List (List Command)). slice_index_or l m []) slices_are ∙ get_or-map commands_of x.did.done m [] in
-        let replies : slice_index_or (told script c new o x) m [] ≡ replies_in own = ap (λ (l : List (List Reply)). slice_index_or l m []) told_is ∙
-        get_or-map replies_in x.did.done m [] in
+        let replies : slice_index_or (told script c new o x) m [] ≡ replies_in own = cc (told_is, get_or-map replies_in x.did.done m []) in
         sym (
-        ap (λ (l : List Command). answered m l (slice_index_or (told script c new o x) m [])) commands
-        ∙ ap (λ (l : List Reply). answered m (commands_of own) l) replies
-        ∙ ap (λ (d : List Done). answered m (commands_of d) (replies_in d)) (sym (each_done m))
-        ∙ own_again m (rows script c new o x)
+        cc (commands, replies, each_done m, own_again m (rows script c new o x))
         )
 
     pub is_round : (allocation : AllocState) →
@@ -90,8 +60,7 @@ module _ (script : Script) (c new : Collector) (o : Opening) (x : IsOver script 
         IsRound script.config (s script c new o x) (told script c new o x) (rows script c new o x) (t script c new o x allocation)
     is_round allocation swept = record {
       history = record {
-        lengths = ap (λ (l : List (List Reply)). map length l) told_is ∙ same_lengths x.did.done ∙
-            sym (ap (λ (l : List (List Command)). map length l) slices_are);
+        lengths = cc (told_is, same_lengths x.did.done, slices_are);
         order = order;
         legal = legal;
       };
@@ -102,15 +71,11 @@ module _ (script : Script) (c new : Collector) (o : Opening) (x : IsOver script 
   -- a cycle, or a full one, is asked for by the slices
   asked : new.cycle.collect ≡ ((s script c new o x).collect || some_asks is_collect (slices script.config (s script c new o x).left))
   asked =
-      x.did.collect
-      ∙ ap (λ (b : Bool). b || some_asks is_collect (map commands_of x.did.done)) x.still.at_stop.matches.collect
-      ∙ ap (λ (l : List (List Command)). (s script c new o x).collect || some_asks is_collect l) (sym slices_are)
+      cc (x.did.collect, x.still.at_stop.matches.collect, slices_are)
 
   full_asked : new.cycle.full ≡ ((s script c new o x).full || some_asks is_full (slices script.config (s script c new o x).left))
   full_asked =
-      x.did.full
-      ∙ ap (λ (b : Bool). b || some_asks is_full (map commands_of x.did.done)) x.still.at_stop.matches.full
-      ∙ ap (λ (l : List (List Command)). (s script c new o x).full || some_asks is_full l) (sym slices_are)
+      cc (x.did.full, x.still.at_stop.matches.full, slices_are)
 
   pub matches : (allocation : AllocState) → phase_in new.cycle.progress ≡ phase_in c.cycle.progress →
       Matches (shown script c new o x) (t script c new o x allocation)

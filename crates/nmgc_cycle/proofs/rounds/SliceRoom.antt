@@ -1,18 +1,5 @@
 -- Once the lists of the mutators got their room, each has room for its slice.
-use Rattle.std.proofs.Common.{ℕ, ◌≡◌, ◌+◌, ◌-◌, ◌<◌, ◌≤◌, ◌^◌, length, min, slice_index_or, sym, ap, subst, arith}
-use Rattle.std.specs.Prelude.{Result, Ok, Err, OnOk}
-use Rattle.std.proofs.lemmas.Option.{slice_get_within, get_or_from_slice_get}
-use Rattle.nmgc_mutator.specs.declared.mutator.Mutator.{Mutator}
-use Rattle.nmgc_mutator.specs.Ready.{Reserves}
-use Rattle.nmgc_mutator.specs.Slice.{HasRoom}
-use Rattle.nmgc_script.specs.declared.script.Script.{Script}
-use Rattle.nmgc_run_spec.specs.Run.{Run}
-use Rattle.nmgc_cycle.specs.declared.collector.Collector.{Collector}
-use Rattle.nmgc_cycle.specs.Keeps.{IsAfterStop}
-use Rattle.nmgc_script.specs.Limits.{IsInLimits}
-use Rattle.nmgc_cycle.specs.Working.{left_at, HasLists, AreReserved, HaveSliceRoom}
-use Rattle.nmgc_lists.specs.laws.Items.{item}
-use Rattle.nmgc_cycle.proofs.rounds.Positions.{serial_fits}
+use Rattle.nmgc_cycle.proofs.{Vocabulary.ℕ, Vocabulary.◌≡◌, Vocabulary.◌+◌, Vocabulary.◌-◌, Vocabulary.◌<◌, Vocabulary.◌≤◌, Vocabulary.◌^◌, Vocabulary.length, Vocabulary.min, Vocabulary.slice_index_or, Vocabulary.ap, Vocabulary.subst, Vocabulary.arith, Vocabulary.Result, Vocabulary.Ok, Vocabulary.Err, Vocabulary.OnOk, Vocabulary.slice_get_within, Vocabulary.get_or_from_slice_get, Vocabulary.Mutator, Vocabulary.Reserves, Vocabulary.Script, Vocabulary.Run, Vocabulary.Collector, Vocabulary.IsAfterStop, Vocabulary.IsInLimits, Vocabulary.left_at, Vocabulary.HasLists, Vocabulary.AreReserved, Vocabulary.HaveSliceRoom, Vocabulary.item, rounds.Positions.serial_fits}
 
 -- what follows from two facts holds where both do
 pub on_both : {T E P Q R : Type 0} (r : Result T E) → (P → Q → R) → OnOk r P → OnOk r Q → OnOk r R
@@ -43,7 +30,7 @@ reserved_room script c d run limits still same reserved lists k m e =
     let fits : old.0.serial + size < 2 ^ 32 - 1 = serial_fits script c run still k exists old.0 limits old.1 in
     let few : min script.config.slice size ≤ size = min_few script.config.slice size in
     let positions : d.positions.items ≡ c.positions.items = ap (λ (x : Collector). x.positions.items) same in
-    subst (λ l. HasRoom m (min script.config.slice (length (left_at script l k)))) (sym positions) (record {
+    rw positions (record {
       replies = room.replies;
       recorded = room.recorded;
       updrem = room.updrem;

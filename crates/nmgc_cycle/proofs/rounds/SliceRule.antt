@@ -1,16 +1,6 @@
 -- The commands that a slice did are the slice of the rule: as many as fit, up to the first that ends it.
-use Rattle.std.proofs.Common.{ℕ, zero, suc, ◌≡◌, ◌+◌, ◌-◌, ◌<◌, ◌≤◌, List, [], ◌∷◌, ◌++◌, length, take, drop, get_or, slice_get, Some, rules, refl, sym, ap, ◌∙◌, arith, true, false, add-one, drop-cons}
-use Rattle.std.proofs.lemmas.List.{append-nil, take_more, drop_all}
-use Rattle.std.proofs.lemmas.Option.{slice_get_within, get_or_from_slice_get}
-use Rattle.nmgc_world_spec.specs.declared.command.Command.{Command}
-use Rattle.nmgc_world_spec.specs.declared.command.Command.TheVariants.{Yield, Collect, Full}
-use Rattle.nmgc_world_spec.specs.Command.{words_made}
-use Rattle.nmgc_mutator.specs.declared.mutator.Mutator.{Mutator}
-use Rattle.nmgc_mutator.specs.declared.mutator.SliceEnd.{SliceEnd}
+use Rattle.nmgc_cycle.proofs.Vocabulary.{ℕ, zero, suc, ◌≡◌, ◌+◌, ◌-◌, ◌<◌, ◌≤◌, List, [], ◌∷◌, ◌++◌, length, take, drop, get_or, Some, rules, refl, sym, ap, ◌∙◌, arith, true, false, add-one, drop-cons, take_more, drop_all, slice_get_within, get_or_from_slice_get, Command, Yield, Collect, Full, words_made, Mutator, SliceEnd, IsYield, GoesOn, IsLast, Ended, slice, ends_slice, is_next, slice_get, append-nil}
 use Rattle.nmgc_mutator.specs.declared.mutator.SliceEnd.TheVariants as ending
-use Rattle.nmgc_mutator.specs.Does.{IsYield}
-use Rattle.nmgc_mutator.specs.Slice.{GoesOn, IsLast, Ended}
-use Rattle.nmgc_run_spec.specs.Slice.{slice, ends_slice, is_next}
 
 -- how many words the objects have that commands make
 abbrev pub all_made : List Command → ℕ
@@ -49,17 +39,16 @@ along : (program : List Command) (i commands words left room : ℕ) → GoesOn p
 along program zero commands words left room on within e f = same_slice program commands words left room (omega arith) (omega arith)
 along [] (suc i) commands words left room on within e f = absurd (omega arith)
 along (c ∷ program) (suc i) commands words left room on within e f =
-    step commands words c program (omega arith) (omega arith) (on 0 c (omega arith) refl)
-    ∙ ap (λ (rest : List Command). c ∷ rest) (along program i (commands - 1) (words - words_made c) left room (λ j d lt is.
-    on (suc j) d (omega arith) is) (omega arith) (omega arith) (omega arith))
+    cc (
+      step commands words c program (omega arith) (omega arith) (on 0 c (omega arith) refl),
+      along program i (commands - 1) (words - words_made c) left room (λ j d lt is. on (suc j) d (omega arith) is) (omega arith) (omega arith) (omega arith),
+    )
 
 -- none follows
 ends_at : (program : List Command) (i commands words left room : ℕ) → GoesOn program i → i ≤ length program → commands ≡ i + left →
     words ≡ all_made (take i program) + room → slice left room (drop i program) ≡ [] → slice commands words program ≡ take i program
 ends_at program i commands words left room on within e f none =
-    along program i commands words left room on within e f
-    ∙ ap (λ (rest : List Command). take i program ++ rest) none
-    ∙ append-nil (take i program)
+    cc (along program i commands words left room on within e f, none, append-nil (take i program))
 
 -- what is left begins with the next command
 next_is : (program : List Command) (i : ℕ) (c : Command) → slice_get program i ≡ Some c → (drop i program ≡ c ∷ drop (i + 1) program) ×
@@ -99,13 +88,14 @@ ended program done commands words room c yields h most f =
     let count = h.1 in
     let none = (does_end c yields).1 in
     let taken : take done program ≡ take i program ++ c ∷ [] = ap (λ (n : ℕ). take n program) count ∙ next.1 in
-    let made : words ≡ all_made (take i program) + room = f ∙ ap (λ (cs : List Command). all_made cs + room) taken ∙
-    ap (λ (n : ℕ). n + room) (made_last (take i program) c none) in
+    let made : words ≡ all_made (take i program) + room = cc (f, taken, made_last (take i program) c none) in
     let within = next.2 in
-    along program i commands words (commands - i) room h.2 (omega (arith, within)) (omega (arith, count)) made
-    ∙ ap (λ (rest : List Command). take i program ++ slice (commands - i) room rest) next.0
-    ∙ ap (λ (rest : List Command). take i program ++ rest) (last (commands - i) room c (drop (i + 1) program) yields (omega (arith, count)))
-    ∙ sym taken
+    cc (
+      along program i commands words (commands - i) room h.2 (omega (arith, within)) (omega (arith, count)) made,
+      next.0,
+      last (commands - i) room c (drop (i + 1) program) yields (omega (arith, count)),
+      taken,
+    )
 
 pub slice_rule : (program : List Command) (commands words done : ℕ) (n : Mutator) (end : SliceEnd) → Ended program commands done n end →
     done ≤ commands → all_made (take done program) + (n.nursery.end - n.nursery.top) ≡ words → slice commands words program ≡ take done program
@@ -135,5 +125,4 @@ slice_rule program commands words done n (ending.Nursery need left) h most e =
     ends_at program done commands words (commands - done) room h.0 (omega (
       arith,
       within,
-    )) (omega arith) (sym e) (ap (λ (rest : List Command). slice (commands - done) room rest) next.0 ∙
-    full (commands - done) room c (drop (done + 1) program) (omega (arith, size, rest, less)))
+    )) (omega arith) (sym e) (cc (next.0, full (commands - done) room c (drop (done + 1) program) (omega (arith, size, rest, less))))

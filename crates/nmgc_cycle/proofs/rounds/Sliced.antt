@@ -1,34 +1,7 @@
 -- What the slices of a round leave of positions and replies, and whether one asked for a cycle.
-use Rattle.std.proofs.Common.{ℕ, zero, suc, ◌≡◌, ◌+◌, ◌-◌, ◌<◌, ◌^◌, Bool, List, [], ◌∷◌, ◌++◌, length, map, take, drop, slice_index, refl, sym, ap, subst, ◌∙◌, arith, Option, Some, Global}
-use Rattle.std.specs.Prelude.{slice_get, slice_index_or, option_map}
-use Rattle.std.specs.List.{list_any}
-use Rattle.std.specs.declared.vec.Vec.{Vec}
-use Rattle.std.proofs.lemmas.List.{length-drop}
-use Rattle.std.proofs.lemmas.Option.{slice_get-map, slice_get_within, get_or_from_slice_get}
-use Rattle.nmgc_round.specs.declared.table.Round.{Round}
-use Rattle.nmgc_alloc.specs.Numbered.{Segments}
-use Rattle.nmgc_round.specs.View.{Opening}
-use Rattle.nmgc_mutator.specs.declared.mutator.Mutator.{Mutator}
-use Rattle.nmgc_mutator.specs.Slice.{Ended, tried}
-use Rattle.nmgc_round.specs.Gate.{passed}
-use Rattle.nmgc_collector_laws.specs.Worked.{Done}
-use Rattle.nmgc_script.specs.declared.script.Script.{Script}
-use Rattle.nmgc_heap_spec.specs.laws.Kinds.{map_item}
-use Rattle.nmgc_run_spec.specs.Run.{Run}
-use Rattle.nmgc_run_spec.specs.Slice.{program_of, some_asks, is_collect, is_full}
-use Rattle.nmgc_cycle.specs.declared.collector.Collector.{Collector}
+use Rattle.nmgc_cycle.proofs.Vocabulary.{ℕ, zero, suc, ◌≡◌, ◌+◌, ◌-◌, ◌<◌, ◌^◌, Bool, List, [], ◌∷◌, ◌++◌, length, map, take, drop, slice_index, refl, sym, ap, subst, ◌∙◌, arith, Option, Some, Global, slice_get, option_map, list_any, Vec, length-drop, slice_get-map, slice_get_within, get_or_from_slice_get, Round, Segments, Opening, Mutator, Ended, tried, passed, Done, Script, map_item, Run, program_of, some_asks, is_collect, is_full, Collector, Worker, IsAfterStop, IsInLimits, asks_of, asks_full_of, left_at, commands_in, mutator_of, done_by, DidSlice, item, Receiver, Sender, slice_index_or}
 use Rattle.nmgc_cycle.specs.declared.progress.Progress as held
-use Rattle.nmgc_cycle.specs.declared.worker.Worker.{Worker}
-use Rattle.nmgc_cycle.specs.Keeps.{IsAfterStop}
-use Rattle.nmgc_script.specs.Limits.{IsInLimits}
-use Rattle.nmgc_cycle.specs.Working.{asks_of, asks_full_of, left_at, commands_in, mutator_of, done_by, DidSlice}
-use Rattle.nmgc_cycle.proofs.rounds.Asking.{same_any, any_mapped}
-use Rattle.nmgc_cycle.proofs.rounds.Gathering.{AllDid, OneDid}
-use Rattle.nmgc_lists.specs.laws.Items.{item}
-use Rattle.nmgc_cycle.proofs.lists.Plans.{program_few}
-use Rattle.nmgc_cycle.proofs.rounds.Positions.{position_within}
-use Rattle.nmgc_cycle.proofs.rounds.Slicing.{commands_of}
-use Rattle.nmgc_updrem.specs.Rings.{Receiver, Sender}
+use Rattle.nmgc_cycle.proofs.{rounds.Asking.same_any, rounds.Asking.any_mapped, rounds.Gathering.AllDid, rounds.Gathering.OneDid, lists.Plans.program_few, rounds.Positions.position_within, rounds.Slicing.commands_of}
 
 -- a whole list is overwritten
 pub overwritten : {A : Type 0} (n : ℕ) (xs ys : List A) → length ys ≡ length xs → n ≡ length xs → take n (ys ++ drop (length ys) xs) ≡ ys

@@ -1,30 +1,9 @@
 -- What the slices of a round leave: each mutator did the slice of the rule, and the seats have every part.
-use Rattle.std.proofs.Common.{ℕ, ◌≡◌, ◌+◌, ◌-◌, ◌≤◌, List, [], ◌∷◌, length, map, take, refl, sym, ap, subst, ◌∙◌, arith}
-use Rattle.std.specs.List.{list_any}
-use Rattle.std.proofs.lemmas.List.{length-map, length-take-le}
-use Rattle.std.proofs.lemmas.Option.{slice_get_within}
-use Rattle.nmgc_world_spec.specs.declared.command.Command.{Command}
-use Rattle.nmgc_world_spec.specs.Command.{words_made}
-use Rattle.nmgc_object.specs.declared.layout.Layout.{Layout}
-use Rattle.nmgc_round.specs.declared.table.Round.{Round}
-use Rattle.nmgc_round.specs.View.{Opening, DoneRow, FixedWord}
-use Rattle.nmgc_round.specs.Naming.{AllReply}
-use Rattle.nmgc_round.specs.Seat.{RoundSeat, seen}
-use Rattle.nmgc_round.specs.Seating.{alone}
-use Rattle.nmgc_mutator.specs.declared.mutator.Mutator.{Mutator}
-use Rattle.nmgc_mutator.specs.declared.mutator.SliceEnd.{SliceEnd}
+use Rattle.nmgc_cycle.proofs.Vocabulary.{ℕ, ◌≡◌, ◌+◌, ◌-◌, ◌≤◌, List, [], ◌∷◌, length, map, take, refl, sym, ap, subst, ◌∙◌, arith, list_any, length-map, length-take-le, slice_get_within, Command, words_made, Layout, Round, Opening, DoneRow, FixedWord, AllReply, RoundSeat, alone, Mutator, SliceEnd, words_by, HasDone, passed, Ended, tried, Done, Config, slice_of, is_collect, is_full, Worker, HasWorkedOn, worker_of}
+use Rattle.nmgc_round.specs.Seat.{seen}
+use Rattle.nmgc_mutator.specs.Ready.{rows_of}
 use Rattle.nmgc_mutator.specs.declared.mutator.SliceEnd.TheVariants as ending
-use Rattle.nmgc_mutator.specs.Ready.{words_by, rows_of}
-use Rattle.nmgc_mutator.specs.Does.{HasDone}
-use Rattle.nmgc_round.specs.Gate.{passed}
-use Rattle.nmgc_mutator.specs.Slice.{Ended, tried}
-use Rattle.nmgc_collector_laws.specs.Worked.{Done}
-use Rattle.nmgc_script.specs.declared.script.Config.{Config}
-use Rattle.nmgc_run_spec.specs.Slice.{slice_of, is_collect, is_full}
-use Rattle.nmgc_cycle.specs.declared.worker.Worker.{Worker}
-use Rattle.nmgc_cycle.specs.Working.{HasWorkedOn, worker_of}
-use Rattle.nmgc_cycle.proofs.rounds.Asking.{asks_by_end, full_by_end}
-use Rattle.nmgc_cycle.proofs.rounds.SliceRule.{all_made, slice_rule}
+use Rattle.nmgc_cycle.proofs.{rounds.Asking.asks_by_end, rounds.Asking.full_by_end, rounds.SliceRule.all_made, rounds.SliceRule.slice_rule}
 
 -- the commands that were done
 abbrev pub commands_of : List Done → List Command
@@ -96,9 +75,7 @@ slice_done config round o k left m seat new is nursery h =
         end = h.end;
         ended = h.ended;
         turns = h.turns;
-        asks = asks_by_end left config.slice new.done new.mutator h.end new.asks h.ended h.asks ∙
-            sym (ap (λ (cs : List Command). list_any is_collect cs) first);
-        asks_full = full_by_end left config.slice new.done new.mutator h.end new.asks_full h.ended h.asks_full ∙
-            sym (ap (λ (cs : List Command). list_any is_full cs) first);
+        asks = cc (asks_by_end left config.slice new.done new.mutator h.end new.asks h.ended h.asks, first);
+        asks_full = cc (full_by_end left config.slice new.done new.mutator h.end new.asks_full h.ended h.asks_full, first);
       },
     )

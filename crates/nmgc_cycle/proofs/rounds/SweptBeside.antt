@@ -1,52 +1,11 @@
 -- A round beside which a closed cycle swept: places of freed names are gone, and all of which anybody may speak are there.
-use Rattle.std.proofs.Common.{ℕ, ◌≡◌, ◌+◌, ◌≤◌, ◌<◌, List, [], ◌∷◌, length, sym, ap, subst, ◌∙◌, inl, inr, arith}
-use Rattle.std.specs.Prelude.{Contains, min}
-use Rattle.std.proofs.lemmas.Bool.{cases_lt}
-use Rattle.nmgc_world_spec.specs.World.{World}
-use Rattle.nmgc_world_spec.specs.declared.value.Name.{Name}
-use Rattle.nmgc_lists.specs.laws.Items.{contains_head, contains_tail}
-use Rattle.nmgc_object.specs.Places.{nursery_place}
+use Rattle.nmgc_cycle.proofs.Vocabulary.{ℕ, ◌≡◌, ◌+◌, ◌≤◌, ◌<◌, List, [], ◌∷◌, length, sym, ap, subst, ◌∙◌, inl, inr, arith, Contains, cases_lt, World, Name, contains_head, contains_tail, nursery_place, AllocState, HasBlock, SweepsSome, StandsFor, counts_stand, Place, LieInOrder, Remembers, Opening, Script, DropsFreed, FreesUntracked, Sweeper, AreLeft, IsAtWork, IsKeptIn, Cycle, AreNurseries, IsLastBegun, HoldsAfterRound, snapshots, AreSettled, noted, IsRound, SweepsBeside, ends_of, nurseries_of, recorded_in, young_weaks_in, Progress, sweeping, waiting_count, runs_are, named_swept, Collector, HasSweptSome, Sweeps, seen, died, phase_in, sweeper_in, min}
 use Rattle.nmgc_segment.specs.declared.state.State.TheVariants as stands
-use Rattle.nmgc_alloc.specs.AllocState.{AllocState, HasBlock, SweepsSome}
-use Rattle.nmgc_alloc.specs.Stands.{StandsFor}
 use Rattle.nmgc_alloc.specs.Reserve as reserve
-use Rattle.nmgc_alloc.specs.laws.Keeping.{counts_stand}
-use Rattle.nmgc_heap_spec.specs.Places.{Place}
-use Rattle.nmgc_blocks_spec.specs.Nurseries.{LieInOrder}
-use Rattle.nmgc_blocks_spec.specs.Remembers.{Remembers}
-use Rattle.nmgc_round.specs.View.{Opening}
-use Rattle.nmgc_script.specs.declared.script.Script.{Script}
-use Rattle.nmgc_collector_laws.specs.Drops.{DropsFreed, FreesUntracked}
-use Rattle.nmgc_sweep.specs.Sweeper.{Sweeper, AreLeft}
-use Rattle.nmgc_sweep.specs.Work.{IsAtWork}
-use Rattle.nmgc_blocks_spec.specs.Cycle.{IsKeptIn, Cycle}
-use Rattle.nmgc_collector_laws.specs.Collector.{AreNurseries, HoldsInCycle, IsPacedAfterRound}
-use Rattle.nmgc_run_laws.specs.Course.{IsInCourse, IsLastBegun}
-use Rattle.nmgc_run_spec.specs.Heap.{HoldsAfterRound, snapshots}
-use Rattle.nmgc_alloc.specs.Settled.{AreSettled}
-use Rattle.nmgc_run_spec.specs.Round.{noted, IsRound, SweepsBeside}
-use Rattle.nmgc_sweep.specs.Seen.{CycleSeen}
-use Rattle.nmgc_collector_laws.specs.Seen.{ends_of, nurseries_of, recorded_in, young_weaks_in}
-use Rattle.nmgc_run_spec.specs.State.{Progress, sweeping, waiting_count}
-use Rattle.nmgc_run_laws.specs.laws.Course.{runs_are}
-use Rattle.nmgc_sweep.specs.Names.{AreNamed}
-use Rattle.nmgc_sweep.specs.laws.Names.{named_swept}
-use Rattle.nmgc_object.specs.declared.layout.Layout.{Layout}
-use Rattle.nmgc_cycle.specs.declared.collector.Collector.{Collector}
 use Rattle.nmgc_cycle.specs.declared.progress.Progress as held
 use Rattle.nmgc_cycle.specs.declared.progress.Progress.TheVariants as doing
 use Rattle.nmgc_cycle.specs.declared.progress.Sweeping as held_sweeping
-use Rattle.nmgc_cycle.specs.Cycles.{HasSweptSome}
-use Rattle.nmgc_cycle.specs.Keeps.{Sweeps}
-use Rattle.nmgc_cycle.specs.Shown.{seen, died, phase_in, sweeper_in, cycle_in}
-use Rattle.nmgc_cycle.proofs.rounds.GoneOn.{HasLaws, HasGoneOn}
-use Rattle.nmgc_cycle.proofs.rounds.ListedLeft.{listed_left}
-use Rattle.nmgc_cycle.proofs.rounds.MarkedBeside.{phase_with, helped_as}
-use Rattle.nmgc_cycle.proofs.rounds.Over.{IsOver, plan, s, w, t, rows, places, told, last, shown, view}
-use Rattle.nmgc_cycle.proofs.lists.Phases.{when_sweeping, noted_snapshots}
-use Rattle.nmgc_cycle.proofs.lists.Plans.{is_runnable, sound_state}
-use Rattle.nmgc_cycle.proofs.rounds.RoundOver.{layout, nurseries_left, in_order, remembered, finalised_told, round_from}
-use Rattle.nmgc_cycle.proofs.rounds.Rounded.{is_round}
+use Rattle.nmgc_cycle.proofs.{rounds.GoneOn.HasLaws, rounds.GoneOn.HasGoneOn, rounds.ListedLeft.listed_left, rounds.MarkedBeside.phase_with, rounds.MarkedBeside.helped_as, rounds.Over.IsOver, rounds.Over.plan, rounds.Over.s, rounds.Over.w, rounds.Over.t, rounds.Over.rows, rounds.Over.places, rounds.Over.told, rounds.Over.last, rounds.Over.shown, rounds.Over.view, lists.Phases.when_sweeping, lists.Phases.noted_snapshots, lists.Plans.is_runnable, lists.Plans.sound_state, rounds.RoundOver.layout, rounds.RoundOver.nurseries_left, rounds.RoundOver.in_order, rounds.RoundOver.remembered, rounds.RoundOver.finalised_told, rounds.RoundOver.round_from, rounds.Rounded.is_round}
 
 -- so many were swept as the quota lets, or all that waited
 swept_min : (quota count before after : ℕ) → after + count ≡ before → count ≤ quota → (count < quota → after ≡ 0) → count ≡ min quota before
@@ -73,8 +32,7 @@ module _ (laws : HasLaws) (script : Script) (c new : Collector) (o : Opening) (x
   same_cycle : (shown script c new o x).cycle ≡ (seen c).cycle
   same_cycle =
       let dead : List Name = died c.heap.weaks.deaths in
-      ap (λ (q : held.Progress). cycle_in q dead) did.1 ∙ ap (λ (y : held_sweeping.Sweeping). cycle_in (doing.Sweeping y) dead) did.3.rest ∙
-      sym (ap (λ (q : held.Progress). cycle_in q dead) before.1)
+      cc (did.1, did.3.rest, before.1)
 
   sweeps_before : Sweeps (sweeping k closed) (s script c new o x) c
   sweeps_before = subst (λ (p : Progress). Sweeps p (s script c new o x) c) e x.still.sweeper
@@ -97,8 +55,7 @@ module _ (laws : HasLaws) (script : Script) (c new : Collector) (o : Opening) (x
 
   swept : (b : AllocState) × SweepsSome (IsKeptIn k) did.3.count (s script c new o x).allocation b ×
       IsAtWork k closed x.did.words b new.heap.segments (seen c).cycle did.0.sweeper
-  swept = did.3.swept.sweeps k closed x.did.words (s script c new o x).allocation (seen c).cycle (subst (λ (l : Layout).
-      AreNamed l c.heap.names (s script c new o x).allocation) (sym x.still.kept.layout) x.still.named) at_work
+  swept = did.3.swept.sweeps k closed x.did.words (s script c new o x).allocation (seen c).cycle (rw x.still.kept.layout x.still.named) at_work
 
   left_before : AreLeft c.heap.segments before.0.sweeper
   left_before = subst (λ (y : Sweeper). AreLeft c.heap.segments y) sweeper_was sweeps_before.0
@@ -114,8 +71,7 @@ module _ (laws : HasLaws) (script : Script) (c new : Collector) (o : Opening) (x
       )) did.3.most (λ less. ap (λ l. length l) (did.3.least less))
 
   beside : SweepsBeside script.config.quota (s script c new o x).progress (s script c new o x).allocation swept.0
-  beside = subst (λ (p : Progress). SweepsBeside script.config.quota p (s script c new o x).allocation swept.0) (sym e) (subst (λ (count : ℕ).
-      SweepsSome (IsKeptIn k) count (s script c new o x).allocation swept.0) as_many swept.1)
+  beside = rw e (rw as_many at swept.1)
 
   round : IsRound script.config (s script c new o x) (told script c new o x) (rows script c new o x) (t script c new o x swept.0)
   round = is_round script c new o x laws.history swept.0 beside
@@ -129,9 +85,7 @@ module _ (laws : HasLaws) (script : Script) (c new : Collector) (o : Opening) (x
   frees =
       let none : snapshots (t script c new o x swept.0).progress ≡ [] = noted_snapshots (s script c new o x).progress (rows script c new o x) ∙
       ap snapshots e in
-      subst (λ (l : List World). FreesUntracked ((s script c new o x).world ∷
-      l) (s script c new o x).world (w script c new o x) (s script c new o x).allocation swept.0) (sym none)
-      (laws.frees (plan script c new o x) x.run k closed (told script c new o x) (rows script c new o x) (t script c new o x swept.0)
+      rw none (laws.frees (plan script c new o x) x.run k closed (told script c new o x) (rows script c new o x) (t script c new o x swept.0)
       (is_runnable script x.limits) x.still.at_stop.is_run round e)
 
   listed : (p : Place) → Contains (seen c).weaks p → HasBlock swept.0 p.name
@@ -170,15 +124,12 @@ module _ (laws : HasLaws) (script : Script) (c new : Collector) (o : Opening) (x
       omega (arith, was, now, more)
 
   course : IsLastBegun k (s script c new o x).number (s script c new o x).begun
-  course = (subst (λ (p : Progress).
-      IsInCourse p (s script c new o x).number (s script c new o x).begun (s script c new o x).allocation) e
-      (runs_are (plan script c new o x) x.run x.still.at_stop.is_run)).0
+  course = (rw e at (runs_are (plan script c new o x) x.run x.still.at_stop.is_run)).0
 
   -- the cycle sweeps on
   work_on : IsAtWork k closed x.did.words swept.0 new.heap.segments (shown script c new o x).cycle (sweeper_in new.cycle.progress)
   work_on =
-      subst (λ (y : CycleSeen). IsAtWork k closed x.did.words swept.0 new.heap.segments y (sweeper_in new.cycle.progress)) (sym same_cycle)
-      (subst (IsAtWork k closed x.did.words swept.0 new.heap.segments (seen c).cycle) (sym sweeper_now) swept.2)
+      rw same_cycle (subst (IsAtWork k closed x.did.words swept.0 new.heap.segments (seen c).cycle) (sym sweeper_now) swept.2)
 
   sweeps_on : Sweeps (sweeping k closed) (t script c new o x swept.0) (last script c new o x)
   sweeps_on = (subst (λ (y : Sweeper). AreLeft new.heap.segments y) (sym sweeper_now) did.3.swept.left, work_on)
@@ -200,9 +151,7 @@ module _ (laws : HasLaws) (script : Script) (c new : Collector) (o : Opening) (x
         let all = finalised_told script c new o x laws.finalised in
         record { all = λ p parts there low alive gone. all.all p parts (fewer.2.old p there) low alive gone; low = all.low };
     free = more_free;
-    cycle = subst (λ (p : Progress). HoldsInCycle (λ (j : Cycle).
-        IsPacedAfterRound script.config.quota j (t script c new o x swept.0) (shown script c new o x)) (noted p (rows script c new o x))
-        (t script c new o x swept.0) (shown script c new o x) fewer.0) (sym e) (work_on.sweeping, settled);
+    cycle = rw e (work_on.sweeping, settled);
     sweeper = subst (λ (p : Progress). Sweeps (noted p (rows script c new o x)) (t script c new o x swept.0) (last script c new o x)) (sym e) sweeps_on;
     named = named_swept (layout script c new o x) c.heap.names (IsKeptIn k) did.3.count (s script c new o x).allocation swept.0 swept.1 x.still.named;
   }

@@ -1,11 +1,5 @@
 -- A step of the loop that takes the replies off the mutators.
-use Rattle.std.proofs.Common.{◌≡◌, ℕ, ◌+◌, ◌<◌, List, [], ◌∷◌, ◌++◌, length, map, take, drop, set, get_or, ap, ◌∙◌, arith}
-use Rattle.std.proofs.lemmas.List.{get_or_default, take_more}
-use Rattle.std.proofs.lemmas.List.Edits.{map_over_more}
-use Rattle.std.proofs.lemmas.Grind.{common_steps}
-use Rattle.nmgc_world_spec.specs.declared.command.Reply.{Reply}
-use Rattle.nmgc_mutator.specs.declared.mutator.Mutator.{Mutator}
-use Rattle.nmgc_cycle.specs.Working.{cleared, replies_of}
+use Rattle.nmgc_cycle.proofs.Vocabulary.{◌≡◌, ℕ, ◌+◌, ◌<◌, List, [], ◌∷◌, ◌++◌, length, map, take, drop, set, get_or, ap, ◌∙◌, arith, get_or_default, take_more, map_over_more, common_steps, Reply, Mutator, cleared, replies_of}
 
 -- the rest of the list is as it was
 rest_is : (was now : List Mutator) (i : ℕ) (m : Mutator) → i < length was → now ≡ map cleared (take i was) ++ drop i was → get_or now i m ≡ get_or was i m

@@ -1,15 +1,5 @@
 -- Whether commands are left, by what was done of each program.
-use Rattle.std.proofs.Common.{ℕ, suc, ◌≡◌, ◌-◌, ◌<◌, ◌↔◌, List, [], ◌∷◌, length, arith, refl, sym, ap, ◌∙◌, Bool, true, false, IsTrue, lt-ltb}
-use Rattle.std.specs.Prelude.{slice_index, nat_lt}
-use Rattle.std.proofs.lemmas.List.{length-drop}
-use Rattle.std.proofs.lemmas.List.Folds.{list_any_at}
-use Rattle.nmgc_world_spec.specs.declared.command.Command.{Command}
-use Rattle.nmgc_journal.specs.declared.report.RoundRows.{RoundRows}
-use Rattle.nmgc_script.specs.declared.script.Script.{Script}
-use Rattle.nmgc_run_spec.specs.Slice.{has_left, program_of}
-use Rattle.nmgc_run_laws.specs.Statements.{answered_count}
-use Rattle.nmgc_cycle.specs.Stopping.{SomeIsLeft}
-use Rattle.nmgc_cycle.proofs.stops.Begins.{IsLeft}
+use Rattle.nmgc_cycle.proofs.{Vocabulary.ℕ, Vocabulary.suc, Vocabulary.◌≡◌, Vocabulary.◌-◌, Vocabulary.◌<◌, Vocabulary.◌↔◌, Vocabulary.List, Vocabulary.[], Vocabulary.◌∷◌, Vocabulary.length, Vocabulary.arith, Vocabulary.refl, Vocabulary.Bool, Vocabulary.true, Vocabulary.false, Vocabulary.IsTrue, Vocabulary.nat_lt, Vocabulary.length-drop, Vocabulary.list_any_at, Vocabulary.Command, Vocabulary.RoundRows, Vocabulary.Script, Vocabulary.has_left, Vocabulary.program_of, Vocabulary.answered_count, Vocabulary.SomeIsLeft, Vocabulary.lt-ltb, Vocabulary.slice_index, stops.Begins.IsLeft}
 
 -- some program that isn't used up
 abbrev SomeProgram : List (List Command) → Type 0
@@ -25,8 +15,7 @@ module _ (script : Script) (rounds : List RoundRows) (left : List (List Command)
     (told : (k : ℕ) → k < length script.threads → slice_index positions k ≡ answered_count rounds k) where
   -- how many commands of a program are left
   count : (k : ℕ) → k < length script.threads → length (program_of left k) ≡ length (program_of script.threads k) - slice_index positions k
-  count k lt = ap (λ (program : List Command). length program) (h.each k) ∙ length-drop (answered_count rounds k) (program_of script.threads k) ∙
-      ap (λ (n : ℕ). length (program_of script.threads k) - n) (sym (told k lt))
+  count k lt = cc (h.each k, length-drop (answered_count rounds k) (program_of script.threads k), told k lt)
 
   to : SomeIsLeft script.threads positions → has_left left ≡ true
   to s =

@@ -1,26 +1,6 @@
 -- The heap of which nothing was made is what a run begins with: its only place is g's, and no block has a name.
-use Rattle.std.proofs.Common.{ℕ, ◌≡◌, ◌<◌, List, [], ◌∷◌, arith, sym, ap, subst, ◌∙◌, inl, inr, Option, Some, None}
-use Rattle.std.specs.Prelude.{Contains, ◌/◌, IfSome}
-use Rattle.std.proofs.Math.ListN.{length-replicate}
-use Rattle.nmgc_world_spec.specs.declared.value.Name.{Name}
-use Rattle.nmgc_world_spec.specs.declared.node.Node.{Node}
-use Rattle.nmgc_world_spec.specs.declared.node.Node.TheVariants.{Weak}
-use Rattle.nmgc_world_spec.specs.declared.node.Parts.{Parts}
-use Rattle.nmgc_world_spec.specs.World.{World, new_world, node_of}
-use Rattle.nmgc_world_spec.specs.Reach.{IsAliveWeak}
-use Rattle.nmgc_lists.specs.laws.Items.{contains_head, contains_cases, nothing_in}
-use Rattle.nmgc_world_laws.specs.laws.NewWorlds.{new_nodes}
-use Rattle.nmgc_object.specs.declared.layout.Layout.{Layout}
-use Rattle.nmgc_segment.specs.Segment.{Segment, mark_of, free_segment}
-use Rattle.nmgc_alloc.specs.Segments.{all_free}
-use Rattle.nmgc_alloc.specs.AllocState.{Cells, all_empty, no_cells, name_in, LiesIn}
-use Rattle.nmgc_alloc.specs.laws.Numbers.{nth_free, unmarked}
-use Rattle.nmgc_alloc.specs.laws.OneState.{first_cells}
-use Rattle.nmgc_heap_spec.specs.Places.{Place, shared_place}
-use Rattle.nmgc_heap_spec.specs.Roots.{ListsWeaks}
-use Rattle.nmgc_run_spec.specs.Heap.{FitBlocks}
-use Rattle.nmgc_blocks_spec.specs.Placed.{IsPlaceAtStop}
-use Rattle.nmgc_alloc.specs.Settled.{AreSettled}
+use Rattle.nmgc_cycle.proofs.Vocabulary.{ℕ, ◌≡◌, ◌<◌, List, [], ◌∷◌, arith, sym, ap, subst, ◌∙◌, inl, inr, Option, Some, None, Contains, ◌/◌, IfSome, length-replicate, Name, Node, Weak, Parts, World, new_world, node_of, IsAliveWeak, contains_head, contains_cases, nothing_in, new_nodes, Layout, Segment, mark_of, free_segment, all_free, Cells, all_empty, no_cells, name_in, LiesIn, nth_free, first_cells, Place, shared_place, ListsWeaks, FitBlocks, IsPlaceAtStop, AreSettled}
+use Rattle.nmgc_alloc.specs.laws.Numbers.{unmarked}
 
 -- no name lies in a block
 pub lies_nowhere : (count number block : ℕ) (name : Name) → LiesIn (all_empty count) number block name → ⊥

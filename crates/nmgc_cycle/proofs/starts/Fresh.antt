@@ -1,44 +1,8 @@
 -- A new collector is what a run begins with.
-use Rattle.std.proofs.Common.{false, ℕ, ◌≡◌, ◌≤◌, ◌<◌, List, [], ◌∷◌, length, map, replicate, arith, sym, ap, subst, ◌∙◌, Some, vec_capacity, None}
-use Rattle.std.specs.Prelude.{All, IsSome, slice_get, slice_index}
-use Rattle.std.proofs.Math.ListN.{length-replicate}
-use Rattle.std.proofs.lemmas.List.{get_or-replicate}
-use Rattle.std.proofs.lemmas.Option.{slice_get_within}
-use Rattle.nmgc_world_spec.specs.World.{new_world}
-use Rattle.nmgc_object.specs.declared.layout.Layout.{Layout}
-use Rattle.nmgc_object.specs.Places.{IsLayout, word_total}
-use Rattle.nmgc_alloc.specs.Numbered.{Segments}
-use Rattle.nmgc_alloc.specs.Segments.{IsSegments, all_free}
-use Rattle.nmgc_alloc.specs.Stands.{StandsFor}
-use Rattle.nmgc_alloc.specs.AllocState.{all_empty}
-use Rattle.nmgc_alloc.specs.laws.OneState.{first_stands}
-use Rattle.nmgc_minor.specs.Promotion.{IsFor}
-use Rattle.nmgc_round.specs.Empty.{first_opening}
-use Rattle.nmgc_round.specs.Starting.{CanOpen}
-use Rattle.nmgc_mutator.specs.declared.mutator.Mutator.{Mutator}
-use Rattle.nmgc_script.specs.declared.script.Script.{Script}
-use Rattle.nmgc_journal.specs.declared.report.MutatorEnd.{MutatorEnd}
-use Rattle.nmgc_run_spec.specs.State.{plan_of, layout_of}
+use Rattle.nmgc_cycle.proofs.Vocabulary.{false, ℕ, ◌≡◌, ◌≤◌, ◌<◌, List, [], ◌∷◌, length, map, replicate, arith, sym, ap, subst, ◌∙◌, Some, vec_capacity, None, All, IsSome, slice_get, length-replicate, get_or-replicate, slice_get_within, new_world, Layout, IsLayout, word_total, Segments, IsSegments, all_free, all_empty, first_stands, IsFor, first_opening, CanOpen, Mutator, Script, MutatorEnd, plan_of, layout_of, HeapStandsFor, HasAllRegisters, AreSettled, end_of, answered_count, RoundRows, CycleRow, HaveEntries, Collector, IsOwn, IsWellFormed, IsFresh, seen, seen_mutator, phase_in, told_row, shared_place, IsLined, slice_index}
 use Rattle.nmgc_collector_laws.specs.Collector.{IsNew}
-use Rattle.nmgc_run_spec.specs.Heap.{HeapStandsFor, HasAllRegisters, registers_of, queues_of, serials_of}
-use Rattle.nmgc_alloc.specs.Settled.{AreSettled}
-use Rattle.nmgc_collector_laws.specs.Seen.{end_of}
-use Rattle.nmgc_run_laws.specs.Statements.{answered_count}
-use Rattle.nmgc_journal.specs.declared.report.RoundRows.{RoundRows}
-use Rattle.nmgc_heap_spec.specs.Roots.{ListsWeaks, RepresentsRoots}
-use Rattle.nmgc_weak.specs.declared.weaks.OldWeak.{OldWeak}
-use Rattle.nmgc_weak.specs.Weaks.{places_of}
-use Rattle.nmgc_journal.specs.declared.report.CycleRow.{CycleRow}
-use Rattle.nmgc_sweep.specs.Names.{HaveEntries}
-use Rattle.nmgc_cycle.specs.declared.collector.Collector.{Collector}
-use Rattle.nmgc_cycle.specs.Keeps.{IsOwn, IsWellFormed, IsFresh}
 use Rattle.nmgc_cycle.specs.declared.progress.Progress.TheVariants as progress
-use Rattle.nmgc_cycle.specs.Shown.{seen, seen_mutator, phase_in, told_row}
-use Rattle.nmgc_cycle.proofs.starts.Empty.{fit_blocks, place_of_g, g_has_place, lists_no_weaks, no_marks}
-use Rattle.nmgc_cycle.proofs.starts.News.{AreNew, new_end, ends_are, have_registers, new_roots}
-use Rattle.nmgc_cycle.proofs.starts.Unused.{are_empty, are_nurseries, nothing_left}
-use Rattle.nmgc_heap_spec.specs.Places.{shared_place}
-use Rattle.nmgc_cycle.specs.Lined.{IsLined}
+use Rattle.nmgc_cycle.proofs.{starts.Empty.fit_blocks, starts.Empty.place_of_g, starts.Empty.g_has_place, starts.Empty.lists_no_weaks, starts.Empty.no_marks, starts.News.AreNew, starts.News.new_end, starts.News.ends_are, starts.News.have_registers, starts.News.new_roots, starts.Unused.are_empty, starts.Unused.are_nurseries, starts.Unused.nothing_left}
 
 -- what a new collector is made of
 pub record IsMade (layout : Layout) (script : Script) (c : Collector) : Type 0 where
@@ -119,12 +83,10 @@ module _ (script : Script) (c : Collector) (made : IsMade (layout_of (plan_of sc
     fit = fit_blocks (new_world (length script.threads)) script.config.segments;
     represents = made.opens.represents;
     registers = subst (All HasAllRegisters) (sym all_new) (have_registers (length script.threads));
-    roots = subst (λ (es : List MutatorEnd). RepresentsRoots (shared_place ∷
-        []) (new_world (length script.threads)) (registers_of es) (queues_of es) (serials_of es)) (sym all_new) (new_roots (shared_place ∷
+    roots = rw all_new (new_roots (shared_place ∷
         []) (length script.threads));
     layout_is = same_layout;
-    stands = subst (λ (s : Segments).
-        StandsFor s (seen c).words (all_empty script.config.segments)) (sym made.segments) (first_stands sizes (seen c).words made.total);
+    stands = rw made.segments (first_stands sizes (seen c).words made.total);
   }
 
   is_new : IsNew (plan_of script) (seen c)
@@ -135,8 +97,7 @@ module _ (script : Script) (c : Collector) (made : IsMade (layout_of (plan_of sc
       places = shared_place ∷ [];
       all = λ p. (place_of_g sizes script.config.segments p, g_has_place sizes script.config.segments p);
       holds = holds;
-      listed = subst (λ (l : List OldWeak). ListsWeaks sizes (shared_place ∷
-          []) (new_world (length script.threads)) (places_of l)) (sym made.weakless) (lists_no_weaks sizes (shared_place ∷ []) (length script.threads));
+      listed = rw made.weakless (lists_no_weaks sizes (shared_place ∷ []) (length script.threads));
     };
     at_rest = record {
       nurseries = are_nurseries sizes c.mutators.items made.new (new_world (length script.threads)) made.count;

@@ -1,7 +1,5 @@
 -- Lists that grow by one item at their end.
-use Rattle.std.proofs.Common.{ℕ, ◌≡◌, List, [], ◌∷◌, ◌++◌, length, sym, subst, ◌∙◌, inl, inr, Some}
-use Rattle.std.specs.Prelude.{slice_get}
-use Rattle.nmgc_world_laws.specs.laws.NodeLaws.{get-append_cases}
+use Rattle.nmgc_cycle.proofs.Vocabulary.{ℕ, ◌≡◌, List, [], ◌∷◌, ◌++◌, length, sym, subst, ◌∙◌, inl, inr, Some, slice_get, get-append_cases}
 
 -- what holds of each item by its place, and of one more, holds of all of them
 pub each_pushed : {A : Type 0} (P : ℕ → A → Type 0) (xs : List A) (x : A) → ((k : ℕ) (a : A) → slice_get xs k ≡ Some a → P k a) → P (length xs) x →

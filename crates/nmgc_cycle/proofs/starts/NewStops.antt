@@ -1,28 +1,7 @@
 -- A new collector has what the promotion of its first stop asks: nothing was made yet.
-use Rattle.std.proofs.Common.{ℕ, ◌≡◌, ◌<◌, ◌≤◌, List, [], ◌∷◌, arith, sym, subst, inl, inr}
-use Rattle.std.specs.Prelude.{Contains}
-use Rattle.nmgc_world_spec.specs.World.{World, IsWorld, node_of}
-use Rattle.nmgc_world_spec.specs.Reach.{IsBefore}
-use Rattle.nmgc_lists.specs.laws.Items.{contains_cases, nothing_in, place_of, flat_contains}
-use Rattle.nmgc_world_laws.specs.laws.HeldSteps.{absent}
-use Rattle.nmgc_world_laws.specs.laws.Reached.{world_holds}
-use Rattle.nmgc_object.specs.declared.layout.Layout.{Layout}
-use Rattle.nmgc_object.specs.Places.{nursery_place}
-use Rattle.nmgc_alloc.specs.Segments.{IsSegments}
-use Rattle.nmgc_heap_spec.specs.Places.{Place}
-use Rattle.nmgc_heap_spec.specs.Represents.{Represents, NoNode, IsEarlier}
+use Rattle.nmgc_cycle.proofs.Vocabulary.{ℕ, ◌≡◌, ◌<◌, ◌≤◌, List, [], ◌∷◌, arith, sym, subst, inl, inr, Contains, World, IsWorld, node_of, IsBefore, contains_cases, nothing_in, flat_contains, absent, world_holds, Layout, nursery_place, IsSegments, Place, Represents, NoNode, IsEarlier, world_is_earlier, AreUsed, AreBlocks, Remembers, Stopped, IsStopped, IsRoundOf, AreAtRest, HoldsAtStop, registers_of, queues_of, serials_of, snapshots, CollectorSeen, MutatorSeen, ends_of, nurseries_of, recorded_in, young_weaks_in, Plan, State, start, layout_of, blocks_at_stop, places_low}
+use Rattle.nmgc_lists.specs.laws.Items.{place_of}
 use Rattle.nmgc_heap_spec.specs.laws.Changes.{remembered}
-use Rattle.nmgc_heap_spec.specs.laws.CommandLaws.{world_is_earlier}
-use Rattle.nmgc_blocks_spec.specs.Nurseries.{AreUsed}
-use Rattle.nmgc_blocks_spec.specs.Occupied.{AreBlocks}
-use Rattle.nmgc_blocks_spec.specs.Remembers.{Remembers}
-use Rattle.nmgc_blocks_spec.specs.Stopped.{Stopped, IsStopped, IsRoundOf}
-use Rattle.nmgc_collector_laws.specs.Collector.{AreAtRest}
-use Rattle.nmgc_run_spec.specs.Heap.{HoldsAtStop, registers_of, queues_of, serials_of, snapshots}
-use Rattle.nmgc_collector_laws.specs.Seen.{CollectorSeen, MutatorSeen, ends_of, nurseries_of, recorded_in, young_weaks_in}
-use Rattle.nmgc_run_spec.specs.State.{Plan, State, start, layout_of}
-use Rattle.nmgc_run_laws.specs.laws.Places.{blocks_at_stop}
-use Rattle.nmgc_run_laws.specs.laws.Common.{places_low}
 
 -- the heap of a state, at a stop that follows this world
 abbrev pub stopped_in : World → State → List Place → CollectorSeen → Stopped

@@ -1,26 +1,6 @@
 -- New mutators: their registers are nil, their queues are empty, and their nurseries are unused.
-use Rattle.std.proofs.Common.{ℕ, zero, suc, ◌≡◌, ◌+◌, ◌*◌, ◌<◌, List, [], ◌∷◌, length, map, replicate, get_or, arith, refl, sym, ap, subst, ◌∙◌, Some, length-append}
-use Rattle.std.specs.Prelude.{All, Contains, slice_get, slice_index}
-use Rattle.std.proofs.Math.ListN.{length-replicate, length-map}
-use Rattle.std.proofs.lemmas.List.{get_or-replicate}
-use Rattle.std.proofs.lemmas.List.Elements.{All-nil, All-append, All-replicate, All-get_or}
-use Rattle.std.proofs.lemmas.Option.{slice_get_within, slice_get-get_or}
-use Rattle.nmgc_limits.specs.declared.mutators.TheConstants.{REGISTERS}
-use Rattle.nmgc_world_spec.specs.declared.value.Value.{Value}
-use Rattle.nmgc_world_spec.specs.declared.value.Value.TheVariants.{Nil}
-use Rattle.nmgc_world_spec.specs.declared.mutator_state.MutatorState.{MutatorState}
-use Rattle.nmgc_world_spec.specs.World.{new_world, new_mutator, state_of}
-use Rattle.nmgc_world_laws.specs.laws.NewWorlds.{each_new}
-use Rattle.nmgc_object.specs.declared.words.TheConstants.{NIL_WORD}
-use Rattle.nmgc_object.specs.declared.layout.Layout.{Layout}
-use Rattle.nmgc_heap_spec.specs.Places.{Place, Means, ListMeans}
-use Rattle.nmgc_heap_spec.specs.Roots.{RepresentsRoots}
-use Rattle.nmgc_mutator.specs.declared.mutator.Mutator.{Mutator}
-use Rattle.nmgc_mutator.specs.Ready.{IsNew}
-use Rattle.nmgc_journal.specs.declared.report.MutatorEnd.{MutatorEnd}
-use Rattle.nmgc_run_spec.specs.Heap.{HasAllRegisters, registers_of, queues_of, serials_of}
-use Rattle.nmgc_collector_laws.specs.Seen.{end_of}
-use Rattle.nmgc_cycle.specs.Shown.{seen_mutator}
+use Rattle.nmgc_cycle.proofs.Vocabulary.{ℕ, zero, suc, ◌≡◌, ◌+◌, ◌*◌, ◌<◌, List, [], ◌∷◌, length, map, replicate, get_or, arith, refl, sym, ap, ◌∙◌, Some, length-append, All, Contains, slice_get, length-replicate, get_or-replicate, All-nil, All-append, All-replicate, All-get_or, slice_get_within, slice_get-get_or, REGISTERS, Value, Nil, MutatorState, new_world, new_mutator, each_new, NIL_WORD, Layout, Place, ListMeans, RepresentsRoots, Mutator, IsNew, MutatorEnd, HasAllRegisters, registers_of, queues_of, serials_of, end_of, seen_mutator}
+use Rattle.std.proofs.Math.ListN.{length-map}
 
 -- what a new mutator has in hand
 abbrev pub new_end : MutatorEnd
@@ -32,9 +12,7 @@ AreNew layout mutators = (k : ℕ) (m : Mutator) → slice_get mutators k ≡ So
 
 one_end : (layout : Layout) (k : ℕ) (m : Mutator) → IsNew k layout m → end_of (seen_mutator m) ≡ new_end
 one_end layout k m new =
-    ap (λ (r : List ℕ). record { registers = r; queue = m.queue.words; serial = m.serial }) new.registers
-    ∙ ap (λ (q : List ℕ). record { registers = replicate REGISTERS NIL_WORD; queue = q; serial = m.serial }) new.queue
-    ∙ ap (λ (s : ℕ). record { registers = replicate REGISTERS NIL_WORD; queue = []; serial = s }) new.serial
+    cc (new.registers, new.queue, new.serial)
 
 same_ends : (mutators : List Mutator) → ((k : ℕ) (m : Mutator) → slice_get mutators k ≡ Some m → end_of (seen_mutator m) ≡ new_end) →
     map end_of (map seen_mutator mutators) ≡ replicate (length mutators) new_end
@@ -97,12 +75,9 @@ new_roots places count =
           let long = so_many count in
           let at = known.0 in
           let within : REGISTERS * m + i < length (registers_of (replicate count new_end)) = omega arith in
-          subst (λ (u : Value).
-          Means (Contains places) (slice_index (registers_of (replicate count new_end)) (REGISTERS * m + i)) u) (sym known.1)
-          (All-get_or (λ (w : ℕ). w ≡ NIL_WORD) (registers_of (replicate count new_end)) (REGISTERS * m + i) 0 within (all_nil count));
-      queued = λ m own e. subst (λ (ws : List ℕ).
-          ListMeans (Contains places) ws (state_of (new_world count) m).queue) (same_item (λ (n : MutatorEnd).
-          n.queue) new_end count m own e) (each_new (λ (s : MutatorState). ListMeans (Contains places) [] s.queue) tt tt count m);
+          rw known.1 (All-get_or (λ (w : ℕ). w ≡ NIL_WORD) (registers_of (replicate count new_end)) (REGISTERS * m + i) 0 within (all_nil count));
+      queued = λ m own e. rw (same_item (λ (n : MutatorEnd).
+          n.queue) new_end count m own e) at (each_new (λ (s : MutatorState). ListMeans (Contains places) [] s.queue) tt tt count m);
       next = λ m serial e. sym (same_item (λ (n : MutatorEnd). n.serial) new_end count m serial e) ∙
           each_new (λ (s : MutatorState). 0 ≡ length s.nodes) refl refl count m;
     }

@@ -1,23 +1,6 @@
 -- The nurseries of new mutators are unused, and nothing is left for a stop.
-use Rattle.std.proofs.Common.{ℕ, zero, suc, ◌≡◌, ◌+◌, ◌<◌, List, [], ◌∷◌, ◌++◌, length, map, arith, refl, sym, ap, subst, ◌∙◌, inl, inr, Some}
-use Rattle.std.specs.Prelude.{slice_get}
+use Rattle.nmgc_cycle.proofs.{Vocabulary.ℕ, Vocabulary.zero, Vocabulary.suc, Vocabulary.◌≡◌, Vocabulary.◌+◌, Vocabulary.◌<◌, Vocabulary.List, Vocabulary.[], Vocabulary.◌∷◌, Vocabulary.◌++◌, Vocabulary.length, Vocabulary.map, Vocabulary.arith, Vocabulary.refl, Vocabulary.sym, Vocabulary.ap, Vocabulary.subst, Vocabulary.◌∙◌, Vocabulary.inl, Vocabulary.inr, Vocabulary.Some, Vocabulary.slice_get, Vocabulary.cases_lt, Vocabulary.get_or_past, Vocabulary.contains_cases, Vocabulary.World, Vocabulary.Layout, Vocabulary.Nursery, Vocabulary.nursery_place, Vocabulary.nursery_at, Vocabulary.AreEmpty, Vocabulary.Place, Vocabulary.shared_place, Vocabulary.Mutator, Vocabulary.numbers, Vocabulary.IsEmptied, Vocabulary.AreNurseries, Vocabulary.MutatorSeen, Vocabulary.seen_mutator, Vocabulary.Address, starts.News.AreNew}
 use Rattle.std.proofs.Math.ListN.{length-map}
-use Rattle.std.proofs.lemmas.Bool.{cases_lt}
-use Rattle.std.proofs.lemmas.List.{get_or_past}
-use Rattle.nmgc_lists.specs.laws.Items.{contains_cases}
-use Rattle.nmgc_world_spec.specs.World.{World}
-use Rattle.nmgc_object.specs.declared.layout.Layout.{Layout}
-use Rattle.nmgc_object.specs.declared.layout.Nursery.{Nursery}
-use Rattle.nmgc_object.specs.Places.{nursery_place}
-use Rattle.nmgc_blocks_spec.specs.Nurseries.{nursery_at, AreEmpty}
-use Rattle.nmgc_heap_spec.specs.Places.{Place, shared_place}
-use Rattle.nmgc_mutator.specs.declared.mutator.Mutator.{Mutator}
-use Rattle.nmgc_mutator.specs.Records.{numbers}
-use Rattle.nmgc_collector_laws.specs.Collector.{IsEmptied, AreNurseries}
-use Rattle.nmgc_collector_laws.specs.Seen.{MutatorSeen}
-use Rattle.nmgc_cycle.specs.Shown.{seen_mutator}
-use Rattle.nmgc_cycle.proofs.starts.News.{AreNew}
-use Rattle.nmgc_object.specs.declared.words.Address.{Address}
 
 -- the nurseries of mutators
 abbrev pub nurseries : List Mutator → List Nursery
@@ -56,8 +39,7 @@ module _ (layout : Layout) (mutators : List Mutator) (new : AreNew layout mutato
     used = record {
       count = as_many mutators ∙ count;
       places_are = λ maker lt. each_nursery (λ (j : ℕ) (n : Nursery). n.base ≡ nursery_place layout j) mutators (λ j m e. let is = new j m e in
-          is.unused.base ∙ ap (λ (l : Layout). nursery_place l m.number) is.layout_is ∙
-          ap (λ (n : ℕ). nursery_place layout n) is.number_is) maker (omega arith);
+          cc (is.unused.base, is.layout_is, is.number_is)) maker (omega arith);
       tops = λ maker lt. let top = are_empty maker in (omega arith, omega arith);
       used = λ p node c low there. elim (contains_cases shared_place [] p c) [
         | inl e ↦ let at = ap (λ (q : Place). q.at) e in absurd (omega arith)

@@ -1,23 +1,6 @@
 -- What mutators remember is added to the marker, one mutator after the other.
-use Rattle.std.proofs.Common.{ℕ, ◌≡◌, ◌+◌, ◌<◌, List, [], ◌∷◌, ◌++◌, length, take, get_or, refl, sym, ap, append-nil, append_assoc, subst, ◌∙◌, arith, Some}
-use Rattle.std.specs.Prelude.{slice_get}
-use Rattle.std.proofs.lemmas.List.{append_cancel_left, map-append, take_more}
-use Rattle.nmgc_object.specs.declared.words.Address.{Address}
-use Rattle.nmgc_updrem.specs.Lines.{TakesRestSo, IsLevelSo}
-use Rattle.nmgc_updrem.specs.Rings.{Sender, Receiver, AtLine, HasLooked}
-use Rattle.nmgc_mutator.specs.Does.{remembered}
-use Rattle.nmgc_cycle.specs.Lined.{IsLined, IsPaired, AnyLine}
-use Rattle.nmgc_cycle.proofs.stops.Forgetting.{any_none, any_then, as_any}
-use Rattle.nmgc_cycle.proofs.rounds.Lining.{line_here, same_item}
-use Rattle.nmgc_alloc.specs.Numbered.{Segments}
-use Rattle.nmgc_mark.specs.Tie.{IsTied, with_places}
-use Rattle.nmgc_mutator.specs.declared.mutator.Mutator.{Mutator}
-use Rattle.nmgc_mutator.specs.Records.{numbers}
-use Rattle.nmgc_round.specs.Marking.{Marks, with_name, name_at}
-use Rattle.nmgc_round.specs.View.{Opening}
-use Rattle.nmgc_mark.specs.Marker.{HasRoomToMark}
-use Rattle.nmgc_mark.specs.Seen.{MarkerSeen}
-use Rattle.nmgc_cycle.specs.Cycles.{HasAdded, remembered_by}
+use Rattle.nmgc_cycle.proofs.Vocabulary.{ℕ, ◌≡◌, ◌+◌, ◌<◌, List, [], ◌∷◌, ◌++◌, length, take, get_or, refl, sym, ap, append-nil, append_assoc, subst, ◌∙◌, arith, Some, slice_get, append_cancel_left, map-append, take_more, Address, TakesRestSo, IsLevelSo, Sender, Receiver, AtLine, HasLooked, remembered, IsLined, IsPaired, AnyLine, Segments, IsTied, with_places, Mutator, numbers, Marks, with_name, name_at, Opening, HasRoomToMark, MarkerSeen, HasAdded, remembered_by}
+use Rattle.nmgc_cycle.proofs.{stops.Forgetting.any_none, stops.Forgetting.any_then, stops.Forgetting.as_any, rounds.Lining.line_here, rounds.Lining.same_item}
 
 -- one list of places after another
 places_after : (o : Opening) (m : Marks) (a b : List ℕ) → with_places o m (a ++ b) ≡ with_places o (with_places o m a) b
@@ -132,8 +115,7 @@ module _ (old new : Segments) (before marker : MarkerSeen) (first inbox : List R
           at = line_here (TakesRestSo m.sender n.sender block) number inbox after h;
           took = any_then number first inbox after g.took (as_any (TakesRestSo m.sender n.sender block) number inbox after h);
           ring = h.changes.receives.ring ∙ ap (λ (r : Receiver). r.ring) own ∙ g.ring;
-          received = h.changes.receives.received ∙ ap (λ (r : Receiver). r.received ++ block) own ∙
-              ap (λ (l : List Address). l ++ block) g.received ∙ append_assoc g.lined.0.received g.given block;
+          received = cc (h.changes.receives.received, own, g.received, append_assoc g.lined.0.received g.given block);
           rest = rest ∙ ap (λ (x : Mutator). record x { sender = n.sender }) g.rest;
           looked = record {
             ring = h.changes.looked.ring ∙ g.looked.ring;
@@ -150,11 +132,7 @@ module _ (old new : Segments) (before marker : MarkerSeen) (first inbox : List R
       all_sent =
           let own : h.was ≡ g.now = same_item inbox number h.was g.now h.at g.at in
           let total : g.lined.0.received ++ g.given ≡ was.sender.before ++ was.sender.since =
-          sym g.received
-          ∙ ap (λ (r : Receiver). r.received) (sym own)
-          ∙ h.changes.received.1
-          ∙ ap (λ (l : List Address). l ++ m.sender.since) g.looked.before
-          ∙ ap (λ (l : List Address). was.sender.before ++ l) g.looked.since in
+          cc (g.received, own, h.changes.received.1, g.looked.before, g.looked.since) in
           append_cancel_left was.sender.before (g.lined.0.taken.items ++ g.given) was.sender.since
           (sym (append_assoc was.sender.before g.lined.0.taken.items g.given) ∙ ap (λ (l : List Address). l ++ g.given) (sym g.lined.2.received) ∙ total)
 
@@ -182,6 +160,5 @@ module _ (old new : Segments) (before marker : MarkerSeen) (first inbox : List R
           let own : h.was ≡ g.now = same_item inbox number h.was g.now h.at g.at in (
             h.is,
             line_here (IsLevelSo m.sender n.sender) number inbox after h,
-            h.changes.ring.0 ∙ ap (λ (r : Receiver). r.ring) own ∙ g.ring ∙
-                g.lined.2.pair ∙ sym g.looked.ring ∙ sym h.changes.ring.1,
+            cc (h.changes.ring.0, own, g.ring, g.lined.2.pair, g.looked.ring, h.changes.ring.1),
           )

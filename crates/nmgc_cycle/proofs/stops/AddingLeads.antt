@@ -1,52 +1,8 @@
 -- Once what was remembered was added, the collector stands for the same state, and nothing is remembered.
-use Rattle.std.proofs.Common.{ℕ, ◌≡◌, List, length, map, refl, sym, ap, subst, ◌∙◌, Some, Global, ◌≤◌, arith}
-use Rattle.std.specs.Prelude.{All, slice_get}
-use Rattle.std.specs.declared.vec.Vec.{Vec}
-use Rattle.std.proofs.lemmas.List.{length-map}
-use Rattle.std.proofs.lemmas.Option.{slice_get_within}
-use Rattle.nmgc_object.specs.declared.layout.Layout.{Layout}
-use Rattle.nmgc_object.specs.declared.layout.Nursery.{Nursery}
-use Rattle.nmgc_alloc.specs.Stands.{StandsFor}
-use Rattle.nmgc_alloc.specs.Numbered.{Segments}
-use Rattle.nmgc_alloc.specs.Segments.{IsSegments}
-use Rattle.nmgc_heap_spec.specs.Roots.{RepresentsRoots}
-use Rattle.nmgc_world_spec.specs.World.{World}
-use Rattle.nmgc_heap_spec.specs.laws.Kinds.{map_item}
-use Rattle.nmgc_blocks_spec.specs.Nurseries.{AreEmpty}
-use Rattle.nmgc_journal.specs.declared.report.MutatorEnd.{MutatorEnd}
+use Rattle.nmgc_cycle.proofs.Vocabulary.{ℕ, ◌≡◌, List, length, map, refl, sym, ap, subst, ◌∙◌, Some, Global, ◌≤◌, arith, All, slice_get, Vec, length-map, slice_get_within, Layout, Nursery, StandsFor, Segments, IsSegments, World, map_item, AreEmpty, MutatorEnd, IsFor, Mutator, numbers, Receiver, Script, AreNurseries, EachMutator, HoldsInCycle, IsEmptied, IsMarking, weak_count, HoldsAtStop, HasAllRegisters, HasRoomToMark, MarkerSeen, MutatorSeen, end_of, ends_of, nurseries_of, State, Progress, idle, marking, sweeping, phase_of, plan_of, layout_of, Cycle, AddIsMarking, ClosingIsSoon, ClosingIsPaced, HasLeft, PaceAtStop, MarkedWait, LeftStays, HaveEntries, Collector, Marking, Doing, AddsTo, CanAdd, HasAdded, HasTaken, remembered_by, IsLined, HasForgotten, HaveForgotten, IsWellFormed, IsOwn, Sweeps, seen, seen_mutator, marker_in, phase_in, StandsPromoted, StandsWithin, IsPacedPromoted, IsPacedWithin, AddingLeads, item}
 use Rattle.nmgc_journal.specs.declared.report.Phase.TheVariants as phase
-use Rattle.nmgc_minor.specs.Promotion.{IsFor}
-use Rattle.nmgc_mutator.specs.declared.mutator.Mutator.{Mutator}
-use Rattle.nmgc_mutator.specs.Records.{numbers}
-use Rattle.nmgc_updrem.specs.Rings.{Receiver}
-use Rattle.nmgc_script.specs.declared.script.Script.{Script}
-use Rattle.nmgc_collector_laws.specs.Collector.{AreNurseries, EachMutator, HoldsInCycle, IsEmptied, IsMarking}
-use Rattle.nmgc_weak.specs.Queues.{weak_count}
-use Rattle.nmgc_run_spec.specs.Heap.{HoldsAtStop, HasAllRegisters, registers_of, queues_of, serials_of}
-use Rattle.nmgc_mark.specs.Marker.{HasRoomToMark}
-use Rattle.nmgc_mark.specs.Seen.{MarkerSeen}
-use Rattle.nmgc_collector_laws.specs.Seen.{MutatorSeen, end_of, ends_of, nurseries_of}
-use Rattle.nmgc_run_spec.specs.State.{State, Progress, idle, marking, sweeping, phase_of, plan_of, layout_of}
-use Rattle.nmgc_blocks_spec.specs.Cycle.{Cycle}
-use Rattle.nmgc_collector_laws.specs.Calls.{AddIsMarking}
-use Rattle.nmgc_collector_laws.specs.Closes.{ClosingIsSoon, ClosingIsPaced}
-use Rattle.nmgc_collector_laws.specs.Keeps.{HasLeft, PaceAtStop}
-use Rattle.nmgc_collector_laws.specs.Sweeps.{MarkedWait}
-use Rattle.nmgc_sweep.specs.Statements.{LeftStays}
-use Rattle.nmgc_sweep.specs.Names.{HaveEntries}
-use Rattle.nmgc_cycle.specs.declared.collector.Collector.{Collector}
-use Rattle.nmgc_cycle.specs.declared.progress.Marking.{Marking}
-use Rattle.nmgc_cycle.specs.declared.progress.Progress.{Progress as Doing}
 use Rattle.nmgc_cycle.specs.declared.progress.Progress.TheVariants as doing
-use Rattle.nmgc_cycle.specs.Cycles.{AddsTo, CanAdd, HasAdded, HasTaken, remembered_by}
-use Rattle.nmgc_cycle.specs.Lined.{IsLined, HasForgotten, HaveForgotten}
-use Rattle.nmgc_cycle.specs.Keeps.{IsWellFormed, IsOwn, Sweeps}
-use Rattle.nmgc_cycle.specs.Shown.{seen, seen_mutator, marker_in, phase_in}
-use Rattle.nmgc_cycle.specs.Steps.{StandsPromoted, StandsWithin, IsPacedPromoted, IsPacedWithin, AddingLeads}
-use Rattle.nmgc_lists.specs.laws.Items.{item}
-use Rattle.nmgc_cycle.proofs.lists.Mapped.{same_maps}
-use Rattle.nmgc_cycle.proofs.cycles.Pacing.{paced_within}
-use Rattle.nmgc_cycle.proofs.lists.RootLists.{seen_at}
+use Rattle.nmgc_cycle.proofs.{lists.Mapped.same_maps, cycles.Pacing.paced_within, lists.RootLists.seen_at}
 
 -- the laws on which adding rests
 pub record HasAddingLaws : Type 0 where
@@ -114,8 +70,7 @@ module _ (script : Script) (old : Collector) (s : State) (h : StandsPromoted scr
       let was = one_forgot k x.0 x.1 in
       let had : weak_count snapshot k (seen old).weaks ≤ was.0.queue.spare = room k (seen_mutator was.0) (seen_at old.mutators.items k was.0 was.1) in
       let f = was.2 in
-      subst (λ (n : MutatorSeen). weak_count snapshot k (seen old).weaks ≤ n.queue.spare) (sym x.2) (subst (λ (y : Mutator).
-      weak_count snapshot k (seen old).weaks ≤ y.queue.spare) (sym f.rest) had)
+      rw x.2 (rw f.rest had)
 
   -- there are as many
   pub many : length mutators.items ≡ length old.mutators.items
@@ -126,7 +81,7 @@ module _ (script : Script) (old : Collector) (s : State) (h : StandsPromoted scr
       let was = one_forgot k m e in
       let o = h.kept.own k was.0 was.1 in
       let f = was.2 in
-      subst (λ (x : Mutator). IsOwn then k x) (sym f.rest) (record {
+      rw f.rest (record {
         number = o.number;
         layout = o.layout ∙ sym layout;
         whole = record { layout = o.whole.layout; number = o.whole.number; size = o.whole.size };
@@ -159,8 +114,7 @@ module _ (script : Script) (old : Collector) (s : State) (h : StandsPromoted scr
       fit = h.heap.holds.fit;
       represents = h.heap.holds.represents;
       registers = subst (λ (es : List MutatorEnd). All HasAllRegisters es) (sym ends_are) h.heap.holds.registers;
-      roots = subst (λ (es : List MutatorEnd).
-          RepresentsRoots h.heap.places s.world (registers_of es) (queues_of es) (serials_of es)) (sym ends_are) h.heap.holds.roots;
+      roots = rw ends_are h.heap.holds.roots;
       layout_is = layout ∙ h.heap.holds.layout_is;
       stands = stands;
     };
@@ -295,27 +249,15 @@ module _ (laws : HasAddingLaws) (script : Script) (old new : Collector) (s : Sta
   by_case (doing.Marking m) idle at is e step = absurd (let bad : phase.Marking ≡ phase.Idle = e in cc)
   by_case (doing.Marking m) (marking k) at is e step =
       let own : StandsPromoted script (record old { cycle = record old.cycle { progress = doing.Marking m } }) (record s { progress = marking k }) =
-      subst (λ (d : Doing). StandsPromoted script (record old { cycle = record old.cycle { progress = d } }) (record s { progress = marking k })) at
-      (subst (λ (q : Progress). StandsPromoted script old (record s { progress = q })) is h) in
+      rw (← at) (subst (λ (q : Progress). StandsPromoted script old (record s { progress = q })) is h) in
       let then = marked laws script old s m k own new.heap.segments step.0 new.inbox new.mutators taken.inbox taken.lines taken.mutators step.2 step.3 in
       let same : new ≡ record old {
         heap = record old.heap { segments = new.heap.segments };
         cycle = record old.cycle { progress = doing.Marking (record m { marker = step.0 }) };
         inbox = new.inbox;
         mutators = new.mutators;
-      } = taken.rest ∙ ap (λ (d : Doing). record old {
-        heap = record old.heap { segments = new.heap.segments };
-        cycle = record old.cycle { progress = d };
-        inbox = new.inbox;
-        mutators = new.mutators;
-      }) step.1 in
-      subst (λ (c : Collector). StandsWithin script c s) (sym same)
-      (subst (λ (q : Progress). StandsWithin script (record old {
-        heap = record old.heap { segments = new.heap.segments };
-        cycle = record old.cycle { progress = doing.Marking (record m { marker = step.0 }) };
-        inbox = new.inbox;
-        mutators = new.mutators;
-      }) (record s { progress = q })) (sym is) then)
+      } = cc (taken.rest, step.1) in
+      rw same (rw is then)
   by_case (doing.Marking m) (sweeping k closed) at is e step = absurd (let bad : phase.Marking ≡ phase.Sweeping = e in cc)
   by_case (doing.Sweeping w) idle at is e step = absurd (let bad : phase.Sweeping ≡ phase.Idle = e in cc)
   by_case (doing.Sweeping w) (marking k) at is e step = absurd (let bad : phase.Sweeping ≡ phase.Marking = e in cc)
@@ -335,8 +277,7 @@ can_add script c s h = by c.cycle.progress s.progress refl refl h.matches.phase
     by doing.Idle q at is e = tt
     by (doing.Marking m) idle at is e = absurd (let bad : phase.Marking ≡ phase.Idle = e in cc)
     by (doing.Marking m) (marking k) at is e =
-        let cycle = subst (λ (q : Progress). HoldsInCycle (λ (r : Cycle).
-        IsPacedPromoted script.config.quota r s (seen c)) q s (seen c) h.heap.places) is h.cycle in
+        let cycle = rw is at h.cycle in
         subst (λ (d : Doing). HasRoomToMark c.heap.segments (marker_in d)) at cycle.0.room
     by (doing.Marking m) (sweeping k closed) at is e = absurd (let bad : phase.Marking ≡ phase.Sweeping = e in cc)
     by (doing.Sweeping w) q at is e = tt

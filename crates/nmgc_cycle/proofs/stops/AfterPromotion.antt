@@ -1,49 +1,7 @@
 -- What a collector has once the promotion of its stop is done.
-use Rattle.std.proofs.Common.{ℕ, ◌≡◌, ◌↔◌, ◌+◌, ◌<◌, List, length, map, arith, refl, sym, ap, subst, ◌∙◌, inl, inr, slice_index_or, Some}
-use Rattle.std.specs.Prelude.{Contains, slice_get}
-use Rattle.std.proofs.Math.ListN.{get_or-map}
-use Rattle.std.proofs.lemmas.List.{length-map}
-use Rattle.std.proofs.lemmas.Option.{slice_get-get_or}
-use Rattle.nmgc_limits.specs.declared.mutators.TheConstants.{REGISTERS}
-use Rattle.nmgc_world_spec.specs.World.{World}
-use Rattle.nmgc_object.specs.declared.layout.Layout.{Layout}
-use Rattle.nmgc_object.specs.declared.layout.Nursery.{Nursery}
-use Rattle.nmgc_alloc.specs.AllocState.{AllocState}
-use Rattle.nmgc_alloc.specs.Stands.{StandsFor}
-use Rattle.nmgc_heap_spec.specs.Moves.{Moved, settled}
-use Rattle.nmgc_heap_spec.specs.Places.{Place}
-use Rattle.nmgc_heap_spec.specs.Represents.{Represents, NoNode}
-use Rattle.nmgc_heap_spec.specs.Roots.{RepresentsRoots, ListsWeaks}
-use Rattle.nmgc_heap_spec.specs.laws.Kinds.{map_item}
-use Rattle.nmgc_heap_spec.specs.laws.Moving.{settled_cases}
-use Rattle.nmgc_blocks_spec.specs.Nurseries.{AreEmpty, nursery_at}
-use Rattle.nmgc_blocks_spec.specs.Promoted.{PlacesEach}
-use Rattle.nmgc_blocks_spec.specs.Stopped.{Stopped, IsSettled, young_base}
-use Rattle.nmgc_minor.specs.Placing.{moved_of}
-use Rattle.nmgc_heap_spec.specs.Emptied.{emptied}
-use Rattle.nmgc_mutator.specs.declared.mutator.Mutator.{Mutator}
+use Rattle.nmgc_cycle.proofs.Vocabulary.{ℕ, ◌≡◌, ◌↔◌, ◌+◌, ◌<◌, List, length, map, arith, refl, sym, ap, subst, ◌∙◌, inl, inr, slice_index_or, Some, Contains, slice_get, get_or-map, length-map, slice_get-get_or, REGISTERS, World, Layout, Nursery, AllocState, StandsFor, Moved, settled, Place, Represents, NoNode, RepresentsRoots, ListsWeaks, map_item, settled_cases, AreEmpty, nursery_at, PlacesEach, Stopped, IsSettled, young_base, moved_of, emptied, Mutator, Script, AreNurseries, HoldsAtStop, FitBlocks, snapshots, registers_of, queues_of, serials_of, IsPlaceAtStop, BlocksArePlaces, Promotes, MutatorSeen, ends_of, nurseries_of, Plan, State, plan_of, layout_of, Collector, CanStop, IsWellFormed, IsOwn, seen, seen_mutator, words_in, HasOnlyEntries, HasListed, HasPromoted, moves_of, moved_names, Receiver, IsLined, remembered}
 use Rattle.nmgc_collector_laws.specs.Worked as worked
-use Rattle.nmgc_script.specs.declared.script.Script.{Script}
-use Rattle.nmgc_collector_laws.specs.Collector.{AreNurseries}
-use Rattle.nmgc_run_spec.specs.Heap.{HoldsAtStop, FitBlocks, snapshots, registers_of, queues_of, serials_of}
-use Rattle.nmgc_blocks_spec.specs.Placed.{IsPlaceAtStop}
-use Rattle.nmgc_run_laws.specs.Places.{BlocksArePlaces}
-use Rattle.nmgc_run_spec.specs.Stop.{Promotes}
-use Rattle.nmgc_collector_laws.specs.Seen.{MutatorSeen, ends_of, nurseries_of}
-use Rattle.nmgc_run_spec.specs.State.{Plan, State, plan_of, layout_of}
-use Rattle.nmgc_cycle.specs.declared.collector.Collector.{Collector}
-use Rattle.nmgc_cycle.specs.Keeps.{CanStop, IsWellFormed, IsOwn}
-use Rattle.nmgc_cycle.specs.Shown.{seen, seen_mutator, words_in}
-use Rattle.nmgc_cycle.specs.Steps.{HasOnlyEntries}
-use Rattle.nmgc_cycle.specs.Stopping.{HasListed, HasPromoted, moves_of, moved_names}
-use Rattle.nmgc_cycle.proofs.stops.Begins.{Begins}
-use Rattle.nmgc_cycle.proofs.stops.Promoted.{one_promoted, serials_promoted, nurseries_promoted}
-use Rattle.nmgc_cycle.proofs.starts.NewStops.{stopped_in}
-use Rattle.nmgc_cycle.proofs.lists.RootLists.{seen_at}
-use Rattle.nmgc_cycle.proofs.lists.Views.{registers_seen, queues_seen, serials_seen, nurseries_seen, whole_seen}
-use Rattle.nmgc_updrem.specs.Rings.{Receiver}
-use Rattle.nmgc_cycle.specs.Lined.{IsLined}
-use Rattle.nmgc_mutator.specs.Does.{remembered}
+use Rattle.nmgc_cycle.proofs.{stops.Begins.Begins, stops.Promoted.one_promoted, stops.Promoted.serials_promoted, stops.Promoted.nurseries_promoted, starts.NewStops.stopped_in, lists.RootLists.seen_at, lists.Views.registers_seen, lists.Views.queues_seen, lists.Views.serials_seen, lists.Views.nurseries_seen, lists.Views.whole_seen}
 
 -- a stop may follow, so the collector is kept
 pub kept_of : (script : Script) (c : Collector) → CanStop script c → IsWellFormed script c
@@ -108,7 +66,7 @@ module _ (script : Script) (old new : Collector) (kept : IsWellFormed script old
       let was = one_promoted p.forward old.mutators.items new.mutators.items p.held k m e in
       let before = kept.own k was.0 was.1 in
       let size : length (map p.forward was.0.registers) ≡ REGISTERS = length-map was.0.registers p.forward ∙ before.whole.size in
-      subst (λ (x : Mutator). IsOwn new k x × HasOnlyEntries (seen_mutator x)) (sym was.2) (
+      rw was.2 (
         record {
           number = before.number;
           layout = before.layout ∙ sym p.layout;
@@ -134,12 +92,10 @@ module _ (script : Script) (old new : Collector) (kept : IsWellFormed script old
       (seen_mutator was.0, seen_at old.mutators.items k was.0 was.1, ap (λ (y : MutatorSeen). y.entries) x.2 ∙ ap (λ (y : Mutator). remembered y) was.2)
 
   emptied_are : nurseries_of (seen new) ≡ map emptied (nurseries_of (seen old))
-  emptied_are = nurseries_seen new ∙ ap worked.nurseries_of p.held ∙ nurseries_promoted p.forward old.mutators.items ∙
-      ap (λ (ns : List Nursery). map emptied ns) (sym (nurseries_seen old))
+  emptied_are = cc (nurseries_seen new, p.held, nurseries_promoted p.forward old.mutators.items, nurseries_seen old)
 
   emptied_at : (maker : ℕ) → nursery_at (nurseries_of (seen new)) maker ≡ emptied (nursery_at (nurseries_of (seen old)) maker)
-  emptied_at maker = ap (λ (ns : List Nursery). nursery_at ns maker) emptied_are ∙
-      get_or-map emptied (nurseries_of (seen old)) maker (record { base = 0; top = 0; end = 0 })
+  emptied_at maker = cc (emptied_are, get_or-map emptied (nurseries_of (seen old)) maker (record { base = 0; top = 0; end = 0 }))
 
   pub are_empty : AreEmpty (nurseries_of (seen new))
   are_empty maker = ap (λ (n : Nursery). n.top) (emptied_at maker) ∙ ap (λ (n : Nursery). n.base) (sym (emptied_at maker))
@@ -174,10 +130,7 @@ module _ (script : Script) (old new : Collector) (kept : IsWellFormed script old
       let same : worked.serials_of new.mutators.items ≡ worked.serials_of old.mutators.items =
       ap worked.serials_of p.held ∙ serials_promoted p.forward old.mutators.items in
       let serials : serials_of (ends_of (seen old)) ≡ serials_of (ends_of (seen new)) = sym (serials_seen new ∙ same ∙ sym (serials_seen old)) in
-      subst (λ (y : List ℕ). RepresentsRoots places w (registers_of (ends_of (seen new))) (queues_of (ends_of (seen new))) y) serials
-      (subst (λ (y : List (List ℕ)). RepresentsRoots places w (registers_of (ends_of (seen new))) y (serials_of (ends_of (seen old)))) queues
-      (subst (λ (y : List ℕ).
-      RepresentsRoots places w y (worked.queues_of new.mutators.items) (serials_of (ends_of (seen old)))) registers settled_heap.roots))
+      rw (← serials) (rw (← queues) (rw registers at settled_heap.roots))
 
   -- of a mutator's queue the room is what it was
   pub same_spare : (k : ℕ) (m : MutatorSeen) → slice_get (seen new).mutators k ≡ Some m → (before : MutatorSeen) ×

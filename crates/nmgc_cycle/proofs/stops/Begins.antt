@@ -1,70 +1,9 @@
 -- What a stop begins with, whether the collector is new or did a round.
-use Rattle.std.proofs.Common.{ℕ, ◌≡◌, ◌+◌, ◌<◌, ◌≤◌, ◌⊎◌, List, [], ◌∷◌, ◌++◌, length, drop, slice_index_or, slice_get, arith, refl, sym, ap, subst, ◌∙◌, inl, inr, append-nil, Option, Some, None}
-use Rattle.std.specs.Prelude.{Contains, IsSome}
-use Rattle.std.proofs.lemmas.List.{drop-drop, length-map}
-use Rattle.nmgc_world_spec.specs.declared.command.Command.{Command}
-use Rattle.nmgc_world_spec.specs.History.{Row}
-use Rattle.nmgc_world_spec.specs.World.{World, IsWorld, node_of, new_world}
+use Rattle.nmgc_cycle.proofs.Vocabulary.{ℕ, ◌≡◌, ◌+◌, ◌<◌, ◌≤◌, ◌⊎◌, List, [], ◌∷◌, ◌++◌, length, drop, slice_index_or, arith, refl, sym, ap, subst, ◌∙◌, inl, inr, append-nil, Option, Some, None, Contains, IsSome, drop-drop, length-map, Command, Row, World, IsWorld, node_of, new_world, Node, Con, Var, Arr, Thunk, Weak, Stack, Parts, contains_head, flat_contains, is_some_of, nothing_in, place_in, new_is_world, Header, nursery_place, Mutator, numbers_of, AllocState, StandsFor, first_cells, Place, ListsWeaks, header_of, Stopped, IsStopped, young_base, CycleRow, RoundRows, StopRow, Script, AreNurseries, IsEmptied, IsPacedAfterRound, HoldsInCycle, Matches, TellsFinalised, finalised_of, IsInCourse, IsStateInCourse, IsPlaceAtStop, registers_of, queues_of, noted, Run, Turn, IsRun, IsTurn, Tells, last_state, with_turn, ends_of, nurseries_of, recorded_in, young_weaks_in, program_of, IsAble, IsInCycle, AreSoundBlocks, IsSoundRound, LieKnown, Plan, State, Progress, idle, marking, sweeping, start, plan_of, layout_of, Cycle, answered_count, IsStop, runs_are, rounds_stay, round_left, left_is_told, round_is_remembered, states_are_sound, rounds_are_sound, opening_worked, start_programs, run_goes_on, last_is_of_turn, tells_one_more, AreNamed, named_first, Collector, AreFew, CanStop, IsFresh, HasWorked, Sweeps, seen, seen_mutator, told_cycles, IsInLimits, CanList, StandsStopped, places_of, segment_low, slice_get}
+use Rattle.nmgc_run_laws.specs.Sound.{AreEarlier}
 use Rattle.nmgc_world_spec.specs.declared.node.Kind.TheVariants as kind
-use Rattle.nmgc_world_spec.specs.declared.node.Node.{Node}
-use Rattle.nmgc_world_spec.specs.declared.node.Node.TheVariants.{Con, Var, Arr, Thunk, Weak, Stack}
-use Rattle.nmgc_world_spec.specs.declared.node.Parts.{Parts}
-use Rattle.nmgc_lists.specs.laws.Items.{contains_head, flat_contains, is_some_of, nothing_in, place_of as place_in}
-use Rattle.nmgc_world_laws.specs.laws.NewWorlds.{new_is_world}
-use Rattle.nmgc_object.specs.declared.layout.Layout.{Layout}
-use Rattle.nmgc_object.specs.declared.words.Header.{Header}
-use Rattle.nmgc_object.specs.Places.{nursery_place}
-use Rattle.nmgc_mutator.specs.declared.mutator.Mutator.{Mutator}
-use Rattle.nmgc_mutator.specs.Records.{numbers as numbers_of}
 use Rattle.nmgc_segment.specs.declared.state.State.TheVariants as stands
-use Rattle.nmgc_alloc.specs.AllocState.{AllocState, Cells}
-use Rattle.nmgc_alloc.specs.Stands.{StandsFor}
-use Rattle.nmgc_alloc.specs.laws.OneState.{first_cells}
-use Rattle.nmgc_heap_spec.specs.Places.{Place}
-use Rattle.nmgc_heap_spec.specs.Roots.{ListsWeaks}
-use Rattle.nmgc_heap_spec.specs.Shape.{header_of}
-use Rattle.nmgc_blocks_spec.specs.Stopped.{Stopped, IsStopped, young_base}
-use Rattle.nmgc_journal.specs.declared.report.CycleRow.{CycleRow}
-use Rattle.nmgc_journal.specs.declared.report.RoundRows.{RoundRows}
-use Rattle.nmgc_journal.specs.declared.report.StopRow.{StopRow}
-use Rattle.nmgc_script.specs.declared.script.Script.{Script}
-use Rattle.nmgc_collector_laws.specs.Collector.{AreNurseries, IsEmptied, IsPacedAfterRound, HoldsInCycle, Matches}
-use Rattle.nmgc_collector_laws.specs.Worked.{TellsFinalised, finalised_of}
-use Rattle.nmgc_run_laws.specs.Course.{IsInCourse, IsStateInCourse}
-use Rattle.nmgc_blocks_spec.specs.Placed.{IsPlaceAtStop}
-use Rattle.nmgc_run_spec.specs.Heap.{registers_of, queues_of}
-use Rattle.nmgc_run_spec.specs.Round.{noted}
-use Rattle.nmgc_run_spec.specs.Run.{Run, Turn, IsRun, IsTurn, Tells, last_state, with_turn}
-use Rattle.nmgc_collector_laws.specs.Seen.{ends_of, nurseries_of, recorded_in, young_weaks_in}
-use Rattle.nmgc_run_spec.specs.Slice.{program_of}
-use Rattle.nmgc_run_laws.specs.Sound.{IsAble, IsInCycle, AreEarlier, AreSoundBlocks, IsSoundRound, LieKnown}
-use Rattle.nmgc_run_spec.specs.State.{Plan, State, Progress, idle, marking, sweeping, start, plan_of, layout_of}
-use Rattle.nmgc_blocks_spec.specs.Cycle.{Cycle}
-use Rattle.nmgc_run_laws.specs.Statements.{answered_count}
-use Rattle.nmgc_run_spec.specs.Stop.{IsStop}
-use Rattle.nmgc_run_laws.specs.laws.Course.{runs_are, rounds_stay}
-use Rattle.nmgc_run_laws.specs.laws.Lefts.{round_left, left_is_told}
-use Rattle.nmgc_collector_laws.specs.laws.Remembering.{round_is_remembered}
-use Rattle.nmgc_run_laws.specs.laws.Runs.{states_are_sound, rounds_are_sound, opening_worked, start_programs}
-use Rattle.nmgc_run_laws.specs.laws.Turns.{run_goes_on, last_is_of_turn, tells_one_more}
-use Rattle.nmgc_sweep.specs.Names.{AreNamed}
-use Rattle.nmgc_sweep.specs.laws.Names.{named_first}
-use Rattle.nmgc_cycle.specs.declared.collector.Collector.{Collector}
-use Rattle.nmgc_cycle.specs.Bound.{AreFew}
-use Rattle.nmgc_cycle.specs.Keeps.{CanStop, IsFresh, HasWorked, Sweeps}
-use Rattle.nmgc_cycle.specs.Shown.{seen, seen_mutator, told_cycles}
-use Rattle.nmgc_script.specs.Limits.{IsInLimits}
-use Rattle.nmgc_cycle.specs.Stopping.{CanList, StandsStopped}
-use Rattle.nmgc_cycle.proofs.lengths.Few.{fresh_few, fresh_begun}
-use Rattle.nmgc_cycle.proofs.lengths.Measures.{answered_more}
-use Rattle.nmgc_cycle.proofs.lists.MutatorLists.{same_stopped}
-use Rattle.nmgc_cycle.proofs.starts.NewStops.{stopped_in, new_stopped}
-use Rattle.nmgc_cycle.proofs.lists.Plans.{is_runnable}
-use Rattle.nmgc_cycle.proofs.lists.RootLists.{same_finalised, seen_at}
-use Rattle.nmgc_cycle.proofs.stops.StopNumbers.{run_number}
-use Rattle.nmgc_cycle.proofs.lists.Views.{registers_seen, queues_seen, nurseries_seen, recorded_seen, young_seen}
-use Rattle.nmgc_weak.specs.Weaks.{places_of}
-use Rattle.nmgc_object.specs.laws.Common.{in_segment_low as segment_low}
+use Rattle.nmgc_cycle.proofs.{lengths.Few.fresh_few, lengths.Few.fresh_begun, lengths.Measures.answered_more, lists.MutatorLists.same_stopped, starts.NewStops.stopped_in, starts.NewStops.new_stopped, lists.Plans.is_runnable, lists.RootLists.same_finalised, lists.RootLists.seen_at, stops.StopNumbers.run_number, lists.Views.registers_seen, lists.Views.queues_seen, lists.Views.nurseries_seen, lists.Views.recorded_seen, lists.Views.young_seen}
 
 -- a run of which all was told but its last row
 pub record IsToldBut (plan : Plan) (rounds : List RoundRows) (stops : List StopRow) (cycles : List CycleRow) (row : StopRow) (t : State) : Type 0 where
@@ -157,7 +96,7 @@ can_list_of t c h listed told =
         ];
         alive = λ weak parts alive old. h.round.parts weak parts old alive;
         weak = λ weak parts alive.
-            let node = is_some_of (node_of t.world weak) (past.names weak (subst (λ (o : Option Node). IsSome o) (sym alive) refl)) in
+            let node = is_some_of (node_of t.world weak) (past.names weak (rw alive refl)) in
             let x = weak_of (Some parts) node.0 (past.headers weak (Weak (Some parts)) node.0 alive node.1) in
             (x.0, node.1 ∙ ap (λ (n : Node). Some n) x.1);
       };
@@ -183,11 +122,10 @@ new_begins script c limits f =
       state = start plan;
       places = f.new.heap.places;
       stopped = stopped;
-      can_list = can_list_of (stopped_in (new_world count) (start plan) f.new.heap.places (seen c)) c stopped (subst (λ (l : Layout).
-          ListsWeaks l f.new.heap.places (new_world count) (seen c).weaks) (sym f.kept.layout) f.new.heap.listed) (record {
-            all = λ p parts there low alive gone. absurd (gone alive);
-            low = λ at there. absurd (none_finalised c.mutators.items (λ k m e. f.new.at_rest.nothing k (seen_mutator m) (seen_at c.mutators.items k m e)) at there);
-          });
+      can_list = can_list_of (stopped_in (new_world count) (start plan) f.new.heap.places (seen c)) c stopped (rw f.kept.layout f.new.heap.listed) (record {
+        all = λ p parts there low alive gone. absurd (gone alive);
+        low = λ at there. absurd (none_finalised c.mutators.items (λ k m e. f.new.at_rest.nothing k (seen_mutator m) (seen_at c.mutators.items k m e)) at there);
+      });
       stands = f.new.heap.holds.stands;
       nurseries = f.new.at_rest.nurseries;
       matches = f.new.matches;
@@ -205,7 +143,7 @@ new_begins script c limits f =
         earlier = λ e there. absurd (nothing_in e there);
       };
       course = λ number there is.
-          let bad : stands.Free ≡ stands.Sweeping = sym (ap (λ (x : Cells). x.state) (first_cells script.config.segments number)) ∙ is in cc;
+          let bad : stands.Free ≡ stands.Sweeping = cc (first_cells script.config.segments number, is) in cc;
       number = sym no_stops;
       few = fresh_few _ script c f;
       begun = fresh_begun script c f;
@@ -252,10 +190,7 @@ module _ (script : Script) (c : Collector) (limits : IsInLimits script) (h : Has
       stands_of at c after
 
   can_list : CanList (stopped_in before.world h.worked h.after.places (seen c)) c
-  can_list = can_list_of (stopped_in before.world h.worked h.after.places (seen c)) c stopped (subst (λ (l : Layout).
-      ListsWeaks l h.after.places before.world (seen c).weaks) (sym h.kept.layout) h.after.heap.listed) (subst (λ (l : Layout).
-      TellsFinalised (nursery_place l 0) h.after.places before.world h.worked.world (finalised_of c.mutators.items)) (sym h.kept.layout)
-      (subst (TellsFinalised (nursery_place (layout_of plan) 0) h.after.places before.world h.worked.world) (same_finalised c.mutators.items) h.after.told))
+  can_list = can_list_of (stopped_in before.world h.worked h.after.places (seen c)) c stopped (rw h.kept.layout h.after.heap.listed) (rw h.kept.layout (subst (TellsFinalised (nursery_place (layout_of plan) 0) h.after.places before.world h.worked.world) (same_finalised c.mutators.items) h.after.told))
 
   numbers : h.worked.number ≡ length c.rows.stops
   numbers =

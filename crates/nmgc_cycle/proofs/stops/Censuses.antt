@@ -1,22 +1,5 @@
 -- Each row of a run tells the census of a cycle, so no name stands twice in it.
-use Rattle.std.proofs.Common.{ℕ, ◌≡◌, ◌∙◌, ◌<◌, List, [], ◌∷◌, ◌++◌, length, map, take, drop, get_or, inl, inr, refl, sym, ap, subst, arith, zero, suc}
-use Rattle.std.specs.Prelude.{All}
-use Rattle.std.specs.List.{flat_map}
-use Rattle.std.proofs.lemmas.List.Elements.{All-nil, All-cons, All-head, All-tail, All-append}
-use Rattle.nmgc_world_spec.specs.World.{World}
-use Rattle.nmgc_names.specs.laws.Order.{ordered_once}
-use Rattle.nmgc_blocks_spec.specs.Cycle.{Cycle}
-use Rattle.nmgc_journal.specs.declared.report.CycleRow.{CycleRow}
-use Rattle.nmgc_journal.specs.declared.report.StopRow.{StopRow}
-use Rattle.nmgc_journal.specs.declared.report.RoundRows.{RoundRows}
-use Rattle.nmgc_journal.specs.declared.report.End.{End}
-use Rattle.nmgc_run_spec.specs.Run.{Run, Turn, IsRun, AreTurns, Tells}
-use Rattle.nmgc_run_spec.specs.State.{Plan, State, Progress, idle, marking, sweeping, plan_of}
-use Rattle.nmgc_run_spec.specs.Stop.{IsCensus, IsStop, EndsOrWaits, Finishes, Proceeds}
-use Rattle.nmgc_script.specs.declared.script.Script.{Script}
-use Rattle.nmgc_cycle.specs.declared.collector.Collector.{Collector}
-use Rattle.nmgc_cycle.specs.Keeps.{HasEnded}
-use Rattle.nmgc_cycle.specs.Shown.{told_row, HasNamesOnce}
+use Rattle.nmgc_cycle.proofs.Vocabulary.{ℕ, ◌≡◌, ◌<◌, List, [], ◌∷◌, ◌++◌, length, map, take, drop, get_or, inl, inr, refl, sym, subst, arith, zero, suc, All, flat_map, All-nil, All-cons, All-head, All-tail, All-append, World, ordered_once, Cycle, CycleRow, StopRow, RoundRows, End, Run, Turn, IsRun, AreTurns, Tells, Plan, State, Progress, idle, marking, sweeping, plan_of, IsCensus, IsStop, EndsOrWaits, Finishes, Proceeds, Script, Collector, HasEnded, told_row, HasNamesOnce}
 use Rattle.nmgc_cycle.proofs.stops.Told.{stopped_by}
 
 -- the row tells the census of some cycle
@@ -32,7 +15,7 @@ ends_of (marking c) s t rows waits = none_of rows waits.1
 ends_of (sweeping c closed) s t rows (inr waits) = none_of rows waits.2
 ends_of (sweeping c closed) s t rows (inl ends) =
     let row : CycleRow = ends.1.row in
-    subst (λ (told : List CycleRow). All IsOfCycle told) (sym ends.1.told) (All-cons IsOfCycle row [] (c, closed, s.number, ends.1.census)
+    rw ends.1.told (All-cons IsOfCycle row [] (c, closed, s.number, ends.1.census)
     (All-nil IsOfCycle))
 
 both_of : (rows first more : List CycleRow) → rows ≡ first ++ more → All IsOfCycle first → All IsOfCycle more → All IsOfCycle rows
@@ -80,7 +63,7 @@ names_once script c end ended =
 -- a loop that puts one row after the other in order finds the others as they were
 pub still_there : (rows now : List CycleRow) (i : ℕ) (row : CycleRow) → i < length rows → now ≡ map told_row (take i rows) ++ drop i rows →
     get_or now i row ≡ get_or rows i row
-still_there rows now i row low is = ap (λ (l : List CycleRow). get_or l i row) is ∙ there rows i low
+still_there rows now i row low is = cc (is, there rows i low)
   where
     there : (rows : List CycleRow) (i : ℕ) → i < length rows → get_or (map told_row (take i rows) ++ drop i rows) i row ≡ get_or rows i row
     there [] i low = absurd (omega (arith, low))

@@ -1,23 +1,8 @@
 -- How often the collector passed the gate: a stop's steps leave it, and a round adds what was scanned or swept.
-use Rattle.std.proofs.Common.{ℕ, ◌≡◌, ◌∙◌, ◌-◌, ◌/◌, Bool, inl, inr, List, refl, sym, ap, subst, arith}
-use Rattle.nmgc_alloc.specs.Numbered.{Segments}
-use Rattle.nmgc_round.specs.declared.table.Round.{Round}
-use Rattle.nmgc_round.specs.Gate.{passed}
-use Rattle.nmgc_round.specs.Seat.{RoundSeat}
-use Rattle.nmgc_round.specs.View.{Opening}
-use Rattle.nmgc_script.specs.declared.script.Script.{Script}
-use Rattle.nmgc_world_spec.specs.declared.value.Name.{Name}
-use Rattle.nmgc_cycle.specs.declared.collector.Collector.{Collector}
-use Rattle.nmgc_cycle.specs.declared.progress.Marking.{Marking}
-use Rattle.nmgc_cycle.specs.declared.progress.Progress.{Progress as Doing}
+use Rattle.nmgc_cycle.proofs.Vocabulary.{ℕ, ◌≡◌, ◌∙◌, ◌-◌, Bool, inl, inr, List, refl, sym, ap, subst, arith, Segments, Round, passed, RoundSeat, Opening, Script, Name, Collector, Marking, Doing, Sweeping, AddsTo, HasTaken, IsClosed, Closes, Ends, HasStarted, Begins, HasHelped, remembered_by, swept_beside, worked_on, upper_worked_on, HasSweptRest, HasFinished, HasDoneFull, turns_by, turns_of, upper_turns_by, upper_turns_of, words_in, DidSlices, ◌/◌}
+use Rattle.nmgc_cycle.specs.Full.{ClosesNow, SweepsRest, Proceeds, with_all_retired}
 use Rattle.nmgc_cycle.specs.declared.progress.Progress.TheVariants as doing
-use Rattle.nmgc_cycle.specs.declared.progress.Sweeping.{Sweeping}
-use Rattle.nmgc_cycle.specs.Cycles.{AddsTo, HasTaken, IsClosed, Closes, Ends, HasStarted, Begins, HasHelped, remembered_by, swept_beside, worked_on, upper_worked_on}
-use Rattle.nmgc_cycle.specs.Full.{ClosesNow, SweepsRest, HasSweptRest, HasFinished, HasDoneFull, Proceeds, with_all_retired}
-use Rattle.nmgc_cycle.specs.Shown.{turns_by, turns_of, upper_turns_by, upper_turns_of, words_in}
-use Rattle.nmgc_cycle.specs.Working.{DidSlices}
-use Rattle.nmgc_cycle.proofs.cycles.FullCycle.{finished_idle}
-use Rattle.nmgc_cycle.proofs.stops.StopEnds.{IsStepped}
+use Rattle.nmgc_cycle.proofs.{cycles.FullCycle.finished_idle, stops.StopEnds.IsStepped}
 
 -- both counts: of what the collector does, and of the upper halves of its sweeps
 abbrev counts_by : Doing → ℕ → ℕ → ℕ × ℕ
@@ -41,8 +26,7 @@ taken old new h = by old.cycle.progress h.adds
     by : (p : Doing) → AddsTo (remembered_by old.mutators.items) old.heap.segments new.heap.segments p new.cycle.progress →
         counts_by new.cycle.progress new.cycle.turns new.cycle.upper_turns ≡ counts_by p old.cycle.turns old.cycle.upper_turns
     by doing.Idle a = ap (λ (q : Doing). counts_by q new.cycle.turns new.cycle.upper_turns) a.0 ∙ same
-    by (doing.Marking m) a = ap (λ (q : Doing). counts_by q new.cycle.turns new.cycle.upper_turns) a.1 ∙
-        ap (λ (n : ℕ). let counts : ℕ × ℕ = (n, m.sweeper.upper_turns) in counts) a.2.turns
+    by (doing.Marking m) a = cc (a.1, a.2.turns)
     by (doing.Sweeping w) a = ap (λ (q : Doing). counts_by q new.cycle.turns new.cycle.upper_turns) a.0
 
 -- the cycle was closed
@@ -50,9 +34,7 @@ module _ (stop : ℕ) (old new : Collector) where
   done : (m : Marking) (w : Sweeping) → old.cycle.progress ≡ doing.Marking m → new.cycle.progress ≡ doing.Sweeping w →
       IsClosed stop (words_in old.heap.words) (words_in new.heap.words) old.heap.segments new.heap.segments old.heap.weaks new.heap.weaks old.mutators.items
       new.mutators.items m w → counts_of new ≡ counts_of old
-  done m w is at h = ap (λ (q : Doing). counts_by q new.cycle.turns new.cycle.upper_turns) at ∙
-      ap (λ (v : Sweeping). let counts : ℕ × ℕ = (v.sweeper.turns, v.sweeper.upper_turns) in counts) h.is ∙
-      sym (ap (λ (q : Doing). counts_by q old.cycle.turns old.cycle.upper_turns) is)
+  done m w is at h = cc (at, h.is, is)
 
   closes : (p : Doing) → old.cycle.progress ≡ p → Closes stop p old new → counts_of new ≡ counts_of old
   closes doing.Idle is h = ap counts_of h
@@ -131,7 +113,7 @@ helped round quota from seat old new names (doing.Marking m) q s t same h =
 helped round quota from seat old new names (doing.Sweeping w) q s t same h =
     let done = h.3 in
     let count : done.count ≡ swept_beside w h.0 = (let fewer = done.swept.fewer in omega (arith, fewer)) in
-    subst (λ (x : Doing). turns_by x t ≡ passed (turns_by (doing.Sweeping w) s) (worked_on (doing.Sweeping w) x)) (sym h.1) (done.turns ∙
+    rw h.1 (done.turns ∙
     ap (λ (n : ℕ). passed w.sweeper.turns (n - n / 2)) count)
 
 helped_upper : (round : Round) (quota : ℕ) (from seat : RoundSeat) (old new : Segments) (names : List Name) (p q : Doing) (s t : ℕ) → t ≡ s →
@@ -139,13 +121,11 @@ helped_upper : (round : Round) (quota : ℕ) (from seat : RoundSeat) (old new : 
 helped_upper round quota from seat old new names doing.Idle q s t same h =
     subst (λ (x : Doing). upper_turns_by x t ≡ passed (upper_turns_by doing.Idle s) (upper_worked_on doing.Idle x)) (sym h.2) same
 helped_upper round quota from seat old new names (doing.Marking m) q s t same h =
-    subst (λ (x : Doing). upper_turns_by x t ≡
-    passed (upper_turns_by (doing.Marking m) s) (upper_worked_on (doing.Marking m) x)) (sym h.1) (ap (λ (n : Marking). n.sweeper.upper_turns) h.2.rest)
+    rw h.1 (ap (λ (n : Marking). n.sweeper.upper_turns) h.2.rest)
 helped_upper round quota from seat old new names (doing.Sweeping w) q s t same h =
     let done = h.3 in
     let count : done.count ≡ swept_beside w h.0 = (let fewer = done.swept.fewer in omega (arith, fewer)) in
-    subst (λ (x : Doing). upper_turns_by x t ≡
-    passed (upper_turns_by (doing.Sweeping w) s) (upper_worked_on (doing.Sweeping w) x)) (sym h.1) (done.upper_turns ∙
+    rw h.1 (done.upper_turns ∙
     ap (λ (n : ℕ). passed w.sweeper.upper_turns (n / 2)) count)
 
 pub round_counts : (script : Script) (o : Opening) (old new : Collector) → DidSlices script o old new →

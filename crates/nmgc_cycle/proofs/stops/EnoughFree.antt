@@ -1,22 +1,8 @@
 -- A stop that gives no end left the reserve free, or no commands are left.
-use Rattle.std.proofs.Common.{ℕ, zero, suc, ◌≡◌, ◌≤◌, ◌⊎◌, List, [], ◌∷◌, length, inl, inr, sym, ap, ◌∙◌, refl, arith, Bool, true, false, lt-ltb, Some, None}
-use Rattle.std.specs.Prelude.{not, ◌&&◌, ◌||◌, nat_lt, if◌then◌else◌}
-use Rattle.std.proofs.lemmas.Bool.{ltb-false}
-use Rattle.nmgc_world_spec.specs.declared.command.Command.{Command}
-use Rattle.nmgc_segment.specs.declared.state.State.TheVariants as stands
-use Rattle.nmgc_object.specs.Places.{reserve_count}
-use Rattle.nmgc_alloc.specs.Reserve as reserve
-use Rattle.nmgc_alloc.specs.laws.Keeping.{counts_stand}
-use Rattle.nmgc_journal.specs.declared.report.End.{End}
+use Rattle.nmgc_cycle.proofs.Vocabulary.{ℕ, zero, suc, ◌≡◌, ◌≤◌, ◌⊎◌, List, [], ◌∷◌, length, inl, inr, sym, ap, ◌∙◌, refl, arith, Bool, true, false, Some, None, not, ◌&&◌, ◌||◌, nat_lt, if◌then◌else◌, ltb-false, Command, reserve_count, counts_stand, End, Script, Run, last_state, has_left, program_of, Plan, State, is_idle, free_count, reserve_of, layout_of, plan_of, answer_of, Collector, IsAfterStop, seen, lt-ltb}
 use Rattle.nmgc_journal.specs.declared.report.End.TheVariants.{Done}
-use Rattle.nmgc_script.specs.declared.script.Script.{Script}
-use Rattle.nmgc_run_spec.specs.Run.{Run, last_state}
-use Rattle.nmgc_run_spec.specs.Slice.{has_left, program_of}
-use Rattle.nmgc_run_spec.specs.State.{Plan, State, is_idle, free_count, reserve_of, layout_of, plan_of}
-use Rattle.nmgc_run_spec.specs.Stop.{answer_of}
-use Rattle.nmgc_cycle.specs.declared.collector.Collector.{Collector}
-use Rattle.nmgc_cycle.specs.Keeps.{IsAfterStop}
-use Rattle.nmgc_cycle.specs.Shown.{seen}
+use Rattle.nmgc_segment.specs.declared.state.State.TheVariants as stands
+use Rattle.nmgc_alloc.specs.Reserve as reserve
 
 -- it gave no end: where commands are left, it isn't short of segments
 not_less : (left less quiet : Bool) (full : End) → (if left && less then Some full else (if not left && quiet then Some Done else None)) ≡ None →

@@ -1,17 +1,5 @@
 -- The mutators forget what they remember, one after the other.
-use Rattle.std.proofs.Common.{ℕ, ◌≡◌, ◌≢◌, ◌+◌, ◌<◌, ◌≤◌, ◌∙◌, sym, ap, subst, List, [], ◌++◌, length, set, length-set, append-nil, Some, None, Option, inl, inr, refl, arith}
-use Rattle.std.specs.Prelude.{slice_get}
-use Rattle.std.proofs.lemmas.Bool.{cases_eq}
-use Rattle.std.proofs.lemmas.Option.{slice_get_within, get_or_from_slice_get}
-use Rattle.std.proofs.lemmas.List.{length-append, set-set, set-get_or}
-use Rattle.nmgc_object.specs.declared.words.Address.{Address}
-use Rattle.nmgc_mutator.specs.declared.mutator.Mutator.{Mutator}
-use Rattle.nmgc_mutator.specs.Records.{numbers}
-use Rattle.nmgc_updrem.specs.declared.block.TheConstants.{BLOCK_ENTRIES}
-use Rattle.nmgc_updrem.specs.Lines.{Clears, TakesRestSo, IsLevelSo}
-use Rattle.nmgc_updrem.specs.Rings.{Sender, Receiver, AtLine, IsPair, IsLine, in_ring}
-use Rattle.nmgc_cycle.specs.Lined.{IsLined, IsPaired, AnyLine, HasForgotten, HaveForgotten, HaveForgottenSoFar, HaveLines}
-use Rattle.nmgc_lists.specs.laws.Items.{slice_get-set_same as set_here, slice_get-set_other as set_other}
+use Rattle.nmgc_cycle.proofs.Vocabulary.{ℕ, ◌≡◌, ◌≢◌, ◌+◌, ◌<◌, ◌≤◌, ◌∙◌, sym, ap, subst, List, [], length, set, length-set, append-nil, Some, None, Option, inl, inr, refl, arith, slice_get, cases_eq, slice_get_within, get_or_from_slice_get, set-set, set-get_or, Address, Mutator, BLOCK_ENTRIES, Clears, TakesRestSo, IsLevelSo, Sender, Receiver, AtLine, IsPair, IsLine, in_ring, IsLined, IsPaired, AnyLine, HasForgotten, HaveForgotten, HaveForgottenSoFar, HaveLines, set_here, set_other, length-append}
 use Rattle.nmgc_cycle.proofs.rounds.Lining.{same_item, line_here, line_other, line_count}
 
 -- how many entries wait in a ring
@@ -24,12 +12,10 @@ pub fewer_wait : (inbox after : List Receiver) (k : ℕ) (s t : Sender) (block :
     waiting_in (slice_get after k) t < waiting_in (slice_get inbox k) s
 fewer_wait inbox after k s t block h =
     let now : slice_get after k ≡ Some h.is = line_here (TakesRestSo s t block) k inbox after h in
-    let oldest : length (in_ring s h.was) ≡ length block + length (in_ring t h.is) = ap (λ (l : List Address). length l) h.changes.oldest ∙
-    length-append block (in_ring t h.is) in
+    let oldest : length (in_ring s h.was) ≡ length block + length (in_ring t h.is) = cc (h.changes.oldest, length-append block (in_ring t h.is)) in
     let size : length block ≡ BLOCK_ENTRIES = h.changes.receives.size in
     let less : length (in_ring t h.is) < length (in_ring s h.was) = omega (arith, oldest, size) in
-    subst (λ (o : Option Receiver). waiting_in (slice_get after k) t < waiting_in o s) (sym h.at) (subst (λ (o : Option Receiver).
-    waiting_in o t < length (in_ring s h.was)) (sym now) less)
+    rw h.at (rw now less)
 
 -- the ends stay a pair
 pub still_paired : (inbox after : List Receiver) (k : ℕ) (s t : Sender) (block : List Address) → IsPaired inbox k s →
@@ -76,8 +62,7 @@ level_lined inbox mid after k s t (r, at, pair) h c =
     let received : c.is.received ≡ h.is.received = ap (λ (x : Receiver). x.received) c.changes.rest ∙ ap (λ (x : Receiver). x.received) between in
     let line : IsLine c.is t = record {
       pair = ring ∙ h.changes.ring.0 ∙ own ∙ sym h.changes.ring.1;
-      received = received ∙ h.changes.received.0 ∙ h.changes.received.1 ∙ sym h.changes.before ∙ sym (append-nil t.before) ∙
-          ap (λ (l : List Address). t.before ++ l) (sym c.changes.items);
+      received = cc (received, h.changes.received.0, h.changes.received.1, h.changes.before, append-nil t.before, c.changes.items);
     } in
     (c.is, line_here Clears k mid after c, line)
 
@@ -186,12 +171,8 @@ module _ (first inbox mid after : List Receiver) (number : ℕ) (was m n p : Mut
   pub drained : HasForgotten was p
   drained = record {
     rest =
-        last
-        ∙ ap (λ (x : Mutator). record x { updrem = p.updrem }) rest
-        ∙ ap (λ (x : Mutator). record x { updrem = p.updrem; sender = n.sender }) d.rest
-        ∙ ap (λ (s : Sender). record was { updrem = p.updrem; sender = s }) (sym same_sender);
-    nothing = ap (λ (s : Sender). numbers (s.since ++ p.updrem.items)) same_sender ∙
-        ap (λ (l : List Address). numbers (l ++ p.updrem.items)) h.changes.since ∙ ap (λ (l : List Address). numbers l) empty;
+        cc (last, rest, d.rest, same_sender);
+    nothing = cc (same_sender, h.changes.since, empty);
   }
 
   pub drained_took : AtLine AnyLine number first after

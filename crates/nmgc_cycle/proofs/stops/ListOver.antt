@@ -1,50 +1,7 @@
 -- The list of weak pointers over the promotion of a stop: those that were finalised leave it, and those that moved and are alive join it.
-use Rattle.std.proofs.Common.{ℕ, ◌≡◌, ◌≢◌, ◌^◌, ◌<◌, ◌≤◌, ◌⊎◌, List, [], ◌∷◌, Bool, true, false, cond, eq-eqb, ne_eqb, length, map, refl, sym, ap, subst, ◌∙◌, arith, inl, inr, slice_index, mul-le-mul_right, ◌*◌, ◌+◌}
-use Rattle.std.specs.Prelude.{Contains, filter, not, ◌==◌, ◌&&◌}
+use Rattle.nmgc_cycle.proofs.Vocabulary.{ℕ, ◌≡◌, ◌≢◌, ◌^◌, ◌<◌, ◌≤◌, ◌⊎◌, List, [], ◌∷◌, Bool, true, false, cond, length, map, refl, sym, ap, subst, ◌∙◌, arith, inl, inr, slice_index, mul-le-mul_right, ◌*◌, ◌+◌, Contains, filter, not, ◌==◌, ◌&&◌, and_parts, length-map, length-filter, count_by-le-length, Name, SHARED_MAKER, Parts, IsAlive, IsBefore, IsInOrder, node_of, is_some_of, contains_map, map_contains, filter_had, filter_keeps, in_order_cons, in_order_first, in_order_rest, header_word, InSegment, NAME_OFFSET, segment_low, Layout, StandsFor, Segments, IsSegments, KeepsMarks, PlacesEach, Moved, new_place, old_place, settled, IsFor, HaveNoted, promoted_by, Place, ListsWeaks, settled_comes, Stopped, IsStopped, IsSettled, young_base, is_block, JoiningLists, JoinersAreNew, HaveMoved, HaveJoinedList, IsAliveAt, weak_header, moved_of, Move, OldWeak, LeavingLists, Weaks, alive_of, is_alive, names_of, place_of, places_of, value_place, recorded_of, finalised_of, Collector, CanJoin, FinalisedAreTold, FinalisedLeft, MovedJoined, is_alive_at, listed_move, moved_weaks, words_in, CanList, HasListed, HasPromoted, StandsStopped, moves_of, young_weaks_of, true_eq, of_places, names_same, names_moved, eq-eqb, ne_eqb}
 use Rattle.std.specs.List.{count_by}
-use Rattle.std.proofs.lemmas.Bool.{and_parts}
-use Rattle.std.proofs.lemmas.List.{length-map}
-use Rattle.std.proofs.lemmas.List.Sums.{length-filter, count_by-le-length}
-use Rattle.nmgc_world_spec.specs.declared.value.Name.{Name}
-use Rattle.nmgc_limits.specs.declared.mutators.TheConstants.{SHARED_MAKER}
-use Rattle.nmgc_world_spec.specs.declared.node.Parts.{Parts}
-use Rattle.nmgc_world_spec.specs.Reach.{IsAlive, IsBefore, IsInOrder}
-use Rattle.nmgc_world_spec.specs.World.{node_of}
-use Rattle.nmgc_lists.specs.laws.Items.{is_some_of, contains_map, map_contains, filter_contains as filter_had, contains_filter as filter_keeps}
-use Rattle.nmgc_world_spec.specs.laws.Orders.{in_order_cons, in_order_first, in_order_rest}
-use Rattle.nmgc_object.specs.Words.{header_word}
-use Rattle.nmgc_object.specs.Places.{InSegment}
-use Rattle.nmgc_object.specs.declared.size.TheConstants.{NAME_OFFSET}
-use Rattle.nmgc_object.specs.laws.Common.{in_segment_low as segment_low}
-use Rattle.nmgc_object.specs.declared.layout.Layout.{Layout}
-use Rattle.nmgc_alloc.specs.Stands.{StandsFor}
-use Rattle.nmgc_alloc.specs.Numbered.{Segments}
-use Rattle.nmgc_alloc.specs.Segments.{IsSegments}
-use Rattle.nmgc_blocks_spec.specs.Occupied.{KeepsMarks}
-use Rattle.nmgc_blocks_spec.specs.Promoted.{PlacesEach}
-use Rattle.nmgc_heap_spec.specs.Moves.{Moved, new_place, old_place, settled}
-use Rattle.nmgc_minor.specs.Promotion.{IsFor}
-use Rattle.nmgc_sweep.specs.Names.{HaveNoted}
-use Rattle.nmgc_cycle.specs.Roots.{promoted_by}
-use Rattle.nmgc_heap_spec.specs.Places.{Place}
-use Rattle.nmgc_heap_spec.specs.Roots.{ListsWeaks}
-use Rattle.nmgc_heap_spec.specs.laws.Moving.{settled_comes}
-use Rattle.nmgc_blocks_spec.specs.Stopped.{Stopped, IsStopped, IsSettled, young_base}
-use Rattle.nmgc_blocks_spec.specs.laws.Blocks.{is_block}
-use Rattle.nmgc_collector_laws.specs.Joins.{JoiningLists, JoinersAreNew, HaveMoved, HaveJoinedList, IsAliveAt, weak_header}
-use Rattle.nmgc_minor.specs.Placing.{moved_of}
-use Rattle.nmgc_minor.specs.declared.placing.Move.{Move}
-use Rattle.nmgc_weak.specs.declared.weaks.OldWeak.{OldWeak}
-use Rattle.nmgc_weak.specs.Closes.{LeavingLists}
-use Rattle.nmgc_weak.specs.Weaks.{Weaks, alive_of, is_alive, names_of, place_of, places_of, value_place}
-use Rattle.nmgc_collector_laws.specs.Worked.{registers_of, queues_of, nurseries_of, recorded_of, finalised_of}
-use Rattle.nmgc_cycle.specs.declared.collector.Collector.{Collector}
-use Rattle.nmgc_cycle.specs.Listed.{CanJoin, FinalisedAreTold, FinalisedLeft, MovedJoined, is_alive_at, listed_move, moved_weaks}
-use Rattle.nmgc_cycle.specs.Shown.{words_in}
-use Rattle.nmgc_cycle.specs.Stopping.{CanList, HasListed, HasPromoted, StandsStopped, moves_of, young_weaks_of}
-use Rattle.nmgc_lists.specs.laws.Truths.{eq_true as true_eq}
-use Rattle.nmgc_weak.specs.laws.Common.{of_place as of_places, names_same}
-use Rattle.nmgc_minor.specs.laws.Common.{names_twice as names_moved}
+use Rattle.nmgc_collector_laws.specs.Worked.{registers_of, queues_of, nurseries_of}
 
 false_ne : (a : ℕ) → not (a == 0) ≡ true → a ≢ 0
 false_ne a e is = let t : (a == 0) ≡ true = eq-eqb a 0 is in let bad : not true ≡ true = sym (ap not t) ∙ e in cc
@@ -83,8 +40,8 @@ name_moved : (words : List ℕ) (moves : List Move) (n : Name) → Contains (nam
 name_moved words moves n c =
     let r = map_contains (λ (w : OldWeak). w.weak) (moved_weaks words moves) n c in
     let m = one_moved words moves r.0 r.1 in
-    subst (λ (k : Name). Contains (map (λ (x : Move). x.name) moves) k) (ap (λ (w : OldWeak). w.weak) m.2 ∙
-    sym r.2) (contains_map (λ (x : Move). x.name) moves m.0 m.1)
+    rw (ap (λ (w : OldWeak). w.weak) m.2 ∙
+    sym r.2) at (contains_map (λ (x : Move). x.name) moves m.0 m.1)
 
 order_kept : (b : Bool) (m : Move) (kept : List Move) → IsInOrder (names_of (map listed_move kept)) →
     ((n : Name) → Contains (names_of (map listed_move kept)) n → IsBefore m.name n) → IsInOrder (names_of (map listed_move (cond b (m ∷ kept) kept)))
@@ -110,12 +67,8 @@ module _ (old a : Collector) (l : FinalisedLeft old a) where
   stopped_then t h =
       let words : IsStopped t old.heap.segments (words_in a.heap.words) (nurseries_of old.mutators.items) (registers_of old.mutators.items)
       (queues_of old.mutators.items) (recorded_of old.mutators.items) (young_weaks_of old.mutators.items) =
-      subst (λ (w : List ℕ).
-      IsStopped t old.heap.segments w (nurseries_of old.mutators.items) (registers_of old.mutators.items) (queues_of old.mutators.items)
-      (recorded_of old.mutators.items) (young_weaks_of old.mutators.items)) (sym l.words.0) h in
-      subst (λ (x : Collector).
-      IsStopped t x.heap.segments (words_in a.heap.words) (nurseries_of x.mutators.items) (registers_of x.mutators.items) (queues_of x.mutators.items)
-      (recorded_of x.mutators.items) (young_weaks_of x.mutators.items)) (sym l.rest) words
+      rw l.words.0 h in
+      rw l.rest words
 
   pub segments_same : a.heap.segments ≡ old.heap.segments
   segments_same = ap (λ (x : Collector). x.heap.segments) l.rest
@@ -168,7 +121,7 @@ module _ (left : LeavingLists) (joining : JoiningLists) (fresh : JoinersAreNew) 
       inside = inside;
       ordered = subst IsInOrder (names_moved b.heap.promotion.moves) settled_there.promoted.ordered;
       new = λ m other c d.
-          let d_then : Contains a.heap.weaks.list other = subst (λ (list : List OldWeak). Contains list other) (ap (λ (w : Weaks). w.list) same) d in
+          let d_then : Contains a.heap.weaks.list other = rw (ap (λ (w : Weaks). w.list) same) at d in
           fresh t a.heap.segments b.heap.segments (words_in a.heap.words) (words_in b.heap.words) (nurseries_of a.mutators.items)
           (registers_of a.mutators.items)
           (registers_of b.mutators.items) (queues_of a.mutators.items) (queues_of b.mutators.items) (recorded_of a.mutators.items)
@@ -211,17 +164,14 @@ module _ (left : LeavingLists) (joining : JoiningLists) (fresh : JoinersAreNew) 
       old_stay = λ q c.
           let x = of_places a.heap.weaks.list q c in
           let in_b : Contains b.heap.weaks.list x.0 = subst (λ (w : Weaks). Contains w.list x.0) (sym same) x.1 in
-          subst (λ (y : Place). Contains (places_of new.heap.weaks.list) y) x.2
-          (contains_map place_of new.heap.weaks.list x.0 ((j.joins.list x.0).1 (inl in_b)));
+          rw x.2 at (contains_map place_of new.heap.weaks.list x.0 ((j.joins.list x.0).1 (inl in_b)));
       new_join = λ m c alive.
           let x = map_contains moved_of b.heap.promotion.moves m c in
           let at : IsAliveAt (words_in b.heap.words) x.0.to.0 = subst (λ (y : Moved). IsAliveAt (words_in b.heap.words) y.to) x.2 alive in
           let found = contains_map listed_move (filter (λ (z : Move).
           is_alive_at (words_in b.heap.words) z.to.0) b.heap.promotion.moves) x.0 (filter_keeps (λ (z : Move).
           is_alive_at (words_in b.heap.words) z.to.0) b.heap.promotion.moves x.0 x.1 (tests (words_in b.heap.words) x.0.to.0 at)) in
-          subst (λ (y : Moved).
-          Contains (places_of new.heap.weaks.list) (new_place y)) (sym x.2)
-          (contains_map place_of new.heap.weaks.list (listed_move x.0) ((j.joins.list (listed_move x.0)).1 (inr found)));
+          rw x.2 (contains_map place_of new.heap.weaks.list (listed_move x.0) ((j.joins.list (listed_move x.0)).1 (inr found)));
     }
 
     -- all of the collector as after the joining
@@ -235,7 +185,7 @@ module _ (left : LeavingLists) (joining : JoiningLists) (fresh : JoinersAreNew) 
     listed = record {
       from = λ weak c. elim (came_from weak c) [
         | inl was ↦ inl (filter_had (is_alive (words_in old.heap.words)) old.heap.weaks.list weak
-            (subst (λ (list : List OldWeak). Contains list weak) l.list was)).0
+            (rw l.list at was)).0
         | inr more ↦ let m = joiner weak more in inr (
           moved_of m.0,
           subst (λ (list : List Moved). Contains list (moved_of m.0)) (sym same_moves) (contains_map moved_of b.heap.promotion.moves m.0 m.1),
@@ -247,9 +197,7 @@ module _ (left : LeavingLists) (joining : JoiningLists) (fresh : JoinersAreNew) 
           (registers_of a.mutators.items) (registers_of b.mutators.items) (queues_of a.mutators.items) (queues_of b.mutators.items)
           (recorded_of a.mutators.items) (young_weaks_of a.mutators.items) (moves_of b) (places_of a.heap.weaks.list)
           (places_of new.heap.weaks.list) (stopped_then old a l t h) (settled_there t h can) p.layout p.copied (left_listed t h can) joined_list in
-          subst (λ (x : Collector).
-          ListsWeaks x.heap.segments.layout (settled (young_base x.heap.segments) (moves_of x) t.places) t.world (places_of new.heap.weaks.list))
-          (sym new_is) then;
+          rw new_is then;
       deaths = j.deaths ∙ ap (λ (w : Weaks). w.deaths) same ∙ l.deaths;
     }
 

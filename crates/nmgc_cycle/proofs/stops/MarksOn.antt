@@ -1,16 +1,7 @@
 -- A stop at which a cycle marks on changes of it the marker alone.
-use Rattle.std.proofs.Common.{ℕ, ◌≡◌, ◌+◌, ◌∙◌, Bool, inl, inr, List, sym, ap, arith}
-use Rattle.nmgc_alloc.specs.Numbered.{Segments}
-use Rattle.nmgc_mark.specs.Seen.{MarkerSeen}
-use Rattle.nmgc_script.specs.declared.script.Script.{Script}
-use Rattle.nmgc_cycle.specs.declared.collector.Collector.{Collector}
-use Rattle.nmgc_cycle.specs.declared.progress.Marking.{Marking}
-use Rattle.nmgc_cycle.specs.declared.progress.Progress.{Progress as Doing}
-use Rattle.nmgc_cycle.specs.declared.progress.Progress.TheVariants as doing
-use Rattle.nmgc_cycle.specs.Cycles.{AddsTo, Closes, Ends, MarksOn, remembered_by}
+use Rattle.nmgc_cycle.proofs.{Vocabulary.ℕ, Vocabulary.◌≡◌, Vocabulary.◌+◌, Vocabulary.◌∙◌, Vocabulary.Bool, Vocabulary.inl, Vocabulary.inr, Vocabulary.List, Vocabulary.sym, Vocabulary.ap, Vocabulary.arith, Vocabulary.Segments, Vocabulary.MarkerSeen, Vocabulary.Script, Vocabulary.Collector, Vocabulary.Marking, Vocabulary.Doing, Vocabulary.AddsTo, Vocabulary.Closes, Vocabulary.Ends, Vocabulary.MarksOn, Vocabulary.remembered_by, cycles.FullCycle.finished_idle, stops.StopEnds.IsStepped}
 use Rattle.nmgc_cycle.specs.Full.{Proceeds}
-use Rattle.nmgc_cycle.proofs.cycles.FullCycle.{finished_idle}
-use Rattle.nmgc_cycle.proofs.stops.StopEnds.{IsStepped}
+use Rattle.nmgc_cycle.specs.declared.progress.Progress.TheVariants as doing
 
 -- what was remembered was added
 added : (entries : List ℕ) (a b : Segments) (m : Marking) (p q : Doing) → p ≡ doing.Marking m → AddsTo entries a b p q →

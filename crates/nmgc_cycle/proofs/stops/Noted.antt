@@ -1,20 +1,10 @@
 -- The names of what moved are noted, one move after the other.
-use Rattle.std.proofs.Common.{ℕ, ◌≡◌, ◌+◌, ◌<◌, ◌∙◌, List, [], ◌∷◌, ◌++◌, length, map, take, get_or, sym, ap, subst, slice_set}
-use Rattle.std.specs.Prelude.{Contains}
-use Rattle.std.proofs.lemmas.List.{map-append, take_more}
-use Rattle.std.proofs.lemmas.List.Elements.{Contains-get_or}
-use Rattle.nmgc_world_spec.specs.declared.value.Name.{Name}
-use Rattle.nmgc_heap_spec.specs.Moves.{Moved}
-use Rattle.nmgc_minor.specs.Placing.{moved_of}
-use Rattle.nmgc_minor.specs.declared.placing.Move.{Move}
-use Rattle.nmgc_sweep.specs.Names.{HaveNoted, entry_of}
-use Rattle.nmgc_sweep.specs.laws.Names.{one_noted}
+use Rattle.nmgc_cycle.proofs.Vocabulary.{ℕ, ◌≡◌, ◌+◌, ◌<◌, ◌∙◌, List, [], ◌∷◌, ◌++◌, length, map, take, get_or, sym, ap, subst, Contains, map-append, take_more, Contains-get_or, Name, Moved, moved_of, Move, HaveNoted, entry_of, one_noted, slice_set}
 
 -- the entry of a move exists
 pub entry_exists : (moves : List Move) (i : ℕ) (d : Move) (names now : List Name) → i < length moves → length now ≡ length names →
     ((m : Move) → Contains moves m → entry_of m.to.0 < length names) → entry_of (get_or moves i d).to.0 < length now
-entry_exists moves i d names now low count all = subst (λ (n : ℕ).
-    entry_of (get_or moves i d).to.0 < n) (sym count) (all (get_or moves i d) (Contains-get_or moves i d low))
+entry_exists moves i d names now low count all = rw count (all (get_or moves i d) (Contains-get_or moves i d low))
 
 -- one move more
 pub noted_more : (moves : List Move) (i : ℕ) (d : Move) (old mid new : List Name) → i < length moves →

@@ -1,16 +1,7 @@
 -- The mutators once what they held was promoted, where it lies.
-use Rattle.std.proofs.Common.{ℕ, ◌≡◌, List, [], ◌∷◌, length, map, refl, ap, sym, ◌∙◌, Some}
-use Rattle.std.specs.Prelude.{slice_get}
-use Rattle.std.specs.List.{refill}
-use Rattle.std.proofs.lemmas.List.{length-map}
-use Rattle.nmgc_heap_spec.specs.Emptied.{emptied}
-use Rattle.nmgc_heap_spec.specs.laws.Kinds.{map_item}
+use Rattle.nmgc_cycle.proofs.Vocabulary.{ℕ, ◌≡◌, List, [], ◌∷◌, length, map, refl, ap, sym, ◌∙◌, Some, slice_get, refill, length-map, emptied, map_item, Mutator, refill_all, Nursery, promoted_by}
 use Rattle.nmgc_mutator.specs.AtStop.{cleared}
-use Rattle.nmgc_mutator.specs.declared.mutator.Mutator.{Mutator}
-use Rattle.nmgc_mutator.specs.laws.Refilled.{refill_all}
-use Rattle.nmgc_object.specs.declared.layout.Nursery.{Nursery}
 use Rattle.nmgc_collector_laws.specs.Worked.{serials_of, nurseries_of}
-use Rattle.nmgc_cycle.specs.Roots.{promoted_by}
 
 -- the words that took the places of as many others are all of them
 abbrev pub refilled : (ℕ → ℕ) → Mutator → Mutator

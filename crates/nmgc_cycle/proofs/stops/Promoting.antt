@@ -1,60 +1,9 @@
 -- After its promotion the collector stands for the state that the promotion left: the heap, and the cycle in progress.
-use Rattle.std.proofs.Common.{ℕ, ◌≡◌, ◌≢◌, ◌⊎◌, ◌<◌, ◌≤◌, ◌+◌, ◌*◌, List, [], ◌∷◌, length, arith, refl, sym, ap, subst, ◌∙◌, inl, inr, Some, None}
-use Rattle.std.specs.Prelude.{slice_get, slice_index, Contains, IsSome}
-use Rattle.nmgc_world_spec.specs.declared.value.Name.{Name}
-use Rattle.nmgc_world_spec.specs.Step.{shared_name}
-use Rattle.nmgc_world_spec.specs.World.{World, node_of}
-use Rattle.nmgc_lists.specs.laws.Items.{contains_head, is_some_of, contains_map}
-use Rattle.nmgc_blocks_spec.specs.Stopped.{young_base}
-use Rattle.nmgc_object.specs.declared.layout.Layout.{Layout}
-use Rattle.nmgc_object.specs.declared.size.TheConstants.{MIN_BLOCK_WORDS}
-use Rattle.nmgc_object.specs.Places.{nursery_place}
-use Rattle.nmgc_alloc.specs.AllocState.{AllocState, Cells, LiesIn, HasBlock, cells, name_in}
-use Rattle.nmgc_alloc.specs.Numbered.{block_place}
-use Rattle.nmgc_heap_spec.specs.Moves.{Moved, new_place, old_place}
-use Rattle.nmgc_heap_spec.specs.Places.{Place}
-use Rattle.nmgc_heap_spec.specs.Tracked.{IsTracked}
-use Rattle.nmgc_heap_spec.specs.laws.Moving.{settled_cases, settled_comes}
-use Rattle.nmgc_minor.specs.Promotion.{IsFor}
+use Rattle.nmgc_cycle.proofs.Vocabulary.{ℕ, ◌≡◌, ◌≢◌, ◌⊎◌, ◌<◌, ◌≤◌, ◌+◌, ◌*◌, List, [], ◌∷◌, length, arith, refl, sym, ap, subst, ◌∙◌, inl, inr, Some, None, slice_get, Contains, IsSome, Name, shared_name, World, node_of, contains_head, is_some_of, contains_map, young_base, Layout, MIN_BLOCK_WORDS, nursery_place, AllocState, Cells, LiesIn, HasBlock, cells, name_in, block_place, Moved, new_place, old_place, Place, IsTracked, settled_cases, settled_comes, IsFor, length-map, Mutator, promoted_by, Script, EachMutator, HoldsInCycle, IsPacedAfterRound, weak_count, HoldsAtStop, snapshots, ends_of, IsInCycle, IsSoundState, LieKnown, WaitKnown, Plan, State, Progress, idle, marking, sweeping, plan_of, layout_of, Cycle, SameWait, all_placing_waits, promotions_stay, places_filed, known_then, tracked_known, HasLeft, HasPlaced, KeepsWaiting, place_of, places_of, Death, AreNamed, entry_of, named_at, named_noted, Collector, IsWellFormed, Sweeps, seen, words_in, sweeper_in, cycle_in, died, StandsPromoted, IsPacedPromoted, HasPromotionLaws, HasListed, HasPromoted, moves_of, moved_names, of_places, Receiver, IsLined, young_fresh, slice_index}
 use Rattle.nmgc_collector_laws.specs.Worked as worked
-use Rattle.std.proofs.lemmas.List.{length-map}
-use Rattle.nmgc_mutator.specs.declared.mutator.Mutator.{Mutator}
-use Rattle.nmgc_cycle.specs.Roots.{promoted_by}
-use Rattle.nmgc_script.specs.declared.script.Script.{Script}
-use Rattle.nmgc_collector_laws.specs.Collector.{EachMutator, HoldsInCycle, IsPacedAfterRound}
-use Rattle.nmgc_weak.specs.Queues.{weak_count}
-use Rattle.nmgc_run_spec.specs.Heap.{HoldsAtStop, snapshots}
-use Rattle.nmgc_sweep.specs.Sweeping.{IsSweeping}
-use Rattle.nmgc_sweep.specs.Seen.{CycleSeen}
-use Rattle.nmgc_collector_laws.specs.Seen.{ends_of}
-use Rattle.nmgc_run_laws.specs.Sound.{IsInCycle, IsSoundState, LieKnown, WaitKnown}
-use Rattle.nmgc_run_spec.specs.State.{Plan, State, Progress, idle, marking, sweeping, plan_of, layout_of}
-use Rattle.nmgc_blocks_spec.specs.Cycle.{Cycle}
-use Rattle.nmgc_run_laws.specs.laws.Course.{SameWait, all_placing_waits, promotions_stay}
-use Rattle.nmgc_run_laws.specs.laws.Filing.{places_filed}
-use Rattle.nmgc_run_laws.specs.laws.States.{known_then}
-use Rattle.nmgc_run_laws.specs.laws.Tracks.{tracked_known}
-use Rattle.nmgc_collector_laws.specs.Keeps.{HasLeft}
 use Rattle.nmgc_collector_laws.specs.Stays as beside
-use Rattle.nmgc_collector_laws.specs.Sweeps.{HasPlaced}
-use Rattle.nmgc_sweep.specs.Statements.{KeepsWaiting}
-use Rattle.nmgc_sweep.specs.Work.{IsAtWork}
-use Rattle.nmgc_weak.specs.Weaks.{place_of, places_of}
-use Rattle.nmgc_weak.specs.declared.weaks.Death.{Death}
-use Rattle.nmgc_sweep.specs.Names.{AreNamed, entry_of, named_at}
-use Rattle.nmgc_sweep.specs.laws.Names.{named_noted}
-use Rattle.nmgc_cycle.specs.declared.collector.Collector.{Collector}
-use Rattle.nmgc_cycle.specs.Keeps.{IsWellFormed, Sweeps}
-use Rattle.nmgc_cycle.specs.Shown.{seen, words_in, sweeper_in, cycle_in, died}
-use Rattle.nmgc_cycle.specs.Steps.{StandsPromoted, IsPacedPromoted}
-use Rattle.nmgc_cycle.specs.StopLaws.{HasPromotionLaws}
-use Rattle.nmgc_cycle.specs.Stopping.{HasListed, HasPromoted, moves_of, moved_names}
 use Rattle.nmgc_cycle.proofs.stops.AfterPromotion as after
 use Rattle.nmgc_cycle.proofs.stops.Begins.{Begins}
-use Rattle.nmgc_weak.specs.laws.Common.{of_place as of_places}
-use Rattle.nmgc_updrem.specs.Rings.{Receiver}
-use Rattle.nmgc_cycle.specs.Lined.{IsLined}
-use Rattle.nmgc_run_laws.specs.laws.Stops.{young_fresh}
 
 -- what waits knows the names that it knew, since names are placed in no segment that waits
 still_known : (c : Cycle) (a b : AllocState) → SameWait a b → WaitKnown c a → WaitKnown c b
@@ -231,9 +180,7 @@ module _ (laws : HasPromotionLaws) (script : Script) (old new : Collector) (kept
       },
     )
     cycle (sweeping c closed) spoken is later h = (
-      subst (λ (x : CycleSeen).
-          IsSweeping c closed t.allocation new.heap.segments x (seen old).sweeper) (sym cycle_same)
-          (laws.sweeping c closed old.heap.segments new.heap.segments (seen old).words (words_in new.heap.words) s.allocation t.allocation (seen old).cycle
+      rw cycle_same (laws.sweeping c closed old.heap.segments new.heap.segments (seen old).words (words_in new.heap.words) s.allocation t.allocation (seen old).cycle
           (seen old).sweeper placed h.0),
       laws.settled s.begun old.heap.segments new.heap.segments (seen old).words (words_in new.heap.words) s.allocation t.allocation placed h.1,
     )
@@ -250,8 +197,7 @@ module _ (laws : HasPromotionLaws) (script : Script) (old new : Collector) (kept
         let work = laws.work k closed (seen old).words (words_in new.heap.words) s.allocation t.allocation old.heap.segments new.heap.segments (seen old).cycle
         (sweeper_in old.cycle.progress) h.1 h.0 (after.placed script old new kept b p).2 keeps in (
           work.1,
-          subst (λ (x : CycleSeen).
-              IsAtWork k closed (words_in new.heap.words) t.allocation new.heap.segments x (sweeper_in old.cycle.progress)) (sym cycle_same) work.0,
+          rw cycle_same work.0,
         )
 
     -- what moved was noted, and the rest has its entries

@@ -1,26 +1,6 @@
 -- What a collector has once a stop has answered.
-use Rattle.std.proofs.Common.{ℕ, ◌≡◌, ◌<◌, ◌≤◌, List, [], ◌∷◌, ◌++◌, refl, sym, ap, subst, ◌∙◌, true, false, Option, Some, None}
-use Rattle.nmgc_journal.specs.declared.report.CycleRow.{CycleRow}
-use Rattle.nmgc_journal.specs.declared.report.End.{End}
+use Rattle.nmgc_cycle.proofs.{Vocabulary.ℕ, Vocabulary.◌≡◌, Vocabulary.◌<◌, Vocabulary.◌≤◌, Vocabulary.List, Vocabulary.[], Vocabulary.◌∷◌, Vocabulary.◌++◌, Vocabulary.refl, Vocabulary.sym, Vocabulary.ap, Vocabulary.subst, Vocabulary.◌∙◌, Vocabulary.true, Vocabulary.false, Vocabulary.Option, Vocabulary.Some, Vocabulary.None, Vocabulary.CycleRow, Vocabulary.End, Vocabulary.RoundRows, Vocabulary.StopRow, Vocabulary.Script, Vocabulary.Tells, Vocabulary.last_state, Vocabulary.has_left, Vocabulary.Plan, Vocabulary.State, Vocabulary.is_idle, Vocabulary.plan_of, Vocabulary.free_count, Vocabulary.reserve_of, Vocabulary.IsStop, Vocabulary.stop_row, Vocabulary.answer_of, Vocabulary.told_cycles, Vocabulary.Collector, Vocabulary.AreFewAtStop, Vocabulary.IsAfterStop, Vocabulary.StandsAt, stops.Begins.Begins, stops.Begins.IsToldBut, lengths.StopFew.few_at_stop, stops.StopSteps.IsLed, stops.Stopped.is_short_by, stops.Stopped.is_enough_by, stops.Stopped.answers_done, stops.Stopped.answers_on, stops.Stopped.answers_none, stops.Stopped.answers_full, stops.Telling.stands_told, stops.WholeStop.whole_stop}
 use Rattle.nmgc_journal.specs.declared.report.End.TheVariants as end
-use Rattle.nmgc_journal.specs.declared.report.RoundRows.{RoundRows}
-use Rattle.nmgc_journal.specs.declared.report.StopRow.{StopRow}
-use Rattle.nmgc_script.specs.declared.script.Script.{Script}
-use Rattle.nmgc_run_spec.specs.Run.{Tells, last_state}
-use Rattle.nmgc_run_spec.specs.Slice.{has_left}
-use Rattle.nmgc_run_spec.specs.State.{Plan, State, is_idle, plan_of, free_count, reserve_of}
-use Rattle.nmgc_run_spec.specs.Stop.{IsStop, stop_row, answer_of}
-use Rattle.nmgc_cycle.specs.Shown.{told_cycles}
-use Rattle.nmgc_cycle.specs.declared.collector.Collector.{Collector}
-use Rattle.nmgc_cycle.specs.Bound.{AreFewAtStop}
-use Rattle.nmgc_cycle.specs.Keeps.{IsAfterStop}
-use Rattle.nmgc_cycle.specs.Steps.{StandsAt}
-use Rattle.nmgc_cycle.proofs.stops.Begins.{Begins, IsToldBut}
-use Rattle.nmgc_cycle.proofs.lengths.StopFew.{few_at_stop}
-use Rattle.nmgc_cycle.proofs.stops.StopSteps.{IsLed}
-use Rattle.nmgc_cycle.proofs.stops.Stopped.{is_short_by, is_enough_by, answers_done, answers_on, answers_none, answers_full}
-use Rattle.nmgc_cycle.proofs.stops.Telling.{stands_told}
-use Rattle.nmgc_cycle.proofs.stops.WholeStop.{whole_stop}
 
 -- with a run that came to a state for which it stands, a collector is still
 still : (script : Script) (c : Collector) (rounds : List RoundRows) (stops : List StopRow) (cycles : List CycleRow) (row : StopRow) (t : State) →
@@ -33,9 +13,7 @@ still script c rounds stops cycles row t rounds_are stops_are cycles_are told st
       at_stop = record {
         is_run = told.is_run;
         tells =
-            subst (λ (r : List RoundRows). Tells told.run r c.rows.stops (told_cycles c)) (sym rounds_are)
-            (subst (λ (r : List StopRow). Tells told.run rounds r (told_cycles c)) (sym stops_are)
-            (subst (λ (r : List CycleRow). Tells told.run rounds (stops ++ row ∷ []) r) (sym cycles_are) told.tells));
+            rw rounds_are (rw stops_are (subst (λ (r : List CycleRow). Tells told.run rounds (stops ++ row ∷ []) r) (sym cycles_are) told.tells));
         matches = at.matches;
         answered = answers ∙ ap (λ (s : State). answer_of (plan_of script) s) (sym told.last);
         heap = at.heap;
@@ -67,8 +45,7 @@ module _ (script : Script) (old new : Collector) (b : Begins script old) (many :
   stands = stands_told script new last t t refl refl led.stands.matches.collect led.stands.matches.full led.stands
 
   few : AreFewAtStop script last
-  few = subst (λ (rows : List StopRow). AreFewAtStop script (record new { rows = record new.rows { stops = rows }; answered = answered })) (sym stops_are)
-      (few_at_stop script new old.rows.stops row answered led.few led.begun led.more)
+  few = rw stops_are (few_at_stop script new old.rows.stops row answered led.few led.begun led.more)
 
   -- the stop is one of the run, and for the run with it the collector stands
   abbrev pub Goes : Type 0

@@ -1,40 +1,10 @@
 -- What a stop answers and why, by what it did and what it read in the end.
-use Rattle.std.proofs.Common.{ℕ, ◌≡◌, ◌<◌, ◌≤◌, ◌⊎◌, ◌↔◌, List, [], ◌∷◌, ◌++◌, length, refl, sym, ap, subst, ◌∙◌, arith, inl, inr, Bool, true, false, Option, IsTrue}
-use Rattle.std.specs.Prelude.{count_by, slice_index}
-use Rattle.nmgc_segment.specs.Segment.{Segment}
+use Rattle.nmgc_cycle.proofs.Vocabulary.{ℕ, ◌≡◌, ◌<◌, ◌≤◌, ◌⊎◌, ◌↔◌, List, [], ◌∷◌, ◌++◌, length, refl, sym, ap, subst, ◌∙◌, arith, inl, inr, Bool, true, false, Option, IsTrue, count_by, Segment, reserve_count, is, counts_stand, CycleRow, End, Phase, RoundRows, StopRow, Script, Run, Turn, with_turn, has_left, run_free, reserve_of, plan_of, answered_count, stop_row, Collector, StopEnd, HasTaken, Closes, HasClosed, Ends, ProceedsThen, CanStop, IsAfterStop, HasStopped, HasAnswered, HasWorked, StopsAfter, phase_in, words_in, IsInLimits, HasStopLaws, HasPromoted, HasListed, SomeIsLeft, IsDone, IsHeapFullAt, ended_by, slice_index}
 use Rattle.nmgc_segment.specs.declared.state.State.TheVariants as stands
-use Rattle.nmgc_object.specs.Places.{reserve_count}
-use Rattle.nmgc_alloc.specs.Numbered.{is}
-use Rattle.nmgc_alloc.specs.laws.Keeping.{counts_stand}
-use Rattle.nmgc_journal.specs.declared.report.CycleRow.{CycleRow}
-use Rattle.nmgc_journal.specs.declared.report.End.{End}
-use Rattle.nmgc_journal.specs.declared.report.Phase.{Phase}
 use Rattle.nmgc_journal.specs.declared.report.Phase.TheVariants as phase
-use Rattle.nmgc_journal.specs.declared.report.RoundRows.{RoundRows}
-use Rattle.nmgc_journal.specs.declared.report.StopRow.{StopRow}
-use Rattle.nmgc_script.specs.declared.script.Script.{Script}
-use Rattle.nmgc_run_spec.specs.Run.{Run, Turn, with_turn}
-use Rattle.nmgc_run_spec.specs.Slice.{has_left}
-use Rattle.nmgc_run_spec.specs.State.{free_count as run_free, reserve_of, plan_of}
-use Rattle.nmgc_run_laws.specs.Statements.{answered_count}
-use Rattle.nmgc_run_spec.specs.Stop.{stop_row}
-use Rattle.nmgc_cycle.specs.declared.collector.Collector.{Collector}
-use Rattle.nmgc_cycle.specs.declared.stop.StopEnd.{StopEnd}
 use Rattle.nmgc_cycle.specs.declared.stop.StopEnd.TheVariants as answer
-use Rattle.nmgc_cycle.specs.Cycles.{HasTaken, Closes, HasClosed, Ends}
-use Rattle.nmgc_cycle.specs.Full.{Proceeds as ProceedsThen}
-use Rattle.nmgc_cycle.specs.Keeps.{CanStop, IsAfterStop, HasStopped, HasAnswered, HasWorked, StopsAfter}
-use Rattle.nmgc_cycle.specs.Shown.{phase_in, words_in}
-use Rattle.nmgc_script.specs.Limits.{IsInLimits}
-use Rattle.nmgc_cycle.specs.StopLaws.{HasStopLaws}
-use Rattle.nmgc_cycle.specs.Stopping.{HasPromoted, HasListed, SomeIsLeft, IsDone, IsHeapFullAt, ended_by}
-use Rattle.nmgc_cycle.proofs.stops.Begins.{Begins, begins, one_turn}
-use Rattle.nmgc_cycle.proofs.lists.Phases.{when_idle}
-use Rattle.nmgc_cycle.proofs.stops.StopAnswers.{Goes, done, on, goes_on, full}
+use Rattle.nmgc_cycle.proofs.{stops.Begins.Begins, stops.Begins.begins, stops.Begins.one_turn, lists.Phases.when_idle, stops.StopAnswers.Goes, stops.StopAnswers.done, stops.StopAnswers.on, stops.StopAnswers.goes_on, stops.StopAnswers.full, stops.StopSteps.IsLed, stops.StopSteps.proceeds_told, stops.Stopped.row_is, stops.Stopped.quiet_then, stops.Stopped.busy_then, rounds.WhatIsLeft.left_is}
 use Rattle.nmgc_cycle.proofs.stops.StopSteps as steps
-use Rattle.nmgc_cycle.proofs.stops.StopSteps.{IsLed, proceeds_told}
-use Rattle.nmgc_cycle.proofs.stops.Stopped.{row_is, quiet_then, busy_then}
-use Rattle.nmgc_cycle.proofs.rounds.WhatIsLeft.{left_is}
 
 -- what the calls of a stop did, one after another
 pub record IsStepped (script : Script) (old new : Collector) : Type 0 where
@@ -133,8 +103,7 @@ module _ (script : Script) (c : Collector) (r : IsRead script c) where
           }
 
       back : IsHeapFullAt script c free reserve → answer.HeapFull f g ≡ answer.HeapFull free reserve
-      back h = ap (λ (n : ℕ). answer.HeapFull n g) (why.0 ∙ r.free_is ∙ sym h.free_is) ∙
-          ap (λ (n : ℕ). answer.HeapFull free n) (why.1 ∙ r.reserve_is ∙ sym h.reserve_is)
+      back h = cc (why.0, r.free_is, h.free_is, why.1, r.reserve_is, h.reserve_is)
   full_where answer.GoOn (inl why) free reserve = (
     (λ e. absurd (let bad : answer.GoOn ≡ answer.HeapFull free reserve = e in cc)),
     λ h. absurd (not_full free reserve why.1 h),
@@ -168,9 +137,10 @@ module _ (laws : HasStopLaws) (script : Script) (old new : Collector) (limits : 
           x.ended x.ends new x.some x.some_is x.proceeds
 
       pub stops_are : stops ≡ old.rows.stops ++ row ∷ []
-      stops_are = pushed ∙ ap (λ (rows : List StopRow). rows ++ row ∷
-          []) (steps.stops_are laws script old x.promoted limits can x.promotes x.lists x.added x.adds x.number x.number_is x.closed x.closes
-          x.ended x.ends new x.some x.some_is x.proceeds)
+      stops_are = cc (
+        pushed,
+        steps.stops_are laws script old x.promoted limits can x.promotes x.lists x.added x.adds x.number x.number_is x.closed x.closes x.ended x.ends new x.some x.some_is x.proceeds,
+      )
 
       told : row ≡ stop_row led.state (length x.promoted.heap.promotion.moves)
       told = row_is led.state (length x.promoted.heap.promotion.moves) x.number r.free r.filled r.sweep many r.phase new.heap.segments (words_in new.heap.words)
@@ -202,8 +172,7 @@ module _ (laws : HasStopLaws) (script : Script) (old new : Collector) (limits : 
           on script old new b (length x.promoted.heap.promotion.moves) led rounds_are stops answered row stops_are told (left ∙
           why.0) (busy_then led.state.progress (λ e. why.1 (led.stands.matches.phase ∙ e))) is
       result (answer.HeapFull free reserve) why is =
-          let same : answered ≡ ended_by (answer.HeapFull r.free r.reserve) = is ∙ ap (λ (n : ℕ). ended_by (answer.HeapFull n reserve)) why.0 ∙
-          ap (λ (n : ℕ). ended_by (answer.HeapFull r.free n)) why.1 in
+          let same : answered ≡ ended_by (answer.HeapFull r.free r.reserve) = cc (is, why.0, why.1) in
           full script old new b (length x.promoted.heap.promotion.moves) led rounds_are stops answered row stops_are told r.free r.reserve (left ∙
           why.2) free_is reserve_is why.3 same
 

@@ -1,15 +1,5 @@
 -- The number of a state is that of the rounds before it.
-use Rattle.std.proofs.Common.{ℕ, ◌≡◌, ◌+◌, List, [], ◌∷◌, length, map, arith, ap, ◌∙◌, inl, inr}
-use Rattle.std.proofs.lemmas.List.{length-map}
-use Rattle.nmgc_world_spec.specs.World.{World}
-use Rattle.nmgc_journal.specs.declared.report.StopRow.{StopRow}
-use Rattle.nmgc_journal.specs.declared.report.CycleRow.{CycleRow}
-use Rattle.nmgc_script.specs.declared.script.Config.{Config}
-use Rattle.nmgc_run_spec.specs.State.{Plan, State, Progress, idle, marking, sweeping, cycle_started}
-use Rattle.nmgc_run_spec.specs.Closing.{ClosesOrWaits, ClosesNow}
-use Rattle.nmgc_run_spec.specs.Stop.{IsStop, EndsOrWaits, Finishes, DoesFullCycle, BeginsOrWaits, Proceeds, with_all_retired}
-use Rattle.nmgc_journal.specs.declared.report.RoundRows.{RoundRows}
-use Rattle.nmgc_run_spec.specs.Run.{Run, Turn, IsRun, AreTurns, Tells, state_after, last_state}
+use Rattle.nmgc_cycle.proofs.Vocabulary.{ℕ, ◌≡◌, ◌+◌, List, [], ◌∷◌, length, map, arith, ap, inl, inr, length-map, World, StopRow, CycleRow, Config, Plan, State, Progress, idle, marking, sweeping, cycle_started, ClosesOrWaits, ClosesNow, IsStop, EndsOrWaits, Finishes, DoesFullCycle, BeginsOrWaits, Proceeds, with_all_retired, RoundRows, Run, Turn, IsRun, AreTurns, Tells, state_after, last_state}
 
 same_number : (s t : State) → t ≡ s → t.number ≡ s.number
 same_number s t e = ap (λ (x : State). x.number) e
@@ -32,12 +22,10 @@ ending_number (sweeping c closed) s t cycles (inl h) = ap (λ (x : State). x.num
 ending_number (sweeping c closed) s t cycles (inr h) = same_number s t h.1
 
 finished_number : (s t : State) (cycles : List CycleRow) → Finishes s t cycles → t.number ≡ s.number
-finished_number s t cycles h = ending_number h.swept.progress h.swept t cycles h.ends ∙ ap (λ (x : State). x.number) h.others ∙
-    closed_number s.progress s h.closed h.closes
+finished_number s t cycles h = cc (ending_number h.swept.progress h.swept t cycles h.ends, h.others, closed_number s.progress s h.closed h.closes)
 
 full_number : (s t : State) (cycles : List CycleRow) → DoesFullCycle s t cycles → t.number ≡ s.number
-full_number s t cycles h = ap (λ (x : State). x.number) h.rest ∙ finished_number (cycle_started (with_all_retired h.idled)) h.last h.own h.again ∙
-    finished_number s h.idled h.before h.finishes
+full_number s t cycles h = cc (h.rest, finished_number (cycle_started (with_all_retired h.idled)) h.last h.own h.again, finished_number s h.idled h.before h.finishes)
 
 beginning_number : (config : Config) (s t : State) → BeginsOrWaits config s t → t.number ≡ s.number
 beginning_number config s t (inl h) = ap (λ (x : State). x.number) h.1
@@ -50,10 +38,12 @@ proceeding_number plan s t cycles (inr h) = beginning_number plan.config s t h.1
 -- a stop has the number of what it follows
 pub stop_number : (plan : Plan) (began : World) (s t : State) (row : StopRow) (cycles : List CycleRow) → IsStop plan began s t row cycles → t.number ≡ s.number
 stop_number plan began s t row cycles h =
-    proceeding_number plan h.ended t h.more h.proceeds
-    ∙ ending_number h.closed.progress h.closed h.ended h.first h.ends
-    ∙ closing_number plan.config.quota h.promoted.progress h.promoted h.closed h.closes
-    ∙ ap (λ (x : State). x.number) h.promotes.rest
+    cc (
+      proceeding_number plan h.ended t h.more h.proceeds,
+      ending_number h.closed.progress h.closed h.ended h.first h.ends,
+      closing_number plan.config.quota h.promoted.progress h.promoted h.closed h.closes,
+      h.promotes.rest,
+    )
 
 turns_number : (plan : Plan) (s : State) (turns : List Turn) → AreTurns plan s turns → (state_after s turns).number ≡ s.number + length turns
 turns_number plan s [] h = omega arith
@@ -69,8 +59,7 @@ pub run_number : (plan : Plan) (run : Run) (rounds : List RoundRows) (stops : Li
 run_number plan run rounds stops cycles h tells =
     let after : (last_state run).number ≡ run.opening.state.number + length run.turns = turns_number plan run.opening.state run.turns h.turns in
     let opened : run.opening.state.number ≡ 0 = stop_number plan _ _ run.opening.state run.opening.row run.opening.cycles h.opening in
-    let rows : length rounds ≡ length run.turns = ap (λ (r : List RoundRows). length r) tells.rounds_are ∙
-    length-map run.turns (λ (turn : Turn). turn.replies) in
+    let rows : length rounds ≡ length run.turns = cc (tells.rounds_are, length-map run.turns (λ (turn : Turn). turn.replies)) in
     let each : length (map (λ (turn : Turn). turn.stop.row) run.turns) ≡ length run.turns = length-map run.turns (λ (turn : Turn). turn.stop.row) in
     let all : length stops ≡ length (run.opening.row ∷ map (λ (turn : Turn). turn.stop.row) run.turns) = ap (λ (r : List StopRow). length r) tells.stops_are in
     (omega (arith, after, opened, rows), omega (arith, rows, each, all))

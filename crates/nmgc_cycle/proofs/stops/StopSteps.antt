@@ -1,42 +1,10 @@
 -- The steps of a stop, one after another, from what it begins with: after each the collector stands for a state of the run at this stop.
-use Rattle.std.proofs.Common.{ℕ, ◌≡◌, ◌↔◌, ◌+◌, ◌<◌, ◌≤◌, List, ◌++◌, length, sym, ap, subst, ◌∙◌, arith, inl, inr, Bool, IsTrue, append_assoc}
-use Rattle.std.specs.Prelude.{slice_index}
-use Rattle.nmgc_world_spec.specs.World.{World}
-use Rattle.nmgc_journal.specs.declared.report.CycleRow.{CycleRow}
-use Rattle.nmgc_journal.specs.declared.report.RoundRows.{RoundRows}
-use Rattle.nmgc_journal.specs.declared.report.StopRow.{StopRow}
-use Rattle.nmgc_script.specs.declared.script.Script.{Script}
-use Rattle.nmgc_sweep.specs.Sweeper.{AreLeft}
+use Rattle.nmgc_cycle.proofs.Vocabulary.{ℕ, ◌≡◌, ◌↔◌, ◌+◌, ◌<◌, ◌≤◌, List, ◌++◌, length, sym, ap, subst, ◌∙◌, arith, inl, inr, Bool, IsTrue, append_assoc, World, CycleRow, RoundRows, StopRow, Script, AreLeft, ClosesOrWaits, Promotes, EndsOrWaits, Proceeds, has_left, State, Progress, idle, marking, sweeping, phase_of, plan_of, layout_of, answered_count, Collector, Marking, Sweeping, Doing, HasTaken, Closes, HasClosed, Ends, BeginsThen, AreFew, HasMore, HasFinished, ProceedsThen, StandsAtStop, CanStop, IsWellFormed, Sweeps, seen, words_in, phase_in, sweeper_in, told_cycles, IsInLimits, StandsPromoted, StandsWithin, StandsAt, HasStopLaws, HasPromoted, HasListed, SomeIsLeft, slice_index}
 use Rattle.nmgc_journal.specs.declared.report.Phase.TheVariants as phase
-use Rattle.nmgc_object.specs.declared.layout.Layout.{Layout}
-use Rattle.nmgc_run_spec.specs.Closing.{ClosesOrWaits}
-use Rattle.nmgc_run_spec.specs.Stop.{Promotes, EndsOrWaits, Proceeds}
-use Rattle.nmgc_run_spec.specs.Slice.{has_left}
-use Rattle.nmgc_run_spec.specs.State.{State, Progress, idle, marking, sweeping, phase_of, plan_of, layout_of}
-use Rattle.nmgc_run_laws.specs.Statements.{answered_count}
-use Rattle.nmgc_cycle.specs.declared.collector.Collector.{Collector}
-use Rattle.nmgc_cycle.specs.declared.progress.Marking.{Marking}
-use Rattle.nmgc_cycle.specs.declared.progress.Sweeping.{Sweeping}
-use Rattle.nmgc_cycle.specs.declared.progress.Progress.{Progress as Doing}
 use Rattle.nmgc_cycle.specs.declared.progress.Progress.TheVariants as doing
-use Rattle.nmgc_cycle.specs.Cycles.{HasTaken, Closes, HasClosed, Ends, Begins as BeginsThen}
-use Rattle.nmgc_cycle.specs.Bound.{AreFew, HasMore}
-use Rattle.nmgc_cycle.specs.Full.{HasFinished, Proceeds as ProceedsThen}
-use Rattle.nmgc_cycle.specs.FullLaws.{StandsAtStop}
-use Rattle.nmgc_cycle.specs.Keeps.{CanStop, IsWellFormed, Sweeps}
-use Rattle.nmgc_cycle.specs.Shown.{seen, words_in, phase_in, sweeper_in, told_cycles}
-use Rattle.nmgc_script.specs.Limits.{IsInLimits}
-use Rattle.nmgc_cycle.specs.Steps.{StandsPromoted, StandsWithin, StandsAt}
-use Rattle.nmgc_cycle.specs.StopLaws.{HasStopLaws}
-use Rattle.nmgc_cycle.specs.Stopping.{HasPromoted, HasListed, SomeIsLeft}
 use Rattle.nmgc_cycle.proofs.stops.AfterPromotion as after
-use Rattle.nmgc_cycle.proofs.stops.Begins.{Begins, begins}
-use Rattle.nmgc_cycle.proofs.cycles.FullCycle.{full_due, proceeding_keeps}
-use Rattle.nmgc_cycle.proofs.lengths.FullFew.{fresh_where_due, proceeding_few, proceeding_begun, proceeding_more}
+use Rattle.nmgc_cycle.proofs.{stops.Begins.Begins, stops.Begins.begins, cycles.FullCycle.full_due, cycles.FullCycle.proceeding_keeps, lengths.FullFew.fresh_where_due, lengths.FullFew.proceeding_few, lengths.FullFew.proceeding_begun, lengths.FullFew.proceeding_more, lengths.StopFew.promoting_few, lengths.StopFew.taking_few, lengths.StopFew.closing_few, lengths.StopFew.closing_goes, lengths.StopFew.ending_few, lengths.StopFew.ending_more, rounds.WhatIsLeft.left_is, stops.WholeStop.KeepsOn, stops.WholeStop.closing_keeps, stops.WholeStop.ending_keeps}
 use Rattle.nmgc_cycle.proofs.stops.Promoting as promoting
-use Rattle.nmgc_cycle.proofs.lengths.StopFew.{promoting_few, taking_few, closing_few, closing_goes, ending_few, ending_more}
-use Rattle.nmgc_cycle.proofs.rounds.WhatIsLeft.{left_is}
-use Rattle.nmgc_cycle.proofs.stops.WholeStop.{KeepsOn, closing_keeps, ending_keeps}
 
 -- what a stop tells of rounds and stops, and of how many commands were answered: of that its steps change nothing
 abbrev pub told : Collector → List RoundRows × List StopRow × List ℕ
@@ -133,16 +101,15 @@ module _ (laws : HasStopLaws) (script : Script) (old p : Collector) (limits : Is
 
       few_closed : AreFew (Unit {0}) script c (length old.rows.stops + 1)
       few_closed =
-          let count : length a.heap.segments.segments ≡ script.config.segments = stands_within.kept.sound.count ∙
-          ap (λ (l : Layout). l.segments) stands_within.kept.layout in
+          let count : length a.heap.segments.segments ≡ script.config.segments = cc (stands_within.kept.sound.count, stands_within.kept.layout) in
           closing_few script a c (length old.rows.stops + 1) number (words_in a.heap.words) first.allocation stands_within.heap.holds.stands count
           (left_marking first a first.progress stands_within.matches.phase stands_within.sweeper) closed few_within
 
       module _ (e : Collector) (ends : Ends number c.cycle.progress c e) where
         pub end_led : (t : State) × (rows : List CycleRow) × EndsOrWaits close_led.0.progress close_led.0 t rows ×
             (told_cycles e ≡ told_cycles c ++ rows) × StandsAt script e t
-        end_led = laws.ending script c e close_led.0 limits close_led.2 (subst (λ (n : ℕ). Ends n c.cycle.progress c e) (number_is ∙ sym b.number ∙
-            sym closed_on.0.number) ends)
+        end_led = laws.ending script c e close_led.0 limits close_led.2 (rw (number_is ∙ sym b.number ∙
+            sym closed_on.0.number) at ends)
 
         ended_on : KeepsOn close_led.0 end_led.0 × (end_led.0.allocation ≡ close_led.0.allocation)
         ended_on = ending_keeps close_led.0.progress close_led.0 end_led.0 end_led.1 end_led.2
@@ -195,8 +162,7 @@ module _ (laws : HasStopLaws) (script : Script) (old p : Collector) (limits : Is
 
           proceed_led : (t : State) × (rows : List CycleRow) × Proceeds (plan_of script) last_ended t rows ×
               (told_cycles n ≡ told_cycles e ++ rows) × StandsAt script n t
-          proceed_led = laws.proceeding script e n last_ended some limits stands_ended left_ended (subst (λ (k : ℕ).
-              ProceedsThen script.config.trigger some k e n) (number_is ∙ sym b.number ∙ sym number_on) proceeds)
+          proceed_led = laws.proceeding script e n last_ended some limits stands_ended left_ended (rw (number_is ∙ sym b.number ∙ sym number_on) at proceeds)
 
           proceeded_on : KeepsOn last_ended proceed_led.0
           proceeded_on = proceeding_keeps (plan_of script) last_ended proceed_led.0 proceed_led.1 proceed_led.2

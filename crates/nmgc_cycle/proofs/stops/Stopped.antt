@@ -1,19 +1,7 @@
 -- What a stop answers by the state that it came to, and its row.
-use Rattle.std.proofs.Common.{ℕ, ◌≡◌, ◌≤◌, ◌<◌, List, arith, refl, sym, ap, ◌∙◌, Bool, true, false}
-use Rattle.std.proofs.lemmas.Bool.{lt-ltb, le-ltb}
-use Rattle.std.specs.Prelude.{count_by, not, ◌&&◌, nat_lt, Some, None, if◌then◌else◌}
-use Rattle.nmgc_segment.specs.Segment.{Segment}
+use Rattle.nmgc_cycle.proofs.Vocabulary.{ℕ, ◌≡◌, ◌≤◌, ◌<◌, List, arith, refl, sym, ap, ◌∙◌, Bool, true, false, lt-ltb, le-ltb, count_by, not, ◌&&◌, nat_lt, if◌then◌else◌, Segment, is, Segments, StandsFor, counts_stand, HeapFull, Phase, Idle, StopRow, has_left, Plan, State, Progress, idle, marking, sweeping, is_idle, phase_of, free_count, reserve_of, stop_row, is_short, is_done, answer_of, Some, None}
+use Rattle.nmgc_journal.specs.declared.{report.End.TheVariants.Done, report.Phase.TheVariants.Marking, report.Phase.TheVariants.Sweeping}
 use Rattle.nmgc_segment.specs.declared.state.State.TheVariants as stands
-use Rattle.nmgc_alloc.specs.Numbered.{is, Segments}
-use Rattle.nmgc_alloc.specs.Stands.{StandsFor}
-use Rattle.nmgc_alloc.specs.laws.Keeping.{counts_stand}
-use Rattle.nmgc_journal.specs.declared.report.End.TheVariants.{Done, HeapFull}
-use Rattle.nmgc_journal.specs.declared.report.Phase.{Phase}
-use Rattle.nmgc_journal.specs.declared.report.Phase.TheVariants.{Idle, Marking, Sweeping}
-use Rattle.nmgc_journal.specs.declared.report.StopRow.{StopRow}
-use Rattle.nmgc_run_spec.specs.Slice.{has_left}
-use Rattle.nmgc_run_spec.specs.State.{Plan, State, Progress, idle, marking, sweeping, is_idle, phase_of, free_count, reserve_of}
-use Rattle.nmgc_run_spec.specs.Stop.{stop_row, is_short, is_done, answer_of}
 
 module _ (plan : Plan) (t : State) where
   -- whether it is short of segments
@@ -23,13 +11,11 @@ module _ (plan : Plan) (t : State) where
 
   pub is_short_by : (free reserve : ℕ) → has_left t.left ≡ true → free ≡ free_count t → reserve ≡ reserve_of plan → free < reserve → is_short plan t ≡ true
   is_short_by free reserve some f r less =
-      ap (λ (b : Bool). b && nat_lt (free_count t) (reserve_of plan)) some
-      ∙ lt-ltb (free_count t) (reserve_of plan) (omega (arith, f, r, less))
+      cc (some, lt-ltb (free_count t) (reserve_of plan) (omega (arith, f, r, less)))
 
   pub is_enough_by : (free reserve : ℕ) → has_left t.left ≡ true → free ≡ free_count t → reserve ≡ reserve_of plan → reserve ≤ free → is_short plan t ≡ false
   is_enough_by free reserve some f r more =
-      ap (λ (b : Bool). b && nat_lt (free_count t) (reserve_of plan)) some
-      ∙ le-ltb (free_count t) (reserve_of plan) (omega (arith, f, r, more))
+      cc (some, le-ltb (free_count t) (reserve_of plan) (omega (arith, f, r, more)))
 
   -- what it answers where it isn't: an end only where nothing is left and no cycle is in progress
 
@@ -55,9 +41,7 @@ module _ (plan : Plan) (t : State) where
   pub answers_full : (free reserve : ℕ) → free ≡ free_count t → reserve ≡ reserve_of plan → is_short plan t ≡ true →
       Some (HeapFull free reserve) ≡ answer_of plan t
   answers_full free reserve f r short =
-      ap (λ (n : ℕ). Some (HeapFull n reserve)) f
-      ∙ ap (λ (n : ℕ). Some (HeapFull (free_count t) n)) r
-      ∙ sym (ap (λ (b : Bool). if b then Some (HeapFull (free_count t) (reserve_of plan)) else (if is_done t then Some Done else None)) short)
+      cc (f, r, short)
 
 -- the phase tells whether a cycle is in progress
 
@@ -83,11 +67,4 @@ row_is t count stops free filled sweep many phase segments words shown phase_is 
     let free_is : free ≡ free_count t = f ∙ counts_stand segments words t.allocation stands.Free shown in
     let filled_is = i ∙ counts_stand segments words t.allocation stands.Filled shown in
     let sweep_is = w ∙ counts_stand segments words t.allocation stands.Sweeping shown in
-    ap (λ (n : ℕ). let r : StopRow = record { number = n; phase = phase; free = free; filled = filled; sweep = sweep; promoted = many } in r) (sym number)
-    ∙ ap (λ (p : Phase). let r : StopRow = record { number = t.number; phase = p; free = free; filled = filled; sweep = sweep; promoted = many } in r) phase_is
-    ∙ ap (λ (n : ℕ). let r : StopRow = record { number = t.number; phase = phase_of t.progress; free = n; filled = filled; sweep = sweep; promoted = many } in
-    r) free_is
-    ∙ ap (λ (n : ℕ). let r : StopRow = record { number = t.number; phase = phase_of t.progress; free = free_count t; filled = n; sweep = sweep; promoted = many } in
-    r) filled_is
-    ∙ ap (λ (n : ℕ). let r : StopRow = record (stop_row t many) { sweep = n } in r) sweep_is
-    ∙ ap (λ (n : ℕ). stop_row t n) m
+    cc (number, phase_is, free_is, filled_is, sweep_is, m)

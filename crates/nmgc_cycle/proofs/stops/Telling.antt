@@ -1,16 +1,6 @@
 -- What a collector tells, what is asked of it and what it answered say nothing of heap and cycle: with others in
 -- their place it stands for the same state still.
-use Rattle.std.proofs.Common.{◌≡◌, List, refl, sym, subst}
-use Rattle.nmgc_heap_spec.specs.Places.{Place}
-use Rattle.nmgc_script.specs.declared.script.Script.{Script}
-use Rattle.nmgc_collector_laws.specs.Collector.{HoldsInCycle, IsPacedAtStop}
-use Rattle.nmgc_run_laws.specs.Sound.{IsSoundState}
-use Rattle.nmgc_run_spec.specs.State.{State, Progress, idle, marking, sweeping, plan_of}
-use Rattle.nmgc_blocks_spec.specs.Cycle.{Cycle}
-use Rattle.nmgc_cycle.specs.declared.collector.Collector.{Collector}
-use Rattle.nmgc_cycle.specs.Keeps.{IsWellFormed, Sweeps}
-use Rattle.nmgc_cycle.specs.Shown.{seen}
-use Rattle.nmgc_cycle.specs.Steps.{StandsAt}
+use Rattle.nmgc_cycle.proofs.Vocabulary.{◌≡◌, List, refl, sym, subst, Place, Script, HoldsInCycle, IsPacedAtStop, IsSoundState, State, Progress, idle, marking, sweeping, plan_of, Cycle, Collector, IsWellFormed, Sweeps, seen, StandsAt}
 
 -- its parts are as they are to be, wherever its cycle stands
 pub kept_told : (script : Script) (old new : Collector) → new ≡ record old {
@@ -25,7 +15,7 @@ pub kept_told : (script : Script) (old new : Collector) → new ≡ record old {
   answered = new.answered;
 } → IsWellFormed script old →
     IsWellFormed script new
-kept_told script old new rest k = subst (λ (x : Collector). IsWellFormed script x) (sym rest) (record {
+kept_told script old new rest k = rw rest (record {
   layout = k.layout;
   sound = k.sound;
   lists = k.lists;

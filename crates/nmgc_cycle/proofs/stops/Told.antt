@@ -1,19 +1,6 @@
 -- The report of a run that has ended.
-use Rattle.std.proofs.Common.{ℕ, ◌≡◌, List, [], ◌∷◌, map, refl, sym, ap, ◌∙◌, Option, Some}
-use Rattle.nmgc_world_spec.specs.declared.value.Name.{Name}
-use Rattle.nmgc_journal.specs.declared.report.CycleRow.{CycleRow}
-use Rattle.nmgc_journal.specs.declared.report.MutatorEnd.{MutatorEnd}
-use Rattle.nmgc_journal.specs.declared.report.End.{End}
-use Rattle.nmgc_journal.specs.declared.report.End.TheVariants.{Done, HeapFull}
-use Rattle.nmgc_run_spec.specs.Lawful.{IsLawful}
-use Rattle.nmgc_collector_laws.specs.Seen.{ends_of}
-use Rattle.nmgc_heap_spec.specs.Places.{Place}
-use Rattle.nmgc_script.specs.declared.script.Script.{Script}
-use Rattle.nmgc_weak.specs.declared.weaks.OldWeak.{OldWeak}
-use Rattle.nmgc_weak.specs.Weaks.{names_of, places_of}
-use Rattle.nmgc_cycle.specs.declared.collector.Collector.{Collector}
-use Rattle.nmgc_cycle.specs.Keeps.{IsWellFormed, HasStopped, HasEnded}
-use Rattle.nmgc_cycle.specs.Shown.{seen, told_cycles, words_in, report_of}
+use Rattle.nmgc_cycle.proofs.Vocabulary.{ℕ, ◌≡◌, List, [], ◌∷◌, map, refl, sym, ap, ◌∙◌, Option, Some, Name, CycleRow, MutatorEnd, End, HeapFull, IsLawful, ends_of, Place, Script, OldWeak, names_of, places_of, Collector, IsWellFormed, HasStopped, HasEnded, seen, told_cycles, words_in, report_of}
+use Rattle.nmgc_journal.specs.declared.report.End.TheVariants.{Done}
 
 pub stopped_by : (script : Script) (c : Collector) (end : End) → HasEnded script c end → HasStopped script c × (c.answered ≡ Some end)
 stopped_by script c Done h = h

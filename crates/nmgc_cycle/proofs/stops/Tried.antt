@@ -1,35 +1,9 @@
 -- How often the mutators passed the gate: a stop's steps leave it, and a round adds what each tried.
-use Rattle.std.proofs.Common.{ℕ, ◌≡◌, ◌+◌, ◌-◌, ◌∙◌, Bool, inl, inr, List, [], ◌∷◌, length, map, slice_index, refl, sym, ap, subst, arith, Option, None, Some, Global}
-use Rattle.std.specs.Prelude.{slice_get}
-use Rattle.std.specs.declared.vec.Vec.{Vec}
-use Rattle.std.proofs.lemmas.Option.{slice_get_within, get_or_from_slice_get}
-use Rattle.nmgc_world_spec.specs.declared.command.Command.{Command}
-use Rattle.nmgc_heap_spec.specs.laws.Kinds.{map_item}
-use Rattle.nmgc_journal.specs.declared.report.RoundRows.{RoundRows}
-use Rattle.nmgc_object.specs.declared.layout.Nursery.{Nursery}
-use Rattle.nmgc_round.specs.Gate.{passed}
-use Rattle.nmgc_round.specs.View.{Opening}
-use Rattle.nmgc_mutator.specs.declared.mutator.Mutator.{Mutator}
-use Rattle.nmgc_mutator.specs.declared.mutator.SliceEnd.{SliceEnd}
+use Rattle.nmgc_cycle.proofs.Vocabulary.{ℕ, ◌≡◌, ◌+◌, ◌-◌, ◌∙◌, Bool, inl, inr, List, [], ◌∷◌, length, map, slice_index, refl, sym, ap, subst, arith, Option, None, Some, Global, slice_get, Vec, slice_get_within, get_or_from_slice_get, Command, map_item, RoundRows, Nursery, passed, Opening, Mutator, SliceEnd, Ended, tried, Script, Death, OldWeak, Collector, Doing, Closes, Ends, HasStarted, Begins, HasFinished, HasDoneFull, HaveForgotten, HaveMet, HaveQueueRoom, FinalisersQueued, promoted_by, turns_in, mutator_turns_of, AreReserved, DidSlices, HaveTried, cleared, left_at, item}
+use Rattle.nmgc_cycle.specs.Full.{ClosesNow, Proceeds, with_all_retired}
 use Rattle.nmgc_mutator.specs.declared.mutator.SliceEnd.TheVariants as ending
-use Rattle.nmgc_mutator.specs.Slice.{Ended, tried}
-use Rattle.nmgc_script.specs.declared.script.Script.{Script}
-use Rattle.nmgc_weak.specs.declared.weaks.Death.{Death}
-use Rattle.nmgc_weak.specs.declared.weaks.OldWeak.{OldWeak}
-use Rattle.nmgc_cycle.specs.declared.collector.Collector.{Collector}
-use Rattle.nmgc_cycle.specs.declared.progress.Progress.{Progress as Doing}
 use Rattle.nmgc_cycle.specs.declared.progress.Progress.TheVariants as doing
-use Rattle.nmgc_cycle.specs.Cycles.{Closes, Ends, HasStarted, Begins}
-use Rattle.nmgc_cycle.specs.Full.{ClosesNow, HasFinished, HasDoneFull, Proceeds, with_all_retired}
-use Rattle.nmgc_cycle.specs.Lined.{HaveForgotten, HaveMet}
-use Rattle.nmgc_cycle.specs.Listed.{HaveQueueRoom, FinalisersQueued}
-use Rattle.nmgc_cycle.specs.Roots.{promoted_by}
-use Rattle.nmgc_cycle.specs.Shown.{turns_in, mutator_turns_of}
-use Rattle.nmgc_cycle.specs.Working.{AreReserved, DidSlices, HaveTried, cleared, left_at}
-use Rattle.nmgc_lists.specs.laws.Items.{item}
-use Rattle.nmgc_cycle.proofs.lists.Mapped.{same_maps}
-use Rattle.nmgc_cycle.proofs.rounds.Reserved.{was_at}
-use Rattle.nmgc_cycle.proofs.stops.StopEnds.{IsStepped}
+use Rattle.nmgc_cycle.proofs.{lists.Mapped.same_maps, rounds.Reserved.was_at, stops.StopEnds.IsStepped}
 
 abbrev turns_by : Mutator → ℕ
 turns_by m = m.turns
@@ -146,8 +120,7 @@ tried_from script old listed roomy new first reserved second h = λ k m n e f.
     let there = was.1 in
     let same : was.0 ≡ m = cc (there, e) in
     let turns : x.0.turns ≡ m.turns = ap turns_by was.2.rest ∙ ap turns_by same in
-    let positions : roomy.positions.items ≡ old.positions.items = ap (λ (c : Collector). c.positions.items) second ∙
-    ap (λ (c : Collector). c.positions.items) first in
+    let positions : roomy.positions.items ≡ old.positions.items = cc (second, first) in
     let t = h k x.0 n (ap (λ (c : Collector). slice_get c.mutators.items k) second ∙ x.1) f in
     record {
       done = t.done;
@@ -162,7 +135,7 @@ tried_told : (script : Script) (old did : Collector) (mutators : Vec Mutator Glo
     mutators.items ≡ map cleared did.mutators.items → HaveTried script old did →
     HaveTried script old (record did { mutators = mutators; rows = record did.rows { rounds = rounds } })
 tried_told script old did mutators rounds same h = λ k m n e f.
-    let x = map_item cleared did.mutators.items k n (ap (λ (l : List Mutator). slice_get l k) (sym same) ∙ f) in
+    let x = map_item cleared did.mutators.items k n (cc (same, f)) in
     let t = h k m x.0 e x.1 in
     record {
       done = t.done;

@@ -1,12 +1,5 @@
 -- The steps of a stop together are a stop of the run.
-use Rattle.std.proofs.Common.{ℕ, ◌≡◌, List, ◌++◌, refl, ap, inl, inr}
-use Rattle.nmgc_world_spec.specs.World.{World}
-use Rattle.nmgc_journal.specs.declared.report.CycleRow.{CycleRow}
-use Rattle.nmgc_journal.specs.declared.report.StopRow.{StopRow}
-use Rattle.nmgc_script.specs.declared.script.Config.{Config}
-use Rattle.nmgc_run_spec.specs.Closing.{ClosesOrWaits}
-use Rattle.nmgc_run_spec.specs.Stop.{Promotes, IsStop, EndsOrWaits, BeginsOrWaits, Proceeds, stop_row}
-use Rattle.nmgc_run_spec.specs.State.{Plan, State, Progress, idle, marking, sweeping, layout_of}
+use Rattle.nmgc_cycle.proofs.Vocabulary.{ℕ, ◌≡◌, List, ◌++◌, refl, ap, inl, inr, World, CycleRow, StopRow, Config, ClosesOrWaits, Promotes, IsStop, EndsOrWaits, BeginsOrWaits, Proceeds, stop_row, Plan, State, Progress, idle, marking, sweeping, layout_of}
 
 -- what the steps after the promotion leave as it is
 pub record KeepsOn (s t : State) : Type 0 where

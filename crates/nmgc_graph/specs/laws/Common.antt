@@ -1,13 +1,6 @@
 -- Lemmas that crates above need too.
-use Rattle.std.proofs.Common.{◌≡◌, ap, Option, Some, None}
-use Rattle.std.specs.Prelude.{option_and_then}
-use Rattle.nmgc_world_spec.specs.declared.node.Parts.{Parts}
-use Rattle.nmgc_world_spec.specs.declared.node.Node.{Node}
-use Rattle.nmgc_world_spec.specs.declared.node.Node.TheVariants.{Con, Var, Arr, Thunk, Weak, Stack}
-use Rattle.nmgc_world_spec.specs.declared.value.Name.{Name}
-use Rattle.nmgc_world_spec.specs.World.{World, node_of}
-use Rattle.nmgc_world_spec.specs.Reach.{IsAlive}
-use Rattle.nmgc_graph.specs.Search.{parts_in, parts_of}
+use Rattle.std.specs.Prelude.{◌≡◌}
+use Rattle.nmgc_graph.specs.laws.Vocabulary.{ap, Option, Some, None, option_and_then, Parts, Node, Con, Var, Arr, Thunk, Weak, Stack, Name, World, node_of, IsAlive, parts_in, parts_of}
 
 -- the parts of a weak pointer are there where it is alive
 pub parts_alive : (o : Option Node) (parts : Parts) → option_and_then parts_in o ≡ Some parts → o ≡ Some (Weak (Some parts))

@@ -1,17 +1,6 @@
 -- A set of names as rows of marks: what adding a name changes, and listing the names.
-use Rattle.std.proofs.Common.{◌≡◌, ◌≢◌, ◌<◌, ◌≤◌, ◌+◌, ℕ, List, [], length, set, inl, inr, refl, sym, ◌∙◌, arith, Bool, true, false, not}
-use Rattle.std.specs.Prelude.{count_by, IsSome}
-use Rattle.std.proofs.lemmas.Bool.{cases_lt, cases_eq, false≢true}
-use Rattle.std.proofs.lemmas.Bool.Decides.{eqb_tells}
-use Rattle.std.proofs.lemmas.List.{get_or-set_same, get_or-set_other, get_or_past, length-set}
-use Rattle.std.proofs.lemmas.List.Sums.{sum_by-set}
-use Rattle.nmgc_limits.specs.declared.mutators.TheConstants.{SHARED_MAKER}
-use Rattle.nmgc_world_spec.specs.declared.value.Name.{Name}
-use Rattle.nmgc_world_spec.specs.World.{World, node_of, state_of}
-use Rattle.nmgc_graph.specs.Marks.{row_of, mark_of, IsMarked, HasPlace, with_mark, unmarked_count, HasPlaces}
-use Rattle.nmgc_world_spec.specs.Order.{ListsBefore}
-use Rattle.nmgc_world_spec.specs.laws.Orders.{lists_maker, same_name}
-use Rattle.nmgc_lists.specs.laws.Items.{get_is_some, count-set}
+use Rattle.std.specs.Prelude.{◌≡◌, ◌≢◌, ◌<◌, ◌≤◌, ◌+◌}
+use Rattle.nmgc_graph.specs.laws.Vocabulary.{ℕ, List, [], length, set, inl, inr, refl, sym, ◌∙◌, arith, Bool, true, false, not, count_by, IsSome, cases_lt, cases_eq, false≢true, eqb_tells, get_or-set_same, get_or-set_other, get_or_past, length-set, sum_by-set, SHARED_MAKER, Name, World, node_of, state_of, row_of, mark_of, IsMarked, HasPlace, with_mark, unmarked_count, HasPlaces, ListsBefore, lists_maker, same_name, get_is_some, count-set}
 
 -- a name of the set has a place
 pub marked_place : (marks : List (List Bool)) (name : Name) → IsMarked marks name → HasPlace marks name

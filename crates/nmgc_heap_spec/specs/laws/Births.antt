@@ -1,21 +1,7 @@
 -- An object is born: its name and its fields stood there, its header is written, and there is a place more.
-use Rattle.std.proofs.Common.{◌≡◌, ◌≢◌, ◌⊎◌, inl, inr, ℕ, ◌+◌, ◌<◌, ◌≤◌, List, set, refl, sym, ap, subst, ◌∙◌, arith, slice_index, Some, None, get_or-set_same, get_or-set_other, length-set}
-use Rattle.std.specs.Prelude.{slice_get, Contains, IsSome}
-use Rattle.nmgc_world_spec.specs.declared.value.Name.{Name}
-use Rattle.nmgc_world_spec.specs.declared.node.Node.{Node}
-use Rattle.nmgc_world_spec.specs.declared.node.Node.TheVariants.{Weak}
-use Rattle.nmgc_world_spec.specs.World.{World, node_of, IsWorld}
-use Rattle.nmgc_world_spec.specs.laws.Orders.{name_cases}
-use Rattle.nmgc_object.specs.Words.{header_word}
-use Rattle.nmgc_object.specs.declared.layout.Layout.{Layout}
-use Rattle.nmgc_object.specs.declared.size.TheConstants.{HEADER_WORDS}
-use Rattle.nmgc_heap_spec.specs.Shape.{Slot, unset, header_of, size_of, slots_of, fixed_slots}
-use Rattle.nmgc_heap_spec.specs.Tracked.{IsTracked}
-use Rattle.nmgc_heap_spec.specs.Places.{Place, Fills, HasSlots, LiesWell, IsBetween}
-use Rattle.nmgc_heap_spec.specs.Represents.{IsNamed, IsObject, IsPlaced, Represents}
-use Rattle.nmgc_heap_spec.specs.Changes.{AreEarlier, HaveHeaders, IsSpokenOf, IsBorn}
-use Rattle.nmgc_heap_spec.specs.laws.Slots.{fixed_own, slots_more}
-use Rattle.nmgc_heap_spec.specs.laws.Changes.{lies_within, not_between, still_object, still_placed}
+use Rattle.std.specs.Prelude.{◌≡◌, ◌≢◌, ◌⊎◌, ◌+◌, ◌<◌, ◌≤◌}
+use Rattle.nmgc_heap_spec.specs.laws.Vocabulary.{inl, inr, ℕ, List, set, refl, sym, ap, subst, ◌∙◌, arith, slice_index, Some, None, get_or-set_same, get_or-set_other, length-set, slice_get, Contains, IsSome, Name, Node, Weak, World, node_of, IsWorld, name_cases, header_word, Layout, HEADER_WORDS, Slot, unset, header_of, size_of, slots_of, fixed_slots, IsTracked, Place, Fills, HasSlots, LiesWell, IsBetween, IsNamed, IsObject, IsPlaced, Represents, AreEarlier, HaveHeaders, IsSpokenOf, IsBorn}
+use Rattle.nmgc_heap_spec.specs.laws.{Slots.fixed_own, Slots.slots_more, Changes.lies_within, Changes.not_between, Changes.still_object, Changes.still_placed}
 
 -- fewer words lie well too
 pub lies_less : (layout : Layout) (p : Place) (size n : ℕ) → n ≤ size → LiesWell layout p size → LiesWell layout p n
@@ -98,7 +84,7 @@ module _ (layout : Layout) (earlier : List World) (K L : Name → Node →
       IsObject layout places words p node → (q : Place) → Contains more q → (q.at ≤ p.at) ⊎ (p.at + size_of node ≤ q.at)
   alone_still p node c t is o q d = elim (b.place.no_other q d) [
     | inl old ↦ o.alone q old
-    | inr e ↦ subst (λ (y : Place). (y.at ≤ p.at) ⊎ (p.at + size_of node ≤ y.at)) e (elim (b.apart.objects p node c t is) [
+    | inr e ↦ rw (← e) (elim (b.apart.objects p node c t is) [
       | inl l ↦ inr l
       | inr l ↦
           inl (omega arith)

@@ -1,26 +1,7 @@
 -- What leaves the words standing for the world: nothing changes but what isn't told, or one field does.
-use Rattle.std.proofs.Common.{◌≡◌, ◌≢◌, ◌⊎◌, inl, inr, ℕ, ◌+◌, ◌-◌, ◌*◌, ◌<◌, ◌≤◌, List, set, refl, sym, ap, subst, ◌∙◌, arith, slice_index, Some, None, get_or-set_same, get_or-set_other, length-set, mul-le-mul_right}
-use Rattle.std.specs.Prelude.{slice_get, Contains, IsSome}
-use Rattle.std.proofs.lemmas.Bool.{cases_eq}
-use Rattle.std.proofs.lemmas.Option.{slice_get_within}
-use Rattle.nmgc_world_spec.specs.declared.value.Name.{Name}
-use Rattle.nmgc_world_spec.specs.declared.node.Node.{Node}
-use Rattle.nmgc_world_spec.specs.declared.node.Node.TheVariants.{Weak}
-use Rattle.nmgc_world_spec.specs.World.{World, node_of, IsWorld, IsNodeOf}
-use Rattle.nmgc_lists.specs.laws.Items.{contains_cases, at_some}
-use Rattle.nmgc_world_spec.specs.laws.Orders.{name_cases}
-use Rattle.nmgc_object.specs.Words.{header_word, IsHeader}
-use Rattle.nmgc_object.specs.Places.{word_total}
-use Rattle.nmgc_object.specs.declared.words.Header.{Header}
-use Rattle.nmgc_object.specs.declared.layout.Layout.{Layout}
-use Rattle.nmgc_object.specs.declared.size.TheConstants.{HEADER_WORDS}
-use Rattle.nmgc_heap_spec.specs.Shape.{Slot, unset, untold, header_of, size_of, slots_of, fixed_slots, free_slots, MayChange}
-use Rattle.nmgc_heap_spec.specs.Places.{Place, Fills, HasSlots, LiesWell, IsBetween}
-use Rattle.nmgc_heap_spec.specs.Represents.{IsObject, IsPlaced, Represents}
-use Rattle.nmgc_heap_spec.specs.Changes.{AreEarlier, HaveHeaders, IsSameHeap, Remembers, AgreeWhereTold, IsUnborn, ChangesField, DropsPlaces, AddsPlaces}
-use Rattle.nmgc_heap_spec.specs.laws.Slots.{slot_count, fixed_count, free_count, free_fixed, fixed_stays, fixed_own, slots_in, slots_more}
-use Rattle.nmgc_heap_spec.specs.laws.Tracking.{tracked_more, slot_tracked}
-use Rattle.nmgc_heap_spec.specs.laws.Meanings.{placed_at}
+use Rattle.std.specs.Prelude.{◌≡◌, ◌≢◌, ◌⊎◌, ◌+◌, ◌-◌, ◌*◌, ◌<◌, ◌≤◌}
+use Rattle.nmgc_heap_spec.specs.laws.Vocabulary.{inl, inr, ℕ, List, set, refl, sym, ap, subst, ◌∙◌, arith, slice_index, Some, None, get_or-set_same, get_or-set_other, length-set, mul-le-mul_right, slice_get, Contains, IsSome, cases_eq, slice_get_within, Name, Node, Weak, World, node_of, IsWorld, IsNodeOf, contains_cases, at_some, name_cases, header_word, IsHeader, word_total, Header, Layout, HEADER_WORDS, Slot, unset, untold, header_of, size_of, slots_of, fixed_slots, free_slots, MayChange, Place, Fills, HasSlots, LiesWell, IsBetween, IsObject, IsPlaced, Represents, AreEarlier, HaveHeaders, IsSameHeap, Remembers, AgreeWhereTold, IsUnborn, ChangesField, DropsPlaces, AddsPlaces}
+use Rattle.nmgc_heap_spec.specs.laws.{Slots.slot_count, Slots.fixed_count, Slots.free_count, Slots.free_fixed, Slots.fixed_stays, Slots.fixed_own, Slots.slots_in, Slots.slots_more, Tracking.tracked_more, Tracking.slot_tracked, Meanings.placed_at}
 
 -- an object lies within the words
 pub lies_within : (layout : Layout) (p : Place) (size : ℕ) → 1 ≤ size → LiesWell layout p size → p.at + size ≤ word_total layout
@@ -76,7 +57,7 @@ remembered layout earlier later K L places w words more r = record {
           | inl s ↦
               let now : node_of w name ≡ Some before = ap (λ (x : World). node_of x name) s ∙ was in
               let same : node ≡ before = let z : Some node ≡ Some before = sym is ∙ now in cc in
-              subst (λ (x : Node). HasSlots (Contains places) words (p.at + HEADER_WORDS) (free_slots x)) same (λ i slot f.
+              rw (← same) (λ i slot f.
               own i slot (free_fixed node i slot f))
           | inr d ↦ p.free e before d was
         ];
@@ -294,8 +275,7 @@ module _ (layout : Layout) (earlier : List World) (K : Name → Node →
     header = away p.at (λ e. omega arith) ∙ object.header ∙ ap header_word (sym c.at_one.header);
     valid = subst IsHeader (sym c.at_one.header) object.valid;
     lies = subst (λ (h : Header). LiesWell layout p (HEADER_WORDS + h.fields)) (sym c.at_one.header) object.lies;
-    alone = subst (λ (h : Header). (q : Place) → Contains places q → (q.at ≤ p.at) ⊎
-        (p.at + (HEADER_WORDS + h.fields) ≤ q.at)) (sym c.at_one.header) object.alone;
+    alone = rw c.at_one.header object.alone;
   }
 
   stays : (from : ℕ) → from ≡ p.at + HEADER_WORDS → (j : ℕ) → j ≢ i → slice_index us (from + j) ≡ slice_index words (from + j)
@@ -305,8 +285,7 @@ module _ (layout : Layout) (earlier : List World) (K : Name → Node →
   changed_fields j slot e = elim (cases_eq j i) [
     | inl same ↦
         let f : Fills (Contains places) word slot = c.field slot (subst (λ (k : ℕ). slice_get (slots_of made) k ≡ Some slot) same e) in
-        subst (λ (k : ℕ). Fills (Contains places) (slice_index us (p.at + HEADER_WORDS + k)) slot) (sym same) (subst (λ (k : ℕ).
-        Fills (Contains places) k slot) (sym at_cell) f)
+        rw same (rw at_cell f)
     | inr ne ↦ elim (c.at_one.rest j slot ne e) [
       | inl was ↦
           let before : HasSlots (Contains places) words (p.at + HEADER_WORDS) (slots_of node) =
@@ -321,8 +300,7 @@ module _ (layout : Layout) (earlier : List World) (K : Name → Node →
       (slot ≡ untold) ⊎ (slice_index us (mine.0.at + HEADER_WORDS + j) ≡ slice_index words (mine.0.at + HEADER_WORDS + j))
   fixed_or_untold before head j slot f = elim (cases_eq j i) [
     | inl same ↦
-        let may : MayChange (header_of before).kind j = subst (λ (k : ℕ).
-        MayChange (header_of before).kind k) (sym same) (subst (λ (h : Header). MayChange h.kind i) (sym head) c.at_one.may) in
+        let may : MayChange (header_of before).kind j = rw same (subst (λ (h : Header). MayChange h.kind i) (sym head) c.at_one.may) in
         inl (fixed_stays before j slot may f)
     | inr ne ↦ inr (stays (mine.0.at + HEADER_WORDS) (ap (λ (k : ℕ). k + HEADER_WORDS) mine.1) j ne)
   ]
@@ -345,8 +323,7 @@ module _ (layout : Layout) (earlier : List World) (K : Name → Node →
   dead_value dead =
       let head : header_of node ≡ header_of (Weak None) = sym c.at_one.header ∙ ap header_of dead in
       let one : i ≡ 1 = subst (λ (h : Header). MayChange h.kind i) head c.at_one.may in
-      let unset_there : slice_get (slots_of made) i ≡ Some unset = ap (λ (n : Node). slice_get (slots_of n) i) dead ∙
-      ap (λ (k : ℕ). slice_get (slots_of (Weak None)) k) one in
+      let unset_there : slice_get (slots_of made) i ≡ Some unset = cc (dead, one) in
       let z : word ≡ 0 = c.field unset unset_there in
       ap (λ (k : ℕ). slice_index us (p.at + HEADER_WORDS + k)) (sym one) ∙ at_cell ∙ z
 
@@ -363,8 +340,7 @@ module _ (layout : Layout) (earlier : List World) (K : Name → Node →
     tracked = λ name n t is. elim (name_cases name p.name) [
       | inl e ↦
           let m : made ≡ n = same_node n (subst (λ (x : Name). node_of v x ≡ Some n) e is) in
-          subst (λ (x : Name). IsPlaced layout earlier K places us x n) (sym e) (subst (λ (x : Node).
-          IsPlaced layout earlier K places us p.name x) m changed_placed)
+          rw e (rw m at changed_placed)
       | inr ne ↦
           let was : node_of w name ≡ Some n = sym (c.others name ne) ∙ is in
           let q = r.tracked name n (c.nothing_new name t) was in
@@ -375,8 +351,7 @@ module _ (layout : Layout) (earlier : List World) (K : Name → Node →
       | inl e ↦
           let same : p ≡ q = r.one p q c.there d (inl (sym e)) in
           let m : made ≡ n = same_node n (subst (λ (x : Name). node_of v x ≡ Some n) e is) in
-          subst (λ (x : Place). IsObject layout places us x n × (n ≡ Weak None → slice_index us (x.at + HEADER_WORDS + 1) ≡ 0)) same
-          (subst (λ (x : Node). IsObject layout places us p x × (x ≡ Weak None → slice_index us (p.at + HEADER_WORDS + 1) ≡ 0)) m (changed_object, dead_value))
+          rw (← same) (subst (λ (x : Node). IsObject layout places us p x × (x ≡ Weak None → slice_index us (p.at + HEADER_WORDS + 1) ≡ 0)) m (changed_object, dead_value))
       | inr ne ↦
           let was : node_of w q.name ≡ Some n = sym (c.others q.name ne) ∙ is in
           let h = r.born q n d young was in (

@@ -1,37 +1,7 @@
 -- Commands and closings track nothing new but what they make, and leave headers.
-use Rattle.std.proofs.Common.{◌≡◌, ◌≢◌, ◌⊎◌, inl, inr, ℕ, List, refl, sym, ap, subst, ◌∙◌, Option, Some}
-use Rattle.std.specs.Prelude.{Contains, IsSome}
-use Rattle.nmgc_limits.specs.declared.mutators.TheConstants.{SHARED_MAKER}
-use Rattle.nmgc_world_spec.specs.declared.value.Name.{Name}
-use Rattle.nmgc_world_spec.specs.declared.node.Node.{Node}
-use Rattle.nmgc_world_spec.specs.declared.node.Node.TheVariants.{Con, Var, Arr, Thunk, Weak, Stack}
-use Rattle.nmgc_world_spec.specs.declared.command.Command.{Command}
-use Rattle.nmgc_world_spec.specs.World.{World, node_of, state_of, IsWorld, IsNodeOf}
-use Rattle.nmgc_world_spec.specs.Change.{changed}
-use Rattle.nmgc_world_spec.specs.Step.{CanApply, next_name, with_new, born, step}
-use Rattle.nmgc_world_spec.specs.Reach.{closed, start, field, RefersTo}
-use Rattle.nmgc_world_laws.specs.laws.Growth.{step_grows}
-use Rattle.nmgc_lists.specs.laws.Items.{contains_head, contains_tail, at_some, is_some_of, slice_get-append_last as last_item}
-use Rattle.nmgc_world_spec.specs.laws.Orders.{name_cases}
-use Rattle.nmgc_world_laws.specs.laws.Worlds.{not_shared}
-use Rattle.nmgc_object.specs.declared.words.Header.{Header}
-use Rattle.nmgc_world_spec.specs.Wide.{IsWide}
-use Rattle.nmgc_world_laws.specs.Reachable.{HoldsOnly}
-use Rattle.nmgc_world_laws.specs.Shape.{kind_of, tag_of, part_count, SameShape, KeepsShapes}
-use Rattle.nmgc_world_laws.specs.laws.Steps.{Object}
-use Rattle.nmgc_world_laws.specs.laws.Keeps.{Any, stepped, hand_nodes, still_there}
-use Rattle.nmgc_world_laws.specs.laws.NodeLaws.{node_born, node_same, node_cases, next_is_new}
-use Rattle.nmgc_world_laws.specs.laws.HeldSteps.{absent, some_of, step_holds_only}
-use Rattle.nmgc_world_laws.specs.laws.Reached.{wide_is_held, from_there, closed_holds, wide_known, world_holds}
-use Rattle.nmgc_world_laws.specs.laws.Deaths.{closed_names}
-use Rattle.nmgc_world_laws.specs.laws.Shapes.{step_keeps_shapes, closing_keeps_shapes}
-use Rattle.nmgc_world_laws.specs.laws.WorldSteps.{step_keeps_world}
-use Rattle.nmgc_heap_spec.specs.Shape.{header_of}
-use Rattle.nmgc_heap_spec.specs.Tracked.{IsTracked}
-use Rattle.nmgc_heap_spec.specs.Represents.{IsEarlier}
-use Rattle.nmgc_heap_spec.specs.Commands.{NodeStep, none, change, birth, StepIsOne, StepChangesField, TrackedAreKnown, StepTracks, StepTracksNoMore, ClosingTracks, StepLeavesHeap, WorldIsEarlier, StepKeepsEarlier, ClosingKeepsEarlier, StepKeepsHeaders, ClosingKeepsHeaders}
-use Rattle.nmgc_heap_spec.specs.laws.Tracking.{tracked_in}
-use Rattle.nmgc_heap_spec.specs.laws.NodeChanges.{changed_one}
+use Rattle.std.specs.Prelude.{◌≡◌, ◌≢◌, ◌⊎◌}
+use Rattle.nmgc_heap_spec.specs.laws.Vocabulary.{inl, inr, ℕ, List, refl, sym, ap, subst, ◌∙◌, Option, Some, Contains, IsSome, SHARED_MAKER, Name, Node, Con, Var, Arr, Thunk, Weak, Stack, Command, World, node_of, state_of, IsWorld, IsNodeOf, changed, CanApply, next_name, with_new, born, step, closed, start, field, RefersTo, step_grows, contains_head, contains_tail, at_some, is_some_of, last_item, name_cases, not_shared, Header, IsWide, HoldsOnly, kind_of, tag_of, part_count, SameShape, KeepsShapes, Object, Any, stepped, hand_nodes, still_there, node_born, node_same, node_cases, next_is_new, absent, some_of, step_holds_only, wide_is_held, from_there, closed_holds, wide_known, world_holds, closed_names, step_keeps_shapes, closing_keeps_shapes, step_keeps_world, header_of, IsTracked, IsEarlier, NodeStep, none, change, birth, StepIsOne, StepChangesField, TrackedAreKnown, StepTracks, StepTracksNoMore, ClosingTracks, StepLeavesHeap, WorldIsEarlier, StepKeepsEarlier, ClosingKeepsEarlier, StepKeepsHeaders, ClosingKeepsHeaders}
+use Rattle.nmgc_heap_spec.specs.laws.{Tracking.tracked_in, NodeChanges.changed_one}
 
 -- tracked names are all that is held, and have what holds of all that is held
 pub tracked_holds : (w : World) (earlier : List World) → HoldsOnly (IsTracked w earlier) w

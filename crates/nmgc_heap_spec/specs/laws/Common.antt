@@ -1,20 +1,6 @@
 -- Lemmas that crates above need too.
-use Rattle.std.proofs.Common.{◌≡◌, ap, arith, ℕ, suc, List, [], ◌∷◌, length, get_or, refl, Some, inl, inr, subst, ◌+◌, ◌++◌, ◌*◌, ◌<◌, take, drop, sym, ◌∙◌, length-take-le, length-drop, get_or-drop, ◌-◌, ◌≤◌, mul-le-mul_right}
-use Rattle.std.specs.Prelude.{slice_get, Contains}
-use Rattle.std.specs.List.{flat_map}
-use Rattle.std.proofs.lemmas.List.{get_or-take, take-append-drop}
-use Rattle.std.proofs.lemmas.Option.{slice_get_within as got_below}
-use Rattle.nmgc_limits.specs.declared.mutators.TheConstants.{REGISTERS}
-use Rattle.nmgc_lists.specs.laws.Items.{contains_head, contains_tail, contains_cases}
-use Rattle.nmgc_world_spec.specs.declared.value.Name.{Name}
-use Rattle.nmgc_world_spec.specs.Step.{shared_name}
-use Rattle.nmgc_world_spec.specs.declared.value.Value.{Value}
-use Rattle.nmgc_world_spec.specs.declared.mutator_state.MutatorState.{MutatorState}
-use Rattle.nmgc_world_spec.specs.World.{no_mutator}
-use Rattle.nmgc_object.specs.Places.{InSegment, InNursery, word_total}
-use Rattle.nmgc_object.specs.declared.layout.Layout.{Layout}
-use Rattle.nmgc_heap_spec.specs.Samples.{own}
-use Rattle.nmgc_heap_spec.specs.Places.{Place, Means, ListMeans, AllMean, LiesWell}
+use Rattle.std.specs.Prelude.{◌≡◌, ◌∷◌, ◌+◌, ◌++◌, ◌*◌, ◌<◌, ◌-◌, ◌≤◌}
+use Rattle.nmgc_heap_spec.specs.laws.Vocabulary.{ap, arith, ℕ, suc, List, [], length, get_or, refl, Some, inl, inr, subst, take, drop, sym, ◌∙◌, length-take-le, length-drop, get_or-drop, mul-le-mul_right, slice_get, Contains, flat_map, get_or-take, take-append-drop, got_below, REGISTERS, contains_head, contains_tail, contains_cases, Name, shared_name, Value, MutatorState, no_mutator, InSegment, InNursery, word_total, Layout, own, Place, Means, ListMeans, AllMean, LiesWell}
 
 pub makers_differ : shared_name ≡ own 0 → ⊥
 makers_differ e = let makers = ap (λ (n : Name). n.maker) e in omega arith
@@ -75,8 +61,7 @@ flat_registers P (x ∷ xs) ws size h =
           let at : REGISTERS * suc m + i ≡ REGISTERS + (REGISTERS * m + i) = omega arith in
           subst (λ (y : ℕ). Means P y v) (ap (λ (j : ℕ). get_or ws j 0) at ∙ sym (get_or-drop REGISTERS ws (REGISTERS * m + i) 0)) (r.1 i v e),
     )) in
-    subst (λ (l : List ℕ). ListMeans P l (flat_map (λ (state : MutatorState). state.registers) (x ∷
-    xs))) (take-append-drop REGISTERS ws) (means_append P (take REGISTERS ws) (drop REGISTERS ws) x.registers
+    rw (take-append-drop REGISTERS ws) at (means_append P (take REGISTERS ws) (drop REGISTERS ws) x.registers
     (flat_map (λ (state : MutatorState). state.registers) xs) a b)
 
 -- what lies well lies within the words

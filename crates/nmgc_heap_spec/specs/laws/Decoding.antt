@@ -1,14 +1,7 @@
 -- Words that have a meaning are words of fields.
-use Rattle.std.proofs.Common.{ℕ, ◌+◌, ◌*◌, refl, ap, arith}
-use Rattle.nmgc_world_spec.specs.declared.value.Name.{Name}
+use Rattle.nmgc_heap_spec.specs.{laws.Vocabulary.ℕ, laws.Vocabulary.◌+◌, laws.Vocabulary.◌*◌, laws.Vocabulary.refl, laws.Vocabulary.ap, laws.Vocabulary.arith, laws.Vocabulary.Name, laws.Vocabulary.Node, laws.Vocabulary.HEADER_WORDS, laws.Vocabulary.Place, laws.Vocabulary.MeaningIsField, laws.Vocabulary.FieldHasMeaning, laws.Changes.lies_within, laws.Meanings.above_zero}
 use Rattle.nmgc_world_spec.specs.declared.value.Value.TheVariants as value
-use Rattle.nmgc_world_spec.specs.declared.node.Node.{Node}
 use Rattle.nmgc_object.specs.declared.words.Field.TheVariants as field
-use Rattle.nmgc_object.specs.declared.size.TheConstants.{HEADER_WORDS}
-use Rattle.nmgc_heap_spec.specs.Places.{Place}
-use Rattle.nmgc_heap_spec.specs.Statements.{MeaningIsField, FieldHasMeaning}
-use Rattle.nmgc_heap_spec.specs.laws.Changes.{lies_within}
-use Rattle.nmgc_heap_spec.specs.laws.Meanings.{above_zero}
 
 pub meaning_is_field : (K : Name → Node → Type 0) → MeaningIsField K
 meaning_is_field K layout earlier places w words sized r word value.Nil small m = (field.Nil, tt, tt, m)

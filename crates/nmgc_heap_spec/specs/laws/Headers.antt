@@ -1,9 +1,7 @@
 -- Valid headers with one word are one header.
-use Rattle.std.proofs.Common.{◌≡◌, ℕ, ◌+◌, ◌*◌, ◌<◌, refl, arith}
-use Rattle.nmgc_world_spec.specs.declared.node.Kind.{Kind}
+use Rattle.std.specs.Prelude.{◌≡◌, ◌+◌, ◌*◌, ◌<◌}
+use Rattle.nmgc_heap_spec.specs.laws.Vocabulary.{ℕ, refl, arith, Kind, kind_number, header_word, IsHeader, HasTag, Header}
 use Rattle.nmgc_world_spec.specs.declared.node.Kind.TheVariants.{Con, Var, Arr, Thunk, Weak, Stack}
-use Rattle.nmgc_object.specs.Words.{kind_number, header_word, IsHeader, HasTag}
-use Rattle.nmgc_object.specs.declared.words.Header.{Header}
 
 small_tag : (k : Kind) (tag : ℕ) → HasTag k tag → tag < 256
 small_tag Con tag h = h

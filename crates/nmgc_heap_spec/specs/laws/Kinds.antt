@@ -2,15 +2,8 @@
 --
 -- `HasSlots` serves all kinds at once. A step of a command knows the kind, and then wants the values: these
 -- lemmas go from one to the other.
-use Rattle.std.proofs.Common.{◌≡◌, ◌⊎◌, inl, inr, ℕ, zero, suc, ◌+◌, ◌-◌, ◌<◌, ◌≤◌, List, [], ◌∷◌, ◌++◌, length, map, replicate, refl, sym, subst, arith, slice_index, Some, None}
-use Rattle.std.specs.Prelude.{slice_get}
-use Rattle.std.proofs.lemmas.List.{length-map}
-use Rattle.nmgc_world_spec.specs.declared.value.Value.{Value}
-use Rattle.nmgc_world_spec.specs.declared.node.Node.{Node}
-use Rattle.nmgc_world_spec.specs.declared.node.Node.TheVariants.{Con, Var, Arr, Thunk, Weak, Stack}
-use Rattle.nmgc_heap_spec.specs.Shape.{Slot, holds, unset, untold, slots_of, fixed_slots, free_slots}
-use Rattle.nmgc_heap_spec.specs.Places.{Place, Means, Fills, HasSlots, AllMean}
-use Rattle.nmgc_lists.specs.laws.Items.{item_map, slice_get-append as item_left}
+use Rattle.std.specs.Prelude.{◌≡◌, ◌⊎◌, ◌+◌, ◌-◌, ◌<◌, ◌≤◌, ◌∷◌, ◌++◌}
+use Rattle.nmgc_heap_spec.specs.laws.Vocabulary.{inl, inr, ℕ, zero, suc, List, [], length, map, replicate, refl, sym, subst, arith, slice_index, Some, None, slice_get, length-map, Value, Node, Con, Var, Arr, Thunk, Weak, Stack, Slot, holds, unset, untold, slots_of, fixed_slots, free_slots, Place, Means, Fills, HasSlots, AllMean, item_map, item_left}
 
 pub map_item : {A B : Type 0} (f : A → B) (xs : List A) (i : ℕ) (y : B) → slice_get (map f xs) i ≡ Some y → (x : A) × (slice_get xs i ≡ Some x) × (y ≡ f x)
 map_item f [] i y e = absurd cc
@@ -152,16 +145,6 @@ module _ (P : Place → Type 0) (words : List ℕ) where
   slots_of_fields from (Weak (Some parts)) h = three from (holds parts.key) (holds parts.value) (holds parts.finaliser) h.0 h.1 h.2
   slots_of_fields from (Stack size values) h = stack_fills from size values h.0 h.1
 
-  pub kept_of_slots : (from : ℕ) (node : Node) → HasSlots P words from (fixed_slots node) → KeepsFields P words from node
-  kept_of_slots from (Con tag values) h = tt
-  kept_of_slots from (Var v) h = tt
-  kept_of_slots from (Arr values) h = tt
-  kept_of_slots from (Thunk free None) h = slots_mean (from + 1) free (slots_rest from untold (map holds free) h)
-  kept_of_slots from (Thunk free (Some result)) h = tt
-  kept_of_slots from (Weak None) h = tt
-  kept_of_slots from (Weak (Some parts)) h = (slot_first from (holds parts.key) (untold ∷ holds parts.finaliser ∷ []) h, h 2 (holds parts.finaliser) refl)
-  kept_of_slots from (Stack size values) h = tt
-
   pub slots_of_kept : (from : ℕ) (node : Node) → KeepsFields P words from node → HasSlots P words from (fixed_slots node)
   slots_of_kept from (Con tag values) h = slots_none from
   slots_of_kept from (Var v) h = slots_none from
@@ -180,12 +163,3 @@ module _ (P : Place → Type 0) (words : List ℕ) where
   free_of_slots from (Thunk free (Some result)) h = tt
   free_of_slots from (Weak parts) h = tt
   free_of_slots from (Stack size values) h = tt
-
-  pub slots_of_free : (from : ℕ) (node : Node) → KeepsFree P words from node → HasSlots P words from (free_slots node)
-  slots_of_free from (Con tag values) h = slots_none from
-  slots_of_free from (Var v) h = slots_none from
-  slots_of_free from (Arr values) h = slots_none from
-  slots_of_free from (Thunk free None) h = slots_cons from untold (map holds free) tt (values_fill (from + 1) free h)
-  slots_of_free from (Thunk free (Some result)) h = slots_none from
-  slots_of_free from (Weak parts) h = slots_none from
-  slots_of_free from (Stack size values) h = slots_none from

@@ -1,25 +1,8 @@
 -- What words mean is one thing: a place has one name, a word one meaning, and tracked names one node.
-use Rattle.std.proofs.Common.{◌≡◌, ◌≢◌, inl, inr, ℕ, suc, ◌+◌, ◌-◌, ◌≤◌, List, [], ◌∷◌, ◌++◌, length, map, replicate, refl, sym, ap, subst, ◌∙◌, arith, slice_index, Some, None, get_or}
-use Rattle.std.specs.Prelude.{slice_get, Contains}
-use Rattle.std.proofs.lemmas.Bool.{cases_lt}
-use Rattle.std.proofs.lemmas.Option.{slice_get-get_or}
-use Rattle.nmgc_world_spec.specs.declared.value.Name.{Name}
-use Rattle.nmgc_world_spec.specs.declared.value.Value.{Value}
+use Rattle.std.specs.Prelude.{◌≡◌, ◌≢◌, ◌+◌, ◌-◌, ◌≤◌, ◌∷◌, ◌++◌}
+use Rattle.nmgc_heap_spec.specs.laws.Vocabulary.{inl, inr, ℕ, suc, List, [], length, map, replicate, refl, sym, ap, subst, ◌∙◌, arith, slice_index, Some, None, get_or, slice_get, Contains, cases_lt, slice_get-get_or, Name, Value, Node, Con, Var, Arr, Thunk, Weak, Stack, World, node_of, IsWorld, IsNodeOf, IsSized, at_some, header_word, Header, Layout, HEADER_WORDS, Slot, holds, unset, untold, header_of, slots_of, Place, Means, Fills, HasSlots, AllMean, ListMeans, LiesWell, IsTracked, IsPlaced, Represents}
 use Rattle.nmgc_world_spec.specs.declared.value.Value.TheVariants as value
-use Rattle.nmgc_world_spec.specs.declared.node.Node.{Node}
-use Rattle.nmgc_world_spec.specs.declared.node.Node.TheVariants.{Con, Var, Arr, Thunk, Weak, Stack}
-use Rattle.nmgc_world_spec.specs.World.{World, node_of, IsWorld, IsNodeOf, IsSized}
-use Rattle.nmgc_lists.specs.laws.Items.{at_some}
-use Rattle.nmgc_object.specs.Words.{header_word}
-use Rattle.nmgc_object.specs.declared.words.Header.{Header}
-use Rattle.nmgc_object.specs.declared.layout.Layout.{Layout}
-use Rattle.nmgc_object.specs.declared.size.TheConstants.{HEADER_WORDS}
-use Rattle.nmgc_heap_spec.specs.Shape.{Slot, holds, unset, untold, header_of, slots_of}
-use Rattle.nmgc_heap_spec.specs.Places.{Place, Means, Fills, HasSlots, AllMean, ListMeans, LiesWell}
-use Rattle.nmgc_heap_spec.specs.Tracked.{IsTracked}
-use Rattle.nmgc_heap_spec.specs.Represents.{IsPlaced, Represents}
-use Rattle.nmgc_heap_spec.specs.laws.Headers.{same_header}
-use Rattle.nmgc_heap_spec.specs.laws.Kinds.{HasFields, AreUnset, fields_of_slots}
+use Rattle.nmgc_heap_spec.specs.laws.{Headers.same_header, Kinds.HasFields, Kinds.AreUnset, Kinds.fields_of_slots}
 
 -- a place where an object may lie isn't word 0
 pub lies_above : (layout : Layout) (p : Place) (size : ℕ) → 1 ≤ size → LiesWell layout p size → 1 ≤ p.at
@@ -110,8 +93,7 @@ module _ (P : Place → Type 0) (one : (p q : Place) → P p → P q → p.at �
         let x : p.key ≡ q.key = one_value (slice_index words from) p.key q.key a.0 b.0 in
         let y : p.value ≡ q.value = one_value (slice_index words (from + 1)) p.value q.value a.1 b.1 in
         let w : p.finaliser ≡ q.finaliser = one_value (slice_index words (from + 2)) p.finaliser q.finaliser a.2 b.2 in
-        ap (λ (k : Value). holds k ∷ holds p.value ∷ holds p.finaliser ∷ []) x ∙
-        ap (λ (k : Value). holds q.key ∷ holds k ∷ holds p.finaliser ∷ []) y ∙ ap (λ (k : Value). holds q.key ∷ holds q.value ∷ holds k ∷ []) w
+        cc (x, y, w)
     one_node from (Weak p) _ h s z a b = let k = ap (λ (x : Header). x.kind) h in absurd cc
     one_node from (Stack m us) (Stack n vs) h s z a b =
         let size : m ≡ n = ap (λ (x : Header). x.fields) h in
@@ -144,13 +126,11 @@ pub one_world : (layout : Layout) (earlier earlier' : List World) (K K' : Name �
 one_world layout earlier earlier' K K' places w v words world world' r s name a b t u is is' =
     let p = r.tracked name a t is in
     let q = placed_at layout earlier' K' places v words s name b p.at u is' p.there in
-    let header : header_of a ≡ header_of b = same_header (header_of a) (header_of b) p.object.valid q.0.object.valid (sym p.object.header ∙
-    ap (λ (k : ℕ). slice_index words k) (sym q.1) ∙ q.0.object.header) in
+    let header : header_of a ≡ header_of b = same_header (header_of a) (header_of b) p.object.valid q.0.object.valid (cc (p.object.header, q.1, q.0.object.header)) in
     let of = at_some (node_of w name) a (IsNodeOf w) is (world.nodes name) in
     let of' = at_some (node_of v name) b (IsNodeOf v) is' (world'.nodes name) in
     let mine = fields_of_slots (Contains places) words (p.at + HEADER_WORDS) a p.fields in
-    let other = fields_of_slots (Contains places) words (p.at + HEADER_WORDS) b (subst (λ (k : ℕ).
-    HasSlots (Contains places) words (k + HEADER_WORDS) (slots_of b)) q.1 q.0.fields) in (
+    let other = fields_of_slots (Contains places) words (p.at + HEADER_WORDS) b (rw q.1 at q.0.fields) in (
       header,
       one_node (Contains places) (one_at layout earlier K places w words r) (above_zero layout earlier K places w words r) words
           (p.at + HEADER_WORDS) a b header of.sized of'.sized mine other,

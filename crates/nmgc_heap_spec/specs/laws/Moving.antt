@@ -2,30 +2,9 @@
 --
 -- Nothing goes step by step here: every new word is a function of an old one, and each tracked object
 -- stands at one new place. So each part of the claim is read off the part of the same name before.
-use Rattle.std.proofs.Common.{◌≡◌, ◌<◌, ◌≤◌, ◌+◌, ◌*◌, ℕ, List, [], ◌∷◌, length, map, inl, inr, refl, sym, ap, subst, ◌∙◌, arith, ◌⊎◌, Some, None}
-use Rattle.std.specs.Prelude.{Contains, slice_index, filter, nat_lt, IsSome}
-use Rattle.std.proofs.lemmas.Bool.{ltb-true, lt-ltb, cases_lt}
-use Rattle.std.proofs.lemmas.Option.{slice_get_within}
-use Rattle.std.proofs.lemmas.List.{get_or-map}
-use Rattle.std.proofs.lemmas.List.Elements.{All-contains, Contains-append_left, Contains-append_right, Contains-append_cases}
-use Rattle.nmgc_world_spec.specs.declared.value.Name.{Name}
-use Rattle.nmgc_world_spec.specs.declared.value.Value.{Value}
-use Rattle.nmgc_world_spec.specs.declared.value.Value.TheVariants.{Nil, Number, Ref}
-use Rattle.nmgc_world_spec.specs.declared.node.Node.{Node}
-use Rattle.nmgc_world_spec.specs.declared.node.Node.TheVariants.{Weak}
-use Rattle.nmgc_world_spec.specs.World.{World, node_of, held_by, IsKnown, IsNodeOf, IsWorld}
-use Rattle.nmgc_lists.specs.laws.Items.{contains_head, contains_tail, at_some, is_some_of, contains_at as contains_read, map_contains, filter_contains, contains_filter, contains_map}
-use Rattle.nmgc_object.specs.Words.{header_word}
-use Rattle.nmgc_object.specs.Places.{InNursery, nursery_place}
-use Rattle.nmgc_object.specs.declared.layout.Layout.{Layout}
-use Rattle.nmgc_object.specs.declared.size.TheConstants.{HEADER_WORDS}
-use Rattle.nmgc_heap_spec.specs.Shape.{Slot, holds, unset, untold, header_of, slots_of, free_slots}
-use Rattle.nmgc_heap_spec.specs.Tracked.{IsTracked}
-use Rattle.nmgc_heap_spec.specs.Places.{Place, AllMean, ListMeans, Fills, HasSlots, LiesWell}
-use Rattle.nmgc_heap_spec.specs.Represents.{NoNode, IsNamed, IsObject, IsPlaced, Represents}
-use Rattle.nmgc_heap_spec.specs.Moves.{Moved, Moves, StillSpoken, Copies, KeepsObject, new_place, old_place, settled}
-use Rattle.nmgc_heap_spec.specs.laws.Slots.{slot_count, free_count, free_held, strong_held}
-use Rattle.nmgc_heap_spec.specs.laws.Tracking.{slot_tracked, tracked_more}
+use Rattle.std.specs.Prelude.{◌≡◌, ◌<◌, ◌≤◌, ◌+◌, ◌*◌, ◌∷◌, ◌⊎◌}
+use Rattle.nmgc_heap_spec.specs.laws.Vocabulary.{ℕ, List, [], length, map, inl, inr, refl, sym, ap, subst, ◌∙◌, arith, Some, None, Contains, filter, nat_lt, IsSome, ltb-true, lt-ltb, cases_lt, slice_get_within, get_or-map, All-contains, Contains-append_left, Contains-append_right, Contains-append_cases, Name, Value, Nil, Number, Ref, Node, Weak, World, node_of, held_by, IsKnown, IsNodeOf, IsWorld, contains_head, contains_tail, at_some, is_some_of, contains_read, map_contains, filter_contains, contains_filter, contains_map, header_word, InNursery, nursery_place, Layout, HEADER_WORDS, Slot, holds, unset, untold, header_of, slots_of, free_slots, IsTracked, Place, AllMean, ListMeans, Fills, HasSlots, LiesWell, NoNode, IsNamed, IsObject, IsPlaced, Represents, Moved, Moves, StillSpoken, Copies, KeepsObject, new_place, old_place, settled, slice_index}
+use Rattle.nmgc_heap_spec.specs.laws.{Slots.slot_count, Slots.free_count, Slots.free_held, Slots.strong_held, Tracking.slot_tracked, Tracking.tracked_more}
 
 -- where a place afterwards comes from
 pub settled_cases : (base : ℕ) (moves : List Moved) (places : List Place) (q : Place) → Contains (settled base moves places) q →
@@ -140,8 +119,7 @@ module _ (layout : Layout) (base : ℕ) (later earlier : List World) (K : Name �
       let within : i < (header_of node).fields = omega (arith, few, slice_get_within (slots_of node) i slot e) in
       elim (keeps.fields i within) [
         | inl f ↦ rw f (fills_after (slice_index old (at + HEADER_WORDS + i)) slot (λ n s from there.
-            inr (slot_tracked w later name node n t is (subst (λ (x : Slot).
-            Contains (slots_of node) x) s (contains_read (slots_of node) i slot e)))) (has i slot e))
+            inr (slot_tracked w later name node n t is (rw s at (contains_read (slots_of node) i slot e)))) (has i slot e))
         | inr f ↦ rw f.0 (fills_same (slice_index old (at + HEADER_WORDS + i)) slot (λ n s from there. f.1 (record { at = from; name = n }) (e ∙
             ap Some s) there) (has i slot e))
       ]

@@ -1,23 +1,8 @@
 -- Whatever a command does to a node, it changes one field of its object at most, and one that may change.
-use Rattle.std.proofs.Common.{◌≡◌, ◌≢◌, ◌⊎◌, inl, inr, ℕ, zero, suc, ◌+◌, ◌-◌, ◌<◌, ◌≤◌, List, [], ◌∷◌, ◌++◌, length, map, set, take, replicate, refl, sym, ap, subst, ◌∙◌, arith, Bool, true, false, cond, eqb, ltb, Option, Some, None, length-set, length-append}
-use Rattle.std.specs.Prelude.{slice_get}
-use Rattle.std.proofs.lemmas.Bool.{ltb-true}
-use Rattle.std.proofs.lemmas.List.{length-map}
-use Rattle.std.proofs.lemmas.Option.{slice_get_within}
-use Rattle.nmgc_world_spec.specs.declared.value.Value.{Value}
-use Rattle.nmgc_world_spec.specs.declared.node.Node.{Node}
-use Rattle.nmgc_world_spec.specs.declared.node.Parts.{Parts}
-use Rattle.nmgc_world_spec.specs.declared.node.Node.TheVariants.{Con, Var, Arr, Thunk, Weak, Stack}
-use Rattle.nmgc_world_spec.specs.declared.command.Reply.{Reply}
-use Rattle.nmgc_world_spec.specs.declared.command.Reply.TheVariants.{Yes, No}
-use Rattle.nmgc_world_spec.specs.declared.change.Change.{Change}
+use Rattle.std.specs.Prelude.{◌≡◌, ◌≢◌, ◌⊎◌, ◌+◌, ◌-◌, ◌<◌, ◌≤◌, ◌∷◌, ◌++◌}
+use Rattle.nmgc_heap_spec.specs.laws.Vocabulary.{inl, inr, ℕ, zero, suc, List, [], length, map, set, take, replicate, refl, sym, ap, subst, ◌∙◌, arith, Bool, true, false, cond, eqb, ltb, Option, Some, None, length-set, length-append, slice_get, ltb-true, length-map, slice_get_within, Value, Node, Parts, Con, Var, Arr, Thunk, Weak, Stack, Reply, Yes, No, Change, IsSized, is_same, exchanged_at, field_set, field_exchanged, thunk_updated, stack_pushed, stack_popped, without_last, weak_finalised, changed, slice_get-set_other, item_map, item_left, Slot, holds, unset, untold, ChangesAt}
 use Rattle.nmgc_world_spec.specs.declared.change.Change.TheVariants as change
-use Rattle.nmgc_world_spec.specs.World.{IsSized}
-use Rattle.nmgc_world_spec.specs.Change.{is_same, exchanged_at, field_set, field_exchanged, thunk_updated, stack_pushed, stack_popped, without_last, weak_finalised, changed}
-use Rattle.nmgc_lists.specs.laws.Items.{slice_get-set_other, item_map, slice_get-append as item_left}
 use Rattle.nmgc_world_spec.specs.declared.node.Kind.TheVariants as kind
-use Rattle.nmgc_heap_spec.specs.Shape.{Slot, holds, unset, untold}
-use Rattle.nmgc_heap_spec.specs.Changes.{ChangesAt}
 use Rattle.nmgc_heap_spec.specs.laws.Kinds.{map_item, item_right, item_cases, item_all, all_item}
 
 -- the node is as it was, or one field changed
@@ -70,7 +55,7 @@ stack_slots size values v j slot lt ne e =
           let z : length (map holds (values ++ v ∷ [])) + k ≡ j = omega (arith, r.1, m, m', n) in
           let b = item_right (map holds (values ++ v ∷ [])) (replicate (size - length (values ++ v ∷
           [])) unset) k unset (item_all (size - length (values ++ v ∷ [])) k unset (omega (arith, r.1, m, n, a.1))) in
-          subst (λ (i : ℕ). slice_get (map holds (values ++ v ∷ []) ++ replicate (size - length (values ++ v ∷ [])) unset) i ≡ Some slot) z (b ∙
+          rw z at (b ∙
           ap Some (sym a.0))
     ]
 
@@ -123,8 +108,7 @@ pop_one size values fits = elim (last_apart values) [
       let p = popped_one size h.0 h.1 (omega arith) in
       inr (
         length h.0,
-        subst (λ (l : List Value). ChangesAt (length h.0) (Stack size values) (Stack size l)) (sym h.3) (subst (λ (l : List Value).
-            ChangesAt (length h.0) (Stack size l) (Stack size h.0)) (sym h.2) p),
+        rw h.3 (rw h.2 p),
       )
 ]
 

@@ -1,36 +1,7 @@
 -- What is outside the words: roots, where places change, and the list of weak pointers.
-use Rattle.std.proofs.Common.{◌≡◌, inl, inr, ℕ, zero, suc, ◌+◌, ◌-◌, ◌*◌, ◌<◌, ◌≤◌, List, [], ◌∷◌, ◌++◌, length, map, replicate, refl, sym, ap, subst, ◌∙◌, arith, slice_index, Some, None, get_or}
-use Rattle.std.specs.Prelude.{slice_get, Contains}
-use Rattle.std.proofs.lemmas.Bool.{cases_lt}
-use Rattle.std.proofs.lemmas.List.{length-map}
-use Rattle.std.proofs.lemmas.Option.{slice_get-get_or}
-use Rattle.std.proofs.lemmas.List.Elements.{Contains-append_left, Contains-append_right}
-use Rattle.nmgc_limits.specs.declared.mutators.TheConstants.{REGISTERS, SHARED_MAKER}
-use Rattle.nmgc_world_spec.specs.declared.value.Name.{Name}
-use Rattle.nmgc_world_spec.specs.declared.value.Value.{Value}
-use Rattle.nmgc_world_spec.specs.declared.value.Value.TheVariants.{Ref}
-use Rattle.nmgc_world_spec.specs.declared.node.Node.{Node}
-use Rattle.nmgc_world_spec.specs.declared.node.Node.TheVariants.{Con, Var, Arr, Thunk, Weak, Stack}
-use Rattle.nmgc_world_spec.specs.declared.node.Parts.{Parts}
-use Rattle.nmgc_world_spec.specs.declared.mutator_state.MutatorState.{MutatorState}
-use Rattle.nmgc_world_spec.specs.World.{World, state_of, node_of, no_mutator, IsWorld, IsShared}
-use Rattle.nmgc_world_spec.specs.Reach.{strong_fields, RefersTo, start, field, IsRoot, IsAlive, IsAliveWeak}
-use Rattle.nmgc_lists.specs.laws.Items.{contains_head, is_some_get, is_some_of, item_map, slice_get-append as item_left, contains_at as contains_read}
-use Rattle.nmgc_object.specs.Places.{InSegment, InNursery, nursery_place}
-use Rattle.nmgc_object.specs.declared.layout.Layout.{Layout}
-use Rattle.nmgc_world_spec.specs.Wide.{IsWide, IsWideRoot, IsOfWeak}
-use Rattle.nmgc_heap_spec.specs.Shape.{holds, unset, untold, header_of, slots_of}
-use Rattle.nmgc_heap_spec.specs.Tracked.{IsTracked}
-use Rattle.nmgc_heap_spec.specs.Places.{Place, ListMeans}
-use Rattle.nmgc_heap_spec.specs.Represents.{Represents}
-use Rattle.nmgc_heap_spec.specs.Roots.{RepresentsRoots, ListsWeaks}
-use Rattle.nmgc_heap_spec.specs.Moves.{Moved, Moves, StillSpoken, settled}
-use Rattle.nmgc_heap_spec.specs.Changes.{DropsPlaces}
-use Rattle.nmgc_heap_spec.specs.laws.Kinds.{map_item}
-use Rattle.nmgc_heap_spec.specs.laws.Slots.{means_in}
-use Rattle.nmgc_heap_spec.specs.laws.Tracking.{reached_in, tracked_in, slot_tracked}
-use Rattle.nmgc_heap_spec.specs.laws.Meanings.{one_at, above_zero, one_list, one_row, one_world}
-use Rattle.nmgc_heap_spec.specs.laws.Moving.{all_mean_after, list_means_after}
+use Rattle.std.specs.Prelude.{◌≡◌, ◌+◌, ◌-◌, ◌*◌, ◌<◌, ◌≤◌, ◌∷◌, ◌++◌}
+use Rattle.nmgc_heap_spec.specs.laws.Vocabulary.{inl, inr, ℕ, zero, suc, List, [], length, map, replicate, refl, sym, ap, subst, ◌∙◌, arith, slice_index, Some, None, get_or, slice_get, Contains, cases_lt, length-map, slice_get-get_or, Contains-append_left, Contains-append_right, REGISTERS, SHARED_MAKER, Name, Value, Ref, Node, Con, Var, Arr, Thunk, Weak, Stack, Parts, MutatorState, World, state_of, node_of, no_mutator, IsWorld, IsShared, strong_fields, RefersTo, start, field, IsRoot, IsAlive, IsAliveWeak, contains_head, is_some_get, is_some_of, item_map, item_left, contains_read, InSegment, InNursery, nursery_place, Layout, IsWide, IsWideRoot, IsOfWeak, holds, unset, untold, header_of, slots_of, IsTracked, Place, ListMeans, Represents, RepresentsRoots, ListsWeaks, Moved, Moves, StillSpoken, settled, DropsPlaces}
+use Rattle.nmgc_heap_spec.specs.laws.{Kinds.map_item, Slots.means_in, Tracking.reached_in, Tracking.tracked_in, Tracking.slot_tracked, Meanings.one_at, Meanings.above_zero, Meanings.one_list, Meanings.one_row, Meanings.one_world, Moving.all_mean_after, Moving.list_means_after}
 
 -- what roots refer to is in the wide reach, and so tracked
 pub root_wide : (w : World) (m : ℕ) (n : Name) → Contains ((state_of w m).registers ++ (state_of w m).queue) (Ref n) → IsWide w n
@@ -63,8 +34,7 @@ roots_in places others w registers queues serials told r = record {
   mutators = r.mutators;
   held = λ m lt i v e.
       means_in (Contains places) (Contains others) (slice_index registers (REGISTERS * m + i)) v
-      (λ n at s. told n at (root_wide w m n (Contains-append_left (state_of w m).registers (state_of w m).queue (Ref n) (subst (λ (u : Value).
-      Contains (state_of w m).registers u) s (contains_read (state_of w m).registers i v e)))))
+      (λ n at s. told n at (root_wide w m n (Contains-append_left (state_of w m).registers (state_of w m).queue (Ref n) (rw s at (contains_read (state_of w m).registers i v e)))))
       (r.held m lt i v e);
   queued = λ m own e. list_in (Contains places) (Contains others) own (state_of w m).queue (λ n at c.
       told n at (root_wide w m n (Contains-append_right (state_of w m).registers (state_of w m).queue (Ref n) c))) (r.queued m own e);
@@ -99,8 +69,7 @@ roots_moved layout base later earlier K places w moves forward old new registers
       (omega arith) (roots.held k lt);
   queued = λ k own e.
       let x = map_item (map forward) queues k own e in
-      subst (λ (l : List ℕ). ListMeans (Contains (settled base moves places)) l (state_of w k).queue) (sym x.2)
-      (list_means_after layout base later earlier K places w moves forward old new world spoken emptied r m x.0 (state_of w k).queue
+      rw x.2 (list_means_after layout base later earlier K places w moves forward old new world spoken emptied r m x.0 (state_of w k).queue
       (λ n c. wide_tracked w later n (root_wide w k n (Contains-append_right (state_of w k).registers (state_of w k).queue (Ref n) c)))
       (roots.queued k x.0 x.1));
   next = roots.next;
@@ -152,8 +121,7 @@ module _ (layout : Layout) (K L : Name → Node →
   same_root n (inr (m, c)) = elim (cases_lt m (length w.mutators)) [
     | inl lt ↦
         let e : (state_of w m).registers ++ (state_of w m).queue ≡ (state_of v m).registers ++ (state_of v m).queue =
-        ap (λ (l : List Value). l ++ (state_of w m).queue) (same_registers m lt) ∙
-        ap (λ (l : List Value). (state_of v m).registers ++ l) (same_queues m lt) in
+        cc (same_registers m lt, same_queues m lt) in
         inr (m, subst (λ (l : List Value). Contains l (Ref n)) e c)
     | inr le ↦
         let none : state_of w m ≡ no_mutator = get_or_past w.mutators m no_mutator le in

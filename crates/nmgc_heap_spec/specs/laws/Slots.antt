@@ -1,19 +1,6 @@
 -- What the slots of a node hold, how many they are, and when words fill them still.
-use Rattle.std.proofs.Common.{◌≡◌, ◌+◌, ◌≤◌, ◌-◌, ℕ, zero, suc, List, [], ◌∷◌, length, map, replicate, inl, inr, refl, sym, subst, arith, ◌⊎◌, Some, None, length-append}
-use Rattle.std.specs.Prelude.{Contains, slice_get, slice_index}
-use Rattle.std.proofs.lemmas.List.{length-map, length-replicate}
-use Rattle.std.proofs.lemmas.List.Elements.{All-replicate, All-contains, Contains-append_cases}
-use Rattle.nmgc_world_spec.specs.declared.value.Name.{Name}
-use Rattle.nmgc_world_spec.specs.declared.value.Value.{Value}
-use Rattle.nmgc_world_spec.specs.declared.value.Value.TheVariants.{Nil, Number, Ref}
-use Rattle.nmgc_world_spec.specs.declared.node.Parts.{Parts}
-use Rattle.nmgc_world_spec.specs.declared.node.Node.{Node}
-use Rattle.nmgc_world_spec.specs.declared.node.Node.TheVariants.{Con, Var, Arr, Thunk, Weak, Stack}
-use Rattle.nmgc_world_spec.specs.World.{held_by, IsSized}
-use Rattle.nmgc_world_spec.specs.Reach.{strong_fields}
-use Rattle.nmgc_lists.specs.laws.Items.{contains_head, contains_tail, contains_cases, nothing_in as no_more, contains_at as contains_read}
-use Rattle.nmgc_heap_spec.specs.Shape.{Slot, holds, unset, untold, header_of, slots_of, fixed_slots, free_slots, MayChange}
-use Rattle.nmgc_heap_spec.specs.Places.{Place, Means, Fills, HasSlots, ListMeans}
+use Rattle.std.specs.Prelude.{◌≡◌, ◌+◌, ◌≤◌, ◌-◌, ◌∷◌, ◌⊎◌}
+use Rattle.nmgc_heap_spec.specs.laws.Vocabulary.{ℕ, zero, suc, List, [], length, map, replicate, inl, inr, refl, sym, subst, arith, Some, None, length-append, Contains, slice_get, length-map, length-replicate, All-replicate, All-contains, Contains-append_cases, Name, Value, Nil, Number, Ref, Parts, Node, Con, Var, Arr, Thunk, Weak, Stack, held_by, IsSized, strong_fields, contains_head, contains_tail, contains_cases, no_more, contains_read, Slot, holds, unset, untold, header_of, slots_of, fixed_slots, free_slots, MayChange, Place, Means, Fills, HasSlots, ListMeans, slice_index}
 
 -- what slots hold that were made of values is one of the values
 held_one : (values : List Value) (v : Value) → Contains (map holds values) (holds v) → Contains values v
@@ -52,28 +39,6 @@ slot_held (Stack size values) v c = elim (Contains-append_cases (map holds value
   | inl d ↦ inl (held_one values v d)
   | inr d ↦ absurd (none_held (size - length values) unset v (λ e. cc) d)
 ]
-
--- a fixed slot holds a value that the node holds
-pub fixed_held : (node : Node) (v : Value) → Contains (fixed_slots node) (holds v) → Contains (held_by node) v
-fixed_held (Con tag values) v c = absurd (no_more (holds v) c)
-fixed_held (Var x) v c = absurd (no_more (holds v) c)
-fixed_held (Arr values) v c = absurd (no_more (holds v) c)
-fixed_held (Thunk free None) v c = elim (contains_cases untold (map holds free) (holds v) c) [
-  | inl e ↦ absurd cc
-  | inr d ↦ held_one free v d
-]
-fixed_held (Thunk free (Some result)) v c = absurd (no_more (holds v) c)
-fixed_held (Weak None) v c = absurd (no_more (holds v) c)
-fixed_held (Weak (Some parts)) v c = elim (contains_cases (holds parts.key) (untold ∷ holds parts.finaliser ∷ []) (holds v) c) [
-  | inl e ↦ let same : parts.key ≡ v = cc in subst (λ (u : Value).
-      Contains (parts.key ∷ parts.value ∷ parts.finaliser ∷ []) u) same (contains_head parts.key (parts.value ∷ parts.finaliser ∷ []))
-  | inr d ↦ elim (contains_cases untold (holds parts.finaliser ∷ []) (holds v) d) [
-    | inl e ↦ absurd cc
-    | inr f ↦ contains_tail parts.key (parts.value ∷ parts.finaliser ∷
-        []) v (contains_tail parts.value (parts.finaliser ∷ []) v (held_one (parts.finaliser ∷ []) v f))
-  ]
-]
-fixed_held (Stack size values) v c = absurd (no_more (holds v) c)
 
 -- a free variable is a fixed slot, which a node without a result has as a strong field
 pub free_fixed : (node : Node) (i : ℕ) (slot : Slot) → slice_get (free_slots node) i ≡ Some slot → slice_get (fixed_slots node) i ≡ Some slot
@@ -193,8 +158,8 @@ module _ (P Q : Place → Type 0) where
       HasSlots P words from slots → HasSlots Q us from slots
   slots_in words us from slots told same h i slot e = elim (same i slot e) [
     | inl u ↦ subst (λ (s : Slot). Fills Q (slice_index us (from + i)) s) (sym u) tt
-    | inr w ↦ subst (λ (k : ℕ). Fills Q k slot) (sym w) (fills_in (slice_index words (from + i)) slot (λ n at s.
-        told n at (subst (λ (x : Slot). Contains slots x) s (contains_read slots i slot e))) (h i slot e))
+    | inr w ↦ rw w (fills_in (slice_index words (from + i)) slot (λ n at s.
+        told n at (rw s at (contains_read slots i slot e))) (h i slot e))
   ]
 
   module _ (more : (p : Place) → P p → Q p) where

@@ -1,17 +1,5 @@
 -- Which names are tracked, where worlds are fewer or a world changes.
-use Rattle.std.proofs.Common.{◌≡◌, List, [], ◌∷◌, inl, inr, sym, subst, Some}
-use Rattle.std.specs.Prelude.{Contains}
-use Rattle.nmgc_world_spec.specs.declared.value.Name.{Name}
-use Rattle.nmgc_world_spec.specs.declared.value.Value.TheVariants.{Ref}
-use Rattle.nmgc_world_spec.specs.declared.node.Node.{Node}
-use Rattle.nmgc_world_spec.specs.declared.node.Node.TheVariants.{Weak}
-use Rattle.nmgc_world_spec.specs.World.{World, node_of}
-use Rattle.nmgc_world_spec.specs.Reach.{RefersTo, IsReached, start, field}
-use Rattle.nmgc_lists.specs.laws.Items.{contains_head, contains_tail, contains_cases, nothing_in as no_more}
-use Rattle.nmgc_world_spec.specs.Wide.{IsWide, IsWideRoot, IsOfWeak}
-use Rattle.nmgc_heap_spec.specs.Shape.{holds, slots_of, free_slots}
-use Rattle.nmgc_heap_spec.specs.Tracked.{IsTracked, IsWideIn}
-use Rattle.nmgc_heap_spec.specs.laws.Slots.{slot_held, free_held}
+use Rattle.nmgc_heap_spec.specs.{laws.Vocabulary.◌≡◌, laws.Vocabulary.List, laws.Vocabulary.[], laws.Vocabulary.◌∷◌, laws.Vocabulary.inl, laws.Vocabulary.inr, laws.Vocabulary.sym, laws.Vocabulary.subst, laws.Vocabulary.Some, laws.Vocabulary.Contains, laws.Vocabulary.Name, laws.Vocabulary.Ref, laws.Vocabulary.Node, laws.Vocabulary.Weak, laws.Vocabulary.World, laws.Vocabulary.node_of, laws.Vocabulary.RefersTo, laws.Vocabulary.IsReached, laws.Vocabulary.start, laws.Vocabulary.field, laws.Vocabulary.contains_head, laws.Vocabulary.contains_tail, laws.Vocabulary.contains_cases, laws.Vocabulary.no_more, laws.Vocabulary.IsWide, laws.Vocabulary.IsWideRoot, laws.Vocabulary.IsOfWeak, laws.Vocabulary.holds, laws.Vocabulary.slots_of, laws.Vocabulary.free_slots, laws.Vocabulary.IsTracked, laws.Vocabulary.IsWideIn, laws.Slots.slot_held, laws.Slots.free_held}
 
 -- what more names reach is more
 pub reached_more : (w : World) (P Q : Name → Type 0) → ((n : Name) → P n → Q n) → (name : Name) → IsReached w P name → IsReached w Q name

@@ -1,21 +1,7 @@
 -- What is within the limits of a script has words: a valid header, and an object that fits a segment. And
 -- the parts of an object lie where parts lie.
-use Rattle.std.specs.Prelude.{Contains, slice_index}
-use Rattle.std.proofs.Common.{◌≡◌, ℕ, ◌+◌, ◌≤◌, length, refl, sym, ap, subst, ◌∙◌, arith, inl, inr, Some}
-use Rattle.nmgc_world_spec.specs.declared.value.Name.{Name}
-use Rattle.nmgc_world_spec.specs.declared.node.Node.{Node}
-use Rattle.nmgc_world_spec.specs.declared.node.Node.TheVariants.{Con, Var, Arr, Thunk, Weak, Stack}
-use Rattle.nmgc_world_spec.specs.World.{node_of, IsShared}
-use Rattle.nmgc_world_spec.specs.Step.{shared_name}
-use Rattle.nmgc_world_spec.specs.laws.Orders.{name_cases}
-use Rattle.nmgc_lists.specs.laws.Items.{at_some}
-use Rattle.nmgc_object.specs.Words.{header_word, IsHeader}
-use Rattle.nmgc_object.specs.declared.size.TheConstants.{HEADER_WORDS}
-use Rattle.nmgc_world_laws.specs.Limits.{IsNodeWithin}
-use Rattle.nmgc_world_laws.specs.Shape.{words_of}
-use Rattle.nmgc_heap_spec.specs.Shape.{header_of, size_of, slots_of}
-use Rattle.nmgc_heap_spec.specs.Places.{HasSlots, LiesWell}
-use Rattle.nmgc_heap_spec.specs.Written.{HeaderIsShape, NodeIsWritten, WorldIsWritten, PartsAreWritten}
+use Rattle.std.specs.Prelude.{◌≡◌, ◌+◌, ◌≤◌}
+use Rattle.nmgc_heap_spec.specs.laws.Vocabulary.{Contains, ℕ, length, refl, sym, ap, subst, ◌∙◌, arith, inl, inr, Some, Name, Node, Con, Var, Arr, Thunk, Weak, Stack, node_of, IsShared, shared_name, name_cases, at_some, header_word, IsHeader, HEADER_WORDS, IsNodeWithin, words_of, header_of, size_of, slots_of, HasSlots, LiesWell, HeaderIsShape, NodeIsWritten, WorldIsWritten, PartsAreWritten, slice_index}
 use Rattle.nmgc_heap_spec.specs.laws.Meanings.{placed_at}
 
 pub header_is_shape : HeaderIsShape

@@ -1,8 +1,6 @@
 -- Words that begin as those of a heap with g: word 0, g, and zeros up to the first segment.
-use Rattle.std.proofs.Common.{ℕ, zero, suc, ◌≡◌, ◌+◌, ◌-◌, ◌<◌, ◌∙◌, List, ◌∷◌, ◌++◌, length, replicate, slice_index, inl, inr, refl, ap, arith}
-use Rattle.std.proofs.lemmas.List.{get_or_append_left, get_or-append-add, get_or-replicate}
-use Rattle.nmgc_limits.specs.declared.mutators.TheConstants.{SHARED_SLOTS}
-use Rattle.nmgc_heap_spec.specs.Places.{HasZeros}
+use Rattle.std.specs.Prelude.{◌≡◌, ◌+◌, ◌-◌, ◌<◌, ◌∷◌, ◌++◌}
+use Rattle.nmgc_heap_spec.specs.laws.Vocabulary.{ℕ, zero, suc, ◌∙◌, List, length, replicate, slice_index, inl, inr, refl, ap, arith, get_or_append_left, get_or-append-add, get_or-replicate, SHARED_SLOTS, HasZeros}
 
 -- the words beside g are 0 there
 pub zeros_first : (header name : ℕ) (slots rest : List ℕ) → length slots ≡ SHARED_SLOTS →

@@ -1,11 +1,6 @@
 -- What lists contain, by parts, and their items by place.
-use Rattle.std.proofs.Common.{◌≡◌, List, [], ◌∷◌, refl, None, ℕ, subst, Some, ◌≢◌, ◌≤◌, length, arith, ◌+◌, ◌++◌, ◌-◌, zero, suc, inl, inr, ◌⊎◌, ◌<◌, get_or, set, Bool, true, false, cond, not, Option, ap, map, sym, slice_index, ◌∙◌, take}
-use Rattle.std.specs.Prelude.{slice_get, All, IfSome, Contains, count_by, IsSome, filter, option_to_list, flat_map}
-use Rattle.std.proofs.lemmas.Option.{get_or_from_slice_get, slice_get_within, slice_get-get_or}
-use Rattle.std.proofs.lemmas.List.Elements.{All-cons, All-nil, All-head, All-tail, Contains-append_left, Contains-append_right, Contains-append_cases, Contains-push_cases}
-use Rattle.std.proofs.lemmas.List.Sums.{sum_by-set}
-use Rattle.std.proofs.lemmas.Bool.{cases_Bool, cases_eq}
-use Rattle.std.specs.List.{AllByRecursion}
+use Rattle.std.specs.Prelude.{◌≡◌, ◌∷◌, ◌≢◌, ◌≤◌, ◌+◌, ◌++◌, ◌-◌, ◌⊎◌, ◌<◌}
+use Rattle.nmgc_lists.specs.laws.Vocabulary.{List, [], refl, None, ℕ, subst, Some, length, arith, zero, suc, inl, inr, get_or, set, Bool, true, false, cond, not, Option, ap, map, sym, slice_index, ◌∙◌, take, slice_get, All, IfSome, Contains, count_by, IsSome, filter, option_to_list, flat_map, get_or_from_slice_get, slice_get_within, slice_get-get_or, All-cons, All-nil, All-head, All-tail, Contains-append_left, Contains-append_right, Contains-append_cases, Contains-push_cases, sum_by-set, cases_Bool, cases_eq, AllByRecursion}
 
 -- a list without a first item is empty
 pub none_first : {A : Type 0} (xs : List A) → slice_get xs 0 ≡ None → xs ≡ []

@@ -1,6 +1,6 @@
 -- Options: what is there, and that nothing is not something.
-use Rattle.std.proofs.Common.{◌≡◌, ap, Option, Some, None, Bor}
-use Rattle.std.specs.Prelude.{option_copied, is_some, IsSome}
+use Rattle.std.specs.Prelude.{◌≡◌}
+use Rattle.nmgc_lists.specs.laws.Vocabulary.{ap, Option, Some, None, Bor, option_copied, is_some, IsSome}
 
 -- a reference is there exactly where what it points to is
 pub copied_is_some : {A : Type 0} (r : Option (Bor A)) (o : Option A) → option_copied r ≡ o → is_some r ≡ is_some o

@@ -1,7 +1,6 @@
 -- Tests: what one that passes tells, and what two tell together.
-use Rattle.std.proofs.Common.{◌≡◌, true, false, IsTrue, refl, Bool, sym, cond, ◌⊎◌, inl, inr, ℕ, ◌∙◌, not}
-use Rattle.std.specs.Prelude.{◌&&◌, ◌||◌, ◌==◌}
-use Rattle.std.proofs.lemmas.Bool.{cases_eq, ne_eqb}
+use Rattle.std.specs.Prelude.{◌≡◌, ◌⊎◌, ◌&&◌, ◌||◌, ◌==◌}
+use Rattle.nmgc_lists.specs.laws.Vocabulary.{true, false, IsTrue, refl, Bool, sym, cond, inl, inr, ℕ, ◌∙◌, not, cases_eq, ne_eqb}
 
 -- what fails can't have passed
 pub never : {A : Type 0} → IsTrue false → A

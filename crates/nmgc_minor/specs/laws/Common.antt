@@ -2,8 +2,7 @@
 use Rattle.std.proofs.Common.{◌≡◌, List, [], ◌∷◌, map, refl, ap}
 use Rattle.nmgc_world_spec.specs.declared.value.Name.{Name}
 use Rattle.nmgc_heap_spec.specs.Moves.{Moved}
-use Rattle.nmgc_minor.specs.declared.placing.Move.{Move}
-use Rattle.nmgc_minor.specs.Placing.{moved_of}
+use Rattle.nmgc_minor.specs.{declared.placing.Move.Move, Placing.moved_of}
 
 -- the names of the moves, as they are told twice
 pub names_twice : (moves : List Move) → map (λ (m : Moved). m.name) (map moved_of moves) ≡ map (λ (m : Move). m.name) moves

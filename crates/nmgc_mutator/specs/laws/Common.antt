@@ -1,13 +1,6 @@
 -- Lemmas that crates above need too.
-use Rattle.std.proofs.Common.{◌≡◌, ◌*◌, ◌+◌, ◌/◌, ◌%◌, ◌<◌, ◌≤◌, ◌&&◌, ℕ, true, eqb, leb, arith, eq-eqb, le-leb, List, [], ◌∷◌, refl, ◌∙◌, subst, sym, false, ne_eqb}
-use Rattle.std.proofs.lemmas.Bool.{and_from}
-use Rattle.nmgc_object.specs.declared.layout.Layout.{Layout}
-use Rattle.nmgc_object.specs.declared.layout.TheConstants.{FIRST_PLACE}
-use Rattle.nmgc_object.specs.Places.{nursery_place}
-use Rattle.nmgc_object.specs.declared.words.Address.{Address}
-use Rattle.nmgc_mutator.specs.Records.{is_old, numbers}
-use Rattle.nmgc_mutator.specs.declared.mutator.Mutator.{Mutator}
-use Rattle.nmgc_mutator.specs.Ready.{IsNew, Reserves}
+use Rattle.std.specs.Prelude.{◌≡◌, ◌*◌, ◌+◌, ◌/◌, ◌%◌, ◌<◌, ◌≤◌, ◌&&◌, ◌∷◌}
+use Rattle.nmgc_mutator.specs.laws.Vocabulary.{ℕ, true, eqb, leb, arith, eq-eqb, le-leb, List, [], refl, ◌∙◌, false, ne_eqb, and_from, Layout, FIRST_PLACE, nursery_place, Address, is_old, numbers, Mutator, IsNew, Reserves}
 
 -- a word of an object in a segment
 pub old_word : (layout : Layout) (at : ℕ) → FIRST_PLACE ≤ at → at < nursery_place layout 0 → is_old layout (2 * at) ≡ true
@@ -24,7 +17,7 @@ none_told (a ∷ l) e = absurd cc
 
 -- a new mutator with room in its lists
 pub reserved : (number : ℕ) (layout : Layout) (old m : Mutator) → IsNew number layout old → Reserves old m → IsNew number layout m
-reserved number layout old m h r = subst (λ (x : Mutator). IsNew number layout x) (sym r.rest) (record {
+reserved number layout old m h r = rw r.rest (record {
   number_is = h.number_is;
   layout_is = h.layout_is;
   registers = h.registers;

@@ -1,7 +1,6 @@
 -- Words that take the places of as many others.
-use Rattle.std.proofs.Common.{ℕ, ◌≡◌, ◌++◌, List, length, take, drop, ap, sym, ◌∙◌}
-use Rattle.std.proofs.Math.Seq.{take-append_seam}
-use Rattle.std.specs.List.{refill}
+use Rattle.std.specs.Prelude.{◌≡◌, ◌++◌}
+use Rattle.nmgc_mutator.specs.laws.Vocabulary.{ℕ, List, length, take, drop, ap, sym, ◌∙◌, take-append_seam, refill}
 
 -- none of the old ones is left
 pub refill_all : (old words : List ℕ) → length words ≡ length old → refill (length old) old words ≡ words

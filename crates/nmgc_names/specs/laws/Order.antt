@@ -1,16 +1,6 @@
 -- Names in order: which names they are, that each stands before the next, and that there is one such list.
-use Rattle.std.proofs.Common.{ℕ, ◌≡◌, ◌⊎◌, ◌↔◌, ◌+◌, ◌<◌, ◌≤◌, ◌∙◌, inl, inr, refl, sym, ap, subst, arith, List, [], ◌∷◌, cond, Bool, true, false, sum_by}
-use Rattle.std.specs.Prelude.{Contains, nat_lt, ◌==◌, ◌||◌, ◌&&◌}
-use Rattle.std.proofs.lemmas.Bool.{cases_Bool, cases_lt, lt-ltb, le-ltb, eq-eqb}
-use Rattle.std.proofs.lemmas.List.Sums.{sum_by-cons}
-use Rattle.nmgc_world_spec.specs.declared.value.Name.{Name}
-use Rattle.nmgc_world_spec.specs.Reach.{IsBefore, IsInOrder, Lists}
-use Rattle.nmgc_world_spec.specs.laws.Orders.{same_name, before_trans, not_before_itself, in_order_cons, in_order_first, in_order_rest}
-use Rattle.nmgc_lists.specs.laws.Items.{contains_head, contains_tail, contains_cases}
-use Rattle.nmgc_world_spec.specs.Listing.{AreDistinct}
-use Rattle.nmgc_names.specs.Order.{is_before, put, in_order}
-use Rattle.nmgc_lists.specs.laws.Truths.{and_both, eq_true, or_first, or_second}
-use Rattle.nmgc_world_laws.specs.laws.Distinct.{in_order_distinct, before_cases as which_first}
+use Rattle.std.specs.Prelude.{◌≡◌, ◌⊎◌, ◌↔◌, ◌+◌, ◌<◌, ◌≤◌, ◌∷◌, ◌==◌, ◌||◌, ◌&&◌}
+use Rattle.nmgc_names.specs.laws.Vocabulary.{ℕ, ◌∙◌, inl, inr, refl, sym, ap, subst, arith, List, [], cond, Bool, true, false, sum_by, Contains, nat_lt, cases_Bool, cases_lt, lt-ltb, le-ltb, eq-eqb, sum_by-cons, Name, IsBefore, IsInOrder, Lists, same_name, before_trans, not_before_itself, in_order_cons, in_order_first, in_order_rest, contains_head, contains_tail, contains_cases, AreDistinct, is_before, put, in_order, and_both, eq_true, or_first, or_second, in_order_distinct, which_first}
 
 -- what the test tells
 and_true : (x y : Bool) → x ≡ true → y ≡ true → (x && y) ≡ true

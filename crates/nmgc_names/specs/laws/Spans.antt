@@ -1,26 +1,6 @@
 -- Names in spans: what a span has, how spans grow, and that spans in order have their names in order where none stands twice.
-use Rattle.std.proofs.Common.{ℕ, zero, suc, ◌≡◌, ◌+◌, ◌-◌, ◌<◌, ◌≤◌, ◌∙◌, inl, inr, refl, sym, ap, subst, arith, List, [], ◌∷◌, ◌++◌, length, set, get_or, Some, false, append-nil, append_assoc, sum_by}
-use Rattle.std.specs.Prelude.{Contains, slice_get, slice_index_or}
-use Rattle.std.specs.List.Sorted.{IsPermutation}
-use Rattle.std.specs.Ordering.{nat_cmp, ordering_then, is_lt}
-use Rattle.std.specs.declared.cmp.Ordering.{Ordering}
-use Rattle.std.specs.declared.cmp.Ordering.TheVariants.{Less, Equal, Greater}
-use Rattle.std.proofs.lemmas.Bool.{cases_lt}
-use Rattle.std.proofs.lemmas.Cmp.{ranked}
-use Rattle.std.proofs.lemmas.Grind.{flat_map-append}
-use Rattle.std.proofs.lemmas.Option.{get_or_from_slice_get, slice_get_within}
-use Rattle.std.proofs.lemmas.List.Concat.{length-flat_map}
-use Rattle.std.proofs.lemmas.List.Elements.{Contains-append_right, Contains-append_cases}
-use Rattle.std.proofs.lemmas.List.Sums.{sum_by-cons, sum_by-append}
-use Rattle.std.proofs.lemmas.List.Sorted.{sum_by-IsPermutation}
-use Rattle.nmgc_world_spec.specs.declared.value.Name.{Name}
-use Rattle.nmgc_world_spec.specs.Reach.{IsBefore}
-use Rattle.nmgc_world_spec.specs.Listing.{AreDistinct}
-use Rattle.nmgc_world_spec.specs.laws.Orders.{same_name}
-use Rattle.nmgc_lists.specs.laws.Items.{contains_head, contains_tail, contains_cases, contains_flat, flat_contains}
-use Rattle.nmgc_names.specs.declared.span.Span.{Span}
-use Rattle.nmgc_names.specs.Order.{in_order}
-use Rattle.nmgc_names.specs.Spans.{named, names_from, names_of, names_in, AreSorted}
+use Rattle.std.specs.Prelude.{◌≡◌, ◌+◌, ◌-◌, ◌<◌, ◌≤◌, ◌∷◌, ◌++◌}
+use Rattle.nmgc_names.specs.laws.Vocabulary.{ℕ, zero, suc, ◌∙◌, inl, inr, refl, sym, ap, subst, arith, List, [], length, set, get_or, Some, false, append-nil, append_assoc, sum_by, Contains, slice_get, slice_index_or, IsPermutation, nat_cmp, ordering_then, is_lt, Ordering, Less, Equal, Greater, cases_lt, ranked, flat_map-append, get_or_from_slice_get, slice_get_within, length-flat_map, Contains-append_right, Contains-append_cases, sum_by-cons, sum_by-append, sum_by-IsPermutation, Name, IsBefore, AreDistinct, same_name, contains_head, contains_tail, contains_cases, contains_flat, flat_contains, Span, in_order, named, names_from, names_of, names_in, AreSorted}
 use Rattle.nmgc_names.specs.laws.Order.{IsSteady, still_not, steady_in_order, one_if, many, many_in_order, one_steady, once_many, many_once}
 
 -- THE NAMES OF A SPAN

@@ -1,14 +1,6 @@
 -- The classes of blocks: how they rise, which of them a segment has, and what an object leaves of its block.
-use Rattle.std.proofs.Common.{ℕ, zero, suc, ◌≡◌, ◌+◌, ◌-◌, ◌*◌, ◌^◌, ◌<◌, ◌≤◌, ◌↔◌, ◌⊎◌, inl, inr, refl, ap, subst, sym, arith, count_by, nat_le, ◌/◌, ◌%◌, ◌∙◌, IsTrue, rules, tests, count_ones, lit≤}
-use lib.Count.{ones}
-use Rattle.std.specs.Int.{is_power_of_two, IsPowerOfTwo}
-use Rattle.std.specs.List.{range_with_len}
-use Rattle.std.proofs.Math.Nat.{pow-le-pow_right}
-use Rattle.std.proofs.lemmas.Nat.{pow-add, pow_below, ones_cat, zero_from_ones, mod-mul-add, mod_below}
-use Rattle.std.proofs.lemmas.Bool.{cases_order, cases_lt, cases_eq, le-leb, lt-leb}
-use Rattle.nmgc_object.specs.Size.{block_size, IsClassOf}
-use Rattle.nmgc_object.specs.Places.{IsLayout, IsSegmentSize, class_count}
-use Rattle.nmgc_object.specs.declared.layout.Layout.{Layout}
+use Rattle.std.specs.Prelude.{◌≡◌, ◌+◌, ◌-◌, ◌*◌, ◌^◌, ◌<◌, ◌≤◌, ◌↔◌, ◌⊎◌, ◌/◌, ◌%◌}
+use Rattle.nmgc_object.specs.laws.Vocabulary.{ℕ, zero, suc, inl, inr, refl, ap, subst, sym, arith, count_by, nat_le, ◌∙◌, IsTrue, rules, tests, count_ones, lit≤, ones, is_power_of_two, IsPowerOfTwo, range_with_len, pow-le-pow_right, pow-add, pow_below, ones_cat, zero_from_ones, mod-mul-add, mod_below, cases_order, cases_lt, cases_eq, le-leb, lt-leb, block_size, IsClassOf, IsLayout, IsSegmentSize, class_count, Layout}
 
 -- a block of a dense class
 pub dense_block : (class : ℕ) → class ≤ 12 → block_size class ≡ class + 4

@@ -1,7 +1,6 @@
 -- Lemmas that crates above need too.
-use Rattle.std.proofs.Common.{ℕ, ◌+◌, ◌*◌, ◌<◌, ◌≤◌, arith, mul-le-mul_right}
-use Rattle.nmgc_object.specs.Places.{InSegment, nursery_place}
-use Rattle.nmgc_object.specs.declared.layout.Layout.{Layout}
+use Rattle.std.specs.Prelude.{◌+◌, ◌*◌, ◌<◌, ◌≤◌}
+use Rattle.nmgc_object.specs.laws.Vocabulary.{ℕ, arith, mul-le-mul_right, InSegment, nursery_place, Layout}
 
 -- a place in a segment is below the nurseries
 pub in_segment_low : (layout : Layout) (segment at : ℕ) → InSegment layout segment at → at < nursery_place layout 0

@@ -1,9 +1,6 @@
 -- How many fields an object may have.
-use Rattle.std.proofs.Common.{ℕ, ◌≤◌, arith}
-use Rattle.nmgc_world_spec.specs.declared.node.Kind.{Kind}
-use Rattle.nmgc_world_spec.specs.declared.node.Kind.TheVariants.{Con, Var, Arr, Thunk, Weak, Stack}
-use Rattle.nmgc_object.specs.declared.words.Header.{Header}
-use Rattle.nmgc_object.specs.Words.{IsHeader, HasFields}
+use Rattle.std.specs.Prelude.{◌≤◌}
+use Rattle.nmgc_object.specs.laws.Vocabulary.{ℕ, arith, Kind, Con, Var, Arr, Thunk, Weak, Stack, Header, IsHeader, HasFields}
 
 few_of : (kind : Kind) (fields : ℕ) → HasFields kind fields → fields ≤ 4094
 few_of Con fields h = h

@@ -1,32 +1,7 @@
 -- Lemmas that crates above need too.
-use Rattle.std.proofs.Common.{◌≡◌, ℕ, zero, suc, ◌+◌, ◌<◌, List, [], ◌∷◌, map, length, ap, ◌∙◌, arith, refl, sym, subst, All, ◌++◌, Bool, true, false, cond, inl, inr, Some, None, Option}
-use Rattle.std.specs.Prelude.{slice_index_or, drop, Contains}
-use Rattle.std.proofs.lemmas.List.{length-replicate}
-use Rattle.std.proofs.lemmas.Bool.Decides.{eqb_tells}
-use Rattle.nmgc_lists.specs.laws.Items.{contains_head, contains_tail, contains_cases}
-use Rattle.nmgc_world_spec.specs.declared.value.Name.{Name}
-use Rattle.nmgc_world_spec.specs.declared.command.Reply.{Reply}
-use Rattle.nmgc_world_spec.specs.World.{given, node_of, World}
-use Rattle.nmgc_world_spec.specs.declared.value.Value.{Value}
+use Rattle.std.specs.Prelude.{◌≡◌, ◌+◌, ◌<◌, ◌∷◌, ◌++◌}
+use Rattle.nmgc_round.specs.laws.Vocabulary.{ℕ, zero, suc, List, [], map, length, ap, ◌∙◌, arith, refl, sym, subst, All, Bool, true, false, cond, inl, inr, Some, None, Option, slice_index_or, drop, Contains, length-replicate, eqb_tells, contains_head, contains_tail, contains_cases, Name, Reply, given, node_of, World, Value, step_grows, State, with_mark, entry_of, is_new, mark_read, Entry, advanced, after_scan, after_command, read_at, Layout, Place, Hand, Seen, Opening, Scan, DoneRow, leaves, rows_leave, Answer, plain, word, RoundSeat, seen, IsAt, alone, alones, first_opening, new_hand, Round, next_turn, passed, Marks, after_word, folded, marks_of, name_at, Answers, Happening, did, scanned, replay, IsLegal, some-injective, some-ne-none, get_elem?}
 use Rattle.nmgc_world_spec.specs.declared.value.Value.TheVariants as value
-use Rattle.nmgc_world_laws.specs.laws.Growth.{step_grows}
-use Rattle.nmgc_snapshot_laws.specs.State.{State, with_mark, entry_of, is_new, mark_read}
-use Rattle.nmgc_snapshot_laws.specs.declared.event.Entry.{Entry}
-use Rattle.nmgc_snapshot_laws.specs.Machine.{advanced, after_scan, after_command}
-use Rattle.nmgc_snapshot_laws.specs.Scan.{read_at}
-use Rattle.nmgc_object.specs.declared.layout.Layout.{Layout}
-use Rattle.nmgc_heap_spec.specs.Places.{Place}
-use Rattle.nmgc_round.specs.View.{Hand, Seen, Opening, Scan, DoneRow, leaves, rows_leave, Answer, plain, word}
-use Rattle.nmgc_round.specs.Seat.{RoundSeat, seen, IsAt}
-use Rattle.nmgc_round.specs.Seating.{alone, alones}
-use Rattle.nmgc_round.specs.Empty.{first_opening, new_hand}
-use Rattle.nmgc_round.specs.declared.table.Round.{Round}
-use Rattle.nmgc_round.specs.Gate.{next_turn, passed}
-use Rattle.nmgc_round.specs.Marking.{Marks, after_word, folded, marks_of, name_at}
-use Rattle.nmgc_round.specs.Rule.{Answers}
-use Rattle.nmgc_round.specs.Events.{Happening, did, scanned, replay, IsLegal}
-use mathlib.Core.Option.{some-injective, some-ne-none}
-use lib.ListN.{get_elem?}
 
 pub seat_at : (layout : Layout) (n k : ℕ) (hands : List Hand) (seats : List RoundSeat) (d : RoundSeat) →
     map seen seats ≡ alones (first_opening layout) n hands → k < length seats → seen (slice_index_or seats k d) ≡ alone (first_opening layout) (n + k)

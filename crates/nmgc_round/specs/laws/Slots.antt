@@ -1,8 +1,6 @@
 -- Lists of stacks of which one changes.
-use Rattle.std.proofs.Common.{◌≡◌, ◌≢◌, inl, inr, ℕ, List, [], ◌∷◌, refl, sym, ap, ◌∙◌, true, false, cond, eqb, Some, eq-eqb, ne_eqb}
-use Rattle.std.proofs.lemmas.Bool.{cases_eq}
-use Rattle.nmgc_round.specs.View.{Slots, with_slots}
-use Rattle.nmgc_round.specs.Own.{slots_at}
+use Rattle.std.specs.Prelude.{◌≡◌, ◌≢◌, ◌∷◌}
+use Rattle.nmgc_round.specs.laws.Vocabulary.{inl, inr, ℕ, List, [], refl, sym, ap, ◌∙◌, true, false, cond, eqb, Some, eq-eqb, ne_eqb, cases_eq, Slots, with_slots, slots_at}
 
 -- the stack whose words change
 pub slots_same : (stacks : List Slots) (at : ℕ) (f : List ℕ → List ℕ) (ws : List ℕ) → slots_at stacks at ≡ Some ws →

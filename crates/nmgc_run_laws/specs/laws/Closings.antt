@@ -1,22 +1,6 @@
 -- How late the cycles of a run are closed: none later than its bound, also where a full cycle closes one, and the rows tell it.
-use Rattle.std.proofs.Common.{ℕ, suc, ◌≡◌, ◌+◌, ◌-◌, ◌*◌, ◌/◌, ◌≤◌, List, [], ◌∷◌, refl, sym, ap, subst, ◌∙◌, arith, inl, inr}
-use Rattle.std.specs.Prelude.{All, flat_map}
-use Rattle.std.proofs.Math.Nat.{le-div_iff_mul-le}
-use Rattle.std.proofs.lemmas.List.Elements.{All-nil, All-cons, All-append}
-use Rattle.nmgc_world_spec.specs.History.{Row}
-use Rattle.nmgc_world_spec.specs.World.{World}
-use Rattle.nmgc_journal.specs.declared.report.CycleRow.{CycleRow}
-use Rattle.nmgc_journal.specs.declared.report.StopRow.{StopRow}
-use Rattle.nmgc_script.specs.declared.script.Config.{Config}
-use Rattle.nmgc_run_spec.specs.Stop.{IsCensus, IsStop, EndsOrWaits, Finishes, DoesFullCycle, BeginsOrWaits, Proceeds, with_all_retired}
-use Rattle.nmgc_blocks_spec.specs.Cycle.{IsKeptObject, Cycle}
-use Rattle.nmgc_run_spec.specs.Closing.{ClosesOrWaits, ClosesNow, IsForcedSoon, IsSoon}
-use Rattle.nmgc_world_spec.specs.Listing.{Counts}
-use Rattle.nmgc_run_spec.specs.Round.{noted}
-use Rattle.nmgc_run_spec.specs.Run.{Run, Turn, AreTurns}
-use Rattle.nmgc_run_spec.specs.State.{Plan, State, Progress, idle, marking, sweeping, start, cycle_started, plan_of}
-use Rattle.nmgc_run_laws.specs.Statements.{IsClosedSoon, ClosingsAreSoon}
-use Rattle.nmgc_world_laws.specs.laws.Distinct.{one_count}
+use Rattle.std.specs.Prelude.{◌≡◌, ◌+◌, ◌-◌, ◌*◌, ◌/◌, ◌≤◌, ◌∷◌}
+use Rattle.nmgc_run_laws.specs.laws.Vocabulary.{ℕ, suc, List, [], refl, sym, ap, subst, ◌∙◌, arith, inl, inr, All, flat_map, le-div_iff_mul-le, All-nil, All-cons, All-append, Row, World, CycleRow, StopRow, Config, IsCensus, IsStop, EndsOrWaits, Finishes, DoesFullCycle, BeginsOrWaits, Proceeds, with_all_retired, IsKeptObject, Cycle, ClosesOrWaits, ClosesNow, IsForcedSoon, IsSoon, Counts, noted, Run, Turn, AreTurns, Plan, State, Progress, idle, marking, sweeping, start, cycle_started, plan_of, IsClosedSoon, ClosingsAreSoon, one_count}
 
 -- one round more scans a quota more
 pub one_more : (n from quota : ℕ) → from + 1 ≤ n → (n - from - 1) * quota + quota ≡ (n - from) * quota
@@ -92,7 +76,7 @@ ends_soon quota (sweeping c closed) s t rows some h e (inl ends) =
     let soon : IsClosedSoon quota row = row_soon quota c closed s.number row some h ends.1.census in
     record {
       now = same_soon quota idle t (ap (λ (x : State). x.progress) ends.1.rest) tt;
-      told = subst (λ (told : List CycleRow). All (IsClosedSoon quota) told) (sym ends.1.told) (All-cons (IsClosedSoon quota) row [] soon
+      told = rw ends.1.told (All-cons (IsClosedSoon quota) row [] soon
           (All-nil (IsClosedSoon quota)));
     }
 
@@ -114,7 +98,7 @@ full_soon quota s t rows some h soon d =
     finishes_soon quota (cycle_started (with_all_retired d.idled)) d.last d.own some tt (inl first) d.again in
     record {
       now = same_soon quota d.last.progress t (ap (λ (x : State). x.progress) d.rest) own.now;
-      told = subst (λ (told : List CycleRow). All (IsClosedSoon quota) told) (sym d.told) (All-append (IsClosedSoon quota) d.before d.own before.told
+      told = rw d.told (All-append (IsClosedSoon quota) d.before d.own before.told
           own.told);
     }
 
@@ -141,7 +125,7 @@ stop_soon plan began s t row rows some h i =
     let last : IsInTime quota t i.more = proceeds_soon plan i.ended t i.more some ended.now i.proceeds in
     record {
       now = last.now;
-      told = subst (λ (told : List CycleRow). All (IsClosedSoon quota) told) (sym i.told) (All-append (IsClosedSoon quota) i.first i.more ended.told
+      told = rw i.told (All-append (IsClosedSoon quota) i.first i.more ended.told
           last.told);
     }
 
@@ -175,5 +159,5 @@ closings_are_soon script report fits lawful =
     let opened : IsInTime quota run.opening.state run.opening.cycles =
     stop_soon plan _ (start plan) run.opening.state run.opening.row run.opening.cycles some tt lawful.is_run.opening in
     let later = turns_soon plan run.opening.state run.turns some opened.now lawful.is_run.turns in
-    subst (λ (rows : List CycleRow). All (IsClosedSoon quota) rows) (sym lawful.tells.cycles_are) (All-append (IsClosedSoon quota) run.opening.cycles
+    rw lawful.tells.cycles_are (All-append (IsClosedSoon quota) run.opening.cycles
     (flat_map (λ (turn : Turn). turn.stop.cycles) run.turns) opened.told later)

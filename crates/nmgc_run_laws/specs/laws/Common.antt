@@ -1,16 +1,5 @@
 -- Lemmas that crates above need too.
-use Rattle.std.proofs.Common.{ℕ, ◌≡◌, ◌<◌, List, arith, sym, ap, inl, inr}
-use Rattle.std.specs.Prelude.{Contains}
-use Rattle.nmgc_object.specs.declared.layout.Layout.{Layout}
-use Rattle.nmgc_object.specs.Places.{nursery_place}
-use Rattle.nmgc_alloc.specs.Numbered.{Segments}
-use Rattle.nmgc_alloc.specs.Segments.{IsSegments}
-use Rattle.nmgc_heap_spec.specs.Places.{Place}
-use Rattle.nmgc_blocks_spec.specs.laws.Blocks.{is_block}
-use Rattle.nmgc_journal.specs.declared.report.MutatorEnd.{MutatorEnd}
-use Rattle.nmgc_run_spec.specs.Heap.{HoldsAtStop}
-use Rattle.nmgc_run_spec.specs.State.{State}
-use Rattle.nmgc_run_laws.specs.laws.Places.{block_used}
+use Rattle.nmgc_run_laws.specs.{laws.Vocabulary.ℕ, laws.Vocabulary.◌≡◌, laws.Vocabulary.◌<◌, laws.Vocabulary.List, laws.Vocabulary.arith, laws.Vocabulary.sym, laws.Vocabulary.ap, laws.Vocabulary.inl, laws.Vocabulary.inr, laws.Vocabulary.Contains, laws.Vocabulary.Layout, laws.Vocabulary.nursery_place, laws.Vocabulary.Segments, laws.Vocabulary.IsSegments, laws.Vocabulary.Place, laws.Vocabulary.is_block, laws.Vocabulary.MutatorEnd, laws.Vocabulary.HoldsAtStop, laws.Vocabulary.State, laws.Places.block_used}
 
 pub places_low : (layout : Layout) (s : State) (words : List ℕ) (segments : Segments) (mutators : List MutatorEnd) (weaks : List Place) →
     IsSegments segments → (h : HoldsAtStop layout s words segments mutators weaks) → (p : Place) → Contains h.places p → p.at < nursery_place layout 0

@@ -1,29 +1,7 @@
 -- The cycle in progress, over a run: its number, when it began, and which segments wait for it.
-use Rattle.std.proofs.Common.{ℕ, ◌≡◌, ◌≢◌, ◌+◌, List, [], ◌∷◌, refl, sym, ap, subst, ◌∙◌, arith, inl, inr, true, false}
-use Rattle.std.proofs.lemmas.Bool.{cases_eq}
-use Rattle.std.proofs.lemmas.List.{get_or-set_same, get_or-set_other}
-use Rattle.nmgc_world_spec.specs.declared.value.Name.{Name}
-use Rattle.nmgc_world_spec.specs.World.{World}
-use Rattle.nmgc_world_spec.specs.History.{Row}
-use Rattle.nmgc_segment.specs.declared.state.State.{State as Stands}
+use Rattle.std.specs.Prelude.{◌≡◌, ◌≢◌, ◌+◌, ◌∷◌}
+use Rattle.nmgc_run_laws.specs.laws.Vocabulary.{ℕ, List, [], refl, sym, ap, subst, ◌∙◌, arith, inl, inr, true, false, cases_eq, get_or-set_same, get_or-set_other, Name, World, Row, Stands, Layout, prepared_state, retired_state, AllocState, Cells, Exists, IsIn, IsTarget, NoneIs, PlacesName, Sweeps, SweepsEach, HoldsKept, cells, no_cells, all_retired, begun_cells, retired_cells, swept_other, all_swept, first_cells, used_exists, PlacesEach, CycleRow, StopRow, Config, IsKeptIn, Cycle, ClosesOrWaits, ClosesNow, IsLastBegun, WaitsWhole, IsInCourse, IsStateInCourse, RunsAreInCourse, RoundsStayInCourse, PromotionsStayInCourse, CyclesBeginInCourse, AreAsNoted, noted, SweepsBeside, Turn, AreTurns, state_after, Plan, State, Progress, idle, marking, sweeping, is_idle, start, cycle_started, IsStop, EndsOrWaits, Finishes, DoesFullCycle, BeginsOrWaits, Proceeds, with_all_retired, SweepsRest}
 use Rattle.nmgc_segment.specs.declared.state.State.TheVariants as stands
-use Rattle.nmgc_object.specs.declared.layout.Layout.{Layout}
-use Rattle.nmgc_alloc.specs.AllocState.{prepared_state, retired_state, AllocState, Cells, Exists, IsIn, IsTarget, NoneIs, PlacesName, Sweeps, SweepsEach, HoldsKept, cells, no_cells, all_retired}
-use Rattle.nmgc_alloc.specs.laws.Cells.{begun_cells, retired_cells, swept_other, all_swept}
-use Rattle.nmgc_alloc.specs.laws.OneState.{first_cells}
-use Rattle.nmgc_alloc.specs.laws.Sound.{used_exists}
-use Rattle.nmgc_blocks_spec.specs.Promoted.{PlacesEach}
-use Rattle.nmgc_journal.specs.declared.report.CycleRow.{CycleRow}
-use Rattle.nmgc_journal.specs.declared.report.StopRow.{StopRow}
-use Rattle.nmgc_script.specs.declared.script.Config.{Config}
-use Rattle.nmgc_blocks_spec.specs.Cycle.{IsKeptIn, Cycle}
-use Rattle.nmgc_run_spec.specs.Closing.{ClosesOrWaits, ClosesNow}
-use Rattle.nmgc_run_laws.specs.Course.{IsLastBegun, WaitsWhole, IsInCourse, IsStateInCourse, RunsAreInCourse, RoundsStayInCourse, PromotionsStayInCourse, CyclesBeginInCourse}
-use Rattle.nmgc_blocks_spec.specs.Waiting.{AreAsNoted}
-use Rattle.nmgc_run_spec.specs.Round.{noted, SweepsBeside}
-use Rattle.nmgc_run_spec.specs.Run.{Turn, AreTurns, state_after}
-use Rattle.nmgc_run_spec.specs.State.{Plan, State, Progress, idle, marking, sweeping, is_idle, start, cycle_started}
-use Rattle.nmgc_run_spec.specs.Stop.{IsStop, EndsOrWaits, Finishes, DoesFullCycle, BeginsOrWaits, Proceeds, with_all_retired, SweepsRest}
 
 -- a segment that waits exists
 waits_there : (a : AllocState) (number : ℕ) → IsIn stands.Sweeping (cells a number) → Exists a number
@@ -169,8 +147,7 @@ cycles_begin s none = (
     as_noted = λ number is.
         let cell = begun_cells s.allocation number in
         let filled : (cells s.allocation number).state ≡ stands.Filled =
-        begun_waits (cells s.allocation number).state (sym (ap (λ (c : Cells). c.state) cell) ∙
-        is) (λ waits. none number (waits_there s.allocation number waits) waits) in
+        begun_waits (cells s.allocation number).state (cc (cell, is)) (λ waits. none number (waits_there s.allocation number waits) waits) in
         ((used_exists s.allocation number (λ free. let bad : stands.Filled ≡ stands.Free = sym filled ∙ free in cc), filled), ap (λ (c : Cells). c.names) cell);
     all = λ number swept. ap (λ (c : Cells). c.state) (begun_cells s.allocation number) ∙ ap prepared_state swept.1;
   },
@@ -186,20 +163,16 @@ none_retired a none number there is =
 closes_course : (quota : ℕ) (p : Progress) (s t : State) → IsInCourse p s.number s.begun s.allocation → s.progress ≡ p → ClosesOrWaits quota p s t →
     IsStateInCourse t
 closes_course quota idle s t h e same = subst IsStateInCourse (sym same) (subst (λ (p : Progress). IsInCourse p s.number s.begun s.allocation) (sym e) h)
-closes_course quota (marking c) s t h e (inl same) = subst IsStateInCourse (sym same) (subst (λ (p : Progress).
-    IsInCourse p s.number s.begun s.allocation) (sym e) h)
+closes_course quota (marking c) s t h e (inl same) = subst IsStateInCourse (sym same) (rw e h)
 closes_course quota (marking c) s t h e (inr closes) = subst IsStateInCourse (sym closes.0.rest) (h.0, h.1.as_noted)
-closes_course quota (sweeping c number) s t h e same = subst IsStateInCourse (sym same) (subst (λ (p : Progress).
-    IsInCourse p s.number s.begun s.allocation) (sym e) h)
+closes_course quota (sweeping c number) s t h e same = subst IsStateInCourse (sym same) (rw e h)
 
 ends_course : (p : Progress) (s t : State) (cycles : List CycleRow) → IsInCourse p s.number s.begun s.allocation → s.progress ≡ p →
     EndsOrWaits p s t cycles → IsStateInCourse t
 ends_course idle s t cycles h e ends = subst IsStateInCourse (sym ends.0) (subst (λ (p : Progress). IsInCourse p s.number s.begun s.allocation) (sym e) h)
-ends_course (marking c) s t cycles h e ends = subst IsStateInCourse (sym ends.0) (subst (λ (p : Progress).
-    IsInCourse p s.number s.begun s.allocation) (sym e) h)
+ends_course (marking c) s t cycles h e ends = subst IsStateInCourse (sym ends.0) (rw e h)
 ends_course (sweeping c number) s t cycles h e (inl ends) = subst IsStateInCourse (sym ends.1.rest) ends.0
-ends_course (sweeping c number) s t cycles h e (inr waits) = subst IsStateInCourse (sym waits.1) (subst (λ (p : Progress).
-    IsInCourse p s.number s.begun s.allocation) (sym e) h)
+ends_course (sweeping c number) s t cycles h e (inr waits) = subst IsStateInCourse (sym waits.1) (rw e h)
 
 -- a finished cycle leaves no segment that waits, and an idle collector
 record IsQuiet (t : State) : Type 0 where

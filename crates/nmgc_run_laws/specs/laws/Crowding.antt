@@ -1,37 +1,15 @@
 -- What the last stop of a run that ends as heap full did: a full cycle, after which it is crowded. And so every lawful report is one of its run.
-use Rattle.std.proofs.Common.{ℕ, ◌≡◌, ◌+◌, ◌<◌, ◌≤◌, List, [], ◌∷◌, ◌++◌, length, arith, refl, sym, ap, subst, ◌∙◌, Bool, true, Some, None, inl, inr}
+use Rattle.std.proofs.{Common.ℕ, Common.◌≡◌, Common.◌+◌, Common.◌<◌, Common.◌≤◌, Common.List, Common.[], Common.◌∷◌, Common.◌++◌, Common.length, Common.arith, Common.refl, Common.sym, Common.ap, Common.subst, Common.◌∙◌, Common.Bool, Common.true, Common.Some, Common.None, Common.inl, Common.inr, lemmas.Bool.ltb-true, lemmas.Bool.cases_lt, lemmas.List.get_or_past, lemmas.List.Elements.All-get_or}
 use Rattle.std.specs.Prelude.{nat_lt, ◌&&◌, if◌then◌else◌}
-use Rattle.std.proofs.lemmas.Bool.{ltb-true, cases_lt}
-use Rattle.std.proofs.lemmas.List.{get_or_past}
-use Rattle.std.proofs.lemmas.List.Elements.{All-get_or}
-use Rattle.nmgc_world_spec.specs.declared.command.Command.{Command}
-use Rattle.nmgc_world_spec.specs.World.{World}
+use Rattle.nmgc_lists.specs.laws.Truths.{and_both}
+use Rattle.nmgc_world_spec.specs.{declared.command.Command.Command, World.World, Listing.Counts}
 use Rattle.nmgc_alloc.specs.laws.Cells.{all_swept}
-use Rattle.nmgc_journal.specs.declared.report.CycleRow.{CycleRow}
-use Rattle.nmgc_journal.specs.declared.report.Report.{Report}
-use Rattle.nmgc_journal.specs.declared.report.End.{End}
-use Rattle.nmgc_journal.specs.declared.report.End.TheVariants.{Done, HeapFull}
+use Rattle.nmgc_journal.specs.{declared.report.CycleRow.CycleRow, declared.report.Report.Report, declared.report.End.End, declared.report.End.TheVariants.Done, declared.report.End.TheVariants.HeapFull, Summary.kept_count}
 use Rattle.nmgc_limits.specs.Limits.{most_script_bytes}
-use Rattle.nmgc_script.specs.Limits.{FitsScript, HasFewCommands}
-use Rattle.nmgc_script.specs.declared.script.Script.{Script}
+use Rattle.nmgc_script.specs.{Limits.FitsScript, Limits.HasFewCommands, declared.script.Script.Script}
 use Rattle.nmgc_blocks_spec.specs.Cycle.{IsKeptIn, Cycle}
-use Rattle.nmgc_run_spec.specs.Crowded.{StopInRun, opening_stop, next_stop, last_after, last_stop, IsKeptOf, IsCrowded, LeavesHeapFull, IsHeapFull, IsRunOf}
-use Rattle.nmgc_run_laws.specs.Statements.{LawfulAreOfRuns}
-use Rattle.nmgc_run_spec.specs.Lawful.{IsLawfulFor}
-use Rattle.nmgc_world_spec.specs.Listing.{Counts}
-use Rattle.nmgc_run_spec.specs.Run.{Run, Turn, IsRun, AreTurns, state_after, last_state}
-use Rattle.nmgc_run_spec.specs.Slice.{has_left, program_of}
-use Rattle.nmgc_run_laws.specs.Sound.{IsRunnable}
-use Rattle.nmgc_run_spec.specs.State.{State, Plan, Progress, idle, marking, sweeping, free_count, reserve_of, cycle_started, next_cycle, plan_of}
-use Rattle.nmgc_journal.specs.Summary.{kept_count}
-use Rattle.nmgc_run_spec.specs.Stop.{EndsOrWaits, Finishes, DoesFullCycle, Proceeds, with_all_retired, is_short, is_done, answer_of, SweepsRest}
-use Rattle.nmgc_run_laws.specs.laws.CycleCounts.{free_kept}
-use Rattle.nmgc_run_laws.specs.laws.FullHeaps.{full_crowded, full_short, short_free, kept_last, full_heap_is_crowded}
-use Rattle.nmgc_run_laws.specs.laws.Limits.{scripts_have_good_plans}
-use Rattle.nmgc_run_laws.specs.laws.Programs.{HasPrograms}
-use Rattle.nmgc_run_laws.specs.laws.Runs.{round_holds, turn_holds, opening_worked, opening_holds}
-use Rattle.nmgc_run_laws.specs.laws.States.{IsSoundHere, Worked, lefts}
-use Rattle.nmgc_run_laws.specs.laws.Stops.{stop_holds}
+use Rattle.nmgc_run_spec.specs.{Crowded.StopInRun, Crowded.opening_stop, Crowded.next_stop, Crowded.last_after, Crowded.last_stop, Crowded.IsKeptOf, Crowded.IsCrowded, Crowded.LeavesHeapFull, Crowded.IsHeapFull, Crowded.IsRunOf, Lawful.IsLawfulFor, Run.Run, Run.Turn, Run.IsRun, Run.AreTurns, Run.state_after, Run.last_state, Slice.has_left, Slice.program_of, State.State, State.Plan, State.Progress, State.idle, State.marking, State.sweeping, State.free_count, State.reserve_of, State.cycle_started, State.next_cycle, State.plan_of, Stop.EndsOrWaits, Stop.Finishes, Stop.DoesFullCycle, Stop.Proceeds, Stop.with_all_retired, Stop.is_short, Stop.is_done, Stop.answer_of, Stop.SweepsRest}
+use Rattle.nmgc_run_laws.specs.{Statements.LawfulAreOfRuns, Sound.IsRunnable, laws.CycleCounts.free_kept, laws.FullHeaps.full_crowded, laws.FullHeaps.full_short, laws.FullHeaps.kept_last, laws.FullHeaps.full_heap_is_crowded, laws.Limits.scripts_have_good_plans, laws.Programs.HasPrograms, laws.Runs.round_holds, laws.Runs.turn_holds, laws.Runs.opening_worked, laws.Runs.opening_holds, laws.States.IsSoundHere, laws.States.Worked, laws.States.lefts, laws.Stops.stop_holds}
 
 -- what a full cycle keeps
 
@@ -84,7 +62,7 @@ proceeds_claim plan stop h (inl f) short =
     let s : State = stop.is.ended in
     let t : State = stop.stop.state in
     let few : free_count t < reserve_of plan =
-    ltb-true (free_count t) (reserve_of plan) (short_free (has_left t.left) (nat_lt (free_count t) (reserve_of plan)) short) in
+    ltb-true (free_count t) (reserve_of plan) (and_both (has_left t.left) (nat_lt (free_count t) (reserve_of plan)) short).1 in
     let much : KeepsMuch plan f.1.idled.world = full_keeps plan s t stop.is.more f.1 h few in (
       record { cycle = f.1; short = short },
       record {

@@ -1,29 +1,16 @@
 -- A heap that is full after a full cycle is crowded: each segment that isn't free holds an object that the
 -- cycle kept, and no object lies in two.
-use Rattle.std.proofs.Common.{ℕ, zero, suc, ◌≡◌, ◌≢◌, ◌⊎◌, ◌+◌, ◌*◌, ◌/◌, ◌<◌, ◌≤◌, List, [], ◌∷◌, length, take, slice_index_or, arith, refl, sym, ap, subst, ◌∙◌, Option, Some, None, cond, inl, inr}
-use Rattle.std.specs.Prelude.{IsSome, Contains, sum_by}
-use Rattle.std.proofs.Math.Nat.{lt-div-mul-add}
-use Rattle.std.proofs.lemmas.List.Sums.{sum_by_more}
-use Rattle.std.proofs.lemmas.List.{take_all}
-use Rattle.std.proofs.lemmas.Bool.{cases_eq}
-use Rattle.nmgc_world_spec.specs.declared.value.Name.{Name}
-use Rattle.nmgc_world_spec.specs.Step.{shared_name}
-use Rattle.nmgc_world_spec.specs.Reach.{Lists}
-use Rattle.nmgc_lists.specs.laws.Items.{contains_cases, nothing_in}
-use Rattle.nmgc_object.specs.Size.{block_size}
-use Rattle.nmgc_object.specs.declared.layout.Layout.{Layout}
+use Rattle.std.proofs.{Common.ℕ, Common.zero, Common.suc, Common.◌≡◌, Common.◌≢◌, Common.◌⊎◌, Common.◌+◌, Common.◌*◌, Common.◌/◌, Common.◌<◌, Common.◌≤◌, Common.List, Common.[], Common.◌∷◌, Common.length, Common.take, Common.slice_index_or, Common.arith, Common.refl, Common.sym, Common.ap, Common.subst, Common.◌∙◌, Common.Option, Common.Some, Common.None, Common.cond, Common.inl, Common.inr, Math.Nat.lt-div-mul-add, lemmas.List.Sums.sum_by_more, lemmas.List.take_all, lemmas.Bool.cases_eq}
+use Rattle.std.specs.Prelude.{Contains, sum_by}
+use Rattle.nmgc_world_spec.specs.{declared.value.Name.Name, Step.shared_name, Reach.Lists, Listing.AreDistinct}
+use Rattle.nmgc_lists.specs.{laws.Items.contains_cases, laws.Items.nothing_in, laws.Options.not_none, laws.Options.some_is}
+use Rattle.nmgc_object.specs.{Size.block_size, declared.layout.Layout.Layout, laws.Classes.least_block as large}
 use Rattle.nmgc_segment.specs.declared.state.State.{State as Stands}
 use Rattle.nmgc_segment.specs.declared.state.State.TheVariants as stands
-use Rattle.nmgc_alloc.specs.Numbered.{is}
-use Rattle.nmgc_alloc.specs.AllocState.{prepared_state, retired_state, AllocState, Cells, Sweeps, SweepsEach, HoldsKept, LiesIn, cells, no_cells, name_in, cycle_begun, all_retired, IsIn, NoneIs}
-use Rattle.nmgc_alloc.specs.laws.Cells.{none_some, swept_other, swept_here, swept_was, begun_cells, retired_cells}
-use Rattle.nmgc_object.specs.laws.Classes.{least_block as large}
+use Rattle.nmgc_alloc.specs.{Numbered.is, laws.Cells.none_some, laws.Cells.swept_other, laws.Cells.swept_here, laws.Cells.swept_was, laws.Cells.begun_cells, laws.Cells.retired_cells, AllocState.prepared_state, AllocState.retired_state, AllocState.AllocState, AllocState.Cells, AllocState.Sweeps, AllocState.SweepsEach, AllocState.HoldsKept, AllocState.LiesIn, AllocState.cells, AllocState.no_cells, AllocState.name_in, AllocState.cycle_begun, AllocState.all_retired, AllocState.IsIn, AllocState.NoneIs}
 use Rattle.nmgc_blocks_spec.specs.Cycle.{IsKeptIn, IsKeptObject, Cycle}
-use Rattle.nmgc_world_spec.specs.Listing.{AreDistinct}
-use Rattle.nmgc_run_laws.specs.Sound.{AreSoundBlocks}
-use Rattle.nmgc_world_laws.specs.laws.Distinct.{no_more}
-use Rattle.nmgc_run_laws.specs.laws.Filing.{sweep_filed}
-use Rattle.nmgc_world_laws.specs.laws.Reached.{listed_cases as listed_or_not}
+use Rattle.nmgc_run_laws.specs.{Sound.AreSoundBlocks, laws.CycleCounts.free, laws.Filing.sweep_filed}
+use Rattle.nmgc_world_laws.specs.{laws.Distinct.no_more, laws.Reached.listed_cases as listed_or_not}
 
 no_free : (c : Cells) → c ≡ no_cells → c.state ≡ stands.Free
 no_free c e = ap (λ (x : Cells). x.state) e
@@ -98,16 +85,13 @@ sweep_judged layout K a b number s h old k = elim (cases_eq k number) [
       kept = λ lost. none_some (slice_index_or s.names block None) n (s.keeps.freed block (λ holds.
           lost (subst K (some_is holds.0 n (sym holds.1 ∙ swept_was a b number (HoldsKept K a number) s block n e)) holds.2))) e;
     }
-      where
-        some_is : (x y : Name) → Some x ≡ Some y → x ≡ y
-        some_is x y e = cc
 
     here : IsJudged K b number
     here = elim s.swept [
       | inl w ↦ inl (no_free (cells b number) w.1)
       | inr (inl w) ↦ elim (find_name s.names) [
         | inl none ↦ absurd (let many : length s.names ≡ length (cells a number).names = s.keeps.length in
-            let first = w.0 0 (omega (arith, many, some)) in not_some (slice_index_or s.names 0 None) (none 0) first)
+            let first = w.0 0 (omega (arith, many, some)) in not_none (slice_index_or s.names 0 None) (none 0) first)
         | inr found ↦ inr (inr (good found.0 found.1 found.2))
       ]
       | inr (inr w) ↦ elim (find_name s.names) [
@@ -115,10 +99,6 @@ sweep_judged layout K a b number s h old k = elim (cases_eq k number) [
         | inr found ↦ inr (inr (good found.0 found.1 found.2))
       ]
     ]
-      where
-        not_some : (o : Option Name) → o ≡ None → IsSome o → ⊥
-        not_some None e there = cc
-        not_some (Some n) e there = cc
 
 pub each_judged : (layout : Layout) (K : Name → Type 0) (a b : AllocState) (numbers : List ℕ) → SweepsEach K a numbers b → AreSoundBlocks layout a →
     ((k : ℕ) → IsJudged K a k) → (k : ℕ) → IsJudged K b k
@@ -141,9 +121,6 @@ begun_judged K a k =
     elim (both_states (cells a k).state) [ inl e ↦ inl (at ∙ e) | inr e ↦ inr (inl (at ∙ e)) ]
 
 -- one name for each segment that isn't free
-
-abbrev pub free : Cells → ℕ
-free c = cond (is c.state stands.Free) 1 0
 
 free_one : (c : Cells) → c.state ≡ stands.Free → free c ≡ 1
 free_one c e = ap (λ (s : Stands). cond (is s stands.Free) 1 0) e

@@ -1,35 +1,14 @@
 -- Each cycle that was begun has its row once the run has ended: a full cycle leaves the collector idle,
 -- since a sweep of as many segments as wait leaves none that waits.
-use Rattle.std.proofs.Common.{ℕ, ◌≡◌, ◌+◌, List, [], ◌∷◌, ◌++◌, length, map, arith, refl, sym, ap, subst, ◌∙◌, Some, None, Bool, true, false, not, cond, inl, inr, length-append}
-use Rattle.std.specs.Prelude.{sum_by, flat_map, if◌then◌else◌, ◌&&◌, nat_lt}
-use Rattle.std.proofs.lemmas.List.Sums.{sum_by-cons}
-use Rattle.nmgc_world_spec.specs.World.{World}
-use Rattle.nmgc_world_spec.specs.History.{Row}
-use Rattle.nmgc_segment.specs.declared.state.State.{State as Stands}
+use Rattle.std.specs.Prelude.{◌≡◌, ◌+◌, ◌∷◌, ◌++◌, if◌then◌else◌, ◌&&◌}
+use Rattle.nmgc_run_laws.specs.laws.Vocabulary.{ℕ, List, [], length, map, arith, refl, sym, ap, subst, ◌∙◌, Some, None, Bool, true, false, not, cond, inl, inr, length-append, sum_by, flat_map, sum_by-cons, World, Row, Stands, is, prepared_state, Cells, restated, all_swept, StopRow, CycleRow, End, IsKeptIn, Cycle, has_left, State, Plan, Progress, idle, marking, sweeping, is_idle, start, cycle_started, SweepsRest, IsStop, EndsOrWaits, Finishes, DoesFullCycle, BeginsOrWaits, Proceeds, IsFullDue, with_all_retired, is_short, ClosesOrWaits, ClosesNow, noted, Turn, AreTurns, state_after, last_state, EachCycleHasItsRow}
 use Rattle.nmgc_segment.specs.declared.state.State.TheVariants as stands
-use Rattle.nmgc_alloc.specs.Numbered.{is}
-use Rattle.nmgc_alloc.specs.AllocState.{prepared_state, Cells, restated}
-use Rattle.nmgc_alloc.specs.laws.Cells.{all_swept}
-use Rattle.nmgc_journal.specs.declared.report.StopRow.{StopRow}
-use Rattle.nmgc_journal.specs.declared.report.CycleRow.{CycleRow}
-use Rattle.nmgc_journal.specs.declared.report.End.{End}
-use Rattle.nmgc_blocks_spec.specs.Cycle.{IsKeptIn, Cycle}
-use Rattle.nmgc_run_spec.specs.Slice.{has_left}
-use Rattle.nmgc_run_spec.specs.State.{State, Plan, Progress, idle, marking, sweeping, is_idle, reserve_of, start, cycle_started}
-use Rattle.nmgc_run_spec.specs.Stop.{SweepsRest, IsStop, EndsOrWaits, Finishes, DoesFullCycle, BeginsOrWaits, Proceeds, IsFullDue, with_all_retired, is_short}
-use Rattle.nmgc_run_spec.specs.Closing.{ClosesOrWaits, ClosesNow}
-use Rattle.nmgc_run_spec.specs.Round.{noted}
-use Rattle.nmgc_run_spec.specs.Run.{Turn, AreTurns, state_after, last_state}
-use Rattle.nmgc_run_laws.specs.Statements.{EachCycleHasItsRow}
 
 -- how many cycles are in progress
 abbrev in_progress : Progress → ℕ
 in_progress idle = 0
 in_progress (marking c) = 1
 in_progress (sweeping c number) = 1
-
-idle_is : (p : Progress) → p ≡ idle → is_idle p ≡ true
-idle_is p e = ap is_idle e
 
 idle_none : (p : Progress) → is_idle p ≡ true → in_progress p ≡ 0
 idle_none idle e = refl
@@ -132,6 +111,7 @@ prepared_is_free stands.Active = refl
 prepared_is_free stands.Filled = refl
 prepared_is_free stands.Sweeping = refl
 
+-- 1 for a free segment, 0 for any other
 abbrev pub free : Cells → ℕ
 free c = cond (is c.state stands.Free) 1 0
 
@@ -160,8 +140,7 @@ begins_left plan n s t not (inl b) h =
     let none : in_progress s.progress ≡ 0 = idle_none s.progress b.0.0 in
     let one : in_progress t.progress ≡ 1 = ap (λ (x : State). in_progress x.progress) b.1 in
     let begun : t.begun ≡ s.begun + 1 = ap (λ (x : State). x.begun) b.1 in
-    let same : is_short plan t ≡ is_short plan s = ap (λ (x : State). is_short plan x) b.1 ∙
-    ap (λ (count : ℕ). has_left s.left && nat_lt count (reserve_of plan)) (free_kept s.allocation.segments) in
+    let same : is_short plan t ≡ is_short plan s = cc (b.1, free_kept s.allocation.segments) in
     record { counted = omega (arith, none, one, begun, h); idle_if_short = λ short. absurd (not (inr (sym same ∙ short))) }
 
 full_left : (plan : Plan) (n : ℕ) (s t : State) (cycles : List CycleRow) → DoesFullCycle s t cycles → Counted n s → Left plan (n + length cycles) t
@@ -212,8 +191,7 @@ turns_counted : (plan : Plan) (n : ℕ) (s : State) (turns : List Turn) → AreT
 turns_counted plan n s [] i h = subst (λ (k : ℕ). Left plan k s) (omega arith) h
 turns_counted plan n s (turn ∷ turns) i h =
     let worked : Counted n turn.worked =
-    let progress : in_progress turn.worked.progress ≡ in_progress s.progress = ap (λ (x : State). in_progress x.progress) i.0.round.rest ∙
-    noted_same s.progress turn.history in
+    let progress : in_progress turn.worked.progress ≡ in_progress s.progress = cc (i.0.round.rest, noted_same s.progress turn.history) in
     let begun : turn.worked.begun ≡ s.begun = ap (λ (x : State). x.begun) i.0.round.rest in
     let old : Counted n s = h.counted in
     omega (arith, progress, begun, old) in

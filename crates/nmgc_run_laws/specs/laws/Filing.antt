@@ -1,28 +1,6 @@
 -- The blocks through the steps of a run: they stay an allocation state, no name comes to lie in two, and g in none.
-use Rattle.std.proofs.Common.{ℕ, ◌≡◌, ◌≢◌, ◌/◌, ◌<◌, ◌≤◌, List, [], ◌∷◌, length, arith, refl, sym, ap, subst, ◌∙◌, Option, Some, None, inl, inr, eqb, false}
-use Rattle.std.specs.Prelude.{Contains, slice_get}
-use Rattle.std.proofs.Math.ListN.{get_or-eq_default, length-replicate}
-use Rattle.std.proofs.Math.Nat.{div-eq_of_lt}
-use Rattle.std.proofs.lemmas.Bool.{cases_eq, cases_lt, ne_eqb}
-use Rattle.std.proofs.lemmas.Option.{slice_get_within}
-use Rattle.nmgc_world_spec.specs.declared.value.Name.{Name}
-use Rattle.nmgc_limits.specs.declared.mutators.TheConstants.{SHARED_MAKER}
-use Rattle.nmgc_world_spec.specs.declared.node.Node.{Node}
-use Rattle.nmgc_world_spec.specs.declared.mutator_state.MutatorState.{MutatorState}
-use Rattle.nmgc_world_spec.specs.World.{World, IsWorld, node_of, state_of, no_mutator}
-use Rattle.nmgc_world_spec.specs.Step.{shared_name}
-use Rattle.nmgc_world_spec.specs.Reach.{IsInOrder, IsBefore}
-use Rattle.nmgc_lists.specs.laws.Items.{contains_head, contains_tail}
-use Rattle.nmgc_world_spec.specs.laws.Orders.{in_order_first, in_order_rest, not_before_itself}
-use Rattle.nmgc_object.specs.Size.{block_size}
-use Rattle.nmgc_object.specs.Words.{IsName}
-use Rattle.nmgc_object.specs.declared.layout.Layout.{Layout}
-use Rattle.nmgc_alloc.specs.AllocState.{AllocState, IsAllocState, PlacesName, Opens, IsTarget, Sweeps, SweepsEach, HoldsKept, LiesNowhere, cells, cycle_begun, all_retired, all_empty, name_in}
-use Rattle.nmgc_alloc.specs.laws.Cells.{none_some, placed_where, placed_once, swept_back, swept_once, begun_names, begun_once, retired_names, retired_once, first_once}
-use Rattle.nmgc_alloc.specs.laws.OneState.{first_cells}
-use Rattle.nmgc_alloc.specs.laws.Steps.{first_sound, placed_sound, swept_sound, begun_sound, retired_sound}
-use Rattle.nmgc_blocks_spec.specs.Promoted.{PlacesObject, PlacesEach}
-use Rattle.nmgc_run_laws.specs.Sound.{AreSoundBlocks}
+use Rattle.std.specs.Prelude.{◌≡◌, ◌≢◌, ◌/◌, ◌<◌, ◌≤◌, ◌∷◌}
+use Rattle.nmgc_run_laws.specs.laws.Vocabulary.{ℕ, List, [], length, arith, refl, sym, ap, subst, Option, Some, None, inl, inr, eqb, false, Contains, slice_get, get_or-eq_default, length-replicate, div-eq_of_lt, cases_eq, cases_lt, ne_eqb, slice_get_within, Name, SHARED_MAKER, Node, MutatorState, World, IsWorld, node_of, state_of, no_mutator, shared_name, IsInOrder, IsBefore, contains_head, contains_tail, in_order_first, in_order_rest, not_before_itself, block_size, IsName, Layout, AllocState, IsAllocState, PlacesName, Opens, IsTarget, Sweeps, SweepsEach, HoldsKept, LiesNowhere, cells, cycle_begun, all_retired, all_empty, name_in, none_some, placed_where, placed_once, swept_back, swept_once, begun_names, begun_once, retired_names, retired_once, first_once, first_cells, first_sound, placed_sound, swept_sound, begun_sound, retired_sound, PlacesObject, PlacesEach, AreSoundBlocks}
 
 -- a name of a world is one that words have
 pub world_name : (w : World) → IsWorld w → (n : Name) (node : Node) → node_of w n ≡ Some node → IsName n
@@ -53,7 +31,7 @@ pub placed_fits : (layout : Layout) (a b : AllocState) (m class : ℕ) (name : N
 placed_fits layout a b m class name h p = by_opens p.opens
   where
     by_opens : Opens (layout.words / block_size class) (cells a p.number) p.names → block_size class ≤ layout.words
-    by_opens (inl used) = subst (λ (k : ℕ). block_size k ≤ layout.words) (class_is p.target) (h.class p.number used.0)
+    by_opens (inl used) = rw (class_is p.target) at (h.class p.number used.0)
       where
         class_is : IsTarget a m class p.number → (cells a p.number).class ≡ class
         class_is (inl own) = own.1.1
@@ -61,8 +39,7 @@ placed_fits layout a b m class name h p = by_opens p.opens
         class_is (inr (none, inr (no_active, next))) = absurd (used.0 next.is.1)
     by_opens (inr free) =
         let some = p.first.exists in
-        let count : length p.names ≡ layout.words / block_size class = ap (λ (xs : List (Option Name)). length xs) free.1 ∙
-        length-replicate {A = Option Name} (layout.words / block_size class) None in
+        let count : length p.names ≡ layout.words / block_size class = cc (free.1, length-replicate {A = Option Name} (layout.words / block_size class) None) in
         elim (cases_lt layout.words (block_size class)) [
           | inr ge ↦ ge
           | inl lt ↦ let none : layout.words / block_size class ≡ 0 = div-eq_of_lt lt in absurd (omega (arith, some, count, none))

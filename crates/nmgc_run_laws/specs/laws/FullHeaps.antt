@@ -1,31 +1,14 @@
 -- What the rows of a run that ends as heap full tell: its last cycle kept more objects than there are segments above the reserve.
-use Rattle.std.proofs.Common.{ℕ, ◌≡◌, ◌+◌, ◌-◌, ◌<◌, ◌≤◌, List, [], ◌∷◌, ◌++◌, length, length-append, arith, refl, sym, ap, subst, ◌∙◌, Some, None, Bool, true, false, inl, inr, append_assoc, append-nil}
-use Rattle.std.specs.Prelude.{Option, slice_get, sum_by, nat_lt, ◌&&◌, flat_map, if◌then◌else◌}
-use Rattle.std.specs.Option.{option_map_or}
-use Rattle.std.proofs.lemmas.Bool.{ltb-true}
+use Rattle.std.proofs.{Common.ℕ, Common.◌≡◌, Common.◌+◌, Common.◌-◌, Common.◌<◌, Common.◌≤◌, Common.List, Common.[], Common.◌∷◌, Common.◌++◌, Common.length, Common.length-append, Common.arith, Common.refl, Common.sym, Common.ap, Common.subst, Common.◌∙◌, Common.Some, Common.None, Common.Bool, Common.true, Common.false, Common.inl, Common.inr, Common.append_assoc, Common.append-nil, lemmas.Bool.ltb-true}
+use Rattle.std.specs.{Prelude.Option, Prelude.slice_get, Prelude.sum_by, Prelude.nat_lt, Prelude.◌&&◌, Prelude.flat_map, Prelude.if◌then◌else◌, Option.option_map_or}
+use Rattle.nmgc_lists.specs.laws.Truths.{and_both}
 use Rattle.nmgc_world_spec.specs.World.{World, new_world}
 use Rattle.nmgc_segment.specs.declared.state.State.TheVariants as stands
-use Rattle.nmgc_alloc.specs.AllocState.{AllocState, IsIn, NoneIs}
-use Rattle.nmgc_alloc.specs.laws.Cells.{all_swept}
-use Rattle.nmgc_journal.specs.declared.report.CycleRow.{CycleRow}
-use Rattle.nmgc_journal.specs.Summary.{kept_count}
-use Rattle.nmgc_journal.specs.declared.report.End.{End}
-use Rattle.nmgc_journal.specs.declared.report.End.TheVariants.{Done, HeapFull}
-use Rattle.nmgc_journal.specs.declared.report.RoundRows.{RoundRows}
-use Rattle.nmgc_journal.specs.declared.report.StopRow.{StopRow}
+use Rattle.nmgc_alloc.specs.{AllocState.AllocState, AllocState.IsIn, AllocState.NoneIs, laws.Cells.all_swept}
+use Rattle.nmgc_journal.specs.{declared.report.CycleRow.CycleRow, Summary.kept_count, declared.report.End.End, declared.report.End.TheVariants.Done, declared.report.End.TheVariants.HeapFull, declared.report.RoundRows.RoundRows, declared.report.StopRow.StopRow}
 use Rattle.nmgc_blocks_spec.specs.Cycle.{IsKeptIn, Cycle}
-use Rattle.nmgc_run_spec.specs.Run.{Run, Turn, IsRun, AreTurns, Tells, state_after, last_state}
-use Rattle.nmgc_run_spec.specs.Slice.{has_left}
-use Rattle.nmgc_run_laws.specs.Sound.{AreSoundBlocks, IsRunnable}
-use Rattle.nmgc_run_spec.specs.State.{State, Plan, Progress, sweeping, free_count, reserve_of, start, cycle_started, layout_of, next_cycle}
-use Rattle.nmgc_run_spec.specs.Stop.{IsStop, EndsOrWaits, DoesFullCycle, Proceeds, with_all_retired, answer_of, is_short, is_done, SweepsRest}
-use Rattle.nmgc_run_laws.specs.laws.Crowds.{IsJudged, each_judged, begun_judged, crowded, free}
-use Rattle.nmgc_run_laws.specs.laws.CycleCounts.{free_kept}
-use Rattle.nmgc_run_laws.specs.laws.Filing.{each_filed}
-use Rattle.nmgc_run_laws.specs.laws.Programs.{HasPrograms}
-use Rattle.nmgc_run_laws.specs.laws.Runs.{round_holds, turn_holds, opening_worked, opening_holds}
-use Rattle.nmgc_run_laws.specs.laws.States.{IsSoundHere, Worked, lefts}
-use Rattle.nmgc_run_laws.specs.laws.Stops.{stop_holds, full_begins}
+use Rattle.nmgc_run_spec.specs.{Run.Run, Run.Turn, Run.IsRun, Run.AreTurns, Run.Tells, Run.state_after, Run.last_state, Slice.has_left, State.State, State.Plan, State.Progress, State.sweeping, State.free_count, State.reserve_of, State.start, State.cycle_started, State.layout_of, State.next_cycle, Stop.IsStop, Stop.EndsOrWaits, Stop.DoesFullCycle, Stop.Proceeds, Stop.with_all_retired, Stop.answer_of, Stop.is_short, Stop.is_done, Stop.SweepsRest}
+use Rattle.nmgc_run_laws.specs.{Sound.AreSoundBlocks, Sound.IsRunnable, laws.Crowds.IsJudged, laws.Crowds.each_judged, laws.Crowds.begun_judged, laws.Crowds.crowded, laws.CycleCounts.free, laws.CycleCounts.free_kept, laws.Filing.each_filed, laws.Programs.HasPrograms, laws.Runs.round_holds, laws.Runs.turn_holds, laws.Runs.opening_worked, laws.Runs.opening_holds, laws.States.IsSoundHere, laws.States.Worked, laws.States.lefts, laws.Stops.stop_holds, laws.Stops.full_begins}
 
 -- what a full cycle leaves
 
@@ -117,11 +100,6 @@ full_short true quiet full free_segments reserve e = refl
 full_short false true full free_segments reserve e = absurd cc
 full_short false false full free_segments reserve e = absurd cc
 
--- a short heap has fewer free segments than the reserve
-pub short_free : (left less : Bool) → (left && less) ≡ true → less ≡ true
-short_free true less e = e
-short_free false less e = absurd cc
-
 pub full_heap_is_crowded : (plan : Plan) (run : Run) (rounds : List RoundRows) (stops : List StopRow) (cycles : List CycleRow) (free reserve : ℕ) →
     IsRunnable plan → IsRun plan run → Tells run rounds stops cycles → answer_of plan (last_state run) ≡ Some (HeapFull free reserve) →
     plan.config.segments < kept_count cycles + reserve_of plan
@@ -136,7 +114,7 @@ full_heap_is_crowded plan run rounds stops cycles free_segments reserve runnable
     let short : is_short plan last ≡ true = full_short (is_short plan last) (is_done last) _ free_segments reserve e in
     let crowd = told short in
     let few : free_count last < reserve_of plan =
-    ltb-true (free_count last) (reserve_of plan) (short_free (has_left last.left) (nat_lt (free_count last) (reserve_of plan)) short) in
+    ltb-true (free_count last) (reserve_of plan) (and_both (has_left last.left) (nat_lt (free_count last) (reserve_of plan)) short).1 in
     let kept : kept_count cycles ≡ crowd.1.kept = ap kept_count (tells.cycles_are ∙ crowd.2) ∙ kept_last crowd.0 crowd.1 in
     let most : plan.config.segments ≤ crowd.1.kept + free_count last = crowd.3 in
     omega (arith, few, kept, most)

@@ -1,26 +1,5 @@
 -- Where the places of a round lie, and that its rows leave every header.
-use Rattle.std.proofs.Common.{ℕ, ◌≡◌, ◌<◌, ◌≤◌, List, arith, sym, ap, inl, inr}
-use Rattle.std.specs.Prelude.{IsSome, Contains}
-use Rattle.nmgc_world_spec.specs.World.{World, IsWorld, node_of}
-use Rattle.nmgc_world_spec.specs.History.{Row, replayed}
-use Rattle.nmgc_world_laws.specs.Reachable.{CanReplay}
-use Rattle.nmgc_world_laws.specs.laws.Shapes.{rows_keep_shapes}
-use Rattle.nmgc_world_laws.specs.laws.LiveRows.{replayed_names}
-use Rattle.nmgc_object.specs.Places.{nursery_place}
-use Rattle.nmgc_object.specs.declared.layout.Layout.{Layout}
-use Rattle.nmgc_alloc.specs.Numbered.{Segments}
-use Rattle.nmgc_alloc.specs.Segments.{IsSegments}
-use Rattle.nmgc_heap_spec.specs.Places.{Place}
-use Rattle.nmgc_heap_spec.specs.Represents.{IsEarlier}
-use Rattle.nmgc_heap_spec.specs.laws.CommandLaws.{still_earlier, world_is_earlier}
-use Rattle.nmgc_blocks_spec.specs.laws.Blocks.{is_block}
-use Rattle.nmgc_journal.specs.declared.report.MutatorEnd.{MutatorEnd}
-use Rattle.nmgc_run_spec.specs.State.{State}
-use Rattle.nmgc_blocks_spec.specs.Placed.{IsBlockPlace}
-use Rattle.nmgc_run_spec.specs.Heap.{IsBornPlace, HoldsAfterRound}
-use Rattle.nmgc_run_laws.specs.Headers.{RowsKeepHeaders}
-use Rattle.nmgc_run_laws.specs.laws.Places.{block_used}
-use Rattle.nmgc_lists.specs.laws.Options.{not_none}
+use Rattle.nmgc_run_laws.specs.{laws.Vocabulary.ℕ, laws.Vocabulary.◌≡◌, laws.Vocabulary.◌<◌, laws.Vocabulary.◌≤◌, laws.Vocabulary.List, laws.Vocabulary.arith, laws.Vocabulary.sym, laws.Vocabulary.ap, laws.Vocabulary.inl, laws.Vocabulary.inr, laws.Vocabulary.IsSome, laws.Vocabulary.Contains, laws.Vocabulary.World, laws.Vocabulary.IsWorld, laws.Vocabulary.node_of, laws.Vocabulary.Row, laws.Vocabulary.replayed, laws.Vocabulary.CanReplay, laws.Vocabulary.rows_keep_shapes, laws.Vocabulary.replayed_names, laws.Vocabulary.nursery_place, laws.Vocabulary.Layout, laws.Vocabulary.Segments, laws.Vocabulary.IsSegments, laws.Vocabulary.Place, laws.Vocabulary.IsEarlier, laws.Vocabulary.still_earlier, laws.Vocabulary.world_is_earlier, laws.Vocabulary.is_block, laws.Vocabulary.MutatorEnd, laws.Vocabulary.State, laws.Vocabulary.IsBlockPlace, laws.Vocabulary.IsBornPlace, laws.Vocabulary.HoldsAfterRound, laws.Vocabulary.RowsKeepHeaders, laws.Vocabulary.not_none, laws.Places.block_used}
 
 module _ (layout : Layout) (s t : State) (places : List Place) (words : List ℕ) (segments : Segments) (mutators : List MutatorEnd) (weaks : List Place)
     (sound : IsSegments segments)

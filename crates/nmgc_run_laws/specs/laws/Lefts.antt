@@ -1,22 +1,6 @@
 -- What a stop and a round do to what is left of the programs.
-use Rattle.std.proofs.Common.{ℕ, ◌≡◌, List, [], ◌∷◌, length, map, drop, get_or, slice_index_or, refl, sym, ap, ◌∙◌, inl, inr}
-use Rattle.std.proofs.Math.ListN.{get_or-map}
-use Rattle.std.proofs.lemmas.List.{drop-drop}
-use Rattle.nmgc_world_spec.specs.declared.command.Command.{Command}
-use Rattle.nmgc_world_spec.specs.declared.command.Reply.{Reply}
-use Rattle.nmgc_world_spec.specs.History.{Row}
-use Rattle.nmgc_world_spec.specs.World.{World}
-use Rattle.nmgc_journal.specs.declared.report.RoundRows.{RoundRows}
-use Rattle.nmgc_script.specs.declared.script.Config.{Config}
-use Rattle.nmgc_journal.specs.declared.report.StopRow.{StopRow}
-use Rattle.nmgc_journal.specs.declared.report.CycleRow.{CycleRow}
-use Rattle.nmgc_run_spec.specs.Slice.{slice_of, rest_of, program_of, slices}
-use Rattle.nmgc_run_spec.specs.State.{Plan, State, Progress, idle, marking, sweeping, start, cycle_started}
-use Rattle.nmgc_run_spec.specs.Closing.{ClosesOrWaits, ClosesNow}
-use Rattle.nmgc_run_spec.specs.Stop.{IsStop, EndsOrWaits, Finishes, DoesFullCycle, BeginsOrWaits, Proceeds, with_all_retired}
-use Rattle.nmgc_run_spec.specs.Round.{IsRound}
-use Rattle.nmgc_run_spec.specs.Run.{Turn, AreTurns, state_after}
-use Rattle.nmgc_run_laws.specs.Statements.{LeftIsTold, answered_count}
+use Rattle.std.specs.Prelude.{◌≡◌, ◌∷◌}
+use Rattle.nmgc_run_laws.specs.laws.Vocabulary.{ℕ, List, [], length, map, drop, get_or, slice_index_or, refl, sym, ap, ◌∙◌, inl, inr, get_or-map, drop-drop, Command, Reply, Row, World, Config, StopRow, CycleRow, slice_of, rest_of, program_of, slices, Plan, State, Progress, idle, marking, sweeping, start, cycle_started, ClosesOrWaits, ClosesNow, IsStop, EndsOrWaits, Finishes, DoesFullCycle, BeginsOrWaits, Proceeds, with_all_retired, IsRound, Turn, AreTurns, state_after, LeftIsTold, answered_count}
 
 same_left : (s t : State) → t ≡ s → t.left ≡ s.left
 same_left s t e = ap (λ (x : State). x.left) e
@@ -39,12 +23,10 @@ ending_left (sweeping c closed) s t cycles (inl h) = ap (λ (x : State). x.left)
 ending_left (sweeping c closed) s t cycles (inr h) = same_left s t h.1
 
 finished_left : (s t : State) (cycles : List CycleRow) → Finishes s t cycles → t.left ≡ s.left
-finished_left s t cycles h = ending_left h.swept.progress h.swept t cycles h.ends ∙ ap (λ (x : State). x.left) h.others ∙
-    closed_left s.progress s h.closed h.closes
+finished_left s t cycles h = cc (ending_left h.swept.progress h.swept t cycles h.ends, h.others, closed_left s.progress s h.closed h.closes)
 
 full_left : (s t : State) (cycles : List CycleRow) → DoesFullCycle s t cycles → t.left ≡ s.left
-full_left s t cycles h = ap (λ (x : State). x.left) h.rest ∙ finished_left (cycle_started (with_all_retired h.idled)) h.last h.own h.again ∙
-    finished_left s h.idled h.before h.finishes
+full_left s t cycles h = cc (h.rest, finished_left (cycle_started (with_all_retired h.idled)) h.last h.own h.again, finished_left s h.idled h.before h.finishes)
 
 beginning_left : (config : Config) (s t : State) → BeginsOrWaits config s t → t.left ≡ s.left
 beginning_left config s t (inl h) = ap (λ (x : State). x.left) h.1
@@ -57,10 +39,12 @@ proceeding_left plan s t cycles (inr h) = beginning_left plan.config s t h.1
 -- a stop does no command
 pub stop_left : (plan : Plan) (began : World) (s t : State) (row : StopRow) (cycles : List CycleRow) → IsStop plan began s t row cycles → t.left ≡ s.left
 stop_left plan began s t row cycles h =
-    proceeding_left plan h.ended t h.more h.proceeds
-    ∙ ending_left h.closed.progress h.closed h.ended h.first h.ends
-    ∙ closing_left plan.config.quota h.promoted.progress h.promoted h.closed h.closes
-    ∙ ap (λ (x : State). x.left) h.promotes.rest
+    cc (
+      proceeding_left plan h.ended t h.more h.proceeds,
+      ending_left h.closed.progress h.closed h.ended h.first h.ends,
+      closing_left plan.config.quota h.promoted.progress h.promoted h.closed h.closes,
+      h.promotes.rest,
+    )
 
 -- of the lists, the lengths
 length_at : {A : Type 0} (lists : List (List A)) (m : ℕ) → get_or (map length lists) m 0 ≡ length (get_or lists m [])
@@ -69,16 +53,14 @@ length_at lists m = get_or-map length lists m []
 -- there are as many replies as commands in the slice
 pub slice_count : (config : Config) (s t : State) (replies : List (List Reply)) (rows : List Row) (m : ℕ) → IsRound config s replies rows t →
     length (slice_index_or replies m []) ≡ length (slice_of config (program_of s.left m))
-slice_count config s t replies rows m h = sym (length_at replies m) ∙ ap (λ (lengths : List ℕ). get_or lengths m 0) h.history.lengths ∙
-    length_at (slices config s.left) m ∙ ap (λ (commands : List Command). length commands) (get_or-map (slice_of config) s.left m [])
+slice_count config s t replies rows m h = cc (length_at replies m, h.history.lengths, length_at (slices config s.left) m, get_or-map (slice_of config) s.left m [])
 
 -- a round does a slice of each program, and has a reply for each command of it
 pub round_left : (config : Config) (s t : State) (replies : List (List Reply)) (rows : List Row) (m : ℕ) → IsRound config s replies rows t →
     program_of t.left m ≡ drop (length (slice_index_or replies m [])) (program_of s.left m)
 round_left config s t replies rows m h =
     let new : t.left ≡ map (rest_of config) s.left = ap (λ (x : State). x.left) h.rest in
-    let many : length (get_or replies m []) ≡ length (get_or (slices config s.left) m []) = sym (length_at replies m) ∙
-    ap (λ (lengths : List ℕ). get_or lengths m 0) h.history.lengths ∙ length_at (slices config s.left) m in
+    let many : length (get_or replies m []) ≡ length (get_or (slices config s.left) m []) = cc (length_at replies m, h.history.lengths, length_at (slices config s.left) m) in
     let own : get_or (slices config s.left) m [] ≡ slice_of config (get_or s.left m []) = get_or-map (slice_of config) s.left m [] in
     let rest : get_or (map (rest_of config) s.left) m [] ≡ rest_of config (get_or s.left m []) = get_or-map (rest_of config) s.left m [] in
     ap (λ (left : List (List Command)). program_of left m) new ∙ rest ∙ ap (λ (n : ℕ). drop n (get_or s.left m [])) (sym (many ∙ ap length own))
@@ -91,12 +73,8 @@ turns_left plan s (turn ∷ turns) m h =
     let stopped = stop_left plan s.world turn.worked turn.stop.state turn.stop.row turn.stop.cycles h.0.stop in
     let worked = round_left plan.config s turn.worked turn.replies.replies turn.history m h.0.round in
     let more = answered_count (map (λ (turn : Turn). turn.replies) turns) m in
-    after ∙ ap (λ (left : List (List Command)). drop more (program_of left m)) stopped ∙ ap (drop more) worked ∙
-    drop-drop more (length (slice_index_or turn.replies.replies m [])) (program_of s.left m)
+    cc (after, stopped, worked, drop-drop more (length (slice_index_or turn.replies.replies m [])) (program_of s.left m))
 
 pub left_is_told : LeftIsTold
 left_is_told plan run rounds stops cycles is_run tells m =
-    turns_left plan run.opening.state run.turns m is_run.turns
-    ∙ ap (λ (rows : List RoundRows). drop (answered_count rows m) (program_of run.opening.state.left m)) (sym tells.rounds_are)
-    ∙ ap (λ (left : List (List Command)).
-    drop (answered_count rounds m) (program_of left m)) (stop_left plan _ (start plan) run.opening.state run.opening.row run.opening.cycles is_run.opening)
+    cc (turns_left plan run.opening.state run.turns m is_run.turns, tells.rounds_are, stop_left plan _ (start plan) run.opening.state run.opening.row run.opening.cycles is_run.opening)

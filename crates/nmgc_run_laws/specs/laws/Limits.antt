@@ -1,30 +1,7 @@
 -- The limits of a script hold through its runs.
-use Rattle.std.proofs.Common.{ℕ, ◌≡◌, List, [], ◌∷◌, length, sym, subst, inl, inr}
-use Rattle.std.specs.Prelude.{All}
-use Rattle.std.proofs.lemmas.Bool.{cases_lt}
-use Rattle.std.proofs.lemmas.List.{get_or_past}
-use Rattle.std.proofs.lemmas.List.Elements.{All-nil, All-weaker, All-get_or}
-use Rattle.nmgc_world_spec.specs.Command.{Fits, HasRegisters}
-use Rattle.nmgc_world_spec.specs.declared.command.Command.{Command}
-use Rattle.nmgc_world_spec.specs.World.{World, new_world}
-use Rattle.nmgc_world_laws.specs.Limits.{IsWithin}
-use Rattle.nmgc_world_laws.specs.laws.LimitSteps.{rows_keep_limits, closing_keeps_limits}
-use Rattle.nmgc_world_laws.specs.laws.NewLimits.{new_is_within}
-use Rattle.nmgc_journal.specs.declared.report.CycleRow.{CycleRow}
-use Rattle.nmgc_journal.specs.declared.report.StopRow.{StopRow}
-use Rattle.nmgc_run_spec.specs.Closing.{ClosesOrWaits, ClosesNow, Closes}
-use Rattle.nmgc_run_laws.specs.Limits.{IsWithinLimits, ScriptsHaveGoodPlans, StatesAreWithin, RoundsAreWithin}
-use Rattle.nmgc_run_spec.specs.Run.{Turn, AreTurns, state_after}
-use Rattle.nmgc_run_spec.specs.Slice.{program_of}
-use Rattle.nmgc_run_spec.specs.State.{State, Plan, Progress, idle, marking, sweeping, start, cycle_started}
-use Rattle.nmgc_blocks_spec.specs.Cycle.{Cycle}
-use Rattle.nmgc_run_spec.specs.Stop.{IsStop, EndsOrWaits, Finishes, DoesFullCycle, BeginsOrWaits, Proceeds, with_all_retired}
-use Rattle.nmgc_run_laws.specs.laws.Lefts.{stop_left}
-use Rattle.nmgc_run_laws.specs.laws.Programs.{HasPrograms, rows_have, left_has}
-use Rattle.nmgc_run_laws.specs.laws.Runs.{turn_holds, round_holds, opening_holds, opening_worked, sound_of, rounds_are_sound}
-use Rattle.nmgc_run_laws.specs.laws.States.{IsSoundHere, Worked, lefts}
-use Rattle.nmgc_run_laws.specs.laws.Stops.{stop_holds, full_begins}
-use Rattle.nmgc_script.specs.laws.Versions.{threads_few}
+use Rattle.std.specs.Prelude.{◌≡◌, ◌∷◌}
+use Rattle.nmgc_run_laws.specs.laws.Vocabulary.{ℕ, List, [], length, sym, subst, inl, inr, All, cases_lt, get_or_past, All-nil, All-weaker, All-get_or, Fits, HasRegisters, Command, World, new_world, IsWithin, rows_keep_limits, closing_keeps_limits, new_is_within, CycleRow, StopRow, ClosesOrWaits, ClosesNow, Closes, IsWithinLimits, ScriptsHaveGoodPlans, StatesAreWithin, RoundsAreWithin, Turn, AreTurns, state_after, program_of, State, Plan, Progress, idle, marking, sweeping, start, cycle_started, Cycle, IsStop, EndsOrWaits, Finishes, DoesFullCycle, BeginsOrWaits, Proceeds, with_all_retired, threads_few}
+use Rattle.nmgc_run_laws.specs.laws.{Lefts.stop_left, Programs.HasPrograms, Programs.rows_have, Programs.left_has, Runs.turn_holds, Runs.round_holds, Runs.opening_holds, Runs.opening_worked, Runs.sound_of, Runs.rounds_are_sound, States.IsSoundHere, States.Worked, States.lefts, Stops.stop_holds, Stops.full_begins}
 
 -- worlds through a stop
 
@@ -81,8 +58,7 @@ stop_within plan began s t row cycles i worked h =
     let ended : Within plan i.ended = ends_within plan i.closed.progress i.closed i.ended i.first i.ends closed in
     record {
       world = proceeds_within plan i.ended t i.more i.proceeds holds.ended ended;
-      left = λ m. subst (λ (left : List (List Command)).
-          All (Fits plan.config.words) (program_of left m)) (sym (stop_left plan began s t row cycles i)) (h.left m);
+      left = λ m. rw (stop_left plan began s t row cycles i) (h.left m);
     }
 
 -- a round, and a run

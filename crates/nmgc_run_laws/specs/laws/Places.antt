@@ -1,34 +1,7 @@
 -- The places of a heap are those of the blocks in use.
-use Rattle.std.proofs.Common.{ℕ, ◌≡◌, ◌≢◌, ◌↔◌, ◌+◌, ◌<◌, List, length, arith, refl, sym, ap, subst, ◌∙◌, inl, inr, Option, Some, None}
-use Rattle.std.specs.Prelude.{IsSome, Contains, slice_index}
-use Rattle.std.proofs.Math.ListN.{get_or-eq_default}
-use Rattle.std.proofs.lemmas.Bool.{cases_lt}
-use Rattle.nmgc_world_spec.specs.declared.value.Name.{Name}
-use Rattle.nmgc_limits.specs.declared.mutators.TheConstants.{SHARED_MAKER}
-use Rattle.nmgc_world_spec.specs.declared.node.Node.{Node}
-use Rattle.nmgc_world_spec.specs.World.{World, node_of}
-use Rattle.nmgc_world_spec.specs.Step.{shared_name}
-use Rattle.nmgc_world_spec.specs.Reach.{start as begins}
-use Rattle.nmgc_lists.specs.laws.Items.{contains_head, is_some_of}
-use Rattle.nmgc_object.specs.Size.{block_size}
-use Rattle.nmgc_object.specs.Words.{name_word, IsName}
-use Rattle.nmgc_object.specs.Places.{nursery_place}
-use Rattle.nmgc_object.specs.declared.layout.Layout.{Layout}
-use Rattle.nmgc_object.specs.declared.layout.TheConstants.{SHARED_PLACE}
+use Rattle.std.specs.Prelude.{◌≡◌, ◌≢◌, ◌↔◌, ◌+◌, ◌<◌}
+use Rattle.nmgc_run_laws.specs.laws.Vocabulary.{ℕ, List, length, arith, refl, sym, ap, subst, ◌∙◌, inl, inr, Option, Some, None, IsSome, Contains, slice_index, get_or-eq_default, cases_lt, Name, SHARED_MAKER, Node, World, node_of, shared_name, begins, contains_head, is_some_of, block_size, name_word, IsName, nursery_place, Layout, SHARED_PLACE, nth, Segments, HasNumber, block_place, IsSegments, AllocState, Cells, LiesIn, cells, no_cells, name_in, StandsFor, Shows, one_size, IsTracked, Place, shared_place, Represents, NoNode, IsOccupied, AreBlocks, IsBlockPlace, IsPlaceAtStop, FitBlocks, BlocksAtStop, BlocksAfterRound, none_some}
 use Rattle.nmgc_segment.specs.declared.state.State.TheVariants as stands
-use Rattle.nmgc_alloc.specs.Numbered.{nth, Segments, HasNumber, block_place}
-use Rattle.nmgc_alloc.specs.Segments.{IsSegments}
-use Rattle.nmgc_alloc.specs.AllocState.{AllocState, Cells, LiesIn, cells, no_cells, name_in}
-use Rattle.nmgc_alloc.specs.Stands.{StandsFor, Shows}
-use Rattle.nmgc_blocks_spec.specs.laws.Blocks.{one_size}
-use Rattle.nmgc_heap_spec.specs.Tracked.{IsTracked}
-use Rattle.nmgc_heap_spec.specs.Places.{Place, shared_place}
-use Rattle.nmgc_heap_spec.specs.Represents.{Represents, NoNode}
-use Rattle.nmgc_blocks_spec.specs.Occupied.{IsOccupied, AreBlocks}
-use Rattle.nmgc_blocks_spec.specs.Placed.{IsBlockPlace, IsPlaceAtStop}
-use Rattle.nmgc_run_spec.specs.Heap.{FitBlocks}
-use Rattle.nmgc_run_laws.specs.Places.{BlocksAtStop, BlocksAfterRound}
-use Rattle.nmgc_alloc.specs.laws.Cells.{none_some}
 
 -- a name lies in a segment that exists, and in one of its blocks
 lies_exists : (a : AllocState) (number block : ℕ) (name : Name) → LiesIn a number block name → number < length a.segments
@@ -74,8 +47,7 @@ module _ (layout : Layout) (a : AllocState) (words : List ℕ) (segments : Segme
           exists = at.0;
           used = λ e. free (at.1.state ∙ e);
           within = omega (arith, inside, count);
-          place = ap (λ (l : Layout). block_place l number (cells a number).class block) (sym same) ∙
-              ap (λ (k : ℕ). block_place segments.layout number k block) class;
+          place = cc (same, class);
         };
         used = (at.1.used block).0 (subst (λ (o : Option Name). IsSome o) (sym lies) refl);
         words = ap block_size class;
@@ -90,8 +62,7 @@ module _ (layout : Layout) (a : AllocState) (words : List ℕ) (segments : Segme
       let class = shows.class (λ e. o.begins.used (sym shows.state ∙ e)) in (
         some.0,
         some.1,
-        o.begins.place ∙ ap (λ (l : Layout). block_place l o.number (nth segments.segments o.number).class o.block) same ∙
-            ap (λ (k : ℕ). block_place layout o.number k o.block) (sym class),
+        cc (o.begins.place, same, class),
         ap (λ (k : ℕ). slice_index words (k + 1)) o.begins.place ∙ shows.named o.block some.0 some.1,
       )
 

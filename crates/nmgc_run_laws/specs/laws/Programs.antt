@@ -1,26 +1,7 @@
 -- What is left of the programs: that each round of it can be replayed, and that serials suffice.
-use Rattle.std.proofs.Common.{ℕ, ◌≡◌, ◌+◌, ◌-◌, ◌<◌, ◌≤◌, ◌^◌, List, [], ◌∷◌, length, drop, slice_index_or, arith, refl, sym, ap, subst, ◌∙◌, Bool, true, false, inl, inr}
-use Rattle.std.specs.Prelude.{All, if◌then◌else◌}
-use Rattle.std.proofs.Math.ListN.{get_or-map}
-use Rattle.std.proofs.lemmas.Bool.{cases_lt}
-use Rattle.std.proofs.lemmas.List.{get_or_past, length-drop, length-map}
-use Rattle.std.proofs.lemmas.List.Elements.{All-nil, All-cons, All-head, All-tail, All-drop}
-use Rattle.nmgc_world_spec.specs.Command.{HasRegisters, words_made}
-use Rattle.nmgc_world_spec.specs.declared.command.Command.{Command}
-use Rattle.nmgc_world_spec.specs.declared.command.Reply.{Reply}
-use Rattle.nmgc_world_spec.specs.World.{World, serial_of}
-use Rattle.nmgc_world_spec.specs.History.{Row, replayed, rows_of}
-use Rattle.nmgc_world_laws.specs.Reachable.{CanReplay}
-use Rattle.nmgc_journal.specs.declared.report.CycleRow.{CycleRow}
-use Rattle.nmgc_journal.specs.declared.report.StopRow.{StopRow}
-use Rattle.nmgc_script.specs.declared.script.Config.{Config}
-use Rattle.nmgc_run_spec.specs.Round.{answered, IsRound}
-use Rattle.nmgc_run_spec.specs.Slice.{program_of, slice, slice_of, rest_of, is_next, ends_slice}
-use Rattle.nmgc_run_spec.specs.State.{State, Plan}
-use Rattle.nmgc_run_spec.specs.Stop.{IsStop}
-use Rattle.nmgc_run_laws.specs.laws.Lefts.{slice_count, round_left, stop_left}
-use Rattle.nmgc_run_laws.specs.laws.Serials.{IsGood, own_count, all_own, rows_can, rows_count, answered_has, answered_few}
-use Rattle.nmgc_run_laws.specs.laws.States.{IsSoundHere, lefts}
+use Rattle.std.specs.Prelude.{◌≡◌, ◌+◌, ◌-◌, ◌<◌, ◌≤◌, ◌^◌, ◌∷◌, if◌then◌else◌}
+use Rattle.nmgc_run_laws.specs.laws.Vocabulary.{ℕ, List, [], length, drop, slice_index_or, arith, refl, sym, ap, subst, ◌∙◌, Bool, true, false, inl, inr, All, get_or-map, cases_lt, get_or_past, length-drop, length-map, All-nil, All-cons, All-head, All-tail, All-drop, HasRegisters, words_made, Command, Reply, World, serial_of, Row, replayed, rows_of, CanReplay, CycleRow, StopRow, Config, answered, IsRound, program_of, slice, slice_of, rest_of, is_next, ends_slice, State, Plan, IsStop}
+use Rattle.nmgc_run_laws.specs.laws.{Lefts.slice_count, Lefts.round_left, Lefts.stop_left, Serials.IsGood, Serials.own_count, Serials.all_own, Serials.rows_can, Serials.rows_count, Serials.answered_has, Serials.answered_few, States.IsSoundHere, States.lefts}
 
 -- what is left of the programs: their registers exist
 pub record HasPrograms (plan : Plan) (s : State) : Type 0 where
@@ -62,22 +43,19 @@ slice_few commands words (c ∷ program) =
 -- each mutator's rows of a round are those of its slice
 own_is : (config : Config) (s t : State) (replies : List (List Reply)) (rows : List Row) → IsRound config s replies rows t → (m : ℕ) →
     rows_of m rows ≡ answered m (slice_of config (program_of s.left m)) (slice_index_or replies m [])
-own_is config s t replies rows round m = round.history.order m ∙
-    ap (λ (commands : List Command). answered m commands (slice_index_or replies m [])) (get_or-map (slice_of config) s.left m [])
+own_is config s t replies rows round m = cc (round.history.order m, get_or-map (slice_of config) s.left m [])
 
 -- what holds of the commands that are left holds of the rows, and of what is left then
 pub rows_have : (Q : Command → Type 0) (config : Config) (s t : State) (replies : List (List Reply)) (rows : List Row) →
     IsRound config s replies rows t → ((m : ℕ) → All Q (program_of s.left m)) → All (λ (row : Row). Q row.command) rows
 rows_have Q config s t replies rows round h = all_own (λ (row : Row). Q row.command) rows (λ m.
-    subst (λ (own : List Row).
-    All (λ (row : Row). Q row.command) own) (sym (own_is config s t replies rows round m)) (answered_has Q (λ (row : Row).
+    rw (own_is config s t replies rows round m) (answered_has Q (λ (row : Row).
     Q row.command) m (λ c r q.
     q) (slice_of config (program_of s.left m)) (slice_index_or replies m []) (slice_has Q config.slice config.nursery (program_of s.left m) (h m))))
 
 pub left_has : (Q : Command → Type 0) (config : Config) (s t : State) (replies : List (List Reply)) (rows : List Row) →
     IsRound config s replies rows t → ((m : ℕ) → All Q (program_of s.left m)) → (m : ℕ) → All Q (program_of t.left m)
-left_has Q config s t replies rows round h m = subst (λ (program : List Command).
-    All Q program) (sym (round_left config s t replies rows m round)) (All-drop Q (length (slice_index_or replies m [])) (program_of s.left m) (h m))
+left_has Q config s t replies rows round h m = rw (round_left config s t replies rows m round) (All-drop Q (length (slice_index_or replies m [])) (program_of s.left m) (h m))
 
 -- the rows of a round can be replayed, and leave room for what is left
 module _ (plan : Plan) (s t : State) (replies : List (List Reply)) (rows : List Row) (round : IsRound plan.config s replies rows t)
@@ -86,17 +64,14 @@ module _ (plan : Plan) (s t : State) (replies : List (List Reply)) (rows : List 
   own_good m = elim (cases_lt m (length plan.threads)) [
     | inl lt ↦
         let there : m < length s.world.mutators = omega (arith, lt, h.mutators) in
-        subst (λ (own : List Row).
-        All (IsGood (length s.world.mutators)) own) (sym (own_is plan.config s t replies rows round m))
-        (answered_has HasRegisters (IsGood (length s.world.mutators)) m (λ c r registers. (
+        rw (own_is plan.config s t replies rows round m) (answered_has HasRegisters (IsGood (length s.world.mutators)) m (λ c r registers. (
           there,
           registers,
         )) (slice_of plan.config (program_of s.left m)) (slice_index_or replies m [])
         (slice_has HasRegisters plan.config.slice plan.config.nursery (program_of s.left m) (able.registers m)))
     | inr ge ↦
         let none : program_of s.left m ≡ [] = get_or_past s.left m [] (omega (arith, ge, able.count)) in
-        let own : rows_of m rows ≡ [] = own_is plan.config s t replies rows round m ∙
-        ap (λ (program : List Command). answered m (slice_of plan.config program) (slice_index_or replies m [])) none in
+        let own : rows_of m rows ≡ [] = cc (own_is plan.config s t replies rows round m, none) in
         subst (λ (own : List Row). All (IsGood (length s.world.mutators)) own) (sym own) (All-nil (IsGood (length s.world.mutators)))
   ]
 

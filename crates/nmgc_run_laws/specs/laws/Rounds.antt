@@ -1,23 +1,7 @@
 -- What a round leaves of the fact that a run keeps.
-use Rattle.std.proofs.Common.{ℕ, ◌+◌, ◌-◌, ◌<◌, ◌^◌, List, [], ◌∷◌, ◌++◌, sym, ap, subst, ◌∙◌}
-use Rattle.std.specs.Prelude.{IsSome}
-use Rattle.nmgc_world_spec.specs.World.{World, serial_of, node_of}
-use Rattle.nmgc_world_spec.specs.History.{Row, replayed}
-use Rattle.nmgc_world_spec.specs.Reach.{closed}
-use Rattle.nmgc_world_laws.specs.Reachable.{CanReplay}
-use Rattle.nmgc_lists.specs.laws.Items.{nothing_in}
-use Rattle.nmgc_world_laws.specs.laws.LiveRows.{world_after, replayed_names}
-use Rattle.nmgc_alloc.specs.AllocState.{AllocState, HasBlock}
-use Rattle.nmgc_heap_spec.specs.laws.Roots.{tracked_wide}
-use Rattle.nmgc_blocks_spec.specs.Cycle.{IsKeptIn, Cycle}
-use Rattle.nmgc_run_spec.specs.Round.{noted, SweepsBeside}
-use Rattle.nmgc_run_laws.specs.Sound.{IsOfSnapshot, IsAfterClosing, WaitKnown, LieKnown, AreSoundBlocks}
-use Rattle.nmgc_run_spec.specs.State.{Plan, Progress, idle, marking, sweeping, layout_of}
-use Rattle.nmgc_run_laws.specs.laws.Filing.{each_filed}
-use Rattle.nmgc_run_laws.specs.laws.Serials.{rows_mutators}
-use Rattle.nmgc_run_laws.specs.laws.States.{IsSoundWith, Worked, replayed_more, can_more, known_then}
-use Rattle.nmgc_run_laws.specs.laws.Sweeps.{each_waits, each_lie, sweeps_keep}
-use Rattle.nmgc_run_laws.specs.laws.Tracks.{tracked_before, tracked_young, tracked_known}
+use Rattle.std.specs.Prelude.{◌+◌, ◌-◌, ◌<◌, ◌^◌, ◌∷◌, ◌++◌}
+use Rattle.nmgc_run_laws.specs.laws.Vocabulary.{ℕ, List, [], sym, ap, subst, ◌∙◌, IsSome, World, serial_of, node_of, Row, replayed, closed, CanReplay, nothing_in, world_after, replayed_names, AllocState, tracked_wide, IsKeptIn, Cycle, noted, SweepsBeside, IsOfSnapshot, IsAfterClosing, WaitKnown, LieKnown, AreSoundBlocks, Plan, Progress, idle, marking, sweeping, layout_of}
+use Rattle.nmgc_run_laws.specs.laws.{Filing.each_filed, Serials.rows_mutators, States.IsSoundWith, States.Worked, States.replayed_more, States.can_more, States.known_then, Sweeps.each_waits, Sweeps.each_lie, Sweeps.sweeps_keep, Tracks.tracked_before, Tracks.tracked_young, Tracks.tracked_known}
 
 -- a closed cycle after rows
 closing_more : (c : Cycle) (w : World) (rows : List Row) → IsAfterClosing c w → CanReplay w rows → IsAfterClosing c (replayed w rows)
@@ -49,8 +33,7 @@ module _ (plan : Plan) (left after_left : ℕ →
         old_known = known;
         known = lie_more w rows b can known;
         cycle = tt;
-        old = λ n tracked other there. subst (λ (x : AllocState).
-            HasBlock x n) (sym same) (h.blocks n (tracked_before w [] rows h.world can n tracked there) other);
+        old = λ n tracked other there. rw same (h.blocks n (tracked_before w [] rows h.world can n tracked there) other);
         young = tracked_young w rows h.world can [] (λ e held n wide. absurd (nothing_in e held));
         there = tracked_known (replayed w rows) [] (world_after w rows h.world can) (λ e held n wide. absurd (nothing_in e held));
       }
@@ -71,12 +54,10 @@ module _ (plan : Plan) (left after_left : ℕ →
         known = lie_more w rows b can known;
         cycle = (
           record { world = h.cycle.0.world; rows = more },
-          ap (λ (x : World). replayed x rows) h.cycle.1 ∙
-              sym (replayed_more c.snapshot c.rows rows),
+          cc (h.cycle.1, replayed_more c.snapshot c.rows rows),
           subst (WaitKnown c) (sym same) h.cycle.2,
         );
-        old = λ n tracked other there. subst (λ (x : AllocState).
-            HasBlock x n) (sym same) (h.blocks n (tracked_before w (c.snapshot ∷ []) rows h.world can n tracked there) other);
+        old = λ n tracked other there. rw same (h.blocks n (tracked_before w (c.snapshot ∷ []) rows h.world can n tracked there) other);
         young = tracked_young w rows h.world can (c.snapshot ∷ []) known_names;
         there = tracked_known (replayed w rows) (c.snapshot ∷ []) (world_after w rows h.world can) (λ e held n wide.
             replayed_names w rows can n (known_names e held n wide));

@@ -1,30 +1,7 @@
 -- What holds of every state of a run, by induction over it.
-use Rattle.std.proofs.Common.{ℕ, ◌≡◌, ◌+◌, ◌-◌, ◌<◌, ◌^◌, List, [], ◌∷◌, length, refl, sym, ap, subst, None, zero-add}
-use Rattle.std.specs.Prelude.{IsSome, Contains}
-use Rattle.std.proofs.Math.ListN.{length-replicate}
-use Rattle.nmgc_world_spec.specs.declared.value.Name.{Name}
-use Rattle.nmgc_world_spec.specs.declared.command.Reply.{Reply}
-use Rattle.nmgc_world_spec.specs.declared.mutator_state.MutatorState.{MutatorState}
-use Rattle.nmgc_world_spec.specs.World.{World, IsWorld, serial_of, node_of, new_world, new_mutator}
-use Rattle.nmgc_world_spec.specs.Step.{shared_name}
-use Rattle.nmgc_world_spec.specs.History.{Row}
-use Rattle.nmgc_lists.specs.laws.Items.{at_some, is_some_of, nothing_in}
-use Rattle.nmgc_world_laws.specs.laws.HeldSteps.{absent}
-use Rattle.nmgc_world_laws.specs.laws.NewWorlds.{each_new, new_nodes, new_is_world}
-use Rattle.nmgc_alloc.specs.AllocState.{cells, name_in, all_empty}
-use Rattle.nmgc_alloc.specs.laws.Cells.{none_some}
-use Rattle.nmgc_alloc.specs.laws.OneState.{first_cells}
-use Rattle.nmgc_run_spec.specs.Heap.{snapshots}
-use Rattle.nmgc_run_spec.specs.Round.{IsRound, noted}
-use Rattle.nmgc_run_spec.specs.Run.{Run, Turn, IsRun, IsTurn, AreTurns, state_after, last_state}
-use Rattle.nmgc_run_laws.specs.Sound.{IsRunnable, IsSoundState, StatesAreSound, RoundsAreSound, TrackedHaveBlocks}
-use Rattle.nmgc_run_spec.specs.State.{State, Plan, Progress, idle, marking, sweeping, start, layout_of}
-use Rattle.nmgc_run_laws.specs.laws.Filing.{first_filed}
-use Rattle.nmgc_run_laws.specs.laws.Programs.{HasPrograms, can_replay, made_after, round_programs, stop_programs}
-use Rattle.nmgc_run_laws.specs.laws.Rounds.{round_worked}
-use Rattle.nmgc_run_laws.specs.laws.States.{Worked, IsSoundHere, lefts, earlier_then, snapshot_known}
-use Rattle.nmgc_run_laws.specs.laws.Stops.{stop_holds}
-use Rattle.nmgc_run_laws.specs.laws.Tracks.{tracked_known}
+use Rattle.std.specs.Prelude.{◌≡◌, ◌∷◌}
+use Rattle.nmgc_run_laws.specs.laws.Vocabulary.{ℕ, List, [], length, refl, sym, ap, subst, None, zero-add, IsSome, Contains, length-replicate, Name, Reply, MutatorState, World, IsWorld, serial_of, node_of, new_world, new_mutator, shared_name, Row, at_some, is_some_of, nothing_in, absent, each_new, new_nodes, new_is_world, cells, name_in, all_empty, none_some, first_cells, snapshots, IsRound, noted, Run, Turn, IsRun, IsTurn, AreTurns, state_after, last_state, IsRunnable, IsSoundState, StatesAreSound, RoundsAreSound, TrackedHaveBlocks, State, Plan, Progress, idle, marking, sweeping, start, layout_of}
+use Rattle.nmgc_run_laws.specs.laws.{Filing.first_filed, Programs.HasPrograms, Programs.can_replay, Programs.made_after, Programs.round_programs, Programs.stop_programs, Rounds.round_worked, States.Worked, States.IsSoundHere, States.lefts, States.earlier_then, States.snapshot_known, Stops.stop_holds, Tracks.tracked_known}
 
 -- a round, and a turn
 
@@ -70,8 +47,7 @@ opening_worked plan runnable =
     record {
       world = is;
       mutators = length-replicate k new_mutator;
-      made = λ m. subst (λ (n : ℕ). n + lefts (start plan) m < 2 ^ 32 - 1) (sym (new_serial k m)) (subst (λ (n : ℕ).
-          n < 2 ^ 32 - 1) (sym (zero-add (lefts (start plan) m))) (runnable.short m));
+      made = λ m. rw (new_serial k m) (rw (zero-add (lefts (start plan) m)) (runnable.short m));
       sound_blocks = first_filed (layout_of plan);
       old_known = λ number block n lies. absurd (none_some (name_in (cells (all_empty plan.config.segments) number) block) n (empty number block) lies);
       known = λ number block n lies. absurd (none_some (name_in (cells (all_empty plan.config.segments) number) block) n (empty number block) lies);
@@ -148,8 +124,7 @@ rounds_are_sound plan s t replies rows sound round =
       cycle = m.cycle;
       earlier = earlier_then t.world t.allocation t.progress m.cycle;
       names = λ e held n there.
-          snapshot_known s.world s.allocation s.progress sound.cycle e (noted_snapshots s.progress rows e (subst (λ (x : State).
-          Contains (snapshots x.progress) e) round.rest held)) n there;
+          snapshot_known s.world s.allocation s.progress sound.cycle e (noted_snapshots s.progress rows e (rw round.rest at held)) n there;
       blocks = m.old;
     }
 

@@ -1,21 +1,7 @@
 -- How many objects rows make: a command makes one at most, and only for the mutator that gives it. So rows
 -- with mutators and registers that exist can be replayed where serials suffice.
-use Rattle.std.proofs.Common.{ℕ, ◌≡◌, ◌≢◌, ◌+◌, ◌-◌, ◌<◌, ◌≤◌, ◌^◌, List, [], ◌∷◌, length, arith, refl, sym, subst, ◌∙◌, Bool, true, false, eqb, cond, inl, inr}
-use Rattle.std.specs.Prelude.{All}
-use Rattle.std.proofs.lemmas.Bool.{cases_eq}
-use Rattle.std.proofs.lemmas.Bool.Decides.{eqb_tells}
-use Rattle.std.proofs.lemmas.List.Elements.{All-nil, All-cons, All-head, All-tail}
-use Rattle.nmgc_world_spec.specs.declared.command.Command.{Command}
-use Rattle.nmgc_world_spec.specs.declared.command.Reply.{Reply}
-use Rattle.nmgc_world_spec.specs.Command.{HasRegisters}
-use Rattle.nmgc_world_spec.specs.World.{World, IsWorld, serial_of}
-use Rattle.nmgc_world_spec.specs.Step.{CanApply, step}
-use Rattle.nmgc_world_spec.specs.History.{Row, replayed, rows_of}
-use Rattle.nmgc_world_laws.specs.laws.Growth.{step_grows}
-use Rattle.nmgc_world_laws.specs.Reachable.{CanReplay}
-use Rattle.nmgc_world_laws.specs.laws.Keeps.{step_leaves_others}
-use Rattle.nmgc_world_laws.specs.laws.WorldSteps.{step_keeps_world}
-use Rattle.nmgc_run_spec.specs.Round.{answered}
+use Rattle.std.specs.Prelude.{◌≡◌, ◌≢◌, ◌+◌, ◌-◌, ◌<◌, ◌≤◌, ◌^◌, ◌∷◌}
+use Rattle.nmgc_run_laws.specs.laws.Vocabulary.{ℕ, List, [], length, arith, refl, sym, subst, ◌∙◌, Bool, true, false, eqb, cond, inl, inr, All, cases_eq, eqb_tells, All-nil, All-cons, All-head, All-tail, Command, Reply, HasRegisters, World, IsWorld, serial_of, CanApply, step, Row, replayed, rows_of, step_grows, CanReplay, step_leaves_others, step_keeps_world, answered}
 
 -- the mutator and the registers exist
 abbrev pub IsGood : ℕ → Row → Type 0
@@ -62,8 +48,7 @@ step_count : (w : World) (row : Row) (rows : List Row) (m : ℕ) → IsWorld w �
 step_count w row rows m is can = elim (cases_eq m row.mutator) [
   | inl e ↦
       let more : serial_of (step w row.mutator row.command).0 m ≤ serial_of w m + 1 =
-      subst (λ (k : ℕ). serial_of (step w row.mutator row.command).0 k ≤ serial_of w k + 1) (sym e)
-      (step_grows w row.mutator row.command can.mutator).by_one in
+      rw e (step_grows w row.mutator row.command can.mutator).by_one in
       omega (arith, more, own_here m row rows (sym e))
   | inr other ↦
       let same : serial_of (step w row.mutator row.command).0 m ≡ serial_of w m = (step_leaves_others w row.mutator row.command is can m other).made in
@@ -86,8 +71,7 @@ rows_can limit w (row ∷ rows) world good few is =
     } in
     let count : length v.mutators ≡ length w.mutators = (step_grows w row.mutator row.command g.0).mutators in (
       can,
-      rows_can limit v rows (step_keeps_world w row.mutator row.command world can) (subst (λ (n : ℕ).
-          All (IsGood n) rows) (sym count) (All-tail (IsGood (length w.mutators)) row rows good))
+      rows_can limit v rows (step_keeps_world w row.mutator row.command world can) (rw count (All-tail (IsGood (length w.mutators)) row rows good))
           (λ m. let a : serial_of v m + own_count m rows ≤ serial_of w m + own_count m (row ∷ rows) = step_count w row rows m world can in
           let b : serial_of w m + own_count m (row ∷ rows) ≤ limit - 1 = few m in omega (arith, a, b)) is,
     )

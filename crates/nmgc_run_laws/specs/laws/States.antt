@@ -1,23 +1,6 @@
 -- What the states of a run keep: the fact that an induction over a run hands on, at a stop and after a round.
-use Rattle.std.proofs.Common.{ℕ, ◌≡◌, ◌≢◌, ◌+◌, ◌-◌, ◌<◌, ◌^◌, List, [], ◌∷◌, ◌++◌, length, refl, sym, subst, inl, inr}
-use Rattle.std.specs.Prelude.{IsSome, Contains}
-use Rattle.nmgc_world_spec.specs.declared.value.Name.{Name}
-use Rattle.nmgc_world_spec.specs.World.{World, IsWorld, serial_of, node_of}
-use Rattle.nmgc_world_spec.specs.Step.{shared_name, step}
-use Rattle.nmgc_world_spec.specs.History.{Row, replayed}
-use Rattle.nmgc_world_spec.specs.Reach.{IsReached}
-use Rattle.nmgc_lists.specs.laws.Items.{contains_cases, nothing_in}
-use Rattle.nmgc_world_spec.specs.Wide.{IsWide}
-use Rattle.nmgc_world_laws.specs.Reachable.{CanReplay}
-use Rattle.nmgc_world_laws.specs.laws.LiveRows.{replayed_names}
-use Rattle.nmgc_world_laws.specs.laws.Reached.{wide_known}
-use Rattle.nmgc_alloc.specs.AllocState.{AllocState, HasBlock}
-use Rattle.nmgc_heap_spec.specs.Represents.{IsEarlier}
-use Rattle.nmgc_heap_spec.specs.Tracked.{IsTracked}
-use Rattle.nmgc_blocks_spec.specs.Promoted.{IsYoung, IsFirstPromoted}
-use Rattle.nmgc_run_spec.specs.Heap.{snapshots}
-use Rattle.nmgc_run_laws.specs.Sound.{IsInCycle, AreSoundBlocks, LieKnown, left_of}
-use Rattle.nmgc_run_spec.specs.State.{Plan, State, Progress, idle, marking, sweeping, layout_of}
+use Rattle.std.specs.Prelude.{◌≡◌, ◌≢◌, ◌+◌, ◌-◌, ◌<◌, ◌^◌, ◌∷◌, ◌++◌}
+use Rattle.nmgc_run_laws.specs.laws.Vocabulary.{ℕ, List, [], length, refl, subst, inl, inr, IsSome, Contains, Name, World, IsWorld, serial_of, node_of, shared_name, step, Row, replayed, IsReached, contains_cases, nothing_in, IsWide, CanReplay, replayed_names, wide_known, AllocState, HasBlock, IsEarlier, IsTracked, IsYoung, IsFirstPromoted, snapshots, IsInCycle, AreSoundBlocks, LieKnown, left_of, Plan, State, Progress, idle, marking, sweeping, layout_of}
 use Rattle.nmgc_run_laws.specs.laws.Leaving.{rows_keep_headers}
 
 -- rows after rows
@@ -69,8 +52,7 @@ pub snapshot_known : (w : World) (a : AllocState) (p : Progress) → IsInCycle p
     IsSome (node_of e n) → IsSome (node_of w n)
 snapshot_known w a idle h e held n there = absurd (nothing_in e held)
 snapshot_known w a (marking c) h e held n there = elim (contains_cases c.snapshot [] e held) [
-  | inl same ↦ subst (λ (x : World). IsSome (node_of x n)) (sym h.1) (replayed_names c.snapshot c.rows h.0.rows n (subst (λ (x : World).
-      IsSome (node_of x n)) (sym same) there))
+  | inl same ↦ rw h.1 (replayed_names c.snapshot c.rows h.0.rows n (rw same there))
   | inr none ↦ absurd (nothing_in e none)
 ]
 snapshot_known w a (sweeping c closed) h e held n there = absurd (nothing_in e held)
@@ -93,8 +75,7 @@ known_then w a p h e held n wide = snapshot_known w a p h e held n (wide_known e
 pub earlier_then : (w : World) (a : AllocState) (p : Progress) → IsInCycle p w a → (e : World) → Contains (snapshots p) e → IsEarlier e w
 earlier_then w a idle h e held = absurd (nothing_in e held)
 earlier_then w a (marking c) h e held = elim (contains_cases c.snapshot [] e held) [
-  | inl same ↦ subst (λ (x : World). IsEarlier x w) same (subst (λ (x : World).
-      IsEarlier c.snapshot x) (sym h.1) (rows_keep_headers c.snapshot c.rows h.0.world h.0.rows))
+  | inl same ↦ rw (← same) (rw h.1 (rows_keep_headers c.snapshot c.rows h.0.world h.0.rows))
   | inr none ↦ absurd (nothing_in e none)
 ]
 earlier_then w a (sweeping c closed) h e held = absurd (nothing_in e held)

@@ -1,35 +1,7 @@
 -- What a stop leaves of the fact that a run keeps: step by step.
-use Rattle.std.proofs.Common.{ℕ, ◌≡◌, ◌≢◌, ◌⊎◌, ◌+◌, ◌-◌, ◌<◌, ◌^◌, List, [], ◌∷◌, refl, sym, ap, subst, ◌∙◌, Option, Some, None, inl, inr}
-use Rattle.std.specs.Prelude.{IsSome, Contains}
-use Rattle.nmgc_world_spec.specs.declared.value.Name.{Name}
-use Rattle.nmgc_world_spec.specs.declared.node.Node.{Node}
-use Rattle.nmgc_world_spec.specs.World.{World, node_of}
-use Rattle.nmgc_world_spec.specs.Step.{shared_name}
-use Rattle.nmgc_world_spec.specs.History.{replayed}
-use Rattle.nmgc_world_spec.specs.Reach.{closed}
-use Rattle.nmgc_lists.specs.laws.Items.{contains_cases, nothing_in}
-use Rattle.nmgc_world_laws.specs.laws.Deaths.{closed_world, closed_names, closed_mutators, closed_serials}
-use Rattle.nmgc_world_laws.specs.laws.HeldSteps.{absent, some_of}
-use Rattle.nmgc_object.specs.declared.layout.Layout.{Layout}
-use Rattle.nmgc_alloc.specs.AllocState.{AllocState, HasBlock, LiesNowhere, all_retired}
-use Rattle.nmgc_alloc.specs.laws.Cells.{AreFreeEmpty, AllWait, free_empty, placed_has, placed_keeps, placed_back, placed_free, placed_waits, begun_names, retired_names}
-use Rattle.nmgc_heap_spec.specs.laws.CommandLaws.{closing_tracks}
-use Rattle.nmgc_heap_spec.specs.laws.Roots.{tracked_wide}
-use Rattle.nmgc_heap_spec.specs.Tracked.{IsTracked}
-use Rattle.nmgc_blocks_spec.specs.Promoted.{IsYoung, PlacesEach}
-use Rattle.nmgc_journal.specs.declared.report.CycleRow.{CycleRow}
-use Rattle.nmgc_journal.specs.declared.report.StopRow.{StopRow}
-use Rattle.nmgc_script.specs.declared.script.Config.{Config}
-use Rattle.nmgc_blocks_spec.specs.Cycle.{IsKeptIn, Cycle}
-use Rattle.nmgc_run_spec.specs.Closing.{Closes, ClosesOrWaits, ClosesNow}
-use Rattle.nmgc_run_spec.specs.Heap.{snapshots}
-use Rattle.nmgc_run_spec.specs.Stop.{Promotes, IsStop, EndsOrWaits, Finishes, DoesFullCycle, BeginsOrWaits, Proceeds, with_all_retired, SweepsRest}
-use Rattle.nmgc_run_laws.specs.Sound.{IsOfSnapshot, IsInCycle, LieKnown}
-use Rattle.nmgc_run_spec.specs.State.{State, Plan, Progress, idle, marking, sweeping, layout_of, cycle_started}
-use Rattle.nmgc_run_laws.specs.laws.Filing.{each_filed, places_filed, begun_filed, retired_filed}
-use Rattle.nmgc_run_laws.specs.laws.States.{IsSoundWith, Worked, IsSoundHere, lefts}
-use Rattle.nmgc_run_laws.specs.laws.Sweeps.{each_waits, each_lie, sweeps_keep}
-use Rattle.nmgc_run_laws.specs.laws.Tracks.{tracked_fewer, tracked_itself}
+use Rattle.std.specs.Prelude.{◌≡◌, ◌≢◌, ◌⊎◌, ◌+◌, ◌-◌, ◌<◌, ◌^◌, ◌∷◌}
+use Rattle.nmgc_run_laws.specs.laws.Vocabulary.{ℕ, List, [], refl, sym, ap, subst, ◌∙◌, Option, Some, None, inl, inr, IsSome, Contains, Name, Node, World, node_of, shared_name, replayed, closed, contains_cases, nothing_in, closed_world, closed_names, closed_mutators, closed_serials, absent, some_of, Layout, AllocState, HasBlock, LiesNowhere, all_retired, AreFreeEmpty, AllWait, free_empty, placed_has, placed_keeps, placed_back, placed_free, placed_waits, begun_names, retired_names, closing_tracks, tracked_wide, IsTracked, IsYoung, PlacesEach, CycleRow, StopRow, Config, IsKeptIn, Cycle, Closes, ClosesOrWaits, ClosesNow, snapshots, Promotes, IsStop, EndsOrWaits, Finishes, DoesFullCycle, BeginsOrWaits, Proceeds, with_all_retired, SweepsRest, IsOfSnapshot, IsInCycle, LieKnown, State, Plan, Progress, idle, marking, sweeping, layout_of, cycle_started}
+use Rattle.nmgc_run_laws.specs.laws.{Filing.each_filed, Filing.places_filed, Filing.begun_filed, Filing.retired_filed, States.IsSoundWith, States.Worked, States.IsSoundHere, States.lefts, Sweeps.each_waits, Sweeps.each_lie, Sweeps.sweeps_keep, Tracks.tracked_fewer, Tracks.tracked_itself}
 
 -- promotion
 
@@ -113,10 +85,8 @@ close_holds plan c s t h closes =
 
 closes_or_waits : (plan : Plan) (quota : ℕ) (p : Progress) (s t : State) → IsSoundWith plan (lefts s) s.world s.allocation p → s.progress ≡ p →
     ClosesOrWaits quota p s t → IsSoundHere plan t
-closes_or_waits plan quota idle s t h e same = subst (IsSoundHere plan) (sym same) (subst (λ (p : Progress).
-    IsSoundWith plan (lefts s) s.world s.allocation p) (sym e) h)
-closes_or_waits plan quota (marking c) s t h e (inl same) = subst (IsSoundHere plan) (sym same) (subst (λ (p : Progress).
-    IsSoundWith plan (lefts s) s.world s.allocation p) (sym e) h)
+closes_or_waits plan quota idle s t h e same = subst (IsSoundHere plan) (sym same) (rw e h)
+closes_or_waits plan quota (marking c) s t h e (inl same) = subst (IsSoundHere plan) (sym same) (rw e h)
 closes_or_waits plan quota (marking c) s t h e (inr closes) = close_holds plan c s t h closes.0
 closes_or_waits plan quota (sweeping c number) s t h e same =
     subst (IsSoundHere plan) (sym same) (subst (λ (p : Progress). IsSoundWith plan (lefts s) s.world s.allocation p) (sym e) h)
@@ -125,8 +95,7 @@ closes_now : (plan : Plan) (p : Progress) (s t : State) → IsSoundWith plan (le
     IsSoundHere plan t
 closes_now plan idle s t h e same = subst (IsSoundHere plan) (sym same) (subst (λ (p : Progress). IsSoundWith plan (lefts s) s.world s.allocation p) (sym e) h)
 closes_now plan (marking c) s t h e closes = close_holds plan c s t h closes
-closes_now plan (sweeping c number) s t h e same = subst (IsSoundHere plan) (sym same) (subst (λ (p : Progress).
-    IsSoundWith plan (lefts s) s.world s.allocation p) (sym e) h)
+closes_now plan (sweeping c number) s t h e same = subst (IsSoundHere plan) (sym same) (rw e h)
 
 rested : (plan : Plan) (left : ℕ → ℕ) (w : World) (a : AllocState) (c : Cycle) (number : ℕ) → IsSoundWith plan left w a (sweeping c number) →
     IsSoundWith plan left w a idle
@@ -142,10 +111,8 @@ rested plan left w a c number h = record {
 
 ends_or_waits : (plan : Plan) (p : Progress) (s t : State) (cycles : List CycleRow) → IsSoundWith plan (lefts s) s.world s.allocation p →
     s.progress ≡ p → EndsOrWaits p s t cycles → IsSoundHere plan t
-ends_or_waits plan idle s t cycles h e ends = subst (IsSoundHere plan) (sym ends.0) (subst (λ (p : Progress).
-    IsSoundWith plan (lefts s) s.world s.allocation p) (sym e) h)
-ends_or_waits plan (marking c) s t cycles h e ends = subst (IsSoundHere plan) (sym ends.0) (subst (λ (p : Progress).
-    IsSoundWith plan (lefts s) s.world s.allocation p) (sym e) h)
+ends_or_waits plan idle s t cycles h e ends = subst (IsSoundHere plan) (sym ends.0) (rw e h)
+ends_or_waits plan (marking c) s t cycles h e ends = subst (IsSoundHere plan) (sym ends.0) (rw e h)
 ends_or_waits plan (sweeping c number) s t cycles h e (inl ends) =
     subst (IsSoundHere plan) (sym ends.1.rest) (rested plan (lefts s) s.world s.allocation c number h)
 ends_or_waits plan (sweeping c number) s t cycles h e (inr waits) =

@@ -1,13 +1,6 @@
 -- A sweep in a run loses no name that anybody may still speak of.
-use Rattle.std.proofs.Common.{ℕ, List, [], ◌∷◌, sym, subst}
-use Rattle.nmgc_world_spec.specs.declared.value.Name.{Name}
-use Rattle.nmgc_world_spec.specs.World.{World}
-use Rattle.nmgc_world_spec.specs.Wide.{IsWide}
-use Rattle.nmgc_world_laws.specs.laws.Reached.{nothing_reachable_is_freed}
-use Rattle.nmgc_alloc.specs.AllocState.{AllocState, Sweeps, SweepsEach, SweepsSome, HoldsKept, HasBlock}
-use Rattle.nmgc_alloc.specs.laws.Cells.{AllLie, AllWait, swept_keeps, swept_back, swept_state}
-use Rattle.nmgc_blocks_spec.specs.Cycle.{interval_of, IsKeptIn, Cycle}
-use Rattle.nmgc_run_laws.specs.Sound.{IsOfSnapshot, IsAfterClosing, WaitKnown}
+use Rattle.std.specs.Prelude.{◌∷◌}
+use Rattle.nmgc_run_laws.specs.laws.Vocabulary.{ℕ, List, [], sym, subst, Name, World, IsWide, nothing_reachable_is_freed, AllocState, Sweeps, SweepsEach, SweepsSome, HoldsKept, HasBlock, AllLie, AllWait, swept_keeps, swept_back, swept_state, interval_of, IsKeptIn, Cycle, IsOfSnapshot, IsAfterClosing, WaitKnown}
 
 module _ (K : Name → Type 0) (Q : Name → Type 0) where
   next_waits : (a b : AllocState) (number : ℕ) (s : Sweeps a b number (HoldsKept K a number)) → AllWait Q a → AllWait Q b
@@ -36,5 +29,4 @@ module _ (K : Name → Type 0) (Q : Name → Type 0) where
 pub sweeps_keep : (c : Cycle) (w : World) (a b : AllocState) (count : ℕ) → SweepsSome (IsKeptIn c) count a b → IsAfterClosing c w → WaitKnown c a →
     (n : Name) → IsWide w n → HasBlock a n → HasBlock b n
 sweeps_keep c w a b count s after waits n wide has = each_keeps (IsKeptIn c) (IsOfSnapshot c) a b s.numbers s.sweeps waits n
-    (λ there lost. nothing_reachable_is_freed (interval_of c) after.dead after.since after.sound after.lists after.can n (subst (λ (x : World).
-    IsWide x n) after.world_is wide) there lost) has
+    (λ there lost. nothing_reachable_is_freed (interval_of c) after.dead after.since after.sound after.lists after.can n (rw after.world_is at wide) there lost) has

@@ -1,21 +1,7 @@
 -- Tracked names: which of them a round leaves, and that the young among them are promoted.
-use Rattle.std.proofs.Common.{◌≡◌, ◌⊎◌, List, [], ◌∷◌, refl, sym, subst, Option, Some, None, inl, inr}
-use Rattle.std.specs.Prelude.{IsSome, Contains}
-use Rattle.nmgc_world_spec.specs.declared.value.Name.{Name}
-use Rattle.nmgc_world_spec.specs.declared.node.Node.{Node}
-use Rattle.nmgc_world_spec.specs.World.{World, IsWorld, node_of}
-use Rattle.nmgc_world_spec.specs.History.{Row, replayed}
-use Rattle.nmgc_world_spec.specs.Reach.{IsReached, RefersTo, start, field}
-use Rattle.nmgc_lists.specs.laws.Items.{contains_cases, nothing_in}
-use Rattle.nmgc_world_spec.specs.Wide.{IsWide}
-use Rattle.nmgc_world_laws.specs.Reachable.{HoldsOnly, CanReplay}
-use Rattle.nmgc_world_laws.specs.laws.HeldSteps.{absent, some_of}
-use Rattle.nmgc_world_laws.specs.laws.Reached.{rows_hold, from_there, world_holds}
-use Rattle.nmgc_world_laws.specs.laws.StoredLaws.{old_weaks_stay}
-use Rattle.nmgc_heap_spec.specs.Tracked.{IsTracked}
-use Rattle.nmgc_heap_spec.specs.laws.CommandLaws.{tracked_holds, held_tracked, past_tracked}
-use Rattle.nmgc_heap_spec.specs.laws.Tracking.{tracked_more}
-use Rattle.nmgc_blocks_spec.specs.Promoted.{IsYoung, IsFirstPromoted}
+use Rattle.std.specs.Prelude.{◌≡◌, ◌⊎◌, ◌∷◌}
+use Rattle.nmgc_run_laws.specs.laws.Vocabulary.{List, [], refl, sym, subst, Option, Some, None, inl, inr, IsSome, Contains, Name, Node, World, IsWorld, node_of, Row, replayed, IsReached, RefersTo, field, contains_cases, nothing_in, IsWide, HoldsOnly, CanReplay, absent, some_of, rows_hold, from_there, world_holds, old_weaks_stay, IsTracked, tracked_holds, held_tracked, past_tracked, tracked_more, IsYoung, IsFirstPromoted}
+use Rattle.nmgc_world_spec.specs.Reach.{start}
 
 -- a name that a world has is tracked
 abbrev pub IsTrackedIfOld : World → List World → Name → Type 0

@@ -1,13 +1,6 @@
 -- A run that goes on: one turn more at its end.
-use Rattle.std.proofs.Common.{◌≡◌, List, [], ◌∷◌, ◌++◌, refl, sym, ap, ◌∙◌, append_assoc, append-nil}
-use Rattle.std.proofs.lemmas.List.{map-append}
-use Rattle.std.specs.Prelude.{flat_map}
-use Rattle.nmgc_journal.specs.declared.report.RoundRows.{RoundRows}
-use Rattle.nmgc_journal.specs.declared.report.StopRow.{StopRow}
-use Rattle.nmgc_journal.specs.declared.report.CycleRow.{CycleRow}
-use Rattle.nmgc_run_spec.specs.State.{Plan, State}
-use Rattle.nmgc_run_spec.specs.Run.{Turn, IsTurn, AreTurns, state_after}
-use Rattle.nmgc_run_laws.specs.Statements.{RunGoesOn, TellsOneMore, LastIsOfTurn}
+use Rattle.std.specs.Prelude.{◌≡◌, ◌∷◌, ◌++◌}
+use Rattle.nmgc_run_laws.specs.laws.Vocabulary.{List, [], refl, sym, ap, ◌∙◌, append_assoc, append-nil, map-append, flat_map, RoundRows, Plan, State, Turn, IsTurn, AreTurns, state_after, RunGoesOn, TellsOneMore, LastIsOfTurn}
 
 -- the state after the turns and one more is that of the last
 pub last_of : (s : State) (turns : List Turn) (turn : Turn) → state_after s (turns ++ turn ∷ []) ≡ turn.stop.state
@@ -32,16 +25,12 @@ last_is_of_turn run turn = last_of run.opening.state run.turns turn
 pub cycles_of : (turns : List Turn) (turn : Turn) → flat_map (λ (t : Turn). t.stop.cycles) (turns ++ turn ∷ []) ≡
     flat_map (λ (t : Turn). t.stop.cycles) turns ++ turn.stop.cycles
 cycles_of [] turn = append-nil turn.stop.cycles
-cycles_of (first ∷ turns) turn = ap (λ (rows : List CycleRow). first.stop.cycles ++ rows) (cycles_of turns turn) ∙
-    sym (append_assoc first.stop.cycles (flat_map (λ (t : Turn). t.stop.cycles) turns) turn.stop.cycles)
+cycles_of (first ∷ turns) turn = cc (cycles_of turns turn, append_assoc first.stop.cycles (flat_map (λ (t : Turn). t.stop.cycles) turns) turn.stop.cycles)
 
 -- what is told of the run and the turn is told of the run with the turn
 pub tells_one_more : TellsOneMore
 tells_one_more run turn rounds stops cycles tells = record {
   rounds_are = ap (λ (rows : List RoundRows). rows ++ turn.replies ∷ []) tells.rounds_are ∙ sym (map-append (λ (t : Turn). t.replies) run.turns (turn ∷ []));
-  stops_are = ap (λ (rows : List StopRow). rows ++ turn.stop.row ∷ []) tells.stops_are ∙
-      ap (λ (rows : List StopRow). run.opening.row ∷ rows) (sym (map-append (λ (t : Turn). t.stop.row) run.turns (turn ∷ [])));
-  cycles_are = ap (λ (rows : List CycleRow). rows ++ turn.stop.cycles) tells.cycles_are ∙
-      append_assoc run.opening.cycles (flat_map (λ (t : Turn). t.stop.cycles) run.turns) turn.stop.cycles ∙
-      ap (λ (rows : List CycleRow). run.opening.cycles ++ rows) (sym (cycles_of run.turns turn));
+  stops_are = cc (tells.stops_are, map-append (λ (t : Turn). t.stop.row) run.turns (turn ∷ []));
+  cycles_are = cc (tells.cycles_are, append_assoc run.opening.cycles (flat_map (λ (t : Turn). t.stop.cycles) run.turns) turn.stop.cycles, cycles_of run.turns turn);
 }

@@ -1,16 +1,9 @@
 -- What the limits of a script's version say, whichever version it is.
-use Rattle.std.proofs.Common.{◌≡◌, ◌≤◌, ℕ, List, length, refl, sym, subst, arith, inl, inr, lit≤}
+use Rattle.std.proofs.{Common.◌≡◌, Common.◌≤◌, Common.ℕ, Common.List, Common.length, Common.refl, Common.sym, Common.subst, Common.arith, Common.inl, Common.inr, Common.lit≤, lemmas.List.Elements.All-weaker}
 use Rattle.std.specs.Prelude.{All, Bool, true, false, ◌==◌, if◌then◌else◌}
-use Rattle.std.proofs.lemmas.List.Elements.{All-weaker}
 use Rattle.nmgc_limits.specs.declared.mutators.TheConstants.{REGISTERS, MAKERS}
-use Rattle.nmgc_world_spec.specs.declared.command.Operand.{Operand}
-use Rattle.nmgc_world_spec.specs.declared.command.Operand.TheVariants.{Register, Shared}
-use Rattle.nmgc_world_spec.specs.declared.command.Command.{Command}
-use Rattle.nmgc_world_spec.specs.declared.command.Command.TheVariants.{Num, Nil, Mov, Con, Var, Arr, Thunk, Weak, Stack, Get, Set, Cas, Update, Force, Push, Pop, Deref, Finalise, NextFin, Show, Same, Yield, Collect, Full}
-use Rattle.nmgc_world_spec.specs.Command.{IsOperand, IsOperandBelow, HasRegisters, HasRegistersBelow, Fits}
-use Rattle.nmgc_script.specs.declared.script.Script.{Script}
-use Rattle.nmgc_script.specs.declared.version.Version.{Version}
-use Rattle.nmgc_script.specs.Limits.{FitsScript, IsVersion, upgraded, version_1, version_2, version_of}
+use Rattle.nmgc_world_spec.specs.{declared.command.Operand.Operand, declared.command.Operand.TheVariants.Register, declared.command.Operand.TheVariants.Shared, declared.command.Command.Command, declared.command.Command.TheVariants.Num, declared.command.Command.TheVariants.Nil, declared.command.Command.TheVariants.Mov, declared.command.Command.TheVariants.Con, declared.command.Command.TheVariants.Var, declared.command.Command.TheVariants.Arr, declared.command.Command.TheVariants.Thunk, declared.command.Command.TheVariants.Weak, declared.command.Command.TheVariants.Stack, declared.command.Command.TheVariants.Get, declared.command.Command.TheVariants.Set, declared.command.Command.TheVariants.Cas, declared.command.Command.TheVariants.Update, declared.command.Command.TheVariants.Force, declared.command.Command.TheVariants.Push, declared.command.Command.TheVariants.Pop, declared.command.Command.TheVariants.Deref, declared.command.Command.TheVariants.Finalise, declared.command.Command.TheVariants.NextFin, declared.command.Command.TheVariants.Show, declared.command.Command.TheVariants.Same, declared.command.Command.TheVariants.Yield, declared.command.Command.TheVariants.Collect, declared.command.Command.TheVariants.Full, Command.IsOperand, Command.IsOperandBelow, Command.HasRegisters, Command.HasRegistersBelow, Command.Fits}
+use Rattle.nmgc_script.specs.{declared.script.Script.Script, declared.version.Version.Version, Limits.FitsScript, Limits.IsVersion, Limits.upgraded, Limits.version_1, Limits.version_2, Limits.version_of}
 
 -- a version names a register and a thread, and none that there isn't
 pub record IsUsable (v : Version) : Type 0 where

@@ -3,40 +3,10 @@
 --
 -- A command on a weak pointer makes more names live. So what held of the live names so far is first told of
 -- those that are live afterwards: a field of such a name was there in the snapshot, or holds what may be held.
-use Rattle.std.proofs.Common.{◌≡◌, ◌≢◌, ◌<◌, ◌≤◌, ℕ, List, ◌++◌, length, get_or, refl, sym, subst, ◌∙◌, arith, length-set, Option, Some, None, inl, inr, ◌⊎◌}
-use Rattle.std.specs.Prelude.{IsSome, IfSome, All, Contains}
-use Rattle.std.proofs.lemmas.List.Elements.{All-append, Contains-append_left, Contains-append_right, Contains-append_cases}
-use Rattle.std.proofs.lemmas.Option.{slice_get_past}
-use Rattle.std.proofs.lemmas.Bool.{cases_eq}
-use Rattle.nmgc_limits.specs.declared.mutators.TheConstants.{SHARED_MAKER}
-use Rattle.nmgc_world_spec.specs.declared.value.Name.{Name}
-use Rattle.nmgc_world_spec.specs.declared.value.Value.{Value}
+use Rattle.std.specs.Prelude.{◌≡◌, ◌≢◌, ◌<◌, ◌≤◌, ◌++◌, ◌⊎◌}
+use Rattle.nmgc_snapshot_laws.specs.laws.Vocabulary.{ℕ, List, length, get_or, refl, sym, subst, ◌∙◌, arith, length-set, Option, Some, None, inl, inr, IsSome, IfSome, All, Contains, All-append, Contains-append_left, Contains-append_right, Contains-append_cases, slice_get_past, cases_eq, SHARED_MAKER, Name, Value, Parts, Node, Weak, Operand, Command, state_of, node_of, serial_of, IsWorld, Grows, shared_name, next_name, value_for, step, IsAlive, IsKeptBy, RefersTo, root, further, field, opened_by, finalised_by, step_grows, not_shared, at_some, State, names_of, values_owed, owed_by, after_command, Names, Fields, CoversReach, StillThere, AsThen, MayHold, IsSafe, IsAhead, Kept, Base, Facts, owed, pushed, queued, marked, unmarked, AliveOk, WeaksOk, step_weaks, RespectsBarrier, operand_has, own_node, all_moves, opened_owed, Ends, finalised_owed, each_weak}
 use Rattle.nmgc_world_spec.specs.declared.value.Value.TheVariants as value
-use Rattle.nmgc_world_spec.specs.declared.node.Parts.{Parts}
-use Rattle.nmgc_world_spec.specs.declared.node.Node.{Node}
-use Rattle.nmgc_world_spec.specs.declared.node.Node.TheVariants.{Weak}
-use Rattle.nmgc_world_spec.specs.declared.command.Operand.{Operand}
-use Rattle.nmgc_world_spec.specs.declared.command.Command.{Command}
-use Rattle.nmgc_world_spec.specs.World.{state_of, node_of, serial_of, IsWorld, Grows}
-use Rattle.nmgc_world_spec.specs.Step.{shared_name, next_name, value_for, step}
-use Rattle.nmgc_world_spec.specs.Reach.{IsAlive, IsKeptBy, RefersTo, root, further, field}
-use Rattle.nmgc_world_spec.specs.History.{opened_by, finalised_by}
-use Rattle.nmgc_world_laws.specs.laws.Growth.{step_grows}
-use Rattle.nmgc_world_laws.specs.laws.Worlds.{not_shared}
-use Rattle.nmgc_lists.specs.laws.Items.{at_some}
-use Rattle.nmgc_snapshot_laws.specs.State.{State, names_of}
-use Rattle.nmgc_world_spec.specs.Owed.{values_owed, owed_by}
-use Rattle.nmgc_snapshot_laws.specs.Machine.{after_command}
-use Rattle.nmgc_world_laws.specs.Holds.{Names, Fields, CoversReach, StillThere}
-use Rattle.nmgc_snapshot_laws.specs.Facts.{AsThen, MayHold, IsSafe, IsAhead, Kept, Base, Facts, owed, pushed, queued, marked, unmarked}
-use Rattle.nmgc_world_laws.specs.laws.Alive.{AliveOk, WeaksOk, step_weaks}
-use Rattle.nmgc_snapshot_laws.specs.laws.Listed.{each_names, names_same, names_other, names_among_have, name_among, all_from_contains}
-use Rattle.nmgc_snapshot_laws.specs.laws.Lives.{live_more}
-use Rattle.nmgc_world_laws.specs.laws.Moves.{RespectsBarrier, operand_has}
-use Rattle.nmgc_world_laws.specs.laws.NodeLaws.{own_node}
-use Rattle.nmgc_snapshot_laws.specs.laws.Turns.{step_adds, step_alive}
-use Rattle.nmgc_world_laws.specs.laws.WeakMoves.{all_moves, opened_owed, Ends, finalised_owed}
-use Rattle.nmgc_world_laws.specs.laws.HeldSteps.{alive_ok as each_weak}
+use Rattle.nmgc_snapshot_laws.specs.laws.{Listed.each_names, Listed.names_same, Listed.names_other, Listed.names_among_have, Listed.name_among, Listed.all_from_contains, Lives.live_more, Turns.step_adds, Turns.step_alive}
 
 -- g may be held
 pub holds_shared : (s : State) → MayHold s shared_name
@@ -52,7 +22,7 @@ next_absent s m b own there =
     cc
 
 module _ (s : State) (f : Facts s) (w : IsWorld s.world) (m : ℕ) (c : Command) (lt : m < length s.world.mutators) where
-  abbrev next : State
+  abbrev pub next : State
   next = after_command s m c
 
   -- what may be held before may be held afterwards
@@ -67,7 +37,7 @@ module _ (s : State) (f : Facts s) (w : IsWorld s.world) (m : ℕ) (c : Command)
   more_values : (values : List Value) → All (Names (MayHold s)) values → All (Names (MayHold next)) values
   more_values values h k d at = more_value (get_or values k d) (h k d at)
 
-  more_names : (names : List Name) → All (MayHold s) names → All (MayHold next) names
+  pub more_names : (names : List Name) → All (MayHold s) names → All (MayHold next) names
   more_names names h k d at = more (get_or names k d) (h k d at)
 
   more_holds : CoversReach (MayHold next) s.world
@@ -96,16 +66,16 @@ module _ (s : State) (f : Facts s) (w : IsWorld s.world) (m : ℕ) (c : Command)
   opened_may : (name : Name) → Contains (opened_by s.world m c) name → MayHold next name
   opened_may name k there = further name (Contains-append_right s.opened (opened_by s.world m c) name k) there
 
-  moves : RespectsBarrier (MayHold next) s.world (step s.world m c).0 (values_owed s.world m c)
+  pub moves : RespectsBarrier (MayHold next) s.world (step s.world m c).0 (values_owed s.world m c)
   moves = all_moves (MayHold next) s.world m c lt own shared_may next_may opened_may more_holds
 
-  grows : Grows s.world (step s.world m c).0 m
+  pub grows : Grows s.world (step s.world m c).0 m
   grows = step_grows s.world m c lt
 
-  owed_place : m < length s.owed
+  pub owed_place : m < length s.owed
   owed_place = let e : length s.owed ≡ length s.world.mutators = f.base.owed_lists in omega arith
 
-  next_fields : (name target : Name) → RefersTo (step s.world m c).0 name target → MayHold next target ⊎ RefersTo s.snapshot name target
+  pub next_fields : (name target : Name) → RefersTo (step s.world m c).0 name target → MayHold next target ⊎ RefersTo s.snapshot name target
   next_fields name target r = elim (step_adds (MayHold next) s.world m lt own shared_may (more_holds.registers m) c name target r) [
     | inl old ↦ elim (f.base.fields name target old) [ inl p ↦ inl (more target p) | inr q ↦ inr q ]
     | inr p ↦ inl p
@@ -122,7 +92,7 @@ module _ (s : State) (f : Facts s) (w : IsWorld s.world) (m : ℕ) (c : Command)
         new = λ gone. let p = h.new gone in (more_value parts.key p.0, more_value parts.value p.1, more_value parts.finaliser p.2);
       }
 
-  next_weaks : (weak : Name) (parts : Parts) → IsAlive (step s.world m c).0 weak parts → AsThen s.snapshot (MayHold next) weak parts
+  pub next_weaks : (weak : Name) (parts : Parts) → IsAlive (step s.world m c).0 weak parts → AsThen s.snapshot (MayHold next) weak parts
   next_weaks weak parts a =
       let R : Name → Parts → Type 0 = AsThen s.snapshot (MayHold next) in
       let all : WeaksOk R (step s.world m c).0 = step_weaks R s.world m c lt own
@@ -130,7 +100,7 @@ module _ (s : State) (f : Facts s) (w : IsWorld s.world) (m : ℕ) (c : Command)
       (each_weak R s.world still_as) in
       at_some (node_of (step s.world m c).0 weak) (Weak (Some parts)) (AliveOk R weak) a (all weak)
 
-  next_alive : (weak : Name) (parts : Parts) → IsAlive s.snapshot weak parts → (Contains next.finalised weak → ⊥) → IsAlive (step s.world m c).0 weak parts
+  pub next_alive : (weak : Name) (parts : Parts) → IsAlive s.snapshot weak parts → (Contains next.finalised weak → ⊥) → IsAlive (step s.world m c).0 weak parts
   next_alive weak parts a not =
       let now : IsAlive s.world weak parts = f.base.alive weak parts a (λ k. not (Contains-append_left s.finalised (finalised_by s.world m c) weak k)) in
       elim (step_alive (MayHold next) s.world m lt own shared_may (more_holds.registers m) c weak parts now) [

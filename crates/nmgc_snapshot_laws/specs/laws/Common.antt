@@ -1,9 +1,6 @@
 -- Lemmas that crates above need too.
-use Rattle.std.proofs.Common.{◌∙◌, ◌++◌, sym, ap, subst, List, [], ◌∷◌, append_assoc}
-use Rattle.nmgc_world_spec.specs.History.{Row}
-use Rattle.nmgc_snapshot_laws.specs.declared.event.Event.{Event}
-use Rattle.nmgc_snapshot_laws.specs.State.{State}
-use Rattle.nmgc_snapshot_laws.specs.Run.{rows_if, Runs}
+use Rattle.std.specs.Prelude.{◌++◌, ◌∷◌}
+use Rattle.nmgc_snapshot_laws.specs.laws.Vocabulary.{◌∙◌, sym, ap, subst, List, [], append_assoc, Row, Event, State, rows_if, Runs}
 
 -- a run of the machine goes on with another
 pub runs_join : (s t u : State) (xs ys : List Event) (rows rest : List Row) → Runs s xs rows t → Runs t ys rest u → Runs s (xs ++ ys) (rows ++ rest) u

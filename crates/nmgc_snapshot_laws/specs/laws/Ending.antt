@@ -1,25 +1,12 @@
 -- At the closing the names marked first are the live ones, the weak pointers that die are the dead ones, and
 -- the names marked last are the kept ones. The closing follows fields in the world as it is, and live names
 -- are those of the snapshot: a field that was overwritten had its target marked, and one that stands is followed.
-use Rattle.std.proofs.Common.{◌≡◌, ℕ, List, [], length, refl, Bool, true, false, inl, inr, ◌⊎◌}
-use Rattle.std.specs.Prelude.{IsSome, Contains}
-use Rattle.std.proofs.lemmas.List.{get_or_past}
-use Rattle.std.proofs.lemmas.Bool.{cases_lt}
-use Rattle.nmgc_world_spec.specs.declared.value.Name.{Name}
+use Rattle.std.specs.Prelude.{◌≡◌, ◌⊎◌}
+use Rattle.nmgc_snapshot_laws.specs.laws.Vocabulary.{ℕ, List, [], length, refl, Bool, true, false, inl, inr, IsSome, Contains, get_or_past, cases_lt, Name, Parts, node_of, IsLive, IsAlive, IsKeptBy, IsDead, IsKept, Lists, RefersTo, State, names_of, is_listed, AreEmpty, IsWaiting, IsUnmarked, IsRevived, IsMarkedFirst, IsDying, IsRescued, IsMarkedLast, nothing_in, IsLiveIn, IsSafe, IsAhead, Facts, HasStrongField}
 use Rattle.nmgc_world_spec.specs.declared.value.Value.TheVariants as value
-use Rattle.nmgc_world_spec.specs.declared.node.Parts.{Parts}
-use Rattle.nmgc_world_spec.specs.World.{node_of}
-use Rattle.nmgc_world_spec.specs.Reach.{IsLive, IsAlive, IsKeptBy, IsDead, IsKept, Lists, RefersTo}
 use Rattle.nmgc_world_spec.specs.Reach as reach
-use Rattle.nmgc_snapshot_laws.specs.State.{State, names_of, is_listed}
-use Rattle.nmgc_snapshot_laws.specs.Machine.{AreEmpty}
-use Rattle.nmgc_snapshot_laws.specs.Closing.{IsWaiting, IsUnmarked, IsRevived, IsMarkedFirst, IsDying, IsRescued, IsMarkedLast}
 use Rattle.nmgc_snapshot_laws.specs.Closing as closing
-use Rattle.nmgc_lists.specs.laws.Items.{nothing_in}
-use Rattle.nmgc_snapshot_laws.specs.laws.Listed.{contains_listed, not_listed}
-use Rattle.nmgc_snapshot_laws.specs.laws.Lives.{stands, refers, target_there, part_there}
-use Rattle.nmgc_snapshot_laws.specs.Facts.{IsLiveIn, IsSafe, IsAhead, Facts}
-use Rattle.nmgc_world_laws.specs.Holds.{HasStrongField}
+use Rattle.nmgc_snapshot_laws.specs.laws.{Listed.contains_listed, Listed.not_listed, Lives.stands, Lives.refers, Lives.target_there, Lives.part_there}
 use Rattle.nmgc_snapshot_laws.specs.Facts as facts
 
 pub none_of : (lists : List (List Name)) → AreEmpty lists → (m : ℕ) → names_of lists m ≡ []
@@ -27,12 +14,12 @@ none_of lists h m = elim (cases_lt m (length lists)) [ inl lt ↦ h m [] lt | in
 
 -- nothing waits, is owed or is pushed
 module _ (s : State) (f : Facts s) (queue : s.queue ≡ []) (owed : AreEmpty s.owed) (pushed : AreEmpty s.pushed) where
-  safe_marked : (name : Name) → IsSafe s name → Contains s.marked name
+  pub safe_marked : (name : Name) → IsSafe s name → Contains s.marked name
   safe_marked name (facts.marked c) = c
   safe_marked name (facts.owed m c) = absurd (nothing_in name (rw (none_of s.owed owed m) at c))
   safe_marked name (facts.pushed m c) = absurd (nothing_in name (rw (none_of s.pushed pushed m) at c))
 
-  none_ahead : (name : Name) (i : ℕ) → Contains s.marked name → IsAhead s name i → ⊥
+  pub none_ahead : (name : Name) (i : ℕ) → Contains s.marked name → IsAhead s name i → ⊥
   none_ahead name i h (facts.unmarked c) = c h
   none_ahead name i h (facts.queued entry c e le) = nothing_in entry (rw queue at c)
 
@@ -105,7 +92,7 @@ module _ (s : State) (f : Facts s) (queue : s.queue ≡ []) (owed : AreEmpty s.o
   first_live name (inr v) = revived_live name v
 
   -- what dies is what is dead
-  abbrev dying_dead : (weak : Name) → IsDying s weak → IsDead s.snapshot s.opened s.finalised weak
+  abbrev pub dying_dead : (weak : Name) → IsDying s weak → IsDead s.snapshot s.opened s.finalised weak
   dying_dead weak d = record {
     parts = d.parts;
     alive = d.waiting.alive;
@@ -115,7 +102,7 @@ module _ (s : State) (f : Facts s) (queue : s.queue ≡ []) (owed : AreEmpty s.o
     lost = λ l. d.lost (live_first d.key l);
   }
 
-  abbrev dead_dying : (weak : Name) → IsDead s.snapshot s.opened s.finalised weak → IsDying s weak
+  abbrev pub dead_dying : (weak : Name) → IsDead s.snapshot s.opened s.finalised weak → IsDying s weak
   dead_dying weak d = record {
     parts = d.parts;
     waiting = record { alive = d.alive; not_finalised = d.not_finalised };

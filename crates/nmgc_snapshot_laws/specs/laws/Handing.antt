@@ -1,19 +1,7 @@
 -- A push and a take keep the facts: a name on its way from the mutator to the collector is safe all along.
-use Rattle.std.proofs.Common.{◌≡◌, ◌<◌, ℕ, List, [], ◌∷◌, ◌++◌, length, set, refl, sym, subst, ◌∙◌, arith, length-set, Bool, true, false, not, cond, inl, inr, ◌⊎◌}
-use Rattle.std.specs.Prelude.{IsSome, All, Contains, is_some, ◌&&◌}
-use Rattle.std.proofs.lemmas.List.Elements.{All-head, All-tail, All-cons, All-nil, All-append, Contains-append_left, Contains-append_right}
-use Rattle.std.proofs.lemmas.Bool.{cond_both, cases_eq, and_cases, not-false}
-use Rattle.nmgc_world_spec.specs.declared.value.Name.{Name}
-use Rattle.nmgc_world_spec.specs.World.{node_of}
-use Rattle.nmgc_world_spec.specs.Change.{is_same_name}
-use Rattle.nmgc_world_spec.specs.Step.{shared_name}
-use Rattle.nmgc_snapshot_laws.specs.State.{State, names_of, mark_name, with_mark, is_new}
-use Rattle.nmgc_snapshot_laws.specs.Machine.{pushed_of, after_push, after_take}
-use Rattle.nmgc_lists.specs.laws.Items.{contains_one, contains_cases}
-use Rattle.nmgc_snapshot_laws.specs.laws.Listed.{tested_same, names_same, names_other, each_names, has_place}
-use Rattle.nmgc_snapshot_laws.specs.laws.Lives.{target_there, part_there, refers}
-use Rattle.nmgc_snapshot_laws.specs.laws.Marking.{mark_facts, marked_then}
-use Rattle.nmgc_snapshot_laws.specs.Facts.{MayHold, IsSafe, IsAhead, Kept, Base, Facts, owed, pushed, queued, marked, unmarked}
+use Rattle.std.specs.Prelude.{◌≡◌, ◌<◌, ◌∷◌, ◌++◌, ◌⊎◌, ◌&&◌}
+use Rattle.nmgc_snapshot_laws.specs.laws.Vocabulary.{ℕ, List, [], length, set, refl, sym, subst, ◌∙◌, arith, length-set, Bool, true, false, not, cond, inl, inr, IsSome, All, Contains, is_some, All-head, All-tail, All-cons, All-nil, All-append, Contains-append_left, Contains-append_right, cond_both, cases_eq, and_cases, not-false, Name, node_of, is_same_name, shared_name, State, names_of, mark_name, with_mark, is_new, pushed_of, after_push, after_take, contains_one, contains_cases, MayHold, IsSafe, IsAhead, Kept, Base, Facts, owed, pushed, queued, marked, unmarked}
+use Rattle.nmgc_snapshot_laws.specs.laws.{Listed.tested_same, Listed.names_same, Listed.names_other, Listed.each_names, Listed.has_place, Lives.target_there, Lives.part_there, Lives.refers, Marking.mark_facts, Marking.marked_then}
 
 -- a name of the snapshot is pushed, or it is g, which is marked
 pub push_cases : (s : State) (name : Name) → IsSome (node_of s.snapshot name) → Contains (pushed_of s name) name ⊎ (name ≡ shared_name)
@@ -38,7 +26,7 @@ module _ (s : State) (f : Facts s) (m : ℕ) (name : Name) (rest : List Name) (f
   may : All (MayHold s) (name ∷ rest)
   may = subst (All (MayHold s)) first (f.base.owed m)
 
-  push_base : Base (after_push s m (name ∷ rest))
+  pub push_base : Base (after_push s m (name ∷ rest))
   push_base = record {
     snapshot = f.base.snapshot;
     mutators = f.base.mutators;
@@ -80,7 +68,7 @@ module _ (s : State) (f : Facts s) (m : ℕ) (name : Name) (rest : List Name) (f
     | inr g ↦ marked (f.roots name (inl g))
   ]
 
-  push_safe : (target : Name) → IsSome (node_of s.snapshot target) → IsSafe s target → IsSafe (after_push s m (name ∷ rest)) target
+  pub push_safe : (target : Name) → IsSome (node_of s.snapshot target) → IsSafe s target → IsSafe (after_push s m (name ∷ rest)) target
   push_safe target there (marked h) = marked h
   push_safe target there (pushed k h) = pushed k (more_pushed k target h)
   push_safe target there (owed k h) = elim (cases_eq k m) [
@@ -123,7 +111,7 @@ module _ (s : State) (f : Facts s) (m : ℕ) (name : Name) (rest : List Name) (f
   place : m < length s.pushed
   place = has_place s.pushed m name rest first
 
-  drop_base : Base (dropped s m rest)
+  pub drop_base : Base (dropped s m rest)
   drop_base = record {
     snapshot = f.base.snapshot;
     mutators = f.base.mutators;
@@ -144,7 +132,7 @@ module _ (s : State) (f : Facts s) (m : ℕ) (name : Name) (rest : List Name) (f
     passed = f.base.passed;
   }
 
-  drop_safe : (target : Name) → IsSome (node_of s.snapshot target) → IsSafe s target → IsSafe (dropped s m rest) target
+  pub drop_safe : (target : Name) → IsSome (node_of s.snapshot target) → IsSafe s target → IsSafe (dropped s m rest) target
   drop_safe target there (marked h) = marked h
   drop_safe target there (owed k h) = owed k h
   drop_safe target there (pushed k h) = elim (cases_eq k m) [

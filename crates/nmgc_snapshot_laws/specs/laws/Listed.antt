@@ -1,19 +1,7 @@
 -- The test whether a name is in a list, and the names of one mutator.
-use Rattle.std.proofs.Common.{◌≡◌, ◌≢◌, ◌<◌, ℕ, List, [], ◌∷◌, length, get_or, set, refl, sym, subst, Bool, true, false, eqb, inl, inr}
-use Rattle.std.specs.Prelude.{All, Contains}
-use Rattle.std.proofs.lemmas.List.{get_or-set_same, get_or-set_other, get_or_past}
-use Rattle.std.proofs.lemmas.List.Elements.{All-nil, All-cons, All-head, All-tail, Contains-get_or}
-use Rattle.std.proofs.lemmas.Bool.{and_parts, and_from, or_cases, or_parts, eqb-true, eq-eqb, cases_eq, cases_lt}
-use Rattle.nmgc_world_spec.specs.declared.value.Name.{Name}
-use Rattle.nmgc_world_spec.specs.declared.value.Value.{Value}
+use Rattle.std.specs.Prelude.{◌≡◌, ◌≢◌, ◌<◌, ◌∷◌}
+use Rattle.nmgc_snapshot_laws.specs.laws.Vocabulary.{ℕ, List, [], length, get_or, set, refl, sym, subst, Bool, true, false, eqb, inl, inr, All, Contains, get_or-set_same, get_or-set_other, get_or_past, All-nil, All-cons, All-head, All-tail, Contains-get_or, and_parts, and_from, or_cases, or_parts, eqb-true, eq-eqb, cases_eq, cases_lt, Name, Value, is_same_name, name_in, is_listed, names_of, names_among, nothing_in, contains_one, contains_flat, contains_cases, contains_head, contains_tail, same_name, Names}
 use Rattle.nmgc_world_spec.specs.declared.value.Value.TheVariants as value
-use Rattle.nmgc_world_spec.specs.Change.{is_same_name}
-use Rattle.nmgc_world_spec.specs.History.{name_in}
-use Rattle.nmgc_snapshot_laws.specs.State.{is_listed, names_of}
-use Rattle.nmgc_world_spec.specs.Owed.{names_among}
-use Rattle.nmgc_lists.specs.laws.Items.{nothing_in, contains_one, contains_flat, contains_cases, contains_head, contains_tail}
-use Rattle.nmgc_world_spec.specs.laws.Orders.{same_name}
-use Rattle.nmgc_world_laws.specs.Holds.{Names}
 
 pub tested_same : (a b : Name) → is_same_name a b ≡ true → a ≡ b
 tested_same a b h = let p : (eqb a.maker b.maker ≡ true) × (eqb a.serial b.serial ≡ true) = and_parts (eqb a.maker b.maker) (eqb a.serial b.serial) h in

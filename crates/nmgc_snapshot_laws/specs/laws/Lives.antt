@@ -1,18 +1,7 @@
 -- Live names are names of the world.
-use Rattle.std.proofs.Common.{◌≡◌, ℕ, List, [], ◌∷◌, ◌++◌, refl, sym, subst, Option, Some, None, inl, inr}
-use Rattle.std.specs.Prelude.{IsSome, All, Contains}
-use Rattle.std.proofs.lemmas.List.Elements.{All-head, All-cons, All-nil, All-append, All-contains, Contains-append_left}
-use Rattle.nmgc_world_spec.specs.declared.value.Name.{Name}
-use Rattle.nmgc_world_spec.specs.declared.value.Value.{Value}
+use Rattle.std.specs.Prelude.{◌≡◌, ◌∷◌, ◌++◌}
+use Rattle.nmgc_snapshot_laws.specs.laws.Vocabulary.{ℕ, List, [], refl, sym, subst, Option, Some, None, inl, inr, IsSome, All, Contains, All-head, All-cons, All-nil, All-append, All-contains, Contains-append_left, Name, Value, Parts, Node, Con, Var, Arr, Thunk, Weak, Stack, World, state_of, node_of, held_by, IsKnown, IsNodeOf, IsWorld, IsLive, IsRoot, IsAlive, IsKeptBy, RefersTo, strong_fields, root, further, field, plain_key, live_key, strong_at, HasStrongField, place_of_field, field_at_place, contains_head, contains_tail, at_some}
 use Rattle.nmgc_world_spec.specs.declared.value.Value.TheVariants as value
-use Rattle.nmgc_world_spec.specs.declared.node.Parts.{Parts}
-use Rattle.nmgc_world_spec.specs.declared.node.Node.{Node}
-use Rattle.nmgc_world_spec.specs.declared.node.Node.TheVariants.{Con, Var, Arr, Thunk, Weak, Stack}
-use Rattle.nmgc_world_spec.specs.World.{World, state_of, node_of, held_by, IsKnown, IsNodeOf, IsWorld}
-use Rattle.nmgc_world_spec.specs.Reach.{IsLive, IsRoot, IsAlive, IsKeptBy, RefersTo, strong_fields, root, further, field, plain_key, live_key}
-use Rattle.nmgc_world_laws.specs.Holds.{strong_at, HasStrongField}
-use Rattle.nmgc_world_laws.specs.laws.Barrier.{place_of_field, field_at_place}
-use Rattle.nmgc_lists.specs.laws.Items.{contains_head, contains_tail, at_some}
 
 -- strong fields are among what a node holds
 strong_held : (Q : Value → Type 0) (node : Node) → All Q (held_by node) → All Q (strong_fields node)

@@ -1,25 +1,9 @@
 -- Each event of a run that isn't closed keeps what each event keeps; so no name is marked twice, and g stays the first.
-use Rattle.std.proofs.Common.{◌≡◌, ℕ, ◌++◌, true, false, List, [], ◌∷◌, refl, sym, ap, subst, ◌∙◌, Option, Some, None}
-use Rattle.std.specs.Prelude.{is_some, not}
-use Rattle.std.proofs.lemmas.Bool.{and_parts, not-true}
-use Rattle.nmgc_world_spec.specs.declared.value.Name.{Name}
-use Rattle.nmgc_world_spec.specs.declared.value.Value.{Value}
+use Rattle.std.specs.Prelude.{◌≡◌, ◌++◌, ◌∷◌}
+use Rattle.nmgc_snapshot_laws.specs.laws.Vocabulary.{ℕ, true, false, List, [], refl, sym, ap, subst, ◌∙◌, Option, Some, None, is_some, and_parts, not-true, Name, Value, Row, World, node_of, shared_name, nothing_in, Entry, Event, Passes, after_push, after_scan, after_take, advanced, Runs, read_at, State, names_of, is_listed, mark_name, mark_read, mark_values, opening, root_values, AreDistinct, distinct_push, not}
+use Rattle.nmgc_snapshot_laws.specs.{State.unmarked, laws.Listed.not_listed, laws.Marking.mark_cases}
 use Rattle.nmgc_world_spec.specs.declared.value.Value.TheVariants as value
-use Rattle.nmgc_world_spec.specs.History.{Row}
-use Rattle.nmgc_world_spec.specs.World.{World, node_of}
-use Rattle.nmgc_world_spec.specs.Step.{shared_name}
-use Rattle.nmgc_lists.specs.laws.Items.{nothing_in}
-use Rattle.nmgc_snapshot_laws.specs.declared.event.Entry.{Entry}
-use Rattle.nmgc_snapshot_laws.specs.declared.event.Event.{Event}
 use Rattle.nmgc_snapshot_laws.specs.declared.event.Event.TheVariants as event
-use Rattle.nmgc_snapshot_laws.specs.Machine.{Passes, after_push, after_scan, after_take, advanced}
-use Rattle.nmgc_snapshot_laws.specs.Run.{Runs}
-use Rattle.nmgc_snapshot_laws.specs.Scan.{read_at}
-use Rattle.nmgc_snapshot_laws.specs.State.{State, names_of, is_listed, mark_name, mark_read, mark_values, opening, root_values, unmarked}
-use Rattle.nmgc_snapshot_laws.specs.laws.Listed.{not_listed}
-use Rattle.nmgc_snapshot_laws.specs.laws.Marking.{mark_cases}
-use Rattle.nmgc_world_spec.specs.Listing.{AreDistinct}
-use Rattle.nmgc_world_laws.specs.laws.Distinct.{distinct_push}
 
 -- a closed machine stays closed
 pub stays_closed : (s : State) (es : List Event) (rows : List Row) (t : State) → Runs s es rows t → s.is_closed ≡ true → t.is_closed ≡ true

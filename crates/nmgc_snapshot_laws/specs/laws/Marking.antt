@@ -1,19 +1,8 @@
 -- Marking a name keeps the facts.
-use Rattle.std.proofs.Common.{◌≡◌, ◌≤◌, ℕ, [], ◌∷◌, ◌++◌, subst, arith, true, false, not, inl, inr}
-use Rattle.std.specs.Prelude.{IsSome, Contains, is_some}
-use Rattle.std.proofs.lemmas.List.Elements.{Contains-append_left, Contains-push, Contains-push_cases}
-use Rattle.std.proofs.lemmas.Bool.{cond_both, and_parts, and_cases, not-false}
-use Rattle.nmgc_world_spec.specs.declared.value.Name.{Name}
+use Rattle.std.specs.Prelude.{◌≡◌, ◌≤◌, ◌∷◌, ◌++◌}
+use Rattle.nmgc_snapshot_laws.specs.laws.Vocabulary.{ℕ, [], subst, arith, true, false, not, inl, inr, IsSome, Contains, is_some, Contains-append_left, Contains-push, Contains-push_cases, cond_both, and_parts, and_cases, not-false, Name, Parts, node_of, IsRoot, IsAlive, IsKeptBy, Entry, State, is_new, is_listed, with_mark, mark_name, entry_of, name_cases, HasStrongField, MayHold, IsLiveIn, IsSafe, IsAhead, Kept, Base, Facts, owed, pushed, queued, marked, unmarked}
 use Rattle.nmgc_world_spec.specs.declared.value.Value.TheVariants as value
-use Rattle.nmgc_world_spec.specs.declared.node.Parts.{Parts}
-use Rattle.nmgc_world_spec.specs.World.{node_of}
-use Rattle.nmgc_world_spec.specs.Reach.{IsRoot, IsAlive, IsKeptBy}
-use Rattle.nmgc_snapshot_laws.specs.declared.event.Entry.{Entry}
-use Rattle.nmgc_snapshot_laws.specs.State.{State, is_new, is_listed, with_mark, mark_name, entry_of}
 use Rattle.nmgc_snapshot_laws.specs.laws.Listed.{contains_listed}
-use Rattle.nmgc_world_spec.specs.laws.Orders.{name_cases}
-use Rattle.nmgc_world_laws.specs.Holds.{HasStrongField}
-use Rattle.nmgc_snapshot_laws.specs.Facts.{MayHold, IsLiveIn, IsSafe, IsAhead, Kept, Base, Facts, owed, pushed, queued, marked, unmarked}
 
 -- a name that is new is marked, and any other is left
 pub mark_cases : (R : State → Type 0) (s : State) (name : Name) → (is_new s name ≡ true → R (with_mark s name)) → (is_new s name ≡ false → R s) →

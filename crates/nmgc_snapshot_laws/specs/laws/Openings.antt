@@ -1,27 +1,8 @@
 -- The facts hold at the opening: the mutators hold what is live, and every root is marked.
-use Rattle.std.proofs.Common.{◌≡◌, ◌<◌, ℕ, List, [], ◌∷◌, ◌++◌, zero, suc, length, replicate, refl, sym, ap, subst, ◌∙◌, arith, Option, Some, None, inl, inr, ◌⊎◌}
-use Rattle.std.specs.Prelude.{IsSome, IfSome, All, Contains, flat_map, slice_get}
-use Rattle.std.proofs.lemmas.List.{length-replicate, get_or_past}
-use Rattle.std.proofs.lemmas.List.Elements.{All-head, All-tail, All-nil, All-append, Contains-append_left, Contains-append_right, Contains-append_cases, Contains-get_or}
-use Rattle.std.proofs.lemmas.Bool.{cases_lt}
-use Rattle.nmgc_world_spec.specs.declared.value.Name.{Name}
-use Rattle.nmgc_world_spec.specs.declared.value.Value.{Value}
+use Rattle.std.specs.Prelude.{◌≡◌, ◌<◌, ◌∷◌, ◌++◌, ◌⊎◌}
+use Rattle.nmgc_snapshot_laws.specs.laws.Vocabulary.{ℕ, List, [], zero, suc, length, replicate, refl, sym, ap, subst, ◌∙◌, arith, Option, Some, None, inl, inr, IsSome, IfSome, All, Contains, flat_map, slice_get, length-replicate, get_or_past, All-head, All-tail, All-nil, All-append, Contains-append_left, Contains-append_right, Contains-append_cases, Contains-get_or, cases_lt, Name, Value, Node, MutatorState, World, state_of, node_of, no_mutator, IsWorld, shared_name, IsRoot, root, field, strong_fields, State, names_of, mark_name, mark_values, root_values, opening, get_or_from_slice_get, nothing_in, one_is, contains_one, contains_flat, place_of, contains_cases, contains_head, contains_tail, name_cases, field_at_place, same_later, Fields, Names, HasStrongField, MayHold, IsLiveIn, Kept, Base, Facts, marked}
+use Rattle.nmgc_snapshot_laws.specs.{State.unmarked, laws.Listed.all_from_contains, laws.Lives.target_there, laws.Lives.refers, laws.Lives.root_there, laws.Marking.mark_cases, laws.Marking.mark_base, laws.Marking.marked_then, laws.Marking.still_marked, laws.Marking.kept_then}
 use Rattle.nmgc_world_spec.specs.declared.value.Value.TheVariants as value
-use Rattle.nmgc_world_spec.specs.declared.node.Node.{Node}
-use Rattle.nmgc_world_spec.specs.declared.mutator_state.MutatorState.{MutatorState}
-use Rattle.nmgc_world_spec.specs.World.{World, state_of, node_of, no_mutator, IsWorld}
-use Rattle.nmgc_world_spec.specs.Step.{shared_name}
-use Rattle.nmgc_world_spec.specs.Reach.{IsRoot, root, field, strong_fields}
-use Rattle.nmgc_snapshot_laws.specs.State.{State, names_of, mark_name, mark_values, root_values, unmarked, opening}
-use Rattle.std.proofs.lemmas.Option.{get_or_from_slice_get}
-use Rattle.nmgc_lists.specs.laws.Items.{nothing_in, one_is, contains_one, contains_flat, place_of, contains_cases, contains_head, contains_tail}
-use Rattle.nmgc_world_spec.specs.laws.Orders.{name_cases}
-use Rattle.nmgc_world_laws.specs.laws.Barrier.{field_at_place, same_later}
-use Rattle.nmgc_world_laws.specs.Holds.{Fields, Names, HasStrongField}
-use Rattle.nmgc_snapshot_laws.specs.laws.Listed.{all_from_contains}
-use Rattle.nmgc_snapshot_laws.specs.laws.Lives.{target_there, refers, root_there}
-use Rattle.nmgc_snapshot_laws.specs.laws.Marking.{mark_cases, mark_base, marked_then, still_marked, kept_then}
-use Rattle.nmgc_snapshot_laws.specs.Facts.{MayHold, IsLiveIn, Kept, Base, Facts, marked}
 use Rattle.nmgc_snapshot_laws.specs.Facts as facts
 
 pub no_names : (n m : ℕ) → names_of (replicate n []) m ≡ []

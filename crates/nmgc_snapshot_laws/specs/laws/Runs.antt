@@ -1,31 +1,9 @@
 -- A run keeps the snapshot theorem, event by event.
-use Rattle.std.proofs.Common.{◌≡◌, ℕ, List, [], ◌∷◌, ◌++◌, refl, sym, ap, subst, ◌∙◌, append-nil, append_assoc, Option, Some, None, Bool, true, false}
-use Rattle.std.specs.Prelude.{Contains}
-use Rattle.nmgc_world_spec.specs.declared.value.Name.{Name}
-use Rattle.nmgc_world_spec.specs.declared.value.Value.{Value}
+use Rattle.std.specs.Prelude.{◌≡◌, ◌∷◌, ◌++◌}
+use Rattle.nmgc_snapshot_laws.specs.laws.Vocabulary.{ℕ, List, [], refl, sym, ap, subst, ◌∙◌, append-nil, append_assoc, Option, Some, None, Bool, true, false, Contains, Name, Value, Command, Reply, World, node_of, IsWorld, CanApply, step, Row, replayed, IsLegal, opened, finalised, opened_by, finalised_by, IsLive, IsDead, IsKept, Lists, closed, Entry, Event, State, names_of, opening, mark_name, mark_read, mark_values, root_values, IsPossible, Passes, AreEmpty, after_command, after_push, after_scan, after_take, advanced, read_at, IsClosing, row_of, rows_if, Runs, IsMarking, IsExact, SnapshotTheorem, FactsAreKept, OpeningHasFacts, EventKeepsFacts, ClosingIsExact, Facts, step_keeps_world}
+use Rattle.nmgc_snapshot_laws.specs.{State.unmarked, laws.Marking.mark_cases, laws.Commands.command_facts, laws.Scans.scan_facts, laws.Handing.push_facts, laws.Handing.take_facts, laws.Openings.opening_facts, laws.Ending.live_first, laws.Ending.first_live, laws.Ending.dying_lists, laws.Ending.last_kept, laws.Ending.kept_last}
 use Rattle.nmgc_world_spec.specs.declared.value.Value.TheVariants as value
-use Rattle.nmgc_world_spec.specs.declared.command.Command.{Command}
-use Rattle.nmgc_world_spec.specs.declared.command.Reply.{Reply}
-use Rattle.nmgc_world_spec.specs.World.{World, node_of, IsWorld}
-use Rattle.nmgc_world_spec.specs.Step.{CanApply, step}
-use Rattle.nmgc_world_spec.specs.History.{Row, replayed, IsLegal, opened, finalised, opened_by, finalised_by}
-use Rattle.nmgc_world_spec.specs.Reach.{IsLive, IsDead, IsKept, Lists, closed}
-use Rattle.nmgc_snapshot_laws.specs.declared.event.Entry.{Entry}
-use Rattle.nmgc_snapshot_laws.specs.declared.event.Event.{Event}
 use Rattle.nmgc_snapshot_laws.specs.declared.event.Event.TheVariants as event
-use Rattle.nmgc_snapshot_laws.specs.State.{State, names_of, opening, unmarked, mark_name, mark_read, mark_values, root_values}
-use Rattle.nmgc_snapshot_laws.specs.Machine.{IsPossible, Passes, AreEmpty, after_command, after_push, after_scan, after_take, advanced}
-use Rattle.nmgc_snapshot_laws.specs.Scan.{read_at}
-use Rattle.nmgc_snapshot_laws.specs.Closing.{IsClosing}
-use Rattle.nmgc_snapshot_laws.specs.Run.{row_of, rows_if, Runs, IsMarking, IsExact, SnapshotTheorem, FactsAreKept, OpeningHasFacts, EventKeepsFacts, ClosingIsExact}
-use Rattle.nmgc_snapshot_laws.specs.laws.Marking.{mark_cases}
-use Rattle.nmgc_snapshot_laws.specs.Facts.{Facts}
-use Rattle.nmgc_snapshot_laws.specs.laws.Commands.{command_facts}
-use Rattle.nmgc_snapshot_laws.specs.laws.Scans.{scan_facts}
-use Rattle.nmgc_snapshot_laws.specs.laws.Handing.{push_facts, take_facts}
-use Rattle.nmgc_snapshot_laws.specs.laws.Openings.{opening_facts}
-use Rattle.nmgc_snapshot_laws.specs.laws.Ending.{live_first, first_live, dying_lists, last_kept, kept_last}
-use Rattle.nmgc_world_laws.specs.laws.WorldSteps.{step_keeps_world}
 
 -- one more row
 pub replayed-push : (w : World) (rows : List Row) (row : Row) → replayed w (rows ++ row ∷ []) ≡ (step (replayed w rows) row.mutator row.command).0

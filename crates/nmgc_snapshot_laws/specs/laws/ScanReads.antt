@@ -1,13 +1,6 @@
 -- What a scan reads, and what stands at its place.
-use Rattle.std.proofs.Common.{◌≡◌, ◌<◌, ◌≤◌, ℕ, List, ◌∷◌, [], zero, suc, length, refl, subst, arith, Some, None, true, inl, inr, ◌⊎◌}
-use Rattle.std.specs.Prelude.{slice_get}
-use Rattle.std.proofs.lemmas.Option.{slice_get_within, same_Some}
-use Rattle.nmgc_world_spec.specs.declared.value.Value.{Value}
-use Rattle.nmgc_world_spec.specs.declared.node.Node.{Node}
-use Rattle.nmgc_world_spec.specs.declared.node.Node.TheVariants.{Con, Var, Arr, Thunk, Weak, Stack}
-use Rattle.nmgc_world_spec.specs.World.{IsSized}
-use Rattle.nmgc_world_laws.specs.Holds.{strong_at, has_result, free_of}
-use Rattle.nmgc_snapshot_laws.specs.Scan.{field_at, fields_of}
+use Rattle.std.specs.Prelude.{◌≡◌, ◌<◌, ◌≤◌, ◌∷◌, ◌⊎◌}
+use Rattle.nmgc_snapshot_laws.specs.laws.Vocabulary.{ℕ, List, [], zero, suc, length, refl, subst, arith, Some, None, true, inl, inr, slice_get, slice_get_within, same_Some, Value, Node, Con, Var, Arr, Thunk, Weak, Stack, IsSized, strong_at, has_result, free_of, field_at, fields_of}
 
 -- a scan reads what stands there
 pub read_at_place : (node : Node) (i : ℕ) (v : Value) → strong_at node i ≡ Some v → field_at node i ≡ Some v

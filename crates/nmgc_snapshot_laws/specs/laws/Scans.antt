@@ -1,28 +1,9 @@
 -- A scan keeps the facts: what it reads is live, and once it has read a field of the snapshot that
 -- still stands, the field's target is marked.
-use Rattle.std.proofs.Common.{◌≡◌, ◌<◌, ◌≤◌, ◌+◌, ℕ, List, [], ◌∷◌, ◌++◌, zero, suc, refl, sym, ap, subst, ◌∙◌, arith, append-nil, Option, Some, None, Bool, true, false, cond, eqb, leb, inl, inr}
-use Rattle.std.specs.Prelude.{IsSome, All, Contains, ◌&&◌}
-use Rattle.std.proofs.lemmas.List.Elements.{All-contains, Contains-append_left, Contains-append_right, Contains-append_cases}
-use Rattle.std.proofs.lemmas.Option.{same_Some}
-use Rattle.std.proofs.lemmas.Bool.{cases_eq, or_parts, or_from, and_cases, and_left, and_right, lt-leb, eq-eqb, ne_eqb, false_from_ne_true}
-use Rattle.nmgc_world_spec.specs.declared.value.Name.{Name}
-use Rattle.nmgc_world_spec.specs.declared.value.Value.{Value}
+use Rattle.std.specs.Prelude.{◌≡◌, ◌<◌, ◌≤◌, ◌+◌, ◌∷◌, ◌++◌, ◌&&◌}
+use Rattle.nmgc_snapshot_laws.specs.laws.Vocabulary.{ℕ, List, [], zero, suc, refl, sym, ap, subst, ◌∙◌, arith, append-nil, Option, Some, None, Bool, true, false, cond, eqb, leb, inl, inr, IsSome, All, Contains, All-contains, Contains-append_left, Contains-append_right, Contains-append_cases, same_Some, cases_eq, or_parts, or_from, and_cases, and_left, and_right, lt-leb, eq-eqb, ne_eqb, false_from_ne_true, Name, Value, Node, Con, Var, Arr, Thunk, Weak, Stack, node_of, IsWorld, IsNodeOf, IsSized, field, strong_fields, Entry, State, with_mark, entry_of, mark_name, mark_read, read_at, fields_of, is_last, moved_on, has_result, strong_at, free_of, Names, HasStrongField, StillThere, advanced, after_scan, nothing_in, one_is, contains_one, contains_cases, contains_head, contains_tail, at_some, is_some_of, field_at_place, MayHold, IsLiveIn, IsSafe, Kept, IsPassed, Base, Facts, owed, pushed, queued, marked, unmarked}
 use Rattle.nmgc_world_spec.specs.declared.value.Value.TheVariants as value
-use Rattle.nmgc_world_spec.specs.declared.node.Node.{Node}
-use Rattle.nmgc_world_spec.specs.declared.node.Node.TheVariants.{Con, Var, Arr, Thunk, Weak, Stack}
-use Rattle.nmgc_world_spec.specs.World.{node_of, IsWorld, IsNodeOf, IsSized}
-use Rattle.nmgc_world_spec.specs.Reach.{field, strong_fields}
-use Rattle.nmgc_snapshot_laws.specs.declared.event.Entry.{Entry}
-use Rattle.nmgc_snapshot_laws.specs.State.{State, with_mark, entry_of, mark_name, mark_read}
-use Rattle.nmgc_snapshot_laws.specs.Scan.{read_at, fields_of, is_last, moved_on}
-use Rattle.nmgc_world_laws.specs.Holds.{has_result, strong_at, free_of, Names, HasStrongField, StillThere}
-use Rattle.nmgc_snapshot_laws.specs.Machine.{advanced, after_scan}
-use Rattle.nmgc_lists.specs.laws.Items.{nothing_in, one_is, contains_one, contains_cases, contains_head, contains_tail, at_some, is_some_of}
-use Rattle.nmgc_world_laws.specs.laws.Barrier.{field_at_place}
-use Rattle.nmgc_snapshot_laws.specs.laws.ScanReads.{read_at_place, within_fields, read_cases}
-use Rattle.nmgc_snapshot_laws.specs.laws.Lives.{live_there, target_there, refers}
-use Rattle.nmgc_snapshot_laws.specs.laws.Marking.{mark_cases, mark_facts, marked_then}
-use Rattle.nmgc_snapshot_laws.specs.Facts.{MayHold, IsLiveIn, IsSafe, Kept, IsPassed, Base, Facts, owed, pushed, queued, marked, unmarked}
+use Rattle.nmgc_snapshot_laws.specs.laws.{ScanReads.read_at_place, ScanReads.within_fields, ScanReads.read_cases, Lives.live_there, Lives.target_there, Lives.refers, Marking.mark_cases, Marking.mark_facts, Marking.marked_then}
 
 -- what is not at its last position has fields left, and isn't a thunk whose result was read
 not_last : (node : Node) (position : ℕ) → position < fields_of node → (position ≡ 1 → has_result node ≡ false) → is_last node position ≡ false

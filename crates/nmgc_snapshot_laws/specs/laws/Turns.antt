@@ -1,32 +1,10 @@
 -- What a command does to the node of each name, where what registers hold is of the names P. Of the node
 -- as it was nothing is asked, so this says of every name, held or not, what a step can put into its fields.
-use Rattle.std.proofs.Common.{◌≡◌, ◌≢◌, ◌<◌, ℕ, List, [], ◌∷◌, drop, length, refl, sym, ap, subst, ◌∙◌, Option, Some, None, inl, inr, ◌⊎◌}
-use Rattle.std.specs.Prelude.{slice_get, All, Contains}
-use Rattle.std.proofs.lemmas.List.Elements.{All-cons, All-nil, All-replicate, All-contains, Contains-get_or}
-use Rattle.nmgc_world_spec.specs.declared.command.Operand.{Operand}
-use Rattle.nmgc_world_spec.specs.declared.command.Command.{Command}
+use Rattle.std.specs.Prelude.{◌≡◌, ◌≢◌, ◌<◌, ◌∷◌, ◌⊎◌}
+use Rattle.nmgc_snapshot_laws.specs.laws.Vocabulary.{ℕ, List, [], drop, length, refl, sym, ap, subst, ◌∙◌, Option, Some, None, inl, inr, slice_get, All, Contains, All-cons, All-nil, All-replicate, All-contains, Contains-get_or, Operand, Command, Change, SHARED_MAKER, Name, Value, Parts, Node, Con, Var, Arr, Thunk, Weak, Stack, World, state_of, node_of, changed, shared_name, value_for, with_state, with_node, with_finaliser, holding, holding_given, keeping, born, object_of, change_node, change_object, step, RefersTo, IsAlive, strong_fields, finalised_in, finalised_by, Names, Fields, IsStrongChange, Writes, changed_fields, nothing_in, contains_one, operand_has, operands_have, nodes_kept, node_born, next_is_new, node_cases, change_count, keeping_kept}
 use Rattle.nmgc_world_spec.specs.declared.command.Command.TheVariants as command
-use Rattle.nmgc_world_spec.specs.declared.change.Change.{Change}
 use Rattle.nmgc_world_spec.specs.declared.change.Change.TheVariants as change
-use Rattle.nmgc_limits.specs.declared.mutators.TheConstants.{SHARED_MAKER}
-use Rattle.nmgc_world_spec.specs.declared.value.Name.{Name}
-use Rattle.nmgc_world_spec.specs.declared.value.Value.{Value}
 use Rattle.nmgc_world_spec.specs.declared.value.Value.TheVariants as value
-use Rattle.nmgc_world_spec.specs.declared.node.Parts.{Parts}
-use Rattle.nmgc_world_spec.specs.declared.node.Node.{Node}
-use Rattle.nmgc_world_spec.specs.declared.node.Node.TheVariants.{Con, Var, Arr, Thunk, Weak, Stack}
-use Rattle.nmgc_world_spec.specs.World.{World, state_of, node_of}
-use Rattle.nmgc_world_spec.specs.Change.{changed}
-use Rattle.nmgc_world_spec.specs.Step.{shared_name, value_for, with_state, with_node, with_finaliser, holding, holding_given, keeping, born, object_of, change_node, change_object, step}
-use Rattle.nmgc_world_spec.specs.Reach.{RefersTo, IsAlive, strong_fields}
-use Rattle.nmgc_world_spec.specs.History.{finalised_in, finalised_by}
-use Rattle.nmgc_world_laws.specs.Holds.{Names, Fields}
-use Rattle.nmgc_world_laws.specs.laws.Barrier.{IsStrongChange, Writes, changed_fields}
-use Rattle.nmgc_lists.specs.laws.Items.{nothing_in, contains_one}
-use Rattle.nmgc_world_laws.specs.laws.Moves.{operand_has, operands_have}
-use Rattle.nmgc_world_laws.specs.laws.NodeLaws.{nodes_kept, node_born, next_is_new, node_cases}
-use Rattle.nmgc_world_laws.specs.laws.WorldSteps.{change_count}
-use Rattle.nmgc_world_laws.specs.laws.Deaths.{keeping_nodes as keeping_kept}
 
 -- the node of one name, from one world to the next
 data Turn (P : Name → Type 0) (w v : World) (dead : List Name) (name : Name) : Type 0 where

@@ -1,29 +1,12 @@
 -- That the array has the names in blocks: from the first state on, over each step of a cycle, and over a promotion whose moves are noted.
-use Rattle.std.proofs.Common.{ℕ, ◌≡◌, ◌≢◌, ◌⊎◌, ◌+◌, ◌-◌, ◌*◌, ◌<◌, ◌≤◌, ◌∙◌, inl, inr, refl, sym, ap, subst, arith, List, [], ◌∷◌, ◌++◌, length, set, length-set, Some, mul-le-mul_right}
+use Rattle.std.proofs.{Common.ℕ, Common.◌≡◌, Common.◌≢◌, Common.◌⊎◌, Common.◌+◌, Common.◌-◌, Common.◌*◌, Common.◌<◌, Common.◌≤◌, Common.◌∙◌, Common.inl, Common.inr, Common.refl, Common.sym, Common.ap, Common.subst, Common.arith, Common.List, Common.[], Common.◌∷◌, Common.◌++◌, Common.length, Common.set, Common.length-set, Common.Some, Common.mul-le-mul_right, Math.ListN.get_or-eq_default, lemmas.Bool.cases_eq, lemmas.Bool.cases_lt, lemmas.Nat.div_below, lemmas.List.Elements.Contains-append_left, lemmas.List.Elements.Contains-push, lemmas.List.Elements.Contains-push_cases}
 use Rattle.std.specs.Prelude.{Contains, slice_get}
-use Rattle.std.proofs.Math.ListN.{get_or-eq_default}
-use Rattle.std.proofs.lemmas.Bool.{cases_eq, cases_lt}
-use Rattle.std.proofs.lemmas.Nat.{div_below}
-use Rattle.std.proofs.lemmas.List.Elements.{Contains-append_left, Contains-push, Contains-push_cases}
-use Rattle.nmgc_world_spec.specs.declared.value.Name.{Name}
-use Rattle.nmgc_object.specs.declared.layout.Layout.{Layout}
-use Rattle.nmgc_object.specs.declared.layout.TheConstants.{FIRST_PLACE}
-use Rattle.nmgc_object.specs.declared.size.TheConstants.{MIN_BLOCK_WORDS}
-use Rattle.nmgc_object.specs.Places.{IsLayout}
-use Rattle.nmgc_object.specs.Size.{block_size}
+use Rattle.nmgc_world_spec.specs.{declared.value.Name.Name, laws.Common.get_set_other, laws.Common.get_set_same}
+use Rattle.nmgc_object.specs.{declared.layout.Layout.Layout, declared.layout.TheConstants.FIRST_PLACE, declared.size.TheConstants.MIN_BLOCK_WORDS, Places.IsLayout, Size.block_size, laws.Classes.least_block as large}
 use Rattle.nmgc_segment.specs.declared.state.State.TheVariants.{Free}
-use Rattle.nmgc_alloc.specs.Numbered.{nth, Segments, HasNumber, block_place}
-use Rattle.nmgc_alloc.specs.Segments.{IsSegments, IsBlockAt}
-use Rattle.nmgc_alloc.specs.AllocState.{AllocState, Cells, Sweeps, SweepsEach, SweepsSome, HoldsKept, LiesIn, cells, name_in, no_cells, all_empty, all_retired, cycle_begun}
-use Rattle.nmgc_alloc.specs.Stands.{StandsFor}
-use Rattle.nmgc_alloc.specs.laws.Apart.{blocks_lie_apart, lies_in}
-use Rattle.nmgc_alloc.specs.laws.Cells.{none_some, swept_back, swept_other, begun_cells, retired_cells}
-use Rattle.nmgc_alloc.specs.laws.OneState.{first_cells}
-use Rattle.nmgc_alloc.specs.laws.Placing.{inside}
-use Rattle.nmgc_object.specs.laws.Classes.{least_block as large}
+use Rattle.nmgc_alloc.specs.{Numbered.nth, Numbered.Segments, Numbered.HasNumber, Numbered.block_place, Segments.IsSegments, Segments.IsBlockAt, AllocState.AllocState, AllocState.Cells, AllocState.Sweeps, AllocState.SweepsEach, AllocState.SweepsSome, AllocState.HoldsKept, AllocState.LiesIn, AllocState.cells, AllocState.name_in, AllocState.no_cells, AllocState.all_empty, AllocState.all_retired, AllocState.cycle_begun, Stands.StandsFor, laws.Apart.blocks_lie_apart, laws.Apart.lies_in, laws.Cells.none_some, laws.Cells.swept_back, laws.Cells.swept_other, laws.Cells.begun_cells, laws.Cells.retired_cells, laws.OneState.first_cells, laws.Placing.inside}
 use Rattle.nmgc_heap_spec.specs.Moves.{Moved}
 use Rattle.nmgc_sweep.specs.Names.{AreNamed, HaveEntries, HaveNoted, entry_of, named_at}
-use Rattle.nmgc_world_spec.specs.laws.Common.{get_set_other, get_set_same}
 
 -- where a name lies
 
@@ -125,7 +108,7 @@ swept_class : (a b : AllocState) (swept : ℕ) (K : ℕ → Type 0) → Sweeps a
 swept_class a b swept K s number block name lies = elim (cases_eq number swept) [
   | inl same ↦
       let here : LiesIn b swept block name = subst (λ (k : ℕ). LiesIn b k block name) same lies in
-      subst (λ (k : ℕ). (cells b k).class ≡ (cells a k).class) (sym same) (elim s.swept [
+      rw same (elim s.swept [
         | inl h ↦ absurd (lies_not_free b swept block name h.1 here)
         | inr (inl h) ↦ ap (λ (c : Cells). c.class) h.1
         | inr (inr h) ↦ ap (λ (c : Cells). c.class) h.2
@@ -168,8 +151,7 @@ named_noted s words b moves old new sound stands noted moved came number block n
           let one : (lay.0 ≡ number) ×
           (lay.1 ≡ block) = one_entry s lay.0 lay.1 to number block at sound (lies_begins s words b stands lay.0 lay.1 m.name lay.2)
           (lies_begins s words b stands number block name lies) (ap entry_of (sym lay.3) ∙ same) in
-          let here : LiesIn b number block m.name = subst (λ (k : ℕ).
-          LiesIn b number k m.name) one.1 (subst (λ (k : ℕ). LiesIn b k lay.1 m.name) one.0 lay.2) in
+          let here : LiesIn b number block m.name = rw (← one.1) (subst (λ (k : ℕ). LiesIn b k lay.1 m.name) one.0 lay.2) in
           is ∙ sym here ∙ lies
       | inr (none, same) ↦ elim (came number block name lies) [
         | inl (m, there, to) ↦ absurd (none m there (ap entry_of to))
@@ -189,8 +171,7 @@ one_noted moves m old mid new low is h = record {
       m,
       Contains-push moves m,
       sym here,
-      ap (λ (l : List Name). slice_get l i) is ∙
-          ap (λ (k : ℕ). slice_get (set mid (entry_of m.to) m.name) k) here ∙ get_set_same mid (entry_of m.to) m.name low,
+      cc (is, here, get_set_same mid (entry_of m.to) m.name low),
     )
     | inr other ↦
         let stays : slice_get new i ≡ slice_get mid i = ap (λ (l : List Name). slice_get l i) is ∙ get_set_other mid (entry_of m.to) i m.name other in

@@ -1,14 +1,8 @@
 -- Polls of the rings: each receiver has more of its own, and there are as many.
-use Rattle.std.proofs.Common.{ℕ, ◌≡◌, ◌<◌, ◌∙◌, sym, ap, subst, List, [], length, append-nil, set, get_or, length-set, inl, inr, refl}
+use Rattle.std.proofs.{Common.ℕ, Common.◌≡◌, Common.◌<◌, Common.◌∙◌, Common.sym, Common.ap, Common.subst, Common.List, Common.[], Common.length, Common.append-nil, Common.set, Common.get_or, Common.length-set, Common.inl, Common.inr, Common.refl, lemmas.Bool.cases_eq, lemmas.List.get_or-set_same, lemmas.List.get_or-set_other, lemmas.Option.slice_get-get_or, lemmas.Option.slice_get_within, lemmas.Option.get_or_from_slice_get}
 use Rattle.std.specs.Prelude.{slice_get, Some}
-use Rattle.std.proofs.lemmas.Bool.{cases_eq}
-use Rattle.std.proofs.lemmas.List.{get_or-set_same, get_or-set_other}
-use Rattle.std.proofs.lemmas.Option.{slice_get-get_or, slice_get_within, get_or_from_slice_get}
-use Rattle.nmgc_updrem.specs.Lines.{PollsSo}
-use Rattle.nmgc_updrem.specs.Rings.{Receiver, Polls, HasPolled, HavePolled, AtLine}
-use Rattle.nmgc_updrem.specs.declared.polled.Polled.{Polled}
+use Rattle.nmgc_updrem.specs.{Lines.PollsSo, Rings.Receiver, Rings.Polls, Rings.HasPolled, Rings.HavePolled, Rings.AtLine, declared.polled.Polled.Polled, laws.Lines.polled_none, laws.Lines.polled_then}
 use Rattle.nmgc_updrem.specs.declared.polled.Polled.TheVariants as polled
-use Rattle.nmgc_updrem.specs.laws.Lines.{polled_none, polled_then}
 
 -- whatever a poll answered
 poll_is : (r q : Receiver) (answer : Polled) → Polls r q answer → HasPolled r q

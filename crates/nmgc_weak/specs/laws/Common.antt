@@ -1,11 +1,6 @@
 -- Lemmas that crates above need too.
-use Rattle.std.proofs.Common.{◌≡◌, List, [], ◌∷◌, map, refl, ap, arith, inl, inr, ◌+◌, ℕ, ◌∙◌}
-use Rattle.std.specs.Prelude.{Contains, slice_index}
-use Rattle.nmgc_lists.specs.laws.Items.{contains_head, contains_tail, contains_cases}
-use Rattle.nmgc_world_spec.specs.declared.value.Name.{Name}
-use Rattle.nmgc_heap_spec.specs.Places.{Place}
-use Rattle.nmgc_weak.specs.declared.weaks.OldWeak.{OldWeak}
-use Rattle.nmgc_weak.specs.Weaks.{places_of, names_of, place_of as place_at, finaliser_place}
+use Rattle.std.specs.Prelude.{◌≡◌, ◌∷◌, ◌+◌}
+use Rattle.nmgc_weak.specs.laws.Vocabulary.{List, [], map, refl, ap, arith, inl, inr, ℕ, Contains, slice_index, contains_head, contains_tail, contains_cases, Name, Place, OldWeak, places_of, names_of, place_at, finaliser_place}
 
 -- the names of places are those of the list
 pub names_same : (list : List OldWeak) → map (λ (p : Place). p.name) (places_of list) ≡ names_of list
@@ -20,5 +15,4 @@ of_place (x ∷ xs) p c = elim (contains_cases (place_at x) (places_of xs) p c) 
 ]
 
 pub finaliser_is : (words now : List ℕ) (at w : ℕ) → now ≡ words → w ≡ slice_index now (at + 4) → w ≡ slice_index words (finaliser_place at)
-finaliser_is words now at w same e = e ∙ ap (λ (l : List ℕ). slice_index l (at + 4)) same ∙
-    ap (λ i. slice_index words i) (let z : at + 4 ≡ finaliser_place at = omega arith in z)
+finaliser_is words now at w same e = cc (e, same, let z : at + 4 ≡ finaliser_place at = omega arith in z)

@@ -1,25 +1,17 @@
 -- Those leave the list that were told: what is left of it.
-use Rattle.std.proofs.Common.{ℕ, ◌≡◌, Bool, true, false, cond, eq-eqb, ne_eqb, List, [], ◌∷◌, ◌++◌, refl, sym, ap, ◌∙◌, inl, inr}
-use Rattle.std.specs.Prelude.{Contains, filter, not, slice_index, ◌==◌, ◌&&◌}
-use Rattle.std.proofs.lemmas.Bool.{cases_eq}
-use Rattle.nmgc_lists.specs.laws.Items.{contains_head, contains_tail, contains_cases, filter_contains, nothing_in}
-use Rattle.nmgc_lists.specs.laws.Truths.{same_test}
-use Rattle.nmgc_weak.specs.declared.weaks.OldWeak.{OldWeak}
-use Rattle.nmgc_weak.specs.Rows.{left_of, leaves_at}
-use Rattle.nmgc_weak.specs.Weaks.{alive_of, is_alive, value_place}
+use Rattle.std.specs.Prelude.{◌≡◌, ◌∷◌, ◌++◌, ◌==◌, ◌&&◌}
+use Rattle.nmgc_weak.specs.laws.Vocabulary.{ℕ, Bool, true, false, cond, eq-eqb, ne_eqb, List, [], refl, sym, ap, ◌∙◌, inl, inr, Contains, filter, not, slice_index, cases_eq, contains_head, contains_tail, contains_cases, filter_contains, nothing_in, same_test, OldWeak, left_of, leaves_at, alive_of, is_alive, value_place}
 
 -- a filter that all pass, two that tell the same, and one after the other
 pub filter_all : {A : Type 0} (p : A → Bool) (xs : List A) → ((x : A) → Contains xs x → p x ≡ true) → filter p xs ≡ xs
 filter_all p [] h = refl
 filter_all {A} p (x ∷ xs) h =
-    ap (λ (b : Bool). cond b (x ∷ filter p xs) (filter p xs)) (h x (contains_head x xs)) ∙
-    ap (λ (l : List A). x ∷ l) (filter_all p xs (λ y c. h y (contains_tail x xs y c)))
+    cc (h x (contains_head x xs), filter_all p xs (λ y c. h y (contains_tail x xs y c)))
 
 pub filter_same : {A : Type 0} (p q : A → Bool) (xs : List A) → ((x : A) → Contains xs x → p x ≡ q x) → filter p xs ≡ filter q xs
 filter_same p q [] h = refl
 filter_same {A} p q (x ∷ xs) h =
-    ap (λ (b : Bool). cond b (x ∷ filter p xs) (filter p xs)) (h x (contains_head x xs)) ∙
-    ap (λ (l : List A). cond (q x) (x ∷ l) l) (filter_same p q xs (λ y c. h y (contains_tail x xs y c)))
+    cc (h x (contains_head x xs), filter_same p q xs (λ y c. h y (contains_tail x xs y c)))
 
 pub filter_cond : {A : Type 0} (b : Bool) (q : A → Bool) (x : A) (l : List A) → filter q (cond b (x ∷ l) l) ≡ cond (b && q x) (x ∷ filter q l) (filter q l)
 filter_cond true q x l = refl

@@ -1,24 +1,8 @@
 -- Weak pointers that are alive: no command makes one alive but the one that it makes.
-use Rattle.std.proofs.Common.{◌≡◌, ◌≢◌, ◌<◌, ℕ, length, refl, sym, ◌∙◌, Some, None}
-use Rattle.std.specs.Prelude.{IfSome}
-use Rattle.nmgc_world_spec.specs.declared.command.Operand.{Operand}
-use Rattle.nmgc_world_spec.specs.declared.command.Command.{Command}
+use Rattle.nmgc_world_laws.specs.{laws.Vocabulary.◌≡◌, laws.Vocabulary.◌≢◌, laws.Vocabulary.◌<◌, laws.Vocabulary.ℕ, laws.Vocabulary.length, laws.Vocabulary.refl, laws.Vocabulary.sym, laws.Vocabulary.◌∙◌, laws.Vocabulary.Some, laws.Vocabulary.None, laws.Vocabulary.IfSome, laws.Vocabulary.Operand, laws.Vocabulary.Command, laws.Vocabulary.Change, laws.Vocabulary.SHARED_MAKER, laws.Vocabulary.Name, laws.Vocabulary.Parts, laws.Vocabulary.Node, laws.Vocabulary.Con, laws.Vocabulary.Var, laws.Vocabulary.Arr, laws.Vocabulary.Thunk, laws.Vocabulary.Weak, laws.Vocabulary.Stack, laws.Vocabulary.World, laws.Vocabulary.state_of, laws.Vocabulary.node_of, laws.Vocabulary.changed, laws.Vocabulary.value_for, laws.Vocabulary.next_name, laws.Vocabulary.step, laws.Vocabulary.at_some, laws.Vocabulary.SameShape, laws.Vocabulary.kind_of, laws.Vocabulary.made_by, laws.Keeps.Any, laws.Keeps.stepped, laws.Keeps.stepped_nodes, laws.NodeShapes.changed_shape}
 use Rattle.nmgc_world_spec.specs.declared.command.Command.TheVariants as command
-use Rattle.nmgc_world_spec.specs.declared.change.Change.{Change}
 use Rattle.nmgc_world_spec.specs.declared.change.Change.TheVariants as change
-use Rattle.nmgc_limits.specs.declared.mutators.TheConstants.{SHARED_MAKER}
-use Rattle.nmgc_world_spec.specs.declared.value.Name.{Name}
-use Rattle.nmgc_world_spec.specs.declared.node.Parts.{Parts}
 use Rattle.nmgc_world_spec.specs.declared.node.Kind.TheVariants as kind
-use Rattle.nmgc_world_spec.specs.declared.node.Node.{Node}
-use Rattle.nmgc_world_spec.specs.declared.node.Node.TheVariants.{Con, Var, Arr, Thunk, Weak, Stack}
-use Rattle.nmgc_world_spec.specs.World.{World, state_of, node_of}
-use Rattle.nmgc_world_spec.specs.Change.{changed}
-use Rattle.nmgc_world_spec.specs.Step.{value_for, next_name, step}
-use Rattle.nmgc_lists.specs.laws.Items.{at_some}
-use Rattle.nmgc_world_laws.specs.Shape.{SameShape, kind_of, made_by}
-use Rattle.nmgc_world_laws.specs.laws.Keeps.{Any, stepped, stepped_nodes}
-use Rattle.nmgc_world_laws.specs.laws.NodeShapes.{changed_shape}
 
 module _ (R : Name → Parts → Type 0) where
   -- the node, where it is an alive weak pointer, has R with its parts

@@ -1,23 +1,8 @@
 -- The deletion barrier on one node: a strong field that a change takes away is owed, and a change
 -- puts nothing into a strong field but what it was given.
-use Rattle.std.proofs.Common.{◌≡◌, ◌-◌, ℕ, List, [], ◌∷◌, ◌++◌, zero, suc, length, set, refl, ap, arith, Option, Some, None, Bool, true, false, cond, eqb, ltb, inl, inr, ◌⊎◌}
-use Rattle.std.specs.Prelude.{slice_get, All, Contains, IfSome, option_to_list}
-use Rattle.std.proofs.lemmas.List.Elements.{All-cons, All-nil, All-head, All-set, All-push, All-take}
-use Rattle.nmgc_world_spec.specs.declared.value.Name.{Name}
-use Rattle.nmgc_world_spec.specs.declared.value.Value.{Value}
-use Rattle.nmgc_world_spec.specs.declared.node.Node.{Node}
-use Rattle.nmgc_world_spec.specs.declared.node.Node.TheVariants.{Con, Var, Arr, Thunk, Weak, Stack}
-use Rattle.nmgc_world_spec.specs.declared.command.Reply.{Reply}
-use Rattle.nmgc_world_spec.specs.declared.command.Reply.TheVariants.{Fine, Yes, No, NoField, StackFull, StackEmpty}
-use Rattle.nmgc_world_spec.specs.declared.change.Change.{Change}
+use Rattle.std.specs.Prelude.{◌≡◌, ◌-◌, ◌∷◌, ◌++◌, ◌⊎◌}
+use Rattle.nmgc_world_laws.specs.laws.Vocabulary.{ℕ, List, [], zero, suc, length, set, refl, ap, arith, Option, Some, None, Bool, true, false, cond, eqb, ltb, inl, inr, slice_get, All, Contains, IfSome, option_to_list, All-cons, All-nil, All-head, All-set, All-push, All-take, Name, Value, Node, Con, Var, Arr, Thunk, Weak, Stack, Reply, Fine, Yes, No, NoField, StackFull, StackEmpty, Change, is_same, given_or, field_read, result_read, exchanged_at, changed, last_of, stack_pushed, stack_popped, given, strong_fields, field_held, if_same, owed_in, free_held, top_held, strong_at, Fields, IsLater, item_has, contains_at, place_of, contains_option, kept_or_held, kept_or_last, slice_get-append, ne_eqb}
 use Rattle.nmgc_world_spec.specs.declared.change.Change.TheVariants as change
-use Rattle.nmgc_world_spec.specs.Change.{is_same, given_or, field_read, result_read, exchanged_at, changed, last_of, stack_pushed, stack_popped}
-use Rattle.nmgc_world_spec.specs.World.{given}
-use Rattle.nmgc_world_spec.specs.Reach.{strong_fields}
-use Rattle.nmgc_world_spec.specs.Owed.{field_held, if_same, owed_in, free_held, top_held}
-use Rattle.nmgc_world_laws.specs.Holds.{strong_at, Fields, IsLater}
-use Rattle.nmgc_lists.specs.laws.Items.{item_has, contains_at, place_of, contains_option, kept_or_held, kept_or_last, slice_get-append}
-use Rattle.std.proofs.lemmas.Bool.{ne_eqb}
 
 -- a strong field has a place
 pub place_of_field : (node : Node) (v : Value) → Contains (strong_fields node) v → (i : ℕ) × (strong_at node i ≡ Some v)

@@ -1,25 +1,8 @@
 -- A closing with exactly the dead weak pointers leaves only kept names held.
-use Rattle.std.proofs.Common.{◌≡◌, ◌⊎◌, List, [], ◌∷◌, refl, sym, ap, subst, ◌∙◌, Option, Some, None, inl, inr}
-use Rattle.std.specs.Prelude.{IsSome, IfSome, All, Contains}
-use Rattle.std.proofs.lemmas.List.Elements.{All-nil, All-weaker, All-push, All-contains, Contains-append_cases}
-use Rattle.nmgc_world_spec.specs.declared.value.Name.{Name}
-use Rattle.nmgc_world_spec.specs.declared.value.Value.{Value}
+use Rattle.std.specs.Prelude.{◌≡◌, ◌⊎◌, ◌∷◌}
+use Rattle.nmgc_world_laws.specs.laws.Vocabulary.{List, [], refl, sym, ap, subst, ◌∙◌, Option, Some, None, inl, inr, IsSome, IfSome, All, Contains, All-nil, All-weaker, All-push, All-contains, Contains-append_cases, Name, Value, Parts, Node, Weak, World, IsWorld, state_of, node_of, replayed, opened, finalised, IsLive, IsKept, IsAlive, IsPlain, IsRoot, Lists, closed, closed_by, strong_fields, contains_head, contains_tail, at_some, Names, OfParts, Fields, CoversReach, IsOfWeak, HoldsOnly, IsLiveOrNew, IsNotLost, IsSound, ClosesWell, Interval, IsDeadAfter}
 use Rattle.nmgc_world_spec.specs.declared.value.Value.TheVariants as value
-use Rattle.nmgc_world_spec.specs.declared.node.Parts.{Parts}
-use Rattle.nmgc_world_spec.specs.declared.node.Node.{Node}
-use Rattle.nmgc_world_spec.specs.declared.node.Node.TheVariants.{Weak}
-use Rattle.nmgc_world_spec.specs.World.{World, IsWorld, state_of, node_of}
-use Rattle.nmgc_world_spec.specs.History.{replayed, opened, finalised}
-use Rattle.nmgc_world_spec.specs.Reach.{IsLive, IsKept, IsAlive, IsPlain, IsRoot, Lists, closed, closed_by, strong_fields}
-use Rattle.nmgc_lists.specs.laws.Items.{contains_head, contains_tail, at_some}
-use Rattle.nmgc_world_laws.specs.Holds.{Names, OfParts, Fields, CoversReach}
-use Rattle.nmgc_world_spec.specs.Wide.{IsOfWeak}
-use Rattle.nmgc_world_laws.specs.Reachable.{HoldsOnly, IsLiveOrNew, IsNotLost, IsSound, ClosesWell}
-use Rattle.nmgc_world_spec.specs.Interval.{Interval, IsDeadAfter}
-use Rattle.nmgc_world_laws.specs.laws.Alive.{WeaksOk}
-use Rattle.nmgc_world_laws.specs.laws.HeldSteps.{alive_ok, alive_has, absent, some_of, value_names, values_names, name_has}
-use Rattle.nmgc_world_laws.specs.laws.LiveRows.{AsThen, LiveHeld, live_after, world_after}
-use Rattle.nmgc_world_laws.specs.laws.Deaths.{Dies, dies_by, dies_weaks, closed_weaks, closed_dead, finalised_dead}
+use Rattle.nmgc_world_laws.specs.laws.{Alive.WeaksOk, HeldSteps.alive_ok, HeldSteps.alive_has, HeldSteps.absent, HeldSteps.some_of, HeldSteps.value_names, HeldSteps.values_names, HeldSteps.name_has, LiveRows.AsThen, LiveRows.LiveHeld, LiveRows.live_after, LiveRows.world_after, Deaths.Dies, Deaths.dies_by, Deaths.dies_weaks, Deaths.closed_weaks, Deaths.closed_dead, Deaths.finalised_dead}
 
 pub same_parts : (S : World) (d : Name) (a b : Parts) → IsAlive S d a → IsAlive S d b → a ≡ b
 same_parts S d a b e f = let both : Some (Weak (Some a)) ≡ Some (Weak (Some b)) = sym e ∙ f in cc
@@ -111,8 +94,7 @@ module _ (i : Interval) (sound : IsSound i) where
         | inl same ↦ subst (λ (values : List Value). All (Names Kept) values) (sym same) (h.holds.queues k)
         | inr more ↦ elim more.2 [
           | inl same ↦ subst (λ (values : List Value). All (Names Kept) values) (sym same) (h.holds.queues k)
-          | inr joined ↦ subst (λ (values : List Value).
-              All (Names Kept) values) (sym joined) (All-push (Names Kept) (state_of w k).queue more.0.finaliser (h.holds.queues k)
+          | inr joined ↦ rw joined (All-push (Names Kept) (state_of w k).queue more.0.finaliser (h.holds.queues k)
               (finaliser_kept w h d dead more.0 more.1))
         ]
       ];

@@ -1,24 +1,8 @@
 -- One weak pointer dies: every other node stays, and the world stays closed.
-use Rattle.std.proofs.Common.{◌≡◌, ◌≢◌, ◌<◌, ◌≤◌, ℕ, [], ◌∷◌, ◌++◌, length, set, inl, inr, refl, sym, ap, subst, ◌∙◌, arith, Some, None, length-set}
-use Rattle.std.specs.Prelude.{slice_get}
-use Rattle.std.proofs.lemmas.Bool.{ne_eqb, eq-eqb, cases_eq}
-use Rattle.std.proofs.lemmas.List.{get_or-set_same, get_or-set_other, set-set}
-use Rattle.std.proofs.lemmas.List.Elements.{All-push, All-get_or}
-use Rattle.nmgc_limits.specs.declared.mutators.TheConstants.{SHARED_MAKER}
-use Rattle.nmgc_world_spec.specs.declared.value.Name.{Name}
-use Rattle.nmgc_world_spec.specs.declared.value.Value.{Value}
-use Rattle.nmgc_world_spec.specs.declared.value.Value.TheVariants.{Nil, Number, Ref}
-use Rattle.nmgc_world_spec.specs.declared.node.Parts.{Parts}
-use Rattle.nmgc_world_spec.specs.declared.node.Node.TheVariants.{Weak}
+use Rattle.std.specs.Prelude.{◌≡◌, ◌≢◌, ◌<◌, ◌≤◌, ◌∷◌, ◌++◌}
+use Rattle.nmgc_world_laws.specs.laws.Vocabulary.{ℕ, [], length, set, inl, inr, refl, sym, subst, ◌∙◌, arith, Some, None, length-set, slice_get, ne_eqb, eq-eqb, cases_eq, get_or-set_same, get_or-set_other, set-set, All-push, All-get_or, SHARED_MAKER, Name, Value, Nil, Number, Ref, Parts, Weak, MutatorState, World, state_of, node_of, no_mutator, IsKnown, IsWorld, with_state, with_nth, IsAliveWeak, queued, closed_by, same_name, slice_get-set_other}
 use Rattle.nmgc_world_spec.specs.declared.change.Change.TheVariants as change
-use Rattle.nmgc_world_spec.specs.declared.mutator_state.MutatorState.{MutatorState}
-use Rattle.nmgc_world_spec.specs.World.{World, state_of, node_of, no_mutator, IsKnown, IsWorld}
-use Rattle.nmgc_world_spec.specs.Step.{with_state, with_nth}
-use Rattle.nmgc_world_spec.specs.Reach.{IsAliveWeak, queued, closed_by}
-use Rattle.nmgc_world_spec.specs.laws.Orders.{same_name}
-use Rattle.nmgc_world_laws.specs.laws.Weaks.{weak_maker}
-use Rattle.nmgc_world_laws.specs.laws.Worlds.{not_shared, nth_changed, same_state, values_keep, still_known}
-use Rattle.nmgc_lists.specs.laws.Items.{slice_get-set_other}
+use Rattle.nmgc_world_laws.specs.laws.{Weaks.weak_maker, Worlds.not_shared, Worlds.nth_changed, Worlds.same_state, Worlds.values_keep, Worlds.still_known}
 
 pub queued_nodes : (state : MutatorState) (v : Value) → (queued state v).nodes ≡ state.nodes
 queued_nodes state Nil = refl
@@ -62,8 +46,7 @@ module _ (w : World) (weak : Name) (parts : Parts) (lt : weak.maker < length w.m
       ])
 
   pub closed_length : length (closed_by w weak (Some (Weak (Some parts)))).mutators ≡ length w.mutators
-  closed_length = ap (λ (u : World). length u.mutators) closed_state ∙
-      (length-set w.mutators weak.maker (with_dead (state_of w weak.maker) weak.serial parts.finaliser))
+  closed_length = cc (closed_state, length-set w.mutators weak.maker (with_dead (state_of w weak.maker) weak.serial parts.finaliser))
 
 -- the world with one weak pointer less is a world
 module _ (w : World) (h : IsWorld w) (weak : Name) (alive : IsAliveWeak w weak) where

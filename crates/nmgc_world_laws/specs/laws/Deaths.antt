@@ -1,38 +1,11 @@
 -- What the death of weak pointers leaves: those that mutators finalise, and those of a closing.
-use Rattle.std.proofs.Common.{◌≡◌, ◌≢◌, ◌<◌, ◌⊎◌, ℕ, List, [], ◌∷◌, ◌++◌, length, refl, sym, ap, subst, ◌∙◌, Option, Some, None, inl, inr, length-set}
-use Rattle.std.specs.Prelude.{IsSome, IfSome, Contains, slice_get}
-use Rattle.std.proofs.lemmas.Bool.{cases_eq}
-use Rattle.std.proofs.lemmas.List.{append-nil, append_assoc}
-use Rattle.std.proofs.lemmas.List.Elements.{Contains-append_cases}
-use Rattle.nmgc_world_spec.specs.declared.command.Command.{Command}
+use Rattle.std.specs.Prelude.{◌≡◌, ◌≢◌, ◌<◌, ◌⊎◌, ◌∷◌, ◌++◌}
+use Rattle.nmgc_world_laws.specs.laws.Vocabulary.{ℕ, List, [], length, refl, sym, ap, subst, ◌∙◌, Option, Some, None, inl, inr, length-set, IsSome, IfSome, Contains, cases_eq, append-nil, append_assoc, Contains-append_cases, Command, Reply, SHARED_MAKER, Name, Value, Parts, Node, Con, Var, Arr, Thunk, Weak, Stack, MutatorState, World, IsWorld, state_of, serial_of, node_of, value_for, with_state, with_nth, keeping, object_of, change_node, change_object, step, Row, replayed, finalised, finalised_by, finalised_in, IsAlive, IsAliveWeak, queued, closed, closed_by, contains_cases, slice_get-set_same, nothing_in, name_cases, CanReplay, ClosingKeepsWorld, QueueGrows, ClosingLeavesHands}
 use Rattle.nmgc_world_spec.specs.declared.command.Command.TheVariants as command
-use Rattle.nmgc_world_spec.specs.declared.command.Reply.{Reply}
 use Rattle.nmgc_world_spec.specs.declared.command.Reply.TheVariants as reply
 use Rattle.nmgc_world_spec.specs.declared.change.Change.TheVariants as change
-use Rattle.nmgc_limits.specs.declared.mutators.TheConstants.{SHARED_MAKER}
-use Rattle.nmgc_world_spec.specs.declared.value.Name.{Name}
-use Rattle.nmgc_world_spec.specs.declared.value.Value.{Value}
 use Rattle.nmgc_world_spec.specs.declared.value.Value.TheVariants as value
-use Rattle.nmgc_world_spec.specs.declared.node.Parts.{Parts}
-use Rattle.nmgc_world_spec.specs.declared.node.Node.{Node}
-use Rattle.nmgc_world_spec.specs.declared.node.Node.TheVariants.{Con, Var, Arr, Thunk, Weak, Stack}
-use Rattle.nmgc_world_spec.specs.declared.mutator_state.MutatorState.{MutatorState}
-use Rattle.nmgc_world_spec.specs.World.{World, IsWorld, state_of, serial_of, node_of}
-use Rattle.nmgc_world_spec.specs.Step.{value_for, with_state, with_nth, keeping, object_of, change_node, change_object, step}
-use Rattle.nmgc_world_spec.specs.History.{Row, replayed, finalised, finalised_by, finalised_in}
-use Rattle.nmgc_world_spec.specs.Reach.{IsAlive, IsAliveWeak, queued, closed, closed_by}
-use Rattle.nmgc_world_laws.specs.laws.Closings.{with_dead, closed_state, closed_other, dead_keeps, queued_nodes}
-use Rattle.nmgc_world_laws.specs.laws.Growth.{step_grows}
-use Rattle.nmgc_world_laws.specs.laws.Weaks.{weak_within, weak_maker}
-use Rattle.nmgc_lists.specs.laws.Items.{contains_cases, slice_get-set_same, nothing_in}
-use Rattle.nmgc_world_spec.specs.laws.Orders.{name_cases}
-use Rattle.nmgc_world_laws.specs.laws.Worlds.{not_shared}
-use Rattle.nmgc_world_laws.specs.Reachable.{CanReplay, ClosingKeepsWorld}
-use Rattle.nmgc_world_laws.specs.Leaves.{QueueGrows, ClosingLeavesHands}
-use Rattle.nmgc_world_laws.specs.laws.NodeLaws.{state_same, state_other, node_same, nodes_kept, next_is_new, node_cases, as_many}
-use Rattle.nmgc_world_laws.specs.laws.Alive.{AliveOk, WeaksOk, step_weaks}
-use Rattle.nmgc_world_laws.specs.laws.WorldSteps.{step_keeps_world}
-use Rattle.nmgc_world_laws.specs.laws.HeldSteps.{alive_ok, alive_has, absent, some_of}
+use Rattle.nmgc_world_laws.specs.laws.{Closings.with_dead, Closings.closed_state, Closings.closed_other, Closings.dead_keeps, Closings.queued_nodes, Growth.step_grows, Weaks.weak_within, Weaks.weak_maker, Worlds.not_shared, NodeLaws.state_same, NodeLaws.state_other, NodeLaws.node_same, NodeLaws.nodes_kept, NodeLaws.next_is_new, NodeLaws.node_cases, NodeLaws.as_many, Alive.AliveOk, Alive.WeaksOk, Alive.step_weaks, WorldSteps.step_keeps_world, HeldSteps.alive_ok, HeldSteps.alive_has, HeldSteps.absent, HeldSteps.some_of}
 
 not_alive : (o : Option Node) (parts : Parts) → o ≡ Some (Weak None) → o ≡ Some (Weak (Some parts)) → ⊥
 not_alive o parts e f = let g : Some (Weak None) ≡ Some (Weak (Some parts)) = sym e ∙ f in cc
@@ -165,9 +138,7 @@ dies_alive w is d parts alive =
     let q : MutatorState = with_dead (state_of w d.maker) d.serial parts.finaliser in
     let v : World = with_state w d.maker q in
     let is_v : closed_by w d (Some (Weak (Some parts))) ≡ v = closed_state w d parts lt ne in
-    let at : node_of v d ≡ Some (Weak None) = node_same w d.maker q lt ne d refl ∙
-    ap (λ (nodes : List Node). slice_get nodes d.serial) (queued_nodes state parts.finaliser) ∙
-    slice_get-set_same (state_of w d.maker).nodes d.serial (Weak None) (weak_within w is d (parts, alive)) in
+    let at : node_of v d ≡ Some (Weak None) = cc (node_same w d.maker q lt ne d refl, queued_nodes state parts.finaliser, slice_get-set_same (state_of w d.maker).nodes d.serial (Weak None) (weak_within w is d (parts, alive))) in
     let dies : Dies w v d = record {
       world = dead_keeps w is d (parts, alive);
       nodes = λ n. elim (name_cases n d) [
@@ -176,14 +147,12 @@ dies_alive w is d parts alive =
       ];
       dead = λ p e. not_alive (node_of v d) p at e;
       registers = λ k. elim (cases_eq k d.maker) [
-        | inl e ↦ ap (λ (j : ℕ). (state_of v j).registers) e ∙ ap (λ (s : MutatorState). s.registers) (state_same w d.maker q lt) ∙
-            queued_registers state parts.finaliser ∙ ap (λ (j : ℕ). (state_of w j).registers) (sym e)
+        | inl e ↦ cc (e, state_same w d.maker q lt, queued_registers state parts.finaliser)
         | inr other ↦ ap (λ (s : MutatorState). s.registers) (state_other w d.maker q lt k other)
       ];
       queues = λ k. elim (cases_eq k d.maker) [
         | inl e ↦
-            let new : (state_of v k).queue ≡ q.queue = ap (λ (j : ℕ). (state_of v j).queue) e ∙
-            ap (λ (s : MutatorState). s.queue) (state_same w d.maker q lt) in
+            let new : (state_of v k).queue ≡ q.queue = cc (e, state_same w d.maker q lt) in
             let old : state.queue ≡ (state_of w k).queue = ap (λ (j : ℕ). (state_of w j).queue) (sym e) in
             inr (
               parts,
@@ -197,9 +166,7 @@ dies_alive w is d parts alive =
       ];
       mutators = length-set w.mutators d.maker q;
       serials = λ k. elim (cases_eq k d.maker) [
-        | inl e ↦ ap (λ (j : ℕ). serial_of v j) e ∙ ap (λ (s : MutatorState). length s.nodes) (state_same w d.maker q lt) ∙
-            ap (λ (nodes : List Node). length nodes) (queued_nodes state parts.finaliser) ∙
-            length-set (state_of w d.maker).nodes d.serial (Weak None) ∙ ap (λ (j : ℕ). serial_of w j) (sym e)
+        | inl e ↦ cc (e, state_same w d.maker q lt, queued_nodes state parts.finaliser, length-set (state_of w d.maker).nodes d.serial (Weak None))
         | inr other ↦ ap (λ (s : MutatorState). length s.nodes) (state_other w d.maker q lt k other)
       ];
     } in

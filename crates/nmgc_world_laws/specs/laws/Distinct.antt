@@ -1,13 +1,6 @@
 -- Names without doubles, in order: as many, and the same.
-use Rattle.std.proofs.Common.{◌≡◌, ◌≢◌, ◌⊎◌, ◌+◌, ◌≤◌, ℕ, List, [], ◌∷◌, ◌++◌, length, refl, sym, subst, ◌∙◌, arith, inl, inr}
-use Rattle.std.specs.Prelude.{Contains}
-use Rattle.std.proofs.lemmas.Bool.{cases_order}
-use Rattle.std.proofs.lemmas.List.Elements.{Contains-append_cases}
-use Rattle.nmgc_world_spec.specs.declared.value.Name.{Name}
-use Rattle.nmgc_world_spec.specs.Reach.{IsBefore, IsInOrder}
-use Rattle.nmgc_world_spec.specs.laws.Orders.{same_name, in_order_first, in_order_rest, in_order_cons, not_before_itself, name_cases}
-use Rattle.nmgc_lists.specs.laws.Items.{contains_head, contains_tail, contains_cases, nothing_in, one_is}
-use Rattle.nmgc_world_spec.specs.Listing.{AreDistinct, Counts}
+use Rattle.std.specs.Prelude.{◌≡◌, ◌≢◌, ◌⊎◌, ◌+◌, ◌≤◌, ◌∷◌, ◌++◌}
+use Rattle.nmgc_world_laws.specs.laws.Vocabulary.{ℕ, List, [], length, refl, sym, subst, ◌∙◌, arith, inl, inr, Contains, cases_order, Contains-append_cases, Name, IsBefore, IsInOrder, same_name, in_order_first, in_order_rest, in_order_cons, not_before_itself, name_cases, contains_head, contains_tail, contains_cases, nothing_in, one_is, AreDistinct, Counts}
 
 -- names in order have no doubles
 pub in_order_distinct : (xs : List Name) → IsInOrder xs → AreDistinct xs

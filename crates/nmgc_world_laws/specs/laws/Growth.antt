@@ -1,26 +1,10 @@
 -- A command leaves every name in the map, and lets no serial fall.
-use Rattle.std.proofs.Common.{◌≡◌, ◌<◌, ◌≤◌, ◌+◌, ◌∙◌, ℕ, [], ◌∷◌, ◌++◌, length, refl, sym, ap, subst, arith, inl, inr, length-append, Option, Some, None, Result, Ok, Err}
-use Rattle.std.specs.Prelude.{IsSome, IfOk, OnErr}
-use Rattle.std.proofs.lemmas.List.{get_or-set_same, get_or-set_other, set_past, length-set}
-use Rattle.std.proofs.lemmas.Bool.{cases_lt}
-use Rattle.std.proofs.lemmas.Bool.Decides.{eqb_tells}
-use Rattle.nmgc_lists.specs.declared.memory.NoMemory.{NoMemory}
-use Rattle.nmgc_world_spec.specs.declared.command.Command.{Command}
-use Rattle.nmgc_world_spec.specs.declared.command.Command.TheVariants.{Num, Nil, Mov, Con, Var, Arr, Thunk, Weak, Stack, Get, Set, Cas, Update, Force, Push, Pop, Deref, Finalise, NextFin, Show, Same, Yield, Collect, Full}
-use Rattle.nmgc_world_spec.specs.declared.command.Reply.{Reply}
+use Rattle.std.specs.Prelude.{◌≡◌, ◌<◌, ◌≤◌, ◌+◌, ◌∷◌, ◌++◌}
+use Rattle.nmgc_world_laws.specs.laws.Vocabulary.{◌∙◌, ℕ, [], length, refl, sym, ap, subst, arith, inl, inr, length-append, Option, Some, None, Result, Ok, Err, IsSome, IfOk, OnErr, get_or-set_same, get_or-set_other, set_past, cases_lt, eqb_tells, NoMemory, Command, Num, Mov, Get, Set, Cas, Update, Force, Push, Pop, Deref, Finalise, NextFin, Show, Same, Yield, Collect, Full, Reply, Change, SHARED_MAKER, Name, Value, Node, MutatorState, World, state_of, node_of, serial_of, no_mutator, Grows, changed, with_state, with_new, with_nth, with_node, holding_given, keeping, born, change_node, change_object, change_asked, change_into, value_for, step, is_some_get, get_is_some, length-set}
+use Rattle.nmgc_world_spec.specs.declared.command.Command.TheVariants.{Nil, Con, Var, Arr, Thunk, Weak, Stack}
 use Rattle.nmgc_world_spec.specs.declared.command.Reply.TheVariants as reply
-use Rattle.nmgc_world_spec.specs.declared.change.Change.{Change}
 use Rattle.nmgc_world_spec.specs.declared.change.Change.TheVariants as change
-use Rattle.nmgc_limits.specs.declared.mutators.TheConstants.{SHARED_MAKER}
-use Rattle.nmgc_world_spec.specs.declared.value.Name.{Name}
-use Rattle.nmgc_world_spec.specs.declared.value.Value.{Value}
 use Rattle.nmgc_world_spec.specs.declared.value.Value.TheVariants as value
-use Rattle.nmgc_world_spec.specs.declared.node.Node.{Node}
-use Rattle.nmgc_world_spec.specs.declared.mutator_state.MutatorState.{MutatorState}
-use Rattle.nmgc_world_spec.specs.World.{World, state_of, node_of, serial_of, no_mutator, Grows}
-use Rattle.nmgc_world_spec.specs.Change.{changed}
-use Rattle.nmgc_world_spec.specs.Step.{with_state, with_new, with_nth, with_node, holding_given, keeping, born, change_node, change_object, change_asked, change_into, value_for, step}
-use Rattle.nmgc_lists.specs.laws.Items.{is_some_get, get_is_some}
 
 -- as many mutators, each of which made as many objects
 record SameCounts (w v : World) : Type 0 where

@@ -1,30 +1,9 @@
 -- No command brings back a name that nothing held.
-use Rattle.std.proofs.Common.{◌≡◌, ◌≢◌, ℕ, List, get_or, refl, sym, subst, Option, Some, None, inl, inr}
-use Rattle.std.specs.Prelude.{IsSome, IfSome, All, Contains}
-use Rattle.std.proofs.lemmas.List.Elements.{All-contains, Contains-append_left, Contains-append_right, Contains-append_cases, Contains-get_or}
-use Rattle.nmgc_world_spec.specs.declared.command.Operand.{Operand}
-use Rattle.nmgc_world_spec.specs.declared.command.Command.{Command}
+use Rattle.std.specs.Prelude.{◌≡◌, ◌≢◌}
+use Rattle.nmgc_world_laws.specs.laws.Vocabulary.{ℕ, List, get_or, refl, sym, subst, Option, Some, None, inl, inr, IsSome, IfSome, All, Contains, All-contains, Contains-append_left, Contains-append_right, Contains-append_cases, Contains-get_or, Operand, Command, SHARED_MAKER, Name, Value, Parts, Node, Con, Var, Arr, Thunk, Weak, Stack, World, state_of, node_of, value_read, shared_name, value_for, object_of, read_object, step, name_in, given_name, opened_in, opened_by, IsRoot, IsAlive, strong_fields, at_some, nothing_in, one_is, Names, OfParts, Fields, CoversReach, IsOfWeak, HoldsOnly, StepHoldsOnly}
 use Rattle.nmgc_world_spec.specs.declared.command.Command.TheVariants as command
-use Rattle.nmgc_limits.specs.declared.mutators.TheConstants.{SHARED_MAKER}
-use Rattle.nmgc_world_spec.specs.declared.value.Name.{Name}
-use Rattle.nmgc_world_spec.specs.declared.value.Value.{Value}
 use Rattle.nmgc_world_spec.specs.declared.value.Value.TheVariants as value
-use Rattle.nmgc_world_spec.specs.declared.node.Parts.{Parts}
-use Rattle.nmgc_world_spec.specs.declared.node.Node.{Node}
-use Rattle.nmgc_world_spec.specs.declared.node.Node.TheVariants.{Con, Var, Arr, Thunk, Weak, Stack}
-use Rattle.nmgc_world_spec.specs.World.{World, state_of, node_of}
-use Rattle.nmgc_world_spec.specs.Change.{value_read}
-use Rattle.nmgc_world_spec.specs.Step.{shared_name, value_for, object_of, read_object, step}
-use Rattle.nmgc_world_spec.specs.History.{name_in, given_name, opened_in, opened_by}
-use Rattle.nmgc_world_spec.specs.Reach.{IsRoot, IsAlive, strong_fields}
-use Rattle.nmgc_lists.specs.laws.Items.{at_some, nothing_in, one_is}
-use Rattle.nmgc_world_laws.specs.laws.Worlds.{not_shared}
-use Rattle.nmgc_world_laws.specs.Holds.{Names, OfParts, Fields, CoversReach}
-use Rattle.nmgc_world_spec.specs.Wide.{IsOfWeak}
-use Rattle.nmgc_world_laws.specs.Reachable.{HoldsOnly, StepHoldsOnly}
-use Rattle.nmgc_world_laws.specs.laws.Moves.{operand_has}
-use Rattle.nmgc_world_laws.specs.laws.WeakMoves.{all_moves}
-use Rattle.nmgc_world_laws.specs.laws.Alive.{AliveOk, WeaksOk, step_weaks}
+use Rattle.nmgc_world_laws.specs.laws.{Worlds.not_shared, Moves.operand_has, WeakMoves.all_moves, Alive.AliveOk, Alive.WeaksOk, Alive.step_weaks}
 
 -- a fact of alive weak pointers, as one of nodes
 pub alive_ok : (R : Name → Parts → Type 0) (w : World) → ((n : Name) (parts : Parts) → IsAlive w n parts → R n parts) → WeaksOk R w

@@ -1,25 +1,11 @@
 -- What every command keeps of nodes, and of the other mutators.
-use Rattle.std.proofs.Common.{◌≡◌, ◌≢◌, ◌<◌, ℕ, length, refl, sym, ap, subst, ◌∙◌, length-set, Option, Some, None, inl, inr}
+use Rattle.std.proofs.{Common.◌≡◌, Common.◌≢◌, Common.◌<◌, Common.ℕ, Common.length, Common.refl, Common.sym, Common.ap, Common.subst, Common.◌∙◌, Common.length-set, Common.Option, Common.Some, Common.None, Common.inl, Common.inr, lemmas.Bool.cases_eq, lemmas.Bool.Decides.eqb_tells}
 use Rattle.std.specs.Prelude.{IfSome, All}
-use Rattle.std.proofs.lemmas.Bool.{cases_eq}
-use Rattle.std.proofs.lemmas.Bool.Decides.{eqb_tells}
-use Rattle.nmgc_world_spec.specs.declared.command.Command.{Command}
+use Rattle.nmgc_world_spec.specs.{declared.command.Command.Command, declared.change.Change.Change, declared.value.Name.Name, declared.value.Value.Value, declared.node.Node.Node, declared.mutator_state.MutatorState.MutatorState, World.World, World.state_of, World.node_of, World.held_by, Change.changed, Step.with_state, Step.with_nth, Step.with_node, Step.next_name, Step.step}
 use Rattle.nmgc_world_spec.specs.declared.command.Command.TheVariants as command
-use Rattle.nmgc_world_spec.specs.declared.change.Change.{Change}
 use Rattle.nmgc_limits.specs.declared.mutators.TheConstants.{SHARED_MAKER}
-use Rattle.nmgc_world_spec.specs.declared.value.Name.{Name}
-use Rattle.nmgc_world_spec.specs.declared.value.Value.{Value}
-use Rattle.nmgc_world_spec.specs.declared.node.Node.{Node}
-use Rattle.nmgc_world_spec.specs.declared.mutator_state.MutatorState.{MutatorState}
-use Rattle.nmgc_world_spec.specs.World.{World, state_of, node_of, held_by}
-use Rattle.nmgc_world_spec.specs.Change.{changed}
-use Rattle.nmgc_world_spec.specs.Step.{with_state, with_nth, with_node, next_name, step}
 use Rattle.nmgc_lists.specs.laws.Items.{at_some}
-use Rattle.nmgc_world_laws.specs.Shape.{made_by}
-use Rattle.nmgc_world_laws.specs.Leaves.{SameHands, StepLeavesOthers}
-use Rattle.nmgc_world_laws.specs.laws.Barrier.{Writes}
-use Rattle.nmgc_world_laws.specs.laws.NodeLaws.{state_same, state_other, nodes_kept, node_born, node_cases, as_many, maker_there}
-use Rattle.nmgc_world_laws.specs.laws.Steps.{Hand, Object, Stepped, AllHeld, OfNumber, step_is}
+use Rattle.nmgc_world_laws.specs.{Shape.made_by, Leaves.SameHands, Leaves.StepLeavesOthers, laws.Barrier.Writes, laws.Steps.Hand, laws.Steps.Object, laws.Steps.Stepped, laws.Steps.AllHeld, laws.Steps.OfNumber, laws.Steps.step_is, laws.NodeLaws.state_same, laws.NodeLaws.state_other, laws.NodeLaws.nodes_kept, laws.NodeLaws.node_born, laws.NodeLaws.node_cases, laws.NodeLaws.as_many, laws.NodeLaws.maker_there}
 
 -- a step, where nothing is asked of values
 abbrev pub Any : Value → Type 0
@@ -45,10 +31,6 @@ module _ (Q : Value → Type 0) where
   hand_nodes w m v lt (Hand.same e) name = ap (λ (u : World). node_of u name) e
   hand_nodes w m v lt (Hand.other registers queue e hr hq) name = ap (λ (u : World). node_of u name) e ∙
       nodes_kept w m (record { registers = registers; queue = queue; nodes = (state_of w m).nodes }) lt refl name
-
-  pub hand_count : (w : World) (m : ℕ) (v : World) → Hand Q w m v → length v.mutators ≡ length w.mutators
-  hand_count w m v (Hand.same e) = ap (λ (u : World). length u.mutators) e
-  hand_count w m v (Hand.other registers queue e hr hq) = ap (λ (u : World). length u.mutators) e ∙ length-set w.mutators m _
 
   pub object_count : (w : World) (m : ℕ) (c : Command) (v : World) → Object Q w m c v → length v.mutators ≡ length w.mutators
   object_count w m c v (Object.same e) = ap (λ (u : World). length u.mutators) e

@@ -1,34 +1,9 @@
 -- Commands that fit keep a world within the limits, and so does closing.
-use Rattle.std.proofs.Common.{◌≡◌, ◌≢◌, ◌<◌, ◌≤◌, ◌+◌, ℕ, List, [], ◌∷◌, length, map, sym, ap, subst, ◌∙◌, arith, Option, Some, None, inl, inr}
-use Rattle.std.specs.Prelude.{IfSome, All, replicate}
-use Rattle.std.proofs.lemmas.List.{length-replicate, length-map}
-use Rattle.std.proofs.lemmas.List.Elements.{All-cons, All-nil, All-set, All-push, All-tail, All-head, All-replicate}
-use Rattle.nmgc_world_spec.specs.declared.command.Command.{Command}
+use Rattle.std.specs.Prelude.{◌≡◌, ◌≢◌, ◌<◌, ◌≤◌, ◌+◌, ◌∷◌}
+use Rattle.nmgc_world_laws.specs.laws.Vocabulary.{ℕ, List, [], length, map, sym, ap, subst, ◌∙◌, arith, Option, Some, None, inl, inr, IfSome, All, replicate, length-replicate, length-map, All-cons, All-nil, All-set, All-push, All-tail, All-head, All-replicate, Command, SHARED_MAKER, Name, Value, Node, Weak, MutatorState, Fits, World, state_of, node_of, held_by, changed, value_for, value_of, next_name, step, Row, closed_by, at_some, SameShape, kind_of, tag_of, part_count, words_of, made_by, IsSmall, HasLimits, IsNodeWithin, IsWithin, StepKeepsLimits, RowsKeepLimits, ClosingKeepsLimits}
 use Rattle.nmgc_world_spec.specs.declared.command.Command.TheVariants as command
-use Rattle.nmgc_limits.specs.declared.mutators.TheConstants.{SHARED_MAKER}
-use Rattle.nmgc_world_spec.specs.declared.value.Name.{Name}
-use Rattle.nmgc_world_spec.specs.declared.value.Value.{Value}
 use Rattle.nmgc_world_spec.specs.declared.value.Value.TheVariants as value
-use Rattle.nmgc_world_spec.specs.declared.node.Kind.{Kind}
-use Rattle.nmgc_world_spec.specs.declared.node.Node.{Node}
-use Rattle.nmgc_world_spec.specs.declared.node.Node.TheVariants.{Weak}
-use Rattle.nmgc_world_spec.specs.declared.mutator_state.MutatorState.{MutatorState}
-use Rattle.nmgc_world_spec.specs.Command.{Fits}
-use Rattle.nmgc_world_spec.specs.World.{World, state_of, node_of, held_by}
-use Rattle.nmgc_world_spec.specs.Change.{changed}
-use Rattle.nmgc_world_spec.specs.Step.{value_for, value_of, next_name, step}
-use Rattle.nmgc_world_spec.specs.History.{Row}
-use Rattle.nmgc_world_spec.specs.Reach.{closed_by}
-use Rattle.nmgc_lists.specs.laws.Items.{at_some}
-use Rattle.nmgc_world_laws.specs.laws.Worlds.{not_shared}
-use Rattle.nmgc_world_laws.specs.Shape.{SameShape, kind_of, tag_of, part_count, words_of, made_by}
-use Rattle.nmgc_world_laws.specs.Limits.{IsSmall, HasLimits, IsNodeWithin, IsWithin, StepKeepsLimits, RowsKeepLimits, ClosingKeepsLimits}
-use Rattle.nmgc_world_laws.specs.laws.NodeLaws.{each_state, states_kept}
-use Rattle.nmgc_world_laws.specs.laws.WorldSteps.{step_keeps_world}
-use Rattle.nmgc_world_laws.specs.laws.Deaths.{Dies, dies_by}
-use Rattle.nmgc_world_laws.specs.laws.Steps.{Hand, Object, Stepped, AllHeld, OfNumber, operand_held, operands_held, changed_held, step_is}
-use Rattle.nmgc_world_laws.specs.laws.Keeps.{still_there, stepped_nodes}
-use Rattle.nmgc_world_laws.specs.laws.NodeShapes.{changed_shape}
+use Rattle.nmgc_world_laws.specs.laws.{Worlds.not_shared, NodeLaws.each_state, NodeLaws.states_kept, WorldSteps.step_keeps_world, Deaths.Dies, Deaths.dies_by, Steps.Hand, Steps.Object, Steps.Stepped, Steps.AllHeld, Steps.OfNumber, Steps.operand_held, Steps.operands_held, Steps.changed_held, Steps.step_is, Keeps.still_there, Keeps.stepped_nodes, NodeShapes.changed_shape}
 
 -- registers and queues, where names have the fact
 module _ (Q : Value → Type 0) (named : (name : Name) → Q (value.Ref name)) where
@@ -39,8 +14,7 @@ module _ (Q : Value → Type 0) (named : (name : Name) → Q (value.Ref name)) w
       (k : ℕ) → HandHas (state_of v k)
   object_hands w m c v lt (Object.same e) h k = subst (λ (u : World). HandHas (state_of u k)) (sym e) (h k)
   object_hands w m c v lt (Object.birth register made is e) h k =
-      subst (λ (u : World).
-      HandHas (state_of u k)) (sym e) (each_state w m _ lt HandHas
+      rw e (each_state w m _ lt HandHas
       (All-set Q (state_of w m).registers register (value.Ref (next_name (state_of w m) m)) (named (next_name (state_of w m) m)) (h m).0, (h m).1) h k)
   object_hands w m c v lt (Object.write name found ch there asks q e) h k =
       subst (λ (u : World). HandHas (state_of u k)) (sym e) (states_kept w name found (changed ch name.maker found).0 there HandHas (λ s nodes r. r) h k)
@@ -107,9 +81,7 @@ shape_within : (words : ℕ) (name : Name) (before after : Node) → SameShape b
     IsNodeWithin words name before → IsNodeWithin words name after
 shape_within words name before after s held h = record {
   held = held;
-  shape = subst (λ (kind : Kind). HasLimits kind (tag_of after) (part_count after)) (sym s.kind) (subst (λ (tag : ℕ).
-      HasLimits (kind_of before) tag (part_count after)) (sym s.tag) (subst (λ (parts : ℕ).
-      HasLimits (kind_of before) (tag_of before) parts) (sym s.parts) h.shape));
+  shape = rw s.kind (rw s.tag (rw s.parts h.shape));
   size = λ ne. let old : words_of before ≤ words = h.size ne in let same : part_count after ≡ part_count before = s.parts in omega (arith, old, same);
 }
 
@@ -149,8 +121,7 @@ dies_within words w v d dies h = record {
           let node : IsNodeWithin words d (Weak (Some more.0)) = at_some (node_of w d) (Weak (Some more.0)) (IsNodeWithin words d) more.1 (h.nodes d) in
           let last : All IsSmall (more.0.finaliser ∷ []) = All-tail IsSmall more.0.value (more.0.finaliser ∷
           []) (All-tail IsSmall more.0.key (more.0.value ∷ more.0.finaliser ∷ []) node.held) in
-          subst (λ (values : List Value).
-          All IsSmall values) (sym joined) (All-push IsSmall (state_of w k).queue more.0.finaliser (h.queues k) (All-head IsSmall more.0.finaliser [] last))
+          rw joined (All-push IsSmall (state_of w k).queue more.0.finaliser (h.queues k) (All-head IsSmall more.0.finaliser [] last))
     ]
   ];
   nodes = λ n. elim (dies.nodes n) [

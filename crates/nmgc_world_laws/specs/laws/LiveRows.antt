@@ -1,28 +1,8 @@
 -- What is held after rows from a snapshot: names that are live in it, or new.
-use Rattle.std.proofs.Common.{◌≡◌, ◌≢◌, ℕ, List, [], ◌∷◌, refl, ◌∙◌, Option, Some, None, inl, inr}
-use Rattle.std.specs.Prelude.{IsSome, IfSome, Contains}
-use Rattle.std.proofs.lemmas.List.Elements.{Contains-append_left, Contains-append_right}
-use Rattle.nmgc_world_spec.specs.declared.command.Operand.{Operand}
-use Rattle.nmgc_world_spec.specs.declared.command.Command.{Command}
-use Rattle.nmgc_limits.specs.declared.mutators.TheConstants.{SHARED_MAKER}
-use Rattle.nmgc_world_spec.specs.declared.value.Name.{Name}
+use Rattle.std.specs.Prelude.{◌≡◌, ◌≢◌, ◌∷◌}
+use Rattle.nmgc_world_laws.specs.laws.Vocabulary.{ℕ, List, [], refl, ◌∙◌, Option, Some, None, inl, inr, IsSome, IfSome, Contains, Contains-append_left, Contains-append_right, Operand, Command, SHARED_MAKER, Name, Parts, Node, World, IsWorld, state_of, node_of, CanApply, shared_name, value_for, next_name, step, Row, replayed, opened, opened_by, IsLive, IsAlive, strong_fields, Names, OfParts, Fields, CoversReach, CanReplay, IsLiveOrNew, RowsHoldLive, RowsKeepWorld}
 use Rattle.nmgc_world_spec.specs.declared.value.Value.TheVariants as value
-use Rattle.nmgc_world_spec.specs.declared.node.Parts.{Parts}
-use Rattle.nmgc_world_spec.specs.declared.node.Node.{Node}
-use Rattle.nmgc_world_spec.specs.World.{World, IsWorld, state_of, node_of}
-use Rattle.nmgc_world_spec.specs.Step.{CanApply, shared_name, value_for, next_name, step}
-use Rattle.nmgc_world_spec.specs.History.{Row, replayed, opened, opened_by}
-use Rattle.nmgc_world_spec.specs.Reach.{IsLive, IsAlive, strong_fields}
-use Rattle.nmgc_world_laws.specs.laws.Growth.{step_grows}
-use Rattle.nmgc_world_laws.specs.laws.Worlds.{not_shared}
-use Rattle.nmgc_world_laws.specs.Holds.{Names, OfParts, Fields, CoversReach}
-use Rattle.nmgc_world_laws.specs.Reachable.{CanReplay, IsLiveOrNew, RowsHoldLive, RowsKeepWorld}
-use Rattle.nmgc_world_laws.specs.laws.NodeLaws.{next_is_new}
-use Rattle.nmgc_world_laws.specs.laws.Moves.{operand_has}
-use Rattle.nmgc_world_laws.specs.laws.WeakMoves.{all_moves}
-use Rattle.nmgc_world_laws.specs.laws.WorldSteps.{step_keeps_world}
-use Rattle.nmgc_world_laws.specs.laws.Alive.{WeaksOk, step_weaks}
-use Rattle.nmgc_world_laws.specs.laws.HeldSteps.{alive_ok, absent, some_of, values_names}
+use Rattle.nmgc_world_laws.specs.laws.{Growth.step_grows, Worlds.not_shared, NodeLaws.next_is_new, Moves.operand_has, WeakMoves.all_moves, WorldSteps.step_keeps_world, Alive.WeaksOk, Alive.step_weaks, HeldSteps.alive_ok, HeldSteps.absent, HeldSteps.some_of, HeldSteps.values_names}
 
 -- a snapshot, and names that were opened since
 module _ (S : World) (X : List Name) where

@@ -1,31 +1,11 @@
 -- What a command may change, for every command at once. P are the names that a mutator may come to hold.
-use Rattle.std.proofs.Common.{◌≡◌, ◌≢◌, ◌<◌, ℕ, List, [], ◌∷◌, map, drop, length, set, refl, sym, ap, subst, ◌∙◌, length-set, Option, Some, None, inl, inr, ◌⊎◌}
-use Rattle.std.specs.Prelude.{slice_get, IsSome, IfSome, All, Contains}
-use Rattle.std.proofs.lemmas.List.{get_or_past}
-use Rattle.std.proofs.lemmas.List.Elements.{All-cons, All-nil, All-set, All-drop, All-replicate, All-get_or}
-use Rattle.std.proofs.lemmas.Bool.{cases_lt}
-use Rattle.nmgc_world_spec.specs.declared.command.Operand.{Operand}
-use Rattle.nmgc_world_spec.specs.declared.command.Operand.TheVariants.{Register, Shared}
-use Rattle.nmgc_world_spec.specs.declared.command.Command.{Command}
-use Rattle.nmgc_world_spec.specs.declared.command.Command.TheVariants.{Num, Nil, Mov, Con, Var, Arr, Thunk, Weak, Stack, Get, Set, Cas, Update, Force, Push, Pop, Deref, Finalise, NextFin, Show, Same, Yield, Collect, Full}
-use Rattle.nmgc_world_spec.specs.declared.command.Reply.{Reply}
+use Rattle.std.specs.Prelude.{◌≡◌, ◌≢◌, ◌<◌, ◌∷◌, ◌⊎◌}
+use Rattle.nmgc_world_laws.specs.laws.Vocabulary.{ℕ, List, [], map, drop, length, set, refl, sym, ap, subst, ◌∙◌, length-set, Option, Some, None, inl, inr, slice_get, IsSome, IfSome, All, Contains, get_or_past, All-cons, All-nil, All-set, All-drop, All-replicate, All-get_or, cases_lt, Operand, Register, Shared, Command, Num, Mov, Get, Set, Cas, Update, Force, Push, Pop, Deref, Finalise, NextFin, Show, Same, Yield, Collect, Full, Reply, Change, SHARED_MAKER, Name, Value, Node, MutatorState, World, state_of, node_of, given, changed, field_read, result_read, shared_name, value_of, value_for, with_state, with_register, with_new, with_node, with_finaliser, holding_given, next_name, keeping, born, object_of, read_object, change_node, change_object, change_into, step, item_has, at_some, nothing_in, owed_at, owed_of, values_owed, Names, Fields, CoversReach, HasStrongField, StillThere, strong_at, IsLater}
+use Rattle.nmgc_world_spec.specs.declared.command.Command.TheVariants.{Nil, Con, Var, Arr, Thunk, Weak, Stack}
 use Rattle.nmgc_world_spec.specs.declared.command.Reply.TheVariants as reply
-use Rattle.nmgc_world_spec.specs.declared.change.Change.{Change}
 use Rattle.nmgc_world_spec.specs.declared.change.Change.TheVariants as change
-use Rattle.nmgc_limits.specs.declared.mutators.TheConstants.{SHARED_MAKER}
-use Rattle.nmgc_world_spec.specs.declared.value.Name.{Name}
-use Rattle.nmgc_world_spec.specs.declared.value.Value.{Value}
 use Rattle.nmgc_world_spec.specs.declared.value.Value.TheVariants as value
-use Rattle.nmgc_world_spec.specs.declared.node.Node.{Node}
-use Rattle.nmgc_world_spec.specs.declared.mutator_state.MutatorState.{MutatorState}
-use Rattle.nmgc_world_spec.specs.World.{World, state_of, node_of, given}
-use Rattle.nmgc_world_spec.specs.Change.{changed, field_read, result_read}
-use Rattle.nmgc_world_spec.specs.Step.{shared_name, value_of, value_for, with_state, with_register, with_new, with_node, with_finaliser, holding_given, next_name, keeping, born, object_of, read_object, change_node, change_object, change_into, step}
-use Rattle.nmgc_lists.specs.laws.Items.{item_has, at_some, nothing_in}
-use Rattle.nmgc_world_spec.specs.Owed.{owed_at, owed_of, values_owed}
-use Rattle.nmgc_world_laws.specs.Holds.{Names, Fields, CoversReach, HasStrongField, StillThere, strong_at, IsLater}
-use Rattle.nmgc_world_laws.specs.laws.Barrier.{IsStrongChange, Writes, changed_fields, owed_fields, field_read_has, result_read_has, answer_has, stays_or_owed, same_later, changed_later}
-use Rattle.nmgc_world_laws.specs.laws.NodeLaws.{each_state, nodes_kept, node_born, next_is_new, node_cases, states_kept, as_many}
+use Rattle.nmgc_world_laws.specs.laws.{Barrier.IsStrongChange, Barrier.Writes, Barrier.changed_fields, Barrier.owed_fields, Barrier.field_read_has, Barrier.result_read_has, Barrier.answer_has, Barrier.stays_or_owed, Barrier.same_later, Barrier.changed_later, NodeLaws.each_state, NodeLaws.nodes_kept, NodeLaws.node_born, NodeLaws.next_is_new, NodeLaws.node_cases, NodeLaws.states_kept, NodeLaws.as_many}
 
 -- the command neither makes nor reads a weak pointer
 abbrev pub IsStrong : Command → Type 0

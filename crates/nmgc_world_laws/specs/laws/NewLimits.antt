@@ -1,12 +1,5 @@
 -- A world before any command is within the limits.
-use Rattle.std.proofs.Common.{refl, arith}
-use Rattle.std.specs.Prelude.{All}
-use Rattle.std.proofs.lemmas.List.Elements.{All-nil, All-replicate}
-use Rattle.nmgc_limits.specs.declared.mutators.TheConstants.{REGISTERS, SHARED_SLOTS}
-use Rattle.nmgc_world_spec.specs.declared.value.Value.TheVariants.{Nil}
-use Rattle.nmgc_world_spec.specs.declared.mutator_state.MutatorState.{MutatorState}
-use Rattle.nmgc_world_laws.specs.laws.NewWorlds.{each_new, new_nodes}
-use Rattle.nmgc_world_laws.specs.Limits.{IsSmall, IsNodeWithin, NewIsWithin}
+use Rattle.nmgc_world_laws.specs.{laws.Vocabulary.refl, laws.Vocabulary.arith, laws.Vocabulary.All, laws.Vocabulary.All-nil, laws.Vocabulary.All-replicate, laws.Vocabulary.REGISTERS, laws.Vocabulary.SHARED_SLOTS, laws.Vocabulary.Nil, laws.Vocabulary.MutatorState, laws.Vocabulary.IsSmall, laws.Vocabulary.IsNodeWithin, laws.Vocabulary.NewIsWithin, laws.NewWorlds.each_new, laws.NewWorlds.new_nodes}
 
 pub new_is_within : NewIsWithin
 new_is_within words count = record {

@@ -1,19 +1,6 @@
 -- A world before any command.
-use Rattle.std.proofs.Common.{◌≡◌, ◌<◌, ◌≤◌, ◌^◌, ℕ, length, refl, sym, subst, arith, inl, inr}
-use Rattle.std.specs.Prelude.{IfSome, All, replicate, slice_get}
-use Rattle.std.proofs.lemmas.Bool.{cases_lt}
-use Rattle.std.proofs.lemmas.Bool.Decides.{eqb_tells}
-use Rattle.std.proofs.lemmas.List.{get_or_past, length-replicate}
-use Rattle.std.proofs.lemmas.List.Elements.{All-nil, All-replicate, All-get_or}
-use Rattle.nmgc_limits.specs.declared.mutators.TheConstants.{MAKERS, REGISTERS, SHARED_MAKER, SHARED_SLOTS}
-use Rattle.nmgc_world_spec.specs.declared.value.Name.{Name}
-use Rattle.nmgc_world_spec.specs.declared.value.Value.TheVariants.{Nil}
-use Rattle.nmgc_world_spec.specs.declared.node.Node.{Node}
-use Rattle.nmgc_world_spec.specs.declared.node.Node.TheVariants.{Arr}
-use Rattle.nmgc_world_spec.specs.declared.mutator_state.MutatorState.{MutatorState}
-use Rattle.nmgc_world_spec.specs.World.{World, IsWorld, IsNodeOf, IsKnown, state_of, node_of, new_world, new_mutator, no_mutator}
-use Rattle.nmgc_world_spec.specs.Step.{shared_name}
-use Rattle.nmgc_world_spec.specs.laws.Orders.{same_name}
+use Rattle.std.specs.Prelude.{◌≡◌, ◌<◌, ◌≤◌, ◌^◌}
+use Rattle.nmgc_world_laws.specs.laws.Vocabulary.{ℕ, length, refl, sym, subst, arith, inl, inr, IfSome, All, replicate, slice_get, cases_lt, eqb_tells, get_or_past, length-replicate, All-nil, All-replicate, All-get_or, MAKERS, REGISTERS, SHARED_MAKER, SHARED_SLOTS, Name, Nil, Node, Arr, MutatorState, World, IsWorld, IsNodeOf, IsKnown, state_of, node_of, new_world, new_mutator, no_mutator, shared_name, same_name}
 
 -- what a new mutator has, and one that isn't there, each state of a new world has
 pub each_new : (R : MutatorState → Type 0) → R new_mutator → R no_mutator → (count k : ℕ) → R (state_of (new_world count) k)

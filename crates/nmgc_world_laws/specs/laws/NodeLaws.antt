@@ -1,17 +1,8 @@
 -- Where the nodes, the registers and the queues of a world are after each way in which a step changes it.
-use Rattle.std.proofs.Common.{◌≡◌, ◌≢◌, ◌<◌, ℕ, List, [], ◌∷◌, ◌++◌, zero, suc, length, refl, sym, ap, subst, ◌∙◌, arith, length-set, Option, Some, None, Bool, true, false, cond, eqb, inl, inr, ◌⊎◌}
+use Rattle.std.proofs.{Common.◌≡◌, Common.◌≢◌, Common.◌<◌, Common.ℕ, Common.List, Common.[], Common.◌∷◌, Common.◌++◌, Common.zero, Common.suc, Common.length, Common.refl, Common.sym, Common.ap, Common.subst, Common.◌∙◌, Common.arith, Common.length-set, Common.Option, Common.Some, Common.None, Common.true, Common.cond, Common.eqb, Common.inl, Common.inr, Common.◌⊎◌, lemmas.List.get_or-set_same, lemmas.List.get_or-set_other, lemmas.List.get_or_past, lemmas.Option.slice_get_past, lemmas.Option.slice_get_within, lemmas.Bool.ne_eqb, lemmas.Bool.cases_lt, lemmas.Bool.cases_eq, lemmas.Bool.Decides.eqb_tells}
 use Rattle.std.specs.Prelude.{slice_get}
-use Rattle.std.proofs.lemmas.List.{get_or-set_same, get_or-set_other, get_or_past}
-use Rattle.std.proofs.lemmas.Option.{slice_get_past, slice_get_within}
-use Rattle.std.proofs.lemmas.Bool.{ne_eqb, cases_lt, cases_eq}
-use Rattle.std.proofs.lemmas.Bool.Decides.{eqb_tells}
 use Rattle.nmgc_limits.specs.declared.mutators.TheConstants.{SHARED_MAKER}
-use Rattle.nmgc_world_spec.specs.declared.value.Name.{Name}
-use Rattle.nmgc_world_spec.specs.declared.node.Node.{Node}
-use Rattle.nmgc_world_spec.specs.declared.mutator_state.MutatorState.{MutatorState}
-use Rattle.nmgc_world_spec.specs.World.{World, state_of, node_of, no_mutator}
-use Rattle.nmgc_world_spec.specs.Step.{with_state, with_new, with_nth, with_node, next_name}
-use Rattle.nmgc_world_spec.specs.laws.Orders.{name_cases, same_name}
+use Rattle.nmgc_world_spec.specs.{declared.value.Name.Name, declared.node.Node.Node, declared.mutator_state.MutatorState.MutatorState, World.World, World.state_of, World.node_of, World.no_mutator, Step.with_state, Step.with_new, Step.with_nth, Step.with_node, Step.next_name, laws.Orders.name_cases, laws.Orders.same_name}
 use Rattle.nmgc_lists.specs.laws.Items.{slice_get-set_same, slice_get-set_other}
 
 -- another state of a mutator
@@ -79,10 +70,6 @@ node_born w m register made lt own name =
 -- the next name has no node yet
 pub next_is_new : (w : World) (m : ℕ) → m ≢ SHARED_MAKER → node_of w (next_name (state_of w m) m) ≡ None
 next_is_new w m own = own_node w m own (next_name (state_of w m) m) refl ∙ slice_get_past (state_of w m).nodes (length (state_of w m).nodes) (omega arith)
-
-shared_serial : (b : Bool) (x : Node) (y : Node) → cond {A = Option Node} b (Some x) None ≡ Some y → (b ≡ true)
-shared_serial true x y h = refl
-shared_serial false x y h = absurd cc
 
 -- a name that has a node gets another
 module _ (w : World) (name : Name) (found made : Node) (there : node_of w name ≡ Some found) where

@@ -1,15 +1,7 @@
 -- A change leaves the shape of a node.
-use Rattle.std.proofs.Common.{ℕ, List, [], ◌∷◌, ◌++◌, length, set, refl, ◌∙◌, length-set, Some, None, Bool, true, false, eqb, ltb}
-use Rattle.std.specs.Prelude.{slice_get}
+use Rattle.nmgc_world_laws.specs.{laws.Vocabulary.ℕ, laws.Vocabulary.List, laws.Vocabulary.[], laws.Vocabulary.◌∷◌, laws.Vocabulary.◌++◌, laws.Vocabulary.length, laws.Vocabulary.set, laws.Vocabulary.refl, laws.Vocabulary.◌∙◌, laws.Vocabulary.length-set, laws.Vocabulary.Some, laws.Vocabulary.None, laws.Vocabulary.Bool, laws.Vocabulary.true, laws.Vocabulary.false, laws.Vocabulary.eqb, laws.Vocabulary.ltb, laws.Vocabulary.slice_get, laws.Vocabulary.Change, laws.Vocabulary.Value, laws.Vocabulary.Node, laws.Vocabulary.Con, laws.Vocabulary.Var, laws.Vocabulary.Arr, laws.Vocabulary.Thunk, laws.Vocabulary.Weak, laws.Vocabulary.Stack, laws.Vocabulary.changed, laws.Vocabulary.stack_pushed, laws.Vocabulary.stack_popped, laws.Vocabulary.SameShape, laws.Barrier.two_nodes, laws.Barrier.exchanged_node}
 use Rattle.nmgc_world_spec.specs.declared.command.Reply.TheVariants as reply
-use Rattle.nmgc_world_spec.specs.declared.change.Change.{Change}
 use Rattle.nmgc_world_spec.specs.declared.change.Change.TheVariants as change
-use Rattle.nmgc_world_spec.specs.declared.value.Value.{Value}
-use Rattle.nmgc_world_spec.specs.declared.node.Node.{Node}
-use Rattle.nmgc_world_spec.specs.declared.node.Node.TheVariants.{Con, Var, Arr, Thunk, Weak, Stack}
-use Rattle.nmgc_world_spec.specs.Change.{changed, stack_pushed, stack_popped}
-use Rattle.nmgc_world_laws.specs.Shape.{SameShape}
-use Rattle.nmgc_world_laws.specs.laws.Barrier.{two_nodes, exchanged_node}
 
 pub same_shape : (node : Node) → SameShape node node
 same_shape node = record { kind = refl; tag = refl; parts = refl }

@@ -1,19 +1,7 @@
 -- What reads and changes of a node leave known.
-use Rattle.std.proofs.Common.{◌≡◌, ◌<◌, ◌≤◌, ◌-◌, ℕ, List, [], ◌∷◌, ◌++◌, length, set, refl, arith, length-append, length-take, length-set, Option, Some, None, Bool, true, false, cond, eqb, ltb}
-use Rattle.std.specs.Prelude.{IfSome, slice_get}
-use Rattle.std.proofs.lemmas.List.Elements.{All-cons, All-head, All-tail, All-nil, All-set, All-push, All-take}
-use Rattle.std.proofs.lemmas.Bool.{ltb-true}
-use Rattle.nmgc_world_spec.specs.declared.value.Value.{Value}
-use Rattle.nmgc_world_spec.specs.declared.node.Node.{Node}
-use Rattle.nmgc_world_spec.specs.declared.node.Node.TheVariants.{Con, Var, Arr, Thunk, Weak, Stack}
-use Rattle.nmgc_world_spec.specs.declared.command.Reply.{Reply}
-use Rattle.nmgc_world_spec.specs.declared.command.Reply.TheVariants.{Fine, Yes, No, NoField, StackEmpty, StackFull}
-use Rattle.nmgc_world_spec.specs.declared.change.Change.{Change}
+use Rattle.std.specs.Prelude.{◌≡◌, ◌<◌, ◌≤◌, ◌-◌, ◌∷◌, ◌++◌}
+use Rattle.nmgc_world_laws.specs.laws.Vocabulary.{ℕ, List, [], length, set, refl, arith, length-append, length-take, length-set, Option, Some, None, Bool, true, false, cond, eqb, ltb, IfSome, slice_get, All-cons, All-head, All-tail, All-nil, All-set, All-push, All-take, ltb-true, Value, Node, Con, Var, Arr, Thunk, Weak, Stack, Reply, Fine, Yes, No, NoField, StackEmpty, StackFull, Change, World, held_by, IsShared, AreKnown, IsKnown, IsKnownReply, IsKnownChange, IsNodeOf, strong_fields, is_same, given_or, field_read, result_read, value_read, field_set, exchanged_at, field_exchanged, thunk_updated, stack_pushed, stack_popped, last_of, weak_finalised, changed, item_has, one_has}
 use Rattle.nmgc_world_spec.specs.declared.change.Change.TheVariants as change
-use Rattle.nmgc_world_spec.specs.World.{World, held_by, IsShared, AreKnown, IsKnown, IsKnownReply, IsKnownChange, IsNodeOf}
-use Rattle.nmgc_world_spec.specs.Reach.{strong_fields}
-use Rattle.nmgc_world_spec.specs.Change.{is_same, given_or, field_read, result_read, value_read, field_set, exchanged_at, field_exchanged, thunk_updated, stack_pushed, stack_popped, last_of, weak_finalised, changed}
-use Rattle.nmgc_lists.specs.laws.Items.{item_has, one_has}
 
 module _ (w : World) where
   given_known : (refusal : Reply) (o : Option Value) → IsKnownReply w refusal → IfSome o (IsKnown w) → IsKnownReply w (given_or refusal o)

@@ -1,31 +1,7 @@
 -- What can be reached is among the names that are held.
-use Rattle.std.proofs.Common.{◌≡◌, ◌⊎◌, ℕ, List, [], ◌∷◌, Option, Some, None, refl, sym, subst, ◌∙◌, inl, inr}
-use Rattle.std.specs.Prelude.{IsSome, Contains}
-use Rattle.std.proofs.lemmas.List.Elements.{All-contains, Contains-append_left, Contains-append_right, Contains-append_cases}
-use Rattle.nmgc_world_spec.specs.declared.value.Name.{Name}
-use Rattle.nmgc_world_spec.specs.declared.value.Value.{Value}
-use Rattle.nmgc_world_spec.specs.declared.value.Value.TheVariants.{Ref}
-use Rattle.nmgc_world_spec.specs.declared.node.Parts.{Parts}
-use Rattle.nmgc_world_spec.specs.declared.node.Node.{Node}
-use Rattle.nmgc_world_spec.specs.declared.node.Node.TheVariants.{Weak}
-use Rattle.nmgc_world_spec.specs.World.{World, IsWorld, IsKnown, AreKnown, IsNodeOf, node_of, state_of}
-use Rattle.nmgc_world_spec.specs.Step.{next_name, step}
-use Rattle.nmgc_world_spec.specs.History.{Row, replayed}
-use Rattle.nmgc_world_spec.specs.Reach.{IsReached, IsRoot, IsAlive, RefersTo, Lists, closed, closed_by, strong_fields}
-use Rattle.nmgc_world_laws.specs.laws.Growth.{step_grows}
-use Rattle.nmgc_world_laws.specs.laws.Nodes.{fields_known}
-use Rattle.nmgc_lists.specs.laws.Items.{contains_head, contains_tail, contains_cases, at_some, nothing_in}
-use Rattle.nmgc_world_spec.specs.laws.Orders.{name_cases}
-use Rattle.nmgc_world_laws.specs.laws.Worlds.{not_shared}
-use Rattle.nmgc_world_spec.specs.Wide.{IsOfWeak, IsWide}
-use Rattle.nmgc_world_laws.specs.Reachable.{HoldsOnly, CountsNew, CanReplay, ClosingHoldsOnly, StepAddsOne, ClosingAddsNone, StaysUnreached, IsNotLost, NothingReachableIsFreed, Stretch, continued, CanContinue, NeverComesBack, NothingReachableIsEverFreed, ReachableIsKept, ReachableIsEverKept}
-use Rattle.nmgc_world_spec.specs.Interval.{Interval, IsKeptAfter}
-use Rattle.nmgc_world_laws.specs.laws.NodeLaws.{next_is_new}
-use Rattle.nmgc_world_laws.specs.laws.WorldSteps.{step_keeps_world}
-use Rattle.nmgc_world_laws.specs.laws.HeldSteps.{absent, some_of, step_holds_only}
-use Rattle.nmgc_world_laws.specs.laws.LiveRows.{world_after, replayed_names}
-use Rattle.nmgc_world_laws.specs.laws.Deaths.{Dies, dies_by, closed_world, closed_names}
-use Rattle.nmgc_world_laws.specs.laws.Closes.{closes_well}
+use Rattle.std.specs.Prelude.{◌≡◌, ◌⊎◌, ◌∷◌}
+use Rattle.nmgc_world_laws.specs.laws.Vocabulary.{ℕ, List, [], Option, Some, None, refl, sym, subst, ◌∙◌, inl, inr, IsSome, Contains, All-contains, Contains-append_left, Contains-append_right, Contains-append_cases, Name, Value, Ref, Parts, Node, Weak, World, IsWorld, IsKnown, AreKnown, IsNodeOf, node_of, state_of, next_name, step, Row, replayed, IsReached, IsRoot, IsAlive, RefersTo, Lists, closed, closed_by, strong_fields, contains_head, contains_tail, contains_cases, at_some, nothing_in, name_cases, IsOfWeak, IsWide, HoldsOnly, CountsNew, CanReplay, ClosingHoldsOnly, StepAddsOne, ClosingAddsNone, StaysUnreached, IsNotLost, NothingReachableIsFreed, Stretch, continued, CanContinue, NeverComesBack, NothingReachableIsEverFreed, ReachableIsKept, ReachableIsEverKept, Interval, IsKeptAfter}
+use Rattle.nmgc_world_laws.specs.laws.{Growth.step_grows, Nodes.fields_known, Worlds.not_shared, NodeLaws.next_is_new, WorldSteps.step_keeps_world, HeldSteps.absent, HeldSteps.some_of, HeldSteps.step_holds_only, LiveRows.world_after, LiveRows.replayed_names, Deaths.Dies, Deaths.dies_by, Deaths.closed_world, Deaths.closed_names, Closes.closes_well}
 
 -- names that are all that is held have the whole wide reach
 pub wide_is_held : (P : Name → Type 0) (w : World) → HoldsOnly P w → (name : Name) → IsWide w name → P name
@@ -97,15 +73,14 @@ death_holds P w v d dies h = record {
     root n (inr r) = elim (Contains-append_cases (state_of v r.0).registers (state_of v r.0).queue (Ref n) r.1) [
       | inl c ↦ h.roots n (inr (
         r.0,
-        Contains-append_left (state_of w r.0).registers (state_of w r.0).queue (Ref n) (subst (λ (l : List Value).
-            Contains l (Ref n)) (dies.registers r.0) c),
+        Contains-append_left (state_of w r.0).registers (state_of w r.0).queue (Ref n) (rw (dies.registers r.0) at c),
       ))
       | inr c ↦ elim (dies.queues r.0) [
         | inl same ↦ same_queue r.0 n same c
         | inr more ↦ elim more.2 [
           | inl same ↦ same_queue r.0 n same c
           | inr joined ↦ elim (Contains-append_cases (state_of w r.0).queue (more.0.finaliser ∷
-              []) (Ref n) (subst (λ (l : List Value). Contains l (Ref n)) joined c)) [
+              []) (Ref n) (rw joined at c)) [
                 | inl old ↦ in_queue r.0 n old
                 | inr last ↦ elim (contains_cases more.0.finaliser [] (Ref n) last) [
                   | inl is ↦ h.weaks d n more.0 more.1 (inr (inr (inr is)))
@@ -230,7 +205,7 @@ world_holds w is = record {
 
     part : (weak n : Name) (parts : Parts) → IsAlive w weak parts → AreKnown w (parts.key ∷ parts.value ∷ parts.finaliser ∷ []) →
         IsOfWeak weak parts n → IsSome (node_of w n)
-    part weak n parts alive known (inl e) = subst (λ (x : Name). IsSome (node_of w x)) (sym e) (let Q : Option Node → Type 0 = λ o. IsSome o in
+    part weak n parts alive known (inl e) = rw e (let Q : Option Node → Type 0 = λ o. IsSome o in
         subst Q (sym alive) refl)
     part weak n parts alive known (inr (inl e)) = All-contains (IsKnown w) (parts.key ∷ parts.value ∷ parts.finaliser ∷
         []) (Ref n) known (subst (λ (x : Value). Contains (parts.key ∷ parts.value ∷ parts.finaliser ∷

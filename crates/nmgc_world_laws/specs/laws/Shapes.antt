@@ -1,24 +1,5 @@
 -- No command and no closing changes the shape of an object.
-use Rattle.std.proofs.Common.{◌≡◌, ◌≢◌, [], ◌∷◌, refl, sym, ap, subst, ◌∙◌, Option, Some, None, inl, inr}
-use Rattle.std.specs.Prelude.{IfSome}
-use Rattle.nmgc_limits.specs.declared.mutators.TheConstants.{SHARED_MAKER}
-use Rattle.nmgc_world_spec.specs.declared.value.Name.{Name}
-use Rattle.nmgc_world_spec.specs.declared.node.Node.{Node}
-use Rattle.nmgc_world_spec.specs.declared.node.Node.TheVariants.{Weak}
-use Rattle.nmgc_world_spec.specs.World.{World, state_of, node_of}
-use Rattle.nmgc_world_spec.specs.Change.{changed}
-use Rattle.nmgc_world_spec.specs.Step.{next_name, step}
-use Rattle.nmgc_world_spec.specs.Reach.{closed_by}
-use Rattle.nmgc_world_laws.specs.laws.Growth.{step_grows}
-use Rattle.nmgc_lists.specs.laws.Items.{at_some, is_some_of}
-use Rattle.nmgc_world_laws.specs.laws.Worlds.{not_shared}
-use Rattle.nmgc_world_laws.specs.Shape.{SameShape, KeepsShapes, StepKeepsShapes, RowsKeepShapes, ClosingKeepsShapes}
-use Rattle.nmgc_world_laws.specs.laws.NodeLaws.{next_is_new}
-use Rattle.nmgc_world_laws.specs.laws.WorldSteps.{step_keeps_world}
-use Rattle.nmgc_world_laws.specs.laws.HeldSteps.{absent, some_of}
-use Rattle.nmgc_world_laws.specs.laws.Deaths.{Dies, dies_by}
-use Rattle.nmgc_world_laws.specs.laws.NodeShapes.{same_shape, then_shape, changed_shape}
-use Rattle.nmgc_world_laws.specs.laws.Keeps.{Any, stepped, stepped_nodes}
+use Rattle.nmgc_world_laws.specs.{laws.Vocabulary.◌≡◌, laws.Vocabulary.◌≢◌, laws.Vocabulary.[], laws.Vocabulary.◌∷◌, laws.Vocabulary.refl, laws.Vocabulary.sym, laws.Vocabulary.ap, laws.Vocabulary.subst, laws.Vocabulary.◌∙◌, laws.Vocabulary.Option, laws.Vocabulary.Some, laws.Vocabulary.None, laws.Vocabulary.inl, laws.Vocabulary.inr, laws.Vocabulary.IfSome, laws.Vocabulary.SHARED_MAKER, laws.Vocabulary.Name, laws.Vocabulary.Node, laws.Vocabulary.Weak, laws.Vocabulary.World, laws.Vocabulary.state_of, laws.Vocabulary.node_of, laws.Vocabulary.changed, laws.Vocabulary.next_name, laws.Vocabulary.step, laws.Vocabulary.closed_by, laws.Vocabulary.at_some, laws.Vocabulary.is_some_of, laws.Vocabulary.SameShape, laws.Vocabulary.KeepsShapes, laws.Vocabulary.StepKeepsShapes, laws.Vocabulary.RowsKeepShapes, laws.Vocabulary.ClosingKeepsShapes, laws.Growth.step_grows, laws.Worlds.not_shared, laws.NodeLaws.next_is_new, laws.WorldSteps.step_keeps_world, laws.HeldSteps.absent, laws.HeldSteps.some_of, laws.Deaths.Dies, laws.Deaths.dies_by, laws.NodeShapes.same_shape, laws.NodeShapes.then_shape, laws.NodeShapes.changed_shape, laws.Keeps.Any, laws.Keeps.stepped, laws.Keeps.stepped_nodes}
 
 -- the node has the shape that it had in an earlier world
 abbrev IsAsBefore : World → Name → Node → Type 0

@@ -2,33 +2,13 @@
 -- mutator. What each of these keeps, every command keeps.
 --
 -- Q is a fact of values, which those of the world have and those that the command brings.
-use Rattle.std.proofs.Common.{◌≡◌, ◌-◌, ℕ, List, [], ◌∷◌, ◌++◌, length, map, set, drop, refl, sym, subst, Option, Some, None, Bool, true, false, eqb, ltb, inl, inr}
-use Rattle.std.specs.Prelude.{slice_get, IfSome, All}
-use Rattle.std.proofs.lemmas.List.{get_or_past}
-use Rattle.std.proofs.lemmas.List.Elements.{All-cons, All-nil, All-head, All-set, All-push, All-take, All-drop, All-get_or}
-use Rattle.std.proofs.lemmas.Bool.{cases_lt}
-use Rattle.nmgc_world_spec.specs.declared.command.Operand.{Operand}
-use Rattle.nmgc_world_spec.specs.declared.command.Operand.TheVariants.{Register, Shared}
-use Rattle.nmgc_world_spec.specs.declared.command.Command.{Command}
+use Rattle.std.specs.Prelude.{◌≡◌, ◌-◌, ◌∷◌, ◌++◌}
+use Rattle.nmgc_world_laws.specs.laws.Vocabulary.{ℕ, List, [], length, map, set, drop, refl, sym, subst, Option, Some, None, Bool, true, false, eqb, ltb, inl, inr, slice_get, IfSome, All, get_or_past, All-cons, All-nil, All-head, All-set, All-push, All-take, All-drop, All-get_or, cases_lt, Operand, Register, Shared, Command, Reply, Change, Name, Value, Node, Con, Var, Arr, Thunk, Weak, Stack, MutatorState, World, state_of, node_of, given, held_by, changed, field_read, result_read, value_read, stack_pushed, stack_popped, shared_name, value_of, value_for, with_state, with_register, with_node, with_finaliser, holding_given, keeping, born, object_of, read_object, change_node, change_object, change_into, asked, step, item_has, at_some, Fields, made_by}
 use Rattle.nmgc_world_spec.specs.declared.command.Command.TheVariants as command
-use Rattle.nmgc_world_spec.specs.declared.command.Reply.{Reply}
 use Rattle.nmgc_world_spec.specs.declared.command.Reply.TheVariants as reply
-use Rattle.nmgc_world_spec.specs.declared.change.Change.{Change}
 use Rattle.nmgc_world_spec.specs.declared.change.Change.TheVariants as change
-use Rattle.nmgc_world_spec.specs.declared.value.Name.{Name}
-use Rattle.nmgc_world_spec.specs.declared.value.Value.{Value}
 use Rattle.nmgc_world_spec.specs.declared.value.Value.TheVariants as value
-use Rattle.nmgc_world_spec.specs.declared.node.Node.{Node}
-use Rattle.nmgc_world_spec.specs.declared.node.Node.TheVariants.{Con, Var, Arr, Thunk, Weak, Stack}
-use Rattle.nmgc_world_spec.specs.declared.mutator_state.MutatorState.{MutatorState}
-use Rattle.nmgc_world_spec.specs.World.{World, state_of, node_of, given, held_by}
-use Rattle.nmgc_world_spec.specs.Change.{changed, field_read, result_read, value_read, stack_pushed, stack_popped}
-use Rattle.nmgc_world_spec.specs.Step.{shared_name, value_of, value_for, with_state, with_register, with_node, with_finaliser, holding_given, keeping, born, object_of, read_object, change_node, change_object, change_into, asked, step}
-use Rattle.nmgc_lists.specs.laws.Items.{item_has, at_some}
-use Rattle.nmgc_world_laws.specs.Holds.{Fields}
-use Rattle.nmgc_world_laws.specs.Shape.{made_by}
-use Rattle.nmgc_world_laws.specs.laws.Barrier.{two_nodes, exchanged_node, Writes, field_read_has, result_read_has, answer_has}
-use Rattle.nmgc_world_laws.specs.laws.NodeLaws.{states_kept}
+use Rattle.nmgc_world_laws.specs.laws.{Barrier.two_nodes, Barrier.exchanged_node, Barrier.Writes, Barrier.field_read_has, Barrier.result_read_has, Barrier.answer_has, NodeLaws.states_kept}
 
 -- the mutator's registers and its queue are others, or the same
 pub data Hand (Q : Value → Type 0) (w : World) (m : ℕ) (v : World) : Type 0 where

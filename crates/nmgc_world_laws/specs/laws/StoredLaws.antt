@@ -1,45 +1,11 @@
 -- What a command puts into an object that is there.
-use Rattle.std.proofs.Common.{◌≡◌, ◌≢◌, ◌<◌, ◌-◌, ◌⊎◌, ℕ, zero, suc, List, [], ◌∷◌, ◌++◌, length, set, take, refl, sym, ap, subst, ◌∙◌, arith, Option, Some, None, Bool, true, false, cond, eqb, ltb, inl, inr}
-use Rattle.std.specs.Prelude.{slice_get, IsSome, Contains}
-use Rattle.std.proofs.lemmas.List.{get_or_past, set_past}
-use Rattle.std.proofs.lemmas.List.Elements.{Contains-append_left, Contains-get_or}
-use Rattle.std.proofs.lemmas.Bool.{ne_eqb, cases_lt, cases_eq}
-use Rattle.nmgc_world_spec.specs.declared.command.Operand.{Operand}
-use Rattle.nmgc_world_spec.specs.declared.command.Operand.TheVariants.{Register, Shared}
-use Rattle.nmgc_world_spec.specs.declared.command.Command.{Command}
+use Rattle.std.specs.Prelude.{◌≡◌, ◌≢◌, ◌<◌, ◌-◌, ◌⊎◌, ◌∷◌, ◌++◌}
+use Rattle.nmgc_world_laws.specs.laws.Vocabulary.{ℕ, zero, suc, List, [], length, set, take, refl, sym, ap, subst, ◌∙◌, arith, Option, Some, None, Bool, true, false, cond, eqb, ltb, inl, inr, slice_get, IsSome, get_or_past, set_past, Contains-append_left, Contains-get_or, ne_eqb, cases_lt, cases_eq, Operand, Register, Shared, Command, Reply, Change, SHARED_MAKER, Name, Value, Node, Con, Var, Arr, Thunk, Weak, Stack, World, IsWorld, state_of, node_of, exchanged_at, changed, stack_pushed, stack_popped, shared_name, value_for, next_name, asked, step, Row, replayed, opened, Parts, CanApply, IsReached, IsRoot, IsAlive, same_Some, slice_get-set_same, slice_get-set_other, HasStrongField, strong_at, CanReplay, value_written, place_written, Stores, IsStored, StepStores, OldRefersToYoung, OldWeaksStay, OldWeaksAreFinalised}
 use Rattle.nmgc_world_spec.specs.declared.command.Command.TheVariants as command
-use Rattle.nmgc_world_spec.specs.declared.command.Reply.{Reply}
 use Rattle.nmgc_world_spec.specs.declared.command.Reply.TheVariants as reply
-use Rattle.nmgc_world_spec.specs.declared.change.Change.{Change}
 use Rattle.nmgc_world_spec.specs.declared.change.Change.TheVariants as change
-use Rattle.nmgc_limits.specs.declared.mutators.TheConstants.{SHARED_MAKER}
-use Rattle.nmgc_world_spec.specs.declared.value.Name.{Name}
-use Rattle.nmgc_world_spec.specs.declared.value.Value.{Value}
 use Rattle.nmgc_world_spec.specs.declared.value.Value.TheVariants as value
-use Rattle.nmgc_world_spec.specs.declared.node.Node.{Node}
-use Rattle.nmgc_world_spec.specs.declared.node.Node.TheVariants.{Con, Var, Arr, Thunk, Weak, Stack}
-use Rattle.nmgc_world_spec.specs.World.{World, IsWorld, state_of, node_of}
-use Rattle.nmgc_world_spec.specs.Change.{exchanged_at, changed, stack_pushed, stack_popped}
-use Rattle.nmgc_world_spec.specs.Step.{shared_name, value_for, next_name, asked, step}
-use Rattle.nmgc_world_spec.specs.History.{Row, replayed, opened}
-use Rattle.nmgc_world_spec.specs.declared.node.Parts.{Parts}
-use Rattle.nmgc_world_spec.specs.Step.{CanApply}
-use Rattle.nmgc_world_spec.specs.Reach.{IsReached, IsRoot, IsAlive}
-use Rattle.std.proofs.lemmas.Option.{same_Some}
-use Rattle.nmgc_world_laws.specs.laws.Growth.{step_grows}
-use Rattle.nmgc_world_laws.specs.laws.Worlds.{not_shared}
-use Rattle.nmgc_lists.specs.laws.Items.{slice_get-set_same, slice_get-set_other}
-use Rattle.nmgc_world_laws.specs.Holds.{HasStrongField, strong_at}
-use Rattle.nmgc_world_laws.specs.Reachable.{CanReplay}
-use Rattle.nmgc_world_laws.specs.Stored.{value_written, place_written, Stores, IsStored, StepStores, OldRefersToYoung, OldWeaksStay, OldWeaksAreFinalised}
-use Rattle.nmgc_world_laws.specs.laws.Barrier.{field_at_place, two_nodes, exchanged_node}
-use Rattle.nmgc_world_laws.specs.laws.NodeLaws.{get-append_cases, node_born, next_is_new, node_cases}
-use Rattle.nmgc_world_laws.specs.laws.WorldSteps.{step_keeps_world}
-use Rattle.nmgc_world_laws.specs.laws.HeldSteps.{alive_has, absent, some_of}
-use Rattle.nmgc_world_laws.specs.laws.LiveRows.{AsThen, LiveHeld, live_after}
-use Rattle.nmgc_world_laws.specs.laws.Reached.{step_adds_one, world_holds}
-use Rattle.nmgc_world_laws.specs.laws.Steps.{Object, Stepped}
-use Rattle.nmgc_world_laws.specs.laws.Keeps.{Any, stepped, still_there, hand_nodes}
+use Rattle.nmgc_world_laws.specs.laws.{Growth.step_grows, Worlds.not_shared, Barrier.field_at_place, Barrier.two_nodes, Barrier.exchanged_node, NodeLaws.get-append_cases, NodeLaws.node_born, NodeLaws.next_is_new, NodeLaws.node_cases, WorldSteps.step_keeps_world, HeldSteps.alive_has, HeldSteps.absent, HeldSteps.some_of, LiveRows.AsThen, LiveRows.LiveHeld, LiveRows.live_after, Reached.step_adds_one, Reached.world_holds, Steps.Object, Steps.Stepped, Keeps.Any, Keeps.stepped, Keeps.still_there, Keeps.hand_nodes}
 
 -- what stands in a field after a change stood there before, or the change wrote it there
 abbrev Put : Change → Node → ℕ → Value → Type 0
@@ -185,8 +151,7 @@ operand_root : (w : World) (m : ℕ) (o : Operand) (name : Name) → value_for w
 operand_root w m (Register r) name e = elim (cases_lt r (length (state_of w m).registers)) [
   | inl lt ↦ inr (
     m,
-    Contains-append_left (state_of w m).registers (state_of w m).queue (value.Ref name) (subst (λ (v : Value).
-        Contains (state_of w m).registers v) e (Contains-get_or (state_of w m).registers r value.Nil lt)),
+    Contains-append_left (state_of w m).registers (state_of w m).queue (value.Ref name) (rw e at (Contains-get_or (state_of w m).registers r value.Nil lt)),
   )
   | inr le ↦ absurd (let none : value.Nil ≡ value.Ref name = sym (get_or_past (state_of w m).registers r value.Nil le) ∙ e in cc)
 ]
@@ -214,8 +179,7 @@ rows_stored w (row ∷ rows) is can name i x there s =
     let v : World = (step w row.mutator row.command).0 in
     let next : Name = next_name (state_of w row.mutator) row.mutator in
     let new : name ≡ next →
-    ⊥ = λ e. absent (node_of w next) (next_is_new w row.mutator (not_shared w row.mutator is can.0.mutator)) (subst (λ (n : Name).
-    IsSome (node_of w n)) e there) in
+    ⊥ = λ e. absent (node_of w next) (next_is_new w row.mutator (not_shared w row.mutator is can.0.mutator)) (rw e at there) in
     elim (rows_stored v rows (step_keeps_world w row.mutator row.command is can.0) can.1 name i x
     ((step_grows w row.mutator row.command can.0.mutator).names name there) s) [
       | inl then ↦ elim (step_stores w row.mutator row.command is can.0 name i x then) [
@@ -294,18 +258,15 @@ module _ (w : World) (m : ℕ) (c : Command) (is : IsWorld w) (can : CanApply w 
   alive_or v (Object.birth register made makes e) =
       let own : m ≢ SHARED_MAKER = not_shared w m is can.mutator in
       elim (node_born w m register made can.mutator own weak) [
-        | inl b ↦ absurd (absent (node_of w (next_name (state_of w m) m)) (next_is_new w m own) (subst (λ (n : Name).
-            IsSome (node_of w n)) b.0 (some_of (node_of w weak) (Weak (Some parts)) alive)))
+        | inl b ↦ absurd (absent (node_of w (next_name (state_of w m) m)) (next_is_new w m own) (rw b.0 at (some_of (node_of w weak) (Weak (Some parts)) alive)))
         | inr b ↦ inl (ap (λ (u : World). node_of u weak) e ∙ b ∙ alive)
       ]
   alive_or v (Object.write at found ch there asks q e) = elim (node_cases w at found (changed ch at.maker found).0 there weak) [
     | inl here ↦
         let old : found ≡ Weak (Some parts) = same_Some found (Weak (Some parts)) (sym there ∙ ap (λ (n : Name). node_of w n) (sym here.0) ∙ alive) in
         elim (weak_changed ch at.maker parts) [
-          | inl stays ↦ inl (ap (λ (u : World). node_of u weak) e ∙ here.1 ∙ ap (λ (n : Node). Some (changed ch at.maker n).0) old ∙
-              ap (λ (n : Node). Some n) stays)
-          | inr fin ↦ inr (asked_finalise w m c weak (subst (λ (x : Change).
-              asked w m c ≡ Some (value.Ref weak, x)) fin (asks ∙ ap (λ (n : Name). Some (value.Ref n, ch)) (sym here.0))))
+          | inl stays ↦ inl (cc (e, here.1, old, stays))
+          | inr fin ↦ inr (asked_finalise w m c weak (rw fin at (asks ∙ ap (λ (n : Name). Some (value.Ref n, ch)) (sym here.0))))
         ]
     | inr other ↦ inl (ap (λ (u : World). node_of u weak) e ∙ other.1 ∙ alive)
   ]

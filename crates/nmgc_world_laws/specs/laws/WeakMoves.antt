@@ -1,28 +1,11 @@
 -- What a command may change, also one on weak pointers: what `deref` and `finalise` give and owe is opened,
 -- and so it is of the names where all that is opened is.
-use Rattle.std.proofs.Common.{◌≡◌, ◌≢◌, ◌<◌, ℕ, List, [], ◌∷◌, length, refl, sym, subst, Option, Some, None, inl, inr, ◌⊎◌}
-use Rattle.std.specs.Prelude.{IfSome, All, Contains}
-use Rattle.std.proofs.lemmas.List.Elements.{All-cons, All-nil, All-head, Contains-append_left, Contains-append_right, Contains-append_cases}
-use Rattle.nmgc_world_spec.specs.declared.command.Command.{Command}
+use Rattle.std.specs.Prelude.{◌≡◌, ◌≢◌, ◌<◌, ◌∷◌, ◌⊎◌}
+use Rattle.nmgc_world_laws.specs.laws.Vocabulary.{ℕ, List, [], length, refl, sym, subst, Option, Some, None, inl, inr, IfSome, All, Contains, All-cons, All-nil, All-head, Contains-append_left, Contains-append_right, Contains-append_cases, Command, SHARED_MAKER, Name, Value, Parts, Node, Con, Var, Arr, Thunk, Weak, Stack, World, state_of, node_of, given, changed, value_read, shared_name, value_for, next_name, object_of, read_object, change_node, change_object, change_into, step, IsAlive, IsKeptBy, name_in, given_name, opened_in, opened_by, finalised_in, finalised_by, contains_head, contains_tail, at_some, nothing_in, contains_one, one_is, contains_flat, owed_of, owed_in, owed_at, value_held, values_owed, names_among, owed_by, Names, Fields, CoversReach, strong_at, IsLater}
 use Rattle.nmgc_world_spec.specs.declared.command.Command.TheVariants as command
 use Rattle.nmgc_world_spec.specs.declared.change.Change.TheVariants as change
-use Rattle.nmgc_limits.specs.declared.mutators.TheConstants.{SHARED_MAKER}
-use Rattle.nmgc_world_spec.specs.declared.value.Name.{Name}
-use Rattle.nmgc_world_spec.specs.declared.value.Value.{Value}
 use Rattle.nmgc_world_spec.specs.declared.value.Value.TheVariants as value
-use Rattle.nmgc_world_spec.specs.declared.node.Parts.{Parts}
-use Rattle.nmgc_world_spec.specs.declared.node.Node.{Node}
-use Rattle.nmgc_world_spec.specs.declared.node.Node.TheVariants.{Con, Var, Arr, Thunk, Weak, Stack}
-use Rattle.nmgc_world_spec.specs.World.{World, state_of, node_of, given}
-use Rattle.nmgc_world_spec.specs.Change.{changed, value_read}
-use Rattle.nmgc_world_spec.specs.Step.{shared_name, value_for, next_name, object_of, read_object, change_node, change_object, change_into, step}
-use Rattle.nmgc_world_spec.specs.Reach.{IsAlive, IsKeptBy}
-use Rattle.nmgc_world_spec.specs.History.{name_in, given_name, opened_in, opened_by, finalised_in, finalised_by}
-use Rattle.nmgc_lists.specs.laws.Items.{contains_head, contains_tail, at_some, nothing_in, contains_one, one_is, contains_flat}
-use Rattle.nmgc_world_spec.specs.Owed.{owed_of, owed_in, owed_at, value_held, values_owed, names_among, owed_by}
-use Rattle.nmgc_world_laws.specs.Holds.{Names, Fields, CoversReach, strong_at, IsLater}
-use Rattle.nmgc_world_laws.specs.laws.Barrier.{same_later}
-use Rattle.nmgc_world_laws.specs.laws.Moves.{RespectsBarrier, step_moves, born_moves, keeping_moves, made_moves, stays_put, then_same, operand_has}
+use Rattle.nmgc_world_laws.specs.laws.{Barrier.same_later, Moves.RespectsBarrier, Moves.step_moves, Moves.born_moves, Moves.keeping_moves, Moves.made_moves, Moves.stays_put, Moves.then_same, Moves.operand_has}
 
 -- a node whose weak pointer dies, if it is one
 finalised_stays : (name : Name) (maker : ℕ) (node : Node) (i : ℕ) (x : Value) → strong_at node i ≡ Some x →
@@ -154,8 +137,7 @@ module _ (P : Name → Type 0) where
       let q : Names P v = operand_has P (state_of w m).registers object g (h.registers m) in
       let a : RespectsBarrier P w (change_object w v change.Finalise).0 (owed_of w v change.Finalise) = finalise_moves w v q (finalise_owes w v q o) h in
       then_same P w (change_object w v change.Finalise).0 (change_into m dest (change_object w v change.Finalise)).0 (owed_of w v change.Finalise) a
-      (keeping_moves P (change_object w v change.Finalise).0 m dest (change_object w v change.Finalise).1 (subst (λ n.
-      m < n) (sym a.mutators) lt) a.holds (finalise_gives w v o))
+      (keeping_moves P (change_object w v change.Finalise).0 m dest (change_object w v change.Finalise).1 (rw a.mutators lt) a.holds (finalise_gives w v o))
   all_moves w m c lt own g p o h = step_moves P w m c tt lt own g p h
 
 -- a name in one of the values is among their names
@@ -210,8 +192,7 @@ finalised_owed w m (command.Finalise dest object) weak h = by_value (value_for w
     kept_owed : (at : Name) (parts : Parts) (target : Name) → IsKeptBy at parts target →
         Contains (names_among (value.Ref at ∷ parts.value ∷ parts.finaliser ∷ [])) target
     kept_owed at parts target (inl e) = in_one (value.Ref at ∷ parts.value ∷ parts.finaliser ∷
-        []) (value.Ref at) target (contains_head (value.Ref at) (parts.value ∷ parts.finaliser ∷ [])) (subst (λ (n : Name).
-        Contains (at ∷ []) n) (sym e) (contains_one at))
+        []) (value.Ref at) target (contains_head (value.Ref at) (parts.value ∷ parts.finaliser ∷ [])) (rw e (contains_one at))
     kept_owed at parts target (inr (inl e)) = in_one (value.Ref at ∷ parts.value ∷ parts.finaliser ∷
         []) parts.value target (contains_tail (value.Ref at) (parts.value ∷ parts.finaliser ∷
         []) parts.value (contains_head parts.value (parts.finaliser ∷ []))) (subst (λ (v : Value). Contains (name_in v) target) (sym e) (contains_one target))

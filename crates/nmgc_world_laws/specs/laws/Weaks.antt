@@ -1,16 +1,6 @@
 -- A weak pointer was made by a mutator: g is an array.
-use Rattle.std.proofs.Common.{◌≡◌, ◌<◌, length, arith, Bool, true, false, Option, Some, None, cond, eqb, inl, inr}
-use Rattle.std.proofs.lemmas.Bool.{cases_lt}
-use Rattle.std.proofs.lemmas.Bool.Decides.{eqb_tells}
-use Rattle.std.proofs.lemmas.List.{get_or_past}
-use Rattle.std.proofs.lemmas.Option.{slice_get_within}
-use Rattle.nmgc_limits.specs.declared.mutators.TheConstants.{SHARED_MAKER}
-use Rattle.nmgc_world_spec.specs.declared.value.Name.{Name}
-use Rattle.nmgc_world_spec.specs.declared.node.Parts.{Parts}
-use Rattle.nmgc_world_spec.specs.declared.node.Node.{Node}
-use Rattle.nmgc_world_spec.specs.declared.node.Node.TheVariants.{Con, Var, Arr, Thunk, Weak, Stack}
-use Rattle.nmgc_world_spec.specs.World.{World, state_of, serial_of, no_mutator, IsWorld, IsShared}
-use Rattle.nmgc_world_spec.specs.Reach.{IsAliveWeak}
+use Rattle.std.specs.Prelude.{◌≡◌, ◌<◌}
+use Rattle.nmgc_world_laws.specs.laws.Vocabulary.{length, arith, Bool, true, false, Option, Some, None, cond, eqb, inl, inr, cases_lt, eqb_tells, get_or_past, slice_get_within, SHARED_MAKER, Name, Parts, Node, Con, Var, Arr, Thunk, Weak, Stack, World, state_of, serial_of, no_mutator, IsWorld, IsShared, IsAliveWeak}
 
 pub not_array : (node : Node) (parts : Option Parts) → IsShared node → node ≡ Weak parts → ⊥
 not_array (Arr values) parts is e = cc

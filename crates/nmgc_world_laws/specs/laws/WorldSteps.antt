@@ -1,27 +1,11 @@
 -- A command leaves a world: every reference in it still names a node of it.
-use Rattle.std.proofs.Common.{◌≡◌, ◌<◌, ℕ, [], ◌∷◌, length, refl, sym, subst, ◌∙◌, arith, Option, Some, None, inl, inr}
-use Rattle.std.specs.Prelude.{IsSome}
-use Rattle.std.proofs.lemmas.List.Elements.{All-nil, All-cons, All-replicate}
-use Rattle.std.proofs.lemmas.Bool.Decides.{eqb_tells}
-use Rattle.nmgc_limits.specs.declared.mutators.TheConstants.{SHARED_MAKER}
-use Rattle.nmgc_world_spec.specs.declared.command.Command.{Command}
+use Rattle.std.specs.Prelude.{◌≡◌, ◌<◌, ◌∷◌}
+use Rattle.nmgc_world_laws.specs.laws.Vocabulary.{ℕ, [], length, refl, sym, subst, ◌∙◌, arith, Option, Some, None, inl, inr, IsSome, All-nil, All-cons, All-replicate, eqb_tells, SHARED_MAKER, Command, Reply, Change, Value, Node, World, IsWorld, IsKnown, IsKnownReply, IsKnownChange, node_of, changed, field_read, result_read, value_read, CanApply, step, value_for, keeping, change_node, change_object, change_into, one_has, some_is}
 use Rattle.nmgc_world_spec.specs.declared.command.Command.TheVariants as command
-use Rattle.nmgc_world_spec.specs.declared.command.Reply.{Reply}
 use Rattle.nmgc_world_spec.specs.declared.command.Reply.TheVariants as reply
-use Rattle.nmgc_world_spec.specs.declared.change.Change.{Change}
 use Rattle.nmgc_world_spec.specs.declared.change.Change.TheVariants as change
-use Rattle.nmgc_world_spec.specs.declared.value.Value.{Value}
 use Rattle.nmgc_world_spec.specs.declared.value.Value.TheVariants as value
-use Rattle.nmgc_world_spec.specs.declared.node.Node.{Node}
-use Rattle.nmgc_world_spec.specs.World.{World, IsWorld, IsKnown, IsKnownReply, IsKnownChange, node_of}
-use Rattle.nmgc_world_spec.specs.Change.{changed, field_read, result_read, value_read}
-use Rattle.nmgc_world_spec.specs.Step.{CanApply, step, value_for, keeping, change_node, change_object, change_into}
-use Rattle.nmgc_lists.specs.laws.Items.{one_has}
-use Rattle.nmgc_world_laws.specs.laws.Nodes.{field_read_known, result_read_known, value_read_known}
-use Rattle.nmgc_world_laws.specs.laws.Worlds.{holding_keeps, finaliser_keeps, born_keeps, operand_known, operands_known, read_known, is_shared, shared_changed, shared_reply, in_state, nth_changed, nth_reply}
-use Rattle.nmgc_world_laws.specs.laws.NodeLaws.{as_many}
-use Rattle.nmgc_lists.specs.laws.Options.{some_is}
-use Rattle.nmgc_world_laws.specs.laws.HeldSteps.{some_of as there_is}
+use Rattle.nmgc_world_laws.specs.laws.{Nodes.field_read_known, Nodes.result_read_known, Nodes.value_read_known, Worlds.holding_keeps, Worlds.finaliser_keeps, Worlds.born_keeps, Worlds.operand_known, Worlds.operands_known, Worlds.read_known, Worlds.is_shared, Worlds.shared_changed, Worlds.shared_reply, Worlds.in_state, Worlds.nth_changed, Worlds.nth_reply, NodeLaws.as_many, HeldSteps.some_of as there_is}
 
 -- what a change leaves, and what it answers
 abbrev Leaves : World × Reply → Type 0

@@ -1,27 +1,6 @@
 -- What keeps a world closed.
-use Rattle.std.proofs.Common.{◌≡◌, ◌≢◌, ◌<◌, ◌≤◌, ◌+◌, ◌-◌, ◌^◌, inl, inr, zero, suc, ℕ, List, [], ◌∷◌, ◌++◌, map, length, get_or, set, drop, refl, ap, ◌∙◌, arith, length-append, Option, Some, None, Bool, true, false, cond, eqb}
-use Rattle.std.specs.Prelude.{IsSome, IfSome, slice_get, All}
-use Rattle.std.specs.List.{refill}
-use Rattle.std.proofs.lemmas.List.{get_or-set_same, get_or-set_other, get_or_past, set-get_or, take_all, drop_all, append-nil, length-set}
-use Rattle.std.proofs.lemmas.List.Elements.{All-cons, All-nil, All-set, All-weaker, All-drop, All-get_or, All-head, All-tail}
-use Rattle.std.proofs.lemmas.Option.{slice_get_past}
-use Rattle.std.proofs.lemmas.Bool.{ne_eqb, eq-eqb, cases_lt}
-use Rattle.std.proofs.lemmas.Bool.Decides.{eqb_tells}
-use Rattle.nmgc_world_spec.specs.declared.command.Operand.{Operand}
-use Rattle.nmgc_world_spec.specs.declared.command.Operand.TheVariants.{Register, Shared}
-use Rattle.nmgc_world_spec.specs.declared.command.Reply.{Reply}
-use Rattle.nmgc_limits.specs.declared.mutators.TheConstants.{REGISTERS, SHARED_MAKER}
-use Rattle.nmgc_world_spec.specs.declared.value.Name.{Name}
-use Rattle.nmgc_world_spec.specs.declared.value.Value.{Value}
-use Rattle.nmgc_world_spec.specs.declared.value.Value.TheVariants.{Nil, Number, Ref}
-use Rattle.nmgc_world_spec.specs.declared.node.Node.{Node}
-use Rattle.nmgc_world_spec.specs.declared.change.Change.{Change}
-use Rattle.nmgc_world_spec.specs.declared.mutator_state.MutatorState.{MutatorState}
-use Rattle.nmgc_world_spec.specs.World.{World, state_of, node_of, no_mutator, held_by, IsKnown, AreKnown, IsKnownReply, IsKnownChange, IsNodeOf, IsShared, IsWorld, given}
-use Rattle.nmgc_world_spec.specs.Command.{IsOperand}
-use Rattle.nmgc_world_spec.specs.Change.{changed}
-use Rattle.nmgc_world_spec.specs.Step.{with_state, with_register, holding_given, with_new, with_nth, with_finaliser, next_name, value_of, object_of, read_object}
-use Rattle.nmgc_lists.specs.laws.Items.{item_has, is_some_get, get_is_some, slice_get-append_last, at_some, slice_get-set_same, slice_get-set_other}
+use Rattle.std.specs.Prelude.{◌≡◌, ◌≢◌, ◌<◌, ◌≤◌, ◌+◌, ◌-◌, ◌^◌, ◌∷◌, ◌++◌}
+use Rattle.nmgc_world_laws.specs.laws.Vocabulary.{inl, inr, zero, suc, ℕ, List, [], map, length, get_or, set, drop, refl, ap, ◌∙◌, arith, length-append, Option, Some, None, Bool, true, false, cond, eqb, IsSome, IfSome, slice_get, All, refill, get_or-set_same, get_or-set_other, get_or_past, set-get_or, take_all, drop_all, append-nil, All-cons, All-nil, All-set, All-weaker, All-drop, All-get_or, All-head, All-tail, slice_get_past, ne_eqb, eq-eqb, cases_lt, eqb_tells, Operand, Register, Shared, Reply, REGISTERS, SHARED_MAKER, Name, Value, Nil, Number, Ref, Node, Change, MutatorState, World, state_of, node_of, no_mutator, held_by, IsKnown, AreKnown, IsKnownReply, IsKnownChange, IsNodeOf, IsShared, IsWorld, given, IsOperand, changed, with_state, with_register, holding_given, with_new, with_nth, with_finaliser, next_name, value_of, object_of, read_object, item_has, is_some_get, get_is_some, slice_get-append_last, at_some, slice_get-set_same, slice_get-set_other, length-set}
 use Rattle.nmgc_world_laws.specs.laws.Nodes.{changed_known, changed_reply, changed_shared}
 
 if_some_weaker : {A : Type 0} (o : Option A) (P Q : A → Type 0) → ((x : A) → P x → Q x) → IfSome o P → IfSome o Q
@@ -221,12 +200,6 @@ read_known w h (Ref name) read known = by_node (node_of w name) (h.nodes name)
     by_node : (o : Option Node) → IfSome o (IsNodeOf w) → IsKnownReply w (read_object o read)
     by_node None is = tt
     by_node (Some node) is = known node is.known
-
--- the object that a value refers to is one that the world may have
-pub object_is_node : (w : World) → IsWorld w → (v : Value) → IfSome (object_of w v) (IsNodeOf w)
-object_is_node w h Nil = tt
-object_is_node w h (Number n) = tt
-object_is_node w h (Ref name) = h.nodes name
 
 -- g may be replaced by an array of known values
 module _ (w : World) (made : Node) where

@@ -1,19 +1,7 @@
 -- Lemmas that crates above need too.
-use Rattle.std.proofs.Common.{◌≡◌, Option, Some, None, ◌-◌, List, [], ◌∷◌, length, refl, arith, ℕ, Bool, true, false, eqb, ap, eq-eqb, zero, suc, ◌≢◌, set, ◌<◌, ◌∙◌, length-set, sym, subst, inl, inr}
-use Rattle.std.specs.Prelude.{IsSome, slice_get, if◌then◌else◌}
-use Rattle.std.proofs.lemmas.Bool.{and_from}
-use Rattle.std.proofs.lemmas.List.{get_or-set_same}
-use Rattle.std.proofs.lemmas.Option.{slice_get-get_or}
-use Rattle.nmgc_lists.specs.laws.Items.{is_some_get}
-use Rattle.nmgc_world_spec.specs.declared.value.Name.{Name}
+use Rattle.std.specs.Prelude.{◌≡◌, ◌-◌, ◌∷◌, ◌≢◌, ◌<◌, if◌then◌else◌}
+use Rattle.nmgc_world_spec.specs.laws.Vocabulary.{Option, Some, None, List, [], length, refl, arith, ℕ, Bool, true, false, eqb, ap, eq-eqb, zero, suc, set, ◌∙◌, length-set, sym, subst, inl, inr, IsSome, slice_get, and_from, get_or-set_same, slice_get-get_or, is_some_get, Name, Value, without_last, last_of, is_same_name, Node, Parts, World, node_of, IsAlive, IsKeptBy, IsOfWeak}
 use Rattle.nmgc_world_spec.specs.declared.value.Value.TheVariants as value
-use Rattle.nmgc_world_spec.specs.declared.value.Value.{Value}
-use Rattle.nmgc_world_spec.specs.Change.{without_last, last_of, is_same_name}
-use Rattle.nmgc_world_spec.specs.declared.node.Node.{Node}
-use Rattle.nmgc_world_spec.specs.declared.node.Parts.{Parts}
-use Rattle.nmgc_world_spec.specs.World.{World, node_of}
-use Rattle.nmgc_world_spec.specs.Reach.{IsAlive, IsKeptBy}
-use Rattle.nmgc_world_spec.specs.Wide.{IsOfWeak}
 
 pub same_ref : (a b : Name) → value.Ref a ≡ value.Ref b → a ≡ b
 same_ref a b e = cc

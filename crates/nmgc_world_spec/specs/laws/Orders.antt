@@ -1,12 +1,6 @@
 -- Lists of names in order, as they grow and where some are left out.
-use Rattle.std.proofs.Common.{◌≡◌, ◌<◌, ◌+◌, ℕ, zero, suc, List, [], ◌∷◌, ◌++◌, length, take, get_or, inl, inr, refl, sym, ap, subst, ◌∙◌, arith, Bool, true, ◌⊎◌, ◌≢◌}
-use Rattle.std.specs.Prelude.{Contains, filter}
-use Rattle.std.proofs.lemmas.Bool.{cases_lt, cases_Bool, cases_eq}
-use Rattle.std.proofs.lemmas.List.Elements.{Contains-append_left, Contains-push, Contains-push_cases, Contains-get_or}
-use Rattle.nmgc_world_spec.specs.declared.value.Name.{Name}
-use Rattle.nmgc_world_spec.specs.Reach.{IsBefore, IsInOrder, Lists}
-use Rattle.nmgc_world_spec.specs.Order.{IsEarlier, ListsBefore}
-use Rattle.nmgc_lists.specs.laws.Items.{contains_head, contains_tail, contains_cases}
+use Rattle.std.specs.Prelude.{◌≡◌, ◌<◌, ◌+◌, ◌∷◌, ◌++◌, ◌⊎◌, ◌≢◌}
+use Rattle.nmgc_world_spec.specs.laws.Vocabulary.{ℕ, zero, suc, List, [], length, take, get_or, inl, inr, refl, sym, ap, subst, ◌∙◌, arith, Bool, true, Contains, filter, cases_lt, cases_Bool, cases_eq, Contains-append_left, Contains-push, Contains-push_cases, Contains-get_or, Name, IsBefore, IsInOrder, Lists, IsEarlier, ListsBefore, contains_head, contains_tail, contains_cases}
 
 pub same_name : (a b : Name) → a.maker ≡ b.maker → a.serial ≡ b.serial → a ≡ b
 same_name a b e f =

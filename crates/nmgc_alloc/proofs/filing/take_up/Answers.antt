@@ -1,7 +1,5 @@
-use Rattle.std.proofs.Common.{ℕ, ap, arith, slice_index_or}
+use Rattle.nmgc_alloc.proofs.{Vocabulary.ℕ, Vocabulary.ap, Vocabulary.arith, Vocabulary.slice_index_or, Vocabulary.tally_from, FilingLaws.taken_free, FilingLaws.taken_class, FilingLaws.taken_all, FilingLaws.few_taken}
 use Rattle.nmgc_alloc.specs.declared.search.Sought.TheVariants as sought
-use Rattle.nmgc_alloc.specs.Search.{tally_from}
-use Rattle.nmgc_alloc.proofs.FilingLaws.{taken_free, taken_class, taken_all, few_taken}
 use Rattle.nmgc_alloc.proofs.filing.take_up.Goals as goal
 
 pub overflow_add-lower : goal.overflow_add-lower

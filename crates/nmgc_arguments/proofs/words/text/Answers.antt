@@ -1,6 +1,4 @@
-use Rattle.std.proofs.Common.{refl}
-use Rattle.std.proofs.lemmas.Str.{is_utf8-from_IsUtf8}
-use Rattle.nmgc_arguments.proofs.Passing.{not_utf8}
+use Rattle.nmgc_arguments.proofs.{Vocabulary.refl, Vocabulary.is_utf8-from_IsUtf8, Passing.not_utf8}
 use Rattle.nmgc_arguments.proofs.words.text.Goals as goal
 
 pub returns-in-Ok : goal.returns-in-Ok

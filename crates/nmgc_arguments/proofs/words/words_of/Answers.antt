@@ -1,7 +1,4 @@
-use Rattle.std.proofs.Common.{map, arith, Global}
-use Rattle.std.proofs.lemmas.List.{map-append}
-use Rattle.std.specs.Prelude.{string_bytes}
-use Rattle.nmgc_arguments.proofs.Passing.{one_more}
+use Rattle.nmgc_arguments.proofs.{Vocabulary.map, Vocabulary.arith, Vocabulary.Global, Vocabulary.map-append, Vocabulary.string_bytes, Passing.one_more}
 use Rattle.nmgc_arguments.proofs.words.words_of.Goals as goal
 
 pub loop-place-preserved : goal.loop-place-preserved

@@ -1,6 +1,4 @@
-use Rattle.std.proofs.Common.{map}
-use Rattle.std.specs.Prelude.{string_bytes}
-use Rattle.nmgc_arguments.proofs.Passing.{ArePassedTo}
+use Rattle.nmgc_arguments.proofs.{Vocabulary.map, Vocabulary.string_bytes, Passing.ArePassedTo}
 use Rattle.nmgc_arguments.proofs.words.words_of.Given as goal
 
 -- the words before this place were passed on

@@ -1,6 +1,4 @@
-use Rattle.std.proofs.Common.{refl}
-use Rattle.nmgc_blocks_spec.specs.laws.Blocks.{occupied_in, occupied_apart, is_block}
-use Rattle.nmgc_object.specs.Places.{nursery_place}
+use Rattle.nmgc_blocks_spec.proofs.Vocabulary.{refl, occupied_in, occupied_apart, is_block, nursery_place}
 use Rattle.nmgc_blocks_spec.proofs.laws.blocks_lie_apart.Goals as goal
 
 pub returns-clause-inside : goal.returns-clause-inside

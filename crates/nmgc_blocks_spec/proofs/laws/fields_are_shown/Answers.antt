@@ -1,5 +1,4 @@
-use Rattle.nmgc_heap_spec.specs.Represents.{NoNode}
-use Rattle.nmgc_blocks_spec.specs.laws.Fields.{field_in, field_out}
+use Rattle.nmgc_blocks_spec.proofs.Vocabulary.{NoNode, field_in, field_out}
 use Rattle.nmgc_blocks_spec.proofs.laws.fields_are_shown.Goals as goal
 
 pub returns-clause-sound : goal.returns-clause-sound

@@ -1,6 +1,4 @@
-use Rattle.std.proofs.Common.{arith}
-use Rattle.nmgc_cli.specs.declared.task.Task.TheVariants.{Bench}
-use Rattle.nmgc_cli.proofs.Asking.{pair, asked_in, none_in}
+use Rattle.nmgc_cli.proofs.{Vocabulary.arith, Vocabulary.Bench, Asking.pair, Asking.asked_in, Asking.none_in}
 use Rattle.nmgc_cli.proofs.bench.batches_of.Goals as goal
 
 pub returns-in-len2-clause-asked : goal.returns-in-len2-clause-asked

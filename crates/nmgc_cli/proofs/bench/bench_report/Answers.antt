@@ -1,6 +1,4 @@
-use Rattle.std.proofs.lemmas.Result.{IfOk-weaker}
-use Rattle.nmgc_script.specs.laws.Versions.{threads_few}
-use Rattle.nmgc_cli.proofs.FewAnswers.{few_answers}
+use Rattle.nmgc_cli.proofs.{Vocabulary.IfOk-weaker, Vocabulary.threads_few, FewAnswers.few_answers}
 use Rattle.nmgc_cli.proofs.bench.bench_report.Goals as goal
 
 pub returns-clause-count : goal.returns-clause-count

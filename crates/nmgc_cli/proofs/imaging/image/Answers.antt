@@ -1,6 +1,4 @@
-use Rattle.std.proofs.Common.{ap, sym, subst}
-use Rattle.nmgc_cli.specs.Told.{IsImageText}
-use Rattle.nmgc_cli.specs.declared.answer.Outcome.{Outcome}
+use Rattle.nmgc_cli.proofs.Vocabulary.{ap, sym, subst, IsImageText, Outcome}
 use Rattle.nmgc_cli.proofs.imaging.image.Goals as goal
 
 pub image_of-requires : goal.image_of-requires

@@ -1,6 +1,4 @@
-use Rattle.std.proofs.lemmas.Result.{IfOk-weaker}
-use Rattle.nmgc_run_spec.specs.Run.{last_state}
-use Rattle.nmgc_cli.proofs.Leaving.{left_as}
+use Rattle.nmgc_cli.proofs.{Vocabulary.IfOk-weaker, Vocabulary.last_state, Leaving.left_as}
 use Rattle.nmgc_cli.proofs.imaging.image_of.Goals as goal
 
 pub write_image-requires : goal.write_image-requires

@@ -1,8 +1,4 @@
-use Rattle.std.proofs.Common.{◌≡◌, ◌∙◌, ℕ, List, sym, ap, subst}
-use Rattle.std.proofs.lemmas.Result.{IfOk-weaker}
-use Rattle.nmgc_pmark.specs.Claims.{IsStopped}
-use Rattle.nmgc_pmark.specs.Stops.{root_words}
-use Rattle.nmgc_cli.proofs.Marked.{stopped_of, claims_are}
+use Rattle.nmgc_cli.proofs.{Vocabulary.◌≡◌, Vocabulary.◌∙◌, Vocabulary.ℕ, Vocabulary.List, Vocabulary.sym, Vocabulary.ap, Vocabulary.subst, Vocabulary.IfOk-weaker, Vocabulary.IsStopped, Vocabulary.root_words, Marked.stopped_of, Marked.claims_are}
 use Rattle.nmgc_cli.proofs.marks.claims_of.Goals as goal
 
 pub mark_all-requires-clause-stopped : goal.mark_all-requires-clause-stopped

@@ -1,6 +1,4 @@
-use Rattle.std.proofs.Common.{ap, sym, subst}
-use Rattle.nmgc_cli.specs.Marks.{IsMarksText}
-use Rattle.nmgc_cli.specs.declared.answer.Outcome.{Outcome}
+use Rattle.nmgc_cli.proofs.Vocabulary.{ap, sym, subst, IsMarksText, Outcome}
 use Rattle.nmgc_cli.proofs.marks.marks.Goals as goal
 
 pub marks_text-requires-clause-script : goal.marks_text-requires-clause-script

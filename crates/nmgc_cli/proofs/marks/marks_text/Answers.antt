@@ -1,8 +1,4 @@
-use Rattle.std.proofs.Common.{◌∙◌, List, ap}
-use Rattle.std.proofs.lemmas.Result.{IfOk-weaker}
-use Rattle.nmgc_world_spec.specs.declared.value.Name.{Name}
-use Rattle.nmgc_cli.specs.Marks.{marks_lines}
-use Rattle.nmgc_cli.proofs.Marked.{marks_are}
+use Rattle.nmgc_cli.proofs.{Vocabulary.◌∙◌, Vocabulary.List, Vocabulary.ap, Vocabulary.IfOk-weaker, Vocabulary.Name, Vocabulary.marks_lines, Marked.marks_are}
 use Rattle.nmgc_cli.proofs.marks.marks_text.Goals as goal
 
 pub returns : goal.returns

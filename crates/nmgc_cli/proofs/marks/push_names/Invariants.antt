@@ -1,6 +1,4 @@
-use Rattle.std.proofs.Common.{◌≡◌, ◌++◌, drop}
-use Rattle.std.specs.List.{flat_map}
-use Rattle.nmgc_cli.specs.Marks.{name_line}
+use Rattle.nmgc_cli.proofs.Vocabulary.{◌≡◌, ◌++◌, drop, flat_map, name_line}
 use Rattle.nmgc_cli.proofs.marks.push_names.Given as goal
 
 -- the lines so far and those of the names left are all

@@ -1,8 +1,4 @@
-use Rattle.std.proofs.Common.{◌≡◌, ◌++◌, List, ℕ, drop}
-use Rattle.std.specs.List.{flat_map}
-use Rattle.nmgc_journal.specs.declared.report.MutatorEnd.{MutatorEnd}
-use Rattle.nmgc_pmark.specs.Stops.{root_words}
-use Rattle.nmgc_run_spec.specs.Heap.{registers_of}
+use Rattle.nmgc_cli.proofs.Vocabulary.{◌≡◌, ◌++◌, List, ℕ, drop, flat_map, MutatorEnd, root_words, registers_of}
 use Rattle.nmgc_cli.proofs.marks.root_words.Given as goal
 
 -- the registers so far and those of the mutators left are all

@@ -1,6 +1,4 @@
-use Rattle.std.proofs.Common.{◌≤◌, List, length, arith}
-use Rattle.std.proofs.lemmas.List.Sums.{get_or-le-sum_by}
-use Rattle.nmgc_world_spec.specs.declared.command.Command.{Command}
+use Rattle.nmgc_cli.proofs.Vocabulary.{◌≤◌, List, length, arith, get_or-le-sum_by, Command}
 use Rattle.nmgc_cli.proofs.run.run_bytes.Goals as goal
 
 pub returns : goal.returns

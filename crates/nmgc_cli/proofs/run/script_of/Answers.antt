@@ -1,9 +1,4 @@
-use Rattle.std.proofs.Common.{◌≡◌, ◌≤◌, List, ℕ, length, sym, subst, arith}
-use Rattle.std.specs.Prelude.{IfOk, IfErr, sum_by}
-use Rattle.nmgc_world_spec.specs.declared.command.Command.{Command}
-use Rattle.nmgc_script.specs.Faults.{IsToldOf}
-use Rattle.nmgc_script.specs.Spelling.{Spells}
-use Rattle.nmgc_script.specs.declared.script.Script.{Script}
+use Rattle.nmgc_cli.proofs.Vocabulary.{◌≡◌, ◌≤◌, List, ℕ, length, sym, subst, arith, IfOk, IfErr, sum_by, Command, IsToldOf, Spells, Script}
 use Rattle.nmgc_cli.proofs.run.script_of.Goals as goal
 
 pub returns-clause-found : goal.returns-clause-found

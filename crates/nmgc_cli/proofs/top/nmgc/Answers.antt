@@ -1,7 +1,4 @@
-use Rattle.std.proofs.Common.{map, Global}
-use Rattle.std.specs.Prelude.{string_bytes}
-use Rattle.nmgc_io.specs.Counts.{Rose}
-use Rattle.nmgc_cli.proofs.Telling.{ends, reports, completes, bench_completes, upgrades, upgrade_completes, paths, retain_completes}
+use Rattle.nmgc_cli.proofs.{Vocabulary.map, Vocabulary.Global, Vocabulary.string_bytes, Vocabulary.Rose, Telling.ends, Telling.reports, Telling.completes, Telling.bench_completes, Telling.upgrades, Telling.upgrade_completes, Telling.paths, Telling.retain_completes}
 use Rattle.nmgc_cli.proofs.top.nmgc.Goals as goal
 
 pub returns-clause-told : goal.returns-clause-told

@@ -1,6 +1,4 @@
-use Rattle.std.proofs.Common.{◌≡◌, take, not}
-use Rattle.std.specs.Prelude.{filter}
-use Rattle.nmgc_graph.specs.Marks.{mark_of}
+use Rattle.nmgc_core.proofs.Vocabulary.{◌≡◌, take, not, filter, mark_of}
 use Rattle.nmgc_core.proofs.closing.waiting.Given as goal
 
 abbrev pub invariant-loop-weak : goal.invariant-loop-weak

@@ -1,6 +1,4 @@
-use Rattle.std.proofs.Common.{◌≡◌, map, vec_capacity}
-use Rattle.nmgc_collector_laws.specs.Seen.{end_of}
-use Rattle.nmgc_cycle.specs.Shown.{seen_mutator}
+use Rattle.nmgc_cycle.proofs.Vocabulary.{◌≡◌, map, vec_capacity, end_of, seen_mutator}
 use Rattle.nmgc_cycle.proofs.collector.all_ends.Given as goal
 
 abbrev pub invariant-loop-mutator : goal.invariant-loop-mutator

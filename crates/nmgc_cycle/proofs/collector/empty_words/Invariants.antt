@@ -1,13 +1,4 @@
-use Rattle.std.proofs.Common.{◌≡◌, ℕ, ◌+◌, ◌<◌, ◌≤◌, ◌⊎◌, length, slice_index}
-use Rattle.nmgc_object.specs.declared.layout.TheConstants.{SHARED_PLACE}
-use Rattle.nmgc_object.specs.declared.size.TheConstants.{HEADER_WORDS}
-use Rattle.nmgc_object.specs.Words.{header_word, name_word}
-use Rattle.nmgc_limits.specs.declared.mutators.TheConstants.{SHARED_SLOTS}
-use Rattle.nmgc_world_spec.specs.Step.{shared_name}
-use Rattle.nmgc_heap_spec.specs.Shape.{header_of}
-use Rattle.nmgc_object.specs.declared.words.TheConstants.{NIL_WORD}
-use Rattle.nmgc_round.specs.Empty.{empty_array}
-use Rattle.nmgc_object.specs.Places.{word_total}
+use Rattle.nmgc_cycle.proofs.Vocabulary.{◌≡◌, ℕ, ◌+◌, ◌<◌, ◌≤◌, ◌⊎◌, length, slice_index, SHARED_PLACE, HEADER_WORDS, header_word, name_word, SHARED_SLOTS, shared_name, header_of, NIL_WORD, empty_array, word_total}
 use Rattle.nmgc_cycle.proofs.collector.empty_words.Given as goal
 
 abbrev pub invariant-loop-slot : goal.invariant-loop-slot

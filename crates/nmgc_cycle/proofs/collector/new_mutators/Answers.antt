@@ -1,15 +1,5 @@
-use Rattle.std.proofs.Common.{ℕ, ◌≡◌, ◌∙◌, arith, subst, sym, ap, List, [], ◌∷◌, ◌++◌, length, slice_get, Some}
-use Rattle.std.proofs.lemmas.Grind.{common_steps}
-use Rattle.nmgc_object.specs.declared.layout.Layout.{Layout}
-use Rattle.nmgc_mutator.specs.declared.mutator.Mutator.{Mutator}
-use Rattle.nmgc_mutator.specs.Ready.{IsNew, Reserves}
-use Rattle.nmgc_updrem.specs.Rings.{Sender, Receiver, AreNew}
-use Rattle.nmgc_updrem.specs.declared.ring.TheConstants.{RING_BLOCKS}
-use Rattle.nmgc_cycle.specs.Lined.{IsLined}
-use Rattle.nmgc_cycle.proofs.rounds.Lining.{lined_grown, lined_new}
-use Rattle.nmgc_cycle.proofs.starts.Lists.{each_pushed}
+use Rattle.nmgc_cycle.proofs.{Vocabulary.ℕ, Vocabulary.◌≡◌, Vocabulary.◌∙◌, Vocabulary.arith, Vocabulary.subst, Vocabulary.sym, Vocabulary.ap, Vocabulary.List, Vocabulary.[], Vocabulary.◌∷◌, Vocabulary.◌++◌, Vocabulary.length, Vocabulary.Some, Vocabulary.common_steps, Vocabulary.Layout, Vocabulary.Mutator, Vocabulary.IsNew, Vocabulary.Reserves, Vocabulary.Sender, Vocabulary.Receiver, Vocabulary.AreNew, Vocabulary.RING_BLOCKS, Vocabulary.IsLined, Vocabulary.reserved, Vocabulary.slice_get, rounds.Lining.lined_grown, rounds.Lining.lined_new, starts.Lists.each_pushed}
 use Rattle.nmgc_cycle.proofs.collector.new_mutators.Goals as goal
-use Rattle.nmgc_mutator.specs.laws.Common.{reserved}
 
 -- what the first so many mutators are, with the other ends of their rings
 record AreMade (layout : Layout) (mutators : List Mutator) (receivers : List Receiver) : Type 0 where

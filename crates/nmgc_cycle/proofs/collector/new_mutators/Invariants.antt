@@ -1,7 +1,4 @@
-use Rattle.std.proofs.Common.{◌≡◌, ℕ, [], length, slice_get, Some}
-use Rattle.nmgc_mutator.specs.declared.mutator.Mutator.{Mutator}
-use Rattle.nmgc_mutator.specs.Ready.{IsNew}
-use Rattle.nmgc_cycle.specs.Lined.{IsLined}
+use Rattle.nmgc_cycle.proofs.Vocabulary.{◌≡◌, ℕ, [], length, Some, Mutator, IsNew, IsLined, slice_get}
 use Rattle.nmgc_cycle.proofs.collector.new_mutators.Given as goal
 
 abbrev pub invariant-loop-number : goal.invariant-loop-number

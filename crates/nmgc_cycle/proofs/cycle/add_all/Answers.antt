@@ -1,11 +1,4 @@
-use Rattle.std.proofs.Common.{List, ℕ, ◌≡◌, take, get_or, sym, subst, ◌∙◌, arith}
-use Rattle.std.proofs.lemmas.Option.{slice_get-get_or, get_or_from_slice_get}
-use Rattle.nmgc_mutator.specs.declared.mutator.Mutator.{Mutator}
-use Rattle.nmgc_mutator.specs.Does.{remembered}
-use Rattle.nmgc_cycle.specs.Cycles.{HasAdded, remembered_by}
-use Rattle.nmgc_cycle.proofs.stops.Adding.{added_none, added_then, remembered_more}
-use Rattle.nmgc_cycle.proofs.stops.Forgetting.{any_then, forgot_after, forgot_enough, forgot_more, forgot_none}
-use Rattle.nmgc_lists.specs.laws.Items.{item}
+use Rattle.nmgc_cycle.proofs.{Vocabulary.List, Vocabulary.ℕ, Vocabulary.◌≡◌, Vocabulary.take, Vocabulary.get_or, Vocabulary.sym, Vocabulary.subst, Vocabulary.◌∙◌, Vocabulary.arith, Vocabulary.slice_get-get_or, Vocabulary.get_or_from_slice_get, Vocabulary.Mutator, Vocabulary.remembered, Vocabulary.HasAdded, Vocabulary.remembered_by, Vocabulary.item, stops.Adding.added_none, stops.Adding.added_then, stops.Adding.remembered_more, stops.Forgetting.any_then, stops.Forgetting.forgot_after, stops.Forgetting.forgot_enough, stops.Forgetting.forgot_more, stops.Forgetting.forgot_none}
 use Rattle.nmgc_cycle.proofs.cycle.add_all.Goals as goal
 
 pub loop-number-init : goal.loop-number-init

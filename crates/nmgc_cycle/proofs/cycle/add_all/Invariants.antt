@@ -1,6 +1,4 @@
-use Rattle.std.proofs.Common.{take}
-use Rattle.nmgc_cycle.specs.Cycles.{HasAdded, remembered_by}
-use Rattle.nmgc_cycle.specs.Lined.{HaveForgottenSoFar}
+use Rattle.nmgc_cycle.proofs.Vocabulary.{take, HasAdded, remembered_by, HaveForgottenSoFar}
 use Rattle.nmgc_cycle.proofs.cycle.add_all.Given as goal
 
 abbrev pub invariant-loop-number : goal.invariant-loop-number

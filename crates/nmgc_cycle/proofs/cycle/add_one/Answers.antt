@@ -1,6 +1,5 @@
 use Rattle.std.proofs.Common.{refl}
-use Rattle.nmgc_cycle.proofs.stops.Adding.{giving_none, giving_more, giving_paired, given_all, given_rest, given_took, given_paired}
-use Rattle.nmgc_cycle.proofs.stops.Forgetting.{fewer_wait}
+use Rattle.nmgc_cycle.proofs.{stops.Adding.giving_none, stops.Adding.giving_more, stops.Adding.giving_paired, stops.Adding.given_all, stops.Adding.given_rest, stops.Adding.given_took, stops.Adding.given_paired, stops.Forgetting.fewer_wait}
 use Rattle.nmgc_cycle.proofs.cycle.add_one.Goals as goal
 
 pub loop-block-init : goal.loop-block-init

@@ -1,6 +1,5 @@
 use Rattle.std.specs.Prelude.{slice_get}
-use Rattle.nmgc_cycle.proofs.stops.Adding.{IsGiving}
-use Rattle.nmgc_cycle.proofs.stops.Forgetting.{waiting_in}
+use Rattle.nmgc_cycle.proofs.{stops.Adding.IsGiving, stops.Forgetting.waiting_in}
 use Rattle.nmgc_cycle.proofs.cycle.add_one.Given as goal
 
 abbrev pub invariant-loop-block : goal.invariant-loop-block

@@ -1,8 +1,4 @@
-use Rattle.std.proofs.Common.{get_or, arith}
-use Rattle.std.proofs.lemmas.Option.{slice_get-get_or}
-use Rattle.nmgc_mutator.specs.declared.mutator.Mutator.{Mutator}
-use Rattle.nmgc_cycle.proofs.stops.Forgetting.{forgot_more, forgot_none}
-use Rattle.nmgc_cycle.proofs.rounds.Lining.{paired}
+use Rattle.nmgc_cycle.proofs.{Vocabulary.get_or, Vocabulary.arith, Vocabulary.slice_get-get_or, Vocabulary.Mutator, stops.Forgetting.forgot_more, stops.Forgetting.forgot_none, rounds.Lining.paired}
 use Rattle.nmgc_cycle.proofs.cycle.forget_all.Goals as goal
 
 pub loop-number-init : goal.loop-number-init

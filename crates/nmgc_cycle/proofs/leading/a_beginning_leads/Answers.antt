@@ -1,6 +1,4 @@
-use Rattle.nmgc_cycle.proofs.cycles.Beginning.{beginning_leads}
-use Rattle.nmgc_cycle.proofs.cycles.StartingLeads.{starting_leads}
-use Rattle.nmgc_cycle.proofs.cycles.StepReady.{begin_ready}
+use Rattle.nmgc_cycle.proofs.{cycles.Beginning.beginning_leads, cycles.StartingLeads.starting_leads, cycles.StepReady.begin_ready}
 use Rattle.nmgc_cycle.proofs.leading.a_beginning_leads.Goals as goal
 
 pub returns-clause-starting : goal.returns-clause-starting

@@ -1,6 +1,4 @@
-use Rattle.nmgc_cycle.proofs.cycles.Closing.{closing_leads}
-use Rattle.nmgc_cycle.proofs.cycles.FinishingLeads.{finishing_leads}
-use Rattle.nmgc_cycle.proofs.cycles.StepReady.{close_ready}
+use Rattle.nmgc_cycle.proofs.{cycles.Closing.closing_leads, cycles.FinishingLeads.finishing_leads, cycles.StepReady.close_ready}
 use Rattle.nmgc_cycle.proofs.leading.a_closing_leads.Goals as goal
 
 pub returns-clause-leads : goal.returns-clause-leads

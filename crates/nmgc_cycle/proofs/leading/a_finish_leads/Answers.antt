@@ -1,7 +1,4 @@
-use Rattle.nmgc_cycle.proofs.cycles.FinishingLeads.{finishing_now_leads}
-use Rattle.nmgc_cycle.proofs.cycles.FullCycle.{finish_leads}
-use Rattle.nmgc_cycle.proofs.cycles.StepReady.{close_now_ready}
-use Rattle.nmgc_cycle.proofs.cycles.SweepingRest.{sweeping_rest_leads, sweep_rest_ready}
+use Rattle.nmgc_cycle.proofs.{cycles.FinishingLeads.finishing_now_leads, cycles.FullCycle.finish_leads, cycles.StepReady.close_now_ready, cycles.SweepingRest.sweeping_rest_leads, cycles.SweepingRest.sweep_rest_ready}
 use Rattle.nmgc_cycle.proofs.leading.a_finish_leads.Goals as goal
 
 pub returns-clause-close_ready : goal.returns-clause-close_ready

@@ -1,5 +1,4 @@
-use Rattle.nmgc_cycle.proofs.cycles.Filing.{filing_leads}
-use Rattle.nmgc_cycle.proofs.cycles.FullCycle.{full_leads, proceeding_leads}
+use Rattle.nmgc_cycle.proofs.{cycles.Filing.filing_leads, cycles.FullCycle.full_leads, cycles.FullCycle.proceeding_leads}
 use Rattle.nmgc_cycle.proofs.leading.a_full_cycle_leads.Goals as goal
 
 pub returns-clause-filing : goal.returns-clause-filing

@@ -1,6 +1,4 @@
-use Rattle.std.proofs.Common.{map, take}
-use Rattle.nmgc_minor.specs.Placing.{moved_of}
-use Rattle.nmgc_sweep.specs.Names.{HaveNoted}
+use Rattle.nmgc_cycle.proofs.Vocabulary.{map, take, moved_of, HaveNoted}
 use Rattle.nmgc_cycle.proofs.names.note_moves.Given as goal
 
 abbrev pub invariant-loop-moved : goal.invariant-loop-moved

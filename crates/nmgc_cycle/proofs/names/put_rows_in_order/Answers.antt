@@ -1,9 +1,4 @@
-use Rattle.std.proofs.Common.{◌∙◌, ap, set, subst, sym}
-use Rattle.std.proofs.lemmas.List.Edits.{map_over_more}
-use Rattle.std.proofs.lemmas.List.Elements.{All-get_or}
-use Rattle.nmgc_journal.specs.declared.report.CycleRow.{CycleRow}
-use Rattle.nmgc_cycle.specs.Shown.{told_row, HasNamesOnce}
-use Rattle.nmgc_cycle.proofs.stops.Censuses.{still_there}
+use Rattle.nmgc_cycle.proofs.{Vocabulary.◌∙◌, Vocabulary.ap, Vocabulary.set, Vocabulary.subst, Vocabulary.sym, Vocabulary.map_over_more, Vocabulary.All-get_or, Vocabulary.CycleRow, Vocabulary.told_row, Vocabulary.HasNamesOnce, stops.Censuses.still_there}
 use Rattle.nmgc_cycle.proofs.names.put_rows_in_order.Goals as goal
 
 pub put_row_in_order-requires : goal.put_row_in_order-requires

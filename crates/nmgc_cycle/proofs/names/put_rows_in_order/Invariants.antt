@@ -1,5 +1,4 @@
-use Rattle.std.proofs.Common.{◌≡◌, ◌++◌, map, take, drop}
-use Rattle.nmgc_cycle.specs.Shown.{told_row}
+use Rattle.nmgc_cycle.proofs.Vocabulary.{◌≡◌, ◌++◌, map, take, drop, told_row}
 use Rattle.nmgc_cycle.proofs.names.put_rows_in_order.Given as goal
 
 abbrev pub invariant-loop-row : goal.invariant-loop-row

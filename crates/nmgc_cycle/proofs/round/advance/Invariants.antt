@@ -1,5 +1,4 @@
-use Rattle.std.proofs.Common.{◌≡◌, ℕ, ◌+◌, ◌<◌, ◌≤◌, length, map, slice_index}
-use Rattle.nmgc_cycle.specs.Working.{done_by}
+use Rattle.nmgc_cycle.proofs.Vocabulary.{◌≡◌, ℕ, ◌+◌, ◌<◌, ◌≤◌, length, map, slice_index, done_by}
 use Rattle.nmgc_cycle.proofs.round.advance.Given as goal
 
 abbrev pub invariant-loop-number : goal.invariant-loop-number

@@ -1,7 +1,4 @@
-use Rattle.std.proofs.Common.{get_or, arith}
-use Rattle.std.proofs.lemmas.Option.{slice_get-get_or}
-use Rattle.nmgc_mutator.specs.declared.mutator.Mutator.{Mutator}
-use Rattle.nmgc_cycle.proofs.rounds.Meeting.{met_none, met_more}
+use Rattle.nmgc_cycle.proofs.{Vocabulary.get_or, Vocabulary.arith, Vocabulary.slice_get-get_or, Vocabulary.Mutator, rounds.Meeting.met_none, rounds.Meeting.met_more}
 use Rattle.nmgc_cycle.proofs.round.meet_each.Goals as goal
 
 pub loop-number-init : goal.loop-number-init

@@ -1,7 +1,4 @@
-use Rattle.std.proofs.Common.{ℕ, ◌≡◌, List, length, min, get_or, subst, sym, ap, ◌∙◌, arith}
-use Rattle.nmgc_world_spec.specs.declared.command.Command.{Command}
-use Rattle.nmgc_cycle.specs.Working.{left_at, HasLists}
-use Rattle.nmgc_cycle.proofs.rounds.Reserving.{slice_left, kept_more, room_more, after_more}
+use Rattle.nmgc_cycle.proofs.{Vocabulary.ℕ, Vocabulary.◌≡◌, Vocabulary.List, Vocabulary.length, Vocabulary.min, Vocabulary.get_or, Vocabulary.subst, Vocabulary.sym, Vocabulary.ap, Vocabulary.◌∙◌, Vocabulary.arith, Vocabulary.Command, Vocabulary.left_at, Vocabulary.HasLists, rounds.Reserving.slice_left, rounds.Reserving.kept_more, rounds.Reserving.room_more, rounds.Reserving.after_more}
 use Rattle.nmgc_cycle.proofs.round.reserve_all.Goals as goal
 
 pub loop-number-preserved : goal.loop-number-preserved

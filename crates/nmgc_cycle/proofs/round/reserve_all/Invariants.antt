@@ -1,7 +1,4 @@
-use Rattle.std.proofs.Common.{◌≡◌, ℕ, ◌<◌, ◌≤◌, length, min, slice_index_or}
-use Rattle.nmgc_mutator.specs.declared.mutator.Mutator.{Mutator}
-use Rattle.nmgc_mutator.specs.Ready.{Reserves}
-use Rattle.nmgc_cycle.specs.Working.{left_at, HasLists}
+use Rattle.nmgc_cycle.proofs.Vocabulary.{◌≡◌, ℕ, ◌<◌, ◌≤◌, length, min, slice_index_or, Mutator, Reserves, left_at, HasLists}
 use Rattle.nmgc_cycle.proofs.round.reserve_all.Given as goal
 
 abbrev pub invariant-loop-number : goal.invariant-loop-number

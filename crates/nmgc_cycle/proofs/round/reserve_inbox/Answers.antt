@@ -1,11 +1,4 @@
-use Rattle.std.proofs.Common.{ℕ, ◌≡◌, ◌*◌, ◌≤◌, ◌∙◌, List, length, min, get_or, refl, subst, sym, ap, arith}
-use Rattle.nmgc_world_spec.specs.declared.command.Command.{Command}
-use Rattle.nmgc_updrem.specs.laws.Polls.{polled_all_none, polled_all_then}
-use Rattle.nmgc_cycle.specs.Working.{in_blocks, left_at}
-use Rattle.nmgc_mutator.specs.declared.mutator.TheConstants.{MOST_PUSHED}
-use Rattle.nmgc_cycle.proofs.rounds.InboxRoom.{inbox_more}
-use Rattle.nmgc_cycle.proofs.rounds.Lining.{all_reserved}
-use Rattle.nmgc_cycle.proofs.rounds.Reserving.{slice_left}
+use Rattle.nmgc_cycle.proofs.{Vocabulary.ℕ, Vocabulary.◌≡◌, Vocabulary.◌*◌, Vocabulary.◌≤◌, Vocabulary.◌∙◌, Vocabulary.List, Vocabulary.length, Vocabulary.min, Vocabulary.get_or, Vocabulary.refl, Vocabulary.subst, Vocabulary.sym, Vocabulary.ap, Vocabulary.arith, Vocabulary.Command, Vocabulary.polled_all_none, Vocabulary.polled_all_then, Vocabulary.in_blocks, Vocabulary.left_at, Vocabulary.MOST_PUSHED, rounds.InboxRoom.inbox_more, rounds.Lining.all_reserved, rounds.Reserving.slice_left}
 use Rattle.nmgc_cycle.proofs.round.reserve_inbox.Goals as goal
 
 pub loop-number-init : goal.loop-number-init

@@ -1,8 +1,4 @@
-use Rattle.std.proofs.Common.{◌≡◌, ℕ, ◌*◌, ◌<◌, ◌≤◌, length, min, Some}
-use Rattle.std.specs.Prelude.{slice_get}
-use Rattle.nmgc_updrem.specs.Rings.{Receiver, HavePolled}
-use Rattle.nmgc_cycle.specs.Working.{in_blocks, left_at}
-use Rattle.nmgc_mutator.specs.declared.mutator.TheConstants.{MOST_PUSHED}
+use Rattle.nmgc_cycle.proofs.Vocabulary.{◌≡◌, ℕ, ◌*◌, ◌<◌, ◌≤◌, length, min, Some, slice_get, Receiver, HavePolled, in_blocks, left_at, MOST_PUSHED}
 use Rattle.nmgc_cycle.proofs.round.reserve_inbox.Given as goal
 
 abbrev pub invariant-loop-number : goal.invariant-loop-number

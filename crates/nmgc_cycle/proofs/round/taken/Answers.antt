@@ -1,7 +1,4 @@
-use Rattle.std.proofs.Common.{◌∙◌, List, [], ◌∷◌, ◌++◌, ap, set}
-use Rattle.nmgc_world_spec.specs.declared.command.Reply.{Reply}
-use Rattle.nmgc_mutator.specs.declared.mutator.Mutator.{Mutator}
-use Rattle.nmgc_cycle.proofs.rounds.Taking.{taken_more}
+use Rattle.nmgc_cycle.proofs.{Vocabulary.◌∙◌, Vocabulary.List, Vocabulary.[], Vocabulary.◌∷◌, Vocabulary.◌++◌, Vocabulary.ap, Vocabulary.set, Vocabulary.Reply, Vocabulary.Mutator, rounds.Taking.taken_more}
 use Rattle.nmgc_cycle.proofs.round.taken.Goals as goal
 
 pub loop-mutator-preserved : goal.loop-mutator-preserved

@@ -1,5 +1,4 @@
-use Rattle.std.proofs.Common.{◌≡◌, ◌++◌, map, take, drop}
-use Rattle.nmgc_cycle.specs.Working.{cleared, replies_of}
+use Rattle.nmgc_cycle.proofs.Vocabulary.{◌≡◌, ◌++◌, map, take, drop, cleared, replies_of}
 use Rattle.nmgc_cycle.proofs.round.taken.Given as goal
 
 abbrev pub invariant-loop-mutator : goal.invariant-loop-mutator

@@ -1,6 +1,4 @@
-use Rattle.std.proofs.Common.{length, get_or, ap, arith}
-use Rattle.std.proofs.lemmas.List.Elements.{Contains-get_or}
-use Rattle.nmgc_minor.specs.declared.placing.Move.{Move}
+use Rattle.nmgc_cycle.proofs.Vocabulary.{length, get_or, ap, arith, Contains-get_or, Move}
 use Rattle.nmgc_cycle.proofs.weaks.gather_moved.Goals as goal
 
 -- what stands for a move where there is none

@@ -1,5 +1,4 @@
-use Rattle.std.proofs.Common.{◌≡◌, take}
-use Rattle.nmgc_cycle.specs.Listed.{moved_weaks}
+use Rattle.nmgc_cycle.proofs.Vocabulary.{◌≡◌, take, moved_weaks}
 use Rattle.nmgc_cycle.proofs.weaks.gather_moved.Given as goal
 
 abbrev pub invariant-loop-moved : goal.invariant-loop-moved

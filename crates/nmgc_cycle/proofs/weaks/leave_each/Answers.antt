@@ -1,13 +1,5 @@
-use Rattle.std.proofs.Common.{ℕ, ◌≡◌, ◌+◌, ◌<◌, List, [], ◌∷◌, ◌++◌, length, slice_index, take, get_or, refl, sym, ap, subst, ◌∙◌, arith}
-use Rattle.std.specs.Prelude.{Contains}
-use Rattle.std.proofs.lemmas.List.{map-append, take_all, take_more}
-use Rattle.std.proofs.lemmas.List.Elements.{Contains-get_or}
-use Rattle.nmgc_object.specs.declared.size.TheConstants.{NAME_OFFSET}
-use Rattle.nmgc_object.specs.declared.words.Address.{Address}
-use Rattle.nmgc_mutator.specs.Records.{numbers}
-use Rattle.nmgc_weak.specs.Rows.{left_at, left_of}
-use Rattle.nmgc_weak.specs.laws.Left.{left_had, left_more}
-use Rattle.nmgc_weak.specs.declared.weaks.OldWeak.{OldWeak}
+use Rattle.nmgc_cycle.proofs.Vocabulary.{ℕ, ◌≡◌, ◌+◌, ◌<◌, List, [], ◌∷◌, ◌++◌, length, slice_index, take, get_or, refl, sym, ap, subst, ◌∙◌, arith, Contains, map-append, take_all, take_more, Contains-get_or, NAME_OFFSET, Address, numbers, left_of, left_had, left_more, OldWeak}
+use Rattle.nmgc_weak.specs.Rows.{left_at}
 use Rattle.nmgc_cycle.proofs.weaks.leave_each.Goals as goal
 
 abbrev nowhere : Address

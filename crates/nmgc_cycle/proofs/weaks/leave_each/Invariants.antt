@@ -1,6 +1,4 @@
-use Rattle.std.proofs.Common.{◌≡◌, take}
-use Rattle.nmgc_mutator.specs.Records.{numbers}
-use Rattle.nmgc_weak.specs.Rows.{left_of}
+use Rattle.nmgc_cycle.proofs.Vocabulary.{◌≡◌, take, numbers, left_of}
 use Rattle.nmgc_cycle.proofs.weaks.leave_each.Given as goal
 
 abbrev pub invariant-loop-at : goal.invariant-loop-at

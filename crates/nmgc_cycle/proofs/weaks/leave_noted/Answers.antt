@@ -1,17 +1,4 @@
-use Rattle.std.proofs.Common.{ℕ, ◌≡◌, ◌+◌, ◌<◌, List, [], ◌∷◌, ◌++◌, length, slice_index, take, get_or, append-nil, refl, sym, ap, subst, ◌∙◌, arith}
-use Rattle.std.specs.Prelude.{Contains}
-use Rattle.std.proofs.lemmas.Grind.{flat_map-append}
-use Rattle.std.proofs.lemmas.List.{take_all, take_more}
-use Rattle.std.proofs.lemmas.List.Elements.{Contains-get_or}
-use Rattle.nmgc_lists.specs.laws.Items.{contains_flat, contains_map}
-use Rattle.nmgc_object.specs.declared.size.TheConstants.{NAME_OFFSET}
-use Rattle.nmgc_object.specs.declared.words.Address.{Address}
-use Rattle.nmgc_mutator.specs.declared.mutator.Mutator.{Mutator}
-use Rattle.nmgc_mutator.specs.Records.{numbers}
-use Rattle.nmgc_collector_laws.specs.Worked.{finalised_of}
-use Rattle.nmgc_weak.specs.Rows.{left_of}
-use Rattle.nmgc_weak.specs.laws.Left.{left_both, left_had, left_is_alive}
-use Rattle.nmgc_weak.specs.declared.weaks.OldWeak.{OldWeak}
+use Rattle.nmgc_cycle.proofs.Vocabulary.{ℕ, ◌≡◌, ◌+◌, ◌<◌, List, [], ◌∷◌, ◌++◌, length, slice_index, take, get_or, append-nil, refl, sym, ap, subst, ◌∙◌, arith, Contains, flat_map-append, take_all, take_more, Contains-get_or, contains_flat, contains_map, NAME_OFFSET, Address, Mutator, numbers, finalised_of, left_of, left_both, left_had, left_is_alive, OldWeak}
 use Rattle.nmgc_cycle.proofs.weaks.leave_noted.Goals as goal
 
 -- what the first ones noted, with one more

@@ -1,6 +1,4 @@
-use Rattle.std.proofs.Common.{◌≡◌, take}
-use Rattle.nmgc_collector_laws.specs.Worked.{finalised_of}
-use Rattle.nmgc_weak.specs.Rows.{left_of}
+use Rattle.nmgc_cycle.proofs.Vocabulary.{◌≡◌, take, finalised_of, left_of}
 use Rattle.nmgc_cycle.proofs.weaks.leave_noted.Given as goal
 
 abbrev pub invariant-loop-mutator : goal.invariant-loop-mutator

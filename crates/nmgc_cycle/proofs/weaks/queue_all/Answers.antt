@@ -1,12 +1,5 @@
-use Rattle.std.proofs.Common.{◌≡◌, List, ap, sym, ◌∙◌, Some}
-use Rattle.std.specs.Prelude.{slice_get}
+use Rattle.nmgc_cycle.proofs.Vocabulary.{◌≡◌, List, ap, sym, ◌∙◌, Some, slice_get, length-map, get_or_from_slice_get, slice_get-map, Mutator, FinQueue, no_queue, queues_in}
 use Rattle.std.specs.Option.{option_map}
-use Rattle.std.proofs.lemmas.List.{length-map}
-use Rattle.std.proofs.lemmas.Option.{get_or_from_slice_get, slice_get-map}
-use Rattle.nmgc_mutator.specs.declared.mutator.Mutator.{Mutator}
-use Rattle.nmgc_object.specs.FinQueue.{FinQueue}
-use Rattle.nmgc_cycle.specs.Listed.{no_queue}
-use Rattle.nmgc_cycle.specs.Roots.{queues_in}
 use Rattle.nmgc_cycle.proofs.weaks.queue_all.Goals as goal
 
 abbrev own : Mutator → FinQueue

@@ -1,5 +1,4 @@
-use Rattle.std.proofs.Common.{refl, arith}
-use Rattle.std.proofs.lemmas.Result.{on_ok_weaker}
+use Rattle.nmgc_cycle.proofs.Vocabulary.{refl, arith, on_ok_weaker}
 use Rattle.nmgc_cycle.proofs.weaks.reserve_queue.Goals as goal
 
 -- the number is that of the row, and no less than those that it made

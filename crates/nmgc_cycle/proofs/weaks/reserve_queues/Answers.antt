@@ -1,8 +1,4 @@
-use Rattle.std.proofs.Common.{ℕ, ◌≡◌, ◌<◌, List, length, get_or, sym, subst, arith}
-use Rattle.nmgc_mutator.specs.declared.mutator.Mutator.{Mutator}
-use Rattle.nmgc_cycle.specs.Listed.{HasQueueRoom, count_made_by}
-use Rattle.nmgc_cycle.proofs.cycles.QueueLists.{room_more}
-use Rattle.nmgc_cycle.proofs.rounds.Reserving.{after_more}
+use Rattle.nmgc_cycle.proofs.{Vocabulary.ℕ, Vocabulary.◌≡◌, Vocabulary.◌<◌, Vocabulary.List, Vocabulary.length, Vocabulary.get_or, Vocabulary.sym, Vocabulary.subst, Vocabulary.arith, Vocabulary.Mutator, Vocabulary.HasQueueRoom, Vocabulary.count_made_by, cycles.QueueLists.room_more, rounds.Reserving.after_more}
 use Rattle.nmgc_cycle.proofs.weaks.reserve_queues.Goals as goal
 
 pub loop-mutator-preserved : goal.loop-mutator-preserved

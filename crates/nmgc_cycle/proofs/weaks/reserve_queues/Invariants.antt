@@ -1,6 +1,4 @@
-use Rattle.std.proofs.Common.{◌≡◌, ◌<◌, ◌≤◌, ℕ, slice_index_or}
-use Rattle.nmgc_mutator.specs.declared.mutator.Mutator.{Mutator}
-use Rattle.nmgc_cycle.specs.Listed.{HasQueueRoom, count_made_by}
+use Rattle.nmgc_cycle.proofs.Vocabulary.{◌≡◌, ◌<◌, ◌≤◌, ℕ, slice_index_or, Mutator, HasQueueRoom, count_made_by}
 use Rattle.nmgc_cycle.proofs.weaks.reserve_queues.Given as goal
 
 abbrev pub invariant-loop-mutator : goal.invariant-loop-mutator

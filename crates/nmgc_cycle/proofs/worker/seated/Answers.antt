@@ -1,9 +1,4 @@
-use Rattle.std.proofs.Common.{◌≡◌, List, [], ◌∷◌, ◌++◌, length, ap, sym, ◌∙◌, append_assoc, append-nil, arith}
-use Rattle.std.proofs.lemmas.List.{nil_from_length}
-use Rattle.nmgc_round.specs.Seat.{RoundSeat}
-use Rattle.nmgc_mutator.specs.declared.mutator.Mutator.{Mutator}
-use Rattle.nmgc_cycle.specs.declared.worker.Worker.{Worker}
-use Rattle.nmgc_cycle.specs.Working.{worker_of, workers_of}
+use Rattle.nmgc_cycle.proofs.Vocabulary.{◌≡◌, List, [], ◌∷◌, ◌++◌, length, ap, sym, ◌∙◌, append_assoc, append-nil, arith, nil_from_length, RoundSeat, Mutator, Worker, worker_of, workers_of}
 use Rattle.nmgc_cycle.proofs.worker.seated.Goals as goal
 
 -- the workers so far, with those that the mutators and seats that are left make

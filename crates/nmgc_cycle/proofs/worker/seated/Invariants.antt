@@ -1,6 +1,4 @@
-use Rattle.std.proofs.Common.{◌≡◌, ◌+◌, ◌≤◌, ◌++◌, length, vec_len, vec_capacity}
-use Rattle.std.specs.VecDeque.{deque_len, deque_capacity}
-use Rattle.nmgc_cycle.specs.Working.{workers_of}
+use Rattle.nmgc_cycle.proofs.Vocabulary.{◌≡◌, ◌+◌, ◌≤◌, ◌++◌, length, vec_len, vec_capacity, deque_len, deque_capacity, workers_of}
 use Rattle.nmgc_cycle.proofs.worker.seated.Given as goal
 
 -- there is a seat for each mutator that is left, and those before are workers

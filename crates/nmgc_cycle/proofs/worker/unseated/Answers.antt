@@ -1,7 +1,4 @@
-use Rattle.std.proofs.Common.{◌≡◌, List, [], ◌∷◌, ◌++◌, map, ap, sym, ◌∙◌, append_assoc, append-nil, arith}
-use Rattle.std.proofs.lemmas.List.{nil_from_length}
-use Rattle.nmgc_cycle.specs.declared.worker.Worker.{Worker}
-use Rattle.nmgc_cycle.specs.Working.{mutator_of, seat_of}
+use Rattle.nmgc_cycle.proofs.Vocabulary.{◌≡◌, List, [], ◌∷◌, ◌++◌, map, ap, sym, ◌∙◌, append_assoc, append-nil, arith, nil_from_length, Worker, mutator_of, seat_of}
 use Rattle.nmgc_cycle.proofs.worker.unseated.Goals as goal
 
 -- what was taken out so far, with what is left

@@ -1,6 +1,4 @@
-use Rattle.std.proofs.Common.{◌≡◌, ◌+◌, ◌≤◌, ◌++◌, map, vec_len, vec_capacity}
-use Rattle.std.specs.VecDeque.{deque_len, deque_capacity}
-use Rattle.nmgc_cycle.specs.Working.{mutator_of, seat_of}
+use Rattle.nmgc_cycle.proofs.Vocabulary.{◌≡◌, ◌+◌, ◌≤◌, ◌++◌, map, vec_len, vec_capacity, deque_len, deque_capacity, mutator_of, seat_of}
 use Rattle.nmgc_cycle.proofs.worker.unseated.Given as goal
 
 -- what the workers before had is in the lists, and these have room for what is left

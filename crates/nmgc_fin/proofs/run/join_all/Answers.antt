@@ -1,13 +1,4 @@
-use Rattle.std.proofs.Common.{rules, ◌≡◌, ◌+◌, List, [], ◌∷◌, ◌++◌, length, ap, sym, ◌∙◌, append_assoc, append-nil, arith}
-use Rattle.std.specs.Vec.Iter.{into_iter_items}
-use Rattle.nmgc_fin.specs.declared.job.Job.{Job}
-use Rattle.nmgc_fin.specs.declared.hand.Hand.{Hand}
-use Rattle.nmgc_fin.specs.declared.worker.Worker.{Worker}
-use Rattle.nmgc_fin.specs.Rule.{hand}
-use Rattle.nmgc_fin.specs.Handles.{joined}
-use Rattle.nmgc_fin.specs.Worker.{lists_of}
-use Rattle.nmgc_fin.proofs.Rules.{merges}
-use Rattle.nmgc_fin.proofs.Gathered.{lists_more, client_more, comes_at, worker_at, none_left}
+use Rattle.nmgc_fin.proofs.{Vocabulary.rules, Vocabulary.◌≡◌, Vocabulary.◌+◌, Vocabulary.List, Vocabulary.[], Vocabulary.◌∷◌, Vocabulary.◌++◌, Vocabulary.length, Vocabulary.ap, Vocabulary.sym, Vocabulary.◌∙◌, Vocabulary.append_assoc, Vocabulary.append-nil, Vocabulary.arith, Vocabulary.into_iter_items, Vocabulary.Job, Vocabulary.Hand, Vocabulary.Worker, Vocabulary.hand, Vocabulary.joined, Vocabulary.lists_of, Rules.merges, Gathered.lists_more, Gathered.client_more, Gathered.comes_at, Gathered.worker_at, Gathered.none_left}
 use Rattle.nmgc_fin.proofs.run.join_all.Goals as goal
 
 pub absorb-requires-clause-queue : goal.absorb-requires-clause-queue

@@ -1,10 +1,4 @@
-use Rattle.std.proofs.Common.{rules, ◌≡◌, ◌+◌, ℕ, List, [], ◌∷◌, ◌++◌, length, map, refl, sym, ap, subst, ◌∙◌, arith, length-append}
-use Rattle.std.specs.Prelude.{is_ok, Bool, true, if◌then◌else◌}
-use Rattle.nmgc_world_spec.specs.declared.value.Name.{Name}
-use Rattle.nmgc_fin.specs.declared.job.Job.{Job}
-use Rattle.nmgc_fin.specs.Handles.{AreNumbered}
-use Rattle.nmgc_fin.specs.Jobs.{lines_of, NamesOf, weak_of}
-use Rattle.nmgc_fin.proofs.Lines.{names_other, names_dead, lines_on, weak_more, numbered_more}
+use Rattle.nmgc_fin.proofs.{Vocabulary.rules, Vocabulary.◌≡◌, Vocabulary.◌+◌, Vocabulary.ℕ, Vocabulary.List, Vocabulary.[], Vocabulary.◌∷◌, Vocabulary.◌++◌, Vocabulary.length, Vocabulary.map, Vocabulary.refl, Vocabulary.sym, Vocabulary.ap, Vocabulary.subst, Vocabulary.◌∙◌, Vocabulary.arith, Vocabulary.length-append, Vocabulary.is_ok, Vocabulary.Bool, Vocabulary.true, Vocabulary.if◌then◌else◌, Vocabulary.Name, Vocabulary.Job, Vocabulary.AreNumbered, Vocabulary.lines_of, Vocabulary.NamesOf, Vocabulary.weak_of, Lines.names_other, Lines.names_dead, Lines.lines_on, Lines.weak_more, Lines.numbered_more}
 use Rattle.nmgc_fin.proofs.text.jobs.Goals as goal
 
 pub loop-line-init : goal.loop-line-init

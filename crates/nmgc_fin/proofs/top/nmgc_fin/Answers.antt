@@ -1,8 +1,4 @@
-use Rattle.std.proofs.Common.{map, Global, ℕ, List, subst, sym}
-use Rattle.std.specs.Prelude.{string_bytes}
-use Rattle.nmgc_io.specs.Counts.{Rose}
-use Rattle.nmgc_fin.specs.Program.{Says}
-use Rattle.nmgc_fin.proofs.Telling.{completes}
+use Rattle.nmgc_fin.proofs.{Vocabulary.map, Vocabulary.Global, Vocabulary.ℕ, Vocabulary.List, Vocabulary.subst, Vocabulary.sym, Vocabulary.string_bytes, Vocabulary.Rose, Vocabulary.Says, Telling.completes}
 use Rattle.nmgc_fin.proofs.top.nmgc_fin.Goals as goal
 
 pub returns-clause-complete : goal.returns-clause-complete

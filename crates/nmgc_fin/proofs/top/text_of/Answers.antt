@@ -1,7 +1,4 @@
-use Rattle.std.proofs.Common.{◌≡◌, ◌∙◌, ap, length}
-use Rattle.std.proofs.lemmas.Result.{IfOk-weaker}
-use Rattle.nmgc_fin.specs.Order.{jobs_text}
-use Rattle.nmgc_fin.proofs.Ordered.{handled_within, handled_alike, are_done}
+use Rattle.nmgc_fin.proofs.{Vocabulary.◌≡◌, Vocabulary.◌∙◌, Vocabulary.ap, Vocabulary.length, Vocabulary.IfOk-weaker, Vocabulary.jobs_text, Ordered.handled_within, Ordered.handled_alike, Ordered.are_done}
 use Rattle.nmgc_fin.proofs.top.text_of.Goals as goal
 
 pub in_order-requires-clause-within : goal.in_order-requires-clause-within

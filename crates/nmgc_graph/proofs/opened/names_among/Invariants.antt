@@ -1,5 +1,4 @@
-use Rattle.std.proofs.Common.{◌≡◌, take}
-use Rattle.nmgc_world_spec.specs.Owed.{names_among}
+use Rattle.nmgc_graph.proofs.Vocabulary.{◌≡◌, take, names_among}
 use Rattle.nmgc_graph.proofs.opened.names_among.Given as goal
 
 abbrev pub invariant-loop-value : goal.invariant-loop-value

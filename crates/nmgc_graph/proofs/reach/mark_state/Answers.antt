@@ -1,6 +1,4 @@
-use Rattle.nmgc_graph.specs.Marks.{IsPlaced}
-use Rattle.nmgc_graph.proofs.Searches.{placed_after}
-use Rattle.nmgc_lists.specs.laws.Items.{all_front, all_back}
+use Rattle.nmgc_graph.proofs.{Vocabulary.IsPlaced, Vocabulary.all_front, Vocabulary.all_back, Searches.placed_after}
 use Rattle.nmgc_graph.proofs.reach.mark_state.Goals as goal
 
 pub mark_values-requires-2 : goal.mark_values-requires-2

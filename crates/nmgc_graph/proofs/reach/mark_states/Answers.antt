@@ -1,11 +1,4 @@
-use Rattle.std.proofs.Common.{take, sym, subst}
-use Rattle.std.specs.Prelude.{All, flat_map}
-use Rattle.std.proofs.lemmas.List.Elements.{All-get_or, All-take}
-use Rattle.nmgc_world_spec.specs.declared.mutator_state.MutatorState.{MutatorState}
-use Rattle.nmgc_graph.specs.Marks.{IsPlaced}
-use Rattle.nmgc_graph.specs.Search.{values_held}
-use Rattle.nmgc_graph.proofs.Searches.{placed_after}
-use Rattle.nmgc_graph.proofs.Lives.{All-flat_map}
+use Rattle.nmgc_graph.proofs.{Vocabulary.take, Vocabulary.sym, Vocabulary.subst, Vocabulary.All, Vocabulary.flat_map, Vocabulary.All-get_or, Vocabulary.All-take, Vocabulary.MutatorState, Vocabulary.IsPlaced, Vocabulary.values_held, Searches.placed_after, Lives.All-flat_map}
 use Rattle.nmgc_graph.proofs.reach.mark_states.Goals as goal
 
 pub mark_state-requires : goal.mark_state-requires

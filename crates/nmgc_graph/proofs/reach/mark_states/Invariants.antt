@@ -1,6 +1,4 @@
-use Rattle.std.proofs.Common.{◌≡◌, take}
-use Rattle.std.specs.Prelude.{flat_map}
-use Rattle.nmgc_graph.specs.Search.{with_values, values_held}
+use Rattle.nmgc_graph.proofs.Vocabulary.{◌≡◌, take, flat_map, with_values, values_held}
 use Rattle.nmgc_graph.proofs.reach.mark_states.Given as goal
 
 abbrev pub invariant-loop-state : goal.invariant-loop-state

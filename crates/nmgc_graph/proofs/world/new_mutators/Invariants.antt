@@ -1,5 +1,4 @@
-use Rattle.std.proofs.Common.{◌≡◌, replicate}
-use Rattle.nmgc_world_spec.specs.World.{new_mutator}
+use Rattle.nmgc_graph.proofs.Vocabulary.{◌≡◌, replicate, new_mutator}
 use Rattle.nmgc_graph.proofs.world.new_mutators.Given as goal
 
 abbrev pub invariant-loop : goal.invariant-loop

@@ -1,5 +1,4 @@
-use Rattle.std.proofs.Common.{◌≡◌, map, take}
-use Rattle.nmgc_world_spec.specs.Step.{value_of}
+use Rattle.nmgc_graph.proofs.Vocabulary.{◌≡◌, map, take, value_of}
 use Rattle.nmgc_graph.proofs.world.values_at.Given as goal
 
 -- the values so far are those of the operands so far

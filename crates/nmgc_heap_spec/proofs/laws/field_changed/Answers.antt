@@ -1,5 +1,4 @@
-use Rattle.nmgc_heap_spec.specs.laws.Changes.{field_changed}
-use Rattle.nmgc_heap_spec.specs.laws.NodeChanges.{changed_one}
+use Rattle.nmgc_heap_spec.proofs.Vocabulary.{field_changed, changed_one}
 use Rattle.nmgc_heap_spec.proofs.laws.field_changed.Goals as goal
 
 pub returns : goal.returns

@@ -1,5 +1,4 @@
-use Rattle.nmgc_heap_spec.specs.laws.Moving.{represents_moved}
-use Rattle.nmgc_heap_spec.specs.laws.Roots.{roots_moved}
+use Rattle.nmgc_heap_spec.proofs.Vocabulary.{represents_moved, roots_moved}
 use Rattle.nmgc_heap_spec.proofs.laws.objects_moved.Goals as goal
 
 pub returns : goal.returns

@@ -1,6 +1,4 @@
-use Rattle.nmgc_heap_spec.specs.laws.Meanings.{one_at, above_zero, one_value, value_is_set}
-use Rattle.std.specs.Prelude.{Contains}
-use Rattle.std.proofs.Common.{inl}
+use Rattle.nmgc_heap_spec.proofs.Vocabulary.{one_at, above_zero, one_value, value_is_set, Contains, inl}
 use Rattle.nmgc_heap_spec.proofs.laws.one_meaning.Goals as goal
 
 pub returns : goal.returns

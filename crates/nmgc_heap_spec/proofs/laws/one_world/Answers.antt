@@ -1,5 +1,4 @@
-use Rattle.nmgc_heap_spec.specs.laws.Meanings.{one_world}
-use Rattle.nmgc_heap_spec.specs.laws.Roots.{same_reach}
+use Rattle.nmgc_heap_spec.proofs.Vocabulary.{one_world, same_reach}
 use Rattle.nmgc_heap_spec.proofs.laws.one_world.Goals as goal
 
 pub returns : goal.returns

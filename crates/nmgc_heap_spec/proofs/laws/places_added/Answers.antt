@@ -1,5 +1,4 @@
-use Rattle.nmgc_heap_spec.specs.laws.Changes.{places_added}
-use Rattle.nmgc_heap_spec.specs.laws.Roots.{roots_added}
+use Rattle.nmgc_heap_spec.proofs.Vocabulary.{places_added, roots_added}
 use Rattle.nmgc_heap_spec.proofs.laws.places_added.Goals as goal
 
 pub returns : goal.returns

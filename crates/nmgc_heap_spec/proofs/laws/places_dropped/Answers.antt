@@ -1,5 +1,4 @@
-use Rattle.nmgc_heap_spec.specs.laws.Changes.{places_dropped, agreeing}
-use Rattle.nmgc_heap_spec.specs.laws.Roots.{roots_dropped}
+use Rattle.nmgc_heap_spec.proofs.Vocabulary.{places_dropped, agreeing, roots_dropped}
 use Rattle.nmgc_heap_spec.proofs.laws.places_dropped.Goals as goal
 
 pub returns : goal.returns

@@ -1,4 +1,4 @@
-use Rattle.nmgc_heap_spec.proofs.SmallHeaps.{words_are_told, no_second_place}
+use Rattle.nmgc_heap_spec.proofs.SmallHeap.{words_are_told, no_second_place}
 use Rattle.nmgc_heap_spec.proofs.laws.wrong_words.Goals as goal
 
 pub returns : goal.returns

@@ -1,6 +1,4 @@
-use Rattle.std.proofs.Common.{sym, eqb}
-use Rattle.std.proofs.lemmas.List.Sorted.{IsNonDecreasingBy-from_sort, list_any-IsPermutation}
-use Rattle.nmgc_image.specs.Reading.{key_of}
+use Rattle.nmgc_image.proofs.Vocabulary.{sym, eqb, IsNonDecreasingBy-from_sort, list_any-IsPermutation, key_of}
 use Rattle.nmgc_image.proofs.declared.in_order.Goals as goal
 
 pub invariant_of-result : goal.invariant_of-result

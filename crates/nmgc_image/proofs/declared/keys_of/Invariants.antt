@@ -1,6 +1,4 @@
-use Rattle.std.proofs.Common.{◌≡◌, map, take}
-use Rattle.nmgc_image.specs.declared.image.Entry.{Entry}
-use Rattle.nmgc_image.specs.Reading.{key_of}
+use Rattle.nmgc_image.proofs.Vocabulary.{◌≡◌, map, take, Entry, key_of}
 use Rattle.nmgc_image.proofs.declared.keys_of.Given as goal
 
 abbrev pub invariant-loop-entry : goal.invariant-loop-entry

@@ -1,10 +1,4 @@
-use Rattle.std.proofs.Common.{◌≡◌, ◌∙◌, List, ℕ, ap, map}
-use Rattle.std.proofs.lemmas.List.{take_all}
-use Rattle.std.proofs.lemmas.Result.{IfOk-weaker}
-use Rattle.nmgc_image.specs.declared.declared.Declared.{Declared}
-use Rattle.nmgc_image.specs.Names.{TellsNames}
-use Rattle.nmgc_image.specs.Reading.{has_key, key_of, HaveSame}
-use Rattle.nmgc_image.proofs.Keys.{names_tell, names_same}
+use Rattle.nmgc_image.proofs.{Vocabulary.◌≡◌, Vocabulary.◌∙◌, Vocabulary.List, Vocabulary.ℕ, Vocabulary.ap, Vocabulary.map, Vocabulary.take_all, Vocabulary.IfOk-weaker, Vocabulary.Declared, Vocabulary.TellsNames, Vocabulary.has_key, Vocabulary.key_of, Vocabulary.HaveSame, Keys.names_tell, Keys.names_same}
 use Rattle.nmgc_image.proofs.declared.of_names.Goals as goal
 
 pub returns : goal.returns

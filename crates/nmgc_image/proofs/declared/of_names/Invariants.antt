@@ -1,5 +1,4 @@
-use Rattle.std.proofs.Common.{◌≡◌, map, take}
-use Rattle.nmgc_image.specs.Reading.{key_of}
+use Rattle.nmgc_image.proofs.Vocabulary.{◌≡◌, map, take, key_of}
 use Rattle.nmgc_image.proofs.declared.of_names.Given as goal
 
 abbrev pub invariant-loop-name : goal.invariant-loop-name

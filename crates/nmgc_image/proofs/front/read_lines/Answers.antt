@@ -1,9 +1,4 @@
-use Rattle.std.proofs.Common.{Bool, subst}
-use Rattle.nmgc_world_spec.specs.declared.value.Name.{Name}
-use Rattle.nmgc_image.specs.declared.fault.LineFault.{LineFault}
-use Rattle.nmgc_image.specs.Known.{test_of}
-use Rattle.nmgc_image.specs.Reading.{Halts}
-use Rattle.nmgc_image.proofs.Steps.{starts, goes_on, stops}
+use Rattle.nmgc_image.proofs.{Vocabulary.Bool, Vocabulary.subst, Vocabulary.Name, Vocabulary.LineFault, Vocabulary.test_of, Vocabulary.Halts, Steps.starts, Steps.goes_on, Steps.stops}
 use Rattle.nmgc_image.proofs.front.read_lines.Goals as goal
 
 pub line-init : goal.line-init

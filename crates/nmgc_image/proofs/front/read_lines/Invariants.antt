@@ -1,6 +1,4 @@
-use Rattle.std.proofs.Common.{length}
-use Rattle.nmgc_image.specs.Known.{test_of}
-use Rattle.nmgc_image.specs.Reading.{AreTaken}
+use Rattle.nmgc_image.proofs.Vocabulary.{length, test_of, AreTaken}
 use Rattle.nmgc_image.proofs.front.read_lines.Given as goal
 
 -- the lines so far were taken

@@ -1,5 +1,4 @@
-use Rattle.std.proofs.Common.{ℕ, List, subst}
-use Rattle.nmgc_image.specs.Plain.{IsPlain}
+use Rattle.nmgc_image.proofs.Vocabulary.{ℕ, List, subst, IsPlain}
 use Rattle.nmgc_image.proofs.front.take_next.Goals as goal
 
 pub take_plain-requires : goal.take_plain-requires

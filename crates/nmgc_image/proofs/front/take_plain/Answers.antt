@@ -1,6 +1,4 @@
-use Rattle.std.proofs.lemmas.Result.{err_from_is_err_and}
-use Rattle.nmgc_image.specs.Known.{test_of}
-use Rattle.nmgc_image.proofs.PlainLaws.{plain_less, plain_step, plain_fails}
+use Rattle.nmgc_image.proofs.{Vocabulary.err_from_is_err_and, Vocabulary.test_of, PlainLaws.plain_less, PlainLaws.plain_step, PlainLaws.plain_fails}
 use Rattle.nmgc_image.proofs.front.take_plain.Goals as goal
 
 pub returns-in_err-take_object : goal.returns-in_err-take_object

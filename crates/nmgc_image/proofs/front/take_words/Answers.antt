@@ -1,8 +1,4 @@
-use Rattle.std.proofs.Common.{◌≡◌, ◌∙◌, map, ap, refl}
-use Rattle.std.proofs.lemmas.Result.{err_from_is_err_and}
-use Rattle.nmgc_image.specs.Known.{test_of}
-use Rattle.nmgc_image.specs.Text.{words_of}
-use Rattle.nmgc_image.proofs.Steps.{none_stuck, line_step, line_fails}
+use Rattle.nmgc_image.proofs.{Vocabulary.◌≡◌, Vocabulary.◌∙◌, Vocabulary.map, Vocabulary.ap, Vocabulary.refl, Vocabulary.err_from_is_err_and, Vocabulary.test_of, Vocabulary.words_of, Steps.none_stuck, Steps.line_step, Steps.line_fails}
 use Rattle.nmgc_image.proofs.front.take_words.Goals as goal
 
 pub returns-in_default : goal.returns-in_default

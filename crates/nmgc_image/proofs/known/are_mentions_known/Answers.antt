@@ -1,8 +1,4 @@
-use Rattle.std.proofs.Common.{ap, sym, ◌∙◌}
-use Rattle.std.specs.List.{list_all}
-use Rattle.nmgc_image.specs.Known.{test_of}
-use Rattle.nmgc_image.specs.Reading.{is_own_in, is_object_in}
-use Rattle.nmgc_image.proofs.Mentions.{mentions_in}
+use Rattle.nmgc_image.proofs.{Vocabulary.ap, Vocabulary.sym, Vocabulary.◌∙◌, Vocabulary.list_all, Vocabulary.test_of, Vocabulary.is_own_in, Vocabulary.is_object_in, Mentions.mentions_in}
 use Rattle.nmgc_image.proofs.known.are_mentions_known.Goals as goal
 
 pub returns : goal.returns

@@ -1,10 +1,6 @@
-use Rattle.std.proofs.Common.{◌≤◌, ◌+◌, ◌∙◌, ap, arith, take, drop}
-use Rattle.nmgc_world_spec.specs.declared.node.Kind.{Kind}
-use Rattle.nmgc_world_spec.specs.declared.node.Kind.TheVariants as kind
+use Rattle.nmgc_image.proofs.Vocabulary.{◌≤◌, ◌+◌, ◌∙◌, ap, arith, take, drop, Kind, HEADER_WORDS, Header, MAX_FIELDS}
 use Rattle.nmgc_object.specs.Words.{HasFields}
-use Rattle.nmgc_object.specs.declared.size.TheConstants.{HEADER_WORDS}
-use Rattle.nmgc_object.specs.declared.words.Header.{Header}
-use Rattle.nmgc_object.specs.declared.words.TheConstants.{MAX_FIELDS}
+use Rattle.nmgc_world_spec.specs.declared.node.Kind.TheVariants as kind
 use Rattle.nmgc_image.proofs.objects.copy_fields.Goals as goal
 
 -- an object has few fields

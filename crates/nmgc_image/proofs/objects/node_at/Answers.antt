@@ -1,8 +1,4 @@
-use Rattle.std.proofs.Common.{◌≡◌, ◌∙◌, ℕ, List, ap, sym, subst, map}
-use Rattle.std.specs.Prelude.{All}
-use Rattle.std.proofs.lemmas.Result.{IfOk-weaker}
-use Rattle.nmgc_object.specs.declared.words.Header.{Header}
-use Rattle.nmgc_image.specs.Objects.{IsReadable, told, told_at, fields_at, begins_unset, made_of, value_in}
+use Rattle.nmgc_image.proofs.Vocabulary.{◌≡◌, ◌∙◌, ℕ, List, ap, sym, subst, map, All, IfOk-weaker, Header, IsReadable, told, told_at, fields_at, begins_unset, made_of, value_in}
 use Rattle.nmgc_image.proofs.objects.node_at.Goals as goal
 
 pub values_of-requires : goal.values_of-requires

@@ -1,7 +1,4 @@
-use Rattle.std.proofs.Common.{◌≡◌, ◌≢◌, ℕ, ◌*◌, ◌%◌, true, false, eqb, ltb, eq-eqb, ne_eqb, refl, arith}
-use Rattle.std.proofs.Math.Bool.{and-false}
-use Rattle.std.proofs.lemmas.Bool.{lt-ltb, le-ltb}
-use Rattle.nmgc_image.specs.Objects.{is_pointer}
+use Rattle.nmgc_image.proofs.Vocabulary.{◌≡◌, ◌≢◌, ℕ, ◌*◌, ◌%◌, true, false, eqb, ltb, refl, arith, and-false, lt-ltb, le-ltb, is_pointer, eq-eqb, ne_eqb}
 use Rattle.nmgc_image.proofs.objects.place_in.Goals as goal
 
 odd_points : (word : ℕ) → word % 2 ≡ 1 → is_pointer word ≡ false

@@ -1,5 +1,4 @@
-use Rattle.std.proofs.Common.{◌≡◌, ◌≤◌, ◌-◌, ◌++◌, length, take, drop}
-use Rattle.nmgc_image.specs.Objects.{leading}
+use Rattle.nmgc_image.proofs.Vocabulary.{◌≡◌, ◌≤◌, ◌-◌, ◌++◌, length, take, drop, leading}
 use Rattle.nmgc_image.proofs.objects.told_of_stack.Given as goal
 
 abbrev pub invariant-loop-depth : goal.invariant-loop-depth

@@ -1,8 +1,5 @@
-use Rattle.std.proofs.Common.{◌≡◌, ℕ, ◌+◌, ◌-◌, ◌*◌, ◌/◌, ◌%◌, List, true, false, eqb, ltb, eq-eqb, ne_eqb, refl, ap, subst, ◌∙◌, arith}
-use Rattle.std.proofs.lemmas.Bool.{lt-ltb}
+use Rattle.nmgc_image.proofs.Vocabulary.{◌≡◌, ℕ, ◌+◌, ◌-◌, ◌*◌, ◌/◌, ◌%◌, List, true, false, eqb, ltb, refl, ap, subst, ◌∙◌, arith, lt-ltb, NIL_WORD, ZERO_WORD, IsNamedAt, IsReadable, name_in, value_in, eq-eqb, ne_eqb}
 use Rattle.nmgc_world_spec.specs.declared.value.Value.TheVariants as value
-use Rattle.nmgc_object.specs.declared.words.TheConstants.{NIL_WORD, ZERO_WORD}
-use Rattle.nmgc_image.specs.Objects.{IsNamedAt, IsReadable, name_in, value_in}
 use Rattle.nmgc_image.proofs.objects.value_of.Goals as goal
 
 module _ (words : List ℕ) (word : ℕ) where

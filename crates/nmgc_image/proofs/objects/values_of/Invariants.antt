@@ -1,5 +1,4 @@
-use Rattle.std.proofs.Common.{◌≡◌, map, take}
-use Rattle.nmgc_image.specs.Objects.{value_in}
+use Rattle.nmgc_image.proofs.Vocabulary.{◌≡◌, map, take, value_in}
 use Rattle.nmgc_image.proofs.objects.values_of.Given as goal
 
 abbrev pub invariant-loop-word : goal.invariant-loop-word

@@ -1,9 +1,4 @@
-use Rattle.std.proofs.Common.{ℕ, ◌≡◌, List, [], subst, inl, inr}
-use Rattle.std.specs.Prelude.{Contains}
-use Rattle.nmgc_lists.specs.laws.Items.{nothing_in}
-use Rattle.nmgc_image.specs.declared.search.Search.{Search}
-use Rattle.nmgc_image.specs.Reaching.{Visits, IsRootPlace}
-use Rattle.nmgc_image.proofs.Visiting.{reaches_in}
+use Rattle.nmgc_image.proofs.{Vocabulary.ℕ, Vocabulary.◌≡◌, Vocabulary.List, Vocabulary.[], Vocabulary.subst, Vocabulary.inl, Vocabulary.inr, Vocabulary.Contains, Vocabulary.nothing_in, Vocabulary.Search, Vocabulary.Visits, Vocabulary.IsRootPlace, Visiting.reaches_in}
 use Rattle.nmgc_image.proofs.places.places_of.Goals as goal
 
 -- what a search has that had nothing are the places that were added

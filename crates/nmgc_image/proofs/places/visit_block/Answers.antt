@@ -1,9 +1,4 @@
-use Rattle.std.proofs.Common.{◌≡◌, ◌∙◌, true, false, ap, sym, arith}
-use Rattle.std.specs.Prelude.{Contains}
-use Rattle.nmgc_image.specs.Objects.{IsNamedAt, name_in}
-use Rattle.nmgc_image.specs.Reading.{has_key}
-use Rattle.nmgc_image.proofs.Listing.{read_valid}
-use Rattle.nmgc_image.proofs.Searching.{visits_none, visits_same}
+use Rattle.nmgc_image.proofs.{Vocabulary.◌≡◌, Vocabulary.◌∙◌, Vocabulary.true, Vocabulary.false, Vocabulary.ap, Vocabulary.sym, Vocabulary.arith, Vocabulary.Contains, Vocabulary.IsNamedAt, Vocabulary.name_in, Vocabulary.has_key, Listing.read_valid, Searching.visits_none, Searching.visits_same}
 use Rattle.nmgc_image.proofs.places.visit_block.Goals as goal
 
 pub name_at-requires : goal.name_at-requires

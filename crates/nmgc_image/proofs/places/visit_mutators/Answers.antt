@@ -1,9 +1,4 @@
-use Rattle.std.proofs.Common.{sym, subst, arith}
-use Rattle.std.specs.Prelude.{Contains}
-use Rattle.std.proofs.lemmas.List.Elements.{Contains-get_or}
-use Rattle.nmgc_journal.specs.declared.report.MutatorEnd.{MutatorEnd}
-use Rattle.nmgc_image.specs.Reaching.{Visits, IsOwnRoot}
-use Rattle.nmgc_image.proofs.Visiting.{mutators_start, mutators_next, mutators_end}
+use Rattle.nmgc_image.proofs.{Vocabulary.sym, Vocabulary.subst, Vocabulary.arith, Vocabulary.Contains, Vocabulary.Contains-get_or, Vocabulary.MutatorEnd, Vocabulary.Visits, Vocabulary.IsOwnRoot, Visiting.mutators_start, Visiting.mutators_next, Visiting.mutators_end}
 use Rattle.nmgc_image.proofs.places.visit_mutators.Goals as goal
 
 pub loop-own-init : goal.loop-own-init

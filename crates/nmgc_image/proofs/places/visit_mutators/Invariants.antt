@@ -1,5 +1,4 @@
-use Rattle.std.proofs.Common.{take}
-use Rattle.nmgc_image.specs.Reaching.{Visits, IsMutatorRoot}
+use Rattle.nmgc_image.proofs.Vocabulary.{take, Visits, IsMutatorRoot}
 use Rattle.nmgc_image.proofs.places.visit_mutators.Given as goal
 
 abbrev pub invariant-loop-own : goal.invariant-loop-own

@@ -1,7 +1,4 @@
-use Rattle.std.proofs.Common.{arith, inl, inr}
-use Rattle.nmgc_image.specs.Reaching.{ArePointers, IsOwnRoot}
-use Rattle.nmgc_image.proofs.Searching.{visits_then}
-use Rattle.nmgc_image.proofs.Visiting.{on_ok}
+use Rattle.nmgc_image.proofs.{Vocabulary.arith, Vocabulary.inl, Vocabulary.inr, Vocabulary.ArePointers, Vocabulary.IsOwnRoot, Searching.visits_then, Visiting.on_ok}
 use Rattle.nmgc_image.proofs.places.visit_own.Goals as goal
 
 pub visit_registers-requires-clause-within : goal.visit_registers-requires-clause-within

@@ -1,7 +1,4 @@
-use Rattle.std.proofs.Common.{ℕ, List, subst}
-use Rattle.std.specs.Prelude.{Contains, OnOk}
-use Rattle.nmgc_image.specs.Objects.{pointers}
-use Rattle.nmgc_image.specs.Reaching.{Visits, ArePointers}
+use Rattle.nmgc_image.proofs.Vocabulary.{ℕ, List, subst, Contains, OnOk, pointers, Visits, ArePointers}
 use Rattle.nmgc_image.proofs.places.visit_queue.Goals as goal
 
 pub visit_words-requires-clause-within : goal.visit_words-requires-clause-within

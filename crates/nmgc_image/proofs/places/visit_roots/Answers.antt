@@ -1,9 +1,4 @@
-use Rattle.std.proofs.Common.{◌≡◌, ◌⊎◌, List, refl, subst, arith, inl, inr}
-use Rattle.nmgc_object.specs.declared.layout.TheConstants.{SHARED_PLACE}
-use Rattle.nmgc_journal.specs.declared.report.MutatorEnd.{MutatorEnd}
-use Rattle.nmgc_image.specs.Reaching.{Visits, IsMutatorRoot, IsWeakRoot, IsRootPlace}
-use Rattle.nmgc_image.proofs.Searching.{visits_then}
-use Rattle.nmgc_image.proofs.Visiting.{on_ok, root_within}
+use Rattle.nmgc_image.proofs.{Vocabulary.◌≡◌, Vocabulary.◌⊎◌, Vocabulary.List, Vocabulary.refl, Vocabulary.subst, Vocabulary.arith, Vocabulary.inl, Vocabulary.inr, Vocabulary.SHARED_PLACE, Vocabulary.MutatorEnd, Vocabulary.Visits, Vocabulary.IsMutatorRoot, Vocabulary.IsWeakRoot, Vocabulary.IsRootPlace, Searching.visits_then, Visiting.on_ok, Visiting.root_within}
 use Rattle.nmgc_image.proofs.places.visit_roots.Goals as goal
 
 pub visit-requires-clause-within : goal.visit-requires-clause-within

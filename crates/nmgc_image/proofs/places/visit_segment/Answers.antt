@@ -1,15 +1,6 @@
-use Rattle.std.proofs.Common.{ℕ, ◌≡◌, ◌≢◌, ◌∙◌, ◌+◌, sym, ap, subst, arith, true, false}
-use Rattle.std.specs.Prelude.{Contains}
-use Rattle.nmgc_segment.specs.Segment.{Segment, InUse, block_count}
+use Rattle.nmgc_image.proofs.{Vocabulary.ℕ, Vocabulary.◌≡◌, Vocabulary.◌≢◌, Vocabulary.◌∙◌, Vocabulary.◌+◌, Vocabulary.sym, Vocabulary.ap, Vocabulary.subst, Vocabulary.arith, Vocabulary.true, Vocabulary.false, Vocabulary.Contains, Vocabulary.Segment, Vocabulary.InUse, Vocabulary.block_count, Vocabulary.nth, Vocabulary.IsBlockAt, Vocabulary.name_in, Vocabulary.Visits, Vocabulary.IsWeakBlock, Vocabulary.IsWeakIn, Searching.visits_none, Searching.visits_same, Visiting.Below, Visiting.below_next, Visiting.below_same, Visiting.below_all, places.visit_segment.Goals.then-in_use+in_ok-visit_block, places.visit_segment.Goals.else-in_use}
 use Rattle.nmgc_segment.specs.declared.state.State.TheVariants as state
-use Rattle.nmgc_alloc.specs.Numbered.{nth}
-use Rattle.nmgc_alloc.specs.Segments.{IsBlockAt}
-use Rattle.nmgc_image.specs.Objects.{name_in}
-use Rattle.nmgc_image.specs.Reaching.{Visits, IsWeakBlock, IsWeakIn}
-use Rattle.nmgc_image.proofs.Searching.{visits_none, visits_same}
-use Rattle.nmgc_image.proofs.Visiting.{Below, below_next, below_same, below_all}
 use Rattle.nmgc_image.proofs.places.visit_segment.Goals as goal
-use Rattle.nmgc_image.proofs.places.visit_segment.Goals.{then-in_use+in_ok-visit_block, else-in_use}
 
 pub returns-then-is_free : goal.returns-then-is_free
 returns-then-is_free c = visits_none (IsWeakIn c.args.report.now c.args.number) c.args.search.now c.requires.sound (λ at r.

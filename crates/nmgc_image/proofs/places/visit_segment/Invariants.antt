@@ -1,5 +1,4 @@
-use Rattle.std.proofs.Common.{ℕ, ◌<◌}
-use Rattle.nmgc_image.specs.Reaching.{Visits, IsWeakBlock}
+use Rattle.nmgc_image.proofs.Vocabulary.{ℕ, ◌<◌, Visits, IsWeakBlock}
 use Rattle.nmgc_image.proofs.places.visit_segment.Given as goal
 
 abbrev pub invariant-loop-block : goal.invariant-loop-block

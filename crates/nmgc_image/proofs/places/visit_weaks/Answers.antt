@@ -1,12 +1,4 @@
-use Rattle.std.proofs.Common.{ℕ, ◌≡◌, List, [], sym, ap, subst, arith, true}
-use Rattle.std.specs.Prelude.{Contains}
-use Rattle.nmgc_world_spec.specs.declared.value.Name.{Name}
-use Rattle.nmgc_object.specs.declared.layout.Layout.{Layout}
-use Rattle.nmgc_image.specs.Objects.{name_in}
-use Rattle.nmgc_image.specs.Reading.{has_key}
-use Rattle.nmgc_image.specs.Reaching.{IsWeakIn, IsWeakRoot}
-use Rattle.nmgc_image.proofs.Searching.{visits_none}
-use Rattle.nmgc_image.proofs.Visiting.{below_start, below_next, below_all}
+use Rattle.nmgc_image.proofs.{Vocabulary.ℕ, Vocabulary.◌≡◌, Vocabulary.List, Vocabulary.[], Vocabulary.sym, Vocabulary.ap, Vocabulary.subst, Vocabulary.arith, Vocabulary.true, Vocabulary.Contains, Vocabulary.Name, Vocabulary.Layout, Vocabulary.name_in, Vocabulary.has_key, Vocabulary.IsWeakIn, Vocabulary.IsWeakRoot, Searching.visits_none, Visiting.below_start, Visiting.below_next, Visiting.below_all}
 use Rattle.nmgc_image.proofs.places.visit_weaks.Goals as goal
 
 -- no name is among none

@@ -1,5 +1,4 @@
-use Rattle.std.proofs.Common.{ℕ, ◌<◌}
-use Rattle.nmgc_image.specs.Reaching.{Visits, IsWeakIn}
+use Rattle.nmgc_image.proofs.Vocabulary.{ℕ, ◌<◌, Visits, IsWeakIn}
 use Rattle.nmgc_image.proofs.places.visit_weaks.Given as goal
 
 abbrev pub invariant-loop-number : goal.invariant-loop-number

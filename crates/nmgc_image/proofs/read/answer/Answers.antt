@@ -1,6 +1,4 @@
-use Rattle.std.proofs.Common.{refl}
-use Rattle.std.proofs.lemmas.Bool.{false≢true}
-use Rattle.nmgc_image.proofs.Answered.{bad_answer, whole_answer}
+use Rattle.nmgc_image.proofs.{Vocabulary.refl, Vocabulary.false≢true, Answered.bad_answer, Answered.whole_answer}
 use Rattle.nmgc_image.proofs.read.answer.Goals as goal
 
 pub returns-then-not-is_whole : goal.returns-then-not-is_whole

@@ -1,8 +1,4 @@
-use Rattle.std.proofs.Common.{ℕ, List, subst}
-use Rattle.std.proofs.lemmas.Result.{err_from_is_err_and}
-use Rattle.nmgc_image.specs.Known.{test_of}
-use Rattle.nmgc_image.specs.Reading.{AreRead}
-use Rattle.nmgc_image.proofs.Answered.{lost_answer}
+use Rattle.nmgc_image.proofs.{Vocabulary.ℕ, Vocabulary.List, Vocabulary.subst, Vocabulary.err_from_is_err_and, Vocabulary.test_of, Vocabulary.AreRead, Answered.lost_answer}
 use Rattle.nmgc_image.proofs.read.read_again.Goals as goal
 
 pub returns-in_err-reader : goal.returns-in_err-reader

@@ -1,13 +1,5 @@
-use Rattle.std.proofs.Common.{◌≡◌, ◌+◌, ◌∙◌, List, true, false, sym, ap, subst, arith, take}
-use Rattle.std.proofs.lemmas.List.{take_all}
-use Rattle.std.proofs.lemmas.List.Elements.{All-get_or}
-use Rattle.nmgc_image.specs.declared.image.Entry.{Entry}
-use Rattle.nmgc_image.specs.declared.shown.Keyed.{Keyed}
-use Rattle.nmgc_image.specs.Reading.{is_after}
-use Rattle.nmgc_image.specs.Shown.{IsKeyed, ListsObjects}
-use Rattle.nmgc_image.proofs.Listing.{places_of, lists_start, lists_taken, lists_skipped}
+use Rattle.nmgc_image.proofs.{Vocabulary.◌≡◌, Vocabulary.◌+◌, Vocabulary.◌∙◌, Vocabulary.List, Vocabulary.true, Vocabulary.false, Vocabulary.sym, Vocabulary.ap, Vocabulary.subst, Vocabulary.take, Vocabulary.take_all, Vocabulary.All-get_or, Vocabulary.Entry, Vocabulary.Keyed, Vocabulary.is_after, Vocabulary.IsKeyed, Vocabulary.ListsObjects, Listing.places_of, Listing.lists_start, Listing.lists_taken, Listing.lists_skipped, shown.entries_of.Goals.then-is_after+in_ok-node+in_ok-push, shown.entries_of.Goals.else-is_after}
 use Rattle.nmgc_image.proofs.shown.entries_of.Goals as goal
-use Rattle.nmgc_image.proofs.shown.entries_of.Goals.{then-is_after+in_ok-node+in_ok-push, else-is_after}
 
 -- an object in place of none
 abbrev none : Keyed

@@ -1,6 +1,4 @@
-use Rattle.std.proofs.Common.{take}
-use Rattle.nmgc_image.specs.Shown.{ListsObjects}
-use Rattle.nmgc_image.proofs.Listing.{places_of}
+use Rattle.nmgc_image.proofs.{Vocabulary.take, Vocabulary.ListsObjects, Listing.places_of}
 use Rattle.nmgc_image.proofs.shown.entries_of.Given as goal
 
 abbrev pub invariant-loop-object : goal.invariant-loop-object

@@ -1,10 +1,6 @@
-use Rattle.std.proofs.Common.{◌≡◌, ◌≢◌, ◌∙◌, ◌+◌, List, sym, subst, take, get_or, true, false}
+use Rattle.nmgc_image.proofs.{Vocabulary.◌≡◌, Vocabulary.◌≢◌, Vocabulary.◌∙◌, Vocabulary.◌+◌, Vocabulary.List, Vocabulary.sym, Vocabulary.subst, Vocabulary.take, Vocabulary.get_or, Vocabulary.true, Vocabulary.false, Vocabulary.Held, Vocabulary.ListsHeld, Holding.held_nil, Holding.held_more, shown.held_of.Goals.then-not-is_nil+in_ok-push, shown.held_of.Goals.else-not-is_nil}
 use Rattle.nmgc_world_spec.specs.declared.value.Value.TheVariants as value
-use Rattle.nmgc_image.specs.declared.image.Held.{Held}
-use Rattle.nmgc_image.specs.Shows.{ListsHeld}
-use Rattle.nmgc_image.proofs.Holding.{held_nil, held_more}
 use Rattle.nmgc_image.proofs.shown.held_of.Goals as goal
-use Rattle.nmgc_image.proofs.shown.held_of.Goals.{then-not-is_nil+in_ok-push, else-not-is_nil}
 
 pub loop-register-preserved : goal.loop-register-preserved
 loop-register-preserved c =

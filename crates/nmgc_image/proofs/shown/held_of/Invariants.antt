@@ -1,5 +1,4 @@
-use Rattle.std.proofs.Common.{take}
-use Rattle.nmgc_image.specs.Shows.{ListsHeld}
+use Rattle.nmgc_image.proofs.Vocabulary.{take, ListsHeld}
 use Rattle.nmgc_image.proofs.shown.held_of.Given as goal
 
 abbrev pub invariant-loop-register : goal.invariant-loop-register

@@ -1,9 +1,4 @@
-use Rattle.std.proofs.Common.{ℕ, ◌≡◌, ◌∙◌, List, length, sym, ap, subst, Some}
-use Rattle.std.specs.Prelude.{All, slice_get}
-use Rattle.nmgc_journal.specs.declared.report.MutatorEnd.{MutatorEnd}
-use Rattle.nmgc_image.specs.Shown.{IsReadableObject, CanShowOwn, ListsObjects}
-use Rattle.nmgc_image.proofs.ShownImage.{all_items}
-use Rattle.nmgc_image.proofs.Standing.{can_show, ready, wide_readable, reached_wide, shows}
+use Rattle.nmgc_image.proofs.{Vocabulary.ℕ, Vocabulary.◌≡◌, Vocabulary.◌∙◌, Vocabulary.List, Vocabulary.length, Vocabulary.sym, Vocabulary.ap, Vocabulary.subst, Vocabulary.Some, Vocabulary.All, Vocabulary.slice_get, Vocabulary.MutatorEnd, Vocabulary.IsReadableObject, Vocabulary.CanShowOwn, Vocabulary.ListsObjects, ShownImage.all_items, Standing.can_show, Standing.ready, Standing.wide_readable, Standing.reached_wide, Standing.shows}
 use Rattle.nmgc_image.proofs.shown.image_of.Goals as goal
 
 pub places_of-requires : goal.places_of-requires

@@ -1,5 +1,4 @@
-use Rattle.std.proofs.Common.{◌≡◌, map, take}
-use Rattle.nmgc_image.specs.Shown.{keyed_at}
+use Rattle.nmgc_image.proofs.Vocabulary.{◌≡◌, map, take, keyed_at}
 use Rattle.nmgc_image.proofs.shown.keyed_of.Given as goal
 
 abbrev pub invariant-loop-at : goal.invariant-loop-at

@@ -1,11 +1,4 @@
-use Rattle.std.proofs.Common.{ℕ, zero, suc, ◌≡◌, ◌<◌, ◌+◌, ◌∙◌, List, [], ◌∷◌, ◌++◌, length, get_or, refl, sym, ap, subst, arith, Some, inl, inr}
-use Rattle.std.specs.Prelude.{slice_get}
-use Rattle.std.proofs.lemmas.List.{length_push}
-use Rattle.std.proofs.lemmas.Option.{same_Some, none-some, slice_get-get_or}
-use Rattle.nmgc_heap_spec.specs.laws.Kinds.{item_cases}
-use Rattle.nmgc_journal.specs.declared.report.MutatorEnd.{MutatorEnd}
-use Rattle.nmgc_image.specs.declared.image.ImageMutator.{ImageMutator}
-use Rattle.nmgc_image.specs.Shown.{ShowsOwn}
+use Rattle.nmgc_image.proofs.Vocabulary.{ℕ, zero, suc, ◌≡◌, ◌<◌, ◌+◌, ◌∙◌, List, [], ◌∷◌, ◌++◌, length, get_or, refl, sym, ap, subst, arith, Some, inl, inr, slice_get, length_push, same_Some, none-some, slice_get-get_or, item_cases, MutatorEnd, ImageMutator, ShowsOwn}
 use Rattle.nmgc_image.proofs.shown.mutators_of.Goals as goal
 
 one : (x y : ImageMutator) (j : ℕ) → slice_get (x ∷ []) j ≡ Some y → (j ≡ 0) × (x ≡ y)

@@ -1,8 +1,4 @@
-use Rattle.std.proofs.Common.{ℕ, ◌≡◌, length, Some}
-use Rattle.std.specs.Prelude.{slice_get}
-use Rattle.nmgc_journal.specs.declared.report.MutatorEnd.{MutatorEnd}
-use Rattle.nmgc_image.specs.declared.image.ImageMutator.{ImageMutator}
-use Rattle.nmgc_image.specs.Shown.{ShowsOwn}
+use Rattle.nmgc_image.proofs.Vocabulary.{ℕ, ◌≡◌, length, Some, slice_get, MutatorEnd, ImageMutator, ShowsOwn}
 use Rattle.nmgc_image.proofs.shown.mutators_of.Given as goal
 
 abbrev pub invariant-loop-own : goal.invariant-loop-own

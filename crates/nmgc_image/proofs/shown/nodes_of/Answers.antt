@@ -1,13 +1,4 @@
-use Rattle.std.proofs.Common.{ℕ, ◌≡◌, ◌∙◌, rules, List, [], ◌∷◌, map, refl, sym, ap, subst}
-use Rattle.std.specs.Prelude.{All, Contains}
-use Rattle.std.specs.List.Sorted.{IsPermutation, IsNonDecreasingBy}
-use Rattle.std.proofs.lemmas.List.Elements.{All-map, All-weaker}
-use Rattle.std.proofs.lemmas.List.Sorted.{IsNonDecreasingBy-from_sort_by_key, All-permutation, Contains-permutation, IsPermutation-map, IsPermutation-sym}
-use Rattle.std.proofs.lemmas.Result.{IfOk-weaker}
-use Rattle.nmgc_image.specs.declared.image.Entry.{Entry}
-use Rattle.nmgc_image.specs.declared.shown.Keyed.{Keyed}
-use Rattle.nmgc_image.specs.Shown.{IsReadableObject, IsKeyed, ListsObjects, keyed_at}
-use Rattle.nmgc_image.proofs.Listing.{places_of}
+use Rattle.nmgc_image.proofs.{Vocabulary.ℕ, Vocabulary.◌≡◌, Vocabulary.◌∙◌, Vocabulary.rules, Vocabulary.List, Vocabulary.[], Vocabulary.◌∷◌, Vocabulary.map, Vocabulary.refl, Vocabulary.sym, Vocabulary.ap, Vocabulary.subst, Vocabulary.All, Vocabulary.Contains, Vocabulary.IsPermutation, Vocabulary.IsNonDecreasingBy, Vocabulary.All-map, Vocabulary.All-weaker, Vocabulary.IsNonDecreasingBy-from_sort_by_key, Vocabulary.All-permutation, Vocabulary.Contains-permutation, Vocabulary.IsPermutation-map, Vocabulary.IsPermutation-sym, Vocabulary.IfOk-weaker, Vocabulary.Entry, Vocabulary.Keyed, Vocabulary.IsReadableObject, Vocabulary.IsKeyed, Vocabulary.ListsObjects, Vocabulary.keyed_at, Listing.places_of}
 use Rattle.nmgc_image.proofs.shown.nodes_of.Goals as goal
 
 keyed_places : (words places : List ℕ) → places_of (map (keyed_at words) places) ≡ places

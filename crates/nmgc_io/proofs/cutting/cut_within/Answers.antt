@@ -1,6 +1,4 @@
-use Rattle.std.proofs.Common.{ℕ, ◌≡◌, ◌≢◌, ◌+◌, ◌<◌, ◌≤◌, List, length, arith}
-use Rattle.std.proofs.lemmas.List.Elements.{All-from_get_or}
-use Rattle.nmgc_io.proofs.Separators.{cut_at, others_before, part_others, part_found}
+use Rattle.nmgc_io.proofs.{Vocabulary.ℕ, Vocabulary.◌≢◌, Vocabulary.◌+◌, Vocabulary.◌<◌, Vocabulary.◌≤◌, Vocabulary.List, Vocabulary.length, Vocabulary.arith, Vocabulary.All-from_get_or, Separators.cut_at, Separators.others_before, Separators.part_others, Separators.part_found}
 use Rattle.nmgc_io.proofs.cutting.cut_within.Goals as goal
 
 pub returns-then-run-part-clause-none : goal.returns-then-run-part-clause-none

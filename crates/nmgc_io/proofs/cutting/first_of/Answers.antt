@@ -1,7 +1,4 @@
-use Rattle.std.proofs.Common.{ℕ, ◌≡◌, ◌+◌, ◌≤◌, eqb, List, length, get_or, arith}
-use Rattle.std.proofs.lemmas.Bool.{eqb-true}
-use Rattle.std.proofs.lemmas.Simd.{run_in_chunk_le, run_in_chunk_stops}
-use Rattle.nmgc_io.proofs.Separators.{others_more}
+use Rattle.nmgc_io.proofs.{Vocabulary.ℕ, Vocabulary.◌≡◌, Vocabulary.◌+◌, Vocabulary.◌≤◌, Vocabulary.eqb, Vocabulary.List, Vocabulary.length, Vocabulary.get_or, Vocabulary.arith, Vocabulary.eqb-true, Vocabulary.run_in_chunk_le, Vocabulary.run_in_chunk_stops, Separators.others_more}
 use Rattle.nmgc_io.proofs.cutting.first_of.Goals as goal
 
 pub returns-then-run-lt-LANES : goal.returns-then-run-lt-LANES

@@ -1,7 +1,4 @@
-use Rattle.std.proofs.Common.{eqb, sym, ap, ◌∙◌, arith, w8}
-use lib.Count.{count_trailing_zeros}
-use lib.Lanes.{chunk}
-use Rattle.std.proofs.lemmas.Simd.{length-chunk, bitmask_splat, leading_from_mask_l, trailing_mask_l}
+use Rattle.nmgc_io.proofs.Vocabulary.{eqb, sym, ap, ◌∙◌, arith, w8, count_trailing_zeros, chunk, length-chunk, bitmask_splat, leading_from_mask_l, trailing_mask_l}
 use Rattle.nmgc_io.proofs.cutting.run_before.Goals as goal
 
 pub returns-then-found-eq0 : goal.returns-then-found-eq0

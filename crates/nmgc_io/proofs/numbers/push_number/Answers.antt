@@ -1,5 +1,4 @@
-use Rattle.std.proofs.Common.{◌≡◌, ◌+◌, ◌∙◌, List, [], ◌∷◌, ◌++◌, ℕ, ap, sym, decimal}
-use Rattle.std.proofs.lemmas.Fmt.{decimal_digit}
+use Rattle.nmgc_io.proofs.Vocabulary.{◌≡◌, ◌+◌, ◌∙◌, List, [], ◌∷◌, ◌++◌, ℕ, ap, sym, decimal, decimal_digit}
 use Rattle.nmgc_io.proofs.numbers.push_number.Goals as goal
 
 pub returns-then-number-lt10-clause-ok : goal.returns-then-number-lt10-clause-ok

@@ -1,6 +1,4 @@
-use Rattle.std.proofs.Common.{◌≡◌, ◌≤◌, drop}
-use Rattle.std.specs.Str.{all_ascii_digits}
-use Rattle.nmgc_io.proofs.Digits.{value_after}
+use Rattle.nmgc_io.proofs.{Vocabulary.◌≡◌, Vocabulary.◌≤◌, Vocabulary.drop, Vocabulary.all_ascii_digits, Digits.value_after}
 use Rattle.nmgc_io.proofs.numbers.read_number.Given as goal
 
 abbrev pub invariant-loop-byte : goal.invariant-loop-byte

@@ -1,5 +1,4 @@
-use Rattle.std.proofs.Common.{◌-◌, ◌+◌, ◌<◌, ◌≤◌, length, vec_len}
-use Rattle.std.specs.Io.KnownBytes.{Consumes}
+use Rattle.nmgc_io.proofs.Vocabulary.{◌-◌, ◌+◌, ◌<◌, ◌≤◌, length, vec_len, Consumes}
 use Rattle.nmgc_io.proofs.transfer.read_all.Given as goal
 
 abbrev pub invariant-loop-count : goal.invariant-loop-count

@@ -1,7 +1,4 @@
-use Rattle.std.proofs.Common.{◌≡◌, ◌-◌, ◌∙◌, ◌++◌, List, ℕ, take, drop, ap, refl, arith, decimal, length-drop}
-use Rattle.std.proofs.lemmas.Fmt.{length-decimal-le}
-use Rattle.std.proofs.lemmas.List.{take_all}
-use Rattle.nmgc_journal.proofs.Buffers.{three_written}
+use Rattle.nmgc_journal.proofs.{Vocabulary.◌≡◌, Vocabulary.◌-◌, Vocabulary.◌∙◌, Vocabulary.◌++◌, Vocabulary.List, Vocabulary.ℕ, Vocabulary.take, Vocabulary.drop, Vocabulary.ap, Vocabulary.refl, Vocabulary.arith, Vocabulary.decimal, Vocabulary.length-drop, Vocabulary.length-decimal-le, Vocabulary.take_all, Buffers.three_written}
 use Rattle.nmgc_journal.proofs.lines.push_dotted_line.Goals as goal
 
 pub write_before-serial-requires-clause-room : goal.write_before-serial-requires-clause-room

@@ -1,5 +1,4 @@
-use Rattle.std.proofs.Common.{◌↔◌, drop}
-use Rattle.nmgc_journal.specs.Stops.{AreEndedFrom}
+use Rattle.nmgc_journal.proofs.Vocabulary.{◌↔◌, drop, AreEndedFrom}
 use Rattle.nmgc_journal.proofs.stops.are_in_order.Given as goal
 
 -- the cycles are in order just where those left are, from the last one on

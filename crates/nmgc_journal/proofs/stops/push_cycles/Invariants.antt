@@ -1,6 +1,4 @@
-use Rattle.std.proofs.Common.{◌≡◌, ◌++◌, drop}
-use Rattle.std.specs.List.{flat_map}
-use Rattle.nmgc_journal.specs.Text.{cycle_text}
+use Rattle.nmgc_journal.proofs.Vocabulary.{◌≡◌, ◌++◌, drop, flat_map, cycle_text}
 use Rattle.nmgc_journal.proofs.stops.push_cycles.Given as goal
 
 -- the lines so far and those of the rest are all

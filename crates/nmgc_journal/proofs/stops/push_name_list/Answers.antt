@@ -1,12 +1,4 @@
-use Rattle.std.proofs.Common.{ℕ, ◌≡◌, ◌∙◌, List, [], ◌∷◌, ◌++◌, ap, refl, subst, sym}
-use Rattle.std.specs.Prelude.{OnOk}
-use Rattle.std.specs.List.{flat_map}
-use Rattle.std.proofs.lemmas.Grind.{flat_map-append}
-use Rattle.nmgc_world_spec.specs.declared.value.Name.{Name}
-use Rattle.nmgc_names.specs.declared.span.Span.{Span}
-use Rattle.nmgc_names.specs.Spans.{names_in, names_of}
-use Rattle.nmgc_journal.specs.Spans.{span_lines}
-use Rattle.nmgc_journal.specs.Text.{name_line}
+use Rattle.nmgc_journal.proofs.Vocabulary.{ℕ, ◌≡◌, ◌∙◌, List, [], ◌∷◌, ◌++◌, ap, refl, subst, sym, OnOk, flat_map, flat_map-append, Name, Span, names_in, names_of, span_lines, name_line}
 use Rattle.nmgc_journal.proofs.stops.push_name_list.Goals as goal
 
 -- the lines of spans are those of their names

@@ -1,11 +1,4 @@
-use Rattle.std.proofs.Common.{ℕ, ◌∙◌, List, [], ◌∷◌, ◌++◌, take, ap, sym, add-one}
-use Rattle.std.specs.List.{flat_map}
-use Rattle.std.proofs.Math.Seq.{take-suc}
-use Rattle.std.proofs.lemmas.List.{flat_map_more}
-use Rattle.std.proofs.lemmas.Option.{get_or_from_slice_get, slice_get_within}
-use Rattle.nmgc_world_spec.specs.declared.value.Name.{Name}
-use Rattle.nmgc_names.specs.Spans.{names_of}
-use Rattle.nmgc_journal.specs.Text.{name_line}
+use Rattle.nmgc_journal.proofs.Vocabulary.{ℕ, ◌∙◌, List, [], ◌∷◌, ◌++◌, take, ap, sym, add-one, flat_map, take-suc, flat_map_more, get_or_from_slice_get, slice_get_within, Name, names_of, name_line}
 use Rattle.nmgc_journal.proofs.stops.push_span.Goals as goal
 
 pub loop-at-preserved : goal.loop-at-preserved

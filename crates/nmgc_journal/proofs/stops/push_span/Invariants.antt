@@ -1,7 +1,4 @@
-use Rattle.std.proofs.Common.{◌≡◌, ◌++◌, take}
-use Rattle.std.specs.List.{flat_map}
-use Rattle.nmgc_names.specs.Spans.{names_of}
-use Rattle.nmgc_journal.specs.Text.{name_line}
+use Rattle.nmgc_journal.proofs.Vocabulary.{◌≡◌, ◌++◌, take, flat_map, names_of, name_line}
 use Rattle.nmgc_journal.proofs.stops.push_span.Given as goal
 
 -- the lines so far are those of the first names

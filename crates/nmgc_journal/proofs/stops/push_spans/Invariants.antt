@@ -1,6 +1,4 @@
-use Rattle.std.proofs.Common.{◌≡◌, ◌++◌, drop}
-use Rattle.std.specs.List.{flat_map}
-use Rattle.nmgc_journal.specs.Spans.{span_lines}
+use Rattle.nmgc_journal.proofs.Vocabulary.{◌≡◌, ◌++◌, drop, flat_map, span_lines}
 use Rattle.nmgc_journal.proofs.stops.push_spans.Given as goal
 
 -- the lines so far and those of the rest are all

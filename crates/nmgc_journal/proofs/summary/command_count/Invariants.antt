@@ -1,5 +1,4 @@
-use Rattle.std.proofs.Common.{◌≡◌, take}
-use Rattle.nmgc_journal.specs.Summary.{command_count}
+use Rattle.nmgc_journal.proofs.Vocabulary.{◌≡◌, take, command_count}
 use Rattle.nmgc_journal.proofs.summary.command_count.Given as goal
 
 -- the commands of the rounds so far

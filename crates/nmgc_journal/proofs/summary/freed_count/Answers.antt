@@ -1,7 +1,4 @@
-use Rattle.std.proofs.Common.{rules, length}
-use Rattle.std.proofs.lemmas.Iterator.{YieldsList-from_slice, YieldsList-from_map}
-use Rattle.std.proofs.lemmas.Iterator.Consumers.{sum_by_from_yields_List}
-use Rattle.nmgc_journal.specs.declared.report.CycleRow.{CycleRow}
+use Rattle.nmgc_journal.proofs.Vocabulary.{rules, length, YieldsList-from_slice, YieldsList-from_map, sum_by_from_yields_List, CycleRow}
 use Rattle.nmgc_journal.proofs.summary.freed_count.Goals as goal
 
 pub returns : goal.returns

@@ -1,7 +1,4 @@
-use Rattle.std.proofs.Common.{rules, List, length}
-use Rattle.std.proofs.lemmas.Iterator.{YieldsList-from_slice, YieldsList-from_map}
-use Rattle.std.proofs.lemmas.Iterator.Consumers.{sum_by_from_yields_List}
-use Rattle.nmgc_world_spec.specs.declared.command.Reply.{Reply}
+use Rattle.nmgc_journal.proofs.Vocabulary.{rules, List, length, YieldsList-from_slice, YieldsList-from_map, sum_by_from_yields_List, Reply}
 use Rattle.nmgc_journal.proofs.summary.reply_count.Goals as goal
 
 pub returns : goal.returns

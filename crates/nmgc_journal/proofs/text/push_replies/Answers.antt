@@ -1,10 +1,4 @@
-use Rattle.std.proofs.Common.{ℕ, ◌∙◌, List, [], ◌∷◌, ◌++◌, take, ap, sym, add-one}
-use Rattle.std.specs.List.{flat_map}
-use Rattle.std.proofs.Math.Seq.{take-suc}
-use Rattle.std.proofs.lemmas.List.{flat_map_more}
-use Rattle.std.proofs.lemmas.Option.{get_or_from_slice_get, slice_get_within}
-use Rattle.nmgc_world_spec.specs.declared.command.Reply.{Reply}
-use Rattle.nmgc_journal.specs.Text.{reply_line}
+use Rattle.nmgc_journal.proofs.Vocabulary.{ℕ, ◌∙◌, List, [], ◌∷◌, ◌++◌, take, ap, sym, add-one, flat_map, take-suc, flat_map_more, get_or_from_slice_get, slice_get_within, Reply, reply_line}
 use Rattle.nmgc_journal.proofs.text.push_replies.Goals as goal
 
 pub loop-at-preserved : goal.loop-at-preserved

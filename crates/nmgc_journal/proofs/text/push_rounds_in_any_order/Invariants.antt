@@ -1,5 +1,4 @@
-use Rattle.std.proofs.Common.{◌≡◌, ◌++◌, ◌+◌, drop}
-use Rattle.nmgc_journal.specs.Text.{stop_at, rounds_text}
+use Rattle.nmgc_journal.proofs.Vocabulary.{◌≡◌, ◌++◌, ◌+◌, drop, stop_at, rounds_text}
 use Rattle.nmgc_journal.proofs.text.push_rounds_in_any_order.Given as goal
 
 -- the lines so far and those of the rounds left are all

@@ -1,7 +1,4 @@
-use Rattle.std.proofs.Common.{◌≡◌, ◌∙◌, sym, subst, List, ℕ, true, false}
-use Rattle.std.specs.Str.{bytes_eq}
-use Rattle.nmgc_judge.proofs.Answering.{found_answer, no_sign, is_so}
-use Rattle.nmgc_lists.specs.laws.Truths.{unmarked as is_not}
+use Rattle.nmgc_judge.proofs.{Vocabulary.◌≡◌, Vocabulary.◌∙◌, Vocabulary.sym, Vocabulary.subst, Vocabulary.List, Vocabulary.ℕ, Vocabulary.true, Vocabulary.false, Vocabulary.bytes_eq, Vocabulary.is_not, Answering.found_answer, Answering.no_sign, Answering.is_so}
 use Rattle.nmgc_judge.proofs.given.answered.Goals as goal
 
 pub returns-then-ne-clause-none : goal.returns-then-ne-clause-none

@@ -1,6 +1,4 @@
-use Rattle.std.proofs.Common.{◌∙◌, sym, arith}
-use Rattle.std.proofs.lemmas.Bool.{false≢true}
-use Rattle.nmgc_judge.proofs.Commands.{command_is, feed_within, no_feed_within, too_long}
+use Rattle.nmgc_judge.proofs.{Vocabulary.◌∙◌, Vocabulary.sym, Vocabulary.arith, Vocabulary.false≢true, Commands.command_is, Commands.feed_within, Commands.no_feed_within, Commands.too_long}
 use Rattle.nmgc_judge.proofs.given.command_of.Goals as goal
 
 pub returns-then-has_feed : goal.returns-then-has_feed

@@ -1,5 +1,5 @@
 use Rattle.std.proofs.Common.{◌≡◌, ◌++◌, ◌∙◌, ap, List, ℕ}
-use Rattle.nmgc_judge.specs.Reading.{after_spaces}
+use Rattle.nmgc_script.specs.Printing.{after_spaces}
 use Rattle.nmgc_judge.proofs.Answering.{texts_of_words, joined_is}
 use Rattle.nmgc_judge.proofs.given.joined.Goals as goal
 

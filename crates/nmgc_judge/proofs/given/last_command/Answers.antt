@@ -1,7 +1,4 @@
-use Rattle.std.proofs.Common.{sym, subst}
-use Rattle.std.specs.Prelude.{Some}
-use Rattle.nmgc_world_spec.specs.declared.command.Command.{Command}
-use Rattle.nmgc_judge.specs.Reading.{IsLastIf}
+use Rattle.nmgc_judge.proofs.Vocabulary.{sym, subst, Command, IsLastIf, Some}
 use Rattle.nmgc_judge.proofs.given.last_command.Goals as goal
 
 pub returns-in_ok-unpack-in-Some : goal.returns-in_ok-unpack-in-Some

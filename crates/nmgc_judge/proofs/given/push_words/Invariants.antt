@@ -1,5 +1,5 @@
 use Rattle.std.proofs.Common.{◌≡◌, ◌++◌, map, drop}
-use Rattle.nmgc_judge.specs.Reading.{after_spaces}
+use Rattle.nmgc_script.specs.Printing.{after_spaces}
 use Rattle.nmgc_judge.proofs.given.push_words.Given as goal
 
 -- the words so far were appended

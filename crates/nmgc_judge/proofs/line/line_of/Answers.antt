@@ -1,6 +1,4 @@
-use Rattle.std.proofs.Common.{◌≡◌, ◌∙◌, map, sym, ap, false}
-use Rattle.nmgc_script.specs.Text.{words_of, is_passed}
-use Rattle.nmgc_judge.proofs.LineSayings.{line_says}
+use Rattle.nmgc_judge.proofs.{Vocabulary.◌≡◌, Vocabulary.◌∙◌, Vocabulary.map, Vocabulary.sym, Vocabulary.ap, Vocabulary.false, Vocabulary.words_of, Vocabulary.is_passed, LineSayings.line_says}
 use Rattle.nmgc_judge.proofs.line.line_of.Goals as goal
 
 pub returns-then-is_passed : goal.returns-then-is_passed

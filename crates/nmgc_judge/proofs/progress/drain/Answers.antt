@@ -1,7 +1,5 @@
-use Rattle.std.proofs.Common.{arith, subst, Bool}
+use Rattle.nmgc_judge.proofs.{Vocabulary.arith, Vocabulary.subst, Vocabulary.Bool, Vocabulary.Passes, Drains.scans_more, Drains.drained, Drains.drained_out}
 use Rattle.nmgc_snapshot_laws.specs.declared.event.Event.TheVariants as event
-use Rattle.nmgc_snapshot_laws.specs.Machine.{Passes}
-use Rattle.nmgc_judge.proofs.Drains.{scans_more, drained, drained_out}
 use Rattle.nmgc_judge.proofs.progress.drain.Goals as goal
 
 pub loop-preserved : goal.loop-preserved

@@ -1,9 +1,5 @@
-use Rattle.std.proofs.Common.{subst, true, Bool}
-use Rattle.std.specs.Prelude.{Contains}
-use Rattle.nmgc_world_spec.specs.Reach.{Lists}
+use Rattle.nmgc_judge.proofs.{Vocabulary.subst, Vocabulary.true, Vocabulary.Bool, Vocabulary.Contains, Vocabulary.Lists, Vocabulary.Passes, Takes.take_told}
 use Rattle.nmgc_snapshot_laws.specs.declared.event.Event.TheVariants as event
-use Rattle.nmgc_snapshot_laws.specs.Machine.{Passes}
-use Rattle.nmgc_judge.proofs.Takes.{take_told}
 use Rattle.nmgc_judge.proofs.progress.takes.Goals as goal
 
 pub returns : goal.returns

@@ -1,10 +1,4 @@
-use Rattle.std.proofs.Common.{◌≡◌, ◌∙◌, ap, subst, arith, ℕ, List, Option, string_bytes}
-use Rattle.std.specs.Io.BufRead.{strip_last}
-use Rattle.nmgc_judge.specs.declared.progress.Progress.{Progress}
-use Rattle.nmgc_judge.specs.Outcomes.{IsTooLong}
-use Rattle.nmgc_judge.specs.Said.{ahead, SaysLine}
-use Rattle.nmgc_judge.specs.Trace.{IsNext}
-use Rattle.nmgc_judge.proofs.Readings.{nothing_read, reached_more, judged_refused, judged_ended, marked_too_long, of_stream}
+use Rattle.nmgc_judge.proofs.{Vocabulary.◌≡◌, Vocabulary.◌∙◌, Vocabulary.ap, Vocabulary.subst, Vocabulary.arith, Vocabulary.ℕ, Vocabulary.List, Vocabulary.Option, Vocabulary.string_bytes, Vocabulary.strip_last, Vocabulary.Progress, Vocabulary.IsTooLong, Vocabulary.ahead, Vocabulary.SaysLine, Vocabulary.IsNext, Readings.nothing_read, Readings.reached_more, Readings.judged_refused, Readings.judged_ended, Readings.marked_too_long, Readings.of_stream}
 use Rattle.nmgc_judge.proofs.reading.marked.Goals as goal
 
 pub loop-number-init : goal.loop-number-init

@@ -1,11 +1,4 @@
-use Rattle.std.proofs.Common.{◌∙◌, ap, sym, List, ℕ, true, string_bytes, codes}
-use Rattle.std.specs.Prelude.{◌&&◌}
-use Rattle.std.specs.Str.{bytes_eq}
-use Rattle.std.specs.Io.BufRead.{strip_last}
-use Rattle.std.proofs.lemmas.Result.{err_from_is_err_and}
-use Rattle.nmgc_judge.specs.Outcomes.{IsTooLong}
-use Rattle.nmgc_judge.specs.Said.{texts_of, ahead}
-use Rattle.nmgc_judge.proofs.Readings.{outcome_watched, outcome_marked, fault_by, of_stream, all_too_long, head_too_long}
+use Rattle.nmgc_judge.proofs.{Vocabulary.◌∙◌, Vocabulary.ap, Vocabulary.sym, Vocabulary.List, Vocabulary.ℕ, Vocabulary.true, Vocabulary.string_bytes, Vocabulary.codes, Vocabulary.◌&&◌, Vocabulary.bytes_eq, Vocabulary.strip_last, Vocabulary.err_from_is_err_and, Vocabulary.IsTooLong, Vocabulary.texts_of, Vocabulary.ahead, Readings.outcome_watched, Readings.outcome_marked, Readings.fault_by, Readings.of_stream, Readings.all_too_long, Readings.head_too_long}
 use Rattle.nmgc_judge.proofs.reading.outcome_of.Goals as goal
 
 pub returns-then-is_watched-clause-outcome : goal.returns-then-is_watched-clause-outcome

@@ -1,12 +1,4 @@
-use Rattle.std.proofs.Common.{◌≡◌, ◌∙◌, sym, ap, subst, arith, ℕ, List, Option, Bool, true, string_bytes}
-use Rattle.std.specs.Io.BufRead.{strip_last}
-use Rattle.nmgc_judge.specs.declared.told.Told.{Told}
-use Rattle.nmgc_judge.specs.declared.report.Begun.{Begun}
-use Rattle.nmgc_judge.specs.declared.report.Refusal.{Refusal}
-use Rattle.nmgc_judge.specs.Outcomes.{IsTooLong}
-use Rattle.nmgc_judge.specs.Reports.{IsHappening}
-use Rattle.nmgc_judge.specs.Said.{ahead, Says, IsNextLine}
-use Rattle.nmgc_judge.proofs.Readings.{SoFar, after_the_head, one_more, told_refused, told_ended, watched_too_long, of_stream}
+use Rattle.nmgc_judge.proofs.{Vocabulary.◌≡◌, Vocabulary.◌∙◌, Vocabulary.sym, Vocabulary.ap, Vocabulary.subst, Vocabulary.arith, Vocabulary.ℕ, Vocabulary.List, Vocabulary.Option, Vocabulary.Bool, Vocabulary.true, Vocabulary.string_bytes, Vocabulary.strip_last, Vocabulary.Told, Vocabulary.Begun, Vocabulary.Refusal, Vocabulary.IsTooLong, Vocabulary.IsHappening, Vocabulary.ahead, Vocabulary.Says, Vocabulary.IsNextLine, Readings.SoFar, Readings.after_the_head, Readings.one_more, Readings.told_refused, Readings.told_ended, Readings.watched_too_long, Readings.of_stream}
 use Rattle.nmgc_judge.proofs.reading.watched.Goals as goal
 
 pub loop-number-init : goal.loop-number-init

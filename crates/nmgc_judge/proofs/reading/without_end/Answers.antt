@@ -1,6 +1,4 @@
-use Rattle.std.proofs.Common.{◌≡◌, ◌∙◌, ap, refl, arith, List, ℕ, Bor}
-use Rattle.std.specs.Io.BufRead.{strip_last}
-use Rattle.nmgc_judge.proofs.Texts.{stripped_by}
+use Rattle.nmgc_judge.proofs.{Vocabulary.◌≡◌, Vocabulary.◌∙◌, Vocabulary.ap, Vocabulary.refl, Vocabulary.arith, Vocabulary.List, Vocabulary.ℕ, Vocabulary.Bor, Vocabulary.strip_last, Texts.stripped_by}
 use Rattle.nmgc_judge.proofs.reading.without_end.Goals as goal
 
 pub returns : goal.returns

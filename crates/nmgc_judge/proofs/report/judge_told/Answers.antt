@@ -1,9 +1,5 @@
-use Rattle.std.proofs.Common.{◌+◌, arith, subst, Option}
+use Rattle.nmgc_judge.proofs.{Vocabulary.◌+◌, Vocabulary.arith, Vocabulary.subst, Vocabulary.Option, Vocabulary.Refusal, Vocabulary.Comes, Vocabulary.IsHappening, Tellings.all_done, Tellings.comes_next, Tellings.ends_at_line, Tellings.ends_well, Wholes.tells_whole}
 use Rattle.nmgc_judge.specs.declared.report.Begun.TheVariants as begun
-use Rattle.nmgc_judge.specs.declared.report.Refusal.{Refusal}
-use Rattle.nmgc_judge.specs.Reports.{Comes, IsHappening}
-use Rattle.nmgc_judge.proofs.Tellings.{all_done, comes_next, ends_at_line, ends_well}
-use Rattle.nmgc_judge.proofs.Wholes.{tells_whole}
 use Rattle.nmgc_judge.proofs.report.judge_told.Goals as goal
 
 pub returns-in-Some : goal.returns-in-Some

@@ -1,6 +1,5 @@
-use Rattle.std.proofs.Common.{take}
+use Rattle.nmgc_judge.proofs.Vocabulary.{take, Comes}
 use Rattle.nmgc_judge.specs.declared.report.Begun.TheVariants as begun
-use Rattle.nmgc_judge.specs.Reports.{Comes}
 use Rattle.nmgc_judge.proofs.report.judge_told.Given as goal
 
 abbrev pub invariant-loop-index : goal.invariant-loop-index

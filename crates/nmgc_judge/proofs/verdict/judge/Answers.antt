@@ -1,9 +1,6 @@
-use Rattle.std.proofs.Common.{◌+◌, arith, subst, Option}
-use Rattle.nmgc_judge.specs.declared.progress.Progress.{Progress}
+use Rattle.nmgc_judge.proofs.{Vocabulary.◌+◌, Vocabulary.arith, Vocabulary.subst, Vocabulary.Option, Vocabulary.Progress, Vocabulary.IsNext, Kepts.refusal_tells, Kepts.tells_kept, Traces.all_done, Traces.comes_next, Traces.ends_at_line, Traces.ends_well}
+use Rattle.nmgc_judge.specs.Trace.{Comes}
 use Rattle.nmgc_judge.specs.declared.progress.Progress.TheVariants as progress
-use Rattle.nmgc_judge.specs.Trace.{IsNext, Comes}
-use Rattle.nmgc_judge.proofs.Kepts.{refusal_tells, tells_kept}
-use Rattle.nmgc_judge.proofs.Traces.{all_done, comes_next, ends_at_line, ends_well}
 use Rattle.nmgc_judge.proofs.verdict.judge.Goals as goal
 
 pub loop-index-preserved : goal.loop-index-preserved

@@ -1,6 +1,5 @@
-use Rattle.std.proofs.Common.{append_assoc}
-use Rattle.std.proofs.lemmas.List.{map_push}
-use Rattle.nmgc_judge.proofs.LineWords.{words_first, words_last}
+use Rattle.std.proofs.{Common.append_assoc, lemmas.List.map_push}
+use Rattle.nmgc_script.specs.laws.Lines.{words_first, words_last}
 use Rattle.nmgc_judge.proofs.words.cut_words.Goals as goal
 
 pub loop-word-preserved : goal.loop-word-preserved

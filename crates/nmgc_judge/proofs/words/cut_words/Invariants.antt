@@ -1,5 +1,4 @@
-use Rattle.std.proofs.Common.{◌≡◌, ◌++◌, map, length}
-use Rattle.nmgc_script.specs.Text.{words_of}
+use Rattle.nmgc_judge.proofs.Vocabulary.{◌≡◌, ◌++◌, map, length, words_of}
 use Rattle.nmgc_judge.proofs.words.cut_words.Given as goal
 
 -- the words so far and those of the rest are those of the line

@@ -1,6 +1,4 @@
-use Rattle.std.proofs.Common.{sym, ◌∙◌}
-use Rattle.nmgc_journal.specs.Reading.{name_at}
-use Rattle.nmgc_judge.proofs.Each.{goes_on, ends, is_done}
+use Rattle.nmgc_judge.proofs.{Vocabulary.sym, Vocabulary.◌∙◌, Vocabulary.name_at, Each.goes_on, Each.ends, Each.is_done}
 use Rattle.nmgc_judge.proofs.words.each_name.Goals as goal
 
 pub returns-in_default : goal.returns-in_default

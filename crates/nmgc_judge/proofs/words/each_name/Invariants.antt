@@ -1,7 +1,4 @@
-use Rattle.std.proofs.Common.{◌≡◌, map, drop}
-use Rattle.nmgc_journal.specs.Reading.{name_at}
-use Rattle.nmgc_judge.specs.Reading.{each_at}
-use Rattle.nmgc_judge.proofs.Each.{with_front}
+use Rattle.nmgc_judge.proofs.{Vocabulary.◌≡◌, Vocabulary.map, Vocabulary.drop, Vocabulary.name_at, Vocabulary.each_at, Each.with_front}
 use Rattle.nmgc_judge.proofs.words.each_name.Given as goal
 
 -- the names so far and those of the rest are all

@@ -1,10 +1,4 @@
-use Rattle.std.proofs.Common.{ℕ, List, take, drop, get_or, subst, sym, arith, ◌∙◌}
-use Rattle.std.specs.Prelude.{Contains}
-use Rattle.std.proofs.lemmas.List.{take-append-drop, get_or_default}
-use Rattle.std.proofs.lemmas.List.Elements.{Contains-get_or, Contains-append_left}
-use Rattle.nmgc_minor.specs.declared.placing.Move.{Move}
-use Rattle.nmgc_minor.specs.Forwarding.{forward_word}
-use Rattle.nmgc_minor.proofs.ForwardLaws.{still_header, copy_header, copies_more}
+use Rattle.nmgc_minor.proofs.{Vocabulary.ℕ, Vocabulary.List, Vocabulary.take, Vocabulary.drop, Vocabulary.get_or, Vocabulary.subst, Vocabulary.sym, Vocabulary.arith, Vocabulary.◌∙◌, Vocabulary.Contains, Vocabulary.take-append-drop, Vocabulary.get_or_default, Vocabulary.Contains-get_or, Vocabulary.Contains-append_left, Vocabulary.Move, Vocabulary.forward_word, ForwardLaws.still_header, ForwardLaws.copy_header, ForwardLaws.copies_more}
 use Rattle.nmgc_minor.proofs.forwarding.copy_all.Goals as goal
 
 no_move : Move

@@ -1,5 +1,4 @@
-use Rattle.std.proofs.Common.{take}
-use Rattle.nmgc_minor.specs.Forwarding.{forward_word, CopiesAll}
+use Rattle.nmgc_minor.proofs.Vocabulary.{take, forward_word, CopiesAll}
 use Rattle.nmgc_minor.proofs.forwarding.copy_all.Given as goal
 
 abbrev pub invariant-loop-moved : goal.invariant-loop-moved

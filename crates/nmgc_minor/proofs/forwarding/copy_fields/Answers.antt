@@ -1,7 +1,4 @@
-use Rattle.std.proofs.Common.{◌+◌, ℕ, List, set, ap, ◌∙◌, length, arith}
-use Rattle.nmgc_object.specs.declared.size.TheConstants.{HEADER_WORDS}
-use Rattle.nmgc_minor.specs.Forwarding.{forward_word}
-use Rattle.nmgc_minor.proofs.ForwardLaws.{none_copied, fields_copied}
+use Rattle.nmgc_minor.proofs.{Vocabulary.◌+◌, Vocabulary.ℕ, Vocabulary.List, Vocabulary.set, Vocabulary.ap, Vocabulary.◌∙◌, Vocabulary.length, Vocabulary.arith, Vocabulary.HEADER_WORDS, Vocabulary.forward_word, ForwardLaws.none_copied, ForwardLaws.fields_copied}
 use Rattle.nmgc_minor.proofs.forwarding.copy_fields.Goals as goal
 
 pub loop-i-init : goal.loop-i-init

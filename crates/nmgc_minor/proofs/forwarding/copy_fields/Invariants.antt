@@ -1,6 +1,4 @@
-use Rattle.std.proofs.Common.{◌+◌}
-use Rattle.nmgc_object.specs.declared.size.TheConstants.{HEADER_WORDS}
-use Rattle.nmgc_minor.specs.Forwarding.{forward_word, CopiesFields}
+use Rattle.nmgc_minor.proofs.Vocabulary.{◌+◌, HEADER_WORDS, forward_word, CopiesFields}
 use Rattle.nmgc_minor.proofs.forwarding.copy_fields.Given as goal
 
 abbrev pub invariant-loop-i : goal.invariant-loop-i

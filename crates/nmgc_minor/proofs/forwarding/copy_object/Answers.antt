@@ -1,8 +1,4 @@
-use Rattle.std.proofs.Common.{◌+◌, ℕ, List, length, ap, arith, subst}
-use Rattle.std.proofs.Math.ListN.{length-set}
-use Rattle.nmgc_object.specs.declared.size.TheConstants.{HEADER_WORDS}
-use Rattle.nmgc_minor.specs.Forwarding.{CopiesFields, forward_word}
-use Rattle.nmgc_minor.proofs.ForwardLaws.{object_copied}
+use Rattle.nmgc_minor.proofs.{Vocabulary.◌+◌, Vocabulary.ℕ, Vocabulary.List, Vocabulary.length, Vocabulary.ap, Vocabulary.arith, Vocabulary.subst, Vocabulary.length-set, Vocabulary.HEADER_WORDS, Vocabulary.CopiesFields, Vocabulary.forward_word, ForwardLaws.object_copied}
 use Rattle.nmgc_minor.proofs.forwarding.copy_object.Goals as goal
 
 pub copy_fields-requires-clause-inside : goal.copy_fields-requires-clause-inside

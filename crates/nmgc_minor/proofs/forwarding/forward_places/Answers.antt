@@ -1,10 +1,4 @@
-use Rattle.std.proofs.Common.{◌≡◌, List, take, get_or, subst, arith}
-use Rattle.std.specs.Prelude.{Contains}
-use Rattle.std.proofs.lemmas.List.{take_all, get_or_default}
-use Rattle.std.proofs.lemmas.List.Elements.{Contains-get_or}
-use Rattle.nmgc_object.specs.declared.words.Address.{Address}
-use Rattle.nmgc_minor.specs.Forwarding.{ForwardsAt, forward_word}
-use Rattle.nmgc_minor.proofs.ForwardLaws.{none_forwarded, recorded_more}
+use Rattle.nmgc_minor.proofs.{Vocabulary.◌≡◌, Vocabulary.List, Vocabulary.take, Vocabulary.get_or, Vocabulary.subst, Vocabulary.arith, Vocabulary.Contains, Vocabulary.take_all, Vocabulary.get_or_default, Vocabulary.Contains-get_or, Vocabulary.Address, Vocabulary.ForwardsAt, Vocabulary.forward_word, ForwardLaws.none_forwarded, ForwardLaws.recorded_more}
 use Rattle.nmgc_minor.proofs.forwarding.forward_places.Goals as goal
 
 pub loop-at-init : goal.loop-at-init

@@ -1,6 +1,4 @@
-use Rattle.std.proofs.Common.{take}
-use Rattle.std.specs.Prelude.{Contains}
-use Rattle.nmgc_minor.specs.Forwarding.{forward_word, ForwardsAt}
+use Rattle.nmgc_minor.proofs.Vocabulary.{take, Contains, forward_word, ForwardsAt}
 use Rattle.nmgc_minor.proofs.forwarding.forward_places.Given as goal
 
 abbrev pub invariant-loop-at : goal.invariant-loop-at

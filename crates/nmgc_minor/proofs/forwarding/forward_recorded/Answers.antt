@@ -1,13 +1,4 @@
-use Rattle.std.proofs.Common.{ℕ, ◌≡◌, ◌+◌, ◌++◌, List, take, subst, sym, arith}
-use Rattle.std.specs.Prelude.{Contains}
-use Rattle.std.specs.List.{flat_map}
-use Rattle.std.proofs.lemmas.List.{take_all}
-use Rattle.std.proofs.lemmas.List.Elements.{Contains-get_or, Contains-append_left, Contains-append_right, Contains-append_cases}
-use Rattle.nmgc_object.specs.declared.words.Address.{Address}
-use Rattle.nmgc_lists.specs.laws.Items.{contains_flat}
-use Rattle.nmgc_minor.specs.Forwarding.{ForwardsAt, forward_word}
-use Rattle.nmgc_minor.proofs.ForwardLaws.{none_forwarded, forwards_then}
-use Rattle.nmgc_minor.proofs.Listing.{flat_more}
+use Rattle.nmgc_minor.proofs.{Vocabulary.ℕ, Vocabulary.◌≡◌, Vocabulary.◌+◌, Vocabulary.◌++◌, Vocabulary.List, Vocabulary.take, Vocabulary.subst, Vocabulary.sym, Vocabulary.arith, Vocabulary.Contains, Vocabulary.flat_map, Vocabulary.take_all, Vocabulary.Contains-get_or, Vocabulary.Contains-append_left, Vocabulary.Contains-append_right, Vocabulary.Contains-append_cases, Vocabulary.Address, Vocabulary.contains_flat, Vocabulary.ForwardsAt, Vocabulary.forward_word, ForwardLaws.none_forwarded, ForwardLaws.forwards_then, Listing.flat_more}
 use Rattle.nmgc_minor.proofs.forwarding.forward_recorded.Goals as goal
 
 pub loop-mutator-init : goal.loop-mutator-init

@@ -1,7 +1,4 @@
-use Rattle.std.proofs.Common.{take}
-use Rattle.std.specs.Prelude.{Contains}
-use Rattle.std.specs.List.{flat_map}
-use Rattle.nmgc_minor.specs.Forwarding.{forward_word, ForwardsAt}
+use Rattle.nmgc_minor.proofs.Vocabulary.{take, Contains, flat_map, forward_word, ForwardsAt}
 use Rattle.nmgc_minor.proofs.forwarding.forward_recorded.Given as goal
 
 abbrev pub invariant-loop-mutator : goal.invariant-loop-mutator

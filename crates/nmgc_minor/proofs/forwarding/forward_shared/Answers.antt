@@ -1,6 +1,4 @@
-use Rattle.std.proofs.Common.{arith}
-use Rattle.nmgc_minor.specs.Forwarding.{forward_word}
-use Rattle.nmgc_minor.proofs.ForwardLaws.{none_forwarded, range_forwarded}
+use Rattle.nmgc_minor.proofs.{Vocabulary.arith, Vocabulary.forward_word, ForwardLaws.none_forwarded, ForwardLaws.range_forwarded}
 use Rattle.nmgc_minor.proofs.forwarding.forward_shared.Goals as goal
 
 pub loop-i-init : goal.loop-i-init

@@ -1,5 +1,4 @@
-use Rattle.std.proofs.Common.{◌<◌, ◌≤◌}
-use Rattle.nmgc_minor.specs.Forwarding.{forward_word, ForwardsAt}
+use Rattle.nmgc_minor.proofs.Vocabulary.{◌<◌, ◌≤◌, forward_word, ForwardsAt}
 use Rattle.nmgc_minor.proofs.forwarding.forward_shared.Given as goal
 
 abbrev pub invariant-loop-i : goal.invariant-loop-i

@@ -1,7 +1,4 @@
-use Rattle.std.proofs.Common.{ℕ, ◌-◌, get_or, refl, sym, ap, ◌∙◌}
-use Rattle.std.proofs.lemmas.List.{get_or_past}
-use Rattle.nmgc_minor.specs.Forwarding.{forward_word}
-use Rattle.nmgc_minor.proofs.ForwardLaws.{odd_stays, word_low, word_unset, word_moved}
+use Rattle.nmgc_minor.proofs.{Vocabulary.ℕ, Vocabulary.◌-◌, Vocabulary.get_or, Vocabulary.refl, Vocabulary.sym, Vocabulary.ap, Vocabulary.◌∙◌, Vocabulary.get_or_past, Vocabulary.forward_word, ForwardLaws.odd_stays, ForwardLaws.word_low, ForwardLaws.word_unset, ForwardLaws.word_moved}
 use Rattle.nmgc_minor.proofs.forwarding.forwarded.Goals as goal
 
 pub returns-in_default : goal.returns-in_default

@@ -1,9 +1,4 @@
-use Rattle.std.proofs.Common.{◌≡◌, ◌+◌, ◌-◌, ◌≤◌, ◌*◌, ◌++◌, zero, suc, set, slice_index, ◌∷◌, ℕ, List, [], length, refl, sym, ap, subst, ◌∙◌, arith, append_assoc, length-append, inl, inr, ◌<◌, ◌⊎◌}
-use Rattle.std.proofs.lemmas.List.{append-nil}
-use Rattle.nmgc_object.specs.declared.layout.Layout.{Layout}
-use Rattle.nmgc_minor.specs.declared.placing.Move.{Move}
-use Rattle.nmgc_minor.specs.Placing.{IsMarked, HasHeaderWord, CanPlace, PlacesOne, PlacesRange}
-use Rattle.nmgc_minor.proofs.PlacingLaws.{range_none, range_skip, range_later, range_more, reaches_none, reaches_skip, reaches_later, reaches_more, reaches_room, reaches_all}
+use Rattle.nmgc_minor.proofs.{Vocabulary.◌≡◌, Vocabulary.◌+◌, Vocabulary.◌-◌, Vocabulary.◌≤◌, Vocabulary.◌*◌, Vocabulary.◌++◌, Vocabulary.zero, Vocabulary.suc, Vocabulary.set, Vocabulary.slice_index, Vocabulary.◌∷◌, Vocabulary.ℕ, Vocabulary.List, Vocabulary.[], Vocabulary.length, Vocabulary.refl, Vocabulary.sym, Vocabulary.ap, Vocabulary.subst, Vocabulary.◌∙◌, Vocabulary.arith, Vocabulary.append_assoc, Vocabulary.length-append, Vocabulary.inl, Vocabulary.inr, Vocabulary.◌<◌, Vocabulary.◌⊎◌, Vocabulary.append-nil, Vocabulary.Layout, Vocabulary.Move, Vocabulary.IsMarked, Vocabulary.HasHeaderWord, Vocabulary.CanPlace, Vocabulary.PlacesOne, Vocabulary.PlacesRange, PlacingLaws.range_none, PlacingLaws.range_skip, PlacingLaws.range_later, PlacingLaws.range_more, PlacingLaws.reaches_none, PlacingLaws.reaches_skip, PlacingLaws.reaches_later, PlacingLaws.reaches_more, PlacingLaws.reaches_room, PlacingLaws.reaches_all}
 use Rattle.nmgc_minor.proofs.nurseries.place_all.Goals as goal
 
 -- where there is a word, the part isn't empty

@@ -1,8 +1,4 @@
-use Rattle.std.proofs.Common.{◌≡◌, ◌+◌, ◌-◌, ◌*◌, ◌≤◌, ◌++◌, List, length}
-use Rattle.nmgc_alloc.specs.Segments.{IsSegments}
-use Rattle.nmgc_alloc.specs.Reserve.{KeepsReserve}
-use Rattle.nmgc_minor.specs.declared.placing.Move.{Move}
-use Rattle.nmgc_minor.specs.Placing.{PlacesRange, Reaches}
+use Rattle.nmgc_minor.proofs.Vocabulary.{◌≡◌, ◌+◌, ◌-◌, ◌*◌, ◌≤◌, ◌++◌, List, length, IsSegments, KeepsReserve, Move, PlacesRange, Reaches}
 use Rattle.nmgc_minor.proofs.nurseries.place_all.Given as goal
 
 abbrev pub invariant-loop-at : goal.invariant-loop-at

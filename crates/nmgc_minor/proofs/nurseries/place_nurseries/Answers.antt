@@ -1,16 +1,4 @@
-use Rattle.std.proofs.Common.{◌≡◌, ◌+◌, ◌-◌, ◌*◌, ◌<◌, ◌≤◌, ◌++◌, ℕ, List, [], length, refl, sym, ap, subst, ◌∙◌, arith, inl, inr, append_assoc, slice_index}
-use Rattle.std.proofs.Math.Nat.{mul-le-mul_right}
-use Rattle.std.specs.Prelude.{map}
-use Rattle.std.proofs.lemmas.List.{append-nil, length-map}
-use Rattle.nmgc_object.specs.Places.{nursery_place}
-use Rattle.nmgc_object.specs.declared.layout.Layout.{Layout}
-use Rattle.nmgc_object.specs.declared.layout.Nursery.{Nursery}
-use Rattle.nmgc_alloc.specs.Reserve.{KeepsReserve}
-use Rattle.nmgc_minor.specs.declared.placing.Move.{Move}
-use Rattle.nmgc_blocks_spec.specs.Nurseries.{nursery_at}
-use Rattle.nmgc_minor.specs.Placing.{AreNurseries, CanPlaceAll, PlacesRange}
-use Rattle.nmgc_minor.proofs.Listing.{nursery_is}
-use Rattle.nmgc_minor.proofs.PlacingLaws.{range_none, range_gap, range_then, still_can_place}
+use Rattle.nmgc_minor.proofs.{Vocabulary.◌≡◌, Vocabulary.◌+◌, Vocabulary.◌-◌, Vocabulary.◌*◌, Vocabulary.◌<◌, Vocabulary.◌≤◌, Vocabulary.◌++◌, Vocabulary.ℕ, Vocabulary.List, Vocabulary.[], Vocabulary.length, Vocabulary.refl, Vocabulary.sym, Vocabulary.ap, Vocabulary.subst, Vocabulary.◌∙◌, Vocabulary.arith, Vocabulary.inl, Vocabulary.inr, Vocabulary.append_assoc, Vocabulary.slice_index, Vocabulary.mul-le-mul_right, Vocabulary.append-nil, Vocabulary.length-map, Vocabulary.nursery_place, Vocabulary.Layout, Vocabulary.Nursery, Vocabulary.KeepsReserve, Vocabulary.Move, Vocabulary.nursery_at, Vocabulary.AreNurseries, Vocabulary.CanPlaceAll, Vocabulary.PlacesRange, Vocabulary.map, Listing.nursery_is, PlacingLaws.range_none, PlacingLaws.range_gap, PlacingLaws.range_then, PlacingLaws.still_can_place}
 use Rattle.nmgc_minor.proofs.nurseries.place_nurseries.Goals as goal
 
 -- where a nursery lies among all, and where its used part ends

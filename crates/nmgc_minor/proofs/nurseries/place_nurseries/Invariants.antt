@@ -1,10 +1,4 @@
-use Rattle.std.proofs.Common.{◌≡◌, ◌+◌, ◌*◌, ◌≤◌, ◌⊎◌, ◌++◌, List, length, map}
-use Rattle.nmgc_object.specs.Places.{nursery_place}
-use Rattle.nmgc_alloc.specs.Segments.{IsSegments}
-use Rattle.nmgc_alloc.specs.Reserve.{KeepsReserve}
-use Rattle.nmgc_blocks_spec.specs.Nurseries.{AreEmpty}
-use Rattle.nmgc_minor.specs.declared.placing.Move.{Move}
-use Rattle.nmgc_minor.specs.Placing.{PlacesRange}
+use Rattle.nmgc_minor.proofs.Vocabulary.{◌≡◌, ◌+◌, ◌*◌, ◌≤◌, ◌⊎◌, ◌++◌, List, length, map, nursery_place, IsSegments, KeepsReserve, AreEmpty, Move, PlacesRange}
 use Rattle.nmgc_minor.proofs.nurseries.place_nurseries.Given as goal
 
 abbrev pub invariant-loop-maker : goal.invariant-loop-maker

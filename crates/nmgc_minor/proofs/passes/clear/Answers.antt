@@ -1,6 +1,4 @@
-use Rattle.std.proofs.Common.{List, length, ap, subst, arith}
-use Rattle.std.specs.Prelude.{Contains}
-use Rattle.nmgc_object.specs.declared.words.Address.{Address}
+use Rattle.nmgc_minor.proofs.Vocabulary.{List, length, ap, subst, arith, Contains, Address}
 use Rattle.nmgc_minor.proofs.passes.clear.Goals as goal
 
 pub forget-requires : goal.forget-requires

@@ -1,9 +1,4 @@
-use Rattle.std.proofs.Common.{◌≡◌, ◌+◌, ◌-◌, ◌<◌, ◌++◌, ◌∷◌, ℕ, List, [], length, take, set, get_or, slice_index, inl, inr, ap, subst, sym, ◌∙◌, arith}
-use Rattle.std.specs.Prelude.{Contains}
-use Rattle.std.proofs.lemmas.Bool.{cases_eq}
-use Rattle.std.proofs.lemmas.List.{take_all, take_more, get_or-set_same, get_or-set_other}
-use Rattle.std.proofs.lemmas.List.Elements.{Contains-get_or, Contains-push_cases}
-use Rattle.nmgc_object.specs.declared.words.Address.{Address}
+use Rattle.nmgc_minor.proofs.Vocabulary.{◌≡◌, ◌+◌, ◌-◌, ◌<◌, ◌++◌, ◌∷◌, ℕ, List, [], length, take, set, get_or, slice_index, inl, inr, ap, subst, sym, ◌∙◌, arith, Contains, cases_eq, take_all, take_more, get_or-set_same, get_or-set_other, Contains-get_or, Contains-push_cases, Address}
 use Rattle.nmgc_minor.proofs.passes.forget.Goals as goal
 
 pub overflow_sub-table : goal.overflow_sub-table

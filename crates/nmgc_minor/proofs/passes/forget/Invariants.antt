@@ -1,5 +1,4 @@
-use Rattle.std.proofs.Common.{◌≡◌, ◌+◌, ◌⊎◌, ℕ, slice_index, take}
-use Rattle.std.specs.Prelude.{Contains}
+use Rattle.nmgc_minor.proofs.Vocabulary.{◌≡◌, ◌+◌, ◌⊎◌, ℕ, slice_index, take, Contains}
 use Rattle.nmgc_minor.proofs.passes.forget.Given as goal
 
 -- an entry is as it was, or it was freed; and the entries of those gone through are free

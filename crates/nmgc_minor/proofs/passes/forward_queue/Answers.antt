@@ -1,9 +1,4 @@
-use Rattle.std.proofs.Common.{◌≡◌, ◌+◌, ◌++◌, ◌<◌, ℕ, List, length, map, take, drop, set, slice_index, refl, sym, ap, ◌∙◌, arith, length-append, length-take, length-drop}
-use Rattle.std.proofs.lemmas.List.{get_or_default, length-map}
-use Rattle.std.proofs.lemmas.List.Edits.{map_over_more}
-use Rattle.nmgc_object.specs.FinQueue.{FinQueue}
-use Rattle.nmgc_minor.specs.Forwarding.{forward_word}
-use Rattle.nmgc_minor.proofs.ForwardLaws.{low_words}
+use Rattle.nmgc_minor.proofs.{Vocabulary.◌≡◌, Vocabulary.◌+◌, Vocabulary.◌++◌, Vocabulary.◌<◌, Vocabulary.ℕ, Vocabulary.List, Vocabulary.length, Vocabulary.map, Vocabulary.take, Vocabulary.drop, Vocabulary.set, Vocabulary.slice_index, Vocabulary.refl, Vocabulary.sym, Vocabulary.ap, Vocabulary.◌∙◌, Vocabulary.arith, Vocabulary.length-append, Vocabulary.length-take, Vocabulary.length-drop, Vocabulary.get_or_default, Vocabulary.length-map, Vocabulary.map_over_more, Vocabulary.FinQueue, Vocabulary.forward_word, ForwardLaws.low_words}
 use Rattle.nmgc_minor.proofs.passes.forward_queue.Goals as goal
 
 same_queue : (a b : FinQueue) → a.words ≡ b.words → a.spare ≡ b.spare → a ≡ b

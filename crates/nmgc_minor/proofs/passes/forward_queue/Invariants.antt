@@ -1,6 +1,4 @@
-use Rattle.std.proofs.Common.{◌≡◌, ◌++◌, map, take, drop}
-use Rattle.nmgc_object.specs.FinQueue.{FinQueue}
-use Rattle.nmgc_minor.specs.Forwarding.{forward_word}
+use Rattle.nmgc_minor.proofs.Vocabulary.{◌≡◌, ◌++◌, map, take, drop, FinQueue, forward_word}
 use Rattle.nmgc_minor.proofs.passes.forward_queue.Given as goal
 
 -- the words so far are forwarded, and the rest are as they were

@@ -1,11 +1,4 @@
-use Rattle.std.specs.List.{flat_map}
-use Rattle.std.proofs.Common.{◌+◌, ◌++◌, ℕ, List, length, map, refl, sym, ap, subst, ◌∙◌, arith}
-use Rattle.nmgc_minor.specs.declared.placing.Move.{Move}
-use Rattle.nmgc_minor.specs.Start.{inputs_of}
-use Rattle.nmgc_minor.specs.Placing.{IsSharedSlot, PlacesRange}
-use Rattle.nmgc_minor.specs.Forwarding.{CanCopyAll, CopiesAll, ForwardsAt, forward_word}
-use Rattle.nmgc_minor.specs.Promotes.{Promotes}
-use Rattle.nmgc_minor.proofs.WriteLaws.{address_in, parts_of, leaves, lent_back, ready, ready_small, ready_copy, ready_promotes}
+use Rattle.nmgc_minor.proofs.{Vocabulary.flat_map, Vocabulary.◌+◌, Vocabulary.◌++◌, Vocabulary.ℕ, Vocabulary.List, Vocabulary.length, Vocabulary.map, Vocabulary.refl, Vocabulary.sym, Vocabulary.ap, Vocabulary.subst, Vocabulary.◌∙◌, Vocabulary.arith, Vocabulary.Move, Vocabulary.inputs_of, Vocabulary.IsSharedSlot, Vocabulary.PlacesRange, Vocabulary.CanCopyAll, Vocabulary.CopiesAll, Vocabulary.ForwardsAt, Vocabulary.forward_word, Vocabulary.Promotes, WriteLaws.address_in, WriteLaws.parts_of, WriteLaws.leaves, WriteLaws.lent_back, WriteLaws.ready, WriteLaws.ready_small, WriteLaws.ready_copy, WriteLaws.ready_promotes}
 use Rattle.nmgc_minor.proofs.passes.promote_words.Goals as goal
 
 pub mark-requires-clause-recorded : goal.mark-requires-clause-recorded

@@ -1,7 +1,4 @@
-use Rattle.std.proofs.Common.{◌≡◌, ◌+◌, ◌++◌, map, take, drop, set, subst, sym, ap, ◌∙◌}
-use Rattle.std.proofs.lemmas.List.Edits.{map_over_more}
-use Rattle.nmgc_minor.specs.Forwarding.{forward_word}
-use Rattle.nmgc_minor.specs.Promotes.{promoted}
+use Rattle.nmgc_minor.proofs.Vocabulary.{◌≡◌, ◌+◌, ◌++◌, map, take, drop, set, subst, sym, ap, ◌∙◌, map_over_more, forward_word, promoted}
 use Rattle.nmgc_minor.proofs.passes.settle.Goals as goal
 
 pub loop-mutator-preserved : goal.loop-mutator-preserved

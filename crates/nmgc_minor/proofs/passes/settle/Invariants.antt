@@ -1,6 +1,4 @@
-use Rattle.std.proofs.Common.{◌≡◌, ◌++◌, map, take, drop}
-use Rattle.nmgc_minor.specs.Forwarding.{forward_word}
-use Rattle.nmgc_minor.specs.Promotes.{promoted}
+use Rattle.nmgc_minor.proofs.Vocabulary.{◌≡◌, ◌++◌, map, take, drop, forward_word, promoted}
 use Rattle.nmgc_minor.proofs.passes.settle.Given as goal
 
 abbrev pub invariant-loop-mutator : goal.invariant-loop-mutator

@@ -1,8 +1,4 @@
-use Rattle.std.proofs.Common.{ℕ, ap, subst, sym, ◌∙◌, arith}
-use Rattle.nmgc_world_spec.specs.declared.value.Name.{Name}
-use Rattle.nmgc_object.specs.Size.{IsClassOf}
-use Rattle.nmgc_object.specs.Words.{IsName, name_word}
-use Rattle.nmgc_object.specs.laws.Classes.{class_fits}
+use Rattle.nmgc_minor.proofs.Vocabulary.{ℕ, ap, subst, sym, ◌∙◌, arith, Name, IsClassOf, IsName, name_word, class_fits}
 use Rattle.nmgc_minor.proofs.placing.place_object.Goals as goal
 
 pub class_of-class-requires-clause-least : goal.class_of-class-requires-clause-least

@@ -1,9 +1,4 @@
-use Rattle.std.proofs.Common.{ℕ, List, ◌+◌, slice_index, refl, subst, ◌∙◌}
-use Rattle.std.specs.Prelude.{Contains, map}
-use Rattle.std.specs.List.{flat_map}
-use Rattle.nmgc_minor.specs.Young.{Notes, Follows}
-use Rattle.nmgc_minor.specs.Start.{inputs_of}
-use Rattle.nmgc_minor.proofs.StartLaws.{Starts, OfQueue, OfShared, OfRecorded, OfWeak, by_register, by_queue, by_shared, by_recorded, by_weak, notes_starts, within_after, can_follow_noted, finds_all}
+use Rattle.nmgc_minor.proofs.{Vocabulary.ℕ, Vocabulary.List, Vocabulary.◌+◌, Vocabulary.slice_index, Vocabulary.refl, Vocabulary.subst, Vocabulary.◌∙◌, Vocabulary.Contains, Vocabulary.flat_map, Vocabulary.Notes, Vocabulary.Follows, Vocabulary.inputs_of, Vocabulary.map, StartLaws.Starts, StartLaws.OfQueue, StartLaws.OfShared, StartLaws.OfRecorded, StartLaws.OfWeak, StartLaws.by_register, StartLaws.by_queue, StartLaws.by_shared, StartLaws.by_recorded, StartLaws.by_weak, StartLaws.notes_starts, StartLaws.within_after, StartLaws.can_follow_noted, StartLaws.finds_all}
 use Rattle.nmgc_minor.proofs.starts.mark.Goals as goal
 
 pub note_registers-requires-clause-within : goal.note_registers-requires-clause-within

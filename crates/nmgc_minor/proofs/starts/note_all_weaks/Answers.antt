@@ -1,11 +1,4 @@
-use Rattle.std.proofs.Common.{ℕ, ◌≡◌, List, take, get_or, length, ap, subst, refl, ◌∙◌, arith}
-use Rattle.std.specs.Prelude.{Contains}
-use Rattle.std.proofs.lemmas.List.{take_all, get_or_default}
-use Rattle.std.proofs.lemmas.List.Elements.{Contains-get_or}
-use Rattle.nmgc_object.specs.declared.words.Address.{Address}
-use Rattle.nmgc_minor.specs.Young.{Notes}
-use Rattle.nmgc_minor.specs.Start.{IsWeakStart}
-use Rattle.nmgc_minor.proofs.StartLaws.{notes_first, notes_item, within_after}
+use Rattle.nmgc_minor.proofs.{Vocabulary.ℕ, Vocabulary.◌≡◌, Vocabulary.List, Vocabulary.take, Vocabulary.get_or, Vocabulary.length, Vocabulary.ap, Vocabulary.subst, Vocabulary.refl, Vocabulary.◌∙◌, Vocabulary.arith, Vocabulary.Contains, Vocabulary.take_all, Vocabulary.get_or_default, Vocabulary.Contains-get_or, Vocabulary.Address, Vocabulary.Notes, Vocabulary.IsWeakStart, StartLaws.notes_first, StartLaws.notes_item, StartLaws.within_after}
 use Rattle.nmgc_minor.proofs.starts.note_all_weaks.Goals as goal
 
 abbrev Of : List ℕ → List Address → ℕ → Type 0

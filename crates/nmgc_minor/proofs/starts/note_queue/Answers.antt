@@ -1,7 +1,4 @@
-use Rattle.std.proofs.Common.{ℕ, ◌≡◌, ◌*◌, ◌%◌, List, subst, arith}
-use Rattle.std.specs.Prelude.{Contains}
-use Rattle.nmgc_minor.specs.Young.{Notes}
-use Rattle.nmgc_minor.proofs.NoteLaws.{notes_none}
+use Rattle.nmgc_minor.proofs.{Vocabulary.ℕ, Vocabulary.◌≡◌, Vocabulary.◌*◌, Vocabulary.◌%◌, Vocabulary.List, Vocabulary.subst, Vocabulary.arith, Vocabulary.Contains, Vocabulary.Notes, NoteLaws.notes_none}
 use Rattle.nmgc_minor.proofs.starts.note_queue.Goals as goal
 
 -- none of its words is young

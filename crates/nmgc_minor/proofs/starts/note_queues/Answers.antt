@@ -1,11 +1,4 @@
-use Rattle.std.proofs.Common.{ℕ, ◌≡◌, List, take, subst, sym, ap}
-use Rattle.std.specs.Prelude.{Contains}
-use Rattle.std.proofs.lemmas.List.{take_all}
-use Rattle.std.proofs.lemmas.List.Elements.{Contains-get_or}
-use Rattle.nmgc_object.specs.FinQueue.{FinQueue}
-use Rattle.nmgc_minor.specs.Young.{Notes}
-use Rattle.nmgc_lists.specs.laws.Items.{contains_map as map_in}
-use Rattle.nmgc_minor.proofs.StartLaws.{notes_first, notes_item, notes_mapped, within_after}
+use Rattle.nmgc_minor.proofs.{Vocabulary.ℕ, Vocabulary.◌≡◌, Vocabulary.List, Vocabulary.take, Vocabulary.subst, Vocabulary.sym, Vocabulary.ap, Vocabulary.Contains, Vocabulary.take_all, Vocabulary.Contains-get_or, Vocabulary.FinQueue, Vocabulary.Notes, Vocabulary.map_in, StartLaws.notes_first, StartLaws.notes_item, StartLaws.notes_mapped, StartLaws.within_after}
 use Rattle.nmgc_minor.proofs.starts.note_queues.Goals as goal
 
 pub loop-mutator-init : goal.loop-mutator-init

@@ -1,11 +1,4 @@
-use Rattle.std.proofs.Common.{ℕ, ◌≡◌, List, take, length, slice_index, refl, subst, sym, ap, ◌∙◌, arith}
-use Rattle.std.specs.Prelude.{Contains}
-use Rattle.std.proofs.lemmas.List.{take_all}
-use Rattle.std.proofs.lemmas.List.Elements.{Contains-get_or}
-use Rattle.nmgc_object.specs.declared.words.Address.{Address}
-use Rattle.nmgc_lists.specs.laws.Items.{contains_flat}
-use Rattle.nmgc_minor.specs.Young.{Notes, IsWithin}
-use Rattle.nmgc_minor.proofs.StartLaws.{notes_first, notes_item, notes_flat, within_after}
+use Rattle.nmgc_minor.proofs.{Vocabulary.ℕ, Vocabulary.◌≡◌, Vocabulary.List, Vocabulary.take, Vocabulary.length, Vocabulary.slice_index, Vocabulary.refl, Vocabulary.subst, Vocabulary.sym, Vocabulary.ap, Vocabulary.◌∙◌, Vocabulary.arith, Vocabulary.Contains, Vocabulary.take_all, Vocabulary.Contains-get_or, Vocabulary.Address, Vocabulary.contains_flat, Vocabulary.Notes, Vocabulary.IsWithin, StartLaws.notes_first, StartLaws.notes_item, StartLaws.notes_flat, StartLaws.within_after}
 use Rattle.nmgc_minor.proofs.starts.note_recorded.Goals as goal
 
 -- the fields at these places have the word

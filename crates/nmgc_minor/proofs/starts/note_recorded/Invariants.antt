@@ -1,7 +1,4 @@
-use Rattle.std.proofs.Common.{◌≡◌, take, slice_index}
-use Rattle.std.specs.Prelude.{Contains}
-use Rattle.nmgc_object.specs.declared.words.Address.{Address}
-use Rattle.nmgc_minor.specs.Young.{Notes}
+use Rattle.nmgc_minor.proofs.Vocabulary.{◌≡◌, take, slice_index, Contains, Address, Notes}
 use Rattle.nmgc_minor.proofs.starts.note_recorded.Given as goal
 
 abbrev pub invariant-loop-mutator : goal.invariant-loop-mutator

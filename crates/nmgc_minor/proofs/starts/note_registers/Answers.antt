@@ -1,10 +1,4 @@
-use Rattle.std.proofs.Common.{ℕ, List, take, subst, sym}
-use Rattle.std.specs.Prelude.{Contains}
-use Rattle.std.proofs.lemmas.List.{take_all}
-use Rattle.std.proofs.lemmas.List.Elements.{Contains-get_or}
-use Rattle.nmgc_lists.specs.laws.Items.{contains_flat}
-use Rattle.nmgc_minor.specs.Young.{Notes}
-use Rattle.nmgc_minor.proofs.StartLaws.{notes_first, notes_item, notes_words, within_after}
+use Rattle.nmgc_minor.proofs.{Vocabulary.ℕ, Vocabulary.List, Vocabulary.take, Vocabulary.subst, Vocabulary.sym, Vocabulary.Contains, Vocabulary.take_all, Vocabulary.Contains-get_or, Vocabulary.contains_flat, Vocabulary.Notes, StartLaws.notes_first, StartLaws.notes_item, StartLaws.notes_words, StartLaws.within_after}
 use Rattle.nmgc_minor.proofs.starts.note_registers.Goals as goal
 
 pub loop-mutator-init : goal.loop-mutator-init

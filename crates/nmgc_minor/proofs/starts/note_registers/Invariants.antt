@@ -1,6 +1,4 @@
-use Rattle.std.proofs.Common.{take}
-use Rattle.std.specs.Prelude.{Contains}
-use Rattle.nmgc_minor.specs.Young.{Notes}
+use Rattle.nmgc_minor.proofs.Vocabulary.{take, Contains, Notes}
 use Rattle.nmgc_minor.proofs.starts.note_registers.Given as goal
 
 abbrev pub invariant-loop-mutator : goal.invariant-loop-mutator

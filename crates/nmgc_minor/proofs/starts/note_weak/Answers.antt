@@ -1,9 +1,7 @@
 use Rattle.std.proofs.Common.{ℕ, List, ◌≡◌, ◌+◌, ◌-◌, ◌*◌, ◌<◌, slice_index, length, inl, inr, refl, sym, ap, subst, ◌∙◌, arith}
-use Rattle.nmgc_minor.specs.Found.{IsAliveAt}
-use Rattle.nmgc_minor.specs.Young.{Notes, IsWithin, IsAmong}
-use Rattle.nmgc_minor.specs.Start.{IsWeakStart}
-use Rattle.nmgc_minor.proofs.NoteLaws.{notes_then}
-use Rattle.nmgc_minor.proofs.StartLaws.{within_after}
+use Rattle.nmgc_minor.specs.{Found.IsAliveAt, Young.Notes, Young.IsWithin, Start.IsWeakStart}
+use Rattle.nmgc_blocks_spec.specs.Strong.{IsAmong}
+use Rattle.nmgc_minor.proofs.{NoteLaws.notes_then, StartLaws.within_after}
 use Rattle.nmgc_minor.proofs.starts.note_weak.Goals as goal
 
 pub note-requires-clause-within : goal.note-requires-clause-within

@@ -1,12 +1,4 @@
-use Rattle.std.proofs.Common.{ℕ, List, take, length, refl, subst, sym, ap, ◌∙◌, arith}
-use Rattle.std.specs.Prelude.{Contains}
-use Rattle.std.proofs.lemmas.List.{take_all}
-use Rattle.std.proofs.lemmas.List.Elements.{Contains-get_or}
-use Rattle.nmgc_object.specs.declared.words.Address.{Address}
-use Rattle.nmgc_lists.specs.laws.Items.{contains_flat}
-use Rattle.nmgc_minor.specs.Start.{IsWeakStart}
-use Rattle.nmgc_minor.specs.Young.{Notes}
-use Rattle.nmgc_minor.proofs.StartLaws.{notes_first, notes_item, notes_flat, within_after}
+use Rattle.nmgc_minor.proofs.{Vocabulary.ℕ, Vocabulary.List, Vocabulary.take, Vocabulary.length, Vocabulary.refl, Vocabulary.subst, Vocabulary.sym, Vocabulary.ap, Vocabulary.◌∙◌, Vocabulary.arith, Vocabulary.Contains, Vocabulary.take_all, Vocabulary.Contains-get_or, Vocabulary.Address, Vocabulary.contains_flat, Vocabulary.IsWeakStart, Vocabulary.Notes, StartLaws.notes_first, StartLaws.notes_item, StartLaws.notes_flat, StartLaws.within_after}
 use Rattle.nmgc_minor.proofs.starts.note_weaks.Goals as goal
 
 -- the weak pointers at these places are alive, and the word is that of one or one of its parts

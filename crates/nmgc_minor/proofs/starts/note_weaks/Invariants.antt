@@ -1,8 +1,4 @@
-use Rattle.std.proofs.Common.{◌≡◌, take}
-use Rattle.std.specs.Prelude.{Contains}
-use Rattle.nmgc_object.specs.declared.words.Address.{Address}
-use Rattle.nmgc_minor.specs.Start.{IsWeakStart}
-use Rattle.nmgc_minor.specs.Young.{Notes}
+use Rattle.nmgc_minor.proofs.Vocabulary.{◌≡◌, take, Contains, Address, IsWeakStart, Notes}
 use Rattle.nmgc_minor.proofs.starts.note_weaks.Given as goal
 
 abbrev pub invariant-loop-mutator : goal.invariant-loop-mutator

@@ -1,8 +1,4 @@
-use Rattle.std.proofs.Common.{subst, sym}
-use Rattle.std.specs.Prelude.{IfNone, IfSome}
-use Rattle.nmgc_world_spec.specs.declared.command.Command.{Command}
-use Rattle.nmgc_mutator.specs.Does.{IsYield}
-use Rattle.nmgc_mutator.specs.Slice.{IsEnd}
+use Rattle.nmgc_mutator.proofs.Vocabulary.{subst, sym, IfNone, IfSome, Command, IsYield, IsEnd}
 use Rattle.nmgc_mutator.proofs.slice.end_of.Goals as goal
 
 pub returns-clause-none : goal.returns-clause-none

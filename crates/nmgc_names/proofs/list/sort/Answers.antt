@@ -1,6 +1,4 @@
-use Rattle.std.proofs.Common.{rules}
-use Rattle.std.proofs.lemmas.List.Sorted.{answers_always}
-use Rattle.nmgc_names.specs.Spans.{key_of}
+use Rattle.nmgc_names.proofs.Vocabulary.{rules, answers_always, key_of}
 use Rattle.nmgc_names.proofs.list.sort.Goals as goal
 
 pub returns-clause-sorted : goal.returns-clause-sorted

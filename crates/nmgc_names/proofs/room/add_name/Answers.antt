@@ -1,7 +1,4 @@
-use Rattle.std.proofs.Common.{◌≡◌, ◌+◌, ◌-◌, ◌∙◌, [], ◌∷◌, ◌++◌, List, length, ap, arith}
-use Rattle.nmgc_names.specs.declared.span.Span.{Span}
-use Rattle.nmgc_names.specs.Spans.{names_in, names_of}
-use Rattle.nmgc_names.specs.laws.Spans.{last_longer, one_more}
+use Rattle.nmgc_names.proofs.Vocabulary.{◌≡◌, ◌+◌, ◌-◌, ◌∙◌, [], ◌∷◌, ◌++◌, List, length, ap, arith, Span, names_in, names_of, last_longer, one_more}
 use Rattle.nmgc_names.proofs.room.add_name.Goals as goal
 
 pub returns-then-is_followed_by-clause-names : goal.returns-then-is_followed_by-clause-names

@@ -1,6 +1,4 @@
-use Rattle.std.proofs.Common.{arith}
-use Rattle.nmgc_object.specs.laws.Headers.{few_fields}
-use Rattle.nmgc_object.specs.laws.Classes.{object_class, object_half, class_counted}
+use Rattle.nmgc_object.proofs.Vocabulary.{arith, few_fields, object_class, object_half, class_counted}
 use Rattle.nmgc_object.proofs.laws.objects_have_classes.Goals as goal
 
 pub returns-clause-fits : goal.returns-clause-fits

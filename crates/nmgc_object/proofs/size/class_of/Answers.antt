@@ -1,10 +1,4 @@
-use Rattle.std.proofs.Common.{ℕ, ◌≡◌, ◌+◌, ◌-◌, ◌*◌, ◌/◌, ◌^◌, ◌<◌, ◌≤◌, inl, inr, arith, refl, sym, subst}
-use Rattle.std.specs.Int.Count.{count_leading_zeros}
-use Rattle.std.proofs.lemmas.Bool.{cases_lt}
-use Rattle.std.proofs.lemmas.Nat.{pow-add, leading_length}
-use Rattle.std.proofs.Math.Nat.{pow-le-pow_right}
-use Rattle.nmgc_object.specs.Size.{block_size}
-use Rattle.nmgc_object.specs.laws.Classes.{dense_block, wide_block}
+use Rattle.nmgc_object.proofs.Vocabulary.{ℕ, ◌≡◌, ◌+◌, ◌-◌, ◌*◌, ◌/◌, ◌^◌, ◌<◌, ◌≤◌, inl, inr, arith, refl, sym, subst, count_leading_zeros, cases_lt, pow-add, leading_length, pow-le-pow_right, block_size, dense_block, wide_block}
 use Rattle.nmgc_object.proofs.size.class_of.Goals as goal
 
 abbrev IsClass : ℕ → ℕ → Type 0

@@ -1,5 +1,4 @@
-use Rattle.std.proofs.Common.{arith}
-use Rattle.nmgc_object.specs.laws.Headers.{few_fields}
+use Rattle.nmgc_object.proofs.Vocabulary.{arith, few_fields}
 use Rattle.nmgc_object.proofs.size.object_words.Goals as goal
 
 pub overflow_add-result : goal.overflow_add-result

@@ -1,8 +1,4 @@
-use Rattle.std.proofs.Common.{◌≡◌, List, [], ◌∷◌, ◌++◌, Ok, Result, sym, ap, subst, ◌∙◌, append_assoc}
-use Rattle.std.proofs.lemmas.Slice.Zip.{all_zipped_more}
-use Rattle.nmgc_world_spec.specs.declared.value.Name.{Name}
-use Rattle.nmgc_lists.specs.declared.memory.NoMemory.{NoMemory}
-use Rattle.nmgc_pmark.specs.Names.{AreAllRead}
+use Rattle.nmgc_pmark.proofs.Vocabulary.{◌≡◌, List, [], ◌∷◌, ◌++◌, Ok, Result, sym, ap, subst, ◌∙◌, append_assoc, all_zipped_more, Name, NoMemory, AreAllRead}
 use Rattle.nmgc_pmark.proofs.claims.gathered.Goals as goal
 
 pub loop-names-preserved : goal.loop-names-preserved

@@ -1,6 +1,4 @@
-use Rattle.std.proofs.Common.{◌≡◌, ◌++◌}
-use Rattle.std.specs.Vec.Iter.{into_iter_items}
-use Rattle.nmgc_pmark.specs.Names.{AreAllRead}
+use Rattle.nmgc_pmark.proofs.Vocabulary.{◌≡◌, ◌++◌, into_iter_items, AreAllRead}
 use Rattle.nmgc_pmark.proofs.claims.gathered.Given as goal
 
 abbrev pub invariant-loop-names : goal.invariant-loop-names

@@ -1,13 +1,4 @@
-use Rattle.std.proofs.Common.{rules, refl, ◌≡◌, List, [], ◌∷◌, ◌++◌, length, map, ap, subst, sym, ◌∙◌, append_assoc, append-nil}
-use Rattle.std.specs.Prelude.{slice_get}
-use Rattle.std.specs.Vec.Iter.{into_iter_items}
-use Rattle.nmgc_lists.specs.Room.{Room}
-use Rattle.nmgc_object.specs.declared.words.Address.{Address}
-use Rattle.nmgc_pmark.specs.declared.marker.Marker.{Marker}
-use Rattle.nmgc_pmark.specs.View.{ClaimsSeen}
-use Rattle.nmgc_pmark.specs.Seat.{seen, bounds_of}
-use Rattle.nmgc_pmark.specs.Crew.{found_of}
-use Rattle.nmgc_pmark.proofs.Crews.{Gathers, gathers_one, gathers_more, at_pushed, comes_at, sound_at, mapped_more, has_all, shared_among, none_left}
+use Rattle.nmgc_pmark.proofs.{Vocabulary.rules, Vocabulary.refl, Vocabulary.◌≡◌, Vocabulary.List, Vocabulary.[], Vocabulary.◌∷◌, Vocabulary.◌++◌, Vocabulary.length, Vocabulary.map, Vocabulary.ap, Vocabulary.subst, Vocabulary.sym, Vocabulary.◌∙◌, Vocabulary.append_assoc, Vocabulary.append-nil, Vocabulary.slice_get, Vocabulary.into_iter_items, Vocabulary.Room, Vocabulary.Address, Vocabulary.Marker, Vocabulary.ClaimsSeen, Vocabulary.seen, Vocabulary.bounds_of, Vocabulary.found_of, Crews.Gathers, Crews.gathers_one, Crews.gathers_more, Crews.at_pushed, Crews.comes_at, Crews.sound_at, Crews.mapped_more, Crews.has_all, Crews.shared_among, Crews.none_left}
 use Rattle.nmgc_pmark.proofs.crew.dismissed.Goals as goal
 
 pub loop-marker-init : goal.loop-marker-init

@@ -1,10 +1,4 @@
-use Rattle.std.proofs.Common.{rules, ◌≡◌, List, length, map, take, drop, ◌++◌, ap, subst, ◌∙◌, arith}
-use Rattle.std.proofs.lemmas.Result.{IfOk-weaker}
-use Rattle.nmgc_pmark.specs.declared.marker.Marker.{Marker}
-use Rattle.nmgc_pmark.specs.Found.{CanMark}
-use Rattle.nmgc_pmark.specs.Crew.{IsSharedAmong, found_of}
-use Rattle.nmgc_pmark.specs.Seat.{bounds_of}
-use Rattle.nmgc_pmark.proofs.Crews.{are_marked, written}
+use Rattle.nmgc_pmark.proofs.{Vocabulary.rules, Vocabulary.◌≡◌, Vocabulary.List, Vocabulary.length, Vocabulary.map, Vocabulary.take, Vocabulary.drop, Vocabulary.◌++◌, Vocabulary.ap, Vocabulary.subst, Vocabulary.◌∙◌, Vocabulary.arith, Vocabulary.IfOk-weaker, Vocabulary.Marker, Vocabulary.CanMark, Vocabulary.IsSharedAmong, Vocabulary.found_of, Vocabulary.bounds_of, Crews.are_marked, Crews.written}
 use Rattle.nmgc_pmark.proofs.crew.places_marked.Goals as goal
 
 pub returns : goal.returns

@@ -1,6 +1,4 @@
-use Rattle.std.proofs.Common.{◌≡◌, ◌++◌, List, drop}
-use Rattle.std.specs.List.{flat_map}
-use Rattle.nmgc_world_spec.specs.declared.value.Name.{Name}
+use Rattle.nmgc_pmark.proofs.Vocabulary.{◌≡◌, ◌++◌, List, drop, flat_map, Name}
 use Rattle.nmgc_pmark.proofs.merge.joined.Given as goal
 
 -- the names so far and those of the lists left are all

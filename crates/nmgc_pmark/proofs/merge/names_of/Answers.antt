@@ -1,6 +1,4 @@
-use Rattle.std.proofs.Common.{◌≡◌, ◌∙◌, ap}
-use Rattle.std.proofs.lemmas.Result.{IfOk-weaker}
-use Rattle.nmgc_pmark.proofs.Merging.{merged, all}
+use Rattle.nmgc_pmark.proofs.{Vocabulary.◌≡◌, Vocabulary.◌∙◌, Vocabulary.ap, Vocabulary.IfOk-weaker, Merging.merged, Merging.all}
 use Rattle.nmgc_pmark.proofs.merge.names_of.Goals as goal
 
 pub returns : goal.returns

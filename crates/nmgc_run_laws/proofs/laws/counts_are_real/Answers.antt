@@ -1,7 +1,7 @@
 use Rattle.std.proofs.Common.{◌∙◌, sym}
-use Rattle.nmgc_segment.specs.declared.state.State.TheVariants as stands
 use Rattle.nmgc_run_spec.specs.Run.{last_state}
 use Rattle.nmgc_run_laws.specs.laws.Frees.{last_free}
+use Rattle.nmgc_segment.specs.declared.state.State.TheVariants as stands
 use Rattle.nmgc_run_laws.proofs.laws.counts_are_real.Goals as goal
 
 pub returns : goal.returns

@@ -1,8 +1,4 @@
-use Rattle.std.proofs.Common.{◌≡◌, ◌∙◌, List, sym, subst}
-use Rattle.nmgc_world_spec.specs.declared.command.Command.{Command}
-use Rattle.nmgc_script.specs.Limits.{FitsScript, HasFewCommands}
-use Rattle.nmgc_script.specs.Bench.{bench_config, bench_script}
-use Rattle.nmgc_script.proofs.BenchLaws.{bench_fits, bench_is_short, same_four}
+use Rattle.nmgc_script.proofs.{Vocabulary.◌≡◌, Vocabulary.◌∙◌, Vocabulary.List, Vocabulary.sym, Vocabulary.subst, Vocabulary.Command, Vocabulary.FitsScript, Vocabulary.HasFewCommands, Vocabulary.bench_config, Vocabulary.bench_script, BenchLaws.bench_fits, BenchLaws.bench_is_short, BenchLaws.same_four}
 use Rattle.nmgc_script.proofs.bench.generate.Goals as goal
 
 pub returns-clause-fits : goal.returns-clause-fits

@@ -1,5 +1,4 @@
-use Rattle.std.proofs.Common.{◌≡◌}
-use Rattle.nmgc_script.specs.Bench.{batch, repeated}
+use Rattle.nmgc_script.proofs.Vocabulary.{◌≡◌, batch, repeated}
 use Rattle.nmgc_script.proofs.bench.program.Given as goal
 
 -- so many batches were appended

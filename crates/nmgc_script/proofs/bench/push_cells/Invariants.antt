@@ -1,5 +1,4 @@
-use Rattle.std.proofs.Common.{◌≡◌, ◌++◌, replicate}
-use Rattle.nmgc_script.specs.Bench.{cell}
+use Rattle.nmgc_script.proofs.Vocabulary.{◌≡◌, ◌++◌, cell, replicate}
 use Rattle.nmgc_script.proofs.bench.push_cells.Given as goal
 
 -- so many cells were appended

@@ -1,5 +1,4 @@
-use Rattle.nmgc_script.proofs.ScriptLaws.{found, only, few}
-use Rattle.nmgc_script.proofs.FaultLaws.{told}
+use Rattle.nmgc_script.proofs.{ScriptLaws.found, ScriptLaws.only, ScriptLaws.few, FaultLaws.told}
 use Rattle.nmgc_script.proofs.parsing.parse.Goals as goal
 
 pub returns-clause-found : goal.returns-clause-found

@@ -1,9 +1,5 @@
-use Rattle.std.proofs.Common.{◌≡◌, ◌∙◌, map, ap, arith, Ok}
-use Rattle.std.proofs.lemmas.Result.{err_from_is_err_and}
+use Rattle.nmgc_script.proofs.{Vocabulary.◌≡◌, Vocabulary.◌∙◌, Vocabulary.map, Vocabulary.ap, Vocabulary.arith, Vocabulary.Ok, Vocabulary.err_from_is_err_and, Vocabulary.words_of, Vocabulary.lines_of, Vocabulary.kept_from, Vocabulary.entry_at, Entries.starts, Entries.line_read, Entries.ok_read, Entries.err_read, Entries.within, Entries.begins, Entries.goes_on, Entries.fails, Entries.is_done}
 use Rattle.nmgc_script.specs.declared.sections.Entry.TheVariants as entry
-use Rattle.nmgc_script.specs.Text.{words_of, lines_of, kept_from}
-use Rattle.nmgc_script.specs.Reading.{entry_at}
-use Rattle.nmgc_script.proofs.Entries.{starts, line_read, ok_read, err_read, within, begins, goes_on, fails, is_done}
 use Rattle.nmgc_script.proofs.parsing.programs.Goals as goal
 
 pub loop-number-init : goal.loop-number-init

@@ -1,7 +1,4 @@
-use Rattle.std.proofs.Common.{◌≡◌, length}
-use Rattle.nmgc_script.specs.Text.{lines_of, kept_from}
-use Rattle.nmgc_script.specs.Reading.{rest_at, programs_at}
-use Rattle.nmgc_script.proofs.Entries.{with_before}
+use Rattle.nmgc_script.proofs.{Vocabulary.◌≡◌, Vocabulary.length, Vocabulary.lines_of, Vocabulary.kept_from, Vocabulary.rest_at, Vocabulary.programs_at, Entries.with_before}
 use Rattle.nmgc_script.proofs.parsing.programs.Given as goal
 
 -- the programs so far and those of the rest are all

@@ -1,6 +1,5 @@
 use Rattle.nmgc_script.specs.Text.{kept_lines, end_of}
-use Rattle.nmgc_script.proofs.ScriptLaws.{one_script}
-use Rattle.nmgc_script.proofs.OneFault.{one_fault, never_both}
+use Rattle.nmgc_script.proofs.{ScriptLaws.one_script, OneFault.one_fault, OneFault.never_both}
 use Rattle.nmgc_script.proofs.parsing.spells_one_script.Goals as goal
 
 pub returns-clause-script : goal.returns-clause-script

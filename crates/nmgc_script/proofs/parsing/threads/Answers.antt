@@ -1,8 +1,4 @@
-use Rattle.std.proofs.Common.{◌≡◌, ◌∙◌, map, ap}
-use Rattle.std.proofs.lemmas.Result.{err_from_is_err_and}
-use Rattle.nmgc_script.specs.Text.{words_of}
-use Rattle.nmgc_script.specs.Reading.{section_at}
-use Rattle.nmgc_script.proofs.Entries.{line_read, ok_read, err_read, no_section, first_fails, first_begins}
+use Rattle.nmgc_script.proofs.{Vocabulary.◌≡◌, Vocabulary.◌∙◌, Vocabulary.map, Vocabulary.ap, Vocabulary.err_from_is_err_and, Vocabulary.words_of, Vocabulary.section_at, Entries.line_read, Entries.ok_read, Entries.err_read, Entries.no_section, Entries.first_fails, Entries.first_begins}
 use Rattle.nmgc_script.proofs.parsing.threads.Goals as goal
 
 pub returns-in_default : goal.returns-in_default

@@ -1,6 +1,4 @@
-use Rattle.std.proofs.Common.{◌≡◌, ℕ, List, rules, subst, sym, append_assoc}
-use Rattle.nmgc_script.specs.Spelling.{plain, Spells}
-use Rattle.nmgc_script.proofs.PrintLaws.{plain_spells}
+use Rattle.nmgc_script.proofs.{Vocabulary.◌≡◌, Vocabulary.ℕ, Vocabulary.List, Vocabulary.rules, Vocabulary.subst, Vocabulary.sym, Vocabulary.append_assoc, Vocabulary.plain, Vocabulary.Spells, PrintLaws.plain_spells}
 use Rattle.nmgc_script.proofs.printing.print.Goals as goal
 
 pub returns-clause-back : goal.returns-clause-back

@@ -1,7 +1,4 @@
-use Rattle.std.proofs.Common.{◌≡◌, ◌++◌, subst, sym}
-use Rattle.std.specs.Prelude.{OnOk}
-use Rattle.nmgc_world_spec.specs.declared.command.Command.{Command}
-use Rattle.nmgc_script.specs.Spelling.{spaced, command_words}
+use Rattle.nmgc_script.proofs.Vocabulary.{◌≡◌, ◌++◌, subst, sym, OnOk, Command, spaced, command_words}
 use Rattle.nmgc_script.proofs.printing.push_command.Goals as goal
 
 pub returns : goal.returns

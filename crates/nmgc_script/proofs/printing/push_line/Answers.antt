@@ -1,7 +1,5 @@
-use Rattle.std.proofs.Common.{◌++◌, ℕ, List, map, ap, sym, ◌∙◌, append_assoc}
-use Rattle.std.proofs.lemmas.Result.{IfOk-equal}
-use Rattle.nmgc_script.specs.Printing.{after_spaces, word_text}
-use Rattle.nmgc_script.proofs.PrintLaws.{spaced_after}
+use Rattle.std.proofs.{Common.◌++◌, Common.ℕ, Common.List, Common.map, Common.ap, Common.sym, Common.◌∙◌, Common.append_assoc, lemmas.Result.IfOk-equal}
+use Rattle.nmgc_script.specs.{Printing.after_spaces, Printing.word_text, laws.Lines.spaced_after}
 use Rattle.nmgc_script.proofs.printing.push_line.Goals as goal
 
 pub returns : goal.returns

@@ -1,8 +1,4 @@
-use Rattle.std.proofs.Common.{◌++◌, ℕ, List, map, ap, ◌∙◌, append_assoc}
-use Rattle.std.proofs.lemmas.Result.{IfOk-equal}
-use Rattle.nmgc_script.specs.Printing.{after_spaces, word_text}
-use Rattle.nmgc_script.specs.Spelling.{operand_word}
-use Rattle.nmgc_script.proofs.PrintLaws.{spaced_longer}
+use Rattle.nmgc_script.proofs.{Vocabulary.◌++◌, Vocabulary.ℕ, Vocabulary.List, Vocabulary.map, Vocabulary.ap, Vocabulary.◌∙◌, Vocabulary.append_assoc, Vocabulary.IfOk-equal, Vocabulary.after_spaces, Vocabulary.word_text, Vocabulary.operand_word, PrintLaws.spaced_longer}
 use Rattle.nmgc_script.proofs.printing.push_long_line.Goals as goal
 
 pub returns : goal.returns

@@ -1,6 +1,4 @@
-use Rattle.std.proofs.Common.{◌≡◌, ◌++◌, map, drop}
-use Rattle.nmgc_script.specs.Printing.{after_spaces}
-use Rattle.nmgc_script.specs.Spelling.{operand_word}
+use Rattle.nmgc_script.proofs.Vocabulary.{◌≡◌, ◌++◌, map, drop, after_spaces, operand_word}
 use Rattle.nmgc_script.proofs.printing.push_operands.Given as goal
 
 -- the words so far were appended

@@ -1,5 +1,4 @@
-use Rattle.std.proofs.Common.{◌≡◌, ◌++◌, drop}
-use Rattle.nmgc_script.specs.Spelling.{ended, program_lines}
+use Rattle.nmgc_script.proofs.Vocabulary.{◌≡◌, ◌++◌, drop, ended, program_lines}
 use Rattle.nmgc_script.proofs.printing.push_program.Given as goal
 
 -- the lines so far, and those of the rest, are all

@@ -1,5 +1,4 @@
-use Rattle.std.proofs.Common.{◌≡◌, ◌++◌, drop}
-use Rattle.nmgc_script.specs.Spelling.{ended, section_lines}
+use Rattle.nmgc_script.proofs.Vocabulary.{◌≡◌, ◌++◌, drop, ended, section_lines}
 use Rattle.nmgc_script.proofs.printing.push_sections.Given as goal
 
 -- the sections so far, and those of the rest, are all

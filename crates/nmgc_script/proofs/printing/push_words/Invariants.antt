@@ -1,5 +1,4 @@
-use Rattle.std.proofs.Common.{◌≡◌, ◌++◌, map, drop}
-use Rattle.nmgc_script.specs.Printing.{after_spaces, word_text}
+use Rattle.nmgc_script.proofs.Vocabulary.{◌≡◌, ◌++◌, map, drop, after_spaces, word_text}
 use Rattle.nmgc_script.proofs.printing.push_words.Given as goal
 
 -- the words so far were appended

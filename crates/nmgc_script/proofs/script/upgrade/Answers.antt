@@ -1,8 +1,4 @@
-use Rattle.std.proofs.Common.{ℕ, ap, sym, subst}
-use Rattle.nmgc_script.specs.declared.version.Version.{Version}
-use Rattle.nmgc_script.specs.declared.script.Script.{Script}
-use Rattle.nmgc_script.specs.Limits.{FitsScript}
-use Rattle.nmgc_script.specs.laws.Versions.{upgraded_fits}
+use Rattle.nmgc_script.proofs.Vocabulary.{ℕ, ap, sym, subst, Version, Script, FitsScript, upgraded_fits}
 use Rattle.nmgc_script.proofs.script.upgrade.Goals as goal
 
 pub returns-clause-fits : goal.returns-clause-fits

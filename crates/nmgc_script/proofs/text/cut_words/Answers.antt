@@ -1,7 +1,6 @@
-use Rattle.std.proofs.Common.{◌≡◌, ◌+◌, ◌≤◌, length, refl, ap, arith, append_assoc, length-take}
-use Rattle.std.proofs.lemmas.List.{map_push}
-use Rattle.nmgc_script.specs.Text.{words_of}
-use Rattle.nmgc_script.proofs.Cut.{cut_first, words_cut, last_word, rest_on, rest_less}
+use Rattle.nmgc_script.specs.{laws.Lines.words_last, Text.words_of}
+use Rattle.std.proofs.{Common.◌≡◌, Common.◌+◌, Common.◌≤◌, Common.length, Common.refl, Common.ap, Common.arith, Common.append_assoc, Common.length-take, lemmas.List.map_push}
+use Rattle.nmgc_script.proofs.Cut.{cut_first, words_cut, rest_on, rest_less}
 use Rattle.nmgc_script.proofs.text.cut_words.Goals as goal
 
 pub loop-word-init : goal.loop-word-init
@@ -29,5 +28,5 @@ overflow_add-from c =
 
 pub returns : goal.returns
 returns c =
-    let last = last_word c.loop-word.rest.now c.in_default.ensures.none in
+    let last = words_last c.loop-word.rest.now c.in_default.ensures.none in
     rw (c.in_ok-push-2.ensures.items, map_push (λ w. w.now) c.loop-word.words.items c.loop-word.rest) (rw last at c.loop-word.invariant.words)

@@ -1,5 +1,4 @@
-use Rattle.std.proofs.Common.{◌≡◌, ◌+◌, ◌≤◌, ◌++◌, map, length, take, drop}
-use Rattle.nmgc_script.specs.Text.{words_of}
+use Rattle.nmgc_script.proofs.Vocabulary.{◌≡◌, ◌+◌, ◌≤◌, ◌++◌, map, length, take, drop, words_of}
 use Rattle.nmgc_script.proofs.text.cut_words.Given as goal
 
 -- the words so far and those of the rest are those of the line, and the rest lies in the text from a place on

@@ -1,5 +1,4 @@
-use Rattle.std.proofs.Common.{◌≡◌, length}
-use Rattle.nmgc_script.specs.Reading.{first_named}
+use Rattle.nmgc_script.proofs.Vocabulary.{◌≡◌, length, first_named}
 use Rattle.nmgc_script.proofs.verbs.first_named.Given as goal
 
 -- none of those before has the name

@@ -1,8 +1,4 @@
-use Rattle.std.proofs.Common.{◌≡◌, ◌∙◌, sym, ap}
-use Rattle.std.proofs.lemmas.Slice.Eq.{bytes_eq-Decides}
-use Rattle.nmgc_script.specs.Reading.{verb_at}
-use Rattle.nmgc_script.specs.Spelling.{verb_name}
-use Rattle.nmgc_script.proofs.VerbLaws.{verb_again}
+use Rattle.nmgc_script.proofs.{Vocabulary.◌≡◌, Vocabulary.◌∙◌, Vocabulary.sym, Vocabulary.ap, Vocabulary.bytes_eq-Decides, Vocabulary.verb_at, Vocabulary.verb_name, VerbLaws.verb_again}
 use Rattle.nmgc_script.proofs.verbs.verb_of.Goals as goal
 
 pub returns-then-eq : goal.returns-then-eq

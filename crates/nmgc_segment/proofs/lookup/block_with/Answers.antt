@@ -1,6 +1,4 @@
-use Rattle.std.proofs.Common.{ℕ, ◌≡◌, ◌*◌, ◌/◌, ◌%◌, ◌<◌, ◌≤◌, subst, sym}
-use Rattle.nmgc_object.specs.Size.{block_size}
-use Rattle.nmgc_segment.proofs.Reciprocals.{reciprocal, block_found, none_found}
+use Rattle.nmgc_segment.proofs.{Vocabulary.ℕ, Vocabulary.◌≡◌, Vocabulary.◌*◌, Vocabulary.◌/◌, Vocabulary.◌%◌, Vocabulary.◌<◌, Vocabulary.◌≤◌, Vocabulary.subst, Vocabulary.sym, Vocabulary.block_size, Reciprocals.reciprocal, Reciprocals.block_found, Reciprocals.none_found}
 use Rattle.nmgc_segment.proofs.lookup.block_with.Goals as goal
 
 pub returns-then-digits-factor-clause-some : goal.returns-then-digits-factor-clause-some

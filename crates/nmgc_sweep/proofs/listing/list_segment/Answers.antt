@@ -1,12 +1,4 @@
-use Rattle.std.proofs.Common.{ℕ, ◌≡◌, ◌+◌, ◌*◌, ◌<◌, ◌∙◌, [], ◌∷◌, ◌++◌, length, slice_get, Option, Some, true, false, ap, subst, sym, arith}
-use Rattle.nmgc_world_spec.specs.declared.value.Name.{Name}
-use Rattle.nmgc_names.specs.Room.{NameRoom}
-use Rattle.nmgc_segment.specs.Segment.{Segment, InUse, IsMarked, block_count}
-use Rattle.nmgc_alloc.specs.Numbered.{nth, block_place}
-use Rattle.nmgc_sweep.specs.Listing.{ListsBlocks, IsLost}
-use Rattle.nmgc_sweep.specs.Names.{entry_of, named_at}
-use Rattle.nmgc_sweep.proofs.Listed.{none_listed, one_passed_over, one_listed, placed_at, place_named, few_in_segment}
-use Rattle.nmgc_sweep.proofs.listing.list_segment.Goals.{then-in_use+then-not-is_marked, then-in_use+else-not-is_marked, else-in_use}
+use Rattle.nmgc_sweep.proofs.{Vocabulary.ℕ, Vocabulary.◌≡◌, Vocabulary.◌+◌, Vocabulary.◌*◌, Vocabulary.◌<◌, Vocabulary.◌∙◌, Vocabulary.[], Vocabulary.◌∷◌, Vocabulary.◌++◌, Vocabulary.length, Vocabulary.slice_get, Vocabulary.Option, Vocabulary.Some, Vocabulary.true, Vocabulary.false, Vocabulary.ap, Vocabulary.subst, Vocabulary.sym, Vocabulary.arith, Vocabulary.Name, Vocabulary.NameRoom, Vocabulary.Segment, Vocabulary.InUse, Vocabulary.IsMarked, Vocabulary.block_count, Vocabulary.nth, Vocabulary.block_place, Vocabulary.ListsBlocks, Vocabulary.IsLost, Vocabulary.entry_of, Vocabulary.named_at, Listed.none_listed, Listed.one_passed_over, Listed.one_listed, Listed.placed_at, Listed.place_named, Listed.few_in_segment, listing.list_segment.Goals.then-in_use+then-not-is_marked, listing.list_segment.Goals.then-in_use+else-not-is_marked, listing.list_segment.Goals.else-in_use}
 use Rattle.nmgc_sweep.proofs.listing.list_segment.Goals as goal
 
 pub loop-block-init : goal.loop-block-init

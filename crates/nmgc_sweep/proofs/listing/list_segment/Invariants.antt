@@ -1,8 +1,4 @@
-use Rattle.std.proofs.Common.{◌+◌, ◌≤◌}
-use Rattle.nmgc_segment.specs.Segment.{InUse}
-use Rattle.nmgc_alloc.specs.Numbered.{nth}
-use Rattle.nmgc_sweep.specs.Listing.{ListsBlocks, IsLost}
-use Rattle.nmgc_sweep.specs.Names.{named_at}
+use Rattle.nmgc_sweep.proofs.Vocabulary.{◌+◌, ◌≤◌, InUse, nth, ListsBlocks, IsLost, named_at}
 use Rattle.nmgc_sweep.proofs.listing.list_segment.Given as goal
 
 -- the names of the blocks so far are listed, and each took the room of one at most

@@ -1,6 +1,4 @@
-use Rattle.std.proofs.Common.{◌≡◌, ◌≤◌, ◌+◌, ◌-◌, ◌^◌, ◌∙◌, sym, arith}
-use Rattle.std.specs.Prelude.{min}
-use Rattle.nmgc_sweep.proofs.Steps.{passed_is}
+use Rattle.nmgc_sweep.proofs.{Vocabulary.◌≡◌, Vocabulary.◌≤◌, Vocabulary.◌+◌, Vocabulary.◌-◌, Vocabulary.◌^◌, Vocabulary.◌∙◌, Vocabulary.sym, Vocabulary.arith, Vocabulary.min, Steps.passed_is}
 use Rattle.nmgc_sweep.proofs.sweeper.counted.Goals as goal
 
 pub returns : goal.returns

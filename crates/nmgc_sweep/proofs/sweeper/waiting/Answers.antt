@@ -1,8 +1,4 @@
-use Rattle.std.proofs.Common.{rules, ℕ, ◌∙◌, ◌+◌, ◌<◌, List, [], ◌∷◌, ◌++◌, ◌≡◌, ap, subst, sym, Vec, Global}
-use Rattle.nmgc_alloc.specs.Segments.{IsWaiting}
-use Rattle.nmgc_world_spec.specs.Listing.{ListsNumbers}
-use Rattle.nmgc_sweep.proofs.Listed.{below_more, below_skip}
-use Rattle.nmgc_sweep.proofs.sweeper.waiting.Goals.{then-eq+in_ok-push, else-eq}
+use Rattle.nmgc_sweep.proofs.{Vocabulary.rules, Vocabulary.ℕ, Vocabulary.◌∙◌, Vocabulary.◌+◌, Vocabulary.◌<◌, Vocabulary.List, Vocabulary.[], Vocabulary.◌∷◌, Vocabulary.◌++◌, Vocabulary.◌≡◌, Vocabulary.ap, Vocabulary.subst, Vocabulary.sym, Vocabulary.Vec, Vocabulary.Global, Vocabulary.IsWaiting, Vocabulary.ListsNumbers, Listed.below_more, Listed.below_skip, sweeper.waiting.Goals.then-eq+in_ok-push, sweeper.waiting.Goals.else-eq}
 use Rattle.nmgc_sweep.proofs.sweeper.waiting.Goals as goal
 
 pub loop-number-preserved : goal.loop-number-preserved

@@ -1,6 +1,4 @@
-use Rattle.std.proofs.Common.{◌<◌}
-use Rattle.nmgc_alloc.specs.Segments.{IsWaiting}
-use Rattle.nmgc_world_spec.specs.Listing.{ListsNumbers}
+use Rattle.nmgc_sweep.proofs.Vocabulary.{◌<◌, IsWaiting, ListsNumbers}
 use Rattle.nmgc_sweep.proofs.sweeper.waiting.Given as goal
 
 abbrev pub invariant-loop-number : goal.invariant-loop-number

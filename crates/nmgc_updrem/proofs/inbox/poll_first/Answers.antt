@@ -1,6 +1,4 @@
-use Rattle.std.proofs.Common.{rules, ◌<◌, refl, length, get_or}
-use Rattle.std.proofs.lemmas.Option.{slice_get-get_or}
-use Rattle.nmgc_updrem.specs.laws.Polls.{polled_one}
+use Rattle.nmgc_updrem.proofs.Vocabulary.{rules, ◌<◌, refl, length, get_or, slice_get-get_or, polled_one}
 use Rattle.nmgc_updrem.proofs.inbox.poll_first.Goals as goal
 
 pub loop-k-preserved : goal.loop-k-preserved

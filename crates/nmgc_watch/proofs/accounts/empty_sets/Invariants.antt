@@ -1,7 +1,4 @@
-use Rattle.std.proofs.Common.{◌≡◌, length, false}
-use Rattle.std.specs.Prelude.{All}
-use Rattle.nmgc_world_spec.specs.declared.value.Name.{Name}
-use Rattle.nmgc_graph.specs.Marks.{HasPlaces, mark_of}
+use Rattle.nmgc_watch.proofs.Vocabulary.{◌≡◌, length, false, All, Name, HasPlaces, mark_of}
 use Rattle.nmgc_watch.proofs.accounts.empty_sets.Given as goal
 
 abbrev pub invariant-loop : goal.invariant-loop

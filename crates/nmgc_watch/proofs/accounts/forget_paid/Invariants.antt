@@ -1,7 +1,4 @@
-use Rattle.std.proofs.Common.{◌≡◌, ℕ, length}
-use Rattle.std.specs.Prelude.{Contains}
-use Rattle.nmgc_barrier_laws.specs.declared.debt.Debt.{Debt}
-use Rattle.nmgc_watch.specs.Accounts.{unpaid}
+use Rattle.nmgc_watch.proofs.Vocabulary.{◌≡◌, length, Contains, Debt, unpaid}
 use Rattle.nmgc_watch.proofs.accounts.forget_paid.Given as goal
 
 abbrev pub invariant-loop-debt : goal.invariant-loop-debt

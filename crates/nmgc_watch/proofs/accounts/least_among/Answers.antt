@@ -1,8 +1,4 @@
-use Rattle.std.proofs.Common.{◌++◌, ◌∙◌, List, take, subst}
-use Rattle.std.proofs.lemmas.List.{take_all}
-use Rattle.nmgc_barrier_laws.specs.declared.debt.Debt.{Debt}
-use Rattle.nmgc_watch.specs.Accounts.{IsLeastIn, all_debts, unpaid}
-use Rattle.nmgc_watch.proofs.AccountLaws.{least_queue}
+use Rattle.nmgc_watch.proofs.{Vocabulary.◌++◌, Vocabulary.◌∙◌, Vocabulary.List, Vocabulary.take, Vocabulary.subst, Vocabulary.take_all, Vocabulary.Debt, Vocabulary.IsLeastIn, Vocabulary.all_debts, Vocabulary.unpaid, AccountLaws.least_queue}
 use Rattle.nmgc_watch.proofs.accounts.least_among.Goals as goal
 
 pub loop-queue-preserved : goal.loop-queue-preserved

@@ -1,5 +1,4 @@
-use Rattle.std.proofs.Common.{take}
-use Rattle.nmgc_watch.specs.Accounts.{IsLeastIn, all_debts, unpaid}
+use Rattle.nmgc_watch.proofs.Vocabulary.{take, IsLeastIn, all_debts, unpaid}
 use Rattle.nmgc_watch.proofs.accounts.least_among.Given as goal
 
 abbrev pub invariant-loop-queue : goal.invariant-loop-queue

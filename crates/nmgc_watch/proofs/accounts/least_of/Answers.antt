@@ -1,8 +1,4 @@
-use Rattle.std.proofs.Common.{◌++◌, List, take, sym, subst, append-nil}
-use Rattle.std.proofs.lemmas.List.{take_all}
-use Rattle.nmgc_barrier_laws.specs.declared.debt.Debt.{Debt}
-use Rattle.nmgc_watch.specs.Accounts.{IsLeastIn, unpaid}
-use Rattle.nmgc_watch.proofs.AccountLaws.{least_step}
+use Rattle.nmgc_watch.proofs.{Vocabulary.◌++◌, Vocabulary.List, Vocabulary.take, Vocabulary.sym, Vocabulary.subst, Vocabulary.append-nil, Vocabulary.take_all, Vocabulary.Debt, Vocabulary.IsLeastIn, Vocabulary.unpaid, AccountLaws.least_step}
 use Rattle.nmgc_watch.proofs.accounts.least_of.Goals as goal
 
 pub loop-debt-init : goal.loop-debt-init

@@ -1,6 +1,4 @@
-use Rattle.std.proofs.Common.{◌++◌, List, take}
-use Rattle.nmgc_barrier_laws.specs.declared.debt.Debt.{Debt}
-use Rattle.nmgc_watch.specs.Accounts.{IsLeastIn, unpaid}
+use Rattle.nmgc_watch.proofs.Vocabulary.{◌++◌, List, take, Debt, IsLeastIn, unpaid}
 use Rattle.nmgc_watch.proofs.accounts.least_of.Given as goal
 
 abbrev pub invariant-loop-debt : goal.invariant-loop-debt

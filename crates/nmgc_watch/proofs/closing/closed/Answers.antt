@@ -1,7 +1,4 @@
-use Rattle.std.proofs.Common.{sym, subst}
-use Rattle.std.specs.Prelude.{All}
-use Rattle.nmgc_world_spec.specs.World.{World}
-use Rattle.nmgc_world_spec.specs.Reach.{IsAliveWeak}
+use Rattle.nmgc_watch.proofs.Vocabulary.{sym, subst, All, World, IsAliveWeak}
 use Rattle.nmgc_watch.proofs.closing.closed.Goals as goal
 
 pub close-requires-clause-alive : goal.close-requires-clause-alive

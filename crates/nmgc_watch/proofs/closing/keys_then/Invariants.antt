@@ -1,5 +1,4 @@
-use Rattle.std.proofs.Common.{◌≡◌, take}
-use Rattle.nmgc_watch.specs.Cycles.{keys_then}
+use Rattle.nmgc_watch.proofs.Vocabulary.{◌≡◌, take, keys_then}
 use Rattle.nmgc_watch.proofs.closing.keys_then.Given as goal
 
 abbrev pub invariant-loop-weak : goal.invariant-loop-weak

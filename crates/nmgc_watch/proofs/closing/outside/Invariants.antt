@@ -1,6 +1,4 @@
-use Rattle.std.proofs.Common.{◌≡◌, take}
-use Rattle.std.specs.Prelude.{filter}
-use Rattle.nmgc_watch.specs.Cycles.{is_outside}
+use Rattle.nmgc_watch.proofs.Vocabulary.{◌≡◌, take, filter, is_outside}
 use Rattle.nmgc_watch.proofs.closing.outside.Given as goal
 
 abbrev pub invariant-loop-weak : goal.invariant-loop-weak

@@ -1,5 +1,4 @@
-use Rattle.std.proofs.Common.{◌≡◌, length, map, take}
-use Rattle.nmgc_world_spec.specs.declared.mutator_state.MutatorState.{MutatorState}
+use Rattle.nmgc_watch.proofs.Vocabulary.{◌≡◌, length, map, take, MutatorState}
 use Rattle.nmgc_watch.proofs.closing.serials.Given as goal
 
 abbrev pub invariant-loop-mutator : goal.invariant-loop-mutator

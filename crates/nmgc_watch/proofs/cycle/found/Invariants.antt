@@ -1,5 +1,4 @@
-use Rattle.std.proofs.Common.{◌≡◌, take}
-use Rattle.nmgc_watch.specs.Dues.{targets}
+use Rattle.nmgc_watch.proofs.Vocabulary.{◌≡◌, take, targets}
 use Rattle.nmgc_watch.proofs.cycle.found.Given as goal
 
 abbrev pub invariant-loop-field : goal.invariant-loop-field

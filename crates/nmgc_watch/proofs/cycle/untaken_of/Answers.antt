@@ -1,7 +1,4 @@
-use Rattle.std.proofs.Common.{◌≡◌, ◌∙◌, sym, false}
-use Rattle.nmgc_world_spec.specs.declared.value.Name.{Name}
-use Rattle.nmgc_watch.specs.Cycles.{is_untaken}
-use Rattle.nmgc_watch.proofs.Filters.{each_more, each_all}
+use Rattle.nmgc_watch.proofs.{Vocabulary.◌≡◌, Vocabulary.◌∙◌, Vocabulary.sym, Vocabulary.false, Vocabulary.Name, Vocabulary.is_untaken, Filters.each_more, Filters.each_all}
 use Rattle.nmgc_watch.proofs.cycle.untaken_of.Goals as goal
 
 pub loop-name-preserved : goal.loop-name-preserved

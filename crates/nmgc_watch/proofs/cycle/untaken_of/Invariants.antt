@@ -1,7 +1,4 @@
-use Rattle.std.proofs.Common.{◌≡◌, take, false}
-use Rattle.std.specs.Prelude.{Contains}
-use Rattle.nmgc_world_spec.specs.declared.value.Name.{Name}
-use Rattle.nmgc_watch.specs.Cycles.{is_untaken}
+use Rattle.nmgc_watch.proofs.Vocabulary.{◌≡◌, take, false, Contains, Name, is_untaken}
 use Rattle.nmgc_watch.proofs.cycle.untaken_of.Given as goal
 
 abbrev pub invariant-loop-name : goal.invariant-loop-name

@@ -1,5 +1,3 @@
-use Rattle.std.proofs.Common.{sym, subst, List}
-use Rattle.nmgc_watch.specs.declared.due.Field.{Field}
 use Rattle.nmgc_watch.proofs.Standing.{noted_sound, noted_all}
 use Rattle.nmgc_watch.proofs.due.fields_at.Goals as goal
 

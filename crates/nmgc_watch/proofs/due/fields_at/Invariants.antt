@@ -1,7 +1,4 @@
-use Rattle.std.proofs.Common.{◌≡◌, ◌≤◌, ◌<◌, true}
-use Rattle.std.specs.Prelude.{Contains}
-use Rattle.nmgc_watch.specs.declared.due.Field.{Field}
-use Rattle.nmgc_watch.specs.Dues.{stands_in}
+use Rattle.nmgc_watch.proofs.Vocabulary.{◌≡◌, ◌≤◌, ◌<◌, true, Contains, Field, stands_in}
 use Rattle.nmgc_watch.proofs.due.fields_at.Given as goal
 
 abbrev pub invariant-loop-place : goal.invariant-loop-place

@@ -1,6 +1,4 @@
-use Rattle.std.proofs.Common.{◌≡◌, take, not}
-use Rattle.std.specs.Prelude.{filter}
-use Rattle.nmgc_watch.specs.Dues.{stands_in}
+use Rattle.nmgc_watch.proofs.Vocabulary.{◌≡◌, take, not, filter, stands_in}
 use Rattle.nmgc_watch.proofs.due.gone.Given as goal
 
 abbrev pub invariant-loop-field : goal.invariant-loop-field

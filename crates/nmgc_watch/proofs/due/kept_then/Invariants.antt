@@ -1,5 +1,4 @@
-use Rattle.std.proofs.Common.{◌≡◌, take}
-use Rattle.nmgc_watch.specs.Dues.{kept_then}
+use Rattle.nmgc_watch.proofs.Vocabulary.{◌≡◌, take, kept_then}
 use Rattle.nmgc_watch.proofs.due.kept_then.Given as goal
 
 abbrev pub invariant-loop-weak : goal.invariant-loop-weak

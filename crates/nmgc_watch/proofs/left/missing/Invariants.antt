@@ -1,6 +1,4 @@
-use Rattle.std.proofs.Common.{take}
-use Rattle.std.specs.Prelude.{Contains}
-use Rattle.nmgc_world_spec.specs.declared.value.Name.{Name}
+use Rattle.nmgc_watch.proofs.Vocabulary.{take, Contains, Name}
 use Rattle.nmgc_watch.proofs.left.missing.Given as goal
 
 abbrev pub invariant-loop-other : goal.invariant-loop-other

@@ -1,9 +1,4 @@
-use Rattle.std.proofs.Common.{◌<◌, ◌+◌, ◌-◌, ◌/◌, ◌∙◌, ℕ, sym, length, get_or, arith}
-use Rattle.std.proofs.lemmas.Bool.{false≢true}
-use Rattle.std.proofs.lemmas.List.{get_or_default}
-use Rattle.nmgc_world_spec.specs.declared.value.Name.{Name}
-use Rattle.nmgc_watch.specs.Ordered.{StandsAt}
-use Rattle.nmgc_watch.proofs.OrderedLaws.{after_middle, up_to_middle}
+use Rattle.nmgc_watch.proofs.{Vocabulary.◌<◌, Vocabulary.◌+◌, Vocabulary.◌-◌, Vocabulary.◌/◌, Vocabulary.◌∙◌, Vocabulary.ℕ, Vocabulary.sym, Vocabulary.length, Vocabulary.get_or, Vocabulary.arith, Vocabulary.false≢true, Vocabulary.get_or_default, Vocabulary.Name, Vocabulary.StandsAt, OrderedLaws.after_middle, OrderedLaws.up_to_middle}
 use Rattle.nmgc_watch.proofs.ordered.place_of.Goals as goal
 
 pub loop-least-preserved-then-is_before : goal.loop-least-preserved-then-is_before

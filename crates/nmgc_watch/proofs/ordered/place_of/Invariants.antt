@@ -1,5 +1,4 @@
-use Rattle.std.proofs.Common.{◌≤◌, ◌-◌}
-use Rattle.nmgc_watch.specs.Ordered.{IsBetween}
+use Rattle.nmgc_watch.proofs.Vocabulary.{◌≤◌, ◌-◌, IsBetween}
 use Rattle.nmgc_watch.proofs.ordered.place_of.Given as goal
 
 abbrev pub invariant-loop-least : goal.invariant-loop-least

@@ -1,5 +1,4 @@
-use Rattle.std.proofs.Common.{◌≡◌}
-use Rattle.nmgc_watch.specs.Rows.{copied}
+use Rattle.nmgc_watch.proofs.Vocabulary.{◌≡◌, copied}
 use Rattle.nmgc_watch.proofs.rows.copied.Given as goal
 
 abbrev pub invariant-loop-turn : goal.invariant-loop-turn

@@ -1,5 +1,4 @@
-use Rattle.std.proofs.Common.{◌≡◌}
-use Rattle.nmgc_watch.specs.Rows.{filled}
+use Rattle.nmgc_watch.proofs.Vocabulary.{◌≡◌, filled}
 use Rattle.nmgc_watch.proofs.rows.filled.Given as goal
 
 abbrev pub invariant-loop-turn : goal.invariant-loop-turn

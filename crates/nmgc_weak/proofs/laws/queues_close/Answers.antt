@@ -1,5 +1,4 @@
-use Rattle.nmgc_weak.proofs.Closed.{queues_close}
-use Rattle.nmgc_weak.proofs.Room.{deaths_have_room}
+use Rattle.nmgc_weak.proofs.{Closed.queues_close, Room.deaths_have_room}
 use Rattle.nmgc_weak.proofs.laws.queues_close.Goals as goal
 
 pub returns : goal.returns

@@ -1,13 +1,5 @@
-use Rattle.std.proofs.Common.{◌≡◌, ◌+◌, ◌<◌, ◌++◌, ◌∷◌, [], ℕ, map, set, get_or, length, take, sym, ap, subst, ◌∙◌, arith, rules}
-use Rattle.std.specs.Prelude.{slice_get, Some}
-use Rattle.std.proofs.lemmas.List.{length-map}
-use Rattle.nmgc_object.specs.FinQueue.{FinQueue}
-use Rattle.nmgc_lists.specs.laws.Items.{contains_at}
-use Rattle.nmgc_weak.specs.declared.weaks.Death.{Death}
-use Rattle.nmgc_weak.specs.Queues.{HaveJoined}
-use Rattle.nmgc_weak.proofs.Joining.{none_joined, joined_count, nil_stays, one_joined, queue_at, has_room, get_default}
+use Rattle.nmgc_weak.proofs.{Vocabulary.◌≡◌, Vocabulary.◌+◌, Vocabulary.◌<◌, Vocabulary.◌++◌, Vocabulary.◌∷◌, Vocabulary.[], Vocabulary.ℕ, Vocabulary.map, Vocabulary.set, Vocabulary.get_or, Vocabulary.length, Vocabulary.take, Vocabulary.sym, Vocabulary.ap, Vocabulary.subst, Vocabulary.◌∙◌, Vocabulary.arith, Vocabulary.rules, Vocabulary.slice_get, Vocabulary.length-map, Vocabulary.FinQueue, Vocabulary.contains_at, Vocabulary.Death, Vocabulary.HaveJoined, Vocabulary.Some, Joining.none_joined, Joining.joined_count, Joining.nil_stays, Joining.one_joined, Joining.queue_at, Joining.has_room, Joining.get_default, queues.queue_finalisers.Goals.then-death-ne-NIL_WORD, queues.queue_finalisers.Goals.else-death-ne-NIL_WORD}
 use Rattle.nmgc_weak.proofs.queues.queue_finalisers.Goals as goal
-use Rattle.nmgc_weak.proofs.queues.queue_finalisers.Goals.{then-death-ne-NIL_WORD, else-death-ne-NIL_WORD}
 
 abbrev nothing : Death
 nothing = record { weak = record { maker = 0; serial = 0 }; finaliser = 0 }

@@ -1,5 +1,4 @@
-use Rattle.std.proofs.Common.{take}
-use Rattle.nmgc_weak.specs.Queues.{HaveJoined}
+use Rattle.nmgc_weak.proofs.Vocabulary.{take, HaveJoined}
 use Rattle.nmgc_weak.proofs.queues.queue_finalisers.Given as goal
 
 abbrev pub invariant-loop-death : goal.invariant-loop-death

@@ -1,8 +1,4 @@
-use Rattle.std.proofs.Common.{ℕ, List, set, take, get_or, sym, ap, ◌∙◌, arith, length}
-use Rattle.nmgc_weak.specs.declared.weaks.OldWeak.{OldWeak}
-use Rattle.nmgc_weak.specs.Weaks.{value_place}
-use Rattle.nmgc_weak.proofs.Clearing.{cleared_length, cleared_more}
-use Rattle.nmgc_weak.proofs.Finding.{at_contains}
+use Rattle.nmgc_weak.proofs.{Vocabulary.ℕ, Vocabulary.List, Vocabulary.set, Vocabulary.take, Vocabulary.get_or, Vocabulary.sym, Vocabulary.ap, Vocabulary.◌∙◌, Vocabulary.arith, Vocabulary.length, Vocabulary.OldWeak, Vocabulary.value_place, Clearing.cleared_length, Clearing.cleared_more, Finding.at_contains}
 use Rattle.nmgc_weak.proofs.resolve.clear_values.Goals as goal
 
 abbrev nobody : OldWeak

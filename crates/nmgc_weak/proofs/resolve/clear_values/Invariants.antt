@@ -1,5 +1,4 @@
-use Rattle.std.proofs.Common.{◌≡◌, take}
-use Rattle.nmgc_weak.specs.Weaks.{without_values}
+use Rattle.nmgc_weak.proofs.Vocabulary.{◌≡◌, take, without_values}
 use Rattle.nmgc_weak.proofs.resolve.clear_values.Given as goal
 
 abbrev pub invariant-loop-weak : goal.invariant-loop-weak

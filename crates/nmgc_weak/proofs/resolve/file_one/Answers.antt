@@ -1,5 +1,4 @@
-use Rattle.std.proofs.Common.{ℕ, List, sym, subst}
-use Rattle.nmgc_weak.specs.Weaks.{IsWithin}
+use Rattle.nmgc_weak.proofs.Vocabulary.{ℕ, List, sym, subst, IsWithin}
 use Rattle.nmgc_weak.proofs.resolve.file_one.Goals as goal
 
 pub key_of-requires : goal.key_of-requires

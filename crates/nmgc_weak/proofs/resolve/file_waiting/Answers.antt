@@ -1,7 +1,4 @@
-use Rattle.std.proofs.Common.{ℕ, List, get_or, sym, subst}
-use Rattle.nmgc_weak.specs.declared.weaks.OldWeak.{OldWeak}
-use Rattle.nmgc_weak.specs.Weaks.{IsWithin}
-use Rattle.nmgc_weak.proofs.Finding.{at_contains}
+use Rattle.nmgc_weak.proofs.{Vocabulary.ℕ, Vocabulary.List, Vocabulary.get_or, Vocabulary.sym, Vocabulary.subst, Vocabulary.OldWeak, Vocabulary.IsWithin, Finding.at_contains}
 use Rattle.nmgc_weak.proofs.resolve.file_waiting.Goals as goal
 
 abbrev nobody : OldWeak

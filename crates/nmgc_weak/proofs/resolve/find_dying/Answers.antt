@@ -1,12 +1,5 @@
-use Rattle.std.proofs.Common.{◌≡◌, ◌≤◌, ℕ, List, [], ◌∷◌, zero, suc, get_or, refl, sym, subst, ◌∙◌, arith, take, drop, length}
-use Rattle.std.proofs.lemmas.List.{take_all}
-use Rattle.std.specs.Prelude.{slice_index}
-use Rattle.nmgc_weak.specs.declared.weaks.OldWeak.{OldWeak}
-use Rattle.nmgc_weak.specs.Weaks.{IsWithin, key_place}
-use Rattle.nmgc_weak.specs.Steps.{IsLostAt}
-use Rattle.nmgc_weak.proofs.Finding.{IsFinding, finding_begins, found_one, found_none, found_all, at_contains}
+use Rattle.nmgc_weak.proofs.{Vocabulary.◌≡◌, Vocabulary.◌≤◌, Vocabulary.ℕ, Vocabulary.List, Vocabulary.[], Vocabulary.◌∷◌, Vocabulary.zero, Vocabulary.suc, Vocabulary.get_or, Vocabulary.refl, Vocabulary.sym, Vocabulary.subst, Vocabulary.◌∙◌, Vocabulary.arith, Vocabulary.take, Vocabulary.drop, Vocabulary.length, Vocabulary.take_all, Vocabulary.slice_index, Vocabulary.OldWeak, Vocabulary.IsWithin, Vocabulary.key_place, Vocabulary.IsLostAt, Finding.IsFinding, Finding.finding_begins, Finding.found_one, Finding.found_none, Finding.found_all, Finding.at_contains, resolve.find_dying.Goals.then-is_lost, resolve.find_dying.Goals.else-is_lost}
 use Rattle.nmgc_weak.proofs.resolve.find_dying.Goals as goal
-use Rattle.nmgc_weak.proofs.resolve.find_dying.Goals.{then-is_lost, else-is_lost}
 
 abbrev nobody : OldWeak
 nobody = record { weak = record { maker = 0; serial = 0 }; at = record { 0 = 0 } }

@@ -1,8 +1,4 @@
-use Rattle.std.proofs.Common.{◌≡◌, ◌≤◌, vec_len, vec_capacity}
-use Rattle.nmgc_round.specs.View.{Opening}
-use Rattle.nmgc_weak.specs.Resolve.{CanResolve}
-use Rattle.nmgc_weak.specs.Weaks.{places_of}
-use Rattle.nmgc_weak.proofs.Finding.{IsFinding}
+use Rattle.nmgc_weak.proofs.{Vocabulary.◌≡◌, Vocabulary.◌≤◌, Vocabulary.vec_len, Vocabulary.vec_capacity, Vocabulary.Opening, Vocabulary.CanResolve, Vocabulary.places_of, Finding.IsFinding}
 use Rattle.nmgc_weak.proofs.resolve.find_dying.Given as goal
 
 abbrev pub invariant-loop-weak : goal.invariant-loop-weak

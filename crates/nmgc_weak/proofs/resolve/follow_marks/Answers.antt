@@ -1,6 +1,4 @@
-use Rattle.std.proofs.Common.{ℕ, List, refl, sym, subst, arith}
-use Rattle.nmgc_weak.specs.Weaks.{IsWithin, places_of}
-use Rattle.nmgc_weak.proofs.Passing.{gone_none, gone_more, gone_can}
+use Rattle.nmgc_weak.proofs.{Vocabulary.ℕ, Vocabulary.List, Vocabulary.refl, Vocabulary.sym, Vocabulary.subst, Vocabulary.arith, Vocabulary.IsWithin, Vocabulary.places_of, Passing.gone_none, Passing.gone_more, Passing.gone_can}
 use Rattle.nmgc_weak.proofs.resolve.follow_marks.Goals as goal
 
 pub loop-at-init : goal.loop-at-init

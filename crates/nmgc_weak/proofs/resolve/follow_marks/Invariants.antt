@@ -1,6 +1,4 @@
-use Rattle.std.proofs.Common.{◌+◌, ◌-◌}
-use Rattle.nmgc_weak.specs.Weaks.{places_of}
-use Rattle.nmgc_weak.proofs.Passing.{HasGone}
+use Rattle.nmgc_weak.proofs.{Vocabulary.◌+◌, Vocabulary.◌-◌, Vocabulary.places_of, Passing.HasGone}
 use Rattle.nmgc_weak.proofs.resolve.follow_marks.Given as goal
 
 abbrev pub invariant-loop-at : goal.invariant-loop-at

@@ -1,6 +1,4 @@
-use Rattle.std.proofs.Common.{◌≡◌, ◌+◌, ◌↔◌, ℕ, sym, ap, subst, ◌∙◌, arith}
-use Rattle.std.specs.Prelude.{slice_index, IsTrue}
-use Rattle.nmgc_weak.specs.Steps.{IsKeyMarkedWord}
+use Rattle.nmgc_weak.proofs.Vocabulary.{◌≡◌, ◌+◌, ◌↔◌, ℕ, sym, ap, subst, ◌∙◌, arith, slice_index, IsTrue, IsKeyMarkedWord}
 use Rattle.nmgc_weak.proofs.resolve.has_marked_key.Goals as goal
 
 pub is_key_marked-requires-clause-small : goal.is_key_marked-requires-clause-small

@@ -1,7 +1,4 @@
-use Rattle.std.proofs.Common.{◌≡◌, ◌≢◌, ◌⊎◌, ◌↔◌, ◌/◌, ◌%◌, ℕ, inl, inr, sym, subst, arith}
-use Rattle.std.specs.Prelude.{IsTrue}
-use Rattle.nmgc_object.specs.declared.layout.TheConstants.{SHARED_PLACE}
-use Rattle.nmgc_alloc.specs.Blocks.{IsMarkedAt}
+use Rattle.nmgc_weak.proofs.Vocabulary.{◌≡◌, ◌≢◌, ◌⊎◌, ◌↔◌, ◌/◌, ◌%◌, ℕ, inl, inr, sym, subst, arith, IsTrue, SHARED_PLACE, IsMarkedAt}
 use Rattle.nmgc_weak.proofs.resolve.is_key_marked.Goals as goal
 
 pub overflow_cast-to : goal.overflow_cast-to

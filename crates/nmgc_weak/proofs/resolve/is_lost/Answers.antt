@@ -1,8 +1,5 @@
-use Rattle.std.proofs.Common.{◌↔◌, refl, Bool, true, false}
+use Rattle.nmgc_weak.proofs.Vocabulary.{◌↔◌, refl, Bool, true, false, slice_index, IsTrue, IsKeyMarkedWord, key_place}
 use mathlib.Core.Bool.{not}
-use Rattle.std.specs.Prelude.{slice_index, IsTrue}
-use Rattle.nmgc_weak.specs.Steps.{IsKeyMarkedWord}
-use Rattle.nmgc_weak.specs.Weaks.{key_place}
 use Rattle.nmgc_weak.proofs.resolve.is_lost.Goals as goal
 
 -- a test that fails exactly where its claim doesn't hold

@@ -1,7 +1,4 @@
-use Rattle.std.proofs.Common.{◌↔◌, refl, subst, sym, IsTrue, Option, Some, None, is_some}
-use Rattle.std.specs.Prelude.{IfSome, IfNone}
-use Rattle.nmgc_alloc.specs.Blocks.{IsSnapshotAt}
-use Rattle.nmgc_alloc.specs.Segments.{IsBlockAt}
+use Rattle.nmgc_weak.proofs.Vocabulary.{◌↔◌, refl, subst, sym, Option, Some, None, IfSome, IfNone, IsSnapshotAt, IsBlockAt, IsTrue, is_some}
 use Rattle.nmgc_weak.proofs.resolve.is_of_snapshot.Goals as goal
 
 -- something was found exactly where there is something

@@ -1,15 +1,5 @@
-use Rattle.std.proofs.Common.{◌≡◌, ◌+◌, ℕ, List, sym, ap, subst, ◌∙◌, arith}
-use Rattle.std.specs.Prelude.{slice_index}
-use Rattle.nmgc_round.specs.Marking.{Marks, name_meant, with_name}
-use Rattle.nmgc_round.specs.View.{Opening}
-use Rattle.nmgc_mark.specs.Stopped.{IsReady}
-use Rattle.nmgc_mark.specs.Tie.{IsTied}
-use Rattle.nmgc_weak.specs.Weaks.{value_place, finaliser_place}
-use Rattle.nmgc_weak.proofs.Counting.{marked_sum}
-use Rattle.nmgc_weak.proofs.Keeping.{third, three, kept}
-use Rattle.nmgc_weak.proofs.Stages.{with_marks, stage_ready}
+use Rattle.nmgc_weak.proofs.{Vocabulary.◌≡◌, Vocabulary.◌+◌, Vocabulary.ℕ, Vocabulary.List, Vocabulary.sym, Vocabulary.ap, Vocabulary.subst, Vocabulary.◌∙◌, Vocabulary.arith, Vocabulary.slice_index, Vocabulary.Marks, Vocabulary.name_meant, Vocabulary.with_name, Vocabulary.Opening, Vocabulary.IsReady, Vocabulary.IsTied, Vocabulary.value_place, Vocabulary.finaliser_place, Vocabulary.finaliser_is, Counting.marked_sum, Keeping.third, Keeping.three, Keeping.kept, Stages.with_marks, Stages.stage_ready}
 use Rattle.nmgc_weak.proofs.resolve.keep.Goals as goal
-use Rattle.nmgc_weak.specs.laws.Common.{finaliser_is}
 
 -- the words that were loaded
 value_is : (words : List ℕ) (at w : ℕ) → w ≡ slice_index words (at + 3) → w ≡ slice_index words (value_place at)

@@ -1,8 +1,4 @@
-use Rattle.std.proofs.Common.{ℕ, List, sym, subst, ◌∙◌}
-use Rattle.nmgc_weak.specs.Resolve.{CanResolve}
-use Rattle.nmgc_weak.specs.Weaks.{IsWithin, places_of, names_of}
-use Rattle.nmgc_weak.proofs.Counting.{marked_sum}
-use Rattle.nmgc_weak.proofs.Passing.{HasGone, gone_none, gone_more, gone_can, passed_on}
+use Rattle.nmgc_weak.proofs.{Vocabulary.ℕ, Vocabulary.List, Vocabulary.sym, Vocabulary.subst, Vocabulary.◌∙◌, Vocabulary.CanResolve, Vocabulary.IsWithin, Vocabulary.places_of, Vocabulary.names_of, Counting.marked_sum, Passing.HasGone, Passing.gone_none, Passing.gone_more, Passing.gone_can, Passing.passed_on}
 use Rattle.nmgc_weak.proofs.resolve.keep_ahead.Goals as goal
 
 pub pass-requires-clause-within : goal.pass-requires-clause-within

@@ -1,10 +1,4 @@
-use Rattle.std.proofs.Common.{[], ◌∷◌, get_or}
-use Rattle.nmgc_weak.specs.declared.weaks.OldWeak.{OldWeak}
-use Rattle.nmgc_weak.specs.Weaks.{places_of}
-use Rattle.nmgc_mark.specs.laws.Common.{marked_none}
-use Rattle.nmgc_weak.proofs.Finding.{at_contains}
-use Rattle.nmgc_weak.proofs.Passing.{goes_nowhere, passed_on}
-use Rattle.nmgc_weak.proofs.Saving.{has_place}
+use Rattle.nmgc_weak.proofs.{Vocabulary.[], Vocabulary.◌∷◌, Vocabulary.get_or, Vocabulary.OldWeak, Vocabulary.places_of, Vocabulary.marked_none, Finding.at_contains, Passing.goes_nowhere, Passing.passed_on, Saving.has_place}
 use Rattle.nmgc_weak.proofs.resolve.keep_at.Goals as goal
 
 abbrev nobody : OldWeak

@@ -1,7 +1,4 @@
-use Rattle.std.proofs.Common.{ℕ, List, sym, subst, inl, inr}
-use Rattle.nmgc_weak.specs.Steps.{CanKeep, HasKept}
-use Rattle.nmgc_mark.specs.laws.Common.{marked_none}
-use Rattle.nmgc_weak.proofs.Passing.{can_keep, one_kept, none_kept}
+use Rattle.nmgc_weak.proofs.{Vocabulary.ℕ, Vocabulary.List, Vocabulary.sym, Vocabulary.subst, Vocabulary.inl, Vocabulary.inr, Vocabulary.CanKeep, Vocabulary.HasKept, Vocabulary.marked_none, Passing.can_keep, Passing.one_kept, Passing.none_kept}
 use Rattle.nmgc_weak.proofs.resolve.keep_if_key_marked.Goals as goal
 
 pub returns-in_default-clause-marked : goal.returns-in_default-clause-marked

@@ -1,6 +1,4 @@
-use Rattle.std.proofs.Common.{◌-◌, length}
-use Rattle.nmgc_weak.specs.Weaks.{places_of}
-use Rattle.nmgc_weak.proofs.Passing.{HasGone}
+use Rattle.nmgc_weak.proofs.{Vocabulary.◌-◌, Vocabulary.length, Vocabulary.places_of, Passing.HasGone}
 use Rattle.nmgc_weak.proofs.resolve.keep_waiting.Given as goal
 
 abbrev pub invariant-loop-next : goal.invariant-loop-next

@@ -1,14 +1,4 @@
-use Rattle.std.proofs.Common.{ℕ, List, [], ◌∷◌, take, get_or, refl, sym, subst, ◌∙◌}
-use Rattle.nmgc_world_spec.specs.declared.value.Name.{Name}
-use Rattle.nmgc_weak.specs.declared.weaks.OldWeak.{OldWeak}
-use Rattle.nmgc_weak.specs.Resolve.{CanResolve}
-use Rattle.nmgc_weak.specs.Steps.{HasPassed}
-use Rattle.nmgc_weak.specs.Weaks.{IsWithin, places_of, names_of}
-use Rattle.nmgc_mark.specs.laws.Common.{marked_none}
-use Rattle.nmgc_weak.proofs.Counting.{marked_sum}
-use Rattle.nmgc_weak.proofs.Finding.{at_contains}
-use Rattle.nmgc_weak.proofs.Passing.{pass_none, pass_more, names_more}
-use Rattle.nmgc_weak.proofs.Saving.{has_place}
+use Rattle.nmgc_weak.proofs.{Vocabulary.ℕ, Vocabulary.List, Vocabulary.[], Vocabulary.◌∷◌, Vocabulary.take, Vocabulary.get_or, Vocabulary.refl, Vocabulary.sym, Vocabulary.subst, Vocabulary.◌∙◌, Vocabulary.Name, Vocabulary.OldWeak, Vocabulary.CanResolve, Vocabulary.HasPassed, Vocabulary.IsWithin, Vocabulary.places_of, Vocabulary.names_of, Vocabulary.marked_none, Counting.marked_sum, Finding.at_contains, Passing.pass_none, Passing.pass_more, Passing.names_more, Saving.has_place}
 use Rattle.nmgc_weak.proofs.resolve.pass.Goals as goal
 
 abbrev nobody : OldWeak

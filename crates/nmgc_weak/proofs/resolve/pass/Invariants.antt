@@ -1,9 +1,4 @@
-use Rattle.std.proofs.Common.{ℕ, ◌≡◌, take}
-use Rattle.nmgc_round.specs.View.{Opening}
-use Rattle.nmgc_mark.specs.Marker.{HasMarked}
-use Rattle.nmgc_weak.specs.Resolve.{CanResolve}
-use Rattle.nmgc_weak.specs.Steps.{HasPassed}
-use Rattle.nmgc_weak.specs.Weaks.{places_of, names_of}
+use Rattle.nmgc_weak.proofs.Vocabulary.{ℕ, ◌≡◌, take, Opening, HasMarked, CanResolve, HasPassed, places_of, names_of}
 use Rattle.nmgc_weak.proofs.resolve.pass.Given as goal
 
 abbrev pub invariant-loop-weak : goal.invariant-loop-weak

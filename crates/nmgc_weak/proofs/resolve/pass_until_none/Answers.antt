@@ -1,10 +1,4 @@
-use Rattle.std.proofs.Common.{ℕ, List, refl, sym, subst, ◌∙◌}
-use Rattle.nmgc_weak.specs.Resolve.{CanResolve}
-use Rattle.nmgc_weak.specs.Steps.{HasPassed}
-use Rattle.nmgc_weak.specs.Weaks.{IsWithin, places_of, names_of}
-use Rattle.nmgc_mark.specs.laws.Common.{marked_none}
-use Rattle.nmgc_weak.proofs.Counting.{marked_sum}
-use Rattle.nmgc_weak.proofs.Passing.{stays, then_goes, saturated, revived_then}
+use Rattle.nmgc_weak.proofs.{Vocabulary.ℕ, Vocabulary.List, Vocabulary.refl, Vocabulary.sym, Vocabulary.subst, Vocabulary.◌∙◌, Vocabulary.CanResolve, Vocabulary.HasPassed, Vocabulary.IsWithin, Vocabulary.places_of, Vocabulary.names_of, Vocabulary.marked_none, Counting.marked_sum, Passing.stays, Passing.then_goes, Passing.saturated, Passing.revived_then}
 use Rattle.nmgc_weak.proofs.resolve.pass_until_none.Goals as goal
 
 pub loop-before-init : goal.loop-before-init

@@ -1,9 +1,4 @@
-use Rattle.std.proofs.Common.{ℕ, ◌≡◌}
-use Rattle.nmgc_round.specs.View.{Opening}
-use Rattle.nmgc_mark.specs.Marker.{HasMarked}
-use Rattle.nmgc_weak.specs.Resolve.{CanResolve}
-use Rattle.nmgc_weak.specs.Steps.{GoesTo}
-use Rattle.nmgc_weak.specs.Weaks.{places_of}
+use Rattle.nmgc_weak.proofs.Vocabulary.{ℕ, ◌≡◌, Opening, HasMarked, CanResolve, GoesTo, places_of}
 use Rattle.nmgc_weak.proofs.resolve.pass_until_none.Given as goal
 
 abbrev pub invariant-loop-before : goal.invariant-loop-before

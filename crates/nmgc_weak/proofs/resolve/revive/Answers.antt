@@ -1,7 +1,4 @@
-use Rattle.std.proofs.Common.{ℕ, List, sym, subst}
-use Rattle.nmgc_weak.specs.Weaks.{IsWithin, places_of}
-use Rattle.nmgc_weak.proofs.Counting.{marked_sum}
-use Rattle.nmgc_weak.proofs.Passing.{HasGone, gone_can, gone_revived}
+use Rattle.nmgc_weak.proofs.{Vocabulary.ℕ, Vocabulary.List, Vocabulary.sym, Vocabulary.subst, Vocabulary.IsWithin, Vocabulary.places_of, Counting.marked_sum, Passing.HasGone, Passing.gone_can, Passing.gone_revived}
 use Rattle.nmgc_weak.proofs.resolve.revive.Goals as goal
 
 pub pass_until_none-requires-clause-room : goal.pass_until_none-requires-clause-room

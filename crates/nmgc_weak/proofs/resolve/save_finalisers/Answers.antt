@@ -1,18 +1,5 @@
-use Rattle.std.proofs.Common.{◌≡◌, ◌+◌, ℕ, List, [], ◌∷◌, ◌++◌, take, get_or, length, refl, sym, ap, subst, ◌∙◌, arith}
-use Rattle.std.specs.Prelude.{slice_index}
-use Rattle.nmgc_mark.specs.Stopped.{IsReady}
-use Rattle.nmgc_weak.specs.declared.weaks.OldWeak.{OldWeak}
-use Rattle.nmgc_weak.specs.declared.weaks.Death.{Death}
-use Rattle.nmgc_weak.specs.Weaks.{finaliser_place, deaths_of}
-use Rattle.nmgc_weak.proofs.Clearing.{deaths_more}
-use Rattle.nmgc_mark.specs.laws.Common.{marked_none}
-use Rattle.nmgc_weak.proofs.Counting.{marked_sum}
-use Rattle.nmgc_weak.proofs.Finding.{at_contains}
-use Rattle.nmgc_weak.proofs.Joining.{get_default}
-use Rattle.nmgc_weak.proofs.Saving.{IsSaving, saving_begins, saving_more, saving_done}
-use Rattle.nmgc_weak.proofs.Stages.{remade, stage_ready}
+use Rattle.nmgc_weak.proofs.{Vocabulary.◌≡◌, Vocabulary.◌+◌, Vocabulary.ℕ, Vocabulary.List, Vocabulary.[], Vocabulary.◌∷◌, Vocabulary.◌++◌, Vocabulary.take, Vocabulary.get_or, Vocabulary.length, Vocabulary.refl, Vocabulary.sym, Vocabulary.ap, Vocabulary.subst, Vocabulary.◌∙◌, Vocabulary.arith, Vocabulary.slice_index, Vocabulary.IsReady, Vocabulary.OldWeak, Vocabulary.Death, Vocabulary.finaliser_place, Vocabulary.deaths_of, Vocabulary.marked_none, Vocabulary.word_is, Clearing.deaths_more, Counting.marked_sum, Finding.at_contains, Joining.get_default, Saving.IsSaving, Saving.saving_begins, Saving.saving_more, Saving.saving_done, Stages.remade, Stages.stage_ready}
 use Rattle.nmgc_weak.proofs.resolve.save_finalisers.Goals as goal
-use Rattle.nmgc_weak.specs.laws.Common.{finaliser_is as word_is}
 
 abbrev nobody : OldWeak
 nobody = record { weak = record { maker = 0; serial = 0 }; at = record { 0 = 0 } }

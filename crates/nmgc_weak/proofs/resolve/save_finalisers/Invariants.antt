@@ -1,10 +1,4 @@
-use Rattle.std.proofs.Common.{ℕ, List, ◌≡◌, take, vec_capacity}
-use Rattle.nmgc_heap_spec.specs.Places.{Place}
-use Rattle.nmgc_round.specs.View.{Opening}
-use Rattle.nmgc_mark.specs.Marker.{HasMarked}
-use Rattle.nmgc_weak.specs.Steps.{CanRescue}
-use Rattle.nmgc_weak.specs.Weaks.{deaths_of}
-use Rattle.nmgc_weak.proofs.Saving.{IsSaving}
+use Rattle.nmgc_weak.proofs.{Vocabulary.ℕ, Vocabulary.List, Vocabulary.◌≡◌, Vocabulary.take, Vocabulary.vec_capacity, Vocabulary.Place, Vocabulary.Opening, Vocabulary.HasMarked, Vocabulary.CanRescue, Vocabulary.deaths_of, Saving.IsSaving}
 use Rattle.nmgc_weak.proofs.resolve.save_finalisers.Given as goal
 
 abbrev pub invariant-loop-weak : goal.invariant-loop-weak

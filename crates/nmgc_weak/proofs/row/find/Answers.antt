@@ -1,6 +1,4 @@
-use Rattle.std.proofs.Common.{◌+◌, ◌-◌, ◌/◌, ◌<◌, ℕ, length, refl, arith}
-use Rattle.std.proofs.lemmas.Bool.{iff_false}
-use Rattle.nmgc_weak.proofs.Entries.{between_first, between_low, between_high, between_none, halfway, neither_before, nth_entry, entry_there}
+use Rattle.nmgc_weak.proofs.{Vocabulary.◌+◌, Vocabulary.◌-◌, Vocabulary.◌/◌, Vocabulary.◌<◌, Vocabulary.ℕ, Vocabulary.length, Vocabulary.refl, Vocabulary.arith, Vocabulary.iff_false, Entries.between_first, Entries.between_low, Entries.between_high, Entries.between_none, Entries.halfway, Entries.neither_before, Entries.nth_entry, Entries.entry_there}
 use Rattle.nmgc_weak.proofs.row.find.Goals as goal
 
 -- what lies halfway between two places

@@ -1,10 +1,5 @@
-use Rattle.std.proofs.Common.{◌≡◌, ◌≢◌, ℕ, List, true, length, slice_index, sym, ap, ◌∙◌, arith}
-use Rattle.nmgc_weak.specs.declared.row.Entry.{Entry}
-use Rattle.nmgc_weak.specs.Rows.{listed, entry_names}
-use Rattle.nmgc_weak.specs.Weaks.{value_place}
-use Rattle.nmgc_weak.proofs.Entries.{marked, marked_all, marked_alive, marked_dead, marked_left, marked_listed, marked_more, marked_names, next_listed, nth_entry}
+use Rattle.nmgc_weak.proofs.{Vocabulary.◌≡◌, Vocabulary.◌≢◌, Vocabulary.ℕ, Vocabulary.List, Vocabulary.true, Vocabulary.length, Vocabulary.sym, Vocabulary.ap, Vocabulary.◌∙◌, Vocabulary.arith, Vocabulary.Entry, Vocabulary.listed, Vocabulary.entry_names, Vocabulary.value_place, Vocabulary.slice_index, Entries.marked, Entries.marked_all, Entries.marked_alive, Entries.marked_dead, Entries.marked_left, Entries.marked_listed, Entries.marked_more, Entries.marked_names, Entries.next_listed, Entries.nth_entry, row.mark_dead.Goals.then-not-entry+then-load-eq0, row.mark_dead.Goals.else-not-entry, row.mark_dead.Goals.else-not-entry-via-then-not-entry+else-load-eq0, row.mark_dead.Goals.else-not-entry-via-else-not-entry}
 use Rattle.nmgc_weak.proofs.row.mark_dead.Goals as goal
-use Rattle.nmgc_weak.proofs.row.mark_dead.Goals.{then-not-entry+then-load-eq0, else-not-entry, else-not-entry-via-then-not-entry+else-load-eq0, else-not-entry-via-else-not-entry}
 
 pub load-requires : goal.load-requires
 load-requires g c =

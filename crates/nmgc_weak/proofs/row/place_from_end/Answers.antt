@@ -1,10 +1,4 @@
-use Rattle.std.proofs.Common.{◌≡◌, ◌+◌, ◌-◌, ◌<◌, ℕ, length, ap, sym, subst, refl, ◌∙◌, arith}
-use Rattle.std.specs.Prelude.{slice_get}
-use Rattle.std.proofs.lemmas.Bool.{iff_false}
-use Rattle.std.proofs.lemmas.Option.{same_Some}
-use Rattle.nmgc_world_spec.specs.Reach.{IsBefore}
-use Rattle.nmgc_weak.specs.declared.row.Entry.{Entry}
-use Rattle.nmgc_weak.proofs.Entries.{ComeAfter, none_after, one_before, nth_entry, entry_there}
+use Rattle.nmgc_weak.proofs.{Vocabulary.◌≡◌, Vocabulary.◌+◌, Vocabulary.◌-◌, Vocabulary.◌<◌, Vocabulary.ℕ, Vocabulary.length, Vocabulary.ap, Vocabulary.sym, Vocabulary.subst, Vocabulary.refl, Vocabulary.◌∙◌, Vocabulary.arith, Vocabulary.slice_get, Vocabulary.iff_false, Vocabulary.same_Some, Vocabulary.IsBefore, Vocabulary.Entry, Entries.ComeAfter, Entries.none_after, Entries.one_before, Entries.nth_entry, Entries.entry_there}
 use Rattle.nmgc_weak.proofs.row.place_from_end.Goals as goal
 
 pub loop-place-init : goal.loop-place-init

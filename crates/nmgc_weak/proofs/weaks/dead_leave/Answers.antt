@@ -1,10 +1,4 @@
-use Rattle.std.proofs.Common.{◌≡◌, ◌<◌, ◌≤◌, ℕ, List, get_or, length, refl, sym, ap, ◌∙◌, arith, Some}
-use Rattle.std.specs.Prelude.{slice_get}
-use Rattle.std.proofs.lemmas.Option.{slice_get-get_or, slice_get_within}
-use Rattle.nmgc_world_spec.specs.Reach.{IsInOrder}
-use Rattle.nmgc_weak.specs.Rows.{Row}
-use Rattle.nmgc_weak.specs.Weaks.{alive_of, names_of}
-use Rattle.nmgc_weak.proofs.RowLaws.{of_row, one_done, rest_stays}
+use Rattle.nmgc_weak.proofs.{Vocabulary.◌≡◌, Vocabulary.◌<◌, Vocabulary.◌≤◌, Vocabulary.ℕ, Vocabulary.List, Vocabulary.get_or, Vocabulary.length, Vocabulary.refl, Vocabulary.sym, Vocabulary.ap, Vocabulary.◌∙◌, Vocabulary.arith, Vocabulary.Some, Vocabulary.slice_get, Vocabulary.slice_get-get_or, Vocabulary.slice_get_within, Vocabulary.IsInOrder, Vocabulary.Row, Vocabulary.alive_of, Vocabulary.names_of, RowLaws.of_row, RowLaws.one_done, RowLaws.rest_stays}
 use Rattle.nmgc_weak.proofs.weaks.dead_leave.Goals as goal
 
 pub loop-row-init : goal.loop-row-init

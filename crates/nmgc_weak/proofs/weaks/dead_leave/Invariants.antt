@@ -1,8 +1,4 @@
-use Rattle.std.proofs.Common.{◌≡◌, ◌<◌, ◌≤◌, ℕ, Some}
-use Rattle.std.specs.Prelude.{slice_get}
-use Rattle.nmgc_world_spec.specs.Reach.{IsInOrder}
-use Rattle.nmgc_weak.specs.Rows.{Row}
-use Rattle.nmgc_weak.specs.Weaks.{alive_of, names_of}
+use Rattle.nmgc_weak.proofs.Vocabulary.{◌≡◌, ◌<◌, ◌≤◌, ℕ, Some, slice_get, IsInOrder, Row, alive_of, names_of}
 use Rattle.nmgc_weak.proofs.weaks.dead_leave.Given as goal
 
 abbrev pub invariant-loop-row : goal.invariant-loop-row

@@ -1,6 +1,4 @@
-use Rattle.std.proofs.Common.{◌≡◌, get_or, arith}
-use Rattle.nmgc_weak.specs.Rows.{Row}
-use Rattle.nmgc_weak.proofs.RowLaws.{rows_part}
+use Rattle.nmgc_weak.proofs.{Vocabulary.◌≡◌, Vocabulary.get_or, Vocabulary.arith, Vocabulary.Row, RowLaws.rows_part}
 use Rattle.nmgc_weak.proofs.weaks.list_rows.Goals as goal
 
 pub list_into-requires : goal.list_into-requires

@@ -1,5 +1,4 @@
-use Rattle.std.proofs.Common.{◌≡◌, take, vec_capacity, vec_len, length}
-use Rattle.nmgc_weak.specs.Rows.{list_of}
+use Rattle.nmgc_weak.proofs.Vocabulary.{◌≡◌, take, vec_capacity, vec_len, length, list_of}
 use Rattle.nmgc_weak.proofs.weaks.list_rows.Given as goal
 
 abbrev pub invariant-loop-row : goal.invariant-loop-row

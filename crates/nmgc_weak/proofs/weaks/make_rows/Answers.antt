@@ -1,8 +1,4 @@
-use Rattle.std.proofs.Common.{◌≡◌, ◌+◌, ◌<◌, List, [], ◌∷◌, ◌++◌, length, length-append, inl, inr, refl, sym, ap, ◌∙◌, arith}
-use Rattle.std.specs.Prelude.{slice_get}
-use Rattle.nmgc_limits.specs.declared.mutators.TheConstants.{MAKERS}
-use Rattle.nmgc_weak.specs.Rows.{Row, list_of}
-use Rattle.nmgc_weak.proofs.RowLaws.{empty_joins, last_or_before}
+use Rattle.nmgc_weak.proofs.{Vocabulary.◌≡◌, Vocabulary.◌+◌, Vocabulary.◌<◌, Vocabulary.List, Vocabulary.[], Vocabulary.◌∷◌, Vocabulary.◌++◌, Vocabulary.length, Vocabulary.length-append, Vocabulary.inl, Vocabulary.inr, Vocabulary.refl, Vocabulary.sym, Vocabulary.ap, Vocabulary.◌∙◌, Vocabulary.arith, Vocabulary.slice_get, Vocabulary.MAKERS, Vocabulary.Row, Vocabulary.list_of, RowLaws.empty_joins, RowLaws.last_or_before}
 use Rattle.nmgc_weak.proofs.weaks.make_rows.Goals as goal
 
 pub loop-alloc-init : goal.loop-alloc-init

@@ -1,7 +1,4 @@
-use Rattle.std.proofs.Common.{◌≡◌, ◌⊎◌, ◌+◌, ◌-◌, ◌<◌, ◌≤◌, ℕ, [], length, vec_len, Some}
-use Rattle.std.specs.Prelude.{slice_get}
-use Rattle.nmgc_limits.specs.declared.mutators.TheConstants.{MAKERS}
-use Rattle.nmgc_weak.specs.Rows.{Row, list_of}
+use Rattle.nmgc_weak.proofs.Vocabulary.{◌≡◌, ◌⊎◌, ◌+◌, ◌-◌, ◌<◌, ◌≤◌, ℕ, [], length, vec_len, Some, slice_get, MAKERS, Row, list_of}
 use Rattle.nmgc_weak.proofs.weaks.make_rows.Given as goal
 
 abbrev pub invariant-loop-alloc : goal.invariant-loop-alloc

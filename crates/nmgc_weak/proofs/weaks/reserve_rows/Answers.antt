@@ -1,8 +1,4 @@
-use Rattle.std.proofs.Common.{◌≡◌, ◌<◌, ◌≤◌, ℕ, List, get_or, length, refl, sym, ◌∙◌, arith, Some}
-use Rattle.std.specs.Prelude.{slice_get}
-use Rattle.std.proofs.lemmas.Option.{slice_get-get_or}
-use Rattle.nmgc_weak.specs.Rows.{Row}
-use Rattle.nmgc_weak.proofs.RowLaws.{one_done, rest_stays}
+use Rattle.nmgc_weak.proofs.{Vocabulary.◌≡◌, Vocabulary.◌<◌, Vocabulary.◌≤◌, Vocabulary.ℕ, Vocabulary.List, Vocabulary.get_or, Vocabulary.length, Vocabulary.refl, Vocabulary.sym, Vocabulary.◌∙◌, Vocabulary.arith, Vocabulary.Some, Vocabulary.slice_get, Vocabulary.slice_get-get_or, Vocabulary.Row, RowLaws.one_done, RowLaws.rest_stays}
 use Rattle.nmgc_weak.proofs.weaks.reserve_rows.Goals as goal
 
 pub loop-row-init : goal.loop-row-init

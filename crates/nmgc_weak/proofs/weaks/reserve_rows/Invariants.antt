@@ -1,6 +1,4 @@
-use Rattle.std.proofs.Common.{◌≡◌, ◌<◌, ◌≤◌, ℕ, Some}
-use Rattle.std.specs.Prelude.{slice_get}
-use Rattle.nmgc_weak.specs.Rows.{Row}
+use Rattle.nmgc_weak.proofs.Vocabulary.{◌≡◌, ◌<◌, ◌≤◌, ℕ, Some, slice_get, Row}
 use Rattle.nmgc_weak.proofs.weaks.reserve_rows.Given as goal
 
 abbrev pub invariant-loop-row : goal.invariant-loop-row

@@ -1,5 +1,4 @@
-use Rattle.nmgc_world_laws.specs.laws.Keeps.{step_leaves_others}
-use Rattle.nmgc_world_laws.specs.laws.Deaths.{closing_leaves_hands}
+use Rattle.nmgc_world_laws.specs.laws.{Keeps.step_leaves_others, Deaths.closing_leaves_hands}
 use Rattle.nmgc_world_laws.proofs.laws.hands_stay.Goals as goal
 
 pub returns : goal.returns

@@ -1,5 +1,4 @@
-use Rattle.nmgc_world_laws.specs.laws.NewLimits.{new_is_within}
-use Rattle.nmgc_world_laws.specs.laws.LimitSteps.{step_keeps_limits, rows_keep_limits, closing_keeps_limits}
+use Rattle.nmgc_world_laws.specs.laws.{NewLimits.new_is_within, LimitSteps.step_keeps_limits, LimitSteps.rows_keep_limits, LimitSteps.closing_keeps_limits}
 use Rattle.nmgc_world_laws.proofs.laws.limits_stay.Goals as goal
 
 pub returns : goal.returns

@@ -1,6 +1,4 @@
-use Rattle.nmgc_world_laws.specs.Reachable.{Passes}
-use Rattle.nmgc_world_laws.specs.laws.HeldSteps.{step_holds_only}
-use Rattle.nmgc_world_laws.specs.laws.Reached.{closed_holds}
+use Rattle.nmgc_world_laws.specs.{Reachable.Passes, laws.HeldSteps.step_holds_only, laws.Reached.closed_holds}
 use Rattle.nmgc_world_laws.proofs.laws.nothing_else_is_held.Goals as goal
 
 pub returns : goal.returns

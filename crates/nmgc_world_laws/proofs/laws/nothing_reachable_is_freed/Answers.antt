@@ -1,5 +1,4 @@
-use Rattle.nmgc_world_laws.specs.laws.Closes.{closes_well}
-use Rattle.nmgc_world_laws.specs.laws.Reached.{nothing_reachable_is_freed, nothing_reachable_is_ever_freed, reachable_is_kept, reachable_is_ever_kept}
+use Rattle.nmgc_world_laws.specs.laws.{Closes.closes_well, Reached.nothing_reachable_is_freed, Reached.nothing_reachable_is_ever_freed, Reached.reachable_is_kept, Reached.reachable_is_ever_kept}
 use Rattle.nmgc_world_laws.proofs.laws.nothing_reachable_is_freed.Goals as goal
 
 pub returns : goal.returns

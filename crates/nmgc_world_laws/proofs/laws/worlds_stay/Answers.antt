@@ -1,7 +1,4 @@
-use Rattle.nmgc_world_laws.specs.laws.NewWorlds.{new_is_world}
-use Rattle.nmgc_world_laws.specs.laws.WorldSteps.{step_keeps_world}
-use Rattle.nmgc_world_laws.specs.laws.LiveRows.{world_after}
-use Rattle.nmgc_world_laws.specs.laws.Deaths.{closed_world}
+use Rattle.nmgc_world_laws.specs.laws.{NewWorlds.new_is_world, WorldSteps.step_keeps_world, LiveRows.world_after, Deaths.closed_world}
 use Rattle.nmgc_world_laws.proofs.laws.worlds_stay.Goals as goal
 
 pub returns : goal.returns

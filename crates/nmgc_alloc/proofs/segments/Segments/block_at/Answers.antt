@@ -1,6 +1,4 @@
-use Rattle.std.proofs.Common.{ℕ, subst, sym}
-use Rattle.std.specs.Prelude.{IfSome, IfNone}
-use Rattle.nmgc_alloc.specs.Segments.{IsBlockAt}
+use Rattle.nmgc_alloc.proofs.Vocabulary.{ℕ, subst, sym, IfSome, IfNone, IsBlockAt}
 use Rattle.nmgc_alloc.proofs.segments.Segments.block_at.Goals as goal
 
 pub returns-clause-some : goal.returns-clause-some

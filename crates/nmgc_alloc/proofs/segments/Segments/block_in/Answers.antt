@@ -1,8 +1,4 @@
-use Rattle.std.proofs.Common.{ℕ, ◌+◌, refl, subst}
-use Rattle.nmgc_object.specs.Places.{segment_place}
-use Rattle.nmgc_alloc.specs.Numbered.{Segments}
-use Rattle.nmgc_alloc.specs.Segments.{IsSegments, IsBlockAt}
-use Rattle.nmgc_alloc.proofs.MarkLaws.{inside_segment, same_segment, begins_there, none_begins}
+use Rattle.nmgc_alloc.proofs.{Vocabulary.ℕ, Vocabulary.◌+◌, Vocabulary.refl, Vocabulary.subst, Vocabulary.segment_place, Vocabulary.Segments, Vocabulary.IsSegments, Vocabulary.IsBlockAt, MarkLaws.inside_segment, MarkLaws.same_segment, MarkLaws.begins_there, MarkLaws.none_begins}
 use Rattle.nmgc_alloc.proofs.segments.Segments.block_in.Goals as goal
 
 pub returns-then-is_free-clause-none : goal.returns-then-is_free-clause-none

@@ -1,8 +1,4 @@
-use Rattle.std.proofs.Common.{◌≡◌, arith}
-use Rattle.nmgc_alloc.specs.declared.search.Sought.TheVariants.{Sweeping}
-use Rattle.nmgc_alloc.specs.Search.{sought_count}
-use Rattle.nmgc_alloc.proofs.CountLaws.{told_count}
-use Rattle.nmgc_alloc.proofs.HalvesTells.{search_begins, swept_few, swept_sweeps, swept_invariant}
+use Rattle.nmgc_alloc.proofs.{Vocabulary.◌≡◌, Vocabulary.arith, Vocabulary.Sweeping, Vocabulary.sought_count, CountLaws.told_count, HalvesTells.search_begins, HalvesTells.swept_few, HalvesTells.swept_sweeps, HalvesTells.swept_invariant}
 use Rattle.nmgc_alloc.proofs.segments.Segments.sweep_halves.Goals as goal
 
 pub sweep_from-past-requires-clause-from : goal.sweep_from-past-requires-clause-from

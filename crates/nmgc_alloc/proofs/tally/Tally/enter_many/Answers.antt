@@ -1,9 +1,5 @@
-use Rattle.std.proofs.Common.{ℕ, inl, inr, ap, refl, subst, sym}
-use Rattle.nmgc_alloc.specs.declared.tally.Tally.{Tally}
-use Rattle.nmgc_alloc.specs.Filing.{EntersMany}
-use Rattle.nmgc_alloc.proofs.FilingLaws.{none_entered, entered_below, entered_above}
+use Rattle.nmgc_alloc.proofs.{Vocabulary.ℕ, Vocabulary.inl, Vocabulary.inr, Vocabulary.ap, Vocabulary.refl, Vocabulary.subst, Vocabulary.sym, Vocabulary.Tally, Vocabulary.EntersMany, FilingLaws.none_entered, FilingLaws.entered_below, FilingLaws.entered_above, tally.Tally.enter_many.Goals.then-self, tally.Tally.enter_many.Goals.else-self}
 use Rattle.nmgc_alloc.proofs.tally.Tally.enter_many.Goals as goal
-use Rattle.nmgc_alloc.proofs.tally.Tally.enter_many.Goals.{then-self, else-self}
 
 pub returns-after-self : goal.returns-after-self
 returns-after-self c =

@@ -1,7 +1,4 @@
-use Rattle.std.proofs.Common.{◌≡◌, take}
-use Rattle.std.specs.Prelude.{filter}
-use Rattle.nmgc_graph.specs.Search.{parts_of}
-use Rattle.nmgc_core.specs.Finding.{is_hidden}
+use Rattle.nmgc_core.proofs.Vocabulary.{◌≡◌, take, filter, parts_of, is_hidden}
 use Rattle.nmgc_core.proofs.closing.Finding.lost.Given as goal
 
 abbrev pub invariant-loop-weak : goal.invariant-loop-weak

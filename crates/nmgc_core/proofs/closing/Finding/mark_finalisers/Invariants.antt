@@ -1,6 +1,4 @@
-use Rattle.std.proofs.Common.{take}
-use Rattle.nmgc_graph.specs.Search.{finalisers_of}
-use Rattle.nmgc_core.specs.Finding.{Adds}
+use Rattle.nmgc_core.proofs.Vocabulary.{take, finalisers_of, Adds}
 use Rattle.nmgc_core.proofs.closing.Finding.mark_finalisers.Given as goal
 
 abbrev pub invariant-loop-weak : goal.invariant-loop-weak

@@ -1,5 +1,4 @@
-use Rattle.std.proofs.Common.{take}
-use Rattle.nmgc_core.specs.Finding.{Adds}
+use Rattle.nmgc_core.proofs.Vocabulary.{take, Adds}
 use Rattle.nmgc_core.proofs.closing.Finding.mark_values.Given as goal
 
 abbrev pub invariant-loop-value : goal.invariant-loop-value

@@ -1,5 +1,4 @@
-use Rattle.std.proofs.Common.{take}
-use Rattle.nmgc_core.specs.Finding.{IsPass}
+use Rattle.nmgc_core.proofs.Vocabulary.{take, IsPass}
 use Rattle.nmgc_core.proofs.closing.Finding.mark_weaks.Given as goal
 
 abbrev pub invariant-loop-weak : goal.invariant-loop-weak

@@ -1,6 +1,4 @@
-use Rattle.std.proofs.Common.{◌+◌, length}
-use Rattle.nmgc_graph.specs.Marks.{unmarked_count}
-use Rattle.nmgc_core.specs.Finding.{IsReviving, AreRevived}
+use Rattle.nmgc_core.proofs.Vocabulary.{◌+◌, length, unmarked_count, IsReviving, AreRevived}
 use Rattle.nmgc_core.proofs.closing.Finding.revive.Given as goal
 
 abbrev pub invariant-loop-self : goal.invariant-loop-self

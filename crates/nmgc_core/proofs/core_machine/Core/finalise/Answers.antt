@@ -1,6 +1,4 @@
-use Rattle.std.proofs.Common.{◌∙◌, ◌≡◌, length, ap}
-use Rattle.nmgc_snapshot_laws.specs.State.{State}
-use Rattle.nmgc_core.proofs.CoreLaws.{core_ended, core_back, front_taken}
+use Rattle.nmgc_core.proofs.{Vocabulary.◌∙◌, Vocabulary.◌≡◌, Vocabulary.length, Vocabulary.ap, Vocabulary.State, CoreLaws.core_ended, CoreLaws.core_back, CoreLaws.front_taken}
 use Rattle.nmgc_core.proofs.core_machine.Core.finalise.Goals as goal
 
 pub invariant_of-self-2 : goal.invariant_of-self-2

@@ -1,8 +1,4 @@
-use Rattle.nmgc_world_spec.specs.World.{IsWorld}
-use Rattle.std.proofs.Common.{subst}
-use Rattle.nmgc_snapshot_laws.specs.State.{State}
-use Rattle.nmgc_snapshot_laws.specs.laws.Runs.{opening_world}
-use Rattle.nmgc_core.proofs.Running.{run_begins, run_event}
+use Rattle.nmgc_core.proofs.{Vocabulary.IsWorld, Vocabulary.subst, Vocabulary.State, Vocabulary.opening_world, Running.run_begins, Running.run_event}
 use Rattle.nmgc_core.proofs.core_machine.Core.run.Goals as goal
 
 pub loop-event-init : goal.loop-event-init

@@ -1,6 +1,4 @@
-use Rattle.std.proofs.Common.{take}
-use Rattle.nmgc_world_spec.specs.World.{IsWorld}
-use Rattle.nmgc_core.proofs.Running.{IsRunning}
+use Rattle.nmgc_core.proofs.{Vocabulary.take, Vocabulary.IsWorld, Running.IsRunning}
 use Rattle.nmgc_core.proofs.core_machine.Core.run.Given as goal
 
 abbrev pub invariant-loop-event : goal.invariant-loop-event

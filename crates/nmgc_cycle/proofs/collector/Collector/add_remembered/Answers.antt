@@ -1,17 +1,6 @@
-use Rattle.std.proofs.Common.{◌≡◌, ℕ, List, length, refl, sym, subst, Global, Some}
-use Rattle.std.specs.Prelude.{slice_get}
-use Rattle.std.specs.Vec.{with_items}
-use Rattle.std.specs.declared.vec.Vec.{Vec}
-use Rattle.nmgc_alloc.specs.Numbered.{Segments}
-use Rattle.nmgc_mutator.specs.declared.mutator.Mutator.{Mutator}
-use Rattle.nmgc_updrem.specs.Rings.{Receiver}
-use Rattle.nmgc_cycle.specs.declared.progress.Marking.{Marking}
+use Rattle.nmgc_cycle.proofs.{Vocabulary.◌≡◌, Vocabulary.ℕ, Vocabulary.List, Vocabulary.length, Vocabulary.refl, Vocabulary.sym, Vocabulary.subst, Vocabulary.Global, Vocabulary.Some, Vocabulary.slice_get, Vocabulary.with_items, Vocabulary.Vec, Vocabulary.Segments, Vocabulary.Mutator, Vocabulary.Receiver, Vocabulary.Marking, Vocabulary.AddsTo, Vocabulary.HasAdded, Vocabulary.remembered_by, Vocabulary.IsLined, Vocabulary.HaveForgotten, Vocabulary.HaveForgottenSoFar, stops.Forgetting.all_forgot, lists.MutatorLists.vec_back}
 use Rattle.nmgc_cycle.specs.declared.progress.Progress.{Progress}
 use Rattle.nmgc_cycle.specs.declared.progress.Progress.TheVariants as doing
-use Rattle.nmgc_cycle.specs.Cycles.{AddsTo, HasAdded, remembered_by}
-use Rattle.nmgc_cycle.specs.Lined.{IsLined, HaveForgotten, HaveForgottenSoFar}
-use Rattle.nmgc_cycle.proofs.stops.Forgetting.{all_forgot}
-use Rattle.nmgc_cycle.proofs.lists.MutatorLists.{vec_back}
 use Rattle.nmgc_cycle.proofs.collector.Collector.add_remembered.Goals as goal
 
 -- the list that was lent, and what it has then

@@ -1,21 +1,4 @@
-use Rattle.std.proofs.Common.{ℕ, ◌≡◌, List, length, map, sym, ap, subst, ◌∙◌}
-use Rattle.nmgc_alloc.specs.Numbered.{Segments}
-use Rattle.nmgc_alloc.specs.CycleSteps.{carried_over}
-use Rattle.nmgc_collector_laws.specs.Resolves.{finished_on}
-use Rattle.nmgc_mark.specs.Stopped.{IsReady}
-use Rattle.nmgc_mutator.specs.declared.mutator.Mutator.{Mutator}
-use Rattle.nmgc_mark.specs.Seen.{MarkerSeen}
-use Rattle.nmgc_sweep.specs.Sweeper.{Sweeper, turned}
-use Rattle.nmgc_weak.specs.declared.weaks.Death.{Death}
-use Rattle.nmgc_weak.specs.Queues.{HaveRoom}
-use Rattle.nmgc_weak.specs.Resolve.{CanResolve}
-use Rattle.nmgc_weak.specs.Weaks.{places_of}
-use Rattle.nmgc_cycle.specs.declared.progress.Marking.{Marking}
-use Rattle.nmgc_cycle.specs.declared.progress.Sweeping.{Sweeping}
-use Rattle.nmgc_cycle.specs.Listed.{FinalisersQueued}
-use Rattle.nmgc_cycle.specs.Roots.{queues_in}
-use Rattle.nmgc_cycle.specs.Shown.{words_in}
-use Rattle.nmgc_cycle.proofs.lists.MutatorLists.{vec_back}
+use Rattle.nmgc_cycle.proofs.{Vocabulary.ℕ, Vocabulary.◌≡◌, Vocabulary.List, Vocabulary.length, Vocabulary.map, Vocabulary.sym, Vocabulary.ap, Vocabulary.subst, Vocabulary.◌∙◌, Vocabulary.Segments, Vocabulary.carried_over, Vocabulary.finished_on, Vocabulary.IsReady, Vocabulary.Mutator, Vocabulary.MarkerSeen, Vocabulary.Sweeper, Vocabulary.turned, Vocabulary.Death, Vocabulary.HaveRoom, Vocabulary.CanResolve, Vocabulary.places_of, Vocabulary.Marking, Vocabulary.Sweeping, Vocabulary.FinalisersQueued, Vocabulary.queues_in, Vocabulary.words_in, lists.MutatorLists.vec_back}
 use Rattle.nmgc_cycle.proofs.collector.Collector.closed.Goals as goal
 
 -- what a closed cycle has, by what it keeps and its sweeper

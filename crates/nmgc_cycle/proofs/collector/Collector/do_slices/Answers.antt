@@ -1,16 +1,4 @@
-use Rattle.std.proofs.Common.{ℕ, ◌≡◌, List, length, map, subst, sym, ap, ◌∙◌, arith, Some, Global, vec_capacity}
-use Rattle.std.specs.Vec.{with_items}
-use Rattle.std.specs.declared.vec.Vec.{Vec}
-use Rattle.nmgc_object.specs.declared.layout.Layout.{Layout}
-use Rattle.nmgc_cycle.specs.declared.collector.Collector.{Collector}
-use Rattle.nmgc_cycle.specs.declared.worker.Worker.{Worker}
-use Rattle.nmgc_cycle.specs.Working.{DidSlices, mutator_of, seat_of, done_by}
-use Rattle.nmgc_cycle.proofs.rounds.Helping.{can_help}
-use Rattle.nmgc_cycle.proofs.lists.MutatorLists.{vec_back}
-use Rattle.nmgc_cycle.proofs.rounds.Opened.{CanOpenRounds}
-use Rattle.nmgc_cycle.proofs.rounds.Played.{CanMove, HaveMoved, are_seated, counted, can_play, played, left_in, scanned, has_all, seats_at, did_slices}
-use Rattle.nmgc_cycle.proofs.rounds.Ran.{HasBegun, may_begin, can_open, seats_are}
-use Rattle.nmgc_cycle.proofs.rounds.Sliced.{positions_counted, positions_fit}
+use Rattle.nmgc_cycle.proofs.{Vocabulary.ℕ, Vocabulary.◌≡◌, Vocabulary.List, Vocabulary.length, Vocabulary.map, Vocabulary.subst, Vocabulary.sym, Vocabulary.ap, Vocabulary.◌∙◌, Vocabulary.arith, Vocabulary.Some, Vocabulary.Global, Vocabulary.vec_capacity, Vocabulary.with_items, Vocabulary.Vec, Vocabulary.Layout, Vocabulary.Collector, Vocabulary.Worker, Vocabulary.DidSlices, Vocabulary.mutator_of, Vocabulary.seat_of, Vocabulary.done_by, rounds.Helping.can_help, lists.MutatorLists.vec_back, rounds.Opened.CanOpenRounds, rounds.Played.CanMove, rounds.Played.HaveMoved, rounds.Played.are_seated, rounds.Played.counted, rounds.Played.can_play, rounds.Played.played, rounds.Played.left_in, rounds.Played.scanned, rounds.Played.has_all, rounds.Played.seats_at, rounds.Played.did_slices, rounds.Ran.HasBegun, rounds.Ran.may_begin, rounds.Ran.can_open, rounds.Ran.seats_are, rounds.Sliced.positions_counted, rounds.Sliced.positions_fit}
 use Rattle.nmgc_cycle.proofs.collector.Collector.do_slices.Goals as goal
 
 pub start-round-requires-clause-opens : goal.start-round-requires-clause-opens

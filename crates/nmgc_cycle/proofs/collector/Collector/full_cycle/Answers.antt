@@ -1,7 +1,4 @@
-use Rattle.std.proofs.Common.{refl, subst}
-use Rattle.nmgc_cycle.specs.declared.collector.Collector.{Collector}
-use Rattle.nmgc_cycle.specs.Cycles.{HasStarted}
-use Rattle.nmgc_cycle.proofs.cycles.FullCycle.{started_at, is_filed_at}
+use Rattle.nmgc_cycle.proofs.{Vocabulary.refl, Vocabulary.subst, Vocabulary.Collector, Vocabulary.HasStarted, cycles.FullCycle.started_at, cycles.FullCycle.is_filed_at}
 use Rattle.nmgc_cycle.proofs.collector.Collector.full_cycle.Goals as goal
 
 pub start-requires-clause-inside : goal.start-requires-clause-inside

@@ -1,5 +1,4 @@
-use Rattle.std.proofs.Common.{ℕ, ◌∙◌, List, length, ap, subst, ◌↔◌, IsTrue}
-use Rattle.nmgc_cycle.specs.Stopping.{SomeIsLeft}
+use Rattle.nmgc_cycle.proofs.Vocabulary.{ℕ, ◌∙◌, List, length, ap, subst, ◌↔◌, IsTrue, SomeIsLeft}
 use Rattle.nmgc_cycle.proofs.collector.Collector.has_left.Goals as goal
 
 pub is_some_left-requires : goal.is_some_left-requires

@@ -1,13 +1,4 @@
-use Rattle.std.proofs.Common.{◌≡◌, ◌∙◌, List, length, map, ap, sym, subst}
-use Rattle.std.proofs.lemmas.List.{length-map}
-use Rattle.std.specs.Prelude.{All}
-use Rattle.std.specs.List.{refill}
-use Rattle.nmgc_world_laws.specs.laws.Worlds.{refill_whole}
-use Rattle.nmgc_journal.specs.declared.report.CycleRow.{CycleRow}
-use Rattle.nmgc_run_spec.specs.Lawful.{IsLawful}
-use Rattle.nmgc_cycle.specs.Shown.{told_row, HasNamesOnce}
-use Rattle.nmgc_cycle.proofs.stops.Censuses.{names_once}
-use Rattle.nmgc_cycle.proofs.stops.Told.{kept_of, told, same_parts, words_had}
+use Rattle.nmgc_cycle.proofs.{Vocabulary.◌≡◌, Vocabulary.◌∙◌, Vocabulary.List, Vocabulary.length, Vocabulary.map, Vocabulary.ap, Vocabulary.sym, Vocabulary.subst, Vocabulary.length-map, Vocabulary.All, Vocabulary.refill, Vocabulary.refill_whole, Vocabulary.CycleRow, Vocabulary.IsLawful, Vocabulary.told_row, Vocabulary.HasNamesOnce, stops.Censuses.names_once, stops.Told.kept_of, stops.Told.told, stops.Told.same_parts, stops.Told.words_had}
 use Rattle.nmgc_cycle.proofs.collector.Collector.into_report.Goals as goal
 
 pub unwrap-requires : goal.unwrap-requires

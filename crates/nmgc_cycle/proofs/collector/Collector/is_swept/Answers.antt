@@ -1,6 +1,4 @@
-use Rattle.std.proofs.Common.{sym, ◌∙◌}
-use Rattle.std.proofs.lemmas.Bool.{eqb-true, eq-eqb}
-use Rattle.nmgc_alloc.specs.laws.Counts.{none_sweeping, sweeping_none}
+use Rattle.nmgc_cycle.proofs.Vocabulary.{sym, ◌∙◌, eqb-true, eq-eqb, none_sweeping, sweeping_none}
 use Rattle.nmgc_cycle.proofs.collector.Collector.is_swept.Goals as goal
 
 pub returns-in-Sweeping : goal.returns-in-Sweeping

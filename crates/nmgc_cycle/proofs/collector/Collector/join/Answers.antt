@@ -1,12 +1,4 @@
-use Rattle.std.proofs.Common.{◌≡◌, ◌≤◌, ℕ, List, length, sym, ap, subst, ◌∙◌, arith}
-use Rattle.std.specs.Prelude.{Contains}
-use Rattle.nmgc_world_spec.specs.Reach.{IsInOrder}
-use Rattle.nmgc_minor.specs.declared.placing.Move.{Move}
-use Rattle.nmgc_weak.specs.declared.weaks.OldWeak.{OldWeak}
-use Rattle.nmgc_weak.specs.Weaks.{names_of}
-use Rattle.nmgc_cycle.specs.Listed.{AreMovedInside, CanJoin, moved_weaks}
-use Rattle.nmgc_cycle.specs.Shown.{words_in}
-use Rattle.nmgc_cycle.proofs.stops.ListOver.{moved_few, moved_new, moved_ordered}
+use Rattle.nmgc_cycle.proofs.{Vocabulary.◌≡◌, Vocabulary.◌≤◌, Vocabulary.ℕ, Vocabulary.List, Vocabulary.length, Vocabulary.sym, Vocabulary.ap, Vocabulary.subst, Vocabulary.◌∙◌, Vocabulary.arith, Vocabulary.Contains, Vocabulary.IsInOrder, Vocabulary.Move, Vocabulary.OldWeak, Vocabulary.names_of, Vocabulary.AreMovedInside, Vocabulary.CanJoin, Vocabulary.moved_weaks, Vocabulary.words_in, stops.ListOver.moved_few, stops.ListOver.moved_new, stops.ListOver.moved_ordered}
 use Rattle.nmgc_cycle.proofs.collector.Collector.join.Goals as goal
 
 pub gather_moved-requires : goal.gather_moved-requires

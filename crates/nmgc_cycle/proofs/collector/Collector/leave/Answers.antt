@@ -1,8 +1,4 @@
-use Rattle.std.proofs.Common.{◌≡◌, ℕ, List, sym, ap, subst}
-use Rattle.nmgc_mutator.specs.declared.mutator.Mutator.{Mutator}
-use Rattle.nmgc_collector_laws.specs.Worked.{finalised_of}
-use Rattle.nmgc_cycle.specs.Listed.{FinalisedAreTold}
-use Rattle.nmgc_cycle.specs.Shown.{words_in}
+use Rattle.nmgc_cycle.proofs.Vocabulary.{◌≡◌, ℕ, List, sym, ap, subst, Mutator, finalised_of, FinalisedAreTold, words_in}
 use Rattle.nmgc_cycle.proofs.collector.Collector.leave.Goals as goal
 
 pub leave_noted-requires : goal.leave_noted-requires

@@ -1,8 +1,4 @@
-use Rattle.std.proofs.Common.{◌≡◌, ◌∙◌, ap, sym, subst, length, arith, true, List, ℕ, OnOk}
-use Rattle.nmgc_cycle.specs.Shown.{is_marking_in}
-use Rattle.nmgc_cycle.specs.Working.{HasInboxRoom}
-use Rattle.nmgc_cycle.proofs.lists.Plans.{is_runnable}
-use Rattle.nmgc_cycle.proofs.rounds.RoundWorked.{on_ok}
+use Rattle.nmgc_cycle.proofs.{Vocabulary.◌≡◌, Vocabulary.◌∙◌, Vocabulary.ap, Vocabulary.sym, Vocabulary.subst, Vocabulary.length, Vocabulary.arith, Vocabulary.true, Vocabulary.List, Vocabulary.ℕ, Vocabulary.is_marking_in, Vocabulary.HasInboxRoom, Vocabulary.OnOk, lists.Plans.is_runnable, rounds.RoundWorked.on_ok}
 use Rattle.nmgc_cycle.proofs.collector.Collector.make_inbox_room.Goals as goal
 
 pub reserve_inbox-requires-clause-threads : goal.reserve_inbox-requires-clause-threads

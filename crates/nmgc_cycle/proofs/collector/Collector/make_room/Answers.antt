@@ -1,16 +1,4 @@
-use Rattle.std.proofs.Common.{ℕ, ◌≡◌, ◌<◌, ◌≤◌, List, length, slice_index, slice_index_or, min, refl, subst, sym, ap, ◌∙◌, arith}
-use Rattle.std.specs.Vec.{with_items}
-use Rattle.std.proofs.lemmas.List.{with_items_is}
-use Rattle.nmgc_mutator.specs.declared.mutator.Mutator.{Mutator}
-use Rattle.nmgc_run_spec.specs.Slice.{program_of}
-use Rattle.nmgc_run_spec.specs.Run.{Run}
-use Rattle.nmgc_script.specs.declared.script.Script.{Script}
-use Rattle.nmgc_cycle.specs.declared.collector.Collector.{Collector}
-use Rattle.nmgc_cycle.specs.Keeps.{IsAfterStop}
-use Rattle.nmgc_script.specs.Limits.{IsInLimits}
-use Rattle.nmgc_cycle.specs.Working.{left_at, HasLists, AreReserved, HaveSliceRoom}
-use Rattle.nmgc_cycle.proofs.rounds.Positions.{position_within}
-use Rattle.nmgc_cycle.proofs.rounds.SliceRoom.{on_both, reserved_room}
+use Rattle.nmgc_cycle.proofs.{Vocabulary.ℕ, Vocabulary.◌≡◌, Vocabulary.◌<◌, Vocabulary.◌≤◌, Vocabulary.List, Vocabulary.length, Vocabulary.slice_index, Vocabulary.slice_index_or, Vocabulary.min, Vocabulary.refl, Vocabulary.subst, Vocabulary.sym, Vocabulary.ap, Vocabulary.◌∙◌, Vocabulary.arith, Vocabulary.with_items, Vocabulary.with_items_is, Vocabulary.Mutator, Vocabulary.program_of, Vocabulary.Run, Vocabulary.Script, Vocabulary.Collector, Vocabulary.IsAfterStop, Vocabulary.IsInLimits, Vocabulary.left_at, Vocabulary.HasLists, Vocabulary.AreReserved, Vocabulary.HaveSliceRoom, rounds.Positions.position_within, rounds.SliceRoom.on_both, rounds.SliceRoom.reserved_room}
 use Rattle.nmgc_cycle.proofs.collector.Collector.make_room.Goals as goal
 
 pub reserve_all-requires-clause-within : goal.reserve_all-requires-clause-within

@@ -1,24 +1,5 @@
-use Rattle.std.proofs.Common.{◌≡◌, ℕ, List, length, map, refl, sym, ap, subst, ◌∙◌, arith}
-use Rattle.std.specs.Prelude.{slice_index, Contains}
-use Rattle.std.specs.Vec.{with_items}
-use Rattle.std.proofs.lemmas.List.{length-map}
-use Rattle.nmgc_alloc.specs.Stands.{StandsFor}
-use Rattle.nmgc_blocks_spec.specs.Stopped.{Stopped, IsSettled}
-use Rattle.nmgc_heap_spec.specs.Moves.{Copies}
-use Rattle.nmgc_lists.specs.laws.Items.{contains_map}
-use Rattle.nmgc_minor.specs.Placing.{moved_of}
-use Rattle.nmgc_minor.specs.declared.placing.Move.{Move}
-use Rattle.nmgc_mutator.specs.declared.mutator.Mutator.{Mutator}
-use Rattle.nmgc_object.specs.Words.{header_word}
-use Rattle.nmgc_object.specs.declared.layout.Layout.{Layout}
-use Rattle.nmgc_sweep.specs.Names.{HaveEntries, HaveNoted}
-use Rattle.nmgc_sweep.specs.laws.Names.{low_entry}
+use Rattle.nmgc_cycle.proofs.{Vocabulary.◌≡◌, Vocabulary.ℕ, Vocabulary.List, Vocabulary.length, Vocabulary.map, Vocabulary.refl, Vocabulary.sym, Vocabulary.ap, Vocabulary.subst, Vocabulary.◌∙◌, Vocabulary.arith, Vocabulary.Contains, Vocabulary.with_items, Vocabulary.length-map, Vocabulary.StandsFor, Vocabulary.Stopped, Vocabulary.IsSettled, Vocabulary.Copies, Vocabulary.contains_map, Vocabulary.moved_of, Vocabulary.Move, Vocabulary.Mutator, Vocabulary.header_word, Vocabulary.Layout, Vocabulary.HaveEntries, Vocabulary.HaveNoted, Vocabulary.low_entry, Vocabulary.promoted_by, Vocabulary.words_in, Vocabulary.StandsStopped, Vocabulary.slice_index, lists.MutatorLists.words_of_queues, lists.MutatorLists.vec_back, lists.MutatorLists.stopped_now, stops.Promoted.refilled_are}
 use Rattle.nmgc_collector_laws.specs.Worked.{registers_of, queues_of}
-use Rattle.nmgc_cycle.specs.Roots.{promoted_by}
-use Rattle.nmgc_cycle.specs.Shown.{words_in}
-use Rattle.nmgc_cycle.specs.Stopping.{StandsStopped}
-use Rattle.nmgc_cycle.proofs.lists.MutatorLists.{words_of_queues, vec_back, stopped_now}
-use Rattle.nmgc_cycle.proofs.stops.Promoted.{refilled_are}
 use Rattle.nmgc_cycle.proofs.collector.Collector.move_promoted.Goals as goal
 
 pub promote-requires-clause-stopped : goal.promote-requires-clause-stopped

@@ -1,21 +1,4 @@
-use Rattle.std.proofs.Common.{◌≡◌, ◌++◌, List, [], ◌∷◌, length, map, None, ap, sym, subst, ◌∙◌}
-use Rattle.std.specs.Vec.{with_items}
-use Rattle.std.proofs.lemmas.List.{length-map}
-use Rattle.nmgc_journal.specs.declared.report.RoundRows.{RoundRows}
-use Rattle.nmgc_mutator.specs.declared.mutator.Mutator.{Mutator}
-use Rattle.nmgc_cycle.specs.declared.collector.Collector.{Collector}
-use Rattle.nmgc_round.specs.Gate.{passed}
-use Rattle.nmgc_cycle.specs.Cycles.{worked_on, upper_worked_on}
-use Rattle.nmgc_cycle.specs.Keeps.{DidRound}
-use Rattle.nmgc_cycle.specs.Shown.{is_marking_in, turns_of, upper_turns_of}
-use Rattle.nmgc_cycle.specs.Working.{HaveSliceRoom, HasInboxRoom, cleared, replies_of}
-use Rattle.nmgc_cycle.proofs.lists.MutatorLists.{vec_back}
-use Rattle.nmgc_cycle.proofs.rounds.Reserved.{reserved_stopped, still_before}
-use Rattle.nmgc_cycle.proofs.stops.Counted.{round_counts, round_counts_upper}
-use Rattle.nmgc_cycle.proofs.rounds.GoneOn.{HasLaws}
-use Rattle.nmgc_cycle.proofs.rounds.InboxOn.{inbox_before, inbox_stopped}
-use Rattle.nmgc_cycle.proofs.rounds.RoundWorked.{on_ok, worked_after}
-use Rattle.nmgc_cycle.proofs.stops.Tried.{played_tried}
+use Rattle.nmgc_cycle.proofs.{Vocabulary.◌≡◌, Vocabulary.◌++◌, Vocabulary.List, Vocabulary.[], Vocabulary.◌∷◌, Vocabulary.length, Vocabulary.map, Vocabulary.None, Vocabulary.ap, Vocabulary.sym, Vocabulary.subst, Vocabulary.◌∙◌, Vocabulary.with_items, Vocabulary.length-map, Vocabulary.RoundRows, Vocabulary.Mutator, Vocabulary.Collector, Vocabulary.passed, Vocabulary.worked_on, Vocabulary.upper_worked_on, Vocabulary.DidRound, Vocabulary.is_marking_in, Vocabulary.turns_of, Vocabulary.upper_turns_of, Vocabulary.HaveSliceRoom, Vocabulary.HasInboxRoom, Vocabulary.cleared, Vocabulary.replies_of, lists.MutatorLists.vec_back, rounds.Reserved.reserved_stopped, rounds.Reserved.still_before, stops.Counted.round_counts, stops.Counted.round_counts_upper, rounds.GoneOn.HasLaws, rounds.InboxOn.inbox_before, rounds.InboxOn.inbox_stopped, rounds.RoundWorked.on_ok, rounds.RoundWorked.worked_after, stops.Tried.played_tried}
 use Rattle.nmgc_cycle.proofs.collector.Collector.play.Goals as goal
 
 pub opening_of-opening-requires : goal.opening_of-opening-requires

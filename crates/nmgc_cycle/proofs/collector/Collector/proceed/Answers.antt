@@ -1,6 +1,4 @@
-use Rattle.std.proofs.Common.{sym, ◌∙◌, inr}
-use Rattle.std.proofs.lemmas.Bool.{false≢true}
-use Rattle.nmgc_cycle.proofs.cycles.FullCycle.{begins_at}
+use Rattle.nmgc_cycle.proofs.{Vocabulary.sym, Vocabulary.◌∙◌, Vocabulary.inr, Vocabulary.false≢true, cycles.FullCycle.begins_at}
 use Rattle.nmgc_cycle.proofs.collector.Collector.proceed.Goals as goal
 
 pub begin-requires-clause-can : goal.begin-requires-clause-can

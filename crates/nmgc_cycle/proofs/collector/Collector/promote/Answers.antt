@@ -1,8 +1,4 @@
-use Rattle.std.proofs.Common.{sym, subst}
-use Rattle.nmgc_minor.specs.Promotion.{IsFor}
-use Rattle.nmgc_sweep.specs.Names.{HaveEntries}
-use Rattle.nmgc_cycle.specs.declared.collector.Collector.{Collector}
-use Rattle.nmgc_cycle.proofs.stops.ListOver.{can_join, finalised_are_told, listed, promoted, stopped_then}
+use Rattle.nmgc_cycle.proofs.{Vocabulary.sym, Vocabulary.subst, Vocabulary.IsFor, Vocabulary.HaveEntries, Vocabulary.Collector, stops.ListOver.can_join, stops.ListOver.finalised_are_told, stops.ListOver.listed, stops.ListOver.promoted, stops.ListOver.stopped_then}
 use Rattle.nmgc_cycle.proofs.collector.Collector.promote.Goals as goal
 
 pub leave-requires-clause-told : goal.leave-requires-clause-told

@@ -1,12 +1,4 @@
-use Rattle.std.proofs.Common.{◌∙◌, ap, sym, subst, ◌≡◌}
-use Rattle.nmgc_round.specs.Gate.{passed}
-use Rattle.nmgc_cycle.specs.Cycles.{worked_on, upper_worked_on}
-use Rattle.nmgc_cycle.specs.Shown.{turns_of, upper_turns_of}
-use Rattle.nmgc_cycle.specs.declared.collector.Collector.{Collector}
-use Rattle.nmgc_cycle.proofs.lists.Plans.{is_runnable}
-use Rattle.nmgc_cycle.proofs.rounds.InboxOn.{lines_of, round_met}
-use Rattle.nmgc_cycle.proofs.rounds.Meeting.{all_in_order}
-use Rattle.nmgc_cycle.proofs.stops.Tried.{met_tried}
+use Rattle.nmgc_cycle.proofs.{Vocabulary.◌∙◌, Vocabulary.ap, Vocabulary.sym, Vocabulary.subst, Vocabulary.◌≡◌, Vocabulary.passed, Vocabulary.worked_on, Vocabulary.upper_worked_on, Vocabulary.turns_of, Vocabulary.upper_turns_of, Vocabulary.Collector, lists.Plans.is_runnable, rounds.InboxOn.lines_of, rounds.InboxOn.round_met, rounds.Meeting.all_in_order, stops.Tried.met_tried}
 use Rattle.nmgc_cycle.proofs.collector.Collector.round.Goals as goal
 
 pub meet_all-requires : goal.meet_all-requires

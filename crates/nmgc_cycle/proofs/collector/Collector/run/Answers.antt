@@ -1,8 +1,4 @@
-use Rattle.std.proofs.Common.{◌∷◌, [], List, length, length-append, arith, ap, subst}
-use Rattle.nmgc_journal.specs.declared.report.StopRow.{StopRow}
-use Rattle.nmgc_run_laws.specs.laws.Crowding.{lawful_are_of_runs}
-use Rattle.nmgc_cycle.specs.Keeps.{HasAnswered}
-use Rattle.nmgc_cycle.proofs.lengths.Few.{stop_fits}
+use Rattle.nmgc_cycle.proofs.{Vocabulary.◌∷◌, Vocabulary.[], Vocabulary.List, Vocabulary.length, Vocabulary.length-append, Vocabulary.arith, Vocabulary.ap, Vocabulary.subst, Vocabulary.StopRow, Vocabulary.lawful_are_of_runs, Vocabulary.HasAnswered, lengths.Few.stop_fits}
 use Rattle.nmgc_cycle.proofs.collector.Collector.run.Goals as goal
 
 pub stops-smaller : goal.stops-smaller

@@ -1,6 +1,4 @@
-use Rattle.std.proofs.Common.{◌-◌, length}
-use Rattle.nmgc_cycle.specs.Bound.{most_stops}
-use Rattle.nmgc_cycle.specs.Keeps.{CanStop}
+use Rattle.nmgc_cycle.proofs.Vocabulary.{◌-◌, length, most_stops, CanStop}
 use Rattle.nmgc_cycle.proofs.collector.Collector.run.Given as goal
 
 abbrev pub invariant-stops : goal.invariant-stops

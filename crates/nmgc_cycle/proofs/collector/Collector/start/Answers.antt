@@ -1,7 +1,5 @@
-use Rattle.std.proofs.Common.{ℕ, ◌≡◌, ◌+◌, false, ap}
-use Rattle.nmgc_cycle.specs.declared.collector.Collector.{Collector}
+use Rattle.nmgc_cycle.proofs.Vocabulary.{ℕ, ◌≡◌, ◌+◌, false, ap, Collector, StartsMarking}
 use Rattle.nmgc_cycle.specs.declared.progress.Progress.TheVariants as progress
-use Rattle.nmgc_cycle.specs.Cycles.{StartsMarking}
 use Rattle.nmgc_cycle.proofs.collector.Collector.start.Goals as goal
 
 pub returns : goal.returns

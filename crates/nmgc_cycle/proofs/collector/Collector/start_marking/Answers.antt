@@ -1,25 +1,6 @@
-use Rattle.std.proofs.Common.{◌≡◌, ℕ, List, false, refl, sym, ap, subst, ◌∙◌}
-use Rattle.std.specs.Vec.{with_items}
-use Rattle.nmgc_alloc.specs.Numbered.{Segments}
-use Rattle.nmgc_collector_laws.specs.Prepares.{all_prepared}
-use Rattle.nmgc_mark.specs.Beginning.{IsBeginning, most_blocks}
-use Rattle.nmgc_mark.specs.Marker.{HasMarked, blank}
-use Rattle.nmgc_mark.specs.Marker as after
-use Rattle.nmgc_mark.specs.Tie.{IsTied}
-use Rattle.nmgc_mark.specs.Seen.{MarkerSeen}
-use Rattle.nmgc_round.specs.Marking.{Marks, marks_of}
-use Rattle.nmgc_round.specs.View.{Opening}
-use Rattle.nmgc_snapshot_laws.specs.State.{opening}
-use Rattle.nmgc_sweep.specs.Sweeper.{Sweeper}
-use Rattle.nmgc_sweep.specs.Work.{HasBegun}
-use Rattle.nmgc_mutator.specs.declared.mutator.Mutator.{Mutator}
+use Rattle.nmgc_cycle.proofs.{Vocabulary.◌≡◌, Vocabulary.ℕ, Vocabulary.List, Vocabulary.false, Vocabulary.refl, Vocabulary.sym, Vocabulary.ap, Vocabulary.subst, Vocabulary.◌∙◌, Vocabulary.with_items, Vocabulary.Segments, Vocabulary.all_prepared, Vocabulary.IsBeginning, Vocabulary.most_blocks, Vocabulary.HasMarked, Vocabulary.blank, Vocabulary.IsTied, Vocabulary.MarkerSeen, Vocabulary.Marks, Vocabulary.marks_of, Vocabulary.Opening, Vocabulary.opening, Vocabulary.Sweeper, Vocabulary.HasBegun, Vocabulary.Mutator, Vocabulary.Collector, Vocabulary.StartsMarking, Vocabulary.next_epoch, Vocabulary.HaveQueueRoom, Vocabulary.queues_in, Vocabulary.words_in, lists.MutatorLists.vec_back}
 use Rattle.nmgc_collector_laws.specs.Worked.{registers_of}
-use Rattle.nmgc_cycle.specs.declared.collector.Collector.{Collector}
-use Rattle.nmgc_cycle.specs.Cycles.{StartsMarking, next_epoch}
-use Rattle.nmgc_cycle.specs.Listed.{HaveQueueRoom}
-use Rattle.nmgc_cycle.specs.Roots.{queues_in}
-use Rattle.nmgc_cycle.specs.Shown.{words_in}
-use Rattle.nmgc_cycle.proofs.lists.MutatorLists.{vec_back}
+use Rattle.nmgc_mark.specs.Marker as after
 use Rattle.nmgc_cycle.proofs.collector.Collector.start_marking.Goals as goal
 
 -- the same marking, by what is seen of its marker and its sweeper

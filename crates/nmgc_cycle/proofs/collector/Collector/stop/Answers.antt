@@ -1,27 +1,8 @@
-use Rattle.std.proofs.Common.{◌≡◌, List, length, arith, refl, sym, ap, subst, ◌∙◌, inl, inr, true, false}
-use denote.Enum.Bare.{same_true, same_false}
-use Rattle.nmgc_object.specs.Places.{reserve_count}
-use Rattle.nmgc_journal.specs.contracts.report.Phase.{the_type}
-use Rattle.nmgc_journal.specs.declared.report.Phase.TheVariants.{Idle}
-use Rattle.nmgc_journal.specs.declared.report.StopRow.{StopRow}
-use Rattle.nmgc_cycle.specs.declared.stop.StopEnd.{StopEnd}
+use Rattle.nmgc_cycle.proofs.{Vocabulary.◌≡◌, Vocabulary.List, Vocabulary.length, Vocabulary.arith, Vocabulary.refl, Vocabulary.sym, Vocabulary.ap, Vocabulary.subst, Vocabulary.◌∙◌, Vocabulary.inl, Vocabulary.inr, Vocabulary.true, Vocabulary.false, Vocabulary.same_true, Vocabulary.same_false, Vocabulary.reserve_count, Vocabulary.the_type, Vocabulary.Idle, Vocabulary.StopRow, Vocabulary.StopEnd, Vocabulary.seen, stops.AddingLeads.can_add, stops.Begins.begins, stops.Counted.stop_counts, stops.Counted.stop_counts_upper, lengths.Few.stop_fits, rounds.InboxOn.lines_of, stops.MarksOn.marks_on, starts.NewStops.stopped_in, lists.Plans.is_runnable, stops.StopEnds.IsStepped, stops.StopEnds.IsRead, stops.StopEnds.Why, stops.StopEnds.row, stops.StopEnds.some_left_then, stops.StopEnds.rounds_are, stops.StopEnds.stops_are, stops.StopEnds.has_answered, stops.StopEnds.stops_after, stops.StopEnds.done_where, stops.StopEnds.full_where, stops.Tried.stop_turns, collector.Collector.stop.Given.Over, collector.Collector.stop.Goals.then-left+then-free-reserve, collector.Collector.stop.Goals.else-left+then-not-left+then-eq, collector.Collector.stop.Goals.else-left-via-then-left+else-free-reserve, collector.Collector.stop.Goals.else-left-via-else-left, collector.Collector.stop.Goals.else-left+else-not-left, collector.Collector.stop.Goals.else-not-left-via-then-not-left+else-eq, collector.Collector.stop.Goals.else-not-left-via-else-not-left}
 use Rattle.nmgc_cycle.specs.declared.stop.StopEnd.TheVariants as answer
-use Rattle.nmgc_cycle.specs.Shown.{seen}
-use Rattle.nmgc_cycle.proofs.stops.AddingLeads.{can_add}
 use Rattle.nmgc_cycle.proofs.stops.AfterPromotion as after
-use Rattle.nmgc_cycle.proofs.stops.Begins.{begins}
-use Rattle.nmgc_cycle.proofs.stops.Counted.{stop_counts, stop_counts_upper}
-use Rattle.nmgc_cycle.proofs.lengths.Few.{stop_fits}
-use Rattle.nmgc_cycle.proofs.rounds.InboxOn.{lines_of}
-use Rattle.nmgc_cycle.proofs.stops.MarksOn.{marks_on}
-use Rattle.nmgc_cycle.proofs.starts.NewStops.{stopped_in}
-use Rattle.nmgc_cycle.proofs.lists.Plans.{is_runnable}
-use Rattle.nmgc_cycle.proofs.stops.StopEnds.{IsStepped, IsRead, Why, row, some_left_then, rounds_are, stops_are, has_answered, stops_after, done_where, full_where}
 use Rattle.nmgc_cycle.proofs.stops.StopSteps as steps
-use Rattle.nmgc_cycle.proofs.stops.Tried.{stop_turns}
-use Rattle.nmgc_cycle.proofs.collector.Collector.stop.Given.{Over}
 use Rattle.nmgc_cycle.proofs.collector.Collector.stop.Goals as goal
-use Rattle.nmgc_cycle.proofs.collector.Collector.stop.Goals.{then-left+then-free-reserve, else-left+then-not-left+then-eq, else-left-via-then-left+else-free-reserve, else-left-via-else-left, else-left+else-not-left, else-not-left-via-then-not-left+else-eq, else-not-left-via-else-not-left}
 
 true_isnt : true ≡ false → ⊥
 true_isnt e = cc

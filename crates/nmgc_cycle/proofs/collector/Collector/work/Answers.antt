@@ -1,5 +1,4 @@
-use Rattle.std.proofs.Common.{ℕ, List, subst, sym}
-use Rattle.nmgc_cycle.specs.Working.{CanAllWork}
+use Rattle.nmgc_cycle.proofs.Vocabulary.{ℕ, List, subst, sym, CanAllWork}
 use Rattle.nmgc_cycle.proofs.collector.Collector.work.Goals as goal
 
 pub work_beside-requires-clause-mutators : goal.work_beside-requires-clause-mutators

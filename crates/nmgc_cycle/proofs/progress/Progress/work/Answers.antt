@@ -1,8 +1,6 @@
-use Rattle.std.proofs.Common.{refl, subst, sym}
-use Rattle.nmgc_cycle.specs.declared.progress.Marking.{Marking}
+use Rattle.nmgc_cycle.proofs.Vocabulary.{refl, subst, sym, Marking, HasHelped}
 use Rattle.nmgc_cycle.specs.declared.progress.Progress.{Progress}
 use Rattle.nmgc_cycle.specs.declared.progress.Progress.TheVariants as progress
-use Rattle.nmgc_cycle.specs.Cycles.{HasHelped}
 use Rattle.nmgc_cycle.proofs.progress.Progress.work.Goals as goal
 
 pub returns-in-Marking-clause-polled : goal.returns-in-Marking-clause-polled

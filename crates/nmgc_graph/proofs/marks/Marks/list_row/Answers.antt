@@ -1,10 +1,5 @@
-use Rattle.std.proofs.Common.{sym, ◌∙◌}
-use Rattle.std.proofs.lemmas.Bool.{false≢true}
-use Rattle.nmgc_graph.specs.Marks.{IsMarked}
-use Rattle.nmgc_world_spec.specs.laws.Orders.{lists_more, lists_same}
-use Rattle.nmgc_graph.specs.laws.Rows.{marks_listed}
+use Rattle.nmgc_graph.proofs.{Vocabulary.sym, Vocabulary.◌∙◌, Vocabulary.false≢true, Vocabulary.IsMarked, Vocabulary.lists_more, Vocabulary.lists_same, Vocabulary.marks_listed, marks.Marks.list_row.Goals.then-marked+in_ok-push, marks.Marks.list_row.Goals.else-marked}
 use Rattle.nmgc_graph.proofs.marks.Marks.list_row.Goals as goal
-use Rattle.nmgc_graph.proofs.marks.Marks.list_row.Goals.{then-marked+in_ok-push, else-marked}
 
 pub loop-serial-preserved : goal.loop-serial-preserved
 loop-serial-preserved c = elim c.if-marked.branch [

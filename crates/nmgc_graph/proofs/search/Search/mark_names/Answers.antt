@@ -1,9 +1,4 @@
-use Rattle.std.proofs.Common.{take, map}
-use Rattle.std.proofs.lemmas.List.Elements.{All-get_or, All-take}
-use Rattle.nmgc_world_spec.specs.declared.value.Name.{Name}
-use Rattle.nmgc_world_spec.specs.declared.value.Value.TheVariants.{Ref}
-use Rattle.nmgc_graph.specs.Marks.{HasPlace}
-use Rattle.nmgc_graph.proofs.Searches.{values_mark, still_placed, refs_placed}
+use Rattle.nmgc_graph.proofs.{Vocabulary.take, Vocabulary.map, Vocabulary.All-get_or, Vocabulary.All-take, Vocabulary.Name, Vocabulary.Ref, Vocabulary.HasPlace, Searches.values_mark, Searches.still_placed, Searches.refs_placed}
 use Rattle.nmgc_graph.proofs.search.Search.mark_names.Goals as goal
 
 pub mark-requires : goal.mark-requires

@@ -1,6 +1,4 @@
-use Rattle.std.proofs.Common.{◌≡◌, map, take}
-use Rattle.nmgc_world_spec.specs.declared.value.Value.TheVariants.{Ref}
-use Rattle.nmgc_graph.specs.Search.{with_values}
+use Rattle.nmgc_graph.proofs.Vocabulary.{◌≡◌, map, take, Ref, with_values}
 use Rattle.nmgc_graph.proofs.search.Search.mark_names.Given as goal
 
 abbrev pub invariant-loop-name : goal.invariant-loop-name

@@ -1,8 +1,4 @@
-use Rattle.std.proofs.Common.{take}
-use Rattle.std.proofs.lemmas.List.Elements.{All-get_or, All-take}
-use Rattle.nmgc_world_spec.specs.declared.value.Value.TheVariants.{Nil}
-use Rattle.nmgc_graph.specs.Marks.{IsPlaced}
-use Rattle.nmgc_graph.proofs.Searches.{values_mark, still_placed}
+use Rattle.nmgc_graph.proofs.{Vocabulary.take, Vocabulary.All-get_or, Vocabulary.All-take, Vocabulary.Nil, Vocabulary.IsPlaced, Searches.values_mark, Searches.still_placed}
 use Rattle.nmgc_graph.proofs.search.Search.mark_values.Goals as goal
 
 pub mark_value-requires : goal.mark_value-requires

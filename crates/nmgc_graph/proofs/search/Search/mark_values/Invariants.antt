@@ -1,5 +1,4 @@
-use Rattle.std.proofs.Common.{◌≡◌, take}
-use Rattle.nmgc_graph.specs.Search.{with_values}
+use Rattle.nmgc_graph.proofs.Vocabulary.{◌≡◌, take, with_values}
 use Rattle.nmgc_graph.proofs.search.Search.mark_values.Given as goal
 
 abbrev pub invariant-loop-value : goal.invariant-loop-value

@@ -1,5 +1,4 @@
-use Rattle.nmgc_world_spec.specs.Step.{with_new}
-use Rattle.nmgc_world_laws.specs.laws.Worlds.{replaced, born_keeps}
+use Rattle.nmgc_graph.proofs.Vocabulary.{with_new, replaced, born_keeps}
 use Rattle.nmgc_graph.proofs.world.World.add.Goals as goal
 
 pub invariant_of-self-2 : goal.invariant_of-self-2

@@ -1,5 +1,4 @@
-use Rattle.nmgc_world_spec.specs.Reach.{IsAliveWeak}
-use Rattle.nmgc_world_spec.specs.Order.{ListsBefore}
+use Rattle.nmgc_graph.proofs.Vocabulary.{IsAliveWeak, ListsBefore}
 use Rattle.nmgc_graph.proofs.world.World.alive_weaks.Given as goal
 
 abbrev pub invariant-loop-maker : goal.invariant-loop-maker

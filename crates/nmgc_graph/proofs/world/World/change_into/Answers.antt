@@ -1,5 +1,4 @@
-use Rattle.nmgc_world_spec.specs.Step.{asked}
-use Rattle.nmgc_world_laws.specs.laws.Growth.{asked_keeps}
+use Rattle.nmgc_graph.proofs.Vocabulary.{asked, asked_keeps}
 use Rattle.nmgc_graph.proofs.world.World.change_into.Goals as goal
 
 pub keep-requires-clause-mutator : goal.keep-requires-clause-mutator

@@ -1,8 +1,4 @@
-use Rattle.std.proofs.Common.{take, sym}
-use Rattle.std.proofs.lemmas.List.{take_more}
-use Rattle.nmgc_world_spec.specs.declared.value.Name.{Name}
-use Rattle.nmgc_world_spec.specs.World.{IsWorld}
-use Rattle.nmgc_graph.proofs.Closings.{closed_push, next_alive}
+use Rattle.nmgc_graph.proofs.{Vocabulary.take, Vocabulary.sym, Vocabulary.take_more, Vocabulary.Name, Vocabulary.IsWorld, Closings.closed_push, Closings.next_alive}
 use Rattle.nmgc_graph.proofs.world.World.close_all.Goals as goal
 
 pub close_one-requires : goal.close_one-requires

@@ -1,8 +1,4 @@
-use Rattle.std.proofs.Common.{arith, List, sym, subst, ◌∙◌}
-use Rattle.nmgc_world_spec.specs.World.{IsWorld}
-use Rattle.nmgc_graph.specs.Search.{IsLiveFound}
-use Rattle.nmgc_world_spec.specs.declared.value.Name.{Name}
-use Rattle.nmgc_graph.proofs.Lives.{live_passed, pass_revives, scanned_places, live_goes_on, live_count, revival_goes_on, live_found}
+use Rattle.nmgc_graph.proofs.{Vocabulary.arith, Vocabulary.List, Vocabulary.sym, Vocabulary.subst, Vocabulary.◌∙◌, Vocabulary.IsWorld, Vocabulary.IsLiveFound, Vocabulary.Name, Lives.live_passed, Lives.pass_revives, Lives.scanned_places, Lives.live_goes_on, Lives.live_count, Lives.revival_goes_on, Lives.live_found}
 use Rattle.nmgc_graph.proofs.world.World.find_live.Goals as goal
 
 pub loop-name-init : goal.loop-name-init

@@ -1,6 +1,4 @@
-use Rattle.std.proofs.Common.{◌+◌, length}
-use Rattle.nmgc_graph.specs.Marks.{unmarked_count}
-use Rattle.nmgc_graph.specs.Search.{IsLiveSearch, AreRevived}
+use Rattle.nmgc_graph.proofs.Vocabulary.{◌+◌, length, unmarked_count, IsLiveSearch, AreRevived}
 use Rattle.nmgc_graph.proofs.world.World.find_live.Given as goal
 
 abbrev pub invariant-loop-name : goal.invariant-loop-name

@@ -1,6 +1,4 @@
-use Rattle.std.proofs.Common.{arith}
-use Rattle.nmgc_world_spec.specs.World.{IsWorld}
-use Rattle.nmgc_graph.proofs.Follows.{follow_none, fields_follow, fields_count}
+use Rattle.nmgc_graph.proofs.{Vocabulary.arith, Vocabulary.IsWorld, Follows.follow_none, Follows.fields_follow, Follows.fields_count}
 use Rattle.nmgc_graph.proofs.world.World.follow.Goals as goal
 
 pub loop-name-init : goal.loop-name-init

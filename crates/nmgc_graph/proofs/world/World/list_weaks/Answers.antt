@@ -1,11 +1,5 @@
-use Rattle.std.proofs.Common.{sym, ◌∙◌}
-use Rattle.nmgc_world_spec.specs.World.{IsWorld}
-use Rattle.nmgc_world_spec.specs.Reach.{IsAliveWeak}
-use Rattle.nmgc_world_spec.specs.declared.value.Name.{Name}
-use Rattle.nmgc_world_spec.specs.laws.Orders.{lists_more, lists_same}
-use Rattle.nmgc_graph.proofs.Kepts.{weak_some, weak_none, weaks_listed}
+use Rattle.nmgc_graph.proofs.{Vocabulary.sym, Vocabulary.◌∙◌, Vocabulary.IsWorld, Vocabulary.IsAliveWeak, Vocabulary.Name, Vocabulary.lists_more, Vocabulary.lists_same, Kepts.weak_some, Kepts.weak_none, Kepts.weaks_listed, world.World.list_weaks.Goals.then-is_some+in_ok-push, world.World.list_weaks.Goals.else-is_some}
 use Rattle.nmgc_graph.proofs.world.World.list_weaks.Goals as goal
-use Rattle.nmgc_graph.proofs.world.World.list_weaks.Goals.{then-is_some+in_ok-push, else-is_some}
 
 pub loop-serial-preserved : goal.loop-serial-preserved
 loop-serial-preserved c =

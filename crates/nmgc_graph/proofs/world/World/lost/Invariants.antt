@@ -1,6 +1,4 @@
-use Rattle.std.proofs.Common.{◌≡◌, take}
-use Rattle.std.specs.Prelude.{filter}
-use Rattle.nmgc_graph.specs.Search.{is_lost, parts_of}
+use Rattle.nmgc_graph.proofs.Vocabulary.{◌≡◌, take, filter, is_lost, parts_of}
 use Rattle.nmgc_graph.proofs.world.World.lost.Given as goal
 
 abbrev pub invariant-loop-weak : goal.invariant-loop-weak

@@ -1,6 +1,4 @@
-use Rattle.std.proofs.Common.{take}
-use Rattle.nmgc_world_spec.specs.World.{World}
-use Rattle.nmgc_graph.proofs.Kepts.{finaliser_placed}
+use Rattle.nmgc_graph.proofs.{Vocabulary.take, Vocabulary.World, Kepts.finaliser_placed}
 use Rattle.nmgc_graph.proofs.world.World.mark_finalisers.Goals as goal
 
 pub mark_value-requires : goal.mark_value-requires

@@ -1,5 +1,4 @@
-use Rattle.std.proofs.Common.{◌≡◌, take}
-use Rattle.nmgc_graph.specs.Search.{with_values, finalisers_of}
+use Rattle.nmgc_graph.proofs.Vocabulary.{◌≡◌, take, with_values, finalisers_of}
 use Rattle.nmgc_graph.proofs.world.World.mark_finalisers.Given as goal
 
 abbrev pub invariant-loop-weak : goal.invariant-loop-weak

@@ -1,8 +1,4 @@
-use Rattle.std.proofs.Common.{take}
-use Rattle.nmgc_world_spec.specs.World.{World}
-use Rattle.nmgc_graph.specs.Search.{with_weaks}
-use Rattle.nmgc_graph.proofs.Follows.{places_stay}
-use Rattle.nmgc_graph.proofs.Weaks.{weaks_mark}
+use Rattle.nmgc_graph.proofs.{Vocabulary.take, Vocabulary.World, Vocabulary.with_weaks, Follows.places_stay, Weaks.weaks_mark}
 use Rattle.nmgc_graph.proofs.world.World.mark_weaks.Goals as goal
 
 pub mark_weak-requires : goal.mark_weak-requires

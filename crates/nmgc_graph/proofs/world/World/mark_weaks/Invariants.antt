@@ -1,5 +1,4 @@
-use Rattle.std.proofs.Common.{◌≡◌, take}
-use Rattle.nmgc_graph.specs.Search.{with_weaks}
+use Rattle.nmgc_graph.proofs.Vocabulary.{◌≡◌, take, with_weaks}
 use Rattle.nmgc_graph.proofs.world.World.mark_weaks.Given as goal
 
 abbrev pub invariant-loop-weak : goal.invariant-loop-weak

@@ -1,5 +1,4 @@
-use Rattle.nmgc_world_spec.specs.Step.{with_finaliser}
-use Rattle.nmgc_world_laws.specs.laws.Worlds.{replaced, finaliser_keeps}
+use Rattle.nmgc_graph.proofs.Vocabulary.{with_finaliser, replaced, finaliser_keeps}
 use Rattle.nmgc_graph.proofs.world.World.next_finaliser.Goals as goal
 
 pub invariant_of-self : goal.invariant_of-self

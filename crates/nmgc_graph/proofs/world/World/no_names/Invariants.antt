@@ -1,5 +1,4 @@
-use Rattle.std.proofs.Common.{◌≡◌, ◌<◌, ℕ, length, replicate, false}
-use Rattle.nmgc_graph.specs.Marks.{row_of, count_of}
+use Rattle.nmgc_graph.proofs.Vocabulary.{◌≡◌, ◌<◌, ℕ, length, replicate, false, row_of, count_of}
 use Rattle.nmgc_graph.proofs.world.World.no_names.Given as goal
 
 abbrev pub invariant-loop-maker : goal.invariant-loop-maker

@@ -1,6 +1,4 @@
-use Rattle.std.proofs.Common.{◌≡◌, ◌<◌, ℕ, [], length, replicate}
-use Rattle.nmgc_graph.specs.Marks.{count_of}
-use Rattle.nmgc_graph.specs.Waiting.{bounds_of}
+use Rattle.nmgc_graph.proofs.Vocabulary.{◌≡◌, ◌<◌, ℕ, [], length, replicate, count_of, bounds_of}
 use Rattle.nmgc_graph.proofs.world.World.none_filed.Given as goal
 
 abbrev pub invariant-loop-maker : goal.invariant-loop-maker

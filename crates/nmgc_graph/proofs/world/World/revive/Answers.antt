@@ -1,6 +1,4 @@
-use Rattle.std.proofs.Common.{arith, ◌≡◌, ◌+◌, ◌-◌}
-use Rattle.nmgc_world_spec.specs.World.{IsWorld}
-use Rattle.nmgc_graph.proofs.Filing.{passing_begins, passing_places, passing_falls, passing_goes_on, passing_ends}
+use Rattle.nmgc_graph.proofs.{Vocabulary.arith, Vocabulary.◌≡◌, Vocabulary.◌+◌, Vocabulary.◌-◌, Vocabulary.IsWorld, Filing.passing_begins, Filing.passing_places, Filing.passing_falls, Filing.passing_goes_on, Filing.passing_ends}
 use Rattle.nmgc_graph.proofs.world.World.revive.Goals as goal
 
 pub loop-bound-init : goal.loop-bound-init

@@ -1,11 +1,5 @@
-use Rattle.std.proofs.Common.{take, sym, ◌∙◌}
-use Rattle.std.proofs.lemmas.Bool.{false≢true}
-use Rattle.std.proofs.lemmas.List.{take_more}
-use Rattle.nmgc_world_spec.specs.declared.value.Name.{Name}
-use Rattle.nmgc_graph.proofs.Kepts.{set_more, set_same}
-use Rattle.nmgc_lists.specs.laws.Options.{copied_is_some}
+use Rattle.nmgc_graph.proofs.{Vocabulary.take, Vocabulary.sym, Vocabulary.◌∙◌, Vocabulary.false≢true, Vocabulary.take_more, Vocabulary.Name, Vocabulary.copied_is_some, Kepts.set_more, Kepts.set_same, world.World.set_of.Goals.then-is_some, world.World.set_of.Goals.else-is_some}
 use Rattle.nmgc_graph.proofs.world.World.set_of.Goals as goal
-use Rattle.nmgc_graph.proofs.world.World.set_of.Goals.{then-is_some, else-is_some}
 
 pub loop-name-preserved : goal.loop-name-preserved
 loop-name-preserved c =

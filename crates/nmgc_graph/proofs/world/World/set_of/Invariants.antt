@@ -1,5 +1,4 @@
-use Rattle.std.proofs.Common.{take}
-use Rattle.nmgc_graph.specs.Search.{IsSetOf}
+use Rattle.nmgc_graph.proofs.Vocabulary.{take, IsSetOf}
 use Rattle.nmgc_graph.proofs.world.World.set_of.Given as goal
 
 abbrev pub invariant-loop-name : goal.invariant-loop-name

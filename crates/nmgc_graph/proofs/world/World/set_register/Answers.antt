@@ -1,5 +1,4 @@
-use Rattle.nmgc_world_spec.specs.Step.{holding}
-use Rattle.nmgc_world_laws.specs.laws.Worlds.{replaced, holding_keeps}
+use Rattle.nmgc_graph.proofs.Vocabulary.{holding, replaced, holding_keeps}
 use Rattle.nmgc_graph.proofs.world.World.set_register.Goals as goal
 
 pub invariant_of-self : goal.invariant_of-self

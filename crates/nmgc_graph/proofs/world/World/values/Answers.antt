@@ -1,6 +1,4 @@
-use Rattle.std.proofs.Common.{ap, ◌∙◌}
-use Rattle.nmgc_graph.proofs.Lent.{values_known}
-use Rattle.nmgc_world_laws.specs.laws.Worlds.{lent}
+use Rattle.nmgc_graph.proofs.{Vocabulary.ap, Vocabulary.◌∙◌, Vocabulary.lent, Lent.values_known}
 use Rattle.nmgc_graph.proofs.world.World.values.Goals as goal
 
 pub returns-clause-known : goal.returns-clause-known

@@ -1,8 +1,4 @@
-use Rattle.std.proofs.Common.{◌++◌, List, ℕ, ap, refl, ◌∙◌, map, length, arith, length-append}
-use Rattle.std.proofs.lemmas.List.Elements.{All-nil, All-push}
-use Rattle.nmgc_journal.specs.Text.{value_text, IsValue}
-use Rattle.nmgc_image.specs.Printing.{after_spaces}
-use Rattle.nmgc_image.proofs.PlainLaws.{value_more}
+use Rattle.nmgc_image.proofs.{Vocabulary.◌++◌, Vocabulary.List, Vocabulary.ℕ, Vocabulary.ap, Vocabulary.refl, Vocabulary.◌∙◌, Vocabulary.map, Vocabulary.length, Vocabulary.arith, Vocabulary.All-nil, Vocabulary.All-push, Vocabulary.value_text, Vocabulary.IsValue, Vocabulary.after_spaces, Vocabulary.length-append, PlainLaws.value_more}
 use Rattle.nmgc_image.proofs.plain.Cursor.any_values.Goals as goal
 
 pub more-init : goal.more-init

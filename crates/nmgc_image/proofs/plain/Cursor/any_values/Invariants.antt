@@ -1,7 +1,4 @@
-use Rattle.std.proofs.Common.{◌≡◌, ◌++◌, map, length}
-use Rattle.std.specs.Prelude.{All}
-use Rattle.nmgc_journal.specs.Text.{value_text, IsValue}
-use Rattle.nmgc_image.specs.Printing.{after_spaces}
+use Rattle.nmgc_image.proofs.Vocabulary.{◌≡◌, ◌++◌, map, length, All, value_text, IsValue, after_spaces}
 use Rattle.nmgc_image.proofs.plain.Cursor.any_values.Given as goal
 
 -- the values so far were read

@@ -1,6 +1,4 @@
-use Rattle.std.proofs.Common.{ap, arith, decimal, length, map}
-use Rattle.nmgc_journal.specs.Text.{value_text}
-use Rattle.nmgc_image.proofs.PlainLaws.{con_text}
+use Rattle.nmgc_image.proofs.{Vocabulary.ap, Vocabulary.arith, Vocabulary.decimal, Vocabulary.length, Vocabulary.map, Vocabulary.value_text, PlainLaws.con_text}
 use Rattle.nmgc_image.proofs.plain.Cursor.con.Goals as goal
 
 pub returns : goal.returns

@@ -1,6 +1,4 @@
-use Rattle.nmgc_journal.specs.Text.{name_text}
-use Rattle.nmgc_image.specs.Spelling.{node_words}
-use Rattle.nmgc_image.proofs.PlainLaws.{node_text}
+use Rattle.nmgc_image.proofs.{Vocabulary.name_text, Vocabulary.node_words, PlainLaws.node_text}
 use Rattle.nmgc_image.proofs.plain.Cursor.entry.Goals as goal
 
 pub returns : goal.returns

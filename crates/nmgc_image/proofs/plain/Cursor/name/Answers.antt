@@ -1,7 +1,4 @@
-use Rattle.std.proofs.Common.{◌≡◌, ◌++◌, ◌∙◌, decimal}
-use Rattle.std.proofs.lemmas.Result.{IfOk-weaker}
-use Rattle.nmgc_world_spec.specs.declared.value.Name.{Name}
-use Rattle.nmgc_journal.specs.Text.{name_text}
+use Rattle.nmgc_image.proofs.Vocabulary.{◌≡◌, ◌++◌, ◌∙◌, decimal, IfOk-weaker, Name, name_text}
 use Rattle.nmgc_image.proofs.plain.Cursor.name.Goals as goal
 
 pub returns-clause-text : goal.returns-clause-text

@@ -1,6 +1,4 @@
-use Rattle.std.proofs.Common.{◌≡◌, ℕ, ◌++◌, ◌∙◌, decimal}
-use Rattle.std.proofs.lemmas.Result.{IfOk-weaker}
-use Rattle.nmgc_image.proofs.PlainLaws.{digit_first}
+use Rattle.nmgc_image.proofs.{Vocabulary.◌≡◌, Vocabulary.ℕ, Vocabulary.◌++◌, Vocabulary.◌∙◌, Vocabulary.decimal, Vocabulary.IfOk-weaker, PlainLaws.digit_first}
 use Rattle.nmgc_image.proofs.plain.Cursor.number.Goals as goal
 
 pub returns-clause-text : goal.returns-clause-text

@@ -1,7 +1,4 @@
-use Rattle.std.proofs.Common.{[], ◌∷◌}
-use Rattle.std.proofs.lemmas.List.Elements.{All-from_recursion}
-use Rattle.nmgc_journal.specs.Text.{value_text, IsValue}
-use Rattle.nmgc_image.proofs.PlainLaws.{pair_text}
+use Rattle.nmgc_image.proofs.{Vocabulary.[], Vocabulary.◌∷◌, Vocabulary.All-from_recursion, Vocabulary.value_text, Vocabulary.IsValue, PlainLaws.pair_text}
 use Rattle.nmgc_image.proofs.plain.Cursor.pair.Goals as goal
 
 pub returns-clause-text : goal.returns-clause-text

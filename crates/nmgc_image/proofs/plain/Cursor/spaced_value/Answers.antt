@@ -1,7 +1,4 @@
-use Rattle.std.proofs.Common.{◌≡◌, ℕ, List, ◌∷◌, ◌++◌, ◌∙◌, ap}
-use Rattle.std.proofs.lemmas.Result.{IfOk-weaker}
-use Rattle.nmgc_world_spec.specs.declared.value.Value.{Value}
-use Rattle.nmgc_journal.specs.Text.{value_text}
+use Rattle.nmgc_image.proofs.Vocabulary.{◌≡◌, ℕ, List, ◌∷◌, ◌++◌, ◌∙◌, ap, IfOk-weaker, Value, value_text}
 use Rattle.nmgc_image.proofs.plain.Cursor.spaced_value.Goals as goal
 
 pub returns-clause-text : goal.returns-clause-text

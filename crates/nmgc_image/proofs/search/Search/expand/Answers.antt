@@ -1,8 +1,4 @@
-use Rattle.std.proofs.Common.{◌≡◌, ◌∙◌, ℕ, List, ap, sym, subst, length}
-use Rattle.std.specs.Prelude.{OnOk}
-use Rattle.nmgc_object.specs.declared.words.Header.{Header}
-use Rattle.nmgc_image.specs.Objects.{told, told_at, fields_at}
-use Rattle.nmgc_image.specs.Reaching.{PointWithin, Visits, ArePointers}
+use Rattle.nmgc_image.proofs.Vocabulary.{◌≡◌, ◌∙◌, ℕ, List, ap, sym, subst, length, OnOk, Header, told, told_at, fields_at, PointWithin, Visits, ArePointers}
 use Rattle.nmgc_image.proofs.search.Search.expand.Goals as goal
 
 pub visit_words-requires-clause-within : goal.visit_words-requires-clause-within

@@ -1,7 +1,4 @@
-use Rattle.std.proofs.Common.{ℕ, ◌<◌, sym, subst, arith, length}
-use Rattle.std.specs.Prelude.{Contains}
-use Rattle.std.proofs.lemmas.List.Elements.{Contains-get_or}
-use Rattle.nmgc_image.proofs.Searching.{going_starts, going_object, going_within, going_ends, going_on, going_done}
+use Rattle.nmgc_image.proofs.{Vocabulary.ℕ, Vocabulary.◌<◌, Vocabulary.sym, Vocabulary.subst, Vocabulary.arith, Vocabulary.length, Vocabulary.Contains, Vocabulary.Contains-get_or, Searching.going_starts, Searching.going_object, Searching.going_within, Searching.going_ends, Searching.going_on, Searching.going_done}
 use Rattle.nmgc_image.proofs.search.Search.run.Goals as goal
 
 pub loop-next-init : goal.loop-next-init

@@ -1,6 +1,4 @@
-use Rattle.std.proofs.Common.{refl, sym, ◌∙◌, false}
-use Rattle.std.proofs.lemmas.List.{get_or_default}
-use Rattle.nmgc_image.proofs.Searching.{found_before, found_now}
+use Rattle.nmgc_image.proofs.{Vocabulary.refl, Vocabulary.sym, Vocabulary.◌∙◌, Vocabulary.false, Vocabulary.get_or_default, Searching.found_before, Searching.found_now}
 use Rattle.nmgc_image.proofs.search.Search.visit.Goals as goal
 
 pub returns-in_ok-push : goal.returns-in_ok-push

@@ -1,12 +1,5 @@
-use Rattle.std.proofs.Common.{◌≡◌, ◌+◌, ℕ, sym, subst, arith, take, get_or, length}
-use Rattle.std.proofs.lemmas.List.{take_all}
-use Rattle.std.specs.Prelude.{Option, IfNone, false}
-use Rattle.nmgc_image.specs.Objects.{is_pointer}
-use Rattle.nmgc_image.specs.Reaching.{Visits, ArePointers}
-use Rattle.nmgc_image.proofs.Searching.{visits_none, pointer_no, pointer_yes, pointer_within}
-use Rattle.nmgc_lists.specs.laws.Items.{nothing_in}
+use Rattle.nmgc_image.proofs.{Vocabulary.◌≡◌, Vocabulary.◌+◌, Vocabulary.ℕ, Vocabulary.sym, Vocabulary.subst, Vocabulary.arith, Vocabulary.take, Vocabulary.get_or, Vocabulary.length, Vocabulary.take_all, Vocabulary.IfNone, Vocabulary.is_pointer, Vocabulary.Visits, Vocabulary.ArePointers, Vocabulary.nothing_in, Vocabulary.Option, Vocabulary.false, Searching.visits_none, Searching.pointer_no, Searching.pointer_yes, Searching.pointer_within, search.Search.visit_words.Goals.in-Some+in_ok-visit, search.Search.visit_words.Goals.in_default}
 use Rattle.nmgc_image.proofs.search.Search.visit_words.Goals as goal
-use Rattle.nmgc_image.proofs.search.Search.visit_words.Goals.{in-Some+in_ok-visit, in_default}
 
 pub overflow_cast-at : goal.overflow_cast-at
 overflow_cast-at c =

@@ -1,5 +1,4 @@
-use Rattle.std.proofs.Common.{take}
-use Rattle.nmgc_image.specs.Reaching.{Visits, ArePointers}
+use Rattle.nmgc_image.proofs.Vocabulary.{take, Visits, ArePointers}
 use Rattle.nmgc_image.proofs.search.Search.visit_words.Given as goal
 
 abbrev pub invariant-loop-word : goal.invariant-loop-word

@@ -1,7 +1,4 @@
-use Rattle.std.proofs.Common.{ℕ, ◌∙◌, List, ap, sym, slice_index}
-use Rattle.std.specs.Slots.{slots_items}
-use Rattle.nmgc_journal.proofs.Read.{read_at}
-use Rattle.nmgc_journal.specs.Final.{words_of}
+use Rattle.nmgc_journal.proofs.{Vocabulary.ℕ, Vocabulary.◌∙◌, Vocabulary.List, Vocabulary.ap, Vocabulary.sym, Vocabulary.slice_index, Vocabulary.slots_items, Vocabulary.words_of, Read.read_at}
 use Rattle.nmgc_journal.proofs.final_words.FinalWords.word.Goals as goal
 
 pub returns-in-Table : goal.returns-in-Table

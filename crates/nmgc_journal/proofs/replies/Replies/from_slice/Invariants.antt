@@ -1,5 +1,4 @@
-use Rattle.std.proofs.Common.{◌≡◌, ◌≤◌, map, take, vec_len, vec_capacity, length}
-use Rattle.nmgc_journal.specs.Replies.{reply_in}
+use Rattle.nmgc_journal.proofs.Vocabulary.{◌≡◌, ◌≤◌, map, take, vec_len, vec_capacity, length, reply_in}
 use Rattle.nmgc_journal.proofs.replies.Replies.from_slice.Given as goal
 
 -- the words of the replies so far, with room for all

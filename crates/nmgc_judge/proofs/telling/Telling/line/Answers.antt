@@ -1,7 +1,4 @@
-use Rattle.std.proofs.Common.{sym, subst, Option, None}
-use Rattle.nmgc_judge.specs.declared.report.Begun.{Begun}
-use Rattle.nmgc_judge.specs.declared.report.Refusal.{Refusal}
-use Rattle.nmgc_judge.specs.Reports.{IsHappening}
+use Rattle.nmgc_judge.proofs.Vocabulary.{sym, subst, Option, None, Begun, Refusal, IsHappening}
 use Rattle.nmgc_judge.proofs.telling.Telling.line.Goals as goal
 
 pub returns-in-Some : goal.returns-in-Some

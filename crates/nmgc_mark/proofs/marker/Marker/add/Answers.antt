@@ -1,11 +1,4 @@
-use Rattle.std.proofs.Common.{◌∙◌, take, get_or, refl, sym, subst}
-use Rattle.nmgc_round.specs.Marking.{Marks}
-use Rattle.nmgc_mark.specs.Tie.{IsTied, with_places}
-use Rattle.nmgc_mark.specs.Marker.{places}
-use Rattle.nmgc_mark.proofs.Ties.{place_marked, place_turns, tied_at}
-use Rattle.nmgc_mark.proofs.Words.{places_more}
-use Rattle.nmgc_mark.specs.laws.Common.{marked_none}
-use Rattle.nmgc_mark.proofs.Fields.{marked_more}
+use Rattle.nmgc_mark.proofs.{Vocabulary.◌∙◌, Vocabulary.take, Vocabulary.get_or, Vocabulary.refl, Vocabulary.sym, Vocabulary.subst, Vocabulary.Marks, Vocabulary.IsTied, Vocabulary.with_places, Vocabulary.places, Vocabulary.marked_none, Ties.place_marked, Ties.place_turns, Ties.tied_at, Words.places_more, Fields.marked_more}
 use Rattle.nmgc_mark.proofs.marker.Marker.add.Goals as goal
 
 pub loop-at-init : goal.loop-at-init

@@ -1,8 +1,4 @@
-use Rattle.std.proofs.Common.{◌≡◌, take}
-use Rattle.nmgc_round.specs.View.{Opening}
-use Rattle.nmgc_round.specs.Marking.{Marks}
-use Rattle.nmgc_mark.specs.Marker.{HasMarked, places}
-use Rattle.nmgc_mark.specs.Tie.{IsTied, with_places}
+use Rattle.nmgc_mark.proofs.Vocabulary.{◌≡◌, take, Opening, Marks, HasMarked, places, IsTied, with_places}
 use Rattle.nmgc_mark.proofs.marker.Marker.add.Given as goal
 
 abbrev pub invariant-loop-at : goal.invariant-loop-at

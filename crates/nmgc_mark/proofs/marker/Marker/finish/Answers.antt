@@ -1,14 +1,4 @@
-use Rattle.std.proofs.Common.{ℕ, ◌+◌, ◌∙◌, List, refl, sym, ap, subst}
-use Rattle.nmgc_round.specs.View.{Opening, Seen, whole}
-use Rattle.nmgc_alloc.specs.Numbered.{Segments}
-use Rattle.nmgc_mark.specs.Seen.{MarkerSeen}
-use Rattle.nmgc_mark.specs.Stopped.{IsAlone, IsReady, HasFinished}
-use Rattle.nmgc_mark.specs.Tie.{IsTied}
-use Rattle.nmgc_mark.specs.Work.{marks_seen}
-use Rattle.nmgc_mark.proofs.Scanning.{begins}
-use Rattle.nmgc_mark.specs.laws.Common.{marked_none}
-use Rattle.nmgc_mark.proofs.Fields.{object_marked, room_taken, queue_taken}
-use Rattle.nmgc_mark.proofs.Alone.{alone_opens, alone_ends, alone_shows, shows_alone}
+use Rattle.nmgc_mark.proofs.{Vocabulary.ℕ, Vocabulary.◌+◌, Vocabulary.◌∙◌, Vocabulary.List, Vocabulary.refl, Vocabulary.sym, Vocabulary.ap, Vocabulary.subst, Vocabulary.Opening, Vocabulary.Seen, Vocabulary.whole, Vocabulary.Segments, Vocabulary.MarkerSeen, Vocabulary.IsAlone, Vocabulary.IsReady, Vocabulary.HasFinished, Vocabulary.IsTied, Vocabulary.marks_seen, Vocabulary.marked_none, Scanning.begins, Fields.object_marked, Fields.room_taken, Fields.queue_taken, Alone.alone_opens, Alone.alone_ends, Alone.alone_shows, Alone.shows_alone}
 use Rattle.nmgc_mark.proofs.marker.Marker.finish.Goals as goal
 
 pub loop-at-init : goal.loop-at-init

@@ -1,9 +1,4 @@
-use Rattle.std.proofs.Common.{ℕ, ◌≡◌, ◌+◌, length}
-use Rattle.nmgc_round.specs.View.{Opening, Seen}
-use Rattle.nmgc_mark.specs.Marker.{HasMarked}
-use Rattle.nmgc_mark.specs.Stopped.{IsAlone, IsReady}
-use Rattle.nmgc_mark.specs.Tie.{IsTied}
-use Rattle.nmgc_mark.specs.Work.{marks_seen}
+use Rattle.nmgc_mark.proofs.Vocabulary.{ℕ, ◌≡◌, ◌+◌, length, Opening, Seen, HasMarked, IsAlone, IsReady, IsTied, marks_seen}
 use Rattle.nmgc_mark.proofs.marker.Marker.finish.Given as goal
 
 abbrev pub invariant-loop-at : goal.invariant-loop-at

@@ -1,6 +1,4 @@
-use Rattle.std.proofs.Common.{sym, ap}
-use Rattle.nmgc_mark.specs.Seen.{MarkerSeen}
-use Rattle.nmgc_mark.proofs.Queues.{empty_told}
+use Rattle.nmgc_mark.proofs.{Vocabulary.sym, Vocabulary.ap, Vocabulary.MarkerSeen, Queues.empty_told}
 use Rattle.nmgc_mark.proofs.marker.Marker.is_empty.Goals as goal
 
 pub returns : goal.returns

@@ -1,9 +1,4 @@
-use Rattle.std.proofs.Common.{IsTrue, sym, subst, inl, inr}
-use Rattle.nmgc_segment.specs.Marks.{IsEpoch}
-use Rattle.nmgc_alloc.specs.Numbered.{Segments}
-use Rattle.nmgc_mark.specs.Marker.{MarksAt}
-use Rattle.nmgc_lists.specs.laws.Truths.{never}
-use Rattle.nmgc_mark.proofs.Ties.{room_done, done_then, done_else, nothing_there}
+use Rattle.nmgc_mark.proofs.{Vocabulary.IsTrue, Vocabulary.sym, Vocabulary.subst, Vocabulary.inl, Vocabulary.inr, Vocabulary.IsEpoch, Vocabulary.Segments, Vocabulary.MarksAt, Vocabulary.never, Ties.room_done, Ties.done_then, Ties.done_else, Ties.nothing_there}
 use Rattle.nmgc_mark.proofs.marker.Marker.mark.Goals as goal
 
 pub try_mark_at-requires : goal.try_mark_at-requires

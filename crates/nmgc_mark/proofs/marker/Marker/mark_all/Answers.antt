@@ -1,10 +1,4 @@
-use Rattle.std.proofs.Common.{◌∙◌, take, get_or, refl, sym, subst}
-use Rattle.std.proofs.lemmas.List.Elements.{Contains-get_or}
-use Rattle.nmgc_round.specs.Marking.{Marks}
-use Rattle.nmgc_mark.specs.Tie.{IsTied, with_words}
-use Rattle.nmgc_mark.proofs.Words.{words_more}
-use Rattle.nmgc_mark.specs.laws.Common.{marked_none}
-use Rattle.nmgc_mark.proofs.Fields.{marked_more}
+use Rattle.nmgc_mark.proofs.{Vocabulary.◌∙◌, Vocabulary.take, Vocabulary.get_or, Vocabulary.refl, Vocabulary.sym, Vocabulary.subst, Vocabulary.Contains-get_or, Vocabulary.Marks, Vocabulary.IsTied, Vocabulary.with_words, Vocabulary.marked_none, Words.words_more, Fields.marked_more}
 use Rattle.nmgc_mark.proofs.marker.Marker.mark_all.Goals as goal
 
 pub loop-word-init : goal.loop-word-init

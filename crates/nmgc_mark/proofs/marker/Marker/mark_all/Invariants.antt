@@ -1,8 +1,4 @@
-use Rattle.std.proofs.Common.{◌≡◌, take}
-use Rattle.nmgc_round.specs.View.{Opening}
-use Rattle.nmgc_round.specs.Marking.{Marks}
-use Rattle.nmgc_mark.specs.Marker.{HasMarked}
-use Rattle.nmgc_mark.specs.Tie.{IsTied, with_words}
+use Rattle.nmgc_mark.proofs.Vocabulary.{◌≡◌, take, Opening, Marks, HasMarked, IsTied, with_words}
 use Rattle.nmgc_mark.proofs.marker.Marker.mark_all.Given as goal
 
 abbrev pub invariant-loop-word : goal.invariant-loop-word

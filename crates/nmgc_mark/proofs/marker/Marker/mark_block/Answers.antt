@@ -1,8 +1,4 @@
-use Rattle.std.proofs.Common.{IsTrue, sym, subst}
-use Rattle.nmgc_segment.specs.Marks.{IsEpoch}
-use Rattle.nmgc_alloc.specs.Segments.{MarksBlock}
-use Rattle.nmgc_lists.specs.laws.Truths.{never}
-use Rattle.nmgc_mark.proofs.Ties.{room_done, done_then, done_else, place_marked, place_turns, tied_at}
+use Rattle.nmgc_mark.proofs.{Vocabulary.IsTrue, Vocabulary.sym, Vocabulary.subst, Vocabulary.IsEpoch, Vocabulary.MarksBlock, Vocabulary.never, Ties.room_done, Ties.done_then, Ties.done_else, Ties.place_marked, Ties.place_turns, Ties.tied_at}
 use Rattle.nmgc_mark.proofs.marker.Marker.mark_block.Goals as goal
 
 pub mark-requires-clause-epoch : goal.mark-requires-clause-epoch

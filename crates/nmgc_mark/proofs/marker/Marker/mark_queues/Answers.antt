@@ -1,13 +1,4 @@
-use Rattle.std.proofs.Common.{ℕ, ◌≡◌, ◌∙◌, List, map, take, refl, sym, subst, ap}
-use Rattle.std.specs.Prelude.{Contains}
-use Rattle.std.proofs.lemmas.List.Elements.{Contains-get_or}
-use Rattle.nmgc_lists.specs.laws.Items.{contains_flat, contains_map}
-use Rattle.nmgc_object.specs.FinQueue.{FinQueue}
-use Rattle.nmgc_round.specs.Marking.{Marks}
-use Rattle.nmgc_mark.specs.Tie.{IsTied, with_queues, with_words}
-use Rattle.nmgc_mark.proofs.Words.{queues_more}
-use Rattle.nmgc_mark.specs.laws.Common.{marked_none}
-use Rattle.nmgc_mark.proofs.Fields.{marked_more}
+use Rattle.nmgc_mark.proofs.{Vocabulary.ℕ, Vocabulary.◌≡◌, Vocabulary.◌∙◌, Vocabulary.List, Vocabulary.map, Vocabulary.take, Vocabulary.refl, Vocabulary.sym, Vocabulary.subst, Vocabulary.ap, Vocabulary.Contains, Vocabulary.Contains-get_or, Vocabulary.contains_flat, Vocabulary.contains_map, Vocabulary.FinQueue, Vocabulary.Marks, Vocabulary.IsTied, Vocabulary.with_queues, Vocabulary.with_words, Vocabulary.marked_none, Words.queues_more, Fields.marked_more}
 use Rattle.nmgc_mark.proofs.marker.Marker.mark_queues.Goals as goal
 
 pub loop-mutator-init : goal.loop-mutator-init

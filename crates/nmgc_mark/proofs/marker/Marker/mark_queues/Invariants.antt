@@ -1,8 +1,4 @@
-use Rattle.std.proofs.Common.{◌≡◌, map, take}
-use Rattle.nmgc_round.specs.View.{Opening}
-use Rattle.nmgc_round.specs.Marking.{Marks}
-use Rattle.nmgc_mark.specs.Marker.{HasMarked}
-use Rattle.nmgc_mark.specs.Tie.{IsTied, with_queues}
+use Rattle.nmgc_mark.proofs.Vocabulary.{◌≡◌, map, take, Opening, Marks, HasMarked, IsTied, with_queues}
 use Rattle.nmgc_mark.proofs.marker.Marker.mark_queues.Given as goal
 
 abbrev pub invariant-loop-mutator : goal.invariant-loop-mutator

@@ -1,13 +1,4 @@
-use Rattle.std.proofs.Common.{ℕ, ◌∙◌, List, take, refl, sym, subst, ap}
-use Rattle.std.specs.Prelude.{Contains}
-use Rattle.std.specs.List.{flat_map}
-use Rattle.std.proofs.lemmas.List.Elements.{Contains-get_or}
-use Rattle.nmgc_lists.specs.laws.Items.{contains_flat}
-use Rattle.nmgc_round.specs.Marking.{Marks}
-use Rattle.nmgc_mark.specs.Tie.{IsTied, with_words}
-use Rattle.nmgc_mark.proofs.Words.{flat_more, words_append}
-use Rattle.nmgc_mark.specs.laws.Common.{marked_none}
-use Rattle.nmgc_mark.proofs.Fields.{marked_more}
+use Rattle.nmgc_mark.proofs.{Vocabulary.ℕ, Vocabulary.◌∙◌, Vocabulary.List, Vocabulary.take, Vocabulary.refl, Vocabulary.sym, Vocabulary.subst, Vocabulary.ap, Vocabulary.Contains, Vocabulary.flat_map, Vocabulary.Contains-get_or, Vocabulary.contains_flat, Vocabulary.Marks, Vocabulary.IsTied, Vocabulary.with_words, Vocabulary.marked_none, Words.flat_more, Words.words_append, Fields.marked_more}
 use Rattle.nmgc_mark.proofs.marker.Marker.mark_registers.Goals as goal
 
 pub loop-mutator-init : goal.loop-mutator-init

@@ -1,13 +1,4 @@
-use Rattle.std.proofs.Common.{ℕ, ◌≡◌, ◌+◌, ◌<◌, ◌∙◌, List, take, get_or, length, sym, subst, ap, refl, arith}
-use Rattle.std.specs.Prelude.{slice_index}
-use Rattle.std.proofs.lemmas.List.Elements.{Contains-get_or}
-use Rattle.std.proofs.lemmas.List.{take_all}
-use Rattle.nmgc_round.specs.Marking.{Marks, with_name, name_meant}
-use Rattle.nmgc_mark.specs.Beginning.{slots_of}
-use Rattle.nmgc_mark.specs.Tie.{IsTied, with_words}
-use Rattle.nmgc_mark.proofs.Words.{words_more, slot_word, slots_count}
-use Rattle.nmgc_mark.specs.laws.Common.{marked_none}
-use Rattle.nmgc_mark.proofs.Fields.{marked_more}
+use Rattle.nmgc_mark.proofs.{Vocabulary.ℕ, Vocabulary.◌≡◌, Vocabulary.◌+◌, Vocabulary.◌<◌, Vocabulary.◌∙◌, Vocabulary.List, Vocabulary.take, Vocabulary.get_or, Vocabulary.length, Vocabulary.sym, Vocabulary.subst, Vocabulary.ap, Vocabulary.refl, Vocabulary.arith, Vocabulary.slice_index, Vocabulary.Contains-get_or, Vocabulary.take_all, Vocabulary.Marks, Vocabulary.with_name, Vocabulary.name_meant, Vocabulary.slots_of, Vocabulary.IsTied, Vocabulary.with_words, Vocabulary.marked_none, Words.words_more, Words.slot_word, Words.slots_count, Fields.marked_more}
 use Rattle.nmgc_mark.proofs.marker.Marker.mark_shared.Goals as goal
 
 pub loop-slot-init : goal.loop-slot-init

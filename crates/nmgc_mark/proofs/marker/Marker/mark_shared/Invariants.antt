@@ -1,9 +1,4 @@
-use Rattle.std.proofs.Common.{◌≡◌, take}
-use Rattle.nmgc_round.specs.View.{Opening}
-use Rattle.nmgc_round.specs.Marking.{Marks}
-use Rattle.nmgc_mark.specs.Beginning.{slots_of}
-use Rattle.nmgc_mark.specs.Marker.{HasMarked}
-use Rattle.nmgc_mark.specs.Tie.{IsTied, with_words}
+use Rattle.nmgc_mark.proofs.Vocabulary.{◌≡◌, take, Opening, Marks, slots_of, HasMarked, IsTied, with_words}
 use Rattle.nmgc_mark.proofs.marker.Marker.mark_shared.Given as goal
 
 abbrev pub invariant-loop-slot : goal.invariant-loop-slot

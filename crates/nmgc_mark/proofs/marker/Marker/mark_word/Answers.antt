@@ -1,6 +1,4 @@
-use Rattle.std.proofs.Common.{arith}
-use Rattle.nmgc_mark.proofs.Ties.{place_marked, place_turns, tied_word, tied_odd}
-use Rattle.nmgc_mark.specs.laws.Common.{tied_unset}
+use Rattle.nmgc_mark.proofs.{Vocabulary.arith, Vocabulary.tied_unset, Ties.place_marked, Ties.place_turns, Ties.tied_word, Ties.tied_odd}
 use Rattle.nmgc_mark.proofs.marker.Marker.mark_word.Goals as goal
 
 pub overflow_cast-at : goal.overflow_cast-at

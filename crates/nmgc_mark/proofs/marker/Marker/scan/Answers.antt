@@ -1,11 +1,5 @@
-use Rattle.std.proofs.Common.{◌≡◌, ◌≤◌, ◌∙◌, refl, sym, arith, true}
-use Rattle.nmgc_round.specs.Ready.{scanned_by}
-use Rattle.nmgc_mark.specs.Work.{entry_now, has_results}
-use Rattle.nmgc_mark.proofs.Scanning.{can_scan, header_there}
-use Rattle.nmgc_mark.proofs.Fields.{header_told, result_there, result_set, result_unset, field_within, next_field, no_result, with_result, marked_more}
-use Rattle.nmgc_mark.specs.laws.Common.{marked_none}
+use Rattle.nmgc_mark.proofs.{Vocabulary.◌≡◌, Vocabulary.◌≤◌, Vocabulary.◌∙◌, Vocabulary.refl, Vocabulary.sym, Vocabulary.arith, Vocabulary.true, Vocabulary.scanned_by, Vocabulary.entry_now, Vocabulary.has_results, Vocabulary.marked_none, Scanning.can_scan, Scanning.header_there, Fields.header_told, Fields.result_there, Fields.result_set, Fields.result_unset, Fields.field_within, Fields.next_field, Fields.no_result, Fields.with_result, Fields.marked_more, marker.Marker.scan.Goals.then-has_results+else-result-ne0, marker.Marker.scan.Goals.else-has_results}
 use Rattle.nmgc_mark.proofs.marker.Marker.scan.Goals as goal
-use Rattle.nmgc_mark.proofs.marker.Marker.scan.Goals.{then-has_results+else-result-ne0, else-has_results}
 
 pub load-requires : goal.load-requires
 load-requires g c =

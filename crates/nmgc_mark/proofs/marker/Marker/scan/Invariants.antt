@@ -1,7 +1,4 @@
-use Rattle.std.proofs.Common.{◌≡◌}
-use Rattle.nmgc_round.specs.View.{Seen}
-use Rattle.nmgc_mark.specs.Marker.{HasMarked}
-use Rattle.nmgc_mark.specs.Work.{IsScanning, IsAtField}
+use Rattle.nmgc_mark.proofs.Vocabulary.{◌≡◌, Seen, HasMarked, IsScanning, IsAtField}
 use Rattle.nmgc_mark.proofs.marker.Marker.scan.Given as goal
 
 abbrev pub invariant-loop-field : goal.invariant-loop-field

@@ -1,8 +1,4 @@
-use Rattle.std.proofs.Common.{◌+◌, arith, subst}
-use Rattle.nmgc_object.specs.Places.{IsLayout}
-use Rattle.nmgc_mark.specs.Work.{marks_seen, rest_of}
-use Rattle.nmgc_mark.proofs.Fields.{total_small}
-use Rattle.nmgc_mark.proofs.Scanning.{can_scan, field_offset}
+use Rattle.nmgc_mark.proofs.{Vocabulary.◌+◌, Vocabulary.arith, Vocabulary.subst, Vocabulary.IsLayout, Vocabulary.marks_seen, Vocabulary.rest_of, Fields.total_small, Scanning.can_scan, Scanning.field_offset}
 use Rattle.nmgc_mark.proofs.marker.Marker.scan_field.Goals as goal
 
 pub load-word-requires : goal.load-word-requires

@@ -1,15 +1,4 @@
-use Rattle.std.proofs.Common.{◌≡◌, ◌∙◌, arith, map, sym, subst, ap}
-use Rattle.std.specs.List.{flat_map}
-use Rattle.nmgc_object.specs.Places.{IsLayout}
-use Rattle.nmgc_snapshot_laws.specs.State.{unmarked}
-use Rattle.nmgc_round.specs.Marking.{Marks, marks_of}
-use Rattle.nmgc_mark.specs.Beginning.{slots_of, queue_words, most_blocks}
-use Rattle.nmgc_mark.specs.Marker.{blank, HasRoomToMark}
-use Rattle.nmgc_mark.specs.Seen.{MarkerSeen}
-use Rattle.nmgc_mark.specs.Tie.{IsTied, with_words, with_queues}
-use Rattle.nmgc_mark.proofs.Fields.{total_small}
-use Rattle.nmgc_mark.proofs.Rooms.{blank_room}
-use Rattle.nmgc_mark.proofs.Roots.{words_small, roots_mark, blank_tied}
+use Rattle.nmgc_mark.proofs.{Vocabulary.◌≡◌, Vocabulary.◌∙◌, Vocabulary.arith, Vocabulary.map, Vocabulary.sym, Vocabulary.subst, Vocabulary.ap, Vocabulary.flat_map, Vocabulary.IsLayout, Vocabulary.unmarked, Vocabulary.Marks, Vocabulary.marks_of, Vocabulary.slots_of, Vocabulary.queue_words, Vocabulary.most_blocks, Vocabulary.blank, Vocabulary.HasRoomToMark, Vocabulary.MarkerSeen, Vocabulary.IsTied, Vocabulary.with_words, Vocabulary.with_queues, Fields.total_small, Rooms.blank_room, Roots.words_small, Roots.roots_mark, Roots.blank_tied}
 use Rattle.nmgc_mark.proofs.marker.Marker.snapshot.Goals as goal
 
 pub mark_registers-requires-clause-room : goal.mark_registers-requires-clause-room

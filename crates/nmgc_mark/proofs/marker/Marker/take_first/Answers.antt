@@ -1,7 +1,4 @@
-use Rattle.std.proofs.Common.{◌+◌, drop, sym, ap}
-use Rattle.nmgc_mark.specs.Seen.{MarkerSeen}
-use Rattle.nmgc_mark.specs.Marker.{places}
-use Rattle.nmgc_mark.proofs.Queues.{first_taken}
+use Rattle.nmgc_mark.proofs.{Vocabulary.◌+◌, Vocabulary.drop, Vocabulary.sym, Vocabulary.ap, Vocabulary.MarkerSeen, Vocabulary.places, Queues.first_taken}
 use Rattle.nmgc_mark.proofs.marker.Marker.take_first.Goals as goal
 
 pub returns-clause-some : goal.returns-clause-some

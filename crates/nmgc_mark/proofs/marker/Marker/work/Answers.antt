@@ -1,15 +1,4 @@
-use Rattle.std.proofs.Common.{◌∙◌, ◌∷◌, ap, refl, subst, sym}
-use Rattle.nmgc_round.specs.Gate.{next_turn}
-use Rattle.nmgc_round.specs.Seat.{seen}
-use Rattle.nmgc_round.specs.View.{Seen}
-use Rattle.nmgc_mark.specs.Seen.{MarkerSeen}
-use Rattle.nmgc_mark.specs.Tie.{IsTied}
-use Rattle.nmgc_mark.specs.Work.{HasWorked, marks_seen}
-use Rattle.nmgc_mark.proofs.Scanning.{begins}
-use Rattle.nmgc_mark.specs.laws.Common.{marked_none}
-use Rattle.nmgc_mark.proofs.Fields.{object_marked, room_taken, passed_taken, same_seat, later_seat, still_worked}
-use Rattle.nmgc_round.specs.laws.Common.{passed_more}
-use Rattle.nmgc_updrem.specs.laws.Polls.{polled_all_none, polled_all_then}
+use Rattle.nmgc_mark.proofs.{Vocabulary.◌∙◌, Vocabulary.◌∷◌, Vocabulary.ap, Vocabulary.refl, Vocabulary.subst, Vocabulary.sym, Vocabulary.next_turn, Vocabulary.seen, Vocabulary.Seen, Vocabulary.MarkerSeen, Vocabulary.IsTied, Vocabulary.HasWorked, Vocabulary.marks_seen, Vocabulary.marked_none, Vocabulary.passed_more, Vocabulary.polled_all_none, Vocabulary.polled_all_then, Scanning.begins, Fields.object_marked, Fields.room_taken, Fields.passed_taken, Fields.same_seat, Fields.later_seat, Fields.still_worked}
 use Rattle.nmgc_mark.proofs.marker.Marker.work.Goals as goal
 
 pub loop-scanned-init : goal.loop-scanned-init

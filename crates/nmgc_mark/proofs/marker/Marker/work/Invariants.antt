@@ -1,7 +1,4 @@
-use Rattle.std.proofs.Common.{◌≡◌}
-use Rattle.nmgc_round.specs.Gate.{passed}
-use Rattle.nmgc_mark.specs.Work.{HasWorked}
-use Rattle.nmgc_updrem.specs.Rings.{HavePolled}
+use Rattle.nmgc_mark.proofs.Vocabulary.{◌≡◌, passed, HasWorked, HavePolled}
 use Rattle.nmgc_mark.proofs.marker.Marker.work.Given as goal
 
 abbrev pub invariant-loop-scanned : goal.invariant-loop-scanned

@@ -1,9 +1,4 @@
-use Rattle.std.proofs.Common.{ap, arith, subst, sym}
-use Rattle.nmgc_object.specs.Places.{word_total}
-use Rattle.nmgc_round.specs.Ready.{CanScan}
-use Rattle.nmgc_round.specs.Told.{TellsScan}
-use Rattle.nmgc_round.specs.View.{Seen}
-use Rattle.nmgc_mark.proofs.Fields.{seat_scanned, words_in}
+use Rattle.nmgc_mark.proofs.{Vocabulary.ap, Vocabulary.arith, Vocabulary.subst, Vocabulary.sym, Vocabulary.word_total, Vocabulary.CanScan, Vocabulary.TellsScan, Vocabulary.Seen, Fields.seat_scanned, Fields.words_in}
 use Rattle.nmgc_mark.proofs.scan.RoundScanLoadCollectorSeat.load.Goals as goal
 
 pub scan_load-requires-clause-seat : goal.scan_load-requires-clause-seat

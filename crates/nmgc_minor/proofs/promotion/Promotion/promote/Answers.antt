@@ -1,14 +1,4 @@
-use Rattle.std.proofs.Common.{◌≡◌, ℕ, List, map, ap, ◌∙◌, arith}
-use Rattle.std.specs.List.{flat_map}
-use Rattle.nmgc_object.specs.FinQueue.{FinQueue}
-use Rattle.nmgc_object.specs.declared.layout.Nursery.{Nursery}
-use Rattle.nmgc_blocks_spec.specs.Stopped.{young_base}
-use Rattle.nmgc_minor.specs.Start.{inputs_by, words_of}
-use Rattle.nmgc_minor.specs.Forwarding.{forward_word}
-use Rattle.nmgc_minor.specs.Promotes.{forwarded}
-use Rattle.nmgc_minor.specs.Promotion.{Promotion}
-use Rattle.nmgc_minor.proofs.Listing.{registers_then, queues_then, nurseries_then, words_forwarded, room_forwarded}
-use Rattle.nmgc_minor.proofs.Stops.{stop_allows, stop_settles, stop_places, stop_fields}
+use Rattle.nmgc_minor.proofs.{Vocabulary.◌≡◌, Vocabulary.ℕ, Vocabulary.List, Vocabulary.map, Vocabulary.ap, Vocabulary.◌∙◌, Vocabulary.arith, Vocabulary.flat_map, Vocabulary.FinQueue, Vocabulary.young_base, Vocabulary.inputs_by, Vocabulary.words_of, Vocabulary.forward_word, Vocabulary.Promotion, Listing.registers_then, Listing.queues_then, Listing.nurseries_then, Listing.words_forwarded, Listing.room_forwarded, Stops.stop_allows, Stops.stop_settles, Stops.stop_places, Stops.stop_fields}
 use Rattle.nmgc_minor.proofs.promotion.Promotion.promote.Goals as goal
 
 pub run_passes-requires-clause-can : goal.run_passes-requires-clause-can

@@ -1,9 +1,4 @@
-use Rattle.std.proofs.Common.{ℕ, ◌≡◌, ◌<◌, ◌≤◌, List, ap, subst, refl, ◌∙◌, length, arith, get_or}
-use Rattle.std.proofs.lemmas.List.{get_or_default}
-use Rattle.nmgc_object.specs.declared.words.Address.{Address}
-use Rattle.nmgc_blocks_spec.specs.Strong.{HasStrong}
-use Rattle.nmgc_minor.specs.Young.{Notes}
-use Rattle.nmgc_minor.proofs.NoteLaws.{following_none, can_still, following_more, following_all}
+use Rattle.nmgc_minor.proofs.{Vocabulary.ℕ, Vocabulary.◌≡◌, Vocabulary.◌<◌, Vocabulary.◌≤◌, Vocabulary.List, Vocabulary.ap, Vocabulary.subst, Vocabulary.refl, Vocabulary.◌∙◌, Vocabulary.length, Vocabulary.arith, Vocabulary.get_or, Vocabulary.get_or_default, Vocabulary.Address, Vocabulary.HasStrong, Vocabulary.Notes, NoteLaws.following_none, NoteLaws.can_still, NoteLaws.following_more, NoteLaws.following_all}
 use Rattle.nmgc_minor.proofs.young.Young.follow.Goals as goal
 
 pub loop-next-init : goal.loop-next-init

@@ -1,5 +1,4 @@
-use Rattle.std.proofs.Common.{◌≡◌, ◌+◌, ◌-◌, length}
-use Rattle.nmgc_minor.specs.Young.{Following, unfound_count}
+use Rattle.nmgc_minor.proofs.Vocabulary.{◌≡◌, ◌+◌, ◌-◌, length, Following, unfound_count}
 use Rattle.nmgc_minor.proofs.young.Young.follow.Given as goal
 
 abbrev pub invariant-loop-next : goal.invariant-loop-next

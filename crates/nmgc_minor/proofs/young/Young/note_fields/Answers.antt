@@ -1,7 +1,7 @@
 use Rattle.std.proofs.Common.{ℕ, List, ap, subst, length, arith}
-use Rattle.nmgc_blocks_spec.specs.Strong.{HasStrong}
-use Rattle.nmgc_minor.specs.Young.{Notes, IsAmong}
-use Rattle.nmgc_minor.proofs.NoteLaws.{notes_as, strong_read, strong_has}
+use Rattle.nmgc_blocks_spec.specs.{Strong.HasStrong, Strong.IsAmong, laws.Ranges.strong_read, laws.Ranges.strong_has}
+use Rattle.nmgc_minor.specs.Young.{Notes}
+use Rattle.nmgc_minor.proofs.NoteLaws.{notes_as}
 use Rattle.nmgc_minor.proofs.young.Young.note_fields.Goals as goal
 
 pub note_range-requires-clause-within : goal.note_range-requires-clause-within

@@ -1,6 +1,4 @@
-use Rattle.std.proofs.Common.{◌*◌, refl, sym, ◌∙◌, arith}
-use Rattle.std.proofs.lemmas.Bool.{lt-leb}
-use Rattle.nmgc_mutator.proofs.Refers.{old_at, old_low}
+use Rattle.nmgc_mutator.proofs.{Vocabulary.◌*◌, Vocabulary.refl, Vocabulary.sym, Vocabulary.◌∙◌, Vocabulary.arith, Vocabulary.lt-leb, Refers.old_at, Refers.old_low}
 use Rattle.nmgc_mutator.proofs.mutator.Mutator.is_old.Goals as goal
 
 pub returns-then-at-from : goal.returns-then-at-from

@@ -1,9 +1,4 @@
-use Rattle.std.proofs.Common.{◌≡◌, ◌+◌, ◌≤◌, subst, sym}
-use Rattle.nmgc_world_spec.specs.declared.command.Command.{Command}
-use Rattle.nmgc_world_spec.specs.Command.{IsMaking, words_made}
-use Rattle.nmgc_round.specs.Making.{header_made}
-use Rattle.nmgc_mutator.specs.Does.{dest_made}
-use Rattle.nmgc_mutator.specs.Acts.{HasStepRoom}
+use Rattle.nmgc_mutator.proofs.Vocabulary.{◌≡◌, ◌+◌, ◌≤◌, subst, sym, Command, IsMaking, words_made, header_made, dest_made, HasStepRoom}
 use Rattle.nmgc_mutator.proofs.mutator.Mutator.make_form.Goals as goal
 
 pub make-requires-clause-making : goal.make-requires-clause-making

@@ -1,10 +1,4 @@
-use Rattle.std.proofs.Common.{◌≡◌, ℕ, subst, sym, Some}
-use Rattle.std.specs.Prelude.{slice_get}
-use Rattle.nmgc_world_spec.specs.declared.command.Command.{Command}
-use Rattle.nmgc_world_spec.specs.declared.command.Operand.{Operand}
-use Rattle.nmgc_world_spec.specs.Command.{HasRegisters, IsOperand}
-use Rattle.nmgc_round.specs.View.{word_of}
-use Rattle.nmgc_round.specs.Making.{fields_made}
+use Rattle.nmgc_mutator.proofs.Vocabulary.{◌≡◌, ℕ, subst, sym, Some, slice_get, Command, Operand, HasRegisters, IsOperand, word_of, fields_made}
 use Rattle.nmgc_mutator.proofs.mutator.Mutator.operands.Goals as goal
 
 pub returns : goal.returns

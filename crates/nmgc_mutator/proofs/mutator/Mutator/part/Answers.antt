@@ -1,8 +1,4 @@
-use Rattle.std.proofs.Common.{◌≡◌, ◌<◌, length, subst, sym, Some}
-use Rattle.std.specs.Prelude.{slice_get}
-use Rattle.nmgc_world_spec.specs.declared.command.Command.{Command}
-use Rattle.nmgc_world_spec.specs.Command.{HasRegisters}
-use Rattle.nmgc_round.specs.Making.{fields_made}
+use Rattle.nmgc_mutator.proofs.Vocabulary.{◌≡◌, ◌<◌, length, subst, sym, Some, slice_get, Command, HasRegisters, fields_made}
 use Rattle.nmgc_mutator.proofs.mutator.Mutator.part.Goals as goal
 
 pub part_in-requires-clause-registers : goal.part_in-requires-clause-registers

@@ -1,10 +1,4 @@
-use Rattle.std.proofs.Common.{◌≡◌, ◌*◌, true, List, [], ◌∷◌, refl, sym, ap, ◌∙◌, arith}
-use Rattle.std.proofs.lemmas.List.{map-append}
-use Rattle.nmgc_object.specs.declared.words.Address.{Address}
-use Rattle.nmgc_mutator.specs.Records.{numbers, is_old}
-use Rattle.nmgc_mutator.proofs.Readies.{kept_items}
-use Rattle.nmgc_mutator.proofs.Refers.{old_below, old_pushed, none_pushed}
-use Rattle.nmgc_mutator.specs.laws.Common.{old_odd}
+use Rattle.nmgc_mutator.proofs.{Vocabulary.◌≡◌, Vocabulary.◌*◌, Vocabulary.true, Vocabulary.List, Vocabulary.[], Vocabulary.◌∷◌, Vocabulary.refl, Vocabulary.sym, Vocabulary.ap, Vocabulary.◌∙◌, Vocabulary.arith, Vocabulary.map-append, Vocabulary.Address, Vocabulary.numbers, Vocabulary.is_old, Vocabulary.old_odd, Readies.kept_items, Refers.old_below, Refers.old_pushed, Refers.none_pushed}
 use Rattle.nmgc_mutator.proofs.mutator.Mutator.push.Goals as goal
 
 pub overflow_cast-at : goal.overflow_cast-at

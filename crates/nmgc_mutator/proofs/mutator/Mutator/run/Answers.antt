@@ -1,7 +1,4 @@
-use Rattle.std.proofs.Common.{◌+◌, ◌≤◌, subst}
-use Rattle.nmgc_world_spec.specs.declared.command.Command.{Command}
-use Rattle.nmgc_world_spec.specs.Command.{Fits, words_made}
-use Rattle.nmgc_mutator.specs.Acts.{HasStepRoom}
+use Rattle.nmgc_mutator.proofs.Vocabulary.{◌+◌, ◌≤◌, subst, Command, Fits, words_made, HasStepRoom}
 use Rattle.nmgc_mutator.proofs.mutator.Mutator.run.Goals as goal
 
 pub run_form-requires-clause-form_fits : goal.run_form-requires-clause-form_fits

@@ -1,8 +1,4 @@
-use Rattle.std.proofs.Common.{◌∙◌, List, ap, subst, sym}
-use Rattle.nmgc_world_spec.specs.declared.value.Name.{Name}
-use Rattle.nmgc_world_spec.specs.Listing.{AreDistinct}
-use Rattle.nmgc_names.specs.Order.{in_order}
-use Rattle.nmgc_names.specs.laws.Spans.{same_length, spans_in_order}
+use Rattle.nmgc_names.proofs.Vocabulary.{◌∙◌, List, ap, subst, sym, Name, AreDistinct, in_order, same_length, spans_in_order}
 use Rattle.nmgc_names.proofs.list.NameList.put_in_order.Goals as goal
 
 pub invariant_of-self : goal.invariant_of-self

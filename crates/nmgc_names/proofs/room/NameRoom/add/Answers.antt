@@ -1,8 +1,4 @@
-use Rattle.std.proofs.Common.{◌≡◌, ◌-◌, ◌∙◌, List, [], ◌∷◌, ◌++◌, length, length-append, ap, arith}
-use Rattle.std.specs.Prelude.{vec_capacity}
-use Rattle.nmgc_world_spec.specs.declared.value.Name.{Name}
-use Rattle.nmgc_names.specs.Room.{NameRoom}
-use Rattle.nmgc_names.specs.Spans.{names_in}
+use Rattle.nmgc_names.proofs.Vocabulary.{◌≡◌, ◌-◌, ◌∙◌, List, [], ◌∷◌, ◌++◌, length, length-append, ap, arith, vec_capacity, Name, NameRoom, names_in}
 use Rattle.nmgc_names.proofs.room.NameRoom.add.Goals as goal
 
 pub add_name-requires : goal.add_name-requires

@@ -1,7 +1,4 @@
-use Rattle.std.proofs.Common.{◌∙◌, List, length, ap, sym}
-use Rattle.nmgc_names.specs.declared.span.Span.{Span}
-use Rattle.nmgc_names.specs.Room.{NameRoom}
-use Rattle.nmgc_names.specs.Spans.{names_in}
+use Rattle.nmgc_names.proofs.Vocabulary.{◌∙◌, List, length, ap, sym, Span, NameRoom, names_in}
 use Rattle.nmgc_names.proofs.room.NameRoom.into_list.Goals as goal
 
 pub invariant_of-result : goal.invariant_of-result

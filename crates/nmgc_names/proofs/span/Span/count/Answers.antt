@@ -1,5 +1,4 @@
-use Rattle.std.proofs.Common.{sym}
-use Rattle.nmgc_names.specs.laws.Spans.{span_length}
+use Rattle.nmgc_names.proofs.Vocabulary.{sym, span_length}
 use Rattle.nmgc_names.proofs.span.Span.count.Goals as goal
 
 pub returns : goal.returns

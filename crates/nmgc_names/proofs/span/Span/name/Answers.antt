@@ -1,5 +1,4 @@
-use Rattle.std.proofs.Common.{arith}
-use Rattle.nmgc_names.specs.laws.Spans.{span_at, span_length}
+use Rattle.nmgc_names.proofs.Vocabulary.{arith, span_at, span_length}
 use Rattle.nmgc_names.proofs.span.Span.name.Goals as goal
 
 pub overflow_add-serial : goal.overflow_add-serial

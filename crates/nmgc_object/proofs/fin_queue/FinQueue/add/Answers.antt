@@ -1,6 +1,4 @@
-use Rattle.std.proofs.Common.{ℕ, List, drop, sym, subst, arith}
-use Rattle.nmgc_object.specs.FinQueue.{HavePointersUpTo}
-use Rattle.nmgc_object.proofs.Pointers.{added_up_to}
+use Rattle.nmgc_object.proofs.{Vocabulary.ℕ, Vocabulary.List, Vocabulary.drop, Vocabulary.sym, Vocabulary.subst, Vocabulary.arith, Vocabulary.HavePointersUpTo, Pointers.added_up_to}
 use Rattle.nmgc_object.proofs.fin_queue.FinQueue.add.Goals as goal
 
 pub invariant_of-self : goal.invariant_of-self

@@ -1,6 +1,4 @@
-use Rattle.std.proofs.Common.{ℕ, ◌≡◌, ◌+◌, ◌*◌, ◌^◌, ◌<◌, ◌≤◌, ◌↔◌, subst, sym, arith}
-use Rattle.nmgc_object.specs.Size.{block_size}
-use Rattle.nmgc_object.specs.laws.Classes.{is_whole, last_class, fitting, count_at, count_to}
+use Rattle.nmgc_object.proofs.Vocabulary.{ℕ, ◌≡◌, ◌+◌, ◌*◌, ◌^◌, ◌<◌, ◌≤◌, ◌↔◌, subst, sym, arith, block_size, is_whole, last_class, fitting, count_at, count_to}
 use Rattle.nmgc_object.proofs.layout.Layout.classes.Goals as goal
 
 pub returns-clause-count : goal.returns-clause-count

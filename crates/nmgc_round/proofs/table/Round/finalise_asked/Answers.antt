@@ -1,9 +1,4 @@
 use Rattle.nmgc_round.proofs.Lifts.{finalise_allows}
-use Rattle.std.proofs.Common.{subst, ℕ}
-use Rattle.nmgc_round.specs.Ready.{Mutates}
-use Rattle.nmgc_round.specs.Told.{IsSafe}
-use Rattle.nmgc_round.specs.Weaks.{finaliser_named}
-use Rattle.nmgc_round.specs.Seat.{seen}
 use Rattle.nmgc_round.proofs.table.Round.finalise_asked.Goals as goal
 
 pub swap-requires : goal.swap-requires
@@ -19,5 +14,4 @@ swap-requires g c =
     )
 
 pub returns-clause-safe : goal.returns-clause-safe
-returns-clause-safe g c = λ ne. subst (λ (a : ℕ). Mutates (λ o p.
-    IsSafe o (finaliser_named a p)) (seen c.args.seat.now)) c.requires.place (c.swap.ensures.2.0.1 ne)
+returns-clause-safe g c = λ ne. rw c.requires.place at (c.swap.ensures.2.0.1 ne)

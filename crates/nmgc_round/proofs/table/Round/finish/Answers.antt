@@ -1,10 +1,4 @@
-use Rattle.std.proofs.Common.{◌≡◌, ◌∙◌, map, sym, subst}
-use Rattle.nmgc_round.specs.View.{Opening, Seen}
-use Rattle.nmgc_round.specs.Seat.{seen, opening_of}
-use Rattle.nmgc_round.specs.Seating.{all_together}
-use Rattle.nmgc_round.specs.Finishing.{HasAll, HasEach, IsFinished}
-use Rattle.nmgc_round.proofs.Finishings.{leaves}
-use Rattle.nmgc_round.specs.laws.Gathering.{same_opening}
+use Rattle.nmgc_round.proofs.{Vocabulary.◌≡◌, Vocabulary.◌∙◌, Vocabulary.map, Vocabulary.sym, Vocabulary.subst, Vocabulary.Seen, Vocabulary.seen, Vocabulary.opening_of, Vocabulary.all_together, Vocabulary.HasAll, Vocabulary.same_opening, Finishings.leaves}
 use Rattle.nmgc_round.proofs.table.Round.finish.Goals as goal
 
 pub end-requires : goal.end-requires
@@ -19,7 +13,6 @@ returns c =
     let is : seen c.gather-last.result ≡ v = c.gather-last.ensures.1 in
     let same : v.opening ≡ o = same_opening (seen c.args.collector) (map seen c.args.mutators) ∙ c.requires.seats.1.2 in
     record {
-      leaves = leaves o c.end.result v (subst (λ (u : Seen). IsFinished o c.end.result u) is c.end.ensures.0) (subst (λ (y : Opening).
-          HasEach y v) same c.requires.all.1);
+      leaves = leaves o c.end.result v (rw is at c.end.ensures.0) (rw same at c.requires.all.1);
       count = c.end.ensures.1;
     }

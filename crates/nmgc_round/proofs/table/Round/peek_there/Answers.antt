@@ -1,8 +1,4 @@
-use Rattle.std.proofs.Common.{ℕ, subst}
-use Rattle.nmgc_round.specs.Ready.{Mutates}
-use Rattle.nmgc_round.specs.Stacks.{TellsSlot}
-use Rattle.nmgc_round.specs.Seat.{seen}
-use Rattle.nmgc_round.proofs.Lifts.{peek_allows}
+use Rattle.nmgc_round.proofs.{Vocabulary.ℕ, Vocabulary.subst, Vocabulary.Mutates, Vocabulary.TellsSlot, Vocabulary.seen, Lifts.peek_allows}
 use Rattle.nmgc_round.proofs.table.Round.peek_there.Goals as goal
 
 pub load-requires : goal.load-requires

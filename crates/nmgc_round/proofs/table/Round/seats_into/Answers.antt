@@ -1,13 +1,9 @@
-use Rattle.std.proofs.Common.{map, All, ◌+◌, ◌≡◌, sym, arith, subst, List}
-use Rattle.nmgc_round.specs.Seat.{RoundSeat, IsAt, seen, opening_of}
-use Rattle.nmgc_round.specs.Seating.{alones}
-use Rattle.nmgc_round.proofs.Cuts.{IsCut, cut_first, cut_can, cut_next, cut_done}
+use Rattle.nmgc_round.proofs.{Vocabulary.arith, Cuts.cut_first, Cuts.cut_can, Cuts.cut_next, Cuts.cut_done}
 use Rattle.nmgc_round.proofs.table.Round.seats_into.Goals as goal
 
 pub loop-number-init : goal.loop-number-init
 loop-number-init c = record {
-  cut = subst (λ (xs : List RoundSeat).
-      IsCut c.args.self.now c.args.seat xs 1) (sym c.requires.room.0) (cut_first c.args.self.now c.args.seat c.requires.seat.0 c.requires.seat.1);
+  cut = rw c.requires.room.0 (cut_first c.args.self.now c.args.seat c.requires.seat.0 c.requires.seat.1);
   room = c.requires.room.1;
 }
 
@@ -37,8 +33,7 @@ loop-number-preserved c =
     let t = c.loop-number-test.true in
     let s = c.split_mutator.ensures in
     record {
-      cut = subst (λ (xs : List RoundSeat). IsCut c.args.self.now c.split_mutator.new.seat xs (c.loop-number._number + 1)) (sym c.push_reserved.ensures.items)
-          (cut_next c.args.self.now c.loop-number.seat c.split_mutator.new.seat c.split_mutator.result c.loop-number.seats.items
+      cut = rw c.push_reserved.ensures.items (cut_next c.args.self.now c.loop-number.seat c.split_mutator.new.seat c.split_mutator.result c.loop-number.seats.items
           c.loop-number._number h (omega arith) s.0 s.1 s.2 s.3);
       room = let k = c.push_reserved.ensures.capacity in let r = c.loop-number.invariant.room in omega arith;
     }
@@ -57,6 +52,4 @@ returns c =
     let m = c.requires.count.0 in
     let t = c.loop-number-test.false in
     let e = c.loop-number.auto._number-end (omega arith) in
-    subst (λ (xs : List RoundSeat). (map seen xs ≡ alones (opening_of c.args.self.now) 0 (opening_of c.args.self.now).hands) ×
-    All (IsAt c.args.self.now) xs) (sym c.push_reserved-2.ensures.items)
-    (cut_done c.args.self.now c.loop-number.seat c.loop-number.seats.items c.loop-number._number h (omega arith))
+    rw c.push_reserved-2.ensures.items (cut_done c.args.self.now c.loop-number.seat c.loop-number.seats.items c.loop-number._number h (omega arith))

@@ -1,6 +1,4 @@
-use Rattle.std.proofs.Common.{◌≡◌, length, ap, arith}
-use Rattle.nmgc_round.specs.Stop.{words_of}
-use Rattle.nmgc_round.proofs.Modes.{write_allows}
+use Rattle.nmgc_round.proofs.{Vocabulary.◌≡◌, Vocabulary.length, Vocabulary.ap, Vocabulary.arith, Vocabulary.words_of, Modes.write_allows}
 use Rattle.nmgc_round.proofs.words.Words.store.Goals as goal
 
 pub store-requires : goal.store-requires

@@ -1,5 +1,4 @@
-use Rattle.std.proofs.Common.{◌≡◌, ◌+◌, ◌≤◌, length}
-use Rattle.nmgc_script.specs.Text.{lines_of, kept_from}
+use Rattle.nmgc_script.proofs.Vocabulary.{◌≡◌, ◌+◌, ◌≤◌, length, lines_of, kept_from}
 use Rattle.nmgc_script.proofs.text.Lines.next.Given as goal
 
 -- the lines passed over so far were counted

@@ -1,6 +1,4 @@
-use Rattle.std.proofs.Common.{arith}
-use Rattle.std.proofs.lemmas.Result.{err_from_is_err_and}
-use Rattle.nmgc_script.proofs.ShapeLaws.{front_fails}
+use Rattle.nmgc_script.proofs.{Vocabulary.arith, Vocabulary.err_from_is_err_and, ShapeLaws.front_fails}
 use Rattle.nmgc_script.proofs.version.Version.dest_values.Goals as goal
 
 pub returns-in_err-dest : goal.returns-in_err-dest

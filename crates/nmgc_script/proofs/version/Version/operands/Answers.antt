@@ -1,6 +1,4 @@
-use Rattle.std.proofs.lemmas.Result.{err_from_is_err_and}
-use Rattle.nmgc_script.specs.Reading.{operand_at}
-use Rattle.nmgc_script.proofs.Each.{goes_on, fails, is_done}
+use Rattle.nmgc_script.proofs.{Vocabulary.err_from_is_err_and, Vocabulary.operand_at, Each.goes_on, Each.fails, Each.is_done}
 use Rattle.nmgc_script.proofs.version.Version.operands.Goals as goal
 
 pub returns-in_err-operand : goal.returns-in_err-operand

@@ -1,6 +1,4 @@
-use Rattle.std.proofs.lemmas.Result.{err_from_is_err_and}
-use Rattle.nmgc_script.specs.Reading.{operand_at}
-use Rattle.nmgc_script.proofs.Each.{both_read, first_fails, second_fails}
+use Rattle.nmgc_script.proofs.{Vocabulary.err_from_is_err_and, Vocabulary.operand_at, Each.both_read, Each.first_fails, Each.second_fails}
 use Rattle.nmgc_script.proofs.version.Version.pair.Goals as goal
 
 pub returns-in_err-first : goal.returns-in_err-first

@@ -1,8 +1,4 @@
-use Rattle.std.proofs.Common.{ℕ, ◌≡◌, ◌*◌, ◌∙◌, ap, arith, sym}
-use Rattle.nmgc_object.specs.Size.{block_size}
-use Rattle.nmgc_object.specs.laws.Classes.{least_block}
-use Rattle.nmgc_segment.specs.Segment.{Segment, block_count}
-use Rattle.nmgc_segment.proofs.Reciprocals.{one_block}
+use Rattle.nmgc_segment.proofs.{Vocabulary.ℕ, Vocabulary.◌≡◌, Vocabulary.◌*◌, Vocabulary.◌∙◌, Vocabulary.ap, Vocabulary.arith, Vocabulary.sym, Vocabulary.block_size, Vocabulary.least_block, Vocabulary.Segment, Vocabulary.block_count, Reciprocals.one_block}
 use Rattle.nmgc_segment.proofs.segment.Segment.block_at.Goals as goal
 
 pub returns-in_err-block-clause-none : goal.returns-in_err-block-clause-none

@@ -1,7 +1,4 @@
-use Rattle.std.proofs.Common.{ℕ, ◌≡◌, ◌∙◌, ◌<◌, List, length, slice_get, Some, ap, subst, sym}
-use Rattle.std.proofs.lemmas.Option.{slice_get_read}
-use Rattle.nmgc_world_spec.specs.declared.value.Name.{Name}
-use Rattle.nmgc_sweep.specs.Names.{entry_of}
+use Rattle.nmgc_sweep.proofs.Vocabulary.{ℕ, ◌≡◌, ◌∙◌, ◌<◌, List, length, slice_get, Some, ap, subst, sym, slice_get_read, Name, entry_of}
 use Rattle.nmgc_sweep.proofs.names.Names.at.Goals as goal
 
 pub index-requires : goal.index-requires

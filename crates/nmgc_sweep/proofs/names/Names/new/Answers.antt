@@ -1,6 +1,4 @@
-use Rattle.std.proofs.Common.{◌≡◌, ◌∙◌, ◌*◌, ◌/◌, length, sym}
-use Rattle.nmgc_object.specs.declared.size.TheConstants.{MIN_BLOCK_WORDS}
-use Rattle.nmgc_sweep.proofs.Listed.{entries_enough}
+use Rattle.nmgc_sweep.proofs.{Vocabulary.◌≡◌, Vocabulary.◌∙◌, Vocabulary.◌*◌, Vocabulary.◌/◌, Vocabulary.length, Vocabulary.sym, Vocabulary.MIN_BLOCK_WORDS, Listed.entries_enough}
 use Rattle.nmgc_sweep.proofs.names.Names.new.Goals as goal
 
 pub returns : goal.returns

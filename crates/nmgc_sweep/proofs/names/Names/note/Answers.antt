@@ -1,5 +1,4 @@
-use Rattle.std.proofs.Common.{ℕ, ◌≡◌, ◌∙◌, ◌<◌, List, length, ap, subst, sym}
-use Rattle.nmgc_world_spec.specs.declared.value.Name.{Name}
+use Rattle.nmgc_sweep.proofs.Vocabulary.{ℕ, ◌≡◌, ◌∙◌, ◌<◌, List, length, ap, subst, sym, Name}
 use Rattle.nmgc_sweep.proofs.names.Names.note.Goals as goal
 
 pub index_mut-requires : goal.index_mut-requires

@@ -1,7 +1,4 @@
-use Rattle.std.proofs.Common.{ℕ, ◌≡◌, length, subst, arith}
-use Rattle.nmgc_sweep.specs.Work.{HasSwept, HasJudged}
-use Rattle.nmgc_sweep.proofs.Begins.{counted}
-use Rattle.nmgc_sweep.proofs.Steps.{is_none}
+use Rattle.nmgc_sweep.proofs.{Vocabulary.ℕ, Vocabulary.◌≡◌, Vocabulary.length, Vocabulary.subst, Vocabulary.arith, Vocabulary.HasSwept, Vocabulary.HasJudged, Begins.counted, Steps.is_none}
 use Rattle.nmgc_sweep.proofs.sweeper.Sweeper.finish.Goals as goal
 
 pub returns-clause-swept : goal.returns-clause-swept

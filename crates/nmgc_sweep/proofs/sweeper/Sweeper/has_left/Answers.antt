@@ -1,8 +1,4 @@
-use Rattle.std.proofs.Common.{ℕ, ◌≡◌, ◌∙◌, ◌<◌, List, length, drop, ap, subst, sym}
-use Rattle.std.proofs.lemmas.Bool.{lt-ltb}
-use Rattle.nmgc_sweep.proofs.Listed.{left_some, some_left}
-use Rattle.nmgc_sweep.specs.Sweeper.{Sweeper}
-use Rattle.nmgc_names.specs.laws.Order.{lt_true}
+use Rattle.nmgc_sweep.proofs.{Vocabulary.ℕ, Vocabulary.◌≡◌, Vocabulary.◌∙◌, Vocabulary.◌<◌, Vocabulary.List, Vocabulary.length, Vocabulary.drop, Vocabulary.ap, Vocabulary.subst, Vocabulary.sym, Vocabulary.lt-ltb, Vocabulary.Sweeper, Vocabulary.lt_true, Listed.left_some, Listed.some_left}
 use Rattle.nmgc_sweep.proofs.sweeper.Sweeper.has_left.Goals as goal
 
 pub returns : goal.returns

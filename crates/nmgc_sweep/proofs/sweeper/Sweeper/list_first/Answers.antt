@@ -1,6 +1,4 @@
-use Rattle.std.proofs.Common.{ℕ, ◌≡◌, List, length, ap, subst, arith}
-use Rattle.nmgc_sweep.specs.Work.{HaveListed}
-use Rattle.nmgc_sweep.proofs.Steps.{can_list_next, listed_fewer, listed_more}
+use Rattle.nmgc_sweep.proofs.{Vocabulary.ℕ, Vocabulary.◌≡◌, Vocabulary.List, Vocabulary.length, Vocabulary.ap, Vocabulary.subst, Vocabulary.arith, Vocabulary.HaveListed, Steps.can_list_next, Steps.listed_fewer, Steps.listed_more}
 use Rattle.nmgc_sweep.proofs.sweeper.Sweeper.list_first.Goals as goal
 
 pub list_next-requires-clause-some : goal.list_next-requires-clause-some

@@ -1,6 +1,4 @@
-use Rattle.std.proofs.Common.{◌≡◌, ◌+◌, length}
-use Rattle.nmgc_sweep.specs.Sweeper.{CanList}
-use Rattle.nmgc_sweep.specs.Work.{HaveListed}
+use Rattle.nmgc_sweep.proofs.Vocabulary.{◌≡◌, ◌+◌, length, CanList, HaveListed}
 use Rattle.nmgc_sweep.proofs.sweeper.Sweeper.list_first.Given as goal
 
 -- so many were listed, and the others can be

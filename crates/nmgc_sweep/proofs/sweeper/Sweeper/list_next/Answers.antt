@@ -1,10 +1,4 @@
-use Rattle.std.proofs.Common.{ℕ, ◌≡◌, ◌∙◌, ◌+◌, ◌*◌, ◌<◌, ◌≤◌, List, ◌∷◌, length, drop, refl, ap, subst, sym, arith}
-use Rattle.nmgc_object.specs.declared.size.TheConstants.{MIN_BLOCK_WORDS}
-use Rattle.nmgc_sweep.specs.Sweeper.{Sweeper}
-use Rattle.nmgc_sweep.specs.Work.{HasListed}
-use Rattle.nmgc_sweep.proofs.Begins.{waits_exists}
-use Rattle.nmgc_sweep.proofs.Listed.{first_waits, some_left, taken, room_for_one, room_for_others}
-use Rattle.nmgc_sweep.proofs.Steps.{made}
+use Rattle.nmgc_sweep.proofs.{Vocabulary.ℕ, Vocabulary.◌≡◌, Vocabulary.◌∙◌, Vocabulary.◌+◌, Vocabulary.◌*◌, Vocabulary.◌<◌, Vocabulary.◌≤◌, Vocabulary.List, Vocabulary.◌∷◌, Vocabulary.length, Vocabulary.drop, Vocabulary.refl, Vocabulary.ap, Vocabulary.subst, Vocabulary.sym, Vocabulary.arith, Vocabulary.MIN_BLOCK_WORDS, Vocabulary.Sweeper, Vocabulary.HasListed, Begins.waits_exists, Listed.first_waits, Listed.some_left, Listed.taken, Listed.room_for_one, Listed.room_for_others, Steps.made}
 use Rattle.nmgc_sweep.proofs.sweeper.Sweeper.list_next.Goals as goal
 
 pub list_segment-requires-clause-waits : goal.list_segment-requires-clause-waits

@@ -1,12 +1,4 @@
-use Rattle.std.proofs.Common.{ℕ, ◌≡◌, ◌∙◌, length, refl, sym, ap, subst, arith}
-use Rattle.std.specs.Prelude.{min}
-use Rattle.nmgc_segment.specs.Marks.{IsEpoch}
-use Rattle.nmgc_alloc.specs.Halves.{IsInHalf, SweepsMany}
-use Rattle.nmgc_sweep.specs.Sweeper.{Sweeper}
-use Rattle.nmgc_sweep.specs.Work.{HasSwept, HasJudged}
-use Rattle.nmgc_sweep.proofs.Begins.{counted}
-use Rattle.nmgc_sweep.proofs.Judged.{judged}
-use Rattle.nmgc_sweep.proofs.Steps.{all_swept, can_list, listed_keeps}
+use Rattle.nmgc_sweep.proofs.{Vocabulary.ℕ, Vocabulary.◌≡◌, Vocabulary.◌∙◌, Vocabulary.length, Vocabulary.refl, Vocabulary.sym, Vocabulary.ap, Vocabulary.subst, Vocabulary.arith, Vocabulary.min, Vocabulary.IsEpoch, Vocabulary.IsInHalf, Vocabulary.SweepsMany, Vocabulary.Sweeper, Vocabulary.HasSwept, Vocabulary.HasJudged, Begins.counted, Judged.judged, Steps.all_swept, Steps.can_list, Steps.listed_keeps}
 use Rattle.nmgc_sweep.proofs.sweeper.Sweeper.sweep_some.Goals as goal
 
 pub list_first-requires-clause-can : goal.list_first-requires-clause-can

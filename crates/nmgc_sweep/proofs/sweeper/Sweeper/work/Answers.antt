@@ -1,11 +1,4 @@
-use Rattle.std.proofs.Common.{ℕ, ◌≡◌, ◌≢◌, ◌↔◌, ◌-◌, ◌/◌, ◌∙◌, List, [], ◌∷◌, Bool, true, false, drop, refl, ap, sym, subst}
-use Rattle.std.specs.Prelude.{IsTrue}
-use mathlib.Core.Bool.{not}
-use Rattle.nmgc_round.specs.Gate.{passed}
-use Rattle.nmgc_sweep.specs.Sweeper.{Sweeper}
-use Rattle.nmgc_sweep.specs.Work.{HasSwept, HasJudged}
-use Rattle.nmgc_sweep.proofs.Judged.{judged_counted}
-use Rattle.nmgc_sweep.proofs.Steps.{swept_counted}
+use Rattle.nmgc_sweep.proofs.{Vocabulary.ℕ, Vocabulary.◌≡◌, Vocabulary.◌≢◌, Vocabulary.◌↔◌, Vocabulary.◌-◌, Vocabulary.◌/◌, Vocabulary.◌∙◌, Vocabulary.List, Vocabulary.[], Vocabulary.◌∷◌, Vocabulary.Bool, Vocabulary.true, Vocabulary.false, Vocabulary.drop, Vocabulary.refl, Vocabulary.ap, Vocabulary.sym, Vocabulary.subst, Vocabulary.IsTrue, Vocabulary.not, Vocabulary.passed, Vocabulary.Sweeper, Vocabulary.HasSwept, Vocabulary.HasJudged, Judged.judged_counted, Steps.swept_counted}
 use Rattle.nmgc_sweep.proofs.sweeper.Sweeper.work.Goals as goal
 
 pub returns-clause-swept : goal.returns-clause-swept

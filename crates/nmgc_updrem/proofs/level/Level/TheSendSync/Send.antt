@@ -1,6 +1,4 @@
-use denote.RattleType.{RattleType}
-use denote.Param.Send.{IsSend}
-use Rattle.nmgc_updrem.specs.contracts.level.Level.{the_row}
+use Rattle.nmgc_updrem.proofs.Vocabulary.{RattleType, IsSend, the_row}
 
 pub send : (T : RattleType) → IsSend (the_row T)
 send T = record { owned = λ d vs. ((λ vss. (tt, ((λ uss. (tt, tt)), tt))), tt); leaving = λ k f vs. tt }

@@ -1,7 +1,4 @@
-use denote.RattleType.{RattleType}
-use denote.Param.Send.{IsSync, part_keyless}
-use Rattle.nmgc_updrem.specs.contracts.level.Level.{the_row}
-use Rattle.nmgc_updrem.proofs.level.Level.TheSendSync.Send.{send}
+use Rattle.nmgc_updrem.proofs.{Vocabulary.RattleType, Vocabulary.IsSync, Vocabulary.part_keyless, Vocabulary.the_row, level.Level.TheSendSync.Send.send}
 
 pub sync : (T : RattleType) → IsSync (the_row T)
 sync T = record { shared = λ d b o κ q. part_keyless (the_row T) (send T) q d b o }

@@ -1,40 +1,7 @@
 -- `of` makes a value of no bytes, whose ghost field is what the reference shows.
-use mathlib.Core.Path.{refl, sym, subst}
+use Rattle.nmgc_updrem.proofs.Vocabulary.{Ura, Fn, a_type, Val, vptr, vstruct, vcons, vnil, inst_fn, SProp, ent, via, fst∗, snd∗, Fml, Memory, Routine, Calls, Loops, WpFn, Tables, Logic, sem, Fun, fact_use, tables, tables_of, WpFn-mono, ‵, raw, ◌⊛◌, ◌$◌, ◌∵◌, !, qed, move, keep, split, join, fjoin, use0, suffices, done, no_more, and_then, returns, enter, agg, alloc_all, pass_all, free_all, look_at, get, sets, RattleType, owns, yes, Are, Ises, owns_show, showss, param, layouts, Laws, makes_shadow, RefOf, types_at, type_at, plain, nothing, Clauses, closing, on_entry, alive, Meets, triple_of, entered, says, Stays, stay_dropped, walk_of, ends_at, Goes-dropped, walk_Meets, ended, clauses, #self}
+use mathlib.{Core.Path.refl, Core.Path.sym, Core.Path.subst, Core.List.List, Core.List.[], Core.List.◌∷◌, Core.List.◌++◌}
 use Prim.Native.Nat.{ℕ}
-use mathlib.Core.List.{List, [], ◌∷◌, ◌++◌}
-use seplogic.Ra.Ura.{Ura}
-use mir.Syntax.{Fn, a_type}
-use mir.Val.{Val, vptr, vstruct, vcons, vnil}
-use mir.MapTy.{inst_fn}
-use base.Logic.{SProp, ent, via, fst∗, snd∗}
-use base.Fml.{Fml}
-use prog.Memory.{Memory}
-use prog.Routine.{Routine}
-use prog.Wp.{Calls, Loops, WpFn, Tables}
-use types.Logic.{Logic, sem}
-use contract.Monad.{Fun, fact_use}
-use contract.Running.{tables, tables_of}
-use sound.WpLaws.{WpFn-mono}
-use types.Kit.{‵, raw, ◌⊛◌, ◌$◌, ◌∵◌, !, qed, move, keep, split, join, fjoin, use0, suffices, done}
-use types.Run.{no_more, and_then, returns, enter}
-use types.Part.{agg}
-use types.ByLocal.{alloc_all, pass_all, free_all, look_at, get, sets}
-use denote.RattleType.{RattleType, owns}
-use denote.Exit.{yes}
-use denote.Laws.{Are, Ises, owns_show, showss}
-use denote.Param.{param, layouts}
-use denote.Param.Laws.{Laws}
-use denote.Shadow.{makes_shadow}
-use denote.Builtin.{RefOf}
-use denote.Signature.{types_at, type_at, plain}
-use denote.Steps.{nothing}
-use denote.Triple.Clauses.{Clauses, closing}
-use denote.Triple.Entry.{on_entry, alive}
-use denote.Triple.Spec.{Meets, triple_of}
-use denote.Triple.Table.{entered}
-use denote.Triple.Walked.{says, Stays, stay_dropped, walk_of, ends_at, Goes-dropped, walk_Meets}
-use Rattle.nmgc_updrem.specs.contracts.level.Level.of.{ended, clauses}
-use Rattle.nmgc_updrem.specs.contracts.level.Level.of.Key.{name as #self}
 use Rattle.nmgc_updrem.proofs.level.Level.of.Statement as stated
 use Rattle.nmgc_updrem.proofs.level.Level.of.Code as code
 

@@ -1,7 +1,4 @@
-use Rattle.std.proofs.Common.{◌<◌, ◌∙◌, ℕ, [], length, ap, sym, subst, List}
-use Rattle.std.specs.Prelude.{slice_get}
-use Rattle.nmgc_barrier_laws.specs.declared.debt.Debt.{Debt}
-use Rattle.nmgc_watch.proofs.AccountLaws.{item_is, first_counts, forgotten_count, forgotten_queue}
+use Rattle.nmgc_watch.proofs.{Vocabulary.◌<◌, Vocabulary.◌∙◌, Vocabulary.ℕ, Vocabulary.[], Vocabulary.ap, Vocabulary.sym, Vocabulary.subst, Vocabulary.List, Vocabulary.slice_get, Vocabulary.Debt, AccountLaws.item_is, AccountLaws.first_counts, AccountLaws.forgotten_count, AccountLaws.forgotten_queue}
 use Rattle.nmgc_watch.proofs.accounts.Accounts.first.Goals as goal
 
 pub returns-clause-first : goal.returns-clause-first

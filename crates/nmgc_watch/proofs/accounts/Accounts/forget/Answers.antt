@@ -1,9 +1,4 @@
-use Rattle.std.proofs.Common.{◌∙◌, [], length, ap, refl, subst, List, length-set}
-use Rattle.std.specs.Prelude.{Contains, slice_set}
-use Rattle.nmgc_world_laws.specs.laws.Worlds.{refill_whole}
-use Rattle.nmgc_barrier_laws.specs.declared.debt.Debt.{Debt}
-use Rattle.nmgc_watch.specs.Accounts.{unpaid}
-use Rattle.nmgc_watch.proofs.AccountLaws.{item_is}
+use Rattle.nmgc_watch.proofs.{Vocabulary.◌∙◌, Vocabulary.[], Vocabulary.length, Vocabulary.ap, Vocabulary.refl, Vocabulary.subst, Vocabulary.List, Vocabulary.length-set, Vocabulary.Contains, Vocabulary.slice_set, Vocabulary.refill_whole, Vocabulary.Debt, Vocabulary.unpaid, AccountLaws.item_is}
 use Rattle.nmgc_watch.proofs.accounts.Accounts.forget.Goals as goal
 
 pub returns : goal.returns

@@ -1,8 +1,4 @@
-use Rattle.std.proofs.Common.{◌<◌, ℕ, List, length, sym, subst}
-use Rattle.std.proofs.lemmas.List.{take_all}
-use Rattle.nmgc_world_spec.specs.declared.value.Name.{Name}
-use Rattle.nmgc_watch.specs.Accounts.{IsOwing}
-use Rattle.nmgc_watch.proofs.AccountLaws.{owed_more, owing_none, forgotten_accounts, forgotten_count, forgotten_same}
+use Rattle.nmgc_watch.proofs.{Vocabulary.◌<◌, Vocabulary.ℕ, Vocabulary.List, Vocabulary.sym, Vocabulary.subst, Vocabulary.take_all, Vocabulary.Name, Vocabulary.IsOwing, AccountLaws.owed_more, AccountLaws.owing_none, AccountLaws.forgotten_accounts, AccountLaws.forgotten_count, AccountLaws.forgotten_same}
 use Rattle.nmgc_watch.proofs.accounts.Accounts.owe.Goals as goal
 
 pub loop-name-init : goal.loop-name-init

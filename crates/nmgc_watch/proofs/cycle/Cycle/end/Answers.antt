@@ -1,5 +1,4 @@
-use Rattle.std.proofs.Common.{subst}
-use Rattle.nmgc_watch.specs.Watching.{IsAgainstIf}
+use Rattle.nmgc_watch.proofs.Vocabulary.{subst, IsAgainstIf}
 use Rattle.nmgc_watch.proofs.cycle.Cycle.end.Goals as goal
 
 pub left-requires-clause-none : goal.left-requires-clause-none

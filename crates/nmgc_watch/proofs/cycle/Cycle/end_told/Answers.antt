@@ -1,5 +1,4 @@
-use Rattle.std.proofs.Common.{subst}
-use Rattle.nmgc_watch.specs.Watching.{IsAgainstIf}
+use Rattle.nmgc_watch.proofs.Vocabulary.{subst, IsAgainstIf}
 use Rattle.nmgc_watch.proofs.cycle.Cycle.end_told.Goals as goal
 
 pub left_told-requires-clause-none : goal.left_told-requires-clause-none

@@ -1,9 +1,4 @@
-use Rattle.std.proofs.Common.{◌<◌, ◌∙◌, ℕ, refl, sym, ap, subst, List}
-use Rattle.nmgc_world_spec.specs.declared.value.Name.{Name}
-use Rattle.nmgc_world_spec.specs.declared.command.Reply.{Reply}
-use Rattle.nmgc_world_spec.specs.World.{World}
-use Rattle.nmgc_watch.specs.Listed.{Joins}
-use Rattle.nmgc_watch.proofs.CycleLaws.{with_opened, with_accounts, cycle_ended, cycle_stepped, taken_then}
+use Rattle.nmgc_watch.proofs.{Vocabulary.◌<◌, Vocabulary.◌∙◌, Vocabulary.ℕ, Vocabulary.refl, Vocabulary.sym, Vocabulary.ap, Vocabulary.subst, Vocabulary.List, Vocabulary.Name, Vocabulary.Reply, Vocabulary.World, Vocabulary.Joins, CycleLaws.with_opened, CycleLaws.with_accounts, CycleLaws.cycle_ended, CycleLaws.cycle_stepped, CycleLaws.taken_then}
 use Rattle.nmgc_watch.proofs.cycle.Cycle.give.Goals as goal
 
 pub invariant_of-self : goal.invariant_of-self

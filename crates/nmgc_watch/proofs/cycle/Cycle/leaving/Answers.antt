@@ -1,8 +1,4 @@
-use Rattle.std.proofs.Common.{◌∙◌, refl, sym, subst, List}
-use Rattle.std.specs.Prelude.{All, IsSome}
-use Rattle.nmgc_world_spec.specs.declared.value.Name.{Name}
-use Rattle.nmgc_world_spec.specs.World.{node_of}
-use Rattle.nmgc_watch.proofs.ClosingLaws.{both_there}
+use Rattle.nmgc_watch.proofs.{Vocabulary.◌∙◌, Vocabulary.refl, Vocabulary.sym, Vocabulary.subst, Vocabulary.List, Vocabulary.All, Vocabulary.IsSome, Vocabulary.Name, Vocabulary.node_of, ClosingLaws.both_there}
 use Rattle.nmgc_watch.proofs.cycle.Cycle.leaving.Goals as goal
 
 pub kept-requires : goal.kept-requires

@@ -1,8 +1,4 @@
-use Rattle.std.proofs.Common.{◌∙◌, sym, subst, List}
-use Rattle.std.specs.Prelude.{All}
-use Rattle.nmgc_world_spec.specs.declared.value.Name.{Name}
-use Rattle.nmgc_world_spec.specs.Reach.{IsAliveWeak}
-use Rattle.nmgc_watch.proofs.ClosingLaws.{dying_alive}
+use Rattle.nmgc_watch.proofs.{Vocabulary.◌∙◌, Vocabulary.sym, Vocabulary.subst, Vocabulary.List, Vocabulary.All, Vocabulary.Name, Vocabulary.IsAliveWeak, ClosingLaws.dying_alive}
 use Rattle.nmgc_watch.proofs.cycle.Cycle.left.Goals as goal
 
 pub closed-requires-clause-alive : goal.closed-requires-clause-alive

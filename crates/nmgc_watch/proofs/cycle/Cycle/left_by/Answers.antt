@@ -1,9 +1,4 @@
-use Rattle.std.proofs.Common.{◌∙◌, sym, subst, List}
-use Rattle.std.specs.Prelude.{All}
-use Rattle.nmgc_world_spec.specs.declared.value.Name.{Name}
-use Rattle.nmgc_world_spec.specs.Reach.{IsAliveWeak}
-use Rattle.nmgc_watch.proofs.ClosingLaws.{told_alive, told_lists}
-use Rattle.nmgc_watch.proofs.CycleLaws.{seen}
+use Rattle.nmgc_watch.proofs.{Vocabulary.◌∙◌, Vocabulary.sym, Vocabulary.subst, Vocabulary.List, Vocabulary.All, Vocabulary.Name, Vocabulary.IsAliveWeak, ClosingLaws.told_alive, ClosingLaws.told_lists, CycleLaws.seen}
 use Rattle.nmgc_watch.proofs.cycle.Cycle.left_by.Goals as goal
 
 pub closed-requires-clause-alive : goal.closed-requires-clause-alive

@@ -1,9 +1,4 @@
-use Rattle.std.proofs.Common.{sym, subst, List}
-use Rattle.std.specs.Prelude.{All, IsSome}
-use Rattle.nmgc_world_spec.specs.declared.value.Name.{Name}
-use Rattle.nmgc_world_spec.specs.World.{node_of}
-use Rattle.nmgc_watch.proofs.ClosingLaws.{opened_there, opened_with_there, needs_listed}
-use Rattle.nmgc_watch.proofs.CycleLaws.{seen}
+use Rattle.nmgc_watch.proofs.{Vocabulary.sym, Vocabulary.subst, Vocabulary.List, Vocabulary.All, Vocabulary.IsSome, Vocabulary.Name, Vocabulary.node_of, ClosingLaws.opened_there, ClosingLaws.opened_with_there, ClosingLaws.needs_listed, CycleLaws.seen}
 use Rattle.nmgc_watch.proofs.cycle.Cycle.needed.Goals as goal
 
 pub kept-requires : goal.kept-requires

@@ -1,9 +1,4 @@
-use Rattle.std.proofs.Common.{sym, subst, List}
-use Rattle.std.specs.Prelude.{All, IsSome}
-use Rattle.nmgc_world_spec.specs.declared.value.Name.{Name}
-use Rattle.nmgc_world_spec.specs.World.{node_of}
-use Rattle.nmgc_watch.proofs.ClosingLaws.{opened_there, opened_with_there, dead_if}
-use Rattle.nmgc_watch.proofs.CycleLaws.{seen}
+use Rattle.nmgc_watch.proofs.{Vocabulary.sym, Vocabulary.subst, Vocabulary.List, Vocabulary.All, Vocabulary.IsSome, Vocabulary.Name, Vocabulary.node_of, ClosingLaws.opened_there, ClosingLaws.opened_with_there, ClosingLaws.dead_if, CycleLaws.seen}
 use Rattle.nmgc_watch.proofs.cycle.Cycle.not_dead.Goals as goal
 
 pub dead_weaks-requires : goal.dead_weaks-requires

@@ -1,6 +1,5 @@
 use Rattle.std.proofs.Common.{◌∙◌, refl}
-use Rattle.nmgc_watch.proofs.ClosingLaws.{found_with}
-use Rattle.nmgc_watch.proofs.CycleLaws.{seen}
+use Rattle.nmgc_watch.proofs.{ClosingLaws.found_with, CycleLaws.seen}
 use Rattle.nmgc_watch.proofs.cycle.Cycle.opened_with.Goals as goal
 
 -- the keys were looked for among all weak pointers that are alive

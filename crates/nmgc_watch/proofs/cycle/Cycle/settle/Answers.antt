@@ -1,10 +1,5 @@
-use Rattle.std.proofs.Common.{◌<◌, ◌∙◌, ℕ, refl, sym, subst, inl, inr}
-use Rattle.std.proofs.lemmas.Bool.{false≢true}
-use Rattle.nmgc_watch.proofs.AccountLaws.{some_own, none_own, forgotten_accounts, forgotten_count, forgotten_same}
-use Rattle.nmgc_lists.specs.laws.Items.{none_first}
-use Rattle.nmgc_watch.proofs.CycleLaws.{seen_same, with_accounts}
+use Rattle.nmgc_watch.proofs.{Vocabulary.◌<◌, Vocabulary.◌∙◌, Vocabulary.ℕ, Vocabulary.refl, Vocabulary.sym, Vocabulary.subst, Vocabulary.inl, Vocabulary.inr, Vocabulary.false≢true, Vocabulary.none_first, AccountLaws.some_own, AccountLaws.none_own, AccountLaws.forgotten_accounts, AccountLaws.forgotten_count, AccountLaws.forgotten_same, CycleLaws.seen_same, CycleLaws.with_accounts, cycle.Cycle.settle.Goals.in-Some, cycle.Cycle.settle.Goals.in-None}
 use Rattle.nmgc_watch.proofs.cycle.Cycle.settle.Goals as goal
-use Rattle.nmgc_watch.proofs.cycle.Cycle.settle.Goals.{in-Some, in-None}
 
 pub returns-then-not-has_mutator-clause-settle : goal.returns-then-not-has_mutator-clause-settle
 returns-then-not-has_mutator-clause-settle c =

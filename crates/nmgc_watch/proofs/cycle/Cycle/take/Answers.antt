@@ -1,7 +1,4 @@
-use Rattle.std.proofs.Common.{◌∙◌, refl, sym}
-use Rattle.nmgc_watch.specs.Listed.{joined}
-use Rattle.nmgc_watch.proofs.ListedLaws.{joined_is}
-use Rattle.nmgc_watch.proofs.CycleLaws.{with_taken, took_then, not_pushed}
+use Rattle.nmgc_watch.proofs.{Vocabulary.◌∙◌, Vocabulary.refl, Vocabulary.sym, Vocabulary.joined, ListedLaws.joined_is, CycleLaws.with_taken, CycleLaws.took_then, CycleLaws.not_pushed}
 use Rattle.nmgc_watch.proofs.cycle.Cycle.take.Goals as goal
 
 pub returns-then-not-has : goal.returns-then-not-has

@@ -1,7 +1,4 @@
-use Rattle.std.proofs.Common.{◌∙◌, ◌≡◌, Bool, true, false, [], sym, subst, List, inl}
-use Rattle.nmgc_world_spec.specs.declared.value.Name.{Name}
-use Rattle.nmgc_watch.specs.Cycles.{IsUntakenIn}
-use Rattle.nmgc_watch.proofs.CycleLaws.{untaken_if}
+use Rattle.nmgc_watch.proofs.{Vocabulary.◌∙◌, Vocabulary.◌≡◌, Vocabulary.true, Vocabulary.false, Vocabulary.[], Vocabulary.sym, Vocabulary.subst, Vocabulary.List, Vocabulary.inl, Vocabulary.Name, Vocabulary.IsUntakenIn, CycleLaws.untaken_if}
 use Rattle.nmgc_watch.proofs.cycle.Cycle.untaken.Goals as goal
 
 pub returns-then-is_empty : goal.returns-then-is_empty

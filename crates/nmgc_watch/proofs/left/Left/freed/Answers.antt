@@ -1,12 +1,4 @@
-use Rattle.std.proofs.Common.{◌≡◌, ◌∙◌, refl, sym, ap, Bool, true, false, not, get_or, inl, inr}
-use Rattle.std.specs.Prelude.{IsSome}
-use Rattle.std.proofs.lemmas.Bool.{false≢true}
-use Rattle.std.proofs.lemmas.List.Elements.{Contains-get_or}
-use Rattle.nmgc_world_spec.specs.declared.value.Name.{Name}
-use Rattle.nmgc_world_spec.specs.World.{node_of}
-use Rattle.nmgc_watch.specs.Watching.{MayFree, is_old}
-use Rattle.nmgc_watch.proofs.CycleLaws.{none_there, not_none_there}
-use Rattle.nmgc_watch.proofs.Filters.{each_more, each_all}
+use Rattle.nmgc_watch.proofs.{Vocabulary.◌≡◌, Vocabulary.◌∙◌, Vocabulary.refl, Vocabulary.sym, Vocabulary.ap, Vocabulary.true, Vocabulary.false, Vocabulary.not, Vocabulary.get_or, Vocabulary.inl, Vocabulary.inr, Vocabulary.IsSome, Vocabulary.false≢true, Vocabulary.Contains-get_or, Vocabulary.Name, Vocabulary.node_of, Vocabulary.MayFree, Vocabulary.is_old, CycleLaws.none_there, CycleLaws.not_none_there, Filters.each_more, Filters.each_all}
 use Rattle.nmgc_watch.proofs.left.Left.freed.Goals as goal
 
 pub returns-then-is_none : goal.returns-then-is_none

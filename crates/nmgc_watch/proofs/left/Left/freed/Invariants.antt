@@ -1,7 +1,4 @@
-use Rattle.std.proofs.Common.{take}
-use Rattle.std.specs.Prelude.{Contains}
-use Rattle.nmgc_world_spec.specs.declared.value.Name.{Name}
-use Rattle.nmgc_watch.specs.Watching.{MayFree}
+use Rattle.nmgc_watch.proofs.Vocabulary.{take, Contains, Name, MayFree}
 use Rattle.nmgc_watch.proofs.left.Left.freed.Given as goal
 
 abbrev pub invariant-loop-name : goal.invariant-loop-name

@@ -1,6 +1,4 @@
-use Rattle.std.proofs.Common.{subst, Option}
-use Rattle.nmgc_world_spec.specs.declared.value.Name.{Name}
-use Rattle.nmgc_watch.specs.Watching.{IsMissingIf}
+use Rattle.nmgc_watch.proofs.Vocabulary.{subst, Option, Name, IsMissingIf}
 use Rattle.nmgc_watch.proofs.left.Left.marked.Goals as goal
 
 pub returns-in-None : goal.returns-in-None

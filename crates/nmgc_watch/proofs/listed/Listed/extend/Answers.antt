@@ -1,8 +1,4 @@
-use Rattle.std.proofs.Common.{[], List, subst}
-use Rattle.std.proofs.lemmas.List.{take_all}
-use Rattle.nmgc_world_spec.specs.declared.value.Name.{Name}
-use Rattle.nmgc_watch.specs.Listed.{Joins}
-use Rattle.nmgc_watch.proofs.ListedLaws.{joins_none, listed_more}
+use Rattle.nmgc_watch.proofs.{Vocabulary.[], Vocabulary.List, Vocabulary.subst, Vocabulary.take_all, Vocabulary.Name, Vocabulary.Joins, ListedLaws.joins_none, ListedLaws.listed_more}
 use Rattle.nmgc_watch.proofs.listed.Listed.extend.Goals as goal
 
 pub loop-name-init : goal.loop-name-init

@@ -1,5 +1,4 @@
-use Rattle.std.proofs.Common.{take}
-use Rattle.nmgc_watch.specs.Listed.{IsListed, Joins}
+use Rattle.nmgc_watch.proofs.Vocabulary.{take, IsListed, Joins}
 use Rattle.nmgc_watch.proofs.listed.Listed.extend.Given as goal
 
 abbrev pub invariant-loop-name : goal.invariant-loop-name

@@ -1,15 +1,5 @@
-use Rattle.std.proofs.Common.{◌≡◌, ◌∙◌, List, sym, subst, ap, arith, get_or}
-use Rattle.std.specs.Prelude.{Contains}
-use Rattle.std.proofs.lemmas.Bool.{false≢true}
-use Rattle.std.proofs.lemmas.List.{get_or_default}
-use Rattle.nmgc_world_spec.specs.declared.value.Name.{Name}
-use Rattle.nmgc_world_spec.specs.Change.{is_same_name}
-use Rattle.nmgc_world_spec.specs.Reach.{IsInOrder}
-use Rattle.nmgc_snapshot_laws.specs.laws.Listed.{is_same_name-refl}
-use Rattle.nmgc_watch.specs.Ordered.{StandsAt}
-use Rattle.nmgc_watch.proofs.OrderedLaws.{not_there}
+use Rattle.nmgc_watch.proofs.{Vocabulary.◌≡◌, Vocabulary.◌∙◌, Vocabulary.List, Vocabulary.sym, Vocabulary.subst, Vocabulary.ap, Vocabulary.arith, Vocabulary.get_or, Vocabulary.Contains, Vocabulary.false≢true, Vocabulary.get_or_default, Vocabulary.Name, Vocabulary.is_same_name, Vocabulary.IsInOrder, Vocabulary.is_same_name-refl, Vocabulary.StandsAt, OrderedLaws.not_there, ordered.Ordered.find.Goals.else-place-names-via-then-place-names+else-eq, ordered.Ordered.find.Goals.else-place-names-via-else-place-names}
 use Rattle.nmgc_watch.proofs.ordered.Ordered.find.Goals as goal
-use Rattle.nmgc_watch.proofs.ordered.Ordered.find.Goals.{else-place-names-via-then-place-names+else-eq, else-place-names-via-else-place-names}
 
 pub returns-clause-none : goal.returns-clause-none
 returns-clause-none c has =

@@ -1,11 +1,5 @@
-use Rattle.std.proofs.Common.{◌≡◌, ℕ, List, subst, take, get_or, Option}
-use Rattle.std.specs.Prelude.{Contains, IfNone}
-use Rattle.std.proofs.lemmas.List.{take_more}
-use Rattle.nmgc_world_spec.specs.declared.value.Name.{Name}
-use Rattle.nmgc_world_spec.specs.Reach.{IsInOrder}
-use Rattle.nmgc_watch.proofs.OrderedLaws.{met_here, met_elsewhere}
+use Rattle.nmgc_watch.proofs.{Vocabulary.ℕ, Vocabulary.List, Vocabulary.subst, Vocabulary.take, Vocabulary.get_or, Vocabulary.Option, Vocabulary.Contains, Vocabulary.IfNone, Vocabulary.take_more, Vocabulary.Name, Vocabulary.IsInOrder, OrderedLaws.met_here, OrderedLaws.met_elsewhere, ordered.Ordered.met.Goals.in-Some, ordered.Ordered.met.Goals.in_default}
 use Rattle.nmgc_watch.proofs.ordered.Ordered.met.Goals as goal
-use Rattle.nmgc_watch.proofs.ordered.Ordered.met.Goals.{in-Some, in_default}
 
 pub loop-other-preserved : goal.loop-other-preserved
 loop-other-preserved c =

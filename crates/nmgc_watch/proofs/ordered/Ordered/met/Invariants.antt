@@ -1,5 +1,4 @@
-use Rattle.std.proofs.Common.{take}
-use Rattle.nmgc_watch.specs.Ordered.{AreMet}
+use Rattle.nmgc_watch.proofs.Vocabulary.{take, AreMet}
 use Rattle.nmgc_watch.proofs.ordered.Ordered.met.Given as goal
 
 abbrev pub invariant-loop-other : goal.invariant-loop-other

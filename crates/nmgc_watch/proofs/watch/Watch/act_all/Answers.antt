@@ -1,8 +1,4 @@
-use Rattle.std.proofs.Common.{◌∙◌, List, get_or, take, sym, subst}
-use Rattle.std.proofs.lemmas.List.{take_all, take_more}
-use Rattle.nmgc_world_spec.specs.declared.command.Command.{Command}
-use Rattle.nmgc_watch.specs.Watching.{AreDone, IsAct}
-use Rattle.nmgc_watch.proofs.RowLaws.{done_more, acted_go, acted_stop}
+use Rattle.nmgc_watch.proofs.{Vocabulary.◌∙◌, Vocabulary.List, Vocabulary.get_or, Vocabulary.take, Vocabulary.sym, Vocabulary.subst, Vocabulary.take_all, Vocabulary.take_more, Vocabulary.Command, Vocabulary.AreDone, Vocabulary.IsAct, RowLaws.done_more, RowLaws.acted_go, RowLaws.acted_stop}
 use Rattle.nmgc_watch.proofs.watch.Watch.act_all.Goals as goal
 
 pub returns-then-is_some : goal.returns-then-is_some

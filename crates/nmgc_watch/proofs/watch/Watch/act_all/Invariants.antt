@@ -1,5 +1,4 @@
-use Rattle.std.proofs.Common.{take}
-use Rattle.nmgc_watch.specs.Watching.{AreDone}
+use Rattle.nmgc_watch.proofs.Vocabulary.{take, AreDone}
 use Rattle.nmgc_watch.proofs.watch.Watch.act_all.Given as goal
 
 abbrev pub invariant-loop-command : goal.invariant-loop-command

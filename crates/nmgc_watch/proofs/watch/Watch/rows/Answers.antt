@@ -1,7 +1,4 @@
-use Rattle.std.proofs.Common.{◌∙◌, sym}
-use Rattle.std.proofs.lemmas.Bool.{false≢true}
-use Rattle.std.proofs.lemmas.Result.{IfOk-weaker}
-use Rattle.nmgc_watch.proofs.RowLaws.{rows_step, rows_absent, rows_stopped}
+use Rattle.nmgc_watch.proofs.{Vocabulary.◌∙◌, Vocabulary.sym, Vocabulary.false≢true, Vocabulary.IfOk-weaker, RowLaws.rows_step, RowLaws.rows_absent, RowLaws.rows_stopped}
 use Rattle.nmgc_watch.proofs.watch.Watch.rows.Goals as goal
 
 pub returns-then-is_stopped : goal.returns-then-is_stopped

@@ -1,13 +1,5 @@
-use Rattle.std.proofs.Common.{◌≡◌, ◌-◌, ◌⊎◌, ◌↔◌, ◌<◌, ◌≤◌, ℕ, List, false, get_or, set, length, refl, ap, sym, subst, ◌∙◌, arith, Some}
-use Rattle.std.specs.Prelude.{Contains, insert, slice_get}
-use Rattle.std.proofs.lemmas.Bool.{iff_false}
-use Rattle.nmgc_world_spec.specs.Reach.{IsBefore, IsInOrder}
-use Rattle.nmgc_weak.specs.declared.row.Entry.{Entry}
-use Rattle.nmgc_weak.specs.declared.weaks.OldWeak.{OldWeak}
-use Rattle.nmgc_weak.specs.Rows.{Row, listed, entry_names}
-use Rattle.nmgc_weak.proofs.Entries.{before_last, inserted_count, inserted_has, inserted_ordered, listed_ordered, neither_before, read_entry, reused_list, reused_ordered, set_count}
+use Rattle.nmgc_weak.proofs.{Vocabulary.◌≡◌, Vocabulary.◌-◌, Vocabulary.◌⊎◌, Vocabulary.◌↔◌, Vocabulary.◌<◌, Vocabulary.◌≤◌, Vocabulary.ℕ, Vocabulary.List, Vocabulary.false, Vocabulary.get_or, Vocabulary.set, Vocabulary.length, Vocabulary.refl, Vocabulary.ap, Vocabulary.sym, Vocabulary.subst, Vocabulary.◌∙◌, Vocabulary.arith, Vocabulary.Some, Vocabulary.Contains, Vocabulary.insert, Vocabulary.slice_get, Vocabulary.iff_false, Vocabulary.IsBefore, Vocabulary.IsInOrder, Vocabulary.Entry, Vocabulary.OldWeak, Vocabulary.Row, Vocabulary.listed, Vocabulary.entry_names, Entries.before_last, Entries.inserted_count, Entries.inserted_has, Entries.inserted_ordered, Entries.listed_ordered, Entries.neither_before, Entries.read_entry, Entries.reused_list, Entries.reused_ordered, Entries.set_count, row.Row.add.Goals.then-place-gt0+else-not-is_before, row.Row.add.Goals.else-place-gt0}
 use Rattle.nmgc_weak.proofs.row.Row.add.Goals as goal
-use Rattle.nmgc_weak.proofs.row.Row.add.Goals.{then-place-gt0+else-not-is_before, else-place-gt0}
 
 -- the last entry that doesn't come after the name, where there is one
 last_there : (es read : List Entry) (place : ℕ) (x : Entry) → read ≡ es → 0 < place → place ≤ length read → x ≡ get_or es (place - 1) x →

@@ -1,7 +1,4 @@
-use Rattle.std.proofs.Common.{length, ap, arith}
-use Rattle.std.proofs.lemmas.Grind.{common_steps}
-use Rattle.nmgc_weak.specs.Rows.{Row}
-use Rattle.nmgc_weak.proofs.Entries.{listed_few}
+use Rattle.nmgc_weak.proofs.{Vocabulary.length, Vocabulary.ap, Vocabulary.arith, Vocabulary.common_steps, Vocabulary.Row, Entries.listed_few}
 use Rattle.nmgc_weak.proofs.row.Row.count.Goals as goal
 
 pub returns : goal.returns

@@ -1,11 +1,4 @@
-use Rattle.std.proofs.Common.{◌≡◌, List, ap, sym, subst, ◌∙◌, arith}
-use Rattle.std.specs.Prelude.{Contains}
-use Rattle.nmgc_world_spec.specs.Reach.{IsInOrder}
-use Rattle.nmgc_weak.specs.declared.row.Entry.{Entry}
-use Rattle.nmgc_weak.specs.declared.weaks.OldWeak.{OldWeak}
-use Rattle.nmgc_weak.specs.Rows.{Row, listed, entry_names, IsEntryAt, without}
-use Rattle.nmgc_weak.specs.Weaks.{names_of}
-use Rattle.nmgc_weak.proofs.Entries.{listed_ordered, without_name, found_within, found_other, found_ordered, found_leaves}
+use Rattle.nmgc_weak.proofs.{Vocabulary.◌≡◌, Vocabulary.List, Vocabulary.ap, Vocabulary.sym, Vocabulary.subst, Vocabulary.◌∙◌, Vocabulary.arith, Vocabulary.Contains, Vocabulary.IsInOrder, Vocabulary.Entry, Vocabulary.OldWeak, Vocabulary.Row, Vocabulary.listed, Vocabulary.entry_names, Vocabulary.IsEntryAt, Vocabulary.without, Vocabulary.names_of, Entries.listed_ordered, Entries.without_name, Entries.found_within, Entries.found_other, Entries.found_ordered, Entries.found_leaves}
 use Rattle.nmgc_weak.proofs.row.Row.leave.Goals as goal
 
 pub returns-in_default-clause-list : goal.returns-in_default-clause-list

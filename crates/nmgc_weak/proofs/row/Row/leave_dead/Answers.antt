@@ -1,12 +1,4 @@
-use Rattle.std.proofs.Common.{◌≡◌, List, ap, sym, subst, ◌∙◌, arith}
-use Rattle.std.specs.Prelude.{Contains}
-use Rattle.std.proofs.lemmas.Grind.{common_steps}
-use Rattle.std.proofs.lemmas.List.{with_items_is}
-use Rattle.nmgc_world_spec.specs.Reach.{IsInOrder}
-use Rattle.nmgc_weak.specs.declared.weaks.OldWeak.{OldWeak}
-use Rattle.nmgc_weak.specs.Rows.{Row, listed, entry_names}
-use Rattle.nmgc_weak.specs.Weaks.{names_of}
-use Rattle.nmgc_weak.proofs.Entries.{listed_ordered}
+use Rattle.nmgc_weak.proofs.{Vocabulary.◌≡◌, Vocabulary.List, Vocabulary.ap, Vocabulary.sym, Vocabulary.subst, Vocabulary.◌∙◌, Vocabulary.arith, Vocabulary.Contains, Vocabulary.common_steps, Vocabulary.with_items_is, Vocabulary.IsInOrder, Vocabulary.OldWeak, Vocabulary.Row, Vocabulary.listed, Vocabulary.entry_names, Vocabulary.names_of, Entries.listed_ordered}
 use Rattle.nmgc_weak.proofs.row.Row.leave_dead.Goals as goal
 
 pub mark_dead-requires : goal.mark_dead-requires

@@ -1,7 +1,4 @@
-use Rattle.std.proofs.Common.{◌≡◌, length, length-append, take, ap, arith, ◌∙◌}
-use Rattle.std.proofs.lemmas.Grind.{common_steps}
-use Rattle.nmgc_weak.specs.Rows.{Row, listed}
-use Rattle.nmgc_weak.proofs.Entries.{no_entry, listed_below}
+use Rattle.nmgc_weak.proofs.{Vocabulary.◌≡◌, Vocabulary.length, Vocabulary.length-append, Vocabulary.take, Vocabulary.ap, Vocabulary.arith, Vocabulary.◌∙◌, Vocabulary.common_steps, Vocabulary.Row, Vocabulary.listed, Entries.no_entry, Entries.listed_below}
 use Rattle.nmgc_weak.proofs.row.Row.list_into.Goals as goal
 
 pub push_reserved-requires : goal.push_reserved-requires

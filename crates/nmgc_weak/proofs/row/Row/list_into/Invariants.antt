@@ -1,5 +1,4 @@
-use Rattle.std.proofs.Common.{◌≡◌, ◌++◌, take, vec_capacity}
-use Rattle.nmgc_weak.specs.Rows.{listed}
+use Rattle.nmgc_weak.proofs.Vocabulary.{◌≡◌, ◌++◌, take, vec_capacity, listed}
 use Rattle.nmgc_weak.proofs.row.Row.list_into.Given as goal
 
 abbrev pub invariant-loop-entry : goal.invariant-loop-entry

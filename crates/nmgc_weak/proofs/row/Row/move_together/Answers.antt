@@ -1,10 +1,5 @@
-use Rattle.std.proofs.Common.{◌≡◌, List, not, sym, ap, subst, ◌∙◌, rules}
-use Rattle.std.specs.Prelude.{filter}
+use Rattle.nmgc_weak.proofs.{Vocabulary.◌≡◌, Vocabulary.List, Vocabulary.sym, Vocabulary.ap, Vocabulary.subst, Vocabulary.◌∙◌, Vocabulary.rules, Vocabulary.filter, Vocabulary.IsInOrder, Vocabulary.Entry, Vocabulary.Row, Vocabulary.entry_names, Vocabulary.listed, Vocabulary.not, Entries.together_list, Entries.together_ordered}
 use Rattle.std.proofs.lemmas.Fn.{filter_same}
-use Rattle.nmgc_world_spec.specs.Reach.{IsInOrder}
-use Rattle.nmgc_weak.specs.declared.row.Entry.{Entry}
-use Rattle.nmgc_weak.specs.Rows.{Row, entry_names, listed}
-use Rattle.nmgc_weak.proofs.Entries.{together_list, together_ordered}
 use Rattle.nmgc_weak.proofs.row.Row.move_together.Goals as goal
 
 pub invariant_of-self : goal.invariant_of-self

@@ -1,10 +1,4 @@
-use Rattle.std.proofs.Common.{◌≡◌, ◌+◌, ◌-◌, ℕ, List, set, sym, ap, subst, arith}
-use Rattle.std.specs.Prelude.{Contains}
-use Rattle.nmgc_weak.specs.declared.weaks.OldWeak.{OldWeak}
-use Rattle.nmgc_weak.specs.Rows.{Row, AreRows, list_of}
-use Rattle.nmgc_weak.specs.Weaks.{Weaks}
-use Rattle.nmgc_weak.proofs.Entries.{read_row}
-use Rattle.nmgc_weak.proofs.RowLaws.{joined_rows, of_row, row_joined, row_lengths, rows_ordered}
+use Rattle.nmgc_weak.proofs.{Vocabulary.◌≡◌, Vocabulary.◌+◌, Vocabulary.◌-◌, Vocabulary.ℕ, Vocabulary.List, Vocabulary.set, Vocabulary.sym, Vocabulary.ap, Vocabulary.subst, Vocabulary.arith, Vocabulary.Contains, Vocabulary.OldWeak, Vocabulary.Row, Vocabulary.AreRows, Vocabulary.list_of, Vocabulary.Weaks, Entries.read_row, RowLaws.joined_rows, RowLaws.of_row, RowLaws.row_joined, RowLaws.row_lengths, RowLaws.rows_ordered}
 use Rattle.nmgc_weak.proofs.weaks.Weaks.add.Goals as goal
 
 -- some room, so each maker has its row

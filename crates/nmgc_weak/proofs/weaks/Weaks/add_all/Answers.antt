@@ -1,15 +1,5 @@
-use Rattle.std.proofs.Common.{◌≡◌, ◌≢◌, ◌⊎◌, ◌↔◌, ◌<◌, ℕ, List, [], ◌∷◌, ◌++◌, get_or, length, take, inl, inr, refl, sym, ap, subst, ◌∙◌, arith}
-use Rattle.std.specs.Prelude.{Contains}
-use Rattle.std.proofs.lemmas.List.{get_or-map, get_or_default, length-map, take-map, take_all, take_more}
-use Rattle.std.proofs.lemmas.List.Elements.{Contains-append_left, Contains-append_right, Contains-append_cases}
-use Rattle.nmgc_world_spec.specs.declared.value.Name.{Name}
-use Rattle.nmgc_world_spec.specs.Reach.{IsInOrder}
-use Rattle.nmgc_world_spec.specs.laws.Orders.{in_order_apart}
-use Rattle.nmgc_lists.specs.laws.Items.{contains_map, contains_one, nothing_in, one_is}
-use Rattle.nmgc_weak.specs.declared.weaks.OldWeak.{OldWeak}
-use Rattle.nmgc_weak.specs.Weaks.{Weaks, names_of}
-use Rattle.nmgc_weak.proofs.Finding.{at_contains}
-use Rattle.nmgc_weak.proofs.RowLaws.{list_ordered}
+use Rattle.nmgc_weak.proofs.Vocabulary.{◌≡◌, ◌≢◌, ◌⊎◌, ◌↔◌, ◌<◌, ℕ, List, [], ◌∷◌, ◌++◌, get_or, length, take, inl, inr, refl, sym, ap, subst, ◌∙◌, arith, Contains, get_or-map, get_or_default, length-map, take-map, take_all, take_more, Contains-append_left, Contains-append_right, Contains-append_cases, Name, IsInOrder, in_order_apart, contains_map, contains_one, nothing_in, one_is, OldWeak, Weaks, names_of}
+use Rattle.nmgc_weak.proofs.{Finding.at_contains, RowLaws.list_ordered}
 use Rattle.nmgc_weak.proofs.weaks.Weaks.add_all.Goals as goal
 
 abbrev nobody : OldWeak

@@ -1,8 +1,4 @@
-use Rattle.std.proofs.Common.{◌≡◌, ◌+◌, ◌⊎◌, ◌↔◌, take}
-use Rattle.std.specs.Prelude.{Contains}
-use Rattle.nmgc_world_spec.specs.Reach.{IsInOrder}
-use Rattle.nmgc_weak.specs.declared.weaks.OldWeak.{OldWeak}
-use Rattle.nmgc_weak.specs.Weaks.{names_of}
+use Rattle.nmgc_weak.proofs.Vocabulary.{◌≡◌, ◌+◌, ◌⊎◌, ◌↔◌, take, Contains, IsInOrder, OldWeak, names_of}
 use Rattle.nmgc_weak.proofs.weaks.Weaks.add_all.Given as goal
 
 abbrev pub invariant-loop-weak : goal.invariant-loop-weak

@@ -1,12 +1,4 @@
-use Rattle.std.proofs.Common.{◌≡◌, ◌<◌, ◌≤◌, ℕ, eqb, length, List, true, sym, ap, subst, ◌∙◌, arith, Some}
-use Rattle.std.specs.Prelude.{Contains, slice_get, min}
-use Rattle.nmgc_limits.specs.declared.mutators.TheConstants.{MAKERS}
-use Rattle.nmgc_lists.specs.laws.Truths.{eq_true}
-use Rattle.nmgc_weak.specs.declared.weaks.OldWeak.{OldWeak}
-use Rattle.nmgc_weak.specs.Rows.{Row, AreRows, list_of}
-use Rattle.nmgc_weak.specs.Weaks.{Weaks, count_made_by}
-use Rattle.nmgc_weak.proofs.Entries.{read_row}
-use Rattle.nmgc_weak.proofs.RowLaws.{counted_in, counted_none}
+use Rattle.nmgc_weak.proofs.{Vocabulary.◌≡◌, Vocabulary.◌<◌, Vocabulary.◌≤◌, Vocabulary.ℕ, Vocabulary.eqb, Vocabulary.length, Vocabulary.List, Vocabulary.true, Vocabulary.sym, Vocabulary.ap, Vocabulary.subst, Vocabulary.◌∙◌, Vocabulary.arith, Vocabulary.Some, Vocabulary.Contains, Vocabulary.slice_get, Vocabulary.min, Vocabulary.MAKERS, Vocabulary.eq_true, Vocabulary.OldWeak, Vocabulary.Row, Vocabulary.AreRows, Vocabulary.list_of, Vocabulary.Weaks, Vocabulary.count_made_by, Entries.read_row, RowLaws.counted_in, RowLaws.counted_none}
 use Rattle.nmgc_weak.proofs.weaks.Weaks.count.Goals as goal
 
 -- whoever is of a maker is in the maker's row

@@ -1,5 +1,4 @@
-use Rattle.std.proofs.Common.{◌≡◌, vec_capacity}
-use Rattle.nmgc_weak.specs.Weaks.{names_of}
+use Rattle.nmgc_weak.proofs.Vocabulary.{◌≡◌, vec_capacity, names_of}
 use Rattle.nmgc_weak.proofs.weaks.Weaks.into_names.Given as goal
 
 abbrev pub invariant-loop-weak : goal.invariant-loop-weak

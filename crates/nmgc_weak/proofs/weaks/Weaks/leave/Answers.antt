@@ -1,9 +1,4 @@
-use Rattle.std.proofs.Common.{◌≡◌, ℕ, List, length, ap, subst, ◌∙◌, arith}
-use Rattle.std.specs.Prelude.{Contains}
-use Rattle.nmgc_weak.specs.declared.weaks.OldWeak.{OldWeak}
-use Rattle.nmgc_weak.specs.Rows.{Row, list_of}
-use Rattle.nmgc_weak.specs.Weaks.{Weaks, is_alive, alive_of}
-use Rattle.nmgc_weak.proofs.RowLaws.{filtered_few, rows_left, rows_ordered}
+use Rattle.nmgc_weak.proofs.{Vocabulary.◌≡◌, Vocabulary.ℕ, Vocabulary.List, Vocabulary.length, Vocabulary.ap, Vocabulary.subst, Vocabulary.◌∙◌, Vocabulary.arith, Vocabulary.Contains, Vocabulary.OldWeak, Vocabulary.Row, Vocabulary.list_of, Vocabulary.Weaks, Vocabulary.is_alive, Vocabulary.alive_of, RowLaws.filtered_few, RowLaws.rows_left, RowLaws.rows_ordered}
 use Rattle.nmgc_weak.proofs.weaks.Weaks.leave.Goals as goal
 
 pub dead_leave-requires : goal.dead_leave-requires

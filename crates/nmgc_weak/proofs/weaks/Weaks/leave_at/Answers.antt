@@ -1,22 +1,18 @@
 use Rattle.std.proofs.Common.{◌≡◌, ◌≢◌, ◌+◌, ◌≤◌, ℕ, List, set, sym, ap, subst, ◌∙◌, arith, length, slice_index, Some}
 use Rattle.std.specs.Prelude.{Contains, not, slice_get}
-use Rattle.nmgc_world_spec.specs.declared.value.Name.{Name}
-use Rattle.nmgc_world_spec.specs.Reach.{IsInOrder}
-use Rattle.nmgc_object.specs.Words.{IsName, name_word}
-use Rattle.nmgc_object.specs.declared.size.TheConstants.{NAME_OFFSET}
-use Rattle.nmgc_weak.specs.declared.weaks.OldWeak.{OldWeak}
-use Rattle.nmgc_weak.specs.Rows.{Row, AreRows, IsNamedAt, is_same, left_at, list_of, row_of, without}
-use Rattle.nmgc_weak.specs.Weaks.{Weaks, names_of, value_place}
-use Rattle.nmgc_weak.proofs.Entries.{read_row}
-use Rattle.nmgc_weak.proofs.RowLaws.{alive_at, filtered_few, left_row, left_rows, list_ordered, no_row, none_leaves, one_name, row_lengths, rows_ordered}
+use Rattle.nmgc_world_spec.specs.{declared.value.Name.Name, Reach.IsInOrder}
+use Rattle.nmgc_object.specs.{Words.IsName, Words.name_word, declared.size.TheConstants.NAME_OFFSET}
+use Rattle.nmgc_weak.specs.{declared.weaks.OldWeak.OldWeak, Weaks.Weaks, Weaks.names_of, Weaks.value_place, Rows.Row, Rows.AreRows, Rows.IsNamedAt, Rows.is_same, Rows.left_at, Rows.list_of, Rows.row_of, Rows.without}
+use Rattle.nmgc_weak.proofs.{Entries.read_row, RowLaws.alive_at, RowLaws.filtered_few, RowLaws.left_row, RowLaws.left_rows, RowLaws.list_ordered, RowLaws.no_row, RowLaws.none_leaves, RowLaws.row_lengths, RowLaws.rows_ordered}
 use Rattle.nmgc_weak.proofs.weaks.Weaks.leave_at.Goals as goal
+use Rattle.nmgc_alloc.specs.laws.OneState.{same_name}
 
 -- who lies there has the name that was read
 named_there : (words : List ℕ) (at : ℕ) (list : List OldWeak) (n : Name) → IsNamedAt words at list → IsName n →
     name_word n ≡ slice_index words (at + NAME_OFFSET) → (w : OldWeak) → Contains list w → w.at.0 ≡ at → w.weak ≡ n
 named_there words at list n named valid read w c here =
     let own = named w c here in
-    one_name w.weak n own.0 valid (sym own.1 ∙ sym read)
+    same_name w.weak n own.0 valid (sym own.1 ∙ sym read)
 
 -- the list once it left its row
 left_there : (words : List ℕ) (at number : ℕ) (n : Name) (rows : List Row) (room : ℕ) (old new : Row) (list : List OldWeak) → AreRows rows room →

@@ -1,6 +1,4 @@
-use Rattle.std.proofs.Common.{ap}
-use Rattle.nmgc_weak.specs.Weaks.{Weaks}
-use Rattle.nmgc_weak.proofs.RowLaws.{list_ordered}
+use Rattle.nmgc_weak.proofs.{Vocabulary.ap, Vocabulary.Weaks, RowLaws.list_ordered}
 use Rattle.nmgc_weak.proofs.weaks.Weaks.list_into.Goals as goal
 
 pub returns-clause-ordered : goal.returns-clause-ordered

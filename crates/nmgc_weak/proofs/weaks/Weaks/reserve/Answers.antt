@@ -1,12 +1,4 @@
-use Rattle.std.proofs.Common.{◌≡◌, ◌⊎◌, ◌+◌, ◌<◌, ◌≤◌, ℕ, List, [], ◌++◌, length, take, drop, vec_capacity, ap, ◌∙◌, arith, Some, Result, Ok, Err}
-use Rattle.std.specs.Prelude.{OnErr, slice_get}
-use Rattle.nmgc_limits.specs.declared.mutators.TheConstants.{MAKERS}
-use Rattle.nmgc_lists.specs.declared.memory.NoMemory.{NoMemory}
-use Rattle.nmgc_weak.specs.declared.weaks.Death.{Death}
-use Rattle.nmgc_weak.specs.declared.weaks.OldWeak.{OldWeak}
-use Rattle.nmgc_weak.specs.Rows.{Row, AreRows, list_of}
-use Rattle.nmgc_weak.specs.Weaks.{Weaks}
-use Rattle.nmgc_weak.proofs.RowLaws.{made_rows, rows_reserved, rows_roomy}
+use Rattle.nmgc_weak.proofs.{Vocabulary.◌≡◌, Vocabulary.◌⊎◌, Vocabulary.◌+◌, Vocabulary.◌<◌, Vocabulary.◌≤◌, Vocabulary.ℕ, Vocabulary.List, Vocabulary.[], Vocabulary.◌++◌, Vocabulary.length, Vocabulary.take, Vocabulary.drop, Vocabulary.vec_capacity, Vocabulary.ap, Vocabulary.◌∙◌, Vocabulary.arith, Vocabulary.Some, Vocabulary.Result, Vocabulary.Ok, Vocabulary.Err, Vocabulary.OnErr, Vocabulary.slice_get, Vocabulary.MAKERS, Vocabulary.NoMemory, Vocabulary.Death, Vocabulary.OldWeak, Vocabulary.Row, Vocabulary.AreRows, Vocabulary.list_of, Vocabulary.Weaks, RowLaws.made_rows, RowLaws.rows_reserved, RowLaws.rows_roomy}
 use Rattle.nmgc_weak.proofs.weaks.Weaks.reserve.Goals as goal
 
 -- rows once empty ones joined them and each got room

@@ -1,17 +1,4 @@
-use Rattle.std.proofs.Common.{◌≡◌, ℕ, List, refl, sym, ap, subst, ◌∙◌, arith, length}
-use Rattle.std.specs.Prelude.{Contains}
-use Rattle.nmgc_alloc.specs.Numbered.{Segments}
-use Rattle.nmgc_round.specs.View.{Opening}
-use Rattle.nmgc_mark.specs.Seen.{MarkerSeen}
-use Rattle.nmgc_weak.specs.declared.weaks.OldWeak.{OldWeak}
-use Rattle.nmgc_weak.specs.declared.weaks.Death.{Death}
-use Rattle.nmgc_weak.specs.Resolve.{CanResolve, HasResolved}
-use Rattle.nmgc_weak.specs.Steps.{AreLost, HasRevived, CanRescue, HasRescued}
-use Rattle.nmgc_weak.specs.Rows.{list_of}
-use Rattle.nmgc_weak.specs.Weaks.{Weaks, AreWithin, places_of, alive_of, without_values, deaths_of}
-use Rattle.nmgc_weak.proofs.Clearing.{cleared_length}
-use Rattle.nmgc_weak.proofs.Counting.{marked_sum}
-use Rattle.nmgc_weak.proofs.Resolving.{can_within, lost_within, lost_values, resolved}
+use Rattle.nmgc_weak.proofs.{Vocabulary.◌≡◌, Vocabulary.ℕ, Vocabulary.List, Vocabulary.refl, Vocabulary.sym, Vocabulary.ap, Vocabulary.subst, Vocabulary.◌∙◌, Vocabulary.arith, Vocabulary.length, Vocabulary.Contains, Vocabulary.Segments, Vocabulary.Opening, Vocabulary.MarkerSeen, Vocabulary.OldWeak, Vocabulary.Death, Vocabulary.CanResolve, Vocabulary.HasResolved, Vocabulary.AreLost, Vocabulary.HasRevived, Vocabulary.CanRescue, Vocabulary.HasRescued, Vocabulary.list_of, Vocabulary.Weaks, Vocabulary.AreWithin, Vocabulary.places_of, Vocabulary.alive_of, Vocabulary.without_values, Vocabulary.deaths_of, Clearing.cleared_length, Counting.marked_sum, Resolving.can_within, Resolving.lost_within, Resolving.lost_values, Resolving.resolved}
 use Rattle.nmgc_weak.proofs.weaks.Weaks.resolve.Goals as goal
 
 -- at the same words and the same list
