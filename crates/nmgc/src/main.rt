@@ -1,7 +1,7 @@
-//! The program `nmgc`: its command line and standard streams, handed to `nmgc_cli::program`.
+//! The program `nmgc`: it hands its command line and standard streams to `nmgc_cli::program`.
 //!
-//! Nothing is decided here. That the command line, standard input and standard output are what their
-//! adapters take them for is trusted.
+//! It decides nothing. One trusted assumption: the adapters describe command line, standard input and standard output
+//! correctly.
 #![tactic(auto)]
 
 use nmgc_cli::{Arguments, program};

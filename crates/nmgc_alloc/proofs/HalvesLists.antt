@@ -1,10 +1,10 @@
 -- Segments swept part by part: parts put together, and counts of a list that is cut.
-use Rattle.nmgc_alloc.proofs.Vocabulary.{ℕ, ◌≡◌, ◌+◌, ◌-◌, ◌<◌, ◌≤◌, ◌∙◌, inl, inr, refl, ap, subst, sym, arith, Bool, true, false, List, [], ◌∷◌, ◌++◌, length, set, take, drop, take-append-drop, get_or-take, get_or-drop, get_or_append_left, get_or-append_right, take_more, length-append, length-drop, cases_eq, cases_lt, take-add, length-take-le, Segment, free_segment, Sweeping, nth, NoneBelow, is_sought, sought_count, SweptWaiting, AllSwept, FirstSwept, one_if, nth-set_same, nth-set_other}
+use Rattle.nmgc_alloc.proofs.Vocabulary.{ℕ, ◌≡◌, ◌+◌, ◌-◌, ◌<◌, ◌≤◌, ◌∙◌, inl, inr, refl, ap, subst, sym, arith, Bool, true, false, List, [], ◌∷◌, ◌++◌, length, set, take, drop, take-append-drop, get_or-take, get_or-drop, get_or_append_left, get_or-append_right, take_more, length-append, length-drop, cases_eq, cases_lt, take-add, length-take-le, Segment, free_segment, Sweeping, nth, NoneBelow, is_in_category, sought_count, SweptWaiting, AllSwept, FirstSwept, one_if, nth-set_same, nth-set_other}
 use Rattle.std.proofs.Common.{length-set}
 use Rattle.nmgc_segment.specs.declared.state.State.TheVariants as state
 use Rattle.nmgc_alloc.proofs.{TallyLaws.passes, FiledLists.count_parts, HalvesLaws.none_below_none}
 
--- counts of a list that is cut
+-- the count of a list that is cut is the sum of the counts of its parts
 pub count_both : (xs ys : List Segment) → sought_count Sweeping (xs ++ ys) ≡ sought_count Sweeping xs + sought_count Sweeping ys
 count_both xs ys = count_parts Sweeping xs ys
 
@@ -12,11 +12,11 @@ pub count_cut : (n : ℕ) (xs : List Segment) → sought_count Sweeping xs ≡ s
 count_cut n xs = ap (λ (l : List Segment). sought_count Sweeping l) (sym (take-append-drop n xs)) ∙ count_both (take n xs) (drop n xs)
 
 pub count_more : (xs : List Segment) (n : ℕ) → n < length xs →
-    sought_count Sweeping (take (n + 1) xs) ≡ sought_count Sweeping (take n xs) + one_if (is_sought Sweeping (nth xs n))
+    sought_count Sweeping (take (n + 1) xs) ≡ sought_count Sweeping (take n xs) + one_if (is_in_category Sweeping (nth xs n))
 count_more xs n lt =
     let both : sought_count Sweeping (take (n + 1) xs) ≡ sought_count Sweeping (take n xs) + sought_count Sweeping (nth xs n ∷ []) =
     ap (λ (l : List Segment). sought_count Sweeping l) (take_more xs n (free_segment 0) lt) ∙ count_both (take n xs) (nth xs n ∷ []) in
-    let one : sought_count Sweeping (nth xs n ∷ []) ≡ 0 + one_if (is_sought Sweeping (nth xs n)) = refl in
+    let one : sought_count Sweeping (nth xs n ∷ []) ≡ 0 + one_if (is_in_category Sweeping (nth xs n)) = refl in
     omega (arith, both, one)
 
 -- one or none
@@ -24,15 +24,15 @@ pub one_or_none : (b : Bool) → one_if b ≤ 1
 one_or_none true = omega arith
 one_or_none false = omega arith
 
--- so many before one that waits are fewer than all
+-- the waiting segments before one that waits are fewer than all
 pub count_lt : (xs : List Segment) (n : ℕ) → n < length xs → (nth xs n).state ≡ state.Sweeping → sought_count Sweeping (take n xs) < sought_count Sweeping xs
 count_lt xs n lt waits =
     let more = count_more xs n lt in
-    let one : one_if (is_sought Sweeping (nth xs n)) ≡ 1 = ap one_if (passes Sweeping (nth xs n) waits) in
+    let one : one_if (is_in_category Sweeping (nth xs n)) ≡ 1 = ap one_if (passes Sweeping (nth xs n) waits) in
     let all = count_cut (n + 1) xs in
     omega (arith, more, one, all)
 
--- a loop over segments: those so far were swept, and the others are as they were
+-- a loop over segments: the segments so far were swept, and the rest is unchanged
 pub record SweptSo (epoch i : ℕ) (was now : List Segment) : Type 0 where
   pub size : length now ≡ length was
   pub each : (j : ℕ) → j < i → SweptWaiting epoch (nth was j) (nth now j)
@@ -72,7 +72,7 @@ swept_both epoch a b c d x y =
       ];
     }
 
--- and others behind them that stay
+-- and further segments after them that stay
 pub first_from : (epoch end count : ℕ) (was new : List Segment) → end ≤ length was → sought_count Sweeping (take end was) ≡ count →
     AllSwept epoch (take end was) new → FirstSwept epoch count end was (new ++ drop end was)
 first_from epoch end count was new within counted h =
@@ -93,7 +93,7 @@ first_from epoch end count was new within counted h =
           cc (get_or-append_right new (drop end was) end i (free_segment 0) long ge, get_or-drop end was (i - end) (free_segment 0), split);
     }
 
--- as the code cuts them
+-- the parts as the code cuts them
 pub swept_parts : (epoch middle end lower_count upper_count count : ℕ) (was front back low high low_new high_new : List Segment) →
     front ≡ take end was → back ≡ drop end was → low ≡ take middle front → high ≡ drop middle front → middle ≤ end → end ≤ length was →
     sought_count Sweeping (take (middle - 0) (drop 0 was)) ≡ lower_count →
@@ -111,7 +111,7 @@ swept_parts epoch middle end lower_count upper_count count was front back low hi
     let counted : sought_count Sweeping (take end was) ≡ count = omega (arith, sum, low_is, upper, total) in
     rw b (first_from epoch end count was (low_new ++ high_new) within counted (subst (λ (xs : List Segment). AllSwept epoch xs (low_new ++ high_new)) whole both))
 
--- where none of the first waits, the search may begin behind them
+-- if none of the first segments waits, the search may begin after them
 pub none_counted_below : (xs : List Segment) (n : ℕ) → NoneBelow Sweeping xs n → n ≤ length xs → sought_count Sweeping (take n xs) ≡ 0
 none_counted_below xs n none within = elim (cases_eq (sought_count Sweeping (take n xs)) 0) [
   | inl e ↦ e

@@ -1,8 +1,8 @@
--- Sweeping the first segments that wait, in whatever order, is sweeping one after the other.
-use Rattle.nmgc_alloc.proofs.{Vocabulary.ℕ, Vocabulary.zero, Vocabulary.suc, Vocabulary.◌≡◌, Vocabulary.◌+◌, Vocabulary.◌<◌, Vocabulary.◌≤◌, Vocabulary.◌∙◌, Vocabulary.inl, Vocabulary.inr, Vocabulary.refl, Vocabulary.ap, Vocabulary.subst, Vocabulary.sym, Vocabulary.arith, Vocabulary.List, Vocabulary.length, Vocabulary.set, Vocabulary.take, Vocabulary.length-set, Vocabulary.set-get_or, Vocabulary.ext_get_or, Vocabulary.cases_eq, Vocabulary.cases_lt, Vocabulary.Segment, Vocabulary.free_segment, Vocabulary.Sweeping, Vocabulary.nth, Vocabulary.Segments, Vocabulary.NoneBelow, Vocabulary.is_sought, Vocabulary.sought_count, Vocabulary.SweepsNext, Vocabulary.SweepsMany, Vocabulary.FirstSwept, Vocabulary.one_if, Vocabulary.nth-set_same, Vocabulary.nth-set_other, TallyLaws.passes, TallyLaws.fails, SweepLaws.swept_not_sweeping, HalvesLaws.waits_or_not, HalvesLaws.sweeps_more, HalvesLists.count_more}
+-- Sweeping the first waiting segments in any order has the same result as sweeping one after the other.
+use Rattle.nmgc_alloc.proofs.{Vocabulary.ℕ, Vocabulary.zero, Vocabulary.suc, Vocabulary.◌≡◌, Vocabulary.◌+◌, Vocabulary.◌<◌, Vocabulary.◌≤◌, Vocabulary.◌∙◌, Vocabulary.inl, Vocabulary.inr, Vocabulary.refl, Vocabulary.ap, Vocabulary.subst, Vocabulary.sym, Vocabulary.arith, Vocabulary.List, Vocabulary.length, Vocabulary.set, Vocabulary.take, Vocabulary.length-set, Vocabulary.set-get_or, Vocabulary.ext_get_or, Vocabulary.cases_eq, Vocabulary.cases_lt, Vocabulary.Segment, Vocabulary.free_segment, Vocabulary.Sweeping, Vocabulary.nth, Vocabulary.Segments, Vocabulary.NoneBelow, Vocabulary.is_in_category, Vocabulary.sought_count, Vocabulary.SweepsNext, Vocabulary.SweepsMany, Vocabulary.FirstSwept, Vocabulary.one_if, Vocabulary.nth-set_same, Vocabulary.nth-set_other, TallyLaws.passes, TallyLaws.fails, SweepLaws.swept_not_sweeping, HalvesLaws.waits_or_not, HalvesLaws.sweeps_more, HalvesLists.count_more}
 use Rattle.nmgc_segment.specs.declared.state.State.TheVariants as state
 
--- so many of the first segments as they are afterwards, and the others as they were
+-- the first `n` segments as they are afterwards, and the rest as before
 abbrev with_first : ℕ → List Segment → List Segment → List Segment
 with_first zero was now = was
 with_first (suc n) was now = set (with_first n was now) n (nth now n)
@@ -27,7 +27,7 @@ first_above zero was now i ge = refl
 first_above (suc n) was now i ge =
     nth-set_other (with_first n was now) n i (nth now n) (λ e. omega (arith, e, ge)) ∙ first_above n was now i (omega (arith, ge))
 
--- none of the first waits any more
+-- none of the first segments waits afterwards
 pub none_waits : (epoch count end : ℕ) (was now : List Segment) → FirstSwept epoch count end was now → NoneBelow Sweeping now end
 none_waits epoch count end was now h i lt w = elim (waits_or_not (nth was i)) [
   | inl waits ↦ swept_not_sweeping (nth was i) (nth now i) epoch ((h.below i lt).0 waits).0 w
@@ -44,7 +44,7 @@ module _ (epoch count end : ℕ) (s : Segments) (now : List Segment) (h : FirstS
   there : (n : ℕ) → nth (xs n) n ≡ nth s.segments n
   there n = first_above n s.segments now n (omega arith)
 
-  -- the next one that waits is swept
+  -- the next waiting segment is swept
   sweeps_next : (n : ℕ) → n < end → (nth s.segments n).state ≡ state.Sweeping → SweepsNext (mid n) (mid (suc n)) epoch n
   sweeps_next n lt waits =
       let size = first_size n s.segments now in
@@ -62,7 +62,7 @@ module _ (epoch count end : ℕ) (s : Segments) (now : List Segment) (h : FirstS
         others = ap (λ (x : Segment). record s { segments = set (xs n) n x }) (sym here);
       }
 
-  -- another stays
+  -- a segment that doesn't wait stays
   stays : (n : ℕ) → n < end → ((nth s.segments n).state ≡ state.Sweeping → ⊥) → xs (suc n) ≡ xs n
   stays n lt other = ap (λ (x : Segment). set (xs n) n x) ((h.below n lt).1 other ∙ sym (there n)) ∙ set-get_or (xs n) n (free_segment 0)
 
@@ -70,18 +70,18 @@ module _ (epoch count end : ℕ) (s : Segments) (now : List Segment) (h : FirstS
   so_far zero le = refl
   so_far (suc n) le =
       let before = so_far n (omega (arith, le)) in
-      let one : ℕ = one_if (is_sought Sweeping (nth s.segments n)) in
+      let one : ℕ = one_if (is_in_category Sweeping (nth s.segments n)) in
       let next : n + 1 ≡ suc n = omega arith in
       let more : sought_count Sweeping (take (suc n) s.segments) ≡ sought_count Sweeping (take n s.segments) + one =
       ap (λ (k : ℕ). sought_count Sweeping (take k s.segments)) (sym next) ∙ count_more s.segments n (omega (arith, le, h.within)) in
       elim (waits_or_not (nth s.segments n)) [
         | inl waits ↦
-            let is : one_if (is_sought Sweeping (nth s.segments n)) ≡ 1 = ap one_if (passes Sweeping (nth s.segments n) waits) in
+            let is : one_if (is_in_category Sweeping (nth s.segments n)) ≡ 1 = ap one_if (passes Sweeping (nth s.segments n) waits) in
             let total : suc (sought_count Sweeping (take n s.segments)) ≡ sought_count Sweeping (take (suc n) s.segments) = omega (arith, more, is) in
             subst (λ (k : ℕ). SweepsMany epoch k s (mid (suc n))) total
             (sweeps_more epoch (sought_count Sweeping (take n s.segments)) n s (mid n) (mid (suc n)) before (sweeps_next n (omega (arith, le)) waits))
         | inr other ↦
-            let is : one_if (is_sought Sweeping (nth s.segments n)) ≡ 0 = ap one_if (fails Sweeping (nth s.segments n) other) in
+            let is : one_if (is_in_category Sweeping (nth s.segments n)) ≡ 0 = ap one_if (fails Sweeping (nth s.segments n) other) in
             let total : sought_count Sweeping (take n s.segments) ≡ sought_count Sweeping (take (suc n) s.segments) = omega (arith, more, is) in
             subst (λ (k : ℕ). SweepsMany epoch k s (mid (suc n))) total
             (subst (λ (l : List Segment). SweepsMany epoch (sought_count Sweeping (take n s.segments)) s (record s { segments = l })) (sym (stays n (omega (

@@ -1,12 +1,12 @@
 -- A shift and a mask in place of a division by the words of a segment, which are a power of two.
 use Rattle.nmgc_alloc.proofs.Vocabulary.{ℕ, ◌≡◌, ◌+◌, ◌-◌, ◌*◌, ◌^◌, ◌/◌, ◌%◌, ◌≤◌, ◌∙◌, refl, ap, sym, arith, true, eqb, bit_and, count_trailing_zeros, agree_below_at, eqb-true, pow-add, and_mask, IsSegmentSize, is_whole}
 
--- the digits below the only one that is set
+-- the number of digits below the only digit that is set
 digits_below : (steps : ℕ) → steps ≤ 8 → count_trailing_zeros 32 (16 * 2 ^ steps) ≡ steps + 4
 unfolding count_trailing_zeros
 digits_below steps few = eqb-true _ _ (agree_below_at (λ k. eqb (count_trailing_zeros 32 (16 * 2 ^ k)) (k + 4)) (λ k. true) 9 steps refl (omega arith))
 
--- the words of a segment are so many times doubled
+-- the words of a segment are that power of two
 pub shift_is : (words : ℕ) → IsSegmentSize words → 2 ^ count_trailing_zeros 32 words ≡ words
 shift_is words h =
     let w = is_whole words h in

@@ -1,4 +1,4 @@
--- All segments of a heap by number, and whether two states are the same.
+-- All segments of a heap by number, and a test whether two states are the same.
 use Rattle.std.specs.Prelude.{Bool, true, false, ◌==◌, ℕ, List, slice_index_or, ◌<◌, length, ◌+◌, ◌*◌}
 use Rattle.nmgc_object.specs.{declared.layout.Layout.Layout, Size.block_size, Places.segment_place}
 use Rattle.nmgc_segment.specs.{declared.state.State.State, Segment.Segment, Segment.free_segment}
@@ -17,16 +17,16 @@ is _ _ = false
 abbrev pub nth : List Segment → ℕ → Segment
 nth segments number = slice_index_or segments number (free_segment 0)
 
--- the layout, the segments by number, and how many were filled since the last cycle began
+-- all segments: the layout, the segments by number, and the number of segments filled since the last cycle began
 pub record Segments : Type 0 where
   pub layout : Layout
   pub segments : List Segment
   pub fresh : ℕ
 
--- the segment has its number
+-- a number that a segment has
 abbrev pub HasNumber : Segments → ℕ → Type 0
 HasNumber s number = number < length s.segments
 
--- where a block begins
+-- the address at which a block begins
 abbrev pub block_place : Layout → ℕ → ℕ → ℕ → ℕ
 block_place layout number class block = segment_place layout number + block * block_size class

@@ -1,4 +1,4 @@
--- When segments and the words of the heap stand for an allocation state, and what a placing writes into the words.
+-- Segments and words of the heap that represent an allocation state, and the words that a placing writes.
 use Rattle.std.specs.Prelude.{ℕ, ◌≡◌, ◌≢◌, ◌↔◌, List, length, slice_index, Some, IsSome, ◌+◌, ◌<◌, ◌≤◌, ◌⊎◌}
 use Rattle.nmgc_world_spec.specs.declared.value.Name.{Name}
 use Rattle.nmgc_object.specs.{Size.name_place, Size.block_size, Words.name_word, Places.word_total}
@@ -6,7 +6,8 @@ use Rattle.nmgc_segment.specs.Segment.{InUse, block_count}
 use Rattle.nmgc_segment.specs.declared.state.State.TheVariants as stands
 use Rattle.nmgc_alloc.specs.{Numbered.nth, Numbered.Segments, Numbered.block_place, Numbered.HasNumber, AllocState.Cells, AllocState.no_cells, AllocState.name_in, AllocState.AllocState, AllocState.cells, AllocState.AreNames}
 
--- a segment, and the words of the heap, show these cells; a free segment has no class and no names
+-- cells that a segment and the words of the heap show: state and class are equal, and a block is in use exactly if it has a
+-- name. That name, a valid one, is the block's second word. A free segment has no class and no names
 pub record Shows (s : Segments) (words : List ℕ) (number : ℕ) (c : Cells) : Type 0 where
   pub state : c.state ≡ (nth s.segments number).state
   pub free : c.state ≡ stands.Free → c ≡ no_cells
@@ -16,7 +17,7 @@ pub record Shows (s : Segments) (words : List ℕ) (number : ℕ) (c : Cells) : 
   pub named : (block : ℕ) (name : Name) → name_in c block ≡ Some name →
       slice_index words (name_place (block_place s.layout number (nth s.segments number).class block)) ≡ name_word name
 
--- segments with all words of the heap stand for the allocation state
+-- representing an allocation state: segments and all words of the heap show the same states, classes and names
 pub record StandsFor (s : Segments) (words : List ℕ) (allocation : AllocState) : Type 0 where
   pub total : length words ≡ word_total s.layout
   pub count : length allocation.segments ≡ length s.segments
@@ -24,7 +25,7 @@ pub record StandsFor (s : Segments) (words : List ℕ) (allocation : AllocState)
   pub fresh : allocation.fresh ≡ s.fresh
   pub shows : (number : ℕ) → HasNumber s number → Shows s words number (cells allocation number)
 
--- the words of an object placed there were written, with the name's as the second, and no others
+-- words before and after an object was written at an address: the second is its name, and no word outside its block changed
 pub record Writes (old new : List ℕ) (at class : ℕ) (name : Name) : Type 0 where
   pub length : length new ≡ length old
   pub second : slice_index new (name_place at) ≡ name_word name

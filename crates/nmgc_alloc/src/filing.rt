@@ -1,24 +1,23 @@
-//! What sweeps do to the kinds of segments that are searched for: how many segments they made free, active of each class,
-//! and filled, and how the tallies take that up.
+//! Counts of swept segments: the numbers that sweeps made free, active of each class, and filled, for the tallies.
 //!
-//! Two threads sweep segments side by side, and none of them may touch the tallies, which are those of all segments. So
-//! each counts into a value of its own, and the tallies take both up afterwards, in time that doesn't grow with the number
-//! of segments.
+//! Two threads sweep segments side by side. Neither may write the tallies, which belong to all. So each counts into a value
+//! of its own, and the tallies take up both afterwards. This takes the same time for any number of segments.
 //!
-//! Easy to get wrong: the tallies know of a range in which segments became ones of a kind, and not which ones. So nothing in
-//! that range is ruled out any more. Where it lies below all others of the kind, a tally keeps what lies between it and those;
-//! else it keeps what lies above it of the stretch in which none lay.
+//! Easy to get wrong: the tallies know the range in which segments entered a kind, but not which segments did. So nothing in
+//! that range is ruled out any more. If it lies below all former segments of the kind, a tally keeps the numbers between it
+//! and those. Otherwise it keeps the part of its stretch above the range. So a search may look at other segments than after
+//! single sweeps, and at some once more. It finds the same segment.
 ghost use Rattle.std.specs.Prelude.{◌≡◌, ◌+◌, ◌<◌, ◌≤◌, length};
 ghost use Rattle.nmgc_limits.specs.Limits.{most_segments};
-ghost use Rattle.nmgc_alloc.specs.{declared.tables.TheConstants.CLASSES as classes, declared.tables.TheConstants.KINDS as kinds, declared.search.Sought.Sought as Kind, declared.search.Sought.TheVariants.Sweeping as waiting, Numbered.is, Search.is_for, Search.tally_of, CycleSteps.state_of, Filing.IsOutcome, Filing.CountsNone, Filing.gained, Filing.AreFew, Filing.EntersMany, laws.Counts.one_if};
+ghost use Rattle.nmgc_alloc.specs.{declared.tables.TheConstants.CLASSES as classes, declared.tables.TheConstants.KINDS as kinds, declared.search.Category.Category as Kind, declared.search.Category.TheVariants.Sweeping as waiting, Numbered.is, Search.is_for, Search.tally_of, CycleSteps.state_of, Filing.IsOutcome, Filing.CountsNone, Filing.gained, Filing.AreFew, Filing.EntersMany, laws.Counts.one_if};
 ghost use Rattle.nmgc_segment.specs.declared.state.State.TheVariants as state;
 
-use crate::search::Sought;
+use crate::search::Category;
 use crate::tables::CLASSES;
 use crate::tally::Tally;
 use nmgc_segment::Swept;
 
-/// How many segments sweeps made free, active of each class, and filled.
+/// The numbers of segments that sweeps made free, active of each class, and filled.
 #[derive(Clone, Copy, Debug, PartialEq, Eq)]
 pub struct Filed {
     pub free: u32,
@@ -27,7 +26,7 @@ pub struct Filed {
 }
 
 impl Filed {
-    /// Nothing was swept yet.
+    /// Returns the counts before any sweep, which are all 0.
     pub fn none() -> Self
         ensures { CountsNone result }
     {
@@ -38,12 +37,12 @@ impl Filed {
         }
     }
 
-    /// One more was swept, of the class, and was put into this state.
+    /// Counts one more segment of the class, whose sweep had this result.
     pub fn note(&mut self, swept: Swept, class: u8)
         requires class { class < classes }
         requires few { AreFew self.old }
-        ensures counts { (sought : Kind) → IsOutcome sought →
-            gained self.new sought ≡ gained self.old sought + one_if (is_for sought (state_of swept) class) }
+        ensures counts { (category : Kind) → IsOutcome category →
+            gained self.new category ≡ gained self.old category + one_if (is_for category (state_of swept) class) }
         ensures filled { self.new.filled ≡ self.old.filled + one_if (is (state_of swept) state.Filled) }
     {
         match swept {
@@ -54,20 +53,20 @@ impl Filed {
     }
 }
 
-/// The tallies take up what was counted of two parts, whose segments lie from one number on and below another.
+/// Adds the counts of two swept parts to the tallies. All segments of the parts lie from `from` on and below `end`.
 pub fn take_up(tallies: &mut [Tally], lower: &Filed, upper: &Filed, from: u32, end: u32)
     requires kinds { length tallies.old ≡ kinds }
     requires range { (from ≤ end) × (end ≤ most_segments) }
-    requires few { (sought : Kind) → IsOutcome sought →
-        (tally_of tallies.old sought).count + (gained lower.now sought + gained upper.now sought) ≤ most_segments }
+    requires few { (category : Kind) → IsOutcome category →
+        (tally_of tallies.old category).count + (gained lower.now category + gained upper.now category) ≤ most_segments }
     ensures kinds { length tallies.new ≡ kinds }
-    ensures each { (sought : Kind) → IsOutcome sought →
-        EntersMany (gained lower.now sought + gained upper.now sought) from end (tally_of tallies.old sought) (tally_of tallies.new sought) }
+    ensures each { (category : Kind) → IsOutcome category →
+        EntersMany (gained lower.now category + gained upper.now category) from end (tally_of tallies.old category) (tally_of tallies.new category) }
     ensures waiting { tally_of tallies.new waiting ≡ tally_of tallies.old waiting }
 {
-    tallies[Sought::Free.place()].enter_many(lower.free + upper.free, from, end);
+    tallies[Category::Free.place()].enter_many(lower.free + upper.free, from, end);
     for class in 0..CLASSES {
         let gain = lower.active[class] + upper.active[class];
-        tallies[Sought::Active { class: class as u8 }.place()].enter_many(gain, from, end);
+        tallies[Category::Active { class: class as u8 }.place()].enter_many(gain, from, end);
     }
 }

@@ -1,23 +1,23 @@
-//! Sweeping segments that wait, in two halves.
+//! Sweeping waiting segments in two halves.
 //!
-//! The mark bytes and the state of a segment are its own, so two threads may sweep them without any order between them.
-//! The tallies are those of all segments, so each half counts into a value of its own what came of its sweeps, and the
-//! caller takes both up afterwards: what is left doesn't depend on which half was first. The caller lends these values: handed
-//! out by each function on the way they would be copied each time, which for few segments takes as long as to sweep some.
+//! The mark bytes and the state of a segment belong to it alone, so two threads may sweep segments without order between
+//! them. The tallies belong to all segments. So each half counts the results of its sweeps into a value of its own, and the
+//! caller takes up both afterwards. The result doesn't depend on which half was first. The caller lends these values. If each
+//! function on the way returned them, they would be copied each time, which takes as long as sweeping a few segments.
 //!
-//! Easy to get wrong: where the number is odd the lower half has one more, and where there is but one no thread starts.
+//! Easy to get wrong: if the number is odd, the lower half has one more, and for a single segment no thread starts.
 ghost use Rattle.std.specs.Prelude.{ℕ, ◌≡◌, ◌+◌, ◌-◌, ◌/◌, ◌<◌, ◌≤◌, take, drop, length, if◌then◌else◌};
 ghost use Rattle.nmgc_limits.specs.Limits.{most_segments};
 ghost use Rattle.nmgc_segment.specs.Marks.{IsEpoch};
 ghost use Rattle.nmgc_segment.specs.declared.state.State.TheVariants as state;
-ghost use Rattle.nmgc_alloc.specs.{declared.search.Sought.Sought, declared.search.Sought.TheVariants.Sweeping, Numbered.is, Search.NoneBelow, Search.is_sought, Search.sought_count, Filing.IsOutcome, Filing.CountsNone, Filing.gained, Filing.AreFew, Filing.Files, Halves.IsInHalf, Halves.SweptWaiting, Halves.AllSwept, Halves.FirstSwept, laws.Counts.one_if};
+ghost use Rattle.nmgc_alloc.specs.{declared.search.Category.Category, declared.search.Category.TheVariants.Sweeping, Numbered.is, Search.NoneBelow, Search.is_in_category, Search.sought_count, Filing.IsOutcome, Filing.CountsNone, Filing.gained, Filing.AreFew, Filing.Files, Halves.IsInHalf, Halves.SweptWaiting, Halves.AllSwept, Halves.FirstSwept, laws.Counts.one_if};
 
 use crate::cycle_steps;
 use crate::filing::Filed;
 use nmgc_segment::{Segment, State};
 use std::thread::{Threads, join_mut};
 
-// Sweeps a segment, if it waits, as the next one of its half, and counts what came of it. Answers how many these are then.
+// If a segment waits, sweeps it as the next of its half and counts the result. Returns the number of sweeps of the half.
 fn sweep_waiting<F: Fn(u8, u32)>(
     before: &F,
     half: u8,
@@ -31,9 +31,9 @@ fn sweep_waiting<F: Fn(u8, u32)>(
     requires counts { AreFew filed.old }
     requires before { segment.old.state ≡ state.Sweeping → F.pre before.now half count }
     ensures swept { SweptWaiting epoch segment.old segment.new }
-    ensures count { result ≡ count + (if is_sought Sweeping segment.old then 1 else 0) }
-    ensures counts { (sought : Sought) → IsOutcome sought →
-        gained filed.new sought + one_if (is_sought sought segment.old) ≡ gained filed.old sought + one_if (is_sought sought segment.new) }
+    ensures count { result ≡ count + (if is_in_category Sweeping segment.old then 1 else 0) }
+    ensures counts { (category : Category) → IsOutcome category →
+        gained filed.new category + one_if (is_in_category category segment.old) ≡ gained filed.old category + one_if (is_in_category category segment.new) }
     ensures filled { filed.new.filled + one_if (is segment.old.state state.Filled) ≡ filed.old.filled + one_if (is segment.new.state state.Filled) }
 {
     if segment.state() != State::Sweeping {
@@ -45,7 +45,7 @@ fn sweep_waiting<F: Fn(u8, u32)>(
     count + 1
 }
 
-// Sweeps all that wait, in order, and counts what came of it.
+// Sweeps all waiting segments of a part in order, and counts the results.
 fn sweep_part<F: Fn(u8, u32)>(
     before: &F,
     half: u8,
@@ -66,7 +66,7 @@ fn sweep_part<F: Fn(u8, u32)>(
     }
 }
 
-// Two parts in two threads; the caller has the lower one, which is the larger. What came of each is counted apart.
+// Sweeps two parts in two threads, and counts the results apart. The calling thread has the lower part, which is larger.
 fn sweep_both<R: Threads + Sync, F: Fn(u8, u32) + Sync>(
     rt: &R,
     before: &F,
@@ -103,9 +103,9 @@ fn sweep_both<R: Threads + Sync, F: Fn(u8, u32) + Sync>(
     join_mut(rt, &mut second, &mut first);
 }
 
-// Whether the segment waits, as a number.
+// Returns 1 if the segment waits to be swept, and otherwise 0.
 fn waits(segment: &Segment) -> u32
-    ensures { result ≡ (if is_sought Sweeping segment.now then 1 else 0) }
+    ensures { result ≡ (if is_in_category Sweeping segment.now then 1 else 0) }
 {
     if segment.state() == State::Sweeping {
         1
@@ -114,7 +114,7 @@ fn waits(segment: &Segment) -> u32
     }
 }
 
-// The number behind so many segments that wait, of those from a number on.
+// Returns a position such that exactly `count` segments wait from `from` on and below it.
 fn behind(segments: &[Segment], from: usize, count: u32) -> usize
     requires from { from ≤ length segments.now }
     requires enough { count ≤ sought_count Sweeping (drop from segments.now) }
@@ -132,7 +132,7 @@ fn behind(segments: &[Segment], from: usize, count: u32) -> usize
     segments.len()
 }
 
-// What `sweep_from` does, where the search begins at the first segment.
+// Sweeps the first `count` waiting segments in two halves, and returns a number below which they all lie.
 fn sweep_first<R: Threads + Sync, F: Fn(u8, u32) + Sync>(
     rt: &R,
     before: &F,
@@ -148,7 +148,7 @@ fn sweep_first<R: Threads + Sync, F: Fn(u8, u32) + Sync>(
     requires enough { count ≤ sought_count Sweeping segments.old }
     requires before { (half i : ℕ) → IsInHalf count half i → F.pre before.now half i }
     ensures swept { FirstSwept epoch count result segments.old segments.new }
-    ensures files { Files (λ sought. gained lower_filed.new sought + gained upper_filed.new sought)
+    ensures files { Files (λ category. gained lower_filed.new category + gained upper_filed.new category)
         (lower_filed.new.filled + upper_filed.new.filled) segments.old segments.new }
 {
     let upper = count / 2;
@@ -168,10 +168,9 @@ fn sweep_first<R: Threads + Sync, F: Fn(u8, u32) + Sync>(
     end
 }
 
-/// Sweeps so many segments that wait, the first of them, in two halves, each in order and in a thread of its own, and counts
-/// what came of each half into a value that counts nothing yet. Before each sweep it calls `before`, with the half and the number
-/// within it. None waits below `from`, where the search begins. Answers a number below which all that waited were swept; from
-/// it on nothing changed.
+/// Sweeps the first `count` waiting segments in two halves, each in order and in its own thread. Returns a number: below it
+/// all waiting segments were swept, and from it on nothing changed. Each half counts its results into a value without counts.
+/// Before each sweep it calls `before`, with the half and the position in it. No segment below `from` waits.
 pub fn sweep_from<R: Threads + Sync, F: Fn(u8, u32) + Sync>(
     rt: &R,
     before: &F,
@@ -189,7 +188,7 @@ pub fn sweep_from<R: Threads + Sync, F: Fn(u8, u32) + Sync>(
     requires enough { count ≤ sought_count Sweeping segments.old }
     requires before { (half i : ℕ) → IsInHalf count half i → F.pre before.now half i }
     ensures swept { FirstSwept epoch count result segments.old segments.new }
-    ensures files { Files (λ sought. gained lower_filed.new sought + gained upper_filed.new sought)
+    ensures files { Files (λ category. gained lower_filed.new category + gained upper_filed.new category)
         (lower_filed.new.filled + upper_filed.new.filled) segments.old segments.new }
     ensures from_on { from ≤ result }
 {

@@ -1,25 +1,21 @@
 //! All segments, by number.
 //!
-//! The placing rule is `Allocates` in `specs/Segments.antt`; by names, as a run tells it, it is `PlacesName` in
-//! `specs/AllocState.antt`.
+//! Placing must take constant time except for the search within one segment, so no object needs a search through all
+//! segments. A table has the number of each mutator's current segment of each class. Another has a tally of each kind of
+//! segment that is searched for: free segments, segments to be swept, and active segments of a class. A tally has their
+//! number and a range without any. So a search that would find nothing isn't made, and each search continues the last. The
+//! counts take constant time, since each is updated when a segment changes its state.
 //!
-//! Placing must take constant time but for the search within one segment, so nothing here looks
-//! through all segments for each object. A table has the number of each mutator's current segment of
-//! each class. Another has a tally of each kind of segment that is searched for: the free ones, the
-//! ones to be swept, and the active ones of a class. It tells how many there are and where none lies,
-//! so a search that would find nothing isn't made, and another one goes on where the last one stopped.
-//! The counts take constant time, since each is kept where a segment changes its state.
-//!
-//! Easy to get wrong: the number of a current segment may be of one that was filled or retired since,
-//! so its state is looked at; and the table is right about the absence of a current segment only
-//! because it is written each time that one becomes current.
+//! Easy to get wrong: the number in the table may be of a segment that has been filled or retired since, so the code reads
+//! its state. The table is right about the absence of a current segment only because each new current segment is written to
+//! it.
 ghost use Rattle.std.specs.Prelude.{ℕ, ◌≡◌, ◌≢◌, ◌↔◌, ◌+◌, ◌<◌, ◌≤◌, ◌/◌, ◌%◌, map, min, replicate, count_by, slice_set, IsTrue, IfOk, IfSome, IfNone};
 ghost use Rattle.nmgc_object.specs.Places.{IsLayout, IsSegmentSize, segment_place};
 ghost use Rattle.nmgc_segment.specs.{Marks.IsEpoch, Segment.free_segment, Segment.block_count};
 ghost use Rattle.nmgc_alloc.specs.{CycleSteps.prepared, CycleSteps.carried_over, CycleSteps.retired, Numbered.is, Numbered.nth, Search.sought_count, Search.IsKind, Search.tally_from, Halves.IsInHalf, Halves.SweepsMany};
 
 use crate::filing::Filed;
-use crate::search::{self, Sought};
+use crate::search::{self, Category};
 use crate::tables::{CLASSES, KINDS, PAIRS};
 use crate::tally::Tally;
 use crate::{cycle_steps, filing, halves};
@@ -60,9 +56,8 @@ impl Model for Segments {
     } in IsSegments shown × Leads s.segments.items s.current.items × HaveTallies s.segments.items s.tallies.items s.filled };
 }
 
-// The number of the segment in which a word lies, and how far it lies from the segment's first word: its distance from
-// the first word of all segments, divided by the words of a segment, gives both. That number is a power of two, so no
-// division is needed.
+// Returns the number of the segment that contains a word, and the word's offset from the segment's first word. `distance`
+// counts from the first word of all segments. The words of a segment are a power of two, so no division is needed.
 fn split(distance: u32, words: u32) -> (u32, u32)
     requires { IsSegmentSize words }
     ensures number { result.0 ≡ distance / words }
@@ -71,7 +66,7 @@ fn split(distance: u32, words: u32) -> (u32, u32)
     (distance >> words.trailing_zeros(), distance & (words - 1))
 }
 
-// So many free segments.
+// Makes all segments of a layout, each of them free.
 fn free_segments(alloc: Global, layout: Layout) -> Result<Vec<Segment>, NoMemory>
     requires { IsLayout layout }
     ensures { IfOk result (λ segments. segments.items ≡ replicate layout.segments (free_segment layout.words)) }
@@ -83,19 +78,19 @@ fn free_segments(alloc: Global, layout: Layout) -> Result<Vec<Segment>, NoMemory
     Ok(segments)
 }
 
-// A table of zeroes.
+// Makes a table of `length` zeros.
 fn zeroes(alloc: Global, length: usize) -> Result<Vec<u32>, NoMemory>
     ensures { IfOk result (λ table. table.items ≡ replicate length 0) }
 {
     Ok(vec![in alloc; 0; length]?)
 }
 
-// The tallies of so many free segments.
+// Makes the table of tallies for `segments` segments that are all free.
 fn first_tallies(alloc: Global, segments: u32) -> Result<Vec<Tally>, NoMemory>
     ensures { IfOk result (λ tallies. tallies.items ≡ slice_set (replicate KINDS (tally_from 0 segments)) 0 (tally_from segments 0)) }
 {
     let mut tallies = vec![in alloc; Tally::starting(0, segments); KINDS]?;
-    tallies[Sought::Free.place()] = Tally::starting(segments, 0);
+    tallies[Category::Free.place()] = Tally::starting(segments, 0);
     Ok(tallies)
 }
 
@@ -103,7 +98,7 @@ impl Segments {
     ghost use Rattle.nmgc_alloc.specs.Segments.{all_free, IsMutator, IsClass, IsCurrent, HasRoom, HasNone, HasNoneIn, HasNoCurrent, Allocates, SweepsNext, IsBlockAt, IsSegments, IsOwn, IsLeast, IsOpen, CountsFilled, TakesBlock, IsChosen, SweepsSegment, MarksBlock, MarksIfBlock, IsToMark, as_current, marked_if};
     ghost use Rattle.nmgc_alloc.specs.Numbered.{HasNumber, block_place};
 
-    /// All segments of a layout, free.
+    /// Makes all segments of a layout, each of them free.
     pub fn new(alloc: Global, layout: Layout) -> Result<Self, NoMemory>
         requires { IsLayout layout }
         ensures value { IfOk result (λ segments. segments ≡ all_free layout) }
@@ -122,25 +117,30 @@ impl Segments {
         })
     }
 
-    /// The layout. Takes no memory, as every call but `new`.
+    /// Returns the layout. Of all calls, only `new` takes memory.
     pub fn layout(&self) -> Layout
         ensures layout { result ≡ self.now.layout }
         ensures sound { IsSegments self.now }
     {
-        // Reading a field tells the checker what holds of all segments: that they are sound.
+        // Note [Lines that do nothing]
+        //
+        // Reading a field of a value gives the prover the invariant of its type: here, that all segments are sound. So `let _
+        // = &self.segments;` in a method, and `let _ = segments.layout();` in a caller, do nothing when they run. A call of a
+        // law (as in `nmgc_cycle/src/stop_laws.rt`) does nothing either: it gives the prover the law. `let _ = command;` is
+        // for an argument that only clauses read.
         let _ = &self.segments;
         self.layout
     }
 
-    /// How many segments were filled by placing since the last cycle began. They are still filled, so
-    /// there are no more of them than segments.
+    /// Returns the number of segments filled by placing since the last cycle began. They are still filled, so the number is
+    /// at most the number of filled segments.
     pub fn fresh(&self) -> u32
         ensures { result ≡ self.now.fresh }
     {
         self.fresh
     }
 
-    /// A segment.
+    /// Returns a segment by its number.
     pub fn segment(&self, number: u32) -> &Segment
         requires { HasNumber self.now number }
         ensures { result.now ≡ nth self.now.segments number }
@@ -148,28 +148,28 @@ impl Segments {
         &self.segments[number as usize]
     }
 
-    /// How many segments are free. Constant time.
+    /// Returns the number of free segments. Constant time.
     pub fn free_count(&self) -> u32
         ensures { result ≡ count_by (λ segment. is segment.state State.Free) self.now.segments }
     {
-        self.tallies[Sought::Free.place()].count
+        self.tallies[Category::Free.place()].count
     }
 
-    /// How many segments are filled. Constant time.
+    /// Returns the number of filled segments. Constant time.
     pub fn filled_count(&self) -> u32
         ensures { result ≡ count_by (λ segment. is segment.state State.Filled) self.now.segments }
     {
         self.filled
     }
 
-    /// How many segments are to be swept. Constant time.
+    /// Returns the number of segments to be swept. Constant time.
     pub fn sweep_count(&self) -> u32
         ensures { result ≡ count_by (λ segment. is segment.state State.Sweeping) self.now.segments }
     {
-        self.tallies[Sought::Sweeping.place()].count
+        self.tallies[Category::Sweeping.place()].count
     }
 
-    // The number that the table has for the mutator and the class.
+    // Returns the number in the table for a mutator and a class: the mutator's current segment of the class if it has one.
     fn noted(&self, mutator: u8, class: u8) -> u32
         requires mutator { mutator < MAKERS }
         requires class { class < CLASSES }
@@ -180,7 +180,7 @@ impl Segments {
         self.current[usize::from(mutator) * CLASSES + usize::from(class)]
     }
 
-    // The mutator's current segment of the class.
+    // Returns the mutator's current segment of the class, or `None` exactly if it has none.
     fn current_of(&self, mutator: u8, class: u8) -> Option<u32>
         requires mutator { mutator < MAKERS }
         requires class { class < CLASSES }
@@ -199,15 +199,15 @@ impl Segments {
         }
     }
 
-    // The segment of this kind of least number.
-    fn least(&self, sought: Sought) -> Option<u32>
-        requires { IsKind sought }
-        ensures some { IfSome result (λ number. IsLeast sought self.now number) }
-        ensures none { IfNone result (HasNone sought self.now) }
+    // Returns the segment of the kind that has the least number, or `None` exactly if there is none of the kind.
+    fn least(&self, category: Category) -> Option<u32>
+        requires { IsKind category }
+        ensures some { IfSome result (λ number. IsLeast category self.now number) }
+        ensures none { IfNone result (HasNone category self.now) }
         ensures sound { IsSegments self.now }
     {
-        let tally = self.tallies[sought.place()];
-        let number = search::least(self.segments.as_slice(), tally, sought);
+        let tally = self.tallies[category.place()];
+        let number = search::least(self.segments.as_slice(), tally, category);
         if (number as usize) < self.segments.len() {
             Some(number)
         } else {
@@ -215,13 +215,13 @@ impl Segments {
         }
     }
 
-    // Makes the active or free segment of least number the mutator's current one of the class.
-    fn make_current(&mut self, number: u32, mutator: u8, class: u8, sought: Sought)
+    // Makes segment `number`, the least of its kind (active or free), the mutator's current segment of the class.
+    fn make_current(&mut self, number: u32, mutator: u8, class: u8, category: Category)
         requires mutator { mutator < MAKERS }
         requires class { class < CLASSES }
         requires fits { IsClass self.old.layout class }
-        requires kind { IsKind sought }
-        requires least { IsLeast sought self.old number }
+        requires kind { IsKind category }
+        requires least { IsLeast category self.old number }
         requires open { IsOpen class (nth self.old.segments number) }
         requires no_current { HasNoCurrent self.old mutator class }
         ensures { self.new ≡ record self.old { segments = slice_set self.old.segments number (as_current mutator class (nth self.old.segments number)) } }
@@ -229,10 +229,11 @@ impl Segments {
         let segment = &mut self.segments[number as usize];
         cycle_steps::open(segment, mutator, class);
         self.current[usize::from(mutator) * CLASSES + usize::from(class)] = number;
-        self.tallies[sought.place()].leave(number, self.layout.segments);
+        self.tallies[category.place()].leave(number, self.layout.segments);
     }
 
-    // Takes the first unused block of a current segment, which is filled where it was the last.
+    // Takes the first unused block of a current segment and returns its number. If no block is left, `take_block` has filed
+    // the segment as filled, and it is counted here.
     fn take_in(&mut self, number: u32) -> u32
         requires exists { HasNumber self.old number }
         requires current { (mutator : ℕ) × ((nth self.old.segments number).state ≡ State.Current mutator) }
@@ -251,9 +252,23 @@ impl Segments {
         block
     }
 
-    // Makes the next segment for the mutator's objects of the class current, where none is, and
-    // answers the current one.
-    fn choose(&mut self, mutator: u8, class: u8) -> u32
+    // Chooses the segment for the next object of a mutator and a class, makes it the mutator's current segment of that class,
+    // and returns its number.
+    //
+    // Note [The placing rule]
+    //
+    // The address of a new object depends only on the segments, its mutator and its class: the least class whose blocks are
+    // large enough for it. The object goes into the mutator's current segment of the class. If there is none, the active
+    // segment of the class of least number becomes current, or else the least free segment.
+    //
+    // In that segment the object takes the least block that isn't in use. If this was the last, the segment is filed as
+    // filled and counted in `fresh`. So a current segment always has a free block, and filled segments and segments to be
+    // swept take no objects.
+    //
+    // A promotion places objects in order of names. So a run's report doesn't depend on how the code searches for a segment.
+    // The rule is `Allocates` in `specs/Segments.antt`, and by names, as in a run's report, `PlacesName` in
+    // `specs/AllocState.antt`.
+    fn choose_segment(&mut self, mutator: u8, class: u8) -> u32
         requires mutator { mutator < MAKERS }
         requires class { class < CLASSES }
         requires fits { IsClass self.old.layout class }
@@ -266,22 +281,23 @@ impl Segments {
         if let Some(number) = self.current_of(mutator, class) {
             return number;
         }
-        let active = Sought::Active { class };
+        let active = Category::Active { class };
         if let Some(number) = self.least(active) {
             self.make_current(number, mutator, class, active);
             return number;
         }
-        match self.least(Sought::Free) {
+        match self.least(Category::Free) {
             Some(number) => {
-                self.make_current(number, mutator, class, Sought::Free);
+                self.make_current(number, mutator, class, Category::Free);
                 number
             }
             None => unreachable!(),
         }
     }
 
-    /// Whether an object of the class finds a place: the mutator has a current segment of the class,
-    /// which always has a free block, or there is an active one, or a free one.
+    /// Whether there is room for a mutator's object of a class. There is if the mutator has a current segment of the class,
+    /// which always has a free block. There is also if an active segment of the class or a free segment exists. It is for
+    /// tests: promotion knows from the reserve that there is room.
     pub fn has_room(&self, mutator: u8, class: u8) -> bool
         requires mutator { IsMutator self.now.layout mutator }
         requires class { IsClass self.now.layout class }
@@ -289,12 +305,12 @@ impl Segments {
     {
         let _ = &self.segments;
         self.current_of(mutator, class).is_some()
-            || self.least(Sought::Active { class }).is_some()
-            || self.least(Sought::Free).is_some()
+            || self.least(Category::Active { class }).is_some()
+            || self.least(Category::Free).is_some()
     }
 
-    /// Places an object of the class for the mutator, and answers where. Constant time but for the
-    /// search of the next unused block, and for the search of the next segment where one was filled.
+    /// Places an object of the class for the mutator by Note [The placing rule], and returns its address. Constant time
+    /// except for the search of the next unused block, and of the next segment if one was filled.
     pub fn allocate(&mut self, mutator: u8, class: u8) -> Address
         requires mutator { IsMutator self.old.layout mutator }
         requires class { IsClass self.old.layout class }
@@ -303,13 +319,14 @@ impl Segments {
         ensures sound { IsSegments self.new }
     {
         let _ = &self.segments;
-        let number = self.choose(mutator, class);
+        let number = self.choose_segment(mutator, class);
         let block = self.take_in(number);
         self.place_of(number, block)
     }
 
-    /// The segment and the number of the block that begins at a place. `None` comes exactly where no
-    /// block of a segment that isn't free begins there. Constant time.
+    /// Returns the segment and the number of the block that begins at an address. Returns `None` exactly if no block of a
+    /// segment that isn't free begins there. The segment is found by a shift, since its words are a power of two. Constant
+    /// time.
     pub fn block_at(&self, at: Address) -> Option<(u32, u32)>
         ensures some { IfSome result (λ p. IsBlockAt self.now p.0 p.1 at.0) }
         ensures none { IfNone result ((number block : ℕ) → IsBlockAt self.now number block at.0 → ⊥) }
@@ -318,8 +335,8 @@ impl Segments {
         self.block_in(number, offset)
     }
 
-    /// Marks the block that begins there, and answers whether it is in the snapshot and wasn't marked.
-    /// Where it isn't, nothing changes. Constant time.
+    /// Marks the block that begins at the address if it is an unmarked block of the snapshot, and returns whether it marked
+    /// the block. Otherwise nothing changes. It is for tests: the marker calls `try_mark_at`. Constant time.
     pub fn mark_at(&mut self, at: Address, epoch: u8) -> bool
         requires epoch { IsEpoch epoch }
         requires begins { (number : ℕ) × (block : ℕ) × IsBlockAt self.old number block at.0 }
@@ -332,8 +349,8 @@ impl Segments {
         }
     }
 
-    /// Marks the block that begins there as `mark_at` does, if a block of a segment that isn't free begins there.
-    /// Else the answer is false, and nothing changes. Constant time.
+    /// Marks the unmarked block of the snapshot that begins at the address, and returns whether there was one. Otherwise
+    /// nothing changes. Constant time.
     pub fn try_mark_at(&mut self, at: Address, epoch: u8) -> bool
         requires { IsEpoch epoch }
         ensures marks { MarksIfBlock self.old self.new at.0 epoch result }
@@ -346,7 +363,8 @@ impl Segments {
         }
     }
 
-    /// Marks a block as `mark_at` does, for a caller that has found it by `block_at`. Constant time.
+    /// Marks a block found by `block_at` if it is an unmarked block of the snapshot, and returns whether it did. Constant
+    /// time.
     pub fn mark(&mut self, number: u32, block: u32, epoch: u8) -> bool
         requires epoch { IsEpoch epoch }
         requires exists { HasNumber self.old number }
@@ -362,7 +380,7 @@ impl Segments {
         cycle_steps::mark(segment, block, epoch)
     }
 
-    // The segment in which a place lies, and how far it lies from the segment's first word.
+    // Returns the segment in which an address lies, and its offset in the segment, or `None` if no block can begin there.
     fn segment_at(&self, at: Address) -> Option<(u32, u32)>
         ensures some { IfSome result (λ p. HasNumber self.now p.0 × (p.1 < self.now.layout.words) × (at.0 ≡ segment_place self.now.layout p.0 + p.1)) }
         ensures none { IfNone result ((number block : ℕ) → IsBlockAt self.now number block at.0 → ⊥) }
@@ -376,7 +394,7 @@ impl Segments {
         Some((number, offset))
     }
 
-    // The segment and its block that begins so far from the segment's first word, unless the segment is free.
+    // Returns a segment and its block at `offset`, or `None` exactly if the segment is free or no block begins there.
     fn block_in(&self, number: u32, offset: u32) -> Option<(u32, u32)>
         requires exists { HasNumber self.now number }
         requires within { offset < self.now.layout.words }
@@ -399,7 +417,7 @@ impl Segments {
         self.segment(number).state() == State::Free
     }
 
-    /// Where a block of a segment begins: the place of its first word.
+    /// Returns the address of the first word of a segment's block.
     pub fn place_of(&self, number: u32, block: u32) -> Address
         requires exists { HasNumber self.now number }
         requires block { block < block_count (nth self.now.segments number) }
@@ -410,8 +428,7 @@ impl Segments {
         Address(self.layout.segment_base(number) + block * block_words(segment.class()))
     }
 
-    /// Begins a cycle: takes the snapshot of every segment that isn't free, and turns the filled ones
-    /// into ones to be swept.
+    /// Begins a cycle: takes the snapshot of every segment that isn't free. Filled segments are then to be swept.
     pub fn prepare(&mut self)
         requires { HasNoneIn State.Sweeping self.old }
         ensures value { self.new ≡ record self.old { segments = map prepared self.old.segments; fresh = 0 } }
@@ -419,11 +436,11 @@ impl Segments {
     {
         cycle_steps::prepare_all(self.segments.as_mut_slice());
         self.fresh = 0;
-        self.tallies[Sought::Sweeping.place()] = Tally::starting(self.filled, 0);
+        self.tallies[Category::Sweeping.place()] = Tally::starting(self.filled, 0);
         self.filled = 0;
     }
 
-    /// Carries the marks of every segment that is neither free nor to be swept.
+    /// Sets every mark to the epoch, in all segments that are neither free nor to be swept.
     pub fn carry(&mut self, epoch: u8)
         requires { IsEpoch epoch }
         ensures value { self.new ≡ record self.old { segments = map (carried_over epoch) self.old.segments } }
@@ -432,25 +449,24 @@ impl Segments {
         cycle_steps::carry_all(self.segments.as_mut_slice(), epoch);
     }
 
-    /// Sweeps the segment to be swept of least number, and answers the number. `None` comes exactly
-    /// where there is none. Constant time but for the search of that segment and the sweep.
+    /// Sweeps the segment to be swept of least number, and returns its number. Returns `None` exactly if there is none.
+    /// Constant time except for the search of that segment and the sweep.
     pub fn sweep_next(&mut self, epoch: u8) -> Option<u32>
         requires { IsEpoch epoch }
         ensures none { IfNone result (HasNoneIn State.Sweeping self.old × (self.new ≡ self.old)) }
         ensures some { IfSome result (λ number. SweepsNext self.old self.new epoch number) }
         ensures sound { IsSegments self.new }
     {
-        let number = self.least(Sought::Sweeping)?;
+        let number = self.least(Category::Sweeping)?;
         self.sweep(number, epoch);
         Some(number)
     }
 
-    /// Sweeps `quota` of the segments to be swept, those of least number, or all where there are fewer, and answers how
-    /// many that were: afterwards all is as so many calls of `sweep_next` leave it.
-    ///
-    /// They are swept in two halves, in two threads; the lower half has one segment more where they are odd.
-    /// Where a thread can't be started, and for a single segment, the caller does it. `before` is called before each,
-    /// with the half, 0 or 1, and the number within it from 0. Takes no memory.
+    /// Sweeps the first `quota` segments to be swept, by number, or all if there are fewer, and returns how many it swept.
+    /// The result is the same as after that number of calls of `sweep_next`.
+    /// It sweeps two halves in two threads. If the number is odd, the lower half has one segment more. For a single segment,
+    /// or if a thread can't be started, the calling thread does the work. Before each sweep it calls `before`, with the half,
+    /// 0 or 1, and the position in it from 0. Takes no memory.
     pub fn sweep_many<R: Threads + Sync, F: Fn(u8, u32) + Sync>(
         &mut self,
         rt: &R,
@@ -459,8 +475,8 @@ impl Segments {
         before: &F,
     ) -> u32
         requires epoch { IsEpoch epoch }
-        requires before { (half i : ℕ) → IsInHalf (min quota (sought_count Sought.Sweeping self.old.segments)) half i → F.pre before.now half i }
-        ensures count { result ≡ min quota (sought_count Sought.Sweeping self.old.segments) }
+        requires before { (half i : ℕ) → IsInHalf (min quota (sought_count Category.Sweeping self.old.segments)) half i → F.pre before.now half i }
+        ensures count { result ≡ min quota (sought_count Category.Sweeping self.old.segments) }
         ensures swept { SweepsMany epoch result self.old self.new }
         ensures sound { IsSegments self.new }
     {
@@ -473,7 +489,7 @@ impl Segments {
         count
     }
 
-    // Sweeps one segment, the first of those that are to be swept.
+    // Calls `before` and sweeps the first segment that is to be swept.
     fn sweep_one<F: Fn(u8, u32)>(&mut self, epoch: u8, before: &F)
         requires epoch { IsEpoch epoch }
         requires some { HasNoneIn State.Sweeping self.old → ⊥ }
@@ -487,7 +503,7 @@ impl Segments {
         };
     }
 
-    // Sweeps so many segments that wait, the first of them, and files them.
+    // Sweeps the first `count` waiting segments in two halves, and adds the results to the tallies.
     fn sweep_halves<R: Threads + Sync, F: Fn(u8, u32) + Sync>(
         &mut self,
         rt: &R,
@@ -496,12 +512,12 @@ impl Segments {
         before: &F,
     )
         requires epoch { IsEpoch epoch }
-        requires enough { count ≤ sought_count Sought.Sweeping self.old.segments }
+        requires enough { count ≤ sought_count Category.Sweeping self.old.segments }
         requires before { (half i : ℕ) → IsInHalf count half i → F.pre before.now half i }
         ensures swept { SweepsMany epoch count self.old self.new }
         ensures sound { IsSegments self.new }
     {
-        let waiting = self.tallies[Sought::Sweeping.place()];
+        let waiting = self.tallies[Category::Sweeping.place()];
         let from = waiting.from as usize;
         let mut lower = Filed::none();
         let mut upper = Filed::none();
@@ -523,14 +539,14 @@ impl Segments {
             waiting.from,
             end,
         );
-        self.tallies[Sought::Sweeping.place()] = Tally::starting(waiting.count - count, end);
+        self.tallies[Category::Sweeping.place()] = Tally::starting(waiting.count - count, end);
         self.filled += lower.filled + upper.filled;
     }
 
-    // Sweeps a segment, and notes in which state it is now.
+    // Sweeps a segment, and updates the tallies by its new state.
     fn sweep(&mut self, number: u32, epoch: u8)
         requires epoch { IsEpoch epoch }
-        requires least { IsLeast Sought.Sweeping self.old number }
+        requires least { IsLeast Category.Sweeping self.old number }
         ensures sweeps { SweepsSegment (nth self.old.segments number) (nth self.new.segments number) epoch }
         ensures others { self.new ≡ record self.old { segments = slice_set self.old.segments number (nth self.new.segments number) } }
         ensures sound { IsSegments self.new }
@@ -538,10 +554,10 @@ impl Segments {
         let segment = &mut self.segments[number as usize];
         let class = segment.class();
         let swept = cycle_steps::sweep(segment, epoch);
-        self.tallies[Sought::Sweeping.place()].leave(number, self.layout.segments);
+        self.tallies[Category::Sweeping.place()].leave(number, self.layout.segments);
         match swept {
-            Swept::Free => self.tallies[Sought::Free.place()].enter(number),
-            Swept::Active => self.tallies[Sought::Active { class }.place()].enter(number),
+            Swept::Free => self.tallies[Category::Free.place()].enter(number),
+            Swept::Active => self.tallies[Category::Active { class }.place()].enter(number),
             Swept::Filled => self.filled += 1,
         }
     }
@@ -552,11 +568,11 @@ impl Segments {
         ensures sound { IsSegments self.new }
     {
         cycle_steps::retire_all(self.segments.as_mut_slice());
-        let free = self.tallies[Sought::Free.place()];
-        let sweeping = self.tallies[Sought::Sweeping.place()];
+        let free = self.tallies[Category::Free.place()];
+        let sweeping = self.tallies[Category::Sweeping.place()];
         self.filled = self.layout.segments - free.count - sweeping.count;
         self.tallies.fill(Tally::starting(0, self.layout.segments));
-        self.tallies[Sought::Free.place()] = free;
-        self.tallies[Sought::Sweeping.place()] = sweeping;
+        self.tallies[Category::Free.place()] = free;
+        self.tallies[Category::Sweeping.place()] = sweeping;
     }
 }

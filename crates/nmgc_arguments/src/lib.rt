@@ -1,10 +1,14 @@
-//! The words of a command line, for each program of the repository.
+//! What the programs `nmgc` and `nmgc_fin` share: the arguments of a command line, and the writing of an output.
 //!
-//! `words_of` passes on all words after the program's name. Where they come from is a trait, `CommandLine`: standard
-//! arguments (`Arguments`) tell no contract what they are, and a command line of a test tells its words.
-//! It stands on `nmgc_lists` for `NoMemory` alone. The programs and their top calls stand on it.
+//! - `arguments`: `arguments_of` passes on all arguments after the program's name. Their origin is a trait, `CommandLine`:
+//!   contracts can't know standard arguments (`Arguments`), and a test's command line gives its arguments.
+//! - `output`: a text, and `write_output`, which writes it and returns the status.
+//!
+//! It depends on `nmgc_io` for the sink, and on `nmgc_lists` only for `NoMemory`.
 #![tactic(auto)]
 
-pub mod words;
+pub mod arguments;
+pub mod output;
 
-pub use words::{Arguments, CommandLine, words_of};
+pub use arguments::{Arguments, CommandLine, arguments_of};
+pub use output::{Text, write_output};

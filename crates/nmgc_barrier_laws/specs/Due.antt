@@ -1,11 +1,11 @@
--- What a command has to remember at least: it is about the snapshot, the world and the command alone, and so
--- doesn't depend on what the collector has read by then.
+-- The names that a command has at least to remember. They depend on the snapshot, the world and the command alone, and not on
+-- the marks.
 use Rattle.std.specs.Prelude.{◌≢◌, ◌⊎◌, ℕ, IsSome, Contains}
 use Rattle.nmgc_world_spec.specs.{declared.value.Name.Name, declared.node.Parts.Parts, declared.command.Command.Command, World.World, World.node_of, Step.shared_name, Step.step, Reach.IsAlive, Reach.IsKeptBy, History.opened_by, History.finalised_by}
 use Rattle.nmgc_world_spec.specs.declared.value.Value.TheVariants as value
 use Rattle.nmgc_world_laws.specs.Holds.{HasStrongField}
 
--- from one world to the next a field of the snapshot goes, which stood until then
+-- a field of the snapshot that was unchanged in the world before a command and is gone in the world after it
 pub record IsBroken (snapshot before after : World) (target : Name) : Type 0 where
   pub name : Name
   pub place : ℕ
@@ -13,7 +13,7 @@ pub record IsBroken (snapshot before after : World) (target : Name) : Type 0 whe
   pub stood : HasStrongField before name place (value.Ref target)
   pub gone : HasStrongField after name place (value.Ref target) → ⊥
 
--- a weak pointer of the snapshot is finalised, which kept the target there
+-- the command finalises a weak pointer that was alive in the snapshot and kept this target there
 pub record IsEnded (snapshot w : World) (m : ℕ) (c : Command) (target : Name) : Type 0 where
   pub weak : Name
   pub parts : Parts
@@ -21,8 +21,9 @@ pub record IsEnded (snapshot w : World) (m : ℕ) (c : Command) (target : Name) 
   pub alive : IsAlive snapshot weak parts
   pub kept : IsKeptBy weak parts target
 
--- the command has to remember the target: it is one of the snapshot, and not g; and the command breaks a field of the
--- snapshot that refers to it, or takes it out of a weak pointer, or finalises one that kept it
+-- a name that the command has to remember: a name of the snapshot, not g, for one of three reasons. The command removes a
+-- strong field of the snapshot that was still unchanged and refers to the name. It reads the name out of a weak pointer. Or
+-- it finalises a weak pointer that was alive at the snapshot: the name is the weak pointer, or its value or finaliser there
 pub record IsDue (snapshot w : World) (m : ℕ) (c : Command) (target : Name) : Type 0 where
   pub there : IsSome (node_of snapshot target)
   pub own : target ≢ shared_name

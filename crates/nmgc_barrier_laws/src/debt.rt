@@ -1,7 +1,7 @@
-//! A debt: what a barrier still has to remember.
+//! A debt: a name that a barrier still has to remember.
 use nmgc_world_spec::Name;
 
-/// A name that is due, since a line in which a mutator gave a command. Lines count from 1, as the caller counts them.
+/// A name that is due, the line of the command that made it due, and the command's mutator. The caller counts lines from 1.
 #[derive(Clone, Copy, Debug, PartialEq, Eq)]
 pub struct Debt {
     pub name: Name,

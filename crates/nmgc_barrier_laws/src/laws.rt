@@ -1,40 +1,44 @@
-//! The theorems of the lax rule. Each function does nothing: its contract is the law.
+//! The theorems of the lax rule. Each function does nothing: its contract is the law. By the lax rule (`specs/Lax`) a command
+//! owes at least the names that are due (`specs/Due`) and at most names that may be held. The marker may take these names in
+//! any order. By the strict rule of the marking machine, the command owes exactly `owed_by`.
 ghost use Rattle.nmgc_barrier_laws.specs.{Barrier.BarrierTheorem, Barrier.JointTheorem, Barrier.SomeMarkerFinishes, Barrier.SomeMarkerIsBeside, Lax.CoreIsLax, Lax.LaxKeepsFacts, Lax.LaxTheorem};
 
-/// The strict rule is an instance of the lax one: an event of the core machine that isn't the end is lax steps.
+/// Proves that the marking machine is lax: each of its events that happens, except the end, is a list of lax steps.
 pub fn a_core_event_is_lax()
     ensures { CoreIsLax }
 {}
 
-/// Each lax step keeps the facts of the core machine's induction, from whatever state.
+/// Proves that each lax step keeps the marking machine's invariant (`Facts`), whatever the state before the step. So a
+/// barrier keeps the invariant if it remembers at least the names that are due, along with any other names and in any order.
 pub fn a_lax_step_keeps_the_facts()
     ensures { LaxKeepsFacts }
 {}
 
-/// The snapshot theorem for lax runs: until the end what is marked is live, and an end is exact.
+/// Proves the snapshot theorem for lax runs: until the end every marked name is live, and an end is exact. So a marker with a
+/// lax barrier is exact, if names remembered without need count as opened.
 pub fn a_lax_marking_is_exact()
     ensures { LaxTheorem }
 {}
 
-/// Whatever the marker beside a watched barrier takes and reads, and when: without debts nothing is owed, so that
-/// an end waits for the marker alone; and an end marks exactly what the commands and the pushes keep.
+/// Proves that a watched barrier is exact, whatever the marker beside it takes and reads, and when. Without debts nothing is
+/// owed, so an end waits for the marker alone. An end marks exactly the names that the commands and the pushes keep.
 pub fn a_barrier_without_debts_is_exact()
     ensures { BarrierTheorem }
 {}
 
-/// From any list of commands and pushes that ends without debts: every marker beside it that has taken all that was
-/// pushed and emptied its queue can end, and has marked exactly what the definition says.
+/// Proves that a finished marker is exact. Suppose that a list of commands and pushes ends without debts, and that a marker
+/// beside it has taken all pushed names and emptied its queue. Then the marker can end. When it ends, exactly the names that
+/// the commands and pushes keep are marked (`MarksName`), and exactly the weak pointers that are dead by them die.
 pub fn a_finished_marker_is_exact()
     ensures { JointTheorem }
 {}
 
-/// Beside any list of commands and pushes there is a marker.
+/// Proves that a marker is possible beside any list of commands and pushes.
 pub fn a_marker_is_beside()
     ensures { SomeMarkerIsBeside }
 {}
 
-/// There is also one that has taken all that was pushed and emptied its queue: where nothing is due it can end, so the
-/// theorem of finished markers is of something.
+/// Proves that a finished marker is possible beside any commands and pushes. If nothing is due, the marker can end.
 pub fn a_marker_finishes()
     ensures { SomeMarkerFinishes }
 {}

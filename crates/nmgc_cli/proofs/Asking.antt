@@ -1,13 +1,13 @@
--- Words ask for one task, or for none.
+-- Arguments ask for one task, or for none.
 use Rattle.nmgc_cli.proofs.Vocabulary.{◌≡◌, ◌≤◌, ◌<◌, ◌∙◌, ℕ, List, [], ◌∷◌, length, get_or, refl, sym, ap, subst, arith, Option, codes, decimal, IfSome, IfNone, decimal_injective, same_Some, Name, name_at, name_text, IsName, Asks, IsWrong, Task, Run, Bench, Upgrade, Image, Retain, Marks, name_again}
 
--- words that ask for none of the tasks are wrong
-pub none_asked : (words : List (List ℕ)) → (words ≡ codes "run" ∷ [] → ⊥) → (words ≡ codes "upgrade" ∷ [] → ⊥) → (words ≡ codes "image" ∷ [] → ⊥) →
-    ((name : Name) → Asks words (Retain name) → ⊥) → ((markers : ℕ) → Asks words (Marks markers) → ⊥) →
-    ((batches : ℕ) → Asks words (Bench batches) → ⊥) → IsWrong words
-none_asked words no_run no_upgrade no_image no_retain no_marks no_bench = by
+-- arguments that ask for none of the tasks are wrong
+pub none_asked : (arguments : List (List ℕ)) → (arguments ≡ codes "run" ∷ [] → ⊥) → (arguments ≡ codes "upgrade" ∷ [] → ⊥) → (arguments ≡ codes "image" ∷ [] → ⊥) →
+    ((name : Name) → Asks arguments (Retain name) → ⊥) → ((markers : ℕ) → Asks arguments (Marks markers) → ⊥) →
+    ((batches : ℕ) → Asks arguments (Bench batches) → ⊥) → IsWrong arguments
+none_asked arguments no_run no_upgrade no_image no_retain no_marks no_bench = by
   where
-    by : (task : Task) → Asks words task → ⊥
+    by : (task : Task) → Asks arguments task → ⊥
     by Run asks = no_run asks
     by (Bench batches) asks = no_bench batches asks
     by Upgrade asks = no_upgrade asks
@@ -15,7 +15,7 @@ none_asked words no_run no_upgrade no_image no_retain no_marks no_bench = by
     by (Retain name) asks = no_retain name asks
     by (Marks markers) asks = no_marks markers asks
 
--- the first of the words
+-- the subcommand of a task, the first argument
 abbrev first : Task → List ℕ
 first Run = codes "run"
 first (Bench batches) = codes "bench"
@@ -26,28 +26,28 @@ first (Marks markers) = codes "marks"
 
 abbrev head : List (List ℕ) → List ℕ
 head [] = []
-head (word ∷ words) = word
+head (argument ∷ arguments) = argument
 
-asks_first : (words : List (List ℕ)) (task : Task) → Asks words task → head words ≡ first task
-asks_first words Run asks = ap head asks
-asks_first words (Bench batches) asks = ap head asks.0
-asks_first words Upgrade asks = ap head asks
-asks_first words Image asks = ap head asks
-asks_first words (Retain name) asks = ap head asks.0
-asks_first words (Marks markers) asks = ap head asks.0
+asks_first : (arguments : List (List ℕ)) (task : Task) → Asks arguments task → head arguments ≡ first task
+asks_first arguments Run asks = ap head asks
+asks_first arguments (Bench batches) asks = ap head asks.0
+asks_first arguments Upgrade asks = ap head asks
+asks_first arguments Image asks = ap head asks
+asks_first arguments (Retain name) asks = ap head asks.0
+asks_first arguments (Marks markers) asks = ap head asks.0
 
--- letters of the first word
+-- letters of the first argument
 letter : (a b : List ℕ) (i : ℕ) → a ≡ b → get_or a i 0 ≡ get_or b i 0
 letter a b i e = ap (λ (l : List ℕ). get_or l i 0) e
 
 one_name : (a b : Name) → IsName a → IsName b → name_text a ≡ name_text b → a ≡ b
 one_name a b va vb e = same_Some a b (sym (name_again a va) ∙ ap name_at e ∙ name_again b vb)
 
--- words ask for one task
-pub one_task : (words : List (List ℕ)) (a b : Task) → Asks words a → Asks words b → a ≡ b
-one_task words a b p q = by a b p q (sym (asks_first words a p) ∙ asks_first words b q)
+-- arguments ask for at most one task
+pub one_task : (arguments : List (List ℕ)) (a b : Task) → Asks arguments a → Asks arguments b → a ≡ b
+one_task arguments a b p q = by a b p q (sym (asks_first arguments a p) ∙ asks_first arguments b q)
   where
-    by : (a b : Task) → Asks words a → Asks words b → first a ≡ first b → a ≡ b
+    by : (a b : Task) → Asks arguments a → Asks arguments b → first a ≡ first b → a ≡ b
     by Run Run p q e = refl
     by (Bench m) (Bench n) p q e =
         let both : codes "bench" ∷ decimal m ∷ [] ≡ codes "bench" ∷ decimal n ∷ [] = sym p.0 ∙ q.0 in
@@ -94,25 +94,25 @@ one_task words a b p q = by a b p q (sym (asks_first words a p) ∙ asks_first w
     by (Marks m) Image p q e = absurd (let h : 109 ≡ 105 = letter (codes "marks") (codes "image") 0 e in omega arith)
     by (Marks m) (Retain n) p q e = absurd (let h : 109 ≡ 114 = letter (codes "marks") (codes "retain") 0 e in omega arith)
 
--- no bench has no batch, and no marks have no marker
-pub one_number : (word : List ℕ) (number n most : ℕ) → number ≡ 0 → word ≡ decimal number → most ≤ 256 → (1 ≤ n) × (n ≤ most) → word ≡ decimal n → ⊥
-one_number word number n most nothing spells small within same =
+-- no bench has 0 batches, and no marking has 0 markers
+pub one_number : (argument : List ℕ) (number n most : ℕ) → number ≡ 0 → argument ≡ decimal number → most ≤ 256 → (1 ≤ n) × (n ≤ most) → argument ≡ decimal n → ⊥
+one_number argument number n most nothing spells small within same =
     let most_is = within.1 in
     let e : number ≡ n = decimal_injective number n (omega arith) (omega (arith, most_is, small)) (sym spells ∙ same) in
     let some = within.0 in
     omega (arith, e, some)
 
--- two words are those that the same words are
+-- lists of two equal arguments are equal
 two : (a b x y : List ℕ) → x ≡ a → y ≡ b → x ∷ y ∷ [] ≡ a ∷ b ∷ []
 two a b x y e f = cc
 
 pub asked_in : (T : ℕ → Task) (a b x y : List ℕ) (found : Option ℕ) → x ≡ a → y ≡ b → IfSome found (λ n. Asks (x ∷ y ∷ []) (T n)) →
     IfSome found (λ n. Asks (a ∷ b ∷ []) (T n))
-asked_in T a b x y found e f h = let P : List (List ℕ) → Type 0 = λ words. IfSome found (λ n. Asks words (T n)) in subst P (two a b x y e f) h
+asked_in T a b x y found e f h = let P : List (List ℕ) → Type 0 = λ arguments. IfSome found (λ n. Asks arguments (T n)) in subst P (two a b x y e f) h
 
 pub none_in : (T : ℕ → Task) (a b x y : List ℕ) (found : Option ℕ) → x ≡ a → y ≡ b → IfNone found ((n : ℕ) → Asks (x ∷ y ∷ []) (T n) → ⊥) →
     IfNone found ((n : ℕ) → Asks (a ∷ b ∷ []) (T n) → ⊥)
-none_in T a b x y found e f h = let P : List (List ℕ) → Type 0 = λ words. IfNone found ((n : ℕ) → Asks words (T n) → ⊥) in subst P (two a b x y e f) h
+none_in T a b x y found e f h = let P : List (List ℕ) → Type 0 = λ arguments. IfNone found ((n : ℕ) → Asks arguments (T n) → ⊥) in subst P (two a b x y e f) h
 
 -- a list of two items is these two alone
 pub pair : {A : Type 0} (xs : List A) (x y : A) → 2 ≤ length xs → length xs < 3 → x ≡ get_or xs 0 x → y ≡ get_or xs 1 y → xs ≡ x ∷ y ∷ []
@@ -121,12 +121,12 @@ pair (a ∷ []) x y some few e f = absurd (omega arith)
 pair (a ∷ b ∷ []) x y some few e f = cc
 pair (a ∷ b ∷ c ∷ xs) x y some few e f = absurd (omega arith)
 
--- the same of two words that ask for a path
+-- the same of two arguments that ask for a path
 pub name_in : (a b x y : List ℕ) (found : Option Name) → x ≡ a → y ≡ b → IfSome found (λ name. Asks (x ∷ y ∷ []) (Retain name)) →
     IfSome found (λ name. Asks (a ∷ b ∷ []) (Retain name))
-name_in a b x y found e f h = let P : List (List ℕ) → Type 0 = λ words. IfSome found (λ name. Asks words (Retain name)) in subst P (two a b x y e f) h
+name_in a b x y found e f h = let P : List (List ℕ) → Type 0 = λ arguments. IfSome found (λ name. Asks arguments (Retain name)) in subst P (two a b x y e f) h
 
 pub no_name_in : (a b x y : List ℕ) (found : Option Name) → x ≡ a → y ≡ b → IfNone found ((name : Name) → Asks (x ∷ y ∷ []) (Retain name) → ⊥) →
     IfNone found ((name : Name) → Asks (a ∷ b ∷ []) (Retain name) → ⊥)
-no_name_in a b x y found e f h = let P : List (List ℕ) → Type 0 = λ words. IfNone found ((name : Name) → Asks words (Retain name) → ⊥) in
+no_name_in a b x y found e f h = let P : List (List ℕ) → Type 0 = λ arguments. IfNone found ((name : Name) → Asks arguments (Retain name) → ⊥) in
     subst P (two a b x y e f) h

@@ -1,11 +1,11 @@
 -- A run answers no more commands than its programs have.
 use Rattle.nmgc_cli.proofs.Vocabulary.{◌≡◌, ◌≤◌, ◌<◌, ℕ, ◌+◌, ◌-◌, ◌*◌, ◌^◌, List, [], ◌∷◌, length, map, refl, ap, arith, sum_by, length-drop, sum_by-cons, sum_by-le, most_script_bytes, MAKERS, Command, Reply, Row, HasFewCommands, Config, Script, Report, RoundRows, reply_count, command_count, IsLawful, IsRound, Turn, AreTurns, state_after, slice_of, slices, rest_of, Plan, State, plan_of, start, stop_left, slice_few}
 
--- how many items lists have together
+-- the number of items in all lists together
 abbrev total : {A : Type 0} → List (List A) → ℕ
 total lists = sum_by length lists
 
--- the slices of programs, and what is left of them
+-- the slices of programs, and the rest of them
 parts : (config : Config) (left : List (List Command)) → total (slices config left) + total (map (rest_of config) left) ≡ total left
 parts config [] = refl
 parts config (program ∷ left) =
@@ -30,7 +30,7 @@ same_total (x ∷ xs) (y ∷ ys) e =
     let rest : total xs ≡ total ys = same_total xs ys tail in
     omega (arith, head, rest, sum_by-cons length x xs, sum_by-cons length y ys)
 
--- a round answers what it takes from the programs
+-- a round answers exactly the commands that it takes from the programs
 round_counts : (config : Config) (s t : State) (replies : List (List Reply)) (rows : List Row) → IsRound config s replies rows t →
     total replies + total t.left ≡ total s.left
 round_counts config s t replies rows round =
@@ -53,7 +53,7 @@ turns_count plan s (turn ∷ turns) are =
     sum_by-cons reply_count turn.replies (map (λ (turn : Turn). turn.replies) turns) in
     omega (arith, rest, stopped, own, more)
 
--- the programs of a lawful report's script have more commands than it answers, or as many
+-- a lawful report answers no more commands than the programs of its script have
 lawful_count : (script : Script) (report : Report) → IsLawful script report → command_count report.rounds ≤ total script.threads
 lawful_count script report lawful =
     let plan : Plan = plan_of script in
@@ -63,11 +63,11 @@ lawful_count script report lawful =
     let opened : total lawful.run.opening.state.left ≡ total script.threads =
     ap (λ (left : List (List Command)).
     total left) (stop_left plan _ (start plan) lawful.run.opening.state lawful.run.opening.row lawful.run.opening.cycles lawful.is_run.opening) in
-    let told : command_count report.rounds ≡ command_count (map (λ (turn : Turn). turn.replies) lawful.run.turns) =
-    ap (λ (rounds : List RoundRows). command_count rounds) lawful.tells.rounds_are in
-    omega (arith, turns, opened, told)
+    let reported : command_count report.rounds ≡ command_count (map (λ (turn : Turn). turn.replies) lawful.run.turns) =
+    ap (λ (rounds : List RoundRows). command_count rounds) lawful.agrees.rounds_are in
+    omega (arith, turns, opened, reported)
 
--- they are few
+-- a lawful report answers fewer than 2^64 commands
 pub few_answers : (script : Script) (report : Report) → length script.threads ≤ MAKERS → HasFewCommands script → IsLawful script report →
     command_count report.rounds < 2 ^ 64
 few_answers script report threads few lawful =

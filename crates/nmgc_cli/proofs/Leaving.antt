@@ -1,4 +1,4 @@
--- What a run left stands for its last world, and so has an image.
+-- The heap that a run left represents its last world, and so has an image.
 use Rattle.nmgc_cli.proofs.Vocabulary.{arith, IsSegments, Script, Report, IsRunOf, snapshots, last_state, IsRunnable, State, Plan, plan_of, layout_of, runnable_of, scripts_have_good_plans, states_are_within, blocks_at_stop, states_are_sound, IsInLimits, IsLeftAs, places_low}
 
 pub left_as : (script : Script) (report : Report) → IsSegments report.segments → IsInLimits script → (run : IsRunOf script report) →

@@ -3,5 +3,5 @@ pub mod FewAnswers
 pub mod Leaving
 pub mod Marked
 pub mod Single
-pub mod Telling
+pub mod Answering
 mod Vocabulary

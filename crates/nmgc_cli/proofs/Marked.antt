@@ -1,14 +1,14 @@
--- The heap of a lawful report can be marked, and what markers list of it is what is written.
+-- The heap of a lawful report can be marked, and the names that markers list are the names that are written.
 use Rattle.nmgc_cli.proofs.Vocabulary.{◌≡◌, ℕ, List, subst, Name, Value, World, Lists, Script, IsSegments, Report, IsLawful, last_state, plan_of, layout_of, runnable_of, states_are_sound, IsInLimits, Stopped, IsStopped, AreClaims, IsStrong, roots_of, root_words, IsStoppedAs, StopsAreStopped, AreClaimsOf, IsMarksText, last_world, marks_lines}
 
--- it is a stopped heap with the last world of the run
+-- the heap is a stopped heap with the last world of the run
 pub stopped_of : StopsAreStopped → (script : Script) (report : Report) → IsInLimits script → (lawful : IsLawful script report) →
     IsSegments report.segments → IsStoppedAs (last_state lawful.run) report.segments report.words (root_words report.mutators)
 stopped_of law script report limits lawful sound =
     let state = states_are_sound (plan_of script) lawful.run (runnable_of script limits.fits limits.few) lawful.is_run in
     law (layout_of (plan_of script)) (last_state lawful.run) report.words report.segments report.mutators lawful.weaks state.world sound lawful.heap
 
--- so what markers claim of it is what they claim in that world
+-- so the claims of markers in the heap are claims in that world
 pub claims_are : StopsAreStopped → (report : Report) (markers : ℕ) (by : List (List Name)) → IsSegments report.segments →
     ((h : Stopped) → IsStopped h report.segments report.words (root_words report.mutators) → AreClaims h.world h.roots markers by) →
     AreClaimsOf markers report by
@@ -18,7 +18,7 @@ claims_are law report markers by sound claims = λ script limits lawful.
     subst (λ (roots : List Value). AreClaims s.heap.world roots markers by) s.roots_are (claims s.heap s.is) in
     subst (λ (w : World). AreClaims w (roots_of (last_state lawful.run).world) markers by) s.world of_roots
 
--- and their names are those of the text
+-- and their names are the names of the text
 pub marks_are : (report : Report) (markers : ℕ) (by : List (List Name)) (names : List Name) (text : List ℕ) → AreClaimsOf markers report by →
     ((w : World) (roots : List Value) (count : ℕ) → AreClaims w roots count by → Lists (IsStrong w roots) names) →
     text ≡ marks_lines markers names report.end → IsMarksText markers report text

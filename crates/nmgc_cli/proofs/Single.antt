@@ -1,4 +1,4 @@
--- A list of one word.
+-- A list of one argument.
 use Rattle.nmgc_cli.proofs.Vocabulary.{◌≡◌, ◌≤◌, ◌<◌, ◌∙◌, ℕ, List, [], ◌∷◌, length, get_or, sym, ap, arith, Bool, IsTrue, bytes_eq, bytes_eq-Decides}
 
 -- a list of one item is that item alone
@@ -7,9 +7,9 @@ single [] x some few e = absurd (omega arith)
 single (y ∷ []) x some few e = ap (λ z. z ∷ []) (sym e)
 single (y ∷ z ∷ xs) x some few e = absurd (omega arith)
 
--- the test of one word is the test of the list of it
-pub is_word : (x y word : List ℕ) (r : Bool) → y ≡ x → r ≡ bytes_eq y word → (IsTrue r → x ∷ [] ≡ word ∷ []) × (x ∷ [] ≡ word ∷ [] → IsTrue r)
-is_word x y word r e test = (
-  (λ (t : IsTrue r). ap (λ (z : List ℕ). z ∷ []) (sym e ∙ (bytes_eq-Decides y word).0 (sym test ∙ t))),
-  (λ (q : x ∷ [] ≡ word ∷ []). let same : x ≡ word = cc in test ∙ (bytes_eq-Decides y word).1 (e ∙ same)),
+-- the test of one argument is the test of the list with it alone
+pub is_argument : (x y argument : List ℕ) (r : Bool) → y ≡ x → r ≡ bytes_eq y argument → (IsTrue r → x ∷ [] ≡ argument ∷ []) × (x ∷ [] ≡ argument ∷ [] → IsTrue r)
+is_argument x y argument r e test = (
+  (λ (t : IsTrue r). ap (λ (z : List ℕ). z ∷ []) (sym e ∙ (bytes_eq-Decides y argument).0 (sym test ∙ t))),
+  (λ (q : x ∷ [] ≡ argument ∷ []). let same : x ≡ argument = cc in test ∙ (bytes_eq-Decides y argument).1 (e ∙ same)),
 )

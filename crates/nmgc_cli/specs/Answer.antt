@@ -1,4 +1,4 @@
--- What the program answers, and what is told of an answer: the status, the report and the text.
+-- The answers of the program, and the output of an answer: its status, its report and its text.
 use Rattle.std.specs.Prelude.{◌≡◌, ℕ, List, [], ◌∷◌, ◌++◌, codes, decimal, Option, Some, None, Result, Ok, Err}
 use Rattle.nmgc_script.specs.{declared.fault.Cause.Cause, declared.fault.ScriptFault.ScriptFault, declared.script.Script.Script, Limits.IsInLimits}
 use Rattle.nmgc_script.specs.declared.fault.Cause.TheVariants as cause
@@ -8,32 +8,33 @@ use Rattle.nmgc_script.specs.declared.fault.ScriptFault.TheVariants as script
 use Rattle.nmgc_journal.specs.{declared.report.Report.Report, declared.report.End.End}
 use Rattle.nmgc_image.specs.declared.fault.ImageFault.{ImageFault}
 use Rattle.nmgc_image.specs.declared.fault.ImageFault.TheVariants as image
-use Rattle.nmgc_cli.specs.{declared.answer.Outcome.Outcome, declared.answer.Refusal.Refusal, declared.told.Text.Text, declared.told.Text.TheVariants.Fixed, declared.told.Text.TheVariants.Made, declared.told.Told.Told, declared.status.Status.Status}
+use Rattle.nmgc_arguments.specs.Output.{text_bytes}
+use Rattle.nmgc_cli.specs.{declared.answer.Refusal.Refusal, declared.output.Output.Output, declared.status.Status.Status}
 use Rattle.nmgc_cli.specs.declared.answer.Refusal.TheVariants as no
 use Rattle.nmgc_cli.specs.declared.status.Status.TheVariants.{Usage, ReadFault, BadScript, TooLong, NoMemory, BadImage, Done, WriteFault, HeapFull}
 use Rattle.nmgc_run_spec.specs.Crowded.{IsRunOf}
 use Rattle.nmgc_journal.specs.declared.report.End.TheVariants as end
 
--- the report of a run, or why there is none
+-- the report of a run, or the reason why there is none
 abbrev pub Reported : Type 0
 Reported = Result Report Refusal
 
--- what is told of a task that was done, or why none was
+-- an answer: the output of a task that was done (a status, the report if a script was run, and a text), or the refusal
 abbrev pub Answer : Type 0
-Answer = Result Outcome Refusal
+Answer = Result Output Refusal
 
--- the refusal of a source that wasn't read to its end
+-- the refusal if a source couldn't be read to its end
 abbrev pub read_refusal : ReadEnd → Refusal
 read_refusal read.ReadFault = no.ReadFault
 read_refusal read.TooLong = no.TooLong
 read_refusal read.NoMemory = no.NoMemory
 
--- the refusal of bytes that spell no script
+-- the refusal if a script couldn't be read from its bytes
 abbrev pub script_refusal : ScriptFault → Refusal
 script_refusal (script.Bad line c) = no.Bad line c
 script_refusal script.NoMemory = no.NoMemory
 
--- the refusal of bytes that spell no image
+-- the refusal if an image couldn't be read from its bytes
 abbrev pub image_refusal : ImageFault → Refusal
 image_refusal (image.Bad line) = no.BadImage line
 image_refusal image.NoMemory = no.NoMemory
@@ -47,7 +48,7 @@ refusal_status (no.Bad line c) = BadScript
 refusal_status (no.BadImage line) = BadImage
 refusal_status no.NoMemory = NoMemory
 
--- the word of a cause
+-- the token of a cause
 abbrev pub cause_text : Cause → List ℕ
 cause_text cause.Version = codes "version"
 cause_text cause.Heap = codes "heap"
@@ -58,15 +59,15 @@ cause_text cause.Arity = codes "arity"
 cause_text cause.Operand = codes "operand"
 cause_text cause.Size = codes "size"
 
--- the line that tells a bad script
+-- the line that reports the first bad line of a script
 abbrev pub bad_line : ℕ → Cause → List ℕ
 bad_line line c = codes "bad line " ++ decimal line ++ 32 ∷ cause_text c ++ 10 ∷ []
 
--- the line that tells a bad image
+-- the line that reports the first bad line of an image
 abbrev pub bad_image_line : ℕ → List ℕ
 bad_image_line line = codes "bad image line " ++ decimal line ++ 10 ∷ []
 
--- the refusal tells a bad line: only such a text takes memory
+-- the refusal reports a bad line. Only the text of such a refusal takes memory.
 abbrev pub IsBad : Refusal → Type 0
 IsBad (no.Bad line c) = Unit {0}
 IsBad (no.BadImage line) = Unit {0}
@@ -83,42 +84,37 @@ refusal_text no.NoMemory = codes "no memory\n"
 
 -- the status of an answer
 abbrev pub answer_status : Answer → Status
-answer_status (Ok outcome) = outcome.status
+answer_status (Ok output) = output.status
 answer_status (Err refusal) = refusal_status refusal
 
--- the report of an answer
+-- the report of an answer, if a script was run
 abbrev pub answer_report : Answer → Option Report
-answer_report (Ok outcome) = outcome.report
+answer_report (Ok output) = output.report
 answer_report (Err refusal) = None
 
 -- the text of an answer
 abbrev pub answer_text : Answer → List ℕ
-answer_text (Ok outcome) = outcome.text.items
+answer_text (Ok output) = text_bytes output.text
 answer_text (Err refusal) = refusal_text refusal
 
--- the bytes of a text
-abbrev pub text_bytes : Text → List ℕ
-text_bytes (Fixed bytes) = bytes.now
-text_bytes (Made bytes) = bytes.items
+-- the output has the status, the report and the text of this answer
+pub record IsOutputOf (answer : Answer) (reported : Output) : Type 0 where
+  pub status : reported.status ≡ answer_status answer
+  pub report : reported.report ≡ answer_report answer
+  pub text : text_bytes reported.text ≡ answer_text answer
 
--- what is told is the status, the report and the text of this answer
-pub record IsToldAs (answer : Answer) (told : Told) : Type 0 where
-  pub status : told.status ≡ answer_status answer
-  pub report : told.report ≡ answer_report answer
-  pub text : text_bytes told.text ≡ answer_text answer
-
--- the script is within the limits, and the report is one of a run of it
+-- the script was run: it is within the limits, and the report is a report of a run of it
 pub record IsRan (script : Script) (report : Report) : Type 0 where
   pub limits : IsInLimits script
   pub run : IsRunOf script report
 
--- the report is one of a run of some script within the limits
+-- the report is a report of a run of some script within the limits
 pub record IsOfScript (report : Report) : Type 0 where
   pub script : Script
   pub limits : IsInLimits script
   pub run : IsRunOf script report
 
--- the number with which the process ends
+-- the exit number of each status, with which the process ends
 abbrev pub number_of : Status → ℕ
 number_of Done = 0
 number_of Usage = 2
@@ -130,7 +126,7 @@ number_of HeapFull = 6
 number_of NoMemory = 7
 number_of BadImage = 9
 
--- the status of a run that ended so
+-- the status of a run with this end
 abbrev pub status_of : End → Status
 status_of end.Done = Done
 status_of (end.HeapFull free reserve) = HeapFull

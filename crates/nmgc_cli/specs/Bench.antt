@@ -1,4 +1,4 @@
--- The answer to a bench, which reads nothing.
+-- The answer of the subcommand `bench`, which reads no input.
 use Rattle.std.specs.Prelude.{◌<◌, ◌^◌}
 use Rattle.nmgc_journal.specs.{declared.report.Report.Report, Summary.command_count}
 

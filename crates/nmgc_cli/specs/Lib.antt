@@ -4,5 +4,5 @@ pub mod Claimed
 pub mod Marks
 pub mod Program
 pub mod Task
-pub mod Told
+pub mod Output
 pub mod laws

@@ -1,4 +1,4 @@
--- What the words of the command line ask for.
+-- The tasks that the arguments of the command line ask for.
 use Rattle.std.specs.Prelude.{◌≡◌, ◌≤◌, ℕ, List, [], ◌∷◌, codes, decimal}
 use Rattle.nmgc_script.specs.Bench.{most_batches}
 use Rattle.nmgc_journal.specs.Text.{name_text}
@@ -6,22 +6,22 @@ use Rattle.nmgc_object.specs.Words.{IsName}
 use Rattle.nmgc_pmark.specs.declared.crew.TheConstants.{MOST_MARKERS}
 use Rattle.nmgc_cli.specs.{declared.task.Task.Task, declared.task.Task.TheVariants.Run, declared.task.Task.TheVariants.Bench, declared.task.Task.TheVariants.Upgrade, declared.task.Task.TheVariants.Image, declared.task.Task.TheVariants.Retain, declared.task.Task.TheVariants.Marks}
 
--- a bench has so many batches
+-- a bench may have this number of batches
 abbrev pub IsBench : ℕ → Type 0
 IsBench batches = (1 ≤ batches) × (batches ≤ most_batches)
 
--- so many markers may mark
+-- this number of markers may mark
 abbrev pub AreMarkers : ℕ → Type 0
 AreMarkers markers = (1 ≤ markers) × (markers ≤ MOST_MARKERS)
 
--- the words ask for this task
+-- the arguments ask for this task
 abbrev pub Asks : List (List ℕ) → Task → Type 0
-Asks words Run = words ≡ codes "run" ∷ []
-Asks words (Bench batches) = (words ≡ codes "bench" ∷ decimal batches ∷ []) × IsBench batches
-Asks words Upgrade = words ≡ codes "upgrade" ∷ []
-Asks words Image = words ≡ codes "image" ∷ []
-Asks words (Retain name) = (words ≡ codes "retain" ∷ name_text name ∷ []) × IsName name
-Asks words (Marks markers) = (words ≡ codes "marks" ∷ decimal markers ∷ []) × AreMarkers markers
+Asks arguments Run = arguments ≡ codes "run" ∷ []
+Asks arguments (Bench batches) = (arguments ≡ codes "bench" ∷ decimal batches ∷ []) × IsBench batches
+Asks arguments Upgrade = arguments ≡ codes "upgrade" ∷ []
+Asks arguments Image = arguments ≡ codes "image" ∷ []
+Asks arguments (Retain name) = (arguments ≡ codes "retain" ∷ name_text name ∷ []) × IsName name
+Asks arguments (Marks markers) = (arguments ≡ codes "marks" ∷ decimal markers ∷ []) × AreMarkers markers
 
 -- the task can be done
 abbrev pub CanBeDone : Task → Type 0
@@ -32,7 +32,7 @@ CanBeDone Image = Unit {0}
 CanBeDone (Retain name) = Unit {0}
 CanBeDone (Marks markers) = AreMarkers markers
 
--- the task reads what the source has
+-- the task reads the source
 abbrev pub IsReading : Task → Type 0
 IsReading Run = Unit {0}
 IsReading (Bench batches) = ⊥
@@ -50,6 +50,6 @@ IsRunning Image = Unit {0}
 IsRunning (Retain name) = ⊥
 IsRunning (Marks markers) = Unit {0}
 
--- the words ask for no task
+-- wrong arguments: they ask for no task
 abbrev pub IsWrong : List (List ℕ) → Type 0
-IsWrong words = (task : Task) → Asks words task → ⊥
+IsWrong arguments = (task : Task) → Asks arguments task → ⊥

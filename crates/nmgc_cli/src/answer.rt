@@ -1,45 +1,21 @@
-//! What the program answers: a task that was done, or why none was.
+//! The reason why no task was done: an answer is a refusal, or the output of a task that was done.
 //!
-//! An answer is settled before the sink is touched. Its status, its report and its text are functions of
-//! it, so none of them can be at odds with the others: no refusal is `Done`, and no report goes with a
-//! refusal.
-//! Easy to get wrong: a text that takes memory may not be there after all. The answer is then
-//! `NoMemory`, whose own text takes none.
-ghost use Rattle.std.specs.Prelude.{◌≡◌, Some};
-ghost use Rattle.nmgc_cli.specs.{Answer.refusal_status, Answer.read_refusal, Answer.script_refusal, Answer.image_refusal, Answer.status_of, declared.answer.Refusal.TheVariants.NoMemory as no_memory};
+//! An answer is settled before the sink is touched. Its status, its report and its text are functions of it, so they always
+//! agree: no refusal is `Done`, and no report goes with a refusal. Easy to get wrong: there may be no memory for a text that
+//! takes memory. The answer is then `NoMemory`, whose own text takes none.
+ghost use Rattle.std.specs.Prelude.{◌≡◌};
+ghost use Rattle.nmgc_cli.specs.{Answer.refusal_status, Answer.read_refusal, Answer.script_refusal, Answer.image_refusal, declared.answer.Refusal.TheVariants.NoMemory as no_memory};
 
 use crate::Status;
 use nmgc_image::ImageFault;
 use nmgc_io::ReadEnd;
-use nmgc_journal::Report;
 use nmgc_lists::NoMemory;
 use nmgc_script::{Cause, ScriptFault};
 
-/// What is told of a task that was done: its status, the report where a script was run, and the text.
-#[derive(Drop)]
-pub struct Outcome {
-    pub status: Status,
-    pub report: Option<Report>,
-    pub text: Vec<u8>,
-}
-
-impl Outcome {
-    /// A script was run: its report, with what is written of it.
-    pub fn of_report(report: Report, text: Vec<u8>) -> Self
-        ensures { result ≡ record { status = status_of report.end; report = Some report; text = text } }
-    {
-        Outcome {
-            status: Status::of_end(report.end),
-            report: Some(report),
-            text,
-        }
-    }
-}
-
-/// Why no task was done.
+/// The reason why no task was done.
 #[derive(Clone, Copy, Debug, PartialEq, Eq)]
 pub enum Refusal {
-    /// The words ask for no task.
+    /// The arguments ask for no task.
     Usage,
     /// The source failed.
     ReadFault,
@@ -54,7 +30,7 @@ pub enum Refusal {
 }
 
 impl Refusal {
-    /// The status that tells it.
+    /// Returns the status of the refusal.
     pub fn status(self) -> Status
         ensures { result ≡ refusal_status self }
     {

@@ -1,9 +1,10 @@
-//! The words `image`: the heap that a run left, as an image.
+//! The subcommand `image`: the heap that a run left, as an image.
 ghost use Rattle.std.specs.Prelude.{IfOk};
 ghost use Rattle.nmgc_io.specs.Counts.{Rose};
-ghost use Rattle.nmgc_cli.specs.{Answer.IsRan, Answer.IsOfScript, Told.AnswersScript, Told.TellsOf, Told.IsImageText};
+ghost use Rattle.nmgc_cli.specs.{Answer.IsRan, Answer.IsOfScript, Output.AnswersScript, Output.AnswersWithReport, Output.IsImageText};
 
-use crate::answer::{Outcome, Refusal};
+use crate::answer::Refusal;
+use crate::output::Output;
 use crate::run::read_and_run;
 use nmgc_image::write_image;
 use nmgc_io::Source;
@@ -12,25 +13,25 @@ use nmgc_lists::NoMemory;
 use std::alloc::Global;
 use std::thread::Threads;
 
-/// The answer to `image`.
+/// Reads a script and runs it, and returns the answer of `image`: the text of the image that shows the heap after the run.
 pub fn image<R: Threads + Sync, S: Source>(
     alloc: Global,
     rt: &R,
     source: &mut S,
-) -> Result<Outcome, Refusal>
-    ensures { TellsOf IsImageText (AnswersScript IsRan (S.left source.old) (S.left source.new) (Rose (S.faults source.old) (S.faults source.new))) result }
+) -> Result<Output, Refusal>
+    ensures { AnswersWithReport IsImageText (AnswersScript IsRan (S.left source.old) (S.left source.new) (Rose (S.faults source.old) (S.faults source.new))) result }
 {
     let report = read_and_run(alloc, rt, source)?;
     let text = image_of(alloc, &report)?;
-    Ok(Outcome::of_report(report, text))
+    Ok(Output::of_report(report, text))
 }
 
-// The image of the heap that a report has.
+// Returns the text of the image that shows the heap of a report.
 fn image_of(alloc: Global, report: &Report) -> Result<Vec<u8>, NoMemory>
     requires { IsOfScript report.now }
     ensures { IfOk result (λ text. IsImageText report.now text.items) }
 {
-    // The law that what a run left stands for a world asks that the segments are sound, which this call tells the proof.
+    // The law that the heap of a run represents a world asks for sound segments. This call gives the proof that they are.
     let _layout = report.segments.layout();
     write_image(alloc, report)
 }

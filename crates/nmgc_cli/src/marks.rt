@@ -1,17 +1,17 @@
-//! The words `marks N`: what several markers mark of the heap that a run leaves.
+//! The subcommand `marks N`: several markers mark the heap that a run leaves.
 //!
-//! The run is that of `run`. Once it has ended, nobody writes the heap any more, so several markers mark side by side
-//! what the registers, the finaliser queues and the slots of g reach by strong fields (`nmgc_pmark`). Their names are written in place of
-//! the report's text: they are the same whatever the number of markers.
-//! Easy to get wrong: a report's words can't be read by several threads at once, since a closed table may not be shared.
-//! They are copied first.
+//! The run is as for `run`. After its end the heap is no longer written. So several markers mark side by side all objects
+//! that strong fields reach from the registers, the finaliser queues and the slots of g (`nmgc_pmark`). Their names are
+//! written in place of the report's text: they are the same for any number of markers. Easy to get wrong: a report's words
+//! can't be read by several threads at once, since a closed table may not be shared. They are copied first.
 ghost use Rattle.std.specs.Prelude.{◌≡◌, ℕ, [], ◌∷◌, ◌++◌, decimal, map, string_bytes, IfOk, IfSome, IfNone, OnOk};
 ghost use Rattle.std.specs.List.{flat_map};
 ghost use Rattle.nmgc_pmark.specs.Stops.{root_words};
-ghost use Rattle.nmgc_cli.specs.{Claimed.AreClaimsOf, Marks.IsMarksText, Marks.marks_lines, Marks.name_line, Answer.IsRan, Answer.IsOfScript, Task.Asks, Task.AreMarkers, Told.AnswersScript, Told.TellsOf, declared.task.Task.TheVariants.Marks};
+ghost use Rattle.nmgc_cli.specs.{Claimed.AreClaimsOf, Marks.IsMarksText, Marks.marks_lines, Marks.name_line, Answer.IsRan, Answer.IsOfScript, Task.Asks, Task.AreMarkers, Output.AnswersScript, Output.AnswersWithReport, declared.task.Task.TheVariants.Marks};
 ghost use Rattle.nmgc_io.specs.Counts.{Rose};
 
-use crate::answer::{Outcome, Refusal};
+use crate::answer::Refusal;
+use crate::output::Output;
 use crate::run::read_and_run;
 use nmgc_io::{Source, push_number, read_number};
 use nmgc_journal::text::push_end;
@@ -24,18 +24,18 @@ use nmgc_world_spec::Name;
 use std::alloc::Global;
 use std::thread::Threads;
 
-/// How many markers the words `marks N` ask for. `None` comes exactly where they aren't such words.
-pub fn markers_of(words: &[String]) -> Option<u8>
-    ensures asked { IfSome result (λ markers. Asks (map string_bytes words.now) (Marks markers)) }
-    ensures none { IfNone result ((markers : ℕ) → Asks (map string_bytes words.now) (Marks markers) → ⊥) }
+/// Returns the number of markers that the arguments `marks N` ask for, or `None` exactly if the arguments ask for no marks.
+pub fn markers_of(arguments: &[String]) -> Option<u8>
+    ensures asked { IfSome result (λ markers. Asks (map string_bytes arguments.now) (Marks markers)) }
+    ensures none { IfNone result ((markers : ℕ) → Asks (map string_bytes arguments.now) (Marks markers) → ⊥) }
 {
-    match words {
+    match arguments {
         [name, number] => markers_named(name.as_str(), number.as_str()),
         _ => None,
     }
 }
 
-// How many markers words of this name and number ask for.
+// Returns the number of markers that a subcommand and a number ask for, or `None` exactly if they ask for no marks.
 fn markers_named(name: &str, number: &str) -> Option<u8>
     ensures asked { IfSome result (λ markers. Asks (name.now ∷ number.now ∷ []) (Marks markers)) }
     ensures none { IfNone result ((markers : ℕ) → Asks (name.now ∷ number.now ∷ []) (Marks markers) → ⊥) }
@@ -46,37 +46,37 @@ fn markers_named(name: &str, number: &str) -> Option<u8>
     markers_in(number.as_bytes())
 }
 
-// The number of markers that a word spells.
+// Returns the number of markers that a token spells, or `None` exactly if it spells no allowed number.
 #[tactic(auto, using(crate::proofs::Asking::one_number))]
-fn markers_in(word: &[u8]) -> Option<u8>
-    ensures found { IfSome result (λ markers. (word.now ≡ decimal markers) × AreMarkers markers) }
-    ensures none { IfNone result ((markers : ℕ) → AreMarkers markers → word.now ≡ decimal markers → ⊥) }
+fn markers_in(argument: &[u8]) -> Option<u8>
+    ensures found { IfSome result (λ markers. (argument.now ≡ decimal markers) × AreMarkers markers) }
+    ensures none { IfNone result ((markers : ℕ) → AreMarkers markers → argument.now ≡ decimal markers → ⊥) }
 {
-    let number = read_number(word, u64::from(MOST_MARKERS))?;
+    let number = read_number(argument, u64::from(MOST_MARKERS))?;
     if number == 0 {
         return None;
     }
     Some(number as u8)
 }
 
-/// The answer to `marks N`.
+/// Reads a script and runs it, and returns the answer of `marks N`: the names that N markers mark in the heap after the run.
 pub fn marks<R: Threads + Sync, S: Source>(
     alloc: Global,
     rt: &R,
     source: &mut S,
     markers: u8,
-) -> Result<Outcome, Refusal>
+) -> Result<Output, Refusal>
     requires { AreMarkers markers }
-    ensures { TellsOf (IsMarksText markers) (AnswersScript IsRan (S.left source.old) (S.left source.new)
+    ensures { AnswersWithReport (IsMarksText markers) (AnswersScript IsRan (S.left source.old) (S.left source.new)
         (Rose (S.faults source.old) (S.faults source.new))) result }
 {
     let report = read_and_run(alloc, rt, source)?;
     let text = marks_text(alloc, rt, markers, &report)?;
-    Ok(Outcome::of_report(report, text))
+    Ok(Output::of_report(report, text))
 }
 
-/// The text of `marks N`: how many markers there were, how many names they reached, each of them in order, and the last
-/// line of the report. Takes memory for the heap's words and what the markers need, and for the text.
+/// Returns the text of `marks N`: the number of markers, the number of names that they reached, each of the names in order,
+/// and the last line of the report. Takes memory for the heap's words and for the markers, and for the text.
 pub fn marks_text<R: Threads + Sync>(
     alloc: Global,
     rt: &R,
@@ -92,8 +92,9 @@ pub fn marks_text<R: Threads + Sync>(
     lines(alloc, markers, names.items(), report.end)
 }
 
-/// What so many markers claim of the heap that a run left, each of which passes `gate` before each object. Takes memory
-/// for a copy of the heap's words, and for what the markers need.
+/// Returns the claims of `markers` markers in the heap that a run left. Each marker passes `gate` before each object. The
+/// copy is for the threads: a closed table and its row of words aren't `Sync`. A test calls it under a gate at which two
+/// markers meet. Takes memory for a copy of the heap's words, and for the markers.
 pub fn claims_of<R: Threads + Sync, G: Gate>(
     alloc: Global,
     rt: &R,
@@ -106,7 +107,7 @@ pub fn claims_of<R: Threads + Sync, G: Gate>(
     ensures { IfOk result (λ claims. AreClaimsOf markers report.now claims.by) }
 {
     a_stop_is_stopped();
-    // The law that what a run left stands for a world asks that the segments are sound, which this call tells the proof.
+    // The law that the heap of a run represents a world asks for sound segments. This call gives the proof that they are.
     let _ = report.segments.layout();
     let words = copied(alloc, &report.words)?;
     let roots = root_words(alloc, report.mutators.items())?;
@@ -121,7 +122,7 @@ pub fn claims_of<R: Threads + Sync, G: Gate>(
     )
 }
 
-// The words of the heap.
+// Copies the words of the heap into a vector, which several threads may read at once.
 fn copied(alloc: Global, words: &FinalWords) -> Result<Vec<u64>, NoMemory>
     ensures { IfOk result (λ copy. copy.items ≡ words.now) }
 {
@@ -132,7 +133,7 @@ fn copied(alloc: Global, words: &FinalWords) -> Result<Vec<u64>, NoMemory>
     Ok(copy)
 }
 
-// The registers of all mutators, and then their finaliser queues.
+// Returns the words from which the markers begin: the registers of all mutators, and then their finaliser queues.
 fn root_words(alloc: Global, mutators: &[MutatorEnd]) -> Result<Vec<u64>, NoMemory>
     ensures { IfOk result (λ roots. roots.items ≡ root_words mutators.now) }
 {
@@ -146,7 +147,7 @@ fn root_words(alloc: Global, mutators: &[MutatorEnd]) -> Result<Vec<u64>, NoMemo
     Ok(roots)
 }
 
-// The lines of so many markers and these names.
+// Returns the text for `markers` markers: their number, the number of `names`, each name, and the end of the run.
 fn lines(alloc: Global, markers: u8, names: &[Name], end: End) -> Result<Vec<u8>, NoMemory>
     ensures { IfOk result (λ text. text.items ≡ marks_lines markers names.now end) }
 {

@@ -8,7 +8,7 @@ use nmgc_lists::NoMemory;
 use nmgc_script::Cause;
 use std::alloc::Global;
 
-/// The text of a refusal that has always the same. Takes no memory.
+/// Returns the text of a refusal that always has the same text. Takes no memory.
 pub fn message(refusal: Refusal) -> &'static [u8]
     requires { IsBad refusal → ⊥ }
     ensures { result.now ≡ refusal_text refusal }
@@ -23,7 +23,7 @@ pub fn message(refusal: Refusal) -> &'static [u8]
     }
 }
 
-/// The text that tells the first bad line of a script, from 1, and its cause.
+/// Returns the text that reports the first bad line of a script, from 1, and its cause.
 pub fn bad_line(alloc: Global, line: u32, cause: Cause) -> Result<Vec<u8>, NoMemory>
     ensures { IfOk result (λ text. text.items ≡ bad_line line cause) }
 {
@@ -35,7 +35,7 @@ pub fn bad_line(alloc: Global, line: u32, cause: Cause) -> Result<Vec<u8>, NoMem
     Ok(text)
 }
 
-/// The text that tells the first bad line of an image, from 1.
+/// Returns the text that reports the first bad line of an image, from 1.
 pub fn bad_image_line(alloc: Global, line: u32) -> Result<Vec<u8>, NoMemory>
     ensures { IfOk result (λ text. text.items ≡ bad_image_line line) }
 {
@@ -45,7 +45,7 @@ pub fn bad_image_line(alloc: Global, line: u32) -> Result<Vec<u8>, NoMemory>
     Ok(text)
 }
 
-// The word of a cause.
+// Returns the token of a cause.
 fn cause_text(cause: Cause) -> &'static [u8]
     ensures { result.now ≡ cause_text cause }
 {

@@ -1,16 +1,18 @@
-//! The words `retain NAME`: a shortest path to an object of an image.
+//! The subcommand `retain NAME`: a shortest path to an object of an image.
 //!
-//! The answer of the search is judged by the image alone before it is told. That the judge says yes is proved of the
-//! search; it takes no memory, and less time than reading the image.
+//! The answer of the search is judged by the image alone before it is written. It is proved of the search that the judge says
+//! yes. The judge takes no memory, and less time than reading the image.
 ghost use Rattle.std.specs.Prelude.{◌≡◌, ◌≢◌, [], ◌∷◌, ℕ, ◌≤◌, length, map, string_bytes, codes, IfSome, IfNone};
 ghost use Rattle.nmgc_world_spec.specs.declared.value.Name.{Name as NameOf};
 ghost use Rattle.nmgc_io.specs.Counts.{Rose};
 ghost use Rattle.nmgc_journal.specs.Text.{name_text};
 ghost use Rattle.nmgc_object.specs.Words.{IsName};
-ghost use Rattle.nmgc_cli.specs.{Task.Asks, Told.AnswersRetain, Told.AnswersImage, declared.task.Task.TheVariants.Retain};
+ghost use Rattle.nmgc_cli.specs.{Task.Asks, Output.AnswersRetain, Output.AnswersImage, declared.task.Task.TheVariants.Retain};
 
 use crate::Status;
-use crate::answer::{Outcome, Refusal};
+use crate::answer::Refusal;
+use crate::output::Output;
+use nmgc_arguments::Text;
 use nmgc_image::{MAX_IMAGE_BYTES, read_image};
 use nmgc_io::{Source, read_all};
 use nmgc_journal::read_name;
@@ -18,38 +20,38 @@ use nmgc_retain::{retain as find, retained_text, verify};
 use nmgc_world_spec::Name;
 use std::alloc::Global;
 
-/// The name in the words `retain NAME`. `None` comes exactly where they aren't such words.
-pub fn name_asked(words: &[String]) -> Option<Name>
-    ensures asked { IfSome result (λ name. Asks (map string_bytes words.now) (Retain name)) }
-    ensures none { IfNone result ((name : NameOf) → Asks (map string_bytes words.now) (Retain name) → ⊥) }
+/// Returns the name that the arguments `retain NAME` ask for. Returns `None` exactly if the arguments ask for no path.
+pub fn name_asked(arguments: &[String]) -> Option<Name>
+    ensures asked { IfSome result (λ name. Asks (map string_bytes arguments.now) (Retain name)) }
+    ensures none { IfNone result ((name : NameOf) → Asks (map string_bytes arguments.now) (Retain name) → ⊥) }
 {
-    match words {
-        [word, name] => name_after(word.as_str(), name.as_str()),
+    match arguments {
+        [subcommand, name] => name_after(subcommand.as_str(), name.as_str()),
         _ => None,
     }
 }
 
-// The name after this word.
-fn name_after(word: &str, name: &str) -> Option<Name>
-    ensures asked { IfSome result (λ found. Asks (word.now ∷ name.now ∷ []) (Retain found)) }
-    ensures none { IfNone result ((found : NameOf) → Asks (word.now ∷ name.now ∷ []) (Retain found) → ⊥) }
+// Returns the name that a subcommand and a token ask for, or `None` exactly if they ask for no path.
+fn name_after(subcommand: &str, name: &str) -> Option<Name>
+    ensures asked { IfSome result (λ found. Asks (subcommand.now ∷ name.now ∷ []) (Retain found)) }
+    ensures none { IfNone result ((found : NameOf) → Asks (subcommand.now ∷ name.now ∷ []) (Retain found) → ⊥) }
 {
-    if word != "retain" {
+    if subcommand != "retain" {
         return None;
     }
     read_name(name.as_bytes())
 }
 
-/// The answer to `retain NAME`.
-pub fn retain<S: Source>(alloc: Global, source: &mut S, name: Name) -> Result<Outcome, Refusal>
+/// Reads an image, and returns the answer of `retain NAME`: a shortest path to the object of this name, or that none exists.
+pub fn retain<S: Source>(alloc: Global, source: &mut S, name: Name) -> Result<Output, Refusal>
     ensures { AnswersRetain name (S.left source.old) (S.left source.new) (Rose (S.faults source.old) (S.faults source.new)) result }
 {
     let bytes = read_all(alloc, source, MAX_IMAGE_BYTES)?;
     path_in(alloc, name, &bytes)
 }
 
-// The answer to an image's bytes.
-fn path_in(alloc: Global, name: Name, bytes: &[u8]) -> Result<Outcome, Refusal>
+// Returns the answer for `name` in the image that the bytes spell: a shortest path, that there is none, or a refusal.
+fn path_in(alloc: Global, name: Name, bytes: &[u8]) -> Result<Output, Refusal>
     requires { length bytes.now ≤ MAX_IMAGE_BYTES }
     ensures { AnswersImage name bytes.now result }
 {
@@ -60,9 +62,9 @@ fn path_in(alloc: Global, name: Name, bytes: &[u8]) -> Result<Outcome, Refusal>
         unreachable!();
     }
     let text = retained_text(alloc, &answer)?;
-    Ok(Outcome {
+    Ok(Output {
         status: Status::Done,
         report: None,
-        text,
+        text: Text::Made(text),
     })
 }

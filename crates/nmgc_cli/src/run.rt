@@ -1,15 +1,16 @@
-//! A script that is read and run, and the words `run`.
+//! A script that is read and run, and the subcommand `run`.
 //!
-//! Other words that read a script and run it tell something else of its report: they begin with `read_and_run`, as `run`
-//! does, and differ in the text alone.
+//! Other subcommands that read a script and run it write another text for its report. They begin with `read_and_run`, as
+//! `run` does, and differ in the text alone.
 ghost use Rattle.std.specs.Prelude.{◌≡◌, ◌≤◌, length, sum_by, vec_len, IfOk, IfErr, MatchResult};
 ghost use Rattle.nmgc_io.specs.Counts.{Rose};
 ghost use Rattle.nmgc_limits.specs.Limits.{most_script_bytes};
-ghost use Rattle.nmgc_script.specs.{Faults.IsToldOf, Spelling.Spells, declared.script.Script.Script as Spelled, Limits.IsInLimits};
+ghost use Rattle.nmgc_script.specs.{Faults.IsFaultOf, Spelling.Spells, declared.script.Script.Script as Spelled, Limits.IsInLimits};
 ghost use Rattle.nmgc_run_spec.specs.Crowded.{IsRunOf};
-ghost use Rattle.nmgc_cli.specs.{Answer.IsRan, Told.AnswersScript, Told.AnswersBytes, Told.TellsOf, Told.IsText};
+ghost use Rattle.nmgc_cli.specs.{Answer.IsRan, Output.AnswersScript, Output.AnswersBytes, Output.AnswersWithReport, Output.IsText};
 
-use crate::answer::{Outcome, Refusal};
+use crate::answer::Refusal;
+use crate::output::Output;
 use nmgc_cycle::Collector;
 use nmgc_io::{Source, read_all};
 use nmgc_journal::Report;
@@ -22,20 +23,20 @@ use std::alloc::Global;
 use std::mem;
 use std::thread::Threads;
 
-/// The answer to `run`.
+/// Reads a script and runs it, and returns the answer of `run`: the text of the report.
 pub fn run<R: Threads + Sync, S: Source>(
     alloc: Global,
     rt: &R,
     source: &mut S,
-) -> Result<Outcome, Refusal>
-    ensures { TellsOf IsText (AnswersScript IsRan (S.left source.old) (S.left source.new) (Rose (S.faults source.old) (S.faults source.new))) result }
+) -> Result<Output, Refusal>
+    ensures { AnswersWithReport IsText (AnswersScript IsRan (S.left source.old) (S.left source.new) (Rose (S.faults source.old) (S.faults source.new))) result }
 {
     let report = read_and_run(alloc, rt, source)?;
     let text = text(alloc, &report)?;
-    Ok(Outcome::of_report(report, text))
+    Ok(Output::of_report(report, text))
 }
 
-/// The report of a script that is read to its end and run, or why there is none.
+/// Reads a script to its end and runs it. Returns its report, or the reason why there is none.
 pub fn read_and_run<R: Threads + Sync, S: Source>(
     alloc: Global,
     rt: &R,
@@ -47,7 +48,8 @@ pub fn read_and_run<R: Threads + Sync, S: Source>(
     run_bytes(alloc, rt, bytes)
 }
 
-/// The report of the script that these bytes spell, or why there is none. Their memory is given back before the run.
+/// Runs the script that the bytes spell, and returns its report, or the reason why there is none. The memory of the bytes is
+/// given back before the run. The test of `claims_of` calls it too.
 pub fn run_bytes<R: Threads + Sync>(
     alloc: Global,
     rt: &R,
@@ -60,21 +62,20 @@ pub fn run_bytes<R: Threads + Sync>(
     Ok(run_script(alloc, rt, script)?)
 }
 
-// The script that these bytes spell, or what the parser tells of them. Their memory is given back.
+// Returns the script that the bytes spell, or the parser's fault. The memory of the bytes is given back.
 fn script_of(alloc: Global, bytes: Vec<u8>) -> Result<Script, ScriptFault>
     requires { vec_len bytes ≤ most_script_bytes }
     ensures found { IfOk result (λ script. Spells bytes.items script) }
     ensures only { (script : Spelled) → Spells bytes.items script → MatchResult result (λ read. script ≡ read) (λ fault. fault ≡ ScriptFault.NoMemory) }
     ensures few { IfOk result (λ script. sum_by (λ program. length program) script.threads ≤ vec_len bytes) }
-    ensures told { IfErr result (λ fault. IsToldOf bytes.items fault) }
+    ensures reported { IfErr result (λ fault. IsFaultOf bytes.items fault) }
 {
     parse(alloc, &bytes)
 }
 
-/// The report of a script's run, under a gate that holds nobody back. Asks that the script is within the limits.
-///
-/// The script's memory isn't given back: the program ends with its report, and then the system takes all of it at
-/// once, where letting go of a long script takes a look at each of its commands.
+/// Runs a script under a gate that never blocks, and returns its report. Requires that the script is within the limits.
+/// The memory of the script isn't given back: the program ends with its report, and then the system takes all of it at once.
+/// A drop of a long script would visit each of its commands.
 pub fn run_script<R: Threads + Sync>(
     alloc: Global,
     rt: &R,

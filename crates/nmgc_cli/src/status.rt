@@ -4,24 +4,24 @@ ghost use Rattle.nmgc_cli.specs.Answer.{number_of, status_of};
 
 use nmgc_journal::{End, Report};
 
-/// How the program ended. Each has its own text, and a number with which the process ends.
+/// The status with which the program ends. Each status has its own text, and a number with which the process ends.
 #[derive(Clone, Copy, Debug, PartialEq, Eq)]
 pub enum Status {
-    /// The script was run to its end and what the task tells of its report was written; or its upgrade was, or the path of
-    /// an object in an image, or that there is none. Number 0.
+    /// The task was done. A script was run to its end, and the task's text for its report was written. Or the upgrade of a
+    /// script, a path to an object of an image, or that there is none was written. Number 0.
     Done,
-    /// The words ask for no task; nothing was read. Number 2.
+    /// The arguments ask for no task; nothing was read. Number 2.
     Usage,
     /// The source failed. Number 3.
     ReadFault,
-    /// The sink failed; it has a front of what was to be written. Number 4.
+    /// The sink failed, after it took only some of the text, from its front. Number 4.
     WriteFault,
     /// The bytes spell no script. Number 5.
     BadScript,
     /// There are more bytes than a script or an image may have. Number 5.
     TooLong,
-    /// The run ended at a stop where commands were left, and where even a full cycle left fewer segments free
-    /// than the reserve; what the task tells of its report was written. Number 6.
+    /// The run ended at a stop with commands left, at which even a full cycle left fewer segments free than the reserve. The
+    /// task's text for its report was written. Number 6.
     HeapFull,
     /// There was no memory. Number 7.
     NoMemory,
@@ -30,7 +30,7 @@ pub enum Status {
 }
 
 impl Status {
-    /// The number with which the process ends.
+    /// Returns the number with which the process ends.
     pub fn number(self) -> u8
         ensures { result ≡ number_of self }
     {
@@ -46,7 +46,7 @@ impl Status {
         }
     }
 
-    /// The status of a run that ended so.
+    /// Returns the status of a run with this end.
     pub fn of_end(end: End) -> Self
         ensures { result ≡ status_of end }
     {
@@ -57,15 +57,14 @@ impl Status {
     }
 }
 
-/// The status, and the report where a script was run, whether to its end or until its heap was full. Where
-/// the sink failed, the report is there if it was its text, its summary, its image or what markers reached that was to
-/// be written.
+/// The status, and the report if a script was run, whether to its end or until its heap was full. If the sink failed, the
+/// report is there if its text, its summary, its image or its marked names were to be written.
 pub struct Ended {
     pub status: Status,
     pub report: Option<Report>,
 }
 
-// By hand, so that whoever lets go of one calls this.
+// Written by hand, so that each drop calls this function.
 impl Drop for Ended {
     fn drop(self) {
         let Ended { status: _, report } = self;

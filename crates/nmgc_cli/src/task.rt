@@ -1,8 +1,8 @@
-//! What the words of the command line ask for.
+//! The tasks that the arguments of the command line ask for.
 //!
-//! A task is read from all words at once, so that a word too many is a wrong word as one too few is.
-//! Another task is a variant here, a line of each definition by cases of tasks (`specs/Task.antt`, `Answers`), a word in
-//! the text of `Usage`, and a function in a file of its own.
+//! A task is read from all arguments at once, so one argument too many is wrong, and so is one too few. A further task is a
+//! variant here, a line of each definition by cases of tasks (`specs/Task.antt`, `Answers`), a subcommand in the text of
+//! `Usage`, and a function in a file of its own.
 ghost use Rattle.std.specs.Prelude.{◌≡◌, ◌↔◌, [], ◌∷◌, map, string_bytes, IsTrue, IfSome, IfNone};
 ghost use Rattle.nmgc_cli.specs.Task.{Asks, IsWrong};
 
@@ -11,55 +11,55 @@ use crate::marks::markers_of;
 use crate::retaining::name_asked;
 use nmgc_world_spec::Name;
 
-/// What the program is asked to do.
+/// A task of the program.
 #[derive(Clone, Copy, Debug, PartialEq, Eq)]
 pub enum Task {
     /// `run`: reads a script from the source to its end, runs it, and writes the report's text.
     Run,
-    /// `bench N`: runs the bench's script with so many batches, and writes the summary of its report.
+    /// `bench N`: runs the bench's script with N batches, and writes the summary of its report.
     Bench { batches: u32 },
-    /// `upgrade`: reads a script from the source to its end, and writes the plain spelling of it in the last version.
+    /// `upgrade`: reads a script from the source to its end, and writes its plain spelling in the last version.
     Upgrade,
     /// `image`: reads and runs a script as `run` does, and writes the image of the heap that its run left.
     Image,
     /// `retain NAME`: reads an image from the source to its end, and writes a shortest path to the object of this name, or
     /// that there is none.
     Retain { name: Name },
-    /// `marks N`: does what `run` does, and writes what so many markers mark of the heap that its run left.
+    /// `marks N`: does what `run` does, and writes the names that N markers mark in the heap that its run left.
     Marks { markers: u8 },
 }
 
-/// The task that the words ask for. `None` comes exactly where they ask for none.
+/// Returns the task that the arguments ask for, or `None` exactly if they ask for none.
 #[tactic(auto, using(crate::proofs::Asking::none_asked))]
-pub fn task_of(words: &[String]) -> Option<Task>
-    ensures asked { IfSome result (λ task. Asks (map string_bytes words.now) task) }
-    ensures wrong { IfNone result (IsWrong (map string_bytes words.now)) }
+pub fn task_of(arguments: &[String]) -> Option<Task>
+    ensures asked { IfSome result (λ task. Asks (map string_bytes arguments.now) task) }
+    ensures wrong { IfNone result (IsWrong (map string_bytes arguments.now)) }
 {
-    if is_alone(words, "run") {
+    if is_alone(arguments, "run") {
         return Some(Task::Run);
     }
-    if is_alone(words, "upgrade") {
+    if is_alone(arguments, "upgrade") {
         return Some(Task::Upgrade);
     }
-    if is_alone(words, "image") {
+    if is_alone(arguments, "image") {
         return Some(Task::Image);
     }
-    if let Some(name) = name_asked(words) {
+    if let Some(name) = name_asked(arguments) {
         return Some(Task::Retain { name });
     }
-    if let Some(markers) = markers_of(words) {
+    if let Some(markers) = markers_of(arguments) {
         return Some(Task::Marks { markers });
     }
-    let batches = batches_of(words)?;
+    let batches = batches_of(arguments)?;
     Some(Task::Bench { batches })
 }
 
-// Whether the words are one word alone.
-fn is_alone(words: &[String], name: &str) -> bool
-    ensures { IsTrue result ↔ (map string_bytes words.now ≡ name.now ∷ []) }
+// Whether the arguments are the subcommand `name` alone.
+fn is_alone(arguments: &[String], name: &str) -> bool
+    ensures { IsTrue result ↔ (map string_bytes arguments.now ≡ name.now ∷ []) }
 {
-    match words {
-        [word] => word.as_str() == name,
+    match arguments {
+        [argument] => argument.as_str() == name,
         _ => false,
     }
 }

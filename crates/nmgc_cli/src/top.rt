@@ -1,141 +1,150 @@
 //! The top call.
 //!
-//! The work goes one way: words, task, bytes, script or image, report, text, sink. Each part can refuse, in that
-//! order, and the first refusal is told. What is to be told is settled before the sink is touched, so
-//! a sink that fails replaces the status and nothing else. What a task does stands in a file of its own.
+//! The work goes one way: arguments, task, bytes, script or image, report, text, sink. Each part can refuse, in that order,
+//! and the first refusal is the answer. The output is settled before the sink is touched, so a sink that fails changes only
+//! the status. Each task is in a file of its own.
 ghost use Rattle.std.specs.Prelude.{◌≡◌, map, string_bytes, IfSome};
 ghost use Rattle.nmgc_io.specs.Counts.{Rose};
-ghost use Rattle.nmgc_cli.specs.{Answer.Answer, Answer.IsToldAs, Task.CanBeDone, Task.IsReading};
-ghost use Rattle.nmgc_cli.specs.Told.{IsTold, Answers, IsWritten, Ends, IsReport, IsComplete, IsBenchComplete, IsUpgrade, IsUpgradeComplete, IsPath, IsRetainComplete, ReadsNothing};
+ghost use Rattle.nmgc_cli.specs.{Answer.Answer, Answer.IsOutputOf, Task.CanBeDone, Task.IsReading};
+ghost use Rattle.nmgc_cli.specs.Output.{IsAnswer, Answers, Ends, IsReport, IsComplete, IsBenchComplete, IsUpgrade, IsUpgradeComplete, IsPath, IsRetainComplete, ReadsNothing};
 
-use crate::answer::{Outcome, Refusal};
+use crate::answer::Refusal;
 use crate::bench::bench;
 use crate::imaging::image;
 use crate::marks::marks;
+use crate::output::{Output, output_of_refusal};
 use crate::retaining::retain;
 use crate::run::run;
 use crate::task::{Task, task_of};
-use crate::told::{Told, told_outcome, told_refusal};
 use crate::upgrading::upgrade;
 use crate::{Ended, Status};
-use nmgc_io::{Sink, Source, write_all};
+use nmgc_arguments::write_output;
+use nmgc_io::{Sink, Source};
 use std::alloc::Global;
 use std::thread::Threads;
 
-/// Does what the words ask for. For `run`, reads a script from the source to its end, runs it, and writes
-/// the report's text to the sink; for `bench N`, reads nothing, runs the bench's script, and writes the
-/// summary; for `upgrade`, reads a script as `run` does, and writes the plain spelling of its upgrade; for `image`, does
-/// what `run` does and writes the image of the heap in the text's place, and for `marks N` what so many markers mark of
-/// it; for `retain NAME`, reads an image, and writes a shortest path to the object of this name, or that there is none.
-/// Answers the status, and the report where a script was run.
+/// Does the task that the arguments ask for, and writes its text to the sink. Returns the status, and the report if a script
+/// was run.
+/// - `run`: reads a script from the source to its end, runs it, and writes the report's text.
+/// - `bench N`, N from 1 to 100: reads nothing, runs the bench's script, and writes the summary of its report.
+/// - `image`: reads and runs a script as `run` does, but writes the spelling of the image that shows the last world.
+/// - `marks N`, N from 1 to 8: reads and runs a script as `run` does, but writes the names that strong fields reach from the
+///   last world's registers and queues and from the slots of g. The text is the same for any N.
+/// - `upgrade`: reads a script as `run` does, and writes the plain spelling of its upgrade.
+/// - `retain NAME`: reads an image to its end, and writes a shortest path to the object of this name, or that there is none.
 ///
-/// Where something is in the way, the text of the first refusal is written in the report's place:
-/// words, read, length, grammar, run or search. For wrong words nothing is read. Where the sink fails, the status is
-/// `WriteFault`, and the sink has a front of what was to be written.
+/// If a part refuses, the text of the first refusal is written instead. The parts in their order: arguments, read, length,
+/// grammar, run or search. If the arguments are wrong, nothing is read. If the sink fails, the status is `WriteFault`, and
+/// the sink has a prefix of the text.
 ///
-/// A run ends as `HeapFull` only where a full cycle at its last stop kept more objects than there are
-/// segments above the reserve. Takes memory for the bytes, for the script, for the run and for the text.
+/// A run ends as `HeapFull` exactly if its last stop did a full cycle, and yet commands are left and fewer segments are free
+/// than the reserve. Then the last cycle kept more objects than there are segments above the reserve. The world with which
+/// that full cycle began also has more kept objects than that.
+///
+/// Suppose that the arguments are right and that neither source nor sink fails. Suppose also that the source has a script
+/// within the limit of bytes (for `retain` an image, for `bench` anything). Then the status is `Done`, or `NoMemory` if
+/// memory runs out; a task that runs a script may also end as `HeapFull`, exactly as above. Takes memory for the bytes, for
+/// the script, for the run and for the text.
 pub fn nmgc<R: Threads + Sync, S: Source, K: Sink>(
     alloc: Global,
     rt: &R,
-    words: &[String],
+    arguments: &[String],
     source: &mut S,
     sink: &mut K,
 ) -> Ended
-    // There is an answer to the words, and it was written.
-    ensures told { (answer : Answer)
-        × IsTold (map string_bytes words.now) (S.left source.old) (S.left source.new) (Rose (S.faults source.old) (S.faults source.new)) answer
+    // There is an answer to the arguments, with its cause. It says which bytes were read, which bytes were written, and what
+    // is returned.
+    ensures reported { (answer : Answer)
+        × IsAnswer (map string_bytes arguments.now) (S.left source.old) (S.left source.new) (Rose (S.faults source.old) (S.faults source.new)) answer
         × Ends (K.taken sink.old) (K.taken sink.new) (Rose (K.faults sink.old) (K.faults sink.new)) answer result.status result.report }
-    // A report is lawful for the script that was read, ends by its cause, and its text was written.
+    // The theorem of the repository. A report that is returned is lawful for the one script that was read to its end, or for
+    // the bench's script, and its end has its cause. The text of the task for this report was written with the status of this
+    // end; if the sink failed, a prefix of the text was written.
     ensures report { IfSome result.report (λ report.
-        IsReport (map string_bytes words.now) (S.left source.old) (S.left source.new) (K.taken sink.old) (K.taken sink.new)
+        IsReport (map string_bytes arguments.now) (S.left source.old) (S.left source.new) (K.taken sink.old) (K.taken sink.new)
         (Rose (K.faults sink.old) (K.faults sink.new)) result.status report) }
-    // Where a script was upgraded, the spelling of its upgrade was written; there is no report, and no heap that is full.
-    ensures upgrade { IsUpgrade (map string_bytes words.now) (S.left source.old) (S.left source.new) (K.taken sink.old) (K.taken sink.new)
+    // If `upgrade` ends as `Done`, one script was read to its end, and the plain spelling of its upgrade was written. It
+    // never returns a report, and never ends as `HeapFull`.
+    ensures upgrade { IsUpgrade (map string_bytes arguments.now) (S.left source.old) (S.left source.new) (K.taken sink.old) (K.taken sink.new)
         result.status result.report }
-    // Where a path was told, it is that of a right answer in the image that was read; there is no report, and no heap that is full.
-    ensures path { IsPath (map string_bytes words.now) (S.left source.old) (S.left source.new) (K.taken sink.old) (K.taken sink.new) result.status
+    // If `retain` ends as `Done`, an image was read to its end, and the text of an answer was written that `verify` certifies
+    // in this image, so the answer is right. It never returns a report, and never ends as `HeapFull`.
+    ensures path { IsPath (map string_bytes arguments.now) (S.left source.old) (S.left source.new) (K.taken sink.old) (K.taken sink.new) result.status
         result.report }
-    // For wrong words and for a bench nothing is read.
-    ensures unread { ReadsNothing (map string_bytes words.now) → source.new ≡ source.old }
-    // A script within the limit is run to its end where there is no fault, unless memory ran out or the run that `report`
-    // tells left the heap full by its cause.
-    ensures complete { IsComplete (map string_bytes words.now) (S.left source.old) (Rose (S.faults source.old) (S.faults source.new))
+    // For wrong arguments and for a bench the source stays as it is.
+    ensures unread { ReadsNothing (map string_bytes arguments.now) → source.new ≡ source.old }
+    // For `run`, `image` and `marks N`: if a script within the limit is read and nothing fails, the status is `Done`,
+    // `HeapFull` or `NoMemory`. If it is `HeapFull`, each run that the report describes has the cause, and so has the run in
+    // the clause `report`. The cause: its last stop did a full cycle, yet left too few segments free, and is crowded. So a
+    // run whose last stop isn't crowded doesn't end as `HeapFull`.
+    ensures complete { IsComplete (map string_bytes arguments.now) (S.left source.old) (Rose (S.faults source.old) (S.faults source.new))
         (Rose (K.faults sink.old) (K.faults sink.new)) result.status result.report }
-    // A script within the limit is upgraded where there is no fault, unless memory ran out.
-    ensures upgraded { IsUpgradeComplete (map string_bytes words.now) (S.left source.old) (Rose (S.faults source.old) (S.faults source.new))
+    // A script within the limit is upgraded if there is no fault, unless memory runs out.
+    ensures upgraded { IsUpgradeComplete (map string_bytes arguments.now) (S.left source.old) (Rose (S.faults source.old) (S.faults source.new))
         (Rose (K.faults sink.old) (K.faults sink.new)) result.status }
-    // A path is found in an image within the limit where there is no fault, unless memory ran out.
-    ensures retain { IsRetainComplete (map string_bytes words.now) (S.left source.old) (Rose (S.faults source.old) (S.faults source.new))
+    // For `retain`: if an image within the limit is read and nothing fails, `Done`, with a path or none, unless memory runs
+    // out.
+    ensures retain { IsRetainComplete (map string_bytes arguments.now) (S.left source.old) (Rose (S.faults source.old) (S.faults source.new))
         (Rose (K.faults sink.old) (K.faults sink.new)) result.status }
-    // A bench is run to its end as a script is, and its run is that of `report` too; it has no source that could fail.
-    ensures bench { IsBenchComplete (map string_bytes words.now) (Rose (K.faults sink.old) (K.faults sink.new)) result.status result.report }
+    // For `bench N`, which reads no source: if the sink doesn't fail, its script is run through, with the same statuses and
+    // cause.
+    ensures bench { IsBenchComplete (map string_bytes arguments.now) (Rose (K.faults sink.old) (K.faults sink.new)) result.status result.report }
 {
-    let Told {
+    let Output {
         status,
         report,
         text,
-    } = told(alloc, rt, words, source);
+    } = reported(alloc, rt, arguments, source);
     Ended {
-        status: written(sink, status, text.bytes()),
+        status: write_output(sink, status, Status::WriteFault, text.bytes()),
         report,
     }
 }
 
-// Writes a text, and gives the status that was to be told unless the sink failed.
-fn written<K: Sink>(sink: &mut K, told: Status, text: &[u8]) -> Status
-    ensures { IsWritten (K.taken sink.old) (K.taken sink.new) (Rose (K.faults sink.old) (K.faults sink.new)) told text.now result }
-{
-    match write_all(sink, text) {
-        Ok(()) => told,
-        Err(_) => Status::WriteFault,
-    }
-}
-
-// What is told of the answer to the words.
-fn told<R: Threads + Sync, S: Source>(
+// Does the task of the arguments, if they ask for one, and returns the output of the answer. Nothing is written yet.
+fn reported<R: Threads + Sync, S: Source>(
     alloc: Global,
     rt: &R,
-    words: &[String],
+    arguments: &[String],
     source: &mut S,
-) -> Told
-    ensures told { (answer : Answer)
-        × IsTold (map string_bytes words.now) (S.left source.old) (S.left source.new) (Rose (S.faults source.old) (S.faults source.new)) answer
-        × IsToldAs answer result }
-    ensures unread { ReadsNothing (map string_bytes words.now) → source.new ≡ source.old }
+) -> Output
+    ensures reported { (answer : Answer)
+        × IsAnswer (map string_bytes arguments.now) (S.left source.old) (S.left source.new) (Rose (S.faults source.old) (S.faults source.new)) answer
+        × IsOutputOf answer result }
+    ensures unread { ReadsNothing (map string_bytes arguments.now) → source.new ≡ source.old }
 {
-    match answer(alloc, rt, words, source) {
-        Ok(outcome) => told_outcome(outcome),
-        Err(refusal) => told_refusal(alloc, refusal),
+    match answer(alloc, rt, arguments, source) {
+        Ok(output) => output,
+        Err(refusal) => output_of_refusal(alloc, refusal),
     }
 }
 
-// The answer to the words.
-#[tactic(auto, using(crate::proofs::Telling::asked_told, crate::proofs::Telling::asked_can))]
+// Does the task that the arguments ask for, and returns its answer. If they ask for none, the answer is a refusal.
+#[tactic(auto, using(crate::proofs::Answering::asked_answered, crate::proofs::Answering::asked_can))]
 fn answer<R: Threads + Sync, S: Source>(
     alloc: Global,
     rt: &R,
-    words: &[String],
+    arguments: &[String],
     source: &mut S,
-) -> Result<Outcome, Refusal>
-    ensures told { IsTold (map string_bytes words.now) (S.left source.old) (S.left source.new) (Rose (S.faults source.old) (S.faults source.new)) result }
-    ensures unread { ReadsNothing (map string_bytes words.now) → source.new ≡ source.old }
+) -> Result<Output, Refusal>
+    ensures reported { IsAnswer (map string_bytes arguments.now) (S.left source.old) (S.left source.new) (Rose (S.faults source.old) (S.faults source.new)) result }
+    ensures unread { ReadsNothing (map string_bytes arguments.now) → source.new ≡ source.old }
 {
-    let Some(task) = task_of(words) else {
+    let Some(task) = task_of(arguments) else {
         return Err(Refusal::Usage);
     };
-    outcome_of(alloc, rt, task, source)
+    answer_to(alloc, rt, task, source)
 }
 
-// The answer to a task.
-fn outcome_of<R: Threads + Sync, S: Source>(
+// Does a task, and returns its answer.
+fn answer_to<R: Threads + Sync, S: Source>(
     alloc: Global,
     rt: &R,
     task: Task,
     source: &mut S,
-) -> Result<Outcome, Refusal>
+) -> Result<Output, Refusal>
     requires { CanBeDone task }
-    ensures told { Answers task (S.left source.old) (S.left source.new) (Rose (S.faults source.old) (S.faults source.new)) result }
+    ensures reported { Answers task (S.left source.old) (S.left source.new) (Rose (S.faults source.old) (S.faults source.new)) result }
     ensures unread { (IsReading task → ⊥) → source.new ≡ source.old }
 {
     match task {

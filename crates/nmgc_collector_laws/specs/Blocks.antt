@@ -1,18 +1,18 @@
--- The tie by places is the tie by blocks of a run: where the places are those of the blocks.
+-- The tie by places is a run's tie by blocks, if the blocks with names are the places.
 use Rattle.std.specs.Prelude.{ℕ, ◌≡◌, ◌⊎◌, ◌↔◌, List, Contains, IsSome}
 use Rattle.nmgc_world_spec.specs.{declared.value.Name.Name, World.node_of, Step.shared_name}
 use Rattle.nmgc_snapshot_laws.specs.State.{State}
 use Rattle.nmgc_alloc.specs.{Numbered.Segments, Numbered.block_place, Segments.IsSegments, AllocState.AllocState, AllocState.LiesIn, AllocState.cells, Stands.StandsFor}
 use Rattle.nmgc_heap_spec.specs.Places.{Place, shared_place}
 use Rattle.nmgc_round.specs.{View.Opening, Marking.marks_of}
-use Rattle.nmgc_blocks_spec.specs.{Cycle.Cycle, Placed.IsBlockPlace}
+use Rattle.nmgc_stop_spec.specs.{Cycle.Cycle, Placed.IsBlockPlace}
 use Rattle.nmgc_segment.specs.Marks.{epoch_of}
 use Rattle.nmgc_collector_laws.specs.Marker.{IsTied as IsTiedByBlocks}
 use Rattle.nmgc_mark.specs.{Seen.MarkerSeen, Tie.AreApart, Tie.IsTied}
 
--- each block with a name has its place, and so has g; a place whose name is one of the snapshot is one of these. So
--- it is at a stop, and after a round, whose own objects are in no snapshot. And the machine marks names of the
--- snapshot alone, g among them
+-- places of blocks: g and each block with a name have their places, and each place with a name of the snapshot is one of
+-- these. This holds at a stop, and after a round, whose new objects are in no snapshot. The machine has marked only g and
+-- names of the snapshot
 pub record AreOfBlocks (o : Opening) (c : Cycle) (s : Segments) (words : List ℕ) (allocation : AllocState) (core : State) : Type 0 where
   pub sound : IsSegments s
   pub stands : StandsFor s words allocation
@@ -26,7 +26,7 @@ pub record AreOfBlocks (o : Opening) (c : Cycle) (s : Segments) (words : List �
   pub marked : (name : Name) → Contains core.marked name → IsSome (node_of o.core.snapshot name)
   pub shared_marked : Contains core.marked shared_name
 
--- the two ties are one
+-- the law that the tie by places is a run's tie by blocks
 abbrev pub TiesAgree : Type 0
 TiesAgree = (o : Opening) (c : Cycle) (s : Segments) (words : List ℕ) (allocation : AllocState) (core : State) (marker : MarkerSeen) →
     AreOfBlocks o c s words allocation core → IsTiedByBlocks c allocation s o.places marker core ↔

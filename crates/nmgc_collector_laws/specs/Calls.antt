@@ -1,4 +1,4 @@
--- The marker's calls, by their own contracts, and what a collector then keeps of the cycle.
+-- The marker's calls, by their own contracts: the facts about the cycle that a collector keeps after each call.
 use Rattle.std.specs.{Prelude.ℕ, Prelude.◌≡◌, Prelude.◌+◌, Prelude.◌≤◌, Prelude.List, Prelude.length, List.flat_map}
 use Rattle.nmgc_world_spec.specs.World.{IsWorld}
 use Rattle.nmgc_world_laws.specs.Reachable.{IsSound}
@@ -10,18 +10,18 @@ use Rattle.nmgc_journal.specs.declared.report.MutatorEnd.{MutatorEnd}
 use Rattle.nmgc_round.specs.{Events.rows_in, Finishing.IsFinished, Finishing.places_then, Rule.now, Seat.RoundSeat, View.Opening, View.Scan, Marking.Marks, Marking.marks_of, Marking.marks_after}
 use Rattle.nmgc_mutator.specs.declared.mutator.Mutator.{Mutator}
 use Rattle.nmgc_collector_laws.specs.{Worked.Done, Collector.EachMutator, Collector.IsMarking, Seen.CollectorSeen, Seen.MutatorSeen, Prepares.all_prepared, Keeps.HasLeft, Keeps.NoneRemember, Keeps.ShowEntries, Owed.GoesOn, Owed.IsGathered, Owed.gathered, RestMarking.with_rows}
-use Rattle.nmgc_blocks_spec.specs.Cycle.{interval_of, Cycle}
+use Rattle.nmgc_stop_spec.specs.Cycle.{interval_of, Cycle}
 use Rattle.nmgc_weak.specs.Queues.{weak_count}
 use Rattle.nmgc_run_spec.specs.{Heap.HoldsAtStop, State.State, State.next_cycle, State.cycle_started}
 use Rattle.nmgc_sweep.specs.Sweeping.{HasListedNothing, HasNoted}
 use Rattle.nmgc_segment.specs.Marks.{epoch_of}
 use Rattle.nmgc_mark.specs.{Marker.HasMarked, Marker.blank, Tie.IsTied as IsTiedByPlaces, Tie.with_places}
 
--- the places that mutators remember, one mutator after the other
+-- the addresses that mutators remember, one mutator after the other
 abbrev pub all_entries : List MutatorSeen → List ℕ
 all_entries mutators = flat_map (λ (m : MutatorSeen). m.entries) mutators
 
--- a marker took the snapshot of a heap at a stop: a cycle marks
+-- the law that a cycle is marking once the marker took the snapshot of a heap at a stop
 abbrev pub SnapshotIsMarking : Type 0
 SnapshotIsMarking = (layout : Layout) (s : State) (words : List ℕ) (old : Segments) (new : CollectorSeen) (ends : List MutatorEnd) (weaks : List Place)
     (o : Opening) (spare : ℕ) → (h : HoldsAtStop layout s words old ends weaks) → IsWorld s.world → IsSegments new.segments
@@ -32,8 +32,7 @@ SnapshotIsMarking = (layout : Layout) (s : State) (words : List ℕ) (old : Segm
     HasNoted (next_cycle s) new.sweeper → HasListedNothing new.sweeper
     → IsMarking (next_cycle s) (cycle_started s) new h.places
 
--- it worked beside the slices of a round, after which its marks are those of the collector's scans: it marks on, with
--- the rows of the round and what the mutators remember of it
+-- the law that after the marker's work in a round the cycle is still marking, with the round's rows and remembered entries
 abbrev pub RoundIsMarking : Type 0
 RoundIsMarking = (layout : Layout) (c : Cycle) (s t : State) (old new : CollectorSeen) (before after : List ℕ) (ends : List MutatorEnd) (weaks : List Place)
     (o : Opening) (scans : List Scan) (seats : List RoundSeat) (mutators : List Mutator) (done : List (List Done)) (core : Core) (scanned : ℕ) →
@@ -45,7 +44,7 @@ RoundIsMarking = (layout : Layout) (c : Cycle) (s t : State) (old new : Collecto
     HasLeft c old new → ShowEntries new mutators
     → IsMarking (with_rows c (rows_in f.events)) t new (places_then o f.born)
 
--- it added all that the mutators remembered: it marks on, and nothing is remembered
+-- the law that the cycle is still marking, and nothing is remembered, after the marker added all remembered entries
 abbrev pub AddIsMarking : Type 0
 AddIsMarking = (layout : Layout) (c : Cycle) (s : State) (old new : CollectorSeen) (words : List ℕ) (ends : List MutatorEnd) (weaks : List Place) →
     (h : HoldsAtStop layout s words old.segments ends weaks) → IsSegments old.segments → IsSegments new.segments → IsSound (interval_of c) →

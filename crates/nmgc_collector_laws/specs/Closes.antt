@@ -1,25 +1,26 @@
--- When the marker is done at a stop, so that the bounds of a closing hold.
+-- Why a closing is within its bounds: the stop at which the marker is done is neither too late nor too early.
 use Rattle.std.specs.Prelude.{ℕ, ◌≡◌, ◌+◌, ◌-◌, ◌/◌, ◌≤◌, List, true}
 use Rattle.nmgc_snapshot_laws.specs.State.{State as Core}
 use Rattle.nmgc_alloc.specs.AllocState.{AllocState}
 use Rattle.nmgc_heap_spec.specs.Places.{Place}
-use Rattle.nmgc_blocks_spec.specs.Cycle.{IsKeptObject, interval_of, Cycle}
+use Rattle.nmgc_stop_spec.specs.Cycle.{IsKeptObject, interval_of, Cycle}
 use Rattle.nmgc_world_laws.specs.Reachable.{IsSound}
 use Rattle.nmgc_run_spec.specs.{Closing.IsSoon, Closing.IsPaced, State.State}
 use Rattle.nmgc_collector_laws.specs.{Collector.IsPacedAfterRound, Marker.IsCoreOf, Marker.IsTied, Seen.CollectorSeen}
 use Rattle.nmgc_world_spec.specs.Listing.{Counts}
 
--- it isn't too late: each round before the last one scanned its quota, and the last one something unless it was the first
+-- the law that a closing isn't too late: earlier rounds scanned their quotas, and the last scanned something or was the first
 abbrev pub ClosingIsSoon : Type 0
 ClosingIsSoon = (quota : ℕ) (c : Cycle) (t : State) (seen : CollectorSeen) (kept : ℕ) → IsPacedAfterRound quota c t seen → seen.marker.marked ≤ kept →
     Counts (IsKeptObject c) kept → IsSoon quota c t.number
 
--- so all rounds since the snapshot but the last could together scan fewer objects than are kept
+-- the law that a closing that isn't too late comes at most (kept - 1) / quota + 1 rounds (rounded down) after the snapshot
 abbrev pub ClosingComes : Type 0
 ClosingComes = (quota : ℕ) (c : Cycle) (closed kept : ℕ) → 1 ≤ quota → IsSoon quota c closed → Counts (IsKeptObject c) kept →
     closed ≤ c.from + ((kept - 1) / quota + 1)
 
--- nor too early: after a round whose work answered that nothing is left, all that the snapshot's roots reach was scanned in some round, where nothing was owed
+-- the law that a closing isn't too early, if the last round's work left nothing: then, if nothing was owed, all that the
+-- snapshot's roots reach was scanned
 abbrev pub ClosingIsPaced : Type 0
 ClosingIsPaced = (quota : ℕ) (c : Cycle) (t : State) (seen : CollectorSeen) (allocation : AllocState) (places : List Place) (core : Core) →
     IsSound (interval_of c) → IsCoreOf c t.world core → IsTied c allocation seen.segments places seen.marker core → c.from + 1 ≤ t.number →

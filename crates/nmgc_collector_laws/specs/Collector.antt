@@ -1,60 +1,58 @@
--- The fact that a running collector keeps: what it has is what one run of its plan tells, and its words,
--- segments, marker and sweeper stand for the state of that run.
+-- The invariant of a running collector: its report so far describes one run of its plan. Its words, segments, marker and
+-- sweeper represent the state of that run.
 --
--- It holds of a new collector's opening stop, of every stop after a round, and between the two, for the
--- same run. `CollectorSeen` is what contracts see of the collector.
+-- It holds after a new collector's opening stop, after every stop, and after the round between two stops, for the same run.
+-- Contracts see the collector as `CollectorSeen`.
 use Rattle.std.specs.Prelude.{ℕ, ◌≡◌, ◌≢◌, ◌⊎◌, ◌↔◌, ◌+◌, ◌-◌, ◌*◌, ◌<◌, ◌≤◌, List, [], ◌∷◌, ◌++◌, length, slice_get, Contains, Some, None, true}
 use Rattle.nmgc_world_spec.specs.{declared.command.Reply.Reply, World.World, History.Row}
 use Rattle.nmgc_object.specs.{declared.layout.Layout.Layout, declared.layout.Nursery.Nursery, Places.nursery_place, Places.reserve_count}
 use Rattle.nmgc_alloc.specs.{Reserve.free_count, Settled.AreSettled}
 use Rattle.nmgc_heap_spec.specs.Places.{Place}
-use Rattle.nmgc_blocks_spec.specs.{Nurseries.AreUsed, Nurseries.LieInOrder, Nurseries.AreEmpty, Nurseries.nursery_at, Remembers.Remembers, Cycle.Cycle}
+use Rattle.nmgc_stop_spec.specs.{Nurseries.AreUsed, Nurseries.LieInOrder, Nurseries.AreEmpty, Nurseries.nursery_at, Remembers.Remembers, Cycle.Cycle}
 use Rattle.nmgc_snapshot_laws.specs.State.{State as Core, names_of}
 use Rattle.nmgc_journal.specs.declared.report.RoundRows.{RoundRows}
 use Rattle.nmgc_run_spec.specs.State.{Plan, State, Progress, idle, marking, sweeping, phase_of, layout_of, start}
-use Rattle.nmgc_run_spec.specs.{Round.IsRound, Stop.answer_of, Run.Run, Run.IsRun, Run.Tells, Run.last_state, Heap.HoldsAtStop, Heap.HoldsAfterRound, Heap.snapshots}
-use Rattle.nmgc_collector_laws.specs.Seen.{CollectorSeen, MutatorSeen, ends_of, nurseries_of, recorded_in, young_weaks_in, finalised_in}
+use Rattle.nmgc_run_spec.specs.{Round.IsRound, Stop.answer_of, Run.Run, Run.IsRun, Run.AreRowsOf, Run.last_state, Heap.HoldsAtStop, Heap.HoldsAfterRound, Heap.snapshots}
+use Rattle.nmgc_collector_laws.specs.{Seen.CollectorSeen, Seen.MutatorSeen, Seen.ends_of, Seen.nurseries_of, Seen.recorded_in, Seen.young_weaks_in, Seen.finalised_in, Marker.IsCoreOf, Marker.AreRemembered, Marker.IsTied, Worked.ListsFinalised}
 use Rattle.nmgc_mark.specs.{Seen.MarkerSeen, Marker.HasRoomToMark}
 use Rattle.nmgc_sweep.specs.Sweeping.{HasListedNothing, HasNoted, IsSweeping}
-use Rattle.nmgc_collector_laws.specs.{Marker.IsCoreOf, Marker.AreRemembered, Marker.IsTied, Worked.TellsFinalised}
 use Rattle.nmgc_weak.specs.Queues.{weak_count}
 
--- the state tells the phase, the requests and how many cycles were begun
+-- the collector's phase, requests and number of cycles begun are the state's
 pub record Matches (seen : CollectorSeen) (s : State) : Type 0 where
   pub phase : seen.phase ≡ phase_of s.progress
   pub begun : seen.begun ≡ s.begun
   pub collect : seen.collect ≡ s.collect
   pub full : seen.full ≡ s.full
 
--- the nurseries are the mutators' whole parts of the words, and every young object lies in the used part of its maker's
+-- the nurseries are the mutators' whole parts of the words, and nursery objects lie in the used parts of their makers'
 pub record AreNurseries (layout : Layout) (places : List Place) (w : World) (nurseries : List Nursery) : Type 0 where
   pub used : AreUsed layout (nursery_place layout 0) places w nurseries
   pub ends : (maker : ℕ) → maker < layout.mutators → (nursery_at nurseries maker).end ≡ (nursery_at nurseries maker).base + layout.nursery
 
--- each mutator has P
+-- the predicate `P` holds for each mutator and its number
 abbrev pub EachMutator : CollectorSeen → (ℕ → MutatorSeen → Type 0) → Type 0
 EachMutator seen P = (m : ℕ) (mutator : MutatorSeen) → slice_get seen.mutators m ≡ Some mutator → P m mutator
 
--- of a mutator nothing is left for the next stop
+-- a mutator's lists for the next stop are empty
 pub record IsEmptied (mutator : MutatorSeen) : Type 0 where
   pub recorded : mutator.recorded ≡ []
   pub young_weaks : mutator.young_weaks ≡ []
   pub finalised : mutator.finalised ≡ []
   pub entries : mutator.entries ≡ []
 
--- all mutators at a stop: the nurseries are empty, and nothing is left
+-- all mutators at a stop: their nurseries are empty, and so are their lists for the next stop
 pub record AreAtRest (layout : Layout) (places : List Place) (w : World) (seen : CollectorSeen) : Type 0 where
   pub nurseries : AreNurseries layout places w (nurseries_of seen)
   pub empty : AreEmpty (nurseries_of seen)
   pub nothing : EachMutator seen (λ m mutator. IsEmptied mutator)
 
--- so many objects were scanned: those that are marked, without those that wait
+-- the marker has scanned `count` objects: the marked objects that don't wait
 abbrev pub HasScanned : MarkerSeen → ℕ → Type 0
 HasScanned marker count = marker.marked ≡ count + length marker.queue
 
--- a cycle that is marking: its marker is a core machine's, with the entries, which are places below the nurseries, as
--- what was pushed, and there is room for what the closing needs; its sweeper noted what it is to sweep, and has
--- listed nothing yet
+-- a marking cycle: its marker is tied to a marking machine, which has pushed exactly the remembered entries, all below the
+-- nurseries. There is room for marks, and for finalisers at the closing. The sweeper noted its segments, and listed nothing
 pub record IsMarking (c : Cycle) (s : State) (seen : CollectorSeen) (places : List Place) : Type 0 where
   pub core : Core
   pub machine : IsCoreOf c s.world core
@@ -67,13 +65,13 @@ pub record IsMarking (c : Cycle) (s : State) (seen : CollectorSeen) (places : Li
   pub noted : HasNoted c seen.sweeper
   pub nothing_listed : HasListedNothing seen.sweeper
 
--- the pace of marking at a stop: each round since the snapshot scanned its quota, and the marker isn't done
+-- the pace of marking at a stop: each round since the snapshot scanned its quota, and if there was one, the marker isn't done
 pub record IsPacedAtStop (quota : ℕ) (c : Cycle) (s : State) (seen : CollectorSeen) : Type 0 where
   pub scanned : HasScanned seen.marker ((s.number - c.from) * quota)
   pub not_done : c.from < s.number → seen.marker.queue ≢ []
 
--- the pace after a round: the rounds before scanned their quota, and this one did unless nothing was left; the first
--- round aside, something waited at the stop before, and so something was scanned
+-- the pace of marking after a round: earlier rounds scanned their quotas, and this round did too unless nothing was left.
+-- Unless it is the first round, something waited at the stop before, and so something was scanned
 pub record IsPacedAfterRound (quota : ℕ) (c : Cycle) (t : State) (seen : CollectorSeen) : Type 0 where
   pub scanned : HasScanned seen.marker ((t.number - c.from - 1) * quota + seen.work.scanned)
   pub most : seen.work.scanned ≤ quota
@@ -81,35 +79,36 @@ pub record IsPacedAfterRound (quota : ℕ) (c : Cycle) (t : State) (seen : Colle
   pub quota_or_done : (seen.work.scanned ≡ quota) ⊎ (seen.work.empty ≡ true)
   pub empty : (seen.work.empty ≡ true) ↔ (seen.marker.queue ≡ [])
 
--- what the cycle in progress asks of the marker, the sweeper and the marks
+-- what the cycle in progress requires of marker, sweeper and marks
 abbrev pub HoldsInCycle : (Cycle → Type 0) → Progress → State → CollectorSeen → List Place → Type 0
 HoldsInCycle Paced idle s seen places = AreSettled s.begun seen.segments
 HoldsInCycle Paced (marking c) s seen places = IsMarking c s seen places × Paced c
 HoldsInCycle Paced (sweeping c closed) s seen places = IsSweeping c closed s.allocation seen.segments seen.cycle seen.sweeper × AreSettled s.begun seen.segments
 
--- after a stop of a run of the plan
+-- the invariant after a stop: the collector's report so far describes one run of the plan. Its words, segments, marker and
+-- sweeper represent that run's last state, at the quota's pace. While its cycle marks, its sweeper has listed nothing yet
 pub record IsAtStop (plan : Plan) (run : Run) (seen : CollectorSeen) : Type 0 where
   pub is_run : IsRun plan run
-  pub tells : Tells run seen.rounds seen.stops seen.cycles
+  pub agrees : AreRowsOf run seen.rounds seen.stops seen.cycles
   pub matches : Matches seen (last_state run)
   pub answered : seen.answered ≡ answer_of plan (last_state run)
   pub heap : HoldsAtStop (layout_of plan) (last_state run) seen.words seen.segments (ends_of seen) seen.weaks
   pub at_rest : AreAtRest (layout_of plan) heap.places (last_state run).world seen
   pub cycle : HoldsInCycle (λ c. IsPacedAtStop plan.config.quota c (last_state run) seen) (last_state run).progress (last_state run) seen heap.places
 
--- the reserve is free, or nothing was born
+-- the reserve is free, or no nursery has an object
 abbrev pub HasReserve : Layout → CollectorSeen → Type 0
 HasReserve layout seen = (reserve_count layout ≤ free_count seen.segments.segments) ⊎ AreEmpty (nurseries_of seen)
 
--- after a round that follows the last stop of a run of the plan, with these replies and this history; what was born
--- lies in the used part of its maker's nursery, in the order of names, and the mutators have left for the stop what
--- its promotion asks, and told what they finalised
+-- the collector's invariant after a round that follows the last stop of a run, with these replies and this history. New
+-- objects lie in the used parts of their makers' nurseries, in the order of names. The mutators have left everything that the
+-- promotion needs, and report the weak pointers that they finalised
 pub record IsAfterRound (plan : Plan) (run : Run) (replies : List (List Reply)) (history : List Row) (t : State) (seen : CollectorSeen) : Type 0 where
   pub is_run : IsRun plan run
   pub goes_on : answer_of plan (last_state run) ≡ None
   pub round : IsRound plan.config (last_state run) replies history t
   pub before : List RoundRows
-  pub tells : Tells run before seen.stops seen.cycles
+  pub agrees : AreRowsOf run before seen.stops seen.cycles
   pub rounds : seen.rounds ≡ before ++ record { replies = replies } ∷ []
   pub matches : Matches seen t
   pub places : List Place
@@ -118,11 +117,11 @@ pub record IsAfterRound (plan : Plan) (run : Run) (replies : List (List Reply)) 
   pub ordered : LieInOrder (nursery_place (layout_of plan) 0) places
   pub left : Remembers (nursery_place (layout_of plan) 0) ((last_state run).world ∷
       snapshots t.progress) places t.world (recorded_in seen) (young_weaks_in seen)
-  pub told : TellsFinalised (nursery_place (layout_of plan) 0) places (last_state run).world t.world (finalised_in seen)
+  pub reported : ListsFinalised (nursery_place (layout_of plan) 0) places (last_state run).world t.world (finalised_in seen)
   pub reserve : HasReserve (layout_of plan) seen
   pub cycle : HoldsInCycle (λ c. IsPacedAfterRound plan.config.quota c t seen) t.progress t seen places
 
--- a new collector: nothing was done yet, and no mark was set
+-- the collector's invariant before the first stop: nothing has been done, and no mark is set
 pub record IsNew (plan : Plan) (seen : CollectorSeen) : Type 0 where
   pub nothing : (seen.rounds ≡ []) × (seen.stops ≡ []) × (seen.cycles ≡ [])
   pub matches : Matches seen (start plan)

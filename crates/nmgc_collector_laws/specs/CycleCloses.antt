@@ -1,4 +1,4 @@
--- A cycle that closes with weak pointers, in the words of a run: when it may, and what it keeps.
+-- A cycle that closes with weak pointers, in the terms of a run: when it may, and its result.
 use Rattle.std.specs.Prelude.{ℕ, ◌≡◌, true, List, [], ◌↔◌}
 use Rattle.nmgc_world_spec.specs.{declared.value.Name.Name, Reach.Lists, Reach.closed, Listing.Counts}
 use Rattle.nmgc_world_laws.specs.Reachable.{IsSound}
@@ -7,20 +7,19 @@ use Rattle.nmgc_segment.specs.{Segment.IsMarked, Marks.epoch_of}
 use Rattle.nmgc_alloc.specs.{Numbered.Segments, Numbered.nth, AllocState.LiesIn}
 use Rattle.nmgc_heap_spec.specs.{Changes.AreEarlier, Places.Place, Roots.ListsWeaks}
 use Rattle.nmgc_round.specs.{Objects.earlier, View.Opening}
-use Rattle.nmgc_blocks_spec.specs.Cycle.{interval_of, Cycle, IsDeadIn, IsKeptIn, IsKeptObject}
+use Rattle.nmgc_stop_spec.specs.Cycle.{interval_of, Cycle, IsDeadIn, IsKeptIn, IsKeptObject}
 use Rattle.nmgc_run_spec.specs.{Closing.Closes, State.State, State.sweeping}
 use Rattle.nmgc_collector_laws.specs.{Marker.IsCoreOf, Blocks.AreOfBlocks}
 use Rattle.nmgc_mark.specs.{Seen.MarkerSeen, Stopped.IsReady}
 use Rattle.nmgc_weak.specs.{Resolve.CanResolve, Resolve.HasResolved, declared.weaks.Death.Death, declared.weaks.OldWeak.OldWeak}
 
--- at a stop of a cycle where nothing waits, is owed or is pushed, with a marker that is ready and the list of weak pointers, the closing may resolve it
+-- the law that a closing may resolve weak pointers at a stop, if nothing waits, is owed or is pushed and the marker is ready
 abbrev pub CycleMayResolve : Type 0
 CycleMayResolve = (c : Cycle) (o : Opening) (words : List ℕ) (s : Segments) (marker : MarkerSeen) (weaks : List Place) → IsSound (interval_of c) →
     IsCoreOf c o.core.world o.core → AreEmpty o.core.pushed → o.core.queue ≡ [] → o.marking ≡ true → AreEarlier (earlier o) o.core.world →
     IsReady o words s marker → ListsWeaks o.layout o.places o.core.world weaks → CanResolve o words s marker weaks
 
--- the cycle is closed at this stop: these weak pointers die; of the names in blocks exactly those are marked that the
--- cycle keeps, and the marker has counted them
+-- a closed cycle: its census's dead weak pointers die, exactly kept names in blocks are marked, and the marker counted them
 pub record HasClosed (c : Cycle) (s : State) (dead : List Name) (segments : Segments) (marker : MarkerSeen) : Type 0 where
   pub lists : Lists (IsDeadIn c) dead
   pub closes : Closes c s (record s { world = closed s.world dead; progress = sweeping c s.number })
@@ -28,7 +27,7 @@ pub record HasClosed (c : Cycle) (s : State) (dead : List Name) (segments : Segm
   pub exact : (number block : ℕ) (name : Name) → LiesIn s.allocation number block name →
       IsMarked (nth segments.segments number) marker.epoch block ↔ IsKeptIn c name
 
--- once its weak pointers are resolved, it closes so
+-- the law that a cycle whose weak pointers were resolved is closed
 abbrev pub CycleCloses : Type 0
 CycleCloses = (c : Cycle) (s : State) (o : Opening) (before words : List ℕ) (segments : Segments) (marker : MarkerSeen) (list : List OldWeak)
     (deaths : List Death) → IsSound (interval_of c) → IsCoreOf c s.world o.core → AreEmpty o.core.pushed → o.core.queue ≡ [] →

@@ -1,22 +1,21 @@
--- What a sweep leaves of a heap: the places of freed names are gone, and nobody speaks of these names.
+-- The heap after a sweep: the places of freed names are gone, and freed names are no longer used.
 --
--- A round or a stop whose collector sweeps is first one whose segments stay as they are, with all places that it had. Then
--- the freed places go, and segments and words stand for what is left.
+-- A round or a stop whose collector sweeps is first taken as one that leaves the segments, with all places that it had. Then
+-- the freed places go, and segments and words represent the rest.
 use Rattle.std.specs.Prelude.{ℕ, ◌≡◌, ◌≢◌, ◌≤◌, List, [], ◌∷◌, Contains, IsSome, Some}
 use Rattle.nmgc_world_spec.specs.{declared.command.Reply.Reply, declared.node.Node.Node, declared.value.Name.Name, declared.value.Value.TheVariants.Ref, World.World, World.node_of, Step.shared_name, History.Row}
 use Rattle.nmgc_segment.specs.declared.state.State.TheVariants as stands
 use Rattle.nmgc_object.specs.{Places.nursery_place, declared.layout.Layout.Layout, declared.layout.Nursery.Nursery}
-use Rattle.nmgc_alloc.specs.{Numbered.Segments, Segments.IsSegments, Stands.StandsFor}
-use Rattle.nmgc_alloc.specs.AllocState.{AllocState, SweepsSome, LiesIn, LieOnce, LiesNowhere, HasBlock, cells, count_in}
+use Rattle.nmgc_alloc.specs.{Numbered.Segments, Segments.IsSegments, Stands.StandsFor, AllocState.AllocState, AllocState.SweepsSome, AllocState.LiesIn, AllocState.LieOnce, AllocState.LiesNowhere, AllocState.HasBlock, AllocState.cells, AllocState.count_in}
 use Rattle.nmgc_heap_spec.specs.{Places.Place, Shape.holds, Shape.free_slots, Tracked.IsTracked}
-use Rattle.nmgc_blocks_spec.specs.{Nurseries.LieInOrder, Remembers.Remembers, Cycle.IsKeptIn, Cycle.Cycle}
+use Rattle.nmgc_stop_spec.specs.{Nurseries.LieInOrder, Remembers.Remembers, Cycle.IsKeptIn, Cycle.Cycle}
 use Rattle.nmgc_journal.specs.declared.report.MutatorEnd.{MutatorEnd}
 use Rattle.nmgc_collector_laws.specs.Collector.{AreNurseries}
 use Rattle.nmgc_run_spec.specs.{Heap.HoldsAtStop, Heap.HoldsAfterRound, Heap.snapshots, Round.IsRound, Run.Run, Run.IsRun, Run.last_state, State.Plan, State.State, State.sweeping}
 use Rattle.nmgc_run_laws.specs.Sound.{AreSoundBlocks, IsAfterClosing, IsRunnable, LieKnown, WaitKnown}
 
--- a sweep left names in their blocks, among them all of which anybody may speak, but g and what the round made; no
--- free variable that an earlier world knows refers to a name of which nobody may
+-- a sweep of untracked names: names stay in their blocks, among them all tracked names except g and new objects. No free
+-- variable known to an earlier world refers to an untracked name
 pub record FreesUntracked (earlier : List World) (began w : World) (allocation swept : AllocState) : Type 0 where
   pub once : LieOnce allocation
   pub shared : LiesNowhere allocation shared_name
@@ -27,30 +26,30 @@ pub record FreesUntracked (earlier : List World) (began w : World) (allocation s
   pub free : (e : World) (name n : Name) (before : Node) → Contains earlier e → IsTracked w earlier name → node_of e name ≡ Some before →
       Contains (free_slots before) (holds (Ref n)) → IsTracked w earlier n
 
--- a round of a run beside which a closed cycle sweeps frees such names alone
+-- the law that a closed cycle's sweep beside a run's round frees only untracked names
 abbrev pub RoundFreesUntracked : Type 0
 RoundFreesUntracked = (plan : Plan) (run : Run) (c : Cycle) (closed : ℕ) (replies : List (List Reply)) (rows : List Row) (t : State) →
     IsRunnable plan → IsRun plan run → IsRound plan.config (last_state run) replies rows t → (last_state run).progress ≡ sweeping c closed →
     FreesUntracked ((last_state run).world ∷ []) (last_state run).world t.world (last_state run).allocation t.allocation
 
--- and so does a sweep at a stop
+-- the law that a closed cycle's sweep at a stop frees only untracked names
 abbrev pub StopFreesUntracked : Type 0
 StopFreesUntracked = (layout : Layout) (c : Cycle) (w : World) (allocation swept : AllocState) (count : ℕ) → AreSoundBlocks layout allocation →
     LieKnown w allocation → IsAfterClosing c w → WaitKnown c allocation →
     ((name : Name) → IsTracked w [] name → name ≢ shared_name → HasBlock allocation name) → SweepsSome (IsKeptIn c) count allocation swept →
     FreesUntracked [] w w allocation swept
 
--- and it leaves no fewer segments free: the reserve stays
+-- the law that a sweep leaves at least as many segments free, so the reserve stays free
 abbrev pub FreeGrows : Type 0
 FreeGrows = (c : Cycle) (count : ℕ) (old new : AllocState) → SweepsSome (IsKeptIn c) count old new → count_in stands.Free old ≤ count_in stands.Free new
 
--- of the places those of tracked names are left, and those in nurseries
+-- freed places go: fewer places are left, among them all places of tracked names and all places in nurseries
 pub record DropsFreed (layout : Layout) (earlier : List World) (w : World) (places fewer : List Place) : Type 0 where
   pub old : (p : Place) → Contains fewer p → Contains places p
   pub tracked : (p : Place) → Contains places p → IsTracked w earlier p.name → Contains fewer p
   pub young : (p : Place) → Contains places p → nursery_place layout 0 ≤ p.at → Contains fewer p
 
--- words, and segments that were swept, stand for the state after the round at fewer places, where no listed weak pointer was freed
+-- the law that words and swept segments represent the state after a round, at fewer places, if no listed weak pointer was freed
 abbrev pub SweptHoldsAfterRound : Type 0
 SweptHoldsAfterRound =
     (layout : Layout) (s t : State) (swept : AllocState) (places : List Place) (words : List ℕ) (old new : Segments) (ends : List MutatorEnd)
@@ -60,7 +59,7 @@ SweptHoldsAfterRound =
     → (fewer : List Place) × HoldsAfterRound layout s (record t { allocation = swept }) fewer words new ends weaks ×
     DropsFreed layout (s.world ∷ snapshots t.progress) t.world places fewer
 
--- and so they do at a stop
+-- the law that, if no listed weak pointer was freed, words and swept segments represent the state at a stop, at fewer places
 abbrev pub SweptHoldsAtStop : Type 0
 SweptHoldsAtStop = (layout : Layout) (s : State) (swept : AllocState) (words : List ℕ) (old new : Segments) (ends : List MutatorEnd)
     (weaks : List Place) → (h : HoldsAtStop layout s words old ends weaks) → IsSegments old →
@@ -68,7 +67,7 @@ SweptHoldsAtStop = (layout : Layout) (s : State) (swept : AllocState) (words : L
     → StandsFor new words swept → new.layout ≡ layout → ((p : Place) → Contains weaks p → HasBlock swept p.name)
     → (k : HoldsAtStop layout (record s { allocation = swept }) words new ends weaks) × DropsFreed layout (snapshots s.progress) s.world h.places k.places
 
--- at fewer places nurseries and their order are as before, and so is what a round leaves for its promotion
+-- the law that a loss of freed places leaves the nurseries, their order, and a round's lists for its promotion as they were
 abbrev pub DropKeepsRound : Type 0
 DropKeepsRound = (layout : Layout) (earlier : List World) (w : World) (places fewer : List Place) (nurseries : List Nursery)
     (recorded weaks : List ℕ) → DropsFreed layout earlier w places fewer → AreNurseries layout places w nurseries →

@@ -1,4 +1,4 @@
--- The heap of a marking cycle in the words of a run: at a stop it is at rest, and what a round and its promotion leave of it.
+-- The heap of a marking cycle in the terms of a run: at rest at a stop, and after a round and its promotion.
 use Rattle.std.specs.Prelude.{ℕ, ◌≡◌, List, map, slice_get, Some, All}
 use Rattle.nmgc_object.specs.declared.layout.Layout.{Layout}
 use Rattle.nmgc_alloc.specs.{Stands.StandsFor, Numbered.Segments, Segments.IsSegments}
@@ -7,13 +7,12 @@ use Rattle.nmgc_journal.specs.declared.report.MutatorEnd.{MutatorEnd}
 use Rattle.nmgc_round.specs.{View.Opening, View.Seen as View, Objects.earlier, Rule.now, Starting.CanOpen, Finishing.Leaves, Finishing.places_then}
 use Rattle.nmgc_mutator.specs.{declared.mutator.Mutator.Mutator, Ready.IsWhole, Does.remembered, Records.numbers}
 use Rattle.nmgc_collector_laws.specs.{Collector.AreAtRest, Collector.IsMarking, Seen.CollectorSeen, Seen.MutatorSeen, Seen.ends_of, RestMarking.IsAtRestMarking, RestMarking.opening_beside}
-use Rattle.nmgc_run_spec.specs.Heap.{HoldsAtStop, HoldsAfterRound, HasAllRegisters, registers_of, queues_of, serials_of, snapshots}
+use Rattle.nmgc_run_spec.specs.{Heap.HoldsAtStop, Heap.HoldsAfterRound, Heap.HasAllRegisters, Heap.registers_of, Heap.queues_of, Heap.serials_of, Heap.snapshots, State.Plan, State.State, State.marking, State.layout_of}
 use Rattle.nmgc_run_laws.specs.Sound.{IsSoundState, LieKnown}
-use Rattle.nmgc_run_spec.specs.State.{Plan, State, marking, layout_of}
-use Rattle.nmgc_blocks_spec.specs.Cycle.{Cycle}
+use Rattle.nmgc_stop_spec.specs.Cycle.{Cycle}
 use Rattle.nmgc_mark.specs.Stopped.{IsReady}
 
--- a mutator as contracts of a collector see it
+-- the view of a mutator in the contracts of a collector
 abbrev pub seen_mutator : Mutator → MutatorSeen
 seen_mutator m = record {
   registers = m.registers;
@@ -26,13 +25,13 @@ seen_mutator m = record {
   entries = remembered m;
 }
 
--- these are the mutators of a collector, by their numbers, each with all its registers
+-- the collector's view has these mutators, by their numbers, each with all its registers
 pub record AreShown (layout : Layout) (seen : CollectorSeen) (mutators : List Mutator) : Type 0 where
   pub are : seen.mutators ≡ map seen_mutator mutators
   pub each : (k : ℕ) (m : Mutator) → slice_get mutators k ≡ Some m → (m.number ≡ k) × (m.layout ≡ layout) × IsWhole m
 
--- the heap of a sound state at a stop, also before the stop has answered, is at rest beside a cycle that marks, where
--- nothing is left of the mutators' round; so the marker may finish there
+-- the law that the heap of a sound state at a stop, also before its answer, is at rest beside a marking cycle, if the
+-- mutators have nothing left of their round. So the marker may finish there
 abbrev pub HeapRests : Type 0
 HeapRests = (plan : Plan) (s : State) (seen : CollectorSeen) (c : Cycle) (mutators : List Mutator) → IsSoundState plan s →
     (h : HoldsAtStop (layout_of plan) s seen.words seen.segments (ends_of seen) seen.weaks) → AreAtRest (layout_of plan) h.places s.world seen →
@@ -40,8 +39,8 @@ HeapRests = (plan : Plan) (s : State) (seen : CollectorSeen) (c : Cycle) (mutato
     IsAtRestMarking c k.core seen.segments h.places s.world seen.words mutators seen.marker.queue ×
     IsReady (opening_beside seen.segments.layout k.core h.places mutators) seen.words seen.segments seen.marker
 
--- a round that began with the heap of a stop: what it left, and what its mutators have in hand; the segments stand
--- for what they stood for, whatever blocks the marker marked
+-- a round that began with the heap of a stop, with its results and its mutators' roots. The segments represent the same
+-- blocks as before, whichever blocks were marked
 pub record IsRoundFrom (layout : Layout) (s t : State) (o : Opening) (before after : List ℕ) (v : View) (old new : Segments)
     (ends later : List MutatorEnd) (weaks : List Place) : Type 0 where
   pub heap : HoldsAtStop layout s before old ends weaks
@@ -59,13 +58,13 @@ pub record IsRoundFrom (layout : Layout) (s t : State) (o : Opening) (before aft
   pub registers : All HasAllRegisters later
   pub roots : RepresentsRoots (places_then o left.0.born) t.world (registers_of later) (queues_of later) (serials_of later)
 
--- words and segments then stand for the state after the round
+-- the law that words and segments represent the state after a round that began with the heap of a stop
 abbrev pub RoundHolds : Type 0
 RoundHolds = (layout : Layout) (s t : State) (o : Opening) (before after : List ℕ) (v : View) (old new : Segments) (ends later : List MutatorEnd)
     (weaks : List Place) → (r : IsRoundFrom layout s t o before after v old new ends later weaks) →
     HoldsAfterRound layout s t (places_then o r.left.0.born) after new later weaks
 
--- segments of which blocks were marked stand for the same heap
+-- the law that the heap stays the same when blocks are marked
 abbrev pub MarkedHolds : Type 0
 MarkedHolds = (layout : Layout) (s : State) (words : List ℕ) (old new : Segments) (ends : List MutatorEnd) (weaks : List Place)
     (h : HoldsAtStop layout s words old ends weaks) → new.layout ≡ layout → StandsFor new words s.allocation →

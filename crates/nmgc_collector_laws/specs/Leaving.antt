@@ -1,11 +1,10 @@
--- What a round leaves for the stop after it: all that its promotion asks, and of what the collector may
--- speak once the round is forgotten.
+-- The results of a round for its stop: all that its promotion needs, and the worlds that the collector may use afterwards.
 use Rattle.std.specs.Prelude.{List, ◌∷◌}
 use Rattle.nmgc_world_spec.specs.{declared.command.Reply.Reply, History.Row}
 use Rattle.nmgc_object.specs.Places.{nursery_place}
 use Rattle.nmgc_alloc.specs.Segments.{IsSegments}
 use Rattle.nmgc_heap_spec.specs.{Places.Place, Moves.StillSpoken}
-use Rattle.nmgc_blocks_spec.specs.Stopped.{Stopped, IsStopped}
+use Rattle.nmgc_stop_spec.specs.Stopped.{Stopped, IsStopped}
 use Rattle.nmgc_run_spec.specs.{State.State, State.Plan, State.layout_of, Run.Run, Run.last_state, Heap.registers_of, Heap.queues_of, Heap.serials_of, Heap.snapshots}
 use Rattle.nmgc_collector_laws.specs.{Seen.CollectorSeen, Seen.ends_of, Seen.nurseries_of, Seen.recorded_in, Seen.young_weaks_in, Collector.IsAfterRound}
 use Rattle.nmgc_run_laws.specs.Sound.{IsRunnable}
@@ -20,14 +19,14 @@ stopped_after s t places seen = record {
   serials = serials_of (ends_of seen);
 }
 
--- after a round the collector has what its promotion asks
+-- the law that a round leaves all that the promotion of its stop needs
 abbrev pub RoundIsRemembered : Type 0
 RoundIsRemembered = (plan : Plan) (run : Run) (replies : List (List Reply)) (history : List Row) (t : State) (seen : CollectorSeen) → IsRunnable plan →
     (h : IsAfterRound plan run replies history t seen) → IsSegments seen.segments →
     IsStopped (stopped_after (last_state run) t h.places seen) seen.segments seen.words (nurseries_of seen) (registers_of (ends_of seen))
     (queues_of (ends_of seen)) (recorded_in seen) (young_weaks_in seen)
 
--- once the round is forgotten, the collector speaks of the snapshot alone, which has nothing of what was born
+-- the law that the collector uses only the snapshot, which has no new object, once the round is forgotten
 abbrev pub RoundIsForgotten : Type 0
 RoundIsForgotten = (plan : Plan) (run : Run) (replies : List (List Reply)) (history : List Row) (t : State) (seen : CollectorSeen) → IsRunnable plan →
     (h : IsAfterRound plan run replies history t seen) → IsSegments seen.segments →

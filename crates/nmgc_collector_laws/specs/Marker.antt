@@ -1,21 +1,20 @@
--- The marker of a cycle, tied to the core machine: one list of events, whose commands are the rows since
--- the snapshot, leads to the marks and the queue that the marker has.
+-- The marker of a cycle is tied to a marking machine: events with the rows since the snapshot lead to its marks and queue.
 use Rattle.std.specs.Prelude.{ℕ, ◌≡◌, ◌↔◌, ◌+◌, List, [], ◌∷◌, length, map, filter, Contains, IsSome, false, All}
 use Rattle.nmgc_world_spec.specs.{declared.value.Name.Name, World.World, World.node_of}
 use Rattle.nmgc_segment.specs.{Segment.IsMarked, Segment.InSnapshot, Marks.epoch_of}
 use Rattle.nmgc_alloc.specs.{Numbered.nth, Numbered.Segments, AllocState.AllocState, AllocState.LiesIn}
 use Rattle.nmgc_heap_spec.specs.Places.{Place}
 use Rattle.nmgc_snapshot_laws.specs.{declared.event.Entry.Entry, declared.event.Event.Event, State.State as Core, State.opening, Machine.AreEmpty, Machine.is_pushed_in, Run.Runs}
-use Rattle.nmgc_blocks_spec.specs.Cycle.{Cycle}
+use Rattle.nmgc_stop_spec.specs.Cycle.{Cycle}
 use Rattle.nmgc_mark.specs.Seen.{MarkerSeen}
 
--- these are the places of the names, in order
+-- the addresses are the addresses of the names, in order
 abbrev pub AreAt : List Place → List ℕ → List Name → Type 0
 AreAt places [] [] = Unit {0}
 AreAt places (at ∷ ats) (name ∷ names) = Contains places (record { at = at; name = name }) × AreAt places ats names
 AreAt places _ _ = ⊥
 
--- a core machine that began with the snapshot, and took the rows since; nothing is owed
+-- a cycle's marking machine: events whose commands are the rows since the snapshot lead to it, and nothing is owed
 pub record IsCoreOf (c : Cycle) (w : World) (core : Core) : Type 0 where
   pub events : List Event
   pub runs : Runs (opening c.snapshot) events c.rows core
@@ -23,27 +22,27 @@ pub record IsCoreOf (c : Cycle) (w : World) (core : Core) : Type 0 where
   pub world_is : core.world ≡ w
   pub nothing_owed : AreEmpty core.owed
 
--- the remembered entries, without those whose names the snapshot doesn't have, are what the machine says that the mutator pushed
+-- the remembered entries whose names are in the snapshot are exactly the names that the machine pushed for the mutator
 pub record AreRemembered (c : Cycle) (places : List Place) (entries : List ℕ) (pushed : List Name) : Type 0 where
   pub names : List Name
   pub at : AreAt places entries names
   pub counted : filter (is_pushed_in c.snapshot) names ≡ pushed
 
--- the block is in the snapshot exactly where it is in use with a name of the snapshot
+-- a block is in the snapshot exactly if it is in use with a name of the snapshot
 abbrev pub IsRightSnapshot : Cycle → AllocState → Segments → Type 0
 IsRightSnapshot c allocation segments = (number block : ℕ) → InSnapshot (nth segments.segments number) block ↔
     ((name : Name) × LiesIn allocation number block name × IsSome (node_of c.snapshot name))
 
--- a block is marked with the epoch exactly where the machine has marked its name
+-- a block is marked with the epoch exactly if the machine has marked its name
 abbrev pub AreMarked : Core → AllocState → Segments → ℕ → Type 0
 AreMarked core allocation segments epoch = (number block : ℕ) (name : Name) → LiesIn allocation number block name →
     IsMarked (nth segments.segments number) epoch block ↔ Contains core.marked name
 
--- the entry is that of an object of which nothing was read yet
+-- the object of the entry hasn't been read at all
 abbrev pub IsUnread : Entry → Type 0
 IsUnread entry = entry.position ≡ 0
 
--- the marker has the marks and the queue of the machine; g counts as marked there, and has no block
+-- the marker of a cycle has the marks and the queue of the machine. For the machine g counts as marked, and g has no block
 pub record IsTied (c : Cycle) (allocation : AllocState) (segments : Segments) (places : List Place) (marker : MarkerSeen) (core : Core) : Type 0 where
   pub epoch : marker.epoch ≡ epoch_of c.number
   pub snapshot : IsRightSnapshot c allocation segments

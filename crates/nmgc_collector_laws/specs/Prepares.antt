@@ -1,4 +1,4 @@
--- What a heap at a stop becomes as a cycle begins there: its segments are prepared, and the collector speaks of the world as the snapshot from then on.
+-- A heap at a stop when a cycle begins: its segments are prepared, and the collector uses the world as the snapshot.
 use Rattle.std.specs.Prelude.{ℕ, ◌≡◌, ◌+◌, List, map}
 use Rattle.nmgc_world_spec.specs.World.{IsWorld}
 use Rattle.nmgc_segment.specs.declared.state.State.TheVariants as stands
@@ -11,11 +11,12 @@ use Rattle.nmgc_run_spec.specs.{Heap.HoldsAtStop, Heap.registers_of, Heap.queues
 use Rattle.nmgc_segment.specs.Marks.{epoch_of}
 use Rattle.nmgc_mark.specs.Beginning.{IsPrepared}
 
--- the segments as a cycle begins
+-- prepared segments: the segments when a cycle begins
 abbrev pub all_prepared : Segments → Segments
 all_prepared s = record s { segments = map prepared s.segments; fresh = 0 }
 
--- where no segment waits and marks are settled, the heap with prepared segments is one with which marking begins: no byte is the epoch of the next cycle
+-- the law that a heap with prepared segments is ready for marking, if no segment waits and marks are settled: no byte is the
+-- next epoch
 abbrev pub StopIsPrepared : Type 0
 StopIsPrepared = (layout : Layout) (s : State) (words : List ℕ) (segments : Segments) (ends : List MutatorEnd) (weaks : List Place)
     (queues : List FinQueue) (o : Opening) → (h : HoldsAtStop layout s words segments ends weaks) → IsWorld s.world → IsSegments segments →
@@ -23,7 +24,7 @@ StopIsPrepared = (layout : Layout) (s : State) (words : List ℕ) (segments : Se
     → queues_of ends ≡ map (λ (q : FinQueue). q.words) queues → o.layout ≡ layout → o.places ≡ h.places → o.core.snapshot ≡ s.world
     → IsPrepared o (all_prepared segments) (epoch_of (s.begun + 1)) words (registers_of ends) queues
 
--- words and prepared segments stand for the state with which the cycle begins, at the same places
+-- the law that words and prepared segments represent the state with which the cycle begins, at the same places
 abbrev pub StopBegins : Type 0
 StopBegins = (layout : Layout) (s : State) (words : List ℕ) (segments : Segments) (ends : List MutatorEnd) (weaks : List Place) →
     (h : HoldsAtStop layout s words segments ends weaks) →

@@ -1,6 +1,5 @@
--- A closing by its calls: the marker finishes, the weak pointers are resolved, and the finalisers of those that die
--- join their makers' queues. In the words of a run the cycle is closed then, and words, roots and list stand for the
--- closed world.
+-- A closing by its calls: the marker finishes, the weak pointers are resolved, and the finalisers of dead weak pointers join
+-- their makers' queues. For the run, the cycle is then closed, and words, roots and list represent the closed world.
 use Rattle.std.specs.Prelude.{ℕ, ◌≡◌, List, [], map, All}
 use Rattle.nmgc_world_spec.specs.{declared.value.Name.Name, Reach.closed}
 use Rattle.nmgc_object.specs.{FinQueue.FinQueue, declared.layout.Layout.Layout}
@@ -14,30 +13,30 @@ use Rattle.nmgc_run_spec.specs.{Heap.HoldsAtStop, Heap.HasAllRegisters, Heap.reg
 use Rattle.nmgc_sweep.specs.{Sweeping.HasNoted, Sweeping.IsSweeping, Seen.CycleSeen, Seen.SweeperSeen}
 use Rattle.nmgc_segment.specs.Marks.{epoch_of}
 use Rattle.nmgc_mark.specs.{Seen.MarkerSeen, Marker.HasMarked, Stopped.HasFinished}
-use Rattle.nmgc_blocks_spec.specs.Cycle.{Cycle}
+use Rattle.nmgc_stop_spec.specs.Cycle.{Cycle}
 use Rattle.nmgc_weak.specs.{declared.weaks.Death.Death, declared.weaks.OldWeak.OldWeak, Queues.AllJoin, Resolve.CanResolve, Resolve.HasResolved, Weaks.places_of}
 
--- the opening, with the machine as it is once the marker has finished
+-- the opening with the machine's state after the marker has finished
 abbrev pub finished_on : (o : Opening) (s : Segments) (marker : MarkerSeen) → HasFinished o s marker → Opening
 finished_on o s marker f = record o { core = now o f.events }
 
--- the heap at a stop while a cycle marks, where nothing is remembered: at rest, with the machine to which the marker is tied
+-- the heap at a stop while a cycle marks and nothing is remembered: at rest, with the machine to which the marker is tied
 pub record IsStopOf (layout : Layout) (c : Cycle) (s : State) (seen : CollectorSeen) (mutators : List Mutator) : Type 0 where
   pub heap : HoldsAtStop layout s seen.words seen.segments (ends_of seen) seen.weaks
   pub kept : IsMarking c s seen heap.places
   pub rest : IsAtRestMarking c kept.core seen.segments heap.places s.world seen.words mutators seen.marker.queue
 
--- the round that could begin there
+-- the opening of a round that could begin at the stop
 abbrev pub stop_opening : (layout : Layout) (c : Cycle) (s : State) (seen : CollectorSeen) (mutators : List Mutator) → IsStopOf layout c s seen mutators → Opening
 stop_opening layout c s seen mutators h = opening_beside seen.segments.layout h.kept.core h.heap.places mutators
 
--- once the marker has finished, the weak pointers may be resolved
+-- the law that the weak pointers may be resolved once the marker has finished
 abbrev pub FinishMayResolve : Type 0
 FinishMayResolve = (layout : Layout) (c : Cycle) (s : State) (seen : CollectorSeen) (mutators : List Mutator) (marked : Segments) (marker : MarkerSeen) →
     (h : IsStopOf layout c s seen mutators) → (f : HasFinished (stop_opening layout c s seen mutators h) marked marker) →
     CanResolve (finished_on (stop_opening layout c s seen mutators h) marked marker f) seen.words marked marker seen.weaks
 
--- the marker finished there, and the weak pointers were resolved, with this list and these deaths
+-- a closing by its calls: the marker finished at a stop, and the weak pointers were resolved, with this list and these deaths
 pub record IsClosingOf (layout : Layout) (c : Cycle) (s : State) (seen : CollectorSeen) (mutators : List Mutator) (words : List ℕ) (marked : Segments)
     (marker : MarkerSeen) (list : List OldWeak) (deaths : List Death) : Type 0 where
   pub stop : IsStopOf layout c s seen mutators
@@ -49,17 +48,17 @@ pub record IsClosingOf (layout : Layout) (c : Cycle) (s : State) (seen : Collect
   pub resolved : HasResolved (finished_on (stop_opening layout c s seen mutators stop) between finisher finished) words marked marker list deaths
   pub sound : IsSegments marked
 
--- so the cycle is closed, and these die
+-- the law that a closing by its calls closes the cycle, and the deaths are its dead weak pointers
 abbrev pub ResolveCloses : Type 0
 ResolveCloses = (layout : Layout) (c : Cycle) (s : State) (seen : CollectorSeen) (mutators : List Mutator) (words : List ℕ) (marked : Segments)
     (marker : MarkerSeen) (list : List OldWeak) (deaths : List Death) → (k : IsClosingOf layout c s seen mutators words marked marker list deaths) →
     HasClosed c s k.resolved.closing.dead marked marker
 
--- the world closed with these, while the cycle sweeps
+-- the state of a run after a closing: these weak pointers are dead, and the cycle sweeps
 abbrev pub closed_state : Cycle → State → List Name → State
 closed_state c s dead = record s { world = closed s.world dead; progress = sweeping c s.number }
 
--- what the mutators have in hand once the finalisers have joined: the queues are longer, and registers and serials as they were
+-- the mutators' roots once the finalisers have joined: the queues are longer, and registers and serials stay
 pub record FinalisersInHand (seen : CollectorSeen) (deaths : List Death) (queues : List FinQueue) (ends : List MutatorEnd) : Type 0 where
   pub old : List FinQueue
   pub old_are : queues_of (ends_of seen) ≡ map (λ (q : FinQueue). q.words) old
@@ -69,24 +68,24 @@ pub record FinalisersInHand (seen : CollectorSeen) (deaths : List Death) (queues
   pub serials : serials_of ends ≡ serials_of (ends_of seen)
   pub whole : All HasAllRegisters ends
 
--- words, roots and list then stand for the closed world, at the same places; no snapshot is tracked any more
+-- the law that after a closing words, roots and list represent the closed world, at the same places, with no snapshot tracked
 abbrev pub ClosedHolds : Type 0
 ClosedHolds = (layout : Layout) (c : Cycle) (s : State) (seen : CollectorSeen) (mutators : List Mutator) (words : List ℕ) (marked : Segments)
     (marker : MarkerSeen) (list : List OldWeak) (deaths : List Death) (queues : List FinQueue) (ends : List MutatorEnd) →
     (k : IsClosingOf layout c s seen mutators words marked marker list deaths) → FinalisersInHand seen deaths queues ends →
     (g : HoldsAtStop layout (closed_state c s k.resolved.closing.dead) words marked ends (places_of list)) × (g.places ≡ k.stop.heap.places)
 
--- what contracts see of a cycle that was closed at this stop, where these died
-pub record TellsDeaths (c : Cycle) (closed : ℕ) (dead : List Name) (marker : MarkerSeen) (cycle : CycleSeen) : Type 0 where
+-- the collector's view has a cycle that was closed at this stop, with these deaths
+pub record ShowsDeaths (c : Cycle) (closed : ℕ) (dead : List Name) (marker : MarkerSeen) (cycle : CycleSeen) : Type 0 where
   pub from_is : cycle.from ≡ c.from
   pub closed_is : cycle.closed ≡ closed
   pub dead_is : cycle.dead ≡ dead
   pub kept_is : cycle.kept ≡ marker.marked
 
--- a cycle that closes while all of its segments wait begins to sweep, and nothing was listed or freed yet
+-- the law that a cycle that closes while all of its segments wait begins to sweep, with nothing listed or freed yet
 abbrev pub ClosedCycleSweeps : Type 0
 ClosedCycleSweeps = (c : Cycle) (s : State) (dead : List Name) (words : List ℕ) (segments : Segments) (marker : MarkerSeen) (cycle : CycleSeen)
     (sweeper : SweeperSeen) → IsSegments segments → StandsFor segments words s.allocation → IsLastBegun c s.number s.begun → WaitsWhole c s.allocation
-    → HasClosed c s dead segments marker → marker.epoch ≡ epoch_of c.number → TellsDeaths c s.number dead marker cycle → HasNoted c sweeper →
+    → HasClosed c s dead segments marker → marker.epoch ≡ epoch_of c.number → ShowsDeaths c s.number dead marker cycle → HasNoted c sweeper →
     sweeper.had ≡ [] → sweeper.freed ≡ []
     → IsSweeping c s.number s.allocation (all_carried marker.epoch segments) cycle sweeper × AreSettled s.begun (all_carried marker.epoch segments)

@@ -1,20 +1,20 @@
--- What stands for a world between two rounds, and the opening of the next one.
+-- A heap that represents a world between two rounds, and the opening of the next round.
 use Rattle.std.specs.Prelude.{ℕ, ◌≡◌, ◌<◌, false, List, [], length, map, slice_get, Contains, Some}
 use Rattle.nmgc_world_spec.specs.World.{World, IsWorld}
 use Rattle.nmgc_object.specs.declared.layout.Layout.{Layout}
 use Rattle.nmgc_snapshot_laws.specs.State.{unmarked}
 use Rattle.nmgc_alloc.specs.{Numbered.Segments, Segments.IsSegments}
 use Rattle.nmgc_heap_spec.specs.{Places.Place, Represents.Represents, Represents.NoNode, Roots.RepresentsRoots}
-use Rattle.nmgc_blocks_spec.specs.{Occupied.AreBlocks, Stopped.young_base}
+use Rattle.nmgc_stop_spec.specs.{Occupied.AreBlocks, Stopped.young_base}
 use Rattle.nmgc_round.specs.{View.Hand, View.Opening, Own.old_stacks}
 use Rattle.nmgc_mutator.specs.{declared.mutator.Mutator.Mutator, Ready.IsWhole, Ready.IsUnused}
 use Rattle.nmgc_collector_laws.specs.Worked.{registers_of, queues_of, serials_of}
 
--- what a mutator has outside the heap, as a round of this world with objects at these places sees it
+-- a mutator's roots and stacks, for a round of this world with objects at these places
 abbrev pub hand_of : World → List Place → Mutator → Hand
 hand_of w places m = record { registers = m.registers; queue = m.queue.words; serial = m.serial; stacks = old_stacks places w m.number }
 
--- a mutator at a stop: all its registers, an unused nursery, and no recorded field and no young weak pointer left for the stop
+-- a mutator at a stop: it has its number, its layout and all its registers, an unused nursery, and no list for the stop
 pub record IsResting (layout : Layout) (number : ℕ) (m : Mutator) : Type 0 where
   pub number_is : m.number ≡ number
   pub layout_is : m.layout ≡ layout
@@ -24,7 +24,7 @@ pub record IsResting (layout : Layout) (number : ℕ) (m : Mutator) : Type 0 whe
   pub no_weaks : m.young_weaks.items ≡ []
   pub no_finalised : m.finalised.items ≡ []
 
--- words, blocks and mutators stand for the world while no cycle marks and the nurseries are empty
+-- a heap at rest while no cycle marks: words, segments and mutators represent a world, with all objects below the nurseries
 pub record IsAtRest (s : Segments) (places : List Place) (w : World) (words : List ℕ) (mutators : List Mutator) : Type 0 where
   pub world : IsWorld w
   pub sound : IsSegments s
@@ -35,6 +35,6 @@ pub record IsAtRest (s : Segments) (places : List Place) (w : World) (words : Li
   pub count : length mutators ≡ s.layout.mutators
   pub mutators_are : (k : ℕ) (m : Mutator) → slice_get mutators k ≡ Some m → IsResting s.layout k m
 
--- the opening of a round that begins there
+-- the opening of a round from a heap at rest: no cycle marks, nothing is owed, and each mutator has its roots and serial
 abbrev pub opening_at : Layout → World → List Place → List Mutator → Opening
 opening_at layout w places mutators = record { layout = layout; marking = false; core = unmarked w; places = places; hands = map (hand_of w places) mutators }

@@ -1,4 +1,4 @@
--- What stands for a world between two rounds of a marking cycle, and the opening of the next round.
+-- A heap that represents a world between two rounds of a marking cycle, and the opening of the next round.
 use Rattle.std.specs.Prelude.{ℕ, ◌≡◌, ◌<◌, true, List, [], ◌∷◌, ◌++◌, length, map, slice_get, Contains, Some, All}
 use Rattle.nmgc_world_spec.specs.{World.World, World.IsWorld, History.Row}
 use Rattle.nmgc_world_laws.specs.Reachable.{IsSound}
@@ -6,24 +6,24 @@ use Rattle.nmgc_object.specs.declared.layout.Layout.{Layout}
 use Rattle.nmgc_snapshot_laws.specs.{declared.event.Entry.Entry, Machine.AreEmpty, State.State as Core}
 use Rattle.nmgc_alloc.specs.{Numbered.Segments, Segments.IsSegments}
 use Rattle.nmgc_heap_spec.specs.{Places.Place, Changes.AreEarlier, Represents.Represents, Represents.NoNode, Roots.RepresentsRoots}
-use Rattle.nmgc_blocks_spec.specs.{Occupied.AreBlocks, Stopped.young_base, Cycle.interval_of, Cycle.Cycle}
+use Rattle.nmgc_stop_spec.specs.{Occupied.AreBlocks, Stopped.young_base, Cycle.interval_of, Cycle.Cycle}
 use Rattle.nmgc_round.specs.{View.Opening, Objects.earlier, Starting.CanOpen}
 use Rattle.nmgc_mutator.specs.declared.mutator.Mutator.{Mutator}
 use Rattle.nmgc_collector_laws.specs.{Rest.hand_of, Rest.IsResting, Worked.registers_of, Worked.queues_of, Worked.serials_of, Marker.AreAt, Marker.IsCoreOf, Marker.IsUnread}
 
--- the cycle, with more rows since its snapshot
+-- the cycle with further rows
 abbrev pub with_rows : Cycle → List Row → Cycle
 with_rows c rows = record c { rows = c.rows ++ rows }
 
--- the machine of a cycle at a stop: its rows lead from the snapshot to the world, nothing is owed, all that was
--- pushed was taken, and of what waits nothing was read yet
+-- a machine at rest at a stop: the cycle's rows lead from its snapshot to the world, and nothing is owed. All pushed objects
+-- were taken, and no object that waits has been read
 pub record IsMachineAtRest (c : Cycle) (w : World) (core : Core) : Type 0 where
   pub sound : IsSound (interval_of c)
   pub machine : IsCoreOf c w core
   pub none_pushed : AreEmpty core.pushed
   pub fresh : All IsUnread core.queue
 
--- words, blocks and mutators stand for the world and speak of the snapshot too, the nurseries are empty, and what waits to be scanned is at these places
+-- a heap at rest beside a marking cycle: the collector also uses the snapshot, and entries that wait are at known places
 pub record IsAtRestMarking (c : Cycle) (core : Core) (s : Segments) (places : List Place) (w : World) (words : List ℕ) (mutators : List Mutator)
     (queue : List ℕ) : Type 0 where
   pub world : IsWorld w
@@ -37,7 +37,7 @@ pub record IsAtRestMarking (c : Cycle) (core : Core) (s : Segments) (places : Li
   pub mutators_are : (k : ℕ) (m : Mutator) → slice_get mutators k ≡ Some m → IsResting s.layout k m
   pub waits : AreAt places queue (map (λ (entry : Entry). entry.name) core.queue)
 
--- the opening of a round that begins there
+-- the opening of a round from a heap at rest beside a marking cycle: a cycle marks, with the machine's state
 abbrev pub opening_beside : Layout → Core → List Place → List Mutator → Opening
 opening_beside layout core places mutators = record {
   layout = layout;
@@ -47,7 +47,7 @@ opening_beside layout core places mutators = record {
   hands = map (hand_of core.world places) mutators;
 }
 
--- a heap at rest opens a round, and the collector may speak of the snapshot there
+-- the law that a heap at rest beside a marking cycle opens a round, and the collector may use the snapshot in this round
 abbrev pub RestOpens : Type 0
 RestOpens = (c : Cycle) (core : Core) (s : Segments) (places : List Place) (w : World) (words : List ℕ) (mutators : List Mutator) (queue : List ℕ) →
     IsAtRestMarking c core s places w words mutators queue →

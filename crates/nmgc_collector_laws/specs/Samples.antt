@@ -8,22 +8,22 @@ use Rattle.nmgc_segment.specs.{Segment.free_segment, declared.state.State.TheVar
 use Rattle.nmgc_alloc.specs.Numbered.{Segments}
 use Rattle.nmgc_run_spec.specs.{State.Plan, State.layout_of, Lawful.IsLawful}
 
--- 32 segments of 64 words, and a nursery as large as a segment
+-- a small heap's configuration: 32 segments of 64 words, and a nursery as large as a segment
 abbrev pub small_heap : Config
 small_heap = record { segments = 32; words = 64; nursery = 64; slice = 100; quota = 1000; trigger = 0 }
 
--- one program on this heap
+-- a plan of one program on the small heap
 abbrev pub small_plan : List Command → Plan
 small_plan program = record { config = small_heap; threads = program ∷ [] }
 
 abbrev pub small_script : List Command → Script
 small_script program = record { version = 1; config = small_heap; threads = program ∷ [] }
 
--- a stop in the phase idle, with no segment filled or waiting
+-- the row of a stop in the phase idle, with no segment filled or waiting
 abbrev pub quiet_stop : ℕ → ℕ → ℕ → StopRow
 quiet_stop number free promoted = record { number = number; phase = Idle; free = free; filled = 0; sweep = 0; promoted = promoted }
 
--- an object is made, read and shown
+-- the sample's program: it makes an object, and reads and shows it
 abbrev pub object_program : List Command
 object_program = Num 1 5 ∷ Con 0 7 (Register 1 ∷ []) ∷ Get 2 (Register 0) 0 ∷ Show (Register 2) ∷ Get 2 (Register 0) 1 ∷ Get 2 (Register 1) 0 ∷
     Show (Register 0) ∷ []
@@ -34,12 +34,11 @@ object_name = record { maker = 0; serial = 0 }
 abbrev pub object_replies : List Reply
 object_replies = Fine ∷ Given (Ref object_name) ∷ Given (Number 5) ∷ Given (Number 5) ∷ NoField ∷ NoPointer ∷ Given (Ref object_name) ∷ []
 
--- the words after it: word 0; g, whose slots are nil, and the unused words up to 31; in the first block of the first
--- segment the object's header, name and field; and nothing else
+-- the words after the sample's run: word 0; g with nil slots; unused words up to 31; the object's header, name, field; zeros
 abbrev pub object_words : List ℕ
 object_words = 0 ∷ 32771 ∷ SHARED_MAKER ∷ (replicate SHARED_SLOTS 1 ++ (replicate 13 0 ++ (2105 ∷ 0 ∷ 13 ∷ replicate 2109 0)))
 
--- the segments after it
+-- the segments after the sample's run
 abbrev pub object_segments : Segments
 object_segments = record {
   layout = layout_of (small_plan object_program);
@@ -47,11 +46,11 @@ object_segments = record {
   fresh = 0;
 }
 
--- the mutator after it: its registers hold the object, two fives and nil
+-- the mutator after the sample's run: its registers hold the object, two fives and nil
 abbrev pub object_mutator : MutatorEnd
 object_mutator = record { registers = 64 ∷ 13 ∷ 13 ∷ replicate (REGISTERS - 3) 1; queue = []; serial = 1 }
 
--- the whole report
+-- the whole report of the sample's run
 abbrev pub object_report : Report
 object_report = record {
   rounds = record { replies = object_replies ∷ [] } ∷ [];
@@ -64,6 +63,6 @@ object_report = record {
   end = Done;
 }
 
--- the report of that program is lawful, with all that it says of the heap
+-- the law that the report of the sample's program is lawful, with all its facts about the heap
 abbrev pub ObjectIsLawful : Type 0
 ObjectIsLawful = IsLawful (small_script object_program) object_report

@@ -1,5 +1,4 @@
--- What contracts see of a collector: all that its report would hold now, and what it has besides between
--- two calls.
+-- The view of a collector in contracts: all that its report would have now, and its state between two calls.
 use Rattle.std.specs.Prelude.{ℕ, List, map, flat_map, Bool, Option}
 use Rattle.nmgc_object.specs.{declared.layout.Nursery.Nursery, FinQueue.FinQueue}
 use Rattle.nmgc_alloc.specs.Numbered.{Segments}
@@ -8,8 +7,8 @@ use Rattle.nmgc_journal.specs.{declared.report.RoundRows.RoundRows, declared.rep
 use Rattle.nmgc_mark.specs.Seen.{MarkerSeen, WorkSeen}
 use Rattle.nmgc_sweep.specs.Seen.{SweeperSeen, CycleSeen}
 
--- a mutator: its roots and next serial, its nursery, and what the round left for the stop: places of recorded fields,
--- of young weak pointers and of those that it finalised, and the remembered entries
+-- a mutator in the contracts of a collector: its roots, its next serial, its nursery and its lists for the stop. The lists
+-- are the addresses of recorded fields, of new weak pointers and of finalised weak pointers, and the remembered entries
 pub record MutatorSeen : Type 0 where
   pub registers : List ℕ
   pub queue : FinQueue
@@ -20,7 +19,8 @@ pub record MutatorSeen : Type 0 where
   pub finalised : List ℕ
   pub entries : List ℕ
 
--- the whole collector; marker, sweeper and cycle mean something while a cycle is in progress
+-- the whole collector in contracts: all that its report would have now, and its state between two calls. Marker, sweeper and
+-- cycle are meaningful while a cycle is in progress
 pub record CollectorSeen : Type 0 where
   pub rounds : List RoundRows
   pub stops : List StopRow
@@ -39,7 +39,7 @@ pub record CollectorSeen : Type 0 where
   pub sweeper : SweeperSeen
   pub cycle : CycleSeen
 
--- what a report would tell of a mutator now
+-- a mutator in a report made now
 abbrev pub end_of : MutatorSeen → MutatorEnd
 end_of m = record { registers = m.registers; queue = m.queue.words; serial = m.serial }
 
@@ -50,14 +50,14 @@ ends_of seen = map end_of seen.mutators
 abbrev pub nurseries_of : CollectorSeen → List Nursery
 nurseries_of seen = map (λ (m : MutatorSeen). m.nursery) seen.mutators
 
--- the places of the fields that the round recorded
+-- the addresses of the fields that the round recorded
 abbrev pub recorded_in : CollectorSeen → List ℕ
 recorded_in seen = flat_map (λ (m : MutatorSeen). m.recorded) seen.mutators
 
--- the places of the weak pointers that the round made
+-- the addresses of the weak pointers that the round made
 abbrev pub young_weaks_in : CollectorSeen → List ℕ
 young_weaks_in seen = flat_map (λ (m : MutatorSeen). m.young_weaks) seen.mutators
 
--- the places of the weak pointers in segments that the round finalised
+-- the addresses of the weak pointers in segments that the round finalised
 abbrev pub finalised_in : CollectorSeen → List ℕ
 finalised_in seen = flat_map (λ (m : MutatorSeen). m.finalised) seen.mutators

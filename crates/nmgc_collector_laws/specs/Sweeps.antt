@@ -1,12 +1,12 @@
--- Marks as a cycle begins to sweep, and what a promotion leaves of one that sweeps.
+-- Marks when a cycle begins to sweep, and a sweeping cycle over a promotion.
 use Rattle.std.specs.Prelude.{ℕ, ◌↔◌, List, map}
 use Rattle.nmgc_world_spec.specs.{declared.value.Name.Name, World.World}
 use Rattle.nmgc_object.specs.declared.layout.Layout.{Layout}
 use Rattle.nmgc_alloc.specs.{Numbered.Segments, Segments.IsWaiting, AllocState.AllocState, Stands.StandsFor, CycleSteps.carried_over, Settled.AreSettled}
-use Rattle.nmgc_blocks_spec.specs.{Occupied.KeepsMarks, Promoted.PlacesEach, Cycle.Cycle}
+use Rattle.nmgc_stop_spec.specs.{Occupied.KeepsMarks, Promoted.PlacesEach, Cycle.Cycle}
 use Rattle.nmgc_sweep.specs.{Sweeping.IsSweeping, Seen.CycleSeen, Seen.SweeperSeen}
 
--- the segments as a cycle is closed: marks are carried over in those that don't wait
+-- the segments once a cycle is closed: marks are carried over in the segments that don't wait
 abbrev pub all_carried : ℕ → Segments → Segments
 all_carried epoch s = record s { segments = map (carried_over epoch) s.segments }
 
@@ -20,7 +20,7 @@ pub record HasPlaced (old new : Segments) (words after : List ℕ) (allocation p
   pub places_each : PlacesEach layout world allocation names placed
   pub marks : KeepsMarks old new
 
--- as many wait where marks change alone, as by a marker or as they are carried over, and over a promotion: so what a sweeper has left is right still
+-- the laws that the same segments wait after only marks change, by a marker or a carry, and after a promotion
 abbrev pub MarkedWait : Type 0
 MarkedWait = (old new : Segments) (words after : List ℕ) (allocation : AllocState) → StandsFor old words allocation →
     StandsFor new after allocation → (number : ℕ) → IsWaiting new number ↔ IsWaiting old number
@@ -29,7 +29,7 @@ abbrev pub PlacedWait : Type 0
 PlacedWait = (old new : Segments) (words after : List ℕ) (allocation placed : AllocState) → HasPlaced old new words after allocation placed →
     (number : ℕ) → IsWaiting new number ↔ IsWaiting old number
 
--- no segment that waits was touched, so the cycle sweeps as before, and marks are settled as before
+-- the laws that a promotion touches no waiting segment, so the cycle sweeps as before, and that marks stay settled
 abbrev pub SweepingStays : Type 0
 SweepingStays = (c : Cycle) (closed : ℕ) (old new : Segments) (words after : List ℕ) (allocation placed : AllocState) (cycle : CycleSeen)
     (sweeper : SweeperSeen) → HasPlaced old new words after allocation placed → IsSweeping c closed allocation old cycle sweeper →

@@ -4,18 +4,18 @@ use Rattle.nmgc_world_spec.specs.{World.World, World.IsWorld, History.Row, Histo
 use Rattle.nmgc_object.specs.Places.{nursery_place, reserve_count}
 use Rattle.nmgc_alloc.specs.{Numbered.Segments, Segments.IsSegments, Reserve.free_count}
 use Rattle.nmgc_heap_spec.specs.{Places.Place, Changes.AreEarlier, Roots.RepresentsRoots, Moves.Moved, Moves.settled}
-use Rattle.nmgc_blocks_spec.specs.{Nurseries.AreUsed, Nurseries.LieInOrder, Nurseries.AreEmpty, Occupied.AreBlocks, Remembers.Remembers, Stopped.Stopped, Stopped.IsStopped, Stopped.IsSettled, Stopped.young_base}
+use Rattle.nmgc_stop_spec.specs.{Nurseries.AreUsed, Nurseries.LieInOrder, Nurseries.AreEmpty, Occupied.AreBlocks, Remembers.Remembers, Stopped.Stopped, Stopped.IsStopped, Stopped.IsSettled, Stopped.young_base}
 use Rattle.nmgc_round.specs.{declared.table.Round.Round, Events.rows_in, View.Opening, View.Seen, View.whole, Rule.now, Objects.earlier, Seat.RoundSeat, Seat.IsAt, Seat.seen, Seating.alone, Seating.collecting, Seating.all_together, Starting.CanOpen, Finishing.IsFinished, Finishing.HasAll, Finishing.Leaves, Finishing.places_then}
 use Rattle.nmgc_mutator.specs.{declared.mutator.Mutator.Mutator, Does.HasDone}
-use Rattle.nmgc_collector_laws.specs.Worked.{Done, HaveWorked, registers_of, queues_of, serials_of, nurseries_of, recorded_of, weaks_of, finalised_of, TellsFinalised}
+use Rattle.nmgc_collector_laws.specs.Worked.{Done, HaveWorked, registers_of, queues_of, serials_of, nurseries_of, recorded_of, weaks_of, finalised_of, ListsFinalised}
 use Rattle.nmgc_collector_laws.specs.Rest.{IsAtRest, IsResting, opening_at}
 
--- a heap at rest opens a round
+-- the law that a heap at rest opens a round
 abbrev pub RestOpens : Type 0
 RestOpens = (s : Segments) (places : List Place) (w : World) (words : List ℕ) (mutators : List Mutator) → IsAtRest s places w words mutators →
     CanOpen (opening_at s.layout w places mutators) words
 
--- seats and mutators after the slices of a round, by their numbers: each mutator did its commands from its own seat on
+-- slices are done: each mutator of the heap at rest did its commands from its own seat, all in the order of their numbers
 pub record SlicesAreDone (o : Opening) (round : Round) (old mutators : List Mutator) (seats : List RoundSeat) (done : List (List Done)) : Type 0 where
   pub mutators_are : (length old ≡ o.layout.mutators) × (length mutators ≡ o.layout.mutators)
   pub seats_are : length seats ≡ o.layout.mutators
@@ -24,21 +24,22 @@ pub record SlicesAreDone (o : Opening) (round : Round) (old mutators : List Muta
   pub each : (k : ℕ) (m n : Mutator) (seat : RoundSeat) (d : List Done) → slice_get old k ≡ Some m → slice_get mutators k ≡ Some n →
       slice_get seats k ≡ Some seat → slice_get done k ≡ Some d → HasDone round (alone o k) seat m n d
 
--- so the seats together have every part, and the mutators have worked as their parts say
+-- the law that, once slices are done, the seats together have every part, and each part says what its mutator did
 abbrev pub SlicesAreGathered : Type 0
 SlicesAreGathered = (o : Opening) (before : List ℕ) (round : Round) (old mutators : List Mutator) (seats : List RoundSeat)
     (done : List (List Done)) → CanOpen o before → SlicesAreDone o round old mutators seats done →
     let v = all_together (collecting (whole o)) (map seen seats) in HasAll v × All (IsAt round) seats × HaveWorked o v.parts mutators done
 
--- the commands of a finished round have one legal order, in which each mutator's are those that it did, with their
--- replies; and the world after the round is the one after them
+-- the law that the commands of a finished round have one legal order, with the commands and replies of each mutator as it did
+-- them. The world after the round is the world after these commands
 abbrev pub RoundIsHistory : Type 0
 RoundIsHistory = (o : Opening) (words : List ℕ) (v : Seen) (mutators : List Mutator) (done : List (List Done)) → (h : IsFinished o words v) →
     HaveWorked o v.parts mutators done →
     IsLegal o.core.world (rows_in h.events) × ((m : ℕ) → map (λ (row : Row). (row.command, row.reply)) (rows_of m (rows_in h.events)) ≡
     slice_index_or done m []) × ((now o h.events).world ≡ replayed o.core.world (rows_in h.events))
 
--- the heap after a round, as its promotion finds it
+-- the heap after a round, as its promotion finds it: the world after the events, the world as the round began, the places of
+-- the opening and of new objects, and the next serials
 abbrev pub stop_after : (o : Opening) (words : List ℕ) (v : Seen) → IsFinished o words v → List Mutator → Stopped
 stop_after o words v h mutators = record {
   world = (now o h.events).world;
@@ -48,33 +49,33 @@ stop_after o words v h mutators = record {
   serials = serials_of mutators;
 }
 
--- registers, queues and serials of the mutators stand for the roots of the world after the round
+-- the law that the mutators' registers, queues and serials represent the roots of the world after the round
 abbrev pub RootsAreLeft : Type 0
 RootsAreLeft = (o : Opening) (words : List ℕ) (v : Seen) (mutators : List Mutator) (done : List (List Done)) → (h : IsFinished o words v) →
     HaveWorked o v.parts mutators done →
     RepresentsRoots (places_then o h.born) (now o h.events).world (registers_of mutators) (queues_of mutators) (serials_of mutators)
 
--- what was born lies in the used parts of the nurseries, in the order of names
+-- the law that new objects lie in the used parts of the nurseries, in the order of names
 abbrev pub BirthsAreInOrder : Type 0
 BirthsAreInOrder = (o : Opening) (before words : List ℕ) (v : Seen) (mutators : List Mutator) (done : List (List Done)) → CanOpen o before →
     (h : IsFinished o words v) → HaveWorked o v.parts mutators done →
     LieInOrder (nursery_place o.layout 0) (places_then o h.born) ×
     AreUsed o.layout (nursery_place o.layout 0) (places_then o h.born) (now o h.events).world (nurseries_of mutators)
 
--- the fields that the mutators recorded are told fields of tracked objects in segments, and all of these that refer
--- to a young object; the weak pointers are those that the round made
+-- the law that recorded fields are specified fields of tracked objects in segments, and include all fields that refer to a
+-- new object. The noted weak pointers are those that the round made
 abbrev pub RoundIsRemembered : Type 0
 RoundIsRemembered = (o : Opening) (before words : List ℕ) (v : Seen) (mutators : List Mutator) (done : List (List Done)) → CanOpen o before →
     (h : IsFinished o words v) → HaveWorked o v.parts mutators done →
     Remembers (nursery_place o.layout 0) (o.core.world ∷ earlier o) (places_then o h.born) (now o h.events).world (recorded_of mutators) (weaks_of mutators)
 
--- the mutators tell each weak pointer in a segment that was finalised in the round
-abbrev pub RoundTellsFinalised : Type 0
-RoundTellsFinalised = (o : Opening) (before words : List ℕ) (v : Seen) (mutators : List Mutator) (done : List (List Done)) → CanOpen o before →
+-- the law that the mutators report each weak pointer in a segment that was finalised in the round
+abbrev pub RoundListsFinalised : Type 0
+RoundListsFinalised = (o : Opening) (before words : List ℕ) (v : Seen) (mutators : List Mutator) (done : List (List Done)) → CanOpen o before →
     (h : IsFinished o words v) → HaveWorked o v.parts mutators done →
-    TellsFinalised (nursery_place o.layout 0) (places_then o h.born) o.core.world (now o h.events).world (finalised_of mutators)
+    ListsFinalised (nursery_place o.layout 0) (places_then o h.born) o.core.world (now o h.events).world (finalised_of mutators)
 
--- what a round leaves is what a promotion asks
+-- the law that a round leaves all that a promotion needs
 abbrev pub RoundIsStopped : Type 0
 RoundIsStopped = (o : Opening) (before words : List ℕ) (v : Seen) (mutators : List Mutator) (done : List (List Done)) (s : Segments) →
     CanOpen o before → AreEarlier (earlier o) o.core.world → s.layout ≡ o.layout → IsSegments s → AreBlocks s (young_base s) o.places o.core.world
@@ -82,7 +83,7 @@ RoundIsStopped = (o : Opening) (before words : List ℕ) (v : Seen) (mutators : 
     → IsStopped (stop_after o words v left.0 mutators) s words (nurseries_of mutators) (registers_of mutators) (queues_of mutators)
     (recorded_of mutators) (weaks_of mutators)
 
--- once the promotion is done, what the mutators have is forwarded, their nurseries are empty, and nothing is left
+-- the mutators once a promotion is done: they rest, with the new words of registers and queues
 pub record AreForwarded (s : Segments) (registers : List ℕ) (queues : List (List ℕ)) (serials : List ℕ) (mutators : List Mutator) : Type 0 where
   pub registers_are : registers_of mutators ≡ registers
   pub queues_are : queues_of mutators ≡ queues
@@ -90,7 +91,7 @@ pub record AreForwarded (s : Segments) (registers : List ℕ) (queues : List (Li
   pub count : length mutators ≡ s.layout.mutators
   pub each : (k : ℕ) (m : Mutator) → slice_get mutators k ≡ Some m → IsResting s.layout k m
 
--- and where the collector speaks of no earlier world, the heap is at rest again
+-- the law that the heap is at rest once a promotion is done, if the collector uses no earlier world
 abbrev pub SettledIsAtRest : Type 0
 SettledIsAtRest = (t : Stopped) (s : Segments) (words registers : List ℕ) (queues : List (List ℕ)) (moves : List Moved) (mutators : List Mutator) →
     t.later ≡ [] → IsWorld t.world → IsSegments s → IsSettled t s words registers queues moves →

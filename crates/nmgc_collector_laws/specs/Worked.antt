@@ -1,8 +1,8 @@
--- What the mutators of a round did, as their parts of a view and they themselves tell it.
+-- The work of the mutators in a round: as their parts of a view show it, and as their own state shows it.
 --
--- A part knows rows with answers as words. The mutator has what these rows leave, the replies by name, and the
--- places of the fields that they gave a young object and of the weak pointers that they made or finalised. All laws of a
--- round's end speak of these facts, which `nmgc_mutator` promises of a slice.
+-- A part has rows with answers as words. The mutator has the state after these rows and the replies by name. It has the
+-- addresses of fields to which it gave a new object, and of weak pointers that it made or finalised. All laws of a round's
+-- end use these facts, which `nmgc_mutator` promises of a slice.
 use Rattle.std.specs.Prelude.{ℕ, ◌≡◌, ◌<◌, List, length, map, slice_get, Contains, Some}
 use Rattle.std.specs.List.{flat_map}
 use Rattle.nmgc_limits.specs.declared.mutators.TheConstants.{REGISTERS}
@@ -16,7 +16,8 @@ use Rattle.nmgc_mutator.specs.{declared.mutator.Mutator.Mutator, Ready.IsNursery
 abbrev pub Done : Type 0
 Done = Command × Reply
 
--- the mutator did these commands with these replies in the round that began so, and its part of the view says the same
+-- a mutator's work in a round: its part of the view has a row with the reply for each command, and its state is as these rows
+-- leave it. It recorded fields to which the commands gave a new object, and weak pointers made, or finalised in segments
 pub record HasWorked (o : Opening) (p : Part) (m : Mutator) (done : List Done) : Type 0 where
   pub number : p.number ≡ m.number
   pub layout : m.layout ≡ o.layout
@@ -29,7 +30,7 @@ pub record HasWorked (o : Opening) (p : Part) (m : Mutator) (done : List Done) :
   pub weaks : numbers m.young_weaks.items ≡ all_weaks p.rows
   pub finalised : numbers m.finalised.items ≡ all_finalised m.layout (hand_of o.hands p.number) p.rows
 
--- all mutators, by their numbers: each with its part of the view, and with what it did
+-- the work of all mutators in a round, by their numbers: each has its part of the view
 pub record HaveWorked (o : Opening) (parts : List Part) (mutators : List Mutator) (done : List (List Done)) : Type 0 where
   pub parts_are : length parts ≡ o.layout.mutators
   pub mutators_are : length mutators ≡ o.layout.mutators
@@ -51,21 +52,21 @@ serials_of mutators = map (λ (m : Mutator). m.serial) mutators
 abbrev pub nurseries_of : List Mutator → List Nursery
 nurseries_of mutators = map (λ (m : Mutator). m.nursery) mutators
 
--- the places of all fields that they recorded
+-- the addresses of all fields that the mutators recorded
 abbrev pub recorded_of : List Mutator → List ℕ
 recorded_of mutators = flat_map (λ (m : Mutator). numbers m.recorded.items) mutators
 
--- the places of all weak pointers that they made
+-- the addresses of all weak pointers that the mutators made
 abbrev pub weaks_of : List Mutator → List ℕ
 weaks_of mutators = flat_map (λ (m : Mutator). numbers m.young_weaks.items) mutators
 
--- the places of all weak pointers in segments that they finalised
+-- the addresses of all weak pointers in segments that the mutators finalised
 abbrev pub finalised_of : List Mutator → List ℕ
 finalised_of mutators = flat_map (λ (m : Mutator). numbers m.finalised.items) mutators
 
--- the weak pointers in segments (before the base) that were alive in one world, and aren't in another, are told by their
--- places; and no place outside the segments is
-pub record TellsFinalised (base : ℕ) (places : List Place) (began w : World) (finalised : List ℕ) : Type 0 where
+-- `finalised` has the address of each weak pointer in a segment (below the base) that was alive in the world `began` and
+-- isn't in `w`. It has no address in a nursery
+pub record ListsFinalised (base : ℕ) (places : List Place) (began w : World) (finalised : List ℕ) : Type 0 where
   pub all : (p : Place) (parts : Parts) → Contains places p → p.at < base → IsAlive began p.name parts → (IsAlive w p.name parts → ⊥) →
       Contains finalised p.at
   pub low : (at : ℕ) → Contains finalised at → at < base

@@ -1,6 +1,6 @@
-//! What holds of rounds and stops beside a marking cycle, for every opening, all words and all views.
+//! The laws of rounds and stops beside a marking cycle, for every opening, all words and all views.
 //!
-//! Each function's contract is the law. A body does nothing but call the laws that its proof rests on.
+//! Each function's contract is the law. A body only calls the laws that its proof depends on.
 ghost use Rattle.nmgc_collector_laws.specs.{RestMarking.RestOpens, Owed.SlicesAreGathered, Owed.SlicesAreOwed, Owed.MachineGoesOn, Tie.CoreHasSnapshot, Tie.RoundBeginsTied, Prepares.StopIsPrepared, Prepares.StopBegins, Calls.SnapshotIsMarking, Calls.RoundIsMarking, Calls.AddIsMarking, Resolves.FinishMayResolve, Resolves.ResolveCloses, Resolves.ClosedHolds, Resolves.ClosedCycleSweeps, Joins.JoiningLists, Joins.JoinersAreNew, Joins.FewerListed, Closes.ClosingIsSoon, Closes.ClosingComes, Closes.ClosingIsPaced, Sweeps.MarkedWait, Sweeps.PlacedWait, Sweeps.SweepingStays, Sweeps.SettledStays, Drops.RoundFreesUntracked, Drops.StopFreesUntracked, Drops.FreeGrows, Drops.SweptHoldsAfterRound, Drops.SweptHoldsAtStop, Drops.DropKeepsRound, Heaps.HeapRests, Heaps.RoundHolds, Heaps.MarkedHolds, Keeps.PromotionKeepsMarking, Keeps.PaceAfterRound, Keeps.PaceAtStop, Keeps.PaceBegins};
 
 use crate::ties::{a_cycle_closes as weaks_close, ties_agree};
@@ -8,27 +8,27 @@ use nmgc_mark::laws::{marks_are_of_the_snapshot, round_begins, round_ends};
 use nmgc_object::laws::words_differ;
 use nmgc_weak::laws::queues_close;
 
-/// Words, blocks and mutators that stand for a world beside a marking cycle open a round with the cycle's machine,
-/// and the collector may speak of the snapshot in it.
-pub fn a_rest_opens_a_round()
+/// Proves that a round can open from a heap at rest beside a marking cycle, whose words, blocks and mutators represent a
+/// world. The round opens with the cycle's machine, and the collector may use the snapshot in it.
+pub fn a_heap_at_rest_opens_a_round()
     ensures { RestOpens }
 {}
 
-/// The seats of mutators that did their slices have every part of the round between them, beside a collector's that
-/// scanned. The mutators then remember the places in segments of what their parts owe, in order.
+/// Proves that the seats of mutators that did their slices together have every part of the round, beside a collector's seat
+/// that scanned. The mutators then remember the objects that their parts owe, by their addresses in segments, in order.
 pub fn slices_are_owed()
     ensures gathered { SlicesAreGathered }
     ensures owed { SlicesAreOwed }
 {}
 
-/// The machine goes through the events of a finished round and then pushes all that is owed. What it has pushed for
-/// a mutator is what that mutator remembers of the snapshot.
+/// Proves that the marking machine can go through the events of a finished round and then push all owed objects. Its pushes
+/// for a mutator are exactly the mutator's remembered entries of the snapshot.
 pub fn the_machine_goes_on()
     ensures { MachineGoesOn }
 {}
 
-/// While a cycle marks, the places of a heap at a stop are those of its blocks. So a marker that is tied by blocks there,
-/// as a run tells it, is tied by places, as it works in the round that begins.
+/// Proves that while a cycle marks, the places of a heap at a stop are its blocks. So a marker that is tied by blocks, as in
+/// a run, is tied by places in the round that begins.
 pub fn a_heap_ties_by_blocks()
     ensures snapshot { CoreHasSnapshot }
     ensures begins { RoundBeginsTied }
@@ -38,15 +38,15 @@ pub fn a_heap_ties_by_blocks()
     round_begins();
 }
 
-/// A heap at a stop where no segment waits, with its segments prepared, is one with which marking begins, and stands for
-/// the state with which the cycle begins.
+/// Proves that marking may begin at a stop at which no segment waits, once the segments are prepared. The heap then
+/// represents the state with which the cycle begins.
 pub fn a_stop_is_prepared()
     ensures prepared { StopIsPrepared }
     ensures begins { StopBegins }
 {}
 
-/// The marker's calls, by their contracts: with its snapshot a cycle marks, and it marks on after its work in a round and
-/// once it has added what was remembered.
+/// Proves by the contracts of the marker's calls that a cycle is marking after the snapshot. It is still marking after the
+/// marker's work in a round and after it has added the remembered entries.
 pub fn the_marker_leads_a_cycle()
     ensures snapshot { SnapshotIsMarking }
     ensures round { RoundIsMarking }
@@ -57,9 +57,9 @@ pub fn the_marker_leads_a_cycle()
     round_ends();
 }
 
-/// At a stop at which the marker has finished, the weak pointers may be resolved. Then the cycle is closed, with the deaths
-/// as its dead weak pointers; words, roots and list stand for the closed world once the finalisers have joined their
-/// queues; and the cycle begins to sweep.
+/// Proves that once the marker has finished at a stop, the weak pointers may be resolved. Then the cycle is closed, with the
+/// deaths as its dead weak pointers. Once the finalisers have joined their queues, words, roots and list represent the closed
+/// world, and the cycle begins to sweep.
 pub fn a_resolved_cycle_is_closed()
     ensures may { FinishMayResolve }
     ensures closes { ResolveCloses }
@@ -71,8 +71,8 @@ pub fn a_resolved_cycle_is_closed()
     queues_close();
 }
 
-/// After a promotion the weak pointers that moved and are alive join the list, which had none of them; and as few weak
-/// pointers of a snapshot are listed as before.
+/// Proves that after a promotion the moved weak pointers that are alive join the list. None of them was in the list before,
+/// and the list has no more weak pointers of a snapshot than before.
 pub fn the_list_is_joined()
     ensures joining { JoiningLists }
     ensures new { JoinersAreNew }
@@ -81,8 +81,7 @@ pub fn the_list_is_joined()
     words_differ();
 }
 
-/// Marks change nothing of what waits, and a promotion leaves a cycle that sweeps as it is, since names are placed in no
-/// segment that waits.
+/// Proves that marks and promotions change no waiting segment. So a sweeping cycle goes on, and marks stay settled.
 pub fn a_closed_cycle_sweeps()
     ensures marked { MarkedWait }
     ensures placed { PlacedWait }
@@ -90,9 +89,8 @@ pub fn a_closed_cycle_sweeps()
     ensures settled { SettledStays }
 {}
 
-/// A sweep beside a round, or at a stop, frees no name of which anybody may speak. So the freed places go, and words and
-/// swept segments stand for what is left, with no fewer segments free; of what a round leaves for its promotion nothing
-/// changes.
+/// Proves that a sweep beside a round, or at a stop, frees no tracked name. So the freed places can go: words and swept
+/// segments represent the rest, with no fewer segments free. The results of a round for its promotion stay.
 pub fn freed_places_go()
     ensures round { RoundFreesUntracked }
     ensures stop { StopFreesUntracked }
@@ -102,29 +100,29 @@ pub fn freed_places_go()
     ensures remembered { DropKeepsRound }
 {}
 
-/// A closing comes within its bounds: as soon as the rounds could have marked all that is kept, and, where no command
-/// owed anything, not before they could have marked all that the snapshot's roots reach.
+/// Proves that a cycle closes neither too late nor too early. It isn't too late: the cycle closes once its rounds could have
+/// marked all kept objects. It isn't too early: if no command owed anything, the cycle closes no sooner than its rounds could
+/// have marked all that the snapshot's roots reach.
 pub fn a_closing_is_in_bounds()
     ensures soon { ClosingIsSoon }
     ensures comes { ClosingComes }
     ensures paced { ClosingIsPaced }
 {}
 
-/// What a collector keeps of a marking cycle is kept over a promotion.
+/// Proves that a promotion keeps all that a collector keeps of a marking cycle.
 pub fn marking_goes_on()
     ensures { PromotionKeepsMarking }
 {}
 
-/// The pace of marking: nothing was scanned as the cycle begins; a round adds what the marker's work tells, and a stop
-/// nothing.
+/// Proves the pace of marking: when a cycle begins nothing was scanned; a round adds its reported work, and a stop nothing.
 pub fn the_pace_is_kept()
     ensures begins { PaceBegins }
     ensures round { PaceAfterRound }
     ensures stop { PaceAtStop }
 {}
 
-/// At a stop while a cycle marks, the heap is at rest beside it, and the marker may finish there. What a round leaves of
-/// the heap of a stop stands for the state after it, and whatever blocks were marked, the heap stays what it was.
+/// Proves that at a stop the heap is at rest beside a marking cycle, so the marker may finish. After a round from this heap,
+/// the heap represents the state after the round. Whichever blocks were marked, the heap stays the same.
 pub fn the_heap_goes_on()
     ensures rests { HeapRests }
     ensures round { RoundHolds }

@@ -1,12 +1,12 @@
-//! A whole run, so that the definitions are seen not to be so strong that nothing meets them.
+//! A whole run, which shows that the definitions can be met.
 //!
-//! The function's contract is the law. Its body does nothing but call the law that its proof rests on.
+//! The function's contract is the law. Its body only calls the law that its proof depends on.
 ghost use Rattle.nmgc_collector_laws.specs.Samples.{ObjectIsLawful};
 
 use nmgc_alloc::laws;
 
-/// A script that makes one object has a run of one round, whose stop promotes it. The whole report of that run is
-/// lawful, with the words and the segments that it ends with.
+/// Proves that a script that makes one object has a run of one round, whose stop promotes the object. The whole report of
+/// that run is lawful, with the words and the segments at its end.
 pub fn one_object_in_words()
     ensures { ObjectIsLawful }
 {

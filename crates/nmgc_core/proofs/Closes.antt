@@ -1,7 +1,7 @@
--- The machine's own closing: what it found is what a closing does, and leaves a core.
+-- The machine's closing: its result is a closing by the definition, and leaves a core.
 use Rattle.nmgc_core.proofs.Vocabulary.{◌≡◌, ◌<◌, List, [], ◌∷◌, length, get_or, refl, sym, length-set, ◌∙◌, arith, Option, Some, None, Bool, true, false, cond, inl, inr, All, Contains, IsSome, ◌==◌, ◌↔◌, eqb_tells, Contains-get_or, Name, SHARED_MAKER, Node, Con, Var, Arr, Thunk, Weak, Stack, World, state_of, node_of, IsWorld, with_state, with_node, with_nth, HasPlace, HasPlaces, IsMarked, mark_of, IsAliveWeak, Lists, queued, closed, closed_by, marked_place, is_some_get, Closing, State, is_listed, IsDying, IsMarkedLast, IsClosing, IsCore, IsFound, contains_listed, listed_from, same_test}
 
--- closing leaves the number of mutators
+-- closing keeps the number of mutators
 node_mutators : (w : World) (name : Name) (made : Node) → length (with_node w name made).mutators ≡ length w.mutators
 node_mutators w name made = by_test (name.maker == SHARED_MAKER)
   where
@@ -28,7 +28,7 @@ closed_mutators : (w : World) (dead : List Name) → length (closed w dead).muta
 closed_mutators w [] = refl
 closed_mutators w (weak ∷ dead) = closed_mutators (closed_by w weak (node_of w weak)) dead ∙ one_mutators w weak (node_of w weak)
 
--- a name that has a place is in the map
+-- a name with a position in the marks is in the map
 placed_there : (w : World) (marks : List (List Bool)) (name : Name) → HasPlaces w marks → HasPlace marks name → IsSome (node_of w name)
 placed_there w marks name h place = elim (eqb_tells name.maker SHARED_MAKER) [
   | inl p ↦
@@ -38,7 +38,7 @@ placed_there w marks name h place = elim (eqb_tells name.maker SHARED_MAKER) [
   | inr p ↦ rw p.0 (is_some_get (state_of w name.maker).nodes name.serial (rw p.0 at (rw (h.counts name.maker) at place)))
 ]
 
--- every marked name is one of the snapshot
+-- every marked name is a name of the snapshot
 pub marked_there : (marks : List (List Bool)) (s : State) → IsCore marks s → (name : Name) → Contains s.marked name → IsSome (node_of s.snapshot name)
 marked_there marks s c name h = placed_there s.snapshot marks name c.places (marked_place marks name (c.same name ∙ listed_from name s.marked h))
 
@@ -48,7 +48,7 @@ pub dying_alive : (marks : List (List Bool)) (s : State) (dead : List Name) → 
 dying_alive marks s dead c running l = λ k d lt. let dies = l.sound (get_or dead k d) (Contains-get_or dead k d lt) in
     (dies.parts, c.alive running (get_or dead k d) dies.parts dies.waiting.alive dies.waiting.not_finalised)
 
--- the names that are marked in the end, as a set and as a list
+-- the names marked at the end, as a set and as a list
 last_listed : (s : State) (found : Closing) (marked : List Name) → IsFound s found → Lists (IsMarked found.marks) marked → (name : Name) →
     Contains marked name ↔ IsMarkedLast s name
 last_listed s found marked f l name = (λ c. (f.marked name).0 (l.sound name c), λ m. l.complete name ((f.marked name).1 m))

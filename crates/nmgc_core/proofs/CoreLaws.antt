@@ -1,4 +1,4 @@
--- The set of a core, and the queues of its mutators, as they change.
+-- The set of marks of a core, and the queues of its mutators, as they change.
 use Rattle.nmgc_core.proofs.Vocabulary.{◌≡◌, ◌<◌, ◌+◌, ℕ, zero, suc, List, [], ◌∷◌, ◌++◌, length, get_or, set, take, inl, inr, refl, sym, ap, subst, length-set, ◌∙◌, arith, Option, Some, None, Result, Ok, Err, Bool, true, false, not, All, Contains, slice_get, is_some, ◌&&◌, ◌||◌, IfOk, IfSome, IfNone, take_more, get_or-set_same, set-get_or, take-append-le, take_all, Name, World, node_of, state_of, IsWorld, is_same_name, Lists, IsAlive, Command, Reply, CanApply, step, Parts, finalised_by, step_grows, not_shared, Contains-append_left, Names, step_alive, Entry, NoMemory, Value, State, is_listed, is_new, names_of, mark_name, mark_value, mark_values, mark_read, entry_of, mark_cases, HasPlace, HasPlaces, IsMarked, mark_of, with_mark, added, kept_others, places_kept, makers_kept, name_placed, name_cases, IsCore, contains_listed, listed_from, tested_same, is_same_name-refl}
 use Rattle.nmgc_world_spec.specs.declared.value.Value.TheVariants as value
 
@@ -34,7 +34,7 @@ not_empty : (xs : List Name) (x : Name) → xs ++ x ∷ [] ≡ [] → ⊥
 not_empty [] x e = absurd cc
 not_empty (y ∷ xs) x e = absurd cc
 
--- lists that are the same with one more item each are the same
+-- two lists are the same if they are the same with one more item each
 snoc_front : (xs ys : List Name) (x y : Name) → xs ++ x ∷ [] ≡ ys ++ y ∷ [] → xs ≡ ys
 snoc_front [] [] x y e = refl
 snoc_front [] (z ∷ ys) x y e = let t : [] ≡ ys ++ y ∷ [] = cc in absurd (not_empty ys y (sym t))
@@ -44,7 +44,7 @@ snoc_front (z ∷ xs) (w ∷ ys) x y e =
     let h : z ≡ w = cc in
     rw (h, snoc_front xs ys x y t) refl
 
--- a set and a list that have the same names still do after both got one more
+-- a set and a list with the same names still have the same names after one more name for both
 pub set_more : (marks : List (List Bool)) (name : Name) (names : List Name) → HasPlace marks name →
     ((n : Name) → mark_of marks n ≡ is_listed n names) → (n : Name) → mark_of (with_mark marks name) n ≡ is_listed n (names ++ name ∷ [])
 set_more marks name names place same n = elim (name_cases n name) [
@@ -52,7 +52,7 @@ set_more marks name names place same n = elim (name_cases n name) [
   | inr ne ↦ kept_others marks name place n ne ∙ same n ∙ sym (listed_other n name names ne)
 ]
 
--- and the set has the same places
+-- and the set has the same positions
 pub places_more : (w : World) (marks : List (List Bool)) (name : Name) → HasPlace marks name → HasPlaces w marks → HasPlaces w (with_mark marks name)
 places_more w marks name place p = record {
   makers = makers_kept marks name place ∙ p.makers;
@@ -60,7 +60,7 @@ places_more w marks name place p = record {
       p.counts maker;
 }
 
--- a new name has a place
+-- a new name has a position
 pub new_placed : (marks : List (List Bool)) (s : State) (name : Name) → IsCore marks s → is_new s name ≡ true → HasPlace marks name
 new_placed marks s name c new = name_placed s.snapshot marks c.places name (there (is_some (node_of s.snapshot name)) new)
   where
@@ -68,7 +68,7 @@ new_placed marks s name c new = name_placed s.snapshot marks c.places name (ther
     there true h = refl
     there false h = absurd cc
 
--- what came on last comes off
+-- the item that was pushed last is popped
 pub taken_off : (r : Option Name) (xs ys zs : List Name) (x : Name) → zs ≡ xs ++ x ∷ [] → IfSome r (λ (y : Name). zs ≡ ys ++ y ∷ []) →
     IfNone r ((zs ≡ []) × (ys ≡ [])) → ys ≡ xs
 taken_off (Some y) xs ys zs x e last none = snoc_front ys xs y x (sym last ∙ e)
@@ -129,7 +129,7 @@ read_first s (Some value.Nil) entry h = h
 read_first s (Some (value.Number n)) entry h = h
 read_first s (Some (value.Ref name)) entry h = mark_first s name entry h
 
--- and what was pushed
+-- and the pushed names
 pub mark_pushed : (s : State) (name : Name) → (mark_name s name).pushed ≡ s.pushed
 mark_pushed s name = mark_cases (λ t. t.pushed ≡ s.pushed) s name (λ e. refl) (λ e. refl)
 
@@ -138,7 +138,7 @@ pub names_listed : (r : Result (List Name) NoMemory) (marks : List (List Bool)) 
 names_listed (Ok names) marks s c l = set_marked marks s names c l
 names_listed (Err e) marks s c l = tt
 
--- a command that wanted memory leaves everything as it was
+-- a command that needed more memory than there was leaves everything as it was
 pub command_undone : (s : State) (world : World) (lists lists' : List (List Name)) (m : ℕ) (names : List Name) (count : ℕ) → m < length s.owed →
     world ≡ s.world → lists ≡ set s.owed m (names_of s.owed m ++ names) → count ≡ length (names_of s.owed m) →
     lists' ≡ set lists m (take count (names_of lists m)) → record s { world = world; owed = lists' } ≡ s
@@ -149,7 +149,7 @@ command_undone s world lists lists' m names count lt e f g h = let back : lists'
 pub front_taken : (old new last : List Name) (xs : List Name) (count : ℕ) → new ≡ old ++ xs → count ≡ length old → last ≡ take count new → last ≡ old
 front_taken old new last xs count e f g = rw (g, e, f) (take-append-le (length old) old xs (omega arith) ∙ take_all (length old) old (omega arith))
 
--- a core with more that is finalised
+-- a core with more finalised weak pointers
 pub core_ended : (marks : List (List Bool)) (s : State) (ends : List Name) (now : List Name) → IsCore marks s → now ≡ s.finalised ++ ends →
     IsCore marks (record s { finalised = now })
 core_ended marks s ends now c e = rw e (record {
@@ -162,7 +162,7 @@ core_ended marks s ends now c e = rw e (record {
   world = c.world;
 })
 
--- and with what was finalised before
+-- and with the weak pointers that were finalised before
 pub core_back : (marks marks' : List (List Bool)) (s t : State) (now back : List Name) → IsCore marks s → IsCore marks' t →
     t ≡ record s { finalised = now } → back ≡ s.finalised → IsCore marks' (record t { finalised = back })
 core_back marks marks' s t now back k k' e f =
@@ -177,7 +177,7 @@ core_back marks marks' s t now back k k' e f =
       world = c.world;
     })) k'
 
--- a core whose world took a command, where what the command finalised is among what is finalised
+-- a core after a command of its world, if the finalised names contain the names that the command finalised
 pub core_given : (marks : List (List Bool)) (s : State) (m : ℕ) (c : Command) (r : Reply) (world : World) (lists : List (List Name))
     (names : List Name) → IsCore marks s → CanApply s.world m c → step s.world m c ≡ (world, r) → IsWorld world →
     ((weak : Name) → Contains (finalised_by s.world m c) weak → Contains s.finalised weak) → lists ≡ set s.owed m (names_of s.owed m ++ names) →

@@ -1,4 +1,4 @@
--- What marking names changes in the search of the closing, and what it keeps.
+-- Marking names in the search of the closing: what changes, and what stays.
 use Rattle.nmgc_core.proofs.Vocabulary.{◌≡◌, ◌<◌, ◌+◌, ℕ, Bool, Result, Ok, Err, get_or, take, List, [], ◌∷◌, ◌++◌, length, sym, subst, ◌∙◌, arith, length-append, false, true, inl, inr, Contains, IsSome, OnOk, Contains-append_left, Contains-append_right, Contains-append_cases, Contains-push, Contains-push_cases, take_more, NoMemory, Name, Value, World, node_of, IsMarked, HasPlace, HasPlaces, mark_of, with_mark, unmarked_count, added, kept_others, places_kept, makers_kept, one_fewer, name_placed, name_cases, Finding, Adds, contains_one, one_is}
 use Rattle.nmgc_world_spec.specs.declared.value.Value.TheVariants as value
 
@@ -66,7 +66,7 @@ name_added snapshot s t name places there new marks work =
       });
     }
 
--- and where it could join the worklist
+-- and if it could join the worklist
 pub name_pushed : (snapshot : World) (s : Finding) (marks : List (List Bool)) (work : List Name) (name : Name) (r : Result (Unit {0}) NoMemory) →
     HasPlaces snapshot s.marks → IsSome (node_of snapshot name) → mark_of s.marks name ≡ false → marks ≡ with_mark s.marks name →
     OnOk r (work ≡ s.work ++ name ∷ []) → OnOk r (Adds snapshot s (record { marks = marks; work = work }) (value.Ref name ∷ []))

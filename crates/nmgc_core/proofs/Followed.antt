@@ -1,11 +1,11 @@
--- Following fields in the closing: what each step keeps.
+-- Following fields in the closing: the effect of each step.
 use Rattle.nmgc_core.proofs.Vocabulary.{◌≡◌, List, [], ◌∷◌, ◌++◌, sym, subst, ◌∙◌, arith, Some, None, true, inl, inr, ◌⊎◌, Contains, IsSome, cases_Bool, Contains-append_left, Contains-push, Contains-push_cases, Name, Node, node_of, IsMarked, mark_of, RefersTo, strong_fields, Finding, State, Adds, IsSearch, IsReached, IsFollowed}
 use Rattle.nmgc_world_spec.specs.declared.value.Value.TheVariants as value
 
 pub follow_none : (s : State) (f : Finding) → IsSearch s f → IsFollowed s f f
 follow_none s f h = record { search = h; kept = λ n m. m; sound = λ n m. IsReached.start n m; fewer = omega arith }
 
--- one name comes off the worklist
+-- one name is taken from the worklist
 module _ (s : State) (old f : Finding) (rest : List Name) (name : Name) (off : f.work ≡ rest ++ name ∷ []) (h : IsFollowed s old f) where
   in_rest : (n : Name) → Contains rest n → IsMarked f.marks n × (Contains s.marked n → ⊥)
   in_rest n c = h.search.waiting n (rw off (Contains-append_left rest (name ∷ []) n c))
@@ -20,7 +20,7 @@ module _ (s : State) (old f : Finding) (rest : List Name) (name : Name) (off : f
     | inr t ↦ inr (inr t)
   ]
 
-  -- it isn't in the map, so it refers to nothing
+  -- the name isn't in the map, so it refers to nothing
   pub follow_nothing : node_of s.world name ≡ None → IsFollowed s old (record { marks = f.marks; work = rest })
   follow_nothing none = record {
     search = record {
@@ -38,7 +38,7 @@ module _ (s : State) (old f : Finding) (rest : List Name) (name : Name) (off : f
     fewer = h.fewer;
   }
 
-  -- what its strong fields refer to is marked
+  -- the targets of its strong fields are marked
   module _ (node : Node) (is : node_of s.world name ≡ Some node) (t : Finding) (a : Adds s.snapshot (record {
     marks = f.marks;
     work = rest;

@@ -1,4 +1,4 @@
--- Marking the finalisers of what dies, and what they lead to: exactly what is marked last is marked.
+-- Marking the finalisers of the dying weak pointers, and all that is reachable from them: exactly to `IsMarkedLast`.
 use Rattle.nmgc_core.proofs.Vocabulary.{◌≡◌, ◌<◌, ◌+◌, ℕ, List, [], ◌∷◌, ◌++◌, length, get_or, take, sym, ap, subst, ◌∙◌, inl, inr, Option, Result, Ok, Err, Contains, OnOk, cases_Bool, flat_map-append, take_more, append-nil, NoMemory, Name, Value, Parts, World, IsMarked, mark_of, Lists, parts_of, finaliser_in, finalisers_of, Finding, State, IsRevived, IsRescued, IsDying, IsMarkedLast, Adds, IsSearch, IsReached, IsFollowed, IsFirstFound, IsLastFound, nothing_in, one_is, contains_one, contains_flat, flat_contains, parts_from_alive}
 use Rattle.nmgc_world_spec.specs.declared.value.Value.TheVariants as value
 use Rattle.nmgc_core.proofs.{Findings.then_adds, Reviving.adds_search, Reviving.was_unmarked}
@@ -77,7 +77,7 @@ module _ (s : State) (f : Finding) (h : IsFirstFound s f) (dead : List Name) (l 
     last_found : IsLastFound s t
     last_found = record { places = k.search.places; sound = λ n m. reached_last n (k.sound n m); complete = last_marked }
 
-  -- the same where following may have wanted memory
+  -- the same, if following may run out of memory
   pub last_answer : (t : Finding) (r : Result (Unit {0}) NoMemory) → OnOk r (IsFollowed s g t) → OnOk r (t.work ≡ []) → OnOk r (IsLastFound s t)
   last_answer t (Ok u) k empty = last_found t k empty
   last_answer t (Err e) k empty = tt

@@ -1,8 +1,8 @@
--- Passing over the weak pointers in the closing, until exactly what is marked first is marked.
+-- Passing over the weak pointers in the closing, until exactly the names of `IsMarkedFirst` are marked.
 use Rattle.nmgc_core.proofs.Vocabulary.{◌≡◌, ◌<◌, ◌+◌, ℕ, List, [], ◌∷◌, ◌++◌, length, get_or, take, refl, sym, ap, subst, ◌∙◌, arith, Bool, true, false, eqb, inl, inr, ◌⊎◌, Option, Some, All, Contains, IsSome, cases_Bool, false≢true, eqb-true, eq-eqb, take_more, Contains-push_cases, Contains-get_or, Name, Value, Parts, World, node_of, IsMarked, mark_of, IsAlive, IsKeptBy, IsPlain, Lists, IsSetOf, parts_of, is_key_marked, contains_head, contains_tail, contains_cases, nothing_in, Finding, State, IsWaiting, IsUnmarked, IsRevived, IsMarkedFirst, Adds, IsSearch, IsReached, IsFollowed, IsWaitingWeak, values_kept, IsReviving, AreRevived, IsPass, IsFirstFound, parts_from_alive, same_ref}
 use Rattle.nmgc_world_spec.specs.declared.value.Value.TheVariants as value
 
--- marking keeps a search as it has to be
+-- marking keeps the invariant of the search
 pub adds_search : (s : State) (f t : Finding) (values : List Value) → Adds s.snapshot f t values → IsSearch s f → IsSearch s t
 adds_search s f t values a h = record {
   places = a.places;
@@ -20,11 +20,11 @@ adds_search s f t values a h = record {
   ];
 }
 
--- a name that is marked now and wasn't before was not marked before the closing
+-- a name of the snapshot that the search hasn't marked was not marked before the closing
 pub was_unmarked : (s : State) (f : Finding) (n : Name) → IsSearch s f → mark_of f.marks n ≡ false → IsSome (node_of s.snapshot n) → IsUnmarked s n
 was_unmarked s f n h e there = record { there = there; unmarked = λ c. false≢true (sym e ∙ h.begun n c) }
 
--- the search that begins with what is marked
+-- the search that begins with the marked names
 pub begins : (s : State) (f : Finding) → ((n : Name) → Contains s.marked n → IsSome (node_of s.snapshot n)) → IsSetOf s.snapshot s.marked f.marks →
     f.work ≡ [] → IsReviving s f
 begins s f there set empty = record {
@@ -37,7 +37,7 @@ begins s f there set empty = record {
   sound = λ n m. inl (set.sound n m);
 }
 
--- what a weak pointer keeps is among the values that it marks
+-- a target that a weak pointer keeps is among the values that it marks
 weak_hits : (weak target : Name) (parts : Parts) → IsKeptBy weak parts target →
     Contains (value.Ref weak ∷ parts.value ∷ parts.finaliser ∷ []) (value.Ref target)
 weak_hits weak target parts (inl e) = rw e (contains_head (value.Ref weak) (parts.value ∷ parts.finaliser ∷ []))
@@ -72,7 +72,7 @@ hits_kept marks weak target parts c = elim (cases_Bool (is_key_marked marks part
   | inr hidden ↦ absurd (nothing_in (value.Ref target) (rw hidden at c))
 ]
 
--- a key that is marked in the end was marked at the start, or waits
+-- a key that is marked at the end was marked at the start, or waits
 key_cases : (snapshot : World) (f t : Finding) (values : List Value) → Adds snapshot f t values → (key : Value) → is_key_marked t.marks key ≡ true →
     (is_key_marked f.marks key ≡ true) ⊎ ((name : Name) × (key ≡ value.Ref name) × Contains t.work name)
 key_cases snapshot f t values a value.Nil shown = inl refl
@@ -82,7 +82,7 @@ key_cases snapshot f t values a (value.Ref name) shown = elim (a.fresh name show
   | inr new ↦ inr (name, refl, new.2)
 ]
 
--- a key that is marked revives what its weak pointer keeps
+-- a marked key revives the targets that its weak pointer keeps
 key_revives : (s : State) (f : Finding) → IsReviving s f → (weak target : Name) (parts : Parts) → IsWaiting s weak parts → (key : Value) →
     parts.key ≡ key → is_key_marked f.marks key ≡ true → IsKeptBy weak parts target → IsUnmarked s target → IsRevived s target
 key_revives s f h weak target parts w value.Nil is shown kept u = IsRevived.plain_key weak target parts w (rw is tt) kept u
@@ -147,11 +147,11 @@ pub pass_step : (s : State) (old f t : Finding) (weaks : List Name) (i : ℕ) (d
     IsPass s (take (i + 1) weaks) old t
 pass_step s old f t weaks i d lt waiting p a = rw (take_more weaks i d lt) (pass_more s (take i weaks) old f t (get_or weaks i d) p (waiting i d lt) a)
 
--- all that are listed wait
+-- all listed weak pointers wait
 pub listed_wait : (s : State) (weaks : List Name) → Lists (IsWaitingWeak s) weaks → All (IsWaitingWeak s) weaks
 listed_wait s weaks l = λ k d lt. l.sound (get_or weaks k d) (Contains-get_or weaks k d lt)
 
--- following fields keeps what is marked first
+-- following fields marks only names of `IsMarkedFirst`
 module _ (s : State) (f t : Finding) (h : IsReviving s f) (k : IsFollowed s f t) where
   reached_first : (n : Name) → IsReached s (IsMarked f.marks) n → IsMarkedFirst s n
   reached_first n (IsReached.start _ m) = h.sound n m
@@ -163,7 +163,7 @@ module _ (s : State) (f t : Finding) (h : IsReviving s f) (k : IsFollowed s f t)
   pub first_followed : IsReviving s t
   first_followed = record { search = k.search; sound = λ n m. reached_first n (k.sound n m) }
 
--- where nothing waits and a pass has been made, all that is marked first is marked
+-- if nothing waits after a pass, all names of `IsMarkedFirst` are marked
 module _ (s : State) (weaks : List Name) (l : Lists (IsWaitingWeak s) weaks) (f : Finding) (h : IsReviving s f) (r : AreRevived s weaks f)
     (empty : f.work ≡ []) where
   none_waits : (n : Name) → Contains f.work n → ⊥
@@ -203,7 +203,7 @@ module _ (s : State) (weaks : List Name) (l : Lists (IsWaitingWeak s) weaks) (f 
   pub first_found : IsFirstFound s f
   first_found = record { search = h.search; empty = empty; sound = h.sound; complete = first_marked }
 
--- the worklist is empty, or isn't
+-- the worklist is empty or not
 pub empty_list : {A : Type 0} (xs ys : List A) → ys ≡ xs → true ≡ eqb (length ys) 0 → xs ≡ []
 empty_list [] ys e t = refl
 empty_list (x ∷ xs) ys e t = absurd (let none = eqb-true (length ys) 0 (sym t) in let same = ap length e in omega arith)

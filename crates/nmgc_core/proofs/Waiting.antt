@@ -1,8 +1,8 @@
--- The weak pointers that wait for their keys: listing them, and those of them that die.
+-- The weak pointers that wait for their keys: listing them, and listing the dying weak pointers among them.
 use Rattle.nmgc_core.proofs.Vocabulary.{◌≡◌, List, refl, sym, ◌∙◌, Bool, true, false, not, filter, false≢true, not-true, not_from_false, false_from_ne_true, Name, Value, mark_of, IsAliveWeak, Lists, IsSetOf, parts_of, is_key_marked, contains_filter, filter_contains, in_order_filter, Finding, State, IsDying, IsWaitingWeak, IsFirstFound, is_hidden, parts_from_alive}
 use Rattle.nmgc_world_spec.specs.declared.value.Value.TheVariants as value
 
--- the alive weak pointers that aren't in the set of the finalised ones are those that wait
+-- the alive weak pointers that aren't in the set of finalised names are the waiting weak pointers
 module _ (s : State) (ended : List (List Bool)) (set : IsSetOf s.snapshot s.finalised ended) where
   test_waits : (weak : Name) → IsAliveWeak s.snapshot weak → not (mark_of ended weak) ≡ true → IsWaitingWeak s weak
   test_waits weak a t = (
@@ -24,13 +24,13 @@ module _ (s : State) (ended : List (List Bool)) (set : IsSetOf s.snapshot s.fina
     complete = λ weak w. contains_filter (λ weak. not (mark_of ended weak)) alive weak (l.complete weak (w.0, w.1.alive)) (waits_test weak w);
   }
 
--- a key that isn't marked is a reference to a name that isn't marked
+-- an unmarked key is a reference to an unmarked name
 hidden_key : (marks : List (List Bool)) (v : Value) → not (is_key_marked marks v) ≡ true → (key : Name) × (v ≡ value.Ref key) × (mark_of marks key ≡ false)
 hidden_key marks value.Nil e = absurd (false≢true e)
 hidden_key marks (value.Number n) e = absurd (false≢true e)
 hidden_key marks (value.Ref key) e = (key, refl, not-true (mark_of marks key) e)
 
--- the waiting weak pointers whose keys aren't marked are those that die
+-- the waiting weak pointers with unmarked keys are the dying weak pointers
 module _ (s : State) (f : Finding) (h : IsFirstFound s f) where
   hidden_dies : (weak : Name) → IsWaitingWeak s weak → is_hidden f.marks (parts_of s.snapshot weak) ≡ true → IsDying s weak
   hidden_dies weak w t =

@@ -1,13 +1,12 @@
-//! How marking ends: by the weak pointers of the snapshot.
+//! The end of marking: the weak pointers of the snapshot.
 //!
-//! A weak pointer whose key is marked marks itself, its value and its finaliser. These may lead to the key of
-//! another one, also of one before it, so the closing passes over the weak pointers until a pass marks nothing
-//! new. The weak pointers whose keys are unmarked by then die. Their finalisers are still to be run, so these
-//! are marked last, with all that they lead to.
+//! A weak pointer whose key is marked marks itself, its value and its finaliser. From these the key of another weak pointer
+//! may be reachable, even of an earlier one in the list. So the closing passes over the weak pointers until a pass marks
+//! nothing new. The weak pointers whose keys are still unmarked then die. Their finalisers are still to be run, so they are
+//! marked last, with all that is reachable from them. Fields are followed in the world as it is.
 //!
-//! Fields are followed in the world as it is. Easy to get wrong: only names of the snapshot are marked, a
-//! finaliser may lead to the key of a weak pointer that dies, which dies all the same, and a weak pointer that
-//! a mutator finalised neither keeps anything nor dies again.
+//! Easy to get wrong: only names of the snapshot are marked. A weak pointer dies even if its key is reachable from a
+//! finaliser of a dying weak pointer. A finalised weak pointer keeps nothing and doesn't die again.
 ghost use Rattle.std.specs.Prelude.{◌≡◌, IfOk, OnOk, ◌∷◌, [], All};
 ghost use Rattle.nmgc_graph.specs.{Marks.HasPlaces, Search.parts_of, Search.is_key_marked, Search.finaliser_in, Search.finalisers_of};
 ghost use Rattle.nmgc_world_spec.specs.Reach.{Lists, strong_fields};
@@ -20,21 +19,21 @@ use nmgc_graph::{Marks, World};
 use nmgc_lists::{List, NoMemory};
 use nmgc_world_spec::{Name, Node, Value};
 
-/// The names that are marked, and those of them whose fields are still to be followed.
+/// The marked names, and among them the names whose fields still have to be followed.
 #[derive(Drop)]
 struct Finding {
     marks: Marks,
     work: List<Name>,
 }
 
-/// What a closing marks, and the weak pointers that die.
+/// The marks after a closing, and the weak pointers that die.
 #[derive(Drop)]
 pub(crate) struct Closing {
     pub(crate) marks: Marks,
     pub(crate) dead: List<Name>,
 }
 
-/// Finds what is marked in the end, and what dies.
+/// Returns the final marks of a closing, and the weak pointers that die.
 pub(crate) fn find(core: &Core) -> Result<Closing, NoMemory>
     ensures { IfOk result (IsFound core.now) }
 {
@@ -49,7 +48,7 @@ pub(crate) fn find(core: &Core) -> Result<Closing, NoMemory>
     })
 }
 
-// The search that begins with what is marked before the closing.
+// Returns the search at its beginning: it has the names that were marked before the closing.
 fn begin(core: &Core) -> Result<Finding, NoMemory>
     ensures { IfOk result (IsReviving core.now) }
 {
@@ -58,7 +57,7 @@ fn begin(core: &Core) -> Result<Finding, NoMemory>
     Ok(Finding { marks, work })
 }
 
-// The weak pointers of the snapshot that were alive there and were not finalised since, in order.
+// Returns the weak pointers that were alive in the snapshot and have not been finalised since, in order.
 fn waiting(core: &Core) -> Result<List<Name>, NoMemory>
     ensures { IfOk result (Lists (IsWaitingWeak core.now)) }
 {
@@ -75,7 +74,7 @@ fn waiting(core: &Core) -> Result<List<Name>, NoMemory>
 }
 
 impl Finding {
-    // Marks a name of the snapshot, whose fields are then still to be followed, unless it was marked before.
+    // Marks a name and puts it on the worklist, if it is an unmarked name of the snapshot.
     fn mark(&mut self, snapshot: &World, name: Name) -> Result<(), NoMemory>
         requires { HasPlaces snapshot.now self.old.marks }
         ensures { OnOk result (Adds snapshot.now self.old self.new (Value.Ref name ∷ [])) }
@@ -87,7 +86,7 @@ impl Finding {
         self.work.push(name)
     }
 
-    // The same for what a value refers to.
+    // Marks the name that a value refers to, and puts it on the worklist, if it is an unmarked name of the snapshot.
     fn mark_value(&mut self, snapshot: &World, value: Value) -> Result<(), NoMemory>
         requires { HasPlaces snapshot.now self.old.marks }
         ensures { OnOk result (Adds snapshot.now self.old self.new (value ∷ [])) }
@@ -98,7 +97,7 @@ impl Finding {
         }
     }
 
-    // The same for what values refer to.
+    // Marks the unmarked names of the snapshot to which values refer, and puts them on the worklist.
     fn mark_values(&mut self, snapshot: &World, values: &[Value]) -> Result<(), NoMemory>
         requires { HasPlaces snapshot.now self.old.marks }
         ensures { OnOk result (Adds snapshot.now self.old self.new values.now) }
@@ -109,7 +108,7 @@ impl Finding {
         Ok(())
     }
 
-    // The same for what a node's strong fields refer to.
+    // Marks the unmarked names of the snapshot to which a node's strong fields refer, and puts them on the worklist.
     fn mark_fields(&mut self, snapshot: &World, node: &Node) -> Result<(), NoMemory>
         requires { HasPlaces snapshot.now self.old.marks }
         ensures { OnOk result (Adds snapshot.now self.old self.new (strong_fields node.now)) }
@@ -128,7 +127,7 @@ impl Finding {
         }
     }
 
-    // Follows the fields that are still to be followed, until none is.
+    // Takes names off the worklist and marks what their fields refer to, until the worklist is empty.
     fn follow(&mut self, core: &Core) -> Result<(), NoMemory>
         requires { IsSearch core.now self.old }
         ensures followed { OnOk result (IsFollowed core.now self.old self.new) }
@@ -154,7 +153,7 @@ impl Finding {
         }
     }
 
-    // A weak pointer marks itself, its value and its finaliser, where its key is marked.
+    // If the key of a weak pointer is marked, marks the weak pointer, its value and its finaliser.
     fn mark_weak(&mut self, snapshot: &World, weak: Name) -> Result<(), NoMemory>
         requires { HasPlaces snapshot.now self.old.marks }
         ensures { OnOk result (Adds snapshot.now self.old self.new (values_kept self.old.marks weak (parts_of snapshot.now weak))) }
@@ -168,7 +167,7 @@ impl Finding {
         }
     }
 
-    // Each of the weak pointers does that, one after the other.
+    // For each of the weak pointers in turn: if its key is marked, marks it, its value and its finaliser.
     fn mark_weaks(&mut self, core: &Core, weaks: &[Name]) -> Result<(), NoMemory>
         requires reviving { IsReviving core.now self.old }
         requires waiting { All (IsWaitingWeak core.now) weaks.now }
@@ -180,7 +179,7 @@ impl Finding {
         Ok(())
     }
 
-    // Passes over the weak pointers until a pass marks nothing new.
+    // Marks what weak pointers with marked keys keep: passes over them, and follows fields, until a pass marks nothing new.
     fn revive(&mut self, core: &Core, weaks: &[Name]) -> Result<(), NoMemory>
         requires reviving { IsReviving core.now self.old }
         requires waiting { Lists (IsWaitingWeak core.now) weaks.now }
@@ -194,7 +193,7 @@ impl Finding {
         Ok(())
     }
 
-    // The weak pointers whose key isn't marked, in order.
+    // Returns the weak pointers whose keys aren't marked, in order.
     fn lost(&self, core: &Core, weaks: &[Name]) -> Result<List<Name>, NoMemory>
         requires found { IsFirstFound core.now self.now }
         requires waiting { Lists (IsWaitingWeak core.now) weaks.now }
@@ -220,7 +219,7 @@ impl Finding {
         }
     }
 
-    // Marks the finalisers of the weak pointers that die, and what these lead to.
+    // Marks the finalisers of the dying weak pointers, and all that is reachable from them.
     fn rescue(&mut self, core: &Core, dead: &[Name]) -> Result<(), NoMemory>
         requires found { IsFirstFound core.now self.old }
         requires dying { Lists (IsDying core.now) dead.now }
@@ -230,7 +229,7 @@ impl Finding {
         self.follow(core)
     }
 
-    // Marks the finalisers of weak pointers.
+    // Marks the finalisers of those weak pointers that are alive in the snapshot.
     fn mark_finalisers(&mut self, snapshot: &World, weaks: &[Name]) -> Result<(), NoMemory>
         requires { HasPlaces snapshot.now self.old.marks }
         ensures { OnOk result (Adds snapshot.now self.old self.new (finalisers_of snapshot.now weaks.now)) }
@@ -241,7 +240,7 @@ impl Finding {
         Ok(())
     }
 
-    // Marks the finaliser of a weak pointer, where it is alive.
+    // Marks the finaliser of a weak pointer, if it is alive in the snapshot.
     fn mark_finaliser(&mut self, snapshot: &World, weak: Name) -> Result<(), NoMemory>
         requires { HasPlaces snapshot.now self.old.marks }
         ensures { OnOk result (Adds snapshot.now self.old self.new (finaliser_in (parts_of snapshot.now weak))) }

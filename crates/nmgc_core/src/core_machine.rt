@@ -1,33 +1,30 @@
-//! The machine, and why marking from a snapshot is exact.
+//! The marking machine, and why marking from a snapshot is exact.
 //!
-//! The collector reads each object once, a position at a time, and never comes back. A mutator could move
-//! the last reference to an object from a field that the collector is still to read into one that it has
-//! passed. The deletion barrier prevents that: whoever takes a reference out of a field owes it, and the
-//! closing waits until all that is owed is pushed, taken, marked and scanned.
+//! The collector reads each object once, a position at a time, and never comes back. A mutator could move the last reference
+//! to an object from a field that the collector has not read yet into a field that it has passed. The deletion barrier
+//! prevents that: a command that takes a reference out of a field owes it. The closing waits until all owed names are pushed,
+//! taken, marked and scanned. See `Note [Why the deletion barrier is enough]` in `nmgc_mutator/src/barrier.rt`.
 //!
-//! These facts are kept together by every event:
+//! Every event keeps all of the following facts together:
 //!
-//! - What a register, a queue, an owed or pushed list, an object made since the snapshot, or a strong
-//!   field of a live object refers to is live in the snapshot, or was made since. For a mutator gets a
-//!   reference only out of a register or out of a field of an object that it holds.
-//! - An object that isn't live has the node that it had in the snapshot: nobody can reach it to write.
-//! - For every strong field of the snapshot, its target is marked, owed or pushed, or the field stands as
-//!   it did and the object's scan is still to reach it. A field goes away only by a change of its object,
-//!   which owes the target; the scan passes it only by reading it, which marks the target.
+//! - A name in a register, queue, owed or pushed list, new object, or strong field of a live object is live in the snapshot
+//!   or new: made since. A mutator gets references only from registers and fields of objects that it holds.
+//! - An object that isn't live has the node that it had in the snapshot, since no mutator can reach it to write.
+//! - For every strong field of the snapshot, its target is marked, owed or pushed, or the field is unchanged and the object's
+//!   scan has still to reach it. A field goes away only by a change of its object, which owes the target. The scan passes it
+//!   only by reading it, which marks the target.
 //! - A weak pointer of the snapshot that is alive and wasn't finalised has the parts that it had there.
-//! - What is marked is live, what is queued is marked, and the roots of the snapshot are marked.
-//! - Every name that was opened, and every weak pointer that was finalised with what it kept, is marked, owed
-//!   or pushed.
+//! - Every marked name is live, every queued name is marked, and the roots of the snapshot are marked.
+//! - Every name that was opened, and every finalised weak pointer with the names that it kept, is marked, owed or pushed.
 //!
-//! Reading or finalising a weak pointer opens names, which makes more of the snapshot live. So it has to be
-//! known of a field whose object wasn't live until then what it may hold: each strong field in the world was
-//! there in the snapshot, or holds what may be held.
+//! Reading or finalising a weak pointer opens names, which makes more of the snapshot live. So a fact about objects not live
+//! until then is needed. Each strong field in the world was in the snapshot, or has a target that the first fact allows.
 //!
-//! Where nothing is queued, owed or pushed, only 'marked' is left of the third fact, so what is marked is
-//! closed under the strong fields of the snapshot, and has its roots: it has all that is live.
+//! If nothing is queued, owed or pushed, only 'marked' is left of the third fact. So the marked names are closed under the
+//! strong fields of the snapshot and contain its roots: they contain all live names.
 //!
-//! Easy to get wrong: the third fact is about the snapshot's fields, so it is the old value that is owed.
-//! A barrier on the new value would leave a target lost whose field was overwritten before the scan.
+//! Easy to get wrong: the third fact is about the snapshot's fields, so the old value is owed. A barrier on the new value
+//! would lose a target whose field was overwritten before the scan.
 ghost use Rattle.std.specs.Prelude.{◌≡◌, ◌∷◌, ◌++◌, [], false, slice_get, slice_set, IfOk, OnOk, OnErr, IsTrue, IsSome, ◌↔◌, Some, Contains, if◌then◌else◌};
 ghost use Rattle.nmgc_world_spec.specs.{declared.value.Name.Name as NameAt, Step.shared_name};
 ghost use Rattle.nmgc_graph.specs.Marks.{HasPlaces, mark_of};
@@ -50,10 +47,10 @@ use std::alloc::Global;
 use std::marker::Model;
 use std::slice;
 
-/// A world in which marking runs.
+/// A world in which marking runs: the state of the marking machine.
 ///
-/// `marks` is the set of the names in `marked`, for asking in constant time. The other fields are what
-/// contracts see.
+/// `marks` is the set of the names in `marked`, for a lookup in constant time. Contracts see the other fields. The facts of
+/// the machine are no invariant of it: it may run from any closed world, and its opening gives them.
 pub struct Core {
     world: World,
     snapshot: World,
@@ -67,7 +64,7 @@ pub struct Core {
     is_closed: bool,
 }
 
-// By hand, so that whoever lets go of one calls this: a derived one is written out, and proved, at each place.
+// Written by hand, so that code that drops a core calls this. A derived drop is written out, and proved, at each place.
 impl Drop for Core {
     fn drop(self) {
         let Core {
@@ -107,12 +104,10 @@ impl Model for Core {
 
 impl Core {
     ghost use Rattle.nmgc_world_spec.specs.{World.IsWorld, World.node_of, Reach.Lists, Step.CanApply, Step.step, History.finalised_by};
-    ghost use Rattle.nmgc_snapshot_laws.specs.State.{names_of, opening, mark_name, mark_value, mark_read, mark_values, is_new, unmarked};
-    ghost use Rattle.nmgc_snapshot_laws.specs.{Run.IsRun, Machine.Passes, Machine.advanced};
+    ghost use Rattle.nmgc_snapshot_laws.specs.{State.names_of, State.opening, State.mark_name, State.mark_value, State.mark_read, State.mark_values, State.is_new, State.unmarked, Run.IsRun, Machine.Passes, Machine.advanced};
     ghost use Rattle.nmgc_snapshot_laws.specs.declared.event.Event.TheVariants as event;
 
-    /// Marking begins: the world is the snapshot, and its roots are marked. Takes time and memory for
-    /// each object of the world, for the snapshot is a copy.
+    /// Begins marking: copies the world as the snapshot, and marks its roots. Takes time and memory for each object.
     pub fn new(world: World) -> Result<Self, NoMemory>
         ensures opening { IfOk result (λ core. core ≡ opening world) }
         ensures closed { IfOk result (λ core. IsWorld core.world) }
@@ -120,12 +115,12 @@ impl Core {
         let roots = root_values(&world)?;
         let mut core = Core::unmarked(world)?;
         core.mark_values(roots.as_slice())?;
-        // This shows that the world is closed, as that of every machine is.
+        // Reading a field shows that the world is closed, since the world of every machine is closed.
         let _ = &core.marks;
         Ok(core)
     }
 
-    // A world of which g alone is marked.
+    // Makes the machine of a world in which only g is marked.
     fn unmarked(world: World) -> Result<Self, NoMemory>
         ensures { IfOk result (λ core. core ≡ unmarked world) }
     {
@@ -149,7 +144,7 @@ impl Core {
         })
     }
 
-    // Marks what values refer to.
+    // Marks and queues the unmarked names of the snapshot to which values refer.
     fn mark_values(&mut self, values: &[Value]) -> Result<(), NoMemory>
         ensures { OnOk result (self.new ≡ mark_values self.old values.now) }
     {
@@ -159,14 +154,14 @@ impl Core {
         Ok(())
     }
 
-    // Whether it is a name of the snapshot that isn't marked.
+    // Whether the name is an unmarked name of the snapshot.
     fn is_new(&self, name: Name) -> bool
         ensures { result ≡ is_new self.now name }
     {
         self.snapshot.node(name).is_some() && !self.marks.contains(name)
     }
 
-    // Such a name is marked and queued; any other changes nothing.
+    // Marks and queues an unmarked name of the snapshot; does nothing for any other name.
     fn mark(&mut self, name: Name) -> Result<(), NoMemory>
         ensures ok { OnOk result (self.new ≡ mark_name self.old name) }
         ensures err { OnErr result (self.new ≡ self.old) }
@@ -184,7 +179,7 @@ impl Core {
         Ok(())
     }
 
-    // The same for what a value refers to.
+    // Marks and queues the name that a value refers to, if it is an unmarked name of the snapshot.
     fn mark_value(&mut self, value: Value) -> Result<(), NoMemory>
         ensures ok { OnOk result (self.new ≡ mark_value self.old value) }
         ensures err { OnErr result (self.new ≡ self.old) }
@@ -195,7 +190,7 @@ impl Core {
         }
     }
 
-    // The same for what was read, if something was.
+    // Marks and queues the name that a read value refers to, if there is one and it is an unmarked name of the snapshot.
     fn mark_read(&mut self, read: Option<Value>) -> Result<(), NoMemory>
         ensures ok { OnOk result (self.new ≡ mark_read self.old read) }
         ensures err { OnErr result (self.new ≡ self.old) }
@@ -206,7 +201,7 @@ impl Core {
         }
     }
 
-    // The first entry moves on, or leaves.
+    // Moves the first entry of the queue to its next position, or removes it if no position is left.
     fn advance(&mut self, entry: Entry)
         requires { slice_get self.old.queue 0 ≡ Some entry }
         ensures { self.new ≡ advanced self.old self.old.queue }
@@ -219,7 +214,7 @@ impl Core {
         }
     }
 
-    // A mutator gives a command.
+    // Does a command of a mutator if the world can take it and answers `reply`. Returns whether the command was done.
     fn command(&mut self, mutator: u8, command: &Command, reply: Reply) -> Result<bool, NoMemory>
         requires { self.old.is_closed ≡ false }
         ensures done { IfOk result (λ done. Passes self.old (event.Command mutator command.now reply) done self.new) }
@@ -244,7 +239,7 @@ impl Core {
         Ok(true)
     }
 
-    // The world takes a command, which owes, opens and finalises these names.
+    // Does a command in the world, and adds the names that it owes, opens and finalises.
     fn open(
         &mut self,
         mutator: u8,
@@ -272,7 +267,7 @@ impl Core {
         Ok(())
     }
 
-    // The same where it opens nothing.
+    // Does a command that opens nothing, and adds the names that it owes and finalises.
     fn finalise(
         &mut self,
         mutator: u8,
@@ -298,7 +293,7 @@ impl Core {
         Ok(())
     }
 
-    // The same where it finalises nothing either.
+    // Does a command that opens and finalises nothing new, and adds the names that it owes.
     fn give(&mut self, mutator: u8, command: &Command, names: &[Name]) -> Result<(), NoMemory>
         requires can { CanApply self.old.world mutator command.now }
         requires ended { (weak : NameAt) → Contains (finalised_by self.old.world mutator command.now) weak → Contains self.old.finalised weak }
@@ -317,7 +312,7 @@ impl Core {
         Ok(())
     }
 
-    // A mutator pushes the first name that it owes.
+    // Removes a mutator's first owed name, and pushes it if it is in the snapshot and isn't g. Returns whether there was one.
     fn push(&mut self, mutator: u8) -> Result<bool, NoMemory>
         requires { self.old.is_closed ≡ false }
         ensures done { IfOk result (λ done. Passes self.old (event.Push mutator) done self.new) }
@@ -331,7 +326,7 @@ impl Core {
         Ok(true)
     }
 
-    // The collector reads a position of the first entry.
+    // Reads the position of the queue's first entry, and marks the name that was read. Returns whether there was an entry.
     fn scan(&mut self) -> Result<bool, NoMemory>
         requires { self.old.is_closed ≡ false }
         ensures done { IfOk result (λ done. Passes self.old event.Scan done self.new) }
@@ -346,7 +341,7 @@ impl Core {
         Ok(true)
     }
 
-    // The collector takes the first name that a mutator pushed.
+    // Takes the first name that a mutator pushed, and marks it. Returns whether there was a name.
     fn take(&mut self, mutator: u8) -> Result<bool, NoMemory>
         requires { self.old.is_closed ≡ false }
         ensures done { IfOk result (λ done. Passes self.old (event.Take mutator) done self.new) }
@@ -360,7 +355,7 @@ impl Core {
         Ok(true)
     }
 
-    // Marking ends: the marks are completed, and the world is closed with what dies.
+    // If marking can end, completes the marks, closes the world with the dying weak pointers, and returns true.
     fn close(&mut self) -> Result<bool, NoMemory>
         requires { self.old.is_closed ≡ false }
         ensures done { IfOk result (λ done. Passes self.old event.Close done self.new) }
@@ -387,22 +382,21 @@ impl Core {
         self.queue.is_empty() && are_empty(self.owed.items()) && are_empty(self.pushed.items())
     }
 
-    /// Does an event, if it can happen, and says whether it did. After `false` or `NoMemory` nothing
-    /// has changed. Takes constant time for each operand and each value that is read or owed. The
-    /// closing takes time for each object of the world, and for a pass over the weak pointers for each
-    /// link of the longest chain in which one revives the key of the next.
+    /// Does an event exactly if it can happen, and returns whether it happened. After `false` or `NoMemory` nothing has
+    /// changed. Takes constant time for each operand, and each value read or owed. The closing takes time for each object,
+    /// and passes over weak pointers once per link of the longest chain in which each revives the next one's key.
     pub fn step(&mut self, event: &Event) -> Result<bool, NoMemory>
         ensures done { IfOk result (λ done. Passes self.old event.now done self.new) }
         ensures err { OnErr result (self.new ≡ self.old) }
         ensures closed { IsWorld self.new.world }
     {
         let done = self.happen(event);
-        // This shows that the world is closed, as that of every machine is.
+        // Reading a field shows that the world is closed, since the world of every machine is closed.
         let _ = &self.marks;
         done
     }
 
-    // Does an event, if it can happen.
+    // Does an event if it can happen, and returns whether it happened.
     fn happen(&mut self, event: &Event) -> Result<bool, NoMemory>
         ensures done { IfOk result (λ done. Passes self.old event.now done self.new) }
         ensures err { OnErr result (self.new ≡ self.old) }
@@ -423,8 +417,11 @@ impl Core {
         }
     }
 
-    /// Begins marking with a world, and does each of the events in turn, leaving out those that can't
-    /// happen.
+    /// Begins marking with a world, does each of the events in turn if it can happen, and returns the machine. The snapshot
+    /// theorem (`IsRun`) holds for all lists of events and closed worlds. The world is the replay of the commands. Before the
+    /// closing all marked names are live in the snapshot, with the opened names. The closing marks exactly the live names,
+    /// and then, with the finalisers of the dead, exactly the kept names. Exactly the dead weak pointers die, and the world
+    /// is the replay closed with them.
     pub fn run(world: World, events: &[Event]) -> Result<Self, NoMemory>
         ensures { IfOk result (IsRun world events.now) }
     {
@@ -435,42 +432,43 @@ impl Core {
         Ok(core)
     }
 
-    /// The world as it is. Takes no memory, and constant time.
+    /// Returns the world as it is. Takes no memory and constant time.
     pub fn world(&self) -> &World
         ensures { result.now ≡ self.now.world }
     {
         &self.world
     }
 
-    /// The world as it was when marking began. Takes no memory, and constant time.
+    /// Returns the world as it was when marking began. Takes no memory and constant time.
     pub fn snapshot(&self) -> &World
         ensures { result.now ≡ self.now.snapshot }
     {
         &self.snapshot
     }
 
-    /// Whether marking has ended. Takes no memory, and constant time.
+    /// Whether marking has ended. Takes no memory and constant time.
     pub fn is_closed(&self) -> bool
         ensures { result ≡ self.now.is_closed }
     {
         self.is_closed
     }
 
-    /// The names that were opened since the snapshot. Takes no memory, and constant time.
+    /// Returns the names that were opened since the snapshot. Takes no memory and constant time.
     pub fn opened(&self) -> &[Name]
         ensures { result.now ≡ self.now.opened }
     {
         self.opened.items()
     }
 
-    /// The weak pointers that were finalised since the snapshot. Takes no memory, and constant time.
+    /// Returns the weak pointers that were finalised since the snapshot. Takes no memory and constant time.
     pub fn finalised(&self) -> &[Name]
         ensures { result.now ≡ self.now.finalised }
     {
         self.finalised.items()
     }
 
-    /// The marked names, until the closing in the order of marking. All are names of the snapshot.
+    /// Returns the marked names, in the order of marking until the closing and in the order of names after it. All are names
+    /// of the snapshot.
     pub(crate) fn names(&self) -> &[Name]
         ensures names { result.now ≡ self.now.marked }
         ensures there { (name : NameAt) → Contains self.now.marked name → IsSome (node_of self.now.snapshot name) }
@@ -478,7 +476,7 @@ impl Core {
         self.marked.items()
     }
 
-    /// The marked names in order. Takes time for each name of the snapshot.
+    /// Returns the marked names in the order of names. Takes time for each name of the snapshot.
     pub fn marked(&self) -> Result<List<Name>, NoMemory>
         ensures { IfOk result (Lists (Contains self.now.marked)) }
     {
@@ -486,7 +484,7 @@ impl Core {
     }
 }
 
-// The name, where it counts as pushed: where it is one of the snapshot, and not g.
+// Returns the name that a push hands over: the name itself if it is in the snapshot and isn't g, and otherwise no name.
 fn pushed_of<'a>(snapshot: &World, name: &'a Name) -> &'a [Name]
     ensures { result.now ≡ (if is_pushed_in snapshot.now name.now then name.now ∷ [] else []) }
 {
@@ -497,7 +495,7 @@ fn pushed_of<'a>(snapshot: &World, name: &'a Name) -> &'a [Name]
     }
 }
 
-// The list of g alone.
+// Returns a list that contains only g's name.
 fn only_shared(alloc: Global) -> Result<List<Name>, NoMemory>
     ensures { IfOk result (λ names. names ≡ shared_name ∷ []) }
 {
@@ -506,7 +504,7 @@ fn only_shared(alloc: Global) -> Result<List<Name>, NoMemory>
     Ok(names)
 }
 
-// The set of g alone, with a place for each name of a world.
+// Returns the set that contains only g's name, with a position for each name of a world.
 fn set_of_shared(world: &World) -> Result<Marks, NoMemory>
     ensures places { IfOk result (HasPlaces world.now) }
     ensures marks { IfOk result (λ marks. (name : NameAt) → mark_of marks name ≡ is_listed name (shared_name ∷ [])) }

@@ -1,9 +1,8 @@
-//! Marking from a snapshot as it runs: the core machine, event by event.
+//! Marking from a snapshot, event by event: the marking machine as code.
 //!
-//! `nmgc_snapshot_laws` says what the machine is, and has the snapshot theorem of every run of it, whoever does its
-//! events. Here it is done by one thread over a world that is never collected: `Core::step` does an event exactly where
-//! it can happen, and `Core::run` a list of them, with the theorem as its own clause. The checker of traces of format 1
-//! and the tests run it; no run of the collector does.
+//! `nmgc_snapshot_laws` defines the machine, and proves the snapshot theorem for every run of it, whatever does the events.
+//! Here one thread runs it over the reference heap. `Core::step` does an event exactly if it can happen. `Core::run` does a
+//! list of events, with the theorem as its clause. It serves the checker of format 1 and the tests, not the collector.
 #![tactic(auto)]
 
 mod answers;

@@ -16,7 +16,7 @@ pub mod StopEnds
 pub mod StopNumbers
 pub mod StopSteps
 pub mod Stopped
-pub mod Telling
-pub mod Told
+pub mod Reporting
+pub mod Reported
 pub mod Tried
 pub mod WholeStop

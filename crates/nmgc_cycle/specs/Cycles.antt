@@ -1,6 +1,6 @@
--- The collector beside the mutators, and the steps of a stop that lead a cycle on.
+-- The collector beside the mutators, and the steps of a stop that advance a cycle.
 use Rattle.std.specs.Prelude.{ℕ, ◌≡◌, ◌⊎◌, ◌↔◌, ◌+◌, ◌-◌, ◌/◌, ◌≤◌, ◌<◌, ◌++◌, ◌∷◌, List, [], length, map, slice_get, Some, true, false, IsSome}
-use Rattle.nmgc_alloc.specs.declared.search.Sought.TheVariants as sought
+use Rattle.nmgc_alloc.specs.declared.search.Category.TheVariants as sought
 use Rattle.nmgc_alloc.specs.{AllocState.AllocState, Stands.StandsFor, Numbered.Segments, Segments.HasNone, Segments.IsSegments, CycleSteps.carried_over}
 use Rattle.nmgc_collector_laws.specs.{Calls.all_entries, Worked.registers_of, Resolves.finished_on}
 pub use Rattle.nmgc_collector_laws.specs.Prepares.{all_prepared}
@@ -9,7 +9,7 @@ use Rattle.nmgc_mark.specs.{Beginning.IsBeginning, Beginning.most_blocks, Marker
 use Rattle.nmgc_mutator.specs.declared.mutator.Mutator.{Mutator}
 use Rattle.nmgc_round.specs.{declared.table.Round.Round, Gate.passed, Marking.Marks, Marking.marks_of, Seat.RoundSeat, Seat.seen as seat_seen, View.Opening}
 use Rattle.nmgc_segment.specs.Marks.{epoch_of}
-use Rattle.nmgc_sweep.specs.{Names.HaveEntries, Sweeper.AreLeft, Sweeper.turned, Work.HasBegun, Work.HasSwept}
+use Rattle.nmgc_sweep.specs.{NameTable.HaveEntries, Sweeper.AreLeft, Sweeper.turned, Work.HasBegun, Work.HasSwept}
 use Rattle.nmgc_cycle.specs.{declared.collector.Collector.Collector, declared.progress.Marking.Marking, declared.progress.Progress.Progress, declared.progress.Sweeping.Sweeping, Roots.queues_in, Lined.IsLined, Lined.HaveForgotten, Listed.FinalisersQueued, Listed.HaveQueueRoom, Shown.died, Shown.seen_mutator, Shown.words_in}
 use Rattle.nmgc_cycle.specs.declared.progress.Progress.TheVariants as progress
 use Rattle.nmgc_snapshot_laws.specs.State.{opening}
@@ -19,15 +19,15 @@ use Rattle.nmgc_weak.specs.{declared.weaks.Death.Death, declared.weaks.OldWeak.O
 
 -- In a round
 
--- the collector may do its part of a round: a marker has room for what it marks, and the marks and the queue of its
--- seat's view; a sweeper has all segments left that wait, and there is an entry of the array of names for each block
+-- the collector may do its part of a round. A marker has room for the objects that it marks, and the marks and the queue of
+-- its seat's view. A sweeper has all waiting segments left, and the array of names has an entry for each block
 abbrev pub CanHelp : Round → RoundSeat → Segments → List Name → Progress → Type 0
 CanHelp round seat segments names progress.Idle = IsCollector round seat
 CanHelp round seat segments names (progress.Marking m) = IsCollector round seat × HasRoomToMark segments m.marker ×
     IsTied (seat_seen seat).opening (marks_seen (seat_seen seat)) segments m.marker
 CanHelp round seat segments names (progress.Sweeping w) = IsCollector round seat × AreLeft segments w.sweeper × HaveEntries segments.layout names
 
--- it scanned as much as its last work tells, of at most so many objects, and passed the gate before each
+-- the marker's part: at most `quota` objects were scanned, fewer only if none is left, with a pass of the gate before each
 pub record HasScanned (round : Round) (quota : ℕ) (from seat : RoundSeat) (old new : Segments) (m n : Marking) : Type 0 where
   pub rest : n ≡ record m { marker = n.marker; last = n.last }
   pub worked : HasWorked round from seat old new m.marker n.marker n.last.scanned
@@ -36,7 +36,7 @@ pub record HasScanned (round : Round) (quota : ℕ) (from seat : RoundSeat) (old
   pub empty : (n.last.empty ≡ true) ↔ (n.marker.queue ≡ [])
   pub turns : n.marker.turns ≡ passed m.marker.turns n.last.scanned
 
--- it swept the lesser of so many segments and those that were left, and passed the gate before each, in two halves
+-- the sweeper's part: `quota` segments were swept, or all that were left, in two halves, with a pass of the gate before each
 pub record HasSweptSome (quota : ℕ) (old new : Segments) (names : List Name) (w v : Sweeping) : Type 0 where
   pub rest : v ≡ record w { sweeper = v.sweeper }
   pub count : ℕ
@@ -46,7 +46,8 @@ pub record HasSweptSome (quota : ℕ) (old new : Segments) (names : List Name) (
   pub turns : v.sweeper.turns ≡ passed w.sweeper.turns (count - count / 2)
   pub upper_turns : v.sweeper.upper_turns ≡ passed w.sweeper.upper_turns (count / 2)
 
--- it did its part
+-- the collector's part of a round: none; or a quota of objects scanned, fewer only if none is left; or a quota of segments
+-- swept, or all left
 abbrev pub HasHelped : Round → ℕ → RoundSeat → RoundSeat → Segments → Segments → List Name → Progress → Progress → Type 0
 HasHelped round quota from seat old new names progress.Idle after = (seat ≡ from) × (new ≡ old) × (after ≡ progress.Idle)
 HasHelped round quota from seat old new names (progress.Marking m) after = (n : Marking) × (after ≡ progress.Marking n) ×
@@ -54,45 +55,45 @@ HasHelped round quota from seat old new names (progress.Marking m) after = (n : 
 HasHelped round quota from seat old new names (progress.Sweeping w) after = (v : Sweeping) × (after ≡ progress.Sweeping v) × (seat ≡ from) ×
     HasSweptSome quota old new names w v
 
--- how many segments it swept beside a round, from one progress to the next
+-- the number of segments swept beside a round, from one progress to the next
 abbrev pub swept_beside : Sweeping → Sweeping → ℕ
 swept_beside w v = length w.sweeper.left - length v.sweeper.left
 
--- on how many objects or segments it worked, but for those in the upper half of a sweep
+-- the passes of the gate that a round adds: one for each object scanned, or for each segment swept in the lower half
 abbrev pub worked_on : Progress → Progress → ℕ
 worked_on (progress.Marking m) (progress.Marking n) = n.last.scanned
 worked_on (progress.Sweeping w) (progress.Sweeping v) = swept_beside w v - swept_beside w v / 2
 worked_on _ _ = 0
 
--- and on how many in that half
+-- the passes that a round adds to the upper half's own count: one for each segment swept in it
 abbrev pub upper_worked_on : Progress → Progress → ℕ
 upper_worked_on (progress.Sweeping w) (progress.Sweeping v) = swept_beside w v / 2
 upper_worked_on _ _ = 0
 
 -- At a stop
 
--- the places that mutators remember, one mutator after the other
+-- the remembered addresses of all mutators, one mutator after the other
 abbrev pub remembered_by : List Mutator → List ℕ
 remembered_by mutators = all_entries (map seen_mutator mutators)
 
--- a marker may be given more
+-- if a cycle marks, its marker has room for more entries
 abbrev pub CanAdd : Segments → Progress → Type 0
 CanAdd segments (progress.Marking m) = HasRoomToMark segments m.marker
 CanAdd segments _ = Unit {0}
 
--- these places were added to the marker: the blocks of the snapshot there are marked and wait
+-- these addresses were added to the marker: unmarked blocks of the snapshot there are marked, and wait to be scanned
 pub record HasAdded (entries : List ℕ) (old new : Segments) (before after : MarkerSeen) : Type 0 where
   pub marked : HasMarked old new before after 0
   pub tied : (o : Opening) (m : Marks) → IsTied o m old before → IsTied o (with_places o m entries) new after
   pub turns : after.turns ≡ before.turns
 
--- where a marker marks they were, and the segments are sound still
+-- if a cycle marks, the addresses were added to its marker, and the segments are still sound; otherwise nothing changed
 abbrev pub AddsTo : List ℕ → Segments → Segments → Progress → Progress → Type 0
 AddsTo entries old new (progress.Marking m) after = (marker : MarkerSeen) × (after ≡ progress.Marking (record m { marker = marker })) ×
     HasAdded entries old new m.marker marker × IsSegments new
 AddsTo entries old new p after = (after ≡ p) × (new ≡ old)
 
--- what the mutators remember was added to the marker, and they remember nothing: the inbox and the rings are empty
+-- adding, a step of a stop: a cycle's marker got the remembered entries. They are forgotten: inbox and rings are empty
 pub record HasTaken (old new : Collector) : Type 0 where
   pub rest : new ≡ record old {
     heap = record old.heap { segments = new.heap.segments };
@@ -105,9 +106,8 @@ pub record HasTaken (old new : Collector) : Type 0 where
   pub lines : (k : ℕ) (n : Mutator) → slice_get new.mutators.items k ≡ Some n → IsLined new.inbox k n.sender
   pub adds : AddsTo (remembered_by old.mutators.items) old.heap.segments new.heap.segments old.cycle.progress new.cycle.progress
 
--- a marker may finish: it has room, and its marks and its queue are those of a state that opens a round on these
--- words. After that the weak pointers of the list may be resolved, and the finalisers of those that die have room in
--- the queues
+-- a marker may finish: it has room, and the marks and queue of a state that opens a round on these words. After that the weak
+-- pointers of the list may be resolved, and the queues have room for the finalisers of those that die
 pub record IsReadyToClose (words : List ℕ) (segments : Segments) (weaks : List OldWeak) (queues : List FinQueue) (m : Marking) : Type 0 where
   pub room : HasRoomToMark segments m.marker
   pub opening : Opening
@@ -117,14 +117,13 @@ pub record IsReadyToClose (words : List ℕ) (segments : Segments) (weaks : List
   pub queue_room : (between marked : Segments) (finisher marker : MarkerSeen) (after : List ℕ) (list : List OldWeak) (deaths : List Death)
       (f : HasFinished opening between finisher) → HasResolved (finished_on opening between finisher f) after marked marker list deaths → HaveRoom deaths queues
 
--- so may one whose last work left nothing
+-- a cycle may be closed: if its marker's last work left nothing, the marker may finish
 abbrev pub CanClose : List ℕ → Segments → List OldWeak → List FinQueue → Progress → Type 0
 CanClose words segments weaks queues (progress.Marking m) = m.last.empty ≡ true → IsReadyToClose words segments weaks queues m
 CanClose words segments weaks queues _ = Unit {0}
 
--- the marker finished, the weak pointers were resolved, the finalisers of the deaths joined the queues, the marks of
--- segments that don't wait were carried, and the cycle sweeps from this stop on; the sweeper has the marker's count
--- of the gate's passes
+-- a closed cycle: the marker finished, the weak pointers were resolved, and the finalisers of the deaths joined the queues.
+-- The marks of segments that don't wait were carried. The cycle sweeps from this stop on, with the marker's count of passes
 pub record IsClosed (stop : ℕ) (words after : List ℕ) (old new : Segments) (weaks list : Weaks) (mutators then : List Mutator) (m : Marking)
     (sweeping : Sweeping) : Type 0 where
   pub between : Segments
@@ -140,7 +139,7 @@ pub record IsClosed (stop : ℕ) (words after : List ℕ) (old new : Segments) (
   pub sound : IsSegments marked × IsSegments new
   pub is : sweeping ≡ record { from = m.from; closed = stop; kept = marker.marked; sweeper = turned m.sweeper m.marker.turns }
 
--- a cycle is closed where the marker's last work left nothing
+-- closing, a step of a stop: if the last work of a cycle's marker left nothing, the cycle is closed
 abbrev pub Closes : ℕ → Progress → Collector → Collector → Type 0
 Closes stop (progress.Marking m) old new = ((m.last.empty ≡ true) ×
     ((w : Sweeping) × (new.cycle.progress ≡ progress.Sweeping w) ×
@@ -148,7 +147,7 @@ Closes stop (progress.Marking m) old new = ((m.last.empty ≡ true) ×
     new.mutators.items m w)) ⊎ ((m.last.empty ≡ false) × (new ≡ old))
 Closes stop p old new = new ≡ old
 
--- by this rule a cycle was closed, or none: of the collector words, segments, list and queues are those that this left
+-- a closing by `Rule`, or none: of the collector only words, segments, list, progress and mutators changed
 pub record HasClosed (Rule : ℕ → Progress → Collector → Collector → Type 0) (stop : ℕ) (old new : Collector) : Type 0 where
   pub rest : new ≡ record old {
     heap = record old.heap { words = new.heap.words; segments = new.heap.segments; weaks = new.heap.weaks };
@@ -158,7 +157,7 @@ pub record HasClosed (Rule : ℕ → Progress → Collector → Collector → Ty
   pub has_words : IsSome new.heap.words
   pub closes : Rule stop old.cycle.progress old new
 
--- the row of a cycle that ends at this stop, at whose closing these died
+-- the row of a cycle that ends at this stop, with the weak pointers that died at its closing
 abbrev pub row_of : ℕ → ℕ → Sweeping → List Name → CycleRow
 row_of number stop w dead = record {
   number = number;
@@ -172,11 +171,11 @@ row_of number stop w dead = record {
   kept = w.kept;
 }
 
--- a cycle sweeps, and no segment waits any more
+-- a cycle swept to its end: it sweeps, and no segment waits any more
 abbrev pub IsSwept : Collector → Type 0
 IsSwept c = (w : Sweeping) × (c.cycle.progress ≡ progress.Sweeping w) × HasNone sought.Sweeping c.heap.segments
 
--- a cycle that sweeps ends where no segment waits; the collector keeps the sweeper's counts of the gate's passes
+-- end, a step of a stop: a cycle swept to its end ends, with its row; the collector keeps the sweeper's counts of passes
 abbrev pub Ends : ℕ → Progress → Collector → Collector → Type 0
 Ends stop (progress.Sweeping w) old new = (HasNone sought.Sweeping old.heap.segments ×
     (new ≡ record old {
@@ -185,12 +184,12 @@ Ends stop (progress.Sweeping w) old new = (HasNone sought.Sweeping old.heap.segm
     })) ⊎ ((HasNone sought.Sweeping old.heap.segments → ⊥) × (new ≡ old))
 Ends stop _ old new = new ≡ old
 
--- where the same cycle marks on, only its marker changed: what its last work answered is kept as it was
+-- a cycle that marks on over the whole stop: only its marker changed, and the answer of its last work is kept
 abbrev pub MarksOn : Collector → Collector → Type 0
 MarksOn old new = (m n : Marking) → old.cycle.progress ≡ progress.Marking m → new.cycle.progress ≡ progress.Marking n → new.cycle.begun ≡ old.cycle.begun →
     n ≡ record m { marker = n.marker }
 
--- a cycle is due: none is in progress, and one was asked for, or enough segments were filled since the last one began
+-- a cycle is due: none is in progress, and either one was asked for or enough segments were filled since the last cycle began
 abbrev pub IsDue : ℕ → Collector → Type 0
 IsDue trigger c = (c.cycle.progress ≡ progress.Idle) × ((c.cycle.collect ≡ true) ⊎ ((1 ≤ trigger) × (trigger ≤ c.heap.segments.fresh)))
 
@@ -198,20 +197,20 @@ IsDue trigger c = (c.cycle.progress ≡ progress.Idle) × ((c.cycle.collect ≡ 
 abbrev pub next_epoch : Collector → ℕ
 next_epoch c = epoch_of (c.cycle.begun + 1)
 
--- segments and words stand for some allocation state
+-- segments and words represent some allocation state
 abbrev pub HasStood : Segments → List ℕ → Type 0
 HasStood segments words = (a : AllocState) × StandsFor segments words a
 
--- where a cycle is due, no segment waits any more, words and segments stand for an allocation state, and marking begins with the roots that the mutators have
+-- a cycle may begin: no segment waits, words and segments represent an allocation state, and marking begins with the roots
 pub record CanBegin (c : Collector) : Type 0 where
   pub none_waits : HasNone sought.Sweeping c.heap.segments
   pub stood : HasStood (all_prepared c.heap.segments) (words_in c.heap.words)
   pub begins : (o : Opening) ×
       IsBeginning o (all_prepared c.heap.segments) (next_epoch c) (words_in c.heap.words) (registers_of c.mutators.items) (queues_in c.mutators.items)
 
--- a marking cycle was started at this stop: the segments were prepared, the sweeper noted which segments wait, and
--- the marker marked what the roots refer to, both with the collector's count of the gate's passes; the mutators'
--- queues have room for what the closing adds
+-- the start of marking at this stop: the segments were prepared, the sweeper noted the waiting segments, and the marker
+-- marked the objects that the roots refer to. Both have the collector's count of passes. The queues have room for the
+-- closing's finalisers
 pub record StartsMarking (stop : ℕ) (old new : Collector) (marking : Marking) : Type 0 where
   pub rest : new ≡ record old { heap = record old.heap { words = new.heap.words; segments = new.heap.segments }; mutators = new.mutators }
   pub from_is : marking.from ≡ stop
@@ -226,13 +225,13 @@ pub record StartsMarking (stop : ℕ) (old new : Collector) (marking : Marking) 
       IsBeginning o (all_prepared old.heap.segments) (next_epoch old) (words_in old.heap.words) (registers_of old.mutators.items)
       (queues_in old.mutators.items) → IsTied o (marks_of (opening o.core.snapshot)) new.heap.segments marking.marker
 
--- so a cycle began: the roots were marked, and then the collector's progress set
+-- a started cycle: the roots were marked, and then the collector's progress and its count of cycles were set
 pub record HasStarted (stop : ℕ) (old new : Collector) : Type 0 where
   pub marking : Marking
   pub marked : Collector
   pub starts : StartsMarking stop old marked marking
   pub is : new ≡ record marked { cycle = record marked.cycle { progress = progress.Marking marking; begun = old.cycle.begun + 1; collect = false } }
 
--- a cycle begins where one is due
+-- beginning, a step of a stop: if a cycle is due, it begins
 abbrev pub Begins : ℕ → ℕ → Collector → Collector → Type 0
 Begins trigger stop old new = (IsDue trigger old × HasStarted stop old new) ⊎ ((IsDue trigger old → ⊥) × (new ≡ old))

@@ -6,6 +6,7 @@ pub mod Keeps
 pub mod Lined
 pub mod Listed
 pub mod Roots
+pub mod RoundLaws
 pub mod Shown
 pub mod Steps
 pub mod StopLaws

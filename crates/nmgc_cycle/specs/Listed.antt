@@ -1,4 +1,4 @@
--- The list of weak pointers and the finaliser queues at a stop: who leaves the list and who joins it, and what a closing needs of the queues.
+-- The list of weak pointers and the finaliser queues at a stop: leaving, joining, and the queues' room for a closing.
 use Rattle.std.specs.Prelude.{ℕ, ◌≡◌, ◌≢◌, ◌⊎◌, ◌↔◌, ◌<◌, ◌≤◌, ◌^◌, ◌==◌, ◌&&◌, not, Bool, List, [], map, filter, length, slice_get, slice_index, slice_index_or, Contains, Some, IsSome}
 use Rattle.nmgc_world_spec.specs.Reach.{IsInOrder}
 use Rattle.nmgc_object.specs.{FinQueue.FinQueue, Words.header_word}
@@ -9,62 +9,62 @@ use Rattle.nmgc_weak.specs.{declared.weaks.Death.Death, declared.weaks.OldWeak.O
 pub use Rattle.nmgc_weak.specs.Weaks.{count_made_by}
 use Rattle.nmgc_cycle.specs.{declared.collector.Collector.Collector, Roots.queues_in, Shown.words_in}
 
--- whether by its words a weak pointer stands at the place that is alive
+-- whether the words at an address are a weak pointer that is alive
 abbrev pub is_alive_at : List ℕ → ℕ → Bool
 is_alive_at words at = (slice_index words at == header_word weak_header) && not (slice_index words (value_place at) == 0)
 
--- what moved, as one of the list
+-- a move, as an item of the list
 abbrev pub listed_move : Move → OldWeak
 listed_move m = record { weak = m.name; at = m.to }
 
--- of what moved, the weak pointers that are alive
+-- the moved objects that are weak pointers and alive
 abbrev pub moved_weaks : List ℕ → List Move → List OldWeak
 moved_weaks words moves = map listed_move (filter (λ (m : Move). is_alive_at words m.to.0) moves)
 
--- header and value word of what moved are among the heap's
+-- the header and value word of each moved object are among the heap's
 abbrev pub AreMovedInside : List ℕ → List Move → Type 0
 AreMovedInside words moves = (m : Move) → Contains moves m → value_place m.to.0 < length words
 
--- what moved may join the list: it has new names, in order
+-- the moved objects may join the list: they have new names, in order
 pub record CanJoin (words : List ℕ) (list : List OldWeak) (moves : List Move) : Type 0 where
   pub inside : AreMovedInside words moves
   pub ordered : IsInOrder (map (λ (m : Move). m.name) moves)
   pub new : (m : Move) (other : OldWeak) → Contains moves m → Contains list other → other.weak ≢ m.name
   pub few : length moves < 2 ^ 32
 
--- the list with these, in order
+-- the list with further weak pointers, in order
 pub record IsMergeOf (old fresh new : List OldWeak) : Type 0 where
   pub ordered : IsInOrder (names_of new)
   pub list : (other : OldWeak) → Contains new other ↔ (Contains old other ⊎ Contains fresh other)
 
--- the weak pointers of the list that are dead by now are among the places that are told, whose value words are among the
--- words; and the name word of each of the list is its own
-pub record FinalisedAreTold (words : List ℕ) (list : List OldWeak) (finalised : List ℕ) : Type 0 where
+-- the mutators report the weak pointers finalised in the round: each listed weak pointer dead by now is at a reported
+-- address. The value words there are among the words, and the name word of each listed weak pointer is its own
+pub record FinalisedAreListed (words : List ℕ) (list : List OldWeak) (finalised : List ℕ) : Type 0 where
   pub inside : (at : ℕ) → Contains finalised at → value_place at < length words
-  pub told : (weak : OldWeak) → Contains list weak → slice_index words (value_place weak.at.0) ≡ 0 → Contains finalised weak.at.0
+  pub reported : (weak : OldWeak) → Contains list weak → slice_index words (value_place weak.at.0) ≡ 0 → Contains finalised weak.at.0
   pub named : (at : ℕ) → IsNamedAt words at list
 
--- those that are dead by now have left the list
+-- the weak pointers that were finalised in the round, and so are dead by now, have left the list
 pub record FinalisedLeft (old new : Collector) : Type 0 where
   pub rest : new ≡ record old { heap = record old.heap { words = new.heap.words; weaks = new.heap.weaks } }
   pub words : (words_in new.heap.words ≡ words_in old.heap.words) × IsSome new.heap.words
   pub list : new.heap.weaks.list ≡ alive_of (words_in old.heap.words) old.heap.weaks.list
   pub deaths : new.heap.weaks.deaths ≡ old.heap.weaks.deaths
 
--- those that moved and are alive have joined it
+-- the weak pointers that moved and are alive have joined the list
 pub record MovedJoined (old new : Collector) : Type 0 where
   pub rest : new ≡ record old { heap = record old.heap { words = new.heap.words; weaks = new.heap.weaks } }
   pub words : (words_in new.heap.words ≡ words_in old.heap.words) × IsSome new.heap.words
   pub joins : IsMergeOf old.heap.weaks.list (moved_weaks (words_in old.heap.words) old.heap.promotion.moves) new.heap.weaks.list
   pub deaths : new.heap.weaks.deaths ≡ old.heap.weaks.deaths
 
--- the same mutator, whose queue has room for so many
+-- a mutator changed only in that its queue has room for `count` finalisers
 pub record HasQueueRoom (count : ℕ) (old new : Mutator) : Type 0 where
   pub rest : new ≡ record old { queue = new.queue }
   pub words : new.queue.words ≡ old.queue.words
   pub room : count ≤ new.queue.spare
 
--- each mutator's queue has room for a finaliser of each weak pointer of the list that it made
+-- room for the finalisers: for each weak pointer of the list, the queue of the mutator that made it has room for one
 pub record HaveQueueRoom (list : List OldWeak) (old new : List Mutator) : Type 0 where
   pub count : length new ≡ length old
   pub each : (k : ℕ) (d : Mutator) → k < length old →
@@ -74,7 +74,7 @@ pub record HaveQueueRoom (list : List OldWeak) (old new : List Mutator) : Type 0
 abbrev pub no_queue : FinQueue
 no_queue = record { words = []; spare = 0 }
 
--- the same mutators, with these queues
+-- mutators changed only in that they have these queues
 pub record HaveQueues (queues : List FinQueue) (old new : List Mutator) : Type 0 where
   pub count : length new ≡ length old
   pub each : (k : ℕ) (m : Mutator) → slice_get old k ≡ Some m → slice_get new k ≡ Some (record m { queue = slice_index_or queues k no_queue })

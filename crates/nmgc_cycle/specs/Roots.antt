@@ -1,4 +1,4 @@
--- What mutators hold at a stop, and what a promotion leaves them.
+-- The mutators' roots at a stop, and the mutators after a promotion.
 use Rattle.std.specs.Prelude.{ℕ, ◌≡◌, List, length, map}
 use Rattle.nmgc_limits.specs.declared.mutators.TheConstants.{REGISTERS}
 use Rattle.nmgc_object.specs.FinQueue.{FinQueue}
@@ -9,12 +9,11 @@ use Rattle.nmgc_mutator.specs.{AtStop.cleared, declared.mutator.Mutator.Mutator}
 abbrev pub queues_in : List Mutator → List FinQueue
 queues_in mutators = map (λ (m : Mutator). m.queue) mutators
 
--- it has as many registers as there are
+-- a mutator with all its registers
 abbrev pub HasRegisters : Mutator → Type 0
 HasRegisters m = length m.registers ≡ REGISTERS
 
--- the mutator once a promotion forwarded its words: its nursery is empty, and nothing is left of the round but what it
--- remembers
+-- the mutator after a promotion forwarded its words: it has an empty nursery, and of the round only remembered entries
 abbrev pub promoted_by : (ℕ → ℕ) → Mutator → Mutator
 promoted_by forward m = record m {
   registers = map forward m.registers;

@@ -1,4 +1,4 @@
--- What contracts see of a collector.
+-- The view of a collector in contracts.
 use Rattle.std.specs.Prelude.{ℕ, List, [], map, Bool, true, false, Option, Some, None}
 use Rattle.nmgc_journal.specs.{declared.report.Phase.Phase, declared.report.CycleRow.CycleRow, declared.report.Report.Report, declared.report.End.End}
 use Rattle.nmgc_journal.specs.declared.report.Phase.TheVariants as phase
@@ -7,18 +7,18 @@ use Rattle.nmgc_mark.specs.Seen.{MarkerSeen, WorkSeen}
 use Rattle.nmgc_sweep.specs.{Seen.CycleSeen, Sweeper.Sweeper}
 pub use Rattle.nmgc_collector_laws.specs.Heaps.{seen_mutator}
 use Rattle.nmgc_mutator.specs.declared.mutator.Mutator.{Mutator}
-use Rattle.nmgc_names.specs.Order.{in_order}
+use Rattle.nmgc_name_lists.specs.Order.{in_order}
 use Rattle.nmgc_world_spec.specs.{Listing.AreDistinct, declared.value.Name.Name}
 use Rattle.nmgc_weak.specs.{declared.weaks.Death.Death, Weaks.names_of, Weaks.places_of}
 use Rattle.nmgc_cycle.specs.{declared.collector.Collector.Collector, declared.progress.Progress.Progress}
 use Rattle.nmgc_cycle.specs.declared.progress.Progress.TheVariants as progress
 
--- the words, which a collector has between two calls
+-- the words that a collector has between two calls
 abbrev pub words_in : Option (List ℕ) → List ℕ
 words_in None = []
 words_in (Some words) = words
 
--- the phase that a stop's row tells
+-- the phase in a stop's row
 abbrev pub phase_in : Progress → Phase
 phase_in progress.Idle = phase.Idle
 phase_in (progress.Marking m) = phase.Marking
@@ -29,11 +29,11 @@ abbrev pub is_marking_in : Progress → Bool
 is_marking_in (progress.Marking m) = true
 is_marking_in _ = false
 
--- the names of those that died at the last closing
+-- the names of the weak pointers that died at the last closing
 abbrev pub died : List Death → List Name
 died deaths = map (λ (death : Death). death.weak) deaths
 
--- what there is of marker, work, sweeper and cycle, and what stands in its place where there is none
+-- marker, work, sweeper and cycle, each with a default if there is none
 abbrev pub marker_in : Progress → MarkerSeen
 marker_in (progress.Marking m) = m.marker
 marker_in _ = record { epoch = 0; queue = []; spare = 0; marked = 0; turns = 0 }
@@ -55,51 +55,52 @@ cycle_in progress.Idle dead = record { from = 0; closed = 0; dead = []; kept = 0
 cycle_in (progress.Marking m) dead = record { from = m.from; closed = 0; dead = []; kept = 0 }
 cycle_in (progress.Sweeping w) dead = record { from = w.from; closed = w.closed; dead = dead; kept = w.kept }
 
--- how often the collector passed the gate in the whole run: the marker or the sweeper of a cycle in progress counts it
+-- the count of passes in the marker or the sweeper of a cycle in progress, and otherwise the given count
 abbrev pub turns_by : Progress → ℕ → ℕ
 turns_by progress.Idle turns = turns
 turns_by (progress.Marking m) turns = m.marker.turns
 turns_by (progress.Sweeping w) turns = w.sweeper.turns
 
--- how often the collector passed the gate so far
+-- passes of the gate by the collector in the whole run: the count of a cycle's marker or sweeper, or else the collector's
 abbrev pub turns_of : Collector → ℕ
 turns_of c = turns_by c.cycle.progress c.cycle.turns
 
--- how often the upper halves of its sweeps did: the sweeper of a cycle in progress counts it
+-- the count of the upper halves' passes in the sweeper of a cycle in progress, and otherwise the given count
 abbrev pub upper_turns_by : Progress → ℕ → ℕ
 upper_turns_by progress.Idle turns = turns
 upper_turns_by (progress.Marking m) turns = m.sweeper.upper_turns
 upper_turns_by (progress.Sweeping w) turns = w.sweeper.upper_turns
 
--- how often the upper halves of its sweeps did so far
+-- passes of the gate by the upper halves of sweeps in the whole run, which have a count of their own
 abbrev pub upper_turns_of : Collector → ℕ
 upper_turns_of c = upper_turns_by c.cycle.progress c.cycle.upper_turns
 
--- how often each mutator passed the gate so far
+-- each mutator's passes of the gate in the whole run
 abbrev pub turns_in : List Mutator → List ℕ
 turns_in mutators = map (λ (m : Mutator). m.turns) mutators
 
 abbrev pub mutator_turns_of : Collector → List ℕ
 mutator_turns_of c = turns_in c.mutators.items
 
--- a row as a report tells it: the collector keeps the names of a row as they were listed, and a report has them in order
-abbrev pub told_row : CycleRow → CycleRow
-told_row row = record row { had = in_order row.had; freed = in_order row.freed }
+-- a row as a report has it: the collector keeps its names as they were listed, and a report has them in order
+abbrev pub report_row : CycleRow → CycleRow
+report_row row = record row { had = in_order row.had; freed = in_order row.freed }
 
--- no name stands twice among those that the row tells as had, and none among those that it tells as freed
+-- a row has no name twice among the names had, nor among the names freed. So its spans in order have names in order
 abbrev pub HasNamesOnce : CycleRow → Type 0
 HasNamesOnce row = AreDistinct row.had × AreDistinct row.freed
 
--- the rows as a report tells them
-abbrev pub told_cycles : Collector → List CycleRow
-told_cycles c = map told_row c.rows.cycles
+-- the cycles' rows as a report has them, with their names in order
+abbrev pub report_cycles : Collector → List CycleRow
+report_cycles c = map report_row c.rows.cycles
 
--- the collector, as `IsAtStop` and `IsAfterRound` speak of it
+-- the view of a collector in contracts (`IsAtStop`, `IsAfterRound`): its report so far, its nurseries, recorded fields and
+-- remembered addresses, and the views of its marker and its sweeper
 abbrev pub seen : Collector → CollectorSeen
 seen c = record {
   rounds = c.rows.rounds;
   stops = c.rows.stops;
-  cycles = told_cycles c;
+  cycles = report_cycles c;
   words = words_in c.heap.words;
   segments = c.heap.segments;
   mutators = map seen_mutator c.mutators.items;
@@ -115,12 +116,12 @@ seen c = record {
   cycle = cycle_in c.cycle.progress (died c.heap.weaks.deaths);
 }
 
--- the report that tells what a collector has, with this end
+-- the report of a collector, with this end
 abbrev pub report_of : Collector → End → Report
 report_of c end = record {
   rounds = c.rows.rounds;
   stops = c.rows.stops;
-  cycles = told_cycles c;
+  cycles = report_cycles c;
   words = (seen c).words;
   segments = c.heap.segments;
   mutators = ends_of (seen c);

@@ -1,10 +1,10 @@
--- The laws on which a stop rests: what its promotion leaves of a heap and of a cycle, and to what each step after it leads.
+-- The laws for a stop: the effect of its promotion on a heap and on a cycle, and the state to which each later step leads.
 use Rattle.nmgc_collector_laws.specs.{Joins.FewerListed, Keeps.PromotionKeepsMarking, Sweeps.PlacedWait, Sweeps.SweepingStays, Sweeps.SettledStays}
 use Rattle.nmgc_run_laws.specs.Places.{BlocksArePlaces}
 use Rattle.nmgc_sweep.specs.Statements.{LeftStays, WorkGoesOn}
 use Rattle.nmgc_cycle.specs.{FullLaws.ProceedingLeads, Steps.AddingLeads, Steps.ClosingLeads, Steps.EndLeads, Steps.CloseReady, Steps.BeginReady}
 
--- a promotion leaves the places of a heap, and the cycle in progress
+-- the laws of a promotion: it leaves the addresses of a heap, and the cycle in progress
 pub record HasPromotionLaws : Type 0 where
   pub back : BlocksArePlaces
   pub marking : PromotionKeepsMarking
@@ -15,7 +15,7 @@ pub record HasPromotionLaws : Type 0 where
   pub left : LeftStays
   pub work : WorkGoesOn
 
--- so each step of a stop leads to the next, and may be done
+-- the laws of a stop: each of its steps leads to the next, and may be done
 pub record HasStopLaws : Type 0 where
   pub promotion : HasPromotionLaws
   pub adding : AddingLeads

@@ -1,4 +1,4 @@
--- The slices of a round: what a mutator with its seat does of its program, and what all of them leave.
+-- The slices of a round: the work of a mutator with its seat, and the state after all slices.
 use Rattle.std.specs.Prelude.{ℕ, ◌≡◌, ◌↔◌, ◌||◌, IsTrue, Bool, false, ◌+◌, ◌*◌, ◌<◌, ◌≤◌, List, [], ◌++◌, length, map, drop, take, min, All, slice_get, slice_index, slice_index_or, Some, vec_capacity}
 use Rattle.std.specs.{Int.div_ceil, List.zip}
 use Rattle.nmgc_world_spec.specs.{declared.command.Command.Command, declared.command.Reply.Reply, Command.Fits}
@@ -13,7 +13,7 @@ use Rattle.nmgc_script.specs.declared.script.Script.{Script}
 use Rattle.nmgc_run_spec.specs.{Run.Run, Run.last_state, Slice.program_of, Slice.slice_of, Slice.some_asks, Slice.is_collect, Slice.is_full, State.State, State.Progress, State.marking}
 use Rattle.nmgc_cycle.specs.{declared.collector.Collector.Collector, declared.round.Lists.Lists, declared.worker.Worker.Worker, Cycles.HasHelped, Keeps.IsAfterStop, Shown.seen as collector_seen}
 
--- what a mutator has left of its program
+-- the commands that a mutator has left of its program
 abbrev pub left_at : Script → List ℕ → ℕ → List Command
 left_at script positions k = drop (slice_index positions k) (program_of script.threads k)
 
@@ -23,7 +23,7 @@ pub record CanWork (round : Round) (slice : ℕ) (program : List Command) (worke
   pub program_is : All (Fits worker.mutator.layout.words) program
   pub room : HasRoom worker.mutator (min slice (length program))
 
--- it did its slice of them, and counted a pass of the gate for each that it tried
+-- a mutator did its slice of these commands, and counted a pass of the gate for each command that it tried
 pub record HasWorkedOn (round : Round) (slice : ℕ) (program : List Command) (old new : Worker) : Type 0 where
   pub run : HasRun round (seen old.seat) new.seat old.mutator new.mutator (take new.done program)
   pub end : SliceEnd
@@ -33,20 +33,20 @@ pub record HasWorkedOn (round : Round) (slice : ℕ) (program : List Command) (o
   pub asks_full : IsTrue new.asks_full ↔ (end ≡ ending.Full)
   pub most : new.done ≤ slice
 
--- each of the workers may do its slice of what is left
+-- each worker may do its slice of the commands left
 pub record CanAllWork (round : Round) (script : Script) (positions : List ℕ) (workers : List Worker) : Type 0 where
   pub threads_are : length script.threads ≡ length workers
   pub positions_are : length positions ≡ length workers
   pub within : (k : ℕ) → k < length workers → slice_index positions k ≤ length (program_of script.threads k)
   pub each : (k : ℕ) (d : Worker) → k < length workers → CanWork round script.config.slice (left_at script positions k) (slice_index_or workers k d)
 
--- each of them did it
+-- each worker did its slice of the commands left
 pub record HaveAllWorked (round : Round) (script : Script) (positions : List ℕ) (old new : List Worker) : Type 0 where
   pub count : length new ≡ length old
   pub each : (k : ℕ) (d : Worker) → k < length old →
       HasWorkedOn round script.config.slice (left_at script positions k) (slice_index_or old k d) (slice_index_or new k d)
 
--- the same of a part of the workers: those of the mutators from one number on
+-- each worker from number `from` on may do its slice; below, did it
 pub record CanWorkFrom (round : Round) (script : Script) (positions : List ℕ) (from : ℕ) (workers : List Worker) : Type 0 where
   pub threads_are : from + length workers ≤ length script.threads
   pub positions_are : from + length workers ≤ length positions
@@ -59,14 +59,14 @@ pub record HaveWorkedFrom (round : Round) (script : Script) (positions : List �
   pub each : (k : ℕ) (d : Worker) → k < length old →
       HasWorkedOn round script.config.slice (left_at script positions (from + k)) (slice_index_or old k d) (slice_index_or new k d)
 
--- whether a worker's slice asks for a cycle, or for a full one
+-- whether a worker's slice asks for a cycle, or for a full cycle
 abbrev pub asks_of : Worker → Bool
 asks_of worker = worker.asks
 
 abbrev pub asks_full_of : Worker → Bool
 asks_full_of worker = worker.asks_full
 
--- a mutator with its seat, that did nothing yet
+-- a worker that did nothing yet: a mutator with its seat
 abbrev pub worker_of : Mutator × RoundSeat → Worker
 worker_of (m, seat) = record { mutator = m; seat = seat; done = 0; asks = false; asks_full = false }
 
@@ -74,7 +74,7 @@ worker_of (m, seat) = record { mutator = m; seat = seat; done = 0; asks = false;
 abbrev pub workers_of : List Mutator → List RoundSeat → List Worker
 workers_of mutators seats = map worker_of (zip mutators seats)
 
--- what a worker has
+-- a worker's mutator, its seat, and the number of commands that it did
 abbrev pub mutator_of : Worker → Mutator
 mutator_of worker = worker.mutator
 
@@ -84,12 +84,12 @@ seat_of worker = worker.seat
 abbrev pub done_by : Worker → ℕ
 done_by worker = worker.done
 
--- empty lists with room for so many seats
+-- empty lists with room for `count` seats
 pub record HaveRoom (count : ℕ) (lists : Lists) : Type 0 where
   pub room : (lists.room.items ≡ []) × (count ≤ vec_capacity lists.room)
   pub seats : (lists.seats.items ≡ []) × (count ≤ vec_capacity lists.seats)
 
--- its lists have room for what so many commands note: one pushes eight words at most
+-- lists of a mutator with room for the notes of `count` commands: a command pushes eight words at most
 pub record HasLists (count : ℕ) (m : Mutator) : Type 0 where
   pub replies : count ≤ m.replies.spare
   pub recorded : count ≤ m.recorded.spare
@@ -102,31 +102,31 @@ abbrev pub HaveSliceRoom : Script → Collector → Type 0
 HaveSliceRoom script c = (k : ℕ) (m : Mutator) → slice_get c.mutators.items k ≡ Some m →
     HasRoom m (min script.config.slice (length (left_at script c.positions.items k)))
 
--- so many entries, rounded up to whole blocks
+-- a number of entries, rounded up to whole blocks
 abbrev pub in_blocks : ℕ → ℕ
 in_blocks entries = div_ceil entries BLOCK_ENTRIES * BLOCK_ENTRIES
 
--- the inbox has room for what each mutator may send in its next slice: for the most that its commands push, in whole blocks
+-- room in the inbox for each mutator's next slice: for the most entries that its commands push, in whole blocks
 abbrev pub HasInboxRoom : Script → List ℕ → List Receiver → Type 0
 HasInboxRoom script positions inbox = (k : ℕ) (r : Receiver) → slice_get inbox k ≡ Some r →
     in_blocks (MOST_PUSHED * min script.config.slice (length (left_at script positions k))) ≤ r.taken.spare
 
--- mutators that are the same but for the room of their lists
+-- mutators changed only in the room of their lists
 pub record AreReserved (old new : List Mutator) : Type 0 where
   pub count : length new ≡ length old
   pub each : (k : ℕ) (d : Mutator) → k < length old → Reserves (slice_index_or old k d) (slice_index_or new k d)
 
--- how a round opens after a stop: while a cycle marks with its machine, and else with the world alone
+-- the opening of a round after a stop: with the cycle's machine while it marks, and otherwise with the world alone
 abbrev pub OpensIn : Progress → State → Collector → List Place → Opening → Type 0
 OpensIn (marking k) s c places o = (h : IsMarking k s (collector_seen c) places) × (o ≡ opening_beside c.heap.segments.layout h.core places c.mutators.items)
 OpensIn _ s c places o = o ≡ opening_at c.heap.segments.layout s.world places c.mutators.items
 
--- the round that begins after a stop opens with the state of that stop
+-- the round after a stop opens with the state of that stop
 abbrev pub OpensAt : Script → Collector → Opening → Type 0
 OpensAt script c o = (run : Run) × (h : IsAfterStop script c run) × OpensIn (last_state run).progress (last_state run) c h.at_stop.heap.places o
 
--- what mutator k did in a round: its slice of what was left, with these replies, and counted a pass of the gate for each command tried; its finaliser queue
--- has no less room, and its sender is that of the same ring
+-- mutator k's part in a round: it did its slice of the commands left, with these replies, and counted a pass of the gate for
+-- each command tried. Its finaliser queue has no less room, and its sender is the same ring's
 pub record DidSlice (script : Script) (old new : Collector) (k : ℕ) (m n : Mutator) (done : List Done) : Type 0 where
   pub commands : map (λ (d : Done). d.0) done ≡ slice_of script.config (left_at script old.positions.items k)
   pub replies : n.replies.items ≡ m.replies.items ++ map (λ (d : Done). d.1) done
@@ -137,7 +137,7 @@ pub record DidSlice (script : Script) (old new : Collector) (k : ℕ) (m n : Mut
   pub queue_room : m.queue.spare ≤ n.queue.spare
   pub sends : SameLine m n
 
--- beside the slices the collector did its part, with these scans
+-- the collector's part beside the slices, with these scans
 pub record HasHelpedBeside (quota : ℕ) (o : Opening) (scans : List Scan) (old new : Collector) : Type 0 where
   pub round : Round
   pub from : RoundSeat
@@ -146,13 +146,12 @@ pub record HasHelpedBeside (quota : ℕ) (o : Opening) (scans : List Scan) (old 
   pub knows : seen seat ≡ record (collecting (whole o)) { scans = scans }
   pub helped : HasHelped round quota from seat old.heap.segments new.heap.segments old.heap.names old.cycle.progress new.cycle.progress
 
--- what was done, without the replies
+-- the commands done, without the replies
 abbrev pub commands_in : List (List Done) → List (List Command)
 commands_in done = map (λ (d : List Done). map (λ (x : Done). x.0) d) done
 
--- a round is over, and its replies aren't told yet: the words are those that it left, each mutator did its slice and
--- remembers what it owes, and the collector did its part; a cycle, or a full one, is asked for where it was, or where
--- a slice asked for one
+-- a finished round whose replies aren't reported yet: the words are back, each mutator did its slice and remembers the
+-- objects owed, and the collector did its part. A cycle, or a full one, is asked for if it was before or a slice asked
 pub record DidSlices (script : Script) (o : Opening) (old new : Collector) : Type 0 where
   pub rest : new ≡ record old {
     heap = record old.heap { words = new.heap.words; segments = new.heap.segments };
@@ -178,8 +177,7 @@ pub record DidSlices (script : Script) (o : Opening) (old new : Collector) : Typ
   pub each : (k : ℕ) (m n : Mutator) (d : List Done) → slice_get old.mutators.items k ≡ Some m → slice_get new.mutators.items k ≡ Some n →
       slice_get done k ≡ Some d → DidSlice script old new k m n d
 
--- mutator k did so many commands of what was left at these positions, up to the end of its slice, and counted a pass of
--- the gate for each command that it tried
+-- mutator k did commands from its position on, up to the end of its slice, and counted a pass of the gate for each it tried
 pub record HasTried (script : Script) (before after : List ℕ) (k : ℕ) (m n : Mutator) : Type 0 where
   pub done : ℕ
   pub position : slice_index after k ≡ slice_index before k + done
@@ -187,12 +185,12 @@ pub record HasTried (script : Script) (before after : List ℕ) (k : ℕ) (m n :
   pub ended : Ended (left_at script before k) script.config.slice done n end
   pub turns : n.turns ≡ passed m.turns (tried done end)
 
--- so did each mutator, from one collector to the next
+-- each mutator did commands from its position on, up to the end of its slice, with a pass of the gate for each it tried
 abbrev pub HaveTried : Script → Collector → Collector → Type 0
 HaveTried script old new = (k : ℕ) (m n : Mutator) → slice_get old.mutators.items k ≡ Some m → slice_get new.mutators.items k ≡ Some n →
     HasTried script old.positions.items new.positions.items k m n
 
--- the same mutator without its replies
+-- a mutator without its replies, but with their room, and otherwise unchanged
 abbrev pub cleared : Mutator → Mutator
 cleared m = record m { replies = record { items = []; spare = m.replies.spare + length m.replies.items } }
 

@@ -1,25 +1,22 @@
-//! A collector: how a run begins, how it goes on, and what it tells in the end.
+//! A collector: the beginning of a run, its progress, and its report in the end.
 //!
-//! What it has is in groups: the heap (`Heap`), the state of its cycles (`CycleState`), and the rows that the report will
-//! have (`Rows`). Beside them are the mutators, with the other ends of their rings and how far each program has come, and
-//! what the last stop answered. What the report takes as the run ends is kept for it from the beginning
-//! (`ReportMemory`).
+//! Its fields are in groups: the heap (`Heap`), the state of its cycles (`CycleState`), and the rows of the report (`Rows`).
+//! Beside them are the mutators, the other ends of their rings, the number of commands answered of each program, and the
+//! answer of the last stop. Memory that the report takes as the run ends is kept for it from the beginning (`ReportMemory`).
 //!
-//! Here is the memory that grows with the heap, and most of it is taken at the beginning: the words in their table,
-//! the segments, the array of names beside them, and the lists of promotion. The table is made from a list of as many
-//! words, which is given back at once, so that its pages serve what is filled later. Room that may never be filled is taken
-//! before it, or it would lie in them. The marker's queue and the sweeper's lists are taken as each cycle begins.
+//! Most memory that grows with the heap is taken at the beginning (`Collector::new`). The table of words is made from a list
+//! of the same length, which is given back at once, so that its pages serve later lists. Room that may never be filled is
+//! taken before that list, or it would lie in those pages. Each cycle takes the marker's queue and the sweeper's lists as it
+//! begins.
 //!
-//! The report is made where nothing can fail any more. So its words are those of the table, where they lie, and what
-//! the mutators have in hand goes into a list whose room was made at the beginning; in between that one stays empty
-//! (`IsWellFormed` of `specs/Keeps.antt`).
+//! The report is made when nothing may fail any more. So it has the words of the table, in place. The final registers, queues
+//! and serials go into a list that has its room from the beginning and is empty until then (`IsWellFormed`).
 //!
-//! A run ends: a round answers a command where any is left, since a slice has room for one command at least and a
-//! nursery for the largest object; and where none is left it leads the cycle in progress on, after which at most one
-//! more begins. How many rounds may follow is counted in `specs/Bound.antt`, so a stop's number has 32 bits.
+//! A run ends. While commands are left, a round answers one at least, since a slice has room for one command and a nursery
+//! for the largest object. If none are left, a round advances the cycle in progress, after which at most one more begins.
+//! `specs/Bound.antt` bounds the rounds that may follow, so a stop's number has 32 bits.
 //!
-//! Easy to get wrong: what is left of a program is what no round answered, and a command that waits for room in
-//! the nursery was not answered.
+//! Easy to get wrong: a command that waits for room in the nursery was not answered, so it is still left of its program.
 ghost use Rattle.std.specs.Prelude.{◌≡◌, ℕ, ◌+◌, ◌<◌, ◌≤◌, ◌⊎◌, [], length, map, slice_get, slice_index, vec_len, vec_capacity, Some, IfOk};
 ghost use Rattle.nmgc_limits.specs.declared.mutators.TheConstants.{SHARED_SLOTS};
 ghost use Rattle.nmgc_object.specs.{declared.layout.TheConstants.SHARED_PLACE, declared.size.TheConstants.HEADER_WORDS, Places.IsLayout};
@@ -27,17 +24,17 @@ ghost use Rattle.nmgc_round.specs.Empty.{IsEmptyHeap};
 ghost use Rattle.nmgc_mutator.specs.{declared.mutator.Mutator.Mutator as MutatorShown, Ready.IsNew};
 ghost use Rattle.nmgc_script.specs.{declared.script.Script.Script as ScriptSeen, Limits.FitsScript, Limits.IsInLimits};
 ghost use Rattle.nmgc_run_spec.specs.{State.plan_of, State.layout_of as planned_layout, Crowded.IsRunOf, Lawful.IsLawful};
-ghost use Rattle.nmgc_collector_laws.specs.{Seen.end_of as told_end, Heaps.seen_mutator};
+ghost use Rattle.nmgc_collector_laws.specs.{Seen.end_of as reported_end, Heaps.seen_mutator};
 ghost use Rattle.nmgc_cycle.specs.{Shown.report_of, Shown.turns_of, Shown.upper_turns_of, Lined.IsLined, Keeps.IsFresh, Keeps.HasEnded};
 
-use crate::names::put_rows_in_order;
+use crate::name_notes::put_rows_in_order;
 use crate::progress::Progress;
 use crate::stop::StopEnd;
 use crate::worker::WorkerRoom;
 use nmgc_alloc::Segments;
 use nmgc_journal::{CycleRow, End, FinalWords, MutatorEnd, Report, RoundRows, StopRow};
 use nmgc_limits::SHARED_SLOTS;
-use nmgc_lists::{List, ListMemory, NoMemory, Placed};
+use nmgc_lists::{List, ListMemory, NoMemory, VecList};
 use nmgc_minor::Promotion;
 use nmgc_mutator::mutator::{MOST_PUSHED, Mutator};
 use nmgc_object::layout::SHARED_PLACE;
@@ -47,83 +44,83 @@ use nmgc_object::{Header, Layout};
 use nmgc_round::laws::empty_heap_opens;
 use nmgc_round::{Gate, Words};
 use nmgc_script::Script;
-use nmgc_sweep::Names;
+use nmgc_sweep::NameTable;
 use nmgc_updrem::{BLOCK_ENTRIES, Inbox, link};
 use nmgc_weak::Weaks;
 use nmgc_world_spec::{Kind, Name};
 use std::alloc::Global;
 use std::thread::Threads;
 
-/// A run, as far as it has come: its heap, its mutators, and what its report tells so far.
+/// A run so far: its heap, its mutators, and the rows that its report has so far.
 #[derive(Drop)]
 pub struct Collector {
     pub(crate) alloc: Global,
     pub(crate) heap: Heap,
-    // By their numbers.
+    // In the order of their numbers.
     pub(crate) mutators: Vec<Mutator>,
     // Room for the workers of a round, one for each mutator.
     pub(crate) workers: WorkerRoom,
-    // The other ends of the mutators' rings, and what was taken out of each since the last stop.
+    // The other ends of the mutators' rings, and the entries taken out of each since the last stop.
     pub(crate) inbox: Inbox,
-    // How many commands of each program were answered.
+    // The number of commands of each program that were answered.
     pub(crate) positions: Vec<u32>,
     pub(crate) rows: Rows,
     pub(crate) cycle: CycleState,
-    // The end that the last stop answered, if it was one.
+    // The end of the run, if the last stop answered an end.
     pub(crate) answered: Option<End>,
     pub(crate) report: ReportMemory,
 }
 
-// The heap: its words, its segments with the names of what lies in them, the lists of a promotion, and the weak pointers.
+// The heap: its words, its segments with the names of objects in them, the lists of a promotion, and the weak pointers.
 #[derive(Drop)]
 pub(crate) struct Heap {
-    // The words of the heap. They are away only within a round.
+    // The words of the heap. They are absent only within a round.
     pub(crate) words: Option<Words>,
     pub(crate) segments: Segments,
     pub(crate) promotion: Promotion,
-    // Of each object in a segment, by its place.
-    pub(crate) names: Names,
+    // The name of each object in a segment, by its address.
+    pub(crate) names: NameTable,
     // The weak pointers that are alive and have a block.
     pub(crate) weaks: Weaks,
 }
 
-// The cycle in progress, if one is, and what lasts from one cycle to the next.
+// The cycle in progress, if there is one, and the state that lasts from one cycle to the next.
 #[derive(Drop)]
 pub(crate) struct CycleState {
     pub(crate) progress: Progress,
-    // How many cycles were begun.
+    // The number of cycles begun.
     pub(crate) begun: u32,
     // Whether a cycle was asked for since the last one began.
     pub(crate) collect: bool,
     // Whether a full cycle was asked for since the last one was done.
     pub(crate) full: bool,
-    // While no cycle is in progress: how often the collector passed the gate.
+    // The collector's passes of the gate in the run. A cycle in progress has the count in its marker or sweeper.
     pub(crate) turns: u64,
-    // And how often the upper halves of its sweeps did.
+    // The passes by the upper halves of its sweeps, likewise.
     pub(crate) upper_turns: u64,
 }
 
-// What the report will tell of the rounds, the stops and the cycles.
+// The report's rows of the rounds, the stops and the cycles.
 #[derive(Drop)]
 pub(crate) struct Rows {
     pub(crate) rounds: List<RoundRows>,
     pub(crate) stops: List<StopRow>,
-    // Of the cycles that ended.
+    // The cycles that ended.
     pub(crate) cycles: List<CycleRow>,
 }
 
-// What a report takes as the run ends, when no memory may be taken.
+// Memory that the report takes as the run ends, when no other memory may be taken.
 #[derive(Drop)]
 pub(crate) struct ReportMemory {
-    // Empty, with room for what each mutator has in hand in the end.
+    // Empty, with room for the final registers, queue and serial of each mutator.
     pub(crate) ends: Vec<MutatorEnd>,
-    // Where the lists of mutators and of weak pointers will lie.
+    // The memory in which the lists of mutators and of weak pointers will lie.
     mutators: ListMemory<MutatorEnd>,
     weaks: ListMemory<Name>,
 }
 
 impl ReportMemory {
-    // With room for so many mutators.
+    // Takes the memory that the report needs as the run ends, with room for `count` mutators, and returns it.
     fn new(alloc: Global, count: usize) -> Result<ReportMemory, NoMemory>
         ensures empty { IfOk result (λ report. report.ends.items ≡ []) }
         ensures room { IfOk result (λ report. count ≤ vec_capacity report.ends) }
@@ -136,7 +133,7 @@ impl ReportMemory {
     }
 }
 
-// The layout of a script's heap.
+// Returns the layout of a script's heap.
 fn layout_of(script: &Script) -> Layout
     requires { FitsScript script.now }
     ensures value { result ≡ planned_layout (plan_of script.now) }
@@ -150,7 +147,7 @@ fn layout_of(script: &Script) -> Layout
     }
 }
 
-// The words of the heap of which nothing was made: all but g's are 0.
+// Returns the words of a heap whose only object is g: all words outside g are 0.
 fn empty_words(alloc: Global, layout: Layout) -> Result<Vec<u64>, NoMemory>
     requires { IsLayout layout }
     ensures heap { IfOk result (λ words. IsEmptyHeap layout words.items) }
@@ -171,7 +168,7 @@ fn empty_words(alloc: Global, layout: Layout) -> Result<Vec<u64>, NoMemory>
     Ok(words)
 }
 
-// How many commands a program's first slice has at most. No clause speaks of the answer.
+// Returns the most commands of the first slice of a mutator's program. No clause constrains the answer.
 fn first_slice(script: &Script, number: u8) -> u32 {
     match script.threads.items().get(usize::from(number)) {
         Some(program) => program.items().len().min(script.config.slice as usize) as u32,
@@ -179,15 +176,15 @@ fn first_slice(script: &Script, number: u8) -> u32 {
     }
 }
 
-// How many entries so many commands send at most, in whole blocks. No clause speaks of the answer.
+// Returns a bound of the entries that `commands` commands send, in whole blocks. No clause constrains the answer.
 fn most_entries(commands: u32) -> u32 {
     commands
         .saturating_mul(MOST_PUSHED)
         .saturating_add(BLOCK_ENTRIES as u32)
 }
 
-// As many mutators as the layout has, by their numbers, which did nothing yet, and the other ends of their rings. Both
-// have room for what the first slice notes and sends.
+// Makes the layout's mutators, which have done nothing yet, in the order of their numbers, and returns them with the other
+// ends of their rings. Mutators and ends have room for the notes and entries of the first slice.
 fn new_mutators(
     alloc: Global,
     layout: Layout,
@@ -211,18 +208,18 @@ fn new_mutators(
         mutators.push(mutator)?;
         receivers.push(receiver)?;
     }
-    Ok((mutators, Inbox::new(Placed::of(receivers, place))))
+    Ok((mutators, Inbox::new(VecList::of(receivers, place))))
 }
 
-// Takes memory for so many words, and gives it back untouched. Only the run's time hangs on it: the C library returns a
-// large block to the system when it is given back, but keeps from then on those up to that block's size, 32 MiB at most.
-// So the pages of the list that the words are copied from, touched as it is filled, serve the run again.
+// Takes memory for `count` words, and gives it back untouched. It changes only the time of the run. The C library returns a
+// large block to the system when it is freed, and from then on keeps blocks up to that size, at most 32 MiB. So when the list
+// from which the words are copied is freed, its pages, already touched, are used again.
 fn keep_freed_pages(alloc: Global, count: usize) -> Result<(), NoMemory> {
     drop(Vec::<u64>::with_capacity(alloc, count)?);
     Ok(())
 }
 
-// The words of a new run, in their table. The list that they are copied from is given back.
+// Returns the words of a new run, in their table. The list from which they are copied is given back.
 fn new_words(alloc: Global, layout: Layout) -> Result<Words, NoMemory>
     requires { IsLayout layout }
     ensures { IfOk result (IsEmptyHeap layout) }
@@ -233,13 +230,12 @@ fn new_words(alloc: Global, layout: Layout) -> Result<Words, NoMemory>
 }
 
 impl Collector {
-    /// The collector of a script's run, before its first stop: no command was answered, the registers and g are
-    /// full of nil, every segment is free, nobody passed the gate, and each mutator's ring is empty.
-    ///
-    /// Asks that the script is within the limits. Takes memory for the words, and for as many again until they lie in
-    /// their table, for the segments with their marks and the names of what lies in them, for what the promotion of full
-    /// nurseries needs and the first slices note, for the workers of a round, and for a ring of `RING_BLOCKS` blocks for each
-    /// mutator; what a cycle needs is taken as it begins.
+    /// Makes the collector of a script's run, as it is before the first stop. There are no rows, and no command was answered.
+    /// The registers and g are full of nil, every segment is free, the gate was not passed, and each mutator's ring is empty.
+    /// Requires that the script is within the limits. Takes memory for the words, and for the same number again until they
+    /// lie in their table. Also for the segments with their marks and the names of objects in them, and for the promotion of
+    /// full nurseries. Also for the notes of the first slices, the workers of a round, and a ring of `RING_BLOCKS` blocks for
+    /// each mutator. A cycle's memory is taken when the cycle begins.
     pub fn new(alloc: Global, script: &Script) -> Result<Collector, NoMemory>
         requires { IsInLimits script.now }
         ensures fresh { IfOk result (λ collector. IsFresh script.now collector) }
@@ -253,7 +249,7 @@ impl Collector {
         let (mutators, inbox) = new_mutators(alloc, layout, script)?;
         let words = new_words(alloc, layout)?;
         let segments = Segments::new(alloc, layout)?;
-        let names = Names::new(alloc, layout)?;
+        let names = NameTable::new(alloc, layout)?;
         let count = layout.mutators as usize;
         let workers = WorkerRoom::reserve(alloc, count)?;
         let positions = vec![in alloc; 0u32; count]?;
@@ -289,14 +285,16 @@ impl Collector {
         })
     }
 
-    /// A whole run of a script: a stop, and then rounds, each with a stop after it, until a stop answers an end.
+    /// Does a whole run of a script, and returns its report. A run is a stop, and then rounds, each with a stop after it,
+    /// until a stop answers an end. In a round each mutator with commands left works in a thread of its own, and passes
+    /// `gate` before each command that it tries. The collector passes it before each object that it scans and each segment
+    /// that it sweeps. If a thread can't be started, the caller's thread does its work.
     ///
-    /// In a round each mutator with commands left works in a thread of its own, and passes `gate` before each command that it
-    /// tries, and so does the collector before each object that it scans and each segment that it sweeps; where a thread can't
-    /// be started, its work is done by this one. The report is lawful, to its end: `Done`, where every command was answered, or
-    /// `HeapFull`, exactly where a full cycle at the last stop left fewer segments free than the reserve, and commands are
-    /// left. Then the last cycle, and the world with which that full cycle began, kept more objects than there are segments
-    /// above the reserve. Asks what `new` asks. After `NoMemory` nothing of the run is left.
+    /// The report is lawful: it reports one run of the script, to its end. Its words represent the last world, and word 0 and
+    /// the words between g and the first segment are 0. It ends with `Done` if every command was answered. It ends with
+    /// `HeapFull` exactly if a full cycle at the last stop left fewer segments free than the reserve, and commands are left.
+    /// Then the last cycle kept more objects than there are segments above the reserve, and so does the world with which that
+    /// full cycle began. Requires that the script is within the limits. After `NoMemory` nothing of the run is left.
     pub fn run<R: Threads + Sync, G: Gate>(
         alloc: Global,
         rt: &R,
@@ -318,28 +316,28 @@ impl Collector {
         }
     }
 
-    /// The mutators, by their numbers. After a round each has what it remembered and didn't send. Takes no memory.
+    /// Returns the mutators, by number. After a round each has the remembered entries that it didn't send. Takes no memory.
     pub fn mutators(&self) -> &[Mutator]
         ensures { result.now ≡ self.now.mutators.items }
     {
         self.mutators.as_slice()
     }
 
-    /// What was taken out of the mutators' rings since the last stop. Takes no memory.
+    /// Returns the entries taken out of the mutators' rings since the last stop. `mutators` and `inbox` are for a caller that
+    /// does rounds and stops itself: the clause `remembered` of `round` uses them. Takes no memory.
     pub fn inbox(&self) -> &Inbox
         ensures { result.now ≡ self.now.inbox }
     {
         &self.inbox
     }
 
-    /// The report of the run. Asks that the run has ended so, as its last stop answered.
-    ///
-    /// Its rows, words and segments are those of the collector, and each mutator's registers, queue and serial
-    /// are told as they are. Takes no memory, and copies no word of the heap.
+    /// Makes the report of the run, which is lawful. Requires that the run has ended with `end`, as its last stop answered.
+    /// The report has the collector's rows, words and segments, and each mutator's registers, queue and serial as they are.
+    /// The names in a cycle's row are put in order. Takes no memory, and copies no word of the heap.
     pub fn into_report(self, end: End) -> Report
         requires { (script : ScriptSeen) × HasEnded script self end }
         ensures parts { result ≡ report_of self end }
-        ensures told { (script : ScriptSeen) → HasEnded script self end → IsLawful script result }
+        ensures reported { (script : ScriptSeen) → HasEnded script self end → IsLawful script result }
     {
         let Collector {
             alloc: _,
@@ -381,11 +379,11 @@ impl Collector {
     }
 }
 
-// What the mutators have in hand as the run ends, in a list that has room for it.
+// Fills `ends`, which has room for it, with the final registers, queue and serial of each mutator, and returns it.
 fn all_ends(mutators: Vec<Mutator>, ends: Vec<MutatorEnd>) -> Vec<MutatorEnd>
     requires empty { ends.items ≡ [] }
     requires room { vec_len mutators ≤ vec_capacity ends }
-    ensures { result.items ≡ map told_end (map seen_mutator mutators.items) }
+    ensures { result.items ≡ map reported_end (map seen_mutator mutators.items) }
 {
     let mut ends = ends;
     for mutator in mutators {
@@ -394,9 +392,9 @@ fn all_ends(mutators: Vec<Mutator>, ends: Vec<MutatorEnd>) -> Vec<MutatorEnd>
     ends
 }
 
-// What a mutator has in hand as the run ends.
+// Returns the final registers, queue and serial of a mutator.
 fn end_of(mutator: Mutator) -> MutatorEnd
-    ensures { result ≡ told_end (seen_mutator mutator) }
+    ensures { result ≡ reported_end (seen_mutator mutator) }
 {
     let Mutator {
         number: _,

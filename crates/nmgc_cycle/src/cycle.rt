@@ -1,17 +1,16 @@
-//! The steps of a stop that lead a cycle on: it is closed, it ends, the next one begins.
+//! The steps of a stop that advance a cycle: adding, closing, end and beginning.
 //!
-//! They come after the promotion, in this order, so at one stop a cycle may be closed and end, and another begin. All
-//! that takes memory here may fail, since the words are back from the round. When a cycle may be closed, and what its
-//! closing does to the world, is said in `nmgc_run_spec`'s `specs/Closing.antt`; what the calls here do is said in
-//! `specs/Cycles.antt`, in part by the same names, and `specs/Steps.antt` leads from the one to the other.
+//! Note [The steps of a stop] in stop.rt has their order. All that takes memory here may fail, since the words are back from
+//! the round. `nmgc_run_spec`'s `specs/Closing.antt` defines when a cycle may be closed, and its effect on the world.
+//! `specs/Cycles.antt` defines the calls' effects, in part by the same names, and `specs/Steps.antt` relates the two.
 //!
-//! What a mutator remembers is in three places: what was taken out of its ring, then the ring, then what it keeps. In this
-//! order it goes to the marker; then all three are empty, whether a cycle marks or not, so that the two ends of the ring
-//! are level at each stop.
+//! A mutator's remembered entries are the entries taken out of its ring, then those in the ring, then those in its set. They
+//! go to the marker in this order. Then all three are empty, even if no cycle marks. So at a stop the ends of each ring are
+//! level: all entries sent were received.
 //!
-//! Easy to get wrong: the marker gets what the mutators remember at each stop while it marks, also where the cycle
-//! goes on, and before it is asked whether the cycle is to be closed. The closing itself goes by what the last work
-//! answered: what was just added is scanned by the closing.
+//! Easy to get wrong: while a cycle marks, the marker gets the remembered entries at each stop, before it is decided whether
+//! the cycle is closed, and even if it isn't. The decision depends on the marker's work in the last round alone. The entries
+//! can't prevent a closing: it scans the objects that they add.
 ghost use Rattle.std.specs.Prelude.{ℕ, ◌≡◌, ◌↔◌, ◌+◌, ◌*◌, ◌<◌, ◌≤◌, ◌^◌, IfOk, IfSome, IfNone, OnOk, IsSome, IsTrue, Some, length, slice_get};
 ghost use Rattle.nmgc_object.specs.declared.layout.TheConstants.{FIRST_PLACE};
 ghost use Rattle.nmgc_alloc.specs.Segments.{IsSegments};
@@ -35,7 +34,7 @@ use nmgc_world_spec::Name;
 use std::alloc::Global;
 use std::mem;
 
-// The epoch of a cycle by its number: 1 and 2 in turn.
+// Returns the epoch of cycle `number`: 1 and 2 alternate.
 fn epoch_of(number: u32) -> u8
     ensures value { result ≡ epoch_by number }
     ensures sound { IsEpoch result }
@@ -43,7 +42,15 @@ fn epoch_of(number: u32) -> u8
     if number % 2 == 0 { 2 } else { 1 }
 }
 
-// The oldest block in a mutator's ring, if there is one.
+// Does nothing when it runs: it gives the prover that all segments are still sound after the marker's or sweeper's work (Note
+// [Lines that do nothing] in `nmgc_alloc`).
+pub(crate) fn segments_are_sound(segments: &Segments)
+    ensures { IsSegments segments.now }
+{
+    let _ = segments.layout();
+}
+
+// Takes the oldest block out of a mutator's ring, and returns it. After `None` the two ends are level.
 fn take_block(inbox: &mut Inbox, number: u8, mutator: &mut Mutator) -> Option<UpdBlock>
     requires { IsPaired inbox.old number mutator.old.sender }
     ensures rest { mutator.new ≡ record mutator.old { sender = mutator.new.sender } }
@@ -53,8 +60,8 @@ fn take_block(inbox: &mut Inbox, number: u8, mutator: &mut Mutator) -> Option<Up
     inbox.take_rest(number, mutator.sender())
 }
 
-// What a mutator remembers goes to the marker: what was taken out of its ring, then what the ring has, then what the
-// mutator keeps.
+// Gives a mutator's remembered entries to the marker: first the entries taken out of its ring, then the entries in the ring,
+// which is empty afterwards, and then the entries in its set.
 fn add_one(
     marker: &mut Marker,
     segments: &mut Segments,
@@ -76,7 +83,7 @@ fn add_one(
     marker.add(segments, mutator.updrem.entries());
 }
 
-// A mutator remembers nothing any more, and its ring is empty.
+// Empties a mutator's set, its ring and its list in the inbox, so that it remembers nothing.
 fn forget(inbox: &mut Inbox, number: u8, mutator: &mut Mutator)
     requires { IsPaired inbox.old number mutator.old.sender }
     ensures forgot { HasForgotten mutator.old mutator.new }
@@ -88,7 +95,7 @@ fn forget(inbox: &mut Inbox, number: u8, mutator: &mut Mutator)
     mutator.updrem.clear();
 }
 
-// What the mutators remember goes to the marker, one mutator after the other, and they remember nothing any more.
+// Gives the remembered entries of all mutators to the marker, one mutator after another, and empties sets, rings and lists.
 fn add_all(
     marker: &mut Marker,
     segments: &mut Segments,
@@ -106,11 +113,10 @@ fn add_all(
         add_one(marker, segments, inbox, number as u8, mutator);
         forget(inbox, number as u8, mutator);
     }
-    // What is true of all segments is true of these.
-    let _ = segments.layout();
+    segments_are_sound(segments);
 }
 
-// The mutators remember nothing.
+// Empties each mutator's set, its ring and its list in the inbox.
 fn forget_all(inbox: &mut Inbox, mutators: &mut [Mutator])
     requires lines { HaveLines inbox.old mutators.old }
     ensures { HaveForgottenSoFar (length mutators.old) inbox.old inbox.new mutators.old mutators.new }
@@ -121,7 +127,7 @@ fn forget_all(inbox: &mut Inbox, mutators: &mut [Mutator])
 }
 
 impl Collector {
-    // What the mutators remember goes to the marker, if one marks, and is cleared.
+    // Empties all sets, rings and lists of remembered entries. If a cycle marks, gives the entries to its marker first.
     pub(crate) fn add_remembered(&mut self)
         requires can { CanAdd self.old.heap.segments self.old.cycle.progress }
         requires lines { HaveLines self.old.inbox self.old.mutators.items }
@@ -140,8 +146,8 @@ impl Collector {
         forget_all(&mut self.inbox, mutators);
     }
 
-    // The cycle is closed where the marker's last work left nothing.
-    pub(crate) fn close(&mut self, stop: u32)
+    // If a cycle marks and its marker's last work left nothing to scan, closes the cycle.
+    pub(crate) fn try_close(&mut self, stop: u32)
         requires words { IsSome self.old.heap.words }
         requires can { CanClose (words_in self.old.heap.words) self.old.heap.segments self.old.heap.weaks.list (queues_in self.old.mutators.items)
             self.old.cycle.progress }
@@ -150,7 +156,7 @@ impl Collector {
         self.cycle.progress = match mem::replace(&mut self.cycle.progress, Progress::Idle) {
             Progress::Marking(marking) => {
                 if marking.last.empty {
-                    Progress::Sweeping(self.closed(marking, stop))
+                    Progress::Sweeping(self.close(marking, stop))
                 } else {
                     Progress::Marking(marking)
                 }
@@ -159,8 +165,10 @@ impl Collector {
         };
     }
 
-    // Marking is finished, and the marks of segments that aren't to be swept are carried.
-    pub(crate) fn closed(&mut self, marking: Marking, stop: u32) -> Sweeping
+    // Closes a cycle, and returns it as it begins to sweep, with the marker's count of the gate's passes. Changes the words,
+    // the segments, the list of weak pointers and the mutators' queues. It scans to the end, resolves the weak pointers,
+    // queues the finalisers of those that die, and carries the marks of segments that aren't to be swept.
+    pub(crate) fn close(&mut self, marking: Marking, stop: u32) -> Sweeping
         requires words { IsSome self.old.heap.words }
         requires ready { IsReadyToClose (words_in self.old.heap.words) self.old.heap.segments self.old.heap.weaks.list (queues_in self.old.mutators.items)
             marking }
@@ -186,7 +194,7 @@ impl Collector {
             .weaks
             .resolve(&mut marker, words, &mut self.heap.segments);
         weaks::queue_all(self.heap.weaks.deaths(), self.mutators.as_mut_slice());
-        let _ = self.heap.segments.layout();
+        segments_are_sound(&self.heap.segments);
         self.heap.segments.carry(marker.epoch());
         sweeper.turns = marker.turns;
         Sweeping {
@@ -197,7 +205,7 @@ impl Collector {
         }
     }
 
-    // Whether a cycle was swept to its end.
+    // Whether a cycle sweeps and no segment waits to be swept any more.
     fn is_swept(&self) -> bool
         ensures { IsTrue result ↔ IsSwept self.now }
     {
@@ -207,7 +215,7 @@ impl Collector {
         }
     }
 
-    // A cycle that is sweeping ends where no segment waits: its row is told, and the collector is idle.
+    // If a cycle sweeps and no segment waits, ends it: adds its row, and leaves the collector idle with the sweeper's counts.
     pub(crate) fn end(&mut self, stop: u32) -> Result<(), NoMemory>
         ensures { OnOk result (Ends stop self.old.cycle.progress self.old self.new) }
     {
@@ -225,8 +233,8 @@ impl Collector {
         self.rows.cycles.push(row)
     }
 
-    // Whether a cycle is due: none is in progress, and one was asked for, or enough segments were filled since the
-    // last one began.
+    // Whether a cycle is due: none is in progress, and either one was asked for, or `trigger` isn't 0 and at least `trigger`
+    // segments were filled since the last cycle began.
     fn is_due(&self, trigger: u32) -> bool
         ensures { IsTrue result ↔ IsDue trigger self.now }
     {
@@ -237,7 +245,7 @@ impl Collector {
         }
     }
 
-    // A cycle begins where one is due.
+    // If a cycle is due, begins it.
     pub(crate) fn begin(&mut self, trigger: u32, stop: u32) -> Result<(), NoMemory>
         requires words { IsSome self.old.heap.words }
         requires inside { FIRST_PLACE ≤ length (words_in self.old.heap.words) }
@@ -251,7 +259,7 @@ impl Collector {
         Ok(())
     }
 
-    // A cycle begins.
+    // Begins a cycle, which marks from now on, and clears the request for a cycle.
     pub(crate) fn start(&mut self, stop: u32) -> Result<(), NoMemory>
         requires words { IsSome self.old.heap.words }
         requires inside { FIRST_PLACE ≤ length (words_in self.old.heap.words) }
@@ -266,7 +274,8 @@ impl Collector {
         Ok(())
     }
 
-    // Which segments are to be swept is noted, and what the roots refer to is marked.
+    // Starts the marking of a cycle, and returns the cycle. The sweeper notes the segments that are to be swept, and the
+    // marker marks the objects that the roots refer to. The mutators' queues get room for the closing's finalisers.
     fn start_marking(&mut self, stop: u32) -> Result<Marking, NoMemory>
         requires words { IsSome self.old.heap.words }
         requires inside { FIRST_PLACE ≤ length (words_in self.old.heap.words) }
@@ -287,7 +296,7 @@ impl Collector {
             self.mutators.as_slice(),
             epoch,
         )?;
-        let _ = self.heap.segments.layout();
+        segments_are_sound(&self.heap.segments);
         weaks::reserve_queues(self.mutators.as_mut_slice(), &self.heap.weaks)?;
         marker.turns = self.cycle.turns;
         sweeper.turns = self.cycle.turns;
@@ -304,7 +313,7 @@ impl Collector {
     }
 }
 
-// The row of a cycle that ends at a stop.
+// Returns the row of a cycle that ends at a stop, with the names of the weak pointers that died at its closing.
 fn row_of(
     number: u32,
     sweeping: Sweeping,

@@ -1,25 +1,26 @@
-//! A full cycle, done at one stop: the cycle in progress is finished, and then one that sweeps every segment begins and
-//! is finished.
+//! A full cycle, done at one stop. The cycle in progress is closed, swept and ended. Then a new cycle that sweeps every
+//! segment in use begins, and is closed, swept and ended too.
 //!
-//! It is done where it was asked for, or where commands are left and fewer segments are free than the reserve. After it
-//! each segment that isn't free has an object that the cycle kept, so what is still short of segments is full of them.
-//! `specs/Full.antt` says what its parts do, and `specs/FullLaws.antt` what they lead to in the run.
+//! Step 4 of Note [The steps of a stop] in stop.rt says when it is done. After it each segment that isn't free has an object
+//! that the cycle kept, so a heap that is still short of segments is full of kept objects. `specs/Full.antt` defines the
+//! effect of its parts, and `specs/FullLaws.antt` relates them to the run.
 //!
-//! Easy to get wrong: current and active segments aren't swept unless they are filed as filled before the cycle begins.
-//! And the cycle in progress is closed whatever its marker's last work answered: what is left is scanned by the closing.
+//! Easy to get wrong: current and active segments are swept only if they are filed as filled before the cycle begins. And the
+//! cycle in progress is closed whatever its marker's last work answered: the closing scans the rest.
 ghost use Rattle.std.specs.Prelude.{◌≡◌, ◌↔◌, ◌+◌, ◌<◌, ◌^◌, OnOk, IsSome, IsTrue};
 ghost use Rattle.nmgc_cycle.specs.{Roots.queues_in, Shown.words_in, Cycles.HasClosed, FullLaws.StandsAtStop};
 ghost use Rattle.nmgc_cycle.specs.Full.{is_short_of, IsFullDue, CanCloseNow, ClosesNow, CanSweepRest, HasSweptRest, HasFinished, HasDoneFull, Proceeds};
 
 use crate::Collector;
-use crate::leading::{a_finish_leads, a_full_cycle_leads};
+use crate::cycle::segments_are_sound;
 use crate::progress::Progress;
+use crate::stop_laws::{a_finish_leads, a_full_cycle_leads};
 use nmgc_lists::NoMemory;
 use std::mem;
 use std::thread::Threads;
 
 impl Collector {
-    // Whether commands are left, and fewer segments are free than the reserve.
+    // Whether the heap is short of segments: commands are left, and fewer segments are free than the reserve.
     fn is_short(&self, left: bool) -> bool
         ensures { result ≡ is_short_of left self.now }
     {
@@ -33,7 +34,7 @@ impl Collector {
         self.cycle.full || self.is_short(left)
     }
 
-    // The cycle is closed, if one marks.
+    // If a cycle marks, closes the cycle, whatever its marker's last work left to scan.
     fn close_now(&mut self, stop: u32)
         requires words { IsSome self.old.heap.words }
         requires can { CanCloseNow (words_in self.old.heap.words) self.old.heap.segments self.old.heap.weaks.list (queues_in self.old.mutators.items)
@@ -41,12 +42,12 @@ impl Collector {
         ensures { HasClosed ClosesNow stop self.old self.new }
     {
         self.cycle.progress = match mem::replace(&mut self.cycle.progress, Progress::Idle) {
-            Progress::Marking(marking) => Progress::Sweeping(self.closed(marking, stop)),
+            Progress::Marking(marking) => Progress::Sweeping(self.close(marking, stop)),
             progress => progress,
         };
     }
 
-    // All segments that wait are swept.
+    // Sweeps all segments that wait, without passing the gate.
     fn sweep_rest<R: Threads + Sync>(&mut self, rt: &R)
         requires can { CanSweepRest self.old.heap.segments self.old.heap.names self.old.cycle.progress }
         ensures { HasSweptRest self.old self.new }
@@ -55,12 +56,11 @@ impl Collector {
             sweeping
                 .sweeper
                 .finish(rt, &mut self.heap.segments, &self.heap.names);
-            // What is true of all segments is true of these.
-            let _ = self.heap.segments.layout();
+            segments_are_sound(&self.heap.segments);
         }
     }
 
-    // The cycle in progress is closed, swept and ended at this stop.
+    // Closes, sweeps and ends the cycle in progress at this stop.
     fn finish_cycle<R: Threads + Sync>(&mut self, rt: &R, stop: u32) -> Result<(), NoMemory>
         requires stands { StandsAtStop stop self.old }
         ensures { OnOk result (HasFinished stop self.old self.new) }
@@ -72,7 +72,7 @@ impl Collector {
         Ok(())
     }
 
-    // A full cycle is done at this stop, and nothing is asked for any more.
+    // Does a full cycle at this stop, and clears the requests for a cycle and for a full cycle.
     fn full_cycle<R: Threads + Sync>(&mut self, rt: &R, stop: u32) -> Result<(), NoMemory>
         requires stands { StandsAtStop stop self.old }
         requires number { self.old.cycle.begun + 1 < 2 ^ 32 }
@@ -88,7 +88,7 @@ impl Collector {
         Ok(())
     }
 
-    // A full cycle is done where one is due, and else a cycle begins where one is due.
+    // If a full cycle is due, does it. Otherwise, if a cycle is due, begins it.
     pub(crate) fn proceed<R: Threads + Sync>(
         &mut self,
         rt: &R,

@@ -1,13 +1,12 @@
-//! What the collector does beside the mutators: nothing, or it marks, or it sweeps.
+//! The collector's work beside the mutators: none, or marking, or sweeping.
 //!
-//! In a round it works on a thread of its own, where it has something to do and somebody has commands left, and what it
-//! writes then are marks and segments that wait to be swept; the mutators look at neither. It passes the gate before each
-//! object that it scans and before each segment that it sweeps, and counts these turns through the whole run: marker and
-//! sweeper hand the count on. Segments are swept in two halves, and the upper one is on one more thread, which passes the
-//! gate under its own number and by its own count.
+//! In a round it works on a thread of its own, if it has work and some program has commands left. It writes marks and
+//! segments that wait to be swept; the mutators look at neither. It passes the gate before each object that it scans and
+//! before each segment that it sweeps. It counts these passes through the whole run: marker and sweeper hand the count on.
+//! Segments are swept in two halves. The upper half has a further thread, with its own number and count at the gate.
 //!
-//! The sweeper starts as its cycle begins, since it notes which segments are to be swept then; it works once the cycle
-//! was closed. What lies in these segments it reads from the array of names, which nobody writes in a round.
+//! The sweeper starts as its cycle begins, to note the segments that are to be swept. It works once the cycle was closed. It
+//! reads the names of the objects in these segments from the array of names, to which nothing is written in a round.
 ghost use Rattle.std.specs.Prelude.{◌≡◌, ◌≤◌, length};
 ghost use Rattle.nmgc_updrem.specs.Rings.{HavePolled};
 ghost use Rattle.nmgc_cycle.specs.{Shown.phase_in, Shown.is_marking_in, Cycles.CanHelp, Cycles.HasHelped};
@@ -16,7 +15,7 @@ use nmgc_alloc::Segments;
 use nmgc_journal::Phase;
 use nmgc_mark::{Marker, Work};
 use nmgc_round::{CollectorSeat, Gate, Round};
-use nmgc_sweep::{Names, Sweeper};
+use nmgc_sweep::{NameTable, Sweeper};
 use nmgc_updrem::Inbox;
 use std::thread::Threads;
 
@@ -26,9 +25,9 @@ pub struct Marking {
     /// The stop of its snapshot.
     pub from: u32,
     pub marker: Marker,
-    /// What the marker's last work answered.
+    /// The answer of the marker's last work.
     pub last: Work,
-    /// It noted, as the cycle began, which segments are to be swept.
+    /// It noted, as the cycle began, the segments that are to be swept.
     pub sweeper: Sweeper,
 }
 
@@ -39,12 +38,12 @@ pub struct Sweeping {
     pub from: u32,
     /// The stop of its closing.
     pub closed: u32,
-    /// How many objects it keeps.
+    /// The number of objects that it keeps.
     pub kept: u32,
     pub sweeper: Sweeper,
 }
 
-/// What the collector does.
+/// The phase of the collector, with the cycle in progress.
 #[derive(Drop)]
 pub enum Progress {
     Idle,
@@ -53,7 +52,7 @@ pub enum Progress {
 }
 
 impl Progress {
-    /// The phase that a stop tells.
+    /// Returns the phase that a stop's row shows.
     pub fn phase(&self) -> Phase
         ensures { result ≡ phase_in self.now }
     {
@@ -74,8 +73,8 @@ impl Progress {
         }
     }
 
-    /// Whether there is something to do beside the mutators: an object to be scanned, or one of the waiting segments to be
-    /// swept. No clause speaks of the answer, for `work` is soon done where there is nothing. Takes no memory.
+    /// Whether there is work beside the mutators: an object to scan, or, in a cycle that sweeps, one of `waiting` segments to
+    /// sweep. No clause constrains the answer, since `work` is soon done if there is none. Takes no memory.
     pub fn has_work(&self, waiting: u32) -> bool {
         match self {
             Progress::Idle => false,
@@ -84,16 +83,16 @@ impl Progress {
         }
     }
 
-    /// The collector's part of a round: scans at most `quota` objects, or sweeps at most `quota` segments. Before each
-    /// object it polls the ring of each mutator. What the marker answers is kept for the stop. Takes no memory, and waits
-    /// for nobody but the gate.
+    /// Does the collector's part of a round: scans at most `quota` objects, or sweeps at most `quota` segments, and fewer
+    /// only if no more are left. Before each object the collector polls the ring of each mutator. The marker's answer is kept
+    /// for the stop. Takes no memory, and waits for the gate alone.
     pub fn work<R: Threads + Sync, G: Gate>(
         &mut self,
         rt: &R,
         round: &Round,
         seat: &mut CollectorSeat,
         segments: &mut Segments,
-        names: &Names,
+        names: &NameTable,
         inbox: &mut Inbox,
         quota: u32,
         gate: &G,

@@ -1,20 +1,19 @@
-//! A round: each mutator does a slice of what is left of its program, in a thread of its own where anything is, and beside
-//! them the collector marks or sweeps, where a cycle is in progress, in one too.
+//! A round: each mutator with commands left does a slice of its program, in a thread of its own. Beside them the collector
+//! marks or sweeps, if a cycle is in progress, in a thread too.
 //!
-//! What can fail comes first: room for the replies and for what the mutators note, and the lists of the round's seats;
-//! the room for its workers lasts for the run. Then the words go into the round and come back from it, and nothing in
-//! between can fail. Only then are the replies taken off the mutators, for the report.
+//! First comes all that can fail: room for replies and notes, and the lists of the round's seats. The room for the workers
+//! lasts for the run. Then the words go into the round and come back from it, and nothing in between can fail. Only then are
+//! the replies taken off the mutators, for the report.
 //!
-//! The opening of the round, which world the words stand for, is known in proofs alone (`Chosen`): it is the last
-//! state of the run that the collector's rows tell, and while a cycle marks it has the machine to which the marker is
-//! tied (`OpensAt`). The round is told `marking` by the same phase, since mutators owe what they overwrite exactly then.
+//! The opening of the round, with the world that the words represent, exists in proofs alone (`Witness`). It is the last state
+//! of the run that the collector's rows describe; while a cycle marks it also has the marking machine to which the marker is
+//! tied (`OpensAt`). The round gets `marking` by the same phase, since mutators owe overwritten references exactly then.
 //!
-//! Whatever the collector does, commands, replies and worlds of the round are those of the mutators alone: what it
-//! writes are marks and segments that wait. What it leaves of its cycle is told phase by phase (`DidSlices`,
-//! `HasHelped`): the marker's marks are those of its scans, and of a segment that was swept only freed names are gone.
+//! Commands, replies and worlds don't depend on the collector: it writes only marks and segments that wait. `DidSlices` and
+//! `HasHelped` describe its cycle after the round phase by phase. The marker's marks come from its scans, and from a swept
+//! segment only freed names are gone.
 //!
-//! Easy to get wrong: a request for a cycle or a full one that an earlier round made stands until a stop grants it, so
-//! a round may only add to the requests.
+//! Easy to get wrong: a request for a cycle or a full one lasts until a stop grants it, so a round may only add requests.
 ghost use Rattle.std.specs.Prelude.{ℕ, ◌≡◌, ◌||◌, ◌<◌, ◌≤◌, ◌+◌, ◌^◌, [], ◌∷◌, ◌++◌, true, None, Some, IfOk, OnOk, length, map, min, slice_get, slice_index, slice_index_or};
 ghost use Rattle.std.specs.List.{list_any};
 ghost use Rattle.nmgc_alloc.specs.Segments.{IsSegments};
@@ -28,33 +27,24 @@ ghost use Rattle.nmgc_cycle.specs.{Lined.IsLined, Lined.HasMetSender, Lined.Have
 ghost use Rattle.nmgc_cycle.specs.Working.{left_at, HaveRoom, HasLists, HaveSliceRoom, HasInboxRoom, AreReserved, CanAllWork, HaveAllWorked, OpensAt, DidSlices, HaveTried, asks_of, asks_full_of, done_by, cleared, replies_of};
 
 use crate::Collector;
-use crate::worker::{Worker, seated, some_ask_full, some_asks, unseated, work_beside};
-use nmgc_alloc::Segments;
-use nmgc_collector_laws::idle::{
-    a_rest_opens_a_round, a_round_is_a_history, a_round_is_stopped, finalised_are_told,
-    slices_are_gathered,
-};
-use nmgc_collector_laws::marking::{
-    a_closed_cycle_sweeps, a_heap_ties_by_blocks, a_rest_opens_a_round as opens_beside,
-    freed_places_go, slices_are_owed, the_heap_goes_on, the_machine_goes_on,
-    the_marker_leads_a_cycle, the_pace_is_kept,
-};
+use crate::cycle::segments_are_sound;
+use crate::round_laws::{a_round_leads, slices_lead};
+use crate::worker::{Worker, seat_all, some_ask_full, some_asks, unseat_all, work_beside};
 use nmgc_journal::{Replies, RoundRows};
 use nmgc_limits::MAKERS;
 use nmgc_lists::{List, ListMemory, NoMemory};
-use nmgc_mutator::laws::a_round_finds_mutators_ready;
 use nmgc_mutator::mutator::{MOST_PUSHED, Mutator};
-use nmgc_round::chosen::Wanted;
-use nmgc_round::{Chosen, CollectorSeat, Finished, Gate, MutatorSeat, Opened, Round, Started};
+use nmgc_round::witness::WitnessFor;
+use nmgc_round::{CollectorSeat, Finished, Gate, MutatorSeat, Opened, Round, Started, Witness};
 use nmgc_script::Script;
-use nmgc_sweep::laws::segments_are_left;
 use nmgc_updrem::{BLOCK_ENTRIES, Inbox};
 use std::alloc::Global;
 use std::mem;
 use std::thread::Threads;
 
-// The lists of seats that a round gives and takes, and where they will lie. They are made anew for each round: it takes
-// them by value, and contracts see no room of a `List`. A seat has no bytes.
+// The memory of a round's seats: two lists with room, and the memory in which each will lie. The round hands out its seats in
+// one list, and the seats go back to it in the other. Both are made anew for each round, since the round takes them by value,
+// and contracts don't see the room of a `List`. A seat has no bytes.
 #[derive(Drop)]
 struct Lists {
     room: Vec<MutatorSeat>,
@@ -64,7 +54,7 @@ struct Lists {
 }
 
 impl Lists {
-    // Empty lists, with room for so many seats.
+    // Returns empty lists with room for `count` seats.
     fn new(alloc: Global, count: usize) -> Result<Lists, NoMemory>
         ensures { IfOk result (λ lists. HaveRoom count lists) }
     {
@@ -80,32 +70,36 @@ impl Lists {
 // The opening of the round after a stop.
 struct AfterStop;
 
-impl<'a> Wanted<(&'a Script, &'a Collector), Opened> for AfterStop {
+impl<'a> WitnessFor<(&'a Script, &'a Collector), Opened> for AfterStop {
     ghost use Rattle.nmgc_cycle.specs.Working.{OpensAt};
 
     ghost wanted = { λ about o. OpensAt about.0.now about.1.now o };
 }
 
-fn opening_of(script: &Script, collector: &Collector) -> Chosen<Opened>
+fn opening_of(script: &Script, collector: &Collector) -> Witness<Opened>
     requires { HasStopped script.now collector.now }
     ensures { OpensAt script.now collector.now result.value }
 {
-    Chosen::of::<(&Script, &Collector), AfterStop>(&(script, collector))
+    Witness::of::<(&Script, &Collector), AfterStop>(&(script, collector))
 }
 
 impl Collector {
-    /// One round: each mutator with commands left does a slice, in a thread of its own, and passes `gate` before each command
-    /// that it tries. Beside them the collector scans as many objects as the quota says while a cycle marks, or sweeps as
-    /// many segments of a closed one, or fewer where no more are left, in two halves; it passes `gate` before each. Mutators
-    /// and collector count their passes through the whole run: the clauses `mutator_turns`, `turns` and `upper_turns` tell
-    /// the counts. Where a slice asks for a cycle, one is due at the next stop that finds none in progress, and where it asks
-    /// for a full cycle, that is due at the next stop. The replies of the round are told after those of the rounds before.
+    /// Does one round: each mutator with commands left does a slice, in a thread of its own, and passes `gate` before each
+    /// command that it tries. The round has one legal order of all its commands, whatever the schedule was, from the world of
+    /// the stop before it. Words and mutators represent the world after it. Replies follow earlier replies; no stop's row
+    /// changes.
     ///
-    /// While a cycle marks, mutators send full blocks of what they remember through their rings, and the collector takes
-    /// them out beside them; afterwards each mutator remembers what was taken, then what its ring has, then what it keeps.
+    /// Beside the mutators the collector passes `gate` before each object or segment. While a cycle marks it scans `quota`
+    /// objects, or all if there are fewer. The marker then has the marks and queue of the marking machine after this order
+    /// and these scans, at the quota's pace. Of a closed cycle it sweeps `quota` segments in two halves, or all that wait if
+    /// there are fewer; of their names only those that the cycle keeps are left. Passes are counted through the whole run
+    /// (`mutator_turns`, `turns`, `upper_turns`). A mutator's count grows by the commands tried, also if a command waits for
+    /// room. The collector's grows by objects scanned or segments swept; the upper half of a sweep has its own count. A cycle
+    /// that a slice asks for is due at the next stop without a cycle in progress, a full cycle at the next stop.
     ///
-    /// Asks that the last stop answered `GoOn`, and that no round was done since. After `NoMemory` nothing
-    /// is known of the collector.
+    /// While a cycle marks, mutators send full blocks of remembered entries through their rings, and the collector takes them
+    /// out. Afterwards each mutator remembers the entries taken out of its ring, then those in the ring, then those in its
+    /// set. Requires that the last stop answered `GoOn` and no round followed. After `NoMemory` nothing is known.
     pub fn round<R: Threads + Sync, G: Gate>(
         &mut self,
         rt: &R,
@@ -115,7 +109,7 @@ impl Collector {
         requires limits { IsInLimits script.now }
         requires stopped { HasStopped script.now self.old × (self.old.answered ≡ None) }
         ensures worked { OnOk result (DidRound script.now self.old self.new) }
-        ensures told { OnOk result ((rows : RoundRows) × (self.new.rows.rounds ≡ self.old.rows.rounds ++ rows ∷ [])) }
+        ensures reported { OnOk result ((rows : RoundRows) × (self.new.rows.rounds ≡ self.old.rows.rounds ++ rows ∷ [])) }
         ensures stops { OnOk result (self.new.rows.stops ≡ self.old.rows.stops) }
         ensures mutator_turns { OnOk result (HaveTried script.now self.old self.new) }
         ensures turns { OnOk result (turns_of self.new ≡ passed (turns_of self.old) (worked_on self.old.cycle.progress self.new.cycle.progress)) }
@@ -128,7 +122,8 @@ impl Collector {
         Ok(())
     }
 
-    // The two ends of each ring meet, now that one thread has both: what a mutator remembers is known in order.
+    // Looks into each ring once, now that a single thread has both ends. No entry moves. This shows the prover that the
+    // entries received and the entries in the ring are all that were sent, so the order of remembered entries is known.
     fn meet_all(&mut self)
         requires { HaveLines self.old.inbox self.old.mutators.items }
         ensures rest { self.new ≡ record self.old { inbox = self.new.inbox; mutators = self.new.mutators } }
@@ -137,7 +132,7 @@ impl Collector {
         meet_each(&mut self.inbox, self.mutators.as_mut_slice());
     }
 
-    // The round, but for what the ends of the rings know of one another.
+    // Does the round, except the meeting of the rings' ends.
     fn play<R: Threads + Sync, G: Gate>(
         &mut self,
         rt: &R,
@@ -147,36 +142,24 @@ impl Collector {
         requires limits { IsInLimits script.now }
         requires stopped { HasStopped script.now self.old × (self.old.answered ≡ None) }
         ensures worked { OnOk result (DidRound script.now self.old self.new) }
-        ensures told { OnOk result ((rows : RoundRows) × (self.new.rows.rounds ≡ self.old.rows.rounds ++ rows ∷ [])) }
+        ensures reported { OnOk result ((rows : RoundRows) × (self.new.rows.rounds ≡ self.old.rows.rounds ++ rows ∷ [])) }
         ensures stops { OnOk result (self.new.rows.stops ≡ self.old.rows.stops) }
         ensures mutator_turns { OnOk result (HaveTried script.now self.old self.new) }
         ensures turns { OnOk result (turns_of self.new ≡ passed (turns_of self.old) (worked_on self.old.cycle.progress self.new.cycle.progress)) }
         ensures upper_turns { OnOk result (upper_turns_of self.new ≡
             passed (upper_turns_of self.old) (upper_worked_on self.old.cycle.progress self.new.cycle.progress)) }
     {
-        a_rest_opens_a_round();
-        opens_beside();
-        the_heap_goes_on();
-        a_heap_ties_by_blocks();
-        a_round_is_a_history();
-        a_round_is_stopped();
-        finalised_are_told();
-        the_machine_goes_on();
-        the_marker_leads_a_cycle();
-        the_pace_is_kept();
-        freed_places_go();
-        a_closed_cycle_sweeps();
-        segments_are_left();
+        a_round_leads();
         self.make_room(script)?;
         self.make_inbox_room(script)?;
         let lists = Lists::new(self.alloc, self.mutators.len())?;
         let opening = opening_of(script, self);
         self.do_slices(rt, script, gate, &opening, lists);
-        let rows = taken(self.alloc, self.mutators.as_mut_slice())?;
+        let rows = take_rows(self.alloc, self.mutators.as_mut_slice())?;
         self.rows.rounds.push(rows)
     }
 
-    // Makes room for what the mutators note in the round.
+    // Makes room for the mutators' notes in the round.
     fn make_room(&mut self, script: &Script) -> Result<(), NoMemory>
         requires limits { IsInLimits script.now }
         requires stopped { HasStopped script.now self.old }
@@ -191,7 +174,7 @@ impl Collector {
         )
     }
 
-    // Makes room in the inbox for all that the mutators may send in the round, while a cycle marks.
+    // If a cycle marks, makes room in the inbox for all entries that the mutators may send in the round.
     fn make_inbox_room(&mut self, script: &Script) -> Result<(), NoMemory>
         requires limits { IsInLimits script.now }
         requires stopped { HasStopped script.now self.old }
@@ -205,13 +188,13 @@ impl Collector {
         reserve_inbox(&mut self.inbox, script, self.positions.as_slice())
     }
 
-    // The slices of all mutators, and the collector's part beside them. Nothing here can fail.
+    // Does the slices of all mutators, and the collector's part beside them. Nothing here can fail.
     fn do_slices<R: Threads + Sync, G: Gate>(
         &mut self,
         rt: &R,
         script: &Script,
         gate: &G,
-        opening: &Chosen<Opened>,
+        opening: &Witness<Opened>,
         lists: Lists,
     )
         requires limits { IsInLimits script.now }
@@ -221,13 +204,7 @@ impl Collector {
         requires lists { HaveRoom (length self.old.mutators.items) lists }
         ensures { DidSlices script.now opening.now.value self.old self.new }
     {
-        a_round_finds_mutators_ready();
-        slices_are_gathered();
-        slices_are_owed();
-        a_rest_opens_a_round();
-        opens_beside();
-        the_heap_goes_on();
-        a_heap_ties_by_blocks();
+        slices_lead();
         let Lists {
             room,
             mut seats,
@@ -244,7 +221,7 @@ impl Collector {
         } = Round::start(words, layout, marking, opening, room, given_place);
         let mut workers = self.workers.lend(self.alloc);
         let own = mem::replace(&mut self.mutators, Vec::new(self.alloc));
-        self.mutators = seated(own, given, &mut workers);
+        self.mutators = seat_all(own, given, &mut workers);
         self.work(
             rt,
             &round,
@@ -254,13 +231,13 @@ impl Collector {
             gate,
         );
         advance(self.positions.as_mut_slice(), workers.as_slice());
-        let left = unseated(workers, &mut self.mutators, &mut seats);
+        let left = unseat_all(workers, &mut self.mutators, &mut seats);
         self.workers.give_back(left);
         let Finished { words } = round.finish(List::in_place(seats, taken_place), collector);
         self.heap.words = Some(words);
     }
 
-    // The workers do their slices, and the collector its part beside them; what the slices ask for is noted.
+    // Does the workers' slices, with the collector's part beside them, and notes the slices' requests.
     fn work<R: Threads + Sync, G: Gate>(
         &mut self,
         rt: &R,
@@ -299,13 +276,13 @@ impl Collector {
             self.positions.as_slice(),
             gate,
         );
-        sound(&self.heap.segments);
-        self.cycle.collect = is_asked(self.cycle.collect, some_asks(workers));
-        self.cycle.full = is_asked(self.cycle.full, some_ask_full(workers));
+        segments_are_sound(&self.heap.segments);
+        self.cycle.collect = is_still_asked(self.cycle.collect, some_asks(workers));
+        self.cycle.full = is_still_asked(self.cycle.full, some_ask_full(workers));
     }
 }
 
-// The two ends of a mutator's ring meet.
+// Looks into a mutator's ring with both of its ends at hand (`Inbox::meet`). No entry moves.
 fn meet(inbox: &mut Inbox, number: u8, mutator: &mut Mutator)
     requires { IsLined inbox.old number mutator.old.sender }
     ensures mutator { HasMetSender mutator.old mutator.new }
@@ -314,7 +291,7 @@ fn meet(inbox: &mut Inbox, number: u8, mutator: &mut Mutator)
     inbox.meet(number, mutator.sender());
 }
 
-// The two ends of each ring meet.
+// Looks into each mutator's ring with both of its ends at hand. No entry moves.
 fn meet_each(inbox: &mut Inbox, mutators: &mut [Mutator])
     requires lines { HaveLines inbox.old mutators.old }
     ensures { HaveMet (length mutators.old) inbox.old inbox.new mutators.old mutators.new }
@@ -324,7 +301,7 @@ fn meet_each(inbox: &mut Inbox, mutators: &mut [Mutator])
     }
 }
 
-// The inbox gets room for what a mutator may send in its slice of what is left of its program, in whole blocks.
+// Makes room in the inbox for the entries that each mutator may send in its next slice, in whole blocks.
 fn reserve_inbox(inbox: &mut Inbox, script: &Script, positions: &[u32]) -> Result<(), NoMemory>
     requires threads { length script.now.threads ≡ length inbox.old }
     requires positions { length positions.now ≡ length inbox.old }
@@ -343,21 +320,14 @@ fn reserve_inbox(inbox: &mut Inbox, script: &Script, positions: &[u32]) -> Resul
     Ok(())
 }
 
-// Whether something is asked for that was before, or is now.
-fn is_asked(was: bool, now: bool) -> bool
-    ensures { result ≡ (was || now) }
+// Whether the next stop finds a request: one that no stop has granted yet, or a new one.
+fn is_still_asked(before: bool, in_round: bool) -> bool
+    ensures { result ≡ (before || in_round) }
 {
-    was || now
+    before || in_round
 }
 
-// What is true of all segments is true of these, also once marker or sweeper worked on them.
-fn sound(segments: &Segments)
-    ensures { IsSegments segments.now }
-{
-    let _ = segments.layout();
-}
-
-// Each mutator gets room for its slice of what is left of its program.
+// Makes room in each mutator for its next slice.
 fn reserve_all(mutators: &mut [Mutator], script: &Script, positions: &[u32]) -> Result<(), NoMemory>
     requires threads { length script.now.threads ≡ length mutators.old }
     requires positions { length positions.now ≡ length mutators.old }
@@ -375,7 +345,7 @@ fn reserve_all(mutators: &mut [Mutator], script: &Script, positions: &[u32]) -> 
     Ok(())
 }
 
-// Each position moves on by as many commands as its worker did.
+// Advances each position by the number of commands that its worker did.
 #[tactic(auto, using(crate::proofs::rounds::Sliced::done_of))]
 fn advance(positions: &mut [u32], workers: &[Worker])
     requires count { length workers.now ≡ length positions.old }
@@ -388,7 +358,7 @@ fn advance(positions: &mut [u32], workers: &[Worker])
     }
 }
 
-// Takes the replies off a mutator.
+// Clears a mutator's list of replies, and returns the replies that were in it.
 fn take_replies(alloc: Global, mutator: &mut Mutator) -> Result<Replies, NoMemory>
     ensures replies { IfOk result (λ replies. replies ≡ mutator.old.replies.items) }
     ensures rest { OnOk result (mutator.new ≡ cleared mutator.old) }
@@ -398,8 +368,8 @@ fn take_replies(alloc: Global, mutator: &mut Mutator) -> Result<Replies, NoMemor
     Ok(replies)
 }
 
-// Takes the replies of the round off all mutators.
-fn taken(alloc: Global, mutators: &mut [Mutator]) -> Result<RoundRows, NoMemory>
+// Clears all mutators' lists of replies, and returns the round's row with the replies that were in them.
+fn take_rows(alloc: Global, mutators: &mut [Mutator]) -> Result<RoundRows, NoMemory>
     ensures rows { IfOk result (λ rows. rows.replies ≡ replies_of mutators.old) }
     ensures rest { OnOk result (mutators.new ≡ map cleared mutators.old) }
 {

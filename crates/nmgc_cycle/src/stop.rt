@@ -1,30 +1,40 @@
-//! A stop: what the round made is promoted, a cycle is led on, and the stop tells its row.
+//! A stop: objects are promoted, a cycle advances, and the stop's row is added to the report.
 //!
-//! The mutators stand still, so the words are read and written plainly, and what mutators hold is read and changed where
-//! it lies: roots and recorded fields are promoted, the nurseries are empty then, and of the round only what the mutators
-//! remember is left. That goes to the marker; then a cycle may be closed, one may end, and one may begin (`cycle`), or
-//! a full cycle is done in its place (`full`).
-//! After each of these steps the collector stands for a state of the run at this stop (`specs/Steps.antt`), and
-//! together they are the run's stop. So a stop leads from what a round left, or from a new collector, to words,
-//! segments, mutators, marker and sweeper that stand for the state of the same run after that stop.
+//! No mutator runs, so words are read and written plainly, and registers, queues and notes change in place. After each step
+//! the collector represents a state of the run at this stop (`specs/Steps.antt`), and together the steps are the run's stop.
 //!
-//! The row is taken last: its numbers are those of the heap that the next round begins with.
+//! Easy to get wrong: fewer free segments than the reserve end a run only while commands are left, and only if a full cycle
+//! at this stop left so few. Without commands left, the run goes on while a cycle is in progress, since its row is missing.
 //!
-//! Easy to get wrong: fewer free segments than the reserve end a run only while commands are left, and only where a full
-//! cycle at this stop left it so. And where no commands are left, the run goes on as long as a cycle is in progress,
-//! since its row is still to be told.
+//! # Note [The steps of a stop]
+//!
+//! The steps in order, numbered as in `docs/FORMATS.md`. One stop may close a cycle, end it and begin another.
+//! 1. Promote (`promote`). Finalised weak pointers leave the list (`leave`). Objects move into segments, and their names are
+//!    noted (`move_promoted`). Moved weak pointers that are alive join the list (`join`). Then the nurseries are empty, and
+//!    of the round's notes the mutators have only remembered entries left.
+//! 2. Close (`add_remembered`, `try_close`). The remembered entries go to the marker, if a cycle marks, and are forgotten. If
+//!    the marker's work in the last round left nothing to scan, the cycle is closed (`close`), also if these entries added
+//!    objects. A closing has four parts: the marker scans to the end, weak pointers are resolved, finalisers of those that
+//!    die are queued, and the marks of segments that aren't to be swept are carried over.
+//! 3. End (`end`). A cycle that sweeps ends if no segment waits, and its row is added.
+//! 4. Full cycle (`full_cycle`, by `proceed`), if it is due (`is_full_due`): it was asked for, or commands are left and fewer
+//!    segments are free than the reserve. The cycle in progress is closed, swept and ended (`finish_cycle`). Current and
+//!    active segments are filed as filled (`retire_all`). A new cycle begins (`start`), and is closed, swept and ended too.
+//!    Requests for a cycle and for a full one are forgotten.
+//! 5. Begin (`begin`, by `proceed`). If step 4 wasn't done and a cycle is due (`is_due`), it begins (`start`).
+//! 6. Answer (`stop`). The row gets the numbers of the heap that this stop leaves. The answer is chosen: the run goes on, is
+//!    done, or has a full heap. An end is kept in `answered`.
 ghost use Rattle.std.specs.Prelude.{ℕ, ◌≡◌, ◌↔◌, ◌^◌, ◌<◌, [], ◌∷◌, ◌++◌, IfOk, OnOk, IsSome, IsTrue, length};
-ghost use Rattle.nmgc_blocks_spec.specs.Stopped.{Stopped};
+ghost use Rattle.nmgc_stop_spec.specs.Stopped.{Stopped};
 ghost use Rattle.nmgc_minor.specs.Promotion.{IsFor};
-ghost use Rattle.nmgc_cycle.specs.{Cycles.MarksOn, Shown.turns_of, Shown.upper_turns_of, Shown.mutator_turns_of, Keeps.CanStop, Keeps.HasAnswered, Keeps.StopsAfter};
+ghost use Rattle.nmgc_cycle.specs.{Cycles.MarksOn, Shown.turns_of, Shown.upper_turns_of, Shown.mutator_turns_of, Keeps.CanStop, Keeps.HasAnswered, Keeps.StopsAfter, Stopping.StandsStopped, Stopping.CanList, Stopping.HasListed, Stopping.HasPromoted, Stopping.SomeIsLeft, Stopping.IsDone, Stopping.IsHeapFullAt, Stopping.ended_by};
 ghost use Rattle.nmgc_script.specs.Limits.{IsInLimits};
 ghost use Rattle.nmgc_cycle.specs.declared.stop.StopEnd.TheVariants as answer;
-ghost use Rattle.nmgc_sweep.specs.Names.{HaveEntries};
-ghost use Rattle.nmgc_cycle.specs.Stopping.{StandsStopped, CanList, HasListed, HasPromoted, SomeIsLeft, IsDone, IsHeapFullAt, ended_by};
+ghost use Rattle.nmgc_sweep.specs.NameTable.{HaveEntries};
 
 use crate::Collector;
-use crate::leading::a_stop_leads;
-use crate::names::note_moves;
+use crate::name_notes::note_moves;
+use crate::stop_laws::a_stop_leads;
 use crate::worker::is_some_left;
 use nmgc_collector_laws::marking::the_list_is_joined;
 use nmgc_journal::{End, Phase, StopRow};
@@ -33,36 +43,40 @@ use nmgc_script::Script;
 use nmgc_weak::laws::the_list_is_left;
 use std::thread::Threads;
 
-/// What a stop answers.
+/// The answer of a stop.
 #[derive(Clone, Copy, Debug, PartialEq, Eq)]
 pub enum StopEnd {
-    /// A round follows: commands are left, and at least as many segments are free as the reserve; or none are left, and
-    /// a cycle is in progress.
+    /// A round follows: commands are left and the reserve of segments is free, or none are left and a cycle is in progress.
     GoOn,
     /// Every command was answered, and no cycle is in progress.
     Done,
-    /// Commands are left, and after a full cycle at this stop only `free` segments are free, fewer than the reserve.
+    /// Commands are left, and after a full cycle at this stop only `free` segments are free, fewer than `reserve`.
     HeapFull { free: u32, reserve: u32 },
 }
 
 impl Collector {
-    /// A stop: what the round made is promoted, and the nurseries are empty afterwards; what the mutators remember
-    /// goes to the marker; a cycle is closed, ends or begins where the rules of a run say so, and a full cycle is done where
-    /// one was asked for, or commands are left and fewer segments are free than the reserve; and the stop's row is told.
-    /// No command is answered. Where a cycle marks on, what its marker's last work answered is kept: so it does only where
-    /// that work left something.
+    /// Does a stop, and returns its answer: promotes exactly the objects of the round that the rule names, advances the
+    /// cycle, and adds the stop's row.
     ///
-    /// Asks that no stop was done yet, or a round since the last one. Afterwards words, segments, mutators and list of weak
-    /// pointers stand for the state of the same run after this stop: the world is as it was but for weak pointers that
-    /// died, where a cycle was closed. A full cycle sweeps in two halves, each in a thread of its own. Nobody passes the
-    /// gate here: the mutators' counts are as they were, and the collector hands on its own.
+    /// The nurseries are empty afterwards. Exactly the weak pointers finalised in the round leave the list, and those that
+    /// moved and are alive join it. So the list has exactly the weak pointers that are alive and have a block. A cycle is
+    /// closed, ends with its census, a full cycle is done if one is due, and the next begins, exactly as a run allows it. The
+    /// row has the numbers of the heap that the stop leaves, and follows the rows before; rows of rounds stay. The run after
+    /// the stop is the run before the round, with this round and this stop, whatever the answer. Only weak pointers that die
+    /// at a closing change the world. No command is answered.
     ///
-    /// Takes memory for weak pointers that join the list, for the stop's row and that of a cycle that ends, and where one
-    /// begins for its marker's queue, its sweeper's lists and room in the finaliser queues. Takes time for what is promoted,
-    /// the roots, the weak pointers that were finalised or join the list, the recorded and the remembered fields and the
-    /// number of segments; at a closing for what is left to scan, for the list of weak pointers and a logarithm, and for the
-    /// mark bytes of the segments in use that don't wait to be swept; a full cycle takes time for all that is reached and for
-    /// every block. After `NoMemory` nothing is known of the collector.
+    /// Answers `Done` exactly if no command is left and no cycle is in progress. Answers `HeapFull` exactly if commands are
+    /// left and fewer segments are free than the reserve, in spite of the full cycle that it then did. If a cycle marks on,
+    /// only its marker changed: the answer of its last work is kept, and that left something. A full cycle sweeps in two
+    /// halves, each in a thread of its own. The gate isn't passed. The mutators' counts stay, and the collector's are handed
+    /// on: from a marker to its sweeper, and from a sweeper that ends to the next cycle's marker and sweeper.
+    ///
+    /// Requires that no stop was done yet, or a round since the last stop. Takes memory for weak pointers that join the list,
+    /// and for the rows of the stop and of a cycle that ends. A beginning takes it for the marker's queue, the sweeper's
+    /// lists and finaliser queues. Takes time for promoted objects, roots, weak pointers that leave or join the list,
+    /// recorded and remembered fields, and segments. A closing adds the objects left to scan, the list of weak pointers with
+    /// a logarithm, and the mark bytes of segments in use that don't wait to be swept. A full cycle adds all reachable
+    /// objects and every block. After `NoMemory` nothing is known of the collector.
     pub fn stop<R: Threads + Sync>(&mut self, rt: &R, script: &Script) -> Result<StopEnd, NoMemory>
         requires limits { IsInLimits script.now }
         requires can { CanStop script.now self.old }
@@ -81,7 +95,7 @@ impl Collector {
         let number = self.rows.stops.items().len() as u32;
         let promoted = self.promote()?;
         self.add_remembered();
-        self.close(number);
+        self.try_close(number);
         self.end(number)?;
         let left = self.has_left(script);
         self.proceed(rt, left, script.config.trigger, number)?;
@@ -107,7 +121,7 @@ impl Collector {
         Ok(end)
     }
 
-    // Whether some program has commands left.
+    // Whether any program has commands left.
     fn has_left(&self, script: &Script) -> bool
         requires { length self.now.positions.items ≡ length script.now.threads }
         ensures { IsTrue result ↔ SomeIsLeft script.now.threads self.now.positions.items }
@@ -115,8 +129,8 @@ impl Collector {
         is_some_left(script, self.positions.as_slice())
     }
 
-    // Promotes what the round made, and answers how many objects moved. Weak pointers that were finalised in the round leave
-    // the list, and those that moved and are alive join it.
+    // Promotes objects of the round, and returns the number of objects that moved. Weak pointers that were finalised in the
+    // round leave the list, and weak pointers that moved and are alive join it.
     fn promote(&mut self) -> Result<u32, NoMemory>
         requires words { IsSome self.old.heap.words }
         requires lists { IsFor self.old.heap.segments.layout self.old.heap.promotion }
@@ -134,7 +148,7 @@ impl Collector {
         Ok(self.heap.promotion.moves().len() as u32)
     }
 
-    // Moves what is promoted, and notes its names. Takes no memory.
+    // Moves the promoted objects into segments, and notes their names. Takes no memory.
     fn move_promoted(&mut self)
         requires words { IsSome self.old.heap.words }
         requires lists { IsFor self.old.heap.segments.layout self.old.heap.promotion }
@@ -152,7 +166,7 @@ impl Collector {
     }
 }
 
-// The end of the run that a stop's answer is, if it is one.
+// Returns the end of the run, if the stop answered one.
 fn ended(end: StopEnd) -> Option<End>
     ensures { result ≡ ended_by end }
 {

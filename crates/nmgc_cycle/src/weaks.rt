@@ -1,16 +1,16 @@
-//! Weak pointers over a stop: who leaves the list, who joins it, and how finalisers get into the queues.
+//! Weak pointers at a stop: which leave the list, which join it, and how finalisers get into the queues.
 //!
-//! A round leaves the list as it is. At the stop after it, those that were finalised leave, and those that were
-//! promoted alive join. A closing may not run out of memory half way, so the queues have room for a finaliser of each
-//! weak pointer from the snapshot on.
+//! A round leaves the list as it is. At the stop after it, weak pointers that were finalised leave, and those that were
+//! promoted alive join. A closing may not run out of memory half way, so from the snapshot on the queues have room for a
+//! finaliser of each listed weak pointer.
 //!
-//! Who leaves is told by the mutators, which note what they finalise: so a stop looks at these, and not through the list.
-//! And who joins comes at the end of its maker's row. So a stop takes time for what the round did, but where more than half
-//! of a row has left (`Weaks::leave_at`).
+//! Mutators note the weak pointers that they finalise, so a stop looks at these notes, and not through the list. New weak
+//! pointers join at the end of their maker's row. So a stop takes time for the changes of the round, except when more than
+//! half of a row has left (`Weaks::leave_at`).
 //!
-//! Easy to get wrong: of a weak pointer that was finalised in the round nobody need speak once the promotion is done, and
-//! then its words mean nothing. So those leave before the promotion, while the world as the round began is still
-//! spoken of; the others join after it, at their new places.
+//! Easy to get wrong: after the promotion no fact describes a weak pointer that was finalised in the round, and its words
+//! mean nothing. So these weak pointers leave before the promotion, while contracts still describe the world at the round's
+//! beginning. New weak pointers join after it, at their new addresses.
 ghost use Rattle.std.specs.Prelude.{ℕ, ◌≡◌, ◌≢◌, ◌+◌, ◌<◌, ◌≤◌, ◌^◌, length, Contains, IfOk, OnOk, IsSome, IsTrue};
 ghost use Rattle.nmgc_world_spec.specs.Reach.{IsInOrder};
 ghost use Rattle.nmgc_object.specs.{declared.size.TheConstants.HEADER_WORDS, declared.words.Address.Address as Place};
@@ -18,7 +18,7 @@ ghost use Rattle.nmgc_weak.specs.{Queues.HaveRoom, Rows.IsNamedAt, Rows.left_of,
 ghost use Rattle.nmgc_mutator.specs.Records.{numbers};
 ghost use Rattle.nmgc_collector_laws.specs.Worked.{finalised_of};
 ghost use Rattle.nmgc_cycle.specs.{Roots.queues_in, Shown.died, Shown.words_in};
-ghost use Rattle.nmgc_cycle.specs.Listed.{is_alive_at, moved_weaks, AreMovedInside, CanJoin, IsMergeOf, FinalisedAreTold, FinalisedLeft, MovedJoined, count_made_by, HasQueueRoom, HaveQueueRoom, FinalisersQueued};
+ghost use Rattle.nmgc_cycle.specs.Listed.{is_alive_at, moved_weaks, AreMovedInside, CanJoin, IsMergeOf, FinalisedAreListed, FinalisedLeft, MovedJoined, count_made_by, HasQueueRoom, HaveQueueRoom, FinalisersQueued};
 
 use crate::Collector;
 use nmgc_heap_spec::HeapWords;
@@ -31,7 +31,7 @@ use nmgc_weak::{Death, OldWeak, Weaks, queue_finalisers};
 use nmgc_world_spec::{Kind, Name};
 use std::alloc::Global;
 
-// Whether by its words a weak pointer stands at a place that is alive.
+// Whether the object at an address is a weak pointer that is alive.
 fn is_alive<W: HeapWords>(words: &mut W, at: Address) -> bool
     requires { at.0 + (HEADER_WORDS + 1) < length (W.words words.old) }
     ensures words { W.words words.new ≡ W.words words.old }
@@ -46,7 +46,7 @@ fn is_alive<W: HeapWords>(words: &mut W, at: Address) -> bool
         && words.load(at.0 as usize + HEADER_WORDS as usize + 1) != 0
 }
 
-// Of what moved, the weak pointers that are alive, at their new places, in order of names.
+// Returns the moved objects that are weak pointers and alive, at their new addresses, in order of names.
 fn gather_moved<W: HeapWords>(
     alloc: Global,
     moves: &[Move],
@@ -68,7 +68,7 @@ fn gather_moved<W: HeapWords>(
     Ok(fresh)
 }
 
-// They join the list.
+// Adds new weak pointers to the list, which has room for them.
 fn join_all(weaks: &mut Weaks, fresh: &[OldWeak])
     requires room { length fresh.now ≤ weaks.old.spare }
     requires ordered { IsInOrder (names_of fresh.now) }
@@ -79,7 +79,7 @@ fn join_all(weaks: &mut Weaks, fresh: &[OldWeak])
     weaks.add_all(fresh);
 }
 
-// Those leave the list that stand at these places and are dead by now.
+// Takes those weak pointers at these addresses off the list that are dead by now.
 fn leave_each<W: HeapWords>(weaks: &mut Weaks, words: &mut W, finalised: &[Address])
     requires inside { (at : Place) → Contains finalised.now at → value_place at.0 < length (W.words words.old) }
     requires named { (at : ℕ) → IsNamedAt (W.words words.old) at weaks.old.list }
@@ -92,9 +92,9 @@ fn leave_each<W: HeapWords>(weaks: &mut Weaks, words: &mut W, finalised: &[Addre
     }
 }
 
-// Those leave the list that the mutators noted, and are dead by now.
+// Takes those weak pointers off the list that the mutators noted as finalised and that are dead by now.
 fn leave_noted<W: HeapWords>(weaks: &mut Weaks, words: &mut W, mutators: &[Mutator])
-    requires { FinalisedAreTold (W.words words.old) weaks.old.list (finalised_of mutators.now) }
+    requires { FinalisedAreListed (W.words words.old) weaks.old.list (finalised_of mutators.now) }
     ensures words { W.words words.new ≡ W.words words.old }
     ensures list { weaks.new.list ≡ alive_of (W.words words.old) weaks.old.list }
     ensures deaths { weaks.new.deaths ≡ weaks.old.deaths }
@@ -105,10 +105,10 @@ fn leave_noted<W: HeapWords>(weaks: &mut Weaks, words: &mut W, mutators: &[Mutat
 }
 
 impl Collector {
-    // Those leave the list of weak pointers that are dead by now.
+    // Takes the weak pointers that are dead by now off the heap's list.
     pub(crate) fn leave(&mut self)
         requires words { IsSome self.old.heap.words }
-        requires told { FinalisedAreTold (words_in self.old.heap.words) self.old.heap.weaks.list (finalised_of self.old.mutators.items) }
+        requires reported { FinalisedAreListed (words_in self.old.heap.words) self.old.heap.weaks.list (finalised_of self.old.mutators.items) }
         ensures { FinalisedLeft self.old self.new }
     {
         let Some(words) = &mut self.heap.words else {
@@ -117,7 +117,7 @@ impl Collector {
         leave_noted(&mut self.heap.weaks, words, self.mutators.as_slice());
     }
 
-    // Those join it that were promoted and are alive.
+    // Adds the weak pointers that were promoted and are alive to the heap's list.
     pub(crate) fn join(&mut self) -> Result<(), NoMemory>
         requires words { IsSome self.old.heap.words }
         requires can { CanJoin (words_in self.old.heap.words) self.old.heap.weaks.list self.old.heap.promotion.moves }
@@ -133,18 +133,18 @@ impl Collector {
     }
 }
 
-// The queue of a mutator gets room for a finaliser of each weak pointer of the list that it made.
+// Makes room in a mutator's queue for a finaliser of each listed weak pointer that it made.
 fn reserve_queue(mutator: &mut Mutator, weaks: &Weaks) -> Result<(), NoMemory>
     ensures { OnOk result (HasQueueRoom (count_made_by mutator.old.number weaks.now.list) mutator.old mutator.new) }
 {
-    // No heap has so many that this fails.
+    // The count of a heap's weak pointers always fits.
     let Ok(own) = u32::try_from(weaks.count(mutator.number)) else {
         return Err(NoMemory);
     };
     mutator.queue.reserve(own)
 }
 
-/// The queue of each mutator gets room for a finaliser of each weak pointer of the list that it made.
+/// Makes room in each mutator's queue for a finaliser of each listed weak pointer that it made.
 pub fn reserve_queues(mutators: &mut [Mutator], weaks: &Weaks) -> Result<(), NoMemory>
     ensures { OnOk result (HaveQueueRoom weaks.now.list mutators.old mutators.new) }
 {
@@ -154,7 +154,7 @@ pub fn reserve_queues(mutators: &mut [Mutator], weaks: &Weaks) -> Result<(), NoM
     Ok(())
 }
 
-/// The finalisers of those that died join the queues of their makers, where they lie. Takes no memory.
+/// Adds the finalisers of the deaths to the queues of the mutators that made the weak pointers, in place. Takes no memory.
 pub fn queue_all(deaths: &[Death], mutators: &mut [Mutator])
     requires { HaveRoom deaths.now (queues_in mutators.old) }
     ensures { FinalisersQueued deaths.now mutators.old mutators.new }
@@ -162,14 +162,14 @@ pub fn queue_all(deaths: &[Death], mutators: &mut [Mutator])
     queue_finalisers(deaths, mutators);
 }
 
-/// The names of those that died, in order.
+/// Returns the names of the weak pointers that died, in the order of the deaths.
 pub fn dead_names(alloc: Global, deaths: &[Death]) -> Result<List<Name>, NoMemory>
     ensures { IfOk result (λ names. names ≡ died deaths.now) }
 {
     List::from_vec(all_dead(alloc, deaths)?)
 }
 
-// Their names, one after another.
+// Returns the names of the weak pointers that died, in the order of the deaths, as a vector.
 fn all_dead(alloc: Global, deaths: &[Death]) -> Result<Vec<Name>, NoMemory>
     ensures { IfOk result (λ names. names.items ≡ died deaths.now) }
 {

@@ -1,18 +1,19 @@
 //! A mutator on a thread of its own in a round.
 //!
-//! A worker is a mutator with its seat. It reads its program from where it stands, and no other's, and notes how many
-//! commands it did; so the workers share the round alone, and what each did is told by its own contract.
+//! A worker is a mutator with its seat. It reads its own program alone, from its position on, and notes the number of
+//! commands that it did. So the workers share only the round, and each worker's contract describes its effect.
 //!
-//! Between two rounds there are no workers. The room for them lasts for the run (`WorkerRoom`), and so does that of the
-//! mutators' list, which is empty within a round: `seated` and `unseated` take what a list has from its front, as a queue
-//! that lies where the list lay, and give the list back empty. So no round takes memory for either.
+//! Between two rounds there are no workers. Their room lasts for the run (`WorkerRoom`), and so does the room of the
+//! mutators' list, which is empty within a round. `seat_all` and `unseat_all` take the items of a list from its front, as a queue
+//! in the list's memory, and give the list back empty. So no round takes memory for either.
 //!
-//! No thread is started for nothing: none for a mutator whose program has ended, and none for the collector where it has
-//! nothing to do, or where no program has commands left. So the workers are split where half of those with commands left
-//! are on either side, and a part in which at most one has any does its slices one after the other.
+//! A thread is started only for work. A mutator whose program has ended gets none. Nor does the collector if it has nothing
+//! to do or no program has commands left. So the workers are split with half of those with commands left on either side. A
+//! part in which at most one worker has any does its slices one after the other. Starting a thread takes longer than a short
+//! round.
 //!
-//! Easy to get wrong: where no thread can be started the caller does the work, one worker after the other. So nothing
-//! here may rest on two that run side by side.
+//! Easy to get wrong: if no thread can be started, the caller does the work, one worker after the other. So nothing here may
+//! depend on two workers running side by side.
 ghost use Rattle.std.specs.Prelude.{◌≡◌, ◌↔◌, ◌+◌, ◌^◌, ◌<◌, ◌≤◌, [], IfOk, IsTrue, length, map, slice_index, vec_len, vec_capacity};
 ghost use Rattle.nmgc_run_spec.specs.Slice.{program_of};
 ghost use Rattle.std.specs.{Thread.IsSync, List.list_any};
@@ -22,12 +23,12 @@ ghost use Rattle.nmgc_cycle.specs.Working.{asks_of, asks_full_of, left_at, CanWo
 
 use crate::progress::Progress;
 use nmgc_alloc::Segments;
+use nmgc_commands::PackedCommand;
 use nmgc_lists::{List, NoMemory};
 use nmgc_mutator::{Mutator, SliceEnd};
-use nmgc_program::PackedCommand;
 use nmgc_round::{CollectorSeat, Gate, MutatorSeat, Round};
 use nmgc_script::Script;
-use nmgc_sweep::Names;
+use nmgc_sweep::NameTable;
 use nmgc_updrem::Inbox;
 use std::alloc::Global;
 use std::collections::VecDeque;
@@ -35,7 +36,7 @@ use std::marker::Model;
 use std::thread::Threads;
 use std::{mem, thread};
 
-/// A mutator with its seat in the round, and how many commands it did.
+/// A mutator with its seat in the round, and the number of commands that it did.
 #[derive(Drop)]
 pub struct Worker {
     pub mutator: Mutator,
@@ -43,12 +44,12 @@ pub struct Worker {
     pub done: u32,
     /// Whether its slice asks for a cycle.
     pub asks: bool,
-    /// Whether it asks for a full cycle.
+    /// Whether its slice asks for a full cycle.
     pub asks_full: bool,
 }
 
 impl Worker {
-    // Does its slice.
+    // Does the mutator's slice of `program`, and notes the number of its commands and its requests.
     fn work<G: Gate>(&mut self, round: &Round, program: &[PackedCommand], slice: u32, gate: &G)
         requires { CanWork round.now slice program.now self.old }
         ensures { HasWorkedOn round.now slice program.now self.old self.new }
@@ -62,7 +63,7 @@ impl Worker {
     }
 }
 
-/// Room for the workers of a round, which lasts for the run. Contracts see for how many.
+/// Room for the workers of a round, which lasts for the run. Contracts see their number.
 #[derive(Drop)]
 pub struct WorkerRoom {
     // Empty.
@@ -80,7 +81,7 @@ impl Model for WorkerRoom {
 }
 
 impl WorkerRoom {
-    /// Takes memory for so many workers.
+    /// Makes the room for `count` workers.
     pub fn reserve(alloc: Global, count: usize) -> Result<WorkerRoom, NoMemory>
         ensures { IfOk result (λ room. room ≡ count) }
     {
@@ -89,7 +90,7 @@ impl WorkerRoom {
         })
     }
 
-    /// The room, as a list of workers that is empty. No room is left until it is given back. Takes no memory.
+    /// Lends the room, as an empty list of workers. Until the list is given back, no room is left. Takes no memory.
     pub fn lend(&mut self, alloc: Global) -> Vec<Worker>
         ensures empty { result.items ≡ [] }
         ensures room { vec_capacity result ≡ self.old }
@@ -97,7 +98,7 @@ impl WorkerRoom {
         mem::replace(&mut self.workers, Vec::new(alloc))
     }
 
-    /// Takes the list back, which is empty again.
+    /// Takes the list of workers back, which has to be empty again, with its room.
     pub fn give_back(&mut self, workers: Vec<Worker>)
         requires { workers.items ≡ [] }
         ensures { self.new ≡ vec_capacity workers }
@@ -106,7 +107,7 @@ impl WorkerRoom {
     }
 }
 
-/// Whether some program has commands left. Asks that there is a position for each.
+/// Whether any program has commands left. Requires that there is a position for each program.
 pub fn is_some_left(script: &Script, positions: &[u32]) -> bool
     requires { length positions.now ≡ length script.now.threads }
     ensures { IsTrue result ↔ SomeIsLeft script.now.threads positions.now }
@@ -117,8 +118,7 @@ pub fn is_some_left(script: &Script, positions: &[u32]) -> bool
     )| (*position as usize) < program.items().len())
 }
 
-// Whether the collector's part of a round is worth a thread of its own: it has something to do, and somebody does a slice
-// beside it. No clause speaks of the answer.
+// Whether the collector's part needs a thread: the collector and some mutator have work. No clause constrains the answer.
 fn is_worth_a_thread(
     progress: &Progress,
     segments: &Segments,
@@ -130,7 +130,7 @@ fn is_worth_a_thread(
     progress.has_work(segments.sweep_count()) && is_some_left(script, positions)
 }
 
-// Whether a program has commands left. No clause speaks of the answer.
+// Whether program `number` has commands left. No clause constrains the answer.
 fn has_commands(script: &Script, positions: &[u32], number: usize) -> bool
     requires { (number < length script.now.threads) × (number < length positions.now) }
 {
@@ -138,7 +138,7 @@ fn has_commands(script: &Script, positions: &[u32], number: usize) -> bool
     (positions[number] as usize) < program.len()
 }
 
-// How many of the programs from one number up to another have commands left. No clause speaks of the answer.
+// Counts the programs with commands left, from number `from` up to `end`, without `end`. No clause constrains the answer.
 fn count_left(script: &Script, positions: &[u32], from: usize, end: usize) -> usize
     requires { (end ≤ length script.now.threads) × (end ≤ length positions.now) }
 {
@@ -151,8 +151,8 @@ fn count_left(script: &Script, positions: &[u32], from: usize, end: usize) -> us
     count
 }
 
-// With which of the workers from one number up to another the second part begins: each part has half of those with
-// commands left. `from` itself where at most one has any, and there are no parts.
+// Returns the number of the worker with which the second part begins, so that each part has half of the workers with commands
+// left. If at most one worker has any, there are no parts, and the answer is `from`.
 fn cut(script: &Script, positions: &[u32], from: usize, end: usize) -> usize
     requires { (end ≤ length script.now.threads) × (end ≤ length positions.now) }
     ensures { from < result → result < end }
@@ -173,7 +173,7 @@ fn cut(script: &Script, positions: &[u32], from: usize, end: usize) -> usize
     from
 }
 
-// The workers from one number on do their slices, one after the other.
+// Does the slices of the workers from number `from` on, one after the other.
 fn work_in_turn<R: Threads + Sync, G: Gate>(
     rt: &R,
     round: &Round,
@@ -206,7 +206,7 @@ fn work_in_turn<R: Threads + Sync, G: Gate>(
     );
 }
 
-// The workers from one number up to another do their slices, those with commands left in a thread of their own each.
+// Does the slices of the workers `from` to `end`, without `end`. Each worker with commands left has its own thread.
 #[cycle(parts)]
 fn work_part<R: Threads + Sync, G: Gate>(
     rt: &R,
@@ -233,7 +233,7 @@ fn work_part<R: Threads + Sync, G: Gate>(
     );
 }
 
-// Two parts in two threads; the caller has the first.
+// Does the slices of two parts of the workers in two threads. The caller's thread does the first part.
 #[cycle(parts)]
 fn both_parts<R: Threads + Sync, G: Gate>(
     rt: &R,
@@ -264,8 +264,7 @@ fn both_parts<R: Threads + Sync, G: Gate>(
     thread::join_mut(rt, &mut second, &mut first);
 }
 
-/// Each does its slice of what is left of its program, those with commands left in a thread of their own each. No other
-/// thread is started.
+/// Does each worker's slice of the rest of its program. Only a worker with commands left has a thread of its own.
 pub fn work_all<R: Threads + Sync, G: Gate>(
     rt: &R,
     round: &Round,
@@ -281,15 +280,16 @@ pub fn work_all<R: Threads + Sync, G: Gate>(
     work_part(rt, round, script, positions, gate, 0, count, workers);
 }
 
-/// The same, and the collector does its part beside them, in a thread of its own too. Where it has nothing to do, or
-/// nobody has commands left, none is started for it but a sweep's own: it does its part, and then they do theirs.
+/// Does each worker's slice of the rest of its program, and beside them the collector's part. Only the collector and workers
+/// with commands left have threads. If the collector has nothing to do, or no program has commands left, its part comes
+/// first, without a thread except a sweep's.
 pub fn work_beside<R: Threads + Sync, G: Gate>(
     rt: &R,
     round: &Round,
     progress: &mut Progress,
     seat: &mut CollectorSeat,
     segments: &mut Segments,
-    names: &Names,
+    names: &NameTable,
     inbox: &mut Inbox,
     workers: &mut [Worker],
     script: &Script,
@@ -334,23 +334,22 @@ pub fn work_beside<R: Threads + Sync, G: Gate>(
     );
 }
 
-/// Whether one of them asks for a cycle.
+/// Whether any worker asks for a cycle.
 pub fn some_asks(workers: &[Worker]) -> bool
     ensures { result ≡ list_any asks_of workers.now }
 {
     workers.iter().any(|worker| worker.asks)
 }
 
-/// Whether one of them asks for a full cycle.
+/// Whether any worker asks for a full cycle.
 pub fn some_ask_full(workers: &[Worker]) -> bool
     ensures { result ≡ list_any asks_full_of workers.now }
 {
     workers.iter().any(|worker| worker.asks_full)
 }
 
-/// Each mutator gets its seat. The list of workers has room for them. Gives the mutators' list back, which is empty and
-/// has its room.
-pub fn seated(
+/// Moves mutators and seats into the list of workers, which has room. Returns the mutators' list, empty, with its room.
+pub fn seat_all(
     mutators: Vec<Mutator>,
     seats: List<MutatorSeat>,
     workers: &mut Vec<Worker>,
@@ -378,9 +377,9 @@ pub fn seated(
     left.into_vec()
 }
 
-/// The mutators and their seats. The lists have room for them. Gives the workers' list back, which is empty and has its
-/// room.
-pub fn unseated(
+/// Moves mutators and seats out of the workers into their lists, which have room for them. Returns the workers' list, empty,
+/// with its room.
+pub fn unseat_all(
     workers: Vec<Worker>,
     mutators: &mut Vec<Mutator>,
     seats: &mut Vec<MutatorSeat>,

@@ -1,4 +1,4 @@
--- What the joined pass knows, and what the workers' lists are together.
+-- The knowledge of the joined pass, and the workers' lists together.
 use Rattle.nmgc_fin.proofs.Vocabulary.{◌≡◌, ◌≤◌, ◌+◌, ℕ, zero, suc, List, [], ◌∷◌, ◌++◌, length, refl, sym, ap, subst, ◌∙◌, arith, append_assoc, append-nil, length-append, Some, IsPermutation, slice_get, slice_index_or, slice_get_within, slice_get-get_or, get_or_from_slice_get, SegId, Global, Job, Hand, Worker, hand, both_hands, joined, IsWorker, AreWorkers, lists_of}
 
 pub lists_more : (ws : List Worker) (w : Worker) → lists_of (ws ++ w ∷ []) ≡ lists_of ws ++ w.done.items ∷ []
@@ -38,7 +38,7 @@ pub worker_at : (queue : SegId Global) (jobs : List Job) (crew : List Worker) �
     slice_get crew k ≡ Some w → IsWorker queue jobs w
 worker_at queue jobs crew are k w e = subst (λ (x : Worker). IsWorker queue jobs x) (get_or_from_slice_get crew k w w e) (are k w (slice_get_within crew k w e))
 
--- so are those before the last
+-- so are the workers before the last
 pub front_are : (queue : SegId Global) (jobs : List Job) (all before : List Worker) (last : Worker) → all ≡ before ++ last ∷ [] →
     AreWorkers queue jobs all → AreWorkers queue jobs before
 front_are queue jobs all before last is are k d lt = worker_at queue jobs all are k (slice_index_or before k d)
@@ -48,7 +48,7 @@ pub none_left : (xs : List Worker) → length xs ≡ 0 → xs ≡ []
 none_left [] e = refl
 none_left (x ∷ xs) e = absurd (omega (arith, e))
 
--- the last worker took what was left, and its list is the last
+-- the last worker took the remaining jobs, and its list is the last
 pub all_handled : (jobs : List Job) (ws : List Worker) (last : Worker) (more done : List Job) (v : Hand) (by by' : List (List Job)) →
     v ≡ hand 64 jobs (joined (lists_of (ws ++ last ∷ [])) ++ more) → (v.parts ≡ 64 → IsPermutation v.pushed (v.taken ++ [])) →
     done ≡ last.done.items ++ more → by ≡ lists_of ws → by' ≡ by ++ done ∷ [] → IsPermutation jobs (joined by')
@@ -82,7 +82,7 @@ so_many ws last done by by' are new =
     long [] = refl
     long (x ∷ l) = ap suc (long l)
 
--- the last worker may look once more
+-- the last worker may look for jobs once more
 pub last_listed : (ws : List Worker) (last : Worker) (v : Hand) (n : ℕ) (jobs : List Job) → v ≡ hand n jobs (joined (lists_of (ws ++ last ∷ []))) →
     length last.done.items ≤ length v.taken
 last_listed ws last v n jobs knows =

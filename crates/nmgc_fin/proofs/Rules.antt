@@ -1,7 +1,7 @@
 -- Each call keeps the rule of the queue of jobs.
 use Rattle.nmgc_fin.proofs.Vocabulary.{◌≡◌, ◌≢◌, ⊎_elim, ℕ, zero, suc, ◌+◌, ◌<◌, ◌≤◌, List, [], ◌∷◌, ◌++◌, length, set, IsPermutation, refl, sym, ap, ◌∙◌, subst, arith, append_assoc, append-nil, length-append, IsPermutation-refl, IsPermutation-trans, IsPermutation-append_left, IsPermutation-append_right, IsPermutation-append_comm, IsPermutation-middle, length_permutation, some, some-injective, some-ne-none, get_elem?, MayPush, Pops, Forks, Merges, Learns, at_set, at_snoc, Job, Hand, hand, most_parts, total, all_taken, Balanced, Pushes, Takes, keeps_parts, gives_part, both_hands, no_hand, Knows}
 
--- the total of the parts once one pass changes
+-- the total of the parts after one pass changes
 total_set : (views : List Hand) (pass : ℕ) (v w : Hand) → get_elem? views pass ≡ some v → total (set views pass w) + v.parts ≡ total views + w.parts
 total_set [] pass v w e = absurd (some-ne-none v (sym e))
 total_set (x ∷ xs) zero v w e = let i : x.parts ≡ v.parts = ap (λ (y : Hand). y.parts) (some-injective x v e) in omega arith
@@ -16,7 +16,7 @@ part_of [] pass v e = absurd (some-ne-none v (sym e))
 part_of (x ∷ xs) zero v e = let i : x.parts ≡ v.parts = ap (λ (y : Hand). y.parts) (some-injective x v e) in omega arith
 part_of (x ∷ xs) (suc pass) v e = let r = part_of xs pass v e in omega arith
 
--- where one pass has every part, the others have none
+-- if one pass has every part, the other passes have none
 others_idle : (views : List Hand) (pass : ℕ) (v : Hand) → get_elem? views pass ≡ some v → total views ≡ v.parts → (j : ℕ) (u : Hand) → j ≢ pass →
     get_elem? views j ≡ some u → u.parts ≡ 0
 others_idle [] pass v e t j u n f = absurd (some-ne-none v (sym e))
@@ -29,7 +29,7 @@ others_idle (x ∷ xs) (suc pass) v e t (suc j) u n f =
     let r = part_of xs pass v e in
     others_idle xs pass v e (omega arith) j u (λ s. n (ap suc s)) f
 
--- what all took, once a pass changes what it took
+-- the jobs that all passes took stay if a pass changes without taking
 taken_same : (views : List Hand) (pass : ℕ) (v w : Hand) → get_elem? views pass ≡ some v → w.taken ≡ v.taken → all_taken (set views pass w) ≡ all_taken views
 taken_same [] pass v w e s = refl
 taken_same (x ∷ xs) zero v w e s = ap (λ l. l ++ all_taken xs) (s ∙ sym (ap (λ (y : Hand). y.taken) (some-injective x v e)))
@@ -45,7 +45,7 @@ module _ {A : Type 0} where
   swap_pieces xs ys zs =
       rw (← (append_assoc xs ys zs)) (rw (append_assoc ys xs zs) at (IsPermutation-append_left zs (xs ++ ys) (ys ++ xs) (IsPermutation-append_comm xs ys)))
 
--- a pass took these as well
+-- a pass took more jobs
 taken_more : (views : List Hand) (pass : ℕ) (v w : Hand) (more : List Job) → get_elem? views pass ≡ some v → w.taken ≡ v.taken ++ more →
     IsPermutation (more ++ all_taken views) (all_taken (set views pass w))
 taken_more [] pass v w more e s = absurd (some-ne-none v (sym e))
@@ -58,7 +58,7 @@ taken_more (x ∷ xs) (suc pass) v w more e s =
     (swap_pieces more x.taken (all_taken xs))
     (IsPermutation-append_right x.taken (more ++ all_taken xs) (all_taken (set xs pass w)) (taken_more xs pass v w more e s))
 
--- a pass gives up what it took
+-- a pass gives up the jobs that it took
 taken_out : (views : List Hand) (pass : ℕ) (v w : Hand) → get_elem? views pass ≡ some v → w.taken ≡ [] →
     IsPermutation (all_taken views) (v.taken ++ all_taken (set views pass w))
 taken_out [] pass v w e s = absurd (some-ne-none v (sym e))
@@ -71,7 +71,7 @@ taken_out (x ∷ xs) (suc pass) v w e s =
     (IsPermutation-append_right x.taken (all_taken xs) (v.taken ++ all_taken (set xs pass w)) (taken_out xs pass v w e s))
     (swap_pieces x.taken v.taken (all_taken (set xs pass w)))
 
--- where the others took nothing, all took what this one did
+-- if the other passes took nothing, the jobs of all passes are the jobs of this pass
 taken_alone : (views : List Hand) (pass : ℕ) (v : Hand) → get_elem? views pass ≡ some v →
     ((j : ℕ) (u : Hand) → j ≢ pass → get_elem? views j ≡ some u → u.taken ≡ []) → all_taken views ≡ v.taken
 taken_alone [] pass v e f = absurd (some-ne-none v (sym e))
@@ -240,7 +240,7 @@ merges pass v other w some_part items views h at apart at' =
           (at_set (set views pass both) other j no_hand u e);
     }
 
--- a pass with every part knows what is left
+-- a pass with every part knows the remaining jobs
 pub learns : (pass : ℕ) (v : Hand) → Learns Balanced pass v (Knows v)
 learns pass v items views h at every =
     let idle = others_idle views pass v at (h.whole ∙ sym every) in

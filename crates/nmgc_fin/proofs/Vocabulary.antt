@@ -1,4 +1,4 @@
--- Every name of std, of the crates below and of this crate's definitions that the proofs speak of.
+-- The names of std, of the crates below and of this crate's definitions that the proofs use.
 pub use Rattle.crossbeam_queue.proofs.Lists.{at_set, at_snoc}
 pub use Rattle.crossbeam_queue.specs.{Fifo.Forks, Fifo.Learns, Fifo.Merges, Fifo.Pops, Fifo.Pushes as MayPush, SegTies.IsSegPassOf, SegTies.SegId}
 pub use Rattle.nmgc_fin.specs.{Handles.AreNumbered, Handles.Handles, Handles.joined, Jobs.AreJobsOf, Jobs.IsBad, Jobs.IsDead, Jobs.IsDeadOf, Jobs.IsFirstBad, Jobs.NamesOf, Jobs.lines_of, Jobs.weak_of, Order.AreAlike, Order.AreWithin, Order.IsPlaced, Order.job_line, Order.job_lines, Order.jobs_text, Program.AreDone, Program.Asks, Program.IsComplete, Program.IsCount, Program.IsRead, Program.IsWritten, Program.Says, Rule.Balanced, Rule.Knows, Rule.Pushes, Rule.Takes, Rule.all_taken, Rule.both_hands, Rule.gives_part, Rule.hand, Rule.keeps_parts, Rule.most_parts, Rule.no_hand, Rule.total, Worker.AreWorkers, Worker.IsWorker, Worker.hand_of, Worker.lists_of, declared.hand.Hand.Hand, declared.job.Job.Job, declared.top.FinStatus.FinStatus, declared.top.FinStatus.TheVariants.BadReport, declared.top.FinStatus.TheVariants.Done, declared.top.FinStatus.TheVariants.NoMemory, declared.top.FinStatus.TheVariants.ReadFault, declared.top.FinStatus.TheVariants.TooLong, declared.top.FinStatus.TheVariants.Usage, declared.top.FinStatus.TheVariants.WriteFault, declared.top.TheConstants.MAX_REPORT_BYTES, declared.worker.Worker.Worker}

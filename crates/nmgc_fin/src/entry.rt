@@ -1,18 +1,17 @@
-//! The whole program but for its streams: command line in, exit number out.
+//! The whole program except its streams: command line in, exit number out.
 ghost use Rattle.std.specs.Prelude.{◌≡◌, ◌⊎◌};
 ghost use Rattle.nmgc_io.specs.Counts.{Rose};
 ghost use Rattle.nmgc_fin.specs.Program.{Ran};
 
 use crate::{FinStatus, nmgc_fin};
-use nmgc_arguments::{CommandLine, words_of};
+use nmgc_arguments::{CommandLine, arguments_of};
 use nmgc_io::{Sink, Source};
 use std::alloc::Global;
 use std::sync::Wait;
 use std::thread::Threads;
 
-/// Runs the program on a command line, and answers the number with which the process ends. For wrong words nothing is
-/// read. Where there is no memory for the words, the number is 7, and nothing is read or written. May wait for its
-/// workers.
+/// Runs the program on a command line, and returns the exit number of the process. For wrong arguments nothing is read. If
+/// there is no memory for the arguments, the number is 7, and nothing is read or written. May wait for its workers.
 pub fn program<R: Threads + Wait + Sync, L: CommandLine, S: Source, K: Sink>(
     alloc: Global,
     rt: &R,
@@ -20,12 +19,12 @@ pub fn program<R: Threads + Wait + Sync, L: CommandLine, S: Source, K: Sink>(
     source: &mut S,
     sink: &mut K,
 ) -> u8
-    ensures { Ran (L.words line.now) (S.left source.old) (S.left source.new) (Rose (S.faults source.old) (S.faults source.new)) (source.new ≡
+    ensures { Ran (L.arguments line.now) (S.left source.old) (S.left source.new) (Rose (S.faults source.old) (S.faults source.new)) (source.new ≡
         source.old) (K.taken sink.old) (K.taken sink.new) (Rose (K.faults sink.old) (K.faults sink.new)) result
         ⊎ ((result ≡ 7) × (source.new ≡ source.old) × (sink.new ≡ sink.old)) }
 {
-    let Ok(words) = words_of(alloc, line) else {
+    let Ok(arguments) = arguments_of(alloc, line) else {
         return FinStatus::NoMemory.number();
     };
-    nmgc_fin(alloc, rt, &words, source, sink).number()
+    nmgc_fin(alloc, rt, &arguments, source, sink).number()
 }

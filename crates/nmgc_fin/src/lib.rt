@@ -1,19 +1,19 @@
 //! Finaliser workers: one job for each dead weak pointer of a report, each handled once by some worker.
 //!
-//! A report's text is read back into jobs, the jobs are put into a queue, and workers in threads of their own take
-//! them out until none is left. That each job is handled exactly once is a fact about the queue: what its passes
-//! took and what is left are together what was pushed. No worker waits for another, and what is told in the end
-//! doesn't depend on who handled what.
+//! A report's text is read back into jobs, the jobs are put into a queue, and workers in threads of their own take them until
+//! none is left. A fact about the queue gives that each job is handled exactly once: the jobs that its passes took and the
+//! jobs left are together the pushed jobs. No worker waits for another, and the output doesn't depend on which worker handled
+//! which job.
 //!
 //! - `job`, `text`: a job, and the jobs of a report's text.
-//! - `hand`, `plays`: what a pass of the queue knows, and the rule of the queue.
+//! - `hand`, `plays`: the knowledge of a pass of the queue, and the rule of the queue.
 //! - `worker`, `run`: one worker, and all of them.
 //! - `order`: the handled jobs in order of number, as text.
-//! - `top`, `entry`: the top call, and the whole program but for its streams.
+//! - `top`, `entry`: the top call, and the whole program except its streams.
 //!
-//! It is the one crate that may wait: the queue's `pop` does, for a thread that is within a push. Easy to get wrong:
-//! a worker that finds no job knows only that there was none at one moment; that none is left in the end is known
-//! once all passes are one again.
+//! It is the one crate that may wait: the queue's `pop` waits for a thread that is within a push. Easy to get wrong: a worker
+//! that finds no job knows only that there was none at one moment. That none is left in the end is known only after all
+//! passes are joined.
 #![tactic(auto)]
 
 pub mod entry;

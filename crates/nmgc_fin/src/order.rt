@@ -1,6 +1,6 @@
-//! The handled jobs in the order of their numbers, and the text of them.
+//! The handled jobs in the order of their numbers, and their text.
 //!
-//! Which worker handled a job, and when, depends on the schedule; the text doesn't. Each job has its place by its number,
+//! Which worker handled a job, and when, depends on the schedule; the text doesn't. Each job has its position by its number,
 //! so nothing is sorted.
 ghost use Rattle.std.specs.Prelude.{◌≡◌, ◌++◌, All, length, IfOk, OnOk, Contains};
 ghost use Rattle.nmgc_fin.specs.{Handles.joined, Order.AreWithin, Order.AreAlike, Order.IsPlaced, Order.job_line, Order.jobs_text, declared.job.Job.Job as JobOf};
@@ -13,8 +13,8 @@ use nmgc_lists::NoMemory;
 use nmgc_world_spec::Name;
 use std::alloc::Global;
 
-/// So many names, and the name of each handled job stands at the job's number. Asks that the numbers are below that count,
-/// and that jobs of one number are of one weak pointer. Takes memory for the names.
+/// Returns `count` names, with the name of each handled job at the position of the job's number. Requires that the numbers
+/// are below `count`, and that jobs with the same number have the same weak pointer. Takes memory for the names.
 pub fn in_order(alloc: Global, count: usize, handled: &Handled) -> Result<Vec<Name>, NoMemory>
     requires within { AreWithin count (joined handled.now.by) }
     requires alike { AreAlike (joined handled.now.by) }
@@ -28,7 +28,7 @@ pub fn in_order(alloc: Global, count: usize, handled: &Handled) -> Result<Vec<Na
     Ok(names)
 }
 
-// Puts each name at its job's number.
+// Puts each name at the position of its job's number.
 fn place(names: &mut Vec<Name>, done: &[Job])
     requires within { AreWithin (length names.old.items) done.now }
     requires alike { AreAlike done.now }
@@ -42,7 +42,7 @@ fn place(names: &mut Vec<Name>, done: &[Job])
     }
 }
 
-/// The text that tells which jobs were handled, in order of number.
+/// Writes the text that lists the handled jobs, in order of number.
 pub fn handled_text(alloc: Global, names: &[Name]) -> Result<Vec<u8>, NoMemory>
     ensures { IfOk result (λ text. text.items ≡ jobs_text names.now) }
 {

@@ -1,8 +1,8 @@
 //! All jobs are handled once, by some worker.
 //!
-//! The jobs are pushed before a worker starts. Then each worker, in a thread of its own where one can be started, takes
-//! jobs until it finds none. Once all are back their passes are joined, and the last worker looks once more with the
-//! pass that now has every part: it finds none, so what was taken is all that was pushed.
+//! The jobs are pushed before a worker starts. Then each worker takes jobs until it finds none, in a thread of its own if the
+//! system can start it. After all have returned, their passes are joined. The last worker looks for jobs once more with the
+//! pass that has every part now. It finds none, so the jobs taken are all jobs pushed.
 ghost use Rattle.std.specs.Prelude.{◌≡◌, ◌+◌, ◌-◌, ◌<◌, ◌≤◌, [], ◌++◌, length, vec_len, vec_capacity, IfOk, OnOk, All};
 ghost use Rattle.std.specs.Thread.{IsSync};
 ghost use Rattle.crossbeam_queue.specs.SegTies.{IsSegPassOf};
@@ -22,16 +22,17 @@ use std::thread::Threads;
 /// The most workers.
 pub const MOST_WORKERS: u8 = 32;
 
-/// For each worker, the jobs that it handled, in the order in which it did.
+/// For each worker, the jobs that it handled, in the order in which it handled them.
 #[derive(Drop)]
 pub struct Handled {
     pub by: List<List<Job>>,
 }
 
-/// Handles the jobs by so many workers, from 1 to `MOST_WORKERS`, each job once. The jobs are numbered from 0. Each worker passes
-/// `gate` as its number before it handles a job, and counts its passes from 1. Returns once every worker has; it may wait
-/// while another thread is within a push, and what is promised holds if it returns. Takes memory for the jobs in the
-/// queue, and for as many in the list of each worker. After `NoMemory` some jobs may have been handled.
+/// Handles the jobs by `workers` workers, from 1 to `MOST_WORKERS`, each job once and in any order. The jobs are numbered
+/// from 0. Each worker passes `gate` as its number before it handles a job, and counts its passes from 1. Returns after every
+/// worker has; it may wait while another thread is within a push, and the promise holds if it returns. No clause claims
+/// progress, or that more than one worker handles a job. Takes memory for the jobs in the queue, and for the same number in
+/// the list of each worker. After `NoMemory` some jobs may have been handled.
 pub fn run_jobs<R: Threads + Wait + Sync, G: Gate>(
     alloc: Global,
     rt: &R,
@@ -50,7 +51,7 @@ pub fn run_jobs<R: Threads + Wait + Sync, G: Gate>(
     handled
 }
 
-// All jobs are pushed, and then the workers run.
+// Pushes all jobs, and then runs the workers.
 fn handle<R: Threads + Wait + Sync, G: Gate>(
     alloc: Global,
     rt: &R,
@@ -73,7 +74,7 @@ fn handle<R: Threads + Wait + Sync, G: Gate>(
     gathered(alloc, rt, queue, pass, jobs, crew, gate)
 }
 
-// All jobs are pushed, in order.
+// Pushes all jobs, in order.
 fn push_all<R: Wait>(
     rt: &R,
     queue: &JobQueue,
@@ -93,7 +94,7 @@ fn push_all<R: Wait>(
     Ok(())
 }
 
-// So many workers that handled nothing yet, each with a part of the pass and with room for all jobs.
+// Makes `workers` workers that handled nothing yet, each with a part of the pass and with room for all jobs.
 fn hired(
     alloc: Global,
     queue: &JobQueue,
@@ -121,7 +122,7 @@ fn hired(
     Ok(crew)
 }
 
-// Each worker takes jobs until it finds none, in a thread of its own.
+// Lets each worker take jobs until it finds none, in a thread of its own.
 fn work_all<R: Threads + Wait + Sync, G: Gate>(
     rt: &R,
     queue: &JobQueue,
@@ -145,7 +146,7 @@ fn work_all<R: Threads + Wait + Sync, G: Gate>(
     );
 }
 
-// A worker that has one part works.
+// Lets a worker with one part work.
 fn work_once<R: Wait, G: Gate>(
     rt: &R,
     queue: &JobQueue,
@@ -161,7 +162,7 @@ fn work_once<R: Wait, G: Gate>(
     worker.work(rt, queue, number, gate);
 }
 
-// The passes are joined, the last worker looks once more, and the lists are those of the workers.
+// Joins the passes, lets the last worker look for jobs once more, and returns the workers' lists.
 fn gathered<R: Wait, G: Gate>(
     alloc: Global,
     rt: &R,
@@ -202,7 +203,7 @@ fn gathered<R: Wait, G: Gate>(
     Ok(Handled { by })
 }
 
-// The pass takes in those of the workers, and their lists are gathered.
+// Joins the workers' passes to the pass, and collects their lists.
 fn join_all(
     alloc: Global,
     queue: &JobQueue,

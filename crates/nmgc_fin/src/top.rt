@@ -1,17 +1,19 @@
 //! The program's top call.
 //!
-//! The work goes one way: words, bytes, jobs, workers, text, sink. The first refusal is told, and what is to be told is
-//! settled before the sink is touched, so a sink that fails replaces the status and nothing else.
+//! The work goes one way: arguments, bytes, jobs, workers, text, sink. The first refusal is the output. The output is
+//! complete before the sink is used, so a sink that fails changes only the status.
 ghost use Rattle.std.specs.Prelude.{◌≡◌, ◌≤◌, ℕ, List, [], ◌∷◌, length, map, string_bytes, IfOk, IfSome, IfNone, decimal};
 ghost use Rattle.nmgc_io.specs.Counts.{Rose};
+ghost use Rattle.nmgc_arguments.specs.Output.{text_bytes};
 ghost use Rattle.nmgc_fin.specs.{Handles.AreNumbered, Handles.Handles, declared.top.TheConstants.MAX_REPORT_BYTES, declared.top.FinStatus.FinStatus as StatusOf};
-ghost use Rattle.nmgc_fin.specs.Program.{IsCount, Asks, IsWrong, number_of, IsFixed, fixed_text, bad_text, text_bytes, IsMadeOf, AreDone, SaysOfBytes, Says, IsWritten, IsComplete};
+ghost use Rattle.nmgc_fin.specs.Program.{IsCount, Asks, IsWrong, number_of, IsFixed, fixed_text, bad_text, IsMadeOf, AreDone, SaysOfBytes, Says, IsWritten, IsComplete};
 
 use crate::job::Job;
 use crate::order::{handled_text, in_order};
 use crate::run::{Handled, MOST_WORKERS, run_jobs};
 use crate::text::{JobsFault, jobs};
-use nmgc_io::{ReadEnd, Sink, Source, push_number, read_all, read_number, write_all};
+use nmgc_arguments::{Text, write_output};
+use nmgc_io::{ReadEnd, Sink, Source, push_number, read_all, read_number};
 use nmgc_lists::NoMemory;
 use nmgc_round::OpenGate;
 use std::alloc::Global;
@@ -21,18 +23,18 @@ use std::thread::Threads;
 /// The most bytes of a report.
 pub const MAX_REPORT_BYTES: usize = 268_435_456;
 
-/// How the program ended, with the number with which the process ends. Two share number 5: the text tells them apart.
+/// How the program ended, with the exit number of the process. Two share number 5: the text distinguishes them.
 #[derive(Clone, Copy, Debug, PartialEq, Eq)]
 pub enum FinStatus {
     /// Each job was handled; the text was written. Number 0.
     Done,
-    /// The words aren't one number from 1 to `MOST_WORKERS`; nothing was read. Number 2.
+    /// The arguments aren't one number from 1 to `MOST_WORKERS`; nothing was read. Number 2.
     Usage,
     /// The source failed. Number 3.
     ReadFault,
-    /// The sink failed; it has a front of what was to be written. Number 4.
+    /// The sink failed; it has a front of the output. Number 4.
     WriteFault,
-    /// A line whose first word is `dead` isn't `dead` and a name. Number 5.
+    /// A line whose first token is `dead` isn't `dead` and a name. Number 5.
     BadReport,
     /// There are more bytes than a report may have. Number 5.
     TooLong,
@@ -41,7 +43,7 @@ pub enum FinStatus {
 }
 
 impl FinStatus {
-    /// The number with which the process ends.
+    /// Returns the exit number of the process.
     pub fn number(self) -> u8
         ensures { result ≡ number_of self }
     {
@@ -56,89 +58,67 @@ impl FinStatus {
     }
 }
 
-// A text that is always the same, or one that was made. Only the second takes memory.
+// The output.
 #[derive(Drop)]
-enum Text {
-    Fixed(&'static [u8]),
-    Made(Vec<u8>),
-}
-
-impl Text {
-    fn bytes(&self) -> &[u8]
-        ensures { result.now ≡ text_bytes self.now }
-    {
-        match self {
-            Text::Fixed(bytes) => bytes,
-            Text::Made(bytes) => bytes.as_slice(),
-        }
-    }
-}
-
-// What is to be told.
-#[derive(Drop)]
-struct Told {
+struct Output {
     status: FinStatus,
     text: Text,
 }
 
-/// Reads a report from the source to its end, handles one job for each of its dead weak pointers, by as many workers as the
-/// words say, and writes which were handled, in order of number. Where something is in the way, the text of the first
-/// refusal is written in its place. May wait for its workers.
+/// Reads a report from the source to its end and handles one job for each of its dead weak pointers, each once, by the
+/// number of workers in `arguments`. Then it writes the handled jobs in order of number. If something prevents this, it
+/// writes the text of the first refusal. A report within the limit is handled if there is no fault and enough memory. May
+/// wait for its workers.
 pub fn nmgc_fin<R: Threads + Wait + Sync, S: Source, K: Sink>(
     alloc: Global,
     rt: &R,
-    words: &[String],
+    arguments: &[String],
     source: &mut S,
     sink: &mut K,
 ) -> FinStatus
-    // What is told of the words and of what was read, and it was written.
-    ensures told { (told : StatusOf) × (text : List ℕ)
-        × Says (map string_bytes words.now) (S.left source.old) (S.left source.new) (Rose (S.faults source.old) (S.faults source.new)) told text
-        × IsWritten (K.taken sink.old) (K.taken sink.new) (Rose (K.faults sink.old) (K.faults sink.new)) told text result }
-    // For wrong words nothing is read.
-    ensures unread { IsWrong (map string_bytes words.now) → source.new ≡ source.old }
-    // A report within the limit is worked off where there is no fault, or there was no memory.
-    ensures complete { IsComplete (map string_bytes words.now) (S.left source.old) (Rose (S.faults source.old) (S.faults source.new))
+    // The output for the arguments and for the bytes read was written.
+    ensures reported { (reported : StatusOf) × (text : List ℕ)
+        × Says (map string_bytes arguments.now) (S.left source.old) (S.left source.new) (Rose (S.faults source.old) (S.faults source.new)) reported text
+        × IsWritten (K.taken sink.old) (K.taken sink.new) (Rose (K.faults sink.old) (K.faults sink.new)) reported text result }
+    // For wrong arguments nothing is read.
+    ensures unread { IsWrong (map string_bytes arguments.now) → source.new ≡ source.old }
+    // The jobs of a report within the limit are handled if there is no fault, or there was no memory.
+    ensures complete { IsComplete (map string_bytes arguments.now) (S.left source.old) (Rose (S.faults source.old) (S.faults source.new))
         (Rose (K.faults sink.old) (K.faults sink.new)) result }
 {
-    let Told { status, text } = told_of(alloc, rt, words, source);
-    written(sink, status, text.bytes())
+    let Output { status, text } = output_of(alloc, rt, arguments, source);
+    write_output(sink, status, FinStatus::WriteFault, text.bytes())
 }
 
-// Writes a text, and gives the status that was to be told unless the sink failed.
-fn written<K: Sink>(sink: &mut K, told: FinStatus, text: &[u8]) -> FinStatus
-    ensures { IsWritten (K.taken sink.old) (K.taken sink.new) (Rose (K.faults sink.old) (K.faults sink.new)) told text.now result }
-{
-    match write_all(sink, text) {
-        Ok(()) => told,
-        Err(_) => FinStatus::WriteFault,
-    }
-}
-
-// What is told of the words, and of what the source has.
-fn told_of<R: Threads + Wait + Sync, S: Source>(
+// Returns the output for the arguments and the bytes of the source.
+fn output_of<R: Threads + Wait + Sync, S: Source>(
     alloc: Global,
     rt: &R,
-    words: &[String],
+    arguments: &[String],
     source: &mut S,
-) -> Told
-    ensures says { Says (map string_bytes words.now) (S.left source.old) (S.left source.new) (Rose (S.faults source.old) (S.faults source.new))
+) -> Output
+    ensures says { Says (map string_bytes arguments.now) (S.left source.old) (S.left source.new) (Rose (S.faults source.old) (S.faults source.new))
         result.status (text_bytes result.text) }
-    ensures unread { IsWrong (map string_bytes words.now) → source.new ≡ source.old }
+    ensures unread { IsWrong (map string_bytes arguments.now) → source.new ≡ source.old }
 {
-    let Some(workers) = workers_of(words) else {
+    let Some(workers) = workers_of(arguments) else {
         return fixed(FinStatus::Usage);
     };
     match read_all(alloc, source, MAX_REPORT_BYTES) {
-        Ok(bytes) => told_of_bytes(alloc, rt, workers, bytes.as_slice()),
+        Ok(bytes) => output_of_bytes(alloc, rt, workers, bytes.as_slice()),
         Err(ReadEnd::ReadFault) => fixed(FinStatus::ReadFault),
         Err(ReadEnd::TooLong) => fixed(FinStatus::TooLong),
         Err(ReadEnd::NoMemory) => fixed(FinStatus::NoMemory),
     }
 }
 
-// What is told of a report's bytes.
-fn told_of_bytes<R: Threads + Wait + Sync>(alloc: Global, rt: &R, workers: u8, bytes: &[u8]) -> Told
+// Returns the output for a report's bytes.
+fn output_of_bytes<R: Threads + Wait + Sync>(
+    alloc: Global,
+    rt: &R,
+    workers: u8,
+    bytes: &[u8],
+) -> Output
     requires workers { IsCount workers }
     requires most { length bytes.now ≤ MAX_REPORT_BYTES }
     ensures { SaysOfBytes workers bytes.now result.status (text_bytes result.text) }
@@ -150,12 +130,12 @@ fn told_of_bytes<R: Threads + Wait + Sync>(alloc: Global, rt: &R, workers: u8, b
     }
 }
 
-// A text that was made, with its status, or that there was no memory for it.
-fn made(status: FinStatus, text: Result<Vec<u8>, NoMemory>) -> Told
+// Returns a text that was made, with its status, or the output for lack of memory.
+fn made(status: FinStatus, text: Result<Vec<u8>, NoMemory>) -> Output
     ensures { IsMadeOf status text result }
 {
     match text {
-        Ok(text) => Told {
+        Ok(text) => Output {
             status,
             text: Text::Made(text),
         },
@@ -163,7 +143,7 @@ fn made(status: FinStatus, text: Result<Vec<u8>, NoMemory>) -> Told
     }
 }
 
-// The jobs are handled, and then the text is made of what was handled.
+// Handles the jobs, and then makes the text of the handled jobs.
 fn done_text<R: Threads + Wait + Sync>(
     alloc: Global,
     rt: &R,
@@ -178,7 +158,7 @@ fn done_text<R: Threads + Wait + Sync>(
     text_of(alloc, jobs, &handled)
 }
 
-// The text that tells which of the jobs were handled, which all were. Of the jobs it takes only how many there are.
+// Makes the text that lists the handled jobs, which are all jobs. It uses only the number of `jobs`.
 fn text_of(alloc: Global, jobs: &[Job], handled: &Handled) -> Result<Vec<u8>, NoMemory>
     requires numbered { AreNumbered jobs.now }
     requires handled { Handles jobs.now handled.now.by }
@@ -188,32 +168,31 @@ fn text_of(alloc: Global, jobs: &[Job], handled: &Handled) -> Result<Vec<u8>, No
     handled_text(alloc, names.as_slice())
 }
 
-// How many workers the words ask for. `None` comes exactly where they aren't one number from 1 to
-// `MOST_WORKERS`.
-fn workers_of(words: &[String]) -> Option<u8>
-    ensures asked { IfSome result (Asks (map string_bytes words.now)) }
-    ensures wrong { IfNone result (IsWrong (map string_bytes words.now)) }
+// Returns the number of workers in the arguments, or `None` exactly if they aren't one number from 1 to `MOST_WORKERS`.
+fn workers_of(arguments: &[String]) -> Option<u8>
+    ensures asked { IfSome result (Asks (map string_bytes arguments.now)) }
+    ensures wrong { IfNone result (IsWrong (map string_bytes arguments.now)) }
 {
-    match words {
-        [word] => workers_in(word.as_str().as_bytes()),
+    match arguments {
+        [argument] => workers_in(argument.as_str().as_bytes()),
         _ => None,
     }
 }
 
-// The number of workers that a word spells.
-fn workers_in(word: &[u8]) -> Option<u8>
-    ensures found { IfSome result (λ workers. (word.now ≡ decimal workers) × IsCount workers) }
-    ensures none { IfNone result ((workers : ℕ) → IsCount workers → word.now ≡ decimal workers → ⊥) }
+// Returns the number of workers that an argument spells.
+fn workers_in(argument: &[u8]) -> Option<u8>
+    ensures found { IfSome result (λ workers. (argument.now ≡ decimal workers) × IsCount workers) }
+    ensures none { IfNone result ((workers : ℕ) → IsCount workers → argument.now ≡ decimal workers → ⊥) }
 {
-    let number = read_number(word, u64::from(MOST_WORKERS))?;
+    let number = read_number(argument, u64::from(MOST_WORKERS))?;
     if number == 0 {
         return None;
     }
     Some(number as u8)
 }
 
-// A text that is always the same. Takes no memory.
-fn fixed(status: FinStatus) -> Told
+// Returns the fixed text of a status. Takes no memory.
+fn fixed(status: FinStatus) -> Output
     requires { IsFixed status }
     ensures { (result.status ≡ status) × (text_bytes result.text ≡ fixed_text status) }
 {
@@ -224,13 +203,13 @@ fn fixed(status: FinStatus) -> Told
         FinStatus::NoMemory => b"no memory\n".as_slice(),
         _ => unreachable!(),
     };
-    Told {
+    Output {
         status,
         text: Text::Fixed(text),
     }
 }
 
-// The text that tells the first bad line, from 1.
+// Makes the report of the first bad line, from 1.
 fn bad_text(alloc: Global, line: u32) -> Result<Vec<u8>, NoMemory>
     ensures { IfOk result (λ text. text.items ≡ bad_text line) }
 {

@@ -1,10 +1,10 @@
 //! A worker: it takes jobs off the queue until it finds none.
 //!
-//! What its pass took is what stands in its list, so that once the passes are joined the lists are known to be all that
-//! was taken. The list has room for every job from the start, so nothing can fail while jobs are out of the queue.
+//! The jobs that its pass took are the jobs in its list. So after the passes are joined the lists are known to be all jobs
+//! taken. The list has room for every job from the start, so nothing can fail while jobs are out of the queue.
 //!
-//! Easy to get wrong: that a worker found none says that none was left at one moment. Nothing is pushed once the workers
-//! have started, so none comes later; but only the pass with every part knows what the others took.
+//! Easy to get wrong: if a worker found none, none was left at one moment. Nothing is pushed after the workers have started,
+//! so none comes later. But only the pass with every part knows which jobs the other passes took.
 ghost use Rattle.std.specs.Prelude.{◌≡◌, ◌<◌, ◌≤◌, ◌++◌, [], length, vec_capacity};
 ghost use Rattle.crossbeam_queue.specs.SegTies.{IsSegPassOf};
 ghost use Rattle.nmgc_fin.specs.Worker.{CanWork, HasWorked};
@@ -19,10 +19,10 @@ use std::sync::Wait;
 /// The queue of jobs.
 pub type JobQueue = RuledSegQueue<Job, Hand, Rules>;
 
-/// Leave to use the queue. What it knows exists in proofs alone.
+/// The right to use the queue. Its knowledge exists only in proofs.
 pub type JobPass = SegPass<Job, Hand>;
 
-/// A worker: its pass, the jobs that it handled, and how often it passed the gate.
+/// A worker: its pass, the jobs that it handled, and the number of its passes of the gate.
 #[derive(Drop)]
 pub struct Worker {
     pub pass: JobPass,

@@ -1,8 +1,8 @@
--- A change in two halves: its answer tells whether it is done, and one that is done leaves what it writes.
+-- A change in two halves: its reply says whether it is done, and a change that is done leaves the written node.
 use Rattle.nmgc_graph.proofs.Vocabulary.{◌≡◌, ℕ, List, [], ◌∷◌, ◌++◌, length, set, cond, eqb, ltb, refl, sym, ap, ◌∙◌, Option, Some, None, Bool, true, false, slice_get, lt-ltb, Reply, Fine, Yes, No, NoField, StackFull, StackEmpty, Value, Node, Con, Var, Arr, Thunk, Weak, Stack, Change, is_same, given_or, exchanged_at, field_set, field_exchanged, thunk_updated, stack_pushed, stack_popped, weak_finalised, without_last, last_of, changed, is_done, field_written, result_written, value_pushed, top_dropped, killed, written, get_is_some, none_left}
 use Rattle.nmgc_world_spec.specs.declared.change.Change.TheVariants as change
 
--- what is left is what was made, where the answer says so, and else what was there
+-- the node after a change: the written node if the reply says that it is done, and else the node before
 abbrev Halves : Node × Reply → Node → Node → Type 0
 Halves r made kept = r.0 ≡ cond (is_done r.1) made kept
 
@@ -97,16 +97,16 @@ both r node reply left right =
     let second : Reply → Node × Reply = λ q. (node, q) in
     ap first left ∙ ap second (sym right)
 
--- a change whose answer says that it is done, and which wrote what it writes
+-- a change whose reply says that it is done, and which wrote the node
 pub done_is : (c : Change) (maker : ℕ) (node made : Node) (reply : Reply) (done : Bool) → done ≡ is_done reply → done ≡ true →
     reply ≡ (changed c maker node).1 → made ≡ written c node → ◌≡◌ {A = Node × Reply} (changed c maker node) (made, reply)
-done_is c maker node made reply done tells is answer wrote =
+done_is c maker node made reply done agrees is answer wrote =
     both (changed c maker node) made reply (halves c maker node ∙
-    ap (λ (b : Bool). cond b (written c node) node) (ap is_done (sym answer) ∙ sym tells ∙ is) ∙ sym wrote) answer
+    ap (λ (b : Bool). cond b (written c node) node) (ap is_done (sym answer) ∙ sym agrees ∙ is) ∙ sym wrote) answer
 
--- a change whose answer says that it isn't done, and which wrote nothing
+-- a change whose reply says that it isn't done, and which wrote nothing
 pub refused_is : (c : Change) (maker : ℕ) (node : Node) (reply : Reply) (done : Bool) → done ≡ is_done reply → done ≡ false →
     reply ≡ (changed c maker node).1 → ◌≡◌ {A = Node × Reply} (changed c maker node) (node, reply)
-refused_is c maker node reply done tells is answer =
+refused_is c maker node reply done agrees is answer =
     both (changed c maker node) node reply (halves c maker node ∙
-    ap (λ (b : Bool). cond b (written c node) node) (ap is_done (sym answer) ∙ sym tells ∙ is)) answer
+    ap (λ (b : Bool). cond b (written c node) node) (ap is_done (sym answer) ∙ sym agrees ∙ is)) answer

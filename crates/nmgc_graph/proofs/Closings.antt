@@ -2,7 +2,7 @@
 use Rattle.nmgc_graph.proofs.Vocabulary.{◌≡◌, ◌≢◌, ◌<◌, ℕ, List, [], ◌∷◌, ◌++◌, length, take, get_or, set, refl, sym, ap, subst, ◌∙◌, Option, Some, Result, Ok, Err, Contains, All, OnOk, OnErr, slice_get, refill, ne_eqb, All-head, All-tail, All-weaker, All-take, Contains-get_or, NoMemory, SHARED_MAKER, Name, Node, Weak, MutatorState, World, state_of, node_of, IsWorld, IsAliveWeak, IsBefore, IsInOrder, closed, closed_by, finaliser_of, not_before_itself, in_order_first, in_order_rest, in_order_take, in_order_apart, contains_head, contains_tail, with_dead, closed_state, closed_other, closed_length, dead_keeps, weak_within, weak_maker, not_shared, lent, replaced, same_state}
 use Rattle.nmgc_graph.proofs.Lent.{back_is}
 
--- the world with one weak pointer less is a world
+-- the world after the death of a weak pointer is a world
 module _ (w : World) (h : IsWorld w) (weak : Name) (alive : IsAliveWeak w weak) where
   lt : weak.maker < length w.mutators
   lt = weak_maker w h weak alive
@@ -13,7 +13,7 @@ module _ (w : World) (h : IsWorld w) (weak : Name) (alive : IsAliveWeak w weak) 
   there : slice_get (state_of w weak.maker).nodes weak.serial ≡ Some (Weak (Some alive.0))
   there = rw (ne_eqb weak.maker SHARED_MAKER apart) at alive.1
 
-  -- the state that was lent, and what it was replaced by
+  -- the state that was lent, and the state that replaced it
   module _ (ys : List MutatorState) (e : ys ≡ w.mutators) (d new : MutatorState) where
     pub dead_within : weak.serial < length (get_or ys weak.maker d).nodes
     dead_within = rw (lent w h weak.maker lt ys e d new) (weak_within w h weak alive)

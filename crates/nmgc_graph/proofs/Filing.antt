@@ -1,8 +1,8 @@
--- Filing weak pointers by the names that they wait for, and going over those that wait for one.
+-- Filing weak pointers by the names that they wait for, and going over the weak pointers that wait for a name.
 use Rattle.nmgc_graph.proofs.Vocabulary.{◌≡◌, ◌≢◌, ◌<◌, ◌≤◌, ◌+◌, ℕ, List, [], ◌∷◌, ◌++◌, length, set, inl, inr, refl, sym, ap, subst, ◌∙◌, arith, ◌⊎◌, length-append, Option, Some, None, Contains, IsSome, IfSome, slice_index, get_or-append, get_or-append_seam, cases_lt, cases_eq, eqb_tells, get_or-set_same, get_or-set_other, get_or_past, length-set, Contains-append_left, Contains-push, fold-append, SHARED_MAKER, Name, Search, Waiting, World, node_of, state_of, IsWorld, HasPlaces, count_of, parts_of, with_weak, with_weaks, key_of, bounds_of, bound_of, HasBound, with_bound, with_next, weak_at, IsBound, AreFiled, IsRevival, same_name, name_cases, get_is_some}
 use Rattle.nmgc_graph.proofs.{Follows.places_stay, Weaks.weaks_mark}
 
--- a name of the map is among as many as its maker has
+-- the serial of a name of the map is below the number of its maker's names
 name_counted : (w : World) (name : Name) → IsSome (node_of w name) → name.serial < count_of w name.maker
 name_counted w name there = elim (eqb_tells name.maker SHARED_MAKER) [
   | inl p ↦ elim (eqb_tells name.serial 0) [
@@ -133,7 +133,7 @@ module _ (w : World) (weaks : List Name) where
   filed_place count waiting None f known = tt
   filed_place count waiting (Some key) f known = f.places key known
 
--- going over the weak pointers that wait for a name: those from the bound on were passed
+-- going over the weak pointers that wait for a name: all from the bound on were passed
 pub record IsPassing (w : World) (weaks : List Name) (name : Name) (old new : Search) (bound : ℕ) : Type 0 where
   pub passed : List Name
   pub is : new ≡ with_weaks w old passed

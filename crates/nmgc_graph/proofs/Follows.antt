@@ -1,8 +1,8 @@
--- Following strong fields: what each step keeps, and what is reached in the end.
+-- Following strong fields: the facts that each step keeps, and the names that are reachable in the end.
 use Rattle.nmgc_graph.proofs.Vocabulary.{◌≡◌, ◌+◌, List, [], ◌∷◌, ◌++◌, length, inl, inr, refl, sym, subst, ◌∙◌, arith, Bool, ◌⊎◌, length-append, Option, Some, None, Contains, All, IfSome, All-nil, Contains-append_left, Contains-push, Contains-push_cases, Name, Value, Ref, Node, Search, World, node_of, IsKnown, AreKnown, IsNodeOf, IsWorld, IsMarked, IsPlaced, unmarked_count, HasPlaces, IsReached, strong_fields, RefersTo, with_values, fields_in, IsSearch, IsFollowed, fields_known}
 use Rattle.nmgc_graph.proofs.Searches.{Marks, values_mark, are_placed}
 
--- what a name refers to is in its fields, and the other way round
+-- a name refers to a target exactly if the target is in its fields
 pub refers_in : (w : World) (name target : Name) → RefersTo w name target → Contains (fields_in (node_of w name)) (Ref target)
 refers_in w name target r = rw r.1 r.2
 
@@ -17,21 +17,21 @@ known_in : (w : World) (o : Option Node) → IfSome o (IsNodeOf w) → AreKnown 
 known_in w None is = All-nil (IsKnown w)
 known_in w (Some node) is = fields_known w node is.known
 
--- what the fields of a name refer to has a place
+-- the fields of a name refer to names that have a place
 pub fields_placed : (w : World) → IsWorld w → (marks : List (List Bool)) → HasPlaces w marks → (name : Name) → All (IsPlaced marks) (fields_in (node_of w name))
 fields_placed w h marks places name = are_placed w marks places (fields_in (node_of w name)) (known_in w (node_of w name) (h.nodes name))
 
 pub node_placed : (w : World) (marks : List (List Bool)) → HasPlaces w marks → (node : Node) → IsNodeOf w node → All (IsPlaced marks) (strong_fields node)
 node_placed w marks places node is = are_placed w marks places (strong_fields node) (fields_known w node is.known)
 
--- places stay where names are marked
+-- places stay when names are marked
 pub places_stay : (w : World) (s t : Search) (values : List Value) → Marks s t values → HasPlaces w s.marks → HasPlaces w t.marks
 places_stay w s t values m h = record {
   makers = m.makers ∙ h.makers;
   counts = λ maker. m.places maker ∙ h.counts maker;
 }
 
--- marking names keeps a search as it has to be
+-- marking names keeps the invariant of a search
 pub search_stays : (w : World) (s t : Search) (values : List Value) → Marks s t values → IsSearch w s → IsSearch w t
 search_stays w s t values m h = record {
   places = places_stay w s t values m h.places;
@@ -68,7 +68,7 @@ module _ (w : World) (s : Search) (rest : List Name) (name : Name) (off : s.work
   still_waits n c = Contains-push_cases rest name n (rw off at c)
 
   module _ (t : Search) (values : List Value) (m : Marks (record { marks = s.marks; work = rest }) t values) where
-    -- it is a search as before, if all is marked that the name refers to
+    -- the search has its invariant again, if all that the name refers to is marked
     pub search_goes_on : ((target : Name) → RefersTo w name target → IsMarked t.marks target) → IsSearch w t
     search_goes_on done = record {
       places = places_stay w (record { marks = s.marks; work = rest }) t values m is.places;
@@ -91,7 +91,7 @@ module _ (w : World) (s : Search) (rest : List Name) (name : Name) (off : s.work
         omega (arith, m.count)
 
   module _ (h : IsWorld w) where
-    -- what its fields refer to is marked
+    -- the targets of its fields are marked
     pub fields_mark : Marks (record { marks = s.marks; work = rest }) (with_values (record { marks = s.marks; work = rest }) (fields_in (node_of w name)))
         (fields_in (node_of w name))
     fields_mark = values_mark (fields_in (node_of w name)) (record { marks = s.marks; work = rest }) (fields_placed w h s.marks is.places name)

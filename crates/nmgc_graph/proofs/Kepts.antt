@@ -2,7 +2,7 @@
 use Rattle.nmgc_graph.proofs.Vocabulary.{◌≡◌, ◌<◌, ◌≤◌, ◌+◌, ℕ, List, [], ◌∷◌, ◌++◌, length, inl, inr, refl, sym, ap, subst, ◌∙◌, arith, Bool, true, false, not, Option, Some, None, Contains, IsSome, filter, is_some, false≢true, and_parts, and_from, not-true, not_from_false, false_from_ne_true, All-nil, All-tail, All-append, All-get_or, Contains-append_left, Contains-append_right, Contains-append_cases, Contains-push, Contains-push_cases, Name, Value, Nil, Number, Ref, Parts, Search, World, node_of, serial_of, IsKnown, AreKnown, IsWorld, parts_held, mark_of, IsMarked, IsPlaced, HasPlaces, with_mark, IsReached, IsAliveWeak, IsDead, IsKept, Lists, ListsBefore, with_values, parts_of, is_key_marked, is_lost, IsLost, IsSetOf, finaliser_in, finalisers_of, IsSearch, IsFollowed, IsLiveFound, IsKeptFound, contains_head, contains_tail, contains_cases, contains_filter, filter_contains, in_order_filter, lists_maker, lists_all, name_cases, added, kept_others, places_kept, makers_kept, name_placed, weak_within, weak_maker, alive_from_parts, parts_from_alive}
 use Rattle.nmgc_graph.proofs.{Searches.Marks, Searches.values_mark, Searches.are_placed, Searches.known_placed, Follows.places_stay, Follows.search_stays, Weaks.parts_known}
 
--- an alive weak pointer is one where its parts are there
+-- a weak pointer that has parts is alive
 pub weak_some : (w : World) (weak : Name) (o : Option Parts) → o ≡ parts_of w weak → is_some o ≡ true → IsAliveWeak w weak
 weak_some w weak None e t = absurd cc
 weak_some w weak (Some parts) e t = (parts, alive_from_parts w weak parts (sym e))
@@ -110,7 +110,7 @@ module _ (w : World) (marks set : List (List Bool)) (finalised : List Name) (s :
     )) (rw (parts_from_alive w weak k.parts k.alive) (parts_lost weak k));
   }
 
--- the lost weak pointers are the dead ones, where the marked names are the live ones
+-- the lost weak pointers are the dead weak pointers if the marked names are the live names
 module _ (w : World) (extra finalised : List Name) (s : Search) (f : IsLiveFound w extra s) where
   hidden_key : (marks : List (List Bool)) (v : Value) → is_key_marked marks v ≡ false → (key : Name) × (v ≡ Ref key) × (mark_of marks key ≡ false)
   hidden_key marks Nil e = absurd (false≢true (sym e))
@@ -144,7 +144,7 @@ module _ (w : World) (extra finalised : List Name) (s : Search) (f : IsLiveFound
     complete = λ weak d. l.complete weak (dead_lost weak d);
   }
 
--- a finaliser among those of weak pointers
+-- a finaliser in the list of weak pointers' finalisers is the finaliser of such a weak pointer
 finalisers_contain : (w : World) (weaks : List Name) (v : Value) → Contains (finalisers_of w weaks) v → (weak : Name) × Contains weaks weak ×
     Contains (finaliser_in (parts_of w weak)) v
 finalisers_contain w [] v c = absurd (omega (arith, c.1))
@@ -163,7 +163,7 @@ contains_finaliser w (x ∷ xs) weak parts c e = elim (contains_cases x xs weak 
   | inr d ↦ Contains-append_right (finaliser_in (parts_of w x)) (finalisers_of w xs) parts.finaliser (contains_finaliser w xs weak parts d e)
 ]
 
--- following what the finalisers of the dead reach finds the kept names
+-- following the names reachable from the finalisers of the dead finds the kept names
 module _ (w : World) (h : IsWorld w) (extra finalised : List Name) (s : Search) (f : IsLiveFound w extra s) (dead : List Name)
     (l : Lists (IsLost w s.marks finalised) dead) where
   begun : Search

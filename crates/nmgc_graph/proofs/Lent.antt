@@ -1,7 +1,7 @@
--- What a part that was lent and changed leaves, where the change may want memory.
+-- The world after a part was lent and changed, by a change that may want memory.
 use Rattle.nmgc_graph.proofs.Vocabulary.{◌≡◌, ◌≢◌, ◌<◌, ℕ, List, map, length, get_or, set, refl, sym, ap, subst, ◌∙◌, Some, Result, Ok, Err, IsSome, IfOk, OnOk, OnErr, slice_get, All, refill, ne_eqb, get_or_from_slice_get, NoMemory, Operand, Reply, SHARED_MAKER, Name, Value, Node, Change, MutatorState, World, state_of, node_of, AreKnown, IsKnownReply, IsKnownChange, IsWorld, IsOperand, changed, with_state, with_nth, with_node, value_of, change_node, refill_whole, operands_known, replaced, lent, shared_changed, within, maker_exists, nth_changed, nth_reply, in_state, same_state, is_some_of, length-set}
 
--- the values that a call gave are known, if it gave any
+-- the values that a call returned are known, if it returned any
 pub values_known : (w : World) (m : ℕ) → IsWorld w → m < length w.mutators → (os : List Operand) → All IsOperand os → (registers : List Value) →
     registers ≡ (state_of w m).registers → (r : Result (List Value) NoMemory) → IfOk r (λ values. values ≡ map (value_of registers) os) → IfOk r (AreKnown w)
 values_known w m h lt os fits registers e (Ok values) is = let P : List Value → Type 0 = AreKnown w in
@@ -37,7 +37,7 @@ module _ (state : MutatorState) (name : Name) (c : Change) (old made d : Node) (
         | Err f ↦ λ is. tt
       ] ok
 
--- the answer of a change of g
+-- the reply to a change of g
 module _ (w : World) (h : IsWorld w) (name : Name) (c : Change) (there : IsSome (node_of w name)) (known : IsKnownChange w c) (at : name.maker ≡
     SHARED_MAKER) (made : Node) where
   pub g_keeps : (r : Result Reply NoMemory) → IfOk r (λ reply. ◌≡◌ {A = Node × Reply} (changed c SHARED_MAKER w.shared) (made, reply)) →
@@ -65,7 +65,7 @@ module _ (w : World) (h : IsWorld w) (name : Name) (c : Change) (there : IsSome 
       ne_shared : node_of w name ≡ slice_get (state_of w name.maker).nodes name.serial
       ne_shared = in_state w h name c there known ne
 
-  -- what the change of the object says, of the world
+  -- from the contract of the object's change to facts of the world
   module _ (r : Result Reply NoMemory)
       (state : (old : Node) → slice_get (get_or ys name.maker d).nodes name.serial ≡ Some old →
       OnOk r (new ≡ with_nth (get_or ys name.maker d) name.serial (changed c name.maker old).0))

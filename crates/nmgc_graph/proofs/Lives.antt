@@ -1,4 +1,4 @@
--- From a search to the live names: what it begins with, and what it has found in the end.
+-- From a search to the live names: its starts, and the marked names in the end.
 use Rattle.nmgc_graph.proofs.Vocabulary.{◌≡◌, ◌+◌, ℕ, zero, suc, List, [], ◌∷◌, ◌++◌, length, map, get_or, inl, inr, refl, sym, ap, subst, ◌∙◌, arith, Bool, true, false, Some, Contains, All, IsSome, flat_map, false≢true, get_or_read, All-cons, All-nil, All-head, All-tail, All-append, All-contains, All-from_get_or, All-weaker, Contains-append_left, Contains-append_right, Contains-append_cases, Name, Value, Nil, Number, Ref, Parts, Search, World, node_of, state_of, no_mutator, IsKnown, AreKnown, IsWorld, shared_name, mark_of, IsMarked, HasPlace, unmarked_count, HasPlaces, IsRoot, IsLive, IsAlive, IsAliveWeak, IsKeptBy, IsPlain, with_name, with_values, with_weaks, values_held, starts_of, is_key_marked, fields_in, IsLiveSearch, AreRevived, IsLiveFound, key_of, weak_at, IsRevival, contains_head, contains_tail, contains_cases, name_placed}
 use Rattle.nmgc_graph.proofs.{Searches.Marks, Searches.same_ref, Searches.values_mark, Searches.name_marks, Searches.are_placed, Searches.then_marks, Follows.places_stay, Follows.search_stays, Follows.refers_in, Follows.fields_refer, Follows.fields_mark, Follows.was_marked, Follows.still_waits, Follows.search_goes_on, Follows.one_less, Weaks.weaks_mark, Weaks.weaks_sound, Weaks.weaks_begun, Weaks.key_cases, Weaks.key_from_alive, Weaks.revived}
 
@@ -30,7 +30,7 @@ refs_contain (x ∷ xs) n c = elim (contains_cases (Ref x) (map Ref xs) (Ref n) 
   | inr d ↦ contains_tail x xs n (refs_contain xs n d)
 ]
 
--- a root is among what the search begins with
+-- a root is among the starts of the search
 root_starts : (w : World) (extra : List Name) (n : Name) → IsRoot w n → Contains (starts_of w extra) (Ref n)
 root_starts w extra n (inl e) = rw e (contains_head (Ref shared_name) (flat_map values_held w.mutators ++ map Ref extra))
 root_starts w extra n (inr r) =
@@ -54,7 +54,7 @@ starts_live w extra there n c = elim (contains_cases (Ref shared_name) (flat_map
   ]
 ]
 
--- what holds of each element of each list holds of the lists joined
+-- a property of each element of each list holds for the lists joined
 pub All-flat_map : {A B : Type 0} (P : B → Type 0) (f : A → List B) (xs : List A) → All (λ x. All P (f x)) xs → All P (flat_map f xs)
 All-flat_map P f [] all = All-nil P
 All-flat_map P f (x ∷ xs) all = All-append P (f x) (flat_map f xs) (All-head (λ y.
@@ -78,7 +78,7 @@ module _ (w : World) (h : IsWorld w) (extra : List Name) where
     starts_known = All-cons (IsKnown w) (Ref shared_name) (flat_map values_held w.mutators ++
         map Ref extra) refl (All-append (IsKnown w) (flat_map values_held w.mutators) (map Ref extra) mutators_known (refs_known w extra there))
 
-    -- the further names have a place in the search that has marked all others that it begins with
+    -- the further names have a place in the search that has marked all other starts
     pub extra_placed : (s : Search) → HasPlaces w s.marks → All (HasPlace (with_values (with_name s shared_name) (flat_map values_held w.mutators)).marks) extra
     extra_placed s places =
         let t : Search = with_name s shared_name in
@@ -90,7 +90,7 @@ module _ (w : World) (h : IsWorld w) (extra : List Name) where
         (values_mark (flat_map values_held w.mutators) t (are_placed w t.marks placed (flat_map values_held w.mutators) mutators_known)) placed in
         All-weaker (λ name. IsSome (node_of w name)) (HasPlace u.marks) (name_placed w u.marks last) extra there
 
-    -- the search that has marked what it begins with
+    -- the search that has marked its starts
     pub live_begun : (marks : List (List Bool)) → HasPlaces w marks → ((n : Name) → mark_of marks n ≡ false) →
         IsLiveSearch w extra (with_values (record { marks = marks; work = [] }) (starts_of w extra))
     live_begun marks places none =
@@ -125,7 +125,7 @@ module _ (w : World) (h : IsWorld w) (extra : List Name) where
     pub pass_revives : ((weak : Name) → IsAliveWeak w weak → Contains weaks weak) → AreRevived w (with_weaks w s weaks)
     pass_revives all = revived w h weaks s l.search.places all
 
-  -- a name comes off the worklist: its fields are marked, and the weak pointers that wait for it do their part
+  -- a name comes off the worklist: its fields are marked, and the weak pointers that wait for it have marked their parts
   module _ (s : Search) (rest : List Name) (name : Name) (off : s.work ≡ rest ++ name ∷ []) (l : IsLiveSearch w extra s) where
     abbrev fields : List Value
     fields = fields_in (node_of w name)
@@ -171,7 +171,7 @@ module _ (w : World) (h : IsWorld w) (extra : List Name) where
       live_count = one_less w s rest name off l.search t (fields ++ passed.0) both
 
       module _ (complete : (weak : Name) → IsAliveWeak w weak → Contains weaks weak) where
-        -- what waited for the name has done its part
+        -- the weak pointers that waited for the name have marked their parts
         woken : (weak target : Name) (parts : Parts) → IsAlive w weak parts → parts.key ≡ Ref name → IsKeptBy weak parts target → IsMarked t.marks target
         woken weak target parts alive e kept =
             let none : Name = record { maker = 0; serial = 0 } in
@@ -195,7 +195,7 @@ module _ (w : World) (h : IsWorld w) (extra : List Name) where
           | inr waits ↦ inl waits
         ]
 
-  -- where nothing waits and each weak pointer has done its part, all live names are marked
+  -- if nothing waits and each weak pointer has marked its parts, all live names are marked
   module _ (s : Search) (l : IsLiveSearch w extra s) (r : AreRevived w s) (empty : s.work ≡ []) where
     none_waits : (n : Name) → Contains s.work n → ⊥
     none_waits n c = let bad = rw empty at c in omega (arith, bad.1)

@@ -1,7 +1,7 @@
--- What marking names in a search changes, and what it keeps.
+-- The effects of marking names in a search, and the facts that it keeps.
 use Rattle.nmgc_graph.proofs.Vocabulary.{◌≡◌, ◌≤◌, ◌+◌, ℕ, List, [], ◌∷◌, ◌++◌, length, inl, inr, refl, sym, subst, ◌∙◌, arith, Bool, false, ◌⊎◌, length-append, map, Contains, All, cases_Bool, All-head, All-tail, All-weaker, All-map, Contains-append_left, Contains-append_right, Contains-append_cases, Contains-push, Contains-push_cases, Name, Value, Nil, Number, Ref, Search, World, IsKnown, AreKnown, row_of, mark_of, IsMarked, HasPlace, IsPlaced, with_mark, unmarked_count, HasPlaces, with_name, with_value, with_values, contains_head, contains_cases, name_placed, added, kept_others, places_kept, makers_kept, one_fewer, name_cases}
 
--- what marking the names that these values refer to changes
+-- the effects of marking the names that the values refer to
 pub record Marks (s t : Search) (values : List Value) : Type 0 where
   pub kept : (n : Name) → IsMarked s.marks n → IsMarked t.marks n
   pub waits : (n : Name) → Contains s.work n → Contains t.work n
@@ -51,7 +51,7 @@ then_marks s t u xs ys a b = record {
   makers = b.makers ∙ a.makers;
 }
 
--- nothing new for values that refer to no name, or to one that was marked
+-- no effect of values that refer to no name, or to a name that was marked
 plain_marks : (s : Search) (v : Value) → ((n : Name) → v ≡ Ref n → IsMarked s.marks n) → Marks s s (v ∷ [])
 plain_marks s v shown = record {
   kept = λ n m. m;
@@ -123,7 +123,7 @@ values_mark (v ∷ values) s placed =
     (All-tail (IsPlaced s.marks) v values placed) in
     then_marks s (with_value s v) (with_values s (v ∷ values)) (v ∷ []) values one (values_mark values (with_value s v) rest)
 
--- values that have a place have one after marking others
+-- values that have a place still have a place after other values are marked
 pub placed_after : (s : Search) (others values : List Value) → All (IsPlaced s.marks) others → All (IsPlaced s.marks) values →
     All (IsPlaced (with_values s others).marks) values
 placed_after s others values first placed =

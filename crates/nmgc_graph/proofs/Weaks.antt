@@ -1,4 +1,4 @@
--- Passing over the weak pointers: what a pass marks, and that it is live.
+-- Passing over the weak pointers: the names that a pass marks, and that they are live.
 use Rattle.nmgc_graph.proofs.Vocabulary.{◌≡◌, List, [], ◌∷◌, ◌++◌, inl, inr, refl, sym, ap, subst, ◌∙◌, arith, Bool, true, ◌⊎◌, Option, Some, None, Contains, All, IsSome, IfSome, option_and_then, cases_Bool, All-cons, All-tail, Name, Value, Nil, Number, Ref, Parts, Node, Con, Var, Arr, Thunk, Weak, Stack, Search, World, node_of, AreKnown, IsNodeOf, IsWorld, parts_held, IsMarked, IsPlaced, HasPlaces, IsAlive, IsAliveWeak, IsKeptBy, IsLive, with_weak, with_weaks, parts_in, parts_of, is_key_marked, AreRevived, name_in, key_of, contains_head, contains_tail, contains_cases, name_placed, parts_from_alive, parts_alive, alive_from_parts}
 use Rattle.nmgc_graph.proofs.{Searches.same_ref, Searches.Marks, Searches.no_marks, Searches.then_marks, Searches.values_mark, Searches.are_placed, Follows.places_stay}
 
@@ -7,7 +7,7 @@ pub key_from_alive : (w : World) (weak name : Name) (parts : Parts) → IsAlive 
 key_from_alive w weak name parts alive e =
     ap (λ (o : Option Parts). option_and_then (λ (p : Parts). name_in p.key) o) (parts_from_alive w weak parts alive) ∙ ap name_in e
 
--- what an alive weak pointer holds is known
+-- the values in an alive weak pointer are known
 pub parts_known : (w : World) (o : Option Node) → IfSome o (IsNodeOf w) → (parts : Parts) → option_and_then parts_in o ≡ Some parts →
     AreKnown w (parts_held (Some parts))
 parts_known w None is parts e = absurd cc
@@ -16,7 +16,7 @@ parts_known w (Some node) is parts e =
     let same : node ≡ Weak (Some parts) = cc in
     (rw same at is).known
 
--- what marks the values of a weak pointer
+-- the values that mark a weak pointer and its parts
 abbrev pub weak_values : Name → Parts → List Value
 weak_values weak parts = Ref weak ∷ parts.value ∷ parts.finaliser ∷ []
 
@@ -60,7 +60,7 @@ module _ (w : World) (h : IsWorld w) where
         (All-tail (IsPlaced s.marks) parts.key (parts.value ∷ parts.finaliser ∷
         []) (are_placed w s.marks places (parts_held (Some parts)) (parts_known w (node_of w weak) (h.nodes weak) parts e)))
 
-    -- what a weak pointer marks: what it keeps, where its key is marked
+    -- a weak pointer marks the names that it keeps, if its key is marked
     step : (o : Option Parts) → parts_of w weak ≡ o → (values : List Value) × Marks s (with_weak s weak o) values ×
         ((n : Name) → Contains values (Ref n) → (parts : Parts) × IsAlive w weak parts × (is_key_marked s.marks parts.key ≡ true) × IsKeptBy weak parts n)
     step None e = ([], no_marks s, λ n c. absurd (omega (arith, c.1)))
@@ -123,7 +123,7 @@ module _ (w : World) (h : IsWorld w) where
   key_stays s t values m (Number n) shown = refl
   key_stays s t values m (Ref name) shown = m.kept name shown
 
-  -- a weak pointer whose key was marked at the start has done its part
+  -- a weak pointer whose key was marked at the start has marked its parts
   pub weaks_begun : (weaks : List Name) (s : Search) → HasPlaces w s.marks → (weak target : Name) (parts : Parts) → Contains weaks weak →
       IsAlive w weak parts → is_key_marked s.marks parts.key ≡ true → IsKeptBy weak parts target → IsMarked (with_weaks w s weaks).marks target
   weaks_begun [] s places weak target parts c alive shown kept = absurd (omega (arith, c.1))
@@ -155,7 +155,7 @@ module _ (w : World) (h : IsWorld w) where
         | inr d ↦ weaks_done xs t placed weak target parts d alive shown kept
       ]
 
-  -- after a pass over all that are alive, each has done its part
+  -- after a pass over all alive weak pointers, each with a marked key has marked its parts, unless the key waits
   pub revived : (weaks : List Name) (s : Search) → HasPlaces w s.marks → ((weak : Name) → IsAliveWeak w weak → Contains weaks weak) →
       AreRevived w (with_weaks w s weaks)
   revived weaks s places all weak target parts alive shown kept = weaks_done weaks s places weak target parts (all weak (parts, alive)) alive shown kept

@@ -1,16 +1,14 @@
-//! What a command does to the one object that it names.
+//! The effect of a command on the one object that it names.
 //!
-//! `set`, `cas`, `update`, `push`, `pop` and `finalise` differ in the object they want and in what
-//! they write, and agree in all else: the object is looked up, refused by its kind, changed in
-//! place, and answers. So the world lends the object once, and a change is done here, on the node
-//! alone, in two halves. `change_reply` reads: it says what a change is answered, and the answer
-//! tells whether it is done. `write` writes what a change that is done writes, and refuses nothing.
-//! `World::apply` asks both, and `World::reply`, which changes nothing, the first alone; so they
-//! can't differ. The readers `get`, `force` and `deref` stand here too, since they refuse by kind
-//! alike.
+//! `set`, `cas`, `update`, `push`, `pop` and `finalise` differ in the object they want and in their writes. They agree in all
+//! else: the object is looked up, refused by its kind, changed in place, and a reply is given. So the world lends the object
+//! once, and the change is done here, on the node alone, in two halves. `change_reply` only reads: it gives the reply, which
+//! also says whether the change is done. `write` writes for a change that is done, and refuses nothing. `World::apply` uses
+//! both. `World::reply`, which changes nothing, uses the first alone, so they can't differ. The readers `get`, `force` and
+//! `deref` are here too, since they refuse by kind in the same way.
 //!
-//! Easy to get wrong: `write` asks for no refusal again, and writes a variable's field at whatever
-//! index. So it is for changes whose answer says that they are done.
+//! Easy to get wrong: `write` doesn't check for refusals again, and writes a variable's field at any index. So it is only for
+//! changes whose reply says that they are done.
 ghost use Rattle.std.specs.Prelude.{◌≡◌, IfOk, OnOk, OnErr};
 ghost use Rattle.nmgc_world_spec.specs.Change.{changed, field_read, result_read, value_read, field_set, field_exchanged, thunk_updated, stack_pushed, stack_popped, weak_finalised, is_same, given_or, is_done, written, field_written, result_written, value_pushed, top_dropped, killed};
 ghost use Rattle.nmgc_world_spec.specs.declared.value.Value.{Value as ValueAt};
@@ -18,8 +16,8 @@ ghost use Rattle.nmgc_world_spec.specs.declared.value.Value.{Value as ValueAt};
 use nmgc_lists::NoMemory;
 use nmgc_world_spec::{Change, Node, Reply, Value};
 
-/// What `get` answers of an object: a field of a constructor, a variable or an array, or the
-/// refusal. Takes no memory, and constant time.
+/// Returns the reply to `get` for an object: a field of a constructor, a variable or an array, or a refusal. Takes no memory,
+/// and constant time.
 pub fn read_field(node: &Node, index: u32) -> Reply
     ensures { result ≡ field_read node.now index }
 {
@@ -31,8 +29,7 @@ pub fn read_field(node: &Node, index: u32) -> Reply
     }
 }
 
-/// What `force` answers of an object: the result of a thunk, or the refusal. Takes no memory, and
-/// constant time.
+/// Returns the reply to `force` for an object: the result of a thunk, or a refusal. Takes no memory, and constant time.
 pub fn read_result(node: &Node) -> Reply
     ensures { result ≡ result_read node.now }
 {
@@ -42,8 +39,8 @@ pub fn read_result(node: &Node) -> Reply
     }
 }
 
-/// What `deref` answers of an object: the value of an alive weak pointer, or the refusal. Takes no
-/// memory, and constant time.
+/// Returns the reply to `deref` for an object: the value of a weak pointer that is alive, or a refusal. Takes no memory, and
+/// constant time.
 pub fn read_value(node: &Node) -> Reply
     ensures { result ≡ value_read node.now }
 {
@@ -54,7 +51,7 @@ pub fn read_value(node: &Node) -> Reply
     }
 }
 
-/// The reply that gives the value, or this refusal where there is none. Takes no memory.
+/// Returns the reply that gives the value, or `refusal` if there is no value. Takes no memory.
 pub fn given_or(refusal: Reply, value: Option<Value>) -> Reply
     ensures { result ≡ given_or refusal value }
 {
@@ -78,8 +75,8 @@ pub fn same(left: Value, right: Value) -> bool
     }
 }
 
-/// What a change of a node of this maker is answered. Nothing is changed. Takes no memory, and
-/// constant time.
+/// Returns the reply to a change of a node that `maker` made. This half of a change only reads: the node stays as it is.
+/// Takes no memory, and constant time.
 pub fn change_reply(node: &Node, maker: u8, change: Change) -> Reply
     ensures { result ≡ (changed change maker node.now).1 }
 {
@@ -97,7 +94,7 @@ pub fn change_reply(node: &Node, maker: u8, change: Change) -> Reply
     }
 }
 
-// What a write of a field is answered.
+// Returns the reply to a write of a field.
 fn set_reply(node: &Node, index: u32) -> Reply
     ensures { (v : ValueAt) → result ≡ (field_set node.now index v).1 }
 {
@@ -114,7 +111,7 @@ fn set_reply(node: &Node, index: u32) -> Reply
     }
 }
 
-// What a write of a field that wants an expected value there is answered.
+// Returns the reply to a write that is done only if the field has the expected value.
 fn exchange_reply(node: &Node, index: u32, expected: Value) -> Reply
     ensures { (v : ValueAt) → result ≡ (field_exchanged node.now index expected v).1 }
 {
@@ -130,7 +127,7 @@ fn exchange_reply(node: &Node, index: u32, expected: Value) -> Reply
     }
 }
 
-// What an update is answered.
+// Returns the reply to an update of a thunk.
 fn update_reply(node: &Node) -> Reply
     ensures { (v : ValueAt) → result ≡ (thunk_updated node.now v).1 }
 {
@@ -147,7 +144,7 @@ fn update_reply(node: &Node) -> Reply
     }
 }
 
-// What a push is answered, by the stack's maker or another mutator.
+// Returns the reply to a push; `own` says whether the stack's maker pushes.
 fn push_reply(node: &Node, own: bool) -> Reply
     ensures { (v : ValueAt) → result ≡ (stack_pushed own node.now v).1 }
 {
@@ -165,7 +162,7 @@ fn push_reply(node: &Node, own: bool) -> Reply
     }
 }
 
-// What a pop is answered, by the stack's maker or another mutator.
+// Returns the reply to a pop; `own` says whether the stack's maker pops.
 fn pop_reply(node: &Node, own: bool) -> Reply
     ensures { result ≡ (stack_popped own node.now).1 }
 {
@@ -181,7 +178,7 @@ fn pop_reply(node: &Node, own: bool) -> Reply
     }
 }
 
-// What a finalise is answered.
+// Returns the reply to a `finalise` of a node.
 fn finalise_reply(node: &Node) -> Reply
     ensures { result ≡ (weak_finalised node.now).1 }
 {
@@ -192,7 +189,7 @@ fn finalise_reply(node: &Node) -> Reply
     }
 }
 
-// Whether a change that is answered so is done.
+// Whether this reply means that the change is done.
 fn is_done(reply: Reply) -> bool
     ensures { result ≡ is_done reply }
 {
@@ -212,8 +209,8 @@ fn is_done(reply: Reply) -> bool
     }
 }
 
-/// Does a change on the node of an object that this mutator, or g's maker, made, and gives its
-/// answer; where that is a refusal, `No` or `Already`, the node is left as it was. Only a push takes memory.
+/// Changes the node of an object in place and returns the reply: `change_reply`, then the half that writes. `maker`, a
+/// mutator or g's maker, made the object. A refusal, `No` or `Already` leaves the node as it was. Only a push takes memory.
 /// After `NoMemory` the node is unchanged.
 #[tactic(auto, using(crate::proofs::Changes::done_is, crate::proofs::Changes::refused_is))]
 pub fn change_in_place(node: &mut Node, maker: u8, change: Change) -> Result<Reply, NoMemory>
@@ -228,7 +225,7 @@ pub fn change_in_place(node: &mut Node, maker: u8, change: Change) -> Result<Rep
     Ok(reply)
 }
 
-// Writes what a change that is done writes. After `NoMemory` the node is unchanged.
+// Writes a change that is done into the node. After `NoMemory` the node is unchanged.
 fn write(node: &mut Node, change: Change) -> Result<(), NoMemory>
     ensures ok { OnOk result (node.new ≡ written change node.old) }
     ensures err { OnErr result (node.new ≡ node.old) }
@@ -248,7 +245,7 @@ fn write(node: &mut Node, change: Change) -> Result<(), NoMemory>
     Ok(())
 }
 
-// The field of a variable, or a field of an array, takes a value. Any other node is left.
+// Writes the field of a variable, or a field of an array. Any other node stays as it is.
 fn write_field(node: &mut Node, index: u32, value: Value)
     ensures { node.new ≡ field_written node.old index value }
 {
@@ -263,7 +260,7 @@ fn write_field(node: &mut Node, index: u32, value: Value)
     }
 }
 
-// A thunk gets a result. Any other node is left.
+// Writes the result of a thunk. Any other node stays as it is.
 fn write_result(node: &mut Node, value: Value)
     ensures { node.new ≡ result_written node.old value }
 {
@@ -272,7 +269,7 @@ fn write_result(node: &mut Node, value: Value)
     }
 }
 
-// A value goes on top of a stack, whatever its size. Any other node is left.
+// Pushes a value on a stack, whatever its size. Any other node stays as it is.
 fn push_value(node: &mut Node, value: Value) -> Result<(), NoMemory>
     ensures ok { OnOk result (node.new ≡ value_pushed node.old value) }
     ensures err { OnErr result (node.new ≡ node.old) }
@@ -283,7 +280,7 @@ fn push_value(node: &mut Node, value: Value) -> Result<(), NoMemory>
     }
 }
 
-// The top goes off a stack, if there is one. Any other node is left.
+// Drops the top of a stack, if there is one. Any other node stays as it is.
 fn drop_top(node: &mut Node)
     ensures { node.new ≡ top_dropped node.old }
 {
@@ -292,7 +289,7 @@ fn drop_top(node: &mut Node)
     }
 }
 
-// A weak pointer dies. Any other node is left.
+// Makes a weak pointer dead. Any other node stays as it is.
 fn kill(node: &mut Node)
     ensures { node.new ≡ killed node.old }
 {

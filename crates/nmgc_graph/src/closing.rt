@@ -1,9 +1,8 @@
 //! Closing: weak pointers die, and their finalisers are queued.
 //!
-//! The collector finds the dead weak pointers of a snapshot and closes the world with them at a
-//! stop. Each of them dies, and its finaliser, unless nil, joins the end of the finaliser queue of
-//! its maker, in order of the weak pointers' names. So two runs that find the same dead weak
-//! pointers hand out the same finalisers in the same order.
+//! The collector finds the dead weak pointers of a snapshot and closes the world with them at a stop. Each of them dies, and
+//! its finaliser, unless nil, joins the end of its maker's finaliser queue, in order of the weak pointers' names. So two runs
+//! that find the same dead weak pointers hand out the same finalisers in the same order.
 ghost use Rattle.std.specs.Prelude.{◌≡◌, ◌<◌, All, OnOk, OnErr, length, slice_get, Some, None};
 ghost use Rattle.nmgc_world_spec.specs.{Reach.queued, Step.with_nth};
 ghost use Rattle.nmgc_graph.specs.Closing.{finaliser_of};
@@ -16,9 +15,9 @@ impl World {
     ghost use Rattle.nmgc_world_spec.specs.{World.IsWorld, World.node_of, Reach.IsAliveWeak, Reach.IsInOrder, Reach.closed, Reach.closed_by};
     ghost use Rattle.nmgc_graph.specs.Closing.{IsPartlyClosed};
 
-    /// Closes the world with dead weak pointers: each dies, and its finaliser, unless nil, joins the
-    /// end of the queue of the weak pointer's maker, in the order of the names. After `NoMemory` the
-    /// world is closed with the first of them only. Takes time in proportion to their number.
+    /// Closes the world with dead weak pointers: in the order of their names each dies, and its finaliser, unless nil, joins
+    /// the end of its maker's queue. After `NoMemory` the world is closed with only the first of them. Takes time
+    /// proportional to their number.
     pub fn close(&mut self, dead: &[Name]) -> Result<(), NoMemory>
         requires ordered { IsInOrder dead.now }
         requires alive { All (IsAliveWeak self.old) dead.now }
@@ -27,12 +26,12 @@ impl World {
         ensures closed { IsWorld self.new }
     {
         let answer = self.close_all(dead);
-        // Reading a field tells the checker what holds of every world: that it is closed.
+        // Reading a field gives the checker the invariant of every world: it is closed.
         let _ = &self.mutators;
         answer
     }
 
-    // Each of the weak pointers dies.
+    // Makes each of the weak pointers dead, in order, and queues its finaliser.
     fn close_all(&mut self, dead: &[Name]) -> Result<(), NoMemory>
         requires ordered { IsInOrder dead.now }
         requires alive { All (IsAliveWeak self.old) dead.now }
@@ -46,7 +45,7 @@ impl World {
         Ok(())
     }
 
-    // One weak pointer dies.
+    // Makes a weak pointer dead and queues its finaliser.
     fn close_one(&mut self, weak: Name) -> Result<(), NoMemory>
         requires { IsAliveWeak self.old weak }
         ensures ok { OnOk result (self.new ≡ closed_by self.old weak (node_of self.old weak)) }
@@ -59,7 +58,7 @@ impl World {
     }
 }
 
-// A weak pointer of this mutator dies, and its finaliser is queued.
+// Makes this mutator's weak pointer with a serial dead, and queues its finaliser.
 fn die(state: &mut MutatorState, serial: u32) -> Result<(), NoMemory>
     requires { serial < length state.old.nodes }
     ensures ok { OnOk result (state.new ≡ queued (with_nth state.old serial (Node.Weak None)) (finaliser_of (slice_get state.old.nodes serial))) }
@@ -71,7 +70,7 @@ fn die(state: &mut MutatorState, serial: u32) -> Result<(), NoMemory>
     Ok(())
 }
 
-// The finaliser of an alive weak pointer, or else nil.
+// Returns the finaliser of a weak pointer that is alive, and nil for any other node.
 fn finaliser_of(node: &Node) -> Value
     ensures { result ≡ finaliser_of (Some node.now) }
 {
@@ -81,7 +80,7 @@ fn finaliser_of(node: &Node) -> Value
     }
 }
 
-// A finaliser joins the end of the queue, unless it is nil.
+// Adds a finaliser to the end of the queue, unless it is nil.
 fn enqueue(state: &mut MutatorState, finaliser: Value) -> Result<(), NoMemory>
     ensures ok { OnOk result (state.new ≡ queued state.old finaliser) }
     ensures err { OnErr result (state.new ≡ state.old) }
@@ -92,7 +91,7 @@ fn enqueue(state: &mut MutatorState, finaliser: Value) -> Result<(), NoMemory>
     }
 }
 
-// The object at a serial becomes a dead weak pointer.
+// Replaces the object at a serial by a dead weak pointer.
 fn kill(state: &mut MutatorState, serial: u32)
     requires { serial < length state.old.nodes }
     ensures { state.new ≡ with_nth state.old serial (Node.Weak None) }

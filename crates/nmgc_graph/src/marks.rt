@@ -1,9 +1,8 @@
 //! A set of names.
 //!
-//! The names of a world are dense: a maker's serials go from 0 without a gap. So a set is a row of
-//! marks for each maker, adding a name and asking for one take constant time, and going over the
-//! rows gives the names in order. How many names aren't in the set is what the search for live names
-//! counts down, so that it ends.
+//! The names of a world are dense: a maker's serials run from 0 without a gap. So a set is a row of marks for each maker.
+//! Adding a name and asking for a name take constant time, and the rows in order give the names in order. The search for live
+//! names counts down the number of names that aren't in the set, so that it ends.
 ghost use Rattle.std.specs.Prelude.{◌≡◌, ◌+◌, ◌<◌, ◌≤◌, ◌^◌, [], ◌∷◌, ◌++◌, length, true, false, not, replicate, slice_index_or, slice_set, IfOk, OnOk, All};
 ghost use Rattle.nmgc_graph.specs.Marks.{HasPlace, IsMarked, mark_of, row_of, with_mark};
 ghost use Rattle.nmgc_world_spec.specs.{Reach.Lists, Order.ListsBefore};
@@ -13,7 +12,7 @@ use nmgc_world_spec::Name;
 use std::alloc::Global;
 use std::marker::Model;
 
-/// A set of names, with a place for so many names of each maker.
+/// A set of names, which has places for finitely many names of each maker.
 #[derive(Drop)]
 pub struct Marks {
     rows: List<List<bool>>,
@@ -28,7 +27,7 @@ impl Model for Marks {
 }
 
 impl Marks {
-    /// The set that has no places yet. Takes no memory.
+    /// Makes a set without places. Takes no memory.
     pub(crate) fn new(alloc: Global) -> Self
         ensures { result ≡ [] }
     {
@@ -37,7 +36,7 @@ impl Marks {
         }
     }
 
-    /// Makes places for so many names of the next maker, none of which is in the set.
+    /// Makes places for `count` names of the next maker. None of these names is in the set.
     pub(crate) fn add_maker(&mut self, alloc: Global, count: usize) -> Result<(), NoMemory>
         ensures { OnOk result (self.new ≡ self.old ++ replicate count false ∷ []) }
     {
@@ -45,8 +44,7 @@ impl Marks {
         self.rows.push(row)
     }
 
-    /// Adds a name, and says whether it is new. The set has a place for it. Takes no memory, and
-    /// constant time.
+    /// Adds a name that the set has a place for, and returns whether the name is new. Takes no memory, and constant time.
     pub fn insert(&mut self, name: Name) -> bool
         requires { HasPlace self.old name }
         ensures new { result ≡ not (mark_of self.old name) }
@@ -65,7 +63,7 @@ impl Marks {
         }
     }
 
-    /// The names of the set in order. After `NoMemory` there is no answer. Takes time for each place.
+    /// Returns the names of the set in order. After `NoMemory` there is no answer. Takes time for each place.
     pub fn names(&self, alloc: Global) -> Result<List<Name>, NoMemory>
         requires makers { length self.now ≤ 256 }
         requires serials { All (λ row. length row ≤ 2 ^ 32) self.now }
@@ -78,7 +76,7 @@ impl Marks {
         Ok(names)
     }
 
-    // The marks of one maker.
+    // Returns the marks of one maker.
     fn row(&self, maker: u8) -> &[bool]
         requires { maker < length self.now }
         ensures { result.now ≡ row_of self.now maker }
@@ -86,7 +84,7 @@ impl Marks {
         self.rows.items()[maker as usize].items()
     }
 
-    // Adds the names of one maker to those of the makers before it.
+    // Adds the names of `maker` in the set to a list, which has the names of the makers before it.
     fn list_row(&self, maker: u8, names: &mut List<Name>) -> Result<(), NoMemory>
         requires maker { maker < length self.now }
         requires serials { All (λ row. length row ≤ 2 ^ 32) self.now }
@@ -105,7 +103,7 @@ impl Marks {
     }
 }
 
-// Marks a serial, and says whether it is new.
+// Marks a serial, and returns whether it wasn't marked before.
 fn set_mark(row: &mut List<bool>, serial: u32) -> bool
     requires { serial < length row.old }
     ensures new { result ≡ not (slice_index_or row.old serial false) }

@@ -1,7 +1,8 @@
-//! What a command opens, and the weak pointer that it makes dead: for the core machine, and for the watch over a barrier.
+//! The names that a command opens, and the weak pointer that it kills: for the marking machine, and for the watch over a
+//! barrier.
 //!
-//! Whoever reads a weak pointer's value, or finalises one, may come to hold what nothing else led to. From
-//! then on these names count as live. A finalised weak pointer is no longer the collector's to kill.
+//! A mutator that reads a weak pointer's value, or finalises a weak pointer, may get a reference to an object that was
+//! reachable in no other way. From then on these names count as live. The collector no longer kills a finalised weak pointer.
 ghost use Rattle.std.specs.Prelude.{◌≡◌, ◌<◌, length, IfOk, option_and_then};
 ghost use Rattle.nmgc_world_spec.specs.{Command.HasRegisters, Command.IsOperand, Owed.names_among, History.opened_by, History.finalised_by, Step.value_for, Step.object_of};
 ghost use Rattle.nmgc_graph.specs.Search.{parts_in};
@@ -11,7 +12,8 @@ use nmgc_lists::NoMemory;
 use nmgc_world_spec::{Command, Name, Operand, Parts, Value};
 use std::alloc::Global;
 
-/// The names that a command opens, if the world took it: two at most. After `NoMemory` there is no answer. Takes constant time.
+/// Returns the names, at most two, that a command opens if the world takes it. After `NoMemory` there is no answer. Takes
+/// constant time.
 pub fn opened_by(world: &World, mutator: u8, command: &Command) -> Result<Vec<Name>, NoMemory>
     requires mutator { mutator < length world.now.mutators }
     requires registers { HasRegisters command.now }
@@ -31,8 +33,8 @@ pub fn opened_by(world: &World, mutator: u8, command: &Command) -> Result<Vec<Na
     }
 }
 
-/// The weak pointer that a command makes dead, if the world took it and it makes one dead. After `NoMemory` there is no
-/// answer. Takes constant time.
+/// Returns the weak pointer, if any, that a command kills if the world takes it. After `NoMemory` there is no answer. Takes
+/// constant time.
 pub fn finalised_by(world: &World, mutator: u8, command: &Command) -> Result<Vec<Name>, NoMemory>
     requires mutator { mutator < length world.now.mutators }
     requires registers { HasRegisters command.now }
@@ -48,7 +50,7 @@ pub fn finalised_by(world: &World, mutator: u8, command: &Command) -> Result<Vec
     }
 }
 
-// The parts of the weak pointer that an operand refers to, where it refers to an alive one.
+// Returns the parts of the weak pointer that an operand refers to, if that weak pointer exists and is alive.
 fn parts_of(world: &World, mutator: u8, object: Operand) -> Option<Parts>
     requires mutator { mutator < length world.now.mutators }
     requires operand { IsOperand object }
@@ -60,7 +62,7 @@ fn parts_of(world: &World, mutator: u8, object: Operand) -> Option<Parts>
     }
 }
 
-/// The names that values refer to, in their order. After `NoMemory` there is no answer.
+/// Returns the names that values refer to, in the order of the values. After `NoMemory` there is no answer.
 pub fn names_among(alloc: Global, values: &[Value]) -> Result<Vec<Name>, NoMemory>
     ensures { IfOk result (λ names. names.items ≡ names_among values.now) }
 {

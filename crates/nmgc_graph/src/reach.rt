@@ -1,13 +1,13 @@
 //! Live names, dead weak pointers and kept names.
 //!
-//! Each is a least set: what its rules give, and nothing else. The search marks the roots, and passes
-//! once over the weak pointers that are alive: where a key is live, the weak pointer, its value and its
-//! finaliser are live too. Then it takes the marked names up one by one, and marks what their strong
-//! fields refer to, and what the weak pointers keep whose key has just that name. These are found by
-//! an index, so that each weak pointer is looked at twice at most, however they revive one another.
+//! Each is a least set: it contains only the names that its rules give. The search marks the roots, and passes once over the
+//! weak pointers that are alive. If a key is live, the weak pointer, its value and its finaliser are live too. Then it takes
+//! up the marked names one by one. For each it marks the targets of its strong fields, and all that is kept by the weak
+//! pointers with just this key. An index finds these weak pointers, so each is looked at twice at most, however they revive
+//! one another.
 //!
-//! Easy to get wrong: a single pass is not enough, since a weak pointer may revive the key of one before
-//! it. One whose key is nil or a number waits for no name. And the weak pointer itself need not be referred to.
+//! Easy to get wrong: a single pass is not enough, since a weak pointer may revive the key of a weak pointer before it. A
+//! weak pointer whose key is nil or a number waits for no name. And the weak pointer itself need not be referred to.
 ghost use Rattle.std.specs.Prelude.{◌≡◌, ℕ, ◌+◌, ◌<◌, [], false, IsSome, IfSome, IfOk, OnOk, All, length, flat_map};
 ghost use Rattle.nmgc_world_spec.specs.declared.value.Name.{Name as NameAt};
 ghost use Rattle.nmgc_graph.specs.{Marks.IsPlaced, Marks.mark_of, Search.with_values, Search.values_held, Search.parts_in, Search.fields_in};
@@ -25,23 +25,23 @@ impl World {
     ghost use Rattle.nmgc_graph.specs.{Marks.HasPlaces, Marks.count_of, Waiting.key_of, Waiting.bounds_of, Waiting.bound_of, Waiting.AreFiled, Waiting.IsRevival};
     ghost use Rattle.nmgc_graph.specs.Search.{IsSearch, IsFollowed, parts_of, with_weak, with_weaks, starts_of, IsLiveSearch, IsLiveFound, IsKeptFound, IsLost, IsSetOf, is_lost, finalisers_of};
 
-    /// The live names in order: g, what registers and finaliser queues refer to, the further names,
-    /// and what these reach along strong fields and by live keys. After `NoMemory` there is no
-    /// answer. Takes time in proportion to the names, their fields and the further names, and memory for each name.
+    /// Returns the live names in order: g, the targets of registers and finaliser queues, the further names, and all that is
+    /// reachable from these along strong fields and by live keys. After `NoMemory` there is no answer. Takes time
+    /// proportional to the names, their fields and the further names, and memory for each name.
     pub fn live(&self, extra: &[Name]) -> Result<List<Name>, NoMemory>
         requires { All (λ name. IsSome (node_of self.now name)) extra.now }
         ensures { IfOk result (λ names. Lists (IsLive self.now extra.now) names) }
     {
-        // Reading a field tells the checker what holds of every world: that it is closed.
+        // Reading a field gives the checker the invariant of every world: it is closed.
         let _ = &self.mutators;
         let weaks = self.alive_weaks()?;
         let search = self.find_live(extra, weaks.items())?;
         search.marks.names(self.alloc)
     }
 
-    /// The dead weak pointers in order: those that are alive so far and not among `finalised`, and
-    /// whose key is a reference to a name that isn't live. Names of `finalised` that aren't in the
-    /// map count for nothing. Takes as long as `live`, and constant time for each of `finalised`.
+    /// Returns the dead weak pointers in order: alive so far, not among `finalised`, and with a key that refers to a name
+    /// that isn't live. Names of `finalised` outside the map have no effect. Takes the time of `live`, and constant time for
+    /// each name of `finalised`.
     pub fn dead_weaks(&self, extra: &[Name], finalised: &[Name]) -> Result<List<Name>, NoMemory>
         requires { All (λ name. IsSome (node_of self.now name)) extra.now }
         ensures { IfOk result (λ names. Lists (IsDead self.now extra.now finalised.now) names) }
@@ -51,8 +51,8 @@ impl World {
         self.lost(&search, weaks.items(), finalised)
     }
 
-    /// The kept names in order: the live ones, the finalisers of the dead weak pointers, and what
-    /// these reach along strong fields. Takes as long as `live`, and constant time for each of `finalised`.
+    /// Returns the kept names in order: the live names, the finalisers of dead weak pointers, and all that is reachable from
+    /// these along strong fields. Takes the time of `live`, and constant time for each name of `finalised`.
     pub fn kept(&self, extra: &[Name], finalised: &[Name]) -> Result<List<Name>, NoMemory>
         requires { All (λ name. IsSome (node_of self.now name)) extra.now }
         ensures { IfOk result (λ names. Lists (IsKept self.now extra.now finalised.now) names) }
@@ -62,7 +62,7 @@ impl World {
         search.marks.names(self.alloc)
     }
 
-    // Marks the kept names.
+    // Returns the search that has marked exactly the kept names.
     fn find_kept(&self, extra: &[Name], finalised: &[Name]) -> Result<Search, NoMemory>
         requires { All (λ name. IsSome (node_of self.now name)) extra.now }
         ensures { IfOk result (IsKeptFound self.now extra.now finalised.now) }
@@ -76,8 +76,7 @@ impl World {
         Ok(search)
     }
 
-    /// The weak pointers that are alive, in order. After `NoMemory` there is no answer. Takes time for
-    /// each name.
+    /// Returns the weak pointers that are alive, in order. After `NoMemory` there is no answer. Takes time for each name.
     pub fn alive_weaks(&self) -> Result<List<Name>, NoMemory>
         ensures { IfOk result (λ names. Lists (IsAliveWeak self.now) names) }
     {
@@ -88,7 +87,7 @@ impl World {
         Ok(weaks)
     }
 
-    // Adds the alive weak pointers of one maker to those of the makers before it.
+    // Adds `maker`'s weak pointers that are alive to a list, which has the weak pointers of the makers before it.
     fn list_weaks(&self, maker: u8, weaks: &mut List<Name>) -> Result<(), NoMemory>
         requires maker { maker < length self.now.mutators }
         requires before { ListsBefore (IsAliveWeak self.now) maker 0 weaks.old }
@@ -104,7 +103,7 @@ impl World {
         Ok(())
     }
 
-    // The weak pointers that are lost, in order.
+    // Returns the weak pointers that are alive and not finalised, and whose keys aren't marked, in order.
     fn lost(
         &self,
         search: &Search,
@@ -124,7 +123,7 @@ impl World {
         Ok(names)
     }
 
-    // Whether a weak pointer is alive and not finalised, and its key isn't live.
+    // Whether a weak pointer is alive and not finalised, and its key isn't marked.
     fn is_lost(&self, search: &Search, weak: Name, finalised: &Marks) -> bool
         ensures { result ≡ is_lost search.now.marks finalised.now weak (parts_of self.now weak) }
     {
@@ -134,8 +133,8 @@ impl World {
         }
     }
 
-    /// Those of the names that are in the map, as a set. After `NoMemory` there is no answer. Takes
-    /// memory and time for each name of this world, and constant time for each of the names.
+    /// Returns the set of those given names that are in the map. After `NoMemory` there is no answer. Takes memory and time
+    /// for each name of this world, and constant time for each given name.
     pub fn set_of(&self, names: &[Name]) -> Result<Marks, NoMemory>
         ensures { IfOk result (IsSetOf self.now names.now) }
     {
@@ -148,7 +147,7 @@ impl World {
         Ok(marks)
     }
 
-    // Marks the finalisers of alive weak pointers.
+    // Marks the finalisers of those weak pointers that are alive.
     fn mark_finalisers(&self, weaks: &[Name], search: &mut Search) -> Result<(), NoMemory>
         requires { HasPlaces self.now search.old.marks }
         ensures { OnOk result (search.new ≡ with_values search.old (finalisers_of self.now weaks.now)) }
@@ -162,7 +161,7 @@ impl World {
         Ok(())
     }
 
-    // Marks all that the names which wait reach along strong fields.
+    // Marks all that is reachable from the waiting names along strong fields.
     fn follow(&self, search: &mut Search) -> Result<(), NoMemory>
         requires { IsSearch self.now search.old }
         ensures followed { OnOk result (IsFollowed self.now search.old search.new) }
@@ -175,7 +174,7 @@ impl World {
         Ok(())
     }
 
-    // Marks what the strong fields of a name refer to.
+    // Marks the targets of a name's strong fields.
     fn mark_fields(&self, name: Name, search: &mut Search) -> Result<(), NoMemory>
         requires { HasPlaces self.now search.old.marks }
         ensures { OnOk result (search.new ≡ with_values search.old (fields_in (node_of self.now name))) }
@@ -186,8 +185,7 @@ impl World {
         }
     }
 
-    /// The parts of a weak pointer, where the name is that of an alive one. Takes no memory, and
-    /// constant time.
+    /// Returns the parts of a weak pointer that is alive, and `None` for any other name. Takes no memory, and constant time.
     pub fn parts(&self, weak: Name) -> Option<Parts>
         ensures parts { result ≡ parts_of self.now weak }
         ensures known { IfSome result (λ parts. AreKnown self.now (parts_held (Some parts))) }
@@ -198,7 +196,7 @@ impl World {
         }
     }
 
-    // A weak pointer marks itself, its value and its finaliser, where its key is live.
+    // Marks a weak pointer, its value and its finaliser, if its key is marked.
     fn mark_weak(&self, weak: Name, search: &mut Search) -> Result<(), NoMemory>
         requires { HasPlaces self.now search.old.marks }
         ensures { OnOk result (search.new ≡ with_weak search.old weak (parts_of self.now weak)) }
@@ -212,7 +210,7 @@ impl World {
         }
     }
 
-    // Each of the weak pointers does that, one after the other.
+    // For each of the weak pointers in order: marks it, its value and its finaliser, if its key is marked.
     fn mark_weaks(&self, weaks: &[Name], search: &mut Search) -> Result<(), NoMemory>
         requires { HasPlaces self.now search.old.marks }
         ensures { OnOk result (search.new ≡ with_weaks self.now search.old weaks.now) }
@@ -224,7 +222,7 @@ impl World {
         Ok(())
     }
 
-    // The name that a weak pointer waits for, where it is alive and its key is a reference.
+    // Returns the name that a weak pointer waits for: its key, if the weak pointer is alive and the key is a reference.
     fn key(&self, weak: Name) -> Option<Name>
         ensures key { result ≡ key_of self.now weak }
         ensures known { IfSome result (λ name. IsSome (node_of self.now name)) }
@@ -236,7 +234,7 @@ impl World {
         }
     }
 
-    // The index of no weak pointer, with a place for each name.
+    // Returns an index without weak pointers, with a place for each name of the world.
     fn none_filed(&self) -> Result<Waiting, NoMemory>
         ensures before { IfOk result (λ waiting. waiting.before ≡ []) }
         ensures counts { IfOk result (λ waiting. (maker : ℕ) → length (bounds_of waiting.bounds maker) ≡ count_of self.now maker) }
@@ -249,7 +247,7 @@ impl World {
         Ok(waiting)
     }
 
-    // Files weak pointers by the names that they wait for.
+    // Returns the index of weak pointers by the names that they wait for.
     fn filed(&self, weaks: &[Name]) -> Result<Waiting, NoMemory>
         ensures { IfOk result (AreFiled self.now weaks.now (length weaks.now)) }
     {
@@ -260,7 +258,7 @@ impl World {
         Ok(waiting)
     }
 
-    // Those of the weak pointers that wait for a name mark themselves, their values and their finalisers.
+    // Marks the weak pointers that wait for `name`, with their values and their finalisers.
     fn revive(
         &self,
         name: Name,
@@ -282,7 +280,7 @@ impl World {
         Ok(())
     }
 
-    // How many names a maker has.
+    // Returns the number of names that a maker has in the world.
     fn count(&self, maker: u8) -> usize
         ensures { result ≡ count_of self.now maker }
     {
@@ -295,8 +293,7 @@ impl World {
         }
     }
 
-    /// The empty set of names, with a place for each name of this world and no other. Takes memory and
-    /// time for each name.
+    /// Returns an empty set of names, with a place for exactly the names of this world. Takes memory and time for each name.
     pub fn no_names(&self) -> Result<Marks, NoMemory>
         ensures places { IfOk result (λ marks. HasPlaces self.now marks) }
         ensures none { IfOk result (λ marks. (name : NameAt) → mark_of marks name ≡ false) }
@@ -308,7 +305,7 @@ impl World {
         Ok(marks)
     }
 
-    // Marks g, what the mutators hold, and the further names.
+    // Marks g, the targets of the mutators' registers and queues, and the further names.
     fn mark_starts(&self, extra: &[Name], search: &mut Search) -> Result<(), NoMemory>
         requires extra { All (λ name. IsSome (node_of self.now name)) extra.now }
         requires places { HasPlaces self.now search.old.marks }
@@ -319,7 +316,7 @@ impl World {
         search.mark_names(extra)
     }
 
-    // The search that has marked what it begins with.
+    // Returns a search that has marked its starts: g, the targets of registers and queues, and the further names.
     fn start(&self, extra: &[Name]) -> Result<Search, NoMemory>
         requires { All (λ name. IsSome (node_of self.now name)) extra.now }
         ensures { IfOk result (IsLiveSearch self.now extra.now) }
@@ -332,7 +329,7 @@ impl World {
         Ok(search)
     }
 
-    // Marks the live names.
+    // Returns the search that has marked exactly the live names.
     fn find_live(&self, extra: &[Name], weaks: &[Name]) -> Result<Search, NoMemory>
         requires extra { All (λ name. IsSome (node_of self.now name)) extra.now }
         requires weaks { Lists (IsAliveWeak self.now) weaks.now }
@@ -350,7 +347,7 @@ impl World {
     }
 }
 
-// Marks what the mutators hold.
+// Marks the targets of the mutators' registers and finaliser queues.
 fn mark_states(states: &[MutatorState], search: &mut Search) -> Result<(), NoMemory>
     requires { All (λ state. All (IsPlaced search.old.marks) (values_held state)) states.now }
     ensures { OnOk result (search.new ≡ with_values search.old (flat_map values_held states.now)) }
@@ -361,7 +358,7 @@ fn mark_states(states: &[MutatorState], search: &mut Search) -> Result<(), NoMem
     Ok(())
 }
 
-// Marks what a mutator's registers and finaliser queue hold.
+// Marks the targets of a mutator's registers and finaliser queue.
 fn mark_state(state: &MutatorState, search: &mut Search) -> Result<(), NoMemory>
     requires { All (IsPlaced search.old.marks) (values_held state.now) }
     ensures { OnOk result (search.new ≡ with_values search.old (values_held state.now)) }
@@ -370,7 +367,7 @@ fn mark_state(state: &MutatorState, search: &mut Search) -> Result<(), NoMemory>
     search.mark_values(state.queue.items())
 }
 
-// The parts of an alive weak pointer.
+// Returns the parts of a weak pointer that is alive, and `None` for every other node.
 fn parts_in(node: &Node) -> Option<Parts>
     ensures { result ≡ parts_in node.now }
 {

@@ -1,4 +1,4 @@
-//! What a world has, for reading, and a copy of it.
+//! The parts of a world, for reading, and a copy of it.
 ghost use Rattle.std.specs.Prelude.{◌≡◌, ◌<◌, length, IfOk};
 
 use crate::World;
@@ -9,12 +9,12 @@ use std::alloc::Global;
 impl World {
     ghost use Rattle.nmgc_world_spec.specs.World.{state_of, serial_of, IsWorld};
 
-    /// The allocator that the world takes its memory from. Takes constant time.
+    /// Returns the allocator from which the world takes its memory. Takes constant time.
     pub fn alloc(&self) -> Global {
         self.alloc
     }
 
-    /// The number of mutators. Takes no memory, and constant time.
+    /// Returns the number of mutators. Takes no memory, and constant time.
     pub fn mutators(&self) -> u8
         ensures count { result ≡ length self.now.mutators }
         ensures closed { IsWorld self.now }
@@ -22,7 +22,7 @@ impl World {
         self.mutators.items().len() as u8
     }
 
-    /// The registers of a mutator. Takes no memory, and constant time.
+    /// Returns the registers of a mutator. Takes no memory, and constant time.
     pub fn registers(&self, mutator: u8) -> &[Value]
         requires { mutator < length self.now.mutators }
         ensures { result.now ≡ (state_of self.now mutator).registers }
@@ -30,8 +30,7 @@ impl World {
         self.mutators.items()[mutator as usize].registers.items()
     }
 
-    /// The serial of the next object that a mutator makes, which is also the number of objects that
-    /// it made. Takes no memory, and constant time.
+    /// Returns the serial of a mutator's next object: the number of objects made so far. Takes no memory, and constant time.
     pub fn serial(&self, mutator: u8) -> u32
         requires { mutator < length self.now.mutators }
         ensures { result ≡ serial_of self.now mutator }
@@ -39,7 +38,7 @@ impl World {
         self.mutators.items()[mutator as usize].nodes.items().len() as u32
     }
 
-    /// The finaliser queue of a mutator, from the front. Takes no memory, and constant time.
+    /// Returns the finaliser queue of a mutator, from the front. Takes no memory, and constant time.
     pub fn queue(&self, mutator: u8) -> &[Value]
         requires { mutator < length self.now.mutators }
         ensures { result.now ≡ (state_of self.now mutator).queue }
@@ -47,7 +46,7 @@ impl World {
         self.mutators.items()[mutator as usize].queue.items()
     }
 
-    /// An equal world, in memory of its own.
+    /// Returns an equal world, in memory of its own.
     pub fn copy(&self) -> Result<World, NoMemory>
         ensures { IfOk result (λ world. world ≡ self.now) }
     {
@@ -61,7 +60,7 @@ impl World {
     }
 }
 
-// An equal node.
+// Returns an equal node, in memory of its own.
 fn copy_node(alloc: Global, node: &Node) -> Result<Node, NoMemory>
     ensures { IfOk result (λ copy. copy ≡ node.now) }
 {
@@ -87,7 +86,7 @@ fn copy_node(alloc: Global, node: &Node) -> Result<Node, NoMemory>
     Ok(copy)
 }
 
-// Equal nodes, in the same order.
+// Returns equal nodes, in the same order.
 fn copy_nodes(alloc: Global, nodes: &[Node]) -> Result<List<Node>, NoMemory>
     ensures { IfOk result (λ copies. copies ≡ nodes.now) }
 {
@@ -98,7 +97,7 @@ fn copy_nodes(alloc: Global, nodes: &[Node]) -> Result<List<Node>, NoMemory>
     Ok(copies)
 }
 
-// A queue of the same values.
+// Returns a queue of the same values.
 fn copy_queue(alloc: Global, values: &[Value]) -> Result<Queue<Value>, NoMemory>
     ensures { IfOk result (λ queue. queue ≡ values.now) }
 {
@@ -107,7 +106,7 @@ fn copy_queue(alloc: Global, values: &[Value]) -> Result<Queue<Value>, NoMemory>
     Ok(queue)
 }
 
-// An equal state of a mutator.
+// Returns an equal state of a mutator.
 fn copy_state(alloc: Global, state: &MutatorState) -> Result<MutatorState, NoMemory>
     ensures { IfOk result (λ copy. copy ≡ state.now) }
 {
@@ -121,7 +120,7 @@ fn copy_state(alloc: Global, state: &MutatorState) -> Result<MutatorState, NoMem
     })
 }
 
-// Equal states, in the same order.
+// Returns equal states, in the same order.
 fn copy_states(alloc: Global, states: &[MutatorState]) -> Result<List<MutatorState>, NoMemory>
     ensures { IfOk result (λ copies. copies ≡ states.now) }
 {

@@ -1,9 +1,8 @@
-//! What a command would be answered.
+//! The reply that a command would get.
 //!
-//! A world that has stepped can't step back. So whoever wants an answer before anything changes asks
-//! here: an event of the core machine says how its command was answered, and happens only where that
-//! is the world's answer. What it says of an object, of a change and of two values comes from the very
-//! readers that `apply` asks.
+//! A world that has stepped can't step back. A caller that wants a reply before anything changes asks here. For example, an
+//! event of the marking machine contains its command's reply, and happens only if the world gives this reply. The replies for
+//! an object, a change and two values come from the very readers that `apply` uses.
 ghost use Rattle.std.specs.Prelude.{◌≡◌, ◌<◌, length};
 
 use crate::World;
@@ -13,8 +12,7 @@ use nmgc_world_spec::{Change, Command, Name, Reply, Value};
 impl World {
     ghost use Rattle.nmgc_world_spec.specs.{Command.HasRegisters, Step.step, Step.asked, Step.change_asked, Step.change_object, Step.next_name, World.state_of};
 
-    /// What `apply` would answer to a command, if there is memory. Nothing is done. Takes no memory, and
-    /// constant time.
+    /// Returns the reply of `apply` to a command, if there is memory. Changes nothing. Takes no memory, and constant time.
     pub fn reply(&self, mutator: u8, command: &Command) -> Reply
         requires mutator { mutator < length self.now.mutators }
         requires registers { HasRegisters command.now }
@@ -54,7 +52,7 @@ impl World {
         }
     }
 
-    // The name that the next object of a mutator gets.
+    // Returns the name that the next object of a mutator gets.
     fn next_name(&self, mutator: u8) -> Name
         requires { mutator < length self.now.mutators }
         ensures { result ≡ next_name (state_of self.now mutator) mutator }
@@ -65,7 +63,7 @@ impl World {
         }
     }
 
-    // What the change that a command asks for is answered.
+    // Returns the reply to the change that a command asks for, if it asks for one.
     fn asked_reply(&self, mutator: u8, command: &Command) -> Reply
         requires mutator { mutator < length self.now.mutators }
         requires registers { HasRegisters command.now }
@@ -77,7 +75,7 @@ impl World {
         }
     }
 
-    // What a change of the object that a value refers to is answered.
+    // Returns the reply to a change of the object that a value refers to.
     fn object_reply(&self, object: Value, change: Change) -> Reply
         ensures { result ≡ (change_object self.now object change).1 }
     {

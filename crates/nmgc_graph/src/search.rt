@@ -1,9 +1,8 @@
-//! The search for names: which are marked, and which of these still wait.
+//! The search for names: the marked names, and those that still wait.
 //!
-//! A name is marked once and joins the worklist once, as it is found, so a search takes time in
-//! proportion to the names that it marks and the fields that it reads, and it needs no recursion.
-//! Names that are marked and not on the worklist have been dealt with: whoever takes a name off the
-//! worklist has to mark all that it refers to, before anything else is taken off.
+//! A name is marked once and joins the worklist once, when it is found. So a search takes time proportional to the names that
+//! it marks and the fields that it reads, and it needs no recursion. Marked names that are not on the worklist have been
+//! followed. So all that a name refers to has to be marked between taking it off the worklist and taking the next.
 ghost use Rattle.std.specs.Prelude.{◌≡◌, All, OnOk, map};
 ghost use Rattle.nmgc_world_spec.specs.{declared.value.Value.TheVariants.Ref, Reach.strong_fields};
 ghost use Rattle.nmgc_graph.specs.Marks.{HasPlace, IsPlaced};
@@ -12,7 +11,7 @@ use crate::marks::Marks;
 use nmgc_lists::{List, NoMemory};
 use nmgc_world_spec::{Name, Node, Value};
 
-/// The marked names, and those of them that wait.
+/// The marked names, and the names among them that wait.
 #[derive(Drop)]
 pub(crate) struct Search {
     pub(crate) marks: Marks,
@@ -22,7 +21,7 @@ pub(crate) struct Search {
 impl Search {
     ghost use Rattle.nmgc_graph.specs.Search.{with_name, with_value, with_values, is_key_marked};
 
-    /// Marks a name, which then waits, unless it was marked before.
+    /// Marks a name. If it wasn't marked before, it waits from now on.
     pub(crate) fn mark(&mut self, name: Name) -> Result<(), NoMemory>
         requires { HasPlace self.old.marks name }
         ensures { OnOk result (self.new ≡ with_name self.old name) }
@@ -33,7 +32,7 @@ impl Search {
         Ok(())
     }
 
-    /// Marks the name that a value refers to, if it refers to one.
+    /// Marks the name that a value refers to, if the value refers to a name.
     pub(crate) fn mark_value(&mut self, value: Value) -> Result<(), NoMemory>
         requires { IsPlaced self.old.marks value }
         ensures { OnOk result (self.new ≡ with_value self.old value) }
@@ -55,7 +54,7 @@ impl Search {
         Ok(())
     }
 
-    /// Marks names.
+    /// Marks each of these names. Those that weren't marked before wait from now on.
     pub(crate) fn mark_names(&mut self, names: &[Name]) -> Result<(), NoMemory>
         requires { All (HasPlace self.old.marks) names.now }
         ensures { OnOk result (self.new ≡ with_values self.old (map Ref names.now)) }
@@ -66,7 +65,7 @@ impl Search {
         Ok(())
     }
 
-    /// Marks what a node's strong fields refer to.
+    /// Marks the targets of a node's strong fields.
     pub(crate) fn mark_fields(&mut self, node: &Node) -> Result<(), NoMemory>
         requires { All (IsPlaced self.old.marks) (strong_fields node.now) }
         ensures { OnOk result (self.new ≡ with_values self.old (strong_fields node.now)) }

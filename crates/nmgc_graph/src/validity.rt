@@ -1,7 +1,6 @@
 //! Whether a mutator can give a command.
 //!
-//! A script never asks for a register that isn't there, or for more objects than there are serials. A
-//! caller that gets its commands from elsewhere has to ask.
+//! A script keeps to the registers and serials that exist. A caller that gets commands from elsewhere has to check them.
 ghost use Rattle.std.specs.Prelude.{◌↔◌, IsTrue};
 
 use crate::World;
@@ -10,8 +9,8 @@ use nmgc_world_spec::Command;
 impl World {
     ghost use Rattle.nmgc_world_spec.specs.Step.{CanApply};
 
-    /// Whether the mutator and the command's registers exist, and one more object still has a serial:
-    /// what `apply` asks for. Takes no memory, and as long as `Command::has_registers`.
+    /// Returns whether `apply` takes a command: the mutator and the command's registers exist, and there is a serial for one
+    /// more object. Takes no memory, and the time of `Command::has_registers`.
     pub fn can_apply(&self, mutator: u8, command: &Command) -> bool
         ensures { IsTrue result ↔ CanApply self.now mutator command.now }
     {

@@ -1,20 +1,20 @@
-//! Which weak pointers wait for which name.
+//! The weak pointers that wait for each name.
 //!
-//! A weak pointer lives as soon as its key does, so the search that comes to a name has to find those that wait for
-//! it, and no others. They are those of a list, each told by its place in it. What is kept is a bound for each name: all
-//! that wait for it have places below the bound, and the last of them the place just below. And for each weak pointer
-//! the bound that its key had before, which leads to the one before it. So filing one takes constant time, and going
-//! over those that wait for a name takes time for these alone.
+//! A weak pointer lives as soon as its key does. So when the search takes up a name, it has to find exactly the weak pointers
+//! that wait for it. They are in a list, and a weak pointer is represented by its position there. The index has a bound for
+//! each name: all that wait for it have positions below the bound, and the last is just below it. For each weak pointer it
+//! also has the bound that its key had before, which leads to the weak pointer before it. So filing a weak pointer takes
+//! constant time, and going over those that wait for a name takes time for these alone.
 //!
-//! Easy to get wrong: a bound is one more than a place, and 0 where none waits. Each bound that is
-//! met is smaller than the one before it, which is why going over them ends.
+//! Easy to get wrong: a bound is one more than a position, and 0 if none waits. Each bound on the way is smaller than the
+//! bound before it, so the way ends.
 ghost use Rattle.std.specs.Prelude.{◌≡◌, ◌<◌, ◌≤◌, ◌^◌, [], ◌∷◌, ◌++◌, length, replicate, slice_index, slice_set, OnOk, IfSome};
 
 use nmgc_lists::{List, NoMemory};
 use nmgc_world_spec::Name;
 use std::alloc::Global;
 
-/// For each name the bound of the weak pointers that wait for it, and for each weak pointer that of those before it.
+/// The bound of each name for the weak pointers that wait for it, and for each weak pointer the bound before it.
 #[derive(Drop)]
 pub(crate) struct Waiting {
     pub(crate) bounds: List<List<usize>>,
@@ -24,7 +24,7 @@ pub(crate) struct Waiting {
 impl Waiting {
     ghost use Rattle.nmgc_graph.specs.Waiting.{HasBound, bound_of, with_next};
 
-    /// No place for a bound yet, and no weak pointer. Takes no memory.
+    /// Makes an index without weak pointers and without places for bounds. Takes no memory.
     pub(crate) fn new(alloc: Global) -> Self
         ensures { result ≡ record { bounds = []; before = [] } }
     {
@@ -34,7 +34,7 @@ impl Waiting {
         }
     }
 
-    /// Makes places for the bounds of so many names of the next maker. No weak pointer waits for these yet.
+    /// Makes places for the bounds of `count` names of the next maker. No weak pointer waits for these names yet.
     pub(crate) fn add_maker(&mut self, alloc: Global, count: usize) -> Result<(), NoMemory>
         ensures { OnOk result (self.new ≡ record { bounds = self.old.bounds ++ replicate count 0 ∷ []; before = self.old.before }) }
     {
@@ -42,7 +42,7 @@ impl Waiting {
         self.bounds.push(row)
     }
 
-    /// Files the next weak pointer of the list, which waits for this name, or for none. Takes constant time.
+    /// Files the next weak pointer of the list, which waits for `key`, or for no name. Takes constant time.
     pub(crate) fn add(&mut self, key: Option<Name>) -> Result<(), NoMemory>
         requires { IfSome key (HasBound self.old.bounds) }
         ensures { OnOk result (self.new ≡ with_next self.old key) }
@@ -59,7 +59,7 @@ impl Waiting {
         self.before.push(before)
     }
 
-    /// The bound of the weak pointers that wait for a name. Takes constant time.
+    /// Returns the bound of the weak pointers that wait for a name; it is 0 if none waits. Takes constant time.
     pub(crate) fn bound(&self, name: Name) -> usize
         ensures { result ≡ bound_of self.now.bounds name }
     {
@@ -69,7 +69,7 @@ impl Waiting {
         }
     }
 
-    /// The bound of those that wait for the same name and come before the weak pointer at a place. Takes constant time.
+    /// Returns the bound that the key of the weak pointer at `place` had before the filing. Takes constant time.
     pub(crate) fn bound_before(&self, place: usize) -> usize
         requires { place < length self.now.before }
         ensures { result ≡ slice_index self.now.before place }
@@ -78,7 +78,7 @@ impl Waiting {
     }
 }
 
-// Sets the bound of a serial, and gives the one before.
+// Sets the bound of a serial, and returns its old bound.
 fn raise(row: &mut List<usize>, serial: u32, bound: usize) -> usize
     requires { serial < length row.old }
     ensures before { result ≡ slice_index row.old serial }
@@ -90,7 +90,7 @@ fn raise(row: &mut List<usize>, serial: u32, bound: usize) -> usize
     before
 }
 
-// The bound of a serial.
+// Returns the bound of a serial, or 0 if there is no place for it.
 fn bound_in(row: &[usize], serial: u32) -> usize
     ensures { result ≡ slice_index row.now serial }
 {

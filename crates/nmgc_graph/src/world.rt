@@ -1,16 +1,13 @@
-//! The world of a heap that is never collected.
+//! The world of the reference heap.
 //!
-//! A world is a finite map from names to nodes that only grows, with the registers, the finaliser
-//! queue and the next serial of each mutator. Its invariant is that it is closed: every reference in
-//! a register, a queue or a node names a node of the map. The collector is judged by it: a reply of
-//! a run is right where this world gives it.
+//! A world is a finite map from names to nodes that only grows, with the registers, the finaliser queue and the next serial
+//! of each mutator. Its invariant is that it is closed: every reference in a register, a queue or a node names a node of the
+//! map. The collector is judged by it: a reply of a run is right if this world gives it.
 //!
-//! Each command works on one level at a time, the state of a mutator or a node, in a function of its
-//! own; a method here only lends the part. Nothing is ever taken off the map, so a reference that
-//! was known stays known, and that is all that closedness needs.
+//! Each command works on one level at a time, the state of a mutator or a node, in a function of its own. A method here only
+//! lends the part. Nothing is ever taken off the map, so a known reference stays known, and closedness needs no more.
 //!
-//! Easy to get wrong: after want of memory nothing may have changed, so what takes memory is done
-//! before a register is written.
+//! Easy to get wrong: after want of memory nothing may have changed. So all memory is taken before a register is written.
 ghost use Rattle.std.specs.Prelude.{replicate, Some, None, [], ◌≡◌, ◌-◌, ◌<◌, ◌≤◌, ◌^◌, length, map, IfOk, IfSome, IsSome, OnOk, OnErr, slice_get, option_copied, All};
 ghost use Rattle.nmgc_world_spec.specs.{World.new_mutator, Command.IsOperand, Command.IsRegister, Step.value_of, Step.with_new, Step.next_name, Step.holding, Step.with_finaliser, Step.with_nth, declared.node.Node.Node as NodeAt, Change.given_or, Change.changed, Change.field_read, Change.result_read, Change.value_read};
 
@@ -21,14 +18,14 @@ use nmgc_world_spec::{Change, Command, MutatorState, Name, Node, Operand, Parts,
 use std::alloc::Global;
 use std::marker::Model;
 
-/// Every object that was ever made, and what each mutator has.
+/// A world: every object ever made, and the state of each mutator.
 pub struct World {
     pub(crate) alloc: Global,
     pub(crate) shared: Node,
     pub(crate) mutators: List<MutatorState>,
 }
 
-// By hand, so that whoever lets go of one calls this: a derived one is written out, and proved, at each place.
+// Written by hand, so that each drop of a world calls this. A derived drop is written out, and proved, at each drop.
 impl Drop for World {
     fn drop(self) {
         let World {
@@ -56,8 +53,8 @@ impl World {
     ghost use Rattle.nmgc_world_spec.specs.Command.{HasRegisters};
     ghost use Rattle.nmgc_world_spec.specs.Step.{step, value_for, values_for, born, with_register, keeping, object_of, read_object, asked, change_asked, change_into, change_object, change_node, next_finaliser, same_reply};
 
-    /// The world of 1 to `MAKERS` mutators before any command: registers are nil, queues are empty,
-    /// g is full of nil, and no mutator has made anything.
+    /// Makes the world of 1 to `MAKERS` mutators before any command: registers are nil, queues are empty, g is full of nil,
+    /// and no mutator has made anything.
     pub fn new(alloc: Global, mutators: u8) -> Result<Self, NoMemory>
         requires some { 1 ≤ mutators }
         requires few { mutators ≤ MAKERS }
@@ -74,8 +71,9 @@ impl World {
         })
     }
 
-    /// Does one command of a mutator, and answers as the step of the world does. `can_apply` tells
-    /// whether the conditions hold. A refusal, or `NoMemory`, changes nothing.
+    /// Does a command of a mutator, and returns the reply, as the step of the world does. `can_apply` returns whether the
+    /// conditions hold. A refusal, or `NoMemory`, changes nothing. The world stays closed, no name leaves it, and serials
+    /// only rise.
     pub fn apply(&mut self, mutator: u8, command: &Command) -> Result<Reply, NoMemory>
         requires mutator { mutator < length self.old.mutators }
         requires registers { HasRegisters command.now }
@@ -86,12 +84,12 @@ impl World {
         ensures grows { Grows self.old self.new mutator }
     {
         let answer = self.answer(mutator, command);
-        // Reading a field tells the checker what holds of every world: that it is closed.
+        // Reading a field gives the checker the invariant of every world: it is closed.
         let _ = &self.mutators;
         answer
     }
 
-    // Does one command of a mutator.
+    // Does a command of a mutator, and returns the reply.
     fn answer(&mut self, mutator: u8, command: &Command) -> Result<Reply, NoMemory>
         requires mutator { mutator < length self.old.mutators }
         requires registers { HasRegisters command.now }
@@ -153,7 +151,7 @@ impl World {
         }
     }
 
-    // Makes a constructor.
+    // Makes a constructor, and replies with its name.
     fn make_con(
         &mut self,
         mutator: u8,
@@ -172,7 +170,7 @@ impl World {
         self.add(mutator, dest, Node::Con { tag, values })
     }
 
-    // Makes a variable.
+    // Makes a variable, and replies with its name.
     fn make_var(&mut self, mutator: u8, dest: u8, value: Operand) -> Result<Reply, NoMemory>
         requires mutator { mutator < length self.old.mutators }
         requires serial { serial_of self.old mutator < 2 ^ 32 - 1 }
@@ -185,7 +183,7 @@ impl World {
         self.add(mutator, dest, Node::Var { value })
     }
 
-    // Makes an array of so many copies of a value.
+    // Makes an array of `count` copies of a value, and replies with its name.
     fn make_arr(
         &mut self,
         mutator: u8,
@@ -205,7 +203,7 @@ impl World {
         self.add(mutator, dest, Node::Arr { values })
     }
 
-    // Makes a thunk without a result.
+    // Makes a thunk without a result, and replies with its name.
     fn make_thunk(&mut self, mutator: u8, dest: u8, free: &[Operand]) -> Result<Reply, NoMemory>
         requires mutator { mutator < length self.old.mutators }
         requires serial { serial_of self.old mutator < 2 ^ 32 - 1 }
@@ -218,7 +216,7 @@ impl World {
         self.add(mutator, dest, Node::Thunk { free, result: None })
     }
 
-    // Makes a weak pointer, alive.
+    // Makes a weak pointer that is alive, and replies with its name.
     fn make_weak(
         &mut self,
         mutator: u8,
@@ -246,7 +244,7 @@ impl World {
         self.add(mutator, dest, Node::Weak { parts: Some(parts) })
     }
 
-    // Makes an empty stack for at most `size` values.
+    // Makes an empty stack for at most `size` values, and replies with its name.
     fn make_stack(&mut self, mutator: u8, dest: u8, size: u32) -> Result<Reply, NoMemory>
         requires mutator { mutator < length self.old.mutators }
         requires serial { serial_of self.old mutator < 2 ^ 32 - 1 }
@@ -258,8 +256,7 @@ impl World {
         self.add(mutator, dest, Node::Stack { size, values })
     }
 
-    /// What `get` answers: a field of the object that a value refers to. Takes no memory, and
-    /// constant time.
+    /// Returns the reply to `get` of a value: a field of its object, or a refusal. Takes no memory, and constant time.
     pub fn field(&self, object: Value, index: u32) -> Reply
         ensures reply { result ≡ read_object (object_of self.now object) (λ node. field_read node index) }
         ensures known { IsKnownReply self.now result }
@@ -270,8 +267,7 @@ impl World {
         }
     }
 
-    /// What `force` answers: the result of the thunk that a value refers to. Takes no memory, and
-    /// constant time.
+    /// Returns the reply to `force` of a value: the result of its thunk, or a refusal. Takes no memory, and constant time.
     pub fn result_of(&self, object: Value) -> Reply
         ensures reply { result ≡ read_object (object_of self.now object) result_read }
         ensures known { IsKnownReply self.now result }
@@ -282,8 +278,7 @@ impl World {
         }
     }
 
-    /// What `deref` answers: the value of the weak pointer that a value refers to. Takes no memory, and
-    /// constant time.
+    /// Returns the reply to `deref` of a value: its weak pointer's value, or a refusal. Takes no memory, and constant time.
     pub fn weak_value(&self, object: Value) -> Reply
         ensures reply { result ≡ read_object (object_of self.now object) value_read }
         ensures known { IsKnownReply self.now result }
@@ -294,7 +289,7 @@ impl World {
         }
     }
 
-    // Does the change that a command asks for.
+    // Does the change that a command asks for, and returns the reply.
     fn change(&mut self, mutator: u8, command: &Command) -> Result<Reply, NoMemory>
         requires mutator { mutator < length self.old.mutators }
         requires registers { HasRegisters command.now }
@@ -308,7 +303,7 @@ impl World {
         }
     }
 
-    // Does that of a command that takes a value from the object.
+    // Does the change that a command asks for, and puts the value that the reply gives, if any, into a register.
     fn change_into(
         &mut self,
         mutator: u8,
@@ -325,8 +320,9 @@ impl World {
         Ok(self.keep(mutator, register, reply))
     }
 
-    /// The change that a command asks for, and the value that is to refer to the object. `None` comes
-    /// exactly where it asks for none. Takes no memory, and constant time.
+    /// Returns the change that a command asks for, and the value that has to refer to the object. Returns `None` exactly if
+    /// the command asks for no change. By it the marking machine and the barrier checker find the references that a command
+    /// removes. Takes no memory, and constant time.
     pub fn asked(&self, mutator: u8, command: &Command) -> Option<(Value, Change)>
         requires mutator { mutator < length self.now.mutators }
         requires registers { HasRegisters command.now }
@@ -379,7 +375,7 @@ impl World {
         Some((self.value(mutator, *object), change))
     }
 
-    /// The value that an operand has for a mutator. Takes no memory, and constant time.
+    /// Returns the value that an operand has for a mutator. Takes no memory, and constant time.
     pub fn value(&self, mutator: u8, operand: Operand) -> Value
         requires mutator { mutator < length self.now.mutators }
         requires operand { IsOperand operand }
@@ -392,7 +388,7 @@ impl World {
         )
     }
 
-    // The values of operands in order.
+    // Returns the values that operands have for a mutator, in order.
     fn values(&self, mutator: u8, operands: &[Operand]) -> Result<List<Value>, NoMemory>
         requires mutator { mutator < length self.now.mutators }
         requires operands { All IsOperand operands.now }
@@ -406,8 +402,8 @@ impl World {
         )
     }
 
-    /// The object that a value refers to. `None` comes exactly where it isn't a reference to a name
-    /// of the map. Takes no memory, and constant time.
+    /// Returns the object that a value refers to, or `None` exactly if the value refers to no name of the map. Takes no
+    /// memory, and constant time.
     pub fn object(&self, value: Value) -> Option<&Node>
         ensures object { option_copied result ≡ object_of self.now value }
         ensures node { IfSome (option_copied result) (IsNodeOf self.now) }
@@ -419,8 +415,7 @@ impl World {
         }
     }
 
-    /// The node of a name. `None` comes exactly where the name isn't in the map.
-    /// Takes constant time.
+    /// Returns the node of a name, or `None` exactly if the name isn't in the map. Takes constant time.
     pub fn node(&self, name: Name) -> Option<&Node>
         ensures { option_copied result ≡ node_of self.now name }
     {
@@ -435,7 +430,7 @@ impl World {
         state.nodes.items().get(name.serial as usize)
     }
 
-    // A register takes a value.
+    // Writes a value into a register, and replies `Fine`.
     fn set_register(&mut self, mutator: u8, register: u8, value: Value) -> Reply
         requires mutator { mutator < length self.old.mutators }
         requires register { IsRegister register }
@@ -451,7 +446,7 @@ impl World {
         Reply::Fine
     }
 
-    // A register takes an operand's value.
+    // Writes an operand's value into a register, and replies `Fine`.
     fn set_register_from(&mut self, mutator: u8, register: u8, operand: Operand) -> Reply
         requires mutator { mutator < length self.old.mutators }
         requires register { IsRegister register }
@@ -463,8 +458,7 @@ impl World {
         self.set_register(mutator, register, value)
     }
 
-    /// What `same` answers: whether two operands have the same value. Takes no memory, and constant
-    /// time.
+    /// Returns the reply to `same`: whether two operands have the same value. Takes no memory, and constant time.
     pub fn compare(&self, mutator: u8, left: Operand, right: Operand) -> Reply
         requires mutator { mutator < length self.now.mutators }
         requires left { IsOperand left }
@@ -478,7 +472,7 @@ impl World {
         }
     }
 
-    // A register takes the value that was given, if one was.
+    // Writes the value that a reply gives, if any, into a register, and returns the reply.
     fn keep(&mut self, mutator: u8, register: u8, reply: Reply) -> Reply
         requires mutator { mutator < length self.old.mutators }
         requires register { IsRegister register }
@@ -492,7 +486,7 @@ impl World {
         reply
     }
 
-    // A new node: its reference goes into a register, and its name is the answer.
+    // Adds a new node, puts its reference into a register, and replies with its name.
     fn add(&mut self, mutator: u8, register: u8, made: Node) -> Result<Reply, NoMemory>
         requires mutator { mutator < length self.old.mutators }
         requires register { IsRegister register }
@@ -506,7 +500,7 @@ impl World {
         Ok(Reply::Given(Value::Ref(name)))
     }
 
-    // Changes the object that a value refers to.
+    // Changes the object that a value refers to, and returns the reply.
     fn change_object(&mut self, object: Value, change: Change) -> Result<Reply, NoMemory>
         requires object { IsKnown self.old object }
         requires known { IsKnownChange self.old change }
@@ -521,7 +515,7 @@ impl World {
         }
     }
 
-    // Changes the node of a name.
+    // Changes the node of a name, and returns the reply.
     fn change_node(&mut self, name: Name, change: Change) -> Result<Reply, NoMemory>
         requires there { IsSome (node_of self.old name) }
         requires known { IsKnownChange self.old change }
@@ -539,7 +533,7 @@ impl World {
         )
     }
 
-    // The first of a mutator's finaliser queue goes off into a register.
+    // Moves the first finaliser of a mutator's queue, if any, into a register, and returns the reply of `nextfin`.
     fn next_finaliser(&mut self, mutator: u8, register: u8) -> Reply
         requires mutator { mutator < length self.old.mutators }
         requires register { IsRegister register }
@@ -558,7 +552,7 @@ fn hold(state: &mut MutatorState, register: u8, value: Value)
     state.registers.items_mut()[register as usize] = value;
 }
 
-// Takes the first finaliser off the queue into a register.
+// Moves the first finaliser of the queue, if any, into a register, and returns the reply of `nextfin`.
 fn take_finaliser(state: &mut MutatorState, register: u8) -> Reply
     requires registers { length state.old.registers ≡ REGISTERS }
     requires register { IsRegister register }
@@ -572,7 +566,7 @@ fn take_finaliser(state: &mut MutatorState, register: u8) -> Reply
     Reply::Given(value)
 }
 
-// The value of an operand, with these registers.
+// Returns the value of an operand: the value in its register, or the reference to g.
 fn value_at(registers: &[Value], operand: Operand) -> Value
     requires operand { IsOperand operand }
     requires registers { length registers.now ≡ REGISTERS }
@@ -584,7 +578,7 @@ fn value_at(registers: &[Value], operand: Operand) -> Value
     }
 }
 
-// The values of operands in order.
+// Returns the values of operands in order, with these registers.
 fn values_at(
     alloc: Global,
     registers: &[Value],
@@ -601,7 +595,7 @@ fn values_at(
     List::from_vec(values)
 }
 
-// Adds a node to those that a mutator made, and puts its reference into a register.
+// Adds a node to the nodes that a mutator made, puts its reference into a register, and returns its name.
 fn add_node(
     state: &mut MutatorState,
     mutator: u8,
@@ -624,7 +618,7 @@ fn add_node(
     Ok(name)
 }
 
-// Changes an object that this mutator made.
+// Changes an object that this mutator made, and returns the reply.
 fn change_nth(state: &mut MutatorState, name: Name, change: Change) -> Result<Reply, NoMemory>
     requires { name.serial < length state.old.nodes }
     ensures state { (old : NodeAt) → slice_get state.old.nodes name.serial ≡ Some old →
@@ -639,14 +633,14 @@ fn change_nth(state: &mut MutatorState, name: Name, change: Change) -> Result<Re
     )
 }
 
-// A list of copies of a value.
+// Returns a list of `count` copies of a value.
 fn copies(alloc: Global, value: Value, count: usize) -> Result<List<Value>, NoMemory>
     ensures { IfOk result (λ values. values ≡ replicate count value) }
 {
     List::from_vec(vec![in alloc; value; count]?)
 }
 
-// So many mutators before any command.
+// Returns the states that `mutators` mutators have before any command.
 fn new_mutators(alloc: Global, mutators: u8) -> Result<List<MutatorState>, NoMemory>
     ensures { IfOk result (λ states. states ≡ replicate mutators new_mutator) }
 {

@@ -1,8 +1,8 @@
--- The small heap: each word is as it is said to be.
-use Rattle.nmgc_heap_spec.proofs.Vocabulary.{◌-◌, ◌≡◌, inl, inr, ℕ, zero, suc, ◌+◌, ◌*◌, ◌<◌, List, [], ◌∷◌, length, map, replicate, drop, refl, sym, ap, subst, ◌∙◌, arith, slice_index, Some, lit≤, lit<, slice_get, Contains, Name, REGISTERS, SHARED_MAKER, SHARED_SLOTS, Value, Ref, Node, Var, MutatorState, World, node_of, state_of, serial_of, start, contains_head, HEADER_WORDS, IsWide, holds, free_slots, IsTracked, Place, AllMean, ListMeans, HasSlots, NoNode, Represents, RepresentsRoots, small_layout, own, block, places_of, snapshot, chain_serials, chain_words, SnapshotStands, WordsAreTold, NoSecondPlace, slots_mean, placed_at, zeros_first}
+-- The small heap: each word is as specified.
+use Rattle.nmgc_heap_spec.proofs.Vocabulary.{◌-◌, ◌≡◌, inl, inr, ℕ, zero, suc, ◌+◌, ◌*◌, ◌<◌, List, [], ◌∷◌, length, map, replicate, drop, refl, sym, ap, subst, ◌∙◌, arith, slice_index, Some, lit≤, lit<, slice_get, Contains, Name, REGISTERS, SHARED_MAKER, SHARED_SLOTS, Value, Ref, Node, Var, MutatorState, World, node_of, state_of, serial_of, start, contains_head, HEADER_WORDS, IsWide, holds, free_slots, IsTracked, Place, AllMean, ListMeans, HasSlots, NoNode, Represents, RepresentsRoots, small_layout, own, block, places_of, snapshot, chain_serials, chain_words, SnapshotStands, WordsAreDetermined, NoSecondPlace, slots_mean, placed_at, zeros_first}
 use Rattle.nmgc_heap_spec.proofs.Stood.{EachFills, fills_from, fills_nil, stands}
 
--- registers stand for their values, one by one
+-- register words mean their values, one by one
 rows_mean : (P : Place → Type 0) (words : List ℕ) (values : List Value) → EachFills P words (map holds values) → AllMean P words 0 values
 rows_mean P words values h = slots_mean P words 0 values (fills_from P words 0 (map holds values) h)
 
@@ -134,10 +134,10 @@ snapshot_stands rest count = (represents, roots)
 root_variable : IsWide snapshot (own 1)
 root_variable = start (own 1) (inl (inr (0, (0, lit< tt, refl))))
 
--- what words have to say of the variable, and that no name has two places
+-- the variable's words in any words for the snapshot, and no second place for a name
 
-pub words_are_told : (K : Name → Node → Type 0) → WordsAreTold K
-words_are_told K earlier words r =
+pub words_are_determined : (K : Name → Node → Type 0) → WordsAreDetermined K
+words_are_determined K earlier words r =
     let there : Contains (places_of chain_serials) (block 1) = (2, lit< tt, refl) in
     let tracked : IsTracked snapshot earlier (own 1) = start (own 1) (snapshot, contains_head snapshot earlier, root_variable) in
     let p = placed_at small_layout earlier K (places_of chain_serials) snapshot words r (own 1) (Var (Ref (own 0))) 36 tracked refl there in

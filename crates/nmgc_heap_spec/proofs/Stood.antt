@@ -14,7 +14,7 @@ each_at {A} P k (y ∷ xs) h zero x e =
     subst (λ (j : ℕ). P j x) z (subst (λ (u : A). P k u) same h.0)
 each_at P k (y ∷ xs) h (suc i) x e = let z : k + 1 + i ≡ k + suc i = omega arith in subst (λ (j : ℕ). P j x) z (each_at P (k + 1) xs h.1 i x e)
 
--- words that are as they are said to be, one by one
+-- words that are as the slots specify, one by one
 abbrev pub EachFills : (Place → Type 0) → List ℕ → List Slot → Type 0
 EachFills P words [] = Unit {0}
 EachFills P [] (slot ∷ slots) = ⊥
@@ -27,7 +27,7 @@ each_fills P [] (s ∷ slots) h i slot e = absurd h
 each_fills P (w ∷ words) (s ∷ slots) h zero slot e = let same : s ≡ slot = cc in subst (λ (u : Slot). Fills P w u) same h.0
 each_fills P (w ∷ words) (s ∷ slots) h (suc i) slot e = each_fills P words slots h.1 i slot e
 
--- so many nils
+-- `count` nils
 pub fills_nil : (P : Place → Type 0) (count : ℕ) → EachFills P (replicate count 1) (map holds (replicate count Nil))
 fills_nil P zero = tt
 fills_nil P (suc count) = (refl, fills_nil P count)
@@ -35,7 +35,7 @@ fills_nil P (suc count) = (refl, fills_nil P count)
 pub fills_from : (P : Place → Type 0) (words : List ℕ) (from : ℕ) (slots : List Slot) → EachFills P (drop from words) slots → HasSlots P words from slots
 fills_from P words from slots h i slot e = subst (λ (k : ℕ). Fills P k slot) (get_or-drop from words i 0) (each_fills P (drop from words) slots h i slot e)
 
--- what a world of one mutator knows: g, and its objects
+-- the names and nodes of a world of one mutator: g, and its objects
 pub record IsKnown (nodes : List Node) (name : Name) (node : Node) : Type 0 where
   pub serial : ℕ
   pub is : name ≡ own serial
@@ -52,7 +52,7 @@ only_known shared state (suc maker) serial node e = shared_or (suc maker == SHAR
     ))
     e
 
--- an object with its words, where it isn't a thunk that waits
+-- an object with its words, unless it is a thunk without a result
 abbrev pub Stood : (Place → Type 0) → List ℕ → ℕ → Node → Type 0
 Stood P words k node = (slice_index words (32 + 4 * k) ≡ header_word (header_of node)) × IsHeader (header_of node) × (size_of node ≤ 4) ×
     (slice_index words (32 + 4 * k + 1) ≡ SERIAL_UNIT * k) × EachFills P (drop (34 + 4 * k) words) (slots_of node) × (free_slots node ≡ [])

@@ -1,58 +1,58 @@
--- What may happen to words, places and world so that the words represent the world still.
+-- The changes to words, places and world after which the words still represent the world.
 --
--- Each of these is the condition of a law. They speak of one change at a time, and of what it leaves: a
--- round does them one after another, and a stop many at once.
+-- Each definition is the condition of a law, about one change at a time and its result. A round makes these changes one after
+-- another, and a stop makes many at once.
 use Rattle.std.specs.Prelude.{ℕ, ◌≡◌, ◌≢◌, ◌+◌, ◌<◌, ◌≤◌, ◌⊎◌, List, ◌∷◌, length, slice_index, slice_get, Contains, Some, None}
 use Rattle.nmgc_world_spec.specs.{declared.value.Name.Name, declared.value.Value.TheVariants.Ref, declared.node.Node.Node, declared.node.Node.TheVariants.Weak, World.World, World.node_of}
 use Rattle.nmgc_object.specs.{Words.name_word, Words.IsHeader, Words.IsName, Places.InNursery, declared.layout.Layout.Layout, declared.size.TheConstants.HEADER_WORDS, declared.size.TheConstants.NAME_OFFSET}
-use Rattle.nmgc_heap_spec.specs.Shape.{Slot, holds, untold, header_of, size_of, slots_of, fixed_slots, free_slots, MayChange}
+use Rattle.nmgc_heap_spec.specs.Shape.{Slot, holds, unspecified, header_of, size_of, slots_of, fixed_slots, free_slots, MayChange}
 use Rattle.nmgc_heap_spec.specs.{Tracked.IsTracked, Places.Place, Places.Fills, Places.HasSlots, Places.LiesWell, Places.IsBetween, Represents.IsNamed, Represents.IsObject, Represents.IsEarlier}
 
--- the collector may still speak of each of these worlds
+-- each of these worlds is an earlier world, which the collector may still use
 abbrev pub AreEarlier : List World → World → Type 0
 AreEarlier earlier w = (e : World) → Contains earlier e → IsEarlier e w
 
--- the nodes told by K have the headers that the names have now
+-- each node known to K has the header that the node of its name has now
 abbrev pub HaveHeaders : (Name → Node → Type 0) → World → Type 0
 HaveHeaders K w = (name : Name) (before now : Node) → K name before → node_of w name ≡ Some now → header_of before ≡ header_of now
 
--- header and extent of the object at the place are told: its name is tracked, or it was born in a nursery
+-- an object that is specified, with header and extent: its name is tracked, or it lies in its maker's nursery
 abbrev pub IsSpokenOf : Layout → List World → World → Place → Type 0
 IsSpokenOf layout earlier w p = IsTracked w earlier p.name ⊎ InNursery layout p.name.maker p.at
 
--- another world with the same nodes, as far as the words tell: at every place, and of every tracked name
+-- another world that has the same node at every place and for every tracked name, and that tracks no further name
 pub record IsSameHeap (earlier : List World) (places : List Place) (w v : World) : Type 0 where
   pub nodes : (p : Place) → Contains places p → node_of v p.name ≡ node_of w p.name
   pub tracked : (name : Name) (node : Node) → IsTracked v earlier name → node_of v name ≡ Some node → IsTracked w earlier name × (node_of w name ≡ Some node)
 
--- of what was spoken of, no more is spoken of later: but the world itself may be remembered, and its nodes
+-- the earlier worlds and known nodes as before, or fewer; only the world itself, as it is now, and its nodes may be added
 pub record Remembers (w : World) (earlier later : List World) (K L : Name → Node → Type 0) : Type 0 where
   pub worlds : (e : World) → Contains later e → Contains (w ∷ earlier) e
   pub nodes : (name : Name) (node : Node) → L name node → K name node ⊎ (node_of w name ≡ Some node)
 
--- other words that are the same at every name, in every object that is told, and beside g
-pub record AgreeWhereTold (layout : Layout) (earlier : List World) (places : List Place) (w : World) (old new : List ℕ) : Type 0 where
+-- other words that agree at every name, in every specified object, and beside g
+pub record AgreeWhereKnown (layout : Layout) (earlier : List World) (places : List Place) (w : World) (old new : List ℕ) : Type 0 where
   pub total : length new ≡ length old
   pub names : (p : Place) → Contains places p → slice_index new (p.at + NAME_OFFSET) ≡ slice_index old (p.at + NAME_OFFSET)
   pub objects : (p : Place) (node : Node) (i : ℕ) → Contains places p → IsSpokenOf layout earlier w p → node_of w p.name ≡ Some node → p.at ≤ i →
       i < p.at + size_of node → slice_index new i ≡ slice_index old i
   pub between : (at : ℕ) → IsBetween at → slice_index new at ≡ slice_index old at
 
--- a word that is no name, in no object that is told, and not beside g
+-- a word that isn't a name, isn't in a specified object, and isn't beside g
 pub record IsUnborn (layout : Layout) (earlier : List World) (places : List Place) (w : World) (i : ℕ) : Type 0 where
   pub names : (p : Place) → Contains places p → i ≢ p.at + NAME_OFFSET
   pub objects : (p : Place) (node : Node) → Contains places p → IsSpokenOf layout earlier w p → node_of w p.name ≡ Some node → (i < p.at) ⊎
       (p.at + size_of node ≤ i)
   pub owned : IsBetween i → ⊥
 
--- at most this field of a node's object changes, and it may: the others are as before, or nothing is said of them any more
+-- a change of a node in at most this field, which may change; every other field is as before, or is no longer specified
 pub record ChangesAt (i : ℕ) (node made : Node) : Type 0 where
   pub header : header_of made ≡ header_of node
   pub within : i < (header_of node).fields
   pub may : MayChange (header_of node).kind i
-  pub rest : (j : ℕ) (slot : Slot) → j ≢ i → slice_get (slots_of made) j ≡ Some slot → (slice_get (slots_of node) j ≡ Some slot) ⊎ (slot ≡ untold)
+  pub rest : (j : ℕ) (slot : Slot) → j ≢ i → slice_get (slots_of made) j ≡ Some slot → (slice_get (slots_of node) j ≡ Some slot) ⊎ (slot ≡ unspecified)
 
--- one field of one tracked object changes, and its word is what the new node says there; no name is tracked that wasn't
+-- one field of one tracked object changes, and its word is as the new node specifies; no further name is tracked
 pub record ChangesField (earlier : List World) (places : List Place) (w v : World) (p : Place) (i word : ℕ) (node made : Node) : Type 0 where
   pub there : Contains places p
   pub is_tracked : IsTracked w earlier p.name
@@ -63,19 +63,20 @@ pub record ChangesField (earlier : List World) (places : List Place) (w v : Worl
   pub field : (slot : Slot) → slice_get (slots_of made) i ≡ Some slot → Fills (Contains places) word slot
   pub nothing_new : (name : Name) → IsTracked v earlier name → IsTracked w earlier name
 
--- one place more
+-- one more place
 pub record AddsPlace (places more : List Place) (x : Place) : Type 0 where
   pub old : (p : Place) → Contains places p → Contains more p
   pub new : Contains more x
   pub no_other : (p : Place) → Contains more p → Contains places p ⊎ (x ≡ p)
 
--- so many words from a place on are apart from every name and header, and from every object that is told
+-- `size` words from `at` on are apart from every header and name, and from every specified object
 pub record IsApart (layout : Layout) (earlier : List World) (places : List Place) (w : World) (at size : ℕ) : Type 0 where
   pub names : (p : Place) → Contains places p → (p.at + HEADER_WORDS ≤ at) ⊎ (at + size ≤ p.at)
   pub objects : (p : Place) (node : Node) → Contains places p → IsSpokenOf layout earlier w p → node_of w p.name ≡ Some node →
       (p.at + size_of node ≤ at) ⊎ (at + size ≤ p.at)
 
--- an object is born: its name and its fields stand there already, nobody knew the name, and nothing else changes but what refers to it
+-- a new object: its name and its fields are in the words already, no node had its name, no other node changes, and no other
+-- name becomes tracked
 pub record IsBorn (layout : Layout) (earlier : List World) (K L : Name → Node →
     Type 0) (places more : List Place) (w v : World) (words : List ℕ) (x : Place) (made : Node) : Type 0 where
   pub place : AddsPlace places more x
@@ -92,7 +93,8 @@ pub record IsBorn (layout : Layout) (earlier : List World) (K L : Name → Node 
   pub name : slice_index words (x.at + NAME_OFFSET) ≡ name_word x.name
   pub fields : HasSlots (Contains more) words (x.at + HEADER_WORDS) (slots_of made)
 
--- places go whose names nobody tracks, where nothing that is told for good refers to them
+-- fewer places: only places of untracked names go. Free variables of tracked objects in earlier worlds, and permanent fields
+-- in K, refer only to tracked names
 pub record DropsPlaces (earlier : List World) (K : Name → Node → Type 0) (places fewer : List Place) (w : World) : Type 0 where
   pub old : (p : Place) → Contains fewer p → Contains places p
   pub tracked : (p : Place) → Contains places p → IsTracked w earlier p.name → Contains fewer p
@@ -100,7 +102,8 @@ pub record DropsPlaces (earlier : List World) (K : Name → Node → Type 0) (pl
       Contains (free_slots before) (holds (Ref n)) → IsTracked w earlier n
   pub kept : (name n : Name) (before : Node) → IsTracked w earlier name → K name before → Contains (fixed_slots before) (holds (Ref n)) → IsTracked w earlier n
 
--- further places, where nothing else changes: they are named like the others, and among no words of an object that is told
+-- further places, while nothing else changes: all are in use, differ in name and address, and aren't inside a specified
+-- object. An object in its maker's nursery lies there with header and extent
 pub record AddsPlaces (layout : Layout) (earlier : List World) (places more : List Place) (w : World) (words : List ℕ) : Type 0 where
   pub old : (p : Place) → Contains places p → Contains more p
   pub one : (p q : Place) → Contains more p → Contains more q → (p.name ≡ q.name) ⊎ (p.at ≡ q.at) → p ≡ q

@@ -1,9 +1,9 @@
--- What commands and closings do to what the words tell: statements of laws.
+-- The effect of commands and closings on the nodes and tracked names that words represent: statements of laws.
 use Rattle.std.specs.Prelude.{ℕ, ◌≡◌, ◌≢◌, ◌⊎◌, List, slice_get, Contains, Some, None, IsSome}
 use Rattle.nmgc_world_spec.specs.{declared.value.Name.Name, declared.node.Node.Node, declared.command.Command.Command, World.World, World.node_of, World.state_of, World.IsWorld, Step.CanApply, Step.next_name, Step.step, Reach.closed}
 use Rattle.nmgc_heap_spec.specs.{Shape.Slot, Shape.slots_of, Places.Place, Places.Fills, Tracked.IsTracked, Represents.IsEarlier, Changes.AreEarlier, Changes.HaveHeaders, Changes.IsSameHeap, Changes.ChangesAt, Changes.ChangesField}
 
--- what happens to the nodes of a world: to none, to one field of one, or one is born
+-- a change of a world's nodes: no node changes, one field of one node changes, or there is one new node
 pub data NodeStep (w v : World) (new : Name) : Type 0 where
   none : ((name : Name) → node_of v name ≡ node_of w name) → NodeStep w v new
   change : (name : Name) (i : ℕ) (node made : Node) → node_of w name ≡ Some node → node_of v name ≡ Some made →
@@ -11,11 +11,11 @@ pub data NodeStep (w v : World) (new : Name) : Type 0 where
   birth : (made : Node) → node_of w new ≡ None → node_of v new ≡ Some made → ((other : Name) → other ≢ new → node_of v other ≡ node_of w other) →
       NodeStep w v new
 
--- a command does one of these; a node that it makes has its mutator's next name
+-- a command changes no node, or one field of one node, or makes one node, which has its mutator's next name
 abbrev pub StepIsOne : Type 0
 StepIsOne = (w : World) (m : ℕ) (c : Command) → IsWorld w → CanApply w m c → NodeStep w (step w m c).0 (next_name (state_of w m) m)
 
--- where it changes one field of a tracked object, and the word says what the new node says there, that is a change of one field
+-- a command that changes one field of a tracked object to a word as the new node specifies is a change of one field
 abbrev pub StepChangesField : Type 0
 StepChangesField = (w : World) (m : ℕ) (c : Command) (earlier : List World) (places : List Place) (p : Place) (i word : ℕ) (node made : Node) →
     IsWorld w → AreEarlier earlier w → CanApply w m c → Contains places p → IsTracked w earlier p.name → node_of w p.name ≡ Some node →
@@ -23,16 +23,16 @@ StepChangesField = (w : World) (m : ℕ) (c : Command) (earlier : List World) (p
     ChangesAt i node made → ((slot : Slot) → slice_get (slots_of made) i ≡ Some slot → Fills (Contains places) word slot) →
     ChangesField earlier places w (step w m c).0 p i word node made
 
--- every tracked name is one of the world
+-- every tracked name is a name of the world
 abbrev pub TrackedAreKnown : Type 0
 TrackedAreKnown = (w : World) (earlier : List World) → IsWorld w → AreEarlier earlier w → (name : Name) → IsTracked w earlier name → IsSome (node_of w name)
 
--- after a command no name is tracked but those that were, and the one that it makes
+-- after a command a name is tracked only if it was tracked before, or is the mutator's next name
 abbrev pub StepTracks : Type 0
 StepTracks = (w : World) (m : ℕ) (c : Command) (earlier : List World) → IsWorld w → CanApply w m c → (name : Name) →
     IsTracked (step w m c).0 earlier name → IsTracked w earlier name ⊎ (name ≡ next_name (state_of w m) m)
 
--- a command that makes no object adds none
+-- a command that makes no object adds no tracked name
 abbrev pub StepTracksNoMore : Type 0
 StepTracksNoMore = (w : World) (m : ℕ) (c : Command) (earlier : List World) → IsWorld w → AreEarlier earlier w → CanApply w m c →
     ((name : Name) → IsSome (node_of (step w m c).0 name) → IsSome (node_of w name)) → (name : Name) → IsTracked (step w m c).0 earlier name →
@@ -43,12 +43,12 @@ abbrev pub ClosingTracks : Type 0
 ClosingTracks = (w : World) (weaks : List Name) (earlier : List World) → IsWorld w → (name : Name) → IsTracked (closed w weaks) earlier name →
     IsTracked w earlier name
 
--- a command that changes no node leaves the heap
+-- a command that changes no node leaves the heap as it is
 abbrev pub StepLeavesHeap : Type 0
 StepLeavesHeap = (w : World) (m : ℕ) (c : Command) (earlier : List World) (places : List Place) → IsWorld w → AreEarlier earlier w →
     CanApply w m c → ((name : Name) → node_of (step w m c).0 name ≡ node_of w name) → IsSameHeap earlier places w (step w m c).0
 
--- a world is an earlier one of itself, and earlier worlds stay so after a command and after a closing
+-- a world is an earlier world of itself, and an earlier world stays an earlier world after a command and after a closing
 abbrev pub WorldIsEarlier : Type 0
 WorldIsEarlier = (w : World) → IsWorld w → IsEarlier w w
 
@@ -58,7 +58,7 @@ StepKeepsEarlier = (e w : World) (m : ℕ) (c : Command) → IsWorld w → CanAp
 abbrev pub ClosingKeepsEarlier : Type 0
 ClosingKeepsEarlier = (e w : World) (weaks : List Name) → IsWorld w → IsEarlier e w → IsEarlier e (closed w weaks)
 
--- and so do the headers of the nodes told by K, whose names the world has
+-- the nodes known to K, whose names the world has, keep their headers after a command and after a closing
 abbrev pub StepKeepsHeaders : (Name → Node → Type 0) → Type 0
 StepKeepsHeaders K = (w : World) (m : ℕ) (c : Command) → IsWorld w → CanApply w m c →
     ((name : Name) (node : Node) → K name node → IsSome (node_of w name)) → HaveHeaders K w → HaveHeaders K (step w m c).0

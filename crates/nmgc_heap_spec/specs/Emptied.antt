@@ -1,4 +1,4 @@
--- A nursery once a stop has promoted what it had.
+-- A nursery after a stop has promoted its objects.
 use Rattle.nmgc_object.specs.declared.layout.Nursery.{Nursery}
 
 -- a nursery without objects

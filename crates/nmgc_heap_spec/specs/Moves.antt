@@ -1,32 +1,32 @@
--- Objects that move: their words stand elsewhere, and every pointer to them says so.
+-- Objects that move: their words lie elsewhere, and every pointer to them goes there.
 --
--- Objects leave the part of the words that begins at a base, where the nurseries begin, for places in
--- segments. Each new word is told as a function of an old one, so the order in which they are written
--- doesn't matter.
+-- Objects leave the part of the words that begins at a base, where the nurseries begin, for addresses in segments. Each new
+-- word is a function of an old word, so the order of writing doesn't matter.
 use Rattle.std.specs.Prelude.{ℕ, ◌≡◌, ◌+◌, ◌*◌, ◌<◌, ◌≤◌, ◌⊎◌, List, ◌++◌, length, map, slice_index, slice_get, Contains, Some, IsSome, nat_lt, filter}
 use Rattle.nmgc_world_spec.specs.{declared.value.Name.Name, declared.value.Value.TheVariants.Ref, declared.node.Node.Node, World.World, World.node_of}
 use Rattle.nmgc_object.specs.{declared.layout.Layout.Layout, declared.size.TheConstants.HEADER_WORDS, declared.size.TheConstants.NAME_OFFSET, declared.words.TheConstants.NIL_WORD, declared.words.TheConstants.ZERO_WORD}
 use Rattle.nmgc_heap_spec.specs.{Shape.holds, Shape.header_of, Shape.size_of, Shape.slots_of, Tracked.IsTracked, Places.Place, Places.LiesInSegment, Places.IsBetween, Represents.IsEarlier}
 
--- a move of an object: its name, the old place and the new one
+-- a move of an object: its name, its old address and its new address
 pub record Moved : Type 0 where
   pub name : Name
   pub from : ℕ
   pub to : ℕ
 
--- the new place
+-- the place of a moved object after the move
 abbrev pub new_place : Moved → Place
 new_place m = record { at = m.to; name = m.name }
 
--- the old place
+-- the place of a moved object before the move
 abbrev pub old_place : Moved → Place
 old_place m = record { at = m.from; name = m.name }
 
--- the places afterwards: those of what moved, and those below the word at which the emptied part begins
+-- the places after moves: the new places, and the old places below the base, where the emptied part begins
 abbrev pub settled : ℕ → List Moved → List Place → List Place
 settled base moves places = map new_place moves ++ filter (λ p. nat_lt p.at base) places
 
--- how field words change: nil, numbers and unset fields stay, as pointers below the emptied part do; a pointer to what moved goes to its new place
+-- how field words change: a pointer to a moved object goes to its new address; pointers below the base, nil, numbers and
+-- unset fields stay
 pub record Forwards (base : ℕ) (moves : List Moved) (forward : ℕ → ℕ) : Type 0 where
   pub unset : forward 0 ≡ 0
   pub nil : forward NIL_WORD ≡ NIL_WORD
@@ -34,19 +34,20 @@ pub record Forwards (base : ℕ) (moves : List Moved) (forward : ℕ → ℕ) : 
   pub stays : (at : ℕ) → at < base → forward (2 * at) ≡ 2 * at
   pub goes : (m : Moved) → Contains moves m → forward (2 * m.from) ≡ 2 * m.to
 
--- the object of the header at the old place stands at the new one, with its fields forwarded
+-- a copy of an object from its old address at its new address: its header, and its fields forwarded
 pub record Copies (forward : ℕ → ℕ) (old new : List ℕ) (from to count : ℕ) : Type 0 where
   pub header : slice_index new to ≡ slice_index old from
   pub fields : (i : ℕ) → i < count → slice_index new (to + HEADER_WORDS + i) ≡ forward (slice_index old (from + HEADER_WORDS + i))
 
--- an object that stays has its header, and of its fields each is forwarded or unchanged; one that refers to an object of the emptied part is forwarded
+-- an object that stays keeps its header, and each field is forwarded or, if it doesn't refer into the emptied part, unchanged
 pub record KeepsObject (base : ℕ) (places : List Place) (forward : ℕ → ℕ) (old new : List ℕ) (at : ℕ) (node : Node) : Type 0 where
   pub header : slice_index new at ≡ slice_index old at
   pub fields : (i : ℕ) → i < (header_of node).fields → (slice_index new (at + HEADER_WORDS + i) ≡
       forward (slice_index old (at + HEADER_WORDS + i))) ⊎ ((slice_index new (at + HEADER_WORDS + i) ≡ slice_index old (at + HEADER_WORDS + i)) ×
       ((q : Place) → slice_get (slots_of node) i ≡ Some (holds (Ref q.name)) → Contains places q → q.at < base))
 
--- objects move out of the part of the words that begins at the base: all that are tracked, each once, to places in segments which no object had
+-- a renaming of places: objects leave the part of the words that begins at the base for addresses in segments at which no
+-- object lay. All tracked objects of that part move, each once. Every new word is a function of an old word
 pub record Moves (layout : Layout) (base : ℕ) (later : List World) (places : List Place) (w : World) (moves : List Moved) (forward : ℕ →
     ℕ) (old new : List ℕ) : Type 0 where
   pub total : length new ≡ length old
@@ -68,7 +69,7 @@ pub record Moves (layout : Layout) (base : ℕ) (later : List World) (places : L
       KeepsObject base places forward old new p.at node
   pub between : (at : ℕ) → IsBetween at → slice_index new at ≡ slice_index old at
 
--- the earlier worlds of which the collector still speaks afterwards: none had anything of what stood in the emptied part
+-- the earlier worlds that the collector still uses afterwards: they had no object of the emptied part
 pub record StillSpoken (base : ℕ) (later earlier : List World) (places : List Place) (w : World) : Type 0 where
   pub fewer : (e : World) → Contains later e → Contains earlier e
   pub past : (e : World) → Contains later e → IsEarlier e w

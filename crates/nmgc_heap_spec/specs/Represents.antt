@@ -1,28 +1,31 @@
 -- Words that represent a world.
 --
--- Places are told as a list, since a block in use may hold an object of which nobody speaks any more: its
--- name still stands there, and its fields mean nothing. That the places in segments are those of the
--- blocks in use, and that each object fits its block, speaks of segments, so it is no part of this.
+-- The places are given as a list, since a block in use may hold an object that is no longer used. Its name is still there,
+-- and its fields mean nothing. Two facts are about segments, and so no part of this: the places in segments are the blocks in
+-- use, and each object fits its block.
 use Rattle.std.specs.Prelude.{ℕ, ◌≡◌, ◌+◌, ◌≤◌, ◌⊎◌, List, length, slice_index, Contains, Some, None, IsSome}
 use Rattle.nmgc_world_spec.specs.{declared.value.Name.Name, declared.node.Node.Node, declared.node.Node.TheVariants.Weak, World.World, World.node_of, World.IsWorld}
 use Rattle.nmgc_object.specs.{Words.header_word, Words.name_word, Words.IsHeader, Words.IsName, Places.InNursery, Places.word_total, declared.layout.Layout.Layout, declared.size.TheConstants.HEADER_WORDS, declared.size.TheConstants.NAME_OFFSET}
 use Rattle.nmgc_heap_spec.specs.{Shape.header_of, Shape.size_of, Shape.slots_of, Shape.fixed_slots, Shape.free_slots, Places.Place, Places.HasSlots, Places.LiesWell, Places.HasZeros, Tracked.IsTracked}
 
--- a place, tracked or not: the name word there is that of a name of the world, and header and name lie where an object may
+-- a place in use: its name word is the word of a name of the world, and header and name lie where an object may. This holds
+-- for every place, tracked or not (more than is needed for an untracked place)
 pub record IsNamed (layout : Layout) (w : World) (words : List ℕ) (p : Place) : Type 0 where
   pub known : IsSome (node_of w p.name)
   pub valid : IsName p.name
   pub name : slice_index words (p.at + NAME_OFFSET) ≡ name_word p.name
   pub lies : LiesWell layout p HEADER_WORDS
 
--- an object of this node stands at the place: it has the node's header, lies where an object of its size may, and no other place is among its words
+-- an object of this node lies at the place. It has the node's header, its words lie where words of an object may lie, and no
+-- other place is among them
 pub record IsObject (layout : Layout) (places : List Place) (words : List ℕ) (p : Place) (node : Node) : Type 0 where
   pub header : slice_index words p.at ≡ header_word (header_of node)
   pub valid : IsHeader (header_of node)
   pub lies : LiesWell layout p (size_of node)
   pub alone : (q : Place) → Contains places q → (q.at ≤ p.at) ⊎ (p.at + size_of node ≤ q.at)
 
--- a tracked name has its object, with the node's fields, the free variables that earlier worlds know, and all that its nodes told by K say for good
+-- a tracked name has a place where its object lies with the fields of its node. The object also has the free variables that
+-- it had in an earlier world in which it had no result, and all permanent fields of its nodes known to K
 pub record IsPlaced (layout : Layout) (earlier : List World) (K : Name → Node →
     Type 0) (places : List Place) (words : List ℕ) (name : Name) (node : Node) : Type 0 where
   pub at : ℕ
@@ -33,8 +36,12 @@ pub record IsPlaced (layout : Layout) (earlier : List World) (K : Name → Node 
       HasSlots (Contains places) words (at + HEADER_WORDS) (free_slots before)
   pub kept : (before : Node) → K name before → HasSlots (Contains places) words (at + HEADER_WORDS) (fixed_slots before)
 
--- words represent a world, where of earlier worlds the collector still speaks, and K tells the nodes by which a round
--- knows its objects; an object born in a nursery has its header and extent even where nobody speaks of it; and the words beside g are 0
+-- words represent a world, while the collector still uses the earlier worlds and a round knows its objects by the nodes of K.
+-- There are as many words as the layout has. No two places share a name or an address, and every place is in use. Each
+-- tracked name has a place where its object lies with its fields. There it also has its free variables from earlier worlds in
+-- which it had no result, and the permanent fields of its nodes in K. An object in its maker's nursery lies there with header
+-- and extent even if it is untracked, and a dead weak pointer's value word there is 0. Of other objects only the name is
+-- specified. Word 0 and the words between g and the first segment are 0
 pub record Represents (layout : Layout) (earlier : List World) (K : Name → Node → Type 0) (places : List Place) (w : World) (words : List ℕ) : Type 0 where
   pub total : length words ≡ word_total layout
   pub one : (p q : Place) → Contains places p → Contains places q → (p.name ≡ q.name) ⊎ (p.at ≡ q.at) → p ≡ q
@@ -44,11 +51,12 @@ pub record Represents (layout : Layout) (earlier : List World) (K : Name → Nod
       IsObject layout places words p node × (node ≡ Weak None → slice_index words (p.at + HEADER_WORDS + 1) ≡ 0)
   pub zeros : HasZeros words
 
--- between rounds no node is known for good; in a round K tells the first node of each object, the one at its opening or the one that it was born with
+-- no known nodes: the parameter K between rounds. In a round K has the first nodes, by which the round knows its objects: the
+-- node at the opening, or the node that a new object began with
 abbrev pub NoNode : Name → Node → Type 0
 NoNode name node = ⊥
 
--- an earlier world of which the collector may still speak: a world, whose names are there still, and whose objects have the same headers now
+-- an earlier world, which the collector may still use: the world now has all its names, and its objects have the same headers
 pub record IsEarlier (e w : World) : Type 0 where
   pub world : IsWorld e
   pub names : (name : Name) → IsSome (node_of e name) → IsSome (node_of w name)

@@ -1,7 +1,6 @@
--- What the object of a node looks like: its header, and what is said of each of its fields.
+-- The object of a node: its header, and the specification of each of its fields.
 --
--- A command that changes a node leaves its header, so an object never changes its size. Of its fields
--- only those of `MayChange` ever change.
+-- A command that changes a node leaves its header, so an object never changes size. Only fields of `MayChange` ever change.
 use Rattle.std.specs.Prelude.{ℕ, ◌≡◌, ◌+◌, ◌-◌, List, [], ◌∷◌, ◌++◌, length, map, replicate, Some, None}
 use Rattle.nmgc_world_spec.specs.{declared.value.Value.Value, declared.node.Node.Node, declared.node.Node.TheVariants.Con, declared.node.Node.TheVariants.Var, declared.node.Node.TheVariants.Arr, declared.node.Node.TheVariants.Thunk, declared.node.Node.TheVariants.Weak, declared.node.Node.TheVariants.Stack, declared.node.Kind.Kind}
 use Rattle.nmgc_world_spec.specs.declared.node.Kind.TheVariants as kind
@@ -16,40 +15,43 @@ header_of (Thunk free result) = record { kind = kind.Thunk; tag = 0; fields = le
 header_of (Weak parts) = record { kind = kind.Weak; tag = 0; fields = WEAK_FIELDS }
 header_of (Stack size values) = record { kind = kind.Stack; tag = 0; fields = size }
 
--- the words of a node's object
+-- the size of a node's object in words: its header words and its fields
 abbrev pub size_of : Node → ℕ
 size_of node = HEADER_WORDS + (header_of node).fields
 
--- what is said of a field: which value it holds, that it is unset, or nothing
+-- the specification of a field: it holds a value, it is unset, or nothing is said of it
 pub data Slot : Type 0 where
   holds : Value → Slot
   unset : Slot
-  untold : Slot
+  unspecified : Slot
 
--- the fields of a node's object in order: nothing is said of the free variables of a thunk that has a result, nor of
--- a dead weak pointer but that its value is unset
+-- a node's fields, in order. A constructor, a variable or an array has its values. A thunk has its result alone once there is
+-- one, else an unset result and its free variables. A weak pointer that is alive has its parts; of a dead weak pointer only
+-- the unset value is specified. A stack has its values and then unset slots
 abbrev pub slots_of : Node → List Slot
 slots_of (Con tag values) = map holds values
 slots_of (Var v) = holds v ∷ []
 slots_of (Arr values) = map holds values
 slots_of (Thunk free None) = unset ∷ map holds free
-slots_of (Thunk free (Some result)) = holds result ∷ replicate (length free) untold
-slots_of (Weak None) = untold ∷ unset ∷ untold ∷ []
+slots_of (Thunk free (Some result)) = holds result ∷ replicate (length free) unspecified
+slots_of (Weak None) = unspecified ∷ unset ∷ unspecified ∷ []
 slots_of (Weak (Some parts)) = holds parts.key ∷ holds parts.value ∷ holds parts.finaliser ∷ []
 slots_of (Stack size values) = map holds values ++ replicate (size - length values) unset
 
--- what an earlier node of an object says for good: the free variables of a thunk that had no result, and key and finaliser of a weak pointer that was alive
+-- the permanent fields of an earlier node: the free variables of a thunk that had no result; key and finaliser of a weak
+-- pointer that was alive
 abbrev pub fixed_slots : Node → List Slot
-fixed_slots (Thunk free None) = untold ∷ map holds free
-fixed_slots (Weak (Some parts)) = holds parts.key ∷ untold ∷ holds parts.finaliser ∷ []
+fixed_slots (Thunk free None) = unspecified ∷ map holds free
+fixed_slots (Weak (Some parts)) = holds parts.key ∷ unspecified ∷ holds parts.finaliser ∷ []
 fixed_slots _ = []
 
--- of these, the free variables alone
+-- the permanent fields of an earlier node, free variables only
 abbrev pub free_slots : Node → List Slot
-free_slots (Thunk free None) = untold ∷ map holds free
+free_slots (Thunk free None) = unspecified ∷ map holds free
 free_slots _ = []
 
--- which fields of a kind may change while the object lives; header, name and all other fields never do
+-- the fields that may change while the object lives: a thunk's result, a weak pointer's value, and any field of a variable,
+-- an array or a stack. Header, name and all other fields never change
 abbrev pub MayChange : Kind → ℕ → Type 0
 MayChange kind.Con i = ⊥
 MayChange kind.Var i = Unit {0}

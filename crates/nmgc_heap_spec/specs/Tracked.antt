@@ -1,9 +1,9 @@
--- Which names anybody may still speak of.
+-- The names that a mutator or the collector may still use.
 --
--- A mutator speaks of what its roots reach. The collector speaks of more: while a cycle is marking it
--- scans what the mutators have dropped since the snapshot, and a promotion reads fields of objects that
--- they have dropped in the round. So names are tracked that the world reaches, or that an earlier world
--- reached of which the collector still speaks: the snapshot of a marking cycle, the world as the round began.
+-- A mutator uses the objects that its roots reach. The collector uses more. While a cycle is marking it scans objects that
+-- the mutators have dropped since the snapshot, and a promotion reads fields of objects that they have dropped in the round.
+-- So a name is tracked if the world reaches it, or an earlier world that the collector still uses. That is the snapshot of a
+-- marking cycle, or the world as the round began.
 use Rattle.std.specs.Prelude.{List, ◌∷◌, Contains}
 use Rattle.nmgc_world_spec.specs.{declared.value.Name.Name, World.World, Reach.IsReached, Wide.IsWide}
 
@@ -11,6 +11,8 @@ use Rattle.nmgc_world_spec.specs.{declared.value.Name.Name, World.World, Reach.I
 abbrev pub IsWideIn : List World → Name → Type 0
 IsWideIn worlds name = (e : World) × Contains worlds e × IsWide e name
 
--- tracked names: the wide reach of the world and of the earlier ones, and what strong fields reach from these in the world
+-- tracked names, which may still be used: the wide reach of the world and of the earlier worlds in use, and all that strong
+-- fields reach from it in the world. The collector still uses the snapshot of a cycle that is marking, and the world as a
+-- round began, up to the promotion after it
 abbrev pub IsTracked : World → List World → Name → Type 0
 IsTracked w earlier name = IsReached w (IsWideIn (w ∷ earlier)) name

@@ -1,27 +1,27 @@
--- What is written for a node, in the terms of its shape and of the parts of an object: statements of laws.
+-- The words of a node, by its shape and by the parts of an object: statements of laws.
 use Rattle.std.specs.Prelude.{ℕ, ◌≡◌, ◌≢◌, ◌≤◌, List, slice_index, slice_get, Contains, Some}
 use Rattle.nmgc_world_spec.specs.{declared.value.Name.Name, declared.node.Node.Node, World.World, World.node_of, World.IsWorld, Step.shared_name}
 use Rattle.nmgc_world_laws.specs.{Shape.kind_of, Shape.tag_of, Shape.part_count, Shape.words_of, Limits.IsNodeWithin, Limits.IsWithin}
 use Rattle.nmgc_object.specs.{Size.header_place, Size.name_place, Size.field_place, Size.object_size, Places.IsSegmentSize, Words.header_word, Words.name_word, Words.IsHeader, declared.layout.Layout.Layout}
 use Rattle.nmgc_heap_spec.specs.{Shape.Slot, Shape.header_of, Shape.size_of, Shape.slots_of, Tracked.IsTracked, Places.Place, Places.Fills, Places.LiesWell, Represents.Represents}
 
--- the header of a node is its shape, and its object has as many words as the header says, and as the shape has
+-- the header of a node is its shape, and its object has the number of words that header and shape give
 abbrev pub HeaderIsShape : Type 0
 HeaderIsShape = (node : Node) → ((header_of node).kind ≡ kind_of node) × ((header_of node).tag ≡ tag_of node) ×
     ((header_of node).fields ≡ part_count node) × (size_of node ≡ object_size (header_of node)) × (size_of node ≡ words_of node)
 
--- a node within the limits of a script, but for g, has a header that can be written, and an object no larger than a segment
+-- a node within the limits of a script, except g, has a header that can be written, and an object no larger than a segment
 abbrev pub NodeIsWritten : Type 0
 NodeIsWritten = (words : ℕ) (name : Name) (node : Node) → IsSegmentSize words → name ≢ shared_name → IsNodeWithin words name node →
     IsHeader (header_of node) × (size_of node ≤ words)
 
--- in a world within them every node has such a header, and every object but g is no larger than a segment
+-- in a world within the limits every node has a header that can be written, and every object except g fits into a segment
 abbrev pub WorldIsWritten : Type 0
 WorldIsWritten = (words : ℕ) (w : World) → IsSegmentSize words → IsWorld w → IsWithin words w → (name : Name) (node : Node) →
     node_of w name ≡ Some node → IsHeader (header_of node) × (name ≢ shared_name → size_of node ≤ words)
 
--- the parts of an object in words that represent a world lie where the parts of an object lie: its name, and of a
--- tracked one its header, each field of which something is said, and its extent
+-- an object written where `nmgc_object` puts its parts: its header, each specified field, and its extent. In words that
+-- represent a world every tracked object is written like this, and every place has its name there
 pub record IsWritten (layout : Layout) (places : List Place) (words : List ℕ) (p : Place) (node : Node) : Type 0 where
   pub header : slice_index words (header_place p.at) ≡ header_word (header_of node)
   pub fields : (i : ℕ) (slot : Slot) → slice_get (slots_of node) i ≡ Some slot → Fills (Contains places) (slice_index words (field_place p.at i)) slot

@@ -1,23 +1,23 @@
 //! The words of the heap, one at a time.
 //!
-//! At a stop one thread reads and writes all words of the heap. What it does there is written once, over
-//! this trait: the table that lasts for the run implements it where one seat is the only one, and a plain
-//! list implements it for tests. A load takes the heap for writing, since a seat of the table learns by it.
+//! At a stop one thread reads and writes all words of the heap. The code for this is written once, over this trait. The table
+//! that lasts for the run implements the trait while there is only one seat, and a plain list implements it for tests. A load
+//! borrows the heap for writing, since a seat of the table learns from it.
 ghost use Rattle.std.specs.Prelude.{◌≡◌, ◌<◌, ℕ, List, length, set, slice_index};
 
 use nmgc_lists::List;
 
-/// Words in order, which contracts see as a list of numbers.
+/// The heap's words in order, read and written one at a time; contracts see them as a list of numbers.
 pub trait HeapWords {
     ghost words: { Self → List ℕ };
 
-    /// The word at a place. No word changes.
+    /// Returns the word at address `at`. No word changes.
     fn load(&mut self, at: usize) -> u64
         requires { at < length (words self.old) }
         ensures same { words self.new ≡ words self.old }
         ensures word { result ≡ slice_index (words self.old) at };
 
-    /// Another word stands at a place. All others stay.
+    /// Stores `word` at address `at`. All other words stay.
     fn store(&mut self, at: usize, word: u64)
         requires { at < length (words self.old) }
         ensures { words self.new ≡ set (words self.old) at word };

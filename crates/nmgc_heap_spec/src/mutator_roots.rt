@@ -1,13 +1,11 @@
-//! What a mutator has outside the words, where it lies.
+//! A mutator's state outside the words, in the mutator itself.
 //!
-//! At a stop registers and finaliser queues are roots, for promotion and for the snapshot of a cycle; a closing adds to
-//! the queues. With the nursery come the lists that the round left. All of it lies in the mutators, which stand above this
-//! crate. So whoever reads or changes it does so over this trait, one mutator after the other, and nothing is taken off
-//! a mutator and given back.
+//! At a stop registers and finaliser queues are roots, for promotion and for the snapshot of a cycle; a closing adds to the
+//! queues. With the nursery come the lists that the round left. All of it lies in the mutators, which are defined above this
+//! crate. So code reads and changes it over this trait, mutator after mutator, and nothing is taken out and put back.
 //!
-//! Easy to get wrong: to change the registers is not to change the queue, and neither changes what the round left. The
-//! laws say so, and without them a caller that knows nothing of the mutator would know nothing of one part once another
-//! was changed.
+//! Easy to get wrong: to change the registers is not to change the queue, and neither changes the lists of the round. The
+//! laws say so. Without them a caller that doesn't know the mutator would know nothing of one part once another was changed.
 ghost use Rattle.std.specs.{Prelude.◌≡◌, Prelude.ℕ, Prelude.List, Prelude.[], Prelude.length, Borrow.sem, Borrow.Lends, Borrow.Array, Borrow.u64};
 ghost use Rattle.nmgc_object.specs.{FinQueue.FinQueue as Queue, declared.layout.Nursery.Nursery as NurserySeen, declared.words.Address.Address as Place};
 ghost use Rattle.nmgc_object.specs.contracts.fin_queue.FinQueue as queues;
@@ -17,7 +15,7 @@ use nmgc_object::{Address, FinQueue, Nursery};
 
 /// A mutator at a stop, as far as the collector reads and changes it. No call takes memory.
 pub trait MutatorRoots {
-    // What the calls below answer.
+    // The results of the calls below.
     ghost registers: { Self → List ℕ };
 
     ghost queue: { Self → Queue };
@@ -28,46 +26,46 @@ pub trait MutatorRoots {
 
     ghost young_weaks: { Self → List Place };
 
-    // The mutator with other words in its registers.
+    // The mutator with `words` in its registers.
     ghost with_registers: { Self → List ℕ → Self };
 
     // The mutator with another queue.
     ghost with_queue: { Self → Queue → Self };
 
-    // The mutator whose nursery and lists of the round were emptied.
+    // The mutator with an empty nursery and empty lists of the round.
     ghost after_stop: { Self → Self };
 
-    /// The field words of its registers.
+    /// Returns the field words of the mutator's registers.
     fn registers(&self) -> &[u64]
         ensures { result.now ≡ registers self.now };
 
-    /// The same, to be changed.
+    /// Lends the field words of the mutator's registers, to be changed.
     fn registers_mut(&mut self) -> &mut [u64]
         ensures* writes_back { sem 𝓛 (Lends Self.row (Array u64 0) self.entry result (with_registers self.entry.now)) }
         ensures value { result.now ≡ registers self.old };
 
-    /// The queue of its finalisers.
+    /// Returns the queue of the mutator's finalisers.
     fn queue(&self) -> &FinQueue
         ensures { result.now ≡ queue self.now };
 
-    /// The same, to be changed.
+    /// Lends the queue of the mutator's finalisers, to be changed.
     fn queue_mut(&mut self) -> &mut FinQueue
         ensures* writes_back { sem 𝓛 (Lends Self.row queues.the_row self.entry result (with_queue self.entry.now)) }
         ensures value { result.now ≡ queue self.old };
 
-    /// Its nursery.
+    /// Returns the mutator's nursery.
     fn nursery(&self) -> Nursery
         ensures { result ≡ nursery self.now };
 
-    /// The places of the fields that it recorded in the round.
+    /// Returns the addresses of the fields that the mutator recorded in the round.
     fn recorded(&self) -> &[Address]
         ensures { result.now ≡ recorded self.now };
 
-    /// The places of the weak pointers that it made in the round.
+    /// Returns the addresses of the weak pointers that the mutator made in the round.
     fn young_weaks(&self) -> &[Address]
         ensures { result.now ≡ young_weaks self.now };
 
-    /// Its nursery is empty, and nothing of the round is recorded any more.
+    /// Empties the mutator's nursery, and the lists that it recorded in the round.
     fn empty(&mut self)
         ensures { self.new ≡ after_stop self.old };
 

@@ -1,11 +1,11 @@
--- A heap that was checked word by word meets what promotion asks.
+-- A heap that was checked word by word meets the conditions of promotion.
 use Rattle.std.proofs.{Common.◌≡◌, Common.◌≢◌, Common.◌<◌, Common.◌≤◌, Common.◌+◌, Common.◌-◌, Common.◌*◌, Common.◌⊎◌, Common.ℕ, Common.List, Common.length, Common.inl, Common.inr, Common.refl, Common.sym, Common.ap, Common.subst, Common.◌∙◌, Common.arith, Common.Bool, Common.true, Common.false, Common.eqb, Math.Nat.mul-le-mul_right, Math.ListN.get_or-eq_default, lemmas.Bool.cases_eq, lemmas.Bool.cases_lt, lemmas.Bool.cases_order}
 use Rattle.std.specs.Prelude.{slice_index}
 use Rattle.nmgc_world_spec.specs.{declared.node.Kind.Kind, declared.node.Kind.TheVariants.Con, declared.node.Kind.TheVariants.Var, declared.node.Kind.TheVariants.Arr, declared.node.Kind.TheVariants.Thunk, declared.node.Kind.TheVariants.Weak, declared.node.Kind.TheVariants.Stack}
 use Rattle.nmgc_object.specs.{Words.header_word, Words.HasFields, Places.nursery_place, declared.layout.Layout.Layout, declared.layout.Nursery.Nursery, declared.words.Header.Header, declared.layout.TheConstants.SHARED_PLACE, declared.layout.TheConstants.FIRST_PLACE, declared.size.TheConstants.HEADER_WORDS}
 use Rattle.nmgc_alloc.specs.{Numbered.Segments, Segments.IsSegments, Reserve.KeepsReserve, laws.Placing.step}
 use Rattle.nmgc_heap_spec.specs.laws.Headers.{same_header}
-use Rattle.nmgc_blocks_spec.specs.{Nurseries.AreEmpty, Nurseries.nursery_at, Strong.HasStrong, Strong.strong_part, Strong.HasHeader}
+use Rattle.nmgc_stop_spec.specs.{Nurseries.AreEmpty, Nurseries.nursery_at, Strong.HasStrong, Strong.strong_part, Strong.HasHeader}
 use Rattle.nmgc_minor.specs.{declared.young.Young.Young, Inputs.Inputs, Found.IsStart, Found.IsFound, Young.IsWithin, Placing.AreNurseries, Placing.CanPlaceEach, Placing.IsMarked, Promotes.CanPromoteWith}
 use Rattle.nmgc_heap_tests.specs.Checked.{PointsWell, IsMade, AreMade, IsChecked}
 
@@ -56,7 +56,7 @@ module _ (layout : Layout) (base : ℕ) (words sizes : List ℕ) (nurseries : Li
       let b = h.begins in
       omega (arith, up, flat, b)
 
-  -- an object lies in its maker's part
+  -- an object lies in its maker's nursery
   own : (k : ℕ) (m : IsMade layout base words sizes nurseries k) → (nursery_place layout m.name.maker ≤ base + k) ×
       (base + k + slice_index sizes k ≤ nursery_place layout m.name.maker + layout.nursery)
   own k m =
@@ -85,7 +85,7 @@ module _ (layout : Layout) (base : ℕ) (words sizes : List ℕ) (nurseries : Li
       let in' = o.inside in
       subst (λ (x : ℕ). PointsWell base sizes x) s.is (h.words_point (base + k + HEADER_WORDS + s.index) (omega (arith, few, count, before, in')))
 
-  -- what is found is an object
+  -- each address that is found has an object
   found_made : (at : ℕ) → FIRST_PLACE ≤ base → IsFound base words (IsStart inputs words) at → (base ≤ at) × (slice_index sizes (at - base) ≢ 0)
   found_made at low (IsFound.start _ l s) = (l, start_points (2 * at) low s at refl l)
   found_made at low (IsFound.field from _ f l s) =
@@ -120,11 +120,11 @@ module _ (layout : Layout) (base : ℕ) (words sizes : List ℕ) (nurseries : Li
     ];
   }
 
-  -- an object of the part of a maker, by its place
+  -- an object in the nursery of a maker, by its address
   record IsAt (maker at : ℕ) (m : IsMade layout base words sizes nurseries (at - base)) : Type 0 where
     there : base + (at - base) ≡ at
     read : slice_index words at ≡ header_word m.header
-    told : slice_index words (at + 1) ≡ slice_index words (base + (at - base) + 1)
+    known : slice_index words (at + 1) ≡ slice_index words (base + (at - base) + 1)
     same : m.name.maker ≡ maker
     inside : at + HEADER_WORDS + m.header.fields ≤ length words
     below : at + HEADER_WORDS + m.header.fields ≤ (nursery_at nurseries maker).top
@@ -153,7 +153,7 @@ module _ (layout : Layout) (base : ℕ) (words sizes : List ℕ) (nurseries : Li
       record {
         there = there;
         read = subst (λ (k : ℕ). slice_index words k ≡ header_word m.header) there m.read;
-        told = ap (λ (k : ℕ). slice_index words (k + 1)) (sym there);
+        known = ap (λ (k : ℕ). slice_index words (k + 1)) (sym there);
         same = same;
         inside = omega (arith, o.1, e, long, size, there);
         below = omega (arith, below, top, size, there);
@@ -176,7 +176,7 @@ module _ (layout : Layout) (base : ℕ) (words sizes : List ℕ) (nurseries : Li
               name = m.name;
               valid = m.named;
               made = o.same;
-              named = o.told ∙ m.told;
+              named = o.known ∙ m.known;
             };
         within = λ at header low high mark is.
             let l : base ≤ at = omega (arith, p, low, b) in
@@ -248,7 +248,7 @@ module _ (layout : Layout) (base : ℕ) (words sizes : List ℕ) (nurseries : Li
         reserve = reserve;
       }
 
--- one more word was walked, where an object begins
+-- one more word was walked, and an object begins at it
 pub made_more : (layout : Layout) (base : ℕ) (words sizes : List ℕ) (nurseries : List Nursery) (k free : ℕ) →
     AreMade layout base words sizes nurseries k → ((j : ℕ) → j < k → slice_index sizes j ≢ 0 → j + slice_index sizes j ≤ free) → free ≤ k →
     IsMade layout base words sizes nurseries k → AreMade layout base words sizes nurseries (k + 1)
@@ -263,7 +263,7 @@ made_more layout base words sizes nurseries k free made next after this = record
   ];
 }
 
--- and then the next object begins behind it
+-- and then the next object begins behind this one
 pub next_more : (sizes : List ℕ) (k free : ℕ) → ((j : ℕ) → j < k → slice_index sizes j ≢ 0 → j + slice_index sizes j ≤ free) → free ≤ k → (j : ℕ) →
     j < k + 1 → slice_index sizes j ≢ 0 → j + slice_index sizes j ≤ k + slice_index sizes k
 next_more sizes k free next after j lt ne = elim (cases_lt j k) [
@@ -274,14 +274,14 @@ next_more sizes k free next after j lt ne = elim (cases_lt j k) [
       omega (arith, f)
 ]
 
--- where no object begins, only the words before count
+-- if no object begins at the word, only the words before it count
 before : (sizes : List ℕ) (k j : ℕ) → slice_index sizes k ≡ 0 → j < k + 1 → slice_index sizes j ≢ 0 → j < k
 before sizes k j none lt ne = elim (cases_lt j k) [
   | inl l ↦ l
   | inr ge ↦ let e : j ≡ k = omega (arith, lt, ge) in absurd (ne (ap (λ (n : ℕ). slice_index sizes n) e ∙ none))
 ]
 
--- one more word was walked, where none begins
+-- one more word was walked, and no object begins at it
 pub made_skip : (layout : Layout) (base : ℕ) (words sizes : List ℕ) (nurseries : List Nursery) (k : ℕ) → slice_index sizes k ≡ 0 →
     AreMade layout base words sizes nurseries k → AreMade layout base words sizes nurseries (k + 1)
 made_skip layout base words sizes nurseries k none made = record {

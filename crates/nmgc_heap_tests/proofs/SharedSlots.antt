@@ -1,5 +1,5 @@
--- What the mutators of the tests do: each makes a variable, stores it into its slot of g and reads it back.
-use Rattle.nmgc_heap_tests.proofs.Vocabulary.{◌≡◌, ℕ, zero, suc, ◌+◌, ◌*◌, ◌<◌, ◌≤◌, true, false, List, [], ◌∷◌, ◌++◌, map, length, get_or, set, take, drop, All, refl, sym, ap, subst, ◌∙◌, arith, Some, inl, Contains, slice_get, slice_index_or, length-replicate, get_or-replicate, some, some-injective, some-ne-none, get_elem?, SHARED_SLOTS, Command, Get, Set, Yield, Register, Shared, Fine, Fits, contains_head, contains_tail, nothing_in, one_is, name_word, IsLayout, nursery_place, Header, Layout, loaded, stored, gave_birth, swapped, answered, plain, word, Hand, FixedWord, UnbornWord, Opening, Part, Seen, no_hand, hand_of, hand_now, blank, finding, knowing, storing, bearing_object, doing, RoundSeat, seen, alone, alones, all_together, IsMutator, HasPart, CanGive, Names, CanLoad, CanSwap, CanStore, CanBear, CanFix, CanTake, taken, told_by, HasAll, new_hand, first_opening, Round, gathered, alones_count, map_count}
+-- The work of the tests' mutators: each makes a variable, stores it into its slot of g and reads it back.
+use Rattle.nmgc_heap_tests.proofs.Vocabulary.{◌≡◌, ℕ, zero, suc, ◌+◌, ◌*◌, ◌<◌, ◌≤◌, true, false, List, [], ◌∷◌, ◌++◌, map, length, get_or, set, take, drop, All, refl, sym, ap, subst, ◌∙◌, arith, Some, inl, Contains, slice_get, slice_index_or, length-replicate, get_or-replicate, some, some-injective, some-ne-none, get_elem?, SHARED_SLOTS, Command, Get, Set, Yield, Register, Shared, Fine, Fits, contains_head, contains_tail, nothing_in, one_is, name_word, IsLayout, nursery_place, Header, Layout, loaded, stored, gave_birth, swapped, answered, plain, word, Hand, FixedWord, UnbornWord, Opening, Part, Seen, no_hand, hand_of, hand_now, blank, finding, knowing, storing, bearing_object, doing, RoundSeat, seen, alone, alones, all_together, IsMutator, HasPart, CanGive, Names, CanLoad, CanSwap, CanStore, CanBear, CanFix, CanTake, taken, known_answer, HasAll, new_hand, first_opening, Round, gathered, alones_count, map_count}
 use Rattle.nmgc_world_spec.specs.declared.command.Command.TheVariants.{Var}
 use Rattle.nmgc_world_spec.specs.declared.node.Kind.TheVariants as kind
 
@@ -20,7 +20,7 @@ shares m = Set Shared m (Register 0)
 abbrev pub reads : ℕ → Command
 reads m = Get 1 Shared m
 
--- what the seat knows after each step
+-- the knowledge of a seat after each step
 module _ (layout : Layout) (m base : ℕ) where
   abbrev pub after_header : ℕ → Part
   after_header h = knowing (blank m) 1 0 h
@@ -69,10 +69,10 @@ module _ (layout : Layout) (m base : ℕ) where
   pub seen_last : (h n old x z : ℕ) (v w : Seen) → v ≡ with_part layout (after_load h n old x) → w ≡ taken v 1 0 Yield z → HasPart w m
   seen_last h n old x z v w e f =
       let p : Part = after_load h n old x in
-      let q : Part = knowing (doing p Yield (told_by (hand_now (first_opening layout) p) p.fixed Yield) []) 1 0 z in
+      let q : Part = knowing (doing p Yield (known_answer (hand_now (first_opening layout) p) p.fixed Yield) []) 1 0 z in
       has_part q refl w (f ∙ ap (λ (u : Seen). taken u 1 0 Yield z) e)
 
--- the array with as many fields as g has slots
+-- an array with a field for each slot of g
 abbrev array : Header
 array = record { kind = kind.Arr; tag = 0; fields = SHARED_SLOTS }
 
@@ -140,7 +140,7 @@ module _ (layout : Layout) (is : IsLayout layout) (m : ℕ) (mine : m < layout.m
     few : m < SHARED_SLOTS
     few = omega arith
 
-    -- the header of g is named after the birth
+    -- the header of g is named after the new object is made
     named : (fixed : List FixedWord) → Contains fixed (record { at = 1; offset = 0; word = h }) → (p : Part) → p.fixed ≡ fixed → Names p 1 array
     named fixed c p e = record {
       valid = (refl, omega arith);
@@ -203,11 +203,11 @@ module _ (layout : Layout) (is : IsLayout layout) (m : ℕ) (mine : m < layout.m
           numbers = tt;
           size = omega arith;
         }) (subst (λ (k : Hand). k.serial + 1 < 4294967295) hand_is (omega arith));
-        told = tt;
+        known = tt;
       },
     )
 
--- what holds of each of so many holds of all
+-- a property at each index is a property of all items
 pub all_of : (R : RoundSeat → Type 0) (seats : List RoundSeat) → ((k : ℕ) (d : RoundSeat) → k < length seats → R (slice_index_or seats k d)) → All R seats
 all_of R seats f k d lt = f k d lt
 

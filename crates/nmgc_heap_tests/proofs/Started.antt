@@ -5,7 +5,7 @@ use Rattle.nmgc_heap_tests.proofs.Vocabulary.{◌≡◌, ◌≤◌, ◌∙◌, �
 any_rest : (rest : List ℕ) × (length rest ≡ 2048)
 any_rest = (replicate 2048 1, length-replicate {A = ℕ} 2048 1)
 
--- it is ready, by what the two laws of mutators say
+-- the mutator is ready, by the two laws of mutators
 pub ready : ((o : Opening) (words : List ℕ) (round : Round) (seat : RoundSeat) (m : Mutator) → CanOpen o words → opening_of round ≡ o →
     IsAt round seat → seen seat ≡ alone o m.number → o.layout ≡ m.layout → IsWhole m → IsUnused m → HasHand (hand_of o.hands m.number) m →
     IsReady round seat m) →
@@ -16,6 +16,6 @@ ready finds opens round seat m at is s =
     (sym at.2 ∙ ap (λ (v : Seen). v.opening) is) at (is ∙ ap (λ (n : ℕ). alone snapshot_opening n) (sym s.number)) (sym s.layout) s.whole s.unused
     (subst (λ (n : ℕ). HasHand (hand_of snapshot_opening.hands n) m) (sym s.number) s.holds)
 
--- its serial
+-- the mutator's serial
 pub few : (m : Mutator) → IsSnapshotMutator m → m.serial ≤ 16
 few m s = let e : 16 ≡ m.serial = s.holds.serial in omega (arith, e)

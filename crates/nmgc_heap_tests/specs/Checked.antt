@@ -1,25 +1,25 @@
--- What a walk through the words of a heap can test of what promotion asks: only tests cite it.
+-- The conditions of promotion that a walk through the words of a heap can test: only tests cite this file.
 --
--- The sizes tell for each word of the nurseries how many words the object has that begins there, or 0.
+-- The sizes give for each word of the nurseries the number of words of the object that begins there, or 0.
 use Rattle.std.specs.Prelude.{ℕ, ◌≡◌, ◌≢◌, ◌+◌, ◌-◌, ◌*◌, ◌<◌, ◌≤◌, List, [], length, slice_index, Contains}
 use Rattle.nmgc_world_spec.specs.declared.value.Name.{Name}
 use Rattle.nmgc_object.specs.{Words.header_word, Words.name_word, Words.IsHeader, Words.IsName, Places.nursery_place, declared.layout.Layout.Layout, declared.layout.Nursery.Nursery, declared.words.Header.Header, declared.size.TheConstants.HEADER_WORDS, declared.words.Address.Address}
-use Rattle.nmgc_blocks_spec.specs.{Nurseries.nursery_at, Samples.young_registers}
+use Rattle.nmgc_stop_spec.specs.{Nurseries.nursery_at, Samples.young_registers}
 use Rattle.nmgc_minor.specs.Inputs.{Inputs}
 use Rattle.nmgc_mutator.specs.declared.mutator.Mutator.{Mutator}
 
--- where the word points to the nurseries, an object begins there
+-- the word points well: if it points to the nurseries, an object begins there
 abbrev pub PointsWell : ℕ → List ℕ → ℕ → Type 0
 PointsWell base sizes word = (at : ℕ) → word ≡ 2 * at → base ≤ at → slice_index sizes (at - base) ≢ 0
 
--- what a mutator holds points well, and what it recorded are fields below the nurseries and weak pointers
+-- each word that a mutator holds points well, and it recorded fields below the nurseries, and weak pointers
 pub record PointsWellAll (base : ℕ) (sizes : List ℕ) (words : ℕ) (m : Mutator) : Type 0 where
   pub registers : (word : ℕ) → Contains m.registers word → PointsWell base sizes word
   pub queue : (word : ℕ) → Contains m.queue.words word → PointsWell base sizes word
   pub recorded : (at : Address) → Contains m.recorded.items at → at.0 < base
   pub weaks : (at : Address) → Contains m.young_weaks.items at → PointsWell base sizes (2 * at.0) × (at.0 + 5 ≤ words)
 
--- an object begins at the place: its header with its size, its name, and its words in the used part of its maker's nursery
+-- an object begins at the word: its header with its size, its name, and its words in the used part of its maker's nursery
 pub record IsMade (layout : Layout) (base : ℕ) (words sizes : List ℕ) (nurseries : List Nursery) (k : ℕ) : Type 0 where
   pub header : Header
   pub valid : IsHeader header
@@ -28,7 +28,7 @@ pub record IsMade (layout : Layout) (base : ℕ) (words sizes : List ℕ) (nurse
   pub small : slice_index sizes k ≤ layout.words
   pub name : Name
   pub named : IsName name
-  pub told : slice_index words (base + k + 1) ≡ name_word name
+  pub known : slice_index words (base + k + 1) ≡ name_word name
   pub maker : name.maker < layout.mutators
   pub above : (nursery_at nurseries name.maker).base ≤ base + k
   pub below : base + k + slice_index sizes k ≤ (nursery_at nurseries name.maker).top
@@ -40,12 +40,12 @@ pub record AreParts (layout : Layout) (nurseries : List Nursery) : Type 0 where
   pub tops : (maker : ℕ) → maker < layout.mutators → ((nursery_at nurseries maker).base ≤ (nursery_at nurseries maker).top) ×
       ((nursery_at nurseries maker).top ≤ (nursery_at nurseries maker).base + layout.nursery)
 
--- objects are made, one after another
+-- the first `count` words have objects, which lie one after another
 pub record AreMade (layout : Layout) (base : ℕ) (words sizes : List ℕ) (nurseries : List Nursery) (count : ℕ) : Type 0 where
   pub each : (k : ℕ) → k < count → slice_index sizes k ≢ 0 → IsMade layout base words sizes nurseries k
   pub apart : (j k : ℕ) → j < k → k < count → slice_index sizes j ≢ 0 → slice_index sizes k ≢ 0 → j + slice_index sizes j ≤ k
 
--- all that promotion asks but for the segments
+-- all conditions of promotion except those on segments
 pub record IsChecked (layout : Layout) (base : ℕ) (words sizes : List ℕ) (nurseries : List Nursery) (inputs : Inputs) : Type 0 where
   pub begins : base ≡ nursery_place layout 0
   pub size : length sizes ≡ layout.mutators * layout.nursery
@@ -58,7 +58,7 @@ pub record IsChecked (layout : Layout) (base : ℕ) (words sizes : List ℕ) (nu
   pub recorded : (at : ℕ) → Contains inputs.recorded at → at < base
   pub weaks : (at : ℕ) → Contains inputs.weaks at → PointsWell base sizes (2 * at) × (at + 5 ≤ length words)
 
--- the mutator whose round made one object: it holds it, and its nursery has it
+-- the mutator whose round made one object: it holds the object, which is in its nursery
 pub record IsYoungMutator (m : Mutator) : Type 0 where
   pub registers : m.registers ≡ young_registers
   pub queue : m.queue.words ≡ []

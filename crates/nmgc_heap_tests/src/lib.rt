@@ -1,5 +1,5 @@
-//! Tests of rounds, mutators, promotion, reports, marking by one and by several markers, sweeping and weak pointers:
-//! `of_CRATE` has those of a crate.
+//! Tests of rounds, mutators, promotion, reports, marking by one and by several markers, sweeping and weak pointers: the
+//! module `of_CRATE` has the tests of a crate.
 #![tactic(auto)]
 
 // A layout in one line.
@@ -19,8 +19,6 @@ macro_rules! name {
 }
 
 #[cfg(test)]
-mod of_blocks_spec;
-#[cfg(test)]
 mod of_collector_laws;
 #[cfg(test)]
 mod of_journal;
@@ -36,6 +34,8 @@ mod of_pmark;
 mod of_round;
 #[cfg(test)]
 mod of_run_laws;
+#[cfg(test)]
+mod of_stop_spec;
 #[cfg(test)]
 mod of_sweep;
 #[cfg(test)]

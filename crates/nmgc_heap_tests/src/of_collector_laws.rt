@@ -1,10 +1,10 @@
-//! Each law is called once, so that it is seen to ask nothing.
+//! Each law is called once, to show that it asks nothing.
 use nmgc_collector_laws::{idle, leaving, marking, samples, ties};
 
 #[test]
 fn laws_ask_nothing(rt: HostRuntime) {
     let _ = &rt;
-    idle::a_rest_opens_a_round();
+    idle::a_heap_at_rest_opens_a_round();
     idle::slices_are_gathered();
     idle::a_round_is_a_history();
     idle::roots_are_left();
@@ -14,7 +14,7 @@ fn laws_ask_nothing(rt: HostRuntime) {
     idle::a_promotion_rests();
     leaving::round_is_remembered();
     leaving::round_is_forgotten();
-    marking::a_rest_opens_a_round();
+    marking::a_heap_at_rest_opens_a_round();
     marking::slices_are_owed();
     marking::the_machine_goes_on();
     marking::a_heap_ties_by_blocks();

@@ -1,4 +1,4 @@
-//! Texts of names and values, and lists that a report has. Whole reports are in `examples` and `examples/rows`.
+//! Texts of names and values, and the lists of a report. Whole reports are in `examples` and `examples/rows`.
 use nmgc_journal::*;
 use nmgc_world_spec::{Name, Reply, Value};
 use std::test::Fail;
@@ -13,7 +13,7 @@ const TEXTS: [(&str, Value); 6] = [
     ("4611686018427387903", Value::Number(4611686018427387903)),
 ];
 
-// Words that are the text of nothing.
+// Tokens that are no name's and no value's text.
 const NO_TEXTS: [&str; 10] = [
     "32.0",
     "00.1",
@@ -52,7 +52,7 @@ fn names_and_values_have_one_text(rt: HostRuntime) -> Result<(), Fail> {
     Ok(())
 }
 
-// The largest number that is packed, the next one, which isn't, the largest number and the largest name.
+// The largest number that is packed, the next one, which isn't packed, the largest number and the largest name.
 const ANY_SIZE: [Value; 4] = [
     Value::Number(9223372036854775807),
     Value::Number(9223372036854775808),

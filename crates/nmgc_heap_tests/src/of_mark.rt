@@ -1,4 +1,4 @@
-//! Remembered places: which are marked and queued, in which order, and which are passed over.
+//! Remembered addresses: which of them are marked and queued, their order, and which are passed over.
 ghost use Rattle.std.specs.Prelude.{IfOk};
 ghost use Rattle.nmgc_mark.specs.Marker.{HasRoomToMark};
 
@@ -11,7 +11,7 @@ use std::alloc::Global;
 use std::process::Abort;
 use std::test::Fail;
 
-// Places an object of four words, and answers where.
+// Allocates an object of four words, and returns its address.
 fn place(rt: &impl Abort, segments: &mut Segments) -> u32 {
     let layout = segments.layout();
     assert!(rt; 0 < layout.mutators && 4 <= layout.words);
@@ -26,7 +26,7 @@ fn begin(rt: &impl Abort, segments: &mut Segments) {
     segments.prepare();
 }
 
-// The marker with which a cycle of epoch 1 begins, of which nothing is marked yet.
+// The marker with which a cycle of epoch 1 begins. It has marked nothing yet.
 fn marker_of(alloc: Global, segments: &Segments) -> Result<Marker, NoMemory>
     ensures { IfOk result (HasRoomToMark segments.now) }
 {
@@ -36,13 +36,13 @@ fn marker_of(alloc: Global, segments: &Segments) -> Result<Marker, NoMemory>
     Ok(marker)
 }
 
-// Whether a block begins at a place, and was marked.
+// Whether a block begins at an address, and was marked.
 fn is_marked(segments: &Segments, at: u32) -> Option<bool> {
     let (number, block) = segments.block_at(Address(at))?;
     Some(segments.segment(number).is_marked(block, 1))
 }
 
-// The places that wait, in order.
+// The addresses that wait, in order.
 fn waiting(marker: &mut Marker) -> [Option<Address>; 3] {
     [
         marker.take_first(),

@@ -1,4 +1,4 @@
-//! Tests of nmgc_minor: promotions of small heaps, whose moves and places were worked out by hand.
+//! Tests of nmgc_minor: promotions of small heaps, whose moves and addresses were worked out by hand.
 mod heap;
 mod shapes;
 mod stop;

@@ -1,17 +1,17 @@
 //! Two markers that wait for each other at a gate of the test, each with an object of its own.
 //!
-//! The gate gives up after many turns of its spin, and notes it, so markers on one thread fail the test and don't hang.
+//! The gate gives up after a long spin, and notes it, so markers on one thread fail the test and don't hang.
 ghost use Rattle.std.specs.Prelude.{◌<◌, length};
 
 use nmgc_lists::List;
 use nmgc_object::laws::words_differ;
-use nmgc_pmark::crew::places_marked;
+use nmgc_pmark::crew::mark_places;
 use nmgc_pmark::{Bounds, StillWords, laws};
 use nmgc_round::Gate;
 use std::sync::atomic::{AtomicU64, Ordering};
 use std::test::Fail;
 
-// The first object of each of two markers waits for that of the other.
+// Each of two markers waits at its first object until the other has reached its first object.
 #[derive(Drop)]
 struct Meet {
     reached: [AtomicU64; 2],
@@ -65,7 +65,7 @@ fn markers_run_beside_each_other(rt: HostRuntime) -> Result<(), Fail> {
         markers: 2,
         blocks: 2,
     };
-    let lists = places_marked(rt.alloc(), &rt, &words, &[64u64, 72u64], bounds, &meet)?;
+    let lists = mark_places(rt.alloc(), &rt, &words, &[64u64, 72u64], bounds, &meet)?;
     assert!(rt; meet.has_met());
     for list in lists.as_slice() {
         assert!(rt; list.items().len() == 1);
@@ -73,7 +73,7 @@ fn markers_run_beside_each_other(rt: HostRuntime) -> Result<(), Fail> {
     Ok(())
 }
 
-// The word at a place that is there.
+// The word at an address of the heap.
 fn word<W: StillWords>(words: &W, at: usize) -> u64
     requires { at < length (W.words words.now) }
 {

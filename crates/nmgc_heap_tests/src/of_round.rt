@@ -1,15 +1,15 @@
-//! Rounds from the heap of which nothing was made, with as many mutators as g has slots or fewer, in threads of their own.
+//! Rounds from the empty heap, with at most one mutator for each slot of g, in threads of their own.
 ghost use Rattle.std.specs.Prelude.{◌≡◌, ◌<◌, ◌≤◌, ℕ, [], All, IfOk, length, map, vec_capacity, slice_index_or};
 ghost use Rattle.nmgc_limits.specs.declared.mutators.TheConstants.{SHARED_SLOTS};
 ghost use Rattle.nmgc_object.specs.Places.{IsLayout, word_total};
 ghost use Rattle.nmgc_round.specs.{Seat.RoundSeat, Seat.IsAt, Seat.seen, Seat.word_count, Seat.opening_of, Seating.alone, Seating.alones, Empty.IsEmptyHeap, Empty.first_opening, Ready.HasPart};
 
+use nmgc_commands::{Form, PackedCommand};
 use nmgc_limits::SHARED_SLOTS;
 use nmgc_lists::{ListMemory, NoMemory};
 use nmgc_object::{Address, Layout, encode_name};
-use nmgc_program::{Form, PackedCommand};
-use nmgc_round::chosen::Wanted;
-use nmgc_round::{Chosen, Gate, MutatorSeat, OpenGate, Opened, Round, Started, Words, laws};
+use nmgc_round::witness::WitnessFor;
+use nmgc_round::{Gate, MutatorSeat, OpenGate, Opened, Round, Started, Witness, Words, laws};
 use nmgc_world_spec::{Name, Operand};
 use std::alloc::Global;
 use std::test::Fail;
@@ -19,18 +19,17 @@ use std::thread::Threads;
 // The opening of a run's first round.
 struct First;
 
-impl Wanted<Layout, Opened> for First {
+impl WitnessFor<Layout, Opened> for First {
     ghost wanted = { λ layout o. o ≡ first_opening layout };
 }
 
-fn first_of(layout: &Layout) -> Chosen<Opened>
+fn first_of(layout: &Layout) -> Witness<Opened>
     ensures { result.value ≡ first_opening layout.now }
 {
-    Chosen::of::<Layout, First>(layout)
+    Witness::of::<Layout, First>(layout)
 }
 
-// The words of the heap of which nothing was made. The header word of an array with 16 fields is 3 + 2048 * 16, the
-// name word of g is 32, and nil is 1.
+// The words of the empty heap. The header word of an array with 16 fields is 3 + 2048 * 16, g's name word is 32, nil is 1.
 fn empty_words(alloc: Global, layout: &Layout) -> Result<Vec<u64>, NoMemory>
     requires { IsLayout layout.now }
     ensures { IfOk result (λ words. IsEmptyHeap layout.now words.items) }
@@ -44,7 +43,7 @@ fn empty_words(alloc: Global, layout: &Layout) -> Result<Vec<u64>, NoMemory>
     Ok(words)
 }
 
-/// That heap.
+/// The empty heap.
 pub(crate) fn empty_heap(alloc: Global, layout: &Layout) -> Result<Words, NoMemory>
     requires { IsLayout layout.now }
     ensures { IfOk result (IsEmptyHeap layout.now) }
@@ -53,7 +52,7 @@ pub(crate) fn empty_heap(alloc: Global, layout: &Layout) -> Result<Words, NoMemo
     Words::new(alloc, words.as_slice())
 }
 
-// What a mutator does: it makes a variable with nil, stores it into its slot of g, and reads it back. The words
+// The work of a mutator: it makes a variable with nil, stores it into its slot of g, and reads it back. Returns the words
 // that it found in the slot.
 fn work(round: &Round, seat: &mut MutatorSeat, layout: Layout, number: u8) -> (u64, u64)
     requires seat { IsAt round.now seat.old × (seen seat.old ≡ alone (first_opening layout) number) }
@@ -150,8 +149,8 @@ fn worked<R: Threads + Sync>(
     (round.finish(mutators, collector).words, marking)
 }
 
-// The words that a mutator's work leaves: the header of a variable is 2 + 2048 * 1, the name word of its first object is its
-// number, and its slot of g has twice the object's place.
+// Checks the words after a mutator's work: the header of a variable is 2 + 2048 * 1, the name word of its first object is its
+// number. Its slot of g has twice the object's address.
 fn is_done(words: &[u64], layout: &Layout, mutator: u8) -> bool
     requires { IsLayout layout.now × (mutator < layout.now.mutators) }
 {
@@ -170,7 +169,7 @@ fn small(mutators: u8) -> Layout
     layout!(segments: 1, words: 16, nursery: 16, mutators: mutators)
 }
 
-// The words of a table that is closed.
+// The words of a table, which is closed here.
 fn words_of(alloc: Global, words: Words) -> Result<Vec<u64>, NoMemory> {
     let mut left = Vec::from_elem(alloc, 0u64, words.len())?;
     let closed = words.close();

@@ -1,4 +1,4 @@
-//! Each law is called once, so that it is seen to ask nothing.
+//! Each law is called once, to show that it asks nothing.
 use nmgc_run_laws::laws;
 
 #[test]
@@ -6,7 +6,7 @@ fn laws_ask_nothing(rt: HostRuntime) {
     let _ = &rt;
     laws::classes_are_counted();
     laws::run_goes_on();
-    laws::left_is_told();
+    laws::left_is_determined();
     laws::counts_are_real();
     laws::version_is_nothing();
     laws::each_cycle_has_its_row();

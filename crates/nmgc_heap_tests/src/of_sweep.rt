@@ -1,25 +1,25 @@
-//! Cycles over small heaps, as a table. What is expected follows from the rules: filled segments are swept,
-//! least number first; had are the names in them, freed those whose blocks aren't marked with the epoch, both
-//! by maker and then by serial; a segment is then free, filled or active.
+//! Cycles over small heaps, as a table. The expected values follow from the rules. Filled segments are swept, least number
+//! first. `had` has the names in them, `freed` the names whose blocks aren't marked with the epoch, both by maker and then by
+//! serial. A segment is then free, filled or active.
 ghost use Rattle.std.specs.Prelude.{◌≡◌};
-ghost use Rattle.nmgc_sweep.specs.{Names.HaveEntries, Sweeper.AreLeft};
+ghost use Rattle.nmgc_sweep.specs.{NameTable.HaveEntries, Sweeper.AreLeft};
 
 use nmgc_alloc::{Segments, laws};
 use nmgc_limits::MAKERS;
-use nmgc_names::NameList;
+use nmgc_name_lists::NameList;
 use nmgc_object::{Address, FIRST_PLACE, Layout, block_words};
 use nmgc_round::OpenGate;
 use nmgc_segment::State;
-use nmgc_sweep::{Census, Names, Sweeper};
+use nmgc_sweep::{Census, NameTable, Sweeper};
 use nmgc_world_spec::Name;
 use std::alloc::Global;
 use std::process::Abort;
 use std::test::Fail;
 use std::thread::Threads;
 
-// A cycle: the objects placed in this order, whether current segments are retired before, which of them have a
-// mark of the cycle before and which one of this cycle; and what is expected: how many calls with this quota
-// sweep as many segments, the lists, and the states of the first segments after the sweep.
+// A cycle: the objects in the order of their allocation, whether current segments are retired before, the objects with a mark
+// of the cycle before, and the objects marked in this cycle. Then the expected values: the number of calls with this quota
+// that sweep the quota, the lists, and the states of the first segments after the sweep.
 #[derive(Clone, Copy)]
 struct Row {
     placed: &'static [Name],
@@ -34,7 +34,7 @@ struct Row {
     states: &'static [State],
 }
 
-// Nothing is placed, and one call sweeps one segment.
+// No object is allocated, and one call sweeps one segment.
 const ONCE: Row = Row {
     placed: &[],
     retired: false,
@@ -76,14 +76,14 @@ const NINE: [Name; 9] = [
     name!(0, 4),
 ];
 
-// Of those in full segments, these are left unmarked.
+// The unmarked objects among those in full segments.
 const UNMARKED_OF_NINE: [Name; 3] = [name!(1, 0), name!(1, 2), name!(1, 3)];
 
-// All but the third.
+// All except the third.
 const UNMARKED_OF_FOUR: [Name; 3] = [name!(0, 0), name!(0, 1), name!(0, 3)];
 
-// Places an object of four words, and notes its name.
-fn place(rt: &impl Abort, names: &mut Names, segments: &mut Segments, name: Name) -> Address
+// Allocates an object of four words, and notes its name.
+fn place(rt: &impl Abort, names: &mut NameTable, segments: &mut Segments, name: Name) -> Address
     requires { HaveEntries segments.old.layout names.old }
     ensures { HaveEntries segments.new.layout names.new }
 {
@@ -102,7 +102,7 @@ fn place(rt: &impl Abort, names: &mut Names, segments: &mut Segments, name: Name
 fn begin(rt: &impl Abort, segments: &mut Segments, retired: bool)
     ensures { segments.new.layout ≡ segments.old.layout }
 {
-    laws::counts_tell();
+    laws::counts_agree();
     if retired {
         segments.retire_all();
     }
@@ -110,7 +110,7 @@ fn begin(rt: &impl Abort, segments: &mut Segments, retired: bool)
     segments.prepare();
 }
 
-// Marks objects by their places.
+// Marks objects by their addresses.
 fn mark(rt: &impl Abort, segments: &mut Segments, places: &[Address], marked: &[usize], epoch: u8)
     ensures { segments.new.layout ≡ segments.old.layout }
 {
@@ -124,7 +124,7 @@ fn mark(rt: &impl Abort, segments: &mut Segments, places: &[Address], marked: &[
     }
 }
 
-// The names of a list, as they come.
+// The names of a list, in their order.
 fn all_names(alloc: Global, list: &NameList) -> Result<Vec<Name>, Fail> {
     let mut names = Vec::new(alloc);
     for span in list.spans() {
@@ -142,7 +142,7 @@ fn sorted_names(alloc: Global, list: &NameList) -> Result<Vec<Name>, Fail> {
     Ok(names)
 }
 
-// Compares what a cycle found, and the states after it.
+// Compares the census of a cycle, and the states after it.
 fn compare(
     rt: &impl Abort,
     alloc: Global,
@@ -167,7 +167,7 @@ fn compare(
 fn check<R: Abort + Threads + Sync>(rt: &R, alloc: Global, row: Row) -> Result<(), Fail> {
     let layout = layout!(segments: 8, words: 16, nursery: 16, mutators: 2);
     assert!(rt; layout.words.is_power_of_two());
-    let mut names = Names::new(alloc, layout)?;
+    let mut names = NameTable::new(alloc, layout)?;
     let mut segments = Segments::new(alloc, layout)?;
     let mut places = Vec::new(alloc);
     for name in row.placed {
@@ -219,7 +219,7 @@ fn two_mutators_and_stale_marks(rt: HostRuntime) -> Result<(), Fail> {
             ..ONCE
         },
     )?;
-    // A mark of the cycle before keeps nothing.
+    // A mark of the cycle before keeps no object.
     check(
         &rt,
         rt.alloc(),
@@ -268,7 +268,7 @@ fn retired_segments(rt: HostRuntime) -> Result<(), Fail> {
     )
 }
 
-// What no call of a round swept is swept in the end; and with nothing filled, nothing is.
+// Segments that no call of a round swept are swept in the end. Without a filled segment, nothing is swept.
 #[test]
 fn the_rest_and_nothing(rt: HostRuntime) -> Result<(), Fail> {
     check(
@@ -295,7 +295,7 @@ fn the_rest_and_nothing(rt: HostRuntime) -> Result<(), Fail> {
     )
 }
 
-// Two segments at once, in two threads, and what is left of the quota.
+// Two segments at once, in two threads, and the rest of the quota.
 #[test]
 fn two_halves(rt: HostRuntime) -> Result<(), Fail> {
     check(
@@ -319,14 +319,14 @@ fn two_halves(rt: HostRuntime) -> Result<(), Fail> {
     )
 }
 
-// So many objects of four words fill 257 segments of 1,024 blocks.
+// The number of objects of four words that fill 257 segments of 1,024 blocks.
 const MANY: u32 = 257 * 1024;
 
 // Each third object is marked.
 fn check_many<R: Abort + Threads + Sync>(rt: &R, alloc: Global) -> Result<(), Fail> {
     let layout = layout!(segments: 257, words: 4096, nursery: 4096, mutators: 1);
     assert!(rt; layout.words.is_power_of_two());
-    let mut names = Names::new(alloc, layout)?;
+    let mut names = NameTable::new(alloc, layout)?;
     let mut segments = Segments::new(alloc, layout)?;
     let mut places = Vec::new(alloc);
     let mut marked = Vec::new(alloc);
@@ -343,7 +343,7 @@ fn check_many<R: Abort + Threads + Sync>(rt: &R, alloc: Global) -> Result<(), Fa
     let done = sweeper.work(rt, &mut segments, &names, MANY, &OpenGate);
     assert!(rt; done.swept == 257);
     assert!(rt; done.finished);
-    // All of them follow one another, and 65,535 are a span; of those that were freed two do.
+    // All names follow one another, and a span has at most 65,535 of them; a span of freed names has two.
     assert!(rt; sweeper.had().len() == 5);
     assert!(rt; sweeper.freed().len() == (MANY / 3 + 1) as usize);
     let census = sweeper.into_census();

@@ -1,5 +1,5 @@
-//! The list of weak pointers as it is filled, and finalisers that join queues: what is expected follows from the order of
-//! names, by maker and then by serial, and from the field words, of which 1 is nil and 0 the value of a dead weak pointer.
+//! The list of weak pointers as it is filled, and finalisers that join queues. The expected values follow from the order of
+//! names, by maker and then by serial, and from the field words: 1 is nil, and 0 is the value of a dead weak pointer.
 ghost use Rattle.std.specs.Prelude.{ℕ, ◌≡◌, ◌<◌, ◌≤◌, [], length, map, slice_get, Some, IfOk};
 ghost use Rattle.nmgc_mutator.specs.declared.mutator.Mutator.{Mutator as MutatorSeen};
 ghost use Rattle.nmgc_object.specs.FinQueue.{FinQueue as Shown};
@@ -47,7 +47,7 @@ fn list_in_order(rt: HostRuntime) -> Result<(), Fail> {
     assert!(rt; listed(rt.alloc(), &weaks)?.as_slice() == [FIRST, SECOND].as_slice());
     assert!(rt; weaks.deaths().is_empty());
 
-    // The words of the heap, of which the value of the second was taken.
+    // The words of the heap. The value of the second weak pointer was taken.
     let mut words = vec![in rt.alloc(); 1u64; 48]?;
     words[35] = 0;
     weaks.leave(&mut words);
@@ -55,9 +55,9 @@ fn list_in_order(rt: HostRuntime) -> Result<(), Fail> {
     Ok(())
 }
 
-// Of two whose value words are 0 the one leaves that was told, and its name may join again.
+// Two weak pointers have a value word of 0. The one that is given leaves, and its name may join again.
 #[test]
-fn told_ones_leave(rt: HostRuntime) -> Result<(), Fail> {
+fn listed_weaks_leave(rt: HostRuntime) -> Result<(), Fail> {
     let mut weaks = Weaks::new(rt.alloc());
     weaks.reserve(3)?;
     weaks.add_all([FIRST, SECOND].as_slice());
@@ -77,7 +77,7 @@ const THIRD: OldWeak = OldWeak {
     at: Address(48),
 };
 
-// Two join a list of one: by their names one comes before it, and one after it.
+// Two weak pointers join a list of one: by their names, the first comes before it, and the second after it.
 #[test]
 fn joiners_in_order(rt: HostRuntime) -> Result<(), Fail> {
     let mut weaks = Weaks::new(rt.alloc());
@@ -111,7 +111,7 @@ const TWO: Layout = Layout {
     mutators: 2,
 };
 
-// One of them, whose queue has room for so many words.
+// A mutator of that layout, whose queue has room for `room` words.
 fn mutator(alloc: Global, number: u8, room: u32) -> Result<Mutator, NoMemory>
     requires { number < 2 }
     ensures { IfOk result (λ mutator. room ≤ mutator.queue.spare) }
@@ -122,7 +122,7 @@ fn mutator(alloc: Global, number: u8, room: u32) -> Result<Mutator, NoMemory>
     Ok(mutator)
 }
 
-// Both.
+// Both mutators.
 fn mutators(alloc: Global, room: u32) -> Result<List<Mutator>, NoMemory>
     ensures { IfOk result (λ mutators. (length (map (λ (m : MutatorSeen). m.queue) mutators) ≡ 2) ×
         ((maker : ℕ) (queue : Shown) → slice_get (map (λ (m : MutatorSeen). m.queue) mutators) maker ≡ Some queue → room ≤ queue.spare)) }
@@ -135,7 +135,7 @@ fn mutators(alloc: Global, room: u32) -> Result<List<Mutator>, NoMemory>
     Ok(mutators)
 }
 
-// Each finaliser goes to the queue of its weak pointer's maker, but nil to none.
+// Each finaliser goes to the queue of its weak pointer's maker, but nil to no queue.
 #[test]
 fn finalisers_join(rt: HostRuntime) -> Result<(), Fail> {
     let mut mutators = mutators(rt.alloc(), 3)?;

@@ -1,7 +1,7 @@
--- Lines are taken while every name counts as declared. Where each name that they mention is declared, they are the lines that
--- are taken in the end.
+-- Lines are taken while every name counts as declared. If each name that they mention is declared, the same lines are taken
+-- in the end.
 use Rattle.nmgc_image.proofs.Vocabulary.{◌≡◌, ◌≤◌, ◌-◌, ℕ, List, [], ◌∷◌, ◌++◌, map, length, take, drop, refl, sym, ap, subst, ◌∙◌, arith, Bool, true, false, cond, not, codes, eqb, Option, Some, None, ◌&&◌, AllByRecursion, list_all, flat_map, bytes_eq, and_parts, and_from, false≢true, flat_map-append, append-nil, take-append-drop, recursion_from_All, none-some, same_Some, REGISTERS, MAKERS, Name, Value, Nil, Number, Ref, shared_name, held_by, ◌>>=◌, number_at, value_at, bind_some, guard_some, Entry, Reader, first_words, mutator_lines, entry_words, last_words, words_of, cut, is_declared, begun, is_open, is_full, first_at, mutator_at, is_above, is_nil, register_at, queue_at, is_after, is_owned, entry_at, next_at, end_at, line_at, start, run, key_of, key_in, keys_in, keys_of, keys_beside, has_key, HaveSame, FindsDeclared, AreTaken, AreRead, AreMentionsIn}
-use Rattle.nmgc_image.proofs.{NodeLaws.IsSpellable, NodeLaws.line_again, Machine.run_step, Taken.spellable, Taken.front_runs, Lines.IsGood, Lines.first_part, Lines.last_part, Lines.lines_so_far, Lines.start_good, Lines.start_lines, Lines.run_goes, Lines.good_part, Told.rec_append, Told.IsOther, Told.other_first, Told.mutators_other, Told.other_last, Keys.keys_tell, Keys.tells_same}
+use Rattle.nmgc_image.proofs.{NodeLaws.IsSpellable, NodeLaws.line_again, Machine.run_step, Taken.spellable, Taken.front_runs, Lines.IsGood, Lines.first_part, Lines.last_part, Lines.lines_so_far, Lines.start_good, Lines.start_lines, Lines.run_goes, Lines.good_part, FirstBad.rec_append, FirstBad.IsOther, FirstBad.other_first, FirstBad.mutators_other, FirstBad.other_last, Keys.keys_find, Keys.finds_same}
 
 guard_from : {A : Type 0} (b : Bool) (o : Option A) (y : A) → b ≡ true → o ≡ Some y → cond b o None ≡ Some y
 guard_from true o y e h = h
@@ -14,7 +14,7 @@ choice_below : {A : Type 0} (b : Bool) (x y u v z : A) → (x ≡ z → u ≡ z)
 choice_below true x y u v z f g e = f e
 choice_below false x y u v z f g e = g e
 
--- WHERE MORE NAMES COUNT, NO LESS IS TAKEN
+-- IF MORE NAMES COUNT, NO LESS IS TAKEN
 
 module _ (d e : Name → Bool) (below : (name : Name) → d name ≡ true → e name ≡ true) where
   declared_below : (v : Value) → is_declared d v ≡ true → is_declared e v ≡ true
@@ -94,12 +94,12 @@ module _ (d e : Name → Bool) (below : (name : Name) → d name ≡ true → e 
       let b = bind_some (line_at d r words) _ t h in
       run_step e r b.0 words lines (Some t) (line_below r b.0 words b.1) (run_below lines b.0 t b.2)
 
-  -- what can't be taken where more names count, can't be taken
+  -- a line that can't be taken when more names count can't be taken
   none_below : (r : Reader) (words : List (List ℕ)) (o : Option Reader) → line_at d r words ≡ o → line_at e r words ≡ None → line_at d r words ≡ None
   none_below r words None is none = is
   none_below r words (Some t) is none = absurd (none-some t (sym none ∙ line_below r t words is))
 
--- WHAT WAS TAKEN WHILE EVERY NAME COUNTED
+-- LINES TAKEN WHILE EVERY NAME COUNTED
 
 module _ (d e : Name → Bool) (all : (name : Name) → e name ≡ true) where
   known_runs : (lines : List (List (List ℕ))) (r : Reader) → run e start lines ≡ Some r → AreMentionsIn d r → run d start lines ≡ Some r
@@ -189,7 +189,7 @@ module _ (d : Name → Bool) where
         let ours : keys_of front ≡ map (λ (entry : Entry). key_of entry.name) r.nodes = cc (keys_split front, so_far, so_far_keys r went.0) in
         cc (take-append-drop t.before lines, flat_map-append (λ (line : List ℕ). keys_in (words_of line)) front (drop t.before lines), ours, t.lines_are)
 
-    pub taken_tell : (keys : List ℕ) → HaveSame keys (keys_beside r.nodes (cut rest).lines) → FindsDeclared (has_key keys) (cut bytes).lines
-    taken_tell keys same =
+    pub taken_find : (keys : List ℕ) → HaveSame keys (keys_beside r.nodes (cut rest).lines) → FindsDeclared (has_key keys) (cut bytes).lines
+    taken_find keys same =
         let lines = (cut bytes).lines in
-        tells_same (has_key keys) (has_key (keys_of lines)) lines (λ name. same name ∙ ap (λ (ks : List ℕ). has_key ks name) (sym taken_keys)) (keys_tell lines)
+        finds_same (has_key keys) (has_key (keys_of lines)) lines (λ name. same name ∙ ap (λ (ks : List ℕ). has_key ks name) (sym taken_keys)) (keys_find lines)

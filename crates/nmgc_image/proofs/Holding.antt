@@ -2,7 +2,7 @@
 use Rattle.nmgc_image.proofs.Vocabulary.{ℕ, ◌≡◌, ◌≢◌, ◌<◌, ◌+◌, List, [], ◌∷◌, ◌++◌, length, take, get_or, arith, sym, subst, ◌∙◌, Some, inl, inr, Contains, slice_get, cases_eq, length-take-le, Contains-append_left, Contains-push, Contains-push_cases, slice_get_within, slice_get-get_or, same_Some, Value, contains_head, contains_tail, slice_get-take, Held, AreInOrder, ListsHeld}
 use Rattle.nmgc_world_spec.specs.declared.value.Value.TheVariants as value
 
--- a register after all others
+-- a register after all other registers
 order_push : (held : List Held) (h : Held) → AreInOrder held → ((k : Held) → Contains held k → k.register < h.register) → AreInOrder (held ++ h ∷ [])
 order_push [] h o b = tt
 order_push (x ∷ []) h o b = (b x (contains_head x []), tt)
@@ -42,7 +42,7 @@ module _ (registers : List Value) (i : ℕ) (d : Value) (lt : i < length registe
     ];
   }
 
-  -- what isn't is held
+  -- a register that isn't nil is held
   pub held_more : get_or registers i d ≢ value.Nil → ListsHeld (take (i + 1) registers) (held ++ record { register = i; value = get_or registers i d } ∷ [])
   held_more some =
       let new : Held = record { register = i; value = get_or registers i d } in

@@ -1,5 +1,5 @@
--- Which names have node lines: a sorted list of their keys tells.
-use Rattle.nmgc_image.proofs.Vocabulary.{◌≡◌, ◌≤◌, ◌<◌, ℕ, zero, suc, List, [], ◌∷◌, length, map, get_or, refl, sym, ap, subst, ◌∙◌, arith, inl, inr, Bool, true, Option, Some, None, Result, Ok, Err, eqb, slice_get, All, Contains, MatchResult, list_any, is_ok, cases_Bool, cases_lt, eq-eqb, eqb-true, none-some, same_Some, slice_get_within, get_or_from_slice_get, list_any_at, All-contains, recursion_from_All, All-from_recursion, Contains-from_any, Name, same_name, held_by, contains_at, place_of, nothing_in, contains_flat, flat_contains, item_map, map_item, IsName, IsValue, Entry, TellsNames, spaced, entry_words, words_of, IsDeclared, node_line_at, key_of, has_key, key_in, keys_in, keys_of, FindsDeclared}
+-- A sorted list of keys decides which names have node lines.
+use Rattle.nmgc_image.proofs.Vocabulary.{◌≡◌, ◌≤◌, ◌<◌, ℕ, zero, suc, List, [], ◌∷◌, length, map, get_or, refl, sym, ap, subst, ◌∙◌, arith, inl, inr, Bool, true, Option, Some, None, Result, Ok, Err, eqb, slice_get, All, Contains, MatchResult, list_any, is_ok, cases_Bool, cases_lt, eq-eqb, eqb-true, none-some, same_Some, slice_get_within, get_or_from_slice_get, list_any_at, All-contains, recursion_from_All, All-from_recursion, Contains-from_any, Name, same_name, held_by, contains_at, place_of, nothing_in, contains_flat, flat_contains, item_map, map_item, IsName, IsValue, Entry, IsTestOf, spaced, entry_words, words_of, IsDeclared, node_line_at, key_of, has_key, key_in, keys_in, keys_of, FindsDeclared}
 use Rattle.nmgc_image.proofs.{NodeLaws.IsSpellable, NodeLaws.line_takes, NodeLaws.line_again, LineLaws.spaced-words_of, LineLaws.words_of-line, LineLaws.entry_line}
 
 -- a test that finds a key
@@ -11,7 +11,7 @@ has_any keys k c =
     let p = place_of keys k c in
     list_any_at (λ key. eqb key k) keys p.0 0 (slice_get_within keys p.0 k p.1) (eq-eqb (get_or keys p.0 0) k (get_or_from_slice_get keys p.0 k 0 p.1))
 
--- what a search in sorted keys says
+-- the result of a search in sorted keys
 abbrev Finds : List ℕ → ℕ → Result ℕ ℕ → Type 0
 Finds keys k r = MatchResult r (λ i. (i < length keys) × (get_or keys i 0 ≡ k)) (λ i. (i ≤ length keys) × ((j : ℕ) → j < i → get_or keys j 0 < k) ×
     ((j : ℕ) → i ≤ j → j < length keys → k < get_or keys j 0))
@@ -46,7 +46,7 @@ key_at (Some entry) key c = let p = place_of (key_of entry.name ∷ []) key c in
     one zero e = sym (same_Some (key_of entry.name) key e)
     one (suc i) e = absurd (none-some key e)
 
--- the keys of the node lines tell
+-- the keys of the node lines decide which names are declared
 module _ (lines : List (List ℕ)) where
   sound : (name : Name) → IsName name → has_key (keys_of lines) name ≡ true → IsDeclared lines name
   sound name valid has =
@@ -73,19 +73,19 @@ module _ (lines : List (List ℕ)) where
       let all : Contains (keys_of lines) (key_of entry.name) = contains_flat (λ l. keys_in (words_of l)) lines line (key_of entry.name) h.3 one in
       has_any (keys_of lines) (key_of name) (subst (λ (n : Name). Contains (keys_of lines) (key_of n)) h.2 all)
 
-  pub keys_tell : FindsDeclared (has_key (keys_of lines)) lines
-  keys_tell = record { sound = sound; complete = complete }
+  pub keys_find : FindsDeclared (has_key (keys_of lines)) lines
+  keys_find = record { sound = sound; complete = complete }
 
--- and so does a test that is the same
-pub tells_same : (d e : Name → Bool) (lines : List (List ℕ)) → ((name : Name) → d name ≡ e name) → FindsDeclared e lines → FindsDeclared d lines
-tells_same d e lines same tells = record {
-  sound = λ name valid h. tells.sound name valid (sym (same name) ∙ h);
-  complete = λ name h. same name ∙ tells.complete name h;
+-- and so does an equal test
+pub finds_same : (d e : Name → Bool) (lines : List (List ℕ)) → ((name : Name) → d name ≡ e name) → FindsDeclared e lines → FindsDeclared d lines
+finds_same d e lines same agrees = record {
+  sound = λ name valid h. agrees.sound name valid (sym (same name) ∙ h);
+  complete = λ name h. same name ∙ agrees.complete name h;
 }
 
--- the keys of names tell them
-pub names_tell : (names : List Name) → All IsName names → TellsNames (has_key (map key_of names)) names
-names_tell names valid = record {
+-- the keys of names decide which names are among them
+pub names_find : (names : List Name) → All IsName names → IsTestOf (has_key (map key_of names)) names
+names_find names valid = record {
   sound = λ name is has.
       let p = place_of (map key_of names) (key_of name) (any_has (map key_of names) (key_of name) has) in
       let n = map_item key_of names p.0 (key_of name) p.1 in
@@ -97,9 +97,9 @@ names_tell names valid = record {
       has_any (map key_of names) (key_of name) (contains_at (map key_of names) p.0 (key_of name) (item_map key_of names p.0 name p.1));
 }
 
--- and so does a test that is the same
-pub names_same : (d e : Name → Bool) (names : List Name) → ((name : Name) → d name ≡ e name) → TellsNames e names → TellsNames d names
-names_same d e names same tells = record {
-  sound = λ name valid h. tells.sound name valid (sym (same name) ∙ h);
-  complete = λ name h. same name ∙ tells.complete name h;
+-- and so does an equal test
+pub names_same : (d e : Name → Bool) (names : List Name) → ((name : Name) → d name ≡ e name) → IsTestOf e names → IsTestOf d names
+names_same d e names same agrees = record {
+  sound = λ name valid h. agrees.sound name valid (sym (same name) ∙ h);
+  complete = λ name h. same name ∙ agrees.complete name h;
 }

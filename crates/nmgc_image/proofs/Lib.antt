@@ -19,7 +19,7 @@ pub mod ShownImage
 pub mod Standing
 pub mod Steps
 pub mod Taken
-pub mod Told
+pub mod FirstBad
 pub mod Visiting
 pub mod Words
 mod Vocabulary

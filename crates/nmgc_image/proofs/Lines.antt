@@ -1,4 +1,4 @@
--- What was taken are the lines of an image so far.
+-- The lines that were taken are the lines of an image so far.
 use Rattle.std.proofs.{Common.◌≡◌, Common.◌≢◌, Common.◌≤◌, Common.◌<◌, Common.◌+◌, Common.◌-◌, Common.◌^◌, Common.◌⊎◌, Common.ℕ, Common.List, Common.[], Common.◌∷◌, Common.◌++◌, Common.map, Common.length, Common.replicate, Common.refl, Common.sym, Common.ap, Common.subst, Common.◌∙◌, Common.arith, Common.inl, Common.inr, Common.Bool, Common.true, Common.false, Common.cond, Common.not, Common.codes, Common.eqb, Common.ltb, Common.Option, Common.Some, Common.None, Common.append_assoc, lemmas.Bool.ltb-true, lemmas.Bool.eqb-true, lemmas.Bool.eq-eqb, lemmas.Bool.ne_eqb, lemmas.Bool.and_parts, lemmas.Bool.or_cases, lemmas.Bool.cases_Bool, lemmas.Bool.cases_lt, lemmas.Bool.false≢true, lemmas.Bool.both_ways, lemmas.List.append-nil, lemmas.List.length-append, lemmas.List.length_push, lemmas.List.length-replicate, lemmas.List.map_push, lemmas.List.nil_from_length, lemmas.Option.same_Some, lemmas.Slice.Eq.bytes_eq-Decides, lemmas.List.Elements.All-push, lemmas.List.Elements.All-nil, lemmas.List.Elements.All-head, lemmas.List.Elements.All-append, lemmas.List.Elements.All-replicate, lemmas.List.Elements.All-from_recursion}
 use Rattle.std.specs.{Prelude.◌&&◌, Prelude.All, Prelude.slice_get, List.AllByRecursion, List.list_all, Option.option_to_list, Str.bytes_eq}
 use Rattle.nmgc_limits.specs.declared.mutators.TheConstants.{REGISTERS, MAKERS, SHARED_MAKER, SHARED_SLOTS}
@@ -8,12 +8,12 @@ use Rattle.nmgc_lists.specs.{laws.Truths.chosen, laws.Truths.unmarked, laws.Item
 use Rattle.nmgc_image.specs.{declared.image.Held.Held, declared.image.ImageMutator.ImageMutator, declared.image.Entry.Entry, declared.image.Image.Image, declared.reader.Reader.Reader, Image.AreInOrder, Image.IsHeld, Image.IsMutator, Image.IsOwned, Image.IsEntry, Image.names_of, Image.values_of, Image.IsOrderly, Spelling.first_words, Spelling.mutator_words, Spelling.register_words, Spelling.queue_words, Spelling.entry_words, Spelling.own_lines, Spelling.mutator_lines, Spelling.last_words, Spelling.image_lines, Reading.is_declared, Reading.begun, Reading.is_open, Reading.is_full, Reading.first_at, Reading.new_own, Reading.mutator_at, Reading.is_above, Reading.is_nil, Reading.with_register, Reading.with_entry, Reading.register_at, Reading.queue_at, Reading.is_before, Reading.is_after, Reading.is_shared, Reading.is_below, Reading.is_owned, Reading.can_follow, Reading.entry_at, Reading.next_at, Reading.end_at, Reading.line_at, Reading.start, Reading.image_of, Reading.run}
 use Rattle.nmgc_image.proofs.{NodeLaws.entry_takes, Machine.IsIn}
 
--- every mutator was begun
+-- every mutator has begun
 pub record IsFull (r : Reader) : Type 0 where
   pub some : 1 ≤ r.expected
   pub all : length (begun r) ≡ r.expected
 
--- what was taken so far is part of an orderly image
+-- the part read so far belongs to an orderly image
 pub record IsGood (d : Name → Bool) (r : Reader) : Type 0 where
   pub few : r.expected ≤ MAKERS
   pub within : length (begun r) ≤ r.expected
@@ -81,7 +81,7 @@ lines_more m (x ∷ owns) more =
     sym (append_assoc line (mutator_lines (m + 1) owns) (mutator_lines ((m + 1) + length owns) more)) ∙
     ap (λ (j : ℕ). (line ++ mutator_lines (m + 1) owns) ++ mutator_lines j more) k
 
--- where neither objects nor the end came yet
+-- neither objects nor the end came yet
 open_lines : (m : ℕ) (owns : List ImageMutator) → lines_at m owns [] false ≡ first_part m ++ mutator_lines 0 owns
 unfolding last_part
 open_lines m owns = append-nil ((first_part m ++ mutator_lines 0 owns) ++ []) ∙ append-nil (first_part m ++ mutator_lines 0 owns)
@@ -500,9 +500,9 @@ run_goes d (words ∷ lines) r t g e =
     let more = run_goes d lines b.0 t one.good b.2 in
     (more.0, more.1 ∙ ap (λ (l : List (List (List ℕ))). l ++ lines) one.lines_are ∙ append_assoc (lines_so_far r) (words ∷ []) lines)
 
--- THE IMAGE THAT BEGINS SO
+-- THE IMAGE THAT BEGINS WITH THE LINES
 
--- an image begins with the lines, and mentions what is declared alone
+-- an image begins with the lines, and mentions only declared names
 pub record IsPart (d : Name → Bool) (lines : List (List (List ℕ))) : Type 0 where
   pub image : Image
   pub orderly : IsOrderly image
@@ -566,7 +566,7 @@ module _ (d : Name → Bool) (r : Reader) (g : IsGood d r) where
         shared = λ none. f.1;
       }
 
-  -- all mutators were begun
+  -- all mutators have begun
   full_part : IsFull r → r.ended ≡ false → IsPart d (lines_so_far r)
   unfolding last_part
   full_part f is_no =
@@ -582,7 +582,7 @@ module _ (d : Name → Bool) (r : Reader) (g : IsGood d r) where
         shared = λ none. absurd (never_nil last_words [] none);
       }
 
-  -- some weren't: mutators that made nothing follow
+  -- some have not begun: mutators that made nothing follow
   fill : List ImageMutator
   fill = replicate (r.expected - length (begun r)) idle
 
@@ -659,7 +659,7 @@ module _ (d : Name → Bool) (r : Reader) (g : IsGood d r) where
     ]
   ]
 
--- once the end came, the lines are those of the image
+-- once the end came, the lines are the image's lines
 pub ended_lines : (d : Name → Bool) (r : Reader) → IsGood d r → r.ended ≡ true → lines_so_far r ≡ image_lines (image_of r)
 unfolding last_part
 ended_lines d r g is_yes =

@@ -2,15 +2,15 @@
 use Rattle.nmgc_image.proofs.Vocabulary.{ℕ, ◌≡◌, ◌≢◌, ◌<◌, ◌≤◌, ◌+◌, zero, suc, List, [], ◌∷◌, ◌++◌, length, map, take, get_or, arith, sym, ap, subst, ◌∙◌, true, false, inl, inr, Contains, All, IsNonDecreasingBy, cases_lt, cases_eq, map-append, take_more, get_or-take, Contains-append_left, Contains-push, Contains-push_cases, All-get_or, slice_get_within, get_or_from_slice_get, Name, Node, IsBefore, contains_head, contains_tail, contains_at, place_of, nothing_in, item_map, map_item, IsName, Entry, Keyed, names_of, IsNamedAt, IsObjectAt, name_in, node_read, key_of, is_before, is_after, IsKeyed, IsShownAt, ListsObjects}
 use Rattle.nmgc_image.proofs.{Keys.same_key, Lines.after_more, Machine.before_is, Words.name_reads}
 
--- the places of objects
+-- the addresses of objects
 abbrev pub places_of : List Keyed → List ℕ
 places_of keyed = map (λ (o : Keyed). o.at) keyed
 
--- a name that can be read is one that words have
+-- a name that can be read is a valid name
 pub read_valid : (words : List ℕ) (at : ℕ) → IsNamedAt words at → IsName (name_in words at)
 read_valid words at named = subst IsName (sym (name_reads named.name _ named.valid named.word)) named.valid
 
--- a name that doesn't come after all: one of them isn't before it
+-- if a name doesn't come after all names of a list, one of them isn't before it
 not_after : (nodes : List Entry) (name : Name) → is_after nodes name ≡ false → (entry : Entry) × Contains nodes entry × (is_before entry.name name ≡ false)
 not_after [] name e = absurd cc
 not_after (entry ∷ []) name e = (entry, contains_head entry [], e)
@@ -19,7 +19,7 @@ not_after (entry ∷ next ∷ others) name e = let r = not_after (next ∷ other
 entry_named : (nodes : List Entry) (entry : Entry) → Contains nodes entry → Contains (names_of nodes) entry.name
 entry_named nodes entry c = let p = place_of nodes entry c in contains_at (names_of nodes) p.0 entry.name (item_map (λ (e : Entry). e.name) nodes p.0 entry p.1)
 
--- of two names the one with a smaller key is before the other
+-- the name with the smaller key is before the other name
 key_orders : (a b : Name) → IsName a → IsName b → key_of a ≤ key_of b → is_before a b ≡ false → a ≡ b
 key_orders a b va vb le apart = elim (cases_eq (key_of a) (key_of b)) [
   | inl same ↦ same_key a b va vb same
@@ -47,7 +47,7 @@ module _ (words : List ℕ) (keyed : List Keyed) where
     more_places : (at : ℕ) → Contains (places_of (take i keyed)) at → Contains (places_of (take (i + 1) keyed)) at
     more_places at c = subst (λ (l : List ℕ). Contains l at) (sym one_more) (Contains-append_left (places_of (take i keyed)) ((get_or keyed i d).at ∷ []) at c)
 
-    -- an object after all others
+    -- an object after all other objects
     pub lists_taken : (name : Name) (node : Node) → name ≡ name_in words (get_or keyed i d).at → is_after nodes name ≡ true →
         ((object : IsObjectAt words (get_or keyed i d).at) → node ≡ node_read words (get_or keyed i d).at object.header) →
         ListsObjects words (places_of (take (i + 1) keyed)) (nodes ++ record { name = name; node = node } ∷ [])
@@ -71,7 +71,7 @@ module _ (words : List ℕ) (keyed : List Keyed) where
           ]);
         }
 
-    -- an object that is there already
+    -- an object that is already in the list
     pub lists_skipped : (name : Name) → IsNonDecreasingBy (λ (o : Keyed). o.key) keyed → All (IsKeyed words) keyed →
         name ≡ name_in words (get_or keyed i d).at → is_after nodes name ≡ false → ListsObjects words (places_of (take (i + 1) keyed)) nodes
     lists_skipped name sorted all is after =

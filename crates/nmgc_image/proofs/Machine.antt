@@ -1,4 +1,4 @@
--- The lines of an image are taken one after the other, and what was taken are the lines of an image so far.
+-- The lines of an image are taken in order, and the lines taken are the lines of an image so far.
 use Rattle.nmgc_image.proofs.Vocabulary.{◌≡◌, ◌≢◌, ◌≤◌, ◌<◌, ◌+◌, ◌-◌, ◌^◌, ℕ, List, [], ◌∷◌, ◌++◌, map, length, refl, sym, ap, subst, ◌∙◌, arith, inl, inr, Bool, true, false, not, eqb, ltb, Option, Some, None, append_assoc, All, AllByRecursion, list_all, option_to_list, lt-ltb, eq-eqb, eqb-true, and_parts, and_from, cases_Bool, append-nil, length_push, REGISTERS, MAKERS, SHARED_SLOTS, Name, Value, Nil, Number, Ref, Node, Con, Var, Arr, Thunk, Weak, Stack, is_same_name, shared_name, IsBefore, IsInOrder, held_by, IsShared, same_name, IsValue, ◌>>=◌, number_again, value_reads, Held, ImageMutator, Entry, Image, Reader, AreInOrder, IsHeld, IsOwned, names_of, values_of, first_words, mutator_words, register_words, queue_words, entry_words, own_lines, mutator_lines, last_words, is_declared, is_full, first_at, new_own, mutator_at, is_above, is_nil, register_at, queue_at, is_before, is_after, is_shared, is_owned, next_at, end_at, line_at, start, run, image_of, same_name_is}
 use Rattle.nmgc_image.proofs.NodeLaws.{IsSpellable, entry_again}
 
@@ -28,7 +28,7 @@ state expected done current nodes ended = record { expected = expected; done = d
 abbrev own_of : ℕ → List Held → List Value → ImageMutator
 own_of serial registers queue = record { serial = serial; registers = registers; queue = queue }
 
--- what the value refers to is declared
+-- the name that the value refers to is declared
 abbrev pub IsIn : (Name → Bool) → Value → Type 0
 IsIn d v = is_declared d v ≡ true
 
@@ -118,7 +118,7 @@ module _ (d : Name → Bool) (expected : ℕ) (few : expected ≤ MAKERS) where
       (map register_words own.registers) (map queue_words own.queue) _ (registers_run all own.serial own.registers [] h.ordered h.registers)
       (queues_run all own.serial own.registers own.queue [] h.queue))
 
-  -- after mutators all of them were begun
+  -- after the mutators' lines all mutators have begun
   pub record HasTaken (r : Reader) (lines : List (List (List ℕ))) (all : List ImageMutator) : Type 0 where
     pub done : List ImageMutator
     pub current : Option ImageMutator
@@ -221,7 +221,7 @@ pub record IsTaken (d : Name → Bool) (lines : List (List (List ℕ))) (image :
   pub ended : reader.ended ≡ true
   pub image_is : image_of reader ≡ image
 
--- what an image mentions is declared
+-- the names that an image mentions are declared
 pub record AreIn (d : Name → Bool) (image : Image) : Type 0 where
   pub mutators : All (λ (own : ImageMutator). All (IsIn d) (values_of own)) image.mutators
   pub nodes : All (λ (entry : Entry). All (IsIn d) (held_by entry.node)) image.nodes

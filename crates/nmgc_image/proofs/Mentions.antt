@@ -1,4 +1,4 @@
--- What each name that was mentioned being declared comes to, by tests.
+-- That each mentioned name is declared, by tests.
 use Rattle.nmgc_image.proofs.Vocabulary.{◌≡◌, List, [], ◌∷◌, map, Bool, true, All, AllByRecursion, list_all, option_to_list, and_parts, All-append, All-from_recursion, Name, Value, shared_name, held_by, Held, ImageMutator, Entry, Reader, values_of, is_declared, is_own_in, is_object_in, AreMentionsIn}
 
 all_mean : {A : Type 0} (f : A → Bool) (xs : List A) → list_all f xs ≡ true → AllByRecursion (λ x. f x ≡ true) xs

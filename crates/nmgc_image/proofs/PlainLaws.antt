@@ -1,4 +1,4 @@
--- What is read at a glance is the text of an object, and its words are read as this object.
+-- A line read in one pass is the text of an object, and its tokens are read as this object.
 use Rattle.nmgc_image.proofs.Vocabulary.{◌≡◌, ◌≢◌, ◌<◌, ◌+◌, ◌*◌, ◌/◌, ◌%◌, ◌^◌, ℕ, List, [], ◌∷◌, ◌++◌, map, length, refl, sym, ap, subst, ◌∙◌, arith, Bool, Some, decimal, codes, append_assoc, ne_eqb, decimal_digit, decimal_step, length-append, map_push, recursion_from_All, All-from_recursion, SHARED_MAKER, Name, Value, held_by, name_text, value_text, IsValue, Entry, Reader, LineFault, Lines, IsWritable, IsPlain, after_spaces, spaced, entry_words, words_of, Cut, cut, object_at, next_at, line_at, Refuses, IsStep, Halts}
 use Rattle.nmgc_image.proofs.{Cutting.cut_first, LineLaws.words_of-line, LineLaws.entry_line, LineLaws.IsLine, LineLaws.made_lines, NodeLaws.IsSpellable, NodeLaws.entry_again, Prints.spaced_after, Steps.line_step, Steps.line_fails}
 
@@ -49,7 +49,7 @@ pair_text old middle last new first second a b c =
 
 -- WHOLE LINES
 
--- the words of a constructor
+-- the tokens of a constructor
 pub con_text : (old at_tag at_values new tag : List ℕ) (values : List (List ℕ)) → old ≡ codes " con " ++ at_tag → at_tag ≡ tag ++ at_values →
     at_values ≡ after_spaces values ++ 10 ∷ new → old ≡ after_spaces (codes "con" ∷ tag ∷ values) ++ 10 ∷ new
 con_text old at_tag at_values new tag values a b c =
@@ -64,7 +64,7 @@ node_text old at_name at_node new name words a b c =
 spelt_of : (entry : Entry) → IsWritable entry → IsSpellable entry
 spelt_of entry h = (h.name, h.node, recursion_from_All IsValue (held_by entry.node) h.values)
 
--- what a node line does
+-- the effect of a node line
 line_is : (d : Name → Bool) (r : Reader) (entry : Entry) → IsSpellable entry → line_at d r (entry_words entry) ≡ object_at d r entry
 unfolding line_at next_at
 line_is d r entry spelt = rw (entry_again entry spelt) refl

@@ -1,7 +1,7 @@
--- A search goes on: what it adds to what it had.
-use Rattle.nmgc_image.proofs.Vocabulary.{◌≡◌, ◌⊎◌, ◌↔◌, ◌<◌, ◌≤◌, ◌+◌, ◌/◌, ◌^◌, ℕ, zero, suc, List, [], ◌∷◌, ◌++◌, length, get_or, set, take, replicate, refl, sym, ap, subst, ◌∙◌, arith, inl, inr, Bool, true, false, cond, Some, Contains, slice_get, count_by, cases_eq, length-replicate, length-set, append-nil, take_more, Contains-append_left, Contains-push, Contains-push_cases, Contains-get_or, slice_get_within, slice_get-get_or, get_or_from_slice_get, sum_by-cons, slice_get-set_other, contains_head, contains_tail, place_of, nothing_in, set_counts, Search, IsObjectAt, is_pointer, pointers, told_at, Reaches, ReachesObjects, IsSearch, Visits, ArePointers, PointWithin, length-append, not, append_assoc}
+-- A search goes on: the addresses that it adds.
+use Rattle.nmgc_image.proofs.Vocabulary.{◌≡◌, ◌⊎◌, ◌↔◌, ◌<◌, ◌≤◌, ◌+◌, ◌/◌, ◌^◌, ℕ, zero, suc, List, [], ◌∷◌, ◌++◌, length, get_or, set, take, replicate, refl, sym, ap, subst, ◌∙◌, arith, inl, inr, Bool, true, false, cond, Some, Contains, slice_get, count_by, cases_eq, length-replicate, length-set, append-nil, take_more, Contains-append_left, Contains-push, Contains-push_cases, Contains-get_or, slice_get_within, slice_get-get_or, get_or_from_slice_get, sum_by-cons, slice_get-set_other, contains_head, contains_tail, place_of, nothing_in, set_counts, Search, IsObjectAt, is_pointer, pointers, value_words_at, Reaches, ReachesObjects, IsSearch, Visits, ArePointers, PointWithin, length-append, not, append_assoc}
 
--- how many flags aren't set, one by one
+-- the number of flags that aren't set, flag by flag
 pub counts : (x : Bool) (xs : List Bool) → count_by not (x ∷ xs) ≡ cond (not x) 1 0 + count_by not xs
 counts x xs = sum_by-cons (λ (y : Bool). cond (not y) 1 0) x xs
 
@@ -37,7 +37,7 @@ visits_none P s i all = record {
   only = λ at c. inl c;
 }
 
--- one thing after another is added
+-- additions in sequence
 pub visits_then : (P Q R : ℕ → Type 0) (a b c : Search) → Visits P a b → Visits Q b c → ((at : ℕ) → R at → P at ⊎ Q at) →
     ((at : ℕ) → P at ⊎ Q at → R at) → Visits R a c
 visits_then P Q R a b c v w to from = record {
@@ -55,7 +55,7 @@ visits_then P Q R a b c v w to from = record {
   ];
 }
 
--- the same, told in other words
+-- an addition under an equivalent property
 pub visits_same : (P Q : ℕ → Type 0) (a b : Search) → Visits P a b → ((at : ℕ) → P at → Q at) → ((at : ℕ) → Q at → P at) → Visits Q a b
 visits_same P Q a b v to from = record {
   sound = v.sound;
@@ -66,12 +66,12 @@ visits_same P Q a b v to from = record {
   only = λ at held. elim (v.only at held) [ inl old ↦ inl old | inr p ↦ inr (to at p) ];
 }
 
--- a place that was seen before
+-- an address that was seen before
 pub found_before : (s : Search) (at : ℕ) → IsSearch s → at < length s.seen.items → get_or s.seen.items at false ≡ true → Visits (λ p. p ≡ at) s s
 found_before s at i lt e = visits_none (λ p. p ≡ at) s i (λ p same.
     rw same (i.listed at (slice_get-get_or s.seen.items at false lt ∙ ap Some e)))
 
--- a place that is seen now
+-- an address that is seen now
 pub found_now : (s t : Search) (at : ℕ) → IsSearch s → at < length s.seen.items → get_or s.seen.items at false ≡ false →
     t.seen.items ≡ set s.seen.items at true → t.order.items ≡ s.order.items ++ at ∷ [] → Visits (λ p. p ≡ at) s t
 found_now s t at i lt e seen order =
@@ -141,7 +141,7 @@ pointer_yes s t u ws i d lt one_is v w =
       | inr same ↦ rw same (Contains-push (pointers (take i ws)) (get_or ws i d / 2))
     ]))
 
--- a pointer of words lies within
+-- an address in words lies within the heap
 pub pointer_within : (room : ℕ) (ws : List ℕ) (i d : ℕ) → i < length ws → is_pointer (get_or ws i d) ≡ true → PointWithin room ws →
     (get_or ws i d / 2 < room) × (get_or ws i d / 2 < 2 ^ 32)
 pointer_within room [] i d lt one_is h = absurd (omega arith)
@@ -154,14 +154,14 @@ pointer_within room (w ∷ ws) (suc i) d lt one_is h = pointer_within room ws i 
 
 -- THE WHOLE SEARCH
 
--- how far a search has come: what it has found is reached, and of what is done all that it points to was found
+-- the progress of a search: all that it has found is reachable, and it has found every address in the objects that are done
 pub record IsGoing (words : List ℕ) (old s : Search) (next : ℕ) : Type 0 where
   pub sound : IsSearch s
   pub room : length s.seen.items ≡ length words
   pub roots : (at : ℕ) → Contains old.order.items at → Contains s.order.items at
   pub reached : (at : ℕ) → Contains s.order.items at → Reaches words (Contains old.order.items) at
   pub closed : (i at to : ℕ) (object : IsObjectAt words at) → i < next → slice_get s.order.items i ≡ Some at →
-      Contains (pointers (told_at words at object.header)) to → Contains s.order.items to
+      Contains (pointers (value_words_at words at object.header)) to → Contains s.order.items to
 
 pub going_starts : (words : List ℕ) (s : Search) → IsSearch s → length s.seen.items ≡ length words → IsGoing words s s 0
 going_starts words s sound room = record {
@@ -178,12 +178,12 @@ left_item (x ∷ xs) ys zero lt = refl
 left_item (x ∷ xs) ys (suc i) lt = left_item xs ys i (omega arith)
 
 module _ (words : List ℕ) (old s : Search) (next : ℕ) (going : IsGoing words old s next) where
-  -- a place that is reached lies in the heap
+  -- an object begins at a reachable address
   pub going_object : ReachesObjects words (Contains old.order.items) → (at : ℕ) → Contains s.order.items at → IsObjectAt words at
   going_object objects at c = objects at (going.reached at c)
 
   pub going_within : ReachesObjects words (Contains old.order.items) → (at : ℕ) → Contains s.order.items at → (object : IsObjectAt words at) →
-      PointWithin (length s.seen.items) (told_at words at object.header)
+      PointWithin (length s.seen.items) (value_words_at words at object.header)
   going_within objects at c object to p =
       let there = objects to (Reaches.field at to object (going.reached at c) p) in
       let fits = there.within in
@@ -198,7 +198,7 @@ module _ (words : List ℕ) (old s : Search) (next : ℕ) (going : IsGoing words
       omega (arith, lt, counted, room)
 
   pub going_on : (t : Search) (d : ℕ) → next < length s.order.items → (at : ℕ) → at ≡ get_or s.order.items next d →
-      ((object : IsObjectAt words at) → Visits (ArePointers (told_at words at object.header)) s t) → IsObjectAt words at → IsGoing words old t (next + 1)
+      ((object : IsObjectAt words at) → Visits (ArePointers (value_words_at words at object.header)) s t) → IsObjectAt words at → IsGoing words old t (next + 1)
   going_on t d lt at at_is visits object =
       let v = visits object in
       let keeps : (to : ℕ) → Contains s.order.items to → Contains t.order.items to = λ to c.
@@ -222,11 +222,11 @@ module _ (words : List ℕ) (old s : Search) (next : ℕ) (going : IsGoing words
             ];
       }
     where
-      last : (from to : ℕ) (it : IsObjectAt words from) → at ≡ from → Contains (pointers (told_at words from it.header)) to → Contains t.order.items to
-      last from to it is c = subst (λ (k : ℕ). (o : IsObjectAt words k) → Contains (pointers (told_at words k o.header)) to →
+      last : (from to : ℕ) (it : IsObjectAt words from) → at ≡ from → Contains (pointers (value_words_at words from it.header)) to → Contains t.order.items to
+      last from to it is c = subst (λ (k : ℕ). (o : IsObjectAt words k) → Contains (pointers (value_words_at words k o.header)) to →
           Contains t.order.items to) is (λ o p. (visits o).all to p) it c
 
-  -- at the end it has found exactly what is reached
+  -- at the end it has found exactly the reachable addresses
   pub going_done : length s.order.items ≤ next → (at : ℕ) → Contains s.order.items at ↔ Reaches words (Contains old.order.items) at
   going_done all at = (going.reached at, λ r. back at r)
     where

@@ -1,14 +1,14 @@
--- What shows a world within the limits is an image.
+-- An image that shows a world within the limits is an image.
 use Rattle.nmgc_image.proofs.Vocabulary.{ℕ, ◌≡◌, ◌≢◌, ◌<◌, ◌≤◌, ◌⊎◌, List, [], ◌∷◌, ◌++◌, length, map, get_or, arith, refl, sym, ap, subst, ◌∙◌, Some, None, inl, inr, eqb, false, Contains, All, IsSome, slice_get, get_or-eq_default, cases_eq, cases_lt, ne_eqb, slice_get_within, slice_get-get_or, none-some, same_Some, All-contains, Contains-append_left, Contains-append_right, Contains-append_cases, Contains-get_or, SHARED_MAKER, Name, Value, Parts, Node, Con, Var, Arr, Thunk, Weak, Stack, MutatorState, shared_name, World, IsWorld, IsShared, IsSized, IsNodeOf, IsKnown, AreKnown, node_of, state_of, no_mutator, held_by, field, IsAlive, strong_fields, contains_cases, at_some, is_some_of, contains_at, place_of, nothing_in, flat_contains, item_map, name_cases, IsSmall, IsWithin, IsNodeWithin, IsWide, IsOfWeak, IsName, map_item, IsValue, Held, ImageMutator, Entry, Image, IsHeld, IsMutator, IsNode, IsMade, IsOwned, IsEntry, IsImage, names_of, values_of, values_in, most_object_words, ShownIsImage, Shows, ShowsMutator, shown}
 use Rattle.std.specs.Prelude.{flat_map}
 use Rattle.nmgc_world_spec.specs.Reach.{start}
 use Rattle.nmgc_world_spec.specs.declared.value.Value.TheVariants as value
 
--- what every item of a list has that is told of each item
+-- a property of each contained item holds of every item of a list
 pub all_items : {A : Type 0} (P : A → Type 0) (xs : List A) → ((x : A) → Contains xs x → P x) → All P xs
 all_items P xs f k d lt = f (get_or xs k d) (Contains-get_or xs k d lt)
 
--- where a name of a world lies: with its maker, or it is that of g
+-- the owner of a world's name: its maker, or the name is g's
 pub name_place : (w : World) (n : Name) (node : Node) → node_of w n ≡ Some node → ((n ≡ shared_name) × (node ≡ w.shared)) ⊎
     ((n.maker ≢ SHARED_MAKER) × (n.maker < length w.mutators) × (slice_get (state_of w n.maker).nodes n.serial ≡ Some node))
 name_place w n node e = elim (cases_eq n.maker SHARED_MAKER) [
@@ -36,7 +36,7 @@ name_place w n node e = elim (cases_eq n.maker SHARED_MAKER) [
       inr (ne, maker, f)
 ]
 
--- a name of a world is one that words have
+-- a name of a world is a valid name
 pub name_valid : (w : World) → IsWorld w → (n : Name) → IsSome (node_of w n) → IsName n
 name_valid w world n there =
     let node = is_some_of (node_of w n) there in
@@ -55,7 +55,7 @@ value_valid w world value.Nil small known = tt
 value_valid w world (value.Number n) small known = small
 value_valid w world (value.Ref name) small known = name_valid w world name known
 
--- what a shown node holds, the node holds
+-- a value that a shown node holds is a value of the node
 pub shown_held : (node : Node) (v : Value) → Contains (held_by (shown node)) v → Contains (held_by node) v
 shown_held (Con tag values) v c = c
 shown_held (Var x) v c = c
@@ -65,7 +65,7 @@ shown_held (Thunk free (Some result)) v c = Contains-append_left (result ∷ [])
 shown_held (Weak parts) v c = c
 shown_held (Stack size values) v c = c
 
--- it is a strong field, or a part of an alive weak pointer
+-- a value that a shown node holds is a strong field, or a part of an alive weak pointer
 pub shown_strong : (node : Node) (v : Value) → Contains (held_by (shown node)) v → Contains (strong_fields node) v ⊎
     ((parts : Parts) × (node ≡ Weak (Some parts)) × Contains (parts.key ∷ parts.value ∷ parts.finaliser ∷ []) v)
 shown_strong (Con tag values) v c = inl c
@@ -87,7 +87,7 @@ strong_shown (Thunk free (Some result)) v c = c
 strong_shown (Weak parts) v c = absurd (nothing_in v c)
 strong_shown (Stack size values) v c = c
 
--- what a shown node of the wide reach refers to is in the wide reach
+-- a reference in a shown node of the wide reach is to the wide reach
 pub wide_field : (w : World) (n target : Name) (node : Node) → IsWide w n → node_of w n ≡ Some node →
     Contains (held_by (shown node)) (value.Ref target) → IsWide w target
 wide_field w n target node wide is c = elim (shown_strong node (value.Ref target) c) [
@@ -108,7 +108,7 @@ wide_field w n target node wide is c = elim (shown_strong node (value.Ref target
       start target (inr (n, parts, alive, of))
 ]
 
--- a node within the limits is one that an image may have, as it is shown
+-- a node within the limits, as it is shown, is allowed in an image
 shown_node : (words : ℕ) (name : Name) (node : Node) → words ≤ most_object_words → name ≢ shared_name → IsNodeWithin words name node →
     IsSized node → IsNode (shown node)
 shown_node words name (Con tag values) few other h sized = let s = h.size other in (h.shape, omega (arith, s, few))
@@ -123,7 +123,7 @@ module _ (words : ℕ) (w : World) (image : Image) (few : words ≤ most_object_
   small_known : (values : List Value) → All IsSmall values → AreKnown w values → (v : Value) → Contains values v → IsValue v
   small_known values small known v c = value_valid w world v (All-contains IsSmall values v small c) (All-contains (IsKnown w) values v known c)
 
-  -- a mutator of the image is one of the world
+  -- a mutator of the image is a mutator of the world
   mutator_at : (own : ImageMutator) → Contains image.mutators own → (m : ℕ) × (m < length w.mutators) × ShowsMutator w m own
   mutator_at own c =
       let p = place_of image.mutators own c in

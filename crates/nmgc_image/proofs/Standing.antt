@@ -1,4 +1,4 @@
--- What the words of a report say, where they stand for a world: its wide reach is what a search over places reaches.
+-- The content of a report's words, if they represent a world: its wide reach is the result of a search over addresses.
 use Rattle.std.proofs.{Common.ℕ, Common.◌≡◌, Common.◌≢◌, Common.◌⊎◌, Common.◌↔◌, Common.◌+◌, Common.◌*◌, Common.◌<◌, Common.◌≤◌, Common.zero, Common.suc, Common.List, Common.[], Common.◌∷◌, Common.◌++◌, Common.length, Common.map, Common.slice_index, Common.arith, Common.refl, Common.sym, Common.ap, Common.subst, Common.◌∙◌, Common.Some, Common.inl, Common.inr, Math.ListN.get_or-eq_default, lemmas.Bool.cases_lt, lemmas.Option.slice_get_within, lemmas.List.length-map, lemmas.List.get_or_append_left, lemmas.List.get_or-append-add, lemmas.List.Elements.All-contains, lemmas.List.Elements.All-tail, lemmas.List.Elements.Contains-append_left, lemmas.List.Elements.Contains-append_right, lemmas.List.Elements.Contains-append_cases}
 use Rattle.std.specs.Prelude.{Contains, All, slice_get, flat_map}
 use Rattle.nmgc_limits.specs.declared.mutators.TheConstants.{REGISTERS, SHARED_MAKER}
@@ -10,10 +10,10 @@ use Rattle.nmgc_object.specs.{Places.InSegment, Size.block_size, Words.header_wo
 use Rattle.nmgc_alloc.specs.Numbered.{nth}
 use Rattle.nmgc_heap_spec.specs.{Shape.header_of, Shape.size_of, Places.Place, Places.Means, Places.ListMeans, Represents.NoNode, laws.Changes.lies_within, laws.Headers.same_header, laws.Kinds.HasFields, laws.Kinds.fields_of_slots, laws.Kinds.map_item, laws.Meanings.above_zero, laws.Meanings.placed_at, laws.Roots.wide_tracked, laws.Tracking.reached_in, laws.Common.list_means}
 use Rattle.nmgc_journal.specs.{declared.report.MutatorEnd.MutatorEnd, declared.report.Report.Report}
-use Rattle.nmgc_image.specs.{declared.image.Entry.Entry, declared.image.Image.Image, declared.image.ImageMutator.ImageMutator, Image.names_of, Left.IsLeftAs, Left.LiesWideAt, Objects.IsNamedAt, Objects.IsObjectAt, Objects.name_in, Objects.pointers, Objects.told_at, Objects.node_read, Reaching.Reaches, Reaching.IsMutatorRoot, Reaching.IsWeakRoot, Reaching.IsRootPlace, Reaching.IsReadyFor, Shown.IsReadableObject, Shown.CanShowOwn, Shown.ShowsOwn, Shown.IsShownAt, Shown.ListsObjects, Shows.shown, Shows.Shows, Shows.ShowsMutator, Shows.ListsHeld}
-use Rattle.nmgc_image.proofs.{ShownImage.all_items, ShownImage.wide_field, ShownImage.strong_shown, ShownImage.name_place, Words.name_reads, Words.list_read, Words.list_readable, Words.list_pointers, Words.pointers_list, Words.told_means, Words.node_reads}
+use Rattle.nmgc_image.specs.{declared.image.Entry.Entry, declared.image.Image.Image, declared.image.ImageMutator.ImageMutator, Image.names_of, Left.IsLeftAs, Left.LiesWideAt, Objects.IsNamedAt, Objects.IsObjectAt, Objects.name_in, Objects.pointers, Objects.value_words_at, Objects.node_read, Reaching.Reaches, Reaching.IsMutatorRoot, Reaching.IsWeakRoot, Reaching.IsRootPlace, Reaching.IsReadyFor, Shown.IsReadableObject, Shown.CanShowOwn, Shown.ShowsOwn, Shown.IsShownAt, Shown.ListsObjects, Shows.shown, Shows.Shows, Shows.ShowsMutator, Shows.ListsHeld}
+use Rattle.nmgc_image.proofs.{ShownImage.all_items, ShownImage.wide_field, ShownImage.strong_shown, ShownImage.name_place, Words.name_reads, Words.list_read, Words.list_readable, Words.list_pointers, Words.pointers_list, Words.value_words_mean, Words.node_reads}
 
--- the registers of a mutator among those of all
+-- the registers of a mutator among the registers of all mutators
 own_registers : (mutators : List MutatorEnd) (m i : ℕ) (own : MutatorEnd) → All (λ (e : MutatorEnd). length e.registers ≡ REGISTERS) mutators →
     slice_get mutators m ≡ Some own → i < REGISTERS → slice_index (flat_map (λ (e : MutatorEnd). e.registers) mutators) (REGISTERS * m + i) ≡
     slice_index own.registers i
@@ -32,14 +32,14 @@ own_registers (first ∷ others) (suc m) i own all e lt =
     get_or-append-add first.registers (flat_map (λ (e : MutatorEnd). e.registers) others) (REGISTERS * m + i) 0 ∙
     own_registers others m i own (All-tail (λ (e : MutatorEnd). length e.registers ≡ REGISTERS) first others all) e lt
 
--- what is reached from some places has what these have and pointers keep
+-- all that is reachable from some addresses has a property that they have and that pointers keep
 pub reached_places : (words : List ℕ) (P Q : ℕ → Type 0) → ((at : ℕ) → P at → Q at) →
-    ((at to : ℕ) (object : IsObjectAt words at) → Q at → Contains (pointers (told_at words at object.header)) to → Q to) → (at : ℕ) → Reaches words P at → Q at
+    ((at to : ℕ) (object : IsObjectAt words at) → Q at → Contains (pointers (value_words_at words at object.header)) to → Q to) → (at : ℕ) → Reaches words P at → Q at
 reached_places words P Q first next at (Reaches.root _ p) = first at p
 reached_places words P Q first next at (Reaches.field from _ object r c) = next from at object (reached_places words P Q first next from r) c
 
 module _ (report : Report) (w : World) (left : IsLeftAs report w) where
-  -- the places of objects
+  -- the addresses of objects
   abbrev pub P : Place → Type 0
   P = Contains left.places
 
@@ -57,7 +57,7 @@ module _ (report : Report) (w : World) (left : IsLeftAs report w) where
   above : (p : Place) → P p → 1 ≤ p.at
   above = above_zero left.layout left.earlier NoNode left.places w report.words left.represents
 
-  -- the object of a name of the wide reach, at its place
+  -- the object of a name of the wide reach, at its address
   record StandsAt (at : ℕ) (node : Node) : Type 0 where
     header : slice_index report.words at ≡ header_word (header_of node)
     valid : IsHeader (header_of node)
@@ -91,16 +91,16 @@ module _ (report : Report) (w : World) (left : IsLeftAs report w) where
       let s = stands at name node.0 c wide node.1 in
       record { header = header_of node.0; valid = s.valid; word = sym s.header; within = s.within; named = name_at (record { at = at; name = name }) c }
 
-  -- whatever header is read there, it is the node's
+  -- every header that is read there is the node's
   header_is : (at : ℕ) (node : Node) → StandsAt at node → (object : IsObjectAt report.words at) → object.header ≡ header_of node
   header_is at node s object = same_header object.header (header_of node) object.valid s.valid (object.word ∙ s.header)
 
   means_at : (at : ℕ) (name : Name) (node : Node) → node_of w name ≡ Some node → StandsAt at node → (object : IsObjectAt report.words at) →
-      ListMeans P (told_at report.words at object.header) (held_by (shown node))
+      ListMeans P (value_words_at report.words at object.header) (held_by (shown node))
   means_at at name node is s object =
       subst (λ (h : Header).
-      ListMeans P (told_at report.words at h) (held_by (shown node))) (sym (header_is at node s object))
-      (told_means P report.words name_at name_is above at node (sized name node is) s.fields s.within)
+      ListMeans P (value_words_at report.words at h) (held_by (shown node))) (sym (header_is at node s object))
+      (value_words_mean P report.words name_at name_is above at node (sized name node is) s.fields s.within)
 
   pub wide_readable : (at : ℕ) → LiesWideAt left.places w at → IsReadableObject report.words at
   wide_readable at lies =
@@ -109,7 +109,7 @@ module _ (report : Report) (w : World) (left : IsLeftAs report w) where
       let s = stands at name node.0 lies.2 lies.1 node.1 in
       record {
         object = wide_object at lies;
-        fields = λ it. list_readable P report.words name_at name_is above (told_at report.words at it.header) (held_by (shown node.0))
+        fields = λ it. list_readable P report.words name_at name_is above (value_words_at report.words at it.header) (held_by (shown node.0))
             (means_at at name node.0 node.1 s it);
       }
 
@@ -121,13 +121,13 @@ module _ (report : Report) (w : World) (left : IsLeftAs report w) where
       ap (node_read report.words at) (header_is at node s object) ∙
       node_reads P report.words name_at name_is above at node (sized name node is) s.fields s.within
 
-  -- what it points to is in the wide reach
+  -- its pointers lead into the wide reach
   pub wide_next : (at to : ℕ) (object : IsObjectAt report.words at) → LiesWideAt left.places w at →
-      Contains (pointers (told_at report.words at object.header)) to → LiesWideAt left.places w to
+      Contains (pointers (value_words_at report.words at object.header)) to → LiesWideAt left.places w to
   wide_next at to object (name, wide, c) p =
       let node = wide_node name wide in
       let s = stands at name node.0 c wide node.1 in
-      let n = list_pointers P report.words name_at name_is above (told_at report.words at object.header) (held_by (shown node.0)) to
+      let n = list_pointers P report.words name_at name_is above (value_words_at report.words at object.header) (held_by (shown node.0)) to
       (means_at at name node.0 node.1 s object) p in
       (n.0, wide_field w name n.0 node.0 wide node.1 n.1, n.2)
 
@@ -219,25 +219,25 @@ module _ (report : Report) (w : World) (left : IsLeftAs report w) where
   root_wide at (inr (inl m)) = mutator_root at m
   root_wide at (inr (inr k)) = weak_root at k
 
-  -- what a search reaches lies in the wide reach
+  -- every address that a search reaches lies in the wide reach
   pub reached_wide : (at : ℕ) → Reaches report.words (IsRootPlace report) at → LiesWideAt left.places w at
   reached_wide at r = reached_places report.words (IsRootPlace report) (LiesWideAt left.places w) root_wide wide_next at r
 
-  -- and it reaches all of it
+  -- and a search reaches all of the wide reach
   abbrev pub ReachesName : Name → Type 0
   ReachesName name = (at : ℕ) × P (record { at = at; name = name }) × Reaches report.words (IsRootPlace report) at
 
-  -- a field of an object that is reached
+  -- a field of a reachable object
   reached_field : (name target : Name) (node : Node) → node_of w name ≡ Some node → IsWide w name → ReachesName name →
       Contains (held_by (shown node)) (value.Ref target) → ReachesName target
   reached_field name target node is wide (at, c, r) held =
       let s = stands at name node c wide is in
       let object = wide_object at (name, wide, c) in
-      let p = pointers_list P report.words name_at name_is above (told_at report.words at object.header) (held_by (shown node)) target
+      let p = pointers_list P report.words name_at name_is above (value_words_at report.words at object.header) (held_by (shown node)) target
       (means_at at name node is s object) held in
       (p.0, p.2, Reaches.field at p.0 object r p.1)
 
-  -- an alive weak pointer is reached
+  -- an alive weak pointer is reachable
   reached_weak : (name : Name) (parts : Parts) → IsAlive w name parts → ReachesName name
   reached_weak name parts alive =
       let wide : IsWide w name = start name (inr (name, parts, alive, inl refl)) in
@@ -335,7 +335,7 @@ module _ (report : Report) (w : World) (left : IsLeftAs report w) where
 
   -- THE IMAGE
 
-  -- what is made of the places that are reached shows the world
+  -- the image made from the reachable addresses shows the world
   pub shows : (places : List ℕ) (image : Image) → ((at : ℕ) → Contains places at ↔ Reaches report.words (IsRootPlace report) at) →
       length image.mutators ≡ length report.mutators → ((m : ℕ) (own : MutatorEnd) (shown : ImageMutator) → slice_get report.mutators m ≡ Some own →
       slice_get image.mutators m ≡ Some shown → ShowsOwn report.words own shown) → ListsObjects report.words places image.nodes → Shows w image

@@ -1,4 +1,4 @@
--- The lines of an orderly image are taken, where what it mentions is declared.
+-- The lines of an orderly image are taken, if the names that it mentions are declared.
 use Rattle.nmgc_image.proofs.Vocabulary.{◌≡◌, ◌≤◌, ◌<◌, ℕ, List, [], ◌∷◌, ◌++◌, map, length, refl, sym, ap, subst, ◌∙◌, arith, inl, inr, Bool, true, false, Some, None, append_assoc, All, slice_get, AllByRecursion, option_to_list, slice_get_within, append-nil, same_from_push, recursion_from_All, MAKERS, Name, Value, shared_name, held_by, item_has, at_some, front_of, back_of, IsName, IsValue, bind_some, Held, ImageMutator, Entry, Image, Reader, IsHeld, IsMutator, IsOwned, IsEntry, values_of, IsOrderly, first_words, entry_words, mutator_lines, last_words, image_lines, start, run}
 use Rattle.nmgc_image.proofs.{NodeLaws.IsSpellable, Machine.run_append, Machine.run_on, Machine.run_step, Machine.state, Machine.IsIn, Machine.first_runs, Machine.IsOwnIn, Machine.HasTaken, Machine.mutators_run, Machine.end_runs, Machine.IsEntryIn, Machine.nodes_run, Machine.IsTaken, Machine.AreIn}
 
@@ -68,7 +68,7 @@ module _ (d : Name → Bool) (image : Image) (orderly : IsOrderly image) (are_in
       All (IsIn d) (held_by entry.node)) (IsEntryIn d (length image.mutators) orderly.few taken.done taken.current orderly.some full) image.nodes
       entry_in orderly.nodes are_in.nodes
 
-  -- all its lines but the last
+  -- all its lines except the last
   pub front_taken : run d start ((first_words (length image.mutators) ∷ mutator_lines 0 image.mutators) ++ map entry_words image.nodes) ≡
       Some (state (length image.mutators) taken.done taken.current image.nodes false)
   front_taken =

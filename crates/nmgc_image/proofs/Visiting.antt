@@ -1,7 +1,7 @@
--- The roots of a search, one after another.
+-- The roots of a search, in order.
 use Rattle.nmgc_image.proofs.{Vocabulary.ℕ, Vocabulary.◌≡◌, Vocabulary.◌<◌, Vocabulary.◌≤◌, Vocabulary.◌+◌, Vocabulary.◌^◌, Vocabulary.List, Vocabulary.[], Vocabulary.◌∷◌, Vocabulary.◌++◌, Vocabulary.length, Vocabulary.take, Vocabulary.get_or, Vocabulary.arith, Vocabulary.sym, Vocabulary.subst, Vocabulary.inl, Vocabulary.inr, Vocabulary.Result, Vocabulary.Ok, Vocabulary.Err, Vocabulary.Contains, Vocabulary.OnOk, Vocabulary.cases_eq, Vocabulary.take_more, Vocabulary.take_all, Vocabulary.Contains-append_left, Vocabulary.Contains-push, Vocabulary.Contains-push_cases, Vocabulary.nothing_in, Vocabulary.MutatorEnd, Vocabulary.Report, Vocabulary.Search, Vocabulary.Reaches, Vocabulary.IsSearch, Vocabulary.Visits, Vocabulary.IsOwnRoot, Vocabulary.IsMutatorRoot, Vocabulary.IsRootPlace, Vocabulary.IsReadyFor, Searching.visits_none, Searching.visits_then, Searching.visits_same}
 
--- what has P below a number
+-- P holds for some number below n
 abbrev pub Below : (ℕ → ℕ → Type 0) → ℕ → ℕ → Type 0
 Below P n at = (k : ℕ) × (k < n) × P k at
 
@@ -57,7 +57,7 @@ pub mutators_end : (mutators : List MutatorEnd) (i : ℕ) (s t : Search) → len
     Visits (IsMutatorRoot mutators) s t
 mutators_end mutators i s t all v = let P : List MutatorEnd → Type 0 = λ l. Visits (IsMutatorRoot l) s t in subst P (take_all i mutators all) v
 
--- whatever the search begins with lies in the heap, and is a number of 32 bits
+-- each root of the search lies in the heap, and is a number of 32 bits
 pub root_within : (report : Report) → IsReadyFor report → (at : ℕ) → IsRootPlace report at → (at < length report.words) × (at < 2 ^ 32)
 root_within report ready at root =
     let object = ready.objects at (Reaches.root at root) in
@@ -65,12 +65,12 @@ root_within report ready at root =
     let small = object.named.small in
     (omega (arith, fits), omega (arith, small))
 
--- what is said where all went well, said in other words
+-- a promise of success, replaced by its consequence
 pub on_ok : {T E P Q : Type 0} (r : Result T E) → (P → Q) → OnOk r P → OnOk r Q
 on_ok (Ok x) f h = f h
 on_ok (Err e) f h = h
 
--- from more places more is reached
+-- from more addresses more is reachable
 pub reaches_in : (words : List ℕ) (P Q : ℕ → Type 0) → ((at : ℕ) → P at → Q at) → (at : ℕ) → Reaches words P at → Reaches words Q at
 reaches_in words P Q more at (Reaches.root _ p) = Reaches.root at (more at p)
 reaches_in words P Q more at (Reaches.field from _ object r c) = Reaches.field from at object (reaches_in words P Q more from r) c

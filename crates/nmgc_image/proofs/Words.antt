@@ -1,5 +1,5 @@
--- The words of an object, as they are read: which of them stand for values, and for which.
-use Rattle.nmgc_image.proofs.Vocabulary.{ℕ, ◌≡◌, ◌+◌, ◌-◌, ◌*◌, ◌/◌, ◌%◌, ◌<◌, ◌≤◌, zero, suc, List, [], ◌∷◌, length, map, take, drop, slice_index, arith, refl, sym, ap, subst, ◌∙◌, Bool, true, false, cond, Some, None, inl, inr, eqb, ltb, add-one, ◌&&◌, Contains, All, ne_eqb, eq-eqb, lt-ltb, cases_Bool, drop_more, All-nil, All-cons, Name, Value, Node, Con, Var, Arr, Thunk, Weak, Stack, IsSized, held_by, same_name, contains_cases, contains_head, contains_tail, nothing_in, IsName, name_word, SERIAL_UNIT, NIL_WORD, HEADER_WORDS, header_of, Place, Means, AllMean, ListMeans, HasFields, AreUnset, IsNamedAt, IsReadable, name_in, value_in, is_pointer, pointers, leading, told_thunk, told_weak, fields_at, told_at, begins_unset, made_of, thunk_of, node_read, shown}
+-- The words of an object, as they are read: which words represent values, and which values.
+use Rattle.nmgc_image.proofs.Vocabulary.{ℕ, ◌≡◌, ◌+◌, ◌-◌, ◌*◌, ◌/◌, ◌%◌, ◌<◌, ◌≤◌, zero, suc, List, [], ◌∷◌, length, map, take, drop, slice_index, arith, refl, sym, ap, subst, ◌∙◌, Bool, true, false, cond, Some, None, inl, inr, eqb, ltb, add-one, ◌&&◌, Contains, All, ne_eqb, eq-eqb, lt-ltb, cases_Bool, drop_more, All-nil, All-cons, Name, Value, Node, Con, Var, Arr, Thunk, Weak, Stack, IsSized, held_by, same_name, contains_cases, contains_head, contains_tail, nothing_in, IsName, name_word, SERIAL_UNIT, NIL_WORD, HEADER_WORDS, header_of, Place, Means, AllMean, ListMeans, HasFields, AreUnset, IsNamedAt, IsReadable, name_in, value_in, is_pointer, pointers, leading, thunk_words, weak_words, fields_at, value_words_at, begins_unset, made_of, thunk_of, node_read, shown}
 use Rattle.nmgc_world_spec.specs.declared.value.Value.TheVariants as value
 
 -- a name is read from its word
@@ -21,10 +21,10 @@ odd n word e = (omega arith, omega arith)
 pub fields_more : (words : List ℕ) (from n : ℕ) → from < length words → take (n + 1) (drop from words) ≡ slice_index words from ∷ take n (drop (from + 1) words)
 fields_more words from n lt = ap (take (n + 1)) (drop_more words from 0 lt) ∙ rw add-one refl
 
--- where places have names that can be read, and none is word 0
+-- if addresses have names that can be read, and none is address 0
 module _ (P : Place → Type 0) (words : List ℕ) (named : (p : Place) → P p → IsNamedAt words p.at) (is : (p : Place) → P p →
     name_in words p.at ≡ p.name) (above : (p : Place) → P p → 1 ≤ p.at) where
-  -- a word that stands for a value isn't 0
+  -- a word that represents a value isn't 0
   pub mean_set : (word : ℕ) (v : Value) → Means P word v → 1 ≤ word
   mean_set word value.Nil m = omega arith
   mean_set word (value.Number n) m = omega arith
@@ -46,7 +46,7 @@ module _ (P : Place → Type 0) (words : List ℕ) (named : (p : Place) → P p 
       let c : name_in words (word / 2) ≡ n = ap (name_in words) h.0 ∙ is (record { at = m.0; name = n }) m.2 in
       rw (a, b) (ap value.Ref c)
 
-  -- where it points to, the name of a reference stands
+  -- a pointer's target has the name of the reference
   pub mean_pointer : (word : ℕ) (v : Value) → Means P word v → is_pointer word ≡ true → (n : Name) × (v ≡ value.Ref n) × P (record { at = word / 2; name = n })
   mean_pointer word value.Nil m e = absurd (let f : is_pointer word ≡ false = rw m refl in cc)
   mean_pointer word (value.Number n) m e =
@@ -73,7 +73,7 @@ module _ (P : Place → Type 0) (words : List ℕ) (named : (p : Place) → P p 
   pub mean_readable : (word : ℕ) (v : Value) → Means P word v → IsReadable words word
   mean_readable word v m = (mean_set word v m, λ e. let p = mean_pointer word v m e in named (record { at = word / 2; name = p.0 }) p.2)
 
-  -- the same of lists of words
+  -- lists of words are read as lists of values
   pub list_read : (ws : List ℕ) (vs : List Value) → ListMeans P ws vs → map (value_in words) ws ≡ vs
   list_read [] [] h = refl
   list_read [] (v ∷ vs) h = absurd h
@@ -117,7 +117,7 @@ module _ (P : Place → Type 0) (words : List ℕ) (named : (p : Place) → P p 
       more true x xs y k = contains_tail x xs y k
       more false x xs y k = k
 
-  -- words from a place on that stand for values
+  -- words from an address on that represent values
   rest_mean : (from : ℕ) (v : Value) (vs : List Value) → AllMean P words from (v ∷ vs) → AllMean P words (from + 1) vs
   rest_mean from v vs h i u e = let z : from + suc i ≡ from + 1 + i = omega arith in subst (λ (k : ℕ). Means P (slice_index words k) u) z (h (suc i) u e)
 
@@ -133,7 +133,7 @@ module _ (P : Place → Type 0) (words : List ℕ) (named : (p : Place) → P p 
       let z : length vs + 1 ≡ suc (length vs) = omega arith in
       subst (λ (l : List ℕ). ListMeans P l (v ∷ vs)) (sym (ap (λ (k : ℕ). take k (drop from words)) (sym z) ∙ e)) (first_mean from v vs h, r)
 
-  -- of the slots of a stack those below its depth
+  -- the slots of a stack below its depth
   pub depth_means : (from n : ℕ) (vs : List Value) → AllMean P words from vs → AreUnset words from (length vs) n → length vs ≤ n →
       from + n ≤ length words → ListMeans P (leading (take n (drop from words))) vs
   depth_means from zero [] h u le fits = tt
@@ -168,47 +168,47 @@ module _ (P : Place → Type 0) (words : List ℕ) (named : (p : Place) → P p 
       let z : from + 1 + 1 ≡ from + 2 = omega arith in
       cc (a, b, c, z)
 
-  -- the words that are told of an object stand for what its node holds, as it is shown
-  pub told_means : (at : ℕ) (node : Node) → IsSized node → HasFields P words (at + HEADER_WORDS) node →
-      at + HEADER_WORDS + (header_of node).fields ≤ length words → ListMeans P (told_at words at (header_of node)) (held_by (shown node))
-  told_means at (Con tag values) sized h fits = row_means (at + HEADER_WORDS) values h fits
-  told_means at (Var v) sized h fits = row_means (at + HEADER_WORDS) (v ∷ []) (one (at + HEADER_WORDS) v h) fits
+  -- the value words of an object represent the values that its node holds, as it is shown
+  pub value_words_mean : (at : ℕ) (node : Node) → IsSized node → HasFields P words (at + HEADER_WORDS) node →
+      at + HEADER_WORDS + (header_of node).fields ≤ length words → ListMeans P (value_words_at words at (header_of node)) (held_by (shown node))
+  value_words_mean at (Con tag values) sized h fits = row_means (at + HEADER_WORDS) values h fits
+  value_words_mean at (Var v) sized h fits = row_means (at + HEADER_WORDS) (v ∷ []) (one (at + HEADER_WORDS) v h) fits
     where
       one : (from : ℕ) (v : Value) → Means P (slice_index words from) v → AllMean P words from (v ∷ [])
       one from v m zero u e = let same : v ≡ u = cc in let z : from ≡ from + 0 = omega arith in
           subst (λ (k : ℕ). Means P (slice_index words k) u) z (subst (λ (x : Value). Means P (slice_index words from) x) same m)
       one from v m (suc i) u e = absurd cc
-  told_means at (Arr values) sized h fits = row_means (at + HEADER_WORDS) values h fits
-  told_means at (Thunk free None) sized h fits =
+  value_words_mean at (Arr values) sized h fits = row_means (at + HEADER_WORDS) values h fits
+  value_words_mean at (Thunk free None) sized h fits =
       let from : ℕ = at + HEADER_WORDS in
       let e = fields_more words from (length free) (omega arith) in
-      let told_free : told_thunk (slice_index words from ∷ take (length free) (drop (from + 1) words)) ≡
+      let value_words_free : thunk_words (slice_index words from ∷ take (length free) (drop (from + 1) words)) ≡
       take (length free) (drop (from + 1) words) = rw h.0 refl in
-      subst (λ (l : List ℕ). ListMeans P l free) (sym (ap told_thunk e ∙ told_free)) (row_means (from + 1) free h.1 (omega arith))
-  told_means at (Thunk free (Some result)) sized h fits =
+      subst (λ (l : List ℕ). ListMeans P l free) (sym (ap thunk_words e ∙ value_words_free)) (row_means (from + 1) free h.1 (omega arith))
+  value_words_mean at (Thunk free (Some result)) sized h fits =
       let from : ℕ = at + HEADER_WORDS in
       let e = fields_more words from (length free) (omega arith) in
       let set = mean_set (slice_index words from) result h in
       let b : eqb (slice_index words from) 0 ≡ false = ne_eqb (slice_index words from) 0 (omega (arith, set)) in
-      let told_one : told_thunk (slice_index words from ∷ take (length free) (drop (from + 1) words)) ≡ slice_index words from ∷ [] = rw b refl in
-      subst (λ (l : List ℕ). ListMeans P l (result ∷ [])) (sym (ap told_thunk e ∙ told_one)) (h, tt)
-  told_means at (Weak None) sized h fits =
+      let value_words_one : thunk_words (slice_index words from ∷ take (length free) (drop (from + 1) words)) ≡ slice_index words from ∷ [] = rw b refl in
+      subst (λ (l : List ℕ). ListMeans P l (result ∷ [])) (sym (ap thunk_words e ∙ value_words_one)) (h, tt)
+  value_words_mean at (Weak None) sized h fits =
       let from : ℕ = at + HEADER_WORDS in
       let e = three from fits in
       let b : eqb (slice_index words (from + 1)) 0 ≡ true = eq-eqb (slice_index words (from + 1)) 0 h in
-      let dead : told_weak (slice_index words from ∷ slice_index words (from + 1) ∷ slice_index words (from + 2) ∷ []) ≡ [] = rw b refl in
-      subst (λ (l : List ℕ). ListMeans P l []) (sym (ap told_weak e ∙ dead)) tt
-  told_means at (Weak (Some parts)) sized h fits =
+      let dead : weak_words (slice_index words from ∷ slice_index words (from + 1) ∷ slice_index words (from + 2) ∷ []) ≡ [] = rw b refl in
+      subst (λ (l : List ℕ). ListMeans P l []) (sym (ap weak_words e ∙ dead)) tt
+  value_words_mean at (Weak (Some parts)) sized h fits =
       let from : ℕ = at + HEADER_WORDS in
       let e = three from fits in
       let set = mean_set (slice_index words (from + 1)) parts.value h.1 in
       let b : eqb (slice_index words (from + 1)) 0 ≡ false = ne_eqb (slice_index words (from + 1)) 0 (omega (arith, set)) in
-      let alive : told_weak (slice_index words from ∷ slice_index words (from + 1) ∷ slice_index words (from + 2) ∷ []) ≡ slice_index words from ∷
+      let alive : weak_words (slice_index words from ∷ slice_index words (from + 1) ∷ slice_index words (from + 2) ∷ []) ≡ slice_index words from ∷
       slice_index words (from + 1) ∷ slice_index words (from + 2) ∷ [] = rw b refl in
-      subst (λ (l : List ℕ). ListMeans P l (parts.key ∷ parts.value ∷ parts.finaliser ∷ [])) (sym (ap told_weak e ∙ alive)) (h.0, (h.1, (h.2, tt)))
-  told_means at (Stack size values) sized h fits = depth_means (at + HEADER_WORDS) size values h.0 h.1 sized fits
+      subst (λ (l : List ℕ). ListMeans P l (parts.key ∷ parts.value ∷ parts.finaliser ∷ [])) (sym (ap weak_words e ∙ alive)) (h.0, (h.1, (h.2, tt)))
+  value_words_mean at (Stack size values) sized h fits = depth_means (at + HEADER_WORDS) size values h.0 h.1 sized fits
 
-  -- whether the first field is unset tells whether a thunk has a result
+  -- a thunk has a result exactly if its first field is not unset
   abbrev IsFlag : Node → Bool → Type 0
   IsFlag (Thunk free None) b = b ≡ true
   IsFlag (Thunk free (Some result)) b = b ≡ false
@@ -241,7 +241,7 @@ module _ (P : Place → Type 0) (words : List ℕ) (named : (p : Place) → P p 
   pub node_reads : (at : ℕ) (node : Node) → IsSized node → HasFields P words (at + HEADER_WORDS) node →
       at + HEADER_WORDS + (header_of node).fields ≤ length words → node_read words at (header_of node) ≡ shown node
   node_reads at node sized h fits =
-      let values : map (value_in words) (told_at words at (header_of node)) ≡ held_by (shown node) =
-      list_read (told_at words at (header_of node)) (held_by (shown node)) (told_means at node sized h fits) in
+      let values : map (value_in words) (value_words_at words at (header_of node)) ≡ held_by (shown node) =
+      list_read (value_words_at words at (header_of node)) (held_by (shown node)) (value_words_mean at node sized h fits) in
       let b : Bool = begins_unset (fields_at words at (header_of node)) in
       ap (made_of (header_of node).kind (header_of node) b) values ∙ made_shown node b (flag_reads at node h fits)

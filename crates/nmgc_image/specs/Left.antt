@@ -1,20 +1,20 @@
--- The heap that a report has stands for a world.
+-- The heap of a report represents a world.
 use Rattle.std.specs.Prelude.{◌≡◌, ℕ, ◌+◌, ◌<◌, ◌≤◌, List, length, map, flat_map, Contains, All}
 use Rattle.nmgc_limits.specs.declared.mutators.TheConstants.{REGISTERS}
 use Rattle.nmgc_world_spec.specs.{declared.value.Name.Name, World.World, World.IsWorld, Wide.IsWide}
 use Rattle.nmgc_world_laws.specs.Limits.{IsWithin}
 use Rattle.nmgc_object.specs.{Places.IsLayout, Places.nursery_place, declared.layout.Layout.Layout, declared.size.TheConstants.HEADER_WORDS, declared.words.TheConstants.MAX_FIELDS}
 use Rattle.nmgc_heap_spec.specs.{Places.Place, Represents.Represents, Represents.NoNode, Roots.RepresentsRoots, Roots.ListsWeaks}
-use Rattle.nmgc_blocks_spec.specs.Occupied.{AreBlocks}
+use Rattle.nmgc_stop_spec.specs.Occupied.{AreBlocks}
 use Rattle.nmgc_journal.specs.{declared.report.MutatorEnd.MutatorEnd, declared.report.Report.Report}
 use Rattle.nmgc_image.specs.{declared.image.Image.Image, Image.IsImage, Shows.Shows}
 
--- as many words as a segment may have, so that the header of each object can be written
+-- the most words of a segment for which the header of each object can be written
 abbrev pub most_object_words : ℕ
 most_object_words = HEADER_WORDS + MAX_FIELDS
 
--- the report's words, segments, mutators and weak pointers stand for a world within the limits, as a stop leaves
--- them: objects lie in blocks, and none in a nursery
+-- the heap that a run leaves: the report's words, segments, roots and list of weak pointers represent a world within the
+-- limits, as a stop leaves it. All objects are in blocks, and none in a nursery.
 pub record IsLeftAs (report : Report) (w : World) : Type 0 where
   pub world : IsWorld w
   pub limit : ℕ
@@ -35,10 +35,10 @@ pub record IsLeftAs (report : Report) (w : World) : Type 0 where
   pub listed : ListsWeaks layout places w weaks
   pub weaks_are : report.weaks ≡ map (λ (p : Place). p.name) weaks
 
--- a name of the wide reach lies at the place
+-- a name in the world's wide reach has its object at this address
 abbrev pub LiesWideAt : List Place → World → ℕ → Type 0
 LiesWideAt places w at = (name : Name) × IsWide w name × Contains places (record { at = at; name = name })
 
--- what shows a world within the limits is an image: it is orderly, and closed
+-- an image that shows a world within the limits is well-formed: orderly, with g and every name that it mentions
 abbrev pub ShownIsImage : Type 0
 ShownIsImage = (words : ℕ) (w : World) (image : Image) → words ≤ most_object_words → IsWorld w → IsWithin words w → Shows w image → IsImage image

@@ -1,10 +1,10 @@
-//! Which names have node lines.
+//! The names that have node lines.
 //!
-//! A line may mention a name whose node line comes only later. So names are looked up once all lines were read: the names
-//! of the objects that were read, and of the node lines after them, are gathered as numbers in order.
+//! A line may mention a name whose node line comes only later. So names are looked up after all lines were read. The names of
+//! the objects read, and of the node lines after them, are collected as sorted numbers.
 ghost use Rattle.std.specs.Prelude.{◌≡◌, ◌↔◌, ◌++◌, [], true, All, Contains, IfOk, IsTrue, OnOk, map};
 ghost use Rattle.nmgc_object.specs.Words.{IsName};
-ghost use Rattle.nmgc_image.specs.{Names.TellsNames, Reading.has_key, Reading.key_of, Reading.keys_beside, Reading.keys_in, Reading.keys_of as all_keys, Reading.HaveSame, Text.cut};
+ghost use Rattle.nmgc_image.specs.{Names.IsTestOf, Reading.has_key, Reading.key_of, Reading.keys_beside, Reading.keys_in, Reading.keys_of as all_keys, Reading.HaveSame, Text.cut};
 ghost use Rattle.std.specs.List.Sorted.{IsNonDecreasing};
 
 use crate::LineFault;
@@ -16,8 +16,8 @@ use nmgc_lists::NoMemory;
 use nmgc_world_spec::Name;
 use std::alloc::Global;
 
-/// Names, as numbers in order. Where a maker's serials follow one another, the place of a number is the number plus the
-/// maker's shift, modulo 2^64: so it is looked for there first. Nothing rests on the shifts but time.
+/// A set of names, as sorted numbers. If a maker's serials are consecutive, the position of a number is the number plus the
+/// maker's shift, modulo 2^64. So a number is looked for there first. Only the time depends on the shifts.
 #[derive(Drop)]
 pub(crate) struct Declared {
     keys: Vec<u64>,
@@ -26,7 +26,7 @@ pub(crate) struct Declared {
 }
 
 impl Declared {
-    /// Whether a name is one of them. Takes no memory.
+    /// Whether a name is in the set. Takes no memory.
     pub(crate) fn has(&self, name: Name) -> bool
         ensures { result ≡ has_key self.now.keys.items name }
     {
@@ -37,7 +37,7 @@ impl Declared {
         self.keys.binary_search(&key).is_ok()
     }
 
-    // Whether a number is one of them, and lies where the maker's shift says.
+    // Whether the number `key` is at the position that the maker's shift gives. Only true says something about the set.
     fn is_at_shift(&self, maker: u8, key: u64) -> bool
         ensures { result ≡ true → Contains self.now.keys.items key }
     {
@@ -50,7 +50,7 @@ impl Declared {
         }
     }
 
-    /// Whether there is none. Takes no memory.
+    /// Whether the set is empty. Takes no memory.
     pub(crate) fn is_empty(&self) -> bool
         ensures { IsTrue result ↔ (self.now.keys.items ≡ []) }
     {
@@ -58,14 +58,14 @@ impl Declared {
     }
 }
 
-/// A number for each name, in the order of names.
+/// Returns the number that represents a name. These numbers are in the order of names.
 pub(crate) fn key(name: Name) -> u64
     ensures { result ≡ key_of name }
 {
     u64::from(name.maker) * (1 << 32) + u64::from(name.serial)
 }
 
-// For each maker its shift: the place of its first number less that number, modulo 2^64.
+// Returns the shift of each maker: the position of the maker's first number less that number, modulo 2^64.
 fn shifts_of(alloc: Global, keys: &[u64]) -> Result<Vec<u64>, NoMemory> {
     let mut shifts = Vec::new(alloc);
     for maker in 0..MAKERS {
@@ -82,7 +82,7 @@ fn shifts_of(alloc: Global, keys: &[u64]) -> Result<Vec<u64>, NoMemory> {
     Ok(shifts)
 }
 
-// These numbers in order.
+// Returns the set of the names whose numbers are `keys`, sorted.
 fn in_order(alloc: Global, keys: Vec<u64>) -> Result<Declared, NoMemory>
     ensures { IfOk result (λ declared. HaveSame declared.keys.items keys.items) }
 {
@@ -92,7 +92,7 @@ fn in_order(alloc: Global, keys: Vec<u64>) -> Result<Declared, NoMemory>
     Ok(Declared { keys, shifts })
 }
 
-// The numbers of the names of objects.
+// Returns the numbers of the objects' names.
 fn keys_of(alloc: Global, nodes: &[Entry]) -> Result<Vec<u64>, NoMemory>
     ensures { IfOk result (λ keys. keys.items ≡ map (λ entry. key_of entry.name) nodes.now) }
 {
@@ -103,7 +103,7 @@ fn keys_of(alloc: Global, nodes: &[Entry]) -> Result<Vec<u64>, NoMemory>
     Ok(keys)
 }
 
-// Adds those of the node lines of a text.
+// Appends the number of the name of each node line of a text.
 fn push_keys(alloc: Global, keys: &mut Vec<u64>, bytes: &[u8]) -> Result<(), NoMemory>
     ensures { OnOk result (keys.new.items ≡ keys.old.items ++ all_keys (cut bytes.now).lines) }
 {
@@ -117,7 +117,7 @@ fn push_keys(alloc: Global, keys: &mut Vec<u64>, bytes: &[u8]) -> Result<(), NoM
     Ok(())
 }
 
-// Adds that of a node line.
+// Appends the number of a line's name, if the line is a node line.
 fn push_key(alloc: Global, keys: &mut Vec<u64>, words: &[&[u8]]) -> Result<(), NoMemory>
     ensures { OnOk result (keys.new.items ≡ keys.old.items ++ keys_in (map (λ w. w.now) words.now)) }
 {
@@ -131,7 +131,7 @@ fn push_key(alloc: Global, keys: &mut Vec<u64>, words: &[&[u8]]) -> Result<(), N
     }
 }
 
-/// The names of objects, and those of the node lines of a text.
+/// Returns the set of the names of `nodes` and of the node lines of a text.
 pub(crate) fn declared_in(
     alloc: Global,
     nodes: &[Entry],
@@ -144,10 +144,10 @@ pub(crate) fn declared_in(
     in_order(alloc, keys)
 }
 
-/// These names.
+/// Returns the set of these names.
 pub(crate) fn of_names(alloc: Global, names: &[Name]) -> Result<Declared, NoMemory>
     requires { All IsName names.now }
-    ensures { IfOk result (λ declared. TellsNames (has_key declared.keys.items) names.now) }
+    ensures { IfOk result (λ declared. IsTestOf (has_key declared.keys.items) names.now) }
 {
     let mut keys = Vec::new(alloc);
     for name in names {

@@ -1,6 +1,6 @@
 //! The lines of a text up to the first that can't be taken.
 //!
-//! Plain node lines are read at a glance, and all other lines by their words.
+//! Plain node lines are read in one pass, and all other lines by their tokens.
 ghost use Rattle.std.specs.Prelude.{◌≡◌, IfOk};
 ghost use Rattle.nmgc_image.specs.{Known.test_of, Plain.IsPlain, Reading.Advances, Reading.AreRead};
 
@@ -13,8 +13,8 @@ use crate::text::{Lines, cut_words, next_line};
 use nmgc_lists::NoMemory;
 use std::alloc::Global;
 
-/// Takes the lines of a text up to the first that can't be taken, and stays there. Takes time in
-/// proportion to the lines that it takes, but for the look-ups of names.
+/// Takes the lines of a text up to the first line that can't be taken, which stays, and returns the reader after them. Takes
+/// time proportional to these lines, beside the look-ups of names.
 pub(crate) fn read_lines(
     alloc: Global,
     known: &Known,
@@ -34,7 +34,7 @@ pub(crate) fn read_lines(
     }
 }
 
-// Takes the next line. `Bad` comes exactly where there is none that can be taken, and then nothing changes.
+// Takes the next line. `Bad` means exactly that no next line can be taken, and then nothing changes.
 fn take_next<'a>(
     alloc: Global,
     known: &Known,
@@ -52,7 +52,7 @@ fn take_next<'a>(
     }
 }
 
-// Takes a plain node line that was read, with what comes after it.
+// Takes the object of a plain node line that was read already, and goes on to the text after that line.
 fn take_plain<'a>(
     known: &Known,
     lines: &mut Lines<'a>,
@@ -68,7 +68,7 @@ fn take_plain<'a>(
     Ok(())
 }
 
-// Takes the next line by its words.
+// Takes the next line by its tokens.
 fn take_words<'a>(
     alloc: Global,
     known: &Known,

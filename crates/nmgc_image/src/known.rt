@@ -1,8 +1,8 @@
-//! Which names count as declared while a text is read.
+//! The names that count as declared while a text is read.
 //!
-//! A text is read before it is known which names have node lines, and then every name counts as declared. What was
-//! mentioned is looked up afterwards. Where a name has no node line, the text is read once more, and the first line
-//! that mentions such a name is bad.
+//! A text is read before it is known which names have node lines, and then every name counts as declared. The mentioned names
+//! are looked up afterwards. If a name has no node line, the text is read once more, and the first line that mentions such a
+//! name is bad.
 ghost use Rattle.std.specs.{Prelude.◌≡◌, Prelude.true, List.list_all, Option.option_to_list};
 ghost use Rattle.nmgc_world_spec.specs.{Step.shared_name, World.held_by};
 ghost use Rattle.nmgc_image.specs.{Known.test_of, Reading.is_declared, Reading.is_own_in, Reading.is_object_in, Reading.AreMentionsIn};
@@ -12,7 +12,7 @@ use crate::image::{Entry, Held, ImageMutator};
 use crate::reader::Reader;
 use nmgc_world_spec::{Name, Node, Value};
 
-/// Which names count as declared: every name, or these.
+/// The names that count as declared: every name, or the names of a set.
 #[derive(Drop)]
 pub(crate) enum Known {
     Every,
@@ -29,7 +29,7 @@ pub(crate) fn is_known(known: &Known, name: Name) -> bool
     }
 }
 
-/// Whether what a value refers to, if it refers to something, counts as declared. Takes no memory.
+/// Whether the name that a value refers to, if any, counts as declared. Takes no memory.
 pub(crate) fn is_value_known(known: &Known, value: Value) -> bool
     ensures { result ≡ is_declared (test_of known.now) value }
 {
@@ -116,7 +116,7 @@ fn is_end_known(known: &Known, ended: bool) -> bool
     !ended || is_known(known, Name::SHARED)
 }
 
-/// Whether each name that was mentioned so far is declared. Takes no memory, and time in proportion to what was read.
+/// Whether each name mentioned so far is declared. Takes no memory, and time proportional to the lines read.
 pub(crate) fn are_mentions_known(known: &Known, reader: &Reader) -> bool
     ensures { result ≡ true → AreMentionsIn (test_of known.now) reader.now }
 {

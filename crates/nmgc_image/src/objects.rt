@@ -1,11 +1,11 @@
-//! Objects read from the words of a heap that nobody writes any more.
+//! Objects read from the words of a heap after the last write.
 //!
-//! The field words of an object are copied to one buffer, which the whole search uses again. Which of them stand for
-//! values depends on the kind: a thunk with a result has dropped its free variables, a dead weak pointer all that it
-//! had, and a stack what lies above its depth. Of the other words nothing is known, and they aren't looked at.
+//! The field words of an object are copied to one buffer, which the whole search reuses. The kind determines which words
+//! represent values. A thunk with a result has dropped its free variables, a dead weak pointer all its parts, and a stack the
+//! slots above its depth. Nothing is known of the other words, and they aren't read.
 ghost use Rattle.std.specs.Prelude.{◌≡◌, ◌+◌, ◌^◌, ◌≤◌, ◌<◌, ◌/◌, length, map, take, drop, All, IfOk, OnOk, IfSome, IfNone, IsTrue, true, false};
 ghost use Rattle.nmgc_object.specs.{declared.size.TheConstants.HEADER_WORDS as header_words, declared.words.Header.Header as HeaderOf};
-ghost use Rattle.nmgc_image.specs.Objects.{IsNamedAt, IsObjectAt, IsReadable, name_in, value_in, is_pointer, leading, told, told_thunk, told_weak, fields_at, told_at, begins_unset, made_of, var_of, thunk_of, weak_of, node_read};
+ghost use Rattle.nmgc_image.specs.Objects.{IsNamedAt, IsObjectAt, IsReadable, name_in, value_in, is_pointer, leading, value_words, thunk_words, weak_words, fields_at, value_words_at, begins_unset, made_of, var_of, thunk_of, weak_of, node_read};
 
 use nmgc_journal::FinalWords;
 use nmgc_lists::{List, NoMemory};
@@ -14,7 +14,7 @@ use nmgc_object::{HEADER_WORDS, NAME_OFFSET};
 use nmgc_world_spec::{Kind, Name, Node, Parts, Value};
 use std::alloc::Global;
 
-/// The name that stands at a place. Takes no memory.
+/// Returns the name of the object at an address. Takes no memory.
 pub(crate) fn name_at(words: &FinalWords, at: u32) -> Name
     requires { IsNamedAt words.now at }
     ensures { result ≡ name_in words.now at }
@@ -22,7 +22,7 @@ pub(crate) fn name_at(words: &FinalWords, at: u32) -> Name
     name_of(words.word((at + NAME_OFFSET) as usize))
 }
 
-// The header of the object at a place.
+// Returns the header of the object at an address.
 fn header_at(words: &FinalWords, at: u32) -> Header
     requires { IsObjectAt words.now at }
     ensures { (object : IsObjectAt words.now at) → result ≡ object.header }
@@ -30,7 +30,7 @@ fn header_at(words: &FinalWords, at: u32) -> Header
     header_of(words.word(at as usize))
 }
 
-/// The place that a field word points to. `None` comes exactly where it is no pointer's.
+/// Returns the address that a field word points to, or `None` exactly if it is no pointer.
 pub(crate) fn place_in(word: u64) -> Option<u64>
     ensures some { IfSome result (λ at. (is_pointer word ≡ true) × (at ≡ word / 2)) }
     ensures none { IfNone result (is_pointer word ≡ false) }
@@ -42,7 +42,7 @@ pub(crate) fn place_in(word: u64) -> Option<u64>
     Some(at)
 }
 
-// The value that a field word stands for.
+// Returns the value that a field word represents.
 fn value_of(words: &FinalWords, word: u64) -> Value
     requires { IsReadable words.now word }
     ensures { result ≡ value_in words.now word }
@@ -56,7 +56,7 @@ fn value_of(words: &FinalWords, word: u64) -> Value
     }
 }
 
-/// The values that field words stand for.
+/// Returns the values that field words represent.
 pub(crate) fn values_of(
     alloc: Global,
     words: &FinalWords,
@@ -72,7 +72,7 @@ pub(crate) fn values_of(
     Ok(values)
 }
 
-/// Copies the field words of the object at a place into a buffer, in place of what is there, and gives its header.
+/// Replaces the content of `buffer` by the field words of the object at an address, and returns the object's header.
 pub(crate) fn copy_fields(
     words: &FinalWords,
     at: u32,
@@ -87,7 +87,7 @@ pub(crate) fn copy_fields(
     Ok(header)
 }
 
-// Copies so many words from a place on into a buffer, in place of what is there.
+// Replaces the content of `buffer` by the `count` words from an address on.
 fn copy_words(
     words: &FinalWords,
     from: u32,
@@ -105,21 +105,21 @@ fn copy_words(
     Ok(())
 }
 
-/// Of the field words of an object those that stand for values. Takes no memory.
-pub(crate) fn told(kind: Kind, fields: &[u64]) -> &[u64]
-    ensures { result.now ≡ told kind fields.now }
+/// Returns the field words of an object that represent values. Takes no memory.
+pub(crate) fn value_words(kind: Kind, fields: &[u64]) -> &[u64]
+    ensures { result.now ≡ value_words kind fields.now }
 {
     match kind {
         Kind::Con | Kind::Var | Kind::Arr => fields,
-        Kind::Thunk => told_of_thunk(fields),
-        Kind::Weak => told_of_weak(fields),
-        Kind::Stack => told_of_stack(fields),
+        Kind::Thunk => value_words_of_thunk(fields),
+        Kind::Weak => value_words_of_weak(fields),
+        Kind::Stack => value_words_of_stack(fields),
     }
 }
 
-// Of a thunk the result, or where it is unset the free variables.
-fn told_of_thunk(fields: &[u64]) -> &[u64]
-    ensures { result.now ≡ told_thunk fields.now }
+// Returns the field words of a thunk that represent values: its result or, if the result is unset, its free variables.
+fn value_words_of_thunk(fields: &[u64]) -> &[u64]
+    ensures { result.now ≡ thunk_words fields.now }
 {
     match fields {
         [] => &[],
@@ -127,9 +127,9 @@ fn told_of_thunk(fields: &[u64]) -> &[u64]
     }
 }
 
-// Of a weak pointer all, or where it is dead nothing.
-fn told_of_weak(fields: &[u64]) -> &[u64]
-    ensures { result.now ≡ told_weak fields.now }
+// Returns the field words of a weak pointer that represent values: all of them, or none if the weak pointer is dead.
+fn value_words_of_weak(fields: &[u64]) -> &[u64]
+    ensures { result.now ≡ weak_words fields.now }
 {
     match fields {
         [_, value, _] => { if *value == 0 { &[] } else { fields } }
@@ -137,8 +137,8 @@ fn told_of_weak(fields: &[u64]) -> &[u64]
     }
 }
 
-// Of a stack what lies below its depth.
-fn told_of_stack(fields: &[u64]) -> &[u64]
+// Returns the field words of a stack that represent values: its slots below its depth.
+fn value_words_of_stack(fields: &[u64]) -> &[u64]
     ensures { result.now ≡ leading fields.now }
 {
     let mut depth = 0;
@@ -148,7 +148,7 @@ fn told_of_stack(fields: &[u64]) -> &[u64]
     &fields[..depth]
 }
 
-// Whether the first of these words is that of an unset field.
+// Whether the first field word is unset. False if there is no field.
 fn begins_unset(fields: &[u64]) -> bool
     ensures { result ≡ begins_unset fields.now }
 {
@@ -158,7 +158,7 @@ fn begins_unset(fields: &[u64]) -> bool
     }
 }
 
-/// The node of the object at a place, as an image shows it: a thunk with a result has no free variables any more.
+/// Returns the node of the object at an address, as an image shows it: a thunk with a result has no free variables any more.
 pub(crate) fn node_at(
     alloc: Global,
     words: &FinalWords,
@@ -166,16 +166,16 @@ pub(crate) fn node_at(
     buffer: &mut Vec<u64>,
 ) -> Result<Node, NoMemory>
     requires object { IsObjectAt words.now at }
-    requires readable { (object : IsObjectAt words.now at) → All (IsReadable words.now) (told_at words.now at object.header) }
+    requires readable { (object : IsObjectAt words.now at) → All (IsReadable words.now) (value_words_at words.now at object.header) }
     ensures { (object : IsObjectAt words.now at) → IfOk result (λ node. node ≡ node_read words.now at object.header) }
 {
     let header = copy_fields(words, at, buffer)?;
     let fields = buffer.as_slice();
-    let values = values_of(alloc, words, told(header.kind, fields))?;
+    let values = values_of(alloc, words, value_words(header.kind, fields))?;
     make_node(alloc, header, begins_unset(fields), values)
 }
 
-// The node of an object of this header and these values, where it is told whether its first field is unset.
+// Returns the node of an object, made from its header, from whether its first field is unset, and from its values.
 fn make_node(
     alloc: Global,
     header: Header,

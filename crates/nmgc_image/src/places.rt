@@ -1,13 +1,13 @@
-//! The places of the objects of an image.
+//! The addresses of the objects of an image.
 //!
-//! The search begins with g, with what the mutators have in hand, and with the weak pointers that are alive. Of the
-//! latter a report has the names alone, so their places are looked for among the blocks in use.
-//! Easy to get wrong: in a block in use may stand an object of which nobody speaks any more. Its name can be read, and
-//! nothing else of it. So nothing but the name is read before it was found among those of the weak pointers.
+//! The search begins with g, with the mutators' registers and queues, and with the weak pointers that are alive. A report has
+//! only the names of the weak pointers, so their addresses are searched among the blocks in use. Easy to get wrong: a block
+//! in use may hold an object that isn't reachable any more. Its name can be read, and nothing else of it. So only the name is
+//! read before it is found among the names of the weak pointers.
 ghost use Rattle.std.specs.Prelude.{◌≡◌, ◌↔◌, ℕ, ◌^◌, ◌<◌, length, Contains, IfOk, IsTrue, OnOk};
 ghost use Rattle.nmgc_segment.specs.Segment.{InUse};
 ghost use Rattle.nmgc_alloc.specs.{Numbered.nth, Numbered.HasNumber, Segments.IsBlockAt};
-ghost use Rattle.nmgc_image.specs.{Names.TellsNames, Objects.name_in, Reading.has_key};
+ghost use Rattle.nmgc_image.specs.{Names.IsTestOf, Objects.name_in, Reading.has_key};
 ghost use Rattle.nmgc_image.specs.Reaching.{Reaches, IsSearch, Visits, ArePointers, IsOwnRoot, IsMutatorRoot, IsWeakBlock, IsWeakIn, IsWeakRoot, IsRootPlace, IsReadyFor};
 
 use crate::declared::{Declared, of_names};
@@ -19,7 +19,7 @@ use nmgc_object::SHARED_PLACE;
 use nmgc_segment::{Segment, State};
 use std::alloc::Global;
 
-/// The places of the objects of an image, in no order.
+/// Returns the addresses of the objects that an image of the report has, in no order.
 pub(crate) fn places_of(alloc: Global, report: &Report) -> Result<Vec<u32>, NoMemory>
     requires { IsReadyFor report.now }
     ensures { IfOk result (λ places. (at : ℕ) → Contains places.items at ↔ Reaches report.now.words (IsRootPlace report.now) at) }
@@ -30,7 +30,7 @@ pub(crate) fn places_of(alloc: Global, report: &Report) -> Result<Vec<u32>, NoMe
     Ok(search.order)
 }
 
-// Finds the places with which the search begins.
+// Adds the roots to the search: the shared array, the mutators' roots and the weak pointers.
 fn visit_roots(alloc: Global, search: &mut Search, report: &Report) -> Result<(), NoMemory>
     requires sound { IsSearch search.old }
     requires room { length search.old.seen.items ≡ length report.now.words }
@@ -42,7 +42,7 @@ fn visit_roots(alloc: Global, search: &mut Search, report: &Report) -> Result<()
     visit_weaks(alloc, search, report)
 }
 
-// Finds what the mutators have in hand.
+// Adds the addresses in the mutators' registers and queues to the search.
 fn visit_mutators(search: &mut Search, mutators: &[MutatorEnd]) -> Result<(), NoMemory>
     requires sound { IsSearch search.old }
     requires within { (at : ℕ) → IsMutatorRoot mutators.now at → (at < length search.old.seen.items) × (at < 2 ^ 32) }
@@ -54,7 +54,7 @@ fn visit_mutators(search: &mut Search, mutators: &[MutatorEnd]) -> Result<(), No
     Ok(())
 }
 
-// Finds what one of them has in hand.
+// Adds the addresses in a mutator's registers and queue to the search.
 fn visit_own(search: &mut Search, own: &MutatorEnd) -> Result<(), NoMemory>
     requires sound { IsSearch search.old }
     requires within { (at : ℕ) → IsOwnRoot own.now at → (at < length search.old.seen.items) × (at < 2 ^ 32) }
@@ -64,7 +64,7 @@ fn visit_own(search: &mut Search, own: &MutatorEnd) -> Result<(), NoMemory>
     visit_queue(search, own)
 }
 
-// Finds what its registers hold.
+// Adds the addresses in a mutator's registers to the search.
 fn visit_registers(search: &mut Search, own: &MutatorEnd) -> Result<(), NoMemory>
     requires sound { IsSearch search.old }
     requires within { (at : ℕ) → ArePointers own.now.registers at → (at < length search.old.seen.items) × (at < 2 ^ 32) }
@@ -73,7 +73,7 @@ fn visit_registers(search: &mut Search, own: &MutatorEnd) -> Result<(), NoMemory
     search.visit_words(own.registers.items())
 }
 
-// Finds what its queue holds.
+// Adds the addresses in a mutator's queue to the search.
 fn visit_queue(search: &mut Search, own: &MutatorEnd) -> Result<(), NoMemory>
     requires sound { IsSearch search.old }
     requires within { (at : ℕ) → ArePointers own.now.queue at → (at < length search.old.seen.items) × (at < 2 ^ 32) }
@@ -82,7 +82,7 @@ fn visit_queue(search: &mut Search, own: &MutatorEnd) -> Result<(), NoMemory>
     search.visit_words(own.queue.items())
 }
 
-// Finds the weak pointers.
+// Adds the addresses of the weak pointers to the search.
 fn visit_weaks(alloc: Global, search: &mut Search, report: &Report) -> Result<(), NoMemory>
     requires sound { IsSearch search.old }
     requires room { length search.old.seen.items ≡ length report.now.words }
@@ -99,7 +99,7 @@ fn visit_weaks(alloc: Global, search: &mut Search, report: &Report) -> Result<()
     Ok(())
 }
 
-// Finds those in the blocks of a segment.
+// Adds the addresses of the weak pointers in the blocks of a segment to the search.
 fn visit_segment(
     search: &mut Search,
     report: &Report,
@@ -109,7 +109,7 @@ fn visit_segment(
     requires sound { IsSearch search.old }
     requires room { length search.old.seen.items ≡ length report.now.words }
     requires ready { IsReadyFor report.now }
-    requires weaks { TellsNames (has_key weaks.now.keys.items) report.now.weaks }
+    requires weaks { IsTestOf (has_key weaks.now.keys.items) report.now.weaks }
     requires number { HasNumber report.now.segments number }
     ensures { OnOk result (Visits (IsWeakIn report.now number) search.old search.new) }
 {
@@ -133,7 +133,7 @@ fn is_free(segment: &Segment) -> bool
     segment.state() == State::Free
 }
 
-// Finds the weak pointer in a block in use, if there is one.
+// Adds the address of a block in use to the search, if the report lists its name as a weak pointer.
 fn visit_block(
     search: &mut Search,
     report: &Report,
@@ -143,7 +143,7 @@ fn visit_block(
     requires sound { IsSearch search.old }
     requires room { length search.old.seen.items ≡ length report.now.words }
     requires ready { IsReadyFor report.now }
-    requires weaks { TellsNames (has_key weaks.now.keys.items) report.now.weaks }
+    requires weaks { IsTestOf (has_key weaks.now.keys.items) report.now.weaks }
     requires block { (number : ℕ) × (block : ℕ) × IsBlockAt report.now.segments number block at × InUse (nth report.now.segments.segments number) block }
     ensures { OnOk result (Visits (λ place. (place ≡ at) × Contains report.now.weaks (name_in report.now.words at)) search.old search.new) }
 {

@@ -1,9 +1,8 @@
-//! Node lines that are read at a glance.
+//! Node lines that are read in one pass.
 //!
-//! Most objects are constructors, and so most lines of a long image are theirs. Such a line is read from its first byte to its
-//! last, and is never cut into words. Whatever isn't read so, be it a line of another kind or a bad one, is left to `nodes`,
-//! which reads any line by its words.
-//! Easy to get wrong: a number with a leading zero is the text of none.
+//! Most objects are constructors, and so most lines of a long image are theirs. Such a line is read from its first byte to
+//! its last, and is never cut into tokens. Every line that isn't read so, of another kind or bad, is left to `nodes`, which
+//! reads any line by its tokens. Easy to get wrong: a number with a leading zero is the text of no number.
 ghost use Rattle.std.specs.Prelude.{◌≡◌, ◌+◌, ◌^◌, ◌<◌, ◌++◌, ◌∷◌, codes, decimal, length, map, All, IfOk, IfSome, OnOk};
 ghost use Rattle.nmgc_journal.specs.Text.{IsValue, name_text, value_text};
 ghost use Rattle.nmgc_object.specs.Words.{IsName};
@@ -18,24 +17,24 @@ use nmgc_object::words::TAGS;
 use nmgc_world_spec::{Name, Node, Value};
 use std::alloc::Global;
 
-/// A number from which on no more digits are read.
+/// The least number after which no further digit is read.
 const MANY: u64 = 100_000_000_000_000_000;
 
-/// A place in a text. `Bad` says that what comes isn't read at a glance; it may then have gone on.
+/// A position in a text. `Bad` means that the next part can't be read in one pass. The position may have moved then.
 #[derive(Drop)]
 pub(crate) struct Cursor<'a> {
     pub(crate) rest: &'a [u8],
 }
 
 impl<'a> Cursor<'a> {
-    /// The beginning of a text. Takes no memory.
+    /// Returns the position at the beginning of a text. Takes no memory.
     pub(crate) fn new(bytes: &'a [u8]) -> Self
         ensures { result.rest.now ≡ bytes.now }
     {
         Cursor { rest: bytes }
     }
 
-    /// The object of a plain node line, whose line feed is passed too.
+    /// Reads a plain node line with its line feed, and returns its object.
     pub(crate) fn entry(&mut self, alloc: Global) -> Result<Entry, LineFault>
         ensures { IfOk result (λ entry. IsPlain self.old.rest.now entry self.new.rest.now) }
     {
@@ -45,7 +44,7 @@ impl<'a> Cursor<'a> {
         Ok(Entry { name, node })
     }
 
-    // The words of a constructor, and the end of the line.
+    // Reads the tokens of a constructor up to the line feed, which is passed too, and returns the node.
     fn con(&mut self, alloc: Global) -> Result<Node, LineFault>
         ensures { IfOk result (λ node. IsPlainNode self.old.rest.now node self.new.rest.now) }
     {
@@ -64,7 +63,7 @@ impl<'a> Cursor<'a> {
         })
     }
 
-    // The values up to the end of the line, which is passed too. Two lie in the list itself.
+    // Reads values up to the line feed, which is passed too, and returns them. Two values lie in the list itself.
     fn values(&mut self, alloc: Global) -> Result<List<Value>, LineFault>
         ensures text { IfOk result (λ values. self.old.rest.now ≡ after_spaces (map value_text values) ++ 10 ∷ self.new.rest.now) }
         ensures valid { IfOk result (λ values. All IsValue values) }
@@ -77,7 +76,7 @@ impl<'a> Cursor<'a> {
         self.any_values(alloc)
     }
 
-    // Two values, and the end of the line.
+    // Reads two values and the line feed, and returns the values.
     fn pair(&mut self, alloc: Global) -> Result<List<Value>, LineFault>
         ensures text { IfOk result (λ values. self.old.rest.now ≡ after_spaces (map value_text values) ++ 10 ∷ self.new.rest.now) }
         ensures valid { IfOk result (λ values. All IsValue values) }
@@ -88,7 +87,7 @@ impl<'a> Cursor<'a> {
         Ok(List::pair(alloc, first, second))
     }
 
-    // Any number of values, and the end of the line.
+    // Reads any number of values and the line feed, and returns the values.
     fn any_values(&mut self, alloc: Global) -> Result<List<Value>, LineFault>
         ensures text { IfOk result (λ values. self.old.rest.now ≡ after_spaces (map value_text values) ++ 10 ∷ self.new.rest.now) }
         ensures valid { IfOk result (λ values. All IsValue values) }
@@ -102,7 +101,7 @@ impl<'a> Cursor<'a> {
         Ok(values)
     }
 
-    // A value behind a space.
+    // Reads a space and a value, and returns the value.
     fn spaced_value(&mut self) -> Result<Value, LineFault>
         ensures text { IfOk result (λ value. self.old.rest.now ≡ 32 ∷ (value_text value ++ self.new.rest.now)) }
         ensures valid { IfOk result (λ value. IsValue value) }
@@ -127,7 +126,7 @@ impl<'a> Cursor<'a> {
         Ok(Value::Number(number))
     }
 
-    // A name of a mutator's object.
+    // Reads the name of an object that a mutator made, and returns it.
     fn name(&mut self) -> Result<Name, LineFault>
         ensures text { IfOk result (λ name. self.old.rest.now ≡ name_text name ++ self.new.rest.now) }
         ensures valid { IfOk result (λ name. IsName name) }
@@ -136,7 +135,7 @@ impl<'a> Cursor<'a> {
         self.name_of(maker)
     }
 
-    // A name, once its maker was read.
+    // Reads the rest of a name after its maker, and returns the name.
     fn name_of(&mut self, maker: u64) -> Result<Name, LineFault>
         ensures text { IfOk result (λ name. decimal maker ++ self.old.rest.now ≡ name_text name ++ self.new.rest.now) }
         ensures valid { IfOk result (λ name. IsName name) }
@@ -155,8 +154,8 @@ impl<'a> Cursor<'a> {
         })
     }
 
-    // A number. `Bad` comes also where it has a leading zero, or more than eighteen digits, which the numbers of an image
-    // seldom have.
+    // Reads a number and returns it. `Bad` is also returned for a leading zero, and for more than eighteen digits, which the
+    // numbers of an image seldom have.
     fn number(&mut self) -> Result<u64, LineFault>
         ensures text { IfOk result (λ number. self.old.rest.now ≡ decimal number ++ self.new.rest.now) }
         ensures small { IfOk result (λ number. number < 10 ^ 18) }
@@ -168,7 +167,7 @@ impl<'a> Cursor<'a> {
         self.number_from(first)
     }
 
-    // A number, once its first digit was read.
+    // Reads the rest of a number after its first digit, and returns the number.
     fn number_from(&mut self, first: u64) -> Result<u64, LineFault>
         requires { first < 10 }
         ensures text { IfOk result (λ number. decimal first ++ self.old.rest.now ≡ decimal number ++ self.new.rest.now) }
@@ -188,7 +187,7 @@ impl<'a> Cursor<'a> {
         Ok(number)
     }
 
-    // Passes the first word of a node line, and a space.
+    // Passes the token `node` and the space after it, or returns `Bad`.
     fn pass_node(&mut self) -> Result<(), LineFault>
         ensures { OnOk result (self.old.rest.now ≡ codes "node " ++ self.new.rest.now) }
     {
@@ -199,7 +198,7 @@ impl<'a> Cursor<'a> {
         Ok(())
     }
 
-    // Passes the word of a constructor between spaces.
+    // Passes the token `con` between spaces, or returns `Bad`.
     fn pass_con(&mut self) -> Result<(), LineFault>
         ensures { OnOk result (self.old.rest.now ≡ codes " con " ++ self.new.rest.now) }
     {
@@ -210,7 +209,7 @@ impl<'a> Cursor<'a> {
         Ok(())
     }
 
-    // Passes the word of nil.
+    // Passes the token `nil`, or returns `Bad`.
     fn pass_nil(&mut self) -> Result<(), LineFault>
         ensures { OnOk result (self.old.rest.now ≡ codes "nil" ++ self.new.rest.now) }
     {
@@ -221,7 +220,7 @@ impl<'a> Cursor<'a> {
         Ok(())
     }
 
-    // Passes a byte.
+    // Passes the next byte if it is `byte`, and otherwise returns `Bad`.
     #[inline(always)]
     fn pass(&mut self, byte: u8) -> Result<(), LineFault>
         ensures { OnOk result (self.old.rest.now ≡ byte ∷ self.new.rest.now) }
@@ -237,7 +236,7 @@ impl<'a> Cursor<'a> {
     }
 }
 
-// Whether this byte comes first.
+// Whether `bytes` begin with `byte`.
 #[inline(always)]
 fn begins(bytes: &[u8], byte: u8) -> bool {
     match bytes {
@@ -246,7 +245,7 @@ fn begins(bytes: &[u8], byte: u8) -> bool {
     }
 }
 
-// The first byte, if it is a digit, and what comes after it.
+// Returns the value of the first byte as a digit, and the bytes after it. Returns `None` if the first byte is no digit.
 #[inline(always)]
 fn digit(bytes: &[u8]) -> Option<(u64, &[u8])>
     ensures digit { IfSome result (λ parts. parts.0 < 10) }

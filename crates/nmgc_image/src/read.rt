@@ -1,7 +1,7 @@
 //! Images read from their text.
 ghost use Rattle.std.specs.Prelude.{◌≡◌, ◌↔◌, ℕ, ◌≤◌, ◌^◌, Bool, List, [], length, true, IfErr, IfOk, IsTrue, MatchResult};
 ghost use Rattle.nmgc_world_spec.specs.declared.value.Name.{Name as NameOf};
-ghost use Rattle.nmgc_image.specs.{Faults.IsToldOf, Known.test_of, Reading.AreRead, Reading.IsAnswer, Reading.image_of, Reading.FindsDeclared, Spelling.Spells, Text.cut, declared.image.Image.Image as Spelled};
+ghost use Rattle.nmgc_image.specs.{Faults.IsFaultOf, Known.test_of, Reading.AreRead, Reading.IsAnswer, Reading.image_of, Reading.FindsDeclared, Spelling.Spells, Text.cut, declared.image.Image.Image as Spelled};
 
 use crate::ImageFault;
 use crate::declared::declared_in;
@@ -12,31 +12,31 @@ use crate::reader::{Reader, all_of};
 use crate::text::Lines;
 use std::alloc::Global;
 
-/// The most bytes that an image may have which the program reads.
+/// The most bytes of an image that the program reads.
 pub const MAX_IMAGE_BYTES: usize = 268_435_456;
 
 const _: () = prove!(MAX_IMAGE_BYTES <= 1 << 31);
 
-/// Reads an image. `Bad` tells the first bad line, from 1; where the text ends too early, it is the one after the last.
-/// Asks that the text is short enough for its lines to be counted in 32 bits.
-///
-/// Takes time in proportion to the text, but for a look-up of each name that it mentions: in one step where the serials of
-/// the name's maker follow one another, and else by a binary search. A text that, before its first bad line, mentions a name
-/// without a node line is read twice, with the memory of both readings, and the names of node lines behind a bad line are
-/// sorted. Takes memory for the image, and 8 bytes for each node line.
+/// Returns the image that a text spells, from the text alone. `Bad` reports the first bad line, from 1, by a definition that
+/// the reader doesn't share; if the text ends too early, it is the line after the last. Requires a text that is short enough
+/// for its lines to be counted in 32 bits.
+/// Takes time proportional to the text, and for a look-up of each name that it mentions. A look-up is one step if the serials
+/// of the name's maker are consecutive, and otherwise a binary search. A text that mentions a name without a node line before
+/// its first bad line is read twice, with the memory of both readings. The names of node lines behind a bad line are sorted.
+/// Takes memory for the image, and 8 bytes for each node line.
 pub fn read_image(alloc: Global, bytes: &[u8]) -> Result<Image, ImageFault>
     requires { length bytes.now ≤ 2 ^ 31 }
-    // What is read is spelled so.
+    // The bytes spell the image that is read.
     ensures found { IfOk result (λ image. Spells bytes.now image) }
-    // What is spelled so is read, unless memory runs out.
+    // An image that the bytes spell is read, unless memory runs out.
     ensures only { (image : Spelled) → Spells bytes.now image → MatchResult result (λ read. image ≡ read) (λ fault. fault ≡ ImageFault.NoMemory) }
-    // Of bytes that spell no image the first bad line is told.
-    ensures told { IfErr result (λ fault. IsToldOf bytes.now fault) }
+    // If the bytes spell no image, the fault is the first bad line.
+    ensures fault { IfErr result (λ fault. IsFaultOf bytes.now fault) }
 {
     read(alloc, bytes)
 }
 
-// Reads an image: first while every name counts as declared, and once more where a name was mentioned that isn't.
+// Returns the image that a text spells, or its first bad line. Reads it twice only if a mentioned name isn't declared.
 fn read(alloc: Global, bytes: &[u8]) -> Result<Image, ImageFault>
     requires { length bytes.now ≤ 2 ^ 31 }
     ensures { IsAnswer bytes.now result }
@@ -52,10 +52,10 @@ fn read(alloc: Global, bytes: &[u8]) -> Result<Image, ImageFault>
     read_again(alloc, &known, bytes)
 }
 
-// Reads an image, where it is known which names have node lines.
+// Returns the image that a text spells, or its first bad line. `known` are the names with node lines in the text.
 fn read_again(alloc: Global, known: &Known, bytes: &[u8]) -> Result<Image, ImageFault>
     requires small { length bytes.now ≤ 2 ^ 31 }
-    requires tells { FindsDeclared (test_of known.now) (cut bytes.now).lines }
+    requires agrees { FindsDeclared (test_of known.now) (cut bytes.now).lines }
     ensures { IsAnswer bytes.now result }
 {
     let mut lines = Lines::new(bytes);
@@ -63,7 +63,7 @@ fn read_again(alloc: Global, known: &Known, bytes: &[u8]) -> Result<Image, Image
     answer(reader, &lines)
 }
 
-// What is answered of a text whose lines were read as far as they can be taken.
+// Returns the image or the first bad line of a text whose lines were taken as far as possible.
 fn answer(reader: Reader, lines: &Lines) -> Result<Image, ImageFault>
     ensures { (bytes : List ℕ) (d : NameOf → Bool) → FindsDeclared d (cut bytes).lines → AreRead d bytes reader lines.now.number lines.now.rest.now →
         IsAnswer bytes result }
@@ -74,14 +74,14 @@ fn answer(reader: Reader, lines: &Lines) -> Result<Image, ImageFault>
     image_of(reader)
 }
 
-// Whether the end came, and nothing after it.
+// Whether the text was read whole: its end line was taken, and nothing comes after that.
 fn is_whole(reader: &Reader, rest: &[u8]) -> bool
     ensures { IsTrue result ↔ ((reader.now.ended ≡ true) × (rest.now ≡ [])) }
 {
     reader.ended && rest.is_empty()
 }
 
-// The image whose lines were read.
+// Returns the image that the reader's lines make up.
 fn image_of(reader: Reader) -> Result<Image, ImageFault>
     ensures ok { IfOk result (λ image. image ≡ image_of reader) }
     ensures err { IfErr result (λ fault. fault ≡ ImageFault.NoMemory) }

@@ -1,6 +1,8 @@
-//! What was read of an image so far, and the next line.
+//! The part of an image read so far, and the next line.
 //!
-//! A line is one of six, by its first word, and may come only where those before it leave room for it.
+//! A line has one of six kinds, by its first token, and is allowed only if the lines before it leave room for it. Its effect
+//! is a function of the part read and of the names that count. So a text spells at most one image without an argument of its
+//! own.
 ghost use Rattle.std.specs.Prelude.{◌≡◌, ◌++◌, ◌==◌, ◌&&◌, map, length, not, slice_get, IfOk, OnOk};
 ghost use Rattle.std.specs.{List.list_all, Option.option_to_list, Option.option_copied};
 ghost use Rattle.nmgc_world_spec.specs.World.{held_by};
@@ -17,8 +19,8 @@ use nmgc_world_spec::{Name, Node, Value};
 use std::alloc::Global;
 use std::mem;
 
-/// The lines so far: how many mutators were announced, those that are done and the one that is being read, the
-/// objects, and whether the end came.
+/// The content of the lines so far: the announced number of mutators, the mutators that are done and the current one, the
+/// objects, and whether the end line came.
 #[derive(Drop)]
 pub(crate) struct Reader {
     pub(crate) expected: u8,
@@ -29,7 +31,7 @@ pub(crate) struct Reader {
 }
 
 impl Reader {
-    /// Nothing so far. Takes no memory.
+    /// Returns the reader before the first line. Takes no memory.
     pub(crate) fn new(alloc: Global) -> Self
         ensures { result ≡ start }
     {
@@ -42,8 +44,7 @@ impl Reader {
         }
     }
 
-    /// Takes the next line, by its words. After `Bad` what was read
-    /// stays as it is.
+    /// Takes the next line, by its tokens. After `Bad` the reader stays as it is.
     #[tactic(auto, unfolding(crate::specs::Reading::line_at))]
     pub(crate) fn take_line(
         &mut self,
@@ -77,7 +78,7 @@ impl Reader {
         Err(LineFault::Bad)
     }
 
-    // The number of mutators that were begun.
+    // Returns the number of mutators that have begun.
     fn count(&self) -> usize
         ensures { result ≡ length (begun self.now) }
     {
@@ -140,7 +141,7 @@ impl Reader {
         Ok(())
     }
 
-    // Goes on with the next mutator.
+    // Makes `own` the current mutator, after the mutators that have begun.
     fn begin(&mut self, own: ImageMutator) -> Result<(), NoMemory>
         ensures { OnOk result (self.new ≡ begins self.old own) }
     {
@@ -208,7 +209,7 @@ impl Reader {
         self.take_object(known, entry)
     }
 
-    /// Takes an object, if it may come next. After `Bad` what was read stays as it is.
+    /// Takes an object if it may come next. Otherwise returns `Bad`, and the reader stays as it is.
     pub(crate) fn take_object(&mut self, known: &Known, entry: Entry) -> Result<(), LineFault>
         ensures { Takes result self.old self.new (object_at (test_of known.now) self.old entry) }
     {
@@ -243,7 +244,7 @@ impl Reader {
             && is_node_known(known, &entry.node)
     }
 
-    // Whether an object is g, or was made by one of the mutators.
+    // Whether an object is the shared array, under its name g, or was made by one of the mutators.
     fn is_owned(&self, entry: &Entry) -> bool
         ensures { result ≡ is_owned (begun self.now) entry.now }
     {
@@ -256,7 +257,7 @@ impl Reader {
         }
     }
 
-    // A mutator that was begun.
+    // Returns the mutator of this number, or `None` exactly if it hasn't begun.
     fn mutator(&self, number: usize) -> Option<&ImageMutator>
         ensures { option_copied result ≡ slice_get (begun self.now) number }
     {
@@ -268,7 +269,7 @@ impl Reader {
     }
 }
 
-// The mutators that are done, and the one that is being read.
+// Returns the mutators that are done and after them the current mutator, if there is one.
 pub(crate) fn all_of(
     done: List<ImageMutator>,
     current: Option<ImageMutator>,
@@ -291,7 +292,7 @@ fn can_hold(own: &ImageMutator, register: u8, value: Value) -> bool
         && !matches!(value, Value::Nil)
 }
 
-// Whether a register comes after all of these, which are in order.
+// Whether a register comes after all these registers, which are in order.
 fn is_above(registers: &[Held], register: u8) -> bool
     ensures { result ≡ is_above registers.now register }
 {
@@ -333,7 +334,7 @@ fn queueing(own: ImageMutator, value: Value) -> Result<ImageMutator, NoMemory>
     })
 }
 
-/// Whether a name comes after those of all of these objects, which are in order.
+/// Whether a name comes after the names of all these objects, which are in order.
 pub(crate) fn is_after(nodes: &[Entry], name: Name) -> bool
     ensures { result ≡ is_after nodes.now name }
 {
@@ -349,7 +350,7 @@ fn is_before(a: Name, b: Name) -> bool
     a.maker < b.maker || (a.maker == b.maker && a.serial < b.serial)
 }
 
-// Whether a node is an array with as many slots as g has.
+// Whether a node is an array with the number of slots of g.
 fn is_shared(node: &Node) -> bool
     ensures { result ≡ is_shared node.now }
 {

@@ -1,17 +1,17 @@
 //! The search for the objects of an image.
 //!
-//! It goes over places, since a pointer tells a place: each place is seen once, and joins the order once, as it is
-//! found. The object at it is read once. So the search takes time in proportion to the words that it reads, and a byte
-//! for each word of the heap.
+//! It goes over addresses, since a pointer gives an address. Each address is seen once, and joins the order once, when it is
+//! found. The object at it is read once. So the search takes time proportional to the words that it reads, and a byte for
+//! each word of the heap.
 ghost use Rattle.std.specs.Prelude.{◌≡◌, ◌⊎◌, ◌↔◌, ℕ, ◌<◌, [], length, replicate, false, All, Contains, IfOk, OnOk};
-ghost use Rattle.nmgc_image.specs.{Objects.IsObjectAt, Objects.pointers, Objects.told_at, Reaching.Reaches, Reaching.ReachesObjects, Reaching.IsSearch, Reaching.Visits, Reaching.ArePointers, Reaching.PointWithin};
+ghost use Rattle.nmgc_image.specs.{Objects.IsObjectAt, Objects.pointers, Objects.value_words_at, Reaching.Reaches, Reaching.ReachesObjects, Reaching.IsSearch, Reaching.Visits, Reaching.ArePointers, Reaching.PointWithin};
 
-use crate::objects::{copy_fields, place_in, told};
+use crate::objects::{copy_fields, place_in, value_words};
 use nmgc_journal::FinalWords;
 use nmgc_lists::NoMemory;
 use std::alloc::Global;
 
-/// The places that were found, in the order in which they were.
+/// The addresses found so far, in the order in which they were found.
 #[derive(Drop)]
 pub(crate) struct Search {
     seen: Vec<bool>,
@@ -19,7 +19,7 @@ pub(crate) struct Search {
 }
 
 impl Search {
-    /// A search in so many words that has found nothing yet.
+    /// Makes a search over a heap of `words` words that hasn't found any address yet.
     pub(crate) fn new(alloc: Global, words: usize) -> Result<Self, NoMemory>
         ensures sound { IfOk result IsSearch }
         ensures none { IfOk result (λ s. s.order.items ≡ []) }
@@ -31,7 +31,7 @@ impl Search {
         })
     }
 
-    /// Finds a place, unless it was found before.
+    /// Adds an address to the search, unless it was found before.
     pub(crate) fn visit(&mut self, at: u32) -> Result<(), NoMemory>
         requires sound { IsSearch self.old }
         requires within { at < length self.old.seen.items }
@@ -44,7 +44,7 @@ impl Search {
         Ok(())
     }
 
-    /// Finds the places that words point to.
+    /// Adds the addresses that words point to, unless they were found before.
     pub(crate) fn visit_words(&mut self, words: &[u64]) -> Result<(), NoMemory>
         requires sound { IsSearch self.old }
         requires within { PointWithin (length self.old.seen.items) words.now }
@@ -58,18 +58,18 @@ impl Search {
         Ok(())
     }
 
-    // Finds the places that the object at a place points to.
+    // Adds the addresses to which the values of the object at an address point.
     fn expand(&mut self, words: &FinalWords, at: u32, buffer: &mut Vec<u64>) -> Result<(), NoMemory>
         requires sound { IsSearch self.old }
         requires object { IsObjectAt words.now at }
-        requires within { (object : IsObjectAt words.now at) → PointWithin (length self.old.seen.items) (told_at words.now at object.header) }
-        ensures { (object : IsObjectAt words.now at) → OnOk result (Visits (ArePointers (told_at words.now at object.header)) self.old self.new) }
+        requires within { (object : IsObjectAt words.now at) → PointWithin (length self.old.seen.items) (value_words_at words.now at object.header) }
+        ensures { (object : IsObjectAt words.now at) → OnOk result (Visits (ArePointers (value_words_at words.now at object.header)) self.old self.new) }
     {
         let header = copy_fields(words, at, buffer)?;
-        self.visit_words(told(header.kind, buffer))
+        self.visit_words(value_words(header.kind, buffer))
     }
 
-    /// Finds all that is reached from the places that were found so far.
+    /// Adds all addresses that are reachable from the addresses found so far.
     pub(crate) fn run(&mut self, alloc: Global, words: &FinalWords) -> Result<(), NoMemory>
         requires sound { IsSearch self.old }
         requires room { length self.old.seen.items ≡ length words.now }

@@ -1,25 +1,25 @@
 //! The text of an image.
 //!
-//! It is appended line by line, from left to right, so no line is built apart and no piece is moved.
+//! It is appended line by line, from left to right, so no line is built separately and no piece is moved.
 ghost use Rattle.std.specs.Prelude.{◌≡◌, ◌∷◌, [], ◌++◌, map, IfOk, OnOk};
 ghost use Rattle.nmgc_journal.specs.Text.{value_text};
 ghost use Rattle.nmgc_world_spec.specs.World.{World as WorldOf};
 ghost use Rattle.nmgc_image.specs.{declared.image.Image.Image as ImageOf, Left.IsLeftAs, Shows.Shows, Printing.after_spaces, Printing.printed};
 ghost use Rattle.nmgc_image.specs.Spelling.{Spells, image_text, spaced, first_words, mutator_words, register_words, queue_words, node_words, entry_words, own_lines, mutator_lines};
 
+use crate::heap_image::image_of;
 use crate::image::{Entry, Held, Image, ImageMutator};
-use crate::shown::image_of;
 use nmgc_io::push_number;
 use nmgc_journal::{Report, push_name, push_value};
 use nmgc_lists::NoMemory;
 use nmgc_world_spec::{Node, Parts, Value};
 use std::alloc::Global;
 
-/// The text of the image that shows the heap of a report: what the mutators have in hand, and all that anybody could
-/// still come to hold. Asks that the heap of the report is one that a stop of a run leaves. Takes time in proportion to
-/// the heap and the text, but for a sort of the objects by their names and a look-up of a name for each block in use
-/// where there are weak pointers; and memory for the image, for the text, for a byte a word of the heap and for 24 bytes
-/// an object.
+/// Returns the text of the image that shows the heap of a report: the mutators' registers and queues, and all that can still
+/// be reached. The image shows each world that the heap represents. Requires a heap as a stop of a run leaves it. Takes time
+/// proportional to the heap and the text. Further time goes to a sort of the objects by their names and, if there are weak
+/// pointers, a look-up of a name for each block in use. Takes memory for the image, for the text, for a byte a word of the
+/// heap and for 24 bytes an object.
 pub fn write_image(alloc: Global, report: &Report) -> Result<Vec<u8>, NoMemory>
     requires { (w : WorldOf) × IsLeftAs report.now w }
     ensures { IfOk result (λ text. (w : WorldOf) → IsLeftAs report.now w → (image : ImageOf) × Shows w image × Spells text.items image) }
@@ -28,7 +28,8 @@ pub fn write_image(alloc: Global, report: &Report) -> Result<Vec<u8>, NoMemory>
     image_text(alloc, &image)
 }
 
-/// The text of an image. Takes memory for the text alone, which grows by doubling, and time in proportion to it.
+/// Returns the text of an image, for every image. Takes memory for the text alone, which grows by doubling, and time
+/// proportional to the text.
 pub fn image_text(alloc: Global, image: &Image) -> Result<Vec<u8>, NoMemory>
     ensures { IfOk result (λ text. text.items ≡ image_text image.now) }
 {
@@ -48,7 +49,7 @@ fn push_text(out: &mut Vec<u8>, text: &[u8]) -> Result<(), NoMemory>
     Ok(())
 }
 
-// Appends the first line.
+// Appends the first line, with the number of mutators.
 fn push_first(out: &mut Vec<u8>, mutators: usize) -> Result<(), NoMemory>
     ensures { OnOk result (out.new.items ≡ out.old.items ++ (spaced (first_words mutators) ++ 10 ∷ [])) }
 {
@@ -68,7 +69,7 @@ fn push_mutators(out: &mut Vec<u8>, mutators: &[ImageMutator]) -> Result<(), NoM
     Ok(())
 }
 
-// Appends the line that begins a mutator.
+// Appends the line that begins mutator `number`.
 fn push_mutator(out: &mut Vec<u8>, number: usize, serial: u32) -> Result<(), NoMemory>
     ensures { OnOk result (out.new.items ≡ out.old.items ++ (spaced (mutator_words number serial) ++ 10 ∷ [])) }
 {
@@ -79,7 +80,7 @@ fn push_mutator(out: &mut Vec<u8>, number: usize, serial: u32) -> Result<(), NoM
     push_text(out, b"\n")
 }
 
-// Appends the lines of what a mutator has in hand.
+// Appends the lines of a mutator's registers and queue.
 fn push_own(out: &mut Vec<u8>, own: &ImageMutator) -> Result<(), NoMemory>
     ensures { OnOk result (out.new.items ≡ out.old.items ++ printed (own_lines own.now)) }
 {
@@ -123,7 +124,7 @@ fn push_queued(out: &mut Vec<u8>, value: Value) -> Result<(), NoMemory>
     push_text(out, b"\n")
 }
 
-// Appends the node lines.
+// Appends the node lines of the objects.
 fn push_nodes(out: &mut Vec<u8>, nodes: &[Entry]) -> Result<(), NoMemory>
     ensures { OnOk result (out.new.items ≡ out.old.items ++ printed (map entry_words nodes.now)) }
 {
@@ -133,7 +134,7 @@ fn push_nodes(out: &mut Vec<u8>, nodes: &[Entry]) -> Result<(), NoMemory>
     Ok(())
 }
 
-// Appends a node line.
+// Appends the node line of an object.
 fn push_entry(out: &mut Vec<u8>, entry: &Entry) -> Result<(), NoMemory>
     ensures { OnOk result (out.new.items ≡ out.old.items ++ (spaced (entry_words entry.now) ++ 10 ∷ [])) }
 {
@@ -143,7 +144,7 @@ fn push_entry(out: &mut Vec<u8>, entry: &Entry) -> Result<(), NoMemory>
     push_text(out, b"\n")
 }
 
-// Appends the words of a node, each behind a space.
+// Appends the tokens of a node, each behind a space.
 fn push_node(out: &mut Vec<u8>, node: &Node) -> Result<(), NoMemory>
     ensures { OnOk result (out.new.items ≡ out.old.items ++ after_spaces (node_words node.now)) }
 {
@@ -172,7 +173,7 @@ fn push_node(out: &mut Vec<u8>, node: &Node) -> Result<(), NoMemory>
     }
 }
 
-// Appends the words of a thunk, each behind a space.
+// Appends the tokens of a thunk, each behind a space.
 fn push_thunk(out: &mut Vec<u8>, free: &[Value], computed: Option<Value>) -> Result<(), NoMemory>
     ensures { OnOk result (out.new.items ≡ out.old.items ++ after_spaces (node_words (Node.Thunk free.now computed))) }
 {
@@ -188,7 +189,7 @@ fn push_thunk(out: &mut Vec<u8>, free: &[Value], computed: Option<Value>) -> Res
     }
 }
 
-// Appends the words of an alive weak pointer, each behind a space.
+// Appends the tokens of a weak pointer that is alive, each behind a space.
 fn push_parts(out: &mut Vec<u8>, parts: Parts) -> Result<(), NoMemory>
     ensures { OnOk result (out.new.items ≡ out.old.items ++ after_spaces (node_words (Node.Weak (Some parts)))) }
 {

@@ -1,33 +1,33 @@
--- How many bytes a call took from a source, and which a sink took.
+-- The number of bytes that a call took from a source, and the bytes that a sink took.
 use Rattle.std.specs.Prelude.{◌≡◌, ◌<◌, ◌≤◌, ℕ, List, length, take, Option, ◌+◌, ◌-◌, ◌^◌, min, Result, OnErr, OnOk}
 use Rattle.std.specs.Io.KnownBytes.{Consumes, Appends}
 
--- so many of the known bytes were taken
+-- exactly n bytes were taken from the front of the source's known bytes
 abbrev pub Takes : Option (List ℕ) → Option (List ℕ) → ℕ → Type 0
 Takes old new n = (bytes : List ℕ) × Consumes old new bytes × (length bytes ≡ n)
 
--- at most so many of the known bytes were taken
+-- at most n bytes were taken from the front of the source's known bytes
 abbrev pub TakesUpTo : Option (List ℕ) → Option (List ℕ) → ℕ → Type 0
 TakesUpTo old new n = (bytes : List ℕ) × Consumes old new bytes × (length bytes ≤ n)
 
--- a front of the bytes was appended, and not all of them
+-- some of the bytes, from their front and fewer than all, were appended to the sink's bytes
 abbrev pub AppendsFront : Option (List ℕ) → Option (List ℕ) → List ℕ → Type 0
 AppendsFront old new bytes = (n : ℕ) × (n < length bytes) × Appends old new (take n bytes)
 
--- the count after this one, which stands still at its end
+-- the count that follows a count: one more, and at most 2^64 - 1
 abbrev pub next : ℕ → ℕ
 next n = min (n + 1) (2 ^ 64 - 1)
 
--- a count of faults is greater now than before, or stands at its end
+-- a count of faults rose: it is greater than before, or it is 2^64 - 1, at which it stays
 abbrev pub Rose : ℕ → ℕ → Type 0
 Rose before now = next before ≤ now
 
--- the count doesn't fall, and an error comes only where it rose
+-- the count of faults doesn't fall, and an error is returned only if this count rose
 pub record HasCause {T E : Type 0} (before now : ℕ) (result : Result T E) : Type 0 where
   pub later : before ≤ now
   pub failed : OnErr result (Rose before now)
 
--- an error is counted, and nothing else is
+-- the count of faults rises to the next count for an error, and stays without an error
 pub record CountsErr {T E : Type 0} (before now : ℕ) (result : Result T E) : Type 0 where
   pub ok : OnOk result (now ≡ before)
   pub err : OnErr result (now ≡ next before)

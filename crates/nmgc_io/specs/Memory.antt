@@ -1,9 +1,9 @@
--- What contracts see of a source and a sink in memory.
+-- The view that contracts have of a source and a sink in memory.
 use Rattle.std.specs.Prelude.{◌≡◌, ℕ, ◌+◌, List, Result, OnErr, IfOk}
 use Rattle.nmgc_io.specs.Counts.{next, CountsErr}
 
--- a source: the bytes left, how many of them a call gives at most, which calls fail,
--- how many calls were made and how many failed
+-- a source in memory: the bytes left, the most bytes that a call gives, the numbers of the calls that fail, the number of
+-- calls and the number of failed calls
 pub record Supply : Type 0 where
   pub bytes : List ℕ
   pub chunk : ℕ
@@ -11,7 +11,7 @@ pub record Supply : Type 0 where
   pub calls : ℕ
   pub faults : ℕ
 
--- a call is counted and a fault too; the bytes stay at a fault, and all else stays
+-- a call of a source in memory, which counts calls and faults. At a fault the bytes stay. Everything else always stays.
 pub record Reads {E : Type 0} (old new : Supply) (result : Result ℕ E) : Type 0 where
   pub chunk : new.chunk ≡ old.chunk
   pub failing : new.failing ≡ old.failing
@@ -19,8 +19,8 @@ pub record Reads {E : Type 0} (old new : Supply) (result : Result ℕ E) : Type 
   pub faults : CountsErr old.faults new.faults result
   pub kept : OnErr result (new.bytes ≡ old.bytes)
 
--- a sink: the bytes taken, how many of them a call takes at most, which calls fail,
--- for how many bytes there is room, how many calls were made and how many failed
+-- a sink in memory: the bytes taken, the most bytes that a call takes, the numbers of the calls that fail, the room left in
+-- bytes. Also the number of calls and the number of failed calls
 pub record Store : Type 0 where
   pub bytes : List ℕ
   pub chunk : ℕ
@@ -29,8 +29,8 @@ pub record Store : Type 0 where
   pub calls : ℕ
   pub faults : ℕ
 
--- a call is counted and a fault too; what is taken uses up room; at a fault the bytes and the room stay,
--- and all else stays
+-- a call of a sink in memory, which counts calls and faults. The bytes taken use up room. At a fault the bytes and the room
+-- stay. Everything else always stays.
 pub record Writes {E : Type 0} (old new : Store) (result : Result ℕ E) : Type 0 where
   pub chunk : new.chunk ≡ old.chunk
   pub failing : new.failing ≡ old.failing

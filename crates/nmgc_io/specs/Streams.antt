@@ -1,7 +1,7 @@
--- What contracts see of a stream that stands behind a source or a sink.
+-- The view that contracts have of a stream behind a source or a sink.
 use Rattle.std.specs.Prelude.{ℕ}
 
--- the stream, and how often it failed
+-- the stream, and the number of its failures
 pub record Counted (S : Type 0) : Type 0 where
   pub stream : S
   pub faults : ℕ

@@ -1,19 +1,19 @@
 //! Bytes cut at their first separator.
 //!
-//! Scripts, images, names and journals are cut into lines and words here, and each of their bytes is looked at to find where
-//! a line ends. So sixteen are looked at together, as long as there are so many, and the rest one by one.
+//! Scripts, images, names and journals are cut into lines and tokens here. Each of their bytes is compared to find the end of
+//! a line. So sixteen bytes are compared at once while sixteen are left, and the rest one by one.
 //!
-//! Easy to get wrong: where the separator isn't found nothing is cut, and it is the caller who knows whether what is left is
-//! a last part.
+//! Easy to get wrong: if the separator isn't found, nothing is cut, and only the caller knows whether the rest is a last
+//! part.
 ghost use Rattle.std.specs.Prelude.{◌≡◌, ◌≢◌, ℕ, ◌+◌, ◌<◌, ◌≤◌, ◌==◌, not, ◌++◌, ◌∷◌, All, IfSome, IfNone, length, slice_index, take, drop};
 ghost use Rattle.std.specs.{List.prefix_len, Simd.Lanes.chunk};
 
 use std::simd::prelude::*;
 
-// How many bytes are looked at together.
+// The number of bytes that are compared at once.
 const LANES: usize = 16;
 
-// How many of the bytes from a place on, of as many as there are lanes, come before the first that is this one.
+// Counts the bytes before the first `byte` among the `LANES` bytes from position `at` on, or all `LANES` if none is `byte`.
 #[inline(always)]
 fn run_before(bytes: &[u8], at: usize, byte: u8) -> usize
     requires { at + LANES ≤ length bytes.now }
@@ -29,7 +29,7 @@ fn run_before(bytes: &[u8], at: usize, byte: u8) -> usize
     }
 }
 
-// The place of the first such byte, or how many bytes there are where there is none.
+// Returns the position of the first `byte` in `bytes`, or the number of bytes if `byte` doesn't occur.
 #[inline(always)]
 fn first_of(bytes: &[u8], byte: u8) -> usize
     ensures within { result ≤ length bytes.now }
@@ -52,8 +52,8 @@ fn first_of(bytes: &[u8], byte: u8) -> usize
     bytes.len()
 }
 
-/// What comes before the first such byte, and what comes after it. `None` comes exactly where there is none. Takes no
-/// memory, and time for the bytes up to the first.
+/// Splits `bytes` at the first `byte` into the bytes before it and the bytes after it. Returns `None` exactly if `byte`
+/// doesn't occur. Takes no memory, and time for the bytes up to the cut.
 #[inline]
 pub fn cut(bytes: &[u8], byte: u8) -> Option<(&[u8], &[u8])>
     ensures parts { IfSome result (λ parts. bytes.now ≡ parts.0.now ++ byte ∷ parts.1.now) }
@@ -68,8 +68,8 @@ pub fn cut(bytes: &[u8], byte: u8) -> Option<(&[u8], &[u8])>
     Some((&bytes[..at], &bytes[at + 1..]))
 }
 
-/// The same of `part`, which stands in `whole` from the place `from` on. Where `whole` has sixteen bytes or more from there,
-/// a part of at most sixteen is searched by one look.
+/// Splits `part`, which begins at position `from` of `whole`, at its first `byte`, or returns `None` exactly if it has no
+/// such byte. A part of at most sixteen bytes is searched at once if `whole` has sixteen bytes or more from there.
 #[inline]
 pub fn cut_within<'a>(
     whole: &[u8],

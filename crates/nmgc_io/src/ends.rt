@@ -1,7 +1,7 @@
 //! How a call of a source or a sink, or a whole transfer, may end.
 //!
-//! A source or a sink has one fault, `Failed`: the collector's program does the same whatever went
-//! wrong below, so no kind of error goes up. Want of memory is no fault, and the two are never merged.
+//! A source or a sink has one fault, `Failed`. The collector's program acts the same for every cause, so no kind of error is
+//! passed up. Lack of memory is no fault, and the two are never merged.
 use thiserror::Error;
 
 /// The one fault of a source or a sink.

@@ -1,18 +1,18 @@
 //! Bytes in and out: sources, sinks, numbers as text, and texts cut into parts.
 //!
-//! The program reads a script from a `Source` and writes a report to a `Sink`, and knows nothing else of
-//! the world outside. Both are traits whose contracts name the bytes that are left and taken, so that the
-//! crates above prove 'the bytes read spell this script' and 'the bytes written are this report'. Both
-//! count their faults, and a fault is told upwards only where the count rose, so that no layer can give
-//! up and call it a fault.
+//! The program reads a script from a `Source` and writes a report to a `Sink`, and has no other contact with the outside.
+//! Both are traits whose contracts name the bytes that are left and taken. So the crates above prove 'the bytes read spell
+//! this script' and 'the bytes written are this report'. Both count their faults, and a fault is reported upwards only if the
+//! count rose. So no layer can give up and call it a fault.
 //!
 //! - `source`, `sink`: the two traits; `ends`: how a call may end.
-//! - `memory_source`, `memory_sink`: both over memory, with faults where a caller wants them.
+//! - `memory_source`, `memory_sink`: both over memory, with faults at the caller's choice.
 //! - `standard`: both over any stream of the standard library, and so over the standard streams.
 //! - `transfer`: `read_all` and `write_all`.
-//! - `numbers`: decimal text of numbers, written and read. `cutting`: bytes cut at a separator, as lines and words are.
+//! - `numbers`: decimal text of numbers, written and read. `cutting`: bytes cut at a separator, for lines and tokens.
 //!
-//! It stands on `nmgc_lists` for `NoMemory` alone. Whatever reads or writes a text stands on it: scripts, journals, images, reports, and the programs.
+//! It depends on `nmgc_lists` only for `NoMemory`. Every crate that reads or writes a text depends on it: scripts, journals,
+//! images, reports, and the programs.
 #![tactic(auto)]
 
 mod cutting;

@@ -1,9 +1,8 @@
 //! A sink in memory, for tests and for callers that want the bytes.
 //!
-//! It takes bytes in chunks while there is room, and fails at the calls that it was told to fail at. All
-//! of its room is reserved as it is made, so that a write takes no memory and can fail for no other
-//! reason than the two that it tells. Contracts see the bytes that it took and the room that is left.
-//! Easy to get wrong: a call with no room left fails, and one with less room than the piece doesn't.
+//! It takes bytes in chunks while there is room, and fails at listed calls. All its room is reserved when it is made. So a
+//! write takes no memory and can fail only for these two reasons. Contracts see the bytes taken and the room left. Easy to
+//! get wrong: a call without room left fails, and a call with less room than the piece doesn't.
 ghost use Rattle.std.specs.Prelude.{◌≡◌, ◌⊎◌, ◌↔◌, ◌+◌, ◌<◌, ◌≤◌, ◌++◌, [], min, length, vec_len, vec_capacity, IfOk, IsErr, Contains, Some};
 ghost use Rattle.std.specs.Io.KnownBytes.{WriteAppends};
 ghost use Rattle.nmgc_io.specs.Counts.{HasCause, next};
@@ -43,10 +42,9 @@ impl Model for MemorySink {
 }
 
 impl MemorySink {
-    /// A sink that takes at most `chunk` bytes a call and `room` bytes in all. It fails at exactly the
-    /// calls whose numbers, from 1, are listed, and at those made when all room is used. A call past
-    /// number 2^64 - 1 has that number, and its count of faults, the number of failed calls, stops
-    /// there too. `NoMemory` where there is no memory for `room` bytes.
+    /// Makes a sink that takes at most `chunk` bytes a call and `room` bytes in all. It fails at exactly the calls whose
+    /// numbers, from 1, are in `failing`, and at calls after all room is used. The call number stops at 2^64 - 1, and so does
+    /// the number of failed calls, which is the count of faults. `NoMemory` means that there was no memory for `room` bytes.
     pub fn new(
         alloc: Global,
         chunk: usize,
@@ -67,7 +65,7 @@ impl MemorySink {
         })
     }
 
-    /// The bytes that it took, in order. Takes no memory.
+    /// Returns the bytes that the sink has taken, in order. Takes no memory.
     pub fn bytes(&self) -> &[u8]
         ensures { result.now ≡ self.now.bytes }
     {
@@ -107,7 +105,7 @@ impl Sink for MemorySink {
     }
 }
 
-// Appends a piece for which there is room.
+// Appends `piece` to `bytes`, which already has room for it.
 fn append_reserved(bytes: &mut Vec<u8>, piece: &[u8])
     requires { vec_len bytes.old + length piece.now ≤ vec_capacity bytes.old }
     ensures items { bytes.new.items ≡ bytes.old.items ++ piece.now }

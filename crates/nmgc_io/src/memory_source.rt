@@ -1,9 +1,8 @@
 //! A source in memory, for tests and for callers that have the bytes.
 //!
-//! It gives its bytes in chunks, and fails at the calls that it was told to fail at, so that every way
-//! in which a reader can be cut short is tried without a real device. Contracts see the bytes that are
-//! left, and never the place at which the reading stands.
-//! Easy to get wrong: a failing call is counted as a call too, and takes no byte.
+//! It gives its bytes in chunks, and fails at listed calls. So every way in which a reader can be cut short is tried without
+//! a real device. Contracts see the bytes left, and never the reading position. Easy to get wrong: a failing call counts as a
+//! call too, and takes no byte.
 ghost use Rattle.std.specs.Prelude.{◌≡◌, ◌↔◌, ◌<◌, ◌≤◌, ◌+◌, ◌++◌, min, length, take, drop, IfOk, IsErr, Contains, Some};
 ghost use Rattle.std.specs.{Io.ReadsAtMost, Io.KnownBytes.ReadConsumes};
 ghost use Rattle.nmgc_io.specs.Counts.{HasCause, next};
@@ -40,9 +39,9 @@ impl Model for MemorySource {
 }
 
 impl MemorySource {
-    /// A source that gives at most `chunk` of these bytes a call, and fails at exactly the calls whose
-    /// numbers, from 1, are listed: with an empty list at none. A call past number 2^64 - 1 has that
-    /// number, and its count of faults, the number of failed calls, stops there too. Takes no memory.
+    /// Makes a source that gives `bytes` in order, at most `chunk` a call. It fails at exactly the calls whose numbers, from
+    /// 1, are in `failing`. The call number stops at 2^64 - 1, and so does the number of failed calls, which is the count of
+    /// faults. Takes no memory.
     pub fn new(bytes: Vec<u8>, chunk: usize, failing: Vec<u64>) -> Self
         requires { 1 ≤ chunk }
         ensures { result ≡ record { bytes = bytes.items; chunk = chunk; failing = failing.items; calls = 0; faults = 0 } }
@@ -86,7 +85,8 @@ impl Source for MemorySource {
     }
 }
 
-// Copies the bytes from a place on, as many as fit and at most `chunk`, and answers how many.
+// Copies the bytes from position `at` on to the front of `buf`, and returns how many were copied. This is the least of the
+// number of these bytes, `chunk` and the length of `buf`.
 fn copy_front(bytes: &[u8], at: usize, chunk: usize, buf: &mut [u8]) -> usize
     requires { at ≤ length bytes.now }
     ensures count { result ≡ min (min (length (drop at bytes.now)) chunk) (length buf.old) }

@@ -1,18 +1,17 @@
 //! Numbers as decimal text, as scripts and reports spell them.
 //!
-//! A number is its decimal digits, without sign or leading zeros, so that it has one text and a text has
-//! one number. Both calls run once for each number of a script or a report of many megabytes: `itoa`
-//! writes two digits at a time, and the reading goes over the digits once, with the value so far. Most numbers there have
-//! one digit, as registers, mutators and fields do, and need neither a buffer nor a loop.
-//! Easy to get wrong: the value is compared with the limit at each digit, since the text of a number past
-//! 64 bits must not wrap round to a small one.
+//! A number is its decimal digits, without sign or leading zeros, so a number has one text and a text has one number. Both
+//! calls run once for each number of a script or a report of many megabytes. `itoa` writes two digits at a time, and reading
+//! is one pass over the digits with the value so far. Most numbers there, such as registers, mutators and fields, have one
+//! digit and need neither a buffer nor a loop. Easy to get wrong: the value is compared with the limit at each digit. The
+//! text of a number past 64 bits must not wrap round to a small number.
 ghost use Rattle.std.specs.Prelude.{◌≡◌, ◌≢◌, ℕ, ◌+◌, ◌-◌, ◌*◌, ◌<◌, ◌≤◌, ◌++◌, decimal, IfSome, IfNone, IsTrue, ◌↔◌, OnOk, OnErr, length, slice_index};
 ghost use Rattle.std.specs.Int.{IsInRange};
 
 use itoa::Buffer;
 use nmgc_lists::NoMemory;
 
-/// Appends a number's decimal text. After `NoMemory` nothing was appended.
+/// Appends the decimal text of `number` to `out`. After `NoMemory` nothing was appended.
 pub fn push_number(out: &mut Vec<u8>, number: u64) -> Result<(), NoMemory>
     ensures ok { OnOk result (out.new.items ≡ out.old.items ++ decimal number) }
     ensures err { OnErr result (out.new.items ≡ out.old.items) }
@@ -25,8 +24,8 @@ pub fn push_number(out: &mut Vec<u8>, number: u64) -> Result<(), NoMemory>
     Ok(())
 }
 
-/// Reads the decimal text of a number of at most `limit`, without leading zeros. It answers `None`
-/// exactly where the word isn't such a text. Takes no memory.
+/// Returns the number of at most `limit` whose decimal text, without leading zeros, is the token `word`. Returns `None`
+/// exactly if there is no such number. Takes no memory.
 pub fn read_number(word: &[u8], limit: u64) -> Option<u64>
     ensures found { IfSome result (λ n. (word.now ≡ decimal n) × (n ≤ limit)) }
     ensures none { IfNone result ((n : ℕ) → n ≤ limit → word.now ≢ decimal n) }
@@ -34,7 +33,7 @@ pub fn read_number(word: &[u8], limit: u64) -> Option<u64>
     if word.len() == 1 {
         return with_digit(0, word[0], limit);
     }
-    if !begins_number(word) {
+    if !has_no_leading_zero(word) {
         return None;
     }
     let mut number = 0;
@@ -44,9 +43,10 @@ pub fn read_number(word: &[u8], limit: u64) -> Option<u64>
     Some(number)
 }
 
-// Whether a word begins as a number's text does: it isn't empty, and a zero stands alone.
+// Whether a token isn't empty and has no leading zero: only `0` may begin with a zero. Doesn't check that the bytes are
+// digits.
 #[inline]
-fn begins_number(word: &[u8]) -> bool
+fn has_no_leading_zero(word: &[u8]) -> bool
     ensures { IsTrue result ↔ ((0 < length word.now) × (slice_index word.now 0 ≡ 48 → length word.now ≡ 1)) }
 {
     match word {
@@ -55,7 +55,7 @@ fn begins_number(word: &[u8]) -> bool
     }
 }
 
-// The number with one more digit at its end, where the byte is a digit and the limit allows it.
+// Returns `number` with one more digit at its end, or `None` exactly if the byte is no digit or the result exceeds `limit`.
 #[inline(always)]
 fn with_digit(number: u64, byte: u8, limit: u64) -> Option<u64>
     ensures digit { IfSome result (λ n. IsInRange 48 57 byte × (n ≡ 10 * number + (byte - 48))) }

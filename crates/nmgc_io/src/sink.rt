@@ -1,26 +1,24 @@
-//! Where bytes go, whatever stands behind it.
+//! The destination of bytes, whatever is behind it.
 //!
-//! `taken` are the bytes taken so far, where the sink tells them, and `faults` counts as a source's
-//! does. A call takes at least one byte or fails, so a loop over a sink ends: a sink below that takes
-//! nothing has to answer `Failed`, and to count it.
-//! Easy to get wrong: a call may take only a front of the piece, and the rest is the caller's to offer
-//! again.
+//! `taken` are the bytes taken so far, if the sink knows them, and `faults` counts as a source's does. A call takes at least
+//! one byte or fails, so a loop over a sink ends. If the stream below takes nothing, the sink has to return `Failed` and
+//! count it. Easy to get wrong: a call may take only a front of the piece, and the caller has to offer the rest again.
 ghost use Rattle.std.specs.Prelude.{ℕ, List, Option, ◌<◌, ◌≤◌, length, IfOk};
 ghost use Rattle.std.specs.Io.KnownBytes.{WriteAppends};
 ghost use Rattle.nmgc_io.specs.Counts.{HasCause};
 
 use crate::Failed;
 
-/// Where bytes go.
+/// The destination of bytes.
 pub trait Sink {
-    /// The bytes taken so far, where the sink tells them.
+    /// The bytes taken so far, if the sink knows them.
     ghost taken: { Self → Option (List ℕ) };
 
-    /// How often it failed.
+    /// The number of its failures.
     ghost faults: { Self → ℕ };
 
-    /// Takes bytes from the front of `piece`, and answers how many: at least one.
-    /// After `Failed` the bytes taken are the same, and the count of faults rose. Takes no memory.
+    /// Takes bytes in order from the front of `piece`, and returns their number: at least one a call. It fails only if the
+    /// count of faults rose. After `Failed` the bytes taken are the same. Takes no memory.
     fn write(&mut self, piece: &[u8]) -> Result<usize, Failed>
         requires { 0 < length piece.now }
         ensures some { IfOk result (λ n. 0 < n) }

@@ -1,13 +1,11 @@
-//! Streams of the standard library as a source and a sink; standard input and output are two of them.
+//! Streams of the standard library as a source and a sink, standard input and output among them.
 //!
-//! A stream tells the bytes that it has left, or those that it holds, where it can: one in memory can,
-//! a pipe or a terminal can't. So both are generic over std's `Read` and `Write` and tell exactly what
-//! the stream tells. What is proved of them is proved for streams that tell their bytes, and it is the
-//! same code that stands over standard input and output: while bytes are left a fault is never taken for
-//! the end, and a short write is never taken for a whole one. That the real streams keep the contracts of
-//! `Read` and `Write` is trusted.
-//! Easy to get wrong: a write that takes nothing is no error to the system, but a loop over it would
-//! never end. It counts as a fault here.
+//! A stream gives contracts the bytes that it has left or holds, if it can: a stream in memory can, a pipe or a terminal
+//! can't. So both are generic over std's `Read` and `Write` and give exactly the bytes that the stream gives. Their
+//! properties are proved for streams that give their bytes, and the same code runs over standard input and output. While
+//! bytes are left, a fault is never reported as the end, and a short write is never reported as a whole one. It is trusted
+//! that the real streams keep the contracts of `Read` and `Write`. Easy to get wrong: a write that takes nothing is no error
+//! to the system, but a loop over it would never end. It counts as a fault here.
 ghost use Rattle.std.specs.{Prelude.◌≡◌, Prelude.◌<◌, Prelude.◌≤◌, Prelude.length, Prelude.IfOk, Io.ReadsAtMost, Io.KnownBytes.ReadConsumes, Io.KnownBytes.WriteAppends};
 ghost use Rattle.nmgc_io.specs.Counts.{HasCause, CountsErr};
 
@@ -15,7 +13,7 @@ use crate::{Failed, Sink, Source};
 use std::io::{Read, Stdin, Stdout, Write};
 use std::marker::Model;
 
-/// A stream that is read as a source. Contracts see the stream and how often it failed.
+/// A stream that is read as a source. Contracts see the stream and the number of its failures.
 #[derive(Drop)]
 pub struct ReadSource<R> {
     stream: R,
@@ -34,7 +32,9 @@ impl<R> Model for ReadSource<R> {
 }
 
 impl<R> ReadSource<R> {
-    /// A source over a stream that hasn't failed yet. Takes no memory.
+    /// Makes a source that reads from `stream`, with no failure counted. It gives the bytes that the stream gives. While
+    /// bytes are left no read reports the end, so a fault is never taken for it. Each reported failure counts. Takes no
+    /// memory.
     pub fn new(stream: R) -> Self
         ensures { result ≡ record { stream = stream; faults = 0 } }
     {
@@ -62,7 +62,7 @@ impl<R: Read> Source for ReadSource<R> {
     }
 }
 
-/// A stream that is written as a sink. Contracts see the stream and how often it failed.
+/// A stream that is written as a sink. Contracts see the stream and the number of its failures.
 #[derive(Drop)]
 pub struct WriteSink<W> {
     stream: W,
@@ -81,7 +81,8 @@ impl<W> Model for WriteSink<W> {
 }
 
 impl<W> WriteSink<W> {
-    /// A sink over a stream that hasn't failed yet. Takes no memory.
+    /// Makes a sink that writes to `stream`, with no failure counted yet. It hands on bytes to the stream, and reports a
+    /// short write as short. A write that takes nothing is a failure. Each failure is counted. Takes no memory.
     pub fn new(stream: W) -> Self
         ensures { result ≡ record { stream = stream; faults = 0 } }
     {

@@ -1,11 +1,9 @@
-//! Reading all that a source has, and writing all bytes to a sink.
+//! Reading all bytes of a source, and writing all bytes to a sink.
 //!
-//! Both are loops in which each turn moves at least one byte, so they end. `read_all` never asks for more
-//! than one byte past the limit, so that a source is never drained of what nobody will use, and it knows
-//! that there is too much as soon as that one byte has come. It compares with the limit before the vector
-//! grows, so that want of memory can't hide that there is too much.
-//! Easy to get wrong: a short read or a short write isn't the end, and a fault after some bytes leaves
-//! those bytes taken.
+//! Both are loops in which each pass moves at least one byte, so they end. `read_all` never requests more than one byte past
+//! the limit. So a source is never drained of bytes without a use, and the excess is known as soon as that byte has come. It
+//! compares with the limit before the vector grows, so lack of memory can't hide an excess. Easy to get wrong: a short read
+//! or a short write isn't the end, and a fault after some bytes leaves those bytes taken.
 ghost use Rattle.std.specs.Prelude.{◌≡◌, ◌≢◌, ◌+◌, ◌<◌, ◌≤◌, ◌^◌, length, vec_len, IfOk, IfErr, OnOk, OnErr, IsErrOf};
 ghost use Rattle.std.specs.Io.KnownBytes.{Consumes, Appends, IsAtEnd};
 ghost use Rattle.nmgc_io.specs.{Counts.Rose, Counts.Takes, Counts.TakesUpTo, Counts.AppendsFront, declared.ends.ReadEnd.TheVariants.TooLong};
@@ -13,14 +11,12 @@ ghost use Rattle.nmgc_io.specs.{Counts.Rose, Counts.Takes, Counts.TakesUpTo, Cou
 use crate::{ReadEnd, Sink, Source, WriteEnd};
 use std::alloc::Global;
 
-// How many bytes are asked for at a time: what a pipe holds, and little enough to stay in the cache.
+// The number of bytes requested at a time: the capacity of a pipe, and few enough to stay in the cache.
 const PIECE: usize = 65_536;
 
-/// Reads to the end, and answers all bytes that were left.
-///
-/// `TooLong` comes exactly where `limit + 1` bytes were taken, and no more are; `ReadFault` where the
-/// source failed; `NoMemory` where the bytes found no room. Where it isn't `TooLong` at most `limit` bytes
-/// were taken.
+/// Reads `source` to its end, and returns all bytes that were left, at most `limit`.
+/// `TooLong` means that exactly `limit + 1` bytes were taken. `ReadFault` means that the source failed, and `NoMemory` that
+/// there was no memory for the bytes. In all cases except `TooLong`, at most `limit` bytes were taken.
 pub fn read_all<S: Source>(alloc: Global, source: &mut S, limit: usize) -> Result<Vec<u8>, ReadEnd>
     requires { limit < 2 ^ 32 }
     ensures bytes { IfOk result (λ bytes. Consumes (S.left source.old) (S.left source.new) bytes.items) }
@@ -53,7 +49,7 @@ pub fn read_all<S: Source>(alloc: Global, source: &mut S, limit: usize) -> Resul
     }
 }
 
-// A buffer of so many zeros, on the heap.
+// Returns a new buffer of `size` zeros on the heap. The only error is `NoMemory`.
 fn zeros(alloc: Global, size: usize) -> Result<Vec<u8>, ReadEnd>
     ensures size { IfOk result (λ zeros. vec_len zeros ≡ size) }
     ensures cause { IfErr result (λ end. end ≡ ReadEnd.NoMemory) }
@@ -65,8 +61,8 @@ fn zeros(alloc: Global, size: usize) -> Result<Vec<u8>, ReadEnd>
     Ok(zeros)
 }
 
-/// Writes all bytes, in order. After `WriteFault` the sink failed, and took a front of them but not all.
-/// Takes no memory.
+/// Writes all of `bytes` to `sink`, in order. `WriteFault` means that the sink failed and took only some of the bytes, from
+/// their front. Takes no memory.
 pub fn write_all<K: Sink>(sink: &mut K, bytes: &[u8]) -> Result<(), WriteEnd>
     ensures ok { OnOk result (Appends (K.taken sink.old) (K.taken sink.new) bytes.now) }
     ensures err { OnErr result (AppendsFront (K.taken sink.old) (K.taken sink.new) bytes.now) }

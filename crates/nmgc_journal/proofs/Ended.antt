@@ -1,11 +1,11 @@
--- The cycles that ended at a stop are a front of those that ended there or later.
+-- The cycles that ended at a stop are at the front of the cycles that ended there or later.
 use Rattle.nmgc_journal.proofs.Vocabulary.{◌≡◌, ◌<◌, ℕ, List, [], ◌∷◌, length, take, refl, sym, ◌∙◌, ap, subst, arith, Bool, true, false, ◌==◌, one-add, Decides-eqb, nat_tests, length-prefix_len, prefix_len, take_while, AreEndedFrom, IsRestAfter, ended_at, CycleRow}
 
 -- whether a cycle ended at this stop
 abbrev pub is_ended_at : ℕ → CycleRow → Bool
 is_ended_at n cycle = cycle.ended == n
 
--- so many cycles in front are those that ended at this stop, and the others ended later
+-- the first `count` cycles are those that ended at this stop, and all further cycles ended later
 pub record Splits (n : ℕ) (cycles : List CycleRow) (count : ℕ) : Type 0 where
   pub front : take count cycles ≡ ended_at n cycles
   pub rest : IsRestAfter n cycles count
@@ -50,7 +50,7 @@ splits : (n : ℕ) (cycles : List CycleRow) → AreEndedFrom n cycles → Splits
 splits n [] order = record { front = refl; rest = record { within = omega arith; order = tt; all = λ m _. refl } }
 splits n (cycle ∷ cycles) order = splits_more n cycle cycles order (splits n cycles) (cycle.ended == n) refl
 
--- the same of the number of cycles in front that ended at this stop
+-- the same for the number of cycles in front that ended at this stop
 pub splits_at : (n : ℕ) (cycles : List CycleRow) (count : ℕ) → AreEndedFrom n cycles → count ≡ length (take_while (is_ended_at n) cycles) →
     Splits n cycles count
 splits_at n cycles count order e = subst (Splits n cycles) (sym (e ∙ length-prefix_len (is_ended_at n) cycles)) (splits n cycles order)

@@ -1,4 +1,4 @@
--- What is at a place of a list is what is read there.
+-- The word at a position of a list is the word that is read there.
 use Rattle.nmgc_journal.proofs.Vocabulary.{◌≡◌, ℕ, zero, suc, List, [], ◌∷◌, sym, slice_index, some, some-injective, some-ne-none, get_elem?}
 
 pub read_at : (words : List ℕ) (at word : ℕ) → get_elem? words at ≡ some word → word ≡ slice_index words at

@@ -1,6 +1,6 @@
--- Every name of std, of the crates below and of this crate's definitions that the proofs speak of.
+-- All names of std, of the crates below and of this crate's definitions that the proofs use.
 pub use Rattle.nmgc_journal.specs.{Final.words_of, Reading.name_at, Reading.parts_at, Reading.value_at, Replies.reply_in, Spans.span_lines, Stops.AreEndedFrom, Stops.IsRestAfter, Summary.command_count, Text.IsValue, Text.cycle_text, Text.ended_at, Text.name_line, Text.name_text, Text.replies_text, Text.reply_line, Text.round_text, Text.rounds_text, Text.stop_at, Text.value_text, declared.report.CycleRow.CycleRow, laws.Reading.found_by, laws.Reading.name_reads, laws.Reading.none_by, laws.Reading.parts_none, laws.Reading.parts_some, laws.Reading.value_reads}
-pub use Rattle.nmgc_names.specs.{Spans.names_in, Spans.names_of, declared.span.Span.Span}
+pub use Rattle.nmgc_name_lists.specs.{Spans.names_in, Spans.names_of, declared.span.Span.Span}
 pub use Rattle.nmgc_object.specs.Words.{IsName}
 pub use Rattle.nmgc_world_spec.specs.declared.{command.Reply.Reply, value.Name.Name}
 pub use Rattle.std.proofs.{Common.Bool, Common.Bor, Common.List, Common.None, Common.Option, Common.Some, Common.[], Common.add-one, Common.ap, Common.append_assoc, Common.arith, Common.decimal, Common.drop, Common.false, Common.length, Common.length-drop, Common.map, Common.refl, Common.rules, Common.slice_index, Common.subst, Common.suc, Common.sym, Common.take, Common.true, Common.vec_capacity, Common.vec_len, Common.zero, Common.ℕ, Common.◌++◌, Common.◌+◌, Common.◌-◌, Common.◌<◌, Common.◌==◌, Common.◌↔◌, Common.◌∙◌, Common.◌∷◌, Common.◌≡◌, Common.◌≢◌, Common.◌≤◌, Math.Numerals.one-add, Math.Seq.take-suc}

@@ -7,7 +7,7 @@ use Rattle.nmgc_world_spec.specs.declared.command.Reply.TheVariants.{Fine, Yes, 
 use Rattle.nmgc_journal.specs.{declared.report.RoundRows.RoundRows, declared.report.StopRow.StopRow, declared.report.CycleRow.CycleRow, declared.report.Report.Report, declared.report.Phase.Phase, declared.report.Phase.TheVariants.Idle, declared.report.Phase.TheVariants.Marking, declared.report.Phase.TheVariants.Sweeping, declared.report.End.End, declared.report.End.TheVariants.Done, declared.report.End.TheVariants.HeapFull}
 use Rattle.nmgc_object.specs.{Words.IsName, declared.words.TheConstants.NUMBER_LIMIT}
 
--- the maker and the serial with a full stop between, and g for the shared array
+-- the text of a name: the maker and the serial with a full stop between, or g for the shared array
 abbrev pub name_text : Name → List ℕ
 name_text name = if (name.maker == SHARED_MAKER) && (name.serial == 0) then codes "g" else decimal name.maker ++ 46 ∷ decimal name.serial
 
@@ -17,7 +17,7 @@ value_text Nil = codes "nil"
 value_text (Number n) = decimal n
 value_text (Ref name) = name_text name
 
--- the word of a reply, or the value that it gives
+-- the text of a reply: its token, or the value that it gives
 abbrev pub reply_text : Reply → List ℕ
 reply_text Fine = codes "ok"
 reply_text Yes = codes "yes"
@@ -35,7 +35,7 @@ reply_text Nothing = codes "none"
 reply_text StackFull = codes "stackfull"
 reply_text StackEmpty = codes "stackempty"
 
--- the reply has a word of its own, and gives no value
+-- the reply has a token of its own, and gives no value
 abbrev pub HasWord : Reply → Type 0
 HasWord (Given v) = ⊥
 HasWord _ = Unit {0}
@@ -44,16 +44,16 @@ HasWord _ = Unit {0}
 abbrev pub reply_line : ℕ → Reply → List ℕ
 reply_line m reply = decimal m ++ 32 ∷ reply_text reply ++ 10 ∷ []
 
--- the lines of the mutators' replies, where the first list is that of this mutator
+-- the reply lines of the mutators from m on, with one list of replies for each mutator
 abbrev pub replies_text : ℕ → List (List Reply) → List ℕ
 replies_text m [] = []
 replies_text m (replies ∷ others) = flat_map (reply_line m) replies ++ replies_text (m + 1) others
 
--- a round: its number, and its replies
+-- the lines of a round: its number, and its replies
 abbrev pub round_text : ℕ → RoundRows → List ℕ
 round_text n rows = codes "round " ++ decimal n ++ 10 ∷ replies_text 0 rows.replies
 
--- a phase, with the space before it
+-- the token of a phase, with the space before it
 abbrev pub phase_text : Phase → List ℕ
 phase_text Idle = codes " idle"
 phase_text Marking = codes " marking"
@@ -68,15 +68,15 @@ stop_counts s = codes " free " ++ decimal s.free ++ codes " filled " ++ decimal 
 abbrev pub stop_line : StopRow → List ℕ
 stop_line s = codes "stop " ++ decimal s.number ++ phase_text s.phase ++ stop_counts s
 
--- a cycle's number, and the stops of its snapshot and its closing
+-- the start of a cycle's line: its number, and the stops of its snapshot and its closing
 abbrev pub cycle_stops : CycleRow → List ℕ
 cycle_stops c = codes "cycle " ++ decimal c.number ++ codes " from " ++ decimal c.from ++ codes " closed " ++ decimal c.closed
 
--- how many segments it swept, how many blocks in use they had, and how many of these it freed
+-- the counts of the segments that a cycle swept, of their blocks in use, and of the blocks that it freed
 abbrev pub cycle_swept : CycleRow → List ℕ
 cycle_swept c = codes " swept " ++ decimal (length c.swept) ++ codes " had " ++ decimal (length c.had) ++ codes " freed " ++ decimal (length c.freed)
 
--- how many blocks it kept, and how many weak pointers died
+-- the counts of the blocks that a cycle kept, and of the weak pointers that died
 abbrev pub cycle_kept : CycleRow → List ℕ
 cycle_kept c = codes " kept " ++ decimal c.kept ++ codes " dead " ++ decimal (length c.dead) ++ 10 ∷ []
 
@@ -84,28 +84,28 @@ cycle_kept c = codes " kept " ++ decimal c.kept ++ codes " dead " ++ decimal (le
 abbrev pub cycle_line : CycleRow → List ℕ
 cycle_line c = cycle_stops c ++ cycle_swept c ++ cycle_kept c
 
--- a word and a name
+-- a line of a token and a name
 abbrev pub name_line : List ℕ → Name → List ℕ
 name_line word name = word ++ name_text name ++ 10 ∷ []
 
--- a cycle: its line, the weak pointers that died, and the names that were freed
+-- the lines of a cycle: its own line, the weak pointers that died, and the names that were freed
 abbrev pub cycle_text : CycleRow → List ℕ
 cycle_text c = cycle_line c ++ flat_map (name_line (codes "dead ")) c.dead ++ flat_map (name_line (codes "freed ")) c.freed
 
--- the cycles that ended at this stop
+-- the cycles of the report that ended at this stop
 abbrev pub ended_at : ℕ → List CycleRow → List CycleRow
 ended_at n cycles = filter (λ (cycle : CycleRow). cycle.ended == n) cycles
 
--- the stop of this number, if there is a row of it: its line, and the cycles that ended there
+-- the lines of stop n: its own line, and the lines of the cycles that ended at it; no lines if the stop has no row
 abbrev pub stop_at : List StopRow → List CycleRow → ℕ → List ℕ
 stop_at stops cycles n = option_map_or (λ stop. stop_line stop ++ flat_map cycle_text (ended_at n cycles)) (slice_get stops n) []
 
--- the rounds, where the first has this number, each followed by its stop
+-- the lines of rounds, numbered from this number on, each followed by its stop
 abbrev pub rounds_text : List StopRow → List CycleRow → ℕ → List RoundRows → List ℕ
 rounds_text stops cycles n [] = []
 rounds_text stops cycles n (rows ∷ others) = round_text n rows ++ stop_at stops cycles n ++ rounds_text stops cycles (n + 1) others
 
--- the free segments and the reserve that were not enough
+-- the two counts that end the last line of a run whose heap was full: the free segments, which were too few, and the reserve
 abbrev pub end_counts : ℕ → ℕ → List ℕ
 end_counts free reserve = codes " free " ++ decimal free ++ codes " reserve " ++ decimal reserve ++ 10 ∷ []
 
@@ -113,16 +113,16 @@ end_counts free reserve = codes " free " ++ decimal free ++ codes " reserve " ++
 abbrev pub heap_full_line : ℕ → ℕ → List ℕ
 heap_full_line free reserve = codes "end heapfull" ++ end_counts free reserve
 
--- the last line
+-- the last line of a report
 abbrev pub end_text : End → List ℕ
 end_text Done = codes "end done\n"
 end_text (HeapFull free reserve) = heap_full_line free reserve
 
--- the whole text
+-- the text of a report: its lines, as a function of the report
 abbrev pub report_text : Report → List ℕ
 report_text r = codes "report 1\n" ++ stop_at r.stops r.cycles 0 ++ rounds_text r.stops r.cycles 1 r.rounds ++ end_text r.end
 
--- a value that has a text: a number is small enough for a word, and a name may be an object's
+-- the value has a text: it is nil, a number that fits a word, or a name that an object may have
 abbrev pub IsValue : Value → Type 0
 IsValue Nil = Unit {0}
 IsValue (Number n) = n < NUMBER_LIMIT

@@ -1,10 +1,10 @@
-//! The words of a heap that nobody writes any more.
+//! The words of a heap that is no longer written.
 //!
-//! The words of a run lie in one table. As the run ends the table is closed, and the report has them where they lie:
-//! it copies none. Words in a vector are final words too, for whoever makes a report by hand. Where they lie is no part
-//! of their value: contracts see a list.
+//! The words of a run are in one table. As the run ends the table is closed, and the report keeps the table: it copies no
+//! word. Words in a vector are final words too, for callers that make a report by hand. The storage is no part of their
+//! value: contracts see a list.
 //!
-//! Easy to get wrong: a closed table isn't let go of by itself, so a type of its own gives its memory back.
+//! Easy to get wrong: a closed table doesn't give its memory back by itself, so a type of its own does.
 ghost use Rattle.std.specs.{Prelude.◌≡◌, Prelude.◌<◌, Prelude.length, Prelude.slice_index, Slots.slots_items, Slots.slots_len, Slots.IsFull};
 
 use atomic_table::Closed;
@@ -26,7 +26,7 @@ impl Model for FinalWords {
     ghost view = { λ w. words_of w.storage };
 }
 
-// Where they lie.
+// The storage of the words.
 #[derive(Drop)]
 enum Storage {
     Vector(Vec<u64>),
@@ -48,7 +48,7 @@ impl Drop for FullTable {
 }
 
 impl FinalWords {
-    /// The words of a vector. Takes no memory.
+    /// Makes final words from a vector of words, without a copy. Takes no memory.
     pub fn from_vec(words: Vec<u64>) -> FinalWords
         ensures { result ≡ words.items }
     {
@@ -57,8 +57,8 @@ impl FinalWords {
         }
     }
 
-    /// The words of a closed table, where they lie. Asks that the table has every word and no slot, as `Words::close`
-    /// of `nmgc_round` leaves it. Takes no memory.
+    /// Makes final words from a closed table, without a copy. Requires that the table has every word and no slot, as
+    /// `Words::close` of `nmgc_round` leaves it. Takes no memory.
     pub fn of_table(closed: Closed<(), Global>) -> FinalWords
         requires full { IsFull closed.words }
         requires bare { slots_len closed.slots ≡ 0 }
@@ -69,7 +69,7 @@ impl FinalWords {
         }
     }
 
-    /// How many words there are.
+    /// Returns the number of words.
     pub fn len(&self) -> usize
         ensures { result ≡ length self.now }
     {
@@ -79,7 +79,7 @@ impl FinalWords {
         }
     }
 
-    /// The word at a place.
+    /// Returns the word at position `at`.
     pub fn word(&self, at: usize) -> u64
         requires { at < length self.now }
         ensures { result ≡ slice_index self.now at }

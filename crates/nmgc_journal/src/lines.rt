@@ -1,10 +1,10 @@
 //! The line of a reply: the mutator, a space and the reply.
 //!
-//! A report may have millions of them, and nearly all give a name or a number. Such a line is written in a buffer from its
-//! end on, since the digits of a number come from its last one, and appended to the text as a whole.
+//! A report may have millions of them, and nearly all give a name or a number. Such a line is written into a buffer from its
+//! end backwards, since the digits of a number are computed from the last one. It is appended to the text as a whole.
 //!
-//! Easy to get wrong: the line of a name has one number more than that of a number. But its numbers are of 8 and of 32
-//! bits, so the longest line is that of a mutator and a number with 20 digits each.
+//! Easy to get wrong: the line of a name has one number more than the line of a number. But its numbers have 8 and 32 bits,
+//! so the longest line has a mutator and a number of 20 digits each.
 ghost use Rattle.std.specs.Prelude.{◌≡◌, ◌+◌, ◌<◌, ◌≤◌, [], ◌∷◌, ◌++◌, decimal, drop, length, OnOk};
 ghost use Rattle.nmgc_world_spec.specs.{declared.command.Reply.TheVariants.Given, declared.value.Value.TheVariants.Number, declared.value.Value.TheVariants.Ref};
 ghost use Rattle.nmgc_journal.specs.Text.{reply_line, reply_text, HasWord};
@@ -15,11 +15,11 @@ use nmgc_limits::SHARED_MAKER;
 use nmgc_lists::NoMemory;
 use nmgc_world_spec::{Name, Reply, Value};
 
-// As many bytes as any line has, and more.
+// The size of the buffer: more bytes than any line has.
 const LINE: usize = 64;
 
-// Writes a number and a byte behind it, so that they end before a place, and answers where they begin. What stands from
-// that place on stays.
+// Writes `number` and then `byte` into the buffer, so that `byte` is just before position `end`. Returns the position of the
+// first digit. The bytes from `end` on stay.
 #[inline(always)]
 fn write_before(line: &mut [u8; LINE], end: usize, number: u64, byte: u8) -> usize
     requires room { length (decimal number) < end }
@@ -41,7 +41,7 @@ pub fn push_reply_line(out: &mut Vec<u8>, mutator: u64, reply: Reply) -> Result<
     }
 }
 
-// The line of a reply that gives a value.
+// Appends the line of a reply that gives a value.
 fn push_value_line(out: &mut Vec<u8>, mutator: u64, value: Value) -> Result<(), NoMemory>
     ensures { OnOk result (out.new.items ≡ out.old.items ++ reply_line mutator (Given value)) }
 {
@@ -52,7 +52,7 @@ fn push_value_line(out: &mut Vec<u8>, mutator: u64, value: Value) -> Result<(), 
     }
 }
 
-// The line of a reply that gives an object.
+// Appends the line of a reply that gives an object.
 fn push_name_line(out: &mut Vec<u8>, mutator: u64, name: Name) -> Result<(), NoMemory>
     ensures { OnOk result (out.new.items ≡ out.old.items ++ reply_line mutator (Given (Ref name))) }
 {
@@ -62,7 +62,7 @@ fn push_name_line(out: &mut Vec<u8>, mutator: u64, name: Name) -> Result<(), NoM
     push_dotted_line(out, mutator, name)
 }
 
-// The same of an object that isn't the shared array.
+// Appends the line of a reply that gives an object other than the shared array.
 fn push_dotted_line(out: &mut Vec<u8>, mutator: u64, name: Name) -> Result<(), NoMemory>
     ensures { OnOk result (out.new.items ≡ out.old.items ++ (decimal mutator ++ 32 ∷ (decimal name.maker ++ 46 ∷ decimal name.serial) ++ 10 ∷ [])) }
 {
@@ -74,7 +74,7 @@ fn push_dotted_line(out: &mut Vec<u8>, mutator: u64, name: Name) -> Result<(), N
     Ok(())
 }
 
-// The line of a reply that gives a number.
+// Appends the line of a reply that gives a number.
 fn push_number_line(out: &mut Vec<u8>, mutator: u64, number: u64) -> Result<(), NoMemory>
     ensures { OnOk result (out.new.items ≡ out.old.items ++ reply_line mutator (Given (Number number))) }
 {
@@ -85,7 +85,7 @@ fn push_number_line(out: &mut Vec<u8>, mutator: u64, number: u64) -> Result<(), 
     Ok(())
 }
 
-// The line of a reply of a word.
+// Appends the line of a mutator's reply whose text is the token `word`.
 fn push_word_line(out: &mut Vec<u8>, mutator: u64, word: &[u8]) -> Result<(), NoMemory>
     ensures { OnOk result (out.new.items ≡ out.old.items ++ (decimal mutator ++ 32 ∷ word.now ++ 10 ∷ [])) }
 {
@@ -96,7 +96,7 @@ fn push_word_line(out: &mut Vec<u8>, mutator: u64, word: &[u8]) -> Result<(), No
     Ok(())
 }
 
-// The word of a reply that gives no value.
+// Returns the token of a reply that gives no value.
 fn word_of(reply: Reply) -> &'static [u8]
     requires { HasWord reply }
     ensures { result.now ≡ reply_text reply }

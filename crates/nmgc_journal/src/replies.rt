@@ -1,13 +1,13 @@
 //! The replies of one mutator in one round, packed into half a word each.
 //!
-//! A report keeps every reply of a run, and as values of 24 bytes they would be the largest part of a long run's. A reply
-//! is a number, an object's name or one of fifteen others, so it can be packed into a word (`specs/Replies.antt`), of which the
-//! upper half is 0 but for numbers of 2^31 or more and names with a serial of 2^22 or more: where a list has neither, its
-//! words are kept by their lower halves.
-//! Whoever reads a report unpacks one reply at a time. How replies are kept is no part of their value: contracts see them.
+//! A report keeps every reply of a run. As values of 24 bytes they would be the largest part of a long run's report. A reply
+//! is a number, an object's name or one of fifteen others, so it can be packed into a word (`specs/Replies.antt`). The upper
+//! half of the word is 0, except for numbers of 2^31 or more and names with a serial of 2^22 or more. If a list has neither,
+//! only the lower halves are kept. A reader of a report unpacks one reply at a time. The packing is no part of the value:
+//! contracts see the replies. The packing is no format. It pays, since new memory takes a large part of a long run's time.
 //!
-//! Easy to get wrong: a number of 2^63 or more doesn't fit beside the bit that tells a number. No heap has one, but a
-//! list of replies may; then all of that list are kept as they are.
+//! Easy to get wrong: a number of 2^63 or more doesn't fit beside the bit that marks a number. No heap has such a number, but
+//! a list of replies may; then the whole list is kept as it is.
 ghost use Rattle.std.specs.Prelude.{◌≡◌, ◌<◌, IfOk, IfSome, length, slice_get, slice_index_or, Some};
 ghost use Rattle.nmgc_world_spec.specs.{declared.command.Reply.TheVariants.Fine, declared.command.Reply.TheVariants.Given, declared.value.Value.TheVariants.Number, declared.value.Value.TheVariants.Ref};
 ghost use Rattle.nmgc_journal.specs.{Text.HasWord, Replies.name_in, Replies.plain_replies, Replies.reply_in};
@@ -33,7 +33,7 @@ impl Model for Replies {
     ghost view = { λ r. replies_of r.form };
 }
 
-// Packed into half a word each, or into a word each, or as they are.
+// The storage of the replies: half a word each, a word each, or unpacked.
 #[derive(Drop)]
 enum Form {
     Halves(Vec<u32>),
@@ -42,8 +42,8 @@ enum Form {
 }
 
 impl Replies {
-    /// These replies. Takes memory for half a word each; where one doesn't fit, for a word each besides, and where one is
-    /// a number of 2^63 or more, for the replies as they are. What wasn't large enough is given back.
+    /// Makes a list of `replies`. Takes memory for half a word each. If one doesn't fit, takes a word each besides, and for a
+    /// number of 2^63 or more the unpacked replies too. Memory that wasn't large enough is given back.
     pub fn from_slice(alloc: Global, replies: &[Reply]) -> Result<Replies, NoMemory>
         ensures { IfOk result (λ own. own ≡ replies.now) }
     {
@@ -59,7 +59,7 @@ impl Replies {
         })
     }
 
-    // These replies, packed into a word each if they fit.
+    // Makes a list of `replies`: packed into a word each if all fit, and otherwise unpacked.
     fn in_words(alloc: Global, replies: &[Reply]) -> Result<Replies, NoMemory>
         ensures { IfOk result (λ own. own ≡ replies.now) }
     {
@@ -75,7 +75,7 @@ impl Replies {
         })
     }
 
-    // These replies, as they are.
+    // Makes a list of `replies`, unpacked.
     fn whole(alloc: Global, replies: &[Reply]) -> Result<Replies, NoMemory>
         ensures { IfOk result (λ own. own ≡ replies.now) }
     {
@@ -84,7 +84,7 @@ impl Replies {
         })
     }
 
-    /// How many replies there are.
+    /// Returns the number of replies.
     pub fn len(&self) -> usize
         ensures { result ≡ length self.now }
     {
@@ -95,7 +95,7 @@ impl Replies {
         }
     }
 
-    /// The reply at a place.
+    /// Returns the reply at position `at`.
     pub fn reply(&self, at: usize) -> Reply
         requires { at < length self.now }
         ensures { slice_get self.now at ≡ Some result }
@@ -108,7 +108,7 @@ impl Replies {
     }
 }
 
-// The half word that a reply is packed into, if it fits.
+// Packs a reply into half a word, or returns `None` if it doesn't fit.
 fn half(reply: Reply) -> Option<u32>
     ensures { IfSome result (λ word. reply_in word ≡ reply) }
 {
@@ -119,7 +119,7 @@ fn half(reply: Reply) -> Option<u32>
     Some(word as u32)
 }
 
-// The word that a reply is packed into, if it fits.
+// Packs a reply into a word, or returns `None` if it doesn't fit.
 fn packed(reply: Reply) -> Option<u64>
     ensures { IfSome result (λ word. reply_in word ≡ reply) }
 {
@@ -129,7 +129,7 @@ fn packed(reply: Reply) -> Option<u64>
     }
 }
 
-// The same of a reply that gives this value.
+// Packs a reply that gives `value` into a word, or returns `None` if it doesn't fit.
 fn packed_value(value: Value) -> Option<u64>
     ensures { IfSome result (λ word. reply_in word ≡ Given value) }
 {
@@ -140,7 +140,7 @@ fn packed_value(value: Value) -> Option<u64>
     }
 }
 
-// A number has an odd word.
+// Packs a reply that gives a number into a word, which is odd. Returns `None` if the number doesn't fit.
 fn packed_number(number: u64) -> Option<u64>
     ensures { IfSome result (λ word. reply_in word ≡ Given (Number number)) }
 {
@@ -151,14 +151,14 @@ fn packed_number(number: u64) -> Option<u64>
     }
 }
 
-// A name has twice an odd number.
+// Packs a reply that gives an object into a word, which is twice an odd number.
 fn packed_name(name: Name) -> u64
     ensures { reply_in result ≡ Given (Ref name) }
 {
     4 * (u64::from(name.maker) + 256 * u64::from(name.serial)) + 2
 }
 
-// A reply that gives no value has four times its place among the plain ones.
+// Packs a reply that gives no value into a word: four times the reply's position among the plain replies.
 fn packed_plain(reply: Reply) -> u64
     requires { HasWord reply }
     ensures { reply_in result ≡ reply }
@@ -182,10 +182,10 @@ fn packed_plain(reply: Reply) -> u64
     }
 }
 
-// Where nil stands among the plain replies.
+// The position of nil among the plain replies.
 const NIL_PLACE: u64 = 14;
 
-// The reply in a word.
+// Returns the reply that a word represents.
 fn reply_in(word: u64) -> Reply
     ensures { result ≡ reply_in word }
 {
@@ -199,7 +199,7 @@ fn reply_in(word: u64) -> Reply
     plain_at(code)
 }
 
-// The name in a code.
+// Returns the name that a code represents.
 fn name_in(code: u64) -> Name
     ensures { result ≡ name_in code }
 {
@@ -209,7 +209,7 @@ fn name_in(code: u64) -> Name
     }
 }
 
-// The plain reply at a place, and the first one where there is none.
+// Returns the plain reply at position `place`, or `Fine` past the last position.
 fn plain_at(place: u64) -> Reply
     ensures { result ≡ slice_index_or plain_replies place Fine }
 {

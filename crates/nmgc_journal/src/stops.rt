@@ -1,23 +1,21 @@
 //! The lines of a stop, and of the cycles that ended there.
 //!
-//! The format says 'the cycles that ended at this stop', whatever their order (`specs/Text.antt`,
-//! `ended_at`), and `push_stop_at` looks through all of them. Where the cycles stand in the order of the
-//! stops at which they ended, those that ended at a stop are a front of those that no earlier stop has
-//! taken, so `push_next_stop` looks at these alone.
-//! Easy to get wrong: a stop without a row takes its cycles off all the same, or the next one would begin
-//! at cycles that ended before it.
+//! The format says "the cycles that ended at this stop", whatever their order (`specs/Text.antt`, `ended_at`), and
+//! `push_stop_at` looks through all of them. If the cycles are in the order of the stops at which they ended, the cycles of a
+//! stop are at the front of those that no earlier stop has taken. So `push_next_stop` looks at these alone. Easy to get
+//! wrong: a stop without a row has to take its cycles too. Otherwise the next stop begins at cycles that ended before.
 ghost use Rattle.std.specs.Prelude.{◌≡◌, ◌≢◌, ◌↔◌, ℕ, ◌+◌, ◌<◌, ◌≤◌, ◌++◌, ◌==◌, length, take, drop, IsTrue, OnOk, IfOk};
 ghost use Rattle.std.specs.List.{flat_map, take_while};
 ghost use Rattle.nmgc_journal.specs.Text.{phase_text, stop_line, stop_counts, cycle_line, cycle_stops, cycle_swept, cycle_kept, cycle_text, name_line, stop_at, ended_at};
 ghost use Rattle.nmgc_journal.specs.{Stops.AreEndedFrom, Stops.IsRestAfter, Spans.span_lines};
 
-use crate::words::{push_count, push_name, push_word};
+use crate::tokens::{push_count, push_name, push_word};
 use crate::{CycleRow, Phase, StopRow};
 use nmgc_lists::NoMemory;
-use nmgc_names::{NameList, Span};
+use nmgc_name_lists::{NameList, Span};
 use nmgc_world_spec::Name;
 
-/// Whether each cycle ended no earlier than the one before it. Takes no memory.
+/// Whether the cycles are in the order of the stops at which they ended. Takes no memory.
 pub fn are_in_order(cycles: &[CycleRow]) -> bool
     ensures { IsTrue result ↔ AreEndedFrom 0 cycles.now }
 {
@@ -31,7 +29,7 @@ pub fn are_in_order(cycles: &[CycleRow]) -> bool
     true
 }
 
-/// Appends the lines of the stop of this number, where there is a row of it.
+/// Appends the lines of stop `number` and of the cycles that ended at it, or nothing if the stop has no row.
 pub fn push_stop_at(
     out: &mut Vec<u8>,
     stops: &[StopRow],
@@ -47,8 +45,8 @@ pub fn push_stop_at(
     Ok(())
 }
 
-/// Does the same, and answers how many of the cycles ended there. They are the first of those that ended
-/// at this stop or later.
+/// Appends the lines of stop `number` and of the cycles that ended at it, and returns the number of these cycles, which come
+/// first. All `cycles` ended at this stop or later, in order. If the stop has no row, nothing is appended.
 pub fn push_next_stop(
     out: &mut Vec<u8>,
     stops: &[StopRow],
@@ -67,7 +65,7 @@ pub fn push_next_stop(
     Ok(count)
 }
 
-// How many cycles ended at this stop, where they are in order.
+// Counts the cycles that ended at stop `number`. Requires cycles that ended at this stop or later, in order.
 fn ended_count(cycles: &[CycleRow], number: u64) -> usize
     requires { AreEndedFrom number cycles.now }
     ensures ended { take result cycles.now ≡ ended_at number cycles.now }
@@ -76,7 +74,7 @@ fn ended_count(cycles: &[CycleRow], number: u64) -> usize
     front_count(cycles, number)
 }
 
-// How many cycles ended at this stop, before the first that didn't.
+// Counts the cycles in front that ended at stop `number`, up to the first that didn't.
 fn front_count(cycles: &[CycleRow], number: u64) -> usize
     ensures { result ≡ length (take_while (λ cycle. cycle.ended == number) cycles.now) }
 {
@@ -94,7 +92,7 @@ fn push_stop_line(out: &mut Vec<u8>, row: &StopRow) -> Result<(), NoMemory>
     push_stop_counts(out, row)
 }
 
-// The word of a phase, between spaces as it stands in the line.
+// Returns the token of a phase in the line of a stop, with the space before the token.
 fn phase_word(phase: Phase) -> &'static [u8]
     ensures { result.now ≡ phase_text phase }
 {
@@ -115,7 +113,7 @@ fn push_stop_counts(out: &mut Vec<u8>, row: &StopRow) -> Result<(), NoMemory>
     push_word(out, b"\n")
 }
 
-// Appends the cycles that ended at this stop.
+// Appends the lines of the cycles that ended at stop `number`.
 fn push_ended_at(out: &mut Vec<u8>, number: u64, cycles: &[CycleRow]) -> Result<(), NoMemory>
     ensures { OnOk result (out.new.items ≡ out.old.items ++ flat_map cycle_text (ended_at number cycles.now)) }
 {
@@ -176,7 +174,7 @@ fn push_cycle_kept(out: &mut Vec<u8>, row: &CycleRow) -> Result<(), NoMemory>
     push_word(out, b"\n")
 }
 
-// Appends a line for each name: a word and the name.
+// Appends a line for each name of `names`: the token `word`, and the name.
 fn push_names(out: &mut Vec<u8>, word: &[u8], names: &[Name]) -> Result<(), NoMemory>
     ensures { OnOk result (out.new.items ≡ out.old.items ++ flat_map (name_line word.now) names.now) }
 {
@@ -186,14 +184,14 @@ fn push_names(out: &mut Vec<u8>, word: &[u8], names: &[Name]) -> Result<(), NoMe
     Ok(())
 }
 
-// The same of names that are kept as spans.
+// Appends a line for each name of a list of spans: the token `word`, and the name.
 fn push_name_list(out: &mut Vec<u8>, word: &[u8], names: &NameList) -> Result<(), NoMemory>
     ensures { OnOk result (out.new.items ≡ out.old.items ++ flat_map (name_line word.now) names.now) }
 {
     push_spans(out, word, names.spans())
 }
 
-// A line for each name of spans.
+// Appends a line for each name of each span: the token `word`, and the name.
 fn push_spans(out: &mut Vec<u8>, word: &[u8], spans: &[Span]) -> Result<(), NoMemory>
     ensures { OnOk result (out.new.items ≡ out.old.items ++ flat_map (span_lines word.now) spans.now) }
 {
@@ -203,7 +201,7 @@ fn push_spans(out: &mut Vec<u8>, word: &[u8], spans: &[Span]) -> Result<(), NoMe
     Ok(())
 }
 
-// A line for each name of a span.
+// Appends a line for each name of a span: the token `word`, and the name.
 fn push_span(out: &mut Vec<u8>, word: &[u8], span: &Span) -> Result<(), NoMemory>
     ensures { OnOk result (out.new.items ≡ out.old.items ++ span_lines word.now span.now) }
 {
@@ -213,7 +211,7 @@ fn push_span(out: &mut Vec<u8>, word: &[u8], span: &Span) -> Result<(), NoMemory
     Ok(())
 }
 
-// A line with a word and a name.
+// Appends a line of the token `word` and a name.
 fn push_name_line(out: &mut Vec<u8>, word: &[u8], name: Name) -> Result<(), NoMemory>
     ensures { OnOk result (out.new.items ≡ out.old.items ++ name_line word.now name) }
 {

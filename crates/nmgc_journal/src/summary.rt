@@ -1,24 +1,22 @@
 //! The summary of a bench.
 //!
-//! It tells of a whole run what its report tells row by row: how much was done, and what became of the
-//! objects. Each number is a sum over the rows, which are gone through once and not copied
-//! (`specs/Summary.antt`). The sums have 128 bits: no list of rows is so long that a sum over it would be
-//! larger, so a report need not be known to be that of a run.
-//! Easy to get wrong: what is kept is that of the last cycle alone, since an object that lives on is kept
-//! again by every cycle.
+//! It has the totals of the rows of a report: the work done, and the objects made, promoted, freed and kept. Each number is a
+//! sum over the rows, which are read once and not copied (`specs/Summary.antt`). The sums have 128 bits. No list of rows is
+//! long enough for a larger sum, so the report needn't come from a run. Easy to get wrong: the number of kept objects is the
+//! last cycle's alone, since each cycle keeps a surviving object again.
 ghost use Rattle.std.specs.Prelude.{◌≡◌, ◌<◌, ◌^◌, ◌++◌, codes, OnOk, IfOk};
 ghost use Rattle.nmgc_journal.specs.Summary.{reply_count, command_count, made_count, promoted_count, freed_count, kept_count, count_line, run_lines, object_lines, summary_text};
 
 use crate::text::push_end;
-use crate::words::push_word;
+use crate::tokens::push_word;
 use crate::{CycleRow, MutatorEnd, Report, RoundRows, StopRow};
 use itoa::Buffer;
 use nmgc_lists::NoMemory;
 use std::alloc::Global;
 
-/// The summary of a bench of so many batches, as `docs/FORMATS.md` gives it, over the rows of its report.
-/// Asks that fewer than 2^64 commands were answered; no other sum can be too large. Takes time in the
-/// rounds and their mutators, the stops and the cycles.
+/// Returns the summary of a bench of `batches` batches, computed from the rows of its report, in the form of
+/// `docs/FORMATS.md`. Requires that fewer than 2^64 commands were answered, which is so for every lawful report of a bench.
+/// No other sum can be too large. Takes time proportional to the rounds and their mutators, the stops and the cycles.
 pub fn summary(alloc: Global, batches: u32, report: &Report) -> Result<Vec<u8>, NoMemory>
     requires { command_count report.now.rounds < 2 ^ 64 }
     ensures { IfOk result (λ text. text.items ≡ summary_text batches report.now) }
@@ -31,7 +29,7 @@ pub fn summary(alloc: Global, batches: u32, report: &Report) -> Result<Vec<u8>, 
     Ok(out)
 }
 
-// Appends what the run did.
+// Appends the lines that count the commands answered, the rounds and the cycles.
 fn push_run_lines(out: &mut Vec<u8>, report: &Report) -> Result<(), NoMemory>
     requires { command_count report.now.rounds < 2 ^ 64 }
     ensures { OnOk result (out.new.items ≡ out.old.items ++ run_lines report.now) }
@@ -45,7 +43,7 @@ fn push_run_lines(out: &mut Vec<u8>, report: &Report) -> Result<(), NoMemory>
     push_line(out, b"cycles ", report.cycles.items().len() as u128)
 }
 
-// Appends what became of the objects.
+// Appends the lines that count the objects made, promoted, freed, and kept by the last cycle.
 fn push_object_lines(out: &mut Vec<u8>, report: &Report) -> Result<(), NoMemory>
     ensures { OnOk result (out.new.items ≡ out.old.items ++ object_lines report.now) }
 {
@@ -55,7 +53,7 @@ fn push_object_lines(out: &mut Vec<u8>, report: &Report) -> Result<(), NoMemory>
     push_line(out, b"kept ", kept_count(report.cycles.items()))
 }
 
-// Appends a line: a word and a number.
+// Appends a line of the token `word` and a number.
 fn push_line(out: &mut Vec<u8>, word: &[u8], number: u128) -> Result<(), NoMemory>
     ensures { OnOk result (out.new.items ≡ out.old.items ++ count_line word.now number) }
 {
@@ -64,7 +62,7 @@ fn push_line(out: &mut Vec<u8>, word: &[u8], number: u128) -> Result<(), NoMemor
     push_word(out, b"\n")
 }
 
-// How many commands were answered.
+// Counts the commands that were answered in all rounds.
 fn command_count(rounds: &[RoundRows]) -> u64
     requires { command_count rounds.now < 2 ^ 64 }
     ensures { result ≡ command_count rounds.now }
@@ -76,7 +74,7 @@ fn command_count(rounds: &[RoundRows]) -> u64
     count
 }
 
-// How many replies a round has.
+// Counts the replies of a round.
 fn reply_count(rows: &RoundRows) -> u64
     requires { reply_count rows.now < 2 ^ 64 }
     ensures { result ≡ reply_count rows.now }
@@ -85,7 +83,7 @@ fn reply_count(rows: &RoundRows) -> u64
     replies.iter().map(|own| own.len() as u64).sum()
 }
 
-// How many objects the mutators made.
+// Counts the objects that the mutators made.
 fn made_count(mutators: &[MutatorEnd]) -> u128
     ensures { result ≡ made_count mutators.now }
 {
@@ -95,21 +93,21 @@ fn made_count(mutators: &[MutatorEnd]) -> u128
         .sum()
 }
 
-// How many objects the stops promoted.
+// Counts the objects that the stops promoted.
 fn promoted_count(stops: &[StopRow]) -> u128
     ensures { result ≡ promoted_count stops.now }
 {
     stops.iter().map(|stop| u128::from(stop.promoted)).sum()
 }
 
-// How many objects the cycles freed.
+// Counts the objects that the cycles freed.
 fn freed_count(cycles: &[CycleRow]) -> u128
     ensures { result ≡ freed_count cycles.now }
 {
     cycles.iter().map(|cycle| cycle.freed.len() as u128).sum()
 }
 
-// How many objects the last cycle kept.
+// Returns the number of objects that the last cycle kept, or 0 if there is no cycle.
 fn kept_count(cycles: &[CycleRow]) -> u128
     ensures { result ≡ kept_count cycles.now }
 {

@@ -1,15 +1,14 @@
 //! The text of a report.
 //!
-//! Every function here appends one piece of the text to the bytes so far, and its contract says which
-//! piece of the format that is.
+//! Each function here appends one piece of the text to the bytes so far, and its contract names that piece of the format.
 //!
-//! A run writes its cycles in the order of the stops at which they ended. One pass looks whether that is
-//! so, and a cursor then takes the cycles of each stop from the front of those left: a run of two million
-//! stops and half as many cycles takes time in the length of its text. In a report whose cycles stand in
-//! another order each stop looks through all of them, which takes time in stops times cycles.
+//! A run writes its cycles in the order of the stops at which they ended. One pass checks whether that is so. Then a cursor
+//! takes the cycles of each stop from the front of the cycles left. So a run of two million stops and a million cycles takes
+//! time proportional to the length of its text. If a report's cycles are in another order, each stop looks through all of
+//! them, which takes time proportional to stops times cycles.
 //!
-//! A text may have as many bytes as the script, and one that grows as it is written moves each time that it has
-//! doubled. So about as much room as it needs is taken at first.
+//! A text may be as long as the script, and a vector that grows moves each time that it has doubled. So the room for about
+//! the whole text is taken at first.
 ghost use Rattle.std.specs.Prelude.{◌≡◌, ◌+◌, ◌<◌, ◌≤◌, ◌^◌, ◌++◌, length, codes, OnOk, IfOk};
 ghost use Rattle.std.specs.List.{flat_map};
 ghost use Rattle.nmgc_journal.specs.Stops.{AreEndedFrom};
@@ -17,20 +16,20 @@ ghost use Rattle.nmgc_journal.specs.Text.{reply_line, replies_text, round_text, 
 
 use crate::lines::push_reply_line;
 use crate::stops::{are_in_order, push_next_stop, push_stop_at};
-use crate::words::{push_count, push_word};
+use crate::tokens::{push_count, push_word};
 use crate::{End, Replies, Report, RoundRows};
 use nmgc_io::push_number;
 use nmgc_lists::NoMemory;
 use std::alloc::Global;
 
-// About as many bytes as the line of a reply has, or that of a name.
+// The usual number of bytes in the line of a reply, or of a name.
 const NAME_BYTES: usize = 12;
 
-// And the lines of a stop or of a cycle.
+// The usual number of bytes in the line of a stop or of a cycle.
 const STOP_BYTES: usize = 64;
 
-/// The text of a report, as `docs/FORMATS.md` gives it, for every report. The cycles that ended at one
-/// stop come in the order of their rows; a run writes the rows in the order of their numbers.
+/// Returns the text of a report, as `docs/FORMATS.md` gives it, for every report. The cycles of a stop are those that ended
+/// at it, in the order of their rows; a run writes the rows in the order of their numbers.
 pub fn text(alloc: Global, report: &Report) -> Result<Vec<u8>, NoMemory>
     ensures { IfOk result (λ text. text.items ≡ report_text report.now) }
 {
@@ -42,7 +41,7 @@ pub fn text(alloc: Global, report: &Report) -> Result<Vec<u8>, NoMemory>
     Ok(out)
 }
 
-// Takes about as much room as the whole text needs. Where there is none, it is taken as the text grows.
+// Reserves about the room that the whole text needs. If there isn't enough memory for it, room is taken as the text grows.
 fn take_room(out: &mut Vec<u8>, report: &Report)
     ensures { out.new.items ≡ out.old.items }
 {
@@ -55,7 +54,7 @@ fn take_room(out: &mut Vec<u8>, report: &Report)
     let _ = out.reserve(names.saturating_add(STOP_BYTES.saturating_mul(rows)));
 }
 
-// How many lines the replies and the freed names have.
+// Counts the lines of a report that are replies or freed names.
 fn names_count(report: &Report) -> usize {
     let mut count: usize = 0;
     for rows in report.rounds.items() {
@@ -69,7 +68,7 @@ fn names_count(report: &Report) -> usize {
     count
 }
 
-// Appends the first stop, and each round with its stop.
+// Appends the lines of stop 0, and the lines of each round and of the stop after it.
 fn push_rounds(out: &mut Vec<u8>, report: &Report) -> Result<(), NoMemory>
     ensures { OnOk result (out.new.items ≡ out.old.items ++ (stop_at report.now.stops report.now.cycles 0 ++
         rounds_text report.now.stops report.now.cycles 1 report.now.rounds)) }
@@ -80,7 +79,7 @@ fn push_rounds(out: &mut Vec<u8>, report: &Report) -> Result<(), NoMemory>
     push_rounds_in_any_order(out, report)
 }
 
-// The same where the cycles stand in any order: each stop looks through all of them.
+// Appends the lines of stop 0, and of each round and the stop after it, for cycles in any order: each stop looks through all.
 fn push_rounds_in_any_order(out: &mut Vec<u8>, report: &Report) -> Result<(), NoMemory>
     ensures { OnOk result (out.new.items ≡ out.old.items ++ (stop_at report.now.stops report.now.cycles 0 ++
         rounds_text report.now.stops report.now.cycles 1 report.now.rounds)) }
@@ -94,7 +93,7 @@ fn push_rounds_in_any_order(out: &mut Vec<u8>, report: &Report) -> Result<(), No
     Ok(())
 }
 
-// The same where the cycles stand in the order of the stops at which they ended.
+// Appends the lines of stop 0, and of each round and the stop after it, for cycles in the order of the stops that ended them.
 fn push_rounds_in_order(out: &mut Vec<u8>, report: &Report) -> Result<(), NoMemory>
     requires { AreEndedFrom 0 report.now.cycles }
     ensures { OnOk result (out.new.items ≡ out.old.items ++ (stop_at report.now.stops report.now.cycles 0 ++
@@ -109,7 +108,7 @@ fn push_rounds_in_order(out: &mut Vec<u8>, report: &Report) -> Result<(), NoMemo
     Ok(())
 }
 
-/// Appends the last line.
+/// Appends the last line of a report, which says how the run ended.
 pub fn push_end(out: &mut Vec<u8>, end: End) -> Result<(), NoMemory>
     ensures { OnOk result (out.new.items ≡ out.old.items ++ end_text end) }
 {
@@ -127,7 +126,7 @@ fn push_heap_full(out: &mut Vec<u8>, free: u32, reserve: u32) -> Result<(), NoMe
     push_end_counts(out, free, reserve)
 }
 
-// Appends the two counts that end it.
+// Appends the end of the last line of a run whose heap was full: the counts of free segments and of the reserve.
 fn push_end_counts(out: &mut Vec<u8>, free: u32, reserve: u32) -> Result<(), NoMemory>
     ensures { OnOk result (out.new.items ≡ out.old.items ++ end_counts free reserve) }
 {

@@ -1,9 +1,10 @@
--- How large a heap and the numbers of a run may be.
+-- The limits of the size of a heap and of the numbers of a run.
 --
 -- The grammar of scripts and the layout of the heap both cite these numbers. Sizes of the heap's parts are in words.
 use Rattle.std.specs.{Prelude.ℕ, Prelude.◌≤◌, Prelude.IsTrue, Int.is_power_of_two}
 
--- the most segments
+-- limits of sizes: this definition is the most segments, and the next definitions bound segments, nurseries, the heap, a
+-- slice, a quota, a trigger and a script's bytes
 abbrev pub most_segments : ℕ
 most_segments = 65536
 
@@ -15,7 +16,7 @@ least_segment_words = 16
 abbrev pub most_segment_words : ℕ
 most_segment_words = 4096
 
--- a segment may have so many words
+-- a segment may have this number of words: a power of two from the fewest to the most words of a segment, both included
 pub record IsSegmentSize (words : ℕ) : Type 0 where
   pub power : IsTrue (is_power_of_two words)
   pub least : least_segment_words ≤ words
@@ -25,7 +26,7 @@ pub record IsSegmentSize (words : ℕ) : Type 0 where
 abbrev pub most_nursery_words : ℕ
 most_nursery_words = 4194304
 
--- the most words of all segments and nurseries together, which are 32 MiB
+-- the most words of all segments and nurseries together: 32 MiB
 abbrev pub most_heap_words : ℕ
 most_heap_words = 4194304
 
@@ -33,7 +34,7 @@ most_heap_words = 4194304
 abbrev pub most_slice : ℕ
 most_slice = 65536
 
--- the most objects that are marked, or segments that are swept, in a round
+-- the most objects that are marked in a round, and the most segments that are swept in a round
 abbrev pub most_quota : ℕ
 most_quota = 1048576
 

@@ -1,11 +1,11 @@
-//! How large a heap and the numbers of a run may be.
+//! The limits of the size of a heap and of the numbers of a run.
 //!
-//! The limits keep every place in the words of the heap within 32 bits, and the whole heap within 32
-//! MiB. They stand once as numbers, in `specs/Limits.antt`, which every contract cites, and once as
-//! the constants below, which the code uses; `limits_are_these` ties each to the other. So a crate
-//! that compares with another number, or a constant that is changed alone, is not proved. Easy to get
-//! wrong: a config alone can't keep the limit of the whole heap, since the nurseries are as many as
-//! the threads.
+//! The limits keep every address in the heap within 32 bits, and the whole heap within 32 MiB. Each number is written twice:
+//! in `specs/Limits.antt`, which every contract cites, and in the constants below, which the code uses. `limits_are_these`
+//! proves that the two are equal. So the proof fails if a crate compares with another number, or if a constant is changed
+//! alone.
+//!
+//! Easy to get wrong: a config alone can't keep the limit of the whole heap, since there is a nursery for each thread.
 #![tactic(auto)]
 
 mod mutators;
@@ -33,7 +33,7 @@ pub const MAX_HEAP_WORDS: u32 = 4_194_304;
 /// The most commands of a slice.
 pub const MAX_SLICE: u32 = 65_536;
 
-/// The most objects that are marked, or segments that are swept, in a round.
+/// The most objects that are marked in a round, and the most segments that are swept in a round.
 pub const MAX_QUOTA: u32 = 1_048_576;
 
 /// The most filled segments that a trigger may wait for.
@@ -42,7 +42,8 @@ pub const MAX_TRIGGER: u32 = 65_536;
 /// The most bytes of a script.
 pub const MAX_SCRIPT_BYTES: usize = 16_777_216;
 
-/// Each constant is the number of its definition. It does nothing: its contract is the law.
+/// Proves that each constant here equals the number that `specs/Limits.antt` defines for it. It does nothing else: its
+/// contract is the law.
 pub fn limits_are_these()
     ensures segments { MAX_SEGMENTS ≡ most_segments }
     ensures least_words { MIN_SEGMENT_WORDS ≡ least_segment_words }

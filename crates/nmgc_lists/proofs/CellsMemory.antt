@@ -1,4 +1,4 @@
--- A `Cells` in memory is its elements side by side, and back. The two proofs by hand share this.
+-- A `Cells` in memory is its elements side by side, and conversely. The two proofs by hand share this.
 use Rattle.nmgc_lists.proofs.Vocabulary.{◌≡◌, refl, sym, ℕ, zero, ◌+◌, List, [], ◌∷◌, length, Ura, Ty, Args, a_type, a_number, ty_array, ty_struct, SProp, ent, sep, guard, full_share, Fml, ftrue, fsep, feq, align, up, Logic, sem, cells, ‵, ◌⊛◌, raw, ◌$◌, ◌∵◌, !, qed, move, drop, split, fsplit, fjoin, use1, use2, done, rewrite, feq_l, feq_i, check, Array, Array-apart, Array-whole, row, whole_in, whole_out, mem, part_at, param, number, layout, layouts, ArrayAt, Laws, param_laws, number_array_laws, RattleType, nothing, shape, Member, raw_tys, shape_of, Struct-left, left_Struct, Recorded-part, Struct, the_row, the_type}
 
 module _ (X : RattleType) (n : ℕ) where
@@ -18,7 +18,7 @@ module _ (X : RattleType) (n : ℕ) where
   abbrev pub array_ty : Ty
   array_ty = ty_array (layout X) n
 
-  -- where the array begins, in a struct at the offset o
+  -- the position of the array, in a struct at the offset o
   abbrev pub start : ℕ → ℕ
   start o = o + up (align array_ty) zero
 
@@ -36,7 +36,7 @@ module _ (X : RattleType) (n : ℕ) where
   module _ {M : Type 1} {𝓤 : Ura M} (𝓛 : Logic 𝓤) (b o : ℕ) where
     open 𝓛 use {H}
 
-    -- what is left of the struct while its field is out
+    -- the rest of the struct while its field is out
     abbrev pub Left : SProp 𝓤
     Left = H.left full_share (ty_struct [] (raw_tys fields)) (raw_tys fields) b o
 

@@ -1,4 +1,4 @@
--- A list of which a front came off, and then what is past its first items.
+-- A list without a front, and then without its first items.
 use Rattle.std.proofs.Common.{◌≡◌, ◌+◌, ℕ, zero, suc, List, [], ◌∷◌, drop, take, refl, arith}
 
 take_nothing : {A : Type 0} (k : ℕ) → ◌≡◌ {A = List A} [] (take k [])

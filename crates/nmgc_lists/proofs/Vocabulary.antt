@@ -1,4 +1,4 @@
--- Every name of std, of the crates below and of this crate's definitions that the proofs speak of.
+-- The names of std, of the crates below and of this crate's definitions that the proofs use.
 pub use Prim.Native.Nat.{zero, ℕ, ◌*◌, ◌+◌, ◌<◌, ◌^◌, ◌≤◌}
 pub use Rattle.nmgc_lists.specs.{contracts.cells.Cells.the_row, contracts.cells.Cells.the_type, contracts.cells.Cells.front_mut.Key.name as #self}
 pub use Rattle.std.specs.List.{refill}

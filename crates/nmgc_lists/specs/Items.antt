@@ -1,16 +1,17 @@
--- Where the items of a list lie.
+-- The location of a list's items: the list itself or a vector.
 use Rattle.std.specs.Prelude.{◌≡◌, List, length}
 use Rattle.nmgc_lists.specs.{declared.list.Items.Items, declared.list.Items.TheVariants.Empty, declared.list.Items.TheVariants.Single, declared.list.Items.TheVariants.Pair, declared.list.Items.TheVariants.Many}
 
 module _ {T : Type 0} where
-  -- the items in order, wherever they lie
+  -- the items of a list, in order, wherever they are: none, one or two in the list itself, or any number in a vector;
+  -- contracts see only the items
   abbrev pub items_of : Items T → List T
   items_of (Empty empty) = empty.cells.xs
   items_of (Single single) = single.cells.xs
   items_of (Pair pair) = pair.cells.xs
   items_of (Many items) = items.value.items
 
-  -- a pair has two items, a single one has one, and an empty list none
+  -- a pair has two items, a single item is one, and an empty list has none
   abbrev pub HasExactLength : Items T → Type 0
   HasExactLength (Empty empty) = length empty.cells.xs ≡ 0
   HasExactLength (Single single) = length single.cells.xs ≡ 1

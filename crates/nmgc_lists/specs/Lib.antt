@@ -1,5 +1,5 @@
 pub mod Cells
-pub mod Few
+pub mod FixedVec
 pub mod Items
 pub mod ItemsLends
 pub mod Lends

@@ -1,9 +1,9 @@
-//! Items that lie in the value itself, as many as its type says.
+//! A fixed number of items in the value itself; the type has the number.
 //!
-//! An array in a struct of its own, so that a contract can say what a loan of its items leaves.
+//! An array in a struct of its own, so that a contract can give the value after a loan of its items.
 ghost use Rattle.std.specs.{Prelude.◌≡◌, Prelude.◌≤◌, Prelude.take, Borrow.sem};
 
-/// An array of items.
+/// An array of `N` items.
 #[derive(Drop)]
 pub(crate) struct Cells<T, const N: usize> {
     pub(crate) xs: [T; N],
@@ -12,7 +12,7 @@ pub(crate) struct Cells<T, const N: usize> {
 impl<T, const N: usize> Cells<T, N> {
     ghost use Rattle.nmgc_lists.specs.Cells.{lends_front};
 
-    /// The first `len` items, for writing.
+    /// Lends the first `len` items, for writing.
     #[inline]
     pub(crate) fn front_mut(&mut self, len: usize) -> &mut [T]
         requires { len ≤ N }

@@ -1,18 +1,17 @@
 //! A growing list, which contracts see as a list.
 //!
-//! It is `Vec` with one answer for want of memory, and with room for two items in the value itself: most
-//! constructors of a world have one or two fields, so `pair` spares an allocation for each. More items lie in a
-//! vector that has a place of its own in memory, so that a list is small wherever it lies. Only `push`, `copy` and
-//! `from_vec` take memory; after a refusal the list is unchanged. Where the items lie is not part of the list's
-//! value: contracts never see it.
+//! It is `Vec` with one error for lack of memory, and with room for two items in the value itself. Most constructors of a
+//! world have one or two fields, so `pair` saves an allocation for each. More items lie in a vector that has memory of its
+//! own, so a list is small wherever it lies. Only `push`, `copy` and `from_vec` take memory; after an error the list is
+//! unchanged. The position of the items is not part of the list's value: contracts never see it.
 //!
-//! Easy to get wrong: a list that `new` or `pair` made has no vector, also once an item was taken off. So the next
-//! `push` onto it takes memory, even if the value itself would have room.
+//! Easy to get wrong: a list made by `new` or `pair` has no vector, even after an item was taken off. So the next `push` onto
+//! it takes memory, even if the value itself would have room.
 ghost use Rattle.std.specs.Prelude.{◌≡◌, ◌≤◌, [], ◌∷◌, ◌++◌, IfSome, IfNone, IfOk, OnOk, OnErr, vec_capacity};
 ghost use Rattle.nmgc_lists.specs.Items.{items_of, HasExactLength};
 
 use crate::NoMemory;
-use crate::few::Few;
+use crate::fixed_vec::FixedVec;
 use std::alloc::Global;
 use std::marker::Model;
 use std::mem;
@@ -22,14 +21,14 @@ pub struct List<T> {
     items: Items<T>,
 }
 
-/// Memory for the vector of one list, for who may take none once there are items. Contracts see nothing of it.
+/// Memory for the vector of one list, for a caller that may take no memory once it has items. Contracts see nothing of it.
 #[derive(Drop)]
 pub struct ListMemory<T> {
     vector: Box<Vec<T>>,
 }
 
 impl<T: Drop> ListMemory<T> {
-    /// Takes memory for one value of type `Vec`.
+    /// Allocates the memory for one value of type `Vec`, and returns it.
     pub fn new(alloc: Global) -> Result<Self, NoMemory> {
         Ok(ListMemory {
             vector: Box::new(alloc, Vec::new(alloc))?,
@@ -37,7 +36,7 @@ impl<T: Drop> ListMemory<T> {
     }
 }
 
-// By hand, so that whoever lets go of a list calls this: a derived one is written out, and proved, at each place.
+// Written by hand, so that each drop of a list calls this. A derived drop is written out, and proved, at each drop.
 impl<T: Drop> Drop for List<T> {
     fn drop(self) {
         let List { items } = self;
@@ -56,12 +55,12 @@ impl<T> Model for List<T> {
     ghost invariant = { λ a. HasExactLength a.items };
 }
 
-/// Where the items lie: none, one or two in the value itself, or any number in a vector.
+/// The items: none, one or two in the value itself, or any number in a vector.
 #[derive(Drop)]
 enum Items<T> {
-    Empty(Few<T, 0>),
-    Single(Few<T, 1>),
-    Pair(Few<T, 2>),
+    Empty(FixedVec<T, 0>),
+    Single(FixedVec<T, 1>),
+    Pair(FixedVec<T, 2>),
     Many(Box<Vec<T>>),
 }
 
@@ -103,23 +102,23 @@ impl<T> Items<T> {
     }
 }
 
-// No item.
+// Returns no items: the items of an empty list.
 fn empty<T>(alloc: Global) -> Items<T>
     ensures items { items_of result ≡ [] }
     ensures full { HasExactLength result }
 {
-    Items::Empty(Few::new(alloc, []))
+    Items::Empty(FixedVec::new(alloc, []))
 }
 
-// An item that lies in the list itself.
+// Returns one item, which lies in the list itself.
 fn single<T>(alloc: Global, item: T) -> Items<T>
     ensures items { items_of result ≡ item ∷ [] }
     ensures full { HasExactLength result }
 {
-    Items::Single(Few::new(alloc, [item]))
+    Items::Single(FixedVec::new(alloc, [item]))
 }
 
-// The items in a vector, which is the empty `room` if they lie in none yet. Takes no memory.
+// Returns the items in a vector: in their own if they lie in one, and otherwise in the empty vector `room`. Takes no memory.
 fn gathered<T: Drop>(items: Items<T>, room: Vec<T>) -> Vec<T>
     requires full { HasExactLength items }
     requires empty { room.items ≡ [] }
@@ -149,7 +148,7 @@ fn gathered<T: Drop>(items: Items<T>, room: Vec<T>) -> Vec<T>
     }
 }
 
-// The items before the last, and the last. Takes no memory.
+// Takes the last item off. Returns the items before it, and the item, or `None` if there is no item. Takes no memory.
 fn last_of<T: Drop>(items: Items<T>) -> (Items<T>, Option<T>)
     requires { HasExactLength items }
     ensures full { HasExactLength result.0 }
@@ -175,7 +174,7 @@ fn last_of<T: Drop>(items: Items<T>) -> (Items<T>, Option<T>)
     }
 }
 
-// The first item, and the items after it. Takes no memory.
+// Takes the first item off. Returns the item, or `None` if there is no item, and the items after it. Takes no memory.
 fn first_of<T: Drop>(items: Items<T>) -> (Option<T>, Items<T>)
     requires { HasExactLength items }
     ensures full { HasExactLength result.1 }
@@ -211,7 +210,7 @@ fn first_taken<T>(items: &mut Vec<T>) -> Option<T>
     Some(items.remove(0))
 }
 
-// Each of these is for items that lie in the value itself. It is right for a vector's too, and slower.
+// These functions are for items in the value itself. For items in a vector they are right too, but slower.
 impl<T: Drop> Items<T> {
     fn add(&mut self, item: T) -> Result<(), NoMemory>
         requires { HasExactLength self.old }
@@ -262,7 +261,7 @@ impl<T> List<T> {
     ghost use Rattle.std.specs.Borrow.{sem};
     ghost use Rattle.nmgc_lists.specs.Lends.{LendsItems};
 
-    /// An empty list. Takes no memory.
+    /// Makes an empty list. Takes no memory.
     pub fn new(alloc: Global) -> Self
         ensures { result ≡ [] }
     {
@@ -271,8 +270,8 @@ impl<T> List<T> {
         }
     }
 
-    /// The list of a vector's items. Takes memory for one value of type `Vec`, however many items there are, and
-    /// constant time. After `NoMemory` the items are dropped.
+    /// Makes a list of a vector's items. Takes memory for one value of type `Vec`, however many items there are, and constant
+    /// time. After `NoMemory` the items are dropped.
     pub fn from_vec(items: Vec<T>) -> Result<Self, NoMemory>
     where
         T: Drop,
@@ -284,7 +283,7 @@ impl<T> List<T> {
         })
     }
 
-    /// The list of a vector's items, in a place that was made before. Takes no memory, and constant time.
+    /// Makes a list of a vector's items, in memory that was allocated before. Takes no memory, and constant time.
     pub fn in_place(items: Vec<T>, place: ListMemory<T>) -> Self
     where
         T: Drop,
@@ -297,23 +296,23 @@ impl<T> List<T> {
         }
     }
 
-    /// The list of two items, which lie in the list itself. Takes no memory.
+    /// Makes a list of two items, which lie in the list itself. Takes no memory.
     pub fn pair(alloc: Global, first: T, second: T) -> Self
         ensures { result ≡ first ∷ second ∷ [] }
     {
         List {
-            items: Items::Pair(Few::new(alloc, [first, second])),
+            items: Items::Pair(FixedVec::new(alloc, [first, second])),
         }
     }
 
-    /// The items in order.
+    /// Returns the items in order.
     pub fn items(&self) -> &[T]
         ensures { result.now ≡ self.now }
     {
         self.items.as_slice()
     }
 
-    /// The items in order, for writing.
+    /// Lends the items in order, for writing.
     pub fn items_mut(&mut self) -> &mut [T]
         ensures* writes_back { sem 𝓛 (LendsItems T.row self.entry result) }
         ensures value { result.now ≡ self.old }
@@ -321,7 +320,7 @@ impl<T> List<T> {
         self.items.as_mut_slice()
     }
 
-    /// An equal list, in memory of its own.
+    /// Returns an equal list, in memory of its own.
     pub fn copy(&self, alloc: Global) -> Result<Self, NoMemory>
     where
         T: Copy,
@@ -346,7 +345,7 @@ impl<T: Drop> List<T> {
         }
     }
 
-    /// Takes the last item off. `None` comes exactly where the list is empty.
+    /// Takes the last item off the list and returns it. Returns `None` exactly if the list is empty.
     pub fn pop(&mut self) -> Option<T>
         ensures last { IfSome result (λ item. self.old ≡ self.new ++ item ∷ []) }
         ensures empty { IfNone result ((self.old ≡ []) × (self.new ≡ [])) }
@@ -357,8 +356,8 @@ impl<T: Drop> List<T> {
         }
     }
 
-    /// Takes the first item off. `None` comes exactly where the list is empty. Takes time that grows with the
-    /// list, so it is for short lists.
+    /// Takes the first item off the list and returns it. Returns `None` exactly if the list is empty. Takes time proportional
+    /// to the list, so it is for short lists.
     pub fn take_first(&mut self) -> Option<T>
         ensures first { IfSome result (λ item. self.old ≡ item ∷ self.new) }
         ensures empty { IfNone result ((self.old ≡ []) × (self.new ≡ [])) }

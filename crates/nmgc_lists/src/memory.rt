@@ -1,9 +1,9 @@
-//! The answer for want of memory.
+//! The error for lack of memory.
 use std::alloc::{AllocError, AllocFailed};
 use std::error::Error;
 use std::fmt;
 
-/// There was no memory. No clause says when it comes: a caller can't know.
+/// There was no memory. No clause says when this happens: a caller can't know.
 #[derive(Clone, Copy, Debug, PartialEq, Eq)]
 pub struct NoMemory;
 

@@ -1,16 +1,15 @@
-//! A queue: items go in at the end and come off at the front.
+//! A queue: items are added at the end and taken from the front.
 //!
-//! Taking the first item moves an index and no items, so it takes constant time however long the
-//! queue is. What was taken stays in memory: a queue of finalisers gets at most one item for each weak
-//! pointer that was ever made, and the model keeps every one of these anyway. A mark queue gets each
-//! name once.
+//! Taking the first item moves an index and no items, so it takes constant time for every length. Taken items stay in memory.
+//! A queue of finalisers gets at most one item for each weak pointer ever made, and the model keeps all of these anyway. A
+//! mark queue gets each name once.
 ghost use Rattle.std.specs.Prelude.{◌≡◌, ◌↔◌, ◌<◌, ◌≤◌, [], ◌∷◌, ◌++◌, drop, take, length, slice_get, slice_set, IsTrue, OnOk, OnErr};
 
 use crate::NoMemory;
 use std::alloc::Global;
 use std::marker::Model;
 
-/// A list of items in order, to be taken from the front.
+/// A list of items in order, which are taken from the front.
 #[derive(Drop)]
 pub struct Queue<T> {
     items: Vec<T>,
@@ -28,7 +27,7 @@ impl<T> Model for Queue<T> {
 }
 
 impl<T> Queue<T> {
-    /// An empty queue. Takes no memory.
+    /// Makes an empty queue. Takes no memory.
     pub fn new(alloc: Global) -> Self
         ensures { result ≡ [] }
     {
@@ -60,7 +59,7 @@ impl<T> Queue<T> {
         Ok(())
     }
 
-    /// Keeps the first `count` items. Takes no memory.
+    /// Drops all items except the first `count`, to take back additions after memory ran out. Takes no memory.
     pub fn truncate(&mut self, count: usize)
     where
         T: Drop,
@@ -70,7 +69,7 @@ impl<T> Queue<T> {
         self.items.truncate(self.first + count);
     }
 
-    /// Puts another item in the place of the first one. Takes no memory, and constant time.
+    /// Replaces the first item of a queue that isn't empty, as the marking machine does. Takes no memory, and constant time.
     pub fn set_first(&mut self, item: T)
     where
         T: Drop,
@@ -80,7 +79,7 @@ impl<T> Queue<T> {
         self.items[self.first] = item;
     }
 
-    /// Takes the first item off. `None` comes exactly where the queue is empty.
+    /// Takes the first item off the queue and returns it. Returns `None` exactly if the queue is empty.
     pub fn take_first(&mut self) -> Option<T>
     where
         T: Copy,
@@ -92,7 +91,7 @@ impl<T> Queue<T> {
         Some(first)
     }
 
-    /// The first item. `None` comes exactly where the queue is empty.
+    /// Returns the first item, or `None` exactly if the queue is empty.
     pub fn first(&self) -> Option<T>
     where
         T: Copy,
@@ -108,7 +107,7 @@ impl<T> Queue<T> {
         self.items().is_empty()
     }
 
-    /// The items in order.
+    /// Returns the items in order.
     pub fn items(&self) -> &[T]
         ensures { result.now ≡ self.now }
     {

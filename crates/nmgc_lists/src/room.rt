@@ -1,8 +1,8 @@
 //! A list that takes its memory before it is filled.
 //!
-//! Parts of the collector may not fail half way: they reserve room while failing is still harmless,
-//! and add items later, where no memory may be taken. So contracts see two things of a room, its
-//! items, and for how many more there is room. Only adding an item uses room up, one for each.
+//! Parts of the collector may not fail half way. They reserve room while a failure is still harmless, and add items later,
+//! when no memory may be taken. So contracts see two things of a room: its items, and the number of further items for which
+//! it has room. Only adding an item uses room up, for one item.
 ghost use Rattle.std.specs.Prelude.{◌≡◌, ◌+◌, ◌<◌, ◌≤◌, [], ◌∷◌, ◌++◌, length, OnOk, OnErr, IfSome, IfNone};
 
 use crate::NoMemory;
@@ -33,7 +33,7 @@ impl<T> Room<T> {
     ghost use Rattle.std.specs.Borrow.{sem};
     ghost use Rattle.nmgc_lists.specs.RoomLends.{LendsItems};
 
-    /// An empty room, with no room for any item. Takes no memory.
+    /// Makes an empty room, with no room for any item. Takes no memory.
     pub fn new(alloc: Global) -> Self
         ensures items { result.items ≡ [] }
         ensures spare { result.spare ≡ 0 }
@@ -43,8 +43,8 @@ impl<T> Room<T> {
         }
     }
 
-    /// Makes room for at least so many more items than there are. The items stay, and room is never
-    /// lost. After `NoMemory` nothing changed.
+    /// Makes room for at least `more` further items. The items stay, and room is never lost. After `NoMemory` nothing
+    /// changed.
     pub fn reserve(&mut self, more: u32) -> Result<(), NoMemory>
         ensures items { self.new.items ≡ self.old.items }
         ensures ok { OnOk result (more ≤ self.new.spare) }
@@ -55,7 +55,7 @@ impl<T> Room<T> {
         Ok(())
     }
 
-    /// Adds an item at the end. There has to be room for it. Takes no memory, and constant time.
+    /// Adds an item at the end. There has to be room for the item. Takes no memory, and constant time.
     pub fn add(&mut self, item: T)
         requires { 0 < self.old.spare }
         ensures items { self.new.items ≡ self.old.items ++ item ∷ [] }
@@ -64,8 +64,8 @@ impl<T> Room<T> {
         self.items.push_reserved(item);
     }
 
-    /// Takes the last item off. `None` comes exactly where there is none. Its room comes back. Takes no memory, and constant
-    /// time.
+    /// Takes the last item off and returns it; its room is free again. Returns `None` exactly if there is no item. Takes no
+    /// memory, and constant time.
     pub fn take_last(&mut self) -> Option<T>
         ensures some { IfSome result (λ item. (self.old.items ≡ self.new.items ++ item ∷ []) × (self.new.spare ≡ self.old.spare + 1)) }
         ensures none { IfNone result ((self.old.items ≡ []) × (self.new ≡ self.old)) }
@@ -73,14 +73,14 @@ impl<T> Room<T> {
         self.items.pop()
     }
 
-    /// The items in order.
+    /// Returns the items in order.
     pub fn items(&self) -> &[T]
         ensures { result.now ≡ self.now.items }
     {
         self.items.as_slice()
     }
 
-    /// The items in order, for writing.
+    /// Lends the items in order, for writing.
     pub fn items_mut(&mut self) -> &mut [T]
         ensures* writes_back { sem 𝓛 (LendsItems T.row self.entry result) }
         ensures value { result.now ≡ self.old.items }

@@ -1,5 +1,5 @@
-//! Tests of lists, input and output, worlds, the core machine, scripts, words, segments, rings and watched barriers:
-//! `of_CRATE` has those of a crate.
+//! Tests of lists, input and output, worlds, the marking machine, scripts, words, segments, rings and watched barriers: the
+//! module `of_CRATE` has the tests of a crate.
 #![tactic(auto)]
 
 // A layout in one line.
@@ -21,6 +21,10 @@ macro_rules! name {
 #[cfg(test)]
 mod of_alloc;
 #[cfg(test)]
+mod of_barrier_checker;
+#[cfg(test)]
+mod of_commands;
+#[cfg(test)]
 mod of_core;
 #[cfg(test)]
 mod of_graph;
@@ -35,14 +39,10 @@ mod of_lists;
 #[cfg(test)]
 mod of_object;
 #[cfg(test)]
-mod of_program;
-#[cfg(test)]
 mod of_script;
 #[cfg(test)]
 mod of_segment;
 #[cfg(test)]
 mod of_updrem;
-#[cfg(test)]
-mod of_watch;
 #[cfg(test)]
 mod of_world_laws;

@@ -1,11 +1,11 @@
-//! Placing, a cycle and a full cycle in a small heap, and a large heap of one-block segments.
-use nmgc_alloc::{Segments, blocks, laws, names};
+//! Allocation, a cycle and a full cycle in a small heap, and a large heap of one-block segments.
+use nmgc_alloc::{Segments, blocks, laws, name_laws};
 use nmgc_object::{Address, Layout, block_words};
 use nmgc_segment::State;
 use std::process::Abort;
 use std::test::Fail;
 
-// Places an object, and answers where.
+// Allocates an object, and returns its address.
 fn place(rt: &impl Abort, segments: &mut Segments, mutator: u8, class: u8) -> u32 {
     let layout = segments.layout();
     assert!(rt; mutator < layout.mutators && class <= 20);
@@ -21,7 +21,7 @@ fn begin(rt: &impl Abort, segments: &mut Segments) {
     segments.prepare();
 }
 
-// Marks the block at a place, and compares the answer.
+// Marks the block at an address, and compares the answer.
 fn mark(rt: &impl Abort, segments: &mut Segments, at: u32, epoch: u8, marked: bool) {
     assert!(rt; 1 <= epoch && epoch <= 2);
     let found = segments.block_at(Address(at));
@@ -32,7 +32,7 @@ fn mark(rt: &impl Abort, segments: &mut Segments, at: u32, epoch: u8, marked: bo
     assert!(rt; segments.mark_at(Address(at), epoch) == marked);
 }
 
-// Compares the numbers of free, filled and sweeping segments, and of freshly filled ones.
+// Compares the numbers of free, filled and sweeping segments, and of segments filled since the snapshot.
 fn counts(rt: &impl Abort, segments: &Segments, free: u32, filled: u32, sweep: u32, fresh: u32) {
     assert!(rt; segments.free_count() == free);
     assert!(rt; segments.filled_count() == filled);
@@ -40,7 +40,7 @@ fn counts(rt: &impl Abort, segments: &Segments, free: u32, filled: u32, sweep: u
     assert!(rt; segments.fresh() == fresh);
 }
 
-// Blocks begin at these places: in this segment, with this number.
+// Checks that blocks begin at these addresses: in this segment, with this number.
 fn blocks_begin(rt: &impl Abort, segments: &Segments, rows: &[(u32, u32, u32)]) {
     for (at, segment, block) in rows {
         assert!(rt;
@@ -50,14 +50,14 @@ fn blocks_begin(rt: &impl Abort, segments: &Segments, rows: &[(u32, u32, u32)]) 
     }
 }
 
-// No block begins at these places.
+// Checks that no block begins at these addresses.
 fn none_begins(rt: &impl Abort, segments: &Segments, places: &[u32]) {
     for at in places {
         assert!(rt; segments.block_at(Address(*at)).is_none(), "at {at}");
     }
 }
 
-// The four segments are retired, and the second cycle keeps one block of the first of them.
+// Retires the four segments. The second cycle keeps one block of the first segment.
 fn sweep_retired(rt: &impl Abort, segments: &mut Segments) {
     segments.retire_all();
     counts(rt, segments, 28, 4, 0, 0);
@@ -75,7 +75,7 @@ fn sweep_retired(rt: &impl Abort, segments: &mut Segments) {
     }
 }
 
-// Where blocks begin in the first cycle of `a_cycle`: the place, the segment and its block.
+// The beginnings of blocks in the first cycle of `a_cycle`: the address, the segment and its block.
 const BEGINNINGS: [(u32, u32, u32); 7] = [
     (32, 0, 0),
     (92, 0, 15),
@@ -86,7 +86,7 @@ const BEGINNINGS: [(u32, u32, u32); 7] = [
     (224, 3, 0),
 ];
 
-// Blocks are placed by class and mutator; a filled segment is swept, retired ones too.
+// Blocks are allocated by class and mutator; a filled segment is swept, and so are retired segments.
 #[test]
 fn a_cycle(rt: HostRuntime) -> Result<(), Fail> {
     let layout = layout!(segments: 32, words: 64, nursery: 64, mutators: 2);
@@ -109,8 +109,8 @@ fn a_cycle(rt: HostRuntime) -> Result<(), Fail> {
         mark(&rt, &mut segments, at, 1, marked);
     }
     blocks_begin(&rt, &segments, &BEGINNINGS);
-    // Before the segments, within a block, and in the four words that twelve blocks of five words leave over; in a free
-    // segment, and behind the last one.
+    // Addresses before the segments, within a block, and in the four words that twelve blocks of five words leave over; in a
+    // free segment, and behind the last segment.
     none_begins(&rt, &segments, &[0, 1, 31, 33, 38, 95, 164, 219, 220, 223]);
     none_begins(&rt, &segments, &[288, 2079, 2080, 4_294_967_295]);
     segments.carry(1);
@@ -121,8 +121,8 @@ fn a_cycle(rt: HostRuntime) -> Result<(), Fail> {
     Ok(())
 }
 
-// Each placing fills a segment and each sweep frees one, so a search through all segments for each
-// would take minutes, in each of the cycles.
+// Each allocation fills a segment and each sweep frees one, so a search through all segments for each would take minutes, in
+// each of the cycles.
 #[test]
 fn one_block_segments(rt: HostRuntime) -> Result<(), Fail> {
     let layout = layout!(segments: 65_536, words: 16, nursery: 16, mutators: 1);
@@ -149,8 +149,8 @@ fn one_block_segments(rt: HostRuntime) -> Result<(), Fail> {
     Ok(())
 }
 
-// Each sweep frees a segment below the free ones. The first placing after it fills that segment, and the
-// others go on above.
+// Each sweep frees a segment below the free segments. The first allocation after it fills that segment, and further
+// allocations fill segments above.
 #[test]
 fn sweeps_and_placings_by_turns(rt: HostRuntime) -> Result<(), Fail> {
     let layout = layout!(segments: 65_536, words: 16, nursery: 16, mutators: 1);
@@ -172,8 +172,8 @@ fn sweeps_and_placings_by_turns(rt: HostRuntime) -> Result<(), Fail> {
     Ok(())
 }
 
-// Free segments lie above filled ones. Each sweep frees one below them; of the two placings after it the first fills that
-// segment, and the second one the least of those above.
+// Free segments lie above filled segments. Each sweep frees a segment below them. After it, the first allocation fills that
+// segment, and the second fills the lowest segment above.
 #[test]
 fn sweeps_below_filled_segments(rt: HostRuntime) -> Result<(), Fail> {
     let layout = layout!(segments: 65_536, words: 16, nursery: 16, mutators: 1);
@@ -220,15 +220,15 @@ fn laws_ask_nothing(rt: HostRuntime) {
     laws::one_answer();
     laws::states_stay();
     laws::other_words();
-    laws::counts_tell();
+    laws::counts_agree();
     blocks::lie_in_segments();
     blocks::begin_where_placed();
-    blocks::in_the_snapshot();
+    blocks::snapshot_stays();
     blocks::marked();
     blocks::mark_at();
     blocks::numbers();
-    blocks::numbers_tell();
-    names::lie();
-    names::lie_once();
-    names::are_swept();
+    blocks::numbers_agree();
+    name_laws::lie();
+    name_laws::lie_once();
+    name_laws::are_swept();
 }

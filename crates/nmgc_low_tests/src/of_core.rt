@@ -1,4 +1,4 @@
-//! A list of events that is run at once. Event by event the machine is fed by traces (`examples/rows/machine.rows`).
+//! A list of events that is run at once. Traces feed the machine event by event (`examples/rows/machine.rows`).
 use nmgc_core::Core;
 use nmgc_graph::World;
 use nmgc_lists::List;
@@ -8,7 +8,7 @@ use nmgc_world_spec::{Command, Name, Reply, Value};
 use std::alloc::Global;
 use std::test::Fail;
 
-// Two arrays, of which the first has the only references to an object; and a list of cells.
+// Two arrays, and a list of cells. The first array has the only references to an object.
 const BEFORE: &str = "nmgc 1
 heap 32 64 64 100 1000 0
 thread 0
@@ -32,7 +32,7 @@ con r3 0 r3 r1
 con r3 0 r3 r1
 ";
 
-// A reference is read out of an array, written into another one, and erased where it was.
+// A reference is read out of an array, written into another one, and erased from the first.
 const DURING: &str = "nmgc 1
 heap 32 64 64 100 1000 0
 thread 0
@@ -76,7 +76,7 @@ fn world_after(alloc: Global, script: &str) -> Result<World, Fail> {
     Ok(world)
 }
 
-// A scan, these commands, so many pushes, takes and scans, and a closing.
+// A scan, these commands, the given numbers of pushes, takes and scans, and a closing.
 fn events(alloc: Global, script: &str, pushes: u32, scans: u32) -> Result<Vec<Event>, Fail> {
     let mut events = Vec::new(alloc);
     events.push(Event::Scan)?;
@@ -102,7 +102,7 @@ fn events(alloc: Global, script: &str, pushes: u32, scans: u32) -> Result<Vec<Ev
     Ok(events)
 }
 
-// Whether all sixteen objects are marked where these are run, nothing was opened, and marking has ended or hasn't, as is said.
+// Runs the events. Returns whether all sixteen objects are marked, nothing was opened, and marking ended as `closed` says.
 fn ends_so(alloc: Global, events: &[Event], closed: bool) -> Result<bool, Fail> {
     let world = world_after(alloc, BEFORE)?;
     let core = Core::run(world, events)?;
@@ -122,8 +122,8 @@ fn ends_so(alloc: Global, events: &[Event], closed: bool) -> Result<bool, Fail> 
     )
 }
 
-// Three positions of each array, two of the object and three of each cell are scanned. What can't happen is left out: a scan
-// too many, and a closing while a position is left or something is owed.
+// Three positions of each array, two of the object and three of each cell are scanned. Impossible events are left out: a scan
+// too many, and a closing while a position is left or a reference is owed.
 #[test]
 fn a_list_of_events_is_run(rt: HostRuntime) -> Result<(), Fail> {
     for (pushes, scans, closed) in [

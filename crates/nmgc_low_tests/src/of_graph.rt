@@ -1,3 +1,3 @@
-//! Tests of nmgc_graph. What commands are answered is in `examples/rows/commands.rows`.
+//! Tests of nmgc_graph. The answers of commands are in `examples/rows/commands.rows`.
 mod command_tests;
 mod reach_tests;

@@ -1,5 +1,4 @@
-//! Words are loaded and stored through the trait, at each list that implements it; each law is called
-//! once, so that it is seen to ask nothing.
+//! Words are loaded and stored through the trait, at each list that implements it. Each law is called once: it asks nothing.
 ghost use Rattle.std.specs.Prelude.{◌<◌, length};
 
 use nmgc_heap_spec::{HeapWords, laws};
@@ -7,7 +6,7 @@ use nmgc_lists::List;
 use std::marker::Brand;
 use std::test::Fail;
 
-/// Exchanges the words at two places.
+/// Exchanges the words at two addresses.
 fn exchange<H: HeapWords>(heap: &mut H, left: usize, right: usize)
     requires left { left < length (H.words heap.old) }
     requires right { right < length (H.words heap.old) }
@@ -57,5 +56,5 @@ fn laws_ask_nothing(rt: HostRuntime) {
     laws::headers_stay::<Brand>();
     laws::objects_have_words::<Brand>();
     laws::one_snapshot();
-    laws::wrong_words::<Brand>();
+    laws::wrong_words_fail::<Brand>();
 }

@@ -140,8 +140,7 @@ fn numbers_have_one_text(rt: HostRuntime) -> Result<(), Fail> {
     Ok(())
 }
 
-// A stream that gives or takes one byte at a time, `good` bytes in all, and then fails once and is at
-// its end.
+// A stream that gives or takes one byte at a time, `good` bytes in all, and then fails once and is at its end.
 #[derive(Drop)]
 struct Failing {
     good: u8,
@@ -219,7 +218,7 @@ fn a_fault_of_a_stream_is_a_fault(rt: HostRuntime) {
     assert!(rt; four_writes(&mut sink) == want);
 }
 
-// The reading side waits for whoever runs the test, so the program's own run stands for it.
+// The reading side would wait for input, so the program's own run tests it.
 #[test]
 fn the_standard_streams_are_there(rt: HostRuntime) {
     let _source = StdSource::new(rt.stdin());

@@ -1,4 +1,4 @@
-//! Each law is called once, so that it is seen to ask nothing.
+//! Each law is called once, to show that it asks nothing.
 use nmgc_limits::{constants_are_these, limits_are_these};
 
 #[test]

@@ -62,7 +62,7 @@ fn a_queue_changes_in_place(rt: HostRuntime) -> Result<(), Fail> {
     Ok(())
 }
 
-// A room takes as many as were reserved, and is emptied.
+// A room takes the reserved number of items, and is emptied.
 #[test]
 fn a_room(rt: HostRuntime) -> Result<(), Fail> {
     let mut room = Room::new(rt.alloc());

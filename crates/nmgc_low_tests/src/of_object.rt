@@ -1,4 +1,4 @@
-//! Worked numbers of words, sizes and places, and a queue from end to end.
+//! Worked numbers of words, sizes and addresses, and a queue from end to end.
 use nmgc_limits::MAKERS;
 use nmgc_lists::ListMemory;
 use nmgc_object::{
@@ -9,7 +9,7 @@ use nmgc_object::{
 use nmgc_world_spec::{Kind, Name};
 use std::test::Fail;
 
-// Headers have these words, which are read back; words of no header aren't.
+// Headers have these words, and are read back from them; words of no header aren't read.
 #[test]
 fn headers(rt: HostRuntime) {
     let rows = [
@@ -102,7 +102,7 @@ fn sizes(rt: HostRuntime) {
     }
 }
 
-// Where segments and nurseries begin, and the reserve.
+// The bases of segments and nurseries, and the reserve.
 #[test]
 fn places(rt: HostRuntime) {
     for (nursery, total, reserve) in [(64, 2144, 17), (128, 2208, 19), (256, 2336, 23)] {
@@ -124,7 +124,7 @@ fn places(rt: HostRuntime) {
     assert!(rt; nursery.left() == 61);
 }
 
-// A queue of words gives the first one first, also once it was made longer.
+// A queue of words gives its first word first, also after it grew.
 #[test]
 fn finalisers(rt: HostRuntime) -> Result<(), Fail> {
     let mut queue = FinQueue::new(rt.alloc());

@@ -1,4 +1,4 @@
-//! Scripts, good and bad, as tables. Texts that are refused are in `examples/rows/refusals.rows`.
+//! Scripts, good and bad, as tables. Refused texts are in `examples/rows/refusals.rows`.
 use nmgc_script::{Cause, ScriptFault, generate, parse, print, spells_one_script, upgrade};
 use std::alloc::Global;
 use std::process::Abort;
@@ -26,7 +26,7 @@ const HEAPS: [&str; 5] = [
     "1 2048 2048 1 1 0",
 ];
 
-// How many bytes of a small script are read, and what is told then.
+// A small script, which is cut after a number of bytes, and the first fault then.
 const CUT: &str = "nmgc 1\nheap 32 64 64 100 1000 0\nthread 0\nshow g\n";
 
 const CUTS: [(usize, usize, Option<(u32, Cause)>); 8] = [
@@ -40,8 +40,8 @@ const CUTS: [(usize, usize, Option<(u32, Cause)>); 8] = [
     (47, 49, None),
 ];
 
-// What is told of a text: the first bad line and its cause.
-fn told(rt: &impl Abort, alloc: Global, bytes: &[u8]) -> Option<(u32, Cause)> {
+// The first fault of a text: the first bad line and its cause.
+fn reported(rt: &impl Abort, alloc: Global, bytes: &[u8]) -> Option<(u32, Cause)> {
     assert!(rt; bytes.len() <= 2147483648);
     match parse(alloc, bytes) {
         Ok(_) => None,
@@ -58,12 +58,12 @@ fn joined(alloc: Global, front: &str, back: &str) -> Result<String, Fail> {
 }
 
 #[test]
-fn tells_the_first_bad_line(rt: HostRuntime) -> Result<(), Fail> {
+fn reports_the_first_bad_line(rt: HostRuntime) -> Result<(), Fail> {
     let zero = joined(rt.alloc(), HEAD, "show g\0\n")?;
-    assert!(rt; told(&rt, rt.alloc(), zero.as_bytes()) == Some((4, Cause::Operand)));
-    assert!(rt; told(&rt, rt.alloc(), b"nmgc 1\n\xff\n") == Some((2, Cause::Heap)));
+    assert!(rt; reported(&rt, rt.alloc(), zero.as_bytes()) == Some((4, Cause::Operand)));
+    assert!(rt; reported(&rt, rt.alloc(), b"nmgc 1\n\xff\n") == Some((2, Cause::Heap)));
     assert!(rt;
-        told(
+        reported(
             &rt,
             rt.alloc(),
             b"nmgc 1\nheap 32 64 64 100 1000 0\nthread 0\nshow \xc3\n"
@@ -77,24 +77,24 @@ fn keeps_the_limits_of_a_heap(rt: HostRuntime) -> Result<(), Fail> {
     for numbers in &HEAPS {
         let front = joined(rt.alloc(), "nmgc 1\nheap ", numbers)?;
         let text = joined(rt.alloc(), front.as_str(), "\nthread 0\n")?;
-        assert!(rt; told(&rt, rt.alloc(), text.as_bytes()) == None);
+        assert!(rt; reported(&rt, rt.alloc(), text.as_bytes()) == None);
     }
     Ok(())
 }
 
 #[test]
-fn tells_where_a_cut_text_ends(rt: HostRuntime) -> Result<(), Fail> {
+fn reports_where_a_cut_text_ends(rt: HostRuntime) -> Result<(), Fail> {
     for (from, to, want) in &CUTS {
         for count in *from..*to {
             let bytes = CUT.as_bytes();
             assert!(rt; count <= bytes.len());
-            assert!(rt; told(&rt, rt.alloc(), &bytes[..count]) == *want);
+            assert!(rt; reported(&rt, rt.alloc(), &bytes[..count]) == *want);
         }
     }
     Ok(())
 }
 
-// What a text is printed as.
+// The printed form of a text.
 fn reprinted(rt: &impl Abort, alloc: Global, text: &str) -> Result<Vec<u8>, Fail> {
     assert!(rt; text.len() <= 2147483648);
     spells_one_script(text.as_bytes());
@@ -136,12 +136,12 @@ fn reads_the_second_version(rt: HostRuntime) -> Result<(), Fail> {
     let same = reprinted(&rt, rt.alloc(), SECOND)?;
     assert!(rt; same.as_slice() == SECOND.as_bytes());
     let large = joined(rt.alloc(), SECOND, "num r64 5\n")?;
-    assert!(rt; told(&rt, rt.alloc(), large.as_bytes()) == Some((7, Cause::Operand)));
+    assert!(rt; reported(&rt, rt.alloc(), large.as_bytes()) == Some((7, Cause::Operand)));
     for (version, most) in [(1u32, 8u32), (2, 32)] {
         let few = sections(rt.alloc(), version, most)?;
-        assert!(rt; told(&rt, rt.alloc(), few.as_bytes()) == None);
+        assert!(rt; reported(&rt, rt.alloc(), few.as_bytes()) == None);
         let many = sections(rt.alloc(), version, most + 1)?;
-        assert!(rt; told(&rt, rt.alloc(), many.as_bytes()) == Some((most + 3, Cause::Thread)));
+        assert!(rt; reported(&rt, rt.alloc(), many.as_bytes()) == Some((most + 3, Cause::Thread)));
     }
     Ok(())
 }
@@ -174,7 +174,7 @@ fn reads_the_numbers_of_a_heap(rt: HostRuntime) -> Result<(), Fail> {
     Ok(())
 }
 
-// The bench's script with so many batches, line by line.
+// The bench's script with `batches` batches, line by line.
 fn bench_text(alloc: Global, batches: u32) -> Result<String, Fail> {
     let mut text = String::from_str(alloc, "nmgc 1\nheap 128 4096 4096 4096 1048576 8\n")?;
     for mutator in 0..4u32 {

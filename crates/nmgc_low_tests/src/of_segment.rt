@@ -3,7 +3,7 @@ use nmgc_segment::{Segment, State, Swept};
 use std::process::Abort;
 use std::test::Fail;
 
-// Which of four blocks.
+// Sets of four blocks.
 const NONE: [bool; 4] = [false, false, false, false];
 
 const FIRST_TWO: [bool; 4] = [true, true, false, false];
@@ -16,7 +16,7 @@ const THIRD: [bool; 4] = [false, false, true, false];
 
 const ALL: [bool; 4] = [true, true, true, true];
 
-// Blocks taken after the snapshot aren't in it, a sweep keeps what is marked, and carried marks are of the next epoch.
+// Blocks taken after the snapshot aren't in it, a sweep keeps marked blocks, and carried marks are of the next epoch.
 #[test]
 fn two_cycles(rt: HostRuntime) -> Result<(), Fail> {
     let words: u32 = 64;
@@ -69,7 +69,7 @@ fn kept_whole(rt: HostRuntime) -> Result<(), Fail> {
     Ok(())
 }
 
-// Takes a block, which must be this one.
+// Takes a block, and checks its number.
 fn take(rt: &impl Abort, segment: &mut Segment, block: u32) {
     assert!(rt; segment.state() != State::Free && segment.has_free());
     assert!(rt; segment.take() == block);
@@ -85,7 +85,7 @@ fn mark(rt: &impl Abort, segment: &mut Segment, block: u32, epoch: u8) {
     assert!(rt; segment.is_marked(block, epoch));
 }
 
-// Sweeps, which must find this.
+// Sweeps, and checks the answer.
 fn sweep(rt: &impl Abort, segment: &mut Segment, epoch: u8, swept: Swept) {
     assert!(rt; 1 <= epoch && epoch <= 2);
     assert!(rt; segment.sweep(epoch) == swept);

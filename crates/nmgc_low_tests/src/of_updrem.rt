@@ -2,7 +2,7 @@
 ghost use Rattle.std.specs.Prelude.{◌≡◌, ◌+◌, ◌<◌, ◌≤◌, length, IfOk};
 ghost use Rattle.nmgc_updrem.specs.Rings.{IsPair};
 
-use nmgc_lists::{ListMemory, NoMemory, Placed};
+use nmgc_lists::{ListMemory, NoMemory, VecList};
 use nmgc_object::Address;
 use nmgc_updrem::*;
 use std::alloc::Global;
@@ -26,7 +26,7 @@ fn pushes_come_out_in_order(rt: HostRuntime) -> Result<(), Fail> {
     Ok(())
 }
 
-// Pushes the places from one number on, and tries a flush at each full block.
+// Pushes `count` addresses from the number `from` on, and tries a flush at each full block.
 fn push_all(kept: &mut UpdRem, sender: &mut UpdSender, from: u32, count: u32)
     requires room { count ≤ kept.old.spare }
     requires fits { from + count < 4294967296 }
@@ -40,7 +40,7 @@ fn push_all(kept: &mut UpdRem, sender: &mut UpdSender, from: u32, count: u32)
     }
 }
 
-// The number behind these places, which have to be those from one number on, or 0.
+// The number after these addresses, which have to be the numbers from `from` on, or else 0.
 fn counted(places: &[Address], from: u32) -> u32 {
     let mut next = from;
     for place in places {
@@ -52,7 +52,7 @@ fn counted(places: &[Address], from: u32) -> u32 {
     next
 }
 
-// The number behind the places in the ring, which have to be those from one number on.
+// The number after the addresses in the ring, which have to be the numbers from `from` on.
 fn rest(receiver: &mut UpdReceiver, sender: &mut UpdSender, from: u32) -> u32
     requires { IsPair sender.old receiver.old }
     ensures { IsPair sender.new receiver.new }
@@ -74,11 +74,11 @@ fn a_full_ring_keeps_what_is_pushed(rt: HostRuntime) -> Result<(), Fail> {
     kept.reserve(4200)?;
     push_all(&mut kept, &mut sender, 0, 4200);
     assert!(rt; counted(kept.entries(), 4096) == 4200);
-    assert!(rt; receiver.poll() == Polled::NoRoom);
+    assert!(rt; receiver.poll() == Poll::NoRoom);
     receiver.reserve(64)?;
-    assert!(rt; receiver.poll() == Polled::Took);
+    assert!(rt; receiver.poll() == Poll::Took);
     assert!(rt; counted(receiver.entries(), 0) == 64);
-    assert!(rt; receiver.poll() == Polled::NoRoom);
+    assert!(rt; receiver.poll() == Poll::NoRoom);
     assert!(rt; kept.has_block());
     if kept.has_block() {
         assert!(rt; kept.flush(&mut sender));
@@ -86,7 +86,7 @@ fn a_full_ring_keeps_what_is_pushed(rt: HostRuntime) -> Result<(), Fail> {
     assert!(rt; counted(kept.entries(), 4160) == 4200);
     assert!(rt; rest(&mut receiver, &mut sender, 64) == 4160);
     receiver.clear();
-    assert!(rt; receiver.poll() == Polled::Nothing);
+    assert!(rt; receiver.poll() == Poll::Nothing);
     assert!(rt; receiver.entries() == [].as_slice());
     Ok(())
 }
@@ -100,7 +100,7 @@ fn poll_all(receiver: &mut UpdReceiver)
     }
 }
 
-// Beside a mutator that pushes the collector takes; the places are then in order: taken, in the ring, kept.
+// The collector takes beside a mutator that pushes. The addresses are then in order: taken, in the ring, kept.
 fn beside<R: Threads + Sync>(rt: &R, alloc: Global) -> Result<u32, NoMemory> {
     let (sender, mut receiver) = link(alloc)?;
     let mut kept = UpdRem::new(alloc);
@@ -146,19 +146,19 @@ fn inbox_of(alloc: Global, first: UpdReceiver, second: UpdReceiver) -> Result<In
     receivers.push(first)?;
     receivers.push(second)?;
     let place = ListMemory::new(alloc)?;
-    Ok(Inbox::new(Placed::of(receivers, place)))
+    Ok(Inbox::new(VecList::of(receivers, place)))
 }
 
-// A mutator's ring is polled.
+// Polls a mutator's ring.
 #[tactic(auto, using(crate::proofs::Lines::same_count))]
-fn poll_one(inbox: &mut Inbox, mutator: u8) -> Polled
+fn poll_one(inbox: &mut Inbox, mutator: u8) -> Poll
     requires { mutator < length inbox.old }
     ensures { length inbox.new ≡ length inbox.old }
 {
     inbox.poll(mutator)
 }
 
-// Room is made for more entries of a mutator.
+// Reserves room for more entries of a mutator.
 #[tactic(auto, using(crate::proofs::Lines::same_count))]
 fn reserve_one(inbox: &mut Inbox, mutator: u8, entries: u32) -> Result<(), NoMemory>
     requires { mutator < length inbox.old }
@@ -167,7 +167,7 @@ fn reserve_one(inbox: &mut Inbox, mutator: u8, entries: u32) -> Result<(), NoMem
     inbox.reserve(mutator, entries)
 }
 
-// A mutator's list is emptied.
+// Empties a mutator's list.
 #[tactic(auto, using(crate::proofs::Lines::same_count))]
 fn clear_one(inbox: &mut Inbox, mutator: u8)
     requires { mutator < length inbox.old }
@@ -185,19 +185,19 @@ fn an_inbox_has_a_list_for_each_mutator(rt: HostRuntime) -> Result<(), Fail> {
     push_all(&mut kept, &mut sender, 0, 192);
     assert!(rt; kept.entries() == [].as_slice());
     let mut inbox = inbox_of(rt.alloc(), receiver, quiet)?;
-    assert!(rt; poll_one(&mut inbox, 0) == Polled::NoRoom);
+    assert!(rt; poll_one(&mut inbox, 0) == Poll::NoRoom);
     reserve_one(&mut inbox, 0, 64)?;
-    assert!(rt; poll_one(&mut inbox, 0) == Polled::Took);
-    assert!(rt; poll_one(&mut inbox, 0) == Polled::NoRoom);
+    assert!(rt; poll_one(&mut inbox, 0) == Poll::Took);
+    assert!(rt; poll_one(&mut inbox, 0) == Poll::NoRoom);
     assert!(rt; counted(inbox.entries(0), 0) == 64);
     reserve_one(&mut inbox, 0, 64)?;
     reserve_one(&mut inbox, 1, 64)?;
     inbox.poll_each(2);
     assert!(rt; counted(inbox.entries(0), 0) == 128);
     assert!(rt; inbox.entries(1) == [].as_slice());
-    assert!(rt; poll_one(&mut inbox, 1) == Polled::Nothing);
+    assert!(rt; poll_one(&mut inbox, 1) == Poll::Nothing);
     clear_one(&mut inbox, 0);
-    assert!(rt; poll_one(&mut inbox, 0) == Polled::Took);
+    assert!(rt; poll_one(&mut inbox, 0) == Poll::Took);
     assert!(rt; counted(inbox.entries(0), 128) == 192);
     Ok(())
 }

@@ -1,9 +1,9 @@
 -- A collector that scans alone: each load is the machine's next scan, by the law of scans.
-use Rattle.nmgc_mark.proofs.Vocabulary.{◌≡◌, inl, inr, ℕ, ◌+◌, ◌<◌, ◌≤◌, ◌^◌, List, [], ◌∷◌, ◌++◌, length, set, refl, sym, ap, subst, ◌∙◌, arith, Some, None, Option, Contains, slice_index, IsSome, some, get_elem?, Name, Value, Node, node_of, contains_head, Header, word_total, header_word, IsHeader, Entry, State, mark_value, mark_read, read_at, moved_on, after_scan, advanced, Segments, size_of, Place, Happening, did, scanned, replay, Opening, Seen, Scan, whole, Marks, marks_of, marks_after, offset_of, Object, place_of, IsIn, Keeps, now, AllRead, IsRead, AddsScan, CanScan, first_of, scanned_by, CanOpen, TellsEntry, TellsNode, TellsScan, IsSafe, MarkerSeen, AreScans, IsAlone, WordsShow, HasFinished, IsTied, AreQueued, entry_now, marks_seen, lies_within}
+use Rattle.nmgc_mark.proofs.Vocabulary.{◌≡◌, inl, inr, ℕ, ◌+◌, ◌<◌, ◌≤◌, ◌^◌, List, [], ◌∷◌, ◌++◌, length, set, refl, sym, ap, subst, ◌∙◌, arith, Some, None, Option, Contains, slice_index, IsSome, some, get_elem?, Name, Value, Node, node_of, contains_head, Header, word_total, header_word, IsHeader, Entry, State, mark_value, mark_read, read_at, moved_on, after_scan, advanced, Segments, size_of, Place, Happening, did, scanned, replay, Opening, Seen, Scan, whole, Marks, marks_of, marks_after, offset_of, Object, place_of, IsIn, Keeps, now, AllRead, IsRead, AddsScan, CanScan, first_of, scanned_by, CanOpen, FindsEntry, FindsNode, FindsScan, IsSafe, MarkerSeen, AreScans, IsAlone, WordsShow, HasFinished, IsTied, AreQueued, entry_now, marks_seen, lies_within}
 use Rattle.nmgc_world_spec.specs.declared.value.Value.TheVariants as value
 use Rattle.nmgc_mark.proofs.OneMark.{mark_is}
 
--- what the laws of rounds say of a scan and of an opening
+-- the laws of rounds about a scan and an opening
 abbrev pub ScanLaw : Type 0
 ScanLaw = (o : Opening) (words : List ℕ) (views : List Seen) (id : ℕ) (v : Seen) (at offset : ℕ) (k : Keeps o words views) →
     get_elem? views id ≡ some v → (can : CanScan v at offset) →
@@ -12,7 +12,7 @@ ScanLaw = (o : Opening) (words : List ℕ) (views : List Seen) (id : ℕ) (v : S
 abbrev pub OpenLaw : Type 0
 OpenLaw = (o : Opening) (words : List ℕ) → CanOpen o words → (k : Keeps o words (whole o ∷ [])) × (k.events ≡ [])
 
--- what the last of the scans read
+-- the value that the last of the scans read
 last_read : (P : Place → Type 0) (ss : List Scan) (s : Scan) (xs : List (Entry × Option Value)) → AllRead P (ss ++ s ∷ []) xs → (x : Option Value) ×
     IsRead P s.word x × (x ≡ None → 1 ≤ s.entry.position → s.word ≡ 0)
 last_read P [] s [] a = absurd a
@@ -25,7 +25,7 @@ more_scans [] entry v h = tt
 more_scans (did m c r ∷ es) entry v h = absurd h
 more_scans (scanned e x ∷ es) entry v h = more_scans es entry v h
 
--- what a view scans next, by the name of its own first entry
+-- the next scan of a view, by the name of its own first entry
 abbrev own : (v : Seen) (at offset : ℕ) → CanScan v at offset → CanScan v at offset
 own v at offset can =
     let same : can.entry ≡ entry_now v = sym (ap first_of can.first) in
@@ -59,8 +59,8 @@ module _ (o : Opening) (words : List ℕ) (v : Seen) (a : IsAlone o words v) (at
   there_is : Contains o.places (record { at = at; name = (entry_now v).name })
   there_is = subst (λ (y : Opening). Contains y.places (record { at = at; name = (entry_now v).name })) a.opening (own v at offset can).there
 
-  node_told : (entry_now v).position ≡ 0 → TellsNode o (entry_now v).name (slice_index words (at + offset))
-  node_told first =
+  node_known : (entry_now v).position ≡ 0 → FindsNode o (entry_now v).name (slice_index words (at + offset))
+  node_known first =
       let q = a.keeps.queued (entry_now v) (rw queue_is (contains_head (entry_now v) can.rest)) in
       let x : Object = q.object in
       let same = a.keeps.stands.one (place_of q.object) (record { at = at; name = (entry_now v).name }) (inl q.here.there) (inl there_is) (inl q.name) in
@@ -104,20 +104,20 @@ module _ (o : Opening) (words : List ℕ) (v : Seen) (a : IsAlone o words v) (at
       let l = lies_within o.layout (place_of x) (size_of q.0) (omega arith) (added.1.stands.apart x q.1).lies in omega arith)
       last.0 last.1 (λ none. last.2 none some_)
 
-  pub alone_tells : TellsEntry o (entry_now v) (slice_index words (at + offset))
-  alone_tells = record { header = λ first. node_told first; safe = λ some_. field_safe some_ }
+  pub alone_finds : FindsEntry o (entry_now v) (slice_index words (at + offset))
+  alone_finds = record { header = λ first. node_known first; safe = λ some_. field_safe some_ }
 
 -- the same for a word that was loaded
 pub scan_alone : ScanLaw → (first old new : List ℕ) (v : Seen) (at offset w : ℕ) → WordsShow first old v → CanScan v at offset → new ≡ old →
-    w ≡ slice_index old (at + offset) → WordsShow first new (scanned_by v w) × TellsScan v w
+    w ≡ slice_index old (at + offset) → WordsShow first new (scanned_by v w) × FindsScan v w
 scan_alone law first old new v at offset w shows can same is =
     let next : IsAlone v.opening old (scanned_by v w) =
     subst (λ x. IsAlone v.opening old (scanned_by v x)) (sym is) (alone_then v.opening old v shows.1 at offset can law) in (
       (same ∙ shows.0, subst (λ (l : List ℕ). IsAlone v.opening l (scanned_by v w)) (sym same) next),
-      subst (λ x. TellsEntry v.opening (entry_now v) x) (sym is) (alone_tells v.opening old v shows.1 at offset can law),
+      subst (λ x. FindsEntry v.opening (entry_now v) x) (sym is) (alone_finds v.opening old v shows.1 at offset can law),
     )
 
--- every word is among those that the layout has
+-- every word is among the words of the layout
 pub alone_total : (o : Opening) (words : List ℕ) (v : Seen) → IsAlone o words v → (length words ≡ word_total v.opening.layout) ×
     (word_total v.opening.layout < 2 ^ 32)
 alone_total o words v a =
@@ -128,11 +128,11 @@ alone_total o words v a =
       subst (λ (y : Opening). word_total y.layout < 2 ^ 32) (sym a.opening) (omega arith),
     )
 
--- a collector alone as it begins
+-- a collector alone at its beginning
 pub alone_opens : OpenLaw → (o : Opening) (words : List ℕ) → CanOpen o words → IsAlone o words (whole o)
 alone_opens law o words can = let k = law o words can in record { opening = refl; collects = refl; keeps = k.0; scans = subst AreScans (sym k.1) tt }
 
--- a scan changes marks and queue alone
+-- a scan changes only marks and queue
 value_rest : (s : State) (v : Value) → mark_value s v ≡ record s { marked = (mark_value s v).marked; queue = (mark_value s v).queue }
 value_rest s value.Nil = refl
 value_rest s (value.Number n) = refl
@@ -171,8 +171,8 @@ none_queued places [] (x ∷ entries) e q = absurd q
 pub alone_ends : (o : Opening) (words : List ℕ) (v : Seen) (s : Segments) (m : MarkerSeen) → IsAlone o words v → IsTied o (marks_seen v) s m →
     m.queue ≡ [] → HasFinished o s m
 alone_ends o words v s m a h empty =
-    let told = ((a.keeps.agrees 0 v refl).scans a.collects).2 in
-    let same : marks_of (now o a.keeps.events) ≡ marks_seen v = told ∙ ap (λ (y : Opening). marks_after y v.scans) (sym a.opening) in
+    let is_known = ((a.keeps.agrees 0 v refl).scans a.collects).2 in
+    let same : marks_of (now o a.keeps.events) ≡ marks_seen v = is_known ∙ ap (λ (y : Opening). marks_after y v.scans) (sym a.opening) in
     let none : (marks_seen v).queue ≡ [] = none_queued o.places m.queue (marks_seen v).queue empty h.queue in
     let queue : (now o a.keeps.events).queue ≡ [] = ap (λ (k : Marks). k.queue) same ∙ none in
     record {
@@ -183,7 +183,7 @@ alone_ends o words v s m a h empty =
       tied = subst (λ (k : Marks). IsTied o k s m) (sym same) h;
     }
 
--- the opening of a view is that of the collector alone
+-- the opening of a view is the opening of the collector alone
 pub alone_shows : (o : Opening) (first words : List ℕ) (v : Seen) → words ≡ first → IsAlone o first v → WordsShow words words v
 alone_shows o first words v same a =
     (refl, subst (λ (y : Opening). IsAlone y words v) (sym a.opening) (subst (λ (l : List ℕ). IsAlone o l v) (sym same) a))

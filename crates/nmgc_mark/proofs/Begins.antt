@@ -1,4 +1,4 @@
--- A heap at a stop, just prepared, is one with which marking begins.
+-- Marking may begin with a heap at a stop that was just prepared.
 use Rattle.std.proofs.{Common.◌≡◌, Common.inl, Common.inr, Common.ℕ, Common.zero, Common.suc, Common.◌+◌, Common.List, Common.[], Common.◌∷◌, Common.map, Common.length, Common.get_or, Common.refl, Common.sym, Common.ap, Common.subst, Common.◌∙◌, Common.arith, Common.Some, Common.None, Common.Option, lemmas.Option.slice_get_within as got_below}
 use Rattle.std.specs.{Prelude.Contains, Prelude.IsSome, Prelude.slice_get, List.flat_map}
 use Rattle.nmgc_limits.specs.declared.mutators.TheConstants.{SHARED_SLOTS}
@@ -48,7 +48,7 @@ module _ (o : Opening) (s : Segments) (epoch : ℕ) (words registers : List ℕ)
   shared_there : Contains o.places shared_place
   shared_there = (h.places shared_place).1 (inl refl)
 
-  -- the block of a name begins at its place, and is in use
+  -- the block of a name begins at its address, and is in use
   name_used : (n b : ℕ) (name : Name) → LiesIn h.allocation n b name → IsBlockAt s n b (block_place o.layout n (cells h.allocation n).class b) ×
       InUse (nth s.segments n) b
   name_used n b name lies =

@@ -1,13 +1,13 @@
--- The loop over the fields of one object, and over objects.
+-- The loop over the fields of an object, and over objects.
 use Rattle.std.proofs.{Common.ne_eqb, Common.eq-eqb, Common.◌≡◌, Common.◌≢◌, Common.ℕ, Common.suc, Common.◌+◌, Common.◌^◌, Common.◌<◌, Common.◌≤◌, Common.Bool, Common.true, Common.false, Common.not, Common.◌&&◌, Common.eqb, Common.List, Common.[], Common.◌∷◌, Common.◌++◌, Common.length, Common.refl, Common.sym, Common.ap, Common.subst, Common.◌∙◌, Common.arith, Common.append_assoc, Math.Bool.and-false, lemmas.List.append-nil}
 use Rattle.nmgc_world_spec.specs.{declared.value.Name.Name, declared.node.Node.Node, declared.node.Node.TheVariants.Con, declared.node.Node.TheVariants.Var, declared.node.Node.TheVariants.Arr, declared.node.Node.TheVariants.Thunk, declared.node.Node.TheVariants.Weak, declared.node.Node.TheVariants.Stack, declared.node.Kind.Kind}
 use Rattle.nmgc_world_spec.specs.declared.node.Kind.TheVariants as kind
 use Rattle.nmgc_object.specs.{declared.words.Header.Header, declared.size.TheConstants.HEADER_WORDS, Words.header_word, Words.IsHeader, Places.IsLayout, Places.word_total, declared.layout.Layout.Layout}
 use Rattle.nmgc_snapshot_laws.specs.Scan.{fields_of}
 use Rattle.nmgc_alloc.specs.Numbered.{Segments}
-use Rattle.nmgc_round.specs.{declared.table.Round.Round, View.Opening, View.Seen, View.Scan, Marking.Marks, Marking.name_meant, Marking.name_read, Marking.with_name, Marking.is_last_word, Marking.is_thunk, Ready.scanned_by, Told.TellsScan, Seat.RoundSeat, Seat.IsAt, Seat.Knows, Seat.seen, Seat.word_count}
+use Rattle.nmgc_round.specs.{declared.table.Round.Round, View.Opening, View.Seen, View.Scan, Marking.Marks, Marking.name_meant, Marking.name_read, Marking.with_name, Marking.is_last_word, Marking.is_thunk, Ready.scanned_by, Known.FindsScan, Seat.RoundSeat, Seat.IsAt, Seat.Knows, Seat.seen, Seat.word_count}
 use Rattle.nmgc_mark.specs.{Seen.MarkerSeen, Marker.HasRoomToMark, Marker.HasMarked, Marker.turned, Tie.IsTied, laws.Common.marked_then, Work.IsScanning, Work.IsCollector, Work.IsLaterSeat, Work.IsAtField, Work.HasWorked, Work.SeatShows, Work.entry_now, Work.marks_seen, Work.rest_of, Work.fields_scanned, Work.has_results, Work.is_result}
-use Rattle.nmgc_mark.proofs.Scanning.{IsNode, IsTaken, node_told, thunk_by, goes_on, ends, not_last, header_more, field_last, result_last, fields_are}
+use Rattle.nmgc_mark.proofs.Scanning.{IsNode, IsTaken, node_known, thunk_by, goes_on, ends, not_last, header_more, field_last, result_last, fields_are}
 
 pub few : (k : Kind) (n : ℕ) → fields_scanned k n ≤ n
 few kind.Con n = omega arith
@@ -17,7 +17,7 @@ few kind.Thunk n = omega arith
 few kind.Weak n = omega arith
 few kind.Stack n = omega arith
 
--- what is no thunk has no result, and a thunk's is its first field
+-- only a thunk has a result, and it is its first field
 pub no_result : (k : Kind) (field w : ℕ) → (has_results k ≡ true → 1 ≤ field) → is_result k field w ≡ false
 no_result k field w later = by (has_results k) refl
   where
@@ -25,7 +25,7 @@ no_result k field w later = by (has_results k) refl
     by true e = ap (λ (b : Bool). b && (has_results k && not (eqb w 0))) (ne_eqb field 0 (λ z. let l = later e in omega arith))
     by false e = ap (λ (b : Bool). eqb field 0 && (b && not (eqb w 0))) e ∙ and-false (eqb field 0)
 
--- whether it was set
+-- whether the result was set
 pub result_set : (k : Kind) (w : ℕ) → has_results k ≡ true → w ≢ 0 → is_result k 0 w ≡ true
 result_set k w thunk some_ = ap (λ (b : Bool). b && not (eqb w 0)) thunk ∙ ap (λ (b : Bool). not b) (ne_eqb w 0 some_)
 
@@ -66,12 +66,12 @@ first_field v s m at w fields header h n f =
       last = λ le. ends v w at s s m m 0 h n.node n.there (field_last n.node fields 0 w are le) h.tied;
     }
 
--- what the header of the object tells
-pub header_told : (v : Seen) (s : Segments) (m : MarkerSeen) (at w fields : ℕ) (header : Header) → IsScanning v s m at 0 → TellsScan v w →
+-- the facts that the header of the object gives
+pub header_known : (v : Seen) (s : Segments) (m : MarkerSeen) (at w fields : ℕ) (header : Header) → IsScanning v s m at 0 → FindsScan v w →
     ((other : Header) → IsHeader other → header_word other ≡ w → header ≡ other) → fields ≡ fields_scanned header.kind header.fields →
     IsNode v.opening (entry_now v).name header × IsAtField v (scanned_by v w) s m at fields 0
-header_told v s m at w fields header h tells is f =
-    let n = node_told v s m at w header h tells is in
+header_known v s m at w fields header h agrees is f =
+    let n = node_known v s m at w header h agrees is in
     (n, first_field v s m at w fields header h n f)
 
 -- the node of the object that is scanned, later
@@ -125,7 +125,7 @@ module _ (from v : Seen) (s t : Segments) (m n : MarkerSeen) (at w fields field 
   pub with_result : is_result header.kind field w ≡ true → IsTied v.opening (marks_seen (scanned_by v w)) t n
   with_result set = done (result_last node.node field w (ap (λ (h : Header). is_result h.kind field w) node.is ∙ set))
 
--- the first of the queue was taken
+-- the first address of the queue was taken
 pub room_taken : (s : Segments) (old new : MarkerSeen) → HasRoomToMark s old → IsTaken old new → HasRoomToMark s new
 room_taken s old new h e = subst (λ (m : MarkerSeen). HasRoomToMark s m) (sym e) (record { places = h.places; all = h.all; room = h.room })
 
@@ -159,7 +159,7 @@ object_marked s t u before m taken n at count inv q e done = record {
   stands = λ words k h. done.stands words k (inv.stands words k h);
 }
 
--- a seat that made one scan more, or none
+-- a seat with one scan more, or with the same scans
 pub same_seat : (seat : RoundSeat) → IsLaterSeat seat seat
 same_seat seat = record {
   id = refl;
@@ -199,7 +199,7 @@ seat_scanned round first old new v w shows k = (
   k.2 ∙ ap (λ (x : Seen). scanned_by x w) shows.2,
 )
 
--- a seat that looked at a word, and knows what it knew
+-- a seat that looked at a word, with the same knowledge as before
 pub still_worked : (round : Round) (from old new : RoundSeat) (s t : Segments) (m n : MarkerSeen) (count : ℕ) → HasWorked round from old s t m n count →
     Knows round old new (seen old) → HasWorked round from new s t m n count
 still_worked round from old new s t m n count w k = record {
@@ -209,7 +209,7 @@ still_worked round from old new s t m n count w k = record {
   tied = subst (λ (v : Seen). IsTied v.opening (marks_seen v) t n) (sym k.2) w.tied;
 }
 
--- the view of a round has as many words as the round
+-- the word count of a round is the word count of its views
 pub words_in : (round : Round) (seat : RoundSeat) → IsAt round seat → word_total (seen seat).opening.layout ≡ word_count round
 words_in round seat h = ap (λ (o : Opening). word_total o.layout) h.2 ∙ round.sized
 
@@ -217,7 +217,7 @@ words_in round seat h = ap (λ (o : Opening). word_total o.layout) h.2 ∙ round
 pub total_small : (layout : Layout) → IsLayout layout → word_total layout < 2 ^ 32
 total_small layout h = let heap = h.heap in omega arith
 
--- the same marker, whose queue's first was taken
+-- the same marker, after the first address of its queue was taken
 pub queue_taken : (old new : MarkerSeen) → new ≡ record old { queue = new.queue } → IsTaken old new
 queue_taken old new e = e ∙ ap (λ (n : ℕ). let k : MarkerSeen = record old { queue = new.queue; turns = n } in k) (sym (ap (λ (m : MarkerSeen). m.turns) e))
 

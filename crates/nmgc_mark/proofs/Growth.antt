@@ -1,4 +1,4 @@
--- A marker stays tied where there are more places.
+-- A marker stays tied when there are more objects.
 use Rattle.nmgc_mark.proofs.Vocabulary.{inr, ◌↔◌, ℕ, List, [], ◌∷◌, refl, subst, Contains, Entry, Segments, Place, Opening, Marks, IsMarkedAt, MarkerSeen, IsRightSnapshot, AreQueued, IsTied}
 
 more_queued : (few more : List Place) → ((p : Place) → Contains few p → Contains more p) → (ats : List ℕ) (entries : List Entry) →

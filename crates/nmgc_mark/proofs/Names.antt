@@ -1,7 +1,7 @@
--- The name of a place.
+-- The name at an address.
 use Rattle.nmgc_mark.proofs.Vocabulary.{◌≡◌, inr, ℕ, List, refl, ap, ◌∙◌, Some, Contains, Name, Place, name_at, Layout, AreApart, some_at}
 
--- where places are apart it is the only one
+-- it is the only name there if objects are apart
 pub named_at : (layout : Layout) (places : List Place) (at : ℕ) (name : Name) → AreApart layout places →
     Contains places (record { at = at; name = name }) → name_at places at ≡ Some name
 named_at layout places at name h c =

@@ -1,7 +1,7 @@
 -- One mark of the machine.
 use Rattle.nmgc_mark.proofs.Vocabulary.{◌≡◌, Bool, true, false, cond, [], ◌∷◌, ◌++◌, refl, sym, ap, Some, Contains, Contains-append_left, Name, shared_name, State, is_new, mark_name, with_mark, entry_of, marks_of, with_name}
 
--- a mark changes marks and queue alone
+-- a mark changes only marks and queue
 pub record IsMarkOf (s t : State) (name : Name) : Type 0 where
   pub marks : marks_of t ≡ with_name s.snapshot (marks_of s) (Some name)
   pub rest : t ≡ record s { marked = t.marked; queue = t.queue }

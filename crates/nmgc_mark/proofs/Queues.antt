@@ -1,4 +1,4 @@
--- The marker's list of found places, of which the queue is what follows an index.
+-- The marker's list of found addresses, with the queue after an index.
 use Rattle.nmgc_mark.proofs.Vocabulary.{◌≡◌, inl, inr, nat_eq, eq-eqb, ℕ, zero, suc, ◌+◌, ◌<◌, ◌≤◌, IsTrue, List, [], ◌∷◌, length, drop, refl, sym, ap, subst, ◌∙◌, arith, slice_index_or, cases_eq, eqb_tells, Address, places, never}
 
 drop_first : (xs : List Address) (i : ℕ) (a : Address) → i < length xs → drop i (places xs) ≡ (slice_index_or xs i a).0 ∷ drop (i + 1) (places xs)
@@ -21,9 +21,9 @@ drop_none (x ∷ xs) zero le e = absurd (let e' : x.0 ∷ places xs ≡ [] = e i
 drop_none (x ∷ xs) (suc i) le e = let r = drop_none xs i (omega arith) e in omega arith
 
 -- the test whether the queue is empty
-pub empty_told : (queue : List ℕ) (items shown : List Address) (first : ℕ) → shown ≡ items → queue ≡ drop first (places items) →
+pub empty_known : (queue : List ℕ) (items shown : List Address) (first : ℕ) → shown ≡ items → queue ≡ drop first (places items) →
     first ≤ length items → (IsTrue (nat_eq first (length shown)) → queue ≡ []) × (queue ≡ [] → IsTrue (nat_eq first (length shown)))
-empty_told queue items shown first same is le = (
+empty_known queue items shown first same is le = (
   λ t. let e : first ≡ length shown = elim (eqb_tells first (length shown)) [ inl s ↦ s.1 | inr s ↦ never (rw s.0 at t) ] in cc (
     is,
     drop_all items first (let z = ap (λ (l : List Address). length l) same in omega arith),
@@ -32,7 +32,7 @@ empty_told queue items shown first same is le = (
       subst (λ b. IsTrue b) (sym (eq-eqb first (length shown) (e ∙ ap (λ (l : List Address). length l) (sym same)))) refl,
 )
 
--- the first of the queue
+-- the first address of the queue
 pub first_taken : (queue : List ℕ) (items shown again : List Address) (first : ℕ) (a : Address) → shown ≡ items → again ≡ items →
     queue ≡ drop first (places items) → first ≤ length items → (first ≡ length shown → ⊥) →
     queue ≡ (slice_index_or again first a).0 ∷ drop (first + 1) (places items)

@@ -1,4 +1,4 @@
--- Once nothing is queued, owed or pushed, what the snapshot's roots reach is marked.
+-- Once nothing is queued, owed or pushed, all that is reachable from the snapshot's roots is marked.
 use Rattle.nmgc_mark.proofs.Vocabulary.{◌≡◌, inl, inr, ℕ, List, [], ◌∷◌, refl, arith, Contains, IsSome, Name, node_of, shared_name, IsReached, IsRoot, start, field, State, names_of, Facts, Kept, IsAhead, owed, pushed, queued, marked, stands, live_there}
 use Rattle.nmgc_snapshot_laws.specs.Facts.{IsSafe, unmarked}
 
@@ -28,6 +28,6 @@ module _ (s : State) (f : Facts s) (queue : s.queue ≡ []) (none_owed : (m : �
       let i = stands s.snapshot n target refers in
       kept_is n i.0 target c (f.kept n i.0 target i.1)
 
--- marked names are of the snapshot, g among them
+-- marked names are names of the snapshot, and g is marked
 pub marked_there : (s : State) → Facts s → ((name : Name) → Contains s.marked name → IsSome (node_of s.snapshot name)) × Contains s.marked shared_name
 marked_there s f = (λ name c. live_there s.snapshot s.opened f.base.snapshot name (f.base.live name c), f.roots shared_name (inl refl))

@@ -1,7 +1,7 @@
 -- A blank marker has room for every block: no segment has more blocks than a quarter of its words.
 use Rattle.nmgc_mark.proofs.Vocabulary.{◌≡◌, ℕ, zero, suc, ◌+◌, ◌*◌, ◌/◌, ◌<◌, ◌≤◌, List, [], ◌∷◌, ◌++◌, length, inl, inr, refl, sym, subst, arith, length-append, Contains, mul-le-mul_left, cases_eq, div-add-mod', Contains-append_left, Contains-append_right, contains_head, contains_tail, block_size, least_block, nth, Segments, IsSegments, IsBlockAt, HasRoomToMark, blank, most_blocks}
 
--- so many places from one on, each so many words after the one before
+-- `n` addresses from `at` on, each `size` words after the address before
 steps_from : ℕ → ℕ → ℕ → List ℕ
 steps_from at size zero = []
 steps_from at size (suc n) = at ∷ steps_from (at + size) size n
@@ -22,7 +22,7 @@ steps_have (suc n) at size (suc k) lt =
     (steps_have n (at + size) size k (omega arith)))
 
 module _ (s : Segments) where
-  -- the words of a segment's blocks, how many it has, and where they begin
+  -- the words of a segment's blocks, their number, and their addresses
   abbrev size_in : ℕ → ℕ
   size_in n = block_size (nth s.segments n).class
 
@@ -32,7 +32,7 @@ module _ (s : Segments) where
   abbrev blocks_in : ℕ → List ℕ
   blocks_in n = steps_from (32 + n * s.layout.words) (size_in n) (count_in n)
 
-  -- the blocks of the first so many segments
+  -- the addresses of the blocks of the first segments, up to a number
   blocks_to : ℕ → List ℕ
   blocks_to zero = []
   blocks_to (suc n) = blocks_to n ++ blocks_in n
@@ -65,7 +65,7 @@ module _ (s : Segments) where
     | inr ne ↦ Contains-append_left (blocks_to m) (blocks_in m) (32 + n * s.layout.words + b * size_in n) (have_to m n b (omega arith) inside)
   ]
 
-  -- where a block begins
+  -- the address of a block is among these
   block_there : (at : ℕ) → IsSegments s → (n b : ℕ) → IsBlockAt s n b at → Contains (blocks_to s.layout.segments) at
   block_there at sound n b g =
       let exists = g.exists in

@@ -1,4 +1,4 @@
--- What the words of the roots refer to is what the machine's values do.
+-- The words of the roots refer to the same objects as the machine's values.
 use Rattle.nmgc_mark.proofs.Vocabulary.{ne_eqb, eq-eqb, ◌≡◌, inr, ℕ, ◌*◌, ◌/◌, ◌%◌, true, false, eqb, List, [], ◌∷◌, ◌++◌, ◌+◌, ◌≤◌, ◌<◌, refl, sym, ap, ◌∙◌, arith, Option, Some, None, inl, Contains, flat_map, Name, MutatorState, shared_name, strong_fields, contains_head, contains_cases, FinQueue, word_total, block_size, least_block, nth, Segments, IsSegments, lies_in, Value, World, State, mark_value, mark_values, unmarked, opening, Place, Means, ListMeans, shared_place, Opening, Marks, marks_of, name_meant, with_name, IsBeginning, slots_of, blank, IsTied, AreApart, with_words, with_queues, some_at, means_append}
 use Rattle.nmgc_world_spec.specs.declared.value.Value.TheVariants as value
 use Rattle.nmgc_mark.proofs.{Words.words_append, Words.queues_flat, OneMark.mark_is}
@@ -41,7 +41,7 @@ words_mark o s (w ∷ ws) (v ∷ vs) same h means =
     let k = value_marks s v in
     cc (words_mark o (mark_value s v) ws vs (same ∙ sym k.1) h means.1, k.0, same, value_word o (marks_of s) w v h means.0)
 
--- a word that stands for a value is no pointer past the heap's words
+-- a word that represents a value is no pointer past the heap's words
 pub word_small : (o : Opening) (w : ℕ) (v : Value) → AreApart o.layout o.places → Means (Contains o.places) w v → (at : ℕ) → w ≡ 2 * at →
     at + 2 ≤ word_total o.layout
 word_small o w value.Nil h e at is = absurd (omega arith)
@@ -76,7 +76,7 @@ roots_mark o s epoch words registers queues h =
     h.slots_are)) in
     cc (queues_flat o (with_words o m registers) queues, words_append o (with_words o m registers) flat (slots_of words), words_append o m registers (flat ++ slots_of words), all)
 
--- a blank marker is the machine's of which nothing but g is marked
+-- a blank marker is tied to the machine with only g marked
 pub blank_tied : (o : Opening) (s : Segments) (epoch spare : ℕ) (words registers : List ℕ) (queues : List FinQueue) → IsSegments s →
     IsBeginning o s epoch words registers queues → IsTied o (marks_of (unmarked o.core.snapshot)) s (blank epoch spare)
 blank_tied o s epoch spare words registers queues sound h = record {

@@ -1,7 +1,7 @@
--- What one scan adds to a collector's view.
-use Rattle.nmgc_mark.proofs.Vocabulary.{ne_eqb, eq-eqb, le-leb, leb-true, ◌≡◌, inl, inr, ◌↔◌, ℕ, suc, ◌+◌, ◌<◌, ◌≤◌, Bool, true, false, not, ◌&&◌, ◌||◌, cond, eqb, leb, List, [], ◌∷◌, ◌++◌, refl, sym, ap, subst, ◌∙◌, arith, Option, Some, None, is_some, drop, Contains, eqb_tells, Name, Node, Con, Var, Arr, Thunk, Weak, Stack, World, node_of, Header, header_word, IsHeader, word_total, Entry, is_listed, entry_of, fields_of, Segments, IsMarkedAt, header_of, size_of, Opening, Seen, Marks, marks_of, name_read, with_name, after_word, entry_past, first_past, is_last_word, is_thunk, offset_of, CanScan, first_of, scanned_by, TellsEntry, MarkerSeen, AreQueued, IsTied, IsScanning, entry_now, marks_seen, rest_of, with_first, fields_scanned, has_results, is_result, folded_more, or_true}
+-- The effect of a scan on a collector's view.
+use Rattle.nmgc_mark.proofs.Vocabulary.{ne_eqb, eq-eqb, le-leb, leb-true, ◌≡◌, inl, inr, ◌↔◌, ℕ, suc, ◌+◌, ◌<◌, ◌≤◌, Bool, true, false, not, ◌&&◌, ◌||◌, cond, eqb, leb, List, [], ◌∷◌, ◌++◌, refl, sym, ap, subst, ◌∙◌, arith, Option, Some, None, is_some, drop, Contains, eqb_tells, Name, Node, Con, Var, Arr, Thunk, Weak, Stack, World, node_of, Header, header_word, IsHeader, word_total, Entry, is_listed, entry_of, fields_of, Segments, IsMarkedAt, header_of, size_of, Opening, Seen, Marks, marks_of, name_read, with_name, after_word, entry_past, first_past, is_last_word, is_thunk, offset_of, CanScan, first_of, scanned_by, FindsEntry, MarkerSeen, AreQueued, IsTied, IsScanning, entry_now, marks_seen, rest_of, with_first, fields_scanned, has_results, is_result, folded_more, or_true}
 
--- its word is what the view scans next
+-- its word is the next word that the view scans
 pub can_scan : (v : Seen) (s : Segments) (marker : MarkerSeen) (at position offset : ℕ) → IsScanning v s marker at position →
     offset ≡ offset_of position → CanScan v at offset
 can_scan v s marker at position offset h e = record {
@@ -13,7 +13,7 @@ can_scan v s marker at position offset h e = record {
   position = e ∙ ap offset_of (sym h.stands);
 }
 
--- where a field is among the words of its object
+-- the offset of a field among the words of its object
 pub field_offset : (field : ℕ) → 2 + field ≡ offset_of (field + 1)
 field_offset field = let z : field + 1 ≡ suc field = omega arith in sym (ap offset_of z)
 
@@ -25,14 +25,14 @@ pub record IsNode (o : Opening) (name : Name) (header : Header) : Type 0 where
   pub room : (at : ℕ) → Contains o.places (record { at = at; name = name }) → at + size_of node ≤ word_total o.layout
 
 -- the header of the entry's object has the word that was read
-pub header_there : (v : Seen) (s : Segments) (marker : MarkerSeen) (at w : ℕ) → IsScanning v s marker at 0 → TellsEntry v.opening (entry_now v) w →
+pub header_there : (v : Seen) (s : Segments) (marker : MarkerSeen) (at w : ℕ) → IsScanning v s marker at 0 → FindsEntry v.opening (entry_now v) w →
     (header : Header) × IsHeader header × (header_word header ≡ w)
 header_there v s marker at w h t = let n = t.header h.stands in (header_of n.node, n.valid, sym n.word_is)
 
-pub node_told : (v : Seen) (s : Segments) (marker : MarkerSeen) (at w : ℕ) (header : Header) → IsScanning v s marker at 0 →
-    TellsEntry v.opening (entry_now v) w → ((other : Header) → IsHeader other → header_word other ≡ w → header ≡ other) →
+pub node_known : (v : Seen) (s : Segments) (marker : MarkerSeen) (at w : ℕ) (header : Header) → IsScanning v s marker at 0 →
+    FindsEntry v.opening (entry_now v) w → ((other : Header) → IsHeader other → header_word other ≡ w → header ≡ other) →
     IsNode v.opening (entry_now v).name header
-node_told v s marker at w header h t is =
+node_known v s marker at w header h t is =
     let n = t.header h.stands in
     record { node = n.node; there = n.there; is = sym (is (header_of n.node) n.valid (sym n.word_is)); room = n.room }
 
@@ -128,11 +128,11 @@ ends v w at s new before later position h node there last tied =
     rw (is ∙
     ap (λ p. with_name v.opening.core.snapshot (rest_of (marks_seen v)) (name_read v.opening.places p w)) h.stands) tied
 
--- the same marker, but for its queue and how often the gate was passed
+-- the same marker, except for its queue and the number of passes of the gate
 abbrev pub IsTaken : MarkerSeen → MarkerSeen → Type 0
 IsTaken old new = new ≡ record old { queue = new.queue; turns = new.turns }
 
--- the first of the queue is scanned next
+-- the first address of the queue is scanned next
 pub begins : (v : Seen) (s : Segments) (before later : MarkerSeen) (at : ℕ) → v.collects ≡ true → IsTied v.opening (marks_seen v) s before →
     before.queue ≡ at ∷ later.queue → IsTaken before later → IsScanning v s later at 0
 begins v s before later at collects h e same = by_queue before.queue (marks_seen v).queue e refl h.queue

@@ -1,4 +1,4 @@
--- One mark at a place: the room, the count, and the marks of the machine.
+-- One mark at an address: the room, the count, and the marks of the machine.
 use Rattle.nmgc_mark.proofs.Vocabulary.{ne_eqb, eq-eqb, ◌≡◌, ◌≢◌, inl, inr, ℕ, ◌+◌, ◌*◌, ◌<◌, ◌/◌, ◌%◌, Bool, true, false, not, ◌&&◌, cond, eqb, IsTrue, List, [], ◌∷◌, ◌++◌, length, length-append, refl, sym, ap, subst, ◌∙◌, arith, Option, Some, None, is_some, Contains, IsSome, Contains-append_left, Contains-push, Contains-push_cases, Name, World, node_of, shared_name, contains_head, contains_tail, contains_cases, IsEpoch, Entry, is_listed, entry_of, contains_listed, not_listed, Segments, IsSegments, IsBlockAt, MarksBlock, MarksPlace, IsSnapshotAt, IsMarkedAt, marks_place, marked_stands, Place, Opening, Marks, name_at, name_meant, with_name, MarkerSeen, HasRoomToMark, MarksAt, HasScanned, HasMarked, StandAsBefore, noted, IsRightSnapshot, AreQueued, IsTied, some_at, found_at, never}
 
 -- no block begins there, and nothing is marked
@@ -107,7 +107,7 @@ place_marked old new before later at h r = record {
   stands = r.stands;
 }
 
--- how often the gate was passed stays
+-- the number of passes of the gate stays
 noted_turns : (answer : Bool) (at : ℕ) (m : MarkerSeen) → (noted answer at m).turns ≡ m.turns
 noted_turns true at m = refl
 noted_turns false at m = refl
@@ -198,7 +198,7 @@ module _ (o : Opening) (m : Marks) (old new : Segments) (before : MarkerSeen) (a
               g.1 ((h.marks (record { at = at; name = name }) here g.0).1 (contains_listed name m.marked e2)))
           by_test false b e1 e2 = tied_none answer layout h p (λ t. let k = named t in let bad : true ≡ false = sym k ∙ e1 in absurd cc)
 
-  -- the marks for the name at a place
+  -- the marks for the name at an address
   pub tied_at : (later : MarkerSeen) → IsTied o m old before → MarksAt old new before later at → IsTied o (with_name S m (name_at o.places at)) new later
   tied_at later h r = subst (λ (k : MarkerSeen). IsTied o (with_name S m (name_at o.places at)) new k) (sym r.marker) (tied_case r.answer r.layout h r.place)
 

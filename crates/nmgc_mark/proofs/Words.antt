@@ -1,4 +1,4 @@
--- Words and places that are marked one after another.
+-- Words and addresses that are marked in order.
 use Rattle.nmgc_mark.proofs.Vocabulary.{◌≡◌, ℕ, zero, suc, ◌+◌, ◌<◌, ◌≤◌, List, [], ◌∷◌, ◌++◌, length, map, refl, sym, ap, ◌∙◌, arith, take, drop, get_or, length-drop, get_or-take, get_or-drop, length-take-le, take_more, map-append, flat_map-append, flat_map, Address, FinQueue, Opening, Marks, name_at, name_meant, with_name, slots_of, places, with_places, with_words, with_queues, append-nil}
 
 pub places_more : (o : Opening) (m : Marks) (xs : List Address) (i : ℕ) (a : Address) → i < length xs →
@@ -25,7 +25,7 @@ pub queues_flat : (o : Opening) (m : Marks) (qs : List FinQueue) → with_queues
 queues_flat o m [] = refl
 queues_flat o m (q ∷ qs) = queues_flat o (with_words o m q.words) qs ∙ sym (words_append o m q.words (flat_map (λ (q : FinQueue). q.words) qs))
 
--- with the next item, what all of them have
+-- the words of all items, with the next item
 pub flat_more : {A : Type 0} (f : A → List ℕ) (xs : List A) (i : ℕ) (x : A) → i < length xs → x ≡ get_or xs i x →
     flat_map f (take (i + 1) xs) ≡ flat_map f (take i xs) ++ f x
 flat_more {A} f xs i x lt is =
@@ -35,7 +35,7 @@ last_queue : (o : Opening) (m : Marks) (qs : List FinQueue) (q : FinQueue) → w
 last_queue o m [] q = refl
 last_queue o m (x ∷ xs) q = last_queue o (with_words o m x.words) xs q
 
--- with the next mutator's queue
+-- the marks with the next mutator's queue
 pub queues_more : {A : Type 0} (f : A → FinQueue) (o : Opening) (m : Marks) (xs : List A) (i : ℕ) (x : A) → i < length xs → x ≡ get_or xs i x →
     with_queues o m (map f (take (i + 1) xs)) ≡ with_words o (with_queues o m (map f (take i xs))) (f x).words
 queues_more {A} f o m xs i x lt is =

@@ -1,4 +1,4 @@
--- When marking begins: nothing is marked yet, and the roots are those of the snapshot.
+-- The beginning of marking: nothing is marked yet, and the roots are the snapshot's.
 use Rattle.std.specs.Prelude.{ℕ, ◌*◌, ◌+◌, ◌/◌, List, map, take, drop, Contains, ◌≡◌, ◌↔◌}
 use Rattle.std.specs.List.{flat_map}
 use Rattle.nmgc_world_spec.specs.{declared.mutator_state.MutatorState.MutatorState, World.World, World.IsWorld, Reach.strong_fields}
@@ -7,22 +7,22 @@ use Rattle.nmgc_object.specs.{FinQueue.FinQueue, declared.layout.Layout.Layout, 
 use Rattle.nmgc_alloc.specs.{Numbered.Segments, Segments.IsSegments, AllocState.AllocState, Stands.StandsFor, Blocks.IsMarkedAt, Blocks.IsSnapshotAt, Blocks.IsUsedAt}
 use Rattle.nmgc_heap_spec.specs.{Places.Place, Places.ListMeans, Places.shared_place, Represents.Represents, Represents.NoNode, Roots.RepresentsRoots}
 use Rattle.nmgc_round.specs.View.{Opening}
-use Rattle.nmgc_blocks_spec.specs.Placed.{IsPlaceAtStop}
+use Rattle.nmgc_stop_spec.specs.Placed.{IsPlaceAtStop}
 use Rattle.nmgc_mark.specs.Tie.{IsRightSnapshot}
 
--- the slots of g
+-- the words in the slots of g
 abbrev pub slots_of : List ℕ → List ℕ
 slots_of words = take SHARED_SLOTS (drop (SHARED_PLACE + HEADER_WORDS) words)
 
--- the words of all finaliser queues, one after another
+-- the words of all finaliser queues in order
 abbrev pub queue_words : List FinQueue → List ℕ
 queue_words queues = flat_map (λ (q : FinQueue). q.words) queues
 
--- no more blocks than these can be in use
+-- the most blocks that can be in use in a heap of the layout
 abbrev pub most_blocks : Layout → ℕ
 most_blocks layout = layout.segments * layout.words / MIN_BLOCK_WORDS
 
--- as a cycle begins: no block is marked with its epoch, and registers, finaliser queues and the slots of g stand for the roots of the snapshot
+-- the beginning of marking: no block has the epoch's mark; registers, queues and slots of g represent the snapshot's roots
 pub record IsBeginning (o : Opening) (s : Segments) (epoch : ℕ) (words registers : List ℕ) (queues : List FinQueue) : Type 0 where
   pub right : IsRightSnapshot o s
   pub shared : Contains o.places shared_place
@@ -31,8 +31,8 @@ pub record IsBeginning (o : Opening) (s : Segments) (epoch : ℕ) (words registe
   pub queues_are : ListMeans (Contains o.places) (queue_words queues) (flat_map (λ (state : MutatorState). state.queue) o.core.snapshot.mutators)
   pub slots_are : ListMeans (Contains o.places) (slots_of words) (strong_fields o.core.snapshot.shared)
 
--- a heap at a stop whose segments were just prepared for a cycle: words and roots stand for the snapshot, the places
--- are those of g and of the blocks, the blocks in use are those in the snapshot, and no mark byte is the epoch
+-- a heap at a stop whose segments were just prepared for a cycle. Words and roots represent the snapshot. The objects in use
+-- are g and the blocks in use, and exactly these blocks are in the snapshot. No mark byte is the epoch.
 pub record IsPrepared (o : Opening) (s : Segments) (epoch : ℕ) (words registers : List ℕ) (queues : List FinQueue) : Type 0 where
   pub world : IsWorld o.core.snapshot
   pub earlier : List World

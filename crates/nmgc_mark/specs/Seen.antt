@@ -1,8 +1,8 @@
--- What contracts see of a marker.
+-- The contracts' view of a marker.
 use Rattle.std.specs.Prelude.{ℕ, List, Bool}
 
--- the marker of a cycle that is marking: its epoch, the places that wait to be scanned, for how many more there is
--- room, how many blocks it marked, and how often the collector passed the gate in the whole run
+-- a marker in the contracts' view: its epoch, the addresses that wait to be scanned in order, the number of further addresses
+-- that it has room for. Also the number of blocks that it marked, and the number of the gate's passes in the whole run
 pub record MarkerSeen : Type 0 where
   pub epoch : ℕ
   pub queue : List ℕ
@@ -10,7 +10,7 @@ pub record MarkerSeen : Type 0 where
   pub marked : ℕ
   pub turns : ℕ
 
--- what the last work of the marker answered
+-- the answer of a marker's last work: the number of objects scanned, and whether the queue is empty
 pub record WorkSeen : Type 0 where
   pub scanned : ℕ
   pub empty : Bool

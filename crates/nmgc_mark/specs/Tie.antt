@@ -1,7 +1,7 @@
--- The marker's marks and queue are the core machine's: told by places, for the opening of a round.
+-- The tie by addresses, for the opening of a round: the marker's marks and queue are the marking machine's.
 --
--- An opening is a core state with the places in use, at a stop as well as in a round. The marks are those of
--- that state, or those that the collector's scans have made of them. A marker knows blocks by their places.
+-- An opening is a state of the marking machine with the objects in use, at a stop as well as in a round. The marks are that
+-- state's, or the marks after the collector's scans. A marker represents blocks by their addresses.
 use Rattle.std.specs.Prelude.{ℕ, ◌≡◌, ◌+◌, ◌≤◌, ◌⊎◌, ◌↔◌, List, [], ◌∷◌, length, Contains, IsSome}
 use Rattle.nmgc_world_spec.specs.{declared.value.Name.Name, World.node_of, Step.shared_name}
 use Rattle.nmgc_object.specs.{Places.word_total, FinQueue.FinQueue, declared.layout.Layout.Layout, declared.size.TheConstants.HEADER_WORDS}
@@ -11,26 +11,29 @@ use Rattle.nmgc_heap_spec.specs.Places.{Place}
 use Rattle.nmgc_round.specs.{View.Opening, Marking.Marks, Marking.with_name, Marking.name_at, Marking.name_meant}
 use Rattle.nmgc_mark.specs.Seen.{MarkerSeen}
 
--- no two places share a word or a name, and at each there is room for a header and a name within the heap's words
+-- objects that are apart: no two share an address or a name, and each has room for header and name within the heap's words
 pub record AreApart (layout : Layout) (places : List Place) : Type 0 where
   pub one : (p q : Place) → Contains places p → Contains places q → (p.name ≡ q.name) ⊎ (p.at ≡ q.at) → p ≡ q
   pub above : (p : Place) → Contains places p → 1 ≤ p.at
   pub inside : (p : Place) → Contains places p → p.at + HEADER_WORDS ≤ word_total layout
 
--- a block is in the snapshot exactly where its place is in use and the name there is one of the snapshot; g alone has no block
+-- the snapshot by addresses: a block is in it exactly if an object in use begins at the block's address and has a name of the
+-- snapshot. Only g has no block, and no two objects share an address or a name.
 pub record IsRightSnapshot (o : Opening) (s : Segments) : Type 0 where
   pub layout : s.layout ≡ o.layout
   pub apart : AreApart o.layout o.places
   pub sound : (at : ℕ) → IsSnapshotAt s at → (name : Name) × Contains o.places (record { at = at; name = name }) × IsSome (node_of o.core.snapshot name)
   pub complete : (p : Place) → Contains o.places p → IsSome (node_of o.core.snapshot p.name) → (p.name ≡ shared_name) ⊎ IsSnapshotAt s p.at
 
--- these are the places of the queued names, of which nothing was read yet
+-- the queue has the addresses of the entries' objects in order, and each entry is still to be scanned from the header on
 abbrev pub AreQueued : List Place → List ℕ → List Entry → Type 0
 AreQueued places [] [] = Unit {0}
 AreQueued places (at ∷ ats) (entry ∷ entries) = (Contains places (record { at = at; name = entry.name }) × (entry.position ≡ 0)) × AreQueued places ats entries
 AreQueued places _ _ = ⊥
 
--- the marker has these marks and this queue; g counts as marked there, and has no block
+-- the tie: the marker has the machine's marks and queue. A block is marked with the epoch exactly if the name at its address
+-- is marked. The queue has the addresses of the queued names, with no position read yet. The marker counts the marked names
+-- without g, which counts as marked and has no block.
 pub record IsTied (o : Opening) (m : Marks) (s : Segments) (marker : MarkerSeen) : Type 0 where
   pub snapshot : IsRightSnapshot o s
   pub shared : Contains m.marked shared_name
@@ -38,7 +41,7 @@ pub record IsTied (o : Opening) (m : Marks) (s : Segments) (marker : MarkerSeen)
   pub queue : AreQueued o.places marker.queue m.queue
   pub count : marker.marked + 1 ≡ length m.marked
 
--- what words refer to is marked, one after another
+-- the machine's marks after the targets of words are marked in order
 abbrev pub with_words : Opening → Marks → List ℕ → Marks
 with_words o m [] = m
 with_words o m (w ∷ ws) = with_words o (with_name o.core.snapshot m (name_meant o.places w)) ws
@@ -47,7 +50,7 @@ abbrev pub with_queues : Opening → Marks → List FinQueue → Marks
 with_queues o m [] = m
 with_queues o m (q ∷ qs) = with_queues o (with_words o m q.words) qs
 
--- the places are marked one after another, each for its name
+-- the machine's marks after the names at addresses are marked in order
 abbrev pub with_places : Opening → Marks → List ℕ → Marks
 with_places o m [] = m
 with_places o m (at ∷ ats) = with_places o (with_name o.core.snapshot m (name_at o.places at)) ats

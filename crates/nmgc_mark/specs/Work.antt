@@ -1,4 +1,4 @@
--- Scanning: the marks of the collector's view, and how far the scan of an object has come.
+-- Scanning: the marks of the collector's view, and the progress of an object's scan.
 use Rattle.std.specs.Prelude.{ℕ, ◌≡◌, ◌+◌, ◌<◌, ◌≤◌, Bool, true, false, not, ◌&&◌, ◌==◌, List, ◌∷◌, ◌++◌, drop, Contains}
 use Rattle.nmgc_world_spec.specs.declared.node.Kind.{Kind}
 use Rattle.nmgc_world_spec.specs.declared.node.Kind.TheVariants as kind
@@ -7,15 +7,15 @@ use Rattle.nmgc_alloc.specs.Numbered.{Segments}
 use Rattle.nmgc_round.specs.{declared.table.Round.Round, View.Seen, View.Scan, Marking.Marks, Marking.marks_after, Ready.first_of, Seat.RoundSeat, Seat.IsAt, Seat.seen}
 use Rattle.nmgc_mark.specs.{Seen.MarkerSeen, Marker.HasMarked, Tie.IsTied}
 
--- the marks that a collector's view gives
+-- the marks of a view: the opening's marks after the collector's scans
 abbrev pub marks_seen : Seen → Marks
 marks_seen v = marks_after v.opening v.scans
 
--- the entry that is scanned next
+-- the entry that a view's collector scans next: the first of its queue
 abbrev pub entry_now : Seen → Entry
 entry_now v = first_of (marks_seen v).queue
 
--- the same marks without the first entry, and with one more at the front
+-- marks without the first entry of the queue, and marks with a further entry at the front
 abbrev pub rest_of : Marks → Marks
 rest_of m = record { marked = m.marked; queue = drop 1 m.queue }
 
@@ -26,17 +26,17 @@ with_first entry m = record { marked = m.marked; queue = entry ∷ m.queue }
 abbrev pub IsCollector : Round → RoundSeat → Type 0
 IsCollector round seat = IsAt round seat × ((seen seat).collects ≡ true)
 
--- the same seat later: it knows of more scans, and of nothing else
+-- the same seat at a later time: its view differs only by further scans
 pub record IsLaterSeat (old new : RoundSeat) : Type 0 where
   pub id : new.id ≡ old.id
   pub scans : List Scan
   pub knows : seen new ≡ record (seen old) { scans = (seen old).scans ++ scans }
 
--- since the first seat there were only scans, and the seat knows this
+-- the collector's seat has this view by now, after scans alone since the first seat
 abbrev pub SeatShows : Round → RoundSeat → RoundSeat → Seen → Type 0
 SeatShows round first seat v = IsCollector round seat × IsLaterSeat first seat × (seen seat ≡ v)
 
--- the first entry is the object at this place, at this position, and all else is tied
+-- an object in the middle of its scan: it is the first entry, at this address and position, and all other marks are tied
 pub record IsScanning (v : Seen) (s : Segments) (marker : MarkerSeen) (at position : ℕ) : Type 0 where
   pub collects : v.collects ≡ true
   pub first : marks_seen v ≡ with_first (entry_now v) (rest_of (marks_seen v))
@@ -44,25 +44,26 @@ pub record IsScanning (v : Seen) (s : Segments) (marker : MarkerSeen) (at positi
   pub stands : (entry_now v).position ≡ position
   pub tied : IsTied v.opening (rest_of (marks_seen v)) s marker
 
--- so many fields of the object were scanned, from the header on
+-- an object scanned up to `field`: if a field is left, the object is the first entry, at that field's position. If no field
+-- is left, marks and queue are tied
 pub record IsAtField (from v : Seen) (s : Segments) (marker : MarkerSeen) (at fields field : ℕ) : Type 0 where
   pub opening : v.opening ≡ from.opening
   pub more : field < fields → IsScanning v s marker at (field + 1) × ((entry_now v).name ≡ (entry_now from).name)
   pub last : fields ≤ field → IsTied v.opening (marks_seen v) s marker
 
--- the object that a view was to scan was scanned to its end
+-- the first object of a view was scanned to its end, and marks and queue are tied
 pub record IsDone (from v : Seen) (s : Segments) (marker : MarkerSeen) : Type 0 where
   pub opening : v.opening ≡ from.opening
   pub tied : IsTied v.opening (marks_seen v) s marker
 
--- so many objects were scanned, and the marker's marks and queue are those of the view
+-- a round's work of `count` scanned objects: the same seat with more scans, and a marker with the marks and queue of its view
 pub record HasWorked (round : Round) (from seat : RoundSeat) (old new : Segments) (before marker : MarkerSeen) (count : ℕ) : Type 0 where
   pub collector : IsCollector round seat
   pub later : IsLaterSeat from seat
   pub marked : HasMarked old new before marker count
   pub tied : IsTied (seen seat).opening (marks_seen (seen seat)) new marker
 
--- how many fields of an object are scanned: those of a weak pointer never are
+-- the number of fields that are scanned, by kind: all fields, and none of a weak pointer
 abbrev pub fields_scanned : Kind → ℕ → ℕ
 fields_scanned kind.Con n = n
 fields_scanned kind.Var n = n
@@ -71,7 +72,7 @@ fields_scanned kind.Thunk n = n
 fields_scanned kind.Weak n = 0
 fields_scanned kind.Stack n = n
 
--- whether objects of the kind may have a result: thunks alone
+-- whether objects of the kind may have a result: only thunks may
 abbrev pub has_results : Kind → Bool
 has_results kind.Con = false
 has_results kind.Var = false
@@ -80,6 +81,6 @@ has_results kind.Thunk = true
 has_results kind.Weak = false
 has_results kind.Stack = false
 
--- the word is a result that was set, after which nothing of a thunk is scanned
+-- whether a word is a thunk's result that was set, which ends the scan of the thunk
 abbrev pub is_result : Kind → ℕ → ℕ → Bool
 is_result k field w = (field == 0) && (has_results k && not (w == 0))

@@ -1,4 +1,4 @@
-//! The marker against the core machine: each function does nothing, and its contract is the law.
+//! The marker against the marking machine: each function does nothing, and its contract is the law.
 ghost use Rattle.std.specs.Prelude.{◌≡◌, ℕ, [], List, Contains, IsSome, true};
 ghost use Rattle.nmgc_world_spec.specs.{declared.value.Name.Name, Step.shared_name, World.node_of, Reach.IsReached, Reach.IsRoot};
 ghost use Rattle.nmgc_object.specs.FinQueue.{FinQueue};
@@ -8,46 +8,44 @@ ghost use Rattle.nmgc_heap_spec.specs.Places.{Place};
 ghost use Rattle.nmgc_round.specs.{View.Opening, View.Seen, View.whole, Seating.collecting, Marking.Marks, Marking.marks_of, Rule.now, Finishing.IsFinished};
 ghost use Rattle.nmgc_mark.specs.{Marker.HasRoomToMark, Marker.blank, Seen.MarkerSeen, Beginning.IsBeginning, Beginning.IsPrepared, Beginning.most_blocks, Tie.IsRightSnapshot, Tie.IsTied, Work.marks_seen};
 
-/// A heap at a stop whose segments were just prepared is one with which marking begins.
+/// Proves that marking may begin with a heap at a stop whose segments were just prepared.
 pub fn prepared_heaps_begin()
     ensures { (o : Opening) (s : Segments) (epoch : ℕ) (words registers : List ℕ) (queues : List FinQueue) →
         IsPrepared o s epoch words registers queues → IsBeginning o s epoch words registers queues }
 {}
 
-/// A marker that marked nothing, with room for as many blocks as can be in use, has room for every block.
+/// Proves that `most_blocks` is enough room: a marker that marked nothing and has this room has room for every block.
 pub fn blank_markers_have_room()
     ensures { (s : Segments) (epoch : ℕ) → IsSegments s → HasRoomToMark s (blank epoch (most_blocks s.layout)) }
 {}
 
-/// As a round begins, a marker that is tied to the core machine's marks is tied to those of the collector's view.
+/// Proves that a round's beginning keeps the tie: a marker tied to the machine's marks is tied to the collector's view.
 pub fn round_begins()
     ensures { (o : Opening) (s : Segments) (marker : MarkerSeen) → IsTied o (marks_of o.core) s marker → IsTied o (marks_seen (collecting (whole o))) s marker }
 {}
 
-/// Once a round is over, a marker that is tied to the marks of the collector's view is tied to those of the machine after
-/// the round's events.
+/// Proves that the tie survives a round's end: a marker tied to the marks of the collector's view is tied to the marking
+/// machine's marks after the round's events.
 pub fn round_ends()
     ensures { (o : Opening) (words : List ℕ) (v : Seen) (s : Segments) (marker : MarkerSeen) (h : IsFinished o words v) → v.collects ≡ true →
         v.opening ≡ o → IsTied v.opening (marks_seen v) s marker → IsTied o (marks_of (now o h.events)) s marker }
 {}
 
-/// A marker stays tied to the machine's marks where there are more places: objects born in a round and those that were
-/// promoted since aren't in the snapshot.
+/// Proves that a marker stays tied to the machine's marks when objects are added: new objects aren't in the snapshot.
 pub fn places_may_grow()
     ensures { (o : Opening) (places : List Place) (m : Marks) (s : Segments) (marker : MarkerSeen) →
         ((p : Place) → Contains o.places p → Contains places p) → IsRightSnapshot (record o { places = places }) s → IsTied o m s marker →
         IsTied (record o { places = places }) m s marker }
 {}
 
-/// Where the facts of the core machine hold, marked names are of the snapshot, g among them.
+/// Proves that marked names are names of the snapshot and that g is marked, if the invariant of the marking machine holds.
 pub fn marks_are_of_the_snapshot()
     ensures { (core : Core) → Facts core → ((name : Name) → Contains core.marked name → IsSome (node_of core.snapshot name)) ×
         Contains core.marked shared_name }
 {}
 
-/// Where the facts of the core machine hold and nothing is queued, owed or pushed, all is marked that strong
-/// fields reach in the snapshot from its roots. So where no command owed a reference, a marker whose queue is
-/// empty has scanned at least as many objects as these.
+/// Proves that once nothing is queued, owed or pushed, all names that the snapshot's roots reach along strong fields are
+/// marked, if the machine's invariant holds. So if no command owed a reference, the marker has then scanned them all.
 pub fn all_reached_is_marked()
     ensures { (core : Core) → Facts core → core.queue ≡ [] → ((m : ℕ) → names_of core.owed m ≡ []) → ((m : ℕ) → names_of core.pushed m ≡ []) →
         (name : Name) → IsReached core.snapshot (IsRoot core.snapshot) name → Contains core.marked name }

@@ -1,17 +1,17 @@
-//! The marker: what the snapshot reached is found and marked, beside running mutators.
+//! The marker: it finds and marks the objects reachable from the snapshot, beside running mutators.
 //!
-//! A cycle begins at a stop: what registers, finaliser queues and the slots of g refer to is marked and
-//! queued (`marker`). In each round the marker scans objects from the queue's front, word after word (`scan`), while
-//! the mutators write (`work`). What a mutator takes away from its sight is remembered, and `Marker::add`
-//! marks it at the next stop. At the end the mutators stand still, and it scans what is left (`finish`). Only
-//! blocks that were in use at the snapshot are marked, each once.
+//! A cycle begins at a stop: the targets of registers, finaliser queues and the slots of g are marked and queued (`marker`).
+//! In each round the marker scans objects from the queue's front, word after word (`scan`), while the mutators write
+//! (`work`). References that a mutator takes out of the marker's sight are remembered, and `Marker::add` marks them at the
+//! next stop. At the end, with the mutators stopped, the marker scans the rest (`finish`). Only blocks that were in use at
+//! the snapshot are marked, each once.
 //!
-//! The promise is that marks and queue are those of the core machine at every moment: in a round they are
-//! told by the collector's view, at a stop by the machine's state (`specs/Tie.antt`). So the snapshot theorem
-//! says what is marked in the end. `laws` leads from one to the other.
+//! The promise is that marks and queue are always those of the marking machine: in a round by the collector's view, and at a
+//! stop by the machine's state (`specs/Tie.antt`). So the snapshot theorem says which objects are marked in the end. `laws`
+//! leads from one to the other.
 //!
-//! Easy to get wrong: a pointer may lead to an object that was born in the round. It begins no block, so it
-//! is passed over. And a thunk's free variables are scanned only where its result was unset as it was read.
+//! Easy to get wrong: a pointer may lead to a new object. No block begins there, so it is passed over. And a thunk's free
+//! variables are scanned only if its result was unset when it was read.
 #![tactic(auto)]
 
 mod finish;

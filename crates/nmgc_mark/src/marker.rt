@@ -1,11 +1,10 @@
-//! The marker of one cycle: how it begins, and what one mark does.
+//! The marker of one cycle: its beginning, and the effect of one mark.
 //!
-//! All marked places stand in one list in the order of marking, of which those before an index were scanned;
-//! the rest is the queue. So a place is queued at most once in a cycle, and the list never needs more room
-//! than there are blocks.
+//! All marked addresses are in one list in the order of marking. The addresses before an index were scanned, and the rest is
+//! the queue. So an address is queued at most once in a cycle, and the list never needs more room than there are blocks.
 //!
-//! Easy to get wrong: a pointer may lead to g, or to an object that was born in a round, and there no block
-//! begins. So each mark is a try, and one look-up tells both whether a block begins there and which.
+//! Easy to get wrong: a pointer may lead to g or to a new object, and no block begins there. So each mark is a try, and a
+//! single look-up finds whether a block begins at the address, and which block.
 ghost use Rattle.std.specs.Prelude.{ℕ, ◌≡◌, ◌+◌, ◌-◌, ◌*◌, ◌^◌, ◌<◌, ◌≤◌, [], ◌∷◌, ◌++◌, ◌↔◌, length, map, Contains, IsTrue, IfSome, IfNone, IfOk, OnErr};
 ghost use Rattle.std.specs.List.{flat_map};
 ghost use Rattle.nmgc_segment.specs.Marks.{IsEpoch};
@@ -24,21 +23,21 @@ use nmgc_round::{CollectorSeat, Round};
 use std::alloc::Global;
 use std::marker::Model;
 
-// At how many headers the marker looks before it scans their objects.
+// The number of headers that the marker looks at before it scans their objects.
 const AHEAD: u32 = 8;
 
-/// What the marker did in a round: how many objects it scanned, and whether none is left.
+/// The marker's work in a round: the number of objects it scanned, and whether the queue is empty.
 #[derive(Clone, Copy, Debug, PartialEq, Eq)]
 pub struct Work {
     pub scanned: u32,
     pub empty: bool,
 }
 
-/// The marker of a cycle. Contracts see its epoch, its queue of places, for how many more there is room, how
-/// many blocks it marked, and how often the gate was passed.
+/// The marker of a cycle. Contracts see its epoch, its queue of addresses, its room for further addresses, and the numbers of
+/// blocks that it marked and of passes of the gate.
 #[derive(Drop)]
 pub struct Marker {
-    /// How often the collector passed the gate in the whole run. Stands still at 2^64 - 1.
+    /// The number of the collector's passes of the gate in the whole run. It stays at 2^64 - 1.
     pub turns: u64,
     epoch: u8,
     found: Room<Address>,
@@ -64,7 +63,7 @@ impl Model for Marker {
     ghost invariant = { λ m. IsEpoch m.epoch × (m.first ≤ length m.found.items) × (length m.found.items ≤ m.limit) × (m.limit ≤ length m.found.items + m.found.spare) };
 }
 
-/// No more blocks than these can be in use in a heap of this layout. Takes no memory.
+/// Returns the most blocks that can be in use in a heap of this layout. Takes no memory.
 pub fn most_blocks(layout: Layout) -> u32
     requires { IsLayout layout }
     ensures { result ≡ most_blocks layout }
@@ -73,7 +72,7 @@ pub fn most_blocks(layout: Layout) -> u32
 }
 
 impl Marker {
-    /// A marker that marked nothing, with room for so many blocks, which is the memory that it takes. Its `turns` is 0.
+    /// Makes a marker that has marked nothing, with memory for `blocks` blocks, and takes no other memory. `turns` is 0.
     pub fn blank(alloc: Global, epoch: u8, blocks: u32) -> Result<Marker, NoMemory>
         requires { IsEpoch epoch }
         ensures { IfOk result (λ marker. marker ≡ blank epoch blocks) }
@@ -89,10 +88,10 @@ impl Marker {
         })
     }
 
-    /// Begins to mark: what registers, finaliser queues and the slots of g refer to is marked and queued, in
-    /// this order. Registers and queues are read where they lie, in the mutators. `Segments::prepare` was just called, and
-    /// no mark byte is the epoch. Marks and queue are those with which the core machine opens. There is room for every
-    /// block, which is the only memory that a marker takes; after `NoMemory` no block was marked. `turns` is 0 then.
+    /// Makes the marker of a cycle that begins: it has marked and queued the targets of registers, finaliser queues and the
+    /// slots of g, in this order. The marking machine opens with these marks and this queue. `Segments::prepare` was just
+    /// called: no mark byte is the epoch. Registers and queues are read in the mutators. The marker has room for every block,
+    /// which is the only memory that it takes, and its `turns` is 0. After `NoMemory` no block was marked.
     pub fn snapshot<W: HeapWords, M: MutatorRoots>(
         alloc: Global,
         words: &mut W,
@@ -119,7 +118,7 @@ impl Marker {
         Ok(marker)
     }
 
-    // Marks what words refer to.
+    // Marks and queues the targets of words, in order.
     fn mark_all(&mut self, segments: &mut Segments, words: &[u64])
         requires room { HasRoomToMark segments.old self.old }
         requires small { (w at : ℕ) → Contains words.now w → w ≡ 2 * at → at < 2 ^ 32 }
@@ -132,7 +131,7 @@ impl Marker {
         }
     }
 
-    // Marks what registers refer to.
+    // Marks and queues the targets of the mutators' registers.
     fn mark_registers<M: MutatorRoots>(&mut self, segments: &mut Segments, mutators: &[M])
         requires room { HasRoomToMark segments.old self.old }
         requires small { (w at : ℕ) → Contains (flat_map M.registers mutators.now) w → w ≡ 2 * at → at < 2 ^ 32 }
@@ -146,7 +145,7 @@ impl Marker {
         }
     }
 
-    // Marks what finaliser queues refer to.
+    // Marks and queues the targets of the mutators' finaliser queues.
     fn mark_queues<M: MutatorRoots>(&mut self, segments: &mut Segments, mutators: &[M])
         requires room { HasRoomToMark segments.old self.old }
         requires small { (w at : ℕ) → Contains (queue_words (map M.queue mutators.now)) w → w ≡ 2 * at → at < 2 ^ 32 }
@@ -160,7 +159,7 @@ impl Marker {
         }
     }
 
-    // Marks what the slots of g refer to.
+    // Marks and queues the targets of the slots of g.
     fn mark_shared<W: HeapWords>(&mut self, words: &mut W, segments: &mut Segments)
         requires room { HasRoomToMark segments.old self.old }
         requires inside { FIRST_PLACE ≤ length (W.words words.old) }
@@ -178,9 +177,9 @@ impl Marker {
         }
     }
 
-    /// Marks and queues the remembered places that are blocks of the snapshot and weren't marked, in their
-    /// order: the machine takes what the mutator pushed. A place at which no block begins is passed over. The count
-    /// of the gate's passes stays.
+    /// Marks and queues, in order, the blocks at remembered addresses that are in the snapshot and weren't marked. The
+    /// marking machine takes the names that the mutator pushed. An address without a block is passed over. The count of the
+    /// gate's passes stays.
     pub fn add(&mut self, segments: &mut Segments, entries: &[Address])
         requires { HasRoomToMark segments.old self.old }
         ensures marked { HasMarked segments.old segments.new self.old self.new 0 }
@@ -192,8 +191,8 @@ impl Marker {
         }
     }
 
-    /// Marks and queues a block that begins at a place, if it is of the snapshot and wasn't marked. So whoever has found
-    /// the block needs no second look-up. The count of the gate's passes stays.
+    /// Marks and queues the block `block` of segment `number`, which begins at `at`, if it is in the snapshot and wasn't
+    /// marked. A caller that has found the block needs no second look-up. The count of the gate's passes stays.
     pub fn mark_block(&mut self, segments: &mut Segments, at: Address, number: u32, block: u32)
         requires room { HasRoomToMark segments.old self.old }
         requires begins { IsBlockAt segments.old number block at.0 }
@@ -209,17 +208,17 @@ impl Marker {
         }
     }
 
-    /// The epoch with which blocks are marked. Takes no memory, as every call but `blank` and `snapshot`.
+    /// Returns the epoch with which blocks are marked. Takes no memory, like every call except `blank` and `snapshot`.
     pub fn epoch(&self) -> u8
         ensures epoch { result ≡ self.now.epoch }
         ensures sound { IsEpoch self.now.epoch }
     {
-        // Reading a field tells the checker what holds of every marker, and so of its epoch.
+        // Note [Lines that do nothing] in `nmgc_alloc`: this gives the prover that the epoch is valid.
         let _ = &self.found;
         self.epoch
     }
 
-    /// How many blocks were marked by this marker, those of the snapshot's roots among them.
+    /// Returns the number of blocks that this marker marked, including the blocks of the snapshot's roots.
     pub fn marked(&self) -> u32
         ensures { result ≡ self.now.marked }
     {
@@ -227,9 +226,9 @@ impl Marker {
         self.found.items().len() as u32
     }
 
-    /// The place of a block that this marker marked, by how many it marked before it; `None` comes exactly where it marked
-    /// no more than these. So whoever asks for one after the other comes to each block once. No clause says which place it is: it
-    /// tells where to look, and what is marked is asked of the segments. Takes no memory, and constant time.
+    /// Returns the address of the block that this marker marked after `number` other blocks, and `None` exactly if it marked
+    /// at most `number` blocks. So asking for 0, 1, 2 and so on gives each block once. No clause says which address it is: it
+    /// is a hint where to look, and the segments say which blocks are marked. Takes no memory, and constant time.
     pub fn nth_marked(&self, number: u32) -> Option<Address>
         ensures some { IfSome result (λ at. number < self.now.marked) }
         ensures none { IfNone result (self.now.marked ≤ number) }
@@ -239,15 +238,15 @@ impl Marker {
         self.found.items().get(number as usize).copied()
     }
 
-    /// Whether no object waits to be scanned.
+    /// Whether the queue is empty, so that no object waits to be scanned.
     pub fn is_empty(&self) -> bool
         ensures { IsTrue result ↔ (self.now.queue ≡ []) }
     {
         self.first as usize == self.found.items().len()
     }
 
-    /// Takes the first place off the queue; `None` comes exactly where it is empty. Its block stays marked, and whoever takes
-    /// it has to scan it. Takes no memory.
+    /// Takes the first address off the queue and returns it, or returns `None` exactly if the queue is empty. The block at
+    /// the address stays marked, and the caller has to scan it. Takes no memory.
     pub fn take_first(&mut self) -> Option<Address>
         ensures some { IfSome result (λ at. (self.old.queue ≡ at.0 ∷ self.new.queue) × (self.new ≡ record self.old { queue = self.new.queue })) }
         ensures none { IfNone result ((self.old.queue ≡ []) × (self.new ≡ self.old)) }
@@ -260,8 +259,8 @@ impl Marker {
         Some(at)
     }
 
-    // Looks at the headers of the objects that are scanned next, so many at a time: as one object is scanned after the
-    // other, each header is far away, and here all of them are waited for at once. The seat knows what it knew.
+    // Looks at the headers of the objects that are scanned next, `AHEAD` at a time, so that the waits for their memory
+    // overlap. Each header is far from the one before. The seat's knowledge stays.
     pub(crate) fn look_ahead(&self, round: &Round, seat: &mut CollectorSeat, scanned: u32)
         requires { IsAt round.now seat.old }
         ensures { Knows round.now seat.old seat.new (seen seat.old) }
@@ -277,7 +276,7 @@ impl Marker {
         }
     }
 
-    // Queues a place that was marked.
+    // Appends the address of a marked block to the queue.
     fn queue(&mut self, at: Address)
         requires { 0 < self.old.spare }
         ensures { self.new ≡ record self.old { queue = self.old.queue ++ at.0 ∷ []; spare = self.old.spare - 1; marked = self.old.marked + 1 } }
@@ -285,7 +284,7 @@ impl Marker {
         self.found.add(at);
     }
 
-    // Marks and queues the block that begins at a place, where it is of the snapshot and wasn't marked.
+    // Marks and queues the block that begins at an address, if it is in the snapshot and wasn't marked.
     fn mark(&mut self, segments: &mut Segments, at: Address)
         requires { HasRoomToMark segments.old self.old }
         ensures { MarksAt segments.old segments.new self.old self.new at.0 }
@@ -297,7 +296,7 @@ impl Marker {
         }
     }
 
-    /// Marks and queues what a field refers to, if it refers to a block of the snapshot that wasn't marked. The count of
+    /// Marks and queues the block to which a field's word points, if it is in the snapshot and wasn't marked. The count of
     /// the gate's passes stays.
     pub fn mark_word(&mut self, segments: &mut Segments, word: u64)
         requires room { HasRoomToMark segments.old self.old }

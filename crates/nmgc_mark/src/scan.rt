@@ -1,18 +1,17 @@
-//! Scanning one object: its header, and then field after field.
+//! Scanning an object: its header, and then field after field.
 //!
-//! Each word of an object is one scan of the core machine, and what a field refers to is marked before the next one is
-//! read. Beside the mutators the collector's seat loads the words; at a stop, where the mutators stand still, they are
-//! loaded where they lie. That the latter scans are the machine's too is a law of rounds: what the collector does there
-//! is a round in which no mutator does anything (`specs/Stopped.antt`), and since it is alone, that round needs no table.
-//! So the loop stands once, over a trait that says how a load changes what the collector knows.
+//! Each word of an object is one scan of the marking machine, and the target of a field is marked before the next field is
+//! read. Beside the mutators, the collector's seat loads the words. At a stop, with the mutators stopped, plain loads do. A
+//! law of rounds makes plain loads scans of the machine too: the collector's work at a stop is a round in which no mutator
+//! does anything (`specs/Stopped.antt`). Since the collector is alone, that round needs no table. So there is one loop, over
+//! a trait that says how a load changes the collector's knowledge. The compiler makes a loop for each of the two loads.
 //!
-//! Easy to get wrong: a thunk's result is its first field, and where it was set, nothing else of the thunk is scanned. So
-//! that field is scanned before the loop, and in all others no result is looked for.
+//! Easy to get wrong: a thunk's result is its first field, and if it was set, nothing else of the thunk is scanned. So that
+//! field is scanned before the loop, which looks for no result.
 ghost use Rattle.std.specs.Prelude.{◌≡◌, ◌+◌, ◌<◌};
 ghost use Rattle.nmgc_object.specs.{Places.word_total, declared.size.TheConstants.HEADER_WORDS};
-ghost use Rattle.nmgc_round.specs.{Marking.with_name, Marking.name_meant, Ready.CanScan, Ready.scanned_by, Told.TellsScan, View.Seen};
-ghost use Rattle.nmgc_mark.specs.{Marker.HasRoomToMark, Marker.HasMarked, Stopped.WordsShow, Tie.IsTied};
-ghost use Rattle.nmgc_mark.specs.Work.{IsScanning, IsDone, SeatShows, marks_seen, rest_of, fields_scanned, has_results};
+ghost use Rattle.nmgc_round.specs.{Marking.with_name, Marking.name_meant, Ready.CanScan, Ready.scanned_by, Known.FindsScan, View.Seen};
+ghost use Rattle.nmgc_mark.specs.{Marker.HasRoomToMark, Marker.HasMarked, Stopped.WordsShow, Tie.IsTied, Work.IsScanning, Work.IsDone, Work.SeatShows, Work.marks_seen, Work.rest_of, Work.fields_scanned, Work.has_results};
 
 use crate::marker::Marker;
 use nmgc_alloc::Segments;
@@ -21,16 +20,16 @@ use nmgc_object::{Address, HEADER_WORDS, Header, header_of};
 use nmgc_round::{CollectorSeat, Round, laws};
 use nmgc_world_spec::Kind;
 
-/// Loads of the words of objects that are scanned, from a seat of a round or from the words at a stop.
+/// A way to load the words of objects that are scanned: by a seat of a round, or from the words at a stop.
 pub(crate) trait ScanLoad<S> {
-    // Since the first `S` words were only scanned, and the collector may have this view by now.
+    // There were only scans since the first source, and the collector may have this view by now.
     ghost shows: { Self → S → S → Seen → Type 0 };
 
-    /// The word that a view scans next. The view has that one scan more.
+    /// Loads the word that a view scans next, and returns it. The view then has one more scan.
     fn load(&self, source: &mut S, at: Address, offset: u32) -> u64
         requires { (first : S) × (v : Seen) × shows self.now first source.old v × CanScan v at.0 offset × (at.0 + offset < word_total v.opening.layout) }
         ensures { (first : S) (v : Seen) → shows self.now first source.old v → CanScan v at.0 offset →
-            shows self.now first source.new (scanned_by v result) × TellsScan v result };
+            shows self.now first source.new (scanned_by v result) × FindsScan v result };
 }
 
 impl ScanLoad<CollectorSeat> for Round {
@@ -41,7 +40,7 @@ impl ScanLoad<CollectorSeat> for Round {
     }
 }
 
-/// A stop: the collector goes on alone.
+/// Loads at a stop, where the collector goes on alone.
 pub(crate) struct AtStop;
 
 impl<W: HeapWords> ScanLoad<W> for AtStop {
@@ -53,7 +52,7 @@ impl<W: HeapWords> ScanLoad<W> for AtStop {
     }
 }
 
-/// How many fields of an object are scanned.
+/// Returns the number of an object's fields that are scanned: all, or none of a weak pointer.
 fn fields_scanned(header: Header) -> u32
     ensures { result ≡ fields_scanned header.kind header.fields }
 {
@@ -63,7 +62,7 @@ fn fields_scanned(header: Header) -> u32
     }
 }
 
-/// Whether the object may have a result: it's a thunk.
+/// Whether the object is a thunk, which may have a result.
 fn has_results(header: Header) -> bool
     ensures { result ≡ has_results header.kind }
 {
@@ -74,7 +73,7 @@ fn has_results(header: Header) -> bool
 }
 
 impl Marker {
-    // Scans one field of the object that the first entry names, and marks what it refers to.
+    // Scans a field of the object that the first entry names, marks the field's target, and returns the field's word.
     fn scan_field<S, L: ScanLoad<S>>(
         &mut self,
         loads: &L,
@@ -98,7 +97,7 @@ impl Marker {
         word
     }
 
-    /// Scans the object at a place, whose entry is the first, to its end.
+    /// Scans an object to its end and marks the targets of its fields. Its entry has to be the first of the view's queue.
     pub(crate) fn scan<S, L: ScanLoad<S>>(
         &mut self,
         loads: &L,

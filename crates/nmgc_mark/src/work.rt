@@ -1,16 +1,16 @@
 //! Scanning beside the mutators.
 //!
-//! Each word of an object is one load of the round, and one scan of the core machine (`scan`). An object is scanned
-//! to its end once it was begun, so between two calls every queued object is still to be scanned from its header on.
+//! Each word of an object is one load of the round, and one scan of the marking machine (`scan`). An object is scanned to its
+//! end once it is begun. So between two calls every queued object is still to be scanned from its header on.
 //!
-//! Before each object the rings of all mutators are polled once: a block of remembered places that is there goes to the
-//! collector's own list, and is marked at the stop. So a mutator finds free slots again while the marker is at work.
+//! Before each object the rings of all mutators are polled once: a block of remembered addresses goes to the collector's own
+//! list, and is marked at the stop. So a mutator finds free slots again while the marker is at work.
 //!
-//! Marking waits for memory more than it computes: the next object's header lies somewhere else. So at every eighth
-//! object the headers of the next eight are looked at together (`Round::look_ahead`), which is no scan.
+//! Marking waits for memory more than it computes, since the next object's header is far away. So at every eighth object the
+//! headers of the next eight are looked at together (`Round::look_ahead`), which is no scan.
 //!
-//! Easy to get wrong: whether anything is left is told by the queue on return, and not by the quota: a round that
-//! scans its whole quota may leave nothing.
+//! Easy to get wrong: only the queue on return says whether anything is left. The quota doesn't: a round that scans its whole
+//! quota may leave nothing.
 ghost use Rattle.std.specs.Prelude.{◌≡◌, ◌<◌, ◌≤◌, [], ◌↔◌, IsTrue, length};
 ghost use Rattle.nmgc_round.specs.{Gate.next_turn, Gate.passed, Seat.seen};
 ghost use Rattle.nmgc_mark.specs.{Marker.HasRoomToMark, Marker.turned, Tie.IsTied, Work.IsCollector, Work.HasWorked, Work.marks_seen};
@@ -23,7 +23,7 @@ use nmgc_round::{CollectorSeat, Gate, Round};
 use nmgc_updrem::Inbox;
 
 impl Marker {
-    // Passes the gate.
+    // Passes the gate, and counts the pass.
     fn pass<G: Gate>(&mut self, gate: &G)
         ensures { self.new ≡ turned self.old (next_turn self.old.turns) }
     {
@@ -31,15 +31,15 @@ impl Marker {
         gate.pass(MAKERS, self.turns);
     }
 
-    /// Scans objects from the queue's front beside the mutators, at most so many, each to its end and each word
-    /// by the scan load. Before each the gate is passed and counted, as the clause `turns` tells, and each mutator's
-    /// ring is polled once. The inbox has a receiver for each mutator of the layout.
+    /// Scans at most `quota` objects from the queue's front beside the mutators, and returns their number and whether the
+    /// queue is empty. Each object is scanned to its end, each word by the scan load. Before each object the gate is passed
+    /// and counted (clause `turns`), and each mutator's ring is polled once. The inbox has a receiver for each mutator.
     ///
-    /// The headers of several objects are looked at before these are scanned, from which the seat learns nothing.
+    /// The headers of several objects are looked at before these objects are scanned, and the seat learns nothing from this.
     ///
-    /// Marks and queue are the machine's before and after, as the collector's view tells them. Each object is
-    /// scanned once in a cycle: what was marked and doesn't wait was scanned. `empty` is false exactly where
-    /// `quota` objects were scanned and the queue isn't empty. Takes no memory, and waits for nobody but the gate.
+    /// Before and after, marks and queue are those of the marking machine in the collector's view. Each object is scanned
+    /// once in a cycle: marked objects that don't wait were scanned. `empty` is false exactly if `quota` objects were scanned
+    /// and the queue isn't empty. Takes no memory, and waits only for the gate.
     pub fn work<G: Gate>(
         &mut self,
         round: &Round,

@@ -1,9 +1,9 @@
--- The final words show the allocation state once the promoted names were placed.
+-- The final words show the allocation state after the promoted names were placed.
 use Rattle.nmgc_minor.proofs.Vocabulary.{◌≡◌, ◌≢◌, ◌<◌, ◌+◌, ◌⊎◌, ℕ, List, [], ◌∷◌, length, map, set, inl, inr, refl, sym, ap, subst, ◌∙◌, arith, Some, None, Contains, length-set, cases_eq, cases_lt, get_or_past, get_or-set_same, get_or-set_other, Name, World, node_of, IsWorld, contains_head, contains_tail, contains_cases, map_in, map_from, header_word, name_word, IsHeader, IsName, block_size, nursery_place, Header, Layout, nth, Segments, HasNumber, block_place, IsSegments, AllocState, Cells, name_in, cells, Shows, StandsFor, header_of, Place, Represents, NoNode, Moved, Moves, StillSpoken, IsOccupied, AreBlocks, PlacesEach, is_block, stands, Move, Inputs, HasInputs, PlacesMoves, with_names, moved_of, forward_word, Promotes, slice_index}
 use Rattle.nmgc_segment.specs.declared.state.State.TheVariants as stands
 use Rattle.nmgc_minor.proofs.{FoundLaws.node_at, FoundLaws.found_tracked, PlacingLaws.names_length, Final.names_are, Final.found_young, Final.promotes_moves}
 
--- words in which the new blocks have their names: what other words hold, and what these hold
+-- words in which the new blocks have their names: the other words are unchanged, and the name words have the names
 with_names_other : (moves : List Move) (words : List ℕ) (i : ℕ) → ((m : Move) → Contains moves m → i ≢ m.to.0 + 1) →
     slice_index (with_names words moves) i ≡ slice_index words i
 with_names_other [] words i other = refl
@@ -35,7 +35,7 @@ with_names_at (m ∷ moves) words i v lt all some =
     ] in
     with_names_at moves next i v (omega (arith, size, lt)) (λ x c e. all x (contains_tail m moves x c) e) rest
 
--- a block that has a name is in use
+-- a block with a name is in use
 block_named : (s : Segments) (words : List ℕ) (number : ℕ) (c : Cells) (block : ℕ) (name : Name) → HasNumber s number → Shows s words number c →
     name_in c block ≡ Some name → IsOccupied s (block_place s.layout number (nth s.segments number).class block) (block_size (nth s.segments number).class)
 block_named s words number c block name has sh e =
@@ -97,7 +97,7 @@ module _ (layout : Layout) (base : ℕ) (later earlier : List World) (places : L
             word ∙ sym (with_names_at moves old (at + 1) (name_word x.0.name) within all (inr (x.0, x.1, omega (arith, to))))
       ]
 
-  -- so the final words show what these show
+  -- so the final words represent the same state
   pub stands_final : (allocation : AllocState) → StandsFor s' (with_names old moves) allocation → StandsFor s' new allocation
   stands_final allocation st = record {
     total = moved.total ∙ sym (names_length moves old) ∙ st.total;

@@ -14,7 +14,7 @@ module _ (layout : Layout) (base : ℕ) (later earlier : List World) (places : L
     (same : s.layout ≡ layout)
     (used : AreUsed layout base places w nurseries)
     (reserve : KeepsReserve s.layout s.segments 0 ⊎ AreEmpty nurseries) where
-  -- what is found lies in the used part of its nursery
+  -- a found object lies in the used part of its nursery
   found_used : (at : ℕ) → IsFound base words (IsStart inputs words) at → base ≤ at → (maker : ℕ) × InNursery layout maker at ×
       (at + 2 ≤ (nursery_at nurseries maker).top)
   found_used at f l =

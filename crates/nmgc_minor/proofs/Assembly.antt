@@ -1,4 +1,4 @@
--- What the three passes leave is that objects moved.
+-- The result of the three passes is that objects moved.
 use Rattle.nmgc_minor.proofs.Vocabulary.{◌≡◌, ◌≢◌, ◌<◌, ◌≤◌, ◌+◌, ◌-◌, ℕ, List, inl, inr, sym, ap, subst, ◌∙◌, arith, ◌⊎◌, Some, Contains, cases_lt, slice_get_within, SHARED_MAKER, SHARED_SLOTS, Name, Node, Con, Var, Arr, Thunk, Weak, Stack, World, node_of, IsNodeOf, IsShared, IsWorld, contains_tail, at_some, is_some_of, header_word, IsHeader, InSegment, nursery_place, Header, Layout, FIRST_PLACE, HEADER_WORDS, Segments, IsSegments, header_of, size_of, slots_of, IsTracked, Place, IsBetween, Represents, NoNode, Moved, Moves, KeepsObject, Forwards, StillSpoken, new_place, old_place, settled, not_between, slot_count, tracked_more, stands, settled_cases, settled_stays, settled_comes, Inputs, HasInputs, IsOccupied, AreBlocks, HasHeaderWord, IsPlacing, IsSharedSlot, IsOutside, Rewrites, occupied_in, is_block, occupied_apart, slice_index}
 use Rattle.nmgc_minor.proofs.FoundLaws.{is_shared_node}
 
@@ -25,7 +25,7 @@ module _ (layout : Layout) (base : ℕ) (later earlier : List World) (places : L
   node_at : (p : Place) → Contains places p → (node : Node) × (node_of w p.name ≡ Some node)
   node_at p c = is_some_of (node_of w p.name) (r.named p c).known
 
-  -- the header word of what moves
+  -- the header word of a moved object
   header_at : (d : Moved) (node : Node) → Contains moves d → node_of w d.name ≡ Some node → HasHeaderWord old d.from (header_of node)
   header_at d node c e =
       let t = taken d c in
@@ -65,7 +65,7 @@ module _ (layout : Layout) (base : ℕ) (later earlier : List World) (places : L
       shared_size (Weak parts) h = absurd h
       shared_size (Stack size values) h = absurd h
 
-  -- a word of an object that stays is none of the moved objects' new ones
+  -- a word of an object that stays is outside the new blocks' objects
   outside : (p : Place) (node : Node) (k : ℕ) → Contains places p → p.at < base → node_of w p.name ≡ Some node → k < size_of node →
       IsOutside moves old (p.at + k)
   outside p node k c l e lt d header cd h =
@@ -78,7 +78,7 @@ module _ (layout : Layout) (base : ℕ) (later earlier : List World) (places : L
         | inr low ↦ inl (omega (arith, low.0, lt))
       ]
 
-  -- a recorded place is of a field
+  -- a recorded address is of a field
   recorded_field : (at : ℕ) → Contains inputs.recorded at → (p : Place) × (node : Node) × Contains places p × IsTracked w earlier p.name ×
       (node_of w p.name ≡ Some node) × (p.at + HEADER_WORDS ≤ at) × (at < p.at + size_of node) × (p.at < base)
   recorded_field at c =
@@ -101,7 +101,7 @@ module _ (layout : Layout) (base : ℕ) (later earlier : List World) (places : L
         | inr g ↦ absurd (g.1.0 c)
       ]
 
-  -- headers and names of what stays are unchanged
+  -- headers and names of objects that stay are unchanged
   unchanged : (p : Place) (k : ℕ) → Contains places p → p.at < base → k < HEADER_WORDS → slice_index new (p.at + k) ≡ slice_index old (p.at + k)
   unchanged p k c l lt =
       let node = node_at p c in
@@ -127,7 +127,7 @@ module _ (layout : Layout) (base : ℕ) (later earlier : List World) (places : L
         | inr f ↦ f.0
       ]
 
-  -- and so are words that belong to nobody
+  -- and so are the words between the objects
   between : (at : ℕ) → IsBetween at → slice_index new at ≡ slice_index old at
   between at nobody =
       let low : at < FIRST_PLACE = elim nobody [ inl first ↦ omega (arith, first) | inr last ↦ last.1 ] in
@@ -207,7 +207,7 @@ module _ (layout : Layout) (base : ℕ) (later earlier : List World) (places : L
         | inr low ↦ inl (omega (arith, low.1))
       ]
 
-  -- the places afterwards are those of the blocks in use
+  -- the addresses of objects afterwards are the addresses of the blocks in use
   pub blocks_made : AreBlocks s base (settled base moves places) w
   blocks_made = record {
     held = λ p node c l other e. held p node e other (settled_cases base moves places p c);

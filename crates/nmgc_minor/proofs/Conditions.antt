@@ -1,10 +1,10 @@
--- The world gives what the passes ask of the words.
+-- The world has all that the passes require of the words.
 use Rattle.std.proofs.{Common.◌≡◌, Common.◌<◌, Common.◌≤◌, Common.◌+◌, Common.◌-◌, Common.◌*◌, Common.ℕ, Common.List, Common.length, Common.inl, Common.inr, Common.sym, Common.ap, Common.subst, Common.◌∙◌, Common.arith, Common.Some, Math.Nat.mul-le-mul_right, lemmas.Bool.cases_order}
 use Rattle.std.specs.Prelude.{Contains}
 use Rattle.nmgc_world_spec.specs.{declared.value.Name.Name, declared.node.Node.Node, World.World, World.node_of, World.IsWorld}
 use Rattle.nmgc_object.specs.{Words.header_word, Words.IsHeader, Places.InNursery, Places.nursery_place, declared.words.Header.Header, declared.layout.Layout.Layout, declared.size.TheConstants.HEADER_WORDS}
 use Rattle.nmgc_heap_spec.specs.{Shape.header_of, Shape.size_of, Tracked.IsTracked, Places.Place, Places.LiesInNursery, Represents.Represents, Represents.NoNode, Moves.StillSpoken}
-use Rattle.nmgc_blocks_spec.specs.{Strong.HasStrong, Strong.HasHeader, laws.Fields.stands, laws.Fields.field_in}
+use Rattle.nmgc_stop_spec.specs.{Strong.HasStrong, Strong.HasHeader, laws.Fields.stands, laws.Fields.field_in}
 use Rattle.nmgc_minor.specs.{declared.young.Young.Young, Inputs.Inputs, Inputs.HasInputs, Found.IsStart, Found.IsFound, Young.IsWithin, Young.CanFollow, Placing.CanPlaceAll, Placing.IsMarked}
 use Rattle.nmgc_minor.proofs.FoundLaws.{in_nursery, node_at, started, found_tracked}
 use Rattle.nmgc_alloc.specs.laws.Placing.{step}
@@ -16,7 +16,7 @@ module _ (layout : Layout) (base : ℕ) (later earlier : List World) (places : L
     (emptied : base ≡ nursery_place layout 0)
     (r : Represents layout earlier NoNode places w words)
     (m : HasInputs base earlier places w inputs) where
-  -- a word of a nursery is an entry of the table
+  -- a word of a nursery has an entry in the table
   in_table : (maker at : ℕ) → InNursery layout maker at → at < base + layout.mutators * layout.nursery
   in_table maker at h =
       let e : maker + 1 ≤ layout.mutators = let x = h.exists in omega arith in
@@ -29,7 +29,7 @@ module _ (layout : Layout) (base : ℕ) (later earlier : List World) (places : L
   place_in_table n at c l =
       in_table n.maker at (in_nursery layout base later earlier places w words inputs differ world spoken emptied r m (record { at = at; name = n }) c l)
 
-  -- what the search starts at points into the table
+  -- the words from which the search starts point into the table
   pub starts_within : (y : Young) → y.base ≡ base → length y.table.items ≡ layout.mutators * layout.nursery → (word : ℕ) →
       IsStart inputs words word → IsWithin y word
   starts_within y same size word s at e l =
@@ -38,7 +38,7 @@ module _ (layout : Layout) (base : ℕ) (later earlier : List World) (places : L
       let t = place_in_table h.0 at h.1 low in
       omega (arith, same, size, t)
 
-  -- a young tracked object lies in its maker's nursery, with its header
+  -- a tracked nursery object lies in its maker's nursery, with its header
   pub young_object : (n : Name) (node : Node) (at : ℕ) → IsTracked w earlier n → node_of w n ≡ Some node →
       Contains places (record { at = at; name = n }) → base ≤ at → LiesInNursery layout n.maker at (size_of node)
   young_object n node at t e c l =
@@ -73,7 +73,7 @@ module _ (layout : Layout) (base : ℕ) (later earlier : List World) (places : L
         inside = omega (arith, below, total, emptied);
       }
 
-  -- what is found can be followed
+  -- found objects can be followed
   pub found_can : (y : Young) → y.base ≡ base → length y.table.items ≡ layout.mutators * layout.nursery → (at : ℕ) →
       IsFound base words (IsStart inputs words) at → CanFollow y words at
   found_can y same size at f =

@@ -1,4 +1,4 @@
--- What the passes do keeps the world that the words represent.
+-- The effect of the passes keeps the world that the words represent.
 use Rattle.nmgc_minor.proofs.Vocabulary.{◌≡◌, ◌<◌, ◌≤◌, ℕ, List, [], ◌∷◌, map, inr, sym, ap, subst, ◌∙◌, Contains, Name, World, IsWorld, header_word, name_word, IsHeader, IsName, nursery_place, Header, Layout, Segments, IsSegments, IsTracked, Place, Represents, NoNode, Moved, Moves, StillSpoken, old_place, settled, AreBlocks, represents_moved, Move, Inputs, HasInputs, IsStart, IsFound, IsBefore, IsInOrder, contains_head, contains_tail, map_in, map_from, AreRising, moved_of, forward_word, Promotes, slice_index}
 use Rattle.nmgc_minor.proofs.{FoundLaws.found_tracked, FoundLaws.tracked_found, Assembly.moves_made, Assembly.blocks_made, Assembly.recorded_goes}
 
@@ -19,13 +19,13 @@ module _ (layout : Layout) (base : ℕ) (later earlier : List World) (places : L
   found_young at (IsFound.start _ l _) = l
   found_young at (IsFound.field _ _ _ l _) = l
 
-  -- a move tells the name that has the place
+  -- a move has the name of the object at its old address
   pub names_are : (d : Move) → Contains moves d → (n : Name) → IsTracked w earlier n → Contains places (record { at = d.from.0; name = n }) →
       base ≤ d.from.0 → d.name ≡ n
   names_are d c n t there l =
-      let told = p.named d c in
+      let is_known = p.named d c in
       let known = r.named (record { at = d.from.0; name = n }) there in
-      names d.name n told.0 known.valid (sym told.1 ∙ known.name)
+      names d.name n is_known.0 known.valid (sym is_known.1 ∙ known.name)
 
   pub taken : (d : Moved) → Contains (map moved_of moves) d → Contains places (old_place d) × (base ≤ d.from) × IsTracked w earlier d.name
   taken d c =
@@ -50,11 +50,11 @@ module _ (layout : Layout) (base : ℕ) (later earlier : List World) (places : L
       let f : x.0.from.0 ≡ y.0.from.0 = sym (ap (λ (k : Moved). k.from) x.2) ∙ e ∙ ap (λ (k : Moved). k.from) y.2 in
       x.2 ∙ ap moved_of (p.once x.0 y.0 x.1 y.1 f) ∙ sym y.2
 
-  -- a move's old place and name
+  -- a move's old address and name
   move_place : (d : Move) → Contains moves d → Contains places (record { at = d.from.0; name = d.name }) × (base ≤ d.from.0)
   move_place d c = let h = taken (moved_of d) (map_in moved_of moves d c) in (h.0, h.1)
 
-  -- where young objects lie in the order of their names, the moves are in order of names
+  -- if nursery objects lie in the order of their names, the moves are in order of names
   pub moves_in_order : ((a b : Place) → Contains places a → Contains places b → base ≤ a.at → a.at < b.at → IsBefore a.name b.name) →
       IsInOrder (map (λ (d : Move). d.name) moves)
   moves_in_order order = go moves p.rising (λ d c. c)

@@ -5,7 +5,7 @@ use Rattle.nmgc_lists.specs.laws.Items.{contains_head, contains_tail}
 use Rattle.nmgc_object.specs.{FinQueue.ArePointersBelow, declared.words.Address.Address, Words.header_word, Words.IsHeader, declared.words.Header.Header, declared.size.TheConstants.HEADER_WORDS, declared.words.TheConstants.NIL_WORD, declared.words.TheConstants.ZERO_WORD}
 use Rattle.nmgc_heap_spec.specs.Moves.{Moved, Copies, Forwards}
 use Rattle.nmgc_minor.specs.{declared.placing.Move.Move, Placing.HasHeaderWord, Forwarding.forward_word, Forwarding.ForwardsAt, Forwarding.CopiesFields, Forwarding.CopiesObject, Forwarding.CanCopyAll, Forwarding.CopiesAll}
-use Rattle.nmgc_blocks_spec.specs.Strong.{HasHeader}
+use Rattle.nmgc_stop_spec.specs.Strong.{HasHeader}
 
 -- whether a number is at most another
 at_most_or : (a b : ℕ) → ((nat_le a b ≡ true) × (a ≤ b)) ⊎ ((nat_le a b ≡ false) × (b < a))
@@ -46,7 +46,7 @@ module _ (table : List ℕ) (base : ℕ) where
         | inr h ↦ absurd (omega (arith, h.1, half, l))
       ]
 
-  -- the same of a word, by the place in it
+  -- the same for a word, by the address in it
   pub word_low : (word at : ℕ) → word ≡ 2 * at → at < base → word ≡ forward_word table base word
   word_low word at is l = is ∙ sym (low_stays at l) ∙ ap (λ (w : ℕ). forward_word table base w) (sym is)
 
@@ -56,7 +56,7 @@ module _ (table : List ℕ) (base : ℕ) where
   pub word_moved : (word at to : ℕ) → word ≡ 2 * at → base ≤ at → slice_index table (at - base) ≡ to → to ≢ 0 → 2 * to ≡ forward_word table base word
   word_moved word at to is l e ne = sym (high_goes at to l e ne) ∙ ap (λ (w : ℕ). forward_word table base w) (sym is)
 
-  -- words of which no pointer is young stay
+  -- words without pointers into the nurseries stay
   pub low_words : (words : List ℕ) → ArePointersBelow words base → map (forward_word table base) words ≡ words
   low_words [] h = refl
   low_words (w ∷ ws) h = ap (λ x. x ∷ map (forward_word table base) ws) first ∙ ap (λ (l : List ℕ). w ∷ l) (low_words ws (λ x c even.
@@ -68,7 +68,7 @@ module _ (table : List ℕ) (base : ℕ) where
         | inr odd ↦ let n : w % 2 ≡ 0 → ⊥ = odd in odd_stays w (omega (arith, n))
       ]
 
-  -- a word that was forwarded is left when it is forwarded again
+  -- forwarding a forwarded word changes nothing
   pub twice : ((k : ℕ) → slice_index table k < base) → (word : ℕ) → forward_word table base (forward_word table base word) ≡ forward_word table base word
   twice small word = elim (cases_Bool (eqb (word % 2) 0)) [
     | inr odd ↦ let same : forward_word table base word ≡ word = rw odd refl in ap (λ (x : ℕ). forward_word table base x) same
@@ -84,7 +84,7 @@ module _ (table : List ℕ) (base : ℕ) where
     ]
   ]
 
-  -- the table forwards to the new places that it has
+  -- the table forwards to its new addresses
   pub table_forwards : (moves : List Moved) → 1 ≤ base → ((m : Moved) → Contains moves m → (base ≤ m.from) ×
       (slice_index table (m.from - base) ≡ m.to) × (m.to ≢ 0)) → Forwards base moves (forward_word table base)
   table_forwards moves positive entries = record {
@@ -95,7 +95,7 @@ module _ (table : List ℕ) (base : ℕ) where
     goes = λ m c. let h = entries m c in high_goes m.from m.to h.0 h.1 h.2;
   }
 
-  -- words that were forwarded at some places, and then at more
+  -- words forwarded at some addresses, and then at more
   pub forwards_then : (old mid new : List ℕ) (P Q R : ℕ → Type 0) → ((k : ℕ) → slice_index table k < base) →
       ForwardsAt (forward_word table base) old mid P → ForwardsAt (forward_word table base) mid new Q → ((k : ℕ) → P k → R k) → ((k : ℕ) → Q k → R k) →
       ((k : ℕ) → R k → P k ⊎ Q k) → ForwardsAt (forward_word table base) old new R
@@ -159,7 +159,7 @@ module _ (table : List ℕ) (base : ℕ) where
         ];
       }
 
--- one more of the places from a first one on
+-- one more address of a range
 pub range_forwarded : (forward : ℕ → ℕ) (old cur : List ℕ) (first i : ℕ) → first ≤ i → i < length cur →
     ForwardsAt forward old cur (λ k. (first ≤ k) × (k < i)) → ForwardsAt forward old (set cur i (forward (slice_index cur i))) (λ k. (first ≤ k) × (k < i + 1))
 range_forwarded forward old cur first i low in' f =
@@ -210,7 +210,7 @@ fields_copied forward old cur from to i apart in' f =
           get_or-set_other cur (to + i) k word 0 ne ∙ f.others k (elim out [ inl low ↦ inl low | inr high ↦ inr (omega (arith, high)) ]);
     }
 
--- once its fields, its header and its name were copied, the object was
+-- an object is copied when its fields, its header and its name are
 pub object_copied : (differ : (a b : Header) → IsHeader a → IsHeader b → header_word a ≡ header_word b → a ≡ b) (forward : ℕ →
     ℕ) (old one two new : List ℕ) (from to count : ℕ) (h : HasHeader old from) → count ≡ h.header.fields → to + HEADER_WORDS + count ≤ from
     → CopiesFields forward old one (from + HEADER_WORDS) (to + HEADER_WORDS) count → two ≡ set one to (slice_index one from) →
@@ -250,7 +250,7 @@ object_copied differ forward old one two new from to count h fields apart f firs
           f.others i (elim out [ inl low ↦ inl (omega (arith, low)) | inr high ↦ inr (omega (arith, high, n)) ]);
     }
 
--- the headers of what is still to be copied are unchanged
+-- the headers of objects still to be copied are unchanged
 pub still_header : (base : ℕ) (forward : ℕ → ℕ) (old cur : List ℕ) (all done : List Move) (m : Move) →
     ((x : Move) → Contains done x → Contains all x) → CanCopyAll base old all → CopiesAll forward old cur done → Contains all m → (i : ℕ) →
     base ≤ i → slice_index cur i ≡ slice_index old i

@@ -1,8 +1,8 @@
--- What is found in the words is what is tracked in the world.
-use Rattle.nmgc_minor.proofs.Vocabulary.{◌≡◌, ◌≢◌, ◌<◌, ◌≤◌, ◌+◌, ◌*◌, ℕ, zero, suc, List, [], ◌∷◌, length, inl, inr, refl, sym, ap, subst, arith, Option, Some, None, Contains, slice_get, IsSome, mul-le-mul_right, cases_lt, eqb-false, eqb_tells, All-contains, Contains-append_left, Contains-append_right, Contains-append_cases, Name, Value, SHARED_MAKER, SHARED_SLOTS, Parts, Node, Con, Var, Arr, Thunk, Weak, Stack, World, node_of, state_of, held_by, IsKnown, IsNodeOf, IsShared, IsWorld, shared_name, strong_fields, RefersTo, IsRoot, IsAlive, IsReached, contains_head, contains_cases, contains_tail, at_some, is_some_of, contains_read, header_word, IsHeader, InNursery, nursery_place, Header, Layout, SHARED_PLACE, WEAK_FIELDS, HEADER_WORDS, Slot, holds, unset, untold, slots_of, IsWide, IsWideRoot, IsTracked, IsWideIn, Place, Means, Fills, Represents, NoNode, StillSpoken, strong_held, slot_tracked, tracked_more, held_where, stands, not_zero, field_in, field_out, strong_slot, Inputs, HasInputs, IsAliveAt, IsStart, IsFound, slice_index}
+-- The objects found in the words are the tracked objects of the world.
+use Rattle.nmgc_minor.proofs.Vocabulary.{◌≡◌, ◌≢◌, ◌<◌, ◌≤◌, ◌+◌, ◌*◌, ℕ, zero, suc, List, [], ◌∷◌, length, inl, inr, refl, sym, ap, subst, arith, Option, Some, None, Contains, slice_get, IsSome, mul-le-mul_right, cases_lt, eqb-false, eqb_tells, All-contains, Contains-append_left, Contains-append_right, Contains-append_cases, Name, Value, SHARED_MAKER, SHARED_SLOTS, Parts, Node, Con, Var, Arr, Thunk, Weak, Stack, World, node_of, state_of, held_by, IsKnown, IsNodeOf, IsShared, IsWorld, shared_name, strong_fields, RefersTo, IsRoot, IsAlive, IsReached, contains_head, contains_cases, contains_tail, at_some, is_some_of, contains_read, header_word, IsHeader, InNursery, nursery_place, Header, Layout, SHARED_PLACE, WEAK_FIELDS, HEADER_WORDS, Slot, holds, unset, unspecified, slots_of, IsWide, IsWideRoot, IsTracked, IsWideIn, Place, Means, Fills, Represents, NoNode, StillSpoken, strong_held, slot_tracked, tracked_more, held_where, stands, not_zero, field_in, field_out, strong_slot, Inputs, HasInputs, IsAliveAt, IsStart, IsFound, slice_index}
 use Rattle.nmgc_world_spec.specs.declared.value.Value.TheVariants as value
 
--- what a world reaches is in it
+-- an object that a world reaches is in it
 reached_there : (e : World) → IsWorld e → (n : Name) → IsReached e (IsWideRoot e) n → IsSome (node_of e n)
 reached_there e h n (IsReached.start _ (inl (inl g))) = subst (λ (x : Name). IsSome (node_of e x)) (sym g) refl
 reached_there e h n (IsReached.start _ (inl (inr r))) = elim (Contains-append_cases (state_of e r.0).registers (state_of e r.0).queue (value.Ref n) r.1) [
@@ -48,7 +48,7 @@ shared_out (Thunk free result) v h c = absurd h
 shared_out (Weak parts) v h c = absurd h
 shared_out (Stack size values) v h c = absurd h
 
--- the shared array is the one object of its maker
+-- the shared array is the only object of its maker
 pub is_shared_node : (w : World) (name : Name) (node : Node) → name.maker ≡ SHARED_MAKER → node_of w name ≡ Some node → node ≡ w.shared
 is_shared_node w name node m e = elim (eqb_tells name.serial 0) [
   | inl z ↦ let f : node_of w name ≡ Some w.shared = rw (m, z.1) refl in cc
@@ -62,7 +62,7 @@ module _ (layout : Layout) (base : ℕ) (later earlier : List World) (places : L
     (emptied : base ≡ nursery_place layout 0)
     (r : Represents layout earlier NoNode places w words)
     (m : HasInputs base earlier places w inputs) where
-  -- a place at or above the base lies in its maker's nursery
+  -- an object at or above the base lies in its maker's nursery
   pub in_nursery : (p : Place) → Contains places p → base ≤ p.at → InNursery layout p.name.maker p.at
   in_nursery p c l = elim (r.named p c).lies [
     | inl g ↦ absurd (omega (arith, g.1, emptied, l))
@@ -80,7 +80,7 @@ module _ (layout : Layout) (base : ℕ) (later earlier : List World) (places : L
   pub node_at : (name : Name) (at : ℕ) → Contains places (record { at = at; name = name }) → (node : Node) × (node_of w name ≡ Some node)
   node_at name at c = is_some_of (node_of w name) (r.named (record { at = at; name = name }) c).known
 
-  -- where a tracked name is that isn't young, and where it is
+  -- the address of a found object
   Found : ℕ → Type 0
   Found at = IsFound base words (IsStart inputs words) at
 
@@ -97,16 +97,16 @@ module _ (layout : Layout) (base : ℕ) (later earlier : List World) (places : L
   pub shared_tracked : IsTracked w earlier shared_name
   shared_tracked = root_tracked shared_name (inl refl)
 
-  -- what fills a slot of a tracked object, where it points to a young place
+  -- a slot of a tracked object that points into a nursery holds a tracked name
   slot_pointed : (name : Name) (node : Node) (word at : ℕ) (slot : Slot) → word ≡ 2 * at → base ≤ at → IsTracked w earlier name →
-      node_of w name ≡ Some node → Contains (slots_of node) slot → slot ≢ untold → Fills (Contains places) word slot → (n : Name) ×
+      node_of w name ≡ Some node → Contains (slots_of node) slot → slot ≢ unspecified → Fills (Contains places) word slot → (n : Name) ×
       Contains places (record { at = at; name = n }) × IsTracked w earlier n
-  slot_pointed name node word at (holds v) e l t is c told f =
+  slot_pointed name node word at (holds v) e l t is c is_known f =
       pointed word at e l v f (λ n s. slot_tracked w earlier name node n t is (subst (λ (x : Value). Contains (slots_of node) (holds x)) s c))
-  slot_pointed name node word at unset e l t is c told f = absurd (omega (arith, e, f, l, emptied))
-  slot_pointed name node word at untold e l t is c told f = absurd (told refl)
+  slot_pointed name node word at unset e l t is c is_known f = absurd (omega (arith, e, f, l, emptied))
+  slot_pointed name node word at unspecified e l t is c is_known f = absurd (is_known refl)
 
-  -- a recorded or a young alive weak pointer
+  -- a new weak pointer that is alive
   pub weak_alive : (at : ℕ) → Contains inputs.weaks at → IsAliveAt words at → (name : Name) × (parts : Parts) ×
       Contains places (record { at = at; name = name }) × IsAlive w name parts
   weak_alive at c alive =
@@ -130,8 +130,8 @@ module _ (layout : Layout) (base : ℕ) (later earlier : List World) (places : L
   weak_slot parts (suc (suc zero)) l = (parts.finaliser, refl)
   weak_slot parts (suc (suc (suc i))) l = absurd (omega arith)
 
-  told_holds : (v : Value) → holds v ≢ untold
-  told_holds v e = cc
+  known_holds : (v : Value) → holds v ≢ unspecified
+  known_holds v e = cc
 
   pub started : (at : ℕ) → base ≤ at → IsStart inputs words (2 * at) → (n : Name) × Contains places (record { at = at; name = n }) × IsTracked w earlier n
   started at l (IsStart.register c) =
@@ -154,7 +154,7 @@ module _ (layout : Layout) (base : ℕ) (later earlier : List World) (places : L
       let s = shared_in w.shared i world.shared lt in
       let f = subst (λ (k : ℕ). Means (Contains places) (slice_index words (k + HEADER_WORDS + i)) s.0) g (p.fields i (holds s.0) s.1) in
       slot_pointed shared_name w.shared (slice_index words (SHARED_PLACE + HEADER_WORDS + i)) at (holds s.0) e l shared_tracked refl
-      (contains_read (slots_of w.shared) i (holds s.0) s.1) (told_holds s.0) f
+      (contains_read (slots_of w.shared) i (holds s.0) s.1) (known_holds s.0) f
   started at l (IsStart.recorded from c e) =
       let h = m.left.fields from c in
       let p = h.0 in
@@ -172,9 +172,9 @@ module _ (layout : Layout) (base : ℕ) (later earlier : List World) (places : L
       let o = stands layout earlier NoNode places w words differ world r h.0 (Weak (Some h.1)) from t h.3 h.2 in
       let s = weak_slot h.1 i lt in
       slot_pointed h.0 (Weak (Some h.1)) (slice_index words (from + HEADER_WORDS + i)) at (holds s.0) e l t h.3
-      (contains_read (slots_of (Weak (Some h.1))) i (holds s.0) s.1) (told_holds s.0) (o.fields i (holds s.0) s.1)
+      (contains_read (slots_of (Weak (Some h.1))) i (holds s.0) s.1) (known_holds s.0) (o.fields i (holds s.0) s.1)
 
-  -- what is found is a tracked object
+  -- a found object is a tracked object
   pub found_tracked : (at : ℕ) → IsFound base words (IsStart inputs words) at → (n : Name) × Contains places (record { at = at; name = n }) ×
       IsTracked w earlier n
   found_tracked at (IsFound.start _ l s) = started at l s
@@ -184,12 +184,12 @@ module _ (layout : Layout) (base : ℕ) (later earlier : List World) (places : L
       let to = field_in layout earlier NoNode places w words differ world r f.0 node.0 from at f.2 node.1 f.1 (omega (arith, l, emptied)) h in
       (to.0, to.1, IsReached.field f.0 to.0 f.2 to.2)
 
-  -- a reference stands for the one place of its name
+  -- a reference represents the only address of its name
   at_place : (n : Name) (word at : ℕ) → Means (Contains places) word (value.Ref n) → Contains places (record { at = at; name = n }) → word ≡ 2 * at
   at_place n word at f c =
       let s : f.0 ≡ at = ap (λ (x : Place). x.at) (r.one (record { at = f.0; name = n }) (record { at = at; name = n }) f.2 c (inl refl)) in cc (f.1, s)
 
-  -- a name that a tracked name refers to is found where it is young, if that one is found where it is young
+  -- if a tracked object is found when it lies in a nursery, so is an object to which it refers
   pub followed : (name n : Name) (at to : ℕ) → IsTracked w earlier name → Contains places (record { at = at; name = name }) →
       (base ≤ at → IsFound base words (IsStart inputs words) at) → RefersTo w name n → Contains places (record { at = to; name = n }) → base ≤ to →
       IsFound base words (IsStart inputs words) to
@@ -215,7 +215,7 @@ module _ (layout : Layout) (base : ℕ) (later earlier : List World) (places : L
         ]
       ]
 
-  -- what is tracked and young is found
+  -- tracked nursery objects are found
   reached_found : (P : Name → Type 0) → ((n : Name) → P n → IsTracked w later n) →
       ((n : Name) (to : ℕ) → P n → Contains places (record { at = to; name = n }) → base ≤ to → IsFound base words (IsStart inputs words) to) →
       (n : Name) (to : ℕ) → IsReached w P n → Contains places (record { at = to; name = n }) → base ≤ to → IsTracked w later n ×
@@ -236,7 +236,7 @@ module _ (layout : Layout) (base : ℕ) (later earlier : List World) (places : L
   wide_tracked : (n : Name) → IsWideRoot w n → IsTracked w later n
   wide_tracked n h = IsReached.start n (w, contains_head w later, IsReached.start n h)
 
-  -- a part of an alive weak pointer
+  -- a part of a live weak pointer
   part_found : (weak : Name) (parts : Parts) (i : ℕ) (n : Name) (to : ℕ) → IsAlive w weak parts → i < WEAK_FIELDS →
       slice_get (slots_of (Weak (Some parts))) i ≡ Some (holds (value.Ref n)) → Contains places (record { at = to; name = n }) → base ≤ to →
       IsFound base words (IsStart inputs words) to
@@ -309,7 +309,7 @@ module _ (layout : Layout) (base : ℕ) (later earlier : List World) (places : L
         absurd (omega (arith, old, l))
   ]
 
-  -- what is tracked afterwards and young is found
+  -- nursery objects that are tracked afterwards are found
   pub tracked_found : (n : Name) (to : ℕ) → IsTracked w later n → Contains places (record { at = to; name = n }) → base ≤ to →
       IsFound base words (IsStart inputs words) to
   tracked_found n to t d l = (reached_found (IsWideIn (w ∷ later)) (λ x h. IsReached.start x h) wide_found n to t d l).1

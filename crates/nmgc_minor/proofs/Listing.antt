@@ -1,7 +1,7 @@
--- What mutators hold, as lists of all of it.
+-- All that mutators hold, as lists.
 use Rattle.nmgc_minor.proofs.Vocabulary.{ℕ, ◌≡◌, ◌+◌, ◌<◌, List, [], ◌∷◌, ◌++◌, length, map, take, get_or, refl, sym, ap, ◌∙◌, flat_map, get_or-map, take_more, get_or_default, length-map, map-append, flat_map-append, FinQueue, Nursery, emptied, nursery_at, forwarded, promoted, append-nil}
 
--- with the next item, what all of them have
+-- the concatenation with the next item's list
 pub flat_more : {A B : Type 0} (f : A → List B) (xs : List A) (i : ℕ) (x : A) → i < length xs → x ≡ get_or xs i x →
     flat_map f (take (i + 1) xs) ≡ flat_map f (take i xs) ++ f x
 flat_more {A} {B} f xs i x lt is =
@@ -13,7 +13,7 @@ nursery_is f ms k x lt is =
     let there : k < length (map f ms) = rw (length-map ms f) lt in
     ap f is ∙ sym (get_or-map f ms k x) ∙ get_or_default (map f ms) k (f x) (record { base = 0; top = 0; end = 0 }) there
 
--- what mutators have once what they held was promoted
+-- the contents of mutators after promotion
 
 module _ {M : Type 0} (registers : M → List ℕ) (with_registers : M → List ℕ → M) (queue : M → FinQueue) (with_queue : M → FinQueue → M)
     (after_stop : M → M) (forward : ℕ → ℕ) where
@@ -23,7 +23,7 @@ module _ {M : Type 0} (registers : M → List ℕ) (with_registers : M → List 
   abbrev changed : M → M
   changed m = with_registers m (map forward (registers m))
 
-  -- its queue once it is changed too
+  -- its queue after it was changed too
   abbrev own_queue : M → FinQueue
   own_queue m = forwarded forward (queue (changed m))
 

@@ -1,8 +1,8 @@
--- What noting words changes, and what it keeps.
+-- The changes that noting words makes, and the facts it keeps.
 use Rattle.std.proofs.{Common.◌≡◌, Common.◌≢◌, Common.◌<◌, Common.◌≤◌, Common.◌+◌, Common.◌-◌, Common.◌*◌, Common.ℕ, Common.List, Common.[], Common.◌∷◌, Common.◌++◌, Common.length, Common.set, Common.take, Common.inl, Common.inr, Common.refl, Common.sym, Common.ap, Common.subst, Common.◌∙◌, Common.arith, Common.◌⊎◌, Common.cond, Common.eqb, Common.count_by, Common.append_assoc, Common.length-append, Math.ListN.length-set, lemmas.Bool.cases_lt, lemmas.Bool.cases_eq, lemmas.List.append-nil, lemmas.List.get_or-set_same, lemmas.List.get_or-set_other, lemmas.List.get_or_append_left, lemmas.List.get_or_default, lemmas.List.take_more, lemmas.List.Sums.sum_by-set, lemmas.List.Elements.Contains-append_left, lemmas.List.Elements.Contains-push, lemmas.List.Elements.Contains-push_cases, lemmas.List.Elements.Contains-get_or}
 use Rattle.std.specs.Prelude.{Contains, slice_index, get_or}
 use Rattle.nmgc_object.specs.declared.words.Address.{Address}
-use Rattle.nmgc_blocks_spec.specs.Strong.{HasStrong, IsAmong}
+use Rattle.nmgc_stop_spec.specs.Strong.{HasStrong, IsAmong}
 use Rattle.nmgc_minor.specs.{declared.young.Young.Young, declared.young.TheConstants.FOUND, Found.IsFound, Young.IsIn, Young.unfound_count, Young.IsYoung, Young.IsWithin, Young.Notes, Young.PointsIn, Young.CanFollow, Young.Follows, Young.Following}
 
 -- nothing to note
@@ -39,7 +39,7 @@ notes_then a b c P Q R f g left right both = record {
   kept_room = g.kept_room ∙ f.kept_room;
 }
 
--- the same words told otherwise
+-- the same words under another description
 pub notes_as : (a b : Young) (P R : ℕ → Type 0) → Notes a b P → ((w : ℕ) → P w → R w) → ((w : ℕ) → R w → P w) → Notes a b R
 notes_as a b P R f to from = record {
   young = f.young;
@@ -125,7 +125,7 @@ notes_again y index h ne = notes_none y (λ w. w ≡ 2 * (y.base + index)) h (λ
 pub still_within : (a b : Young) (P : ℕ → Type 0) (word : ℕ) → Notes a b P → IsWithin a word → IsWithin b word
 still_within a b P word n h at e l = let s = n.base in let t = n.size in let r = h at e (omega (arith, s, l)) in omega (arith, s, t, r)
 
--- the words of a slice up to one, and that one
+-- the words of a slice with one more
 pub notes_word : (a b c : Young) (words : List ℕ) (i w : ℕ) → i < length words → w ≡ get_or words i w → Notes a b (Contains (take i words)) →
     Notes b c (λ x. x ≡ w) → Notes a c (Contains (take (i + 1) words))
 notes_word a b c words i w lt read f g =
@@ -135,7 +135,7 @@ notes_word a b c words i w lt read f g =
     (λ x q. subst (λ (xs : List ℕ). Contains xs x) (sym e) (subst (λ (z : ℕ). Contains (take i words ++ w ∷ []) z) (sym q) (Contains-push (take i words) w)))
     (λ x r. elim (Contains-push_cases (take i words) w x (subst (λ (xs : List ℕ). Contains xs x) e r)) [ inl p ↦ inl p | inr q ↦ inr (sym q) ])
 
--- the words from one place up to another, one after the other
+-- the words of a range, one after the other
 pub among_none : (y : Young) (words : List ℕ) (from : ℕ) → IsYoung y → Notes y y (IsAmong words from from)
 among_none y words from h = notes_none y (IsAmong words from from) h (λ at l i. absurd (omega (arith, i.1, i.2)))
 
@@ -150,7 +150,7 @@ among_more a b c words from i w low read f g =
       | inr ne ↦ inl (r.0, r.1, omega (arith, r.2, ne), r.3)
     ])
 
--- what was found is still found
+-- a found object stays found
 still_in : (a b : Young) (at : ℕ) → (added : List Address) × (b.found.items ≡ a.found.items ++ added) → IsIn a at → IsIn b at
 still_in a b at more i = subst (λ (xs : List Address). Contains xs (record {
   0 =
@@ -211,7 +211,7 @@ following_more a b c words next x f lt read n =
           ];
     }
 
--- once the list was gone through
+-- the end of the list
 pub following_all : (a b : Young) (words : List ℕ) (next : ℕ) → Following a b words next → length b.found.items ≤ next → Follows a b words
 following_all a b words next f end = record {
   young = f.young;

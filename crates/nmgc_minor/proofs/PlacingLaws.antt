@@ -2,7 +2,7 @@
 use Rattle.nmgc_minor.proofs.Vocabulary.{◌≡◌, ◌≢◌, ◌<◌, ◌≤◌, ◌+◌, ◌-◌, ◌*◌, ℕ, List, [], ◌∷◌, ◌++◌, length, set, map, inl, inr, refl, sym, ap, subst, ◌∙◌, arith, Contains, length-set, mul-le-mul_right, cases_lt, map-append, get_or-set_same, get_or-set_other, Contains-append_left, Contains-append_right, Contains-append_cases, Contains-push, Contains-push_cases, contains_head, contains_tail, contains_cases, class_counted, large, Layout, Header, HEADER_WORDS, block_size, IsSegmentSize, nursery_place, name_word, IsName, Segment, nth, Segments, block_place, IsSegments, IsClass, HasRoom, AllocState, PlacesName, StandsFor, Writes, KeepsReserve, placed_stands, placing_keeps, reserve_has_room, Moved, Move, IsOccupied, AreRising, StandsAfter, with_names, HasHeaderWord, IsPlacing, PlacesOne, CanPlaceAll, PlacesRange, Reaches, IsMarked, moved_of, occupies, stays_occupied, only_occupied, lies_apart, keeps_marks, is_block, slice_index}
 use Rattle.nmgc_minor.specs.Placing.{PlacesEach}
 
--- a reserve is one also where more was placed
+-- a reserve is still a reserve after more was placed
 more_placed : (layout : Layout) (xs : List Segment) (a b : ℕ) → a ≤ b → KeepsReserve layout xs a → KeepsReserve layout xs b
 more_placed layout xs a b le r = record {
   left = r.left;
@@ -89,7 +89,7 @@ placing_then a b c words xs ys f g = record {
   marks = record { marks = λ k. g.marks.marks k ∙ f.marks.marks k; snap = λ k. g.marks.snap k ∙ f.marks.snap k };
 }
 
--- one more move after all that are before it
+-- one more move after all moves from lower addresses
 rising_push : (xs : List Move) (y : Move) → AreRising xs → ((m : Move) → Contains xs m → m.from.0 < y.from.0) → AreRising (xs ++ y ∷ [])
 rising_push [] y o h = tt
 rising_push (a ∷ []) y o h = (h a (contains_head a []), tt)
@@ -101,7 +101,7 @@ rising_then (a ∷ []) [] o p h = tt
 rising_then (a ∷ []) (y ∷ ys) o p h = (h a y (contains_head a []) (contains_head y ys), p)
 rising_then (a ∷ b ∷ xs) ys o p h = (o.0, rising_then (b ∷ xs) ys o.1 p (λ m n c d. h m n (contains_tail a (b ∷ xs) m c) d))
 
--- moves from different words are no more than the words
+-- the moves from different words are at most the number of words
 rising_few : (m : Move) (xs : List Move) (to : ℕ) → AreRising (m ∷ xs) → ((x : Move) → Contains (m ∷ xs) x → x.from.0 < to) → m.from.0 + length (m ∷ xs) ≤ to
 rising_few m [] to r h = let low = h m (contains_head m []) in omega (arith, low)
 rising_few m (n ∷ xs) to r h = let rest = rising_few n xs to r.1 (λ x c. h x (contains_tail m (n ∷ xs) x c)) in let up = r.0 in omega (arith, rest, up)
@@ -112,7 +112,7 @@ few_moves [] from count r h = omega arith
 few_moves (m ∷ moves) from count r h = let all = rising_few m moves (from + count) r (λ x c. (h x c).1) in
     let low = (h m (contains_head m moves)).0 in omega (arith, all, low)
 
--- no placing leaves the allocation state
+-- the allocation state is unchanged without a placing
 stands_none : (s : Segments) (words : List ℕ) → StandsAfter s s words []
 stands_none s words names old long h = (old, refl, h)
 
@@ -206,7 +206,7 @@ range_skip base words s s' t t' added from at low le free r =
       rising = r.rising;
     }
 
--- nothing was found up to a later place
+-- no object was found up to a later address
 pub range_later : (base : ℕ) (words : List ℕ) (s s' : Segments) (t t' : List ℕ) (added : List Move) (from at later : ℕ) → base ≤ from →
     at ≤ later → ((k : ℕ) → at ≤ k → k < later → slice_index t' (k - base) ≡ 0) → PlacesRange base words s s' t t' added from at →
     PlacesRange base words s s' t t' added from later
@@ -343,7 +343,7 @@ reaches_more layout base words t cur next before from at to maker m sound same l
       reserve = more_placed layout next.segments (before + (r.reach - from) + size) (before + (at + size - from)) (omega (arith, reached, above)) kept';
     }
 
--- what was placed so far leaves room for any class
+-- the objects placed so far leave room for any class
 pub reaches_room : (layout : Layout) (base : ℕ) (words t : List ℕ) (cur : Segments) (maker from at to : ℕ) → IsSegments cur → cur.layout ≡ layout →
     maker < layout.mutators → from ≤ to → to ≤ from + layout.nursery → Reaches layout base words t cur (maker * layout.nursery) from at to →
     (class : ℕ) → IsClass cur.layout class → HasRoom cur maker class
@@ -430,7 +430,7 @@ range_then base words a b c t u v xs ys from mid to low le up f g =
       rising = rising_then xs ys f.rising g.rising (λ m n h k. let x = f.marked m h in let y = g.marked n k in omega (arith, x.1, y.0));
     }
 
--- what can be placed in a part whose entries are as they were
+-- a part with unchanged entries can still be placed
 pub still_can_place : (layout : Layout) (maker : ℕ) (words t u : List ℕ) (base from to : ℕ) → base ≤ from →
     ((k : ℕ) → from ≤ k → slice_index u (k - base) ≡ slice_index t (k - base)) → CanPlaceAll layout maker words t base from to →
     CanPlaceAll layout maker words u base from to

@@ -1,6 +1,6 @@
--- What is found in the words is exactly what the promotion rule names.
-use Rattle.nmgc_minor.proofs.Vocabulary.{◌≡◌, ◌≢◌, ◌<◌, ◌≤◌, ◌+◌, ◌*◌, ◌⊎◌, ℕ, zero, suc, List, [], ◌∷◌, inl, inr, refl, sym, ap, subst, ◌∙◌, arith, Option, Some, None, Contains, slice_get, IsSome, All-contains, Contains-append_left, Contains-append_right, Name, Value, Parts, Node, Weak, World, node_of, state_of, IsKnown, IsNodeOf, IsShared, IsWorld, shared_name, IsReached, RefersTo, IsRoot, IsAlive, contains_head, at_some, is_some_of, contains_read, header_word, IsHeader, nursery_place, Header, Layout, SHARED_PLACE, WEAK_FIELDS, HEADER_WORDS, IsOfWeak, Slot, holds, unset, untold, slots_of, IsTracked, Place, Means, Fills, Represents, NoNode, StillSpoken, slot_held, IsFirstPromoted, IsPromoted, IsRoundOf, stands, field_in, Inputs, HasInputs, IsStart, IsFound, slice_index}
-use Rattle.nmgc_blocks_spec.specs.Promoted.{IsYoung}
+-- The objects found in the words are exactly the objects of the promotion rule.
+use Rattle.nmgc_minor.proofs.Vocabulary.{◌≡◌, ◌≢◌, ◌<◌, ◌≤◌, ◌+◌, ◌*◌, ◌⊎◌, ℕ, zero, suc, List, [], ◌∷◌, inl, inr, refl, sym, ap, subst, ◌∙◌, arith, Option, Some, None, Contains, slice_get, IsSome, All-contains, Contains-append_left, Contains-append_right, Name, Value, Parts, Node, Weak, World, node_of, state_of, IsKnown, IsNodeOf, IsShared, IsWorld, shared_name, IsReached, RefersTo, IsRoot, IsAlive, contains_head, at_some, is_some_of, contains_read, header_word, IsHeader, nursery_place, Header, Layout, SHARED_PLACE, WEAK_FIELDS, HEADER_WORDS, IsOfWeak, Slot, holds, unset, unspecified, slots_of, IsTracked, Place, Means, Fills, Represents, NoNode, StillSpoken, slot_held, IsFirstPromoted, IsPromoted, IsRoundOf, stands, field_in, Inputs, HasInputs, IsStart, IsFound, slice_index}
+use Rattle.nmgc_stop_spec.specs.Promoted.{IsYoung}
 use Rattle.nmgc_world_spec.specs.declared.value.Value.TheVariants as value
 use Rattle.nmgc_minor.proofs.FoundLaws.{node_at, root_tracked, shared_tracked, weak_alive, weak_tracked, shared_in, followed, root_found}
 
@@ -12,7 +12,7 @@ not_both : {A : Type 0} (o : Option A) → IsSome o → o ≡ None → ⊥
 not_both None h e = absurd cc
 not_both (Some x) h e = absurd cc
 
--- tracked, and reached from where the search for what is promoted begins
+-- tracked, and reachable from the start of the search for promoted objects
 abbrev IsMet : World → List World → World → Name → Type 0
 IsMet began later w n = IsTracked w (began ∷ later) n × IsReached w (IsFirstPromoted began w) n
 
@@ -36,7 +36,7 @@ module _ (layout : Layout) (base : ℕ) (later : List World) (began : World) (pl
     (r : Represents layout (began ∷ later) NoNode places w words)
     (m : HasInputs base (began ∷ later) places w inputs)
     (round : IsRoundOf base (record { world = w; began = began; later = later; places = places; serials = serials })) where
-  -- a young place has a name that the round made, and another one a name that was there
+  -- a name in a nursery was made in the round, and any other name was there before
   none_before : (p : Place) → Contains places p → base ≤ p.at → node_of began p.name ≡ None
   none_before p c l = (round.young p c).0 l
 
@@ -46,7 +46,7 @@ module _ (layout : Layout) (base : ℕ) (later : List World) (began : World) (pl
     | inr none ↦ let up = (round.young p c).1 none in absurd (omega (arith, up, l))
   ]
 
-  -- a word that points to a young place
+  -- a word that points into a nursery
   pointed : (T : Name → Type 0) (word at : ℕ) → word ≡ 2 * at → base ≤ at → (v : Value) → Means (Contains places) word v →
       ((n : Name) → v ≡ value.Ref n → Contains places (record { at = at; name = n }) → T n) → (n : Name) × Contains places (record { at = at; name = n }) × T n
   pointed T word at e l value.Nil f t = absurd (omega (arith, e, f))
@@ -59,7 +59,7 @@ module _ (layout : Layout) (base : ℕ) (later : List World) (began : World) (pl
   root_met : (n : Name) → IsRoot w n → IsMet began later w n
   root_met n h = (root_tracked layout base later (began ∷ later) places w words inputs differ world spoken emptied r m n h, IsReached.start n (inl h))
 
-  -- no part of a weak pointer that isn't young is young
+  -- an older weak pointer has no part in a nursery
   part_is_old : (name n : Name) (parts : Parts) (at : ℕ) → IsSome (node_of began name) → IsAlive w name parts →
       Contains (parts.key ∷ parts.value ∷ parts.finaliser ∷ []) (value.Ref n) → Contains places (record { at = at; name = n }) → base ≤ at → ⊥
   part_is_old name n parts at old alive c d l =
@@ -69,19 +69,19 @@ module _ (layout : Layout) (base : ℕ) (later : List World) (began : World) (pl
       let known : IsSome (node_of began n) = All-contains (IsKnown began) (parts.key ∷ parts.value ∷ parts.finaliser ∷ []) (value.Ref n) of.known c in
       not_both (node_of began n) known (none_before (record { at = at; name = n }) d l)
 
-  -- what a field of an object that isn't young points to, where it is young
+  -- the nursery object to which a field of an older object points
   slot_met : (name : Name) (node : Node) (word at : ℕ) (slot : Slot) → word ≡ 2 * at → base ≤ at → IsSome (node_of began name) →
-      IsTracked w (began ∷ later) name → node_of w name ≡ Some node → Contains (slots_of node) slot → slot ≢ untold →
+      IsTracked w (began ∷ later) name → node_of w name ≡ Some node → Contains (slots_of node) slot → slot ≢ unspecified →
       Fills (Contains places) word slot → (n : Name) × Contains places (record { at = at; name = n }) × IsMet began later w n
-  slot_met name node word at (holds v) e l old t is c told f = pointed (IsMet began later w) word at e l v f (λ n s d.
+  slot_met name node word at (holds v) e l old t is c is_known f = pointed (IsMet began later w) word at e l v f (λ n s d.
       elim (slot_held node (value.Ref n) (rw s at c)) [
         | inl strong ↦
             let refers : RefersTo w name n = (node, is, strong) in
             (IsReached.field name n t refers, IsReached.start n (inr (inl (name, old, refers))))
         | inr p ↦ absurd (part_is_old name n p.0 at old (is ∙ ap Some p.1) p.2 d l)
       ])
-  slot_met name node word at unset e l old t is c told f = absurd (omega (arith, e, f, l, emptied))
-  slot_met name node word at untold e l old t is c told f = absurd (told refl)
+  slot_met name node word at unset e l old t is c is_known f = absurd (omega (arith, e, f, l, emptied))
+  slot_met name node word at unspecified e l old t is c is_known f = absurd (is_known refl)
 
   started_met : (at : ℕ) → base ≤ at → IsStart inputs words (2 * at) → (n : Name) × Contains places (record { at = at; name = n }) × IsMet began later w n
   started_met at l (IsStart.register c) =
@@ -150,7 +150,7 @@ module _ (layout : Layout) (base : ℕ) (later : List World) (began : World) (pl
   found_young at (IsFound.start _ l s) = l
   found_young at (IsFound.field from _ f l h) = l
 
-  -- what is found is promoted
+  -- a found object is promoted
   pub found_promoted : (at : ℕ) → IsFound base words (IsStart inputs words) at → (n : Name) × Contains places (record { at = at; name = n }) ×
       IsPromoted began w n
   found_promoted at f =
@@ -158,7 +158,7 @@ module _ (layout : Layout) (base : ℕ) (later : List World) (began : World) (pl
       let l = found_young at f in
       (h.0, h.1, ((none_before (record { at = at; name = h.0 }) h.1 l, (r.named (record { at = at; name = h.0 }) h.1).known), h.2.1))
 
-  -- a young name that an object holds which isn't young
+  -- a new name that an older object holds
   held_found : (holder n : Name) → IsSome (node_of began holder) → node_of began n ≡ None → RefersTo w holder n → IsTracked w (began ∷ later) n ×
       ((to : ℕ) → Contains places (record { at = to; name = n }) → base ≤ to → IsFound base words (IsStart inputs words) to)
   held_found holder n old none refers =
@@ -192,7 +192,7 @@ module _ (layout : Layout) (base : ℕ) (later : List World) (began : World) (pl
         )
   ]
 
-  -- what is promoted has a place, at which it is found
+  -- a promoted object has an address, and is found there
   pub promoted_found : (n : Name) → IsPromoted began w n → (at : ℕ) × Contains places (record { at = at; name = n }) ×
       IsFound base words (IsStart inputs words) at
   promoted_found n p =

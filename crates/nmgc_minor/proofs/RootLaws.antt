@@ -1,9 +1,9 @@
--- What words that stand for the roots hold.
+-- The contents of words that represent the roots.
 use Rattle.nmgc_minor.proofs.Vocabulary.{◌≡◌, ◌<◌, ◌+◌, ◌*◌, ◌/◌, ◌%◌, ℕ, List, [], length, inl, inr, sym, ap, subst, ◌∙◌, arith, Some, get_or, Contains, slice_index_or, cases_lt, get_or_past, get_or_default, Contains-get_or, slice_get-get_or, Name, Value, Nil, Ref, REGISTERS, MutatorState, World, state_of, no_mutator, IsWorld, Place, Means, RepresentsRoots, Remembers, Inputs, HasInputs, list_has, list_of, slice_index}
 
 module _ (places : List Place) (w : World) (registers : List ℕ) (queues : List (List ℕ)) (serials : List ℕ) (world : IsWorld w)
     (r : RepresentsRoots places w registers queues serials) where
-  -- only a mutator that is there holds something
+  -- only an existing mutator holds a value
   there : (m : ℕ) → (0 < length (state_of w m).registers) → m < length w.mutators
   there m some = elim (cases_lt m (length w.mutators)) [
     | inl lt ↦ lt

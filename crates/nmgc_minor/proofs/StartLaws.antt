@@ -1,4 +1,4 @@
--- The words that the search starts at, one kind after the other.
+-- The words from which the search starts, one kind after the other.
 use Rattle.nmgc_minor.proofs.Vocabulary.{◌≡◌, ◌<◌, ◌+◌, ◌*◌, ℕ, List, [], ◌∷◌, ◌++◌, length, map, take, get_or, inl, inr, refl, sym, ap, subst, ◌∙◌, arith, ◌⊎◌, Contains, flat_map, take_more, Contains-append_left, Contains-push, Contains-push_cases, SHARED_SLOTS, FinQueue, Address, HEADER_WORDS, contains_flat, flat_contains, map_in, map_from, Young, Inputs, IsAliveAt, IsStart, IsFound, IsYoung, IsWithin, Notes, PointsIn, CanFollow, Follows, inputs_of, IsWeakStart, Finds, slice_index}
 use Rattle.nmgc_minor.proofs.NoteLaws.{notes_then, notes_none, notes_as}
 
@@ -18,11 +18,11 @@ notes_item {X} G a b c xs i x lt read f g =
 pub notes_first : {X : Type 0} (G : X → ℕ → Type 0) (y : Young) (xs : List X) → IsYoung y → Notes y y (λ w. (x : X) × Contains (take 0 xs) x × G x w)
 notes_first G y xs h = notes_none y (λ w. (x : _) × Contains (take 0 xs) x × G x w) h (λ at l c. absurd (omega (arith, c.1.1)))
 
--- after more was noted, a word still points into the table
+-- a word still points into the table after more was noted
 pub within_after : (a b : Young) (P : ℕ → Type 0) → Notes a b P → (word : ℕ) → IsWithin a word → IsWithin b word
 within_after a b P n word h at e l = let s = n.base in let t = n.size in let r = h at e (omega (arith, s, l)) in omega (arith, s, t, r)
 
--- what mutators hold, as one list: words, what else is one after another, and one each
+-- the contents of mutators as one list: words, lists one after another, and single items
 pub notes_words : {A : Type 0} (f : A → List ℕ) (a b : Young) (xs : List A) → Notes a b (λ w. (x : A) × Contains xs x × Contains (f x) w) →
     Notes a b (Contains (flat_map f xs))
 notes_words {A} f a b xs n =
@@ -109,7 +109,7 @@ module _ (registers : List ℕ) (queues : List FinQueue) (recorded weaks : List 
       ])
       by_weak cases
 
--- what is reached from what was noted is what is reached from the words
+-- the objects reachable from noted objects are the objects reachable from the words
 noted_found : (a b : Young) (words : List ℕ) (Starts : ℕ → Type 0) → a.found.items ≡ [] → Notes a b Starts → (at : ℕ) →
     IsFound b.base words (PointsIn b) at → IsFound a.base words Starts at
 noted_found a b words Starts none n at (IsFound.start _ l p) =

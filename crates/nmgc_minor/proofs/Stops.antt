@@ -32,7 +32,7 @@ module _ (t : Stopped) (s : Segments) (old : List ℕ) (nurseries : List Nursery
     taken_at d c = (taken s.layout (young_base s) t.later (earlier_of t) t.places t.world old new inputs s s' moves table differ names h.world
         spoken refl h.represents has sound same h.blocks p d c).0
 
-    -- a move is of the promoted name at its place
+    -- a move has the promoted name at its address
     move_promoted : (m : Move) → Contains moves m → IsPromoted t.began t.world m.name
     move_promoted m c =
         let f = found_promoted s.layout (young_base s) t.later t.began t.places t.world old inputs t.serials differ h.world spoken refl h.represents
@@ -87,7 +87,7 @@ module _ (t : Stopped) (s : Segments) (old : List ℕ) (nurseries : List Nursery
           blocks = subst (λ (b : ℕ). AreBlocks s' b (settled b (map moved_of moves) t.places) t.world) base_same blocks;
         }
 
-    -- the allocation state afterwards is that of placing the promoted names one by one
+    -- placing the promoted names one by one leads to the allocation state afterwards
     pub stop_places : (a : AllocState) → StandsFor s old a → (b : AllocState) ×
         PlacesEach s.layout t.world a (map (λ (m : Moved). m.name) (map moved_of moves)) b × StandsFor s' new b
     stop_places a st =

@@ -1,7 +1,7 @@
--- Every name of std, of the crates below and of this crate's definitions that the proofs speak of.
+-- Every name of std, of the crates below and of this crate's definitions that the proofs use.
 pub use Rattle.nmgc_alloc.specs.{AllocState.AllocState, AllocState.Cells, AllocState.PlacesName, AllocState.cells, AllocState.name_in, Numbered.HasNumber, Numbered.Segments, Numbered.block_place, Numbered.nth, Reserve.KeepsReserve, Segments.HasRoom, Segments.IsClass, Segments.IsSegments, Stands.Shows, Stands.StandsFor, Stands.Writes, laws.Placing.placed_stands, laws.Reserve.begins, laws.Reserve.placing_keeps, laws.Reserve.reserve_has_room}
-pub use Rattle.nmgc_blocks_spec.specs.{Nurseries.AreEmpty, Nurseries.AreUsed, Nurseries.nursery_at, Occupied.AreBlocks, Occupied.IsOccupied, Promoted.IsFirstPromoted, Promoted.IsPromoted, Promoted.PlacesEach, Remembers.Remembers, Stopped.IsRoundOf, Stopped.IsSettled, Stopped.IsStopped, Stopped.Stopped, Stopped.earlier_of, Stopped.young_base, Strong.HasStrong, Strong.strong_of, laws.Blocks.IsBlock, laws.Blocks.is_block, laws.Blocks.occupied_apart, laws.Blocks.occupied_in, laws.Fields.field_in, laws.Fields.field_out, laws.Fields.held_where, laws.Fields.not_zero, laws.Fields.stands, laws.Placings.keeps_marks, laws.Placings.lies_apart, laws.Placings.occupies, laws.Placings.only_occupied, laws.Placings.stays_occupied}
-pub use Rattle.nmgc_heap_spec.specs.{Emptied.emptied, Moves.Copies, Moves.Forwards, Moves.KeepsObject, Moves.Moved, Moves.Moves, Moves.StillSpoken, Moves.new_place, Moves.old_place, Moves.settled, Places.Fills, Places.IsBetween, Places.LiesInNursery, Places.Means, Places.Place, Represents.NoNode, Represents.Represents, Roots.RepresentsRoots, Shape.Slot, Shape.header_of, Shape.holds, Shape.size_of, Shape.slots_of, Shape.unset, Shape.untold, Tracked.IsTracked, Tracked.IsWideIn, laws.Changes.not_between, laws.Common.list_has, laws.Common.list_of, laws.Moving.represents_moved, laws.Moving.settled_cases, laws.Moving.settled_comes, laws.Moving.settled_stays, laws.Roots.roots_moved, laws.Roots.strong_slot, laws.Slots.slot_count, laws.Slots.slot_held, laws.Slots.strong_held, laws.Tracking.slot_tracked, laws.Tracking.tracked_more}
+pub use Rattle.nmgc_stop_spec.specs.{Nurseries.AreEmpty, Nurseries.AreUsed, Nurseries.nursery_at, Occupied.AreBlocks, Occupied.IsOccupied, Promoted.IsFirstPromoted, Promoted.IsPromoted, Promoted.PlacesEach, Remembers.Remembers, Stopped.IsRoundOf, Stopped.IsSettled, Stopped.IsStopped, Stopped.Stopped, Stopped.earlier_of, Stopped.young_base, Strong.HasStrong, Strong.strong_of, laws.Blocks.IsBlock, laws.Blocks.is_block, laws.Blocks.occupied_apart, laws.Blocks.occupied_in, laws.Fields.field_in, laws.Fields.field_out, laws.Fields.held_where, laws.Fields.not_zero, laws.Fields.stands, laws.Placings.keeps_marks, laws.Placings.lies_apart, laws.Placings.occupies, laws.Placings.only_occupied, laws.Placings.stays_occupied}
+pub use Rattle.nmgc_heap_spec.specs.{Emptied.emptied, Moves.Copies, Moves.Forwards, Moves.KeepsObject, Moves.Moved, Moves.Moves, Moves.StillSpoken, Moves.new_place, Moves.old_place, Moves.settled, Places.Fills, Places.IsBetween, Places.LiesInNursery, Places.Means, Places.Place, Represents.NoNode, Represents.Represents, Roots.RepresentsRoots, Shape.Slot, Shape.header_of, Shape.holds, Shape.size_of, Shape.slots_of, Shape.unset, Shape.unspecified, Tracked.IsTracked, Tracked.IsWideIn, laws.Changes.not_between, laws.Common.list_has, laws.Common.list_of, laws.Moving.represents_moved, laws.Moving.settled_cases, laws.Moving.settled_comes, laws.Moving.settled_stays, laws.Roots.roots_moved, laws.Roots.strong_slot, laws.Slots.slot_count, laws.Slots.slot_held, laws.Slots.strong_held, laws.Tracking.slot_tracked, laws.Tracking.tracked_more}
 pub use Rattle.nmgc_limits.specs.declared.mutators.TheConstants.{REGISTERS, SHARED_MAKER, SHARED_SLOTS}
 pub use Rattle.nmgc_lists.specs.laws.Items.{at_some, contains_at as contains_read, contains_cases, contains_flat, contains_head, contains_map as map_in, contains_tail, flat_contains, is_some_of, map_contains as map_from}
 pub use Rattle.nmgc_minor.specs.{Forwarding.CanCopyAll, Forwarding.CopiesAll, Forwarding.CopiesFields, Forwarding.CopiesObject, Forwarding.ForwardsAt, Forwarding.forward_word, Found.IsAliveAt, Found.IsFound, Found.IsStart, Inputs.HasInputs, Inputs.Inputs, Placing.AreNurseries, Placing.AreRising, Placing.CanPlace, Placing.CanPlaceAll, Placing.CanPlaceEach, Placing.HasHeaderWord, Placing.IsMarked, Placing.IsOutside, Placing.IsPlacing, Placing.IsSharedSlot, Placing.PlacesEach as PlacesMoves, Placing.PlacesOne, Placing.PlacesRange, Placing.Reaches, Placing.Rewrites, Placing.StandsAfter, Placing.moved_of, Placing.with_names, Promotes.CanPromote, Promotes.CanPromoteWith, Promotes.Leaves, Promotes.Promotes, Promotes.forwarded, Promotes.promoted, Promotion.Promotion, Start.Finds, Start.IsWeakStart, Start.inputs_by, Start.inputs_of, Start.words_of, Young.CanFollow, Young.Following, Young.Follows, Young.IsIn, Young.IsWithin, Young.IsYoung, Young.Notes, Young.PointsIn, Young.unfound_count}

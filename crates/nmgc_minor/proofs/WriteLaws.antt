@@ -5,14 +5,14 @@ use Rattle.nmgc_object.specs.{declared.words.Address.Address, declared.words.Hea
 use Rattle.nmgc_alloc.specs.{Numbered.Segments, Segments.IsSegments}
 use Rattle.nmgc_heap_spec.specs.Moves.{Moved, Copies}
 use Rattle.nmgc_minor.specs.{declared.placing.Move.Move, declared.young.Young.Young, Inputs.Inputs, Found.IsStart, Found.IsFound, Young.IsIn, Young.IsYoung, Start.Finds, Forwarding.forward_word, Forwarding.ForwardsAt, Forwarding.CanCopyAll, Forwarding.CopiesAll, Promotes.CanPromote, Promotes.Promotes, Promotes.Leaves, Placing.AreNurseries, Placing.CanPlaceEach, Placing.HasHeaderWord, Placing.IsMarked, Placing.IsSharedSlot, Placing.PlacesRange, Placing.moved_of}
-use Rattle.nmgc_blocks_spec.specs.{Strong.HasHeader, laws.Blocks.IsBlock, laws.Blocks.is_block, laws.Blocks.occupied_apart}
+use Rattle.nmgc_stop_spec.specs.{Strong.HasHeader, laws.Blocks.IsBlock, laws.Blocks.is_block, laws.Blocks.occupied_apart}
 use Rattle.nmgc_minor.proofs.{ForwardLaws.twice, ForwardLaws.table_forwards, PlacingLaws.few_moves}
 use Rattle.nmgc_lists.specs.laws.Items.{contains_map as map_in, map_contains as map_from}
 
 pub address_in : (xs : List Address) (x : Address) → Contains xs x → Contains (map (λ (at : Address). at.0) xs) x.0
 address_in xs x c = map_in (λ (at : Address). at.0) xs x c
 
--- what the second pass asks, once the first has found what is to be moved
+-- the premises of the second pass, after the first has found the objects to be moved
 pub parts_of : (y z : Young) (s : Segments) (words : List ℕ) (nurseries : List Nursery) (inputs : Inputs) (table : List ℕ) →
     CanPromote y s words nurseries inputs → Finds y z words inputs → table ≡ z.table.items → AreNurseries s.layout z.base table nurseries ×
     CanPlaceEach s.layout words table z.base nurseries
@@ -38,7 +38,7 @@ module _ (base : ℕ) (words : List ℕ) (s s' : Segments) (y : Young) (table : 
     (can : (at : ℕ) → IsFound base words (IsStart inputs words) at → HasHeader words at)
     (inside : base ≤ length words)
     (recorded : List Address)
-    (told : inputs.recorded ≡ map (λ (at : Address). at.0) recorded)
+    (is_known : inputs.recorded ≡ map (λ (at : Address). at.0) recorded)
     (low : (at : Address) → Contains recorded at → at.0 < base)
     (range : PlacesRange base words s s' y.table.items table moves base (base + length y.table.items)) where
   -- an entry of a found object
@@ -98,7 +98,7 @@ module _ (base : ℕ) (words : List ℕ) (s s' : Segments) (y : Young) (table : 
 
   module _ (one two : List ℕ) (shared : ForwardsAt (forward_word table base) words one IsSharedSlot)
       (fields : ForwardsAt (forward_word table base) one two (λ i. Contains recorded (record { 0 = i }))) where
-    -- the words from the base on are as they were
+    -- the words from the base on are unchanged
     upper : (i : ℕ) → base ≤ i → slice_index two i ≡ slice_index words i
     upper i l = elim (cases_lt i (length words)) [
       | inr past ↦
@@ -114,15 +114,15 @@ module _ (base : ℕ) (words : List ℕ) (s s' : Segments) (y : Young) (table : 
           ]
     ]
 
-    -- each word below is forwarded where it is a slot of g or recorded, and unchanged elsewhere
+    -- each word below is forwarded if it is a slot of g or recorded, and otherwise unchanged
     lower : (i : ℕ) → i < base → ((slice_index two i ≡ forward (slice_index words i)) × (Contains inputs.recorded i ⊎ IsSharedSlot i)) ⊎
         ((slice_index two i ≡ slice_index words i) × ((Contains inputs.recorded i → ⊥) × (IsSharedSlot i → ⊥)))
     lower i l =
         let a = shared.total in
         let to : Contains recorded (record { 0 = i }) → Contains inputs.recorded i = λ c.
-        subst (λ (xs : List ℕ). Contains xs i) (sym told) (map_in (λ (at : Address). at.0) recorded (record { 0 = i }) c) in
+        subst (λ (xs : List ℕ). Contains xs i) (sym is_known) (map_in (λ (at : Address). at.0) recorded (record { 0 = i }) c) in
         let from : Contains inputs.recorded i → Contains recorded (record { 0 = i }) = λ c.
-        let r = map_from (λ (at : Address). at.0) recorded i (subst (λ (xs : List ℕ). Contains xs i) told c) in
+        let r = map_from (λ (at : Address). at.0) recorded i (subst (λ (xs : List ℕ). Contains xs i) is_known c) in
         subst (λ (x : Address).
         Contains recorded x) (let e : r.0 ≡ record { 0 = i } = ap (λ (k : ℕ). let x : Address = record { 0 = k } in x) (sym r.2) in e) r.1 in
         elim (shared.each i (omega (arith, inside))) [
@@ -219,7 +219,7 @@ module _ (base : ℕ) (words : List ℕ) (s s' : Segments) (y : Young) (table : 
       };
     }
 
--- what is known once blocks were given
+-- the state after blocks were given
 pub record Ready (z : Young) (words : List ℕ) (s s' : Segments) (table : List ℕ) (moves : List Move) (inputs : Inputs) (recorded : List Address) : Type 0 where
   pub sound : IsSegments s'
   pub emptied : z.base ≡ nursery_place s'.layout 0
@@ -228,7 +228,7 @@ pub record Ready (z : Young) (words : List ℕ) (s s' : Segments) (table : List 
   pub finds_all : (at : ℕ) → IsFound z.base words (IsStart inputs words) at → IsIn z at
   pub can : (at : ℕ) → IsFound z.base words (IsStart inputs words) at → HasHeader words at
   pub inside : z.base ≤ length words
-  pub told : inputs.recorded ≡ map (λ (at : Address). at.0) recorded
+  pub is_known : inputs.recorded ≡ map (λ (at : Address). at.0) recorded
   pub low : (at : Address) → Contains recorded at → at.0 < z.base
   pub range : PlacesRange z.base words s s' z.table.items table moves z.base (z.base + length z.table.items)
 
@@ -236,7 +236,7 @@ pub ready : (y z : Young) (s s' : Segments) (words : List ℕ) (nurseries : List
     (t1 t2 table : List ℕ) (moves added : List Move) → CanPromote y s words nurseries inputs → Finds y z words inputs →
     inputs.recorded ≡ map (λ (at : Address). at.0) recorded → t1 ≡ z.table.items → table ≡ t2 → moves ≡ added → IsSegments s' →
     s'.layout ≡ s.layout → PlacesRange z.base words s s' t1 t2 added z.base (z.base + length t1) → Ready z words s s' table moves inputs recorded
-ready y z s s' words nurseries inputs recorded t1 t2 table moves added can f told first second third sound same range =
+ready y z s s' words nurseries inputs recorded t1 t2 table moves added can f is_known first second third sound same range =
     let e = f.base in
     let parts = parts_of y z s words nurseries inputs t1 can f first in
     let begins = parts.0.begins in
@@ -250,28 +250,28 @@ ready y z s s' words nurseries inputs recorded t1 t2 table moves added can f tol
       finds_all = λ at h. f.complete at (subst (λ (b : ℕ). IsFound b words (IsStart inputs words) at) e h);
       can = λ at h. (can.can at (subst (λ (b : ℕ). IsFound b words (IsStart inputs words) at) e h)).header;
       inside = let i = can.inside in omega (arith, e, i);
-      told = told;
-      low = λ at c. let l = can.recorded at.0 (subst (λ (xs : List ℕ). Contains xs at.0) (sym told) (address_in recorded at c)) in omega (arith, e, l);
+      is_known = is_known;
+      low = λ at c. let l = can.recorded at.0 (subst (λ (xs : List ℕ). Contains xs at.0) (sym is_known) (address_in recorded at c)) in omega (arith, e, l);
       range = subst (λ (xs : List Move). PlacesRange z.base words s s' z.table.items table xs z.base (z.base + length z.table.items)) (sym third) r2;
     }
 
 module _ (z : Young) (words : List ℕ) (s s' : Segments) (table : List ℕ) (moves : List Move) (inputs : Inputs) (recorded : List Address)
     (r : Ready z words s s' table moves inputs recorded) where
   pub ready_small : (k : ℕ) → slice_index table k < z.base
-  ready_small = small z.base words s s' z table moves inputs r.sound r.emptied refl r.young r.finds r.finds_all r.can r.inside recorded r.told r.low r.range
+  ready_small = small z.base words s s' z table moves inputs r.sound r.emptied refl r.young r.finds r.finds_all r.can r.inside recorded r.is_known r.low r.range
 
   pub ready_copy : (one two : List ℕ) → ForwardsAt (forward_word table z.base) words one IsSharedSlot →
       ForwardsAt (forward_word table z.base) one two (λ i. Contains recorded (record { 0 = i })) → CanCopyAll z.base two moves
-  ready_copy = can_copy z.base words s s' z table moves inputs r.sound r.emptied refl r.young r.finds r.finds_all r.can r.inside recorded r.told r.low r.range
+  ready_copy = can_copy z.base words s s' z table moves inputs r.sound r.emptied refl r.young r.finds r.finds_all r.can r.inside recorded r.is_known r.low r.range
 
   pub ready_promotes : (one two new : List ℕ) → ForwardsAt (forward_word table z.base) words one IsSharedSlot →
       ForwardsAt (forward_word table z.base) one two (λ i. Contains recorded (record { 0 = i })) →
       CopiesAll (forward_word table z.base) two new moves → Promotes z.base words new s s' moves inputs table
   ready_promotes one two new f g h =
-      promotes z.base words s s' z table moves inputs r.sound r.emptied refl r.young r.finds r.finds_all r.can r.inside recorded r.told r.low
+      promotes z.base words s s' z table moves inputs r.sound r.emptied refl r.young r.finds r.finds_all r.can r.inside recorded r.is_known r.low
       r.range one two f g new h
 
--- what the second pass leaves in the table
+-- the table after the second pass
 pub leaves : (y z v : Young) (words : List ℕ) (s s' : Segments) (table : List ℕ) (moves : List Move) (inputs : Inputs) (recorded : List Address) →
     Finds y z words inputs → Ready z words s s' table moves inputs recorded → v.base ≡ z.base → v.table.items ≡ table →
     v.found.items ≡ z.found.items → v.found.spare ≡ z.found.spare → Leaves y v
@@ -306,7 +306,7 @@ leaves y z v words s s' table moves inputs recorded f r base same items spare =
       kept_room = omega (arith, longer, spare, kept);
     }
 
--- the table that was lent, once it is back
+-- the table after its loan
 pub lent_back : (length_ : ℕ) (old lent new table : List ℕ) → length lent ≡ length_ → length new ≡ length lent →
     table ≡ take length_ (new ++ drop (length new) old) → table ≡ new
 lent_back n old lent new table l size is = is ∙ take_at new (drop (length new) old) n (size ∙ l)

@@ -1,17 +1,18 @@
--- What the search reads beside the words, and what must hold of it in the world.
+-- The search's inputs beside the words, and their relation to the world.
 use Rattle.std.specs.Prelude.{ℕ, ◌*◌, List, Contains}
 use Rattle.nmgc_world_spec.specs.{declared.value.Name.Name, declared.value.Value.Value, declared.value.Value.TheVariants.Ref, World.World, World.state_of}
 use Rattle.nmgc_heap_spec.specs.Places.{Place, Means}
-use Rattle.nmgc_blocks_spec.specs.Remembers.{Remembers}
+use Rattle.nmgc_stop_spec.specs.Remembers.{Remembers}
 
--- what the mutators hold, and what the last round left behind: recorded field places, and the places of its weak pointers
+-- the search's inputs: the contents of the mutators' registers and queues, and the addresses of the fields recorded and the
+-- weak pointers made in the last round
 pub record Inputs : Type 0 where
   pub registers : List ℕ
   pub queues : List (List ℕ)
   pub recorded : List ℕ
   pub weaks : List ℕ
 
--- registers and queues hold what the world's hold, in whatever order; the lists are what a round left
+-- the search's inputs fit a world: registers and queues hold the world's values in any order, and the lists are a round's
 pub record HasInputs (base : ℕ) (earlier : List World) (places : List Place) (w : World) (inputs : Inputs) : Type 0 where
   pub held : (word : ℕ) → Contains inputs.registers word → (m : ℕ) × (v : Value) × Contains (state_of w m).registers v × Means (Contains places) word v
   pub holds_all : (m : ℕ) (n : Name) → Contains (state_of w m).registers (Ref n) → (at : ℕ) × Contains inputs.registers (2 * at) ×

@@ -1,18 +1,18 @@
--- What the second and the third pass do, told of segments and words.
+-- The second and the third pass, for segments and words.
 use Rattle.std.specs.Prelude.{ℕ, ◌≡◌, ◌≢◌, ◌+◌, ◌-◌, ◌*◌, ◌<◌, ◌≤◌, ◌⊎◌, List, [], ◌∷◌, length, map, slice_index, slice_set, Contains}
 use Rattle.nmgc_limits.specs.declared.mutators.TheConstants.{SHARED_SLOTS}
 use Rattle.nmgc_world_spec.specs.declared.value.Name.{Name}
 use Rattle.nmgc_object.specs.{Words.header_word, Words.name_word, Words.IsHeader, Words.IsName, Size.block_size, Size.IsClassOf, declared.layout.Layout.Layout, declared.words.Header.Header, Places.nursery_place, declared.layout.Nursery.Nursery, declared.layout.TheConstants.SHARED_PLACE, declared.size.TheConstants.HEADER_WORDS, declared.size.TheConstants.NAME_OFFSET}
 use Rattle.nmgc_alloc.specs.{Numbered.Segments, Numbered.block_place, Segments.Allocates, AllocState.AllocState, AllocState.PlacesName, Stands.StandsFor, Reserve.KeepsReserve}
-use Rattle.nmgc_blocks_spec.specs.{Nurseries.nursery_at, Strong.HasHeader, Occupied.IsOccupied, Occupied.KeepsMarks}
+use Rattle.nmgc_stop_spec.specs.{Nurseries.nursery_at, Strong.HasHeader, Occupied.IsOccupied, Occupied.KeepsMarks}
 use Rattle.nmgc_heap_spec.specs.Moves.{Moved, Copies}
 use Rattle.nmgc_minor.specs.declared.placing.Move.{Move}
 
--- the word is the header of the object at the place
+-- the object at the address has this header, and the header is valid
 abbrev pub HasHeaderWord : List ℕ → ℕ → Header → Type 0
 HasHeaderWord words at header = IsHeader header × (slice_index words at ≡ header_word header)
 
--- objects were given blocks that weren't in use, each one of its own that holds it; no other block came into use, and no mark changed
+-- objects were given unused blocks, each a large enough block of its own; no other block came into use, and no mark changed
 pub record IsPlacing (old new : Segments) (words : List ℕ) (moves : List Moved) : Type 0 where
   pub layout : new.layout ≡ old.layout
   pub stays : (p size : ℕ) → IsOccupied old p size → IsOccupied new p size
@@ -27,13 +27,13 @@ pub record IsPlacing (old new : Segments) (words : List ℕ) (moves : List Moved
 abbrev pub IsSharedSlot : ℕ → Type 0
 IsSharedSlot i = (SHARED_PLACE + HEADER_WORDS ≤ i) × (i < SHARED_PLACE + HEADER_WORDS + SHARED_SLOTS)
 
--- the word is none of the moved objects' new ones
+-- a word outside the moved objects' new copies
 abbrev pub IsOutside : List Moved → List ℕ → ℕ → Type 0
 IsOutside moves words i = (m : Moved) (header : Header) → Contains moves m → HasHeaderWord words m.from header → (i < m.to) ⊎
     (m.to + HEADER_WORDS + header.fields ≤ i)
 
--- the final words: moved objects are copied with their fields forwarded, recorded fields and slots of g are
--- forwarded, and the other words below the base are unchanged
+-- the words after a promotion: moved objects are copied with forwarded fields, and recorded fields and slots of g are
+-- forwarded. All other words below the nurseries stay, except the new copies
 pub record Rewrites (base : ℕ) (recorded : List ℕ) (moves : List Moved) (forward : ℕ → ℕ) (old new : List ℕ) : Type 0 where
   pub total : length new ≡ length old
   pub moved : (m : Moved) (header : Header) → Contains moves m → HasHeaderWord old m.from header →
@@ -41,7 +41,7 @@ pub record Rewrites (base : ℕ) (recorded : List ℕ) (moves : List Moved) (for
   pub others : (i : ℕ) → i < base → IsOutside moves old i → ((slice_index new i ≡ forward (slice_index old i)) ×
       (Contains recorded i ⊎ IsSharedSlot i)) ⊎ ((slice_index new i ≡ slice_index old i) × ((Contains recorded i → ⊥) × (IsSharedSlot i → ⊥)))
 
--- an object that can be given a block: its header, its name, and no more words than a segment
+-- an object that can be given a block: it has a header and a name, and at most the words of a segment
 pub record CanPlace (layout : Layout) (maker : ℕ) (words : List ℕ) (at : ℕ) : Type 0 where
   pub object : HasHeader words at
   pub small : HEADER_WORDS + object.header.fields ≤ layout.words
@@ -50,11 +50,11 @@ pub record CanPlace (layout : Layout) (maker : ℕ) (words : List ℕ) (at : ℕ
   pub made : name.maker ≡ maker
   pub named : slice_index words (at + NAME_OFFSET) ≡ name_word name
 
--- the class is that of the object at the place
+-- the class of the object at the address
 abbrev pub IsClassAt : List ℕ → ℕ → ℕ → Type 0
 IsClassAt words at class = (header : Header) → HasHeaderWord words at header → IsClassOf (HEADER_WORDS + header.fields) class
 
--- an object was given a block of the least class that holds it
+-- an object was given a block of the least class whose blocks are large enough, by Note [The placing rule] in `nmgc_alloc`
 pub record PlacesOne (old new : Segments) (words : List ℕ) (maker : ℕ) (moved : Move) : Type 0 where
   pub class : ℕ
   pub allocates : Allocates old new maker class moved.to.0
@@ -64,38 +64,39 @@ pub record PlacesOne (old new : Segments) (words : List ℕ) (maker : ℕ) (move
   pub made : moved.name.maker ≡ maker
   pub named : slice_index words (moved.from.0 + NAME_OFFSET) ≡ name_word moved.name
 
--- the moves stand in the order of their old places
+-- the moves are in the order of their old addresses
 abbrev pub AreRising : List Move → Type 0
 AreRising [] = Unit {0}
 AreRising (m ∷ []) = Unit {0}
 AreRising (m ∷ next ∷ moves) = (m.from.0 < next.from.0) × AreRising (next ∷ moves)
 
--- words in which the new blocks have their names
+-- the words after the name of each moved object is written to its new block
 abbrev pub with_names : List ℕ → List Move → List ℕ
 with_names words [] = words
 with_names words (m ∷ moves) = with_names (slice_set words (m.to.0 + NAME_OFFSET) (name_word m.name)) moves
 
--- the names of the moves are placed one after the other, each for its maker and its class, and the moves tell where
+-- the moved objects are placed one after the other, each for its maker and its class, and each move has the block's address
 abbrev pub PlacesEach : Layout → List ℕ → AllocState → List Move → AllocState → Type 0
 PlacesEach layout words old [] new = old ≡ new
 PlacesEach layout words old (m ∷ moves) new =
     (mid : AllocState) × (class : ℕ) × (step : PlacesName layout old mid m.name.maker class m.name)
     × IsClassAt words m.from.0 class × (m.to.0 ≡ block_place layout step.number class step.block) × PlacesEach layout words mid moves new
 
--- segments that stood for an allocation state stand for the one after the placings, once the new blocks have their names
+-- if the old segments represented an allocation state, the new segments represent the state after the placings, once the new
+-- blocks have their names
 abbrev pub StandsAfter : Segments → Segments → List ℕ → List Move → Type 0
 StandsAfter s s' words moves = (names : List ℕ) (old : AllocState) → nursery_place s.layout 0 ≤ length names → StandsFor s names old →
     (new : AllocState) × PlacesEach s.layout words old moves new × StandsFor s' (with_names names moves) new
 
--- a move as the heap tells it
+-- a move with numbers for addresses
 abbrev pub moved_of : Move → Moved
 moved_of m = record { name = m.name; from = m.from.0; to = m.to.0 }
 
--- a found object stands at the place: its entry isn't free
+-- a found object begins at the address: the entry of the address isn't 0
 abbrev pub IsMarked : ℕ → List ℕ → ℕ → Type 0
 IsMarked base table at = slice_index table (at - base) ≢ 0
 
--- the found objects of a part of the table can be given blocks, and lie one after another in it
+-- the found objects of a part of the table can be given blocks, and lie within this part one after another
 pub record CanPlaceAll (layout : Layout) (maker : ℕ) (words table : List ℕ) (base from to : ℕ) : Type 0 where
   pub each : (at : ℕ) → from ≤ at → at < to → IsMarked base table at → CanPlace layout maker words at
   pub within : (at : ℕ) (header : Header) → from ≤ at → at < to → IsMarked base table at → HasHeaderWord words at header →
@@ -103,7 +104,7 @@ pub record CanPlaceAll (layout : Layout) (maker : ℕ) (words table : List ℕ) 
   pub apart : (at next : ℕ) (header : Header) → from ≤ at → at < next → next < to → IsMarked base table at → IsMarked base table next →
       HasHeaderWord words at header → at + HEADER_WORDS + header.fields ≤ next
 
--- the found objects of a part of the table were given blocks, in their order: the entry of each is its new place
+-- the found objects of a part of the table were given blocks in their order, and the entry of each is its new address
 pub record PlacesRange (base : ℕ) (words : List ℕ) (s s' : Segments) (t t' : List ℕ) (added : List Move) (from to : ℕ) : Type 0 where
   pub placing : IsPlacing s s' words (map moved_of added)
   pub size : length t' ≡ length t
@@ -116,7 +117,7 @@ pub record PlacesRange (base : ℕ) (words : List ℕ) (s s' : Segments) (t t' :
   pub stands : StandsAfter s s' words added
   pub rising : AreRising added
 
--- so far no object that was placed reaches beyond a place, and none that is still to be placed begins before it
+-- an address `reach` at or above the ends of placed objects, and at or below the beginnings of objects still to be placed
 pub record Reaches (layout : Layout) (base : ℕ) (words table : List ℕ) (s : Segments) (before from at to : ℕ) : Type 0 where
   pub reach : ℕ
   pub above : from ≤ reach
@@ -124,7 +125,7 @@ pub record Reaches (layout : Layout) (base : ℕ) (words table : List ℕ) (s : 
   pub next : (k : ℕ) → at ≤ k → k < to → IsMarked base table k → reach ≤ k
   pub reserve : KeepsReserve layout s.segments (before + (reach - from))
 
--- the nurseries are the mutators' parts of the words, each used up to its top; what was found lies in the used parts
+-- the nurseries are the mutators' parts of the words, each used up to its top, and found objects lie in the used parts
 pub record AreNurseries (layout : Layout) (base : ℕ) (table : List ℕ) (nurseries : List Nursery) : Type 0 where
   pub begins : base ≡ nursery_place layout 0
   pub count : length nurseries ≡ layout.mutators

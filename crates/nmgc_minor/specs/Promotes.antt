@@ -1,14 +1,14 @@
--- What the three passes together do to words and segments.
+-- The effect of the three passes together on words and segments.
 use Rattle.std.specs.List.{flat_map}
 use Rattle.std.specs.Prelude.{ℕ, ◌≡◌, ◌≢◌, ◌+◌, ◌*◌, ◌<◌, ◌≤◌, ◌⊎◌, List, [], length, map, slice_index, Contains}
 use Rattle.nmgc_object.specs.{Words.name_word, Words.IsName, Places.nursery_place, declared.layout.TheConstants.FIRST_PLACE, declared.size.TheConstants.HEADER_WORDS, declared.size.TheConstants.NAME_OFFSET, declared.words.TheConstants.WEAK_FIELDS, declared.layout.Nursery.Nursery, declared.words.Address.Address, FinQueue.FinQueue}
 use Rattle.nmgc_alloc.specs.{Numbered.Segments, Segments.IsSegments, Reserve.KeepsReserve}
 use Rattle.nmgc_heap_spec.specs.Moves.{Moved, Forwards}
-use Rattle.nmgc_blocks_spec.specs.{Nurseries.AreEmpty, Stopped.Stopped, Stopped.IsStopped}
+use Rattle.nmgc_stop_spec.specs.{Nurseries.AreEmpty, Stopped.Stopped, Stopped.IsStopped}
 use Rattle.nmgc_minor.specs.{declared.placing.Move.Move, declared.young.Young.Young, Inputs.Inputs, Found.IsStart, Found.IsFound, Young.IsIn, Young.IsYoung, Young.IsWithin, Young.CanFollow, Forwarding.forward_word, Start.words_of, Start.places_of}
 use Rattle.nmgc_minor.specs.Placing.{AreNurseries, CanPlaceEach, IsMarked, IsPlacing, Rewrites, StandsAfter, AreRising, moved_of}
 
--- what the passes ask of the words, of segments and of their own lists, all of which the world gives
+-- what the passes need of the words, the segments and their own lists. Words that represent a heap at a stop meet it all
 pub record CanPromote (y : Young) (s : Segments) (words : List ℕ) (nurseries : List Nursery) (inputs : Inputs) : Type 0 where
   pub sound : IsSegments s
   pub lists : IsYoung y
@@ -24,12 +24,13 @@ pub record CanPromote (y : Young) (s : Segments) (words : List ℕ) (nurseries :
       AreNurseries s.layout y.base table nurseries × CanPlaceEach s.layout words table y.base nurseries
   pub reserve : KeepsReserve s.layout s.segments 0 ⊎ AreEmpty nurseries
 
--- the same, for the lists of a promotion that begins
+-- what a promotion needs when it begins: pointers lead to objects in the nurseries' used parts. Each such object has a
+-- header, its maker's name, and at most the words of a segment. A heap at a stop meets this
 abbrev pub CanPromoteWith : Segments → List ℕ → List Nursery → Inputs → Type 0
 CanPromoteWith s words nurseries inputs = (y : Young) → IsYoung y → y.found.items ≡ [] → y.base ≡ nursery_place s.layout 0 →
     length y.table.items ≡ s.layout.mutators * s.layout.nursery → CanPromote y s words nurseries inputs
 
--- what is left in the lists: only found objects have entries, and no room was lost
+-- the table and the list after a promotion: only found objects have entries, and no room was lost
 pub record Leaves (old new : Young) : Type 0 where
   pub base : new.base ≡ old.base
   pub size : length new.table.items ≡ length old.table.items
@@ -37,7 +38,7 @@ pub record Leaves (old new : Young) : Type 0 where
   pub tabled : (at : ℕ) → IsIn new at → (new.base ≤ at) × (at < new.base + length new.table.items)
   pub kept_room : new.found.spare + length new.found.items ≡ old.found.spare + length old.found.items
 
--- exactly the found objects moved, each to a block of its own, and each pointer to them was changed
+-- exactly the found objects moved, each to its own block, and each pointer to a moved object was changed
 pub record Promotes (base : ℕ) (old new : List ℕ) (s s' : Segments) (moves : List Move) (inputs : Inputs) (table : List ℕ) : Type 0 where
   pub found : (m : Move) → Contains moves m → IsFound base old (IsStart inputs old) m.from.0
   pub all : (at : ℕ) → IsFound base old (IsStart inputs old) at → (m : Move) × Contains moves m × (m.from.0 ≡ at)
@@ -50,8 +51,8 @@ pub record Promotes (base : ℕ) (old new : List ℕ) (s s' : Segments) (moves :
   pub forwards : Forwards base (map moved_of moves) (forward_word table base)
   pub rewrites : Rewrites base inputs.recorded (map moved_of moves) (forward_word table base) old new
 
--- each pointer to what moved was changed, in recorded fields, slots of g, moved objects, registers and queues, by one
--- function of words; the other words below the nurseries are unchanged but in the moved objects' new places
+-- the words after a promotion: one function of words changes each pointer to a moved object, in recorded fields, slots of g,
+-- moved objects, registers and queues. All other words below the nurseries stay, except the moved objects' new copies
 pub record Changes (base : ℕ) (recorded : List ℕ) (moves : List Moved) (forward : ℕ →
     ℕ) (old new : List ℕ) (registers registers' : List ℕ) (queues queues' : List (List ℕ)) : Type 0 where
   pub forwards : Forwards base moves forward
@@ -60,7 +61,7 @@ pub record Changes (base : ℕ) (recorded : List ℕ) (moves : List Moved) (forw
   pub held : registers' ≡ map forward registers
   pub queued : queues' ≡ map (map forward) queues
 
--- words, segments and mutators stand for the heap at a stop, by what each mutator has
+-- words, segments and mutators represent a heap at a stop. The functions give the parts of each mutator
 abbrev pub IsStoppedBy : {M : Type 0} → (M → Nursery) → (M → List ℕ) → (M → FinQueue) → (M → List Address) → (M → List Address) → Stopped → Segments →
     List ℕ → List M → Type 0
 IsStoppedBy nursery registers queue recorded weaks t s words mutators =
@@ -71,7 +72,7 @@ IsStoppedBy nursery registers queue recorded weaks t s words mutators =
 abbrev pub forwarded : (ℕ → ℕ) → FinQueue → FinQueue
 forwarded forward queue = record queue { words = map forward queue.words }
 
--- a mutator once what it had was promoted: its words are forwarded, and it is as after a stop
+-- a mutator after promotion: registers and queue are forwarded by the function; nursery and lists of the round are empty
 abbrev pub promoted : {M : Type 0} → (M → List ℕ) → (M → List ℕ → M) → (M → FinQueue) → (M → FinQueue → M) → (M → M) → (ℕ → ℕ) → M → M
 promoted registers with_registers queue with_queue after_stop forward m =
     after_stop (with_queue (with_registers m (map forward (registers m))) (forwarded forward (queue (with_registers m (map forward (registers m))))))

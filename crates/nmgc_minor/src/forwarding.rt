@@ -1,11 +1,10 @@
-//! The third pass: pointers are changed by the table of new places, and objects are copied.
+//! The third pass: pointers are changed by the table of new addresses, and objects are copied.
 //!
-//! Easy to get wrong: words that mean nothing are forwarded too, as the free variables of a thunk that has
-//! its result, and they may have any value. So `forwarded` asks nothing of its word: one that doesn't point
-//! into the table is left.
+//! Easy to get wrong: words without meaning are forwarded too, such as the free variables of a thunk that has its result, and
+//! they may have any value. So `forwarded` has no precondition on its word, and leaves words that don't point into the table.
 ghost use Rattle.std.specs.Prelude.{ℕ, ◌≡◌, ◌+◌, ◌<◌, ◌≤◌, length, slice_index, set, map, Contains};
 ghost use Rattle.std.specs.List.{flat_map};
-ghost use Rattle.nmgc_blocks_spec.specs.Strong.{HasHeader};
+ghost use Rattle.nmgc_stop_spec.specs.Strong.{HasHeader};
 ghost use Rattle.nmgc_minor.specs.{Placing.IsSharedSlot, Placing.HasHeaderWord, Forwarding.forward_word, Forwarding.ForwardsAt, Forwarding.CopiesFields, Forwarding.CopiesObject, Forwarding.CanCopyAll, Forwarding.CopiesAll};
 ghost use Rattle.nmgc_object.specs.{declared.layout.TheConstants.FIRST_PLACE, declared.words.Header.Header, declared.size.TheConstants.HEADER_WORDS as HEADERS};
 
@@ -15,8 +14,8 @@ use nmgc_limits::SHARED_SLOTS;
 use nmgc_object::laws::words_differ;
 use nmgc_object::{Address, FieldWord, HEADER_WORDS, SHARED_PLACE, fields_of};
 
-/// The word once what it points to has moved: a pointer to an object with a new place points there,
-/// and every other word is left.
+/// Returns the word to store once objects have moved. If the word points to an object with a new address in the table, it
+/// becomes a pointer to this address; every other word is unchanged.
 pub fn forwarded(table: &[u32], base: u32, word: u64) -> u64
     ensures { result ≡ forward_word table.now base word }
 {
@@ -39,7 +38,7 @@ pub fn forwarded(table: &[u32], base: u32, word: u64) -> u64
     }
 }
 
-/// Forwards each of the words.
+/// Changes each word that points to a moved object into a pointer to the object's new address.
 pub fn forward_words(table: &[u32], base: u32, words: &mut [u64])
     ensures { words.new ≡ map (forward_word table.now base) words.old }
 {
@@ -48,8 +47,8 @@ pub fn forward_words(table: &[u32], base: u32, words: &mut [u64])
     }
 }
 
-// Stores a word at a place. One that stands there is not stored again: in the table of a run a store costs several
-// loads, and a block that is used again is often given words that it had.
+// Stores a word at an address, unless the word is there already. In the table of a run a store costs several loads, and a
+// block that is used again often gets the words that it had.
 fn put<W: HeapWords>(words: &mut W, at: usize, word: u64)
     requires { at < length (W.words words.old) }
     ensures { W.words words.new ≡ set (W.words words.old) at word }
@@ -59,7 +58,8 @@ fn put<W: HeapWords>(words: &mut W, at: usize, word: u64)
     }
 }
 
-// Forwards the word at a place. One that stays is not stored, for the same reason.
+// Changes the word at an address into a pointer to the new address, if it points to a moved object. A word that stays isn't
+// stored, since a store costs several loads in the table of a run.
 fn forward_at<W: HeapWords>(table: &[u32], base: u32, words: &mut W, at: usize)
     requires { at < length (W.words words.old) }
     ensures { W.words words.new ≡ set (W.words words.old) at (forward_word table.now base (slice_index (W.words words.old) at)) }
@@ -71,7 +71,7 @@ fn forward_at<W: HeapWords>(table: &[u32], base: u32, words: &mut W, at: usize)
     }
 }
 
-/// Forwards the slots of g.
+/// Forwards the slots of g: pointers to moved objects lead to the new addresses.
 pub fn forward_shared<W: HeapWords>(table: &[u32], base: u32, words: &mut W)
     requires { FIRST_PLACE ≤ length (W.words words.old) }
     ensures { ForwardsAt (forward_word table.now base) (W.words words.old) (W.words words.new) IsSharedSlot }
@@ -82,7 +82,7 @@ pub fn forward_shared<W: HeapWords>(table: &[u32], base: u32, words: &mut W)
     }
 }
 
-// Forwards the fields at these places, of which one may be named more than once.
+// Forwards the fields at the addresses in `recorded`. An address may occur more than once.
 fn forward_places<W: HeapWords>(table: &[u32], base: u32, words: &mut W, recorded: &[Address])
     requires inside { (at : Address) → Contains recorded.now at → at.0 < length (W.words words.old) }
     requires small { (k : ℕ) → slice_index table.now k < base }
@@ -93,7 +93,7 @@ fn forward_places<W: HeapWords>(table: &[u32], base: u32, words: &mut W, recorde
     }
 }
 
-/// Forwards the fields that the mutators recorded, of which one may be named more than once.
+/// Forwards the fields that the mutators recorded. A field may occur more than once.
 pub fn forward_recorded<W: HeapWords, M: MutatorRoots>(
     table: &[u32],
     base: u32,
@@ -110,7 +110,7 @@ pub fn forward_recorded<W: HeapWords, M: MutatorRoots>(
     }
 }
 
-// Copies the fields of an object, of which there are so many, to those of another place, forwarded.
+// Copies `count` fields of an object to another address, and forwards each.
 fn copy_fields<W: HeapWords>(
     table: &[u32],
     base: u32,
@@ -131,7 +131,7 @@ fn copy_fields<W: HeapWords>(
     }
 }
 
-// The fields of an object.
+// Returns the number of fields of an object.
 fn field_count<W: HeapWords>(words: &mut W, from: u32) -> u32
     requires { HasHeader (W.words words.old) from }
     ensures count { (header : Header) → HasHeaderWord (W.words words.old) from header → result ≡ header.fields }
@@ -140,7 +140,7 @@ fn field_count<W: HeapWords>(words: &mut W, from: u32) -> u32
     fields_of(words.load(from as usize))
 }
 
-// Copies a word to another place.
+// Copies a word to another address.
 fn copy_word<W: HeapWords>(words: &mut W, from: usize, to: usize)
     requires from { from < length (W.words words.old) }
     requires to { to < length (W.words words.old) }
@@ -150,7 +150,7 @@ fn copy_word<W: HeapWords>(words: &mut W, from: usize, to: usize)
     put(words, to, word);
 }
 
-// Copies an object, its fields forwarded.
+// Copies the object at `from` to `to`, with its fields forwarded.
 fn copy_object<W: HeapWords>(table: &[u32], base: u32, words: &mut W, from: u32, to: u32)
     requires header { HasHeader (W.words words.old) from }
     requires apart { (header : Header) → HasHeaderWord (W.words words.old) from header → to + HEADERS + header.fields ≤ from }
@@ -163,7 +163,7 @@ fn copy_object<W: HeapWords>(table: &[u32], base: u32, words: &mut W, from: u32,
     copy_word(words, from as usize + 1, to as usize + 1);
 }
 
-/// Copies each of the objects to its new place, its fields forwarded.
+/// Copies each of the objects to its new address, with its fields forwarded.
 pub fn copy_all<W: HeapWords>(table: &[u32], base: u32, words: &mut W, moves: &[Move])
     requires { CanCopyAll base (W.words words.old) moves.now }
     ensures { CopiesAll (forward_word table.now base) (W.words words.old) (W.words words.new) moves.now }

@@ -1,11 +1,10 @@
-//! The second pass through the nurseries, and through the words of one.
+//! The second pass through all nurseries, and through the words of a single nursery.
 //!
-//! Easy to get wrong: an object's words beyond its first have free entries, so where one was found the loop
-//! goes on behind its words. That the objects lie apart is what keeps their words within the nursery's, and so
-//! the reserve sufficient.
+//! Easy to get wrong: an object's words after its first have free entries, so the loop continues after the words of a found
+//! object. Since objects lie apart, their words are at most the nursery's words, and so the reserve suffices.
 ghost use Rattle.std.specs.Prelude.{ℕ, ◌≡◌, ◌+◌, ◌-◌, ◌*◌, ◌<◌, ◌≤◌, ◌⊎◌, ◌++◌, List, length, map};
 ghost use Rattle.nmgc_alloc.specs.{Reserve.KeepsReserve, Segments.IsSegments, Segments.IsMutator};
-ghost use Rattle.nmgc_blocks_spec.specs.Nurseries.{AreEmpty};
+ghost use Rattle.nmgc_stop_spec.specs.Nurseries.{AreEmpty};
 ghost use Rattle.nmgc_minor.specs.{declared.placing.Move.Move as Shown, Placing.CanPlaceAll, Placing.CanPlaceEach, Placing.AreNurseries, Placing.PlacesRange};
 ghost use Rattle.nmgc_object.specs.Places.{nursery_place};
 
@@ -14,7 +13,8 @@ use nmgc_alloc::Segments;
 use nmgc_heap_spec::{HeapWords, MutatorRoots};
 use nmgc_lists::Room;
 
-/// Gives each found object of a part of the table a block, in their order.
+/// Gives each found object at an address from `from` on and below `to` a block, in the order of addresses, and lists the
+/// moves. The table gets the new addresses.
 pub fn place_all<W: HeapWords>(
     base: u32,
     table: &mut [u32],
@@ -59,7 +59,7 @@ pub fn place_all<W: HeapWords>(
     }
 }
 
-/// Gives each found object of the nurseries of all mutators a block, in the order of their places.
+/// Gives each found object in the mutators' nurseries a block, in the order of addresses, and lists the moves.
 pub fn place_nurseries<W: HeapWords, M: MutatorRoots>(
     base: u32,
     table: &mut [u32],

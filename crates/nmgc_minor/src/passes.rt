@@ -1,12 +1,11 @@
-//! The three passes over the words, and what lies outside them.
+//! The three passes over the words, and over the roots outside them.
 //!
-//! The working lists rest between two promotions with what the last one found: its entries are freed one
-//! by one as the next begins, since a table as long as all nurseries is too long to be wiped at each stop.
+//! Between two promotions the working lists keep the objects found by the last one. Their entries are freed one by one when
+//! the next promotion begins, since a table as long as all nurseries is too long to be wiped at each stop.
 //!
-//! What mutators hold is read and changed where it lies, one mutator after the other; no list is made of it.
+//! The contents of mutators are read and changed in place, one mutator after the other, without a list of them.
 //!
-//! Easy to get wrong: no pass writes to a nursery. So the third may copy the objects in whatever order, and reads
-//! each as the round left it.
+//! Easy to get wrong: no pass writes to a nursery. So the third may copy objects in any order, each as the round left it.
 ghost use Rattle.std.specs.Prelude.{ℕ, ◌≡◌, ◌≢◌, ◌+◌, ◌*◌, ◌<◌, ◌≤◌, List, [], length, map, slice_index, Contains};
 ghost use Rattle.nmgc_object.specs.Places.{nursery_place};
 ghost use Rattle.nmgc_alloc.specs.Segments.{IsSegments};
@@ -22,7 +21,7 @@ use nmgc_heap_spec::{HeapWords, MutatorRoots};
 use nmgc_lists::Room;
 use nmgc_object::{Address, FinQueue};
 
-// The three passes, over words.
+// Runs the three passes over the words, and lists the moves. Registers and queues are only read.
 fn promote_words<W: HeapWords, M: MutatorRoots>(
     young: &mut Young,
     moves: &mut Room<Move>,
@@ -57,7 +56,7 @@ fn promote_words<W: HeapWords, M: MutatorRoots>(
     copy_all(table, base, words, moves.items());
 }
 
-// Frees the entries of these objects.
+// Sets the table's entries of the objects in `found` to 0.
 fn forget(base: u32, table: &mut [u32], found: &[Address])
     requires { (at : Address) → Contains found.now at → (base ≤ at.0) × (at.0 < base + length table.old) }
     ensures size { length table.new ≡ length table.old }
@@ -68,7 +67,7 @@ fn forget(base: u32, table: &mut [u32], found: &[Address])
     }
 }
 
-// Forwards the words of a queue. One that has no young object is left as it is, and so it is with each in a run.
+// Forwards the words of a queue. If it has no nursery object, as in every run, it isn't read or changed.
 fn forward_queue(table: &[u32], base: u32, queue: &mut FinQueue)
     ensures { queue.new ≡ forwarded (forward_word table.now base) queue.old }
 {
@@ -81,7 +80,7 @@ fn forward_queue(table: &[u32], base: u32, queue: &mut FinQueue)
     }
 }
 
-// What a mutator holds points to the new places; its nursery is empty, and nothing of the round is left.
+// Forwards a mutator's registers and queue, and empties its nursery and its lists of the round.
 fn settle_one<M: MutatorRoots>(table: &[u32], base: u32, mutator: &mut M)
     ensures { mutator.new ≡
         promoted M.registers M.with_registers M.queue M.with_queue M.after_stop (forward_word table.now base) mutator.old }
@@ -91,7 +90,7 @@ fn settle_one<M: MutatorRoots>(table: &[u32], base: u32, mutator: &mut M)
     mutator.empty();
 }
 
-// The same for all mutators.
+// Forwards the registers and queues of all mutators, and empties their nurseries and their lists of the round.
 fn settle<M: MutatorRoots>(table: &[u32], base: u32, mutators: &mut [M])
     ensures { mutators.new ≡
         map (promoted M.registers M.with_registers M.queue M.with_queue M.after_stop (forward_word table.now base)) mutators.old }
@@ -101,7 +100,7 @@ fn settle<M: MutatorRoots>(table: &[u32], base: u32, mutators: &mut [M])
     }
 }
 
-// Forgets what the last promotion moved.
+// Empties the working lists of everything that the last promotion left in them.
 fn clear(young: &mut Young, moves: &mut Room<Move>)
     requires { IsResting young.old moves.old }
     ensures cleared { IsCleared young.new moves.new }
@@ -113,15 +112,17 @@ fn clear(young: &mut Young, moves: &mut Room<Move>)
     moves.clear();
 }
 
-/// The three passes over words of which no world need be known, and over what is outside them: registers, queues and
-/// nurseries, where they lie in the mutators. Asks that the working lists are for the nurseries of the segments'
-/// layout, that pointers to young objects lead to objects which lie one after another in the used part of their
-/// maker's nursery, and that the reserve is free or no nursery has an object (`specs/Promotes.antt`, `CanPromoteWith`).
+/// Promotes: runs the three passes over the words, and over the registers, queues and nurseries of the mutators. It needs no
+/// world that the words represent.
 ///
-/// Exactly the young objects that the roots, the slots of g, the recorded fields and the alive young weak pointers
-/// reach are copied, each once, in order of names; `moves` tells them. Each pointer to one leads to its new place:
-/// in registers and queues, the slots of g, the recorded fields and the copies. No other word changes, the nurseries are
-/// empty afterwards, and of the round nothing is recorded any more. Takes no memory.
+/// The working lists have to be of the size that the nurseries of the segments' layout need. Pointers into the nurseries have
+/// to lead to objects that lie one after another in the used part of their maker's nursery. Either the reserve is free, or no
+/// nursery has an object (`specs/Promotes.antt`, `CanPromoteWith`).
+///
+/// It copies exactly the nursery objects reachable from the roots, the slots of g, the recorded fields and the live new weak
+/// pointers. Each is copied once, in order of names; `moves` lists them. Each pointer to such an object leads to its new
+/// address: in registers and queues, the slots of g, the recorded fields and the copies. No other word changes. The nurseries
+/// and the lists of the round are empty afterwards. Takes no memory.
 pub fn run_passes<W: HeapWords, M: MutatorRoots>(
     young: &mut Young,
     moves: &mut Room<Move>,

@@ -1,12 +1,11 @@
 //! The second pass: each found object is given a block, in order of names.
 //!
-//! The words are only read here. A nursery's objects lie in the order of their serials, and the
-//! nurseries in the order of their makers, so the table is read from its beginning on, and no sort is
-//! needed.
+//! The words are only read here. A nursery's objects lie in the order of their serials, and the nurseries in the order of
+//! their makers. So the table is read from its beginning on, and no sort is needed.
 ghost use Rattle.std.specs.Prelude.{ℕ, ◌≡◌, ◌+◌, ◌<◌, ◌≤◌, ◌*◌, ◌++◌, List, length, slice_index};
 ghost use Rattle.nmgc_object.specs.{Size.block_size, Words.name_word, declared.words.Header.Header, declared.size.TheConstants.HEADER_WORDS as HEADERS, declared.size.TheConstants.MAX_BLOCK_WORDS};
 ghost use Rattle.nmgc_alloc.specs.{Reserve.KeepsReserve, Segments.IsSegments, Segments.IsMutator, Segments.IsClass, Segments.HasRoom};
-ghost use Rattle.nmgc_blocks_spec.specs.Strong.{HasHeader};
+ghost use Rattle.nmgc_stop_spec.specs.Strong.{HasHeader};
 ghost use Rattle.nmgc_minor.specs.Placing.{CanPlace, PlacesOne, HasHeaderWord};
 
 use nmgc_alloc::Segments;
@@ -15,7 +14,7 @@ use nmgc_lists::Room;
 use nmgc_object::{Address, HEADER_WORDS, class_of, fields_of, name_of};
 use nmgc_world_spec::Name;
 
-/// An object that was moved: its name, the place in the nursery, and the place in a segment.
+/// A moved object: its name, its address in the nursery, and its address in a segment.
 #[derive(Clone, Copy, Debug, PartialEq, Eq)]
 pub struct Move {
     pub name: Name,
@@ -23,7 +22,7 @@ pub struct Move {
     pub to: Address,
 }
 
-/// The words of an object. No word changes.
+/// Returns the number of words of the object at `from`, header and name included. No word changes.
 pub fn object_words<W: HeapWords>(words: &mut W, from: u32) -> u32
     requires { HasHeader (W.words words.old) from }
     ensures holds { (header : Header) → HasHeaderWord (W.words words.old) from header → result ≡ HEADERS + header.fields }
@@ -34,7 +33,8 @@ pub fn object_words<W: HeapWords>(words: &mut W, from: u32) -> u32
     HEADER_WORDS + fields_of(words.load(from as usize))
 }
 
-/// Gives an object of so many words a block of the least class that holds it.
+/// Allocates the block that the nursery object at `from` will move to, and returns the move. The block is of the smallest
+/// class that holds the object's `size` words, header and name included. Nothing is copied: no word changes.
 pub fn place_object<W: HeapWords>(
     words: &mut W,
     segments: &mut Segments,

@@ -1,8 +1,8 @@
-//! Promotion as a whole: what it is given, and what it promises of the world.
+//! Promotion as a whole: its inputs, and its promise about the world.
 ghost use Rattle.std.specs.Prelude.{ℕ, ◌≡◌, ◌+◌, ◌*◌, ◌<◌, ◌≤◌, length, map, IfOk};
 ghost use Rattle.std.specs.List.{flat_map};
 ghost use Rattle.nmgc_alloc.specs.{AllocState.AllocState, Stands.StandsFor, Segments.IsSegments};
-ghost use Rattle.nmgc_blocks_spec.specs.{Occupied.KeepsMarks, Promoted.PlacesEach, Stopped.Stopped, Stopped.IsSettled, Stopped.young_base};
+ghost use Rattle.nmgc_stop_spec.specs.{Occupied.KeepsMarks, Promoted.PlacesEach, Stopped.Stopped, Stopped.IsSettled, Stopped.young_base};
 ghost use Rattle.nmgc_minor.specs.{Placing.moved_of, Promotes.Changes, Promotes.IsStoppedBy, Promotes.promoted, Start.words_of, Start.places_of};
 ghost use Rattle.nmgc_heap_spec.specs.Emptied.{emptied};
 
@@ -17,7 +17,7 @@ use nmgc_object::laws::words_differ;
 use std::alloc::Global;
 use std::marker::Model;
 
-/// The working lists of promotion, and what the last one moved.
+/// The working lists of promotion, and the moves of the last promotion.
 #[derive(Drop)]
 pub struct Promotion {
     young: Young,
@@ -43,7 +43,7 @@ impl Promotion {
     ghost use Rattle.nmgc_object.specs.Places.{IsLayout};
     ghost use Rattle.nmgc_minor.specs.Promotion.{IsFor};
 
-    /// Takes all the memory that promotions of this layout need.
+    /// Makes a promotion with all the memory that promotions of this layout need.
     pub fn reserve(alloc: Global, layout: Layout) -> Result<Self, NoMemory>
         requires { IsLayout layout }
         ensures { IfOk result (IsFor layout) }
@@ -61,27 +61,27 @@ impl Promotion {
         })
     }
 
-    /// The moves of the last call, in order of names.
+    /// Returns the moves of the last promotion, in order of names.
     pub fn moves(&self) -> &[Move]
         ensures { result.now ≡ self.now.moves }
     {
         self.moves.items()
     }
 
-    /// Moves the promoted objects from the nurseries into segments, each once, in order of names, into the
-    /// block that the placing rule gives for its maker and its class. Every pointer to one is changed, in
-    /// the roots, the slots of g, the recorded fields and the moved objects, so the words stand for the
-    /// same world. The nurseries are empty afterwards. Takes no memory.
+    /// Moves the promoted objects from the nurseries into segments, each once, in order of names. Each object goes into the
+    /// block that Note [The placing rule] in `nmgc_alloc` gives for its maker and its class. Every pointer to a moved object
+    /// is changed, in the roots, the slots of g, the recorded fields and the moved objects, so the words represent the same
+    /// world. No mark and no snapshot index changes. Takes no memory.
     ///
-    /// What the mutators hold is read and changed where it lies: registers, queue and nursery, and the two lists of the
-    /// round, which are empty afterwards. `recorded` of a mutator are the places of the fields of older objects that it
-    /// gave a young one in the round, `young_weaks` the weak pointers that it made. At least as many segments are free as
-    /// the layout's reserve, or no nursery has an object.
+    /// The mutators' registers, queues and nurseries are read and changed in place, and so are their two lists of the round.
+    /// Nurseries and lists are empty afterwards. A mutator's `recorded` has the addresses of the fields of older objects in
+    /// which it stored a new object in the round. Its `young_weaks` has the weak pointers that it made. Either at least the
+    /// layout's reserve of segments has to be free, or no nursery has an object.
     ///
-    /// Its time goes with what it and the last promotion move, with the fields of that, with the roots, the two
-    /// lists and the used words of the nurseries, for which the table is read, but for those behind an object that it
-    /// found. Where a segment was filled, the search for the next one comes to that. It grows neither with the heap nor
-    /// with the unused words.
+    /// The time is proportional to the objects that this and the last promotion move, the fields of this promotion's objects,
+    /// the roots, both lists and the used words of the nurseries. The table is read for these words, except the later words
+    /// of a found object. If a segment was filled, the search for the next is added. The time grows neither with the heap nor
+    /// with unused words.
     pub fn promote<W: HeapWords, M: MutatorRoots>(
         &mut self,
         words: &mut W,
@@ -91,8 +91,8 @@ impl Promotion {
         requires layout { IsFor segments.old.layout self.old }
         requires stopped { (t : Stopped) × IsStoppedBy M.nursery M.registers M.queue M.recorded M.young_weaks t segments.old (W.words words.old) mutators.old }
 
-        // What words, roots and blocks stand for; that exactly the promoted objects moved; and the state
-        // of the segments.
+        // Words, roots and blocks represent the settled heap. Exactly the promoted objects moved, and the segments represent
+        // the state after their placing.
         ensures settled { (t : Stopped) → IsStoppedBy M.nursery M.registers M.queue M.recorded M.young_weaks t segments.old (W.words words.old) mutators.old →
             IsSettled t segments.new (W.words words.new) (flat_map M.registers mutators.new) (words_of (map M.queue mutators.new))
             (map moved_of self.new.moves) }
@@ -100,7 +100,7 @@ impl Promotion {
             (a : AllocState) → StandsFor segments.old (W.words words.old) a → (b : AllocState) ×
             PlacesEach segments.old.layout t.world a (map (λ m. m.name) (map moved_of self.new.moves)) b × StandsFor segments.new (W.words words.new) b }
 
-        // Which words changed, and how; and what became of the mutators.
+        // The changes of the words, and of the mutators.
         ensures changes { (forward : ℕ → ℕ) × Changes (young_base segments.old) (places_of (flat_map M.recorded mutators.old)) (map moved_of self.new.moves)
             forward (W.words words.old) (W.words words.new) (flat_map M.registers mutators.old) (flat_map M.registers mutators.new)
             (words_of (map M.queue mutators.old)) (words_of (map M.queue mutators.new)) ×

@@ -1,11 +1,11 @@
-//! The young objects that were found: a table by nursery word, and the list in which they wait.
+//! The nursery objects that were found: a table by nursery word, and the list in which they wait.
 //!
-//! An entry of the table is 0 for a word at which no found object begins, `FOUND` for a found one, and
-//! from the second pass on the place that it was given. No place is 0 or `FOUND`, since segments begin
-//! above g. Each found object is in the list once, and the list is gone through once, from its front.
+//! An entry of the table is 0 for a word at which no found object begins, `FOUND` for a found object, and from the second
+//! pass on its new address. No address is 0 or `FOUND`, since segments begin above g. Each found object is in the list once,
+//! and the list is read once, from its front.
 ghost use Rattle.std.specs.Prelude.{ℕ, ◌≡◌, ◌+◌, ◌*◌, ◌<◌, ◌≤◌, ◌⊎◌, length, slice_index, Contains, IfSome, IfNone};
 ghost use Rattle.nmgc_minor.specs.Found.{IsFound};
-ghost use Rattle.nmgc_blocks_spec.specs.Strong.{HasStrong, HasHeader, IsAmong, IsStrongRange};
+ghost use Rattle.nmgc_stop_spec.specs.Strong.{HasStrong, HasHeader, IsAmong, IsStrongRange};
 
 use nmgc_heap_spec::HeapWords;
 use nmgc_lists::Room;
@@ -13,7 +13,7 @@ use nmgc_object::laws::words_differ;
 use nmgc_object::{Address, FieldWord, HEADER_WORDS, header_of};
 use nmgc_world_spec::Kind;
 
-/// The entry of an object that was found and has no place yet.
+/// The table's entry of a found object that has no new address yet.
 pub const FOUND: u32 = 1;
 
 /// The table, the word at which it begins, and the list.
@@ -24,8 +24,8 @@ pub struct Young {
     pub found: Room<Address>,
 }
 
-/// Which words of an object are its strong fields: from the first place up to the second. A thunk with
-/// a result no longer holds its free variables, and a weak pointer holds nothing.
+/// Returns the addresses at which an object's strong fields begin and end, the end left out. A thunk with a result holds only
+/// the result, and a thunk without a result its free variables. A weak pointer holds nothing.
 pub fn strong_fields<W: HeapWords>(words: &mut W, at: Address) -> (usize, usize)
     requires { HasHeader (W.words words.old) at.0 }
     ensures range { IsStrongRange (W.words words.old) at.0 result.0 result.1 }
@@ -51,7 +51,7 @@ pub fn strong_fields<W: HeapWords>(words: &mut W, at: Address) -> (usize, usize)
 impl Young {
     ghost use Rattle.nmgc_minor.specs.Young.{IsIn, IsYoung, IsWithin, Notes, PointsIn, CanFollow, Follows};
 
-    /// The entry of the table for a pointer to a young object.
+    /// Returns the index of the table's entry for a word that points to a nursery object, and `None` for every other word.
     pub fn entry(&self, word: u64) -> Option<usize>
         ensures some { IfSome result (λ index. word ≡ 2 * (self.now.base + index)) }
         ensures none { IfNone result ((at : ℕ) → word ≡ 2 * at → self.now.base ≤ at → ⊥) }
@@ -65,7 +65,7 @@ impl Young {
         }
     }
 
-    /// Notes the young object of an entry.
+    /// Notes the nursery object of the table's entry `index` as found, unless it is already.
     fn put(&mut self, index: usize)
         requires young { IsYoung self.old }
         requires index { index < length self.old.table.items }
@@ -77,7 +77,7 @@ impl Young {
         }
     }
 
-    /// Notes the young object that a field word points to, if it points to one.
+    /// Notes the nursery object to which a field word points, if it points to one.
     pub fn note(&mut self, word: u64)
         requires young { IsYoung self.old }
         requires within { IsWithin self.old word }
@@ -88,7 +88,7 @@ impl Young {
         }
     }
 
-    /// Notes what each of the field words points to.
+    /// Notes the nursery objects to which the field words point.
     pub fn note_all(&mut self, words: &[u64])
         requires young { IsYoung self.old }
         requires within { (word : ℕ) → Contains words.now word → IsWithin self.old word }
@@ -99,7 +99,7 @@ impl Young {
         }
     }
 
-    /// Notes what each word of the heap from one place up to another points to.
+    /// Notes the nursery objects to which the words at addresses from `from` on and below `to` point.
     pub fn note_range<W: HeapWords>(&mut self, words: &mut W, from: usize, to: usize)
         requires young { IsYoung self.old }
         requires ordered { from ≤ to }
@@ -114,7 +114,7 @@ impl Young {
         }
     }
 
-    /// Notes what the strong fields of an object point to.
+    /// Notes the nursery objects to which the strong fields of an object point.
     fn note_fields<W: HeapWords>(&mut self, words: &mut W, at: Address)
         requires young { IsYoung self.old }
         requires can { CanFollow self.old (W.words words.old) at.0 }
@@ -126,7 +126,7 @@ impl Young {
         self.note_range(words, from, to);
     }
 
-    /// Goes through the list, and notes what strong fields of found objects point to.
+    /// Follows the strong fields of found objects and notes the nursery objects there, until it finds no further one.
     pub fn follow<W: HeapWords>(&mut self, words: &mut W)
         requires young { IsYoung self.old }
         requires can { (at : ℕ) → IsFound self.old.base (W.words words.old) (PointsIn self.old) at → CanFollow self.old (W.words words.old) at }

@@ -1,7 +1,7 @@
--- What a field word refers to, by the place in it: an object in a segment, or one in a nursery.
+-- The object to which a field word refers, by the address in it: in a segment, or in a nursery.
 use Rattle.nmgc_mutator.proofs.Vocabulary.{◌≡◌, ℕ, ◌+◌, ◌*◌, ◌/◌, ◌%◌, ◌<◌, ◌≤◌, [], ◌∷◌, refl, sym, ap, ◌∙◌, arith, inl, inr, Bool, true, false, eqb, leb, ltb, eq-eqb, ne_eqb, and-false, cases_lt, le-leb, lt-leb, lt-ltb, le-ltb, FIRST_PLACE, Layout, nursery_place, owed_word, is_young, is_old, all_pushed}
 
--- the word of a place
+-- the word of an address
 module _ (layout : Layout) (w at : ℕ) (is : w ≡ 2 * at) where
   even : eqb (w % 2) 0 ≡ true
   even = eq-eqb (w % 2) 0 (omega (arith, is))
@@ -34,23 +34,23 @@ module _ (layout : Layout) (w at : ℕ) (is : w ≡ 2 * at) where
     | inr le ↦ le-ltb at base le ∙ sym (old_high (omega (arith, e, le)))
   ]
 
-  -- an old one is below the nurseries
+  -- an object in a segment is below the nurseries
   pub old_below : is_old layout w ≡ true → at < nursery_place layout 0
   old_below old = elim (cases_lt at (nursery_place layout 0)) [
     | inl lt ↦ lt
     | inr le ↦ absurd (let bad : true ≡ false = sym old ∙ old_high le in cc)
   ]
 
-  -- it is what is pushed
+  -- it is the address that is pushed
   pub old_pushed : (b : Bool) → b ≡ true → is_old layout w ≡ true → all_pushed layout (owed_word b w) ≡ at ∷ []
   old_pushed true marking old = rw old (ap (λ n. n ∷ []) half)
   old_pushed false marking old = absurd cc
 
--- an odd word refers to none
+-- an odd word refers to no object
 pub young_odd : (layout : Layout) (w : ℕ) → w % 2 ≡ 1 → is_young layout w ≡ false
 young_odd layout w odd = let e : eqb (w % 2) 0 ≡ false = ne_eqb (w % 2) 0 (omega (arith, odd)) in rw e refl
 
--- a word that refers to none is not pushed
+-- a word that refers to no object in a segment is not pushed
 pub none_pushed : (layout : Layout) (b : Bool) (w : ℕ) → is_old layout w ≡ false → all_pushed layout (owed_word b w) ≡ []
 none_pushed layout true w new = rw new refl
 none_pushed layout false w new = refl

@@ -1,21 +1,45 @@
-//! The barriers of a mutator: what it logs and records as it writes.
+//! The barriers of a mutator: the objects that it pushes and the fields that it records as it writes.
 //!
-//! The write barrier is that of a snapshot at the beginning (a deletion barrier): while a cycle marks, what a command owes goes
-//! to the mutator's own remembered set (`push`, `push_words`) before the command ends, where it refers to an object in a
-//! segment. That is the word that `set`, `cas` or `pop_value` takes out, the free variables that a thunk no longer holds once
-//! `update` gave it a result, the value that `deref` reads, and a weak pointer with its value and its finaliser where `finalise`
-//! kills it: the marker doesn't follow the last two. The swap or exchange that takes a word out is one step of the round, so
-//! the marker, however late it comes, misses nothing. It doesn't look whether an object is marked, and takes no memory. What each
-//! command owes is the table `owed_by` of `nmgc_world_spec`'s `specs/Owed.antt`; that nothing is lost by it is the theorem
-//! of `nmgc_snapshot_laws`.
+//! # Note [Why the deletion barrier is enough]
 //!
-//! The other barrier is for promotion, from old to young: a field of an object in a segment that was given a young object is
-//! recorded (`record`), since a promotion doesn't look through the segments. `set`, `cas`, `update` and `push_value` call it.
+//! The write barrier is a Yuasa-style deletion barrier, for marking from a snapshot at the beginning of the cycle. While a
+//! cycle marks, a command *owes* the references that its step takes out of the marker's sight. Before the command ends, it
+//! pushes those that refer to objects in segments (`push`, `push_words`). Owed are the old word of `set`, `cas` and
+//! `pop_value`, and the free variables of a thunk to which `update` gives a result. The marker doesn't follow the fields of a
+//! weak pointer. So `deref` owes the value that it reads, and `finalise` owes the weak pointer that it kills, with value and
+//! finaliser. `owed_by` lists all (`specs/Owed.antt` of `nmgc_world_spec`).
 //!
-//! And a weak pointer in a segment that was finalised is noted (`note_finalised`), since a stop doesn't look through the list of
-//! those that are alive.
+//! Marking is then exact for the snapshot. The marker scans each marked object once. For each strong field of the snapshot,
+//! either its target is marked, owed or pushed, or the field is unchanged and its scan is still to come. A command that
+//! changes the field owes the target; the scan marks it. A closing gives all pushed references to the marker, and scans until
+//! nothing is queued. The mutators are stopped, so nothing is owed. So all these targets are marked, as are the snapshot's
+//! roots.
 //!
-//! Easy to get wrong: it is the old word that is pushed, and the new one that is recorded.
+//! New references need no push. A mutator gets a reference only from its registers, its queue, and the fields of objects that
+//! it holds. So its object is live in the snapshot or was made since, and objects made since are kept.
+//! `nmgc_core/src/core_machine.rt` has the whole argument, `nmgc_snapshot_laws` the theorem.
+//!
+//! A Dijkstra-style insertion barrier would push the new word of each store, so that no scanned field refers to an unmarked
+//! object. It may free an object in the same cycle in which it became garbage. But a load into a register is no store, and
+//! the loaded field may be overwritten before its scan. So a closing would have to scan the registers again. Here only the
+//! beginning of a cycle scans them.
+//!
+//! The word is taken out by one step of the round, a swap or an exchange, whose answer shows the very word that it replaced.
+//! So of several mutators that write one field, each owes the word that its own step replaced, and none is missed, however
+//! late it is pushed. Whether a cycle marks changes only at stops, so no mutator can miss the change, and no handshake is
+//! needed.
+//!
+//! The barrier doesn't look whether an object is marked, and takes no memory: `Mutator::reserve` makes the room before the
+//! round.
+//!
+//! # Promotion
+//!
+//! The other barrier is the usual one of a generational heap, for references from segments into nurseries. A field in a
+//! segment that was given a nursery object is recorded (`record`, called by `set`, `cas`, `update` and `push_value`), since a
+//! promotion doesn't look through the segments. A finalised weak pointer in a segment is noted (`note_finalised`), since a
+//! stop doesn't look through the list of alive ones.
+//!
+//! Easy to get wrong: the barrier pushes the old word, and records the field of the new one.
 ghost use Rattle.std.specs.Prelude.{◌≡◌, ◌++◌, ◌+◌, ◌*◌, ◌-◌, ◌^◌, ◌<◌, length, Some, ◌≤◌};
 ghost use Rattle.nmgc_round.specs.{View.owed_word, Owing.owed_words};
 ghost use Rattle.nmgc_mutator.specs.{Ready.IsWhole, Records.numbers, Records.is_young, Records.is_old, Records.recorded_at, Records.pushed_at, Records.all_pushed, Does.with_recorded, Does.with_finalised, Does.with_updrem};
@@ -25,7 +49,7 @@ use crate::mutator::Mutator;
 use nmgc_object::{Address, FIRST_PLACE, FieldWord, HEADER_WORDS};
 
 impl Mutator {
-    // Whether a word refers to a young object.
+    // Whether a word refers to an object in a nursery.
     fn is_young(&self, word: u64) -> bool
         requires { IsWhole self.now }
         ensures { result ≡ is_young self.now.layout word }
@@ -36,7 +60,7 @@ impl Mutator {
         u64::from(self.layout.nursery_base(0)) <= at
     }
 
-    // Whether a place is one of a segment.
+    // Whether an address is in a segment.
     fn is_old(&self, at: u64) -> bool
         requires { IsWhole self.now }
         ensures { result ≡ is_old self.now.layout (2 * at) }
@@ -45,7 +69,7 @@ impl Mutator {
         at >= u64::from(FIRST_PLACE) && at < base
     }
 
-    // Records a field of an object, where the object lies in a segment and the field was given a young one.
+    // Records a field that was given `word`, if its object is in a segment and `word` refers to a nursery object.
     pub(crate) fn record(&mut self, at: Address, index: u32, word: u64)
         requires one { IsWhole self.old }
         requires place { at.0 + HEADER_WORDS + index < 2 ^ 32 }
@@ -59,7 +83,7 @@ impl Mutator {
         }
     }
 
-    // Notes a weak pointer that was finalised, where it lies in a segment.
+    // Notes a finalised weak pointer, if it is in a segment.
     pub(crate) fn note_finalised(&mut self, at: Address)
         requires one { IsWhole self.old }
         requires room { 0 < self.old.finalised.spare }
@@ -72,7 +96,7 @@ impl Mutator {
         }
     }
 
-    // Pushes a word that is owed, where it refers to an object in a segment.
+    // Pushes an owed word, if the round is marking and it refers to a segment: `Note [Why the deletion barrier is enough]`.
     pub(crate) fn push(&mut self, marking: bool, word: u64)
         requires one { IsWhole self.old }
         requires room { 0 < self.old.updrem.spare }
@@ -91,7 +115,7 @@ impl Mutator {
         }
     }
 
-    // Pushes words that are owed, those of them that refer to objects in segments.
+    // Pushes the owed words that refer to objects in segments, if the round is marking.
     pub(crate) fn push_words(&mut self, marking: bool, words: &[u64])
         requires one { IsWhole self.old }
         requires room { length words.now ≤ self.old.updrem.spare }

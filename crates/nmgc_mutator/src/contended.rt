@@ -2,22 +2,23 @@
 //!
 //! Each is one step of the round, with loads of words that never change before and after it.
 //!
-//! Easy to get wrong: what `update` and `finalise` owe beside the word of that step is owed from that very step on.
-//! So a thunk's free variables and a weak pointer's finaliser are loaded before it: by then the seat must name them.
+//! Easy to get wrong: `update` and `finalise` owe more than the word of that step, and owe it from that very step on. So a
+//! thunk's free variables and a weak pointer's finaliser are loaded before it: by then the seat must name them.
 ghost use Rattle.std.specs.Prelude.{◌≡◌, ◌+◌, length, ◌-◌, ◌^◌, ◌<◌, ◌≤◌, []};
 ghost use Rattle.nmgc_world_spec.specs.{Command.IsOperand, Command.IsRegister, Command.Fits, declared.command.Command.TheVariants.Cas, declared.command.Command.TheVariants.Deref, declared.command.Command.TheVariants.Finalise, declared.command.Command.TheVariants.Force, declared.command.Command.TheVariants.Update, declared.node.Kind.TheVariants.Thunk};
 ghost use Rattle.nmgc_object.specs.{declared.words.Header.Header, declared.size.TheConstants.HEADER_WORDS, declared.words.TheConstants.WEAK_FIELDS};
-ghost use Rattle.nmgc_round.specs.{Ready.Names, View.plain, View.hand_now, View.leaves, Told.told_by, Told.CanTell, Seat.seen, Seat.word_count};
+ghost use Rattle.nmgc_round.specs.{Ready.Names, View.plain, View.hand_now, View.leaves, Known.known_answer, Known.CanAnswer, Seat.seen, Seat.word_count};
 ghost use Rattle.nmgc_mutator.specs.{declared.mutator.TheConstants.MOST_PUSHED, Thunks.AreLoaded, Ready.IsReady, Ready.part_of, Ready.hand_in, Records.recorded_by, Records.noted_by, Records.weaks_by, Acts.Acts, Acts.most_pushed};
 
 use crate::mutator::{MOST_PUSHED, Mutator};
+use nmgc_commands::PackedCommand;
 use nmgc_object::{Address, FieldWord, HEADER_WORDS};
-use nmgc_program::PackedCommand;
 use nmgc_round::{Exchanged, MutatorSeat, Round};
 use nmgc_world_spec::{Kind, Operand, Reply};
 
 impl Mutator {
-    // Refuses a command, at the header of g.
+    // Refuses a command and returns the reply, at the header of g (Note [Where a command takes its place in the order]). It
+    // calls `answer_in_order`, which ensures `Does`, and itself ensures `Acts`: nothing was noted.
     pub(crate) fn refuse(
         &self,
         round: &Round,
@@ -26,8 +27,8 @@ impl Mutator {
         reply: Reply,
     ) -> Reply
         requires ready { IsReady round.now seat.old self.now }
-        requires told { CanTell (seen seat.old).opening (part_of (seen seat.old)) command.now }
-        requires reply { told_by (hand_now (seen seat.old).opening (part_of (seen seat.old))) (part_of (seen seat.old)).fixed command.now ≡ plain reply }
+        requires known { CanAnswer (seen seat.old).opening (part_of (seen seat.old)) command.now }
+        requires reply { known_answer (hand_now (seen seat.old).opening (part_of (seen seat.old))) (part_of (seen seat.old)).fixed command.now ≡ plain reply }
         requires left { leaves (hand_now (seen seat.old).opening (part_of (seen seat.old))) command.now (plain reply) ≡
             hand_now (seen seat.old).opening (part_of (seen seat.old)) }
         requires unrecorded { recorded_by self.now.layout self.now.registers command.now (plain reply) ≡ [] }
@@ -36,10 +37,10 @@ impl Mutator {
         ensures does { Acts round.now (seen seat.old) seat.new self.now self.now command.now reply }
         ensures reply { result ≡ reply }
     {
-        self.tell(round, seat, command, reply)
+        self.answer_in_order(round, seat, command, reply)
     }
 
-    // Compares a field of a variable or an array, and writes it where it has the expected value.
+    // Does the command `Cas`: writes a field of a variable or an array if the field has the expected value.
     pub(crate) fn cas(
         &mut self,
         round: &Round,
@@ -81,7 +82,7 @@ impl Mutator {
         }
     }
 
-    // Reads the result of a thunk.
+    // Does the command `Force`: reads the result of a thunk into a register.
     pub(crate) fn force(
         &mut self,
         round: &Round,
@@ -112,7 +113,7 @@ impl Mutator {
         Reply::Given(self.value(round, seat, Operand::Register(dest)))
     }
 
-    // Reads the value of a weak pointer, which it owes.
+    // Does the command `Deref`: reads the value of a weak pointer into a register, and owes it.
     pub(crate) fn deref(
         &mut self,
         round: &Round,
@@ -145,8 +146,8 @@ impl Mutator {
         Reply::Given(self.value(round, seat, Operand::Register(dest)))
     }
 
-    // Kills a weak pointer, and takes its finaliser. It owes the weak pointer, its value and its finaliser. The stop is told of it,
-    // so that it leaves the list of those that are alive.
+    // Does the command `Finalise`: kills a weak pointer, and takes its finaliser. It owes the weak pointer, its value and its
+    // finaliser. It notes the weak pointer for the stop, which takes it off the list of the weak pointers that are alive.
     pub(crate) fn finalise(
         &mut self,
         round: &Round,
@@ -182,7 +183,7 @@ impl Mutator {
         Reply::Given(self.value(round, seat, Operand::Register(dest)))
     }
 
-    // Loads the free variables of a thunk. They never change, and the seat names them from then on.
+    // Loads the free variables of a thunk into `free`. They never change, and the seat names them from then on.
     fn load_free(&self, round: &Round, seat: &mut MutatorSeat, at: Address, free: &mut [u64])
         requires ready { IsReady round.now seat.old self.now }
         requires thunk { (header : Header) × Names (part_of (seen seat.old)) at.0 header × (header.kind ≡ Thunk) ×
@@ -194,7 +195,7 @@ impl Mutator {
         }
     }
 
-    // Gives a thunk a result, where it has none. It owes the thunk's free variables.
+    // Does the command `Update`: gives a thunk a result if it has none, and then owes the thunk's free variables.
     pub(crate) fn update(
         &mut self,
         round: &Round,

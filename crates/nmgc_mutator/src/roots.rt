@@ -1,4 +1,4 @@
-//! What a stop reads and changes of a mutator, where it lies.
+//! The parts of a mutator that a stop reads and changes, lent in place.
 ghost use Rattle.std.specs.{Prelude.length, Prelude.refl, List.refill};
 ghost use Rattle.nmgc_heap_spec.specs.Emptied.{emptied};
 ghost use Rattle.nmgc_mutator.specs.{AtStop.cleared, laws.Refilled.refill_all};

@@ -1,12 +1,10 @@
-//! The commands on what is a mutator's own: `push` and `pop` on the stacks that it made, and `nextfin` on its
-//! queue of finalisers.
+//! The commands on a mutator's own words: `push` and `pop` on stacks that it made, and `nextfin` on its queue of finalisers.
 //!
-//! Nobody else writes there. So the depth of a stack is learned by loads of its slots, which have no place in the
-//! order, and one swap is the place of the command; the queue is outside the heap, and its first word leads
-//! where the load that is the command's place tells.
+//! No other thread writes there. So loads of a stack's slots find its depth, without a position in the order, and one swap is
+//! the position of the command. The queue is outside the heap. The load that is the position of `nextfin` shows that the
+//! queue's first word is an address within the heap.
 //!
-//! Easy to get wrong: a stack's depth stands nowhere. It is the number of the slots before the first 0, so a `pop`
-//! has to leave 0.
+//! Easy to get wrong: no word has a stack's depth. It is the number of slots before the first 0, so a `pop` has to leave 0.
 ghost use Rattle.std.specs.Prelude.{◌≡◌, ◌+◌, ◌-◌, ◌^◌, ◌<◌, ◌≤◌, [], IfOk, IfErr};
 ghost use Rattle.nmgc_world_spec.specs.{Command.IsOperand, Command.IsRegister, Command.Fits, declared.command.Command.TheVariants.NextFin, declared.command.Command.TheVariants.Pop, declared.command.Command.TheVariants.Push};
 ghost use Rattle.nmgc_object.specs.declared.size.TheConstants.{HEADER_WORDS};
@@ -14,13 +12,12 @@ ghost use Rattle.nmgc_round.specs.Seat.{IsAt, Knows, seen, word_count};
 ghost use Rattle.nmgc_mutator.specs.{Ready.IsReady, Does.Went, Acts.Acts, Stacks.Owns, Stacks.HasNoStack, Stacks.IsOwnStack, Stacks.HasDepth};
 
 use crate::mutator::Mutator;
+use nmgc_commands::PackedCommand;
 use nmgc_object::{Address, HEADER_WORDS, NAME_OFFSET, SHARED_PLACE, decode_name};
-use nmgc_program::PackedCommand;
 use nmgc_round::{MutatorSeat, Round};
 use nmgc_world_spec::{Kind, Operand, Reply};
 
-// How many values a stack of this mutator has: its slots are used from the bottom up, so the first that has none is
-// found by halves.
+// Returns the number of values on an own stack. Slots are used from the bottom up, so a binary search finds the depth.
 fn depth(round: &Round, seat: &mut MutatorSeat, at: Address, slots: u32) -> u32
     requires seat { IsAt round.now seat.old }
     requires own { IsOwnStack (seen seat.old) at.0 slots }
@@ -44,8 +41,7 @@ fn depth(round: &Round, seat: &mut MutatorSeat, at: Address, slots: u32) -> u32
 }
 
 impl Mutator {
-    // The stack of this mutator that an operand refers to, and how many slots it has; or the refusal, where there
-    // is none.
+    // Returns the own stack to which an operand refers, and its number of slots. If it refers to none, returns the refusal.
     fn own_stack(
         &self,
         round: &Round,
@@ -73,7 +69,7 @@ impl Mutator {
         }
     }
 
-    // Puts a value on top of a stack.
+    // Does the command `Push`: puts a value on top of a stack.
     pub(crate) fn push_value(
         &mut self,
         round: &Round,
@@ -105,7 +101,7 @@ impl Mutator {
         Reply::Fine
     }
 
-    // Takes the value on top of a stack, which it owes.
+    // Does the command `Pop`: takes the value on top of a stack, and owes it.
     pub(crate) fn pop_value(
         &mut self,
         round: &Round,
@@ -137,7 +133,7 @@ impl Mutator {
         Reply::Given(self.value(round, seat, Operand::Register(dest)))
     }
 
-    // Takes the first of the finalisers that wait for this mutator.
+    // Does the command `NextFin`: takes the first finaliser that waits for this mutator.
     pub(crate) fn next_fin(
         &mut self,
         round: &Round,

@@ -1,15 +1,15 @@
--- What contracts see of a queue of finalisers.
+-- A queue of finalisers in contracts.
 use Rattle.std.specs.Prelude.{ℕ, ◌≡◌, ◌*◌, ◌%◌, ◌<◌, ◌≤◌, List, Contains}
 
--- the words, and how many more there is room for
+-- a queue of finalisers: the words in order, and the number of further words that it has room for
 pub record FinQueue : Type 0 where
   pub words : List ℕ
   pub spare : ℕ
 
--- no pointer among the words is larger: a pointer is an even word
+-- an upper bound of the pointers in a queue, which are its even words: no pointer is larger
 abbrev pub HavePointersUpTo : List ℕ → ℕ → Type 0
 HavePointersUpTo words highest = (word : ℕ) → Contains words word → word % 2 ≡ 0 → word ≤ highest
 
--- each pointer among the words leads before the place
+-- pointers below an address: each pointer (even word) among the words leads to an address below it
 abbrev pub ArePointersBelow : List ℕ → ℕ → Type 0
 ArePointersBelow words place = (word : ℕ) → Contains words word → word % 2 ≡ 0 → word < 2 * place

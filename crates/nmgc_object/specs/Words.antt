@@ -1,4 +1,4 @@
--- What is a header, a name and a field, and the word of each.
+-- Headers, names and fields, and the word of each.
 use Rattle.std.specs.Prelude.{ℕ, ◌≡◌, ◌+◌, ◌*◌, ◌<◌, ◌≤◌, ◌^◌}
 use Rattle.nmgc_limits.specs.declared.mutators.TheConstants.{SHARED_MAKER}
 use Rattle.nmgc_world_spec.specs.{declared.value.Name.Name, declared.node.Kind.Kind, declared.node.Kind.TheVariants.Con, declared.node.Kind.TheVariants.Var, declared.node.Kind.TheVariants.Arr, declared.node.Kind.TheVariants.Thunk, declared.node.Kind.TheVariants.Weak, declared.node.Kind.TheVariants.Stack}
@@ -14,7 +14,7 @@ kind_number Thunk = 4
 kind_number Weak = 5
 kind_number Stack = 6
 
--- only constructors have a tag
+-- the tags of a kind: only constructors have tags other than 0
 abbrev pub HasTag : Kind → ℕ → Type 0
 HasTag Con tag = tag < TAGS
 HasTag Var tag = tag ≡ 0
@@ -23,7 +23,7 @@ HasTag Thunk tag = tag ≡ 0
 HasTag Weak tag = tag ≡ 0
 HasTag Stack tag = tag ≡ 0
 
--- an object of the kind may have so many fields
+-- the numbers of fields that an object of the kind may have
 abbrev pub HasFields : Kind → ℕ → Type 0
 HasFields Con fields = fields ≤ MAX_FIELDS
 HasFields Var fields = fields ≡ VAR_FIELDS
@@ -32,7 +32,7 @@ HasFields Thunk fields = (1 ≤ fields) × (fields ≤ MAX_THUNK_FIELDS)
 HasFields Weak fields = fields ≡ WEAK_FIELDS
 HasFields Stack fields = fields ≤ MAX_FIELDS
 
--- an object may have the header
+-- a valid header: its kind allows the tag and the number of fields
 abbrev pub IsHeader : Header → Type 0
 IsHeader header = HasTag header.kind header.tag × HasFields header.kind header.fields
 
@@ -40,7 +40,7 @@ IsHeader header = HasTag header.kind header.tag × HasFields header.kind header.
 abbrev pub header_word : Header → ℕ
 header_word header = kind_number header.kind + TAG_UNIT * header.tag + FIELDS_UNIT * header.fields
 
--- some object may have the name: g has but one
+-- a valid name: an object may have it. The maker is a mutator or `SHARED_MAKER`, whose only object is g, with serial 0
 abbrev pub IsName : Name → Type 0
 IsName name = (name.maker ≤ SHARED_MAKER) × (name.serial < 2 ^ 32) × (name.maker ≡ SHARED_MAKER → name.serial ≡ 0)
 
@@ -48,7 +48,7 @@ IsName name = (name.maker ≤ SHARED_MAKER) × (name.serial < 2 ^ 32) × (name.m
 abbrev pub name_word : Name → ℕ
 name_word name = SERIAL_UNIT * name.serial + name.maker
 
--- a field may hold it
+-- a valid field: nothing, nil, a number below `NUMBER_LIMIT`, or a pointer to an address from 1 up to 32 bits
 abbrev pub IsField : Field → Type 0
 IsField Unset = Unit {0}
 IsField Nil = Unit {0}

@@ -1,16 +1,16 @@
 //! The queue of a mutator's finalisers, as field words.
 //!
-//! A dead weak pointer's finaliser waits here until the mutator takes it. The words are pointers into
-//! the heap, so promotion reads the queue as roots and writes forwarded pointers back.
+//! A dead weak pointer's finaliser waits here until the mutator takes it. The words are pointers into the heap, so promotion
+//! reads the queue as roots and writes forwarded pointers back.
 //!
-//! Deaths are queued at a stop that must not run out of memory, so room is made before: `add` only
-//! uses it. Taking the first word moves an index and no words. What was taken keeps its memory until
-//! the queue is empty, or until room is made while more words were taken than are left.
+//! Deaths are queued at a stop that must not run out of memory. So room is made beforehand, and `add` only uses it. Taking
+//! the first word advances an index and moves no words. A taken word keeps its memory until the queue is empty, or until room
+//! is made when more words were taken than are left.
 //!
-//! Words join at a closing, when every nursery is empty. So a promotion would go through a queue for nothing, however
-//! many finalisers wait: the queue knows a bound of its pointers, and tells in constant time that none is young.
+//! Words join at a closing, when every nursery is empty, so promotion need not read a queue that has only such words. The
+//! queue keeps an upper bound of its pointers and answers in constant time that none leads to a nursery.
 //!
-//! Easy to get wrong: places count from the first word that is left, and not from the first that was ever added.
+//! Easy to get wrong: positions count from the first word that is left, not from the first word ever added.
 ghost use Rattle.std.specs.Prelude.{◌≡◌, ◌+◌, ◌-◌, ◌%◌, ◌<◌, ◌≤◌, [], ◌∷◌, ◌++◌, length, drop, slice_get, slice_set, IsTrue, OnOk, OnErr};
 ghost use Rattle.nmgc_object.specs.FinQueue.{ArePointersBelow};
 
@@ -18,12 +18,12 @@ use nmgc_lists::{List, ListMemory, NoMemory};
 use std::alloc::Global;
 use std::marker::Model;
 
-/// Field words in order, and room for more.
+/// A queue of field words, with room for more.
 #[derive(Drop)]
 pub struct FinQueue {
     words: Vec<u64>,
     first: usize,
-    // No pointer among the words that are left is larger.
+    // An upper bound of the pointers among the words that are left.
     highest: u64,
 }
 
@@ -42,7 +42,7 @@ impl Model for FinQueue {
 }
 
 impl FinQueue {
-    /// An empty queue without room. Takes no memory.
+    /// Makes an empty queue without room. Takes no memory.
     pub fn new(alloc: Global) -> Self
         ensures words { result.words ≡ [] }
         ensures spare { result.spare ≡ 0 }
@@ -54,9 +54,9 @@ impl FinQueue {
         }
     }
 
-    /// Makes room for at least so many more words. After `NoMemory` the words are unchanged. The
-    /// memory of words that were taken is used again once they outnumber those that are left, so the
-    /// moves cost no more than the taking did.
+    /// Makes room for at least `more` further words, and never loses room. After `NoMemory` the words are unchanged. When
+    /// more words were taken than are left, the words that are left move into the memory of the taken words. So moving costs
+    /// no more than taking did.
     pub fn reserve(&mut self, more: u32) -> Result<(), NoMemory>
         ensures words { self.new.words ≡ self.old.words }
         ensures room { OnOk result (more ≤ self.new.spare) }
@@ -69,7 +69,7 @@ impl FinQueue {
         Ok(())
     }
 
-    // Moves the words to the front of their memory.
+    // Moves the words that are left to the front of their memory, over the words taken.
     fn forget_taken(&mut self)
         ensures words { self.new.words ≡ self.old.words }
         ensures kept { self.old.spare ≤ self.new.spare }
@@ -90,7 +90,7 @@ impl FinQueue {
         self.highest = raised(self.highest, word);
     }
 
-    /// Takes the first word off. `None` comes exactly where the queue is empty. Constant time.
+    /// Takes the first word off the queue and returns it, or `None` exactly if the queue is empty. Constant time.
     pub fn take_first(&mut self) -> Option<u64>
         ensures first { result ≡ slice_get self.old.words 0 }
         ensures rest { self.new.words ≡ drop 1 self.old.words }
@@ -105,14 +105,14 @@ impl FinQueue {
         Some(word)
     }
 
-    /// The words in order. Takes no memory.
+    /// Returns the words in order. Takes no memory.
     pub fn words(&self) -> &[u64]
         ensures { result.now ≡ self.now.words }
     {
         &self.words[self.first..]
     }
 
-    /// The words in order, as a list, which lies in `place`. Takes no memory.
+    /// Returns the words of the queue in order, as a list whose head lies in `place`. Takes no memory.
     pub fn into_list(self, place: ListMemory<u64>) -> List<u64>
         ensures { result ≡ self.words }
     {
@@ -128,7 +128,7 @@ impl FinQueue {
         List::in_place(words, place)
     }
 
-    /// Changes the word at a place of the queue, and no other. Takes no memory.
+    /// Replaces the word at the position `place` of the queue by `word`, and changes no other word. Takes no memory.
     pub fn set(&mut self, place: usize, word: u64)
         requires { place < length self.old.words }
         ensures words { self.new.words ≡ slice_set self.old.words place word }
@@ -138,8 +138,8 @@ impl FinQueue {
         self.highest = raised(self.highest, word);
     }
 
-    /// Whether each pointer among the words leads before a place, as far as the queue knows: that it does is certain. That
-    /// it doesn't may be told of words that were taken or changed since. Takes no memory, and constant time.
+    /// Returns true only if each pointer among the words leads below the address `place`. It may return false although each
+    /// does, because of a word that was taken or changed since. Takes no memory, and constant time.
     #[tactic(auto, using(crate::proofs::Pointers::below_of))]
     pub fn is_below(&self, place: u32) -> bool
         ensures { IsTrue result → ArePointersBelow self.now.words place }
@@ -148,7 +148,7 @@ impl FinQueue {
     }
 }
 
-// A bound that a word is within too, if it is a pointer.
+// Returns an upper bound of pointers, raised if `word` is a pointer that is larger.
 fn raised(highest: u64, word: u64) -> u64
     ensures kept { highest ≤ result }
     ensures pointer { word % 2 ≡ 0 → word ≤ result }

@@ -1,4 +1,4 @@
-//! What holds of the definitions of words and places, for every value.
+//! Laws of the definitions of words and addresses, for every value.
 //!
 //! Each function here does nothing; its contract is the law.
 ghost use Rattle.std.specs.Prelude.{ℕ, ◌≡◌, ◌↔◌, ◌+◌, ◌*◌, ◌^◌, ◌<◌, ◌≤◌};
@@ -15,8 +15,7 @@ use crate::words::{
     VAR_FIELDS, WEAK_FIELDS, ZERO_WORD,
 };
 
-/// Each constant of the codes, of the sizes and of the places is this number, and all contracts speak of it
-/// by its name.
+/// Proves the value of each constant of codes, sizes and addresses, so that contracts may cite the constants by name.
 pub fn constants_are_these()
     ensures tags { TAGS ≡ 256 }
     ensures fields { (MAX_FIELDS ≡ 4094) × (MAX_PARTS ≡ 4094) }
@@ -29,14 +28,14 @@ pub fn constants_are_these()
     ensures places { (SHARED_PLACE ≡ 1) × (FIRST_PLACE ≡ 32) }
 {}
 
-/// Different headers, names or fields have different words, so what was encoded is decoded.
+/// Proves that different headers, names or fields have different words, so decoding inverts encoding.
 pub fn words_differ()
     ensures headers { (a b : Header) → IsHeader a → IsHeader b → header_word a ≡ header_word b → a ≡ b }
     ensures names { (a b : Name) → IsName a → IsName b → name_word a ≡ name_word b → a ≡ b }
     ensures fields { (a b : Field) → IsField a → IsField b → field_word a ≡ field_word b → a ≡ b }
 {}
 
-/// A word belongs to one segment or one nursery at most, and each is a word of the heap above g.
+/// Proves that segments and nurseries share no word, and that each of their words is a word of the heap above g.
 pub fn places_lie_apart()
     ensures segments { (layout : Layout) (a b at : ℕ) → IsLayout layout → InSegment layout a at → InSegment layout b at → a ≡ b }
     ensures nurseries { (layout : Layout) (a b at : ℕ) → IsLayout layout → InNursery layout a at → InNursery layout b at → a ≡ b }
@@ -45,7 +44,7 @@ pub fn places_lie_apart()
     ensures nursery_in_heap { (layout : Layout) (a at : ℕ) → IsLayout layout → InNursery layout a at → InHeap layout at }
 {}
 
-/// The parts of an object are words of it, and no two of them are the same word.
+/// Proves that the header, the name and each field of an object are different words of the object.
 pub fn parts_lie_apart()
     ensures name { (header : Header) (at : ℕ) → (header_place at < name_place at) × (name_place at < at + object_size header) }
     ensures field { (header : Header) (at field : ℕ) → field < header.fields → (name_place at < field_place at field) ×
@@ -53,9 +52,9 @@ pub fn parts_lie_apart()
     ensures fields { (at a b : ℕ) → field_place at a ≡ field_place at b → a ≡ b }
 {}
 
-/// The class of an object that fits into a segment is one of the layout's, and its block fits into a
-/// segment too. An object has at least two words, at most those of the greatest block, and at least
-/// half of those of its block and of what is left over in a segment of such blocks.
+/// Proves that every object that fits into a segment has a class of the layout, and that exactly the blocks of these classes
+/// fit into a segment. An object has at least two words and at most the words of the greatest block. Twice its words are at
+/// least the words of its block and the words left over in a segment of blocks of its class.
 pub fn objects_have_classes()
     ensures fits { (layout : Layout) (words class : ℕ) → IsLayout layout → words ≤ layout.words → IsClassOf words class →
         (block_size class ≤ layout.words) × (class < class_count layout) }

@@ -1,25 +1,23 @@
-//! Which words belong to whom.
+//! The parts of the heap: the shared array, segments and nurseries.
 //!
-//! Word 0 belongs to nobody. The shared array g has the words from `SHARED_PLACE`, and what is left
-//! below `FIRST_PLACE` is unused. Then come the segments, one after the other, and then a nursery
-//! for each mutator. Every part of the collector takes places from here, so that no two of them ever
-//! write the same word: `laws` has the promise that the parts lie apart.
+//! Nothing uses word 0. The shared array g has the words from `SHARED_PLACE`; the rest below `FIRST_PLACE` is unused. Then
+//! follow the segments, one after the other, and then a nursery for each mutator. Every part of the collector takes its
+//! addresses from here, so that no two of them ever write the same word: `laws` has the promise that the parts lie apart.
 ghost use Rattle.std.specs.Prelude.{ℕ, ◌≡◌, ◌↔◌, ◌+◌, ◌-◌, ◌<◌, ◌≤◌};
 ghost use Rattle.nmgc_object.specs.{Size.block_size, Places.IsLayout, Places.segment_place, Places.nursery_place, Places.word_total, Places.class_count, Places.reserve_count};
 
 use crate::size::{HEADER_WORDS, class_of};
 use nmgc_limits::SHARED_SLOTS;
 
-/// Where the shared array begins.
+/// The address of the shared array.
 pub const SHARED_PLACE: u32 = 1;
 
-/// Where the first segment begins.
+/// The address of the first segment.
 pub const FIRST_PLACE: u32 = 32;
 
 const _: () = prove!(SHARED_PLACE + HEADER_WORDS + SHARED_SLOTS as u32 <= FIRST_PLACE);
 
-/// The sizes of a heap: how many segments of how many words, and how many mutators with a nursery
-/// of how many words.
+/// The sizes of a heap: the number of segments, the words of each, the words of each nursery, and the number of mutators.
 #[derive(Clone, Copy, Debug, PartialEq, Eq)]
 pub struct Layout {
     pub segments: u32,
@@ -28,7 +26,7 @@ pub struct Layout {
     pub mutators: u8,
 }
 
-/// A mutator's nursery: its words from `base` to `end`, of which those from `top` on are unused.
+/// A mutator's nursery: the words from `base` on and below `end`. The words from `top` on are unused.
 #[derive(Clone, Copy, Debug, PartialEq, Eq)]
 pub struct Nursery {
     pub base: u32,
@@ -37,7 +35,7 @@ pub struct Nursery {
 }
 
 impl Layout {
-    /// The place of a segment's first word. Takes no memory.
+    /// Returns the address of a segment's first word. Takes no memory.
     pub fn segment_base(&self, segment: u32) -> u32
         requires layout { IsLayout self.now }
         requires segment { segment < self.now.segments }
@@ -46,7 +44,7 @@ impl Layout {
         FIRST_PLACE + segment * self.words
     }
 
-    /// The place of the first word of a mutator's nursery. Takes no memory.
+    /// Returns the address of the first word of a mutator's nursery. Takes no memory.
     pub fn nursery_base(&self, mutator: u8) -> u32
         requires layout { IsLayout self.now }
         requires mutator { mutator < self.now.mutators }
@@ -55,7 +53,7 @@ impl Layout {
         FIRST_PLACE + self.segments * self.words + u32::from(mutator) * self.nursery
     }
 
-    /// How many words the heap has. Takes no memory.
+    /// Returns the number of words of the heap. Takes no memory.
     pub fn total(&self) -> u32
         requires { IsLayout self.now }
         ensures { result ≡ word_total self.now }
@@ -63,7 +61,7 @@ impl Layout {
         FIRST_PLACE + self.segments * self.words + u32::from(self.mutators) * self.nursery
     }
 
-    /// How many classes of blocks there are: those whose block fits into a segment. Takes no memory.
+    /// Returns the number of classes: those whose blocks fit into a segment. Takes no memory.
     pub fn classes(&self) -> u8
         requires { IsLayout self.now }
         ensures count { result ≡ class_count self.now }
@@ -72,8 +70,8 @@ impl Layout {
         class_of(self.words) + 1
     }
 
-    /// How many free segments suffice to promote every nursery: those that the words of full
-    /// nurseries take at twice their size, and one for each class of each mutator. Takes no memory.
+    /// Returns the number of free segments that is enough to promote every nursery. Full nurseries need segments with twice
+    /// their words, and each class of each mutator needs one segment more. Takes no memory.
     pub fn reserve(&self) -> u32
         requires { IsLayout self.now }
         ensures { result ≡ reserve_count self.now }
@@ -84,7 +82,7 @@ impl Layout {
 }
 
 impl Nursery {
-    /// How many words are left. Takes no memory.
+    /// Returns the number of unused words of the nursery. Takes no memory.
     pub fn left(&self) -> u32
         requires { self.now.top ≤ self.now.end }
         ensures { result ≡ self.now.end - self.now.top }

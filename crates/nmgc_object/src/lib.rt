@@ -1,13 +1,10 @@
-//! The layout of the heap's words: what a word means, how many words an object has, and which words
-//! belong to whom.
+//! The layout of the heap's words: the meaning of a word, the size of an object, and the parts of the heap.
 //!
-//! The collector's heap is one array of 64-bit words. What a header, a name and a field are there is
-//! defined here alone, and where segments and nurseries begin. Everything above it cites the
-//! definitions in `specs/`.
+//! The collector's heap is one array of 64-bit words. Only this crate defines its headers, names and fields, and where
+//! segments and nurseries begin. Everything above cites the definitions in `specs/`.
 //!
-//! `words` has the three kinds of word, `size` the words of an object and the classes of blocks,
-//! `layout` the places, and `fin_queue` the queue of finalisers, which is kept as field words
-//! because the collector has to find and forward the pointers in it.
+//! `words` has the three kinds of word, `size` the words of an object and the classes of blocks, and `layout` the addresses.
+//! `fin_queue` has the queue of finalisers. It holds field words because the collector finds and forwards the pointers in it.
 #![tactic(auto)]
 
 pub mod fin_queue;

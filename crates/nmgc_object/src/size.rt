@@ -1,10 +1,11 @@
-//! How many words an object has, and the classes of blocks.
+//! The words of an object, and the classes of blocks.
 //!
-//! Blocks have 4 to 16 words, one class for each size, and then 32, 64 words and so on, up to a whole
-//! segment. An object goes into a block of the least class that holds it: one of 4 to 16 words fills
-//! its block, and a larger one more than half of it. Easy to get wrong: where the words of a block
-//! aren't a power of two, some words of a segment lie after its last block and belong to nobody, so a
-//! segment that is full of objects has fewer words of objects than it has words.
+//! Blocks have 4 to 16 words, one class for each size, and then 32, 64 words and so on, up to a whole segment. An object is
+//! placed in a block of the least class that holds it. An object of 4 to 16 words fills its block, a larger one more than
+//! half.
+//!
+//! Easy to get wrong: if a block's words aren't a power of two, some words of a segment lie after its last block and are
+//! unused. So a segment full of objects has fewer words of objects than it has words.
 ghost use Rattle.std.specs.Prelude.{ℕ, ◌≡◌, ◌<◌, ◌≤◌};
 ghost use Rattle.nmgc_object.specs.{Size.object_size, Size.word_count, Size.block_size, Words.IsHeader};
 
@@ -15,26 +16,25 @@ use nmgc_world_spec::Kind;
 /// The words before an object's fields: the header and the name.
 pub const HEADER_WORDS: u32 = 2;
 
-/// How far an object's name lies from its first word, which is the header.
+/// The distance of an object's name from its first word, which is the header.
 pub const NAME_OFFSET: u32 = 1;
 
-/// The most parts that `words_of` is asked for: as many as an object may have fields.
+/// The most parts for which `words_of` is called: the most fields of an object.
 pub const MAX_PARTS: u32 = MAX_FIELDS;
 
 /// The words of a block of class 0.
 pub const MIN_BLOCK_WORDS: u32 = 4;
 
-/// The greatest dense class. Up to it each class has blocks of one word more than the class below;
-/// above it, of twice as many.
+/// The greatest dense class. From class to class, blocks grow by one word up to this class, and double in size above it.
 pub const DENSE_CLASS: u8 = 12;
 
 /// The words of a block of the greatest dense class.
 pub const DENSE_WORDS: u32 = 16;
 
-/// The greatest class. Its block is the largest segment.
+/// The greatest class. Its blocks are as large as the largest segment.
 pub const MAX_CLASS: u8 = 20;
 
-/// The words of a block of the greatest class: those of the largest segment.
+/// The words of a block of the greatest class, which is the largest segment.
 pub const MAX_BLOCK_WORDS: u32 = MAX_SEGMENT_WORDS;
 
 const _: () = prove!(DENSE_WORDS == MIN_BLOCK_WORDS + DENSE_CLASS as u32);
@@ -43,9 +43,9 @@ const _: () = prove!(MAX_BLOCK_WORDS == DENSE_WORDS << (MAX_CLASS - DENSE_CLASS)
 
 const _: () = prove!(MAX_BLOCK_WORDS == HEADER_WORDS + MAX_FIELDS);
 
-/// The words of an object of this kind with so many parts: the values of a constructor or an array,
-/// the free variables of a thunk, the slots of a stack. A thunk has one word more, for its result;
-/// a variable and a weak pointer have a fixed size. Takes no memory.
+/// Returns the words of an object of this kind with `parts` parts: the values of a constructor or array, the free variables
+/// of a thunk, the slots of a stack. A thunk has one word more for its result. A variable and a weak pointer have a fixed
+/// size. Takes no memory.
 pub fn words_of(kind: Kind, parts: u32) -> u32
     requires { parts ≤ MAX_PARTS }
     ensures { result ≡ word_count kind parts }
@@ -59,7 +59,7 @@ pub fn words_of(kind: Kind, parts: u32) -> u32
     HEADER_WORDS + fields
 }
 
-/// The words of an object with this header. Takes no memory.
+/// Returns the words of an object with this header. Takes no memory.
 pub fn object_words(header: Header) -> u32
     requires { IsHeader header }
     ensures size { result ≡ object_size header }
@@ -68,7 +68,7 @@ pub fn object_words(header: Header) -> u32
     HEADER_WORDS + header.fields
 }
 
-/// The words of a block of this class. Takes no memory.
+/// Returns the words of a block of this class. Takes no memory.
 pub fn block_words(class: u8) -> u32
     requires { class ≤ MAX_CLASS }
     ensures size { result ≡ block_size class }
@@ -82,8 +82,8 @@ pub fn block_words(class: u8) -> u32
     }
 }
 
-/// The least class whose block holds so many words. From the greatest dense class on, blocks have 16, 32, 64 words
-/// and so on, so for more than 16 words the answer is that class plus the number of binary digits of `(words - 1) / 16`.
+/// Returns the least class whose block holds `words` words. From the greatest dense class on, blocks have 16, 32, 64 words
+/// and so on. So for more than 16 words the answer is that class plus the number of binary digits of `(words - 1) / 16`.
 /// Takes no memory, and constant time.
 pub fn class_of(words: u32) -> u8
     requires least { 2 ≤ words }

@@ -1,30 +1,29 @@
 //! Headers, names and fields as words.
 //!
-//! Each of the three has its own code, and a reader knows from the place which one to expect: the
-//! first word of an object is its header, the second its name, the rest are fields. Header and name
-//! never change after birth, so they may be read without order among threads.
+//! Each of the three has its own code, and a reader knows from the address which of them to expect. The first word of an
+//! object is its header, the second its name, the rest are fields. Header and name never change after the object is made, so
+//! they may be read without order among threads.
 //!
-//! A field's code keeps apart what the collector follows and what it doesn't: 0 is a field that is
-//! unset, or a weak pointer's value once it is dead; an even word is a pointer; an odd one is nil or
-//! a number. `FieldWord` alone takes it apart, and whoever has a field's word asks it.
+//! A field's code separates the words that the collector follows from the words that it ignores. The word 0 is an unset
+//! field, or a dead weak pointer's value; an even word is a pointer; an odd word is nil or a number. Only `FieldWord` decodes
+//! them.
 //!
-//! Easy to get wrong: a word is not valid because its parts look sound one by one. A tag belongs to
-//! constructors alone, and the number of fields depends on the kind, so decoding tests both together.
+//! Easy to get wrong: a word is not valid because its parts look sound one by one. Only constructors have tags, and the
+//! number of fields depends on the kind, so decoding tests both together.
 ghost use Rattle.std.specs.Prelude.{◌≡◌, ◌≢◌, ◌↔◌, ◌+◌, ◌*◌, ◌%◌, ◌<◌, ◌≤◌, IfSome, IfNone, IsTrue};
 ghost use Rattle.nmgc_world_spec.specs.{declared.value.Name.Name, declared.node.Kind.Kind};
-ghost use Rattle.nmgc_object.specs.Words.{kind_number, header_word, name_word, field_word, IsHeader, IsName, IsField};
-ghost use Rattle.nmgc_object.specs.{declared.words.TheConstants.NUMBER_LIMIT, declared.words.TheConstants.NIL_WORD, declared.words.TheConstants.ZERO_WORD, declared.words.Header.Header, declared.words.Field.Field};
+ghost use Rattle.nmgc_object.specs.{Words.kind_number, Words.header_word, Words.name_word, Words.field_word, Words.IsHeader, Words.IsName, Words.IsField, declared.words.TheConstants.NUMBER_LIMIT, declared.words.TheConstants.NIL_WORD, declared.words.TheConstants.ZERO_WORD, declared.words.Header.Header, declared.words.Field.Field};
 
 use nmgc_limits::SHARED_MAKER;
 use nmgc_world_spec::{Kind, Name};
 
-/// How many tags there are: a header's tag is below it.
+/// The number of tags. A header's tag is below it.
 pub const TAGS: u64 = 256;
 
 /// The most fields that an object may have.
 pub const MAX_FIELDS: u32 = 4094;
 
-/// The most fields of a thunk: its result, and its free variables.
+/// The most fields of a thunk: its result and its free variables.
 pub const MAX_THUNK_FIELDS: u32 = 9;
 
 /// The fields of a variable.
@@ -33,16 +32,16 @@ pub const VAR_FIELDS: u32 = 1;
 /// The fields of a weak pointer: key, value, finaliser.
 pub const WEAK_FIELDS: u32 = 3;
 
-/// Numbers in fields are below it.
+/// The limit of the numbers in fields: each number is less.
 pub const NUMBER_LIMIT: u64 = 1 << 62;
 
-/// What one more tag adds to a header. The kind is below it.
+/// The weight of the tag in a header word. The kind is below it.
 pub const TAG_UNIT: u64 = 8;
 
-/// What one more field adds to a header.
+/// The weight of the number of fields in a header word.
 pub const FIELDS_UNIT: u64 = 2048;
 
-/// What one more object of the same maker adds to a name. The maker is below it.
+/// The weight of the serial in a name word. The maker is below it.
 pub const SERIAL_UNIT: u64 = 64;
 
 /// The field word of nil.
@@ -51,12 +50,11 @@ pub const NIL_WORD: u64 = 1;
 /// The field word of the number 0. A number n has the word `2 * n + 3`.
 pub const ZERO_WORD: u64 = 3;
 
-/// A word's place in the heap, at least 1. Word 0 belongs to nobody, so that no pointer has the word
-/// of an unset field.
+/// The address of a word in the heap, at least 1. Word 0 is unused, so that no pointer has the word of an unset field.
 #[derive(Clone, Copy, Debug, PartialEq, Eq)]
 pub struct Address(pub u32);
 
-/// What the first word of an object says.
+/// The contents of an object's first word.
 #[derive(Clone, Copy, Debug, PartialEq, Eq)]
 pub struct Header {
     pub kind: Kind,
@@ -64,8 +62,7 @@ pub struct Header {
     pub fields: u32,
 }
 
-/// What a field holds. `Unset` is a thunk without a result, a slot above a stack's depth, or the
-/// value of a dead weak pointer.
+/// The contents of a field. `Unset`: a thunk without a result, a slot above a stack's depth, or a dead weak pointer's value.
 #[derive(Clone, Copy, Debug, PartialEq, Eq)]
 pub enum Field {
     Unset,
@@ -74,14 +71,14 @@ pub enum Field {
     Pointer(Address),
 }
 
-/// The word of a field, which is put together and taken apart here alone. An even word is twice a place: 0 where the field
-/// is unset (a dead weak pointer's value is), and else that of the object to which it points. An odd word is nil's or a number's.
-/// Any word may be looked at, also one that means nothing.
+/// The word of a field. Only this type encodes and decodes such words. An even word is twice an address: 0 if the field is
+/// unset (as a dead weak pointer's value), otherwise the address of the object to which it points. An odd word is nil or a
+/// number. The functions accept any word, also a word without meaning.
 #[derive(Clone, Copy, Debug, PartialEq, Eq)]
 pub struct FieldWord(pub u64);
 
 impl FieldWord {
-    /// The word of a pointer to a place. Takes no memory.
+    /// Returns the word of a pointer to the address `at`. Takes no memory.
     #[inline]
     pub fn of_place(at: u32) -> FieldWord
         ensures { result.0 ≡ 2 * at }
@@ -89,7 +86,7 @@ impl FieldWord {
         FieldWord(2 * u64::from(at))
     }
 
-    /// The word of a number, which is below `NUMBER_LIMIT`. Takes no memory.
+    /// Returns the word of a number, which is below `NUMBER_LIMIT`. Takes no memory.
     #[inline]
     pub fn of_number(number: u64) -> FieldWord
         requires { number < NUMBER_LIMIT }
@@ -98,8 +95,8 @@ impl FieldWord {
         FieldWord(2 * number + ZERO_WORD)
     }
 
-    /// The place whose double the word is: 0 where the field is unset. `None` comes exactly where the word is odd. The place
-    /// of a word that means nothing may be beyond the heap, and beyond 32 bits. Takes no memory.
+    /// Returns half the word: the address if the word is a pointer, and 0 if the field is unset. Returns `None` exactly if
+    /// the word is odd. Half a word without meaning may lie beyond the heap, and beyond 32 bits. Takes no memory.
     #[inline]
     pub fn place(self) -> Option<u64>
         ensures some { IfSome result (λ at. self.0 ≡ 2 * at) }
@@ -112,7 +109,7 @@ impl FieldWord {
         }
     }
 
-    /// The number whose word it is. `None` comes exactly where the word is nil's or even. Takes no memory.
+    /// Returns the number that the word represents. Returns `None` exactly if the word is nil or even. Takes no memory.
     #[inline]
     pub fn number(self) -> Option<u64>
         ensures some { IfSome result (λ number. self.0 ≡ 2 * number + ZERO_WORD) }
@@ -126,7 +123,7 @@ impl FieldWord {
 }
 
 impl Header {
-    /// Whether an object of this kind may have the tag and the number of fields.
+    /// Whether an object of the header's kind may have the header's tag and number of fields. `decode_header` checks this.
     pub fn is_valid(&self) -> bool
         ensures { IsTrue result ↔ IsHeader self.now }
     {
@@ -141,7 +138,7 @@ impl Header {
     }
 }
 
-// The number of a kind in a header word.
+// Returns the number that represents a kind in a header word.
 fn number_of_kind(kind: Kind) -> u64
     ensures { result ≡ kind_number kind }
 {
@@ -155,7 +152,7 @@ fn number_of_kind(kind: Kind) -> u64
     }
 }
 
-// The kind of a number in a header word.
+// Returns the kind that a number represents in a header word, or `None` exactly if there is no such kind.
 fn kind_of_number(number: u64) -> Option<Kind>
     ensures some { IfSome result (λ kind. kind_number kind ≡ number) }
     ensures none { IfNone result ((kind : Kind) → kind_number kind ≢ number) }
@@ -171,7 +168,7 @@ fn kind_of_number(number: u64) -> Option<Kind>
     }
 }
 
-/// The word of a valid header. Takes no memory.
+/// Returns the word of a valid header. Takes no memory.
 pub fn encode_header(header: Header) -> u64
     requires { IsHeader header }
     ensures { result ≡ header_word header }
@@ -181,7 +178,7 @@ pub fn encode_header(header: Header) -> u64
         + FIELDS_UNIT * u64::from(header.fields)
 }
 
-/// The valid header that has this word. `None` comes exactly where there is none. Takes no memory.
+/// Returns the valid header that has this word. Returns `None` exactly if no valid header has it. Takes no memory.
 #[inline]
 pub fn decode_header(word: u64) -> Option<Header>
     ensures some { IfSome result (λ header. IsHeader header × (header_word header ≡ word)) }
@@ -204,8 +201,8 @@ pub fn decode_header(word: u64) -> Option<Header>
     }
 }
 
-/// The valid header that has this word: that of `decode_header`, where the caller knows that there is one, without a
-/// look at whether there is. Takes no memory.
+/// Returns the valid header that has this word. It tests nothing: the caller knows that the word is a valid header. Promotion
+/// and marking read a header for each object. Takes no memory.
 #[inline]
 pub fn header_of(word: u64) -> Header
     requires { (header : Header) × IsHeader header × (header_word header ≡ word) }
@@ -221,8 +218,8 @@ pub fn header_of(word: u64) -> Header
     }
 }
 
-/// The number of fields in the word of a valid header: that of `decode_header`, where the caller knows that there is
-/// a header, by one shift. Takes no memory.
+/// Returns the number of fields in the word of a valid header, by one shift. The caller knows that the word is a valid
+/// header. Takes no memory.
 #[inline]
 pub fn fields_of(word: u64) -> u32
     requires { (header : Header) × IsHeader header × (header_word header ≡ word) }
@@ -231,7 +228,7 @@ pub fn fields_of(word: u64) -> u32
     (word / FIELDS_UNIT) as u32
 }
 
-/// The word of a name. The maker is at most `SHARED_MAKER`, whose one serial is 0. Takes no memory.
+/// Returns the word of a name. The maker is at most `SHARED_MAKER`, whose only serial is 0. Takes no memory.
 pub fn encode_name(name: Name) -> u64
     requires { IsName name }
     ensures { result ≡ name_word name }
@@ -239,7 +236,7 @@ pub fn encode_name(name: Name) -> u64
     SERIAL_UNIT * u64::from(name.serial) + u64::from(name.maker)
 }
 
-/// The name that has this word. `None` comes exactly where there is none. Takes no memory.
+/// Returns the name that has this word. Returns `None` exactly if no valid name has it. Takes no memory.
 #[inline]
 pub fn decode_name(word: u64) -> Option<Name>
     ensures some { IfSome result (λ name. IsName name × (name_word name ≡ word)) }
@@ -259,8 +256,8 @@ pub fn decode_name(word: u64) -> Option<Name>
     })
 }
 
-/// The name that has this word: that of `decode_name`, where the caller knows that there is one, without a look at
-/// whether there is. Takes no memory.
+/// Returns the valid name that has this word. It tests nothing: the caller knows that the word is a valid name. Takes no
+/// memory.
 #[inline]
 pub fn name_of(word: u64) -> Name
     requires { (name : Name) × IsName name × (name_word name ≡ word) }
@@ -272,7 +269,7 @@ pub fn name_of(word: u64) -> Name
     }
 }
 
-/// The word of a field. A number is below `NUMBER_LIMIT`, and a pointer isn't 0. Takes no memory.
+/// Returns the word of a field. A number is below `NUMBER_LIMIT`, and a pointer isn't 0. Takes no memory.
 pub fn encode_value(field: Field) -> u64
     requires { IsField field }
     ensures { result ≡ field_word field }
@@ -285,7 +282,7 @@ pub fn encode_value(field: Field) -> u64
     }
 }
 
-/// The field that has this word. `None` comes exactly where there is none. Takes no memory.
+/// Returns the field that has this word. Returns `None` exactly if no valid field has it. Takes no memory.
 pub fn decode_value(word: u64) -> Option<Field>
     ensures some { IfSome result (λ field. IsField field × (field_word field ≡ word)) }
     ensures none { IfNone result ((field : Field) → IsField field → field_word field ≢ word) }

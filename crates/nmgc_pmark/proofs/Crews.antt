@@ -1,8 +1,8 @@
--- The seats of all markers are joined, and their lists together are what is found.
+-- The seats of all markers are join_lists, and their lists together are the found objects.
 use Rattle.nmgc_pmark.proofs.Vocabulary.{◌≡◌, ◌<◌, ◌*◌, ◌%◌, ℕ, zero, suc, List, [], ◌∷◌, ◌++◌, length, map, take, get_or, inl, inr, refl, sym, ap, subst, ◌∙◌, arith, ◌⊎◌, Some, mod-lt, take-append_seam, Contains, slice_index, slice_get, slice_get-get_or, slice_get_within, get_or_from_slice_get, get_or_default, Contains-append_left, Contains-append_right, some, some-injective, some-ne-none, get_elem?, at_longer, contains_head, contains_tail, contains_cases, Room, Address, ClaimTable, Marker, Part, ClaimsSeen, blank, blanks, together, CanSplit, HasAll, IsShared, seen, bounds_of, IsFound, IsIn, block_index, blocks_of, CanMark, AreDistinct, part_of, IsSound, IsTaken, HasMarked, AreNumbered, HaveAllMarked, AreSound, IsSharedAmong, AreMarked, found_of}
 use Rattle.nmgc_pmark.proofs.Rules.{only_one, in_either, at_later}
 
--- what the first seat knows, split again and again
+-- the knowledge of the first seat, split again and again
 blanks_above : (n m j k : ℕ) (q : Part) → j < n → get_elem? (blanks n m) k ≡ some q → j < q.number
 blanks_above n zero j k q h e = absurd (some-ne-none q (sym e))
 blanks_above n (suc m) j zero q h e = subst (λ (r : Part). j < r.number) (some-injective (blank n) q e) h
@@ -14,7 +14,7 @@ rest_from n m = record { parts = blanks n m; others = [] }
 pub can_split : (n m : ℕ) → CanSplit (rest_from n (suc m))
 can_split n m = (blank n, blanks (suc n) m, refl, λ k q e i. let h = blanks_above (suc n) m n k q (omega arith) e in omega (arith, h, i))
 
--- the item at a place of a list with one more
+-- the item at a position of a list with a further item
 module _ {A : Type 0} where
   pub at_push : (xs : List A) (x y : A) (k : ℕ) → slice_get (xs ++ x ∷ []) k ≡ Some y → (slice_get xs k ≡ Some y) ⊎ (x ≡ y)
   at_push [] x y zero e = inr (one_some x y e)
@@ -44,7 +44,7 @@ module _ {A : Type 0} where
   at_mapped f (x ∷ xs) zero y e = (x, refl, cc)
   at_mapped f (x ∷ xs) (suc k) y e = at_mapped f xs k y e
 
--- a seat with the parts of these markers, which knows what each of them found claimed
+-- a seat with the parts of these markers, and with all blocks that each of them found claimed
 pub record Gathers (v : ClaimsSeen) (ms : List Marker) : Type 0 where
   pub has : (k : ℕ) (m : Marker) → slice_get ms k ≡ Some m → (i : ℕ) × (get_elem? v.parts i ≡ some (part_of m))
   pub only : (i : ℕ) (p : Part) → get_elem? v.parts i ≡ some p → (k : ℕ) × (m : Marker) × (slice_get ms k ≡ Some m) × (p ≡ part_of m)
@@ -90,7 +90,7 @@ gathers_more v ms m g alone =
       ];
     }
 
--- the last one first: the same markers
+-- the last marker first: the same markers
 last_first : (xs : List Marker) (x m : Marker) (k : ℕ) → slice_get (xs ++ x ∷ []) k ≡ Some m → (j : ℕ) × (slice_get (x ∷ xs) j ≡ Some m)
 last_first xs x m k e = elim (at_push xs x m k e) [ inl old ↦ (suc k, old) | inr same ↦ (0, ap (λ (y : Marker). Some y) same) ]
 
@@ -98,12 +98,12 @@ first_last : (xs : List Marker) (x m : Marker) (k : ℕ) → slice_get (x ∷ xs
 first_last xs x m zero e = (length xs, at_pushed xs x ∙ e)
 first_last xs x m (suc k) e = (k, at_front xs (x ∷ []) m k e)
 
--- who stands at a place has its number
+-- a marker's number is its position
 pub numbered : (crew : List Marker) → AreNumbered crew → (k : ℕ) (m : Marker) → slice_get crew k ≡ Some m → m.number ≡ k
 numbered crew numbers k m e = subst (λ (x : Marker). x.number ≡ k) (get_or_from_slice_get crew k m m e) (numbers k m (slice_get_within crew k m e))
 
 module _ (crew xs : List Marker) (x : Marker) (is : crew ≡ xs ++ x ∷ []) (v : ClaimsSeen) (g : Gathers v (x ∷ xs)) where
-  -- the gathered seat has every part
+  -- the collect_lists seat has every part
   pub has_all : (markers : ℕ) → AreNumbered crew → length crew ≡ markers → HasAll markers v
   has_all markers numbers count m lt =
       let d : Marker = get_or crew m x in
@@ -128,7 +128,7 @@ module _ (crew xs : List Marker) (x : Marker) (is : crew ≡ xs ++ x ∷ []) (v 
         (r.0, o.1, subst (λ (l : List Marker). slice_get l r.0 ≡ Some o.1) (sym is) r.1, subst (λ (p : Part). Contains p.claimed b) o.3 f.3);
   }
 
--- a block's number comes from a place of the list
+-- a block's number comes from an address in the list
 place_of : (xs : List Address) (b : ℕ) → Contains (blocks_of xs) b → (at : ℕ) × IsIn xs at × (block_index at ≡ b)
 place_of [] b c = absurd (omega (arith, c.1))
 place_of (x ∷ xs) b c = elim (contains_cases (block_index x.0) (blocks_of xs) b c) [
@@ -206,7 +206,7 @@ module _ (t : ClaimTable) (words starts : List ℕ) (markers : ℕ) (crew : List
 pub split_rest : (v : ClaimsSeen) (n m : ℕ) → v ≡ rest_from n (suc m) → CanSplit v
 split_rest v n m is = subst (λ (w : ClaimsSeen). CanSplit w) (sym is) (can_split n m)
 
--- the marker that comes is one of them
+-- the next marker is one of them
 module _ (all before : List Marker) (last : Marker) (is : all ≡ before ++ last ∷ []) where
   at_middle : (xs ys : List Marker) (m : Marker) → slice_get (xs ++ m ∷ ys) (length xs) ≡ Some m
   at_middle [] ys m = refl
@@ -226,6 +226,6 @@ pub none_left : (xs : List Marker) → length xs ≡ 0 → xs ≡ []
 none_left [] e = refl
 none_left (x ∷ xs) e = absurd (omega (arith, e))
 
--- what was written through a slice of the whole list
+-- the part that was written through a slice of the whole list
 pub written : (xs ys : List Marker) (n : ℕ) → n ≡ length xs → take n (xs ++ ys) ≡ xs
 written xs ys n e = ap (λ (k : ℕ). take k (xs ++ ys)) e ∙ take-append_seam xs ys

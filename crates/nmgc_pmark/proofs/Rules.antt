@@ -1,4 +1,4 @@
--- Each kind of step keeps the rule of a claim table, and whoever has every part learns what it says.
+-- Each kind of step keeps the rule of a claim table, and a seat with every part learns its consequences.
 use Rattle.std.proofs.{Common.◌≡◌, Common.◌≢◌, Common.◌⊎◌, Common.inl, Common.inr, Common.⊎_elim, Common.ℕ, Common.zero, Common.suc, Common.◌+◌, Common.◌-◌, Common.◌<◌, Common.Bool, Common.true, Common.false, Common.cond, Common.eqb, Common.List, Common.[], Common.◌∷◌, Common.◌++◌, Common.length, Common.slice_index, Common.set, Common.replicate, Common.refl, Common.sym, Common.ap, Common.◌∙◌, Common.subst, Common.arith, Common.eq-eqb, Common.ne_eqb, Common.length-set, Common.true≢false, lemmas.Bool.cases_eq, lemmas.List.get_or-set_same, lemmas.List.get_or-set_other, lemmas.List.length-replicate, lemmas.List.Elements.Contains-append_left, lemmas.List.Elements.Contains-append_cases, lemmas.List.Elements.Contains-push, lemmas.List.Elements.Contains-push_cases}
 use Rattle.std.specs.Prelude.{Contains}
 use mathlib.Core.Option.{some, some-injective, some-ne-none}
@@ -15,13 +15,13 @@ module _ {A : Type 0} where
   only_one R x h zero y e = subst R (some-injective x y e) h
   only_one R x h (suc k) y e = absurd (some-ne-none y (sym e))
 
-  -- a place with an item is within the list
+  -- a position with an item is within the list
   pub inside : (l : List A) (i : ℕ) (a : A) → get_elem? l i ≡ some a → i < length l
   inside [] i a e = absurd (some-ne-none a (sym e))
   inside (x ∷ xs) zero a e = omega arith
   inside (x ∷ xs) (suc i) a e = let h = inside xs i a e in omega arith
 
-  -- at the last place, or before
+  -- at the last position, or before
   pub at_end : (l : List A) (a b : A) (j : ℕ) → get_elem? (l ++ a ∷ []) j ≡ some b → ((j < length l) × (get_elem? l j ≡ some b)) ⊎ ((j ≡ length l) × (a ≡ b))
   at_end [] a b zero e = inr (refl, some-injective a b e)
   at_end [] a b (suc j) e = absurd (some-ne-none b (sym e))
@@ -62,7 +62,7 @@ module _ (bounds : Bounds) where
     mine : (h.owner p.number ≡ id) × (p.number < bounds.markers) × ((b : ℕ) → Contains p.claimed b → slice_index words b ≡ p.number + 1)
     mine = (h.agrees id v here).parts 0 p (ap (λ l. get_elem? l 0) alone)
 
-    -- what v lists is what its one part lists
+    -- the blocks that v lists are in its only part
     own : (number b : ℕ) → IsListed v number b → (p.number ≡ number) × Contains p.claimed b
     own number b l = only_one (λ (r : Part). r.number ≡ number → Contains r.claimed b → (p.number ≡ number) ×
         Contains p.claimed b) p (λ e c. (e, c)) l.place l.part (ap (λ k. get_elem? k l.place) (sym alone) ∙ l.there) l.is l.claimed
@@ -72,7 +72,7 @@ module _ (bounds : Bounds) where
         let w : slice_index words i ≡ p.number + 1 = mine.2 i (subst (λ l. Contains (claimed_in l) i) alone c) in
         absurd (omega (arith, was, w))
 
-    -- nobody had the block
+    -- the block was unclaimed
     module _ (within : i < length words) (was : slice_index words i ≡ 0) where
       abbrev now_ : List ℕ
       now_ = set words i (p.number + 1)
@@ -145,7 +145,7 @@ module _ (bounds : Bounds) where
         listed = listed_now;
       }
 
-    -- somebody had it
+    -- the block was claimed
     module _ (had : slice_index words i ≢ 0) where
       abbrev refused : ClaimsSeen
       refused = tried v i false
@@ -359,7 +359,7 @@ module _ (bounds : Bounds) where
       })
       first (suc id) v e = absurd (some-ne-none v (sym e))
 
-  -- a seat with every part knows where each block is
+  -- a seat with every part knows the marker of each block
   module _ (s : State (Unit {0}) ClaimsSeen) (h : holds s) (id : ℕ) (v : ClaimsSeen) (here : get_elem? s.views id ≡ some v) (all : HasAll bounds.markers v) where
     all_here : (number b : ℕ) → slice_index s.words b ≡ number + 1 → (k : ℕ) × (p : Part) × (get_elem? v.parts k ≡ some p) × Contains p.claimed b
     all_here number b e =

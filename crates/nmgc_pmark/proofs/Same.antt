@@ -1,8 +1,8 @@
--- What several markers list from a snapshot's registers and queues is what the one marker marked.
+-- Several markers list exactly the objects that the one marker marked, from a snapshot's registers and queues.
 use Rattle.nmgc_pmark.proofs.Vocabulary.{◌≡◌, ◌≢◌, ◌↔◌, ℕ, List, [], sym, ap, subst, Contains, Name, World, shared_name, IsReached, IsRoot, Facts, State, names_of, Segments, IsSnapshotAt, IsMarkedAt, Place, replay, now, Opening, MarkerSeen, IsStart, roots_of, AreClaims, IsClaimed, IsMarkedAlone}
 use Rattle.nmgc_pmark.proofs.Scans.{IsScanned, scanned_from, start_root, root_start}
 
--- what is reached from some names is reached from more
+-- names that are reachable from some names are reachable from more
 reached_from_more : (w : World) (P Q : Name → Type 0) → ((name : Name) → P name → Q name) → (name : Name) → IsReached w P name → IsReached w Q name
 reached_from_more w P Q more name (IsReached.start _ p) = IsReached.start name (more name p)
 reached_from_more w P Q more name (IsReached.field from _ r f) = IsReached.field from name (reached_from_more w P Q more from r) f

@@ -1,9 +1,9 @@
--- Scans alone mark what the roots reach along strong fields, and nothing else.
+-- Scans alone mark only names that are reachable from the roots along strong fields.
 use Rattle.nmgc_pmark.proofs.Vocabulary.{◌≡◌, ℕ, List, [], ◌∷◌, ◌++◌, zero, suc, length, refl, sym, ap, subst, ◌∙◌, arith, Option, Some, None, inl, inr, ◌⊎◌, true, false, Contains, get_or_past, Contains-append_left, Contains-append_right, Contains-append_cases, Contains-get_or, Contains-push_cases, cases_lt, get_or_from_slice_get, MutatorState, Node, Name, Value, World, IsWorld, state_of, node_of, no_mutator, shared_name, IsReached, IsRoot, strong_fields, contains_head, contains_tail, nothing_in, one_is, contains_flat, flat_contains, place_of, has_result, Entry, State, names_of, mark_name, mark_read, mark_values, root_values, unmarked, opening, advanced, after_scan, field_at, read_at, Facts, refers, mark_cases, opening_facts, none_of, read_cases, scan_facts, Happening, did, scanned, replay, AreScans, IsStart, roots_of}
 use Rattle.std.specs.Prelude.{flat_map}
 use Rattle.nmgc_world_spec.specs.declared.value.Value.TheVariants as value
 
--- but for marks and queue the states are the same
+-- except for marks and queue the states are the same
 record IsAsBefore (s t : State) : Type 0 where
   world : t.world ≡ s.world
   snapshot : t.snapshot ≡ s.snapshot
@@ -49,7 +49,7 @@ valued s (value.Nil ∷ values) = valued s values
 valued s (value.Number n ∷ values) = valued s values
 valued s (value.Ref name ∷ values) = and_then s (mark_name s name) (mark_values (mark_name s name) values) (named s name) (valued (mark_name s name) values)
 
--- a marked name was marked before, or is the one that was read
+-- a marked name was marked before, or is the name that was read
 name_marked : (s : State) (name other : Name) → Contains (mark_name s name).marked other → Contains s.marked other ⊎ (name ≡ other)
 name_marked s name other = mark_cases (λ (t : State). Contains t.marked other → Contains s.marked other ⊎
     (name ≡ other)) s name (λ e c. Contains-push_cases s.marked name other c) (λ e c. inl c)
@@ -89,7 +89,7 @@ module _ (w : World) (h : IsWorld w) where
   abbrev Reached : Name → Type 0
   Reached name = IsReached w (IsRoot w) name
 
-  -- what scans keep from the opening on
+  -- the invariant of scans from the opening on
   pub record IsScanned (s : State) : Type 0 where
     pub facts : Facts s
     pub world : s.world ≡ w
@@ -98,7 +98,7 @@ module _ (w : World) (h : IsWorld w) where
     pub pushed : (m : ℕ) → names_of s.pushed m ≡ []
     pub reached : (name : Name) → Contains s.marked name → Reached name
 
-  -- what is read at a field of a reached object is reached
+  -- a name read at a field of a reachable object is reachable
   field_reached : (s : State) (i : IsScanned s) (entry : Entry) → Contains s.queue entry → (k : ℕ) → entry.position ≡ suc k → (node : Node) →
       node_of s.world entry.name ≡ Some node → (name : Name) → field_at node k ≡ Some (value.Ref name) → Reached name
   field_reached s i entry c k at node is name e =
@@ -142,7 +142,7 @@ module _ (w : World) (h : IsWorld w) where
         ];
       }
 
-  -- what the mutators hold is a root, and so are the slots of g
+  -- the names in registers and queues are roots, and so are those in the slots of g
   held_root : (f : MutatorState → List Value) → ((m : ℕ) (v : Value) → Contains (f (state_of w m)) v →
       Contains ((state_of w m).registers ++ (state_of w m).queue) v) → (name : Name) → Contains (flat_map f w.mutators) (value.Ref name) → IsRoot w name
   held_root f part name c =

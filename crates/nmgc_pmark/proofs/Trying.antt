@@ -1,9 +1,9 @@
--- What trying to claim changes, and what it keeps.
+-- The effects of trying to claim, and the facts that it keeps.
 use Rattle.std.proofs.{Common.◌≡◌, Common.◌≢◌, Common.◌<◌, Common.◌≤◌, Common.◌+◌, Common.◌-◌, Common.◌*◌, Common.◌%◌, Common.ℕ, Common.zero, Common.suc, Common.true, Common.false, Common.List, Common.[], Common.◌∷◌, Common.◌++◌, Common.length, Common.inl, Common.inr, Common.refl, Common.sym, Common.ap, Common.subst, Common.◌∙◌, Common.arith, Common.◌⊎◌, Common.append_assoc, Common.append-nil, Common.length-append, lemmas.Bool.cases_eq, lemmas.List.length-map, lemmas.List.Elements.Contains-append_left, lemmas.List.Elements.Contains-push, lemmas.List.Elements.Contains-push_cases}
 use Rattle.std.specs.Prelude.{Contains, slice_index}
 use Rattle.nmgc_lists.specs.laws.Items.{contains_head, contains_tail, contains_cases, nothing_in as nothing}
 use Rattle.nmgc_object.specs.{declared.words.Address.Address, declared.layout.TheConstants.FIRST_PLACE}
-use Rattle.nmgc_blocks_spec.specs.Strong.{IsAmong}
+use Rattle.nmgc_stop_spec.specs.Strong.{IsAmong}
 use Rattle.nmgc_pmark.specs.{declared.table.ClaimTable.ClaimTable, declared.marker.Marker.Marker, Rule.IsMarker, Seat.seen, Seat.bounds_of, Seat.IsAt, Found.block_index, Found.blocks_of, Marker.AreDistinct, Marker.part_of, Marker.IsSound, Marker.IsTaken, Marker.HasTried, Marker.IsOwnStart, View.Part, View.ClaimsSeen, View.claiming, View.first_changed, View.tried, View.claimed_in, View.claimed_by}
 
 -- numbers without doubles
@@ -87,7 +87,7 @@ module _ (t : ClaimTable) where
     conserved = refl;
   }
 
-  -- one after the other
+  -- two tries in order
   pub tried_then : (a b c : Marker) (P Q R : ℕ → Type 0) → HasTried t a b P → HasTried t b c Q → ((w : ℕ) → P w → R w) → ((w : ℕ) → Q w → R w) →
       ((w : ℕ) → R w → P w ⊎ Q w) → HasTried t a c R
   tried_then a b c P Q R f g left right both = record {
@@ -104,7 +104,7 @@ module _ (t : ClaimTable) where
     conserved = g.conserved ∙ f.conserved;
   }
 
-  -- the same words told otherwise
+  -- the same words, defined in another way
   pub tried_as : (a b : Marker) (P R : ℕ → Type 0) → HasTried t a b P → ((w : ℕ) → P w → R w) → ((w : ℕ) → R w → P w) → HasTried t a b R
   tried_as a b P R f to from = record {
     sound = f.sound;
@@ -122,7 +122,7 @@ module _ (t : ClaimTable) where
     own : claimed_by (seen m.seat) ≡ blocks_of m.found.items
     own = ap claimed_in h.alone
 
-    -- there is room for a block that it hasn't
+    -- there is room for a block that the marker doesn't have
     pub has_room : (Contains (claimed_by (seen m.seat)) (block_index at) → ⊥) → 0 < m.found.spare
     has_room fresh =
         let all = few (bounds_of t).blocks (blocks_of m.found.items ++ block_index at ∷ [])
@@ -138,7 +138,7 @@ module _ (t : ClaimTable) where
         let room = h.room in
         omega (arith, all, long, same, room)
 
-    -- and in the list of those that wait too, since that isn't longer
+    -- and in the list of waiting objects too, since that isn't longer
     pub has_waiting_room : (Contains (claimed_by (seen m.seat)) (block_index at) → ⊥) → 0 < m.waiting.spare
     has_waiting_room fresh =
         let all = few (bounds_of t).blocks (blocks_of m.found.items ++ block_index at ∷ [])
@@ -198,7 +198,7 @@ module _ (t : ClaimTable) where
           conserved = omega (arith, longer, spare);
         }
 
-    -- somebody has it
+    -- the block is claimed already
     pub tried_refused : seen n.seat ≡ tried (seen m.seat) (block_index at) false → n.found ≡ m.found → n.waiting ≡ m.waiting → HasTried t m n (λ w. w ≡ 2 * at)
     tried_refused view same still =
         let b : ℕ = block_index at in
@@ -232,7 +232,7 @@ module _ (t : ClaimTable) where
           conserved = omega (arith, longs, spares);
         }
 
--- the starting words up to one, and that one
+-- the starting words up to a position, and the next one
 pub own_none : (t : ClaimTable) (m : Marker) (starts : List ℕ) (markers number : ℕ) → IsSound t m → HasTried t m m (IsOwnStart starts markers number 0)
 own_none t m starts markers number h = tried_none t m (IsOwnStart starts markers number 0) h (λ at l i. absurd (omega (arith, i.1)))
 
@@ -257,7 +257,7 @@ own_skip t a b starts markers number i other f =
       | inr ne ↦ (r.0, omega (arith, r.1, ne), r.2, r.3)
     ])
 
--- the words from one place up to another, one after the other
+-- the words from one address up to another, in order
 pub among_none : (t : ClaimTable) (m : Marker) (words : List ℕ) (from : ℕ) → IsSound t m → HasTried t m m (IsAmong words from from)
 among_none t m words from h = tried_none t m (IsAmong words from from) h (λ at l i. absurd (omega (arith, i.1, i.2)))
 

@@ -2,7 +2,7 @@
 pub use Rattle.atomic_table.proofs.Lists.{at_last, at_longer, at_set, set_else, set_here}
 pub use Rattle.atomic_table.specs.Table.{Allows, Final, Joins, Me, Seen as SeenIn, Splits, keeps}
 pub use Rattle.nmgc_alloc.specs.{AllocState.cells, Blocks.IsMarkedAt, Blocks.IsSnapshotAt, Numbered.Segments, Segments.IsSegments}
-pub use Rattle.nmgc_blocks_spec.specs.{Occupied.AreBlocks, Occupied.IsOccupied, Strong.HasStrong, Strong.strong_of, laws.Blocks.IsBlock, laws.Blocks.is_block, laws.Blocks.occupied_apart, laws.Fields.field_in, laws.Fields.field_out, laws.Fields.stands}
+pub use Rattle.nmgc_stop_spec.specs.{Occupied.AreBlocks, Occupied.IsOccupied, Strong.HasStrong, Strong.strong_of, laws.Blocks.IsBlock, laws.Blocks.is_block, laws.Blocks.occupied_apart, laws.Fields.field_in, laws.Fields.field_out, laws.Fields.stands}
 pub use Rattle.nmgc_heap_spec.specs.{Places.ListMeans, Places.Means, Places.Place, Represents.NoNode, Represents.Represents, Shape.header_of, Shape.size_of, Tracked.IsTracked, laws.Common.flat_registers, laws.Common.list_has as meant, laws.Common.list_of as worded, laws.Common.means_append, laws.Slots.strong_held}
 pub use Rattle.nmgc_journal.specs.declared.report.MutatorEnd.{MutatorEnd}
 pub use Rattle.nmgc_limits.specs.declared.mutators.TheConstants.{SHARED_MAKER, SHARED_SLOTS}

@@ -1,11 +1,9 @@
 //! The claim table: a word for each block, 0 or the number of the marker that claimed the block plus one.
 //!
-//! A marker claims a block by one compare-exchange, so of several that come to a block one has it, and each of the
-//! others knows that somebody does. Who it is it needn't know: once the seats of all markers are joined, every block
-//! that was found claimed is in some marker's list (`close`).
+//! A marker claims a block by one compare-exchange. So only one marker gets a block, and others find it claimed. They needn't
+//! know by which marker: once all seats are join_lists, every block that was found claimed is in some marker's list (`close`).
 //!
-//! Easy to get wrong: a marker that was refused a block may not wait for whoever has it. It need not, since that
-//! one scans what it claimed.
+//! Easy to get wrong: a marker that was refused a block may not wait for its owner. It need not: the owner scans the block.
 ghost use Rattle.std.specs.Prelude.{◌≡◌, ◌<◌, Contains, IfOk, IsTrue};
 ghost use Rattle.nmgc_pmark.specs.{View.whole, View.tried, View.claimed_by, View.keeps_rest, View.gives_first, View.together, Rule.IsMarker, Rule.CanSplit, Rule.HasAll, Rule.IsShared, Seat.seen, Seat.bounds_of, Seat.IsAt};
 
@@ -17,8 +15,7 @@ use nmgc_lists::NoMemory;
 use std::alloc::Global;
 
 impl ClaimTable {
-    /// A table in which no block is claimed, with one seat that has the part of every marker. Takes memory for its
-    /// words, and for as many while it is made.
+    /// Makes a table without claims, and a seat with all markers' parts. Takes memory for its words, twice that while made.
     pub fn new(alloc: Global, bounds: Bounds) -> Result<(ClaimTable, ClaimSeat), NoMemory>
         requires { 0 < bounds.blocks }
         ensures bounds { IfOk result (λ t. bounds_of t.0 ≡ bounds) }
@@ -30,7 +27,7 @@ impl ClaimTable {
         Ok((ClaimTable { table }, seat))
     }
 
-    /// Cuts off the seat of the first marker. The seat keeps the other parts.
+    /// Splits off a seat for the first marker, and returns it. The old seat keeps the other parts.
     pub fn split(&self, seat: &mut ClaimSeat) -> ClaimSeat
         requires seat { IsAt self.now seat.old }
         requires ready { CanSplit (seen seat.old) }
@@ -41,7 +38,7 @@ impl ClaimTable {
         self.table.shared.split_seat::<FirstMarker>(seat)
     }
 
-    /// Takes another seat's parts in, and what it found. That seat is no more.
+    /// Joins two seats: `seat` gets the parts of `other` and the blocks that `other` found claimed, and `other` ends.
     pub fn join(&self, seat: &mut ClaimSeat, other: ClaimSeat)
         requires seats { IsAt self.now seat.old × IsAt self.now other }
         ensures seat { IsAt self.now seat.new }
@@ -50,8 +47,8 @@ impl ClaimTable {
         self.table.shared.join_seat::<Both>(seat, other)
     }
 
-    /// Claims a block for the marker whose seat this is, by one compare-exchange, and answers whether it has it now.
-    /// If so nobody had it before; if not, somebody has it. Takes no memory and waits for nobody.
+    /// Claims a block for the seat's marker by one compare-exchange, and returns whether the marker gets it. A block goes to
+    /// at most one marker: if the marker gets it, it was unclaimed, and otherwise claimed. Takes no memory and never waits.
     pub fn claim(&self, seat: &mut ClaimSeat, marker: u8, block: usize) -> bool
         requires seat { IsAt self.now seat.old }
         requires marker { IsMarker (seen seat.old) marker }
@@ -67,8 +64,8 @@ impl ClaimTable {
         found == 0
     }
 
-    /// Ends the claims, by a seat that has the part of every marker. No block is in the lists of two markers, and
-    /// each block that was found claimed is in one.
+    /// Ends the table, with a seat that has the part of every marker. No block is in the lists of two markers, and each block
+    /// that was found claimed is in a list.
     pub fn close(self, seat: ClaimSeat)
         requires seat { IsAt self seat }
         requires all { HasAll (bounds_of self).markers (seen seat) }

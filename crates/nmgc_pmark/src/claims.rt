@@ -1,17 +1,16 @@
 //! Several markers mark a stopped heap.
 //!
-//! The markers start at the root words, and at the slots of g after them, the i-th word going to marker i modulo their
-//! number. What they claim are places; once all are done the names of the objects there are read, and each marker's are
-//! put in order, side by side too.
+//! The markers start at the root words and then the slots of g: word i goes to marker i modulo the number of markers. They
+//! claim addresses. Once all are done, the names there are read, and each marker's names are put in order, side by side too.
 //!
-//! Easy to get wrong: how many objects a marker claims depends on the schedule, and which. That all together claim
-//! exactly what the roots reach, each object once, doesn't.
+//! Easy to get wrong: the number of objects that a marker claims depends on the schedule, and so does the choice. The claims
+//! of all together don't: they are exactly the objects reachable from the roots, each once.
 ghost use Rattle.std.specs.Prelude.{ℕ, ◌≡◌, ◌≤◌, length, take, IfOk};
 ghost use Rattle.nmgc_object.specs.declared.layout.TheConstants.{FIRST_PLACE};
 ghost use Rattle.nmgc_pmark.specs.{declared.crew.TheConstants.MOST_MARKERS, Claims.Stopped, Claims.IsStopped, Claims.AreClaims, Claims.starts_of, Names.AreNamed, Names.IsNamed, Names.NameAll, Names.NameThem, Names.AreAllRead};
 
 use crate::bounds::Bounds;
-use crate::crew::places_marked;
+use crate::crew::mark_places;
 use crate::order::sort;
 use crate::still::StillWords;
 use nmgc_alloc::Segments;
@@ -32,13 +31,13 @@ pub struct Claims {
     pub by: List<List<Name>>,
 }
 
-/// Marks what root words and the slots of g reach on a stopped heap, by so many markers, from 1 to `MOST_MARKERS`, side by
-/// side. Words, segments and roots stand for some stopped heap with empty nurseries; all markers read the words at once,
-/// and nobody writes them meanwhile. The lists together hold exactly the names that strong fields reach from the roots and
-/// the slots of g, each once, whatever the number of markers and whatever the schedule was. Each marker passes `gate` as
-/// its number before each object that it scans, and counts from 1. The names of each marker's objects are then read and put
-/// in order in a thread too. Takes memory for a word a block (twice that while the table is made), for 8 bytes a block and
-/// marker, and for the names.
+/// Marks all that is reachable from root words and the slots of g on a stopped heap, and returns the names that each marker
+/// claimed. From 1 to `MOST_MARKERS` markers work side by side. Words, segments and roots represent some stopped heap with
+/// empty nurseries. All markers read the words at once, and nothing writes them meanwhile. The lists together contain exactly
+/// the names reachable along strong fields from the roots and the slots of g, each once, whatever the number of markers and
+/// the schedule. Before each object that it scans, each marker passes `gate` as its number, and counts from 1. The names of
+/// each marker's objects are then read and put in order, in a thread too. Takes memory for a word a block (twice that while
+/// the table is made), for 8 bytes a block and marker, and for the names.
 pub fn mark_all<R: Threads + Sync, W: StillWords, G: Gate>(
     alloc: Global,
     rt: &R,
@@ -58,11 +57,11 @@ pub fn mark_all<R: Threads + Sync, W: StillWords, G: Gate>(
         markers,
         blocks: most_blocks(segments.layout()) as usize,
     };
-    let lists = places_marked(alloc, rt, words, starts.as_slice(), bounds, gate)?;
-    named_all(alloc, rt, words, lists)
+    let lists = mark_places(alloc, rt, words, starts.as_slice(), bounds, gate)?;
+    read_all_names(alloc, rt, words, lists)
 }
 
-// The roots, and the slots of g after them.
+// Returns the starting words of all markers: the roots, and then the slots of g.
 fn starts_of<W: StillWords>(alloc: Global, words: &W, roots: &[u64]) -> Result<Vec<u64>, NoMemory>
     requires { FIRST_PLACE ≤ length (W.words words.now) }
     ensures { IfOk result (λ starts. starts.items ≡ starts_of (W.words words.now) roots.now) }
@@ -75,9 +74,8 @@ fn starts_of<W: StillWords>(alloc: Global, words: &W, roots: &[u64]) -> Result<V
     Ok(starts)
 }
 
-// The names of the objects of each list, in order, each list's in a thread of its own where one can be started: to put
-// names in order takes longer than to mark the objects.
-fn named_all<R: Threads + Sync, W: StillWords>(
+// Returns the names of each list's objects, in order, by a thread for each list if possible: this takes longer than marking.
+fn read_all_names<R: Threads + Sync, W: StillWords>(
     alloc: Global,
     rt: &R,
     words: &W,
@@ -94,11 +92,11 @@ fn named_all<R: Threads + Sync, W: StillWords>(
             ensures { IfOk result (λ names. NameThem (W.words words.entry.now) list.items names) }
         { named(alloc, words, list.items()) },
     )?;
-    gathered(alloc, read)
+    collect_lists(alloc, read)
 }
 
-// The lists of names, if there was memory for each.
-fn gathered(alloc: Global, read: Vec<Result<List<Name>, NoMemory>>) -> Result<Claims, NoMemory>
+// Returns the lists of names, or `NoMemory` if there was no memory for one of them.
+fn collect_lists(alloc: Global, read: Vec<Result<List<Name>, NoMemory>>) -> Result<Claims, NoMemory>
     ensures { IfOk result (λ claims. AreAllRead read.items claims.by) }
 {
     let mut by = List::new(alloc);
@@ -108,7 +106,7 @@ fn gathered(alloc: Global, read: Vec<Result<List<Name>, NoMemory>>) -> Result<Cl
     Ok(Claims { by })
 }
 
-// The names of the objects at some places, in order.
+// Returns the names of the objects at the addresses, in order of names.
 fn named<W: StillWords>(
     alloc: Global,
     words: &W,

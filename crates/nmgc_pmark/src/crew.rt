@@ -1,8 +1,8 @@
 //! All markers side by side.
 //!
-//! The first seat is split into one for each marker before any of them starts. Then each marks, in a thread of its own
-//! where one can be started; else the caller does its work, one marker after the other. Once all are back their
-//! seats are joined, and the one that is left knows that every block that somebody found claimed is in some list.
+//! Before any marker starts, the first seat is split into a seat for each. Then each marks in a thread of its own. If a
+//! thread can't be started, the caller's thread marks in its place, one marker after the other. Once all markers are done
+//! their seats are join_lists. The last seat knows that every block that any marker found claimed is in some list.
 ghost use Rattle.std.specs.Prelude.{◌≡◌, ◌-◌, ◌<◌, ◌≤◌, [], ◌∷◌, ◌^◌, length, map, vec_len, IfOk};
 ghost use Rattle.nmgc_pmark.specs.{View.whole, View.blank, Seat.seen, Seat.bounds_of, Seat.IsAt, Found.CanMark, Marker.CanBegin, Marker.HasMarked, declared.crew.TheConstants.MOST_MARKERS};
 ghost use Rattle.nmgc_pmark.specs.Crew.{AreNumbered, CanAllBegin, HaveAllMarked, AreSound, IsSharedAmong, AreMarked, found_of};
@@ -18,11 +18,12 @@ use std::alloc::Global;
 use std::thread;
 use std::thread::Threads;
 
-/// There may be so many markers.
+/// The greatest number of markers.
 pub const MOST_MARKERS: u8 = 8;
 
-/// What starting words reach, as so many lists as there are markers: each object that is found is in one list, once.
-pub fn places_marked<R: Threads + Sync, W: StillWords, G: Gate>(
+/// Marks all that is reachable from starting words, and returns a list for each marker: each found object is in one list,
+/// once. A test calls it on two objects under a gate at which two markers meet.
+pub fn mark_places<R: Threads + Sync, W: StillWords, G: Gate>(
     alloc: Global,
     rt: &R,
     words: &W,
@@ -36,7 +37,7 @@ pub fn places_marked<R: Threads + Sync, W: StillWords, G: Gate>(
     ensures { IfOk result (λ lists. AreMarked (W.words words.now) starts.now bounds.markers lists.items) }
 {
     let (table, seat) = ClaimTable::new(alloc, bounds)?;
-    let mut crew = hired(alloc, &table, seat, bounds)?;
+    let mut crew = make_crew(alloc, &table, seat, bounds)?;
     mark_beside(
         rt,
         &table,
@@ -46,11 +47,11 @@ pub fn places_marked<R: Threads + Sync, W: StillWords, G: Gate>(
         crew.as_mut_slice(),
         gate,
     );
-    dismissed(alloc, table, crew)
+    end_crew(alloc, table, crew)
 }
 
-// A marker that claimed nothing yet, with room for every block.
-fn recruit(
+// Makes a marker that has claimed nothing yet, with room for every block.
+fn make_marker(
     alloc: Global,
     table: &ClaimTable,
     seat: ClaimSeat,
@@ -78,8 +79,8 @@ fn recruit(
     })
 }
 
-// A marker for each number, from a seat that has the part of every one.
-fn hired(
+// Makes a marker for each number, from a seat that has the part of every marker.
+fn make_crew(
     alloc: Global,
     table: &ClaimTable,
     seat: ClaimSeat,
@@ -98,13 +99,13 @@ fn hired(
     let mut crew = Vec::new(alloc);
     for number in 1..bounds.markers {
         let own = table.split(&mut seat);
-        crew.push(recruit(alloc, table, own, number - 1, bounds)?)?;
+        crew.push(make_marker(alloc, table, own, number - 1, bounds)?)?;
     }
-    crew.push(recruit(alloc, table, seat, bounds.markers - 1, bounds)?)?;
+    crew.push(make_marker(alloc, table, seat, bounds.markers - 1, bounds)?)?;
     Ok(crew)
 }
 
-// Each marks, in a thread of its own.
+// Lets all markers mark side by side, each in a thread of its own, or in the caller's if no thread can be started.
 fn mark_beside<R: Threads + Sync, W: StillWords, G: Gate>(
     rt: &R,
     table: &ClaimTable,
@@ -136,8 +137,8 @@ fn mark_beside<R: Threads + Sync, W: StillWords, G: Gate>(
     );
 }
 
-// The seats are joined and the table is given back. What is left are the lists.
-fn dismissed(
+// Joins the seats, ends the table, and returns the markers' lists.
+fn end_crew(
     alloc: Global,
     table: ClaimTable,
     crew: Vec<Marker>,

@@ -3,15 +3,15 @@ ghost use Rattle.nmgc_pmark.specs.{OneMarker.MarksTheSame, Stops.StopsAreStopped
 
 use nmgc_mark::laws::all_reached_is_marked;
 
-/// From the registers and queues of a snapshot, what several markers list is what `Marker::snapshot` and `Marker::finish`
-/// mark: of each object of the snapshot but g the block is marked exactly where some marker lists the name.
+/// Proves that several markers mark the same as the one marker of a cycle, by `Marker::snapshot` and `Marker::finish`. From a
+/// snapshot's roots, the block of each object except g is marked exactly if some marker lists its name.
 pub fn one_marker_marks_the_same()
     ensures { MarksTheSame }
 {
     all_reached_is_marked();
 }
 
-/// The heap that a stop of a run leaves is a stopped heap, whose roots are what registers and finaliser queues hold.
+/// Proves that the heap at a stop of a run is a stopped heap, whose roots are the values in registers and finaliser queues.
 pub fn a_stop_is_stopped()
     ensures { StopsAreStopped }
 {}

@@ -1,19 +1,19 @@
 //! Several markers on a stopped heap.
 //!
-//! On a heap at a stop nobody writes, so its objects can be marked by several threads at once. Each claims objects by a
-//! compare-exchange on a table of this crate, a word for each block, and scans what it claimed. No marker waits for
-//! another: what one is refused another has, and scans. So all lists together are exactly what the roots reach along
-//! strong fields, each object once, whatever the schedule was.
+//! Nothing writes to a heap at a stop, so several threads can mark its objects at once. Each marker claims objects by a
+//! compare-exchange on a table of this crate, a word for each block, and scans the objects that it claimed. No marker waits
+//! for another: an object that it is refused is scanned by the marker that has it. So all lists together are exactly the
+//! objects reachable from the roots along strong fields, each once, whatever the schedule.
 //!
-//! - `bounds`, `view`, `plays`: how large the table is, what a seat knows, and the rule with its four kinds of step.
+//! - `bounds`, `view`, `plays`: the size of the table, the knowledge of a seat, and the rule with its four kinds of step.
 //! - `table`, `claim`: the table, and claims on it.
-//! - `still`: words that nobody writes, for threads that read them.
+//! - `still`: words that nothing writes, for threads that read them.
 //! - `marker`, `crew`: one marker, and all of them side by side.
-//! - `claims`, `merge`, `order`: the top call, and its names as one list, in order.
-//! - `laws`: what a stop of a run leaves can be marked so, and the one marker of a cycle (`nmgc_mark`) marks the same.
+//! - `claims`, `merge`, `order`: the call that marks a heap, and all names as one list, in order.
+//! - `laws`: the heap at a stop of a run can be marked like this, and the one marker of a cycle (`nmgc_mark`) marks the same.
 //!
-//! Easy to get wrong: a marker that found a block claimed knows only that somebody has it. That its object is scanned in
-//! the end is known once the seats of all markers are one again.
+//! Easy to get wrong: a marker that found a block claimed knows only that some marker has it. That its object is scanned in
+//! the end is known once the seats of all markers are join_lists.
 #![tactic(auto)]
 
 pub mod bounds;

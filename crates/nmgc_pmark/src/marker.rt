@@ -1,19 +1,18 @@
 //! One of several markers.
 //!
-//! It claims what its own starting words point to, and then scans what it claimed, object after object, and claims what
-//! their strong fields point to, until nothing is left. What it doesn't get somebody else has, who scans it; so no
-//! marker waits for another, and once all are done everything that can be reached was scanned by somebody.
+//! A marker claims the targets of its own starting words. Then it scans the objects that it claimed, one after the other, and
+//! claims the targets of their strong fields, until nothing is left. An object that it doesn't get is scanned by the marker
+//! that has it. So no marker waits for another, and once all are done every reachable object was scanned.
 //!
-//! What it claimed stands in one list, and what it has still to scan in another, of which it takes what came last. So it
-//! follows a list to its end before it turns to the next one, and what it reads next lies near what it read last: a
-//! promotion puts objects side by side that were made one after the other. There is room for every block in both lists
-//! from the start.
+//! Claimed objects are in one list, and objects still to scan in another, from which the marker takes the last. So it follows
+//! a list to its end before it turns to the next. It reads objects near those that it read last, since a promotion puts
+//! objects made in sequence side by side. Both lists have room for every block from the start.
 //!
-//! Easy to get wrong: a marker may be left with most of the work. Nothing is handed over: what a marker claimed it
-//! scans, and others help it only by claiming first.
+//! Easy to get wrong: a marker may be left with most of the work. Nothing is handed over: a marker scans all that it claimed,
+//! and other markers help it only by claiming first.
 ghost use Rattle.std.specs.Prelude.{ℕ, ◌≡◌, ◌+◌, ◌*◌, ◌<◌, ◌≤◌, [], length, slice_index, IfSome, IfNone};
 ghost use Rattle.nmgc_object.specs.declared.layout.TheConstants.{FIRST_PLACE};
-ghost use Rattle.nmgc_blocks_spec.specs.Strong.{HasStrong, HasHeader, IsStrongRange, IsAmong};
+ghost use Rattle.nmgc_stop_spec.specs.Strong.{HasStrong, HasHeader, IsStrongRange, IsAmong};
 ghost use Rattle.nmgc_pmark.specs.{Seat.bounds_of, Found.IsFound, Found.block_index, Found.LeadsWithin, Found.CanMark, Marker.IsSound, Marker.HasTried, Marker.IsOwnStart, Marker.TakesLast, Marker.CanBegin, Marker.HasMarked};
 
 use crate::still::StillWords;
@@ -24,8 +23,7 @@ use nmgc_object::{Address, FIRST_PLACE, FieldWord, HEADER_WORDS, MIN_BLOCK_WORDS
 use nmgc_round::Gate;
 use nmgc_world_spec::Kind;
 
-/// A marker: its number, its seat at the claim table, the objects that it claimed, in the order in which it did, and those
-/// of them that it has still to scan.
+/// A marker: its number, its seat at the claim table, its claimed objects in order of claims, and its objects still to scan.
 #[derive(Drop)]
 pub struct Marker {
     pub number: u8,
@@ -34,7 +32,7 @@ pub struct Marker {
     pub waiting: Room<Address>,
 }
 
-/// The number of the block that begins at a place.
+/// Returns the number of the block that begins at an address.
 fn block_index(at: u32) -> usize
     requires { FIRST_PLACE ≤ at }
     ensures { result ≡ block_index at }
@@ -42,8 +40,8 @@ fn block_index(at: u32) -> usize
     ((at - FIRST_PLACE) / MIN_BLOCK_WORDS) as usize
 }
 
-/// Which words of an object are its strong fields: from the first place up to the second. A thunk with
-/// a result no longer holds its free variables, and a weak pointer holds nothing.
+/// Returns the addresses at which an object's strong fields begin and end, the end left out. A thunk with a result no longer
+/// holds its free variables, and a weak pointer holds nothing.
 fn strong_fields<W: StillWords>(words: &W, at: Address) -> (usize, usize)
     requires { HasHeader (W.words words.now) at.0 }
     ensures { IsStrongRange (W.words words.now) at.0 result.0 result.1 }
@@ -66,7 +64,7 @@ fn strong_fields<W: StillWords>(words: &W, at: Address) -> (usize, usize)
 }
 
 impl Marker {
-    // Claims the object at a place, unless somebody has it.
+    // Claims the object at an address, unless it is claimed already.
     fn claim_place(&mut self, table: &ClaimTable, at: u32)
         requires sound { IsSound table.now self.old }
         requires above { FIRST_PLACE ≤ at }
@@ -79,8 +77,7 @@ impl Marker {
         }
     }
 
-    // Claims the object that a field word points to, unless the word is no pointer, or it points to g, or somebody has
-    // the object.
+    // Claims the object to which a field word points, unless the word is no pointer or the object is g or claimed already.
     fn claim(&mut self, table: &ClaimTable, word: u64)
         requires sound { IsSound table.now self.old }
         requires within { LeadsWithin (bounds_of table.now).blocks word }
@@ -94,7 +91,7 @@ impl Marker {
         }
     }
 
-    // Claims what the starting words of this marker point to.
+    // Claims the targets of this marker's starting words.
     fn claim_own(&mut self, table: &ClaimTable, starts: &[u64], markers: u8)
         requires sound { IsSound table.now self.old }
         requires some { 0 < markers }
@@ -108,7 +105,7 @@ impl Marker {
         }
     }
 
-    // Claims what the words of the heap from one place up to another point to.
+    // Claims the targets of the words at addresses from `from` on and below `to`.
     fn claim_range<W: StillWords>(&mut self, table: &ClaimTable, words: &W, from: usize, to: usize)
         requires sound { IsSound table.now self.old }
         requires ordered { from ≤ to }
@@ -121,7 +118,7 @@ impl Marker {
         }
     }
 
-    // Claims what the strong fields of an object point to.
+    // Claims the targets of an object's strong fields.
     fn scan<W: StillWords>(&mut self, table: &ClaimTable, words: &W, at: Address)
         requires sound { IsSound table.now self.old }
         requires header { HasHeader (W.words words.now) at.0 }
@@ -133,7 +130,7 @@ impl Marker {
         self.claim_range(table, words, from, to);
     }
 
-    // Takes the object that came last of those that wait to be scanned. `None` comes exactly where none waits.
+    // Takes the last of the objects that wait to be scanned and returns it, or returns `None` exactly if none waits.
     fn take_waiting(&mut self) -> Option<Address>
         ensures some { IfSome result (λ at. TakesLast self.old self.new at) }
         ensures none { IfNone result ((self.old.waiting.items ≡ []) × (self.new ≡ self.old)) }
@@ -141,9 +138,9 @@ impl Marker {
         self.waiting.take_last()
     }
 
-    /// Claims what its starting words point to, every so many-th from its own number on, and scans what it claimed until
-    /// nothing is left. Before each object it passes `gate` as its number, and counts its passes from 1. Takes no
-    /// memory and waits for nobody but the gate.
+    /// Claims the targets of the marker's starting words, each `markers`-th from its own number on, and scans its claimed
+    /// objects until none is left. Before each object it passes `gate` as its number, and counts its passes from 1. Takes no
+    /// memory, and waits only for the gate.
     pub fn mark<W: StillWords, G: Gate>(
         &mut self,
         table: &ClaimTable,

@@ -1,4 +1,4 @@
-//! What all markers listed, as one list in order.
+//! The names that all markers listed, as one list in order.
 ghost use Rattle.std.specs.Prelude.{ℕ, List, ◌≡◌, flat_map, IfOk};
 ghost use Rattle.nmgc_world_spec.specs.{declared.value.Name.Name as NameOf, declared.value.Value.Value, Reach.Lists, World.World};
 ghost use Rattle.nmgc_pmark.specs.{Claims.AreClaims, Strong.IsStrong, Names.ArePutInOrder};
@@ -9,17 +9,17 @@ use nmgc_lists::{List, NoMemory};
 use nmgc_world_spec::Name;
 use std::alloc::Global;
 
-/// The names that all markers listed, in order, each once. So of claims of a stopped heap they are exactly what strong
-/// fields reach from its roots and from the slots of g. Takes memory for as many names, and for as many once more while
-/// they are put in order, if there is any.
+/// Returns the names that all markers listed, in order, each once. For the claims of a stopped heap these are exactly the
+/// names reachable along strong fields from its roots and from the slots of g. Takes memory for the names, and for a second
+/// copy, if there is any, while they are put in order.
 pub fn names_of(alloc: Global, claims: &Claims) -> Result<List<Name>, NoMemory>
     ensures { IfOk result (λ names. (w : World) (roots : List Value) (markers : ℕ) → AreClaims w roots markers claims.now.by → Lists (IsStrong w roots) names) }
 {
-    let names = joined(alloc, claims.by.items())?;
+    let names = join_lists(alloc, claims.by.items())?;
     ordered(alloc, names)
 }
 
-// Names put in order.
+// Returns the names in order.
 fn ordered(alloc: Global, names: Vec<Name>) -> Result<List<Name>, NoMemory>
     ensures { IfOk result (λ list. ArePutInOrder names.items list) }
 {
@@ -28,8 +28,8 @@ fn ordered(alloc: Global, names: Vec<Name>) -> Result<List<Name>, NoMemory>
     List::from_vec(names)
 }
 
-// All lists in one.
-fn joined(alloc: Global, by: &[List<Name>]) -> Result<Vec<Name>, NoMemory>
+// Returns the names of all lists as one vector, list after list.
+fn join_lists(alloc: Global, by: &[List<Name>]) -> Result<Vec<Name>, NoMemory>
     ensures { IfOk result (λ names. names.items ≡ flat_map (λ (own : List NameOf). own) by.now) }
 {
     let mut names = Vec::new(alloc);

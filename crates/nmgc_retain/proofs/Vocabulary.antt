@@ -1,4 +1,4 @@
--- Every name of std, of the crates below and of this crate's definitions that the proofs speak of.
+-- The names of std, of the crates below and of this crate's definitions that the proofs use.
 pub use Rattle.nmgc_image.specs.{Image.HasNode, Image.IsImage, Image.IsNode, Image.names_of, Image.values_in, Image.values_of, Spelling.IsSpelledWithin, declared.image.Entry.Entry, declared.image.Held.Held, declared.image.Image.Image, declared.image.ImageMutator.ImageMutator, laws.Sizes.nodes_within, laws.Sizes.queue_within}
 pub use Rattle.nmgc_lists.specs.laws.Items.{contains_at, contains_flat, contains_map as map_has, item_map as at_map, nothing_in, of_item as all_at, place_of, slice_get-set_other, slice_get-set_same}
 pub use Rattle.nmgc_retain.specs.{Judging.AreHopsWithin, Judging.AreRootsWithin, Judging.IsHeldWithin, Judging.IsOwnWithin, Judging.IsValueWithin, Levels.AreSound, Levels.HasLevel, Levels.IsCertified, Levels.IsRight, Levels.IsWithin, Paths.IsHop, Paths.IsPath, Paths.Lead, Paths.RefersTo, Paths.first_strong, Paths.strong_field, Search.Advances, Search.AreRootsMet, Search.Grows, Search.IsComplete, Search.IsFound, Search.IsGrowing, Search.IsKnown, Search.IsListed, Search.IsMet, Search.IsOwnMet, Search.IsSearchable, Search.IsTraced, Search.IsWay, Search.ListsBelow, Search.Puts, Search.Reaches, Search.StandsAt, Search.hidden, Search.level_in, Text.hop_lines, declared.path.Hop.Hop, declared.path.Level.Level, declared.path.Levels.Levels, declared.path.Path.Path, declared.path.Retained.Retained, declared.path.Retained.TheVariants.Loose, declared.path.Root.Root, declared.path.Root.TheVariants.Queue, declared.path.Root.TheVariants.Register, declared.path.Root.TheVariants.Shared, declared.search.Found.Found, declared.search.Way.Way}

@@ -1,13 +1,13 @@
 -- The steps of a round with one opening, at a seat that holds no slot.
-use Rattle.nmgc_round.proofs.Vocabulary.{◌≡◌, ℕ, ◌+◌, inr, Bool, true, false, eqb, List, [], set, refl, sym, ap, subst, some, get_elem?, Me, Allows, keeps, Command, HEADER_WORDS, word, Opening, Part, Seen, loaded, answered, swapped, met, met_at_birth, stored, gave_birth, marks_after, Keeps, Stays, AddsIfMet, IsMutator, CanScan, scanned_by, first_of, Mutates, CanLoad, CanSwap, CanStore, CanBear, CanFix, CanTake, taken, TellsFixed, TellsField, TellsQueue, TellsEntry, TellsScan, IsSafe, set_again, eqb-true, slice_index}
+use Rattle.nmgc_round.proofs.Vocabulary.{◌≡◌, ℕ, ◌+◌, inr, Bool, true, false, eqb, List, [], set, refl, sym, ap, subst, some, get_elem?, Me, Allows, keeps, Command, HEADER_WORDS, word, Opening, Part, Seen, loaded, answered, swapped, met, met_at_birth, stored, gave_birth, marks_after, Keeps, Stays, AddsIfMet, IsMutator, CanScan, scanned_by, first_of, Mutates, CanLoad, CanSwap, CanStore, CanBear, CanFix, CanTake, taken, FindsFixed, FindsField, FindsQueue, FindsEntry, FindsScan, IsSafe, set_again, eqb-true, slice_index}
 use Rattle.atomic_table.specs.Table.{State}
-use Rattle.nmgc_round.proofs.{Fixes.fix_keeps, Fixes.fix_room, Fixes.take_keeps, Fixes.take_safe, Fixes.queue_safe, Fixes.load_safe, Fixes.swap_safe, Scans.scan_keeps, Scans.scan_tells, Moves.store_keeps, Moves.birth_keeps, Writes.load_keeps, Writes.swap_keeps, Keeping.acts, Keeping.same_law}
+use Rattle.nmgc_round.proofs.{Fixes.fix_keeps, Fixes.fix_room, Fixes.take_keeps, Fixes.take_safe, Fixes.queue_safe, Fixes.load_safe, Fixes.swap_safe, Scans.scan_keeps, Scans.scan_finds, Moves.store_keeps, Moves.birth_keeps, Writes.load_keeps, Writes.swap_keeps, Keeping.acts, Keeping.same_law}
 
--- a word that is stored again changes nothing
+-- a store of the word that is already there changes nothing
 pub stored_again : (ws : List ℕ) (i w : ℕ) → eqb (slice_index ws i) w ≡ true → set ws i w ≡ ws
 stored_again ws i w e = rw (eqb-true (slice_index ws i) w e) at (set_again ws i)
 
--- a look where no object is yet is the store of the word that stands there, or nothing
+-- a look at a word in no object yet is the store of the word that is there, or no step
 pub look_keeps : (o : Opening) (words : List ℕ) (views : List Seen) (h : Keeps o words views) (id : ℕ) (v : Seen) → get_elem? views id ≡ some v →
     (p : Part) → IsMutator v p → (at w : ℕ) → CanStore o p at →
     Stays o words views h words (set views id (met v at w (eqb (slice_index words at) w)))
@@ -17,7 +17,7 @@ look_keeps o words views h id v here p is at w can = by_hit (eqb (slice_index wo
     by_hit true e = rw (stored_again words at w e) at (store_keeps o words views h id v here p is at w can)
     by_hit false e = same_law o words views h id v here v (h.agrees id v here)
 
--- a look at the header where an object is to begin is the birth, or nothing
+-- a look at the header of an object to be allocated is the allocation, or no step
 pub look_bears : (o : Opening) (words : List ℕ) (views : List Seen) (h : Keeps o words views) (id : ℕ) (v : Seen) → get_elem? views id ≡ some v →
     (p : Part) → IsMutator v p → (at header : ℕ) (c : Command) → CanBear o p at header c →
     AddsIfMet o words views h p.number c (eqb (slice_index words at) header) words (set views id (met_at_birth v at header c (eqb (slice_index words at) header)))
@@ -123,7 +123,7 @@ module _ (o : Opening) where
         )
 
     pub fix_allows : (at offset : ℕ) → Mutates (λ o p. CanFix o p at offset) me.0 →
-        Steps (at + offset) (λ n. n) (λ n w. (w ≡ loaded me.0 at offset n) × TellsFixed me.0.opening at offset n)
+        Steps (at + offset) (λ n. n) (λ n w. (w ≡ loaded me.0 at offset n) × FindsFixed me.0.opening at offset n)
     fix_allows at offset can s h len here small =
         let n : ℕ = slice_index s.words (at + offset) in
         let is = (h.agrees id me.0 here).opening (acts me.0 can.0 can.1) in
@@ -136,7 +136,7 @@ module _ (o : Opening) where
         )
 
     pub take_allows : (at offset : ℕ) (c : Command) → Mutates (λ o p. CanTake o p at offset c) me.0 →
-        Steps (at + offset) (λ n. n) (λ n w. (w ≡ taken me.0 at offset c n) × TellsField me.0.opening offset n × Mutates TellsQueue me.0)
+        Steps (at + offset) (λ n. n) (λ n w. (w ≡ taken me.0 at offset c n) × FindsField me.0.opening offset n × Mutates FindsQueue me.0)
     take_allows at offset c can s h len here small =
         let n : ℕ = slice_index s.words (at + offset) in
         let is = (h.agrees id me.0 here).opening (acts me.0 can.0 can.1) in
@@ -156,15 +156,15 @@ module _ (o : Opening) where
           ),
         )
 
-    pub scan_allows : (at offset : ℕ) → CanScan me.0 at offset → Steps (at + offset) (λ n. n) (λ n w. (w ≡ scanned_by me.0 n) × TellsScan me.0 n)
+    pub scan_allows : (at offset : ℕ) → CanScan me.0 at offset → Steps (at + offset) (λ n. n) (λ n w. (w ≡ scanned_by me.0 n) × FindsScan me.0 n)
     scan_allows at offset can s h len here small =
         let n : ℕ = slice_index s.words (at + offset) in
         let is = (h.agrees id me.0 here).opening (inr can.collects) in
         let first : first_of (marks_after me.0.opening me.0.scans).queue ≡ can.entry = ap first_of can.first in
-        let tells = subst (λ (y : Opening). TellsEntry y can.entry n) (sym is) (scan_tells o s.words s.views h id me.0 here at offset can) in (
+        let shows = subst (λ (y : Opening). FindsEntry y can.entry n) (sym is) (scan_finds o s.words s.views h id me.0 here at offset can) in (
           scanned_by me.0 n,
           keeps,
           tt,
           unchanged s.words (set s.views id (scanned_by me.0 n)) (at + offset) (scan_keeps o s.words s.views h id me.0 here at offset can).1,
-          ((refl, rw first tells), bare),
+          ((refl, rw first shows), bare),
         )

@@ -4,7 +4,7 @@ use Rattle.nmgc_heap_spec.specs.Represents.{IsObject}
 use Rattle.nmgc_world_spec.specs.declared.value.Value.TheVariants as value
 use Rattle.nmgc_round.proofs.Makers.{replicate_means}
 
--- an item of a list of equal ones
+-- an item of a list of equal items
 pub all_equal : {A : Type 0} (n k : ℕ) (x d : A) → k < n → get_or (replicate n x) k d ≡ x
 all_equal n k x d lt = let many = length-replicate n x in All-get_or (λ y. y ≡ x) (replicate n x) k d (omega arith) (All-replicate (λ y. y ≡ x) n x refl)
 

@@ -1,8 +1,8 @@
--- Words that stand for a world, where a word of no object changes, and where an object is born.
+-- Words that represent a world, when a word in no object changes, and when an object is allocated.
 use Rattle.nmgc_round.proofs.Vocabulary.{◌≡◌, ◌≢◌, ◌⊎◌, inl, inr, ℕ, ◌+◌, ◌<◌, ◌≤◌, List, [], ◌∷◌, ◌++◌, length, set, refl, sym, ap, subst, ◌∙◌, arith, slice_index, Some, None, get_or-set_same, get_or-set_other, length-set, IsSome, cases_lt, Contains-append_left, Contains-push_cases, Name, Node, World, node_of, IsSized, header_word, name_word, IsHeader, IsName, Header, HEADER_WORDS, header_of, size_of, slots_of, Place, HasSlots, LiesWell, IsBetween, IsNamed, Opening, KeepsOf, Object, place_of, end_of, IsObject, IsIn, IsPlace, IsLater, IsApart, IsStanding, RepresentsInRound, IsFree, lies_less}
 use Rattle.nmgc_round.proofs.{Fields.fields_same, Fields.kept_same, Fields.fixed_of_slots, Standing.placed, Standing.same_node}
 
--- one object more
+-- one more object
 module _ (o : Opening) (born : List Object) (x : Object) where
   pub more_objects : (y : Object) → IsObject o born y → IsObject o (born ++ x ∷ []) y
   more_objects y (inl h) = inl h
@@ -19,7 +19,7 @@ module _ (o : Opening) (born : List Object) (x : Object) where
   place_cases p (inl h) = inl (inl h)
   place_cases p (inr h) = elim (Contains-push_cases born x h.0 h.1) [ inl c ↦ inl (inr (h.0, c, h.2)) | inr e ↦ inr (ap place_of e ∙ h.2) ]
 
--- a word changes, an object stands none of whose words it is
+-- a word changes, and an object whose words don't include it stays in the words
 module _ (o : Opening) (born more : List Object) (grow : (p : Place) → IsIn o born p →
     IsIn o more p) (w v : World) (ws : List ℕ) (i new : ℕ) (y : Object) (h : IsStanding o born w ws y)
     (free : (i < y.at) ⊎ (end_of y ≤ i)) (same : node_of v y.name ≡ node_of w y.name) where
@@ -49,7 +49,7 @@ module _ (o : Opening) (born more : List Object) (grow : (p : Place) → IsIn o 
             );
       }
 
--- a word of no object changes
+-- a word in no object changes
 pub stands_free : (o : Opening) (born : List Object) (w : World) (ws : List ℕ) (i new : ℕ) → IsFree o born i → RepresentsInRound o born w ws →
     RepresentsInRound o born w (set ws i new)
 stands_free o born w ws i new free st = record {
@@ -64,7 +64,7 @@ stands_free o born w ws i new free st = record {
   zeros = λ at nobody. get_or-set_other ws i at new 0 (λ e. free.owned (subst IsBetween e nobody)) ∙ st.zeros at nobody;
 }
 
--- an object is born: its name and its fields stood there, and its header is written
+-- an object is allocated: its name and its fields were there, and its header is written
 module _ (o : Opening) (born : List Object) (w v : World) (ws : List ℕ) (st : RepresentsInRound o born w ws) (x : Object)
     (inside : x.at < length ws) (valid : IsHeader (header_of x.node)) (lies : LiesWell o.layout (place_of x) (size_of x.node))
     (free : (i : ℕ) → x.at ≤ i → i < end_of x → IsFree o born i)
@@ -90,7 +90,7 @@ module _ (o : Opening) (born : List Object) (w v : World) (ws : List ℕ) (st : 
       let bad : IsSome {T = Node} None = rw none at h in
       absurd cc
 
-  -- a place that was there is another
+  -- another address in use
   other_place : (p : Place) → IsPlace o born p → (p.name ≡ x.name) ⊎ (p.at ≡ x.at) → ⊥
   other_place p hp (inl e) = unlike p.name (st.named p hp).known e
   other_place p hp (inr e) = elim (here.places p hp) [ inl l ↦ omega arith | inr l ↦ omega arith ]

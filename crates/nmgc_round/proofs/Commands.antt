@@ -1,10 +1,10 @@
--- What a command does, where it is known, and what of it stands in words.
+-- The effect of a command on a known node, and on the words.
 use Rattle.nmgc_round.proofs.Vocabulary.{get_or, length-set, ◌≡◌, ℕ, zero, suc, ◌+◌, ◌<◌, List, [], ◌∷◌, length, set, refl, ap, arith, slice_index, Some, cond, get_or-set_same, lt-ltb, slice_get, slice_get-get_or, Name, Value, Node, Con, Var, Arr, Thunk, Weak, Stack, Change, Operand, Get, Set, Reply, Fine, Given, NoField, World, node_of, IsSized, given_or, field_set, field_read, value_for, with_node, with_register, step, field_held, names_among, owed_by, header_of, holds, slots_of, Place, Means, HasSlots, values_fill, slots_mean, slots_of_fields, IsLater, IsWritable, IsReadable}
 use Rattle.nmgc_world_spec.specs.declared.value.Value.TheVariants as value
 use Rattle.nmgc_world_spec.specs.declared.change.Change.TheVariants as change
 use Rattle.nmgc_round.proofs.Fields.{all_set}
 
--- `set` of a field that is there
+-- `set` of a field that exists
 pub step_set : (w : World) (m : ℕ) (object v : Operand) (index : ℕ) (name : Name) (found made : Node) → value_for w m object ≡ value.Ref name →
     node_of w name ≡ Some found → field_set found index (value_for w m v) ≡ (made, Fine) → step w m (Set object index v) ≡ (with_node w name made, Fine)
 step_set w m object v index name found made is there does =
@@ -19,7 +19,7 @@ owes_set w m object v index name found old is there held =
     let c : Change = change.Set index (value_for w m v) in
     cc (is, there, held)
 
--- `get` of a field that is there
+-- `get` of a field that exists
 pub step_get : (w : World) (m dest : ℕ) (object : Operand) (index : ℕ) (name : Name) (found : Node) (v : Value) →
     value_for w m object ≡ value.Ref name → node_of w name ≡ Some found → field_read found index ≡ Given v →
     step w m (Get dest object index) ≡ (with_register w m dest v, Given v)

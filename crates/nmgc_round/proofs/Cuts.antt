@@ -1,4 +1,4 @@
--- The first seat is cut into one for each mutator, and all are gathered again.
+-- The first seat is split into one for each mutator, and all are gathered again.
 use Rattle.nmgc_round.proofs.Vocabulary.{◌≡◌, ℕ, zero, suc, ◌+◌, ◌<◌, List, [], ◌∷◌, ◌++◌, map, length, get_or, drop, drop-cons, All, refl, sym, ap, ◌∙◌, subst, arith, append_assoc, All-append, All-cons, All-nil, some, some-injective, some-ne-none, get_elem?, Round, Hand, Opening, Part, Seen, no_hand, blank, blanks, CanSplit, keeps_rest, gives_first, from, alone, alones, RoundSeat, IsAt, seen, opening_of}
 
 -- the numbers of the parts rise

@@ -5,7 +5,7 @@ use Rattle.nmgc_world_spec.specs.declared.change.Change.TheVariants as change
 use Rattle.nmgc_world_spec.specs.declared.command.Reply.TheVariants as reply
 use Rattle.nmgc_round.proofs.{Frames.node_frame, Commands.Written, Commands.written, Moves.may_change, Moves.meant, Moves.operand_is, Moves.inside, Moves.same_opening, Moves.owes_old, Moves.hand_kept, Refusals.same_words, Writes.Changes, Writes.field_law, Writes.own_same, Writes.node_now, Writes.node_again, Writes.still_law}
 
--- `cas` of a field that is there compares its value, and then writes as `set` does
+-- `cas` of a field that exists compares its value, and then writes as `set` does
 compares : (found : Node) (index : ℕ) (expected v old : Value) (made : Node) → field_held found index ≡ Some old →
     field_set found index v ≡ (made, reply.Fine) → field_exchanged found index expected v ≡ node_exchanged old expected found made
 compares (Con tag values) index expected v old made held does = absurd cc
@@ -24,7 +24,7 @@ compares (Arr values) index expected v old made held does = cc (held, arr_made _
     arr_made true e = ap (λ (r : Node × Reply). r.0) e
     arr_made false e = let no : reply.NoField ≡ reply.Fine = ap (λ (r : Node × Reply). r.1) e in absurd cc
 
--- `cas` of a field that is there
+-- `cas` of a field that exists
 step_cas : (w : World) (m : ℕ) (object e v : Operand) (index : ℕ) (name : Name) (found made : Node) (r : Reply) →
     value_for w m object ≡ value.Ref name → node_of w name ≡ Some found →
     field_exchanged found index (value_for w m e) (value_for w m v) ≡ (made, r) → step w m (Cas object index e v) ≡ (with_node w name made, r)
@@ -32,7 +32,7 @@ step_cas w m object e v index name found made r is there does =
     let c : Change = change.Exchange index (value_for w m e) (value_for w m v) in
     rw (is, there, does)
 
--- it owes the old value, if that is the expected one
+-- it owes the old value, if that is the expected value
 owes_cas : (w : World) (m : ℕ) (object e v : Operand) (index : ℕ) (name : Name) (found : Node) (old : Value) (same : Bool) →
     value_for w m object ≡ value.Ref name → node_of w name ≡ Some found → field_held found index ≡ Some old → is_same old (value_for w m e) ≡ same →
     owed_by w m (Cas object index e v) ≡ names_among (cond same (old ∷ []) [])
@@ -54,7 +54,7 @@ module _ (o : Opening) (words : List ℕ) (views : List Seen) (h : Keeps o words
   fits : Fits o h.born S (done_by p.number h.events) p
   fits = ((h.agrees id v here).parts 0 p (ap (λ l. get_elem? l 0) is.alone)).1
 
-  -- what a compare-exchange finds: the old value, and the node that it would make
+  -- the findings of a compare-exchange: the old value, and the node that it would make
   record Finds (at index expected w : ℕ) (c : Command) (can : CanExchange o p at index expected w c) : Type 0 where
     object : Object
     there : IsObject o h.born object

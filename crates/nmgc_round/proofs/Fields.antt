@@ -1,12 +1,12 @@
--- Field words that are as a node says, where other words change, and where more places are known.
-use Rattle.nmgc_round.proofs.Vocabulary.{◌≡◌, ◌≢◌, ℕ, zero, suc, ◌+◌, ◌<◌, ◌≤◌, List, [], ◌∷◌, length, set, sym, ◌∙◌, arith, slice_index, Some, None, get_or-set_same, get_or-set_other, length-set, inl, inr, slice_get, slice_get_within, cases_eq, slice_get-set_same, slice_get-set_other, Value, Node, Con, Var, Arr, Thunk, Weak, Stack, IsSized, Slot, holds, unset, untold, slots_of, fixed_slots, free_slots, header_of, MayChange, Place, Means, Fills, HasSlots, AllMean, ListMeans, map_item, slots_none, slots_of_kept, fields_of_slots, slot_count, free_fixed, Opening, Object, IsEarlierNode, KeepsOf}
+-- Field words that agree with a node, when other words change, and when more addresses are known.
+use Rattle.nmgc_round.proofs.Vocabulary.{◌≡◌, ◌≢◌, ℕ, zero, suc, ◌+◌, ◌<◌, ◌≤◌, List, [], ◌∷◌, length, set, sym, ◌∙◌, arith, slice_index, Some, None, get_or-set_same, get_or-set_other, length-set, inl, inr, slice_get, slice_get_within, cases_eq, slice_get-set_same, slice_get-set_other, Value, Node, Con, Var, Arr, Thunk, Weak, Stack, IsSized, Slot, holds, unset, unspecified, slots_of, fixed_slots, free_slots, header_of, MayChange, Place, Means, Fills, HasSlots, AllMean, ListMeans, map_item, slots_none, slots_of_kept, fields_of_slots, slot_count, free_fixed, Opening, Object, IsEarlierNode, KeepsOf}
 use Rattle.nmgc_world_spec.specs.declared.value.Value.TheVariants as value
 
--- something is said of a field
-abbrev pub IsTold : Slot → Type 0
-IsTold slot = slot ≡ untold → ⊥
+-- a field about which a node says something
+abbrev pub IsKnown : Slot → Type 0
+IsKnown slot = slot ≡ unspecified → ⊥
 
--- what means something with some places means it with more
+-- a word that represents a value with some addresses represents it with more
 module _ (P Q : Place → Type 0) (more : (p : Place) → P p → Q p) where
   pub means_more : (w : ℕ) (v : Value) → Means P w v → Means Q w v
   means_more w value.Nil m = m
@@ -19,39 +19,39 @@ module _ (P Q : Place → Type 0) (more : (p : Place) → P p → Q p) where
   list_more (w ∷ ws) [] h = absurd h
   list_more (w ∷ ws) (v ∷ vs) h = (means_more w v h.0, list_more ws vs h.1)
 
-  -- the fields stand, where no word changed of which something is said
+  -- the fields stay, if no word changed about which something is said
   pub slots_same : (ws us : List ℕ) (from : ℕ) (slots : List Slot) →
-      ((i : ℕ) (s : Slot) → slice_get slots i ≡ Some s → IsTold s → slice_index us (from + i) ≡ slice_index ws (from + i)) →
+      ((i : ℕ) (s : Slot) → slice_get slots i ≡ Some s → IsKnown s → slice_index us (from + i) ≡ slice_index ws (from + i)) →
       HasSlots P ws from slots → HasSlots Q us from slots
   slots_same ws us from slots same h i s e = by_slot s e (h i s e)
     where
       by_slot : (s : Slot) → slice_get slots i ≡ Some s → Fills P (slice_index ws (from + i)) s → Fills Q (slice_index us (from + i)) s
       by_slot (holds v) e k = rw (same i (holds v) e (λ x. cc)) (means_more (slice_index ws (from + i)) v k)
       by_slot unset e k = same i unset e (λ x. cc) ∙ k
-      by_slot untold e k = tt
+      by_slot unspecified e k = tt
 
--- a field that is told for good is one, and may not change
-never_changes : (n : Node) (i : ℕ) (s : Slot) → slice_get (fixed_slots n) i ≡ Some s → IsTold s → (i < (header_of n).fields) ×
+-- a slot that never changes is a field, and may not change
+never_changes : (n : Node) (i : ℕ) (s : Slot) → slice_get (fixed_slots n) i ≡ Some s → IsKnown s → (i < (header_of n).fields) ×
     (MayChange (header_of n).kind i → ⊥)
-never_changes (Con tag values) i s e told = absurd cc
-never_changes (Var v) i s e told = absurd cc
-never_changes (Arr values) i s e told = absurd cc
-never_changes (Thunk free None) zero s e told = absurd (told cc)
-never_changes (Thunk free None) (suc i) s e told = let x = map_item holds free i s e in let lt = slice_get_within free i x.0 x.1 in
+never_changes (Con tag values) i s e known = absurd cc
+never_changes (Var v) i s e known = absurd cc
+never_changes (Arr values) i s e known = absurd cc
+never_changes (Thunk free None) zero s e known = absurd (known cc)
+never_changes (Thunk free None) (suc i) s e known = let x = map_item holds free i s e in let lt = slice_get_within free i x.0 x.1 in
     (omega (arith, lt), λ c. omega arith)
-never_changes (Thunk free (Some result)) i s e told = absurd cc
-never_changes (Weak None) i s e told = absurd cc
-never_changes (Weak (Some parts)) zero s e told = (omega arith, λ c. omega arith)
-never_changes (Weak (Some parts)) (suc zero) s e told = absurd (told cc)
-never_changes (Weak (Some parts)) (suc (suc zero)) s e told = (omega arith, λ c. omega arith)
-never_changes (Weak (Some parts)) (suc (suc (suc i))) s e told = absurd cc
-never_changes (Stack size values) i s e told = absurd cc
+never_changes (Thunk free (Some result)) i s e known = absurd cc
+never_changes (Weak None) i s e known = absurd cc
+never_changes (Weak (Some parts)) zero s e known = (omega arith, λ c. omega arith)
+never_changes (Weak (Some parts)) (suc zero) s e known = absurd (known cc)
+never_changes (Weak (Some parts)) (suc (suc zero)) s e known = (omega arith, λ c. omega arith)
+never_changes (Weak (Some parts)) (suc (suc (suc i))) s e known = absurd cc
+never_changes (Stack size values) i s e known = absurd cc
 
--- free variables are told for good
+-- free variables never change
 pub free_of_fixed : (P : Place → Type 0) (ws : List ℕ) (from : ℕ) (n : Node) → HasSlots P ws from (fixed_slots n) → HasSlots P ws from (free_slots n)
 free_of_fixed P ws from n h i s e = h i s (free_fixed n i s e)
 
--- a node's fields keep what it tells for good
+-- a node's fields have the slots that never change
 pub fixed_of_slots : (P : Place → Type 0) (ws : List ℕ) (from : ℕ) (n : Node) → HasSlots P ws from (slots_of n) → HasSlots P ws from (fixed_slots n)
 fixed_of_slots P ws from (Con tag values) h = slots_none P ws from
 fixed_of_slots P ws from (Var v) h = slots_none P ws from
@@ -64,19 +64,19 @@ fixed_of_slots P ws from (Weak (Some parts)) h = let k = fields_of_slots P ws fr
 fixed_of_slots P ws from (Stack size values) h = slots_none P ws from
 
 module _ (P Q : Place → Type 0) (more : (p : Place) → P p → Q p) (ws us : List ℕ) (from : ℕ) (n : Node) where
-  -- the fields stand, where none of their words changed
+  -- the fields stay, if none of their words changed
   pub fields_same : IsSized n → ((j : ℕ) → from ≤ j → j < from + (header_of n).fields → slice_index us j ≡ slice_index ws j) →
       HasSlots P ws from (slots_of n) → HasSlots Q us from (slots_of n)
-  fields_same sized same h = slots_same P Q more ws us from (slots_of n) (λ i s e told. let lt = slice_get_within (slots_of n) i s e in
+  fields_same sized same h = slots_same P Q more ws us from (slots_of n) (λ i s e known. let lt = slice_get_within (slots_of n) i s e in
       let c = slot_count n sized in same (from + i) (omega arith) (omega (arith, lt, c))) h
 
-  -- and what is told for good does, where at most words of other fields changed
+  -- and the slots that never change stay, if at most words of other fields changed
   abbrev IsSame : Type 0
   IsSame = (j : ℕ) → from ≤ j → j < from + (header_of n).fields → ((i : ℕ) → j ≡ from + i → MayChange (header_of n).kind i → ⊥) →
       slice_index us j ≡ slice_index ws j
 
-  word_same : IsSame → (i : ℕ) (s : Slot) → slice_get (fixed_slots n) i ≡ Some s → IsTold s → slice_index us (from + i) ≡ slice_index ws (from + i)
-  word_same same i s e told = let k = never_changes n i s e told in
+  word_same : IsSame → (i : ℕ) (s : Slot) → slice_get (fixed_slots n) i ≡ Some s → IsKnown s → slice_index us (from + i) ≡ slice_index ws (from + i)
+  word_same same i s e known = let k = never_changes n i s e known in
       same (from + i) (omega arith) (omega (arith, k.0)) (λ j at may. let z : j ≡ i = omega (arith, at) in
       k.1 (rw z at may))
 
@@ -85,9 +85,9 @@ module _ (P Q : Place → Type 0) (more : (p : Place) → P p → Q p) (ws us : 
 
   -- the free variables among them
   pub free_same : IsSame → HasSlots P ws from (free_slots n) → HasSlots Q us from (free_slots n)
-  free_same same h = slots_same P Q more ws us from (free_slots n) (λ i s e told. word_same same i s (free_fixed n i s e) told) h
+  free_same same h = slots_same P Q more ws us from (free_slots n) (λ i s e known. word_same same i s (free_fixed n i s e) known) h
 
--- what is kept of an earlier node
+-- the slots of an earlier node stay
 pub kept_same : (o : Opening) (x : Object) (P Q : Place → Type 0) (more : (p : Place) → P p →
     Q p) (ws us : List ℕ) (from : ℕ) (before : Node) (k : IsEarlierNode o x before) →
     ((j : ℕ) → from ≤ j → j < from + (header_of before).fields → ((i : ℕ) → j ≡ from + i → MayChange (header_of before).kind i → ⊥) →

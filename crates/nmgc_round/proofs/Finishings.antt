@@ -1,9 +1,9 @@
--- What a round leaves represents the world after it.
+-- The words that a round leaves represent the world after it.
 use Rattle.nmgc_round.proofs.Vocabulary.{Bool, true, false, cond, ◌≡◌, inl, inr, ℕ, ◌+◌, List, [], ◌∷◌, map, length, refl, sym, ap, subst, ◌∙◌, arith, slice_index, Some, None, Contains, cases_lt, get_or_past, Contains-append_left, Contains-append_right, Contains-append_cases, item_of, one_is, contains_head, contains_tail, contains_cases, Name, Value, Parts, Node, Con, Var, Arr, Thunk, Weak, Stack, World, node_of, state_of, no_mutator, shared_name, IsAlive, strong_fields, IsReached, start, field, IsWideRoot, IsOfWeak, Header, SHARED_PLACE, HEADER_WORDS, size_of, unset, fixed_slots, free_slots, IsWideIn, IsTracked, Place, Means, HasSlots, AllMean, ListMeans, IsObjectAt, Represents, HasFields, fields_of_slots, Opening, Seen, hand_now, Object, place_of, earlier, IsObject, IsIn, IsPlace, now, IsFinished, HasEach, Leaves, places_then, IsKeptThen, same_count}
 use Rattle.nmgc_world_spec.specs.declared.value.Value.TheVariants as value
 use Rattle.nmgc_round.proofs.{Standing.placed, Fields.fields_same, Fields.fixed_same, Fields.free_same, Fields.free_of_fixed}
 
--- a place is listed
+-- an object's address is in the list
 contains_map : (xs : List Object) (x : Object) → Contains xs x → Contains (map place_of xs) (place_of x)
 contains_map [] x c = absurd (let lt = c.1 in omega arith)
 contains_map (y ∷ ys) x c = elim (contains_cases y ys x c) [
@@ -18,7 +18,7 @@ map_contains (y ∷ ys) p c = elim (contains_cases (place_of y) (map place_of ys
   | inr d ↦ let r = map_contains ys p d in (r.0, contains_tail y ys r.0 r.1, r.2)
 ]
 
--- a reference among values has a place
+-- a reference among values has an address
 list_refers : (P : Place → Type 0) (ws : List ℕ) (vs : List Value) (name : Name) → ListMeans P ws vs → Contains vs (value.Ref name) → (at : ℕ) ×
     P (record { at = at; name = name })
 list_refers P [] [] name h c = absurd (let lt = c.1 in omega arith)
@@ -33,7 +33,7 @@ all_refers : (P : Place → Type 0) (words : List ℕ) (from : ℕ) (vs : List V
     Contains vs (value.Ref name) → (at : ℕ) × P (record { at = at; name = name })
 all_refers P words from vs name h c = let t = item_of vs (value.Ref name) c in let m = h t.0 (value.Ref name) t.1 in (m.0, m.2)
 
--- a strong field that is a reference has a place
+-- a strong field that is a reference has an address
 strong_refers : (P : Place → Type 0) (words : List ℕ) (from : ℕ) (n : Node) (name : Name) → HasFields P words from n →
     Contains (strong_fields n) (value.Ref name) → (at : ℕ) × P (record { at = at; name = name })
 strong_refers P words from (Con tag values) name h c = all_refers P words from values name h c
@@ -75,7 +75,7 @@ module _ (o : Opening) (words : List ℕ) (v : Seen) (h : IsFinished o words v) 
   in_here : (at : ℕ) (name : Name) → P (record { at = at; name = name }) → IsHere name
   in_here at name p node e = (record { at = at; name = name; node = p.0 }, p.1, refl)
 
-  -- what was tracked as the round began has its object
+  -- a name that was tracked when the round began has its object
   old_here : (name : Name) → IsTracked o.core.world (earlier o) name → IsHere name
   old_here name t node e = elim (h.known name node e) [
     | inl k ↦ let place = h.placed name k.0 t k.1 in (
@@ -86,7 +86,7 @@ module _ (o : Opening) (words : List ℕ) (v : Seen) (h : IsFinished o words v) 
     | inr k ↦ (k.0, inr k.1, k.2)
   ]
 
-  -- what strong fields reach from what has an object has one
+  -- strong fields of names with objects reach names with objects
   reached_here : (R : Name → Type 0) → ((name : Name) → R name → IsHere name) → (name : Name) → IsReached W R name → IsHere name
   reached_here R from name (start n r) = from n r
   reached_here R from name (field n target r refers) =
@@ -98,7 +98,7 @@ module _ (o : Opening) (words : List ℕ) (v : Seen) (h : IsFinished o words v) 
       (rw is refers.2) in
       in_here place.0 target place.1
 
-  -- an alive weak pointer was tracked as the round began, or was born since; so were its parts
+  -- an alive weak pointer was tracked when the round began, or is new; so are its parts
   weak_here : (weak : Name) (parts : Parts) → IsAlive W weak parts → (x : Object) × IsObject o h.born x × (x.name ≡ weak)
   weak_here weak parts alive = elim (h.known weak (Weak (Some parts)) alive) [
     | inl k ↦
@@ -166,7 +166,7 @@ module _ (o : Opening) (words : List ℕ) (v : Seen) (h : IsFinished o words v) 
   tracked_here : (name : Name) → IsTracked W (o.core.world ∷ earlier o) name → IsHere name
   tracked_here name t = reached_here (IsWideIn (W ∷ o.core.world ∷ earlier o)) wide_here name t
 
-  -- an object as the representation has it
+  -- an object in the representation's terms
   object_then : (x : Object) (hx : IsObject o h.born x) → IsObjectAt o.layout places words (place_of x) (h.stands.objects x hx).node
   object_then x hx =
       let st = h.stands.objects x hx in

@@ -1,9 +1,9 @@
--- A fixed load keeps the rule, also where a command takes its place there.
-use Rattle.nmgc_round.proofs.Vocabulary.{◌≡◌, inl, inr, ℕ, zero, suc, ◌+◌, ◌*◌, ◌<◌, List, [], ◌∷◌, set, set-set, refl, sym, ap, ◌∙◌, arith, slice_index, some, some-ne-none, get_elem?, Value, Kind, Command, state_of, shared_name, value_for, header_word, Header, SHARED_PLACE, HEADER_WORDS, header_of, size_of, MayChange, Means, Answer, word, Opening, Part, Seen, hand_now, doing, first_changed, loaded, answered, Object, place_of, IsObject, IsIn, now, IsFixed, Rests, Keeps, Stays, AddsCommand, Happening, IsMutator, IsReadable, IsWritable, CanLoad, CanSwap, Names, TellsHeader, TellsName, CanFix, CanTake, taken, told, told_by, TellsFixed, TellsField, TellsQueue, IsSafe, same_header, lies_within}
+-- A fixed load keeps the rule, also as the position of a command in the order.
+use Rattle.nmgc_round.proofs.Vocabulary.{◌≡◌, inl, inr, ℕ, zero, suc, ◌+◌, ◌*◌, ◌<◌, List, [], ◌∷◌, set, set-set, refl, sym, ap, ◌∙◌, arith, slice_index, some, some-ne-none, get_elem?, Value, Kind, Command, state_of, shared_name, value_for, header_word, Header, SHARED_PLACE, HEADER_WORDS, header_of, size_of, MayChange, Means, Answer, word, Opening, Part, Seen, hand_now, doing, first_changed, loaded, answered, Object, place_of, IsObject, IsIn, now, IsFixed, Rests, Keeps, Stays, AddsCommand, Happening, IsMutator, IsReadable, IsWritable, CanLoad, CanSwap, Names, FindsHeader, FindsName, CanFix, CanTake, taken, known, known_answer, FindsFixed, FindsField, FindsQueue, IsSafe, same_header, lies_within}
 use Rattle.nmgc_world_spec.specs.declared.node.Kind.TheVariants as kind
-use Rattle.nmgc_round.proofs.{Standing.placed, Lists.pointer_means, Lists.word_means, Moves.operand_is, Moves.meant, Moves.fixed_keeps, Writes.load_keeps, Commands.read, Refusals.told_keeps}
+use Rattle.nmgc_round.proofs.{Standing.placed, Lists.pointer_means, Lists.word_means, Moves.operand_is, Moves.meant, Moves.fixed_keeps, Writes.load_keeps, Commands.read, Refusals.known_keeps}
 
--- fields that are written are read
+-- fields that may be written may be read
 may_read : (k : Kind) → IsWritable k → IsReadable k
 may_read kind.Con w = absurd w
 may_read kind.Var w = tt
@@ -56,15 +56,15 @@ module _ (o : Opening) (words : List ℕ) (views : List Seen) (h : Keeps o words
       let q = pointer_means (IsIn o h.born) at m.0 m.1 in
       first_fixed (record { at = at; name = q.0; node = q.2.0 }) q.2.1 offset lt
 
-  -- a load without a place in the order
+  -- a load without a position in the order
   pub fix_keeps : (at offset : ℕ) → CanFix o p at offset → Stays o words views h words (set views id (loaded v at offset (slice_index words (at + offset))))
   fix_keeps at offset can = fixed_keeps o words views h id v here p is at offset (is_fixed at offset can)
 
-  pub fix_room : (at offset : ℕ) → CanFix o p at offset → TellsFixed o at offset (slice_index words (at + offset))
-  fix_room at offset can = (λ first. header_told first, λ second. name_told second)
+  pub fix_room : (at offset : ℕ) → CanFix o p at offset → FindsFixed o at offset (slice_index words (at + offset))
+  fix_room at offset can = (λ first. header_known first, λ second. name_known second)
     where
-      header_told : offset ≡ 0 → TellsHeader o at (slice_index words (at + offset))
-      header_told first =
+      header_known : offset ≡ 0 → FindsHeader o at (slice_index words (at + offset))
+      header_known first =
           let g = is_fixed at offset can in
           let x : Object = g.object in
           let st = h.stands.objects x g.here in
@@ -78,8 +78,8 @@ module _ (o : Opening) (words : List ℕ) (views : List Seen) (h : Keeps o words
             room = omega arith;
           }
 
-      name_told : offset ≡ 1 → TellsName (slice_index words (at + offset))
-      name_told second =
+      name_known : offset ≡ 1 → FindsName (slice_index words (at + offset))
+      name_known second =
           let g = is_fixed at offset can in
           let x : Object = g.object in
           let named = h.stands.named (place_of x) (placed o h.born x g.here) in
@@ -87,7 +87,7 @@ module _ (o : Opening) (words : List ℕ) (views : List Seen) (h : Keeps o words
           let z : at + offset ≡ x.at + 1 = omega arith in
           record { name = x.name; valid = named.valid; word_is = cc (z, named.name) }
 
-  -- a pointer that means something leads within the words
+  -- the object of a pointer that represents a value is within the words
   pub safe_word : (w : ℕ) (x : Value) → Means (IsIn o h.born) w x → IsSafe o w
   safe_word w x m at e =
       let q = pointer_means (IsIn o h.born) at x (rw e at m) in
@@ -95,8 +95,8 @@ module _ (o : Opening) (words : List ℕ) (views : List Seen) (h : Keeps o words
       let l = lies_within o.layout (place_of y) (size_of y.node) (omega arith) (h.stands.apart y q.2.1).lies in
       omega arith
 
-  -- and so do the finalisers that wait
-  pub queue_safe : TellsQueue o p
+  -- and so are the finalisers that wait
+  pub queue_safe : FindsQueue o p
   queue_safe i w e =
       let fits = ((h.agrees id v here).parts 0 p (ap (λ l. get_elem? l 0) is.alone)).1 in
       let m = word_means (IsIn o h.born) (hand_now o p).queue (state_of (now o h.events).world p.number).queue i w fits.hand.queue e in
@@ -124,9 +124,9 @@ module _ (o : Opening) (words : List ℕ) (views : List Seen) (h : Keeps o words
   pub is_doing : (c : Command) (a : Answer) → IsMutator (answered v c a) (doing p c a [])
   is_doing c a = record { alone = ap (λ (l : List Part). first_changed (λ q. doing q c a []) l) is.alone; no_collector = is.no_collector }
 
-  is_telling : (c : Command) → IsMutator (told v c) (doing p c (told_by (hand_now v.opening p) p.fixed c) [])
-  is_telling c = record {
-    alone = ap (λ (l : List Part). first_changed (λ q. doing q c (told_by (hand_now v.opening q) q.fixed c) []) l) is.alone;
+  is_answering : (c : Command) → IsMutator (known v c) (doing p c (known_answer (hand_now v.opening p) p.fixed c) [])
+  is_answering c = record {
+    alone = ap (λ (l : List Part). first_changed (λ q. doing q c (known_answer (hand_now v.opening q) q.fixed c) []) l) is.alone;
     no_collector = is.no_collector;
   }
 
@@ -137,21 +137,21 @@ twice o words views id a b es h = rw (set-set views id a b) at h
 
 module _ (o : Opening) (words : List ℕ) (views : List Seen) (h : Keeps o words views) (id : ℕ) (v : Seen) (here : get_elem? views id ≡
     some v) (p : Part) (is : IsMutator v p) where
-  -- a load at which a command takes its place
+  -- a load that is the position of a command
   pub take_keeps : (at offset : ℕ) (c : Command) → CanTake o p at offset c →
       AddsCommand o words views h p.number c words (set views id (taken v at offset c (slice_index words (at + offset))))
   take_keeps at zero c (inl (is_at, z, can)) =
       let w : ℕ = slice_index words (at + 0) in
-      let next = told v c in
-      let t = told_keeps o words views h id v here p is c can in
+      let next = known v c in
+      let t = known_keeps o words views h id v here p is c can in
       let k : Keeps o words (set views id next) = t.1 in
       let at' : at ≡ SHARED_PLACE = is_at in
       let here' = there_again views id v next here in
       let f : IsFixed o k.born at 0 =
       rw at' (first_fixed o words (set views id next) k id next here' _
-      (is_telling o words views h id v here p is c) (record { at = SHARED_PLACE; name = shared_name; node = k.shared.0 }) k.shared.1 0 (omega arith)) in
+      (is_answering o words views h id v here p is c) (record { at = SHARED_PLACE; name = shared_name; node = k.shared.0 }) k.shared.1 0 (omega arith)) in
       let n = twice o words views id next (loaded next at 0 w) k.events
-      (fixed_keeps o words (set views id next) k id next here' _ (is_telling o words views h id v here p is c) at 0 f) in
+      (fixed_keeps o words (set views id next) k id next here' _ (is_answering o words views h id v here p is c) at 0 f) in
       (t.0, n.0, n.1 ∙ t.2)
   take_keeps at (suc offset) c (inl (is_at, z, can)) = absurd (omega arith)
   take_keeps at zero c (inr (i, e, can)) = absurd (omega arith)
@@ -174,7 +174,7 @@ module _ (o : Opening) (words : List ℕ) (views : List Seen) (h : Keeps o words
       (t.0, n.0, n.1 ∙ t.2)
 
   -- the field that a command finds there
-  pub take_safe : (at offset : ℕ) (c : Command) → CanTake o p at offset c → TellsField o offset (slice_index words (at + offset))
+  pub take_safe : (at offset : ℕ) (c : Command) → CanTake o p at offset c → FindsField o offset (slice_index words (at + offset))
   take_safe at offset c (inl (is_at, z, can)) = record { safe = λ i e. absurd (omega (arith, z, e)) }
   take_safe at offset c (inr (j, z, can)) =
       let place : at + HEADER_WORDS + j ≡ at + offset = omega (arith, z) in

@@ -1,4 +1,4 @@
--- What a command leaves as it is.
+-- The parts of the world that a command leaves unchanged.
 use Rattle.nmgc_round.proofs.Vocabulary.{◌≡◌, ◌≢◌, ℕ, ◌<◌, length, refl, ap, ◌∙◌, arith, length-set, Option, Some, None, inl, inr, cases_eq, eqb_tells, SHARED_MAKER, Name, Value, Node, MutatorState, Change, Command, Num, Nil, Mov, Get, Set, Cas, Update, Force, Push, Pop, Deref, Finalise, NextFin, Show, Same, Yield, Collect, Full, Reply, World, state_of, node_of, changed, value_for, with_state, with_nth, with_node, keeping, change_node, change_object, change_into, step, state_same, state_other, maker_there, change_count}
 use Rattle.nmgc_world_spec.specs.declared.command.Command.TheVariants.{Con, Var, Arr, Thunk, Weak, Stack}
 use Rattle.nmgc_world_spec.specs.declared.value.Value.TheVariants as value
@@ -21,7 +21,7 @@ same_of s t e = record {
 same_then : (s t u : MutatorState) → IsSameState s t → IsSameState t u → IsSameState s u
 same_then s t u a b = record { registers = a.registers ∙ b.registers; queue = a.queue ∙ b.queue; serial = a.serial ∙ b.serial }
 
--- of every mutator, where the node of a name changes
+-- of every mutator, when the node of a name changes
 pub node_frame : (w : World) (name : Name) (found made : Node) → node_of w name ≡ Some found → (k : ℕ) →
     IsSameState (state_of (with_node w name made) k) (state_of w k)
 node_frame w name found made there k = elim (eqb_tells name.maker SHARED_MAKER) [

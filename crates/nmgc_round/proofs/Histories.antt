@@ -1,7 +1,7 @@
--- The commands among the events are a legal history of the never-collected heap.
+-- The commands among the events are a legal history of the reference heap.
 use Rattle.nmgc_round.proofs.{Vocabulary.◌≡◌, Vocabulary.ℕ, Vocabulary.Bool, Vocabulary.true, Vocabulary.false, Vocabulary.cond, Vocabulary.eqb, Vocabulary.List, Vocabulary.[], Vocabulary.◌∷◌, Vocabulary.map, Vocabulary.refl, Vocabulary.Command, Vocabulary.Reply, Vocabulary.Row, Vocabulary.replayed, Vocabulary.rows_of, Vocabulary.IsLegalHistory, Vocabulary.State, Vocabulary.Does, Vocabulary.after_command, Vocabulary.after_scan, Vocabulary.Happening, Vocabulary.did, Vocabulary.scanned, Vocabulary.event_of, Vocabulary.after, Vocabulary.replay, Vocabulary.IsLegal, Vocabulary.done_by, Vocabulary.rows_in, Runs.rest_scan}
 
--- an event does what the core machine says
+-- an event has the effect that the marking machine gives it
 pub does : (s : State) (h : Happening) → Does s (event_of h) (after s h)
 does s (did m c r) = refl
 does s (scanned entry v) = refl

@@ -1,4 +1,4 @@
--- The laws of the rule: what keeps it where a list of events grows by at most one.
+-- The laws of the rule: the changes that keep it, with at most one event more.
 use Rattle.nmgc_round.proofs.Vocabulary.{◌≡◌, ◌≢◌, ◌⊎◌, ◌<◌, ◌≤◌, ℕ, Bool, true, false, List, [], ◌∷◌, ◌++◌, zero, suc, length, set, refl, sym, ap, subst, ◌∙◌, length-set, Option, Some, None, inl, inr, ⊎_elim, Contains, some, some-injective, some-ne-none, get_elem?, at_set, Name, Value, Node, Stack, Command, Reply, World, node_of, step, owed_by, step_grows, Entry, State, names_of, IsPossible, after_command, after_scan, read_at, names_same, names_other, Place, ListMeans, header_of, Happening, did, scanned, after, IsLegal, done_by, scans_in, Answer, FixedWord, UnbornWord, Opening, Part, Scan, Seen, hand_of, hand_now, leaves, doing, scanning, OwnSlots, Object, IsLater, IsObject, IsIn, RepresentsInRound, marks_of, after_word, now, Answers, Owes, IsHand, Fits, Rests, IsActive, Agrees, IsNew, AreKnown, IsQueued, IsRead, Keeps, Stays, AddsCommand, AddsScan, IsMutator, leave_more, folded_more}
 use Rattle.nmgc_snapshot_laws.specs.declared.event.Event.TheVariants as event
 use Rattle.nmgc_round.proofs.{Standing.later_of, Owners.stack_of, Lists.answer_push, Lists.read_push, Lists.answers_more, Lists.reads_more, Lists.owed_more, Fields.list_more, Logs.replay_more, Logs.legal_more, Logs.scans_more, Logs.scans_same, Logs.done_scan, Logs.done_more, Logs.done_other, Runs.rest_scan, Runs.still_open, Frames.step_other}
@@ -20,7 +20,7 @@ module _ (o : Opening) (born more : List Object) (grow : (x : Object) → IsObje
   owes_more true ws ns h = owed_more (IsIn o born) (IsIn o more) grown ws ns h
   owes_more false ws ns h = h
 
-  -- a part that is another mutator's
+  -- a part of another mutator
   pub fits_other : (s : State) (done : List (Command × Reply)) (m : ℕ) (c : Command) (q : Part) → m < length s.world.mutators → q.number ≢ m
       → ((name : Name) (size : ℕ) (values : List Value) → name.maker ≢ m → node_of s.world name ≡ Some (Stack size values) →
       node_of (step s.world m c).0 name ≡ Some (Stack size values))
@@ -75,7 +75,7 @@ module _ (o : Opening) (words : List ℕ) (views : List Seen) (h : Keeps o words
   now_more : (e : Happening) → now o (h.events ++ e ∷ []) ≡ after (now o h.events) e
   now_more e = replay_more o.core h.events e
 
-  -- one view changes, and the others agree
+  -- one view changes, and the other views agree
   change : (new : List ℕ) (es : List Happening) (more : List Object) (w : Seen) → ((x : Object) → IsObject o h.born x → IsObject o more x) →
       ((x : Object) → Contains more x → IsNew o x)
       → IsLegal o.core es → RepresentsInRound o more (now o es).world new → AreKnown o more (now o es).world
@@ -122,7 +122,7 @@ module _ (o : Opening) (words : List ℕ) (views : List Seen) (h : Keeps o words
     | inr t ↦ inr t
   ]
 
-  -- what the seats of others know of a command
+  -- the views of other seats after a command
   module _ (m : ℕ) (c : Command) (r : Reply) (lt : m < length (now o h.events).world.mutators) (more : List Object) (grow : (x : Object) →
       IsObject o h.born x → IsObject o more x)
       (stacks : (name : Name) (size : ℕ) (values : List Value) → name.maker ≢ m → node_of (now o h.events).world name ≡ Some (Stack size values) →
@@ -134,7 +134,7 @@ module _ (o : Opening) (words : List ℕ) (views : List Seen) (h : Keeps o words
     there_before x ne (inl old) = inl old
     there_before x ne (inr b) = elim (only x b) [ inl c ↦ inr c | inr mine ↦ absurd (ne mine) ]
 
-    -- the own stacks of another are as they were
+    -- the own stacks of another mutator stay
     other_own : (q : Part) → q.number ≢ m → OwnSlots o h.born (now o h.events).world q.number (hand_now o q) →
         OwnSlots o more (step (now o h.events).world m c).0 q.number (hand_now o q)
     other_own q ne own x size values hx mine e =
@@ -156,7 +156,7 @@ module _ (o : Opening) (words : List ℕ) (views : List Seen) (h : Keeps o words
     other_fits q ne f =
         rw (now_more (did m c r)) (rw (done_other q.number m h.events c r (λ e. ne (sym e))) (fits_other o h.born more grow (now o h.events) (done_by q.number h.events) m c q lt ne stacks (other_own q ne f.own) f))
 
-  -- a command more: every step with a place in the order is an instance
+  -- one more command: every step that is the position of a command is an instance
   pub command_law : (new : List ℕ) (more : List Object) (p : Part) (used : ℕ) (unborn : List UnbornWord) (fixed : List FixedWord) (found : List ℕ)
       (c : Command) (r : Reply) (a : Answer) (owed : List ℕ)
       → IsMutator v p → ((x : Object) → IsObject o h.born x → IsObject o more x) → ((x : Object) → Contains more x → IsNew o x)
@@ -213,7 +213,7 @@ module _ (o : Opening) (words : List ℕ) (views : List Seen) (h : Keeps o words
       }) in
       (r, n.0, n.1)
 
-  -- no event: one part says other things of the words
+  -- no event: one part has other facts about the words
   pub store_law : (new : List ℕ) (p : Part) (used : ℕ) (unborn : List UnbornWord) (fixed : List FixedWord) → IsMutator v p
       → RepresentsInRound o h.born (now o h.events).world new → Rests o h.born new (record p { used = used; unborn = unborn; fixed = fixed }) →
       ((q : Part) → q.number ≢ p.number → Rests o h.born words q → Rests o h.born new q)
@@ -253,7 +253,7 @@ module _ (o : Opening) (words : List ℕ) (views : List Seen) (h : Keeps o words
   pub same_law : (w : Seen) → Agrees o h.born words h.events h.owner h.scanner id w → Stays o words views h words (set views id w)
   same_law w mine = change words h.events h.born w (λ x y. y) h.new h.legal h.stands h.known h.queued mine (λ j u ne at. h.agrees j u at)
 
-  -- a part doesn't see a scan
+  -- a scan doesn't matter to a part
   fits_rest : (s t : State) (done : List (Command × Reply)) (q : Part) → t.world ≡ s.world → t.owed ≡ s.owed → Fits o h.born s done q → Fits o h.born t done q
   fits_rest s t done q world owed f = record {
     exists = rw world f.exists;
@@ -265,7 +265,7 @@ module _ (o : Opening) (words : List ℕ) (views : List Seen) (h : Keeps o words
     own = rw world f.own;
   }
 
-  -- a scan more
+  -- one more scan
   pub scan_law : (entry : Entry) (rest : List Entry) (w : ℕ) (x : Option Value) → v.collects ≡ true → (now o h.events).queue ≡ entry ∷ rest
       → read_at (node_of (now o h.events).world entry.name) entry.position ≡ x → IsRead (IsIn o h.born) w x → (x ≡ None → 1 ≤ entry.position → w ≡ 0)
       → marks_of (after_scan (now o h.events) (now o h.events).queue) ≡ after_word o (marks_of (now o h.events)) (record { entry = entry; word = w })

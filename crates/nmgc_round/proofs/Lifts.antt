@@ -1,5 +1,5 @@
--- The further kinds of step, lifted to the table's rule: whatever opening the round has.
-use Rattle.nmgc_round.proofs.Vocabulary.{◌≡◌, ◌≢◌, ℕ, ◌+◌, Bool, true, false, eqb, List, [], set, refl, sym, slice_index, either, Me, Allows, keeps, Command, HEADER_WORDS, SHARED_PLACE, Seen, Mutates, CanExchange, exchanged, words_exchanged, IsSafe, CanForce, CanUpdate, forced, updated, CanPeek, CanSlot, TellsSlot, slot_swapped, IsRefusedSlot, slot_refused, CanDeref, CanFinalise, finaliser_named, weak_read, weak_taken, set_again}
+-- The further kinds of step, lifted to the table's rule for any opening of the round.
+use Rattle.nmgc_round.proofs.Vocabulary.{◌≡◌, ◌≢◌, ℕ, ◌+◌, Bool, true, false, eqb, List, [], set, refl, sym, slice_index, either, Me, Allows, keeps, Command, HEADER_WORDS, SHARED_PLACE, Seen, Mutates, CanExchange, exchanged, words_exchanged, IsSafe, CanForce, CanUpdate, forced, updated, CanPeek, CanSlot, FindsSlot, slot_swapped, IsRefusedSlot, slot_refused, CanDeref, CanFinalise, finaliser_named, weak_read, weak_taken, set_again}
 use Rattle.nmgc_round.proofs.{Allows.unchanged, Modes.holding, Modes.within, Keeping.acts, Exchanges.exchange_keeps, Thunks.force_keeps, Thunks.force_safe, Thunks.update_keeps, Barred.barred_keeps, Pushes.peek_keeps, Pushes.slot_keeps, Pushes.slot_safe, Weakens.deref_keeps, Weakens.deref_safe, Weakens.finalise_keeps, Weakens.finalise_safe}
 
 -- the words that a compare-exchange leaves
@@ -97,9 +97,9 @@ module _ (slots id : ℕ) (me : Me (Unit {0}) Seen) (bare : me.1 ≡ []) where
       ))
 
   pub peek_allows : (at slot : ℕ) → Mutates (λ o p. CanPeek o p at slot) me.0 →
-      Steps (at + HEADER_WORDS + slot) (λ n. n) (λ n u. (u ≡ me.0) × Mutates (λ o p. TellsSlot o p at slot n) me.0)
+      Steps (at + HEADER_WORDS + slot) (λ n. n) (λ n u. (u ≡ me.0) × Mutates (λ o p. FindsSlot o p at slot n) me.0)
   peek_allows at slot can = within slots id me bare (at + HEADER_WORDS + slot) (λ n. n) (λ n u. (u ≡ me.0) ×
-      Mutates (λ o p. TellsSlot o p at slot n) me.0) (acts me.0 can.0 can.1) (λ o s h len here small.
+      Mutates (λ o p. FindsSlot o p at slot n) me.0) (acts me.0 can.0 can.1) (λ o s h len here small.
       let i : ℕ = at + HEADER_WORDS + slot in
       let n : ℕ = slice_index s.words i in
       let is = (h.agrees id me.0 here).opening (acts me.0 can.0 can.1) in

@@ -1,10 +1,10 @@
--- Lists of words and what they mean, one more at the end or one that changes.
+-- Lists of words and their values, with one more at the end or one that changes.
 use Rattle.nmgc_round.proofs.Vocabulary.{◌≡◌, ℕ, zero, suc, ◌*◌, ◌≤◌, List, [], ◌∷◌, ◌++◌, get_or, set, refl, ap, arith, Option, Some, None, slice_get, Name, Value, Operand, Register, Shared, Command, Reply, shared_name, value_of, names_among, SHARED_PLACE, NIL_WORD, Entry, Place, Means, ListMeans, Answer, plain, word, DoneRow, Scan, word_of, Answers, AllAnswer, IsRead, AllRead, AreOwed}
 use Rattle.nmgc_world_spec.specs.declared.value.Value.TheVariants as value
 use Rattle.nmgc_round.proofs.Fields.{means_more, list_more}
 
 module _ (P : Place → Type 0) where
-  -- the value that stands where the word stands: nil beyond the end
+  -- the value at the position of a word: nil beyond the end
   pub means_at : (ws : List ℕ) (vs : List Value) (r : ℕ) → ListMeans P ws vs → Means P (get_or ws r NIL_WORD) (get_or vs r value.Nil)
   means_at [] [] r h = refl
   means_at [] (v ∷ vs) r h = absurd h
@@ -12,14 +12,14 @@ module _ (P : Place → Type 0) where
   means_at (w ∷ ws) (v ∷ vs) zero h = h.0
   means_at (w ∷ ws) (v ∷ vs) (suc r) h = means_at ws vs r h.1
 
-  -- each of the words stands for some value
+  -- each of the words represents some value
   pub word_means : (ws : List ℕ) (vs : List Value) (i w : ℕ) → ListMeans P ws vs → slice_get ws i ≡ Some w → (v : Value) × Means P w v
   word_means [] vs i w h e = absurd cc
   word_means (x ∷ ws) [] i w h e = absurd h
   word_means (x ∷ ws) (v ∷ vs) zero w h e = let same : x ≡ w = cc in (v, rw same at h.0)
   word_means (x ∷ ws) (v ∷ vs) (suc i) w h e = word_means ws vs i w h.1 e
 
-  -- an operand's word means the operand's value
+  -- an operand's word represents the operand's value
   pub operand_means : (ws : List ℕ) (vs : List Value) (operand : Operand) → P (record { at = SHARED_PLACE; name = shared_name }) →
       ListMeans P ws vs → Means P (word_of ws operand) (value_of vs operand)
   operand_means ws vs (Register r) g h = means_at ws vs r h
@@ -52,7 +52,7 @@ module _ (P : Place → Type 0) where
   read_push (t ∷ ss) [] s v h k z = absurd h
   read_push (t ∷ ss) (x ∷ xs) s v h k z = (h.0, read_push ss xs s v h.1 k z)
 
-  -- a pointer means the name at its place
+  -- a pointer represents the name at its address
   pub pointer_means : (at : ℕ) (v : Value) → Means P (2 * at) v → (name : Name) × (v ≡ value.Ref name) × P (record { at = at; name = name })
   pointer_means at value.Nil m = absurd (omega arith)
   pointer_means at (value.Number n) m = absurd (omega arith)
@@ -64,7 +64,7 @@ names_append (value.Nil ∷ vs) xs = names_append vs xs
 names_append (value.Number n ∷ vs) xs = names_append vs xs
 names_append (value.Ref name ∷ vs) xs = ap (λ (l : List Name). name ∷ l) (names_append vs xs)
 
--- what is owed, and more that is owed
+-- objects owed, and more objects owed
 pub owed_append : (P : Place → Type 0) (ws us : List ℕ) (ns : List Name) (xs : List Value) → AreOwed P ws ns → ListMeans P us xs →
     AreOwed P (ws ++ us) (ns ++ names_among xs)
 owed_append P ws us ns xs h m = (h.0 ++ xs, list_append P ws us h.0 xs h.1 m, cc (names_append h.0 xs, h.2))

@@ -4,7 +4,7 @@ use Rattle.nmgc_world_spec.specs.{declared.command.Command.TheVariants.Con, decl
 use Rattle.nmgc_world_spec.specs.declared.node.Node.TheVariants as node
 use Rattle.nmgc_round.proofs.Lists.{operand_means}
 
--- an object may have the header that a command makes, where it is no larger than a segment
+-- an object may have the header that a command makes, if it is no larger than a segment
 pub made_header : (words : ℕ) (c : Command) → words ≤ most_segment_words → Fits words c → IsMaking c → IsHeader (header_made c)
 made_header words (Con dest tag fields) le f m = (f.numbers, let z = f.size in omega arith)
 made_header words (Var dest v) le f m = (refl, refl)
@@ -31,11 +31,11 @@ made_header words Yield le f m = absurd m
 made_header words Collect le f m = absurd m
 made_header words Full le f m = absurd m
 
--- these words stand from a place on
+-- these words lie at an address and after it
 abbrev pub StandFrom : List ℕ → ℕ → List ℕ → Type 0
 StandFrom words from us = (i w : ℕ) → slice_get us i ≡ Some w → slice_index words (from + i) ≡ w
 
--- what a birth leaves in the hand of its mutator
+-- the hand of a mutator after an allocation
 pub record IsBearing (h next : Hand) (dest at : ℕ) (made : Node) : Type 0 where
   pub registers : next.registers ≡ set h.registers dest (2 * at)
   pub queue : next.queue ≡ h.queue

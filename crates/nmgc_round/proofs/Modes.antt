@@ -1,5 +1,5 @@
 -- The rule in its two modes: a step of a round finds the round, a step at a stop finds the stop.
-use Rattle.nmgc_round.proofs.Vocabulary.{◌≡◌, ℕ, zero, suc, ◌+◌, Bool, true, false, cond, ◌||◌, ◌≢◌, ◌⊎◌, inl, inr, ⊎_elim, List, [], ◌∷◌, ◌++◌, refl, sym, ap, ◌∙◌, subst, set, slice_index, eqb, true≢false, append-nil, some, some-injective, some-ne-none, get_elem?, Me, Allows, Splits, Joins, Final, SeenIn, keeps, at_set, Command, HEADER_WORDS, word, Opening, Part, Seen, exclusive, whole, nobody, loaded, answered, swapped, met, met_at_birth, stored, gave_birth, CanSplit, keeps_rest, gives_first, mutates, collecting, together, IsActive, IsIdle, Keeps, Stopped, Holding, CanOpen, HasAll, Ended, CanScan, scanned_by, Mutates, CanLoad, CanSwap, CanStore, CanBear, CanFix, CanTake, taken, TellsFixed, TellsField, TellsQueue, TellsScan, IsSafe, set_again}
+use Rattle.nmgc_round.proofs.Vocabulary.{◌≡◌, ℕ, zero, suc, ◌+◌, Bool, true, false, cond, ◌||◌, ◌≢◌, ◌⊎◌, inl, inr, ⊎_elim, List, [], ◌∷◌, ◌++◌, refl, sym, ap, ◌∙◌, subst, set, slice_index, eqb, true≢false, append-nil, some, some-injective, some-ne-none, get_elem?, Me, Allows, Splits, Joins, Final, SeenIn, keeps, at_set, Command, HEADER_WORDS, word, Opening, Part, Seen, exclusive, whole, nobody, loaded, answered, swapped, met, met_at_birth, stored, gave_birth, CanSplit, keeps_rest, gives_first, mutates, collecting, together, IsActive, IsIdle, Keeps, Stopped, Holding, CanOpen, HasAll, Ended, CanScan, scanned_by, Mutates, CanLoad, CanSwap, CanStore, CanBear, CanFix, CanTake, taken, FindsFixed, FindsField, FindsQueue, FindsScan, IsSafe, set_again}
 use Rattle.atomic_table.specs.Table.{State}
 use Rattle.nmgc_round.proofs.Allows as allows
 use Rattle.nmgc_round.proofs.{Keeping.acts, Openings.begins, Parts.splits, Parts.splits_collector, Parts.joins, Parts.closes, Parts.ends, Parts.long}
@@ -15,7 +15,7 @@ idle_rests v idle a = ⊎_elim (λ (t : (k : ℕ) × (p : Part) × (get_elem? v.
 sole_rests : (ws : List ℕ) (v : Seen) → v ≡ exclusive ws → IsActive v → ⊥
 sole_rests ws v is a = ⊎_elim (λ (t : (k : ℕ) × (p : Part) × (get_elem? v.parts k ≡ some p)). some-ne-none t.1 (cc (t.2, is))) (λ (on : v.collects ≡ true). true≢false (cc (on, is))) a
 
--- a seat with a part stands in a round, whose opening it knows
+-- a seat with a part is in a round, whose opening it knows
 pub in_round : (words : List ℕ) (views : List Seen) → Holding words views → (id : ℕ) (v : Seen) → get_elem? views id ≡ some v → IsActive v →
     (o : Opening) × Keeps o words views × (v.opening ≡ o)
 in_round words views h id v here a = ⊎_elim
@@ -24,7 +24,7 @@ in_round words views h id v here a = ⊎_elim
     (λ (t : (o : Opening) × Keeps o words views). (t.0, t.1, (t.1.agrees id v here).opening a))
     h
 
--- the only seat knows the words, and the others have no part
+-- the only seat knows the words, and the other seats have no part
 pub at_stop : (words : List ℕ) (views : List Seen) → Holding words views → (id : ℕ) (ws : List ℕ) → get_elem? views id ≡ some (exclusive ws) →
     (ws ≡ words) × ((j : ℕ) (u : Seen) → j ≢ id → get_elem? views j ≡ some u → IsIdle u)
 at_stop words views h id ws here = ⊎_elim
@@ -38,7 +38,7 @@ at_stop words views h id ws here = ⊎_elim
     (λ (t : (o : Opening) × Keeps o words views). absurd (true≢false (t.1.agrees id (exclusive ws) here).shares))
     h
 
--- the only seat has another view, and the others as before
+-- the only seat has another view, and the other seats stay
 still : (words : List ℕ) (views : List Seen) (id : ℕ) → ((j : ℕ) (u : Seen) → j ≢ id → get_elem? views j ≡ some u → IsIdle u) →
     Stopped words (set views id (exclusive words))
 still words views id others = record {
@@ -64,7 +64,7 @@ module _ (slots id : ℕ) (me : Me (Unit {0}) Seen) (bare : me.1 ≡ []) where
   abbrev InRound : Opening → ℕ → (ℕ → ℕ) → (ℕ → Seen → Type 0) → Type 0
   InRound o i f then = Allows (λ s. Keeps o s.words s.views) slots id me i f (λ n m. then n m.0 × (m.1 ≡ []))
 
-  -- a step of a round, whatever its opening is
+  -- a step of a round, for any opening
   pub within : (i : ℕ) (f : ℕ → ℕ) (then : ℕ → Seen → Type 0) → IsActive me.0 → ((o : Opening) → InRound o i f then) → Steps i f then
   within i f then a step s h len here small =
       let r = in_round s.words s.views h id me.0 here a in
@@ -99,18 +99,18 @@ module _ (slots id : ℕ) (me : Me (Unit {0}) Seen) (bare : me.1 ≡ []) where
       allows.meet_birth_allows o slots id me bare at header c can)
 
   pub fix_allows : (at offset : ℕ) → Mutates (λ o p. CanFix o p at offset) me.0 →
-      Steps (at + offset) (λ n. n) (λ n w. (w ≡ loaded me.0 at offset n) × TellsFixed me.0.opening at offset n)
+      Steps (at + offset) (λ n. n) (λ n w. (w ≡ loaded me.0 at offset n) × FindsFixed me.0.opening at offset n)
   fix_allows at offset can = within (at + offset) (λ n. n) (λ n w. (w ≡ loaded me.0 at offset n) ×
-      TellsFixed me.0.opening at offset n) (acts me.0 can.0 can.1) (λ o. allows.fix_allows o slots id me bare at offset can)
+      FindsFixed me.0.opening at offset n) (acts me.0 can.0 can.1) (λ o. allows.fix_allows o slots id me bare at offset can)
 
   pub take_allows : (at offset : ℕ) (c : Command) → Mutates (λ o p. CanTake o p at offset c) me.0 →
-      Steps (at + offset) (λ n. n) (λ n w. (w ≡ taken me.0 at offset c n) × TellsField me.0.opening offset n × Mutates TellsQueue me.0)
-  take_allows at offset c can = within (at + offset) (λ n. n) (λ n w. (w ≡ taken me.0 at offset c n) × TellsField me.0.opening offset n ×
-      Mutates TellsQueue me.0) (acts me.0 can.0 can.1) (λ o. allows.take_allows o slots id me bare at offset c can)
+      Steps (at + offset) (λ n. n) (λ n w. (w ≡ taken me.0 at offset c n) × FindsField me.0.opening offset n × Mutates FindsQueue me.0)
+  take_allows at offset c can = within (at + offset) (λ n. n) (λ n w. (w ≡ taken me.0 at offset c n) × FindsField me.0.opening offset n ×
+      Mutates FindsQueue me.0) (acts me.0 can.0 can.1) (λ o. allows.take_allows o slots id me bare at offset c can)
 
-  pub scan_allows : (at offset : ℕ) → CanScan me.0 at offset → Steps (at + offset) (λ n. n) (λ n w. (w ≡ scanned_by me.0 n) × TellsScan me.0 n)
+  pub scan_allows : (at offset : ℕ) → CanScan me.0 at offset → Steps (at + offset) (λ n. n) (λ n w. (w ≡ scanned_by me.0 n) × FindsScan me.0 n)
   scan_allows at offset can = within (at + offset) (λ n. n) (λ n w. (w ≡ scanned_by me.0 n) ×
-      TellsScan me.0 n) (inr can.collects) (λ o. allows.scan_allows o slots id me bare at offset can)
+      FindsScan me.0 n) (inr can.collects) (λ o. allows.scan_allows o slots id me bare at offset can)
 
   same_view : (views : List Seen) → get_elem? views id ≡ some me.0 → set views id me.0 ≡ views
   same_view views here = again views id here
@@ -171,7 +171,7 @@ cuts id v can s h here = let r = in_round s.words s.views h id v here (inl (0, c
 pub cuts_collector : (id : ℕ) (v : Seen) → v.collects ≡ true → Splits holding id v (mutates v) (collecting v)
 cuts_collector id v on s h here = let r = in_round s.words s.views h id v here (inr on) in inr (r.0, splits_collector r.0 id v on s r.1 here)
 
--- two seats of one round, or at a stop two of which one at most knows the words
+-- two seats of one round, or at a stop, when at most one of the two knows the words
 pub meets : (id : ℕ) (v : Seen) (other : ℕ) (w : Seen) → v.opening ≡ w.opening → Joins holding id v other w (together v w) nobody
 meets id v other w same s h here apart at = ⊎_elim
     (λ (t : Stopped s.words s.views). inl (record { holder = t.holder; each = each t }))
@@ -188,7 +188,7 @@ meets id v other w same s h here apart at = ⊎_elim
       ap (λ (u : Seen). u.collects) x.1,
     )) (λ (x : IsIdle w). (x.1, x.2)) (t.each other w there)
 
-    -- what a seat with no part adds
+    -- the addition of a seat without a part
     with_tail : List Part × Bool → Seen
     with_tail y = record {
       is_sole = v.is_sole;

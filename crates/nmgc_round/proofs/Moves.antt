@@ -5,7 +5,7 @@ use Rattle.nmgc_world_spec.specs.declared.node.Kind.TheVariants as kind
 use Rattle.nmgc_snapshot_laws.specs.declared.event.Event.TheVariants as event
 use Rattle.nmgc_round.proofs.{Fields.list_more, Lists.operand_means, Lists.pointer_means, Lists.list_set, Lists.owed_append, Standing.same_node, Owners.own_born, Births.stands_free, Births.stands_born, Births.more_objects, Nurseries.rest_free, Nurseries.rests_store, Nurseries.rests_stored, Nurseries.rests_born, Nurseries.rests_birth, Frames.IsSameState, Keeping.acts, Keeping.grown, Keeping.owes_more, Keeping.command_law, Keeping.store_law, Runs.still_open, Runs.serials_grow, Makers.made_header, Makers.maker}
 
--- fields that are written may change
+-- fields that may be written may change
 pub may_change : (k : Kind) (i : ℕ) → IsWritable k → MayChange k i
 may_change kind.Con i w = absurd w
 may_change kind.Var i w = tt
@@ -34,11 +34,11 @@ module _ (o : Opening) (words : List ℕ) (views : List Seen) (h : Keeps o words
   rests : Rests o h.born words p
   rests = ((h.agrees id v here).parts 0 p (ap (λ l. get_elem? l 0) is.alone)).2
 
-  -- what an operand's word means
+  -- the value that an operand's word represents
   pub operand_is : (operand : Operand) → Means P (operand_word o p operand) (value_for W p.number operand)
   operand_is operand = operand_means P (hand_now o p).registers (state_of W p.number).registers operand h.shared fits.hand.registers
 
-  -- the object that an operand refers to, where its header is named
+  -- the object to which an operand refers, if its header is named
   pub record Meant (at : ℕ) (header : Header) (operand : Operand) : Type 0 where
     pub object : Object
     pub there : IsObject o h.born object
@@ -83,7 +83,7 @@ module _ (o : Opening) (words : List ℕ) (views : List Seen) (h : Keeps o words
   owes_old true ws ns w x k m = owed_append P ws (w ∷ []) ns (x ∷ []) k (m, tt)
   owes_old false ws ns w x k m = append-nil ws ∙ k
 
-  -- the node of an object changes, and what the mutator has stays
+  -- the node of an object changes, and the mutator's hand stays
   pub hand_kept : (u : World) (hand : Hand) → IsSameState (state_of u p.number) (state_of W p.number) → IsHand o h.born W p.number hand →
       IsHand o h.born u p.number hand
   hand_kept u hand same k = record {
@@ -127,7 +127,7 @@ module _ (o : Opening) (words : List ℕ) (views : List Seen) (h : Keeps o words
       let k : suc p.number * o.layout.nursery ≤ o.layout.mutators * o.layout.nursery = mul-le-mul_right o.layout.nursery rests.exists in
       omega arith
 
-  -- a store where no object is yet
+  -- a store into a word in no object yet
   pub store_keeps : (at w : ℕ) → CanStore o p at → Stays o words views h (set words at w) (set views id (stored v at w))
   store_keeps at w can =
       let free : IsFree o h.born at = rest_free o h.is h.born W words p h.stands h.new rests at can.from can.to in
@@ -138,7 +138,7 @@ module _ (o : Opening) (words : List ℕ) (views : List Seen) (h : Keeps o words
       (rests_stored o h.is h.born W words h.stands h.new p rests at w can.from can.to (omega arith) can.fresh)
       (λ q ne r. rests_store o h.is h.born W words h.stands h.new p rests at w can.from can.to q ne r))
 
-  -- a birth: the header is written last
+  -- an allocation: the header is written last
   pub birth_keeps : (at header : ℕ) (c : Command) → CanBear o p at header c →
       AddsCommand o words views h p.number c (set words at header) (set views id (gave_birth v at header c))
   birth_keeps at header c can =

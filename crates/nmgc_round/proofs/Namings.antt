@@ -1,4 +1,4 @@
--- The replies by loaded names are those of the events.
+-- The replies by loaded names are the replies of the events.
 use Rattle.nmgc_round.proofs.{Vocabulary.◌≡◌, Vocabulary.ℕ, Vocabulary.◌≤◌, Vocabulary.List, Vocabulary.[], Vocabulary.◌∷◌, Vocabulary.refl, Vocabulary.sym, Vocabulary.ap, Vocabulary.◌∙◌, Vocabulary.arith, Vocabulary.some, Vocabulary.get_elem?, Vocabulary.Name, Vocabulary.Value, Vocabulary.Command, Vocabulary.Reply, Vocabulary.SHARED_MAKER, Vocabulary.World, Vocabulary.name_word, Vocabulary.Place, Vocabulary.Means, Vocabulary.done_by, Vocabulary.Answer, Vocabulary.plain, Vocabulary.word, Vocabulary.DoneRow, Vocabulary.Opening, Vocabulary.Part, Vocabulary.Seen, Vocabulary.Object, Vocabulary.IsIn, Vocabulary.place_of, Vocabulary.now, Vocabulary.Answers, Vocabulary.AllAnswer, Vocabulary.IsFinished, Vocabulary.Replies, Vocabulary.AllReply, Vocabulary.same_name, Standing.placed}
 use Rattle.nmgc_round.specs.Naming.{IsNamed}
 use Rattle.nmgc_world_spec.specs.declared.value.Value.TheVariants as value

@@ -1,4 +1,4 @@
--- The rest of each nursery: no object is there, and what a seat says of words stays so where another word changes.
+-- The rest of each nursery: no object is there, and a seat's facts about words stay when another word changes.
 use Rattle.nmgc_round.proofs.Vocabulary.{◌≡◌, ◌≢◌, ◌⊎◌, inl, inr, ℕ, suc, ◌+◌, ◌-◌, ◌*◌, ◌<◌, ◌≤◌, List, [], ◌∷◌, ◌++◌, length, set, refl, ◌∙◌, arith, slice_index, get_or-set_same, get_or-set_other, mul-le-mul_right, Contains, cases_eq, cases_lt, Contains-append_left, Contains-push, Contains-push_cases, InSegment, InNursery, segment_place, HEADER_WORDS, World, header_of, size_of, MayChange, Place, LiesWell, IsBetween, contains_cases, Opening, Part, UnbornWord, storing, bearing_object, Object, place_of, end_of, IsObject, IsPlace, RepresentsInRound, IsFree, IsOpening, IsNew, IsFixed, Rests, base_of, limit_of, top_of}
 use Rattle.nmgc_round.proofs.Standing.{one_or_apart, one_header}
 
@@ -15,7 +15,7 @@ module _ (o : Opening) where
   ]
 
   module _ (is : IsOpening o) where
-    -- what was there as the round began lies before the nurseries
+    -- objects that were there when the round began lie before the nurseries
     old_before : (p : Place) → Contains o.places p → (size : ℕ) → 0 < size → LiesWell o.layout p size → (m : ℕ) → p.at + size ≤ base_of o m
     old_before p hp size some (inl g) m = let h = g.2 in omega arith
     old_before p hp size some (inr (own, inl s)) m =
@@ -56,7 +56,7 @@ module _ (o : Opening) where
         places q (inl h) = let b = old_before q h HEADER_WORDS (omega arith) (st.named q (inl h)).lies p.number in inr (omega arith)
         places q (inr h) = rw (← h.2) (elim (born_apart h.0 h.1) [ inl l ↦ inl l | inr l ↦ inr (omega arith) ])
 
-  -- what a part says of words stays so, where none of them changes
+  -- a part's facts about words stay, if none of these words changes
   pub rests_same : (born more : List Object) (ws us : List ℕ) (q : Part) → ((x : Object) → IsObject o born x → IsObject o more x) →
       ((x : Object) → Contains more x → x.name.maker ≡ q.number → end_of x ≤ top_of o q)
       → ((j : ℕ) → top_of o q ≤ j → j < limit_of o q.number → slice_index us j ≡ slice_index ws j)
@@ -79,7 +79,7 @@ module _ (o : Opening) where
     );
   }
 
-  -- a word that never changes isn't one of no object
+  -- a word that never changes isn't a word in no object
   pub fixed_away : (born : List Object) (i at offset : ℕ) → IsFree o born i → IsFixed o born at offset → at + offset ≢ i
   fixed_away born i at offset free f e = let a = f.is_at in let b = f.within in
       elim (free.objects f.object f.here) [ inl l ↦ omega arith | inr l ↦ omega arith ]
@@ -122,7 +122,7 @@ module _ (o : Opening) where
         (λ at offset f. get_or-set_other ws i (at + offset) n 0 (fixed_away born i at offset (rest_free is born w ws p st new rp i lo hi) f))
         r
 
-    -- and one of the own
+    -- and a word of the own nursery
     pub rests_stored : (p : Part) → Rests o born ws p → (i n : ℕ) → top_of o p ≤ i → i < limit_of o p.number → i < length ws →
         ((u : UnbornWord) → Contains p.unborn u → u.at ≢ i) → Rests o born (set ws i n) (storing p i n)
     rests_stored p r i n lo hi inside fresh = record {
@@ -137,7 +137,7 @@ module _ (o : Opening) where
           (t.0, get_or-set_other ws i (f.at + f.offset) n 0 (fixed_away born i f.at f.offset (rest_free is born w ws p st new r i lo hi) t.0) ∙ t.1);
     }
 
-    -- an object of another is born
+    -- an object of another mutator is allocated
     pub rests_birth : (p : Part) → Rests o born ws p → (x : Object) → x.name.maker ≡ p.number → x.at ≡ top_of o p → end_of x ≤ limit_of o p.number →
         (n : ℕ) (q : Part) → q.number ≢ p.number → Rests o born ws q → Rests o (born ++ x ∷ []) (set ws x.at n) q
     rests_birth p rp x mine top to n q ne r =
@@ -152,7 +152,7 @@ module _ (o : Opening) where
         (fixed_away born x.at at offset (rest_free is born w ws p st new rp x.at (omega arith) (omega arith)) f))
         r
 
-    -- and an own one: its words are used, and its header and name are known
+    -- and an own object: its words are used, and its header and name are known
     pub rests_born : (p : Part) → Rests o born ws p → (x : Object) → x.name.maker ≡ p.number → x.at ≡ top_of o p → end_of x ≤ limit_of o p.number →
         (n : ℕ) → x.at < length ws
         → Rests o (born ++ x ∷ []) (set ws x.at n) (bearing_object p x.at (size_of x.node) n (slice_index ws (x.at + 1)))

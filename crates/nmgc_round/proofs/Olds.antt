@@ -1,9 +1,9 @@
--- What an opening lists of a mutator's stacks are its own ones: each tracked stack that it made has its words there.
+-- The stacks that an opening lists for a mutator are its own: each tracked stack that it made has its words there.
 use Rattle.nmgc_round.proofs.Vocabulary.{◌≡◌, ◌≢◌, inl, inr, ℕ, suc, ◌+◌, ◌<◌, Bool, true, false, cond, eqb, List, [], ◌∷◌, ◌++◌, map, refl, sym, ap, ◌∙◌, arith, slice_index, Option, Some, None, eq-eqb, ne_eqb, true≢false, Contains, slice_get, cases_eq, Name, Value, Node, Con, Var, Arr, Thunk, Weak, Stack, World, node_of, is_same_name, contains_head, contains_tail, contains_cases, item_left, item_map, contains_read, is_some_of, HEADER_WORDS, holds, slots_of, IsTracked, Place, Means, ListMeans, fields_of_slots, slot_tracked, Slots, Opening, hand_of, place_of, IsIn, earlier, slots_at, OwnSlots, place_named, word_in, slots_of_node, stacks_at, old_stacks, CanOpen, name_itself}
 use Rattle.nmgc_snapshot_laws.specs.laws.Listed.{tested_same as same_name}
 use Rattle.nmgc_world_spec.specs.declared.value.Value.TheVariants as value
 
--- a name with a place has the one that is found
+-- a name with an address has the one that is found
 place_there : (ps : List Place) (name : Name) (at : ℕ) → Contains ps (record { at = at; name = name }) →
     Contains ps (record { at = place_named ps name; name = name })
 place_there [] name at c = absurd (let lt = c.1 in omega arith)
@@ -54,7 +54,7 @@ module _ (places : List Place) (w : World) (m : ℕ) (x : Place) (size : ℕ) (v
         skip places p.at x.at (node_of w p.name) (eqb p.name.maker m) (stacks_at places w m ps) ne ∙ found ps (λ q d e. one q (contains_tail p ps q d) e) rest
   ]
 
--- words that mean values one by one
+-- words that represent values one by one
 list_by : (P : Place → Type 0) (f : Value → ℕ) (values : List Value) → ((i : ℕ) (v : Value) → slice_get values i ≡ Some v → Means P (f v) v) →
     ListMeans P (map f values) values
 list_by P f [] h = tt
@@ -67,7 +67,7 @@ module _ (o : Opening) (words : List ℕ) (h : CanOpen o words) where
   among : (p : Place) → Contains o.places p → IsTracked W (earlier o) p.name → IsIn o [] p
   among p c t = let n = is_some_of (node_of W p.name) (h.represents.named p c).known in (n.0, inl (record { there = c; tracked = t; node = n.1 }))
 
-  -- the value's own word, where some word means it
+  -- the value's own word, if some word represents it
   word_means : (n : ℕ) (v : Value) → ((name : Name) → v ≡ value.Ref name → IsTracked W (earlier o) name) → Means (Contains o.places) n v →
       Means (IsIn o []) (word_in o.places v) v
   word_means n value.Nil t m = refl

@@ -1,10 +1,10 @@
--- Words that represent a world meet the rule: references in what is tracked lead to what is tracked.
-use Rattle.nmgc_round.proofs.Vocabulary.{◌≡◌, ◌≢◌, inl, inr, ⊎_elim, set, ℕ, zero, suc, ◌+◌, ◌<◌, Bool, true, false, List, [], ◌∷◌, ◌++◌, length, refl, sym, ap, subst, arith, slice_index, Some, Contains, slice_get, contains_one, is_some_of, at_some, contains_head, contains_tail, contains_read, Name, Value, Node, World, node_of, state_of, IsNodeOf, IsSized, shared_name, start, field, IsWide, IsWideRoot, HEADER_WORDS, SHARED_PLACE, IsTracked, Place, Means, Fills, HasSlots, ListMeans, Slot, holds, unset, untold, slots_of, free_slots, IsObjectAt, slot_tracked, Contains-append_left, Contains-append_right, some, some-injective, some-ne-none, get_elem?, at_set, names_of, Owes, IsHand, Fits, Rests, IsIdle, Agrees, Keeps, Hand, Part, Seen, Opening, hand_of, blank, blanks, nobody, whole, KeepsOf, Object, place_of, IsOld, IsIn, IsPlace, IsLater, IsStanding, RepresentsInRound, earlier, CanOpen}
+-- Words that represent a world meet the rule: references in tracked objects refer to tracked objects.
+use Rattle.nmgc_round.proofs.Vocabulary.{◌≡◌, ◌≢◌, inl, inr, ⊎_elim, set, ℕ, zero, suc, ◌+◌, ◌<◌, Bool, true, false, List, [], ◌∷◌, ◌++◌, length, refl, sym, ap, subst, arith, slice_index, Some, Contains, slice_get, contains_one, is_some_of, at_some, contains_head, contains_tail, contains_read, Name, Value, Node, World, node_of, state_of, IsNodeOf, IsSized, shared_name, start, field, IsWide, IsWideRoot, HEADER_WORDS, SHARED_PLACE, IsTracked, Place, Means, Fills, HasSlots, ListMeans, Slot, holds, unset, unspecified, slots_of, free_slots, IsObjectAt, slot_tracked, Contains-append_left, Contains-append_right, some, some-injective, some-ne-none, get_elem?, at_set, names_of, Owes, IsHand, Fits, Rests, IsIdle, Agrees, Keeps, Hand, Part, Seen, Opening, hand_of, blank, blanks, nobody, whole, KeepsOf, Object, place_of, IsOld, IsIn, IsPlace, IsLater, IsStanding, RepresentsInRound, earlier, CanOpen}
 use Rattle.nmgc_heap_spec.specs.laws.Slots.{free_held}
 use Rattle.nmgc_world_spec.specs.declared.value.Value.TheVariants as value
 use Rattle.nmgc_round.proofs.{Parts.idle_agrees, Olds.own_old, Standing.same_node, Fields.fixed_of_slots}
 
--- references to these names, among these places
+-- references to these names, among these addresses
 abbrev Refers : (Name → Type 0) → Value → Type 0
 Refers T value.Nil = Unit {0}
 Refers T (value.Number n) = Unit {0}
@@ -30,9 +30,9 @@ module _ (P Q : Place → Type 0) (T : Name → Type 0) (among : (p : Place) →
       by_slot : (s : Slot) → slice_get slots i ≡ Some s → Fills P (slice_index words (from + i)) s → Fills Q (slice_index words (from + i)) s
       by_slot (holds v) e m = means_among (slice_index words (from + i)) v (t v (contains_read slots i (holds v) e)) m
       by_slot unset e m = m
-      by_slot untold e m = m
+      by_slot unspecified e m = m
 
--- a reference that is one of these
+-- a reference that is to one of these names
 refers_if : (T : Name → Type 0) (v : Value) → ((name : Name) → v ≡ value.Ref name → T name) → Refers T v
 refers_if T value.Nil f = tt
 refers_if T (value.Number n) f = tt
@@ -64,7 +64,7 @@ module _ (o : Opening) (words : List ℕ) (h : CanOpen o words) where
   old_place p (inl c) = c
   old_place p (inr c) = not_born c.0 c.1
 
-  -- where the representation has an object
+  -- an object in the representation
   placed_at : (x : Object) → IsOld o x → IsObjectAt o.layout o.places words (place_of x) x.node ×
       HasSlots (Contains o.places) words (x.at + HEADER_WORDS) (slots_of x.node) ×
       ((e : World) (before : Node) → Contains (earlier o) e → node_of e x.name ≡ Some before →
@@ -133,7 +133,7 @@ module _ (o : Opening) (words : List ℕ) (h : CanOpen o words) where
       let at : placed.at ≡ SHARED_PLACE = elim placed.object.lies [ inl g ↦ g.1 | inr g ↦ absurd (g.0 refl) ] in
       among (record { at = SHARED_PLACE; name = shared_name }) (rw at at placed.there) t
 
-  -- what a mutator has, by its words
+  -- the hand of a mutator, by its words
   hand_stands : (m : ℕ) → m < length o.hands → IsHand o [] W m (hand_of o.hands m)
   hand_stands m lt =
       let n = h.count in let k = h.hands m (omega arith) in
@@ -218,7 +218,7 @@ module _ (o : Opening) (words : List ℕ) (h : CanOpen o words) where
           scans = λ e. (refl, tt, refl);
         }
 
-  -- the same, where there is no other seat
+  -- the same, if there is no other seat
   pub opens : (n : Keeps o words (whole o ∷ [])) × (n.events ≡ [])
   opens = begins (nobody ∷ []) 0 (λ j u n at. none j u n at)
     where

@@ -1,8 +1,8 @@
--- Words that fixed words name, and lists of words that are owed.
+-- Words that fixed words name, and lists of owed words.
 use Rattle.nmgc_round.proofs.Vocabulary.{◌≡◌, inl, inr, ℕ, suc, ◌+◌, ◌<◌, ◌≤◌, Bool, true, false, ◌&&◌, cond, eqb, List, [], ◌∷◌, ◌++◌, length, refl, sym, ap, ◌∙◌, arith, slice_index, append-nil, eqb-true, eq-eqb, Contains, some, get_elem?, Name, Value, contains_head, contains_tail, contains_cases, and_both, header_word, Header, names_among, size_of, Place, AllMean, ListMeans, lies_above, FixedWord, Opening, Part, Seen, Object, place_of, IsIn, Owes, Rests, Keeps, IsMutator, Names, header_at, fixed_at, fixed_from, owed_words}
 use Rattle.nmgc_round.proofs.{Lists.owed_append, Refusals.header_there}
 
--- the word that is named is the one that all such fixed words have
+-- the named word is the one that all such fixed words have
 pub fixed_there : (fixed : List FixedWord) (at offset n w : ℕ) → ((f : FixedWord) → Contains fixed f → f.at ≡ at → f.offset ≡ offset → f.word ≡ w) →
     Contains fixed (record { at = at; offset = offset; word = n }) → fixed_at fixed at offset ≡ w
 fixed_there [] at offset n w stand c = absurd (let lt = c.1 in omega arith)
@@ -21,7 +21,7 @@ fixed_there (f ∷ fs) at offset n w stand c = by_test (eqb f.at at && eqb f.off
       | inr d ↦ rec d
     ]
 
--- words that are named one after the other mean what the words there mean
+-- words that are named one after the other represent the values of the words there
 pub named_list : (P : Place → Type 0) (fixed : List FixedWord) (words : List ℕ) (at from offset : ℕ) (values : List Value) →
     ((i : ℕ) → i < length values → fixed_at fixed at (offset + i) ≡ slice_index words (from + i)) → AllMean P words from values →
     ListMeans P (fixed_from fixed at offset (length values)) values
@@ -46,7 +46,7 @@ module _ (o : Opening) (words : List ℕ) (views : List Seen) (h : Keeps o words
   above q there = let x : Object = record { at = q.at; name = q.name; node = there.0 } in
       lies_above o.layout (place_of x) (size_of there.0) (omega arith) (h.stands.apart x there.1).lies
 
-  -- the word that is named is the one that stands there
+  -- the named word is the word there
   pub named_word : (at offset n : ℕ) → Contains p.fixed (record { at = at; offset = offset; word = n }) →
       fixed_at p.fixed at offset ≡ slice_index words (at + offset)
   named_word at offset n c = fixed_there p.fixed at offset n (slice_index words (at + offset)) (λ f d a z. sym (rests.fixed f d).1 ∙
@@ -57,7 +57,7 @@ module _ (o : Opening) (words : List ℕ) (views : List Seen) (h : Keeps o words
       header_there p.fixed at (header_word header) (λ f c a z. let t = rests.fixed f c in sym t.1 ∙ ap (λ j. slice_index words j) (λ i. a i + z i) ∙
       there.1) names.there
 
--- what is owed grows by words that mean values
+-- the owed words grow by words that represent values
 pub owes_list : (P : Place → Type 0) (b : Bool) (ws us : List ℕ) (ns : List Name) (xs : List Value) → Owes b P ws ns → ListMeans P us xs →
     Owes b P (ws ++ owed_words b us) (ns ++ names_among xs)
 owes_list P true ws us ns xs k m = owed_append P ws us ns xs k m

@@ -1,7 +1,7 @@
--- The own stacks of a hand, where nodes or hands change.
+-- The own stacks of a hand, when nodes or hands change.
 use Rattle.nmgc_round.proofs.{Vocabulary.◌≡◌, Vocabulary.◌≢◌, Vocabulary.inl, Vocabulary.inr, Vocabulary.ℕ, Vocabulary.List, Vocabulary.[], Vocabulary.sym, Vocabulary.ap, Vocabulary.◌∙◌, Vocabulary.Some, Vocabulary.Name, Vocabulary.Value, Vocabulary.Node, Vocabulary.Con, Vocabulary.Var, Vocabulary.Arr, Vocabulary.Thunk, Vocabulary.Weak, Vocabulary.Stack, Vocabulary.World, Vocabulary.node_of, Vocabulary.Header, Vocabulary.header_of, Vocabulary.Place, Vocabulary.cases_eq, Vocabulary.Hand, Vocabulary.Opening, Vocabulary.Object, Vocabulary.place_of, Vocabulary.IsObject, Vocabulary.IsIn, Vocabulary.RepresentsInRound, Vocabulary.slots_at, Vocabulary.OwnSlots, Standing.placed, Fields.list_more}
 
--- a node with a stack's header is one
+-- a node with a stack's header is a stack
 pub stack_of : (n : Node) (size : ℕ) (values : List Value) → header_of n ≡ header_of (Stack size values) → (vs : List Value) × (n ≡ Stack size vs)
 stack_of (Con tag vs) size values e = let k = ap (λ (h : Header). h.kind) e in absurd cc
 stack_of (Var v) size values e = let k = ap (λ (h : Header). h.kind) e in absurd cc
@@ -10,14 +10,14 @@ stack_of (Thunk free result) size values e = let k = ap (λ (h : Header). h.kind
 stack_of (Weak parts) size values e = let k = ap (λ (h : Header). h.kind) e in absurd cc
 stack_of (Stack n vs) size values e = (vs, ap (λ (h : Header). Stack h.fields vs) e)
 
--- the own stacks stay, where every stack was there before and the hand has the same
+-- the own stacks stay, if every stack was there before and the hand has the same stacks
 pub own_kept : (o : Opening) (born : List Object) (w u : World) (m : ℕ) (h k : Hand) → k.stacks ≡ h.stacks →
     ((n : Name) (size : ℕ) (values : List Value) → node_of u n ≡ Some (Stack size values) → node_of w n ≡ Some (Stack size values)) →
     OwnSlots o born w m h → OwnSlots o born u m k
 own_kept o born w u m h k same before own x size values hx mine there =
     rw same (own x size values hx mine (before x.name size values there))
 
--- an object more, whose stack is empty if it is one
+-- one more object, whose stack is empty if it is a stack
 pub own_born : (o : Opening) (born more : List Object) (w u : World) (ws : List ℕ) → RepresentsInRound o more u ws →
     (m : ℕ) (h k : Hand) (x : Object) → IsObject o more x → ((y : Object) → IsObject o born y → IsObject o more y) →
     ((y : Object) → IsObject o more y → y.at ≢ x.at → IsObject o born y)

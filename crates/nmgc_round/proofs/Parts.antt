@@ -5,7 +5,7 @@ use Rattle.nmgc_round.proofs.Keeping.{only_one}
 use Rattle.nmgc_lists.specs.laws.Truths.{false_of}
 
 module _ {A : Type 0} where
-  -- at the last place, or before
+  -- at the last position, or before
   at_end : (l : List A) (a b : A) (j : ℕ) → get_elem? (l ++ a ∷ []) j ≡ some b → ((j < length l) × (get_elem? l j ≡ some b)) ⊎ ((j ≡ length l) × (a ≡ b))
   at_end [] a b zero e = inr (refl, some-injective a b e)
   at_end [] a b (suc j) e = absurd (some-ne-none b (sym e))
@@ -161,7 +161,7 @@ module _ (o : Opening) where
   pub splits_collector : (id : ℕ) (v : Seen) → v.collects ≡ true → Splits holds id v (mutates v) (collecting v)
   splits_collector id v on s h here = (splits_collector_law id v on s h here).0
 
-  -- the views but the two that change
+  -- the views except the two that change
   module _ (s : State (Unit {0}) Seen) (h : Keeps o s.words s.views) (id other : ℕ) (v w : Seen) (here : get_elem? s.views id ≡
       some v) (apart : ¬ (other ≡ id)) (there : get_elem? s.views other ≡ some w) (same : v.opening ≡ w.opening) where
     abbrev owner' : ℕ → ℕ
@@ -263,7 +263,7 @@ module _ (o : Opening) where
       (get_elem? s.views other ≡ some w)). t.1) (at_set s.views id other (together v w) w at) in
       (merged s h id other v w here apart there same).0
 
-  -- a round ends: the others have no part, and there is a list of events for which the words stand
+  -- a round ends: the other seats have no part, and there is a list of events whose world the words represent
   module _ (words : List ℕ) (views : List Seen) (h : Keeps o words views) (id : ℕ) (v : Seen) (here : get_elem? views id ≡ some v) (all : HasAll v) where
     is_o : v.opening ≡ o
     is_o = (h.agrees id v here).opening (inr all.0)

@@ -1,12 +1,12 @@
 -- A load and a swap of a slot of an own stack keep the rule.
-use Rattle.nmgc_round.proofs.Vocabulary.{◌≡◌, ◌≢◌, inl, inr, ℕ, ◌+◌, ◌-◌, ◌/◌, ◌<◌, ◌≤◌, true, eqb, eq-eqb, List, [], ◌∷◌, ◌++◌, length, take, get_or, set, refl, sym, ap, subst, ◌∙◌, arith, slice_index, Some, lt-ltb, le-ltb, length-append, slice_get, cases_lt, slice_get-get_or, some, get_elem?, Name, Value, Node, Con, Var, Arr, Thunk, Weak, Stack, Change, MutatorState, Operand, Command, Push, Pop, Reply, World, state_of, node_of, IsSized, given_or, stack_pushed, stack_popped, without_last, last_of, value_for, with_node, with_register, world_holding, keeping, step, top_held, names_among, owed_by, name_cases, name_word, Header, HEADER_WORDS, State, names_of, as_many, nodes_kept, header_of, slots_of, Place, Means, AllMean, HasSlots, ListMeans, AreUnset, fields_of_slots, slots_of_fields, same_header, plain, word, Hand, Opening, Part, Seen, with_slots, holding, hand_now, leaves, doing, finding, answered, owed_word, done_by, slots_at, OwnSlots, Object, place_of, IsObject, IsIn, now, IsHand, Fits, Rests, Keeps, Stays, AddsCommand, IsMutator, Names, operand_word, IsSafe, IsOwn, CanPeek, TellsSlot, CanPush, CanPop, CanSlot, slot_swapped, IsRefusedSlot, slot_refusal_reply, slots_same, slots_other}
+use Rattle.nmgc_round.proofs.Vocabulary.{◌≡◌, ◌≢◌, inl, inr, ℕ, ◌+◌, ◌-◌, ◌/◌, ◌<◌, ◌≤◌, true, eqb, eq-eqb, List, [], ◌∷◌, ◌++◌, length, take, get_or, set, refl, sym, ap, subst, ◌∙◌, arith, slice_index, Some, lt-ltb, le-ltb, length-append, slice_get, cases_lt, slice_get-get_or, some, get_elem?, Name, Value, Node, Con, Var, Arr, Thunk, Weak, Stack, Change, MutatorState, Operand, Command, Push, Pop, Reply, World, state_of, node_of, IsSized, given_or, stack_pushed, stack_popped, without_last, last_of, value_for, with_node, with_register, world_holding, keeping, step, top_held, names_among, owed_by, name_cases, name_word, Header, HEADER_WORDS, State, names_of, as_many, nodes_kept, header_of, slots_of, Place, Means, AllMean, HasSlots, ListMeans, AreUnset, fields_of_slots, slots_of_fields, same_header, plain, word, Hand, Opening, Part, Seen, with_slots, holding, hand_now, leaves, doing, finding, answered, owed_word, done_by, slots_at, OwnSlots, Object, place_of, IsObject, IsIn, now, IsHand, Fits, Rests, Keeps, Stays, AddsCommand, IsMutator, Names, operand_word, IsSafe, IsOwn, CanPeek, FindsSlot, CanPush, CanPop, CanSlot, slot_swapped, IsRefusedSlot, slot_refusal_reply, slots_same, slots_other}
 use Rattle.nmgc_world_spec.specs.declared.value.Value.TheVariants as value
 use Rattle.nmgc_world_spec.specs.declared.node.Kind.TheVariants as kind
 use Rattle.nmgc_world_spec.specs.declared.change.Change.TheVariants as change
 use Rattle.nmgc_world_spec.specs.declared.command.Reply.TheVariants as reply
 use Rattle.nmgc_round.proofs.{Standing.placed, Lists.list_append, Frames.IsSameState, Frames.node_frame, Scans.means_some, Fixes.safe_word, Refusals.one_word, Refusals.one_maker, Keeping.same_law, Moves.meant, Moves.operand_is, Moves.inside, Moves.same_opening, Moves.owes_nothing, Moves.finds_same, Moves.owes_old, Moves.hand_kept as moves_kept, Writes.Changes, Writes.field_law, Writes.node_now, Writes.node_again, Writes.still_law, Owings.above, Owings.named_header, Weakens.register_in, Slotting.past, Slotting.last_apart, Slotting.as_long, Slotting.list_at, Slotting.front_means, Slotting.all_pushed, Slotting.all_popped, Slotting.unset_pushed, Slotting.unset_popped}
 
--- a node of a stack's kind is one
+-- a node of a stack's kind is a stack
 stack_kind : (n : Node) → (header_of n).kind ≡ kind.Stack → (size : ℕ) × (values : List Value) × (n ≡ Stack size values)
 stack_kind (Con tag values) e = absurd cc
 stack_kind (Var x) e = absurd cc
@@ -63,7 +63,7 @@ module _ (o : Opening) (words : List ℕ) (views : List Seen) (h : Keeps o words
   rests : Rests o h.born words p
   rests = ((h.agrees id v here).parts 0 p (ap (λ l. get_elem? l 0) is.alone)).2
 
-  -- the own stack at a place
+  -- the own stack at an address
   record Found (at : ℕ) (stack : IsOwn o p at) : Type 0 where
     thing : Object
     there : IsObject o h.born thing
@@ -92,8 +92,8 @@ module _ (o : Opening) (words : List ℕ) (views : List Seen) (h : Keeps o words
       let t = stack_kind st.node (cc (head, stack.is_stack)) in
       let node_there : node_of W x.name ≡ Some (Stack t.0 t.1) = cc (st.there, t.2) in
       let named = h.stands.named (place_of x) (placed o h.born x m.there) in
-      let told = rests.fixed (record { at = at; offset = 1; word = name_word stack.name }) stack.named in
-      let same : name_word x.name ≡ name_word stack.name = cc (named.name, m.is_at, told.1) in
+      let known = rests.fixed (record { at = at; offset = 1; word = name_word stack.name }) stack.named in
+      let same : name_word x.name ≡ name_word stack.name = cc (named.name, m.is_at, known.1) in
       let mine : x.name.maker ≡ p.number = one_maker x.name stack.name named.valid stack.valid same ∙ stack.own in
       let fields = fields_of_slots P words (at + HEADER_WORDS) (Stack t.0 t.1) (subst (λ (n : Node).
       HasSlots P words (at + HEADER_WORDS) (slots_of n)) t.2 (rw m.is_at at st.fields)) in
@@ -118,14 +118,14 @@ module _ (o : Opening) (words : List ℕ) (views : List Seen) (h : Keeps o words
         list = own.2;
       }
 
-  -- one header is named at a place
+  -- one header is named at an address
   one_header : (at : ℕ) (k l : Header) → Names p at k → Names p at l → k.fields ≡ l.fields
   one_header at k l a b = ap (λ (t : Header). t.fields) (same_header k l a.valid b.valid (sym (named_header o words views h id v here p is at k a) ∙
       named_header o words views h id v here p is at l b))
 
-  -- what a load of a slot finds
-  peek_tells : (at slot : ℕ) (can : CanPeek o p at slot) → TellsSlot o p at slot (slice_index words (at + HEADER_WORDS + slot))
-  peek_tells at slot can =
+  -- the word that a load of a slot finds
+  peek_finds : (at slot : ℕ) (can : CanPeek o p at slot) → FindsSlot o p at slot (slice_index words (at + HEADER_WORDS + slot))
+  peek_finds at slot can =
       let f = found at can.stack in
       let w : ℕ = slice_index words (at + HEADER_WORDS + slot) in
       let long = as_long P f.slots f.values f.list in
@@ -157,10 +157,10 @@ module _ (o : Opening) (words : List ℕ) (views : List Seen) (h : Keeps o words
 
   -- a load of a slot changes nothing
   pub peek_keeps : (at slot : ℕ) → CanPeek o p at slot → Stays o words views h words (set views id v) ×
-      TellsSlot o p at slot (slice_index words (at + HEADER_WORDS + slot))
-  peek_keeps at slot can = (same_law o words views h id v here v (h.agrees id v here), peek_tells at slot can)
+      FindsSlot o p at slot (slice_index words (at + HEADER_WORDS + slot))
+  peek_keeps at slot can = (same_law o words views h id v here v (h.agrees id v here), peek_finds at slot can)
 
-  -- a stack changes, and what the mutator has with it
+  -- a stack changes, and the mutator's hand with it
   stack_hand : (at : ℕ) (u : World) (g : List ℕ → List ℕ) → IsSameState (state_of u p.number) (state_of W p.number) →
       IsHand o h.born u p.number (record (hand_now o p) { stacks = with_slots (hand_now o p).stacks at g })
   stack_hand at u g same =
@@ -255,7 +255,7 @@ module _ (o : Opening) (words : List ℕ) (views : List Seen) (h : Keeps o words
       (stack_own at can.stack f made u g (f.values ++ val ∷ []) (leaves (hand_now o p) C (plain reply.Fine)) (ap (λ (k : Hand).
       k.stacks) left) refl now_.0 now_.1 more))))
 
-  -- what a pop finds on top
+  -- the top value that a pop finds
   record Top (at slot : ℕ) (stack : IsOwn o p at) (f : Found at stack) : Type 0 where
     front : List Value
     top : Value
@@ -365,12 +365,12 @@ module _ (o : Opening) (words : List ℕ) (views : List Seen) (h : Keeps o words
   slot_keeps at slot w c (inr (can, z)) =
       rw z (pop_keeps at slot c can)
 
-  -- a word that a pop finds
+  -- the word that a pop finds
   pub pop_safe : (at slot : ℕ) (c : Command) → CanPop o p at slot c → IsSafe o (slice_index words (at + HEADER_WORDS + slot))
   pop_safe at slot c can = let t = top_of at slot c can (found at can.stack) in
       safe_word o words views h id v here p is (slice_index words (at + HEADER_WORDS + slot)) t.top t.means
 
-  -- and one that a push finds: there is none
+  -- and the word that a push finds: an unset slot
   pub slot_safe : (at slot w : ℕ) (c : Command) → CanSlot o p at slot w c → IsSafe o (slice_index words (at + HEADER_WORDS + slot))
   slot_safe at slot w c (inl can) =
       let f = found at can.stack in

@@ -1,5 +1,5 @@
--- Commands that take their place at a fixed load of word 1 keep the rule.
-use Rattle.nmgc_round.proofs.Vocabulary.{◌≡◌, ◌⊎◌, drop, inl, inr, ℕ, ◌+◌, ◌*◌, ◌/◌, ◌%◌, ◌≤◌, Bool, true, false, cond, eqb, leb, List, [], ◌∷◌, length, set, refl, sym, ap, subst, ◌∙◌, arith, slice_index, None, Some, ne_eqb, eq-eqb, eqb-true, le-ltb, Contains, slice_get, slice_get_past, and_parts, some, get_elem?, Name, Value, Node, Change, Operand, Command, Num, Nil, Mov, Get, Set, Cas, Update, Force, Push, Pop, Deref, Finalise, NextFin, Show, Same, Yield, Collect, Full, Reply, Fine, Yes, No, Given, NoPointer, NoField, WrongKind, NotOwner, Fixed, Nothing, MutatorState, World, state_of, node_of, given_or, field_read, field_set, is_same, exchanged_at, field_exchanged, thunk_updated, result_read, value_read, weak_finalised, stack_pushed, stack_popped, changed, change_into, holding_given, with_state, value_for, object_of, read_object, read_into, keeping, change_object, with_register, with_node, step, field_held, if_same, free_held, top_held, weak_held, value_held, owed_in, owed_of, names_among, owed_by, header_word, name_word, IsName, Header, header_of, Place, Means, ListMeans, Hand, holding, leaves, Answer, plain, word, Opening, Part, Seen, FixedWord, hand_now, answered, doing, done_by, Object, place_of, IsObject, IsIn, now, Answers, IsHand, Fits, Rests, Keeps, IsMutator, CanGive, Names, IsReadable, IsWritable, operand_word, header_at, get_refusal, set_refusal, owner_refusal, first_told, refused, told_by, IsRefused, IsForeign, CanTell, told, AddsCommand, nodes_kept, node_cases, state_same, tested_same, is_same_name-refl, contains_head, contains_tail, contains_cases, both, ◌&&◌}
+-- Commands whose position in the order is a fixed load of word 1 keep the rule.
+use Rattle.nmgc_round.proofs.Vocabulary.{◌≡◌, ◌⊎◌, drop, inl, inr, ℕ, ◌+◌, ◌*◌, ◌/◌, ◌%◌, ◌≤◌, Bool, true, false, cond, eqb, leb, List, [], ◌∷◌, length, set, refl, sym, ap, subst, ◌∙◌, arith, slice_index, None, Some, ne_eqb, eq-eqb, eqb-true, le-ltb, Contains, slice_get, slice_get_past, and_parts, some, get_elem?, Name, Value, Node, Change, Operand, Command, Num, Nil, Mov, Get, Set, Cas, Update, Force, Push, Pop, Deref, Finalise, NextFin, Show, Same, Yield, Collect, Full, Reply, Fine, Yes, No, Given, NoPointer, NoField, WrongKind, NotOwner, Fixed, Nothing, MutatorState, World, state_of, node_of, given_or, field_read, field_set, is_same, exchanged_at, field_exchanged, thunk_updated, result_read, value_read, weak_finalised, stack_pushed, stack_popped, changed, change_into, holding_given, with_state, value_for, object_of, read_object, read_into, keeping, change_object, with_register, with_node, step, field_held, if_same, free_held, top_held, weak_held, value_held, owed_in, owed_of, names_among, owed_by, header_word, name_word, IsName, Header, header_of, Place, Means, ListMeans, Hand, holding, leaves, Answer, plain, word, Opening, Part, Seen, FixedWord, hand_now, answered, doing, done_by, Object, place_of, IsObject, IsIn, now, Answers, IsHand, Fits, Rests, Keeps, IsMutator, CanGive, Names, IsReadable, IsWritable, operand_word, header_at, get_refusal, set_refusal, owner_refusal, first_answer, refused, known_answer, IsRefused, IsForeign, CanAnswer, known, AddsCommand, nodes_kept, node_cases, state_same, tested_same, is_same_name-refl, contains_head, contains_tail, contains_cases, both, ◌&&◌}
 use Rattle.nmgc_world_spec.specs.declared.command.Command.TheVariants.{Con, Var, Arr, Thunk, Weak, Stack}
 use Rattle.nmgc_world_spec.specs.declared.value.Value.TheVariants as value
 use Rattle.nmgc_world_spec.specs.declared.node.Node.TheVariants as node
@@ -7,7 +7,7 @@ use Rattle.nmgc_world_spec.specs.declared.change.Change.TheVariants as change
 use Rattle.nmgc_world_spec.specs.declared.node.Kind.TheVariants as kind
 use Rattle.nmgc_round.proofs.{Lists.list_set, Moves.register_hand, Moves.hand_kept, Moves.meant, Moves.operand_is, Writes.still_law, Frames.node_frame, Standing.placed, Keeping.acts}
 
--- a field that isn't there, or isn't to be read
+-- a field that doesn't exist, or may not be read
 get_refused : (n : Node) (index : ℕ) → (IsReadable (header_of n).kind → (header_of n).fields ≤ index) →
     field_read n index ≡ get_refusal (header_word (header_of n))
 get_refused (node.Con tag values) index bad = let e : header_word (header_of (node.Con tag values)) % 8 ≡ 1 = omega arith in
@@ -47,7 +47,7 @@ none_owed (node.Thunk free result) index bad = refl
 none_owed (node.Weak parts) index bad = refl
 none_owed (node.Stack size values) index bad = refl
 
--- the header that is named at a place is the word there
+-- the header that is named at an address is the word there
 pub header_there : (fixed : List FixedWord) (at w : ℕ) → ((f : FixedWord) → Contains fixed f → f.at ≡ at → f.offset ≡ 0 → f.word ≡ w) →
     Contains fixed (record { at = at; offset = 0; word = w }) → header_at fixed at ≡ w
 header_there [] at w stand c = absurd (let lt = c.1 in omega arith)
@@ -64,7 +64,7 @@ header_there (f ∷ fs) at w stand c = by_test (eqb f.at at && eqb f.offset 0) r
       | inr d ↦ rec d
     ]
 
--- `cas` of a field that isn't there, or isn't to be written
+-- `cas` of a field that doesn't exist, or may not be written
 cas_refused : (n : Node) (index : ℕ) (e v : Value) → (IsWritable (header_of n).kind → (header_of n).fields ≤ index) →
     field_exchanged n index e v ≡ (n, set_refusal (header_word (header_of n)))
 cas_refused (node.Con tag values) index e v bad = let k : header_word (header_of (node.Con tag values)) % 8 ≡ 1 = omega arith in
@@ -79,7 +79,7 @@ cas_refused (node.Weak parts) index e v bad = refl
 cas_refused (node.Stack size values) index e v bad = let k : header_word (header_of (node.Stack size values)) % 8 ≡ 6 = omega arith in
     ap (λ (r : Reply). (node.Stack size values, r)) (sym (ap set_reply k))
 
--- what is no thunk
+-- a node that is no thunk
 no_thunk : (n : Node) (v : Value) → ((header_of n).kind ≡ kind.Thunk → ⊥) → (thunk_updated n v ≡ (n, WrongKind)) × (free_held n ≡ [])
 no_thunk (node.Con tag values) v bad = (refl, refl)
 no_thunk (node.Var x) v bad = (refl, refl)
@@ -96,7 +96,7 @@ no_result (node.Thunk free result) bad = absurd (bad refl)
 no_result (node.Weak parts) bad = refl
 no_result (node.Stack size values) bad = refl
 
--- what is no weak pointer
+-- a node that is no weak pointer
 no_weak : (name : Name) (n : Node) → ((header_of n).kind ≡ kind.Weak → ⊥) → (value_read n ≡ WrongKind) × (value_held (Some n) ≡ []) ×
     (weak_finalised n ≡ (n, WrongKind)) × (weak_held name n ≡ [])
 no_weak name (node.Con tag values) bad = (refl, refl, refl, refl)
@@ -106,7 +106,7 @@ no_weak name (node.Thunk free result) bad = (refl, refl, refl, refl)
 no_weak name (node.Weak parts) bad = absurd (bad refl)
 no_weak name (node.Stack size values) bad = (refl, refl, refl, refl)
 
--- what is no stack
+-- a node that is no stack
 abbrev owner_reply : ℕ → Reply
 owner_reply k = cond (eqb k 6) NotOwner WrongKind
 
@@ -132,7 +132,7 @@ no_stack own (node.Thunk free result) v bad = let k : header_word (header_of (no
 no_stack own (node.Weak parts) v bad = (refl, refl, top_none own (node.Weak parts) bad)
 no_stack own (node.Stack size values) v bad = absurd (bad refl)
 
--- a stack of another
+-- a stack of another mutator
 foreign_stack : (n : Node) (v : Value) → (header_of n).kind ≡ kind.Stack →
     (stack_pushed false n v ≡ (n, owner_refusal (header_word (header_of n)))) × (stack_popped false n ≡ (n, owner_refusal (header_word (header_of n))))
 foreign_stack (node.Con tag values) v e = absurd cc
@@ -143,7 +143,7 @@ foreign_stack (node.Weak parts) v e = absurd cc
 foreign_stack (node.Stack size values) v e = let k : header_word (header_of (node.Stack size values)) % 8 ≡ 6 = omega arith in
     let r = ap (λ (r : Reply). (node.Stack size values, r)) (sym (ap owner_reply k)) in (r, r)
 
--- a name's word tells its maker
+-- a name's word determines its maker
 pub one_maker : (a b : Name) → IsName a → IsName b → name_word a ≡ name_word b → a.maker ≡ b.maker
 one_maker a b x y e = let l = x.0 in let k = y.0 in omega arith
 
@@ -160,16 +160,16 @@ keeping_refused w m dest true = refl
 keeping_refused w m dest false = refl
 
 -- values that are the same nil, number or reference
-told_same : (x y : Value) → is_same x y ≡ true → x ≡ y
-told_same value.Nil value.Nil e = refl
-told_same value.Nil (value.Number n) e = absurd cc
-told_same value.Nil (value.Ref name) e = absurd cc
-told_same (value.Number m) value.Nil e = absurd cc
-told_same (value.Number m) (value.Number n) e = ap (λ k. value.Number k) (eqb-true m n e)
-told_same (value.Number m) (value.Ref name) e = absurd cc
-told_same (value.Ref name) value.Nil e = absurd cc
-told_same (value.Ref name) (value.Number n) e = absurd cc
-told_same (value.Ref name) (value.Ref other) e = ap (λ k. value.Ref k) (tested_same name other e)
+known_same : (x y : Value) → is_same x y ≡ true → x ≡ y
+known_same value.Nil value.Nil e = refl
+known_same value.Nil (value.Number n) e = absurd cc
+known_same value.Nil (value.Ref name) e = absurd cc
+known_same (value.Number m) value.Nil e = absurd cc
+known_same (value.Number m) (value.Number n) e = ap (λ k. value.Number k) (eqb-true m n e)
+known_same (value.Number m) (value.Ref name) e = absurd cc
+known_same (value.Ref name) value.Nil e = absurd cc
+known_same (value.Ref name) (value.Number n) e = absurd cc
+known_same (value.Ref name) (value.Ref other) e = ap (λ k. value.Ref k) (tested_same name other e)
 
 same_self : (x : Value) → is_same x x ≡ true
 same_self value.Nil = refl
@@ -191,35 +191,35 @@ module _ (o : Opening) (words : List ℕ) (views : List Seen) (h : Keeps o words
   fits = ((h.agrees id v here).parts 0 p (ap (λ l. get_elem? l 0) is.alone)).1
 
   -- the answer is this one
-  pub told_is : (c : Command) (a : Answer) → told_by (hand_now o p) p.fixed c ≡ a → answered v c a ≡ told v c
-  told_is c a e =
+  pub known_is : (c : Command) (a : Answer) → known_answer (hand_now o p) p.fixed c ≡ a → answered v c a ≡ known v c
+  known_is c a e =
       let same : v.opening ≡ o = (h.agrees id v here).opening (acts v p is) in
       let V : List Part → Seen = λ l. record v { parts = l } in
       let f : Part → Part = λ q. doing q c a [] in
-      let g : Part → Part = λ q. doing q c (told_by (hand_now v.opening q) q.fixed c) [] in
-      let here' : told_by (hand_now v.opening p) p.fixed c ≡ a = cc (same, e) in
+      let g : Part → Part = λ q. doing q c (known_answer (hand_now v.opening q) q.fixed c) [] in
+      let here' : known_answer (hand_now v.opening p) p.fixed c ≡ a = cc (same, e) in
       cc (is.alone, here')
 
-  pub tell : (c : Command) (r : Reply) (a : Answer) (u : World) → told_by (hand_now o p) p.fixed c ≡ a → CanGive o p c →
+  pub place_in_order : (c : Command) (r : Reply) (a : Answer) (u : World) → known_answer (hand_now o p) p.fixed c ≡ a → CanGive o p c →
       step W p.number c ≡ (u, r) → ((n : Name) → node_of u n ≡ node_of W n) → owed_by W p.number c ≡ []
       → Answers P a r → IsHand o h.born u p.number (leaves (hand_now o p) c a) → (leaves (hand_now o p) c a).stacks ≡ (hand_now o p).stacks →
-      AddsCommand o words views h p.number c words (set views id (told v c))
-  tell c r a u e gives does same owes says hand left = rw (told_is c a e) at (still_law o words views h id v here p is c r a u gives does same owes says hand left)
+      AddsCommand o words views h p.number c words (set views id (known v c))
+  place_in_order c r a u e gives does same owes says hand left = rw (known_is c a e) at (still_law o words views h id v here p is c r a u gives does same owes says hand left)
 
-  -- a command that takes its place there and leaves the world
-  pub tell_same : (c : Command) (r : Reply) (a : Answer) → told_by (hand_now o p) p.fixed c ≡ a → CanGive o p c → step W p.number c ≡ (W, r) →
+  -- a command whose position is there, and which leaves the world
+  pub answer_same : (c : Command) (r : Reply) (a : Answer) → known_answer (hand_now o p) p.fixed c ≡ a → CanGive o p c → step W p.number c ≡ (W, r) →
       owed_by W p.number c ≡ [] → Answers P a r → leaves (hand_now o p) c a ≡ hand_now o p →
-      AddsCommand o words views h p.number c words (set views id (told v c))
-  tell_same c r a e gives does owes says left = tell c r a W e gives does (λ n.
+      AddsCommand o words views h p.number c words (set views id (known v c))
+  answer_same c r a e gives does owes says left = place_in_order c r a W e gives does (λ n.
       refl) owes says (rw left fits.hand) (ap (λ (k : Hand). k.stacks) left)
 
   -- a command that puts a word into a register
-  tell_register : (c : Command) (dest w : ℕ) (x : Value) → told_by (hand_now o p) p.fixed c ≡ plain Fine → CanGive o p c →
+  answer_register : (c : Command) (dest w : ℕ) (x : Value) → known_answer (hand_now o p) p.fixed c ≡ plain Fine → CanGive o p c →
       step W p.number c ≡ (with_register W p.number dest x, Fine) → owed_by W p.number c ≡ [] →
       leaves (hand_now o p) c (plain Fine) ≡ holding (hand_now o p) dest w → Means P w x →
-      AddsCommand o words views h p.number c words (set views id (told v c))
-  tell_register c dest w x e gives does owes left m =
-      tell c Fine (plain Fine) (with_register W p.number dest x) e gives does (nodes_kept W p.number _ fits.exists refl) owes refl
+      AddsCommand o words views h p.number c words (set views id (known v c))
+  answer_register c dest w x e gives does owes left m =
+      place_in_order c Fine (plain Fine) (with_register W p.number dest x) e gives does (nodes_kept W p.number _ fits.exists refl) owes refl
       (rw left (register_hand o words views h id v here p is dest w x m))
       (ap (λ (k : Hand). k.stacks) left)
 
@@ -243,11 +243,11 @@ module _ (o : Opening) (words : List ℕ) (views : List Seen) (h : Keeps o words
       sym t.1 ∙ ap (λ j. slice_index words j) (λ i. a i + z i) ∙ there.1) names.there in
       cc (b, half, found)
 
-  -- `get` of an object that is none, or of a field that isn't there
-  get_told : (dest : ℕ) (object : Operand) (index : ℕ) → CanGive o p (Get dest object index) →
+  -- `get` of a word that refers to no object, or of a field that doesn't exist
+  get_known : (dest : ℕ) (object : Operand) (index : ℕ) → CanGive o p (Get dest object index) →
       IsRefused o p object (λ header. IsReadable header.kind → header.fields ≤ index) →
-      AddsCommand o words views h p.number (Get dest object index) words (set views id (told v (Get dest object index)))
-  get_told dest object index gives (inl odd) =
+      AddsCommand o words views h p.number (Get dest object index) words (set views id (known v (Get dest object index)))
+  get_known dest object index gives (inl odd) =
       let c : Command = Get dest object index in
       let read : Node → Reply = λ n. field_read n index in
       let none : step W p.number c ≡ (W, NoPointer) =
@@ -255,8 +255,8 @@ module _ (o : Opening) (words : List ℕ) (views : List Seen) (h : Keeps o words
         | inl e ↦ ap (λ y. read_into W p.number dest (read_object (object_of W y) read)) e
         | inr e ↦ ap (λ y. read_into W p.number dest (read_object (object_of W y) read)) e.1
       ] in
-      tell_same c NoPointer (plain NoPointer) (refused_none (operand_word o p object) get_refusal odd) gives none refl refl refl
-  get_told dest object index gives (inr (at, header, e, names, bad)) =
+      answer_same c NoPointer (plain NoPointer) (refused_none (operand_word o p object) get_refusal odd) gives none refl refl refl
+  get_known dest object index gives (inr (at, header, e, names, bad)) =
       let c : Command = Get dest object index in
       let m = meant o words views h id v here p is at header object e names in
       let st = h.stands.objects m.object m.there in
@@ -265,13 +265,13 @@ module _ (o : Opening) (words : List ℕ) (views : List Seen) (h : Keeps o words
       let refuses : field_read st.node index ≡ r = cc (get_refused st.node index (rw head bad), head) in
       let read : Node → Reply = λ n. field_read n index in
       let does : step W p.number c ≡ (W, r) = cc (m.refers, st.there, refuses, keeping_refused W p.number dest (leb (header_word header % 8) 3)) in
-      tell_same c r (plain r) (refused_there (operand_word o p object) at header get_refusal e names) gives does refl refl refl
+      answer_same c r (plain r) (refused_there (operand_word o p object) at header get_refusal e names) gives does refl refl refl
 
   -- `set` likewise
-  set_told : (object : Operand) (index : ℕ) (x : Operand) → CanGive o p (Set object index x) →
+  set_known : (object : Operand) (index : ℕ) (x : Operand) → CanGive o p (Set object index x) →
       IsRefused o p object (λ header. IsWritable header.kind → header.fields ≤ index) →
-      AddsCommand o words views h p.number (Set object index x) words (set views id (told v (Set object index x)))
-  set_told object index x gives (inl odd) =
+      AddsCommand o words views h p.number (Set object index x) words (set views id (known v (Set object index x)))
+  set_known object index x gives (inl odd) =
       let c : Command = Set object index x in
       let d : Change = change.Set index (value_for W p.number x) in
       let none : (step W p.number c ≡ (W, NoPointer)) × (owed_by W p.number c ≡ []) =
@@ -279,8 +279,8 @@ module _ (o : Opening) (words : List ℕ) (views : List Seen) (h : Keeps o words
         | inl e ↦ (ap (λ y. change_object W y d) e, ap (λ y. names_among (owed_of W y d)) e)
         | inr e ↦ (ap (λ y. change_object W y d) e.1, ap (λ y. names_among (owed_of W y d)) e.1)
       ] in
-      tell_same c NoPointer (plain NoPointer) (refused_none (operand_word o p object) set_refusal odd) gives none.0 none.1 refl refl
-  set_told object index x gives (inr (at, header, e, names, bad)) =
+      answer_same c NoPointer (plain NoPointer) (refused_none (operand_word o p object) set_refusal odd) gives none.0 none.1 refl refl
+  set_known object index x gives (inr (at, header, e, names, bad)) =
       let c : Command = Set object index x in
       let val : Value = value_for W p.number x in
       let d : Change = change.Set index val in
@@ -298,7 +298,7 @@ module _ (o : Opening) (words : List ℕ) (views : List Seen) (h : Keeps o words
         | inr k ↦ k.1
       ] in
       let owes : owed_by W p.number c ≡ [] = cc (m.refers, st.there, none_owed st.node index bad') in
-      tell c r (plain r) (with_node W name st.node) (refused_there (operand_word o p object) at header set_refusal e names) gives changes same owes refl
+      place_in_order c r (plain r) (with_node W name st.node) (refused_there (operand_word o p object) at header set_refusal e names) gives changes same owes refl
       (hand_kept o words views h id v here p is (with_node W name st.node) (hand_now o p) (node_frame W name st.node st.node st.there p.number) fits.hand) refl
 
   pub one_place : (a b : Place) → P a → P b → (a.name ≡ b.name) ⊎ (a.at ≡ b.at) → a ≡ b
@@ -334,36 +334,36 @@ module _ (o : Opening) (words : List ℕ) (views : List Seen) (h : Keeps o words
 
   pub same_words : (a b : ℕ) (x y : Value) → Means P a x → Means P b y → is_same x y ≡ eqb a b
   same_words a b x y m n = both (is_same x y) (eqb a b)
-      (λ e. eq-eqb a b (one_word a b y (rw (told_same x y e) at m) n))
+      (λ e. eq-eqb a b (one_word a b y (rw (known_same x y e) at m) n))
       (λ e. let k = eqb-true a b e in rw (← (one_value a x y m (rw k n))) (same_self x))
 
-  -- a change that is refused at an object that is none
+  -- a change that is refused since there is no object
   change_none : (c : Command) (object : Operand) (d : Change) (refusal : ℕ → Reply) →
       ((u : World) → change_object W (value_for W p.number object) d ≡ (u, NoPointer) → step W p.number c ≡ (u, NoPointer)) →
       owed_by W p.number c ≡ names_among (owed_of W (value_for W p.number object) d) →
-      told_by (hand_now o p) p.fixed c ≡ refused p.fixed (operand_word o p object) refusal
+      known_answer (hand_now o p) p.fixed c ≡ refused p.fixed (operand_word o p object) refusal
       → leaves (hand_now o p) c (plain NoPointer) ≡ hand_now o p → CanGive o p c → operand_word o p object % 2 ≡ 1 →
-      AddsCommand o words views h p.number c words (set views id (told v c))
-  change_none c object d refusal does owes tells left gives odd =
+      AddsCommand o words views h p.number c words (set views id (known v c))
+  change_none c object d refusal does owes shows left gives odd =
       let none : (change_object W (value_for W p.number object) d ≡ (W, NoPointer)) ×
       (names_among (owed_of W (value_for W p.number object) d) ≡ []) =
       elim (no_object (operand_word o p object) (value_for W p.number object) (operand_is o words views h id v here p is object) odd) [
         | inl e ↦ (ap (λ y. change_object W y d) e, ap (λ y. names_among (owed_of W y d)) e)
         | inr e ↦ (ap (λ y. change_object W y d) e.1, ap (λ y. names_among (owed_of W y d)) e.1)
       ] in
-      tell_same c NoPointer (plain NoPointer) (tells ∙ refused_none (operand_word o p object) refusal odd) gives (does W none.0) (owes ∙ none.1) refl left
+      answer_same c NoPointer (plain NoPointer) (shows ∙ refused_none (operand_word o p object) refusal odd) gives (does W none.0) (owes ∙ none.1) refl left
 
-  -- and at one that is there
+  -- and at an object
   change_at : (c : Command) (object : Operand) (d : Change) (refusal : ℕ → Reply) (at : ℕ) (header : Header) →
       ((u : World) → change_object W (value_for W p.number object) d ≡ (u, refusal (header_word header)) →
       step W p.number c ≡ (u, refusal (header_word header))) → owed_by W p.number c ≡ names_among (owed_of W (value_for W p.number object) d) →
-      told_by (hand_now o p) p.fixed c ≡ refused p.fixed (operand_word o p object) refusal
+      known_answer (hand_now o p) p.fixed c ≡ refused p.fixed (operand_word o p object) refusal
       → leaves (hand_now o p) c (plain (refusal (header_word header))) ≡ hand_now o p → CanGive o p c → operand_word o p object ≡ 2 * at → Names p at header
       → ((x : Object) (hx : IsObject o h.born x) → x.at ≡ at → header_of (h.stands.objects x hx).node ≡ header →
       (changed d x.name.maker (h.stands.objects x hx).node ≡ ((h.stands.objects x hx).node, refusal (header_word header))) ×
       (owed_in d x.name (h.stands.objects x hx).node ≡ []))
-      → AddsCommand o words views h p.number c words (set views id (told v c))
-  change_at c object d refusal at header does owes tells left gives e names refuses =
+      → AddsCommand o words views h p.number c words (set views id (known v c))
+  change_at c object d refusal at header does owes shows left gives e names refuses =
       let m = meant o words views h id v here p is at header object e names in
       let name : Name = m.object.name in
       let st = h.stands.objects m.object m.there in
@@ -378,46 +378,46 @@ module _ (o : Opening) (words : List ℕ) (views : List Seen) (h : Keeps o words
       ] in
       let none : names_among (owed_of W (value_for W p.number object) d) ≡ [] = cc (m.refers, st.there, t.1) in
       let kept = hand_kept o words views h id v here p is u (hand_now o p) (node_frame W name st.node st.node st.there p.number) fits.hand in
-      tell c r (plain r) u (tells ∙ refused_there (operand_word o p object) at header refusal e names) gives (does u changes) same (owes ∙
+      place_in_order c r (plain r) u (shows ∙ refused_there (operand_word o p object) at header refusal e names) gives (does u changes) same (owes ∙
       none) refl (rw left kept) (ap (λ (k : Hand). k.stacks) left)
 
   -- a read that is refused
   read_none : (c : Command) (dest : ℕ) (object : Operand) (read : Node → Reply) →
       ((x : Value) → value_for W p.number object ≡ x → step W p.number c ≡ read_into W p.number dest (read_object (object_of W x) read)) →
       ((x : Value) → value_for W p.number object ≡ x → object_of W x ≡ None → owed_by W p.number c ≡ []) →
-      told_by (hand_now o p) p.fixed c ≡ refused p.fixed (operand_word o p object) (λ n. WrongKind)
+      known_answer (hand_now o p) p.fixed c ≡ refused p.fixed (operand_word o p object) (λ n. WrongKind)
       → leaves (hand_now o p) c (plain NoPointer) ≡ hand_now o p → CanGive o p c → operand_word o p object % 2 ≡ 1 →
-      AddsCommand o words views h p.number c words (set views id (told v c))
-  read_none c dest object read does owes tells left gives odd =
+      AddsCommand o words views h p.number c words (set views id (known v c))
+  read_none c dest object read does owes shows left gives odd =
       let none : (step W p.number c ≡ (W, NoPointer)) × (owed_by W p.number c ≡ []) =
       elim (no_object (operand_word o p object) (value_for W p.number object) (operand_is o words views h id v here p is object) odd) [
         | inl e ↦ (does value.Nil e, owes value.Nil e refl)
         | inr e ↦ (does (value.Number e.0) e.1, owes (value.Number e.0) e.1 refl)
       ] in
-      tell_same c NoPointer (plain NoPointer) (tells ∙ refused_none (operand_word o p object) (λ n. WrongKind) odd) gives none.0 none.1 refl left
+      answer_same c NoPointer (plain NoPointer) (shows ∙ refused_none (operand_word o p object) (λ n. WrongKind) odd) gives none.0 none.1 refl left
 
   read_wrong : (c : Command) (dest : ℕ) (object : Operand) (read : Node → Reply) (at : ℕ) (header : Header) →
       ((x : Value) → value_for W p.number object ≡ x → step W p.number c ≡ read_into W p.number dest (read_object (object_of W x) read)) →
-      told_by (hand_now o p) p.fixed c ≡ refused p.fixed (operand_word o p object) (λ n. WrongKind)
+      known_answer (hand_now o p) p.fixed c ≡ refused p.fixed (operand_word o p object) (λ n. WrongKind)
       → leaves (hand_now o p) c (plain WrongKind) ≡ hand_now o p → CanGive o p c → operand_word o p object ≡ 2 * at → Names p at header
       → ((name : Name) (n : Node) → value_for W p.number object ≡ value.Ref name → node_of W name ≡ Some n → header_of n ≡ header →
       (read n ≡ WrongKind) × (owed_by W p.number c ≡ []))
-      → AddsCommand o words views h p.number c words (set views id (told v c))
-  read_wrong c dest object read at header does tells left gives e names refuses =
+      → AddsCommand o words views h p.number c words (set views id (known v c))
+  read_wrong c dest object read at header does shows left gives e names refuses =
       let m = meant o words views h id v here p is at header object e names in
       let st = h.stands.objects m.object m.there in
       let t = refuses m.object.name st.node m.refers st.there (st.later.header ∙ m.head) in
       let says : step W p.number c ≡ (W, WrongKind) = cc (does (value.Ref m.object.name) m.refers, st.there, t.0) in
-      tell_same c WrongKind (plain WrongKind) (tells ∙ refused_there (operand_word o p object) at header (λ n. WrongKind) e names) gives says t.1 refl left
+      answer_same c WrongKind (plain WrongKind) (shows ∙ refused_there (operand_word o p object) at header (λ n. WrongKind) e names) gives says t.1 refl left
 
   -- `cas` as `set`
-  cas_told : (object : Operand) (index : ℕ) (expected x : Operand) → CanGive o p (Cas object index expected x) →
+  cas_known : (object : Operand) (index : ℕ) (expected x : Operand) → CanGive o p (Cas object index expected x) →
       IsRefused o p object (λ header. IsWritable header.kind → header.fields ≤ index) →
-      AddsCommand o words views h p.number (Cas object index expected x) words (set views id (told v (Cas object index expected x)))
-  cas_told object index expected x gives (inl odd) =
+      AddsCommand o words views h p.number (Cas object index expected x) words (set views id (known v (Cas object index expected x)))
+  cas_known object index expected x gives (inl odd) =
       change_none (Cas object index expected x) object (change.Exchange index (value_for W p.number expected) (value_for W p.number x)) set_refusal
       (λ u e. e) refl refl refl gives odd
-  cas_told object index expected x gives (inr (at, header, e, names, bad)) =
+  cas_known object index expected x gives (inr (at, header, e, names, bad)) =
       change_at (Cas object index expected x) object (change.Exchange index (value_for W p.number expected) (value_for W p.number x)) set_refusal at
       header (λ u e. e) refl refl refl gives e names
       (λ y hy is_at head. let n : Node = (h.stands.objects y hy).node in
@@ -426,66 +426,66 @@ module _ (o : Opening) (words : List ℕ) (views : List Seen) (h : Keeps o words
         ap (λ l. if_same (value_for W p.number expected) l) (none_owed n index bad'),
       ))
 
-  -- `update` of what is no thunk
-  update_told : (object x : Operand) → CanGive o p (Update object x) → IsRefused o p object (λ header. header.kind ≡ kind.Thunk → ⊥) →
-      AddsCommand o words views h p.number (Update object x) words (set views id (told v (Update object x)))
-  update_told object x gives (inl odd) = change_none (Update object x) object (change.Update (value_for W p.number x)) (λ n. WrongKind) (λ u e.
+  -- `update` of an object that is no thunk
+  update_known : (object x : Operand) → CanGive o p (Update object x) → IsRefused o p object (λ header. header.kind ≡ kind.Thunk → ⊥) →
+      AddsCommand o words views h p.number (Update object x) words (set views id (known v (Update object x)))
+  update_known object x gives (inl odd) = change_none (Update object x) object (change.Update (value_for W p.number x)) (λ n. WrongKind) (λ u e.
       e) refl refl refl gives odd
-  update_told object x gives (inr (at, header, e, names, bad)) =
+  update_known object x gives (inr (at, header, e, names, bad)) =
       change_at (Update object x) object (change.Update (value_for W p.number x)) (λ n. WrongKind) at header (λ u e. e) refl refl refl gives e names
       (λ y hy is_at head. no_thunk (h.stands.objects y hy).node (value_for W p.number x) (λ k. bad (cc (head, k))))
 
-  -- `force` of what is no thunk, and `deref` of what is no weak pointer
-  force_told : (dest : ℕ) (object : Operand) → CanGive o p (Force dest object) → IsRefused o p object (λ header. header.kind ≡ kind.Thunk → ⊥) →
-      AddsCommand o words views h p.number (Force dest object) words (set views id (told v (Force dest object)))
-  force_told dest object gives (inl odd) = read_none (Force dest object) dest object result_read (λ x e.
+  -- `force` of an object that is no thunk, and `deref` of an object that is no weak pointer
+  force_known : (dest : ℕ) (object : Operand) → CanGive o p (Force dest object) → IsRefused o p object (λ header. header.kind ≡ kind.Thunk → ⊥) →
+      AddsCommand o words views h p.number (Force dest object) words (set views id (known v (Force dest object)))
+  force_known dest object gives (inl odd) = read_none (Force dest object) dest object result_read (λ x e.
       ap (λ y. read_into W p.number dest (read_object (object_of W y) result_read)) e) (λ x e k. refl) refl refl gives odd
-  force_told dest object gives (inr (at, header, e, names, bad)) =
+  force_known dest object gives (inr (at, header, e, names, bad)) =
       read_wrong (Force dest object) dest object result_read at header (λ x e.
       ap (λ y. read_into W p.number dest (read_object (object_of W y) result_read)) e) refl refl gives e names
       (λ name n refers there head. (no_result n (λ k. bad (cc (head, k))), refl))
 
-  deref_told : (dest : ℕ) (object : Operand) → CanGive o p (Deref dest object) → IsRefused o p object (λ header. header.kind ≡ kind.Weak → ⊥) →
-      AddsCommand o words views h p.number (Deref dest object) words (set views id (told v (Deref dest object)))
-  deref_told dest object gives (inl odd) = read_none (Deref dest object) dest object value_read (λ x e.
+  deref_known : (dest : ℕ) (object : Operand) → CanGive o p (Deref dest object) → IsRefused o p object (λ header. header.kind ≡ kind.Weak → ⊥) →
+      AddsCommand o words views h p.number (Deref dest object) words (set views id (known v (Deref dest object)))
+  deref_known dest object gives (inl odd) = read_none (Deref dest object) dest object value_read (λ x e.
       ap (λ y. read_into W p.number dest (read_object (object_of W y) value_read)) e) (λ x e k.
       ap (λ y. names_among (value_held (object_of W y))) e ∙ ap (λ y. names_among (value_held y)) k) refl refl gives odd
-  deref_told dest object gives (inr (at, header, e, names, bad)) =
+  deref_known dest object gives (inr (at, header, e, names, bad)) =
       read_wrong (Deref dest object) dest object value_read at header (λ x e.
       ap (λ y. read_into W p.number dest (read_object (object_of W y) value_read)) e) refl refl gives e names
       (λ name n refers there head. let t = no_weak name n (λ k. bad (cc (head, k))) in
       (t.0, cc (refers, there, t.1)))
 
   -- `finalise` likewise
-  finalise_told : (dest : ℕ) (object : Operand) → CanGive o p (Finalise dest object) →
+  finalise_known : (dest : ℕ) (object : Operand) → CanGive o p (Finalise dest object) →
       IsRefused o p object (λ header. header.kind ≡ kind.Weak → ⊥) →
-      AddsCommand o words views h p.number (Finalise dest object) words (set views id (told v (Finalise dest object)))
-  finalise_told dest object gives (inl odd) = change_none (Finalise dest object) object change.Finalise (λ n. WrongKind) (λ u e.
+      AddsCommand o words views h p.number (Finalise dest object) words (set views id (known v (Finalise dest object)))
+  finalise_known dest object gives (inl odd) = change_none (Finalise dest object) object change.Finalise (λ n. WrongKind) (λ u e.
       ap (λ r. change_into p.number dest r) e) refl refl refl gives odd
-  finalise_told dest object gives (inr (at, header, e, names, bad)) =
+  finalise_known dest object gives (inr (at, header, e, names, bad)) =
       change_at (Finalise dest object) object change.Finalise (λ n. WrongKind) at header (λ u e.
       ap (λ r. change_into p.number dest r) e) refl refl refl gives e names
       (λ y hy is_at head. let t = no_weak y.name (h.stands.objects y hy).node (λ k. bad (cc (head, k))) in (t.2, t.3))
 
-  -- what another's name says of its maker
+  -- the maker in the name of another's object
   foreign_maker : (at : ℕ) (x : Object) (hx : IsObject o h.born x) (name : Name) → x.at ≡ at → IsName name →
       Contains p.fixed (record { at = at; offset = 1; word = name_word name }) → x.name.maker ≡ name.maker
   foreign_maker at x hx name is_at valid named =
       let there = h.stands.named (place_of x) (placed o h.born x hx) in
-      let told_ = rests.fixed (record { at = at; offset = 1; word = name_word name }) named in
-      one_maker x.name name there.valid valid (cc (there.name, is_at, told_.1))
+      let known_ = rests.fixed (record { at = at; offset = 1; word = name_word name }) named in
+      one_maker x.name name there.valid valid (cc (there.name, is_at, known_.1))
 
-  push_told : (object x : Operand) → CanGive o p (Push object x) → IsRefused o p object (λ header. header.kind ≡ kind.Stack → ⊥) ⊎
-      IsForeign o p object → AddsCommand o words views h p.number (Push object x) words (set views id (told v (Push object x)))
-  push_told object x gives (inl (inl odd)) =
+  push_known : (object x : Operand) → CanGive o p (Push object x) → IsRefused o p object (λ header. header.kind ≡ kind.Stack → ⊥) ⊎
+      IsForeign o p object → AddsCommand o words views h p.number (Push object x) words (set views id (known v (Push object x)))
+  push_known object x gives (inl (inl odd)) =
       change_none (Push object x) object (change.Push p.number (value_for W p.number x)) owner_refusal (λ u e. e) refl refl refl gives odd
-  push_told object x gives (inl (inr (at, header, e, names, bad))) =
+  push_known object x gives (inl (inr (at, header, e, names, bad))) =
       change_at (Push object x) object (change.Push p.number (value_for W p.number x)) owner_refusal at header (λ u e.
       e) refl refl (left_push (hand_now o p) object x (eqb (header_word header % 8) 6)) gives e names
       (λ y hy is_at head. let n : Node = (h.stands.objects y hy).node in
       let t = no_stack (eqb y.name.maker p.number) n (value_for W p.number x) (λ k. bad (cc (head, k))) in
       (cc (t.0, head), refl))
-  push_told object x gives (inr f) =
+  push_known object x gives (inr f) =
       change_at (Push object x) object (change.Push p.number (value_for W p.number x)) owner_refusal f.at f.header (λ u e.
       e) refl refl (left_push (hand_now o p) object x (eqb (header_word f.header % 8) 6)) gives f.object_word f.names
       (λ y hy is_at head. let n : Node = (h.stands.objects y hy).node in
@@ -494,17 +494,17 @@ module _ (o : Opening) (words : List ℕ) (views : List Seen) (h : Keeps o words
       f.other (sym (foreign_maker f.at y hy f.name is_at f.valid f.named) ∙ k)) in
       (cc (off, t.0, head), refl))
 
-  pop_told : (dest : ℕ) (object : Operand) → CanGive o p (Pop dest object) → IsRefused o p object (λ header. header.kind ≡ kind.Stack → ⊥) ⊎
-      IsForeign o p object → AddsCommand o words views h p.number (Pop dest object) words (set views id (told v (Pop dest object)))
-  pop_told dest object gives (inl (inl odd)) = change_none (Pop dest object) object (change.Pop p.number) owner_refusal (λ u e.
+  pop_known : (dest : ℕ) (object : Operand) → CanGive o p (Pop dest object) → IsRefused o p object (λ header. header.kind ≡ kind.Stack → ⊥) ⊎
+      IsForeign o p object → AddsCommand o words views h p.number (Pop dest object) words (set views id (known v (Pop dest object)))
+  pop_known dest object gives (inl (inl odd)) = change_none (Pop dest object) object (change.Pop p.number) owner_refusal (λ u e.
       ap (λ r. change_into p.number dest r) e) refl refl refl gives odd
-  pop_told dest object gives (inl (inr (at, header, e, names, bad))) =
+  pop_known dest object gives (inl (inr (at, header, e, names, bad))) =
       change_at (Pop dest object) object (change.Pop p.number) owner_refusal at header (λ u e. ap (λ r. change_into p.number dest r) e ∙
       ap (λ w. (w, owner_refusal (header_word header))) (keeping_owner u p.number dest (eqb (header_word header % 8) 6))) refl refl refl gives e names
       (λ y hy is_at head. let n : Node = (h.stands.objects y hy).node in
       let t = no_stack (eqb y.name.maker p.number) n value.Nil (λ k. bad (cc (head, k))) in
       (cc (t.1, head), t.2))
-  pop_told dest object gives (inr f) = change_at (Pop dest object) object (change.Pop p.number) owner_refusal f.at f.header (λ u e.
+  pop_known dest object gives (inr f) = change_at (Pop dest object) object (change.Pop p.number) owner_refusal f.at f.header (λ u e.
       ap (λ r. change_into p.number dest r) e ∙
       ap (λ w. (w, owner_refusal (header_word f.header))) (keeping_owner u p.number dest (eqb (header_word f.header % 8) 6))) refl refl refl gives
       f.object_word f.names
@@ -514,10 +514,10 @@ module _ (o : Opening) (words : List ℕ) (views : List Seen) (h : Keeps o words
       f.other (sym (foreign_maker f.at y hy f.name is_at f.valid f.named) ∙ k)) in
       (cc (off, t.1, head), ap (λ b. top_held b n) off))
 
-  -- `nextfin`: the first of the queue goes off into a register
-  finaliser_told : (dest : ℕ) → CanGive o p (NextFin dest) → (ws : List ℕ) → (hand_now o p).queue ≡ ws → (vs : List Value) →
-      (state_of W p.number).queue ≡ vs → ListMeans P ws vs → AddsCommand o words views h p.number (NextFin dest) words (set views id (told v (NextFin dest)))
-  finaliser_told dest gives [] e [] f m =
+  -- `nextfin`: the first word of the queue moves into a register
+  finaliser_known : (dest : ℕ) → CanGive o p (NextFin dest) → (ws : List ℕ) → (hand_now o p).queue ≡ ws → (vs : List Value) →
+      (state_of W p.number).queue ≡ vs → ListMeans P ws vs → AddsCommand o words views h p.number (NextFin dest) words (set views id (known v (NextFin dest)))
+  finaliser_known dest gives [] e [] f m =
       let s : MutatorState = state_of W p.number in
       let F : List Value → MutatorState = λ l. holding_given (record s { queue = drop 1 l }) dest (slice_get l 0) in
       let q : MutatorState = F s.queue in
@@ -525,16 +525,16 @@ module _ (o : Opening) (words : List ℕ) (views : List Seen) (h : Keeps o words
       let st : state_of u p.number ≡ F [] = state_same W p.number q fits.exists ∙ ap F f in
       let nodes : (n : Name) → node_of u n ≡ node_of W n = nodes_kept W p.number q fits.exists (ap (λ l. (F l).nodes) f) in
       let k = fits.hand in
-      tell (NextFin dest) Nothing (plain Nothing) u (ap (λ l. first_told l) e) gives (ap (λ l. (u, given_or Nothing (slice_get l 0))) f) nodes refl refl
+      place_in_order (NextFin dest) Nothing (plain Nothing) u (ap (λ l. first_answer l) e) gives (ap (λ l. (u, given_or Nothing (slice_get l 0))) f) nodes refl refl
       (record {
         registers = rw st k.registers;
         queue = rw e (rw st tt);
         serial = cc (k.serial, st);
       })
       refl
-  finaliser_told dest gives [] e (x ∷ vs) f m = absurd m
-  finaliser_told dest gives (w ∷ ws) e [] f m = absurd m
-  finaliser_told dest gives (w ∷ ws) e (x ∷ vs) f m =
+  finaliser_known dest gives [] e (x ∷ vs) f m = absurd m
+  finaliser_known dest gives (w ∷ ws) e [] f m = absurd m
+  finaliser_known dest gives (w ∷ ws) e (x ∷ vs) f m =
       let s : MutatorState = state_of W p.number in
       let F : List Value → MutatorState = λ l. holding_given (record s { queue = drop 1 l }) dest (slice_get l 0) in
       let q : MutatorState = F s.queue in
@@ -542,7 +542,7 @@ module _ (o : Opening) (words : List ℕ) (views : List Seen) (h : Keeps o words
       let st : state_of u p.number ≡ F (x ∷ vs) = state_same W p.number q fits.exists ∙ ap F f in
       let nodes : (n : Name) → node_of u n ≡ node_of W n = nodes_kept W p.number q fits.exists (ap (λ l. (F l).nodes) f) in
       let k = fits.hand in
-      tell (NextFin dest) (Given x) (word w) u (ap (λ l. first_told l) e) gives (ap (λ l. (u, given_or Nothing (slice_get l 0))) f) nodes refl (x, refl, m.0)
+      place_in_order (NextFin dest) (Given x) (word w) u (ap (λ l. first_answer l) e) gives (ap (λ l. (u, given_or Nothing (slice_get l 0))) f) nodes refl (x, refl, m.0)
       (record {
         registers = rw st (list_set P (hand_now o p).registers s.registers dest w x k.registers m.0);
         queue = rw e (rw st m.1);
@@ -550,39 +550,39 @@ module _ (o : Opening) (words : List ℕ) (views : List Seen) (h : Keeps o words
       })
       refl
 
-  -- every command that takes its place there
-  pub told_keeps : (c : Command) → CanTell o p c → AddsCommand o words views h p.number c words (set views id (told v c))
-  told_keeps (Num dest n) can = tell_register (Num dest n) dest (2 * n + 3) (value.Number n) refl can.gives refl refl refl refl
-  told_keeps (Nil dest) can = tell_register (Nil dest) dest 1 value.Nil refl can.gives refl refl refl refl
-  told_keeps (Mov dest x) can =
-      tell_register (Mov dest x) dest (operand_word o p x) (value_for W p.number x) refl can.gives refl refl refl (operand_is o words views h id v here p is x)
-  told_keeps (Get dest object index) can = get_told dest object index can.gives can.told
-  told_keeps (Set object index x) can = set_told object index x can.gives can.told
-  told_keeps (Show x) can =
-      tell_same (Show x) (Given (value_for W p.number x)) (word (operand_word o p x)) refl can.gives refl refl (
+  -- every command whose position is there
+  pub known_keeps : (c : Command) → CanAnswer o p c → AddsCommand o words views h p.number c words (set views id (known v c))
+  known_keeps (Num dest n) can = answer_register (Num dest n) dest (2 * n + 3) (value.Number n) refl can.gives refl refl refl refl
+  known_keeps (Nil dest) can = answer_register (Nil dest) dest 1 value.Nil refl can.gives refl refl refl refl
+  known_keeps (Mov dest x) can =
+      answer_register (Mov dest x) dest (operand_word o p x) (value_for W p.number x) refl can.gives refl refl refl (operand_is o words views h id v here p is x)
+  known_keeps (Get dest object index) can = get_known dest object index can.gives can.known
+  known_keeps (Set object index x) can = set_known object index x can.gives can.known
+  known_keeps (Show x) can =
+      answer_same (Show x) (Given (value_for W p.number x)) (word (operand_word o p x)) refl can.gives refl refl (
         value_for W p.number x,
         refl,
         operand_is o words views h id v here p is x,
       ) refl
-  told_keeps (Same left right) can =
+  known_keeps (Same left right) can =
       let e = same_words (operand_word o p left) (operand_word o p right) (value_for W p.number left) (value_for W p.number right)
       (operand_is o words views h id v here p is left) (operand_is o words views h id v here p is right) in
       let r : Reply = cond (eqb (operand_word o p left) (operand_word o p right)) Yes No in
-      tell_same (Same left right) r (plain r) refl can.gives (ap (λ (b : Bool). (W, cond b Yes No)) e) refl refl refl
-  told_keeps Yield can = tell_same Yield Fine (plain Fine) refl can.gives refl refl refl refl
-  told_keeps Collect can = tell_same Collect Fine (plain Fine) refl can.gives refl refl refl refl
-  told_keeps Full can = tell_same Full Fine (plain Fine) refl can.gives refl refl refl refl
-  told_keeps (Con dest tag fields) can = absurd can.told
-  told_keeps (Var dest x) can = absurd can.told
-  told_keeps (Arr dest count x) can = absurd can.told
-  told_keeps (Thunk dest free) can = absurd can.told
-  told_keeps (Weak dest key x finaliser) can = absurd can.told
-  told_keeps (Stack dest size) can = absurd can.told
-  told_keeps (Cas object index expected x) can = cas_told object index expected x can.gives can.told
-  told_keeps (Update object x) can = update_told object x can.gives can.told
-  told_keeps (Force dest object) can = force_told dest object can.gives can.told
-  told_keeps (Push object x) can = push_told object x can.gives can.told
-  told_keeps (Pop dest object) can = pop_told dest object can.gives can.told
-  told_keeps (Deref dest object) can = deref_told dest object can.gives can.told
-  told_keeps (Finalise dest object) can = finalise_told dest object can.gives can.told
-  told_keeps (NextFin dest) can = finaliser_told dest can.gives (hand_now o p).queue refl (state_of W p.number).queue refl fits.hand.queue
+      answer_same (Same left right) r (plain r) refl can.gives (ap (λ (b : Bool). (W, cond b Yes No)) e) refl refl refl
+  known_keeps Yield can = answer_same Yield Fine (plain Fine) refl can.gives refl refl refl refl
+  known_keeps Collect can = answer_same Collect Fine (plain Fine) refl can.gives refl refl refl refl
+  known_keeps Full can = answer_same Full Fine (plain Fine) refl can.gives refl refl refl refl
+  known_keeps (Con dest tag fields) can = absurd can.known
+  known_keeps (Var dest x) can = absurd can.known
+  known_keeps (Arr dest count x) can = absurd can.known
+  known_keeps (Thunk dest free) can = absurd can.known
+  known_keeps (Weak dest key x finaliser) can = absurd can.known
+  known_keeps (Stack dest size) can = absurd can.known
+  known_keeps (Cas object index expected x) can = cas_known object index expected x can.gives can.known
+  known_keeps (Update object x) can = update_known object x can.gives can.known
+  known_keeps (Force dest object) can = force_known dest object can.gives can.known
+  known_keeps (Push object x) can = push_known object x can.gives can.known
+  known_keeps (Pop dest object) can = pop_known dest object can.gives can.known
+  known_keeps (Deref dest object) can = deref_known dest object can.gives can.known
+  known_keeps (Finalise dest object) can = finalise_known dest object can.gives can.known
+  known_keeps (NextFin dest) can = finaliser_known dest can.gives (hand_now o p).queue refl (state_of W p.number).queue refl fits.hand.queue

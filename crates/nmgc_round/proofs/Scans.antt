@@ -1,10 +1,10 @@
--- The scan load: what the core machine reads is what the word means, and the fold of the scans follows it.
-use Rattle.nmgc_round.proofs.Vocabulary.{◌≡◌, ◌≢◌, ◌⊎◌, inl, inr, ℕ, zero, suc, ◌+◌, ◌*◌, ◌/◌, ◌%◌, ◌<◌, ◌≤◌, Bool, true, false, not, ◌&&◌, ◌||◌, cond, eqb, leb, List, [], ◌∷◌, ◌++◌, length, get_or, set, refl, sym, ap, subst, ◌∙◌, arith, slice_index, Option, Some, None, is_some, ne_eqb, eq-eqb, leb-false, Contains, IsSome, slice_get, slice_get-get_or, slice_get_past, cases_lt, and_parts, eqb_tells, Contains-append_cases, Contains-push_cases, some, get_elem?, Name, Value, Node, Con, Var, Arr, Thunk, Weak, Stack, Kind, World, node_of, is_some_of, contains_head, contains_tail, one_is, Header, HEADER_WORDS, FIRST_PLACE, header_word, IsHeader, word_total, IsSafe, TellsEntry, Opening, Seen, Marks, marks_of, marks_after, name_at, name_meant, name_read, with_name, is_thunk, is_last_word, entry_past, first_past, after_word, offset_of, Object, place_of, free_of, IsLater, IsObject, IsIn, now, IsRead, IsQueued, Keeps, AddsScan, CanScan, scanned_by, first_of, Entry, State, is_new, is_listed, mark_read, entry_of, fields_of, read_at, field_at, is_last, moved_on, advanced, after_scan, has_result, header_of, size_of, slots_of, Place, Means, HasSlots, AllMean, HasFields, KeepsFree, fields_of_slots, free_of_slots, lies_above, lies_within, marks_if, some_at, found_at}
+-- The scan load: the marking machine reads the value that the word represents, and the fold of the scans follows it.
+use Rattle.nmgc_round.proofs.Vocabulary.{◌≡◌, ◌≢◌, ◌⊎◌, inl, inr, ℕ, zero, suc, ◌+◌, ◌*◌, ◌/◌, ◌%◌, ◌<◌, ◌≤◌, Bool, true, false, not, ◌&&◌, ◌||◌, cond, eqb, leb, List, [], ◌∷◌, ◌++◌, length, get_or, set, refl, sym, ap, subst, ◌∙◌, arith, slice_index, Option, Some, None, is_some, ne_eqb, eq-eqb, leb-false, Contains, IsSome, slice_get, slice_get-get_or, slice_get_past, cases_lt, and_parts, eqb_tells, Contains-append_cases, Contains-push_cases, some, get_elem?, Name, Value, Node, Con, Var, Arr, Thunk, Weak, Stack, Kind, World, node_of, is_some_of, contains_head, contains_tail, one_is, Header, HEADER_WORDS, FIRST_PLACE, header_word, IsHeader, word_total, IsSafe, FindsEntry, Opening, Seen, Marks, marks_of, marks_after, name_at, name_meant, name_read, with_name, is_thunk, is_last_word, entry_past, first_past, after_word, offset_of, Object, place_of, free_of, IsLater, IsObject, IsIn, now, IsRead, IsQueued, Keeps, AddsScan, CanScan, scanned_by, first_of, Entry, State, is_new, is_listed, mark_read, entry_of, fields_of, read_at, field_at, is_last, moved_on, advanced, after_scan, has_result, header_of, size_of, slots_of, Place, Means, HasSlots, AllMean, HasFields, KeepsFree, fields_of_slots, free_of_slots, lies_above, lies_within, marks_if, some_at, found_at}
 use Rattle.nmgc_world_spec.specs.declared.value.Value.TheVariants as value
 use Rattle.nmgc_world_spec.specs.declared.node.Kind.TheVariants as kind
 use Rattle.nmgc_round.proofs.{Standing.later_of, Lists.pointer_means, Runs.same_snapshot, Runs.rest_read, Keeping.scan_law}
 
--- the word at a place is that of what was read: an unset field is 0
+-- the word at an address represents the value that was read: an unset field is 0
 pub record IsReadAt (P : Place → Type 0) (words : List ℕ) (j : ℕ) (v : Option Value) : Type 0 where
   pub means : IsRead P (slice_index words j) v
   pub unset : v ≡ None → slice_index words j ≡ 0
@@ -35,7 +35,7 @@ module _ (P : Place → Type 0) (words : List ℕ) where
   kept_free from i free (Weak parts) e none k lt h = absurd cc
   kept_free from i free (Stack size values) e none k lt h = absurd cc
 
-  -- a field that is scanned; b is the node in the snapshot
+  -- a scanned field; b is the node in the snapshot
   field_read_at : (from i : ℕ) (n b : Node) → IsLater b n → i < fields_of n → (1 ≤ i → has_result b ≡ false) → HasFields P words from n →
       KeepsFree P words from b → IsReadAt P words (from + i) (field_at n i)
   field_read_at from i (Con tag values) b l lt passed h k = item_read from i values lt h
@@ -55,7 +55,7 @@ module _ (P : Place → Type 0) (words : List ℕ) where
   field_read_at from i (Weak parts) b l lt passed h k = absurd (omega arith)
   field_read_at from i (Stack size values) b l lt passed h k = slot_read from i size values lt h.0 h.1
 
--- how many fields are scanned is told by the header
+-- the header determines the number of scanned fields
 abbrev scanned_of : Kind → ℕ → ℕ
 scanned_of kind.Con n = n
 scanned_of kind.Var n = n
@@ -75,7 +75,7 @@ by_header (Stack size values) = refl
 pub same_fields : (b n : Node) → IsLater b n → fields_of n ≡ fields_of b
 same_fields b n l = cc (by_header n, l.header, by_header b)
 
--- whether it is a thunk is told by the header
+-- the header determines whether it is a thunk
 abbrev thunk_kind : Kind → Bool
 thunk_kind kind.Thunk = true
 thunk_kind _ = false
@@ -91,13 +91,13 @@ thunk_header (Stack size values) = refl
 same_thunk : (b n : Node) → IsLater b n → is_thunk b ≡ is_thunk n
 same_thunk b n l = cc (thunk_header b, l.header, thunk_header n)
 
--- a word that means a value isn't 0
+-- a word that represents a value isn't 0
 pub means_some : (P : Place → Type 0) → ((p : Place) → P p → 1 ≤ p.at) → (w : ℕ) (v : Value) → Means P w v → w ≢ 0
 means_some P least w value.Nil m e = omega arith
 means_some P least w (value.Number n) m e = omega arith
 means_some P least w (value.Ref name) m e = let a = m.1 in let l = least (record { at = m.0; name = name }) m.2 in omega arith
 
--- at position 1, a result is set exactly where the word isn't 0
+-- at position 1, a result is set exactly if the word isn't 0
 result_word : (P : Place → Type 0) → ((p : Place) → P p → 1 ≤ p.at) → (words : List ℕ) (j : ℕ) (n : Node) → IsReadAt P words j (field_at n 0) →
     has_result n ≡ (is_thunk n && not (eqb (slice_index words j) 0))
 result_word P least words j (Con tag values) r = refl
@@ -114,7 +114,7 @@ or_parts false false e = (refl, refl)
 or_parts false true e = absurd cc
 or_parts true b e = absurd cc
 
--- the last position is told by the word
+-- the word determines the last position
 last_same : (position w : ℕ) (b n : Node) → IsLater b n → (position ≡ 1 → has_result n ≡ (is_thunk n && not (eqb w 0))) →
     is_last n position ≡ is_last_word b position w
 last_same position w b n l f = elim (eqb_tells position 1) [
@@ -182,7 +182,7 @@ module _ (o : Opening) (words : List ℕ) (views : List Seen) (h : Keeps o words
     queue = m.queue ++ entry_of name ∷ [];
   }) m) e
 
-  -- a pointer counts for the name that it means, where that is of the snapshot
+  -- a pointer counts as the name that it represents, if that is a name of the snapshot
   pointer_name : (m : Marks) (at : ℕ) (name : Name) → P (record { at = at; name = name }) → with_name S0 m (name_at o.places at) ≡ with_name S0 m (Some name)
   pointer_name m at name (node, inl old) =
       let r = some_at o.places at name old.there in
@@ -202,7 +202,7 @@ module _ (o : Opening) (words : List ℕ) (views : List Seen) (h : Keeps o words
           }) (inl (found_at o.places at n e)) (inr (record { at = at; name = name; node = node }, c, refl)) (inr refl) in
           ap (λ (p : Place). with_name S0 m (Some p.name)) same
 
-  -- a word counts for what it means
+  -- a word counts as the value that it represents
   word_name : (m : Marks) (w : ℕ) (v : Option Value) → IsRead P w v → (v ≡ None → w ≡ 0) → with_name S0 m (name_meant o.places w) ≡ with_name S0 m (ref_of v)
   word_name m w None means unset = ap (λ k. with_name S0 m (name_meant o.places k)) (unset refl)
   word_name m w (Some value.Nil) means unset = ap (λ k. with_name S0 m (name_meant o.places k)) means
@@ -219,7 +219,7 @@ module _ (o : Opening) (words : List ℕ) (views : List Seen) (h : Keeps o words
       let c : w / 2 ≡ at = omega arith in
       rw (a, b, c) (pointer_name m at name means.2)
 
-  -- a pointer that was read leads within the words
+  -- the object of a pointer that was read is within the words
   read_safe : (w : ℕ) (x : Option Value) → IsRead P w x → (x ≡ None → w ≡ 0) → IsSafe o w
   read_safe w None m unset at e = let z = unset refl in let l : FIRST_PLACE ≤ word_total o.layout = omega arith in omega arith
   read_safe w (Some x) m unset at e =
@@ -228,7 +228,7 @@ module _ (o : Opening) (words : List ℕ) (views : List Seen) (h : Keeps o words
       let l = lies_within o.layout (place_of y) (size_of y.node) (omega arith) (h.stands.apart y q.2.1).lies in
       omega arith
 
-  -- the scan of the first entry, which is the object at this place
+  -- the scan of the first entry, which is the object at this address
   module _ (id : ℕ) (v : Seen) (here : get_elem? views id ≡ some v) (at offset : ℕ) (can : CanScan v at offset) where
     abbrev S : State
     S = now o h.events
@@ -245,7 +245,7 @@ module _ (o : Opening) (words : List ℕ) (views : List Seen) (h : Keeps o words
     queue_is : S.queue ≡ can.entry ∷ can.rest
     queue_is = cc (folded_is, can.first)
 
-    -- what is known of the object that is scanned
+    -- the facts about the object that is scanned
     record Target : Type 0 where
       queued : IsQueued o can.entry
       node : Node
@@ -287,7 +287,7 @@ module _ (o : Opening) (words : List ℕ) (views : List Seen) (h : Keeps o words
               omega arith;
         }
 
-    -- what is read at a position, and what of it the word tells
+    -- the value read at a position, and the facts that the word shows about it
     record IsScanned (t : Target) (position : ℕ) : Type 0 where
       means : IsRead P w (read_at (Some t.node) position)
       unset : read_at (Some t.node) position ≡ None → 1 ≤ position → w ≡ 0
@@ -310,8 +310,8 @@ module _ (o : Opening) (words : List ℕ) (views : List Seen) (h : Keeps o words
           result = λ one. let z : i ≡ 0 = omega arith in result_word P least words (at + offset) t.node (rw z at r');
         }
 
-    pub scan_tells : TellsEntry o can.entry w
-    scan_tells =
+    pub scan_finds : FindsEntry o can.entry w
+    scan_finds =
         let t = target in
         record {
           header = λ first.

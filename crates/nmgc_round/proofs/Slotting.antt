@@ -1,7 +1,7 @@
--- Lists of slots, where the top changes.
+-- Lists of slots, when the top changes.
 use Rattle.nmgc_round.proofs.Vocabulary.{◌≡◌, ◌≢◌, ◌⊎◌, inl, inr, ℕ, zero, suc, ◌+◌, ◌-◌, ◌<◌, ◌≤◌, List, [], ◌∷◌, ◌++◌, length, take, set, refl, ap, ◌∙◌, arith, slice_index, Some, get_or-set_same, get_or-set_other, slice_get, cases_eq, slice_get_within, Value, without_last, last_of, Place, Means, AllMean, ListMeans, AreUnset, item_cases, item_left}
 
--- nothing stands past the end
+-- past the end there is only 0
 pub past : (ws : List ℕ) (i : ℕ) → length ws ≤ i → slice_index ws i ≡ 0
 past [] i le = refl
 past (w ∷ ws) zero le = absurd (omega arith)
@@ -39,7 +39,7 @@ module _ (P : Place → Type 0) where
   list_at (w ∷ ws) (y ∷ vs) zero v h e = let same : y ≡ v = cc in rw same at h.0
   list_at (w ∷ ws) (y ∷ vs) (suc i) v h e = list_at ws vs i v h.1 e
 
-  -- all words but the last mean all values but the last
+  -- all words but the last represent all values but the last
   pub front_means : (ws : List ℕ) (front : List Value) (v : Value) → ListMeans P ws (front ++ v ∷ []) → ListMeans P (take (length ws - 1) ws) front
   front_means [] [] v h = absurd h
   front_means [] (x ∷ front) v h = absurd h
@@ -51,7 +51,7 @@ module _ (P : Place → Type 0) where
       let n : length (w ∷ u ∷ ws) - 1 ≡ suc (length (u ∷ ws) - 1) = omega arith in
       rw n (h.0, front_means (u ∷ ws) front v h.1)
 
-  -- a value more, in the next slot
+  -- one more value, in the next slot
   pub all_pushed : (words : List ℕ) (from w : ℕ) (values : List Value) (v : Value) → from + length values < length words →
       AllMean P words from values → Means P w v → AllMean P (set words (from + length values) w) from (values ++ v ∷ [])
   all_pushed words from w values v inside h m i x e = elim (item_cases values (v ∷ []) i x e) [
@@ -68,7 +68,7 @@ module _ (P : Place → Type 0) where
         rw (← same) (rw at (rw (get_or-set_same words (from + length values) w 0 inside) m))
   ]
 
-  -- all values but the last, where the last slot changes
+  -- all values but the last, when the last slot changes
   pub all_popped : (words : List ℕ) (from w : ℕ) (front : List Value) (v : Value) → AllMean P words from (front ++ v ∷ []) →
       AllMean P (set words (from + length front) w) from front
   all_popped words from w front v h i x e =
@@ -80,7 +80,7 @@ module _ (P : Place → Type 0) where
 pub unset_pushed : (words : List ℕ) (from w depth size : ℕ) → AreUnset words from depth size → AreUnset (set words (from + depth) w) from (depth + 1) size
 unset_pushed words from w depth size h i lo hi = get_or-set_other words (from + depth) (from + i) w 0 (λ k. omega arith) ∙ h i (omega arith) hi
 
--- and one more where the top is
+-- and one more slot at the top
 pub unset_popped : (words : List ℕ) (from depth size : ℕ) → from + depth < length words → AreUnset words from (depth + 1) size →
     AreUnset (set words (from + depth) 0) from depth size
 unset_popped words from depth size inside h i lo hi = elim (cases_eq i depth) [

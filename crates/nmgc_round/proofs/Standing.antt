@@ -1,8 +1,8 @@
--- Words that stand for a world, where one word changes.
+-- Words that represent a world, when one word changes.
 use Rattle.nmgc_round.proofs.Vocabulary.{◌≡◌, ◌≢◌, ◌⊎◌, inl, inr, ℕ, ◌+◌, ◌<◌, ◌≤◌, List, set, refl, sym, ap, subst, ◌∙◌, arith, slice_index, Some, get_or-set_other, length-set, IsSome, cases_eq, name_cases, Name, Node, World, node_of, IsSized, Header, HEADER_WORDS, header_of, size_of, slots_of, MayChange, Place, HasSlots, IsBetween, IsNamed, not_between, Opening, Object, place_of, end_of, IsObject, IsIn, IsPlace, IsLater, IsStanding, RepresentsInRound}
 use Rattle.nmgc_round.proofs.Fields.{fields_same, kept_same}
 
--- what is later than what is later
+-- a node later than a later node
 pub later_of : (n made : Node) → IsLater n made → (first : Node) → IsLater first n → IsLater first made
 later_of n made a first b = record {
   header = a.header ∙ b.header;
@@ -14,7 +14,7 @@ later_of n made a first b = record {
 pub same_node : (n : Node) → IsLater n n
 same_node n = record { header = refl; free = refl; result = λ e. e; alive = λ parts e. e }
 
--- an object has a place
+-- an object has an address
 pub placed : (o : Opening) (born : List Object) (x : Object) → IsObject o born x → IsPlace o born (place_of x)
 placed o born x (inl h) = inl h.there
 placed o born x (inr h) = inr (x, h, refl)

@@ -1,12 +1,12 @@
 -- A load and a compare-exchange of a thunk's result keep the rule.
-use Rattle.nmgc_round.proofs.Vocabulary.{◌≡◌, ◌≢◌, ℕ, ◌+◌, ◌-◌, ◌*◌, ◌/◌, Bool, true, false, cond, eqb, eq-eqb, ne_eqb, List, [], ◌∷◌, ◌++◌, length, set, refl, sym, ap, subst, ◌∙◌, arith, slice_index, Option, Some, None, get_or-set_same, some, get_elem?, Name, Value, Node, Con, Var, Arr, Thunk, Weak, Stack, Change, MutatorState, Operand, Command, Update, Force, Reply, World, state_of, node_of, given_or, thunk_updated, value_for, with_node, with_register, world_holding, keeping, step, free_held, names_among, owed_by, header_word, Header, HEADER_WORDS, State, names_of, nodes_kept, header_of, slots_of, Place, Means, HasSlots, ListMeans, fields_of_slots, slots_of_fields, plain, word, Opening, Part, Seen, hand_now, doing, done_by, Object, IsObject, IsIn, now, Fits, Keeps, AddsCommand, IsMutator, Names, operand_word, header_at, IsSafe, owed_words, finding_all, words_exchanged, CanForce, CanUpdate, result_told, forced, updated, free_named}
+use Rattle.nmgc_round.proofs.Vocabulary.{◌≡◌, ◌≢◌, ℕ, ◌+◌, ◌-◌, ◌*◌, ◌/◌, Bool, true, false, cond, eqb, eq-eqb, ne_eqb, List, [], ◌∷◌, ◌++◌, length, set, refl, sym, ap, subst, ◌∙◌, arith, slice_index, Option, Some, None, get_or-set_same, some, get_elem?, Name, Value, Node, Con, Var, Arr, Thunk, Weak, Stack, Change, MutatorState, Operand, Command, Update, Force, Reply, World, state_of, node_of, given_or, thunk_updated, value_for, with_node, with_register, world_holding, keeping, step, free_held, names_among, owed_by, header_word, Header, HEADER_WORDS, State, names_of, nodes_kept, header_of, slots_of, Place, Means, HasSlots, ListMeans, fields_of_slots, slots_of_fields, plain, word, Opening, Part, Seen, hand_now, doing, done_by, Object, IsObject, IsIn, now, Fits, Keeps, AddsCommand, IsMutator, Names, operand_word, header_at, IsSafe, owed_words, finding_all, words_exchanged, CanForce, CanUpdate, result_answer, forced, updated, free_named}
 use Rattle.nmgc_world_spec.specs.declared.value.Value.TheVariants as value
 use Rattle.nmgc_world_spec.specs.declared.node.Kind.TheVariants as kind
 use Rattle.nmgc_world_spec.specs.declared.change.Change.TheVariants as change
 use Rattle.nmgc_world_spec.specs.declared.command.Reply.TheVariants as reply
 use Rattle.nmgc_round.proofs.{Frames.node_frame, Scans.means_some, Fixes.safe_word, Moves.meant, Moves.operand_is, Moves.inside, Moves.same_opening, Moves.register_hand, Moves.hand_kept, Writes.Changes, Writes.field_law, Writes.own_same, Writes.node_now, Writes.node_again, Writes.still_law, Owings.named_list, Owings.above, Owings.named_word, Owings.named_header, Owings.owes_list}
 
--- a node of a thunk's kind is one
+-- a node of a thunk's kind is a thunk
 thunk_of : (n : Node) → (header_of n).kind ≡ kind.Thunk → (free : List Value) × (result : Option Value) × (n ≡ Thunk free result)
 thunk_of (Con tag values) e = absurd cc
 thunk_of (Var x) e = absurd cc
@@ -29,7 +29,7 @@ step_update w m object v name found made r is there does =
     let c : Change = change.Update (value_for w m v) in
     cc (is, there, does)
 
--- it owes the free variables, where there was no result
+-- it owes the free variables, if there was no result
 owes_update : (w : World) (m : ℕ) (object v : Operand) (name : Name) (found : Node) → value_for w m object ≡ value.Ref name →
     node_of w name ≡ Some found → owed_by w m (Update object v) ≡ names_among (free_held found)
 owes_update w m object v name found is there =
@@ -50,7 +50,7 @@ module _ (o : Opening) (words : List ℕ) (views : List Seen) (h : Keeps o words
   fits : Fits o h.born S (done_by p.number h.events) p
   fits = ((h.agrees id v here).parts 0 p (ap (λ l. get_elem? l 0) is.alone)).1
 
-  -- the thunk at a place, where its header is named
+  -- the thunk at an address, if its header is named
   record Found (at : ℕ) (object : Operand) (header : Header) : Type 0 where
     thing : Object
     there : IsObject o h.born thing
@@ -95,13 +95,13 @@ module _ (o : Opening) (words : List ℕ) (views : List Seen) (h : Keeps o words
       let C : Command = Force can.dest can.object in
       let w : ℕ = slice_index words (at + HEADER_WORDS) in
       let zero_ : w ≡ 0 = (fields_of_slots P words (at + HEADER_WORDS) (Thunk free None) fields).0 in
-      let a : result_told w ≡ plain reply.Nothing = ap (λ (b : Bool). cond b (plain reply.Nothing) (word w)) (eq-eqb w 0 zero_) in
+      let a : result_answer w ≡ plain reply.Nothing = ap (λ (b : Bool). cond b (plain reply.Nothing) (word w)) (eq-eqb w 0 zero_) in
       rw a (still_law o words views h id v here p is C reply.Nothing (plain reply.Nothing) W (rw can.command at can.gives) (step_force W p.number can.dest can.object name free None refers there) (λ n. refl) refl refl fits.hand refl)
   force_as at c can free (Some x) name refers there fields =
       let C : Command = Force can.dest can.object in
       let w : ℕ = slice_index words (at + HEADER_WORDS) in
       let m : Means P w x = fields_of_slots P words (at + HEADER_WORDS) (Thunk free (Some x)) fields in
-      let a : result_told w ≡ word w =
+      let a : result_answer w ≡ word w =
       ap (λ (b : Bool). cond b (plain reply.Nothing) (word w)) (ne_eqb w 0 (means_some P (above o words views h id v here p is) w x m)) in
       let q : MutatorState = world_holding (state_of W p.number) can.dest x in
       rw a (still_law o words views h id v here p is C (reply.Given x) (word w) (with_register W p.number can.dest x) (rw can.command at can.gives) (step_force W p.number can.dest can.object name free (Some x) refers there)
@@ -124,14 +124,14 @@ module _ (o : Opening) (words : List ℕ) (views : List Seen) (h : Keeps o words
   pub force_safe : (at : ℕ) (c : Command) → CanForce o p at c → slice_index words (at + HEADER_WORDS) ≢ 0 → IsSafe o (slice_index words (at + HEADER_WORDS))
   force_safe at c can ne = let f = found at can.object can.header can.object_word can.names can.kind in safe_as at f.free f.result f.fields ne
 
-  -- how many free variables the header tells
+  -- the number of free variables, by the header
   free_count : (at : ℕ) (header : Header) (free : List Value) (result : Option Value) → Names p at header → header ≡ header_of (Thunk free result) →
       header_at p.fixed at / 2048 - 1 ≡ length free
   free_count at header free result names e =
       let t : header_at p.fixed at ≡ header_word (header_of (Thunk free result)) = cc (named_header o words views h id v here p is at header names, e) in
       omega arith
 
-  -- an update of a thunk that has none
+  -- an update of a thunk without a result
   update_yes : (at w : ℕ) (c : Command) (can : CanUpdate o p at w c) (f : Found at can.object can.header) → f.result ≡ None →
       AddsCommand o words views h p.number c (set words (at + HEADER_WORDS) w) (set views id (updated v at c true))
   update_yes at w c can f none =
@@ -197,7 +197,7 @@ module _ (o : Opening) (words : List ℕ) (views : List Seen) (h : Keeps o words
       (own_same o words views h id v here p is x f.there 0 w made u (hand_now o p) ch (λ size values e.
       let both : Thunk free None ≡ Stack size values = sym was ∙ e in cc) refl))))))
 
-  -- an update of a thunk that has one
+  -- an update of a thunk with a result
   update_no : (at w : ℕ) (c : Command) (can : CanUpdate o p at w c) (f : Found at can.object can.header) (x : Value) → f.result ≡ Some x →
       AddsCommand o words views h p.number c words (set views id (updated v at c false))
   update_no at w c can f x some_ =
@@ -214,7 +214,7 @@ module _ (o : Opening) (words : List ℕ) (views : List Seen) (h : Keeps o words
       rw can.command (still_law o words views h id v here p is C reply.Already (plain reply.Already) u (rw can.command at can.gives) does again owes refl
       (hand_kept o words views h id v here p is u (hand_now o p) (node_frame W thing.name st.node st.node st.there p.number) fits.hand) refl)
 
-  -- by whether there is one, which the word there tells
+  -- by whether there is a result, which the word there shows
   update_as : (at w : ℕ) (c : Command) (can : CanUpdate o p at w c) (f : Found at can.object can.header) (result : Option Value) →
       f.result ≡ result → AddsCommand o words views h p.number c
       (words_exchanged words (at + HEADER_WORDS) w (eqb (slice_index words (at + HEADER_WORDS)) 0))

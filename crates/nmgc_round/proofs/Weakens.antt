@@ -6,7 +6,7 @@ use Rattle.nmgc_world_spec.specs.declared.change.Change.TheVariants as change
 use Rattle.nmgc_world_spec.specs.declared.command.Reply.TheVariants as reply
 use Rattle.nmgc_round.proofs.{Lists.list_set, Frames.node_frame, Scans.means_some, Fixes.safe_word, Moves.meant, Moves.inside, Moves.same_opening, Moves.owes_old, Moves.register_hand, Moves.hand_kept, Writes.Changes, Writes.field_law, Writes.owing_law, Writes.own_same, Writes.node_now, Writes.node_again, Writes.still_law, Owings.above, Owings.named_word, Owings.owes_list}
 
--- a node of a weak pointer's kind is one
+-- a node of a weak pointer's kind is a weak pointer
 weak_of : (n : Node) → (header_of n).kind ≡ kind.Weak → (parts : Option Parts) × (n ≡ Weak parts)
 weak_of (Con tag values) e = absurd cc
 weak_of (Var x) e = absurd cc
@@ -15,7 +15,7 @@ weak_of (Thunk free result) e = absurd cc
 weak_of (Weak parts) e = (parts, refl)
 weak_of (Stack size values) e = absurd cc
 
--- `deref` of a weak pointer, and what it owes
+-- `deref` of a weak pointer, and the words that it owes
 step_deref : (w : World) (m dest : ℕ) (object : Operand) (name : Name) (parts : Option Parts) → value_for w m object ≡ value.Ref name →
     node_of w name ≡ Some (Weak parts) → step w m (Deref dest object) ≡ (
       keeping w m dest (given_or reply.Dead (value_part parts)),
@@ -28,7 +28,7 @@ owes_deref : (w : World) (m dest : ℕ) (object : Operand) (name : Name) (parts 
     node_of w name ≡ Some (Weak parts) → owed_by w m (Deref dest object) ≡ names_among (value_held (Some (Weak parts)))
 owes_deref w m dest object name parts is there = cc (is, there)
 
--- `finalise` of a weak pointer, and what it owes
+-- `finalise` of a weak pointer, and the words that it owes
 step_finalise : (w : World) (m dest : ℕ) (object : Operand) (name : Name) (found made : Node) (r : Reply) → value_for w m object ≡ value.Ref name →
     node_of w name ≡ Some found → weak_finalised found ≡ (made, r) → step w m (Finalise dest object) ≡ (keeping (with_node w name made) m dest r, r)
 step_finalise w m dest object name found made r is there does =
@@ -63,7 +63,7 @@ module _ (o : Opening) (words : List ℕ) (views : List Seen) (h : Keeps o words
         serial = cc (k.serial, same);
       }
 
-  -- the weak pointer at a place, where its header is named
+  -- the weak pointer at an address, if its header is named
   record Found (at : ℕ) (object : Operand) (header : Header) : Type 0 where
     thing : Object
     there : IsObject o h.born thing
@@ -94,7 +94,7 @@ module _ (o : Opening) (words : List ℕ) (views : List Seen) (h : Keeps o words
         fields = rw (← t.1) (rw m.is_at at st.fields);
       }
 
-  -- the view in which this seat's part is another
+  -- the views with another part of this seat
   abbrev Views : Seen → (Part → Part) → List Seen
   Views w f = set views id (record w { parts = first_changed f w.parts })
 
@@ -110,7 +110,7 @@ module _ (o : Opening) (words : List ℕ) (views : List Seen) (h : Keeps o words
       }))) (sym (same_opening o words views h id v here p is))
       (rw command (rw is_part t)))
 
-  -- a still command whose part is known
+  -- a command that changes nothing, whose part is known
   still_part : (c : Command) (a : Answer) (new : List ℕ) → AddsCommand o words views h p.number c new (set views id (answered v c a)) →
       AddsCommand o words views h p.number c new (set views id (record v { parts = doing p c a [] ∷ [] }))
   still_part c a new t = rw is.alone at t
@@ -167,7 +167,7 @@ module _ (o : Opening) (words : List ℕ) (views : List Seen) (h : Keeps o words
       IsSafe o (slice_index words (at + HEADER_WORDS + 1))
   deref_safe at c can ne = let f = found at can.object can.header can.object_word can.names can.kind in (safe_as at f.parts f.fields ne).0
 
-  -- the word of the finaliser is the one that stands there
+  -- the word of the finaliser is the word there
   finaliser_is : (at : ℕ) (c : Command) (can : CanFinalise o p at c) → finaliser_named at p ≡ slice_index words (at + HEADER_WORDS + 2)
   finaliser_is at c can = let k : at + (HEADER_WORDS + 2) ≡ at + HEADER_WORDS + 2 = omega arith in
       cc (named_word o words views h id v here p is at (HEADER_WORDS + 2) can.finaliser.0 can.finaliser.1, k)

@@ -1,4 +1,4 @@
--- Steps that change one field of one node, or no node, whatever they owe.
+-- Steps that change one field of one node, or no node, with any words owed.
 use Rattle.nmgc_round.proofs.Vocabulary.{◌≡◌, inl, inr, ℕ, ◌+◌, ◌<◌, Bool, true, List, [], ◌∷◌, ◌++◌, set, refl, sym, ap, subst, ◌∙◌, Some, arith, slice_index, some, get_elem?, Name, Value, Node, Stack, Command, Reply, Get, Set, Fine, Given, MutatorState, World, node_of, state_of, IsSized, with_node, step, value_for, with_register, world_holding, owed_by, names_among, name_cases, HEADER_WORDS, State, names_of, node_cases, nodes_kept, header_of, slots_of, MayChange, Place, Means, HasSlots, Answer, Hand, Opening, Part, Seen, hand_now, leaves, doing, plain, word, finding, owed_word, answered, swapped, done_by, OwnSlots, Object, IsLater, IsObject, IsIn, RepresentsInRound, now, Answers, Owes, IsHand, Fits, Rests, Keeps, AddsCommand, IsMutator, CanGive, CanSwap, CanLoad, IsWritable, IsReadable}
 use Rattle.nmgc_round.proofs.{Standing.same_node, Standing.stands_field, Standing.stands_nodes, Nurseries.rests_field, Keeping.command_law, Moves.may_change, Moves.meant, Moves.operand_is, Moves.inside, Moves.same_opening, Moves.owes_nothing, Moves.finds_same, Moves.owes_old, Moves.register_hand, Moves.hand_kept, Moves.possible, Commands.step_set, Commands.owes_set, Commands.step_get, Commands.written, Commands.read, Frames.node_frame, Owners.stack_of, Owners.own_kept}
 
@@ -19,7 +19,7 @@ module _ (o : Opening) (words : List ℕ) (views : List Seen) (h : Keeps o words
   rests : Rests o h.born words p
   rests = ((h.agrees id v here).parts 0 p (ap (λ l. get_elem? l 0) is.alone)).2
 
-  -- a node that is another in this world, and what a step does to it
+  -- a node that is another in this world, and the effect of a step on it
   pub record Changes (x : Object) (hx : IsObject o h.born x) (i new : ℕ) (made : Node) (u : World) : Type 0 where
     pub within : i < (header_of x.node).fields
     pub may : MayChange (header_of x.node).kind i
@@ -70,7 +70,7 @@ module _ (o : Opening) (words : List ℕ) (views : List Seen) (h : Keeps o words
       (λ y c. inl c)
       (rw does own)
 
-  -- a command that changes no node, and owes something
+  -- a command that changes no node, and owes some words
   pub owing_law : (c : Command) (r : Reply) (a : Answer) (u : World) (found owed : List ℕ) → CanGive o p c → step W p.number c ≡ (u, r) →
       ((n : Name) → node_of u n ≡ node_of W n)
       → Answers P a r → IsHand o h.born u p.number (leaves (hand_now o p) c a)
@@ -93,7 +93,7 @@ module _ (o : Opening) (words : List ℕ) (views : List Seen) (h : Keeps o words
       (λ y c. inl c)
       (rw does (own_kept o h.born W u p.number (hand_now o p) (leaves (hand_now o p) c a) left (λ n size values e. sym (same n) ∙ e) fits.own))
 
-  -- the world in which one node is another
+  -- the world with another node of one name
   pub node_now : (x : Object) (hx : IsObject o h.born x) (made : Node) → (node_of (with_node W x.name made) x.name ≡ Some made) ×
       ((n : Name) → (n ≡ x.name → ⊥) → node_of (with_node W x.name made) n ≡ node_of W n)
   node_now x hx made =
@@ -107,7 +107,7 @@ module _ (o : Opening) (words : List ℕ) (views : List Seen) (h : Keeps o words
       let st = h.stands.objects x hx in
       elim (node_cases W x.name st.node st.node st.there n) [ inl k ↦ cc (k.1, st.there, k.0) | inr k ↦ k.1 ]
 
-  -- the own stacks, where one node changed that is none
+  -- the own stacks, when one node changed that is no stack
   pub own_same : (x : Object) (hx : IsObject o h.born x) (i new : ℕ) (made : Node) (u : World) (k : Hand) → Changes x hx i new made u →
       ((size : ℕ) (values : List Value) → (h.stands.objects x hx).node ≡ Stack size values → ⊥) → k.stacks ≡ (hand_now o p).stacks →
       OwnSlots o h.born u p.number k

@@ -1,4 +1,4 @@
--- The heap before any command: g stands in its own words, and there is no other object.
+-- The heap before any command: g lies in its own words, and there is no other object.
 use Rattle.std.specs.Prelude.{◌≡◌, ℕ, ◌+◌, ◌<◌, false, List, [], ◌∷◌, length, replicate, slice_index}
 use Rattle.nmgc_limits.specs.declared.mutators.TheConstants.{REGISTERS, SHARED_SLOTS}
 use Rattle.nmgc_world_spec.specs.{declared.value.Value.TheVariants.Nil, declared.node.Node.Node, declared.node.Node.TheVariants.Arr, World.new_world, Step.shared_name}
@@ -11,7 +11,8 @@ use Rattle.nmgc_round.specs.View.{Hand, Opening}
 abbrev pub empty_array : Node
 empty_array = Arr (replicate SHARED_SLOTS Nil)
 
--- the words of the heap of which nothing was made: g's header, name and slots, zeros beside g, and any words from the first segment on
+-- the words of the empty heap: g in its own words, 0 at address 0 and between g and the first segment, and no other object.
+-- From the first segment on there are any words
 pub record IsEmptyHeap (layout : Layout) (words : List ℕ) : Type 0 where
   pub total : length words ≡ word_total layout
   pub header : slice_index words SHARED_PLACE ≡ header_word (header_of empty_array)
@@ -19,11 +20,11 @@ pub record IsEmptyHeap (layout : Layout) (words : List ℕ) : Type 0 where
   pub slots : (i : ℕ) → i < SHARED_SLOTS → slice_index words (SHARED_PLACE + HEADER_WORDS + i) ≡ NIL_WORD
   pub zeros : HasZeros words
 
--- what a mutator has that did nothing
+-- the hand of a mutator that did nothing
 abbrev pub new_hand : Hand
 new_hand = record { registers = replicate REGISTERS NIL_WORD; queue = []; serial = 0; stacks = [] }
 
--- the opening of the first round of a run
+-- the opening of the first round of a run, on the empty heap
 abbrev pub first_opening : Layout → Opening
 first_opening layout = record {
   layout = layout;

@@ -1,4 +1,4 @@
--- What holds when a round is over: the rule, of the words and of the seat that has every part.
+-- The facts at the end of a round: the rule, of the words and of the seat that has every part.
 use Rattle.std.specs.Prelude.{◌≡◌, true, ℕ, ◌<◌, List, ◌∷◌, ◌++◌, map, length, Contains}
 use mathlib.Core.Option.{some}
 use lib.ListN.{get_elem?}
@@ -9,7 +9,7 @@ use Rattle.nmgc_heap_spec.specs.{Places.Place, Represents.Represents}
 use Rattle.nmgc_round.specs.{Events.Happening, Events.IsLegal, Events.done_by, Events.scans_in, View.Opening, View.Part, View.Seen, View.exclusive, Marking.marks_of, Marking.marks_after, Objects.Object, Objects.place_of, Objects.earlier, Objects.IsObject, Objects.IsIn, Objects.RepresentsInRound}
 use Rattle.nmgc_round.specs.Rule.{now, AllRead, Fits, Rests, IsOpening, ArePlaced, IsNew, IsQueued, AreKnown}
 
--- there is a list of events for which the words, the parts and the scans of this view stand
+-- a round that is over: the words, and the view of all seats given back, agree with one list of events
 pub record IsFinished (o : Opening) (words : List ℕ) (v : Seen) : Type 0 where
   pub is : IsOpening o
   pub placed : ArePlaced o
@@ -24,27 +24,28 @@ pub record IsFinished (o : Opening) (words : List ℕ) (v : Seen) : Type 0 where
   pub parts : (k : ℕ) (p : Part) → get_elem? v.parts k ≡ some p → Fits o born (now o events) (done_by p.number events) p × Rests o born words p
   pub scans : v.collects ≡ true → AllRead (IsIn o born) v.scans (scans_in events) × (marks_of (now o events) ≡ marks_after o v.scans)
 
--- the view has the part of every mutator
+-- a view with the part of every mutator
 abbrev pub HasEach : Opening → Seen → Type 0
 HasEach o v = (m : ℕ) → m < length o.core.world.mutators → (k : ℕ) × (p : Part) × (get_elem? v.parts k ≡ some p) × (p.number ≡ m)
 
--- the view has every part of its round
+-- a view with every part of its round
 abbrev pub HasAll : Seen → Type 0
 HasAll v = (v.collects ≡ true) × HasEach v.opening v
 
--- the round of the view v has ended, and w is the only seat's
+-- the round of the view v has ended, and w is the view of the only seat
 abbrev pub Ended : Seen → Seen → Type 0
 Ended v w = (w ≡ exclusive w.words) × IsFinished v.opening w.words v × (length w.words ≡ word_total v.opening.layout)
 
--- the places in use by then
+-- the addresses in use at the end of the round
 abbrev pub places_then : Opening → List Object → List Place
 places_then o born = o.places ++ map place_of born
 
--- the nodes with which the round knows its objects: the fields of them that never change still stand
+-- the nodes with which the round knows its objects: their fields that never change are still the same
 abbrev pub IsKeptThen : Opening → List Object → Name → Node → Type 0
 IsKeptThen o born name before = (x : Object) × IsObject o born x × (x.name ≡ name) × (before ≡ x.node)
 
--- what a round leaves to whoever knows this: there is one list of events for it, and the words represent the world after them
+-- the facts that a round leaves: there is one list of events for this view. The words represent the world after these events,
+-- with the addresses of the opening and of the new objects
 abbrev pub Leaves : Opening → List ℕ → Seen → Type 0
 Leaves o words v = (h : IsFinished o words v) × Represents o.layout (o.core.world ∷
     earlier o) (IsKeptThen o h.born) (places_then o h.born) (now o h.events).world words

@@ -18,7 +18,7 @@ pub mod Seating
 pub mod Stacks
 pub mod Starting
 pub mod Stop
-pub mod Told
+pub mod Known
 pub mod View
 pub mod Weaks
 pub mod laws

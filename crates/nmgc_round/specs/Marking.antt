@@ -1,4 +1,4 @@
--- The fold of the collector's scans: what is marked and queued, by the opening state and its places alone.
+-- The fold of the collector's scans: the marked names and the queue, by the opening state and its addresses alone.
 use Rattle.std.specs.Prelude.{ℕ, ◌+◌, ◌/◌, ◌%◌, ◌==◌, ◌&&◌, ◌||◌, not, nat_le, Bool, true, false, List, [], ◌∷◌, ◌++◌, zero, suc, Option, Some, None, is_some, if◌then◌else◌}
 use Rattle.nmgc_world_spec.specs.{declared.value.Name.Name, declared.node.Node.Node, declared.node.Node.TheVariants.Thunk, World.World, World.node_of}
 use Rattle.nmgc_snapshot_laws.specs.{declared.event.Entry.Entry, State.State, State.is_listed, State.entry_of, Scan.fields_of}
@@ -6,30 +6,30 @@ use Rattle.nmgc_object.specs.declared.size.TheConstants.{HEADER_WORDS}
 use Rattle.nmgc_heap_spec.specs.Places.{Place}
 use Rattle.nmgc_round.specs.View.{Scan, Opening}
 
--- the marked names and the queue
+-- the marks: the marked names and the queue
 pub record Marks : Type 0 where
   pub marked : List Name
   pub queue : List Entry
 
--- those of a state
+-- the marks of a state
 abbrev pub marks_of : State → Marks
 marks_of s = record { marked = s.marked; queue = s.queue }
 
--- the name of the place that begins here, if one does
+-- the name of the object that begins at an address, if there is one
 abbrev pub name_at : List Place → ℕ → Option Name
 name_at [] at = None
 name_at (p ∷ ps) at = if p.at == at then Some p.name else name_at ps at
 
--- the name that a word refers to, among these places: an unset field refers to none
+-- the name to which a word refers, among these addresses: an unset field refers to none
 abbrev pub name_meant : List Place → ℕ → Option Name
 name_meant places w = if w == 0 then None else (if w % 2 == 0 then name_at places (w / 2) else None)
 
--- the name that is read at a position: the header refers to none
+-- the name that a word read at a position refers to: the header refers to none
 abbrev pub name_read : List Place → ℕ → ℕ → Option Name
 name_read places zero w = None
 name_read places (suc i) w = name_meant places w
 
--- the name of the snapshot, unless it is marked, is marked and queued at the back
+-- the marks after a name was found: if it is an unmarked name of the snapshot, it is marked and queued at the back
 abbrev pub with_name : World → Marks → Option Name → Marks
 with_name snapshot m None = m
 with_name snapshot m (Some name) = if is_some (node_of snapshot name) && not (is_listed name m.marked) then record {
@@ -42,16 +42,16 @@ abbrev pub is_thunk : Node → Bool
 is_thunk (Thunk free result) = true
 is_thunk _ = false
 
--- nothing is left to read after this word: it was the last field, or a result that was set
+-- whether no position is left to read after this word: it was the last field, or a result that was set
 abbrev pub is_last_word : Node → ℕ → ℕ → Bool
 is_last_word node position w = nat_le (fields_of node) position || ((position == 1) && (is_thunk node && not (w == 0)))
 
--- the entry after this word, if a position is left; kind and number of fields are those of the node in the snapshot
+-- the entry after this word, if a position is left; kind and number of fields are from the node in the snapshot
 abbrev pub entry_past : Option Node → Entry → ℕ → List Entry
 entry_past None entry w = []
 entry_past (Some node) entry w = if is_last_word node entry.position w then [] else (record { name = entry.name; position = entry.position + 1 }) ∷ []
 
--- the first entry moves on
+-- the queue after a word of its first entry was read: the entry moves to its next position, or leaves the queue
 abbrev pub first_past : World → List Entry → ℕ → List Entry
 first_past snapshot [] w = []
 first_past snapshot (entry ∷ rest) w = entry_past (node_of snapshot entry.name) entry w ++ rest
@@ -67,11 +67,12 @@ abbrev pub folded : Opening → Marks → List Scan → Marks
 folded o m [] = m
 folded o m (s ∷ ss) = folded o (after_word o m s) ss
 
--- the marks of the opening, after scans
+-- the marks of a round: a fold of the scans over the opening alone. When a word that was read points to one of the opening's
+-- addresses, the name there is marked and queued, provided that it is an unmarked name of the snapshot
 abbrev pub marks_after : Opening → List Scan → Marks
 marks_after o ss = folded o (marks_of o.core) ss
 
--- where a position is among the words of its object
+-- the offset of a position among the words of its object
 abbrev pub offset_of : ℕ → ℕ
 offset_of zero = 0
 offset_of (suc i) = HEADER_WORDS + i

@@ -1,7 +1,7 @@
--- The objects of a round, and words that stand for a world while it runs.
+-- The objects of a round, and words that represent a world while it runs.
 --
--- An object is known by the node with which the round began or with which it was born. That node settles for
--- the whole round where its words end, and which of them never change.
+-- An object is known by its node when the round began or when it was allocated. That node determines for the whole round the
+-- end of its words, and the words that never change. So objects that are no longer tracked keep their extent.
 use Rattle.std.specs.Prelude.{◌≡◌, ◌⊎◌, ℕ, ◌+◌, ◌<◌, ◌≤◌, List, [], ◌∷◌, length, slice_index, Contains, true, Some, if◌then◌else◌}
 use mathlib.Core.Logic.{inl, inr}
 use Rattle.nmgc_world_spec.specs.{declared.value.Name.Name, declared.value.Value.Value, declared.node.Node.Node, declared.node.Node.TheVariants.Thunk, declared.node.Node.TheVariants.Weak, declared.node.Parts.Parts, World.World, World.node_of, World.IsSized, Wide.IsWide}
@@ -10,31 +10,32 @@ use Rattle.nmgc_object.specs.{Words.header_word, Words.IsHeader, Places.word_tot
 use Rattle.nmgc_heap_spec.specs.{Shape.header_of, Shape.size_of, Shape.slots_of, Shape.fixed_slots, Shape.free_slots, Tracked.IsTracked, Places.Place, Places.HasSlots, Places.LiesWell, Places.IsBetween, Places.HasZeros, Represents.IsNamed}
 use Rattle.nmgc_round.specs.View.{Opening}
 
--- an object: where it begins, its name, and the first node that the round knows of it
+-- an object of a round: its address, its name, and its first node: the node when the round began, if its name was tracked, or
+-- when it was allocated. The node determines the end of its words, and the words that never change
 pub record Object : Type 0 where
   pub at : ℕ
   pub name : Name
   pub node : Node
 
--- its place, without the node
+-- the object's address and name, without the node
 abbrev pub place_of : Object → Place
 place_of x = record { at = x.at; name = x.name }
 
--- where its words end
+-- the end of an object's words
 abbrev pub end_of : Object → ℕ
 end_of x = x.at + size_of x.node
 
--- the earlier worlds of which the collector still speaks
+-- the earlier worlds that matter to the collector: the snapshot, while marking
 abbrev pub earlier : Opening → List World
 earlier o = if o.marking then o.core.snapshot ∷ [] else []
 
--- an object that was there as the round began, and whose name was tracked
+-- an object that was there when the round began, and whose name was tracked
 pub record IsOld (o : Opening) (x : Object) : Type 0 where
   pub there : Contains o.places (place_of x)
   pub tracked : IsTracked o.core.world (earlier o) x.name
   pub node : node_of o.core.world x.name ≡ Some x.node
 
--- the objects of a round: those, and the ones born since
+-- the objects of a round: the tracked objects of its beginning, and the new objects
 abbrev pub IsObject : Opening → List Object → Object → Type 0
 IsObject o born x = IsOld o x ⊎ Contains born x
 
@@ -43,43 +44,43 @@ abbrev pub free_of : Node → List Value
 free_of (Thunk free result) = free
 free_of _ = []
 
--- the node of one object at two times: header and free variables are the same, a result stays, and an alive weak pointer was alive with the same parts
+-- a later node of one object: header and free variables stay, a result stays set, a weak pointer still alive has its old parts
 pub record IsLater (before later : Node) : Type 0 where
   pub header : header_of later ≡ header_of before
   pub free : free_of later ≡ free_of before
   pub result : has_result before ≡ true → has_result later ≡ true
   pub alive : (parts : Parts) → later ≡ Weak (Some parts) → before ≡ Weak (Some parts)
 
--- the place of one of these objects
+-- the address and name of an object of the round
 abbrev pub IsIn : Opening → List Object → Place → Type 0
 IsIn o born p = (node : Node) × IsObject o born (record { at = p.at; name = p.name; node = node })
 
--- a place in use: one of those of the opening, or where an object was born
+-- an address in use: an address of the opening, or of a new object
 abbrev pub IsPlace : Opening → List Object → Place → Type 0
 IsPlace o born p = Contains o.places p ⊎ ((x : Object) × Contains born x × (place_of x ≡ p))
 
--- the node that the object had in the snapshot, while marking
+-- the node of the object in the snapshot, while marking
 pub record IsSnapshot (o : Opening) (x : Object) (node : Node) : Type 0 where
   pub marking : o.marking ≡ true
   pub wide : IsWide o.core.snapshot x.name
   pub there : node_of o.core.snapshot x.name ≡ Some node
 
--- an earlier node of the object whose unchanging fields still stand: its first one, or the snapshot's
+-- an earlier node of the object whose unchanging fields are still the same: its first node, or the snapshot's
 abbrev pub IsEarlierNode : Opening → Object → Node → Type 0
 IsEarlierNode o x node = (node ≡ x.node) ⊎ IsSnapshot o x node
 
--- what of it still stands: of the first all fields that never change, of the snapshot's the free variables
+-- the fields of an earlier node that stay: of the first node all that never change, of the snapshot's the free variables
 abbrev pub KeepsOf : (o : Opening) (x : Object) (before : Node) → (Place → Type 0) → List ℕ → ℕ → IsEarlierNode o x before → Type 0
 KeepsOf o x before P words from (inl e) = HasSlots P words from (fixed_slots before)
 KeepsOf o x before P words from (inr s) = HasSlots P words from (free_slots before)
 
--- where the object lies: no other place is among its words
+-- an object that lies well (`LiesWell`), with no other address in use among its words
 pub record IsApart (o : Opening) (born : List Object) (x : Object) : Type 0 where
   pub valid : IsHeader (header_of x.node)
   pub lies : LiesWell o.layout (place_of x) (size_of x.node)
   pub alone : (q : Place) → IsPlace o born q → (q.at ≤ x.at) ⊎ (end_of x ≤ q.at)
 
--- the object stands in the words: its header, the fields that its node has now, and those that never change
+-- an object in the words: its header, the fields of its node now, and the fields that never change
 pub record IsStanding (o : Opening) (born : List Object) (w : World) (words : List ℕ) (x : Object) : Type 0 where
   pub header : slice_index words x.at ≡ header_word (header_of x.node)
   pub node : Node
@@ -89,7 +90,10 @@ pub record IsStanding (o : Opening) (born : List Object) (w : World) (words : Li
   pub fields : HasSlots (IsIn o born) words (x.at + HEADER_WORDS) (slots_of node)
   pub kept : (before : Node) (k : IsEarlierNode o x before) → IsLater before x.node × KeepsOf o x before (IsIn o born) words (x.at + HEADER_WORDS) k
 
--- words stand for a world in a round
+-- words that represent a world in a round. Each name in use has one address and each address one name, a valid name of the
+-- world. Each object lies well (`LiesWell`), apart from all other addresses. It has its header, the fields of its node now,
+-- and those fields of its first node that never change; while marking also the free variables of the snapshot's thunk. Word 0
+-- and the words between g and the first segment are 0
 pub record RepresentsInRound (o : Opening) (born : List Object) (w : World) (words : List ℕ) : Type 0 where
   pub total : length words ≡ word_total o.layout
   pub one : (p q : Place) → IsPlace o born p → IsPlace o born q → (p.name ≡ q.name) ⊎ (p.at ≡ q.at) → p ≡ q
@@ -98,7 +102,7 @@ pub record RepresentsInRound (o : Opening) (born : List Object) (w : World) (wor
   pub objects : (x : Object) → IsObject o born x → IsStanding o born w words x
   pub zeros : HasZeros words
 
--- the word is in no object, is neither the header nor the name of any place in use, and is not beside g
+-- a word that is in no object, is neither header nor name of any address in use, and is not beside g
 pub record IsFree (o : Opening) (born : List Object) (i : ℕ) : Type 0 where
   pub objects : (x : Object) → IsObject o born x → (i < x.at) ⊎ (end_of x ≤ i)
   pub places : (q : Place) → IsPlace o born q → (i < q.at) ⊎ (q.at + HEADER_WORDS ≤ i)

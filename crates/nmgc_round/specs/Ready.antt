@@ -1,22 +1,23 @@
--- When a step may be taken, by what its seat knows.
+-- When a step may be taken, by its seat's view. Its object is g, or a register has its address; for a load of its header or
+-- name the own finaliser queue will do. The header on which the answer depends was loaded, the command fits the layout, and
+-- word and field are the operands'.
 use Rattle.std.specs.Prelude.{◌≡◌, ◌≢◌, ℕ, ◌+◌, ◌-◌, ◌*◌, ◌<◌, ◌≤◌, ◌^◌, true, false, List, [], ◌∷◌, Contains, slice_get, Some}
 use Rattle.nmgc_world_spec.specs.{declared.node.Kind.Kind, declared.command.Operand.Operand, declared.command.Command.Command, declared.command.Command.TheVariants.Get, declared.command.Command.TheVariants.Set, Command.Fits, Command.IsMaking, Command.words_made, Step.shared_name}
 use Rattle.nmgc_world_spec.specs.declared.node.Kind.TheVariants as kind
 use Rattle.nmgc_object.specs.{Words.header_word, Words.name_word, Words.IsHeader, declared.words.Header.Header, declared.size.TheConstants.HEADER_WORDS, declared.size.TheConstants.NAME_OFFSET}
 use Rattle.nmgc_snapshot_laws.specs.{declared.event.Entry.Entry, State.entry_of}
-use Rattle.nmgc_round.specs.{Marking.marks_after, Marking.offset_of, Making.header_made, Making.fields_made, Rule.top_of, Rule.limit_of}
-use Rattle.nmgc_round.specs.View.{scanning, UnbornWord, Opening, Part, Seen, hand_now, word_of, next_of}
+use Rattle.nmgc_round.specs.{Marking.marks_after, Marking.offset_of, Making.header_made, Making.fields_made, Rule.top_of, Rule.limit_of, View.scanning, View.UnbornWord, View.Opening, View.Part, View.Seen, View.hand_now, View.word_of, View.next_of}
 
--- the seat is one mutator's
+-- a seat of one mutator
 pub record IsMutator (v : Seen) (p : Part) : Type 0 where
   pub alone : v.parts ≡ p ∷ []
   pub no_collector : v.collects ≡ false
 
--- the seat is that of the mutator of this number
+-- a seat of the mutator of this number
 abbrev pub HasPart : Seen → ℕ → Type 0
 HasPart v m = (p : Part) × IsMutator v p × (p.number ≡ m)
 
--- the mutator may give the command: a script for this layout may have it, and one more object has a serial
+-- a command that the mutator may give: a script for this layout may have it, and one more object has a serial
 pub record CanGive (o : Opening) (p : Part) (c : Command) : Type 0 where
   pub fits : Fits o.layout.words c
   pub serial : (hand_now o p).serial < 2 ^ 32 - 1
@@ -25,12 +26,12 @@ pub record CanGive (o : Opening) (p : Part) (c : Command) : Type 0 where
 abbrev pub operand_word : Opening → Part → Operand → ℕ
 operand_word o p operand = word_of (hand_now o p).registers operand
 
--- the seat names the header at a place
+-- the seat names the header at an address
 pub record Names (p : Part) (at : ℕ) (header : Header) : Type 0 where
   pub valid : IsHeader header
   pub there : Contains p.fixed (record { at = at; offset = 0; word = header_word header })
 
--- fields that `set` writes, and that `get` reads
+-- kinds with fields that `set` writes, and that `get` reads
 abbrev pub IsWritable : Kind → Type 0
 IsWritable kind.Var = Unit {0}
 IsWritable kind.Arr = Unit {0}
@@ -42,7 +43,7 @@ IsReadable kind.Var = Unit {0}
 IsReadable kind.Arr = Unit {0}
 IsReadable _ = ⊥
 
--- `set` of this field by this word
+-- a mutator that may do this `set` of a field to this word
 pub record CanSwap (o : Opening) (p : Part) (at index w : ℕ) (c : Command) : Type 0 where
   pub gives : CanGive o p c
   pub object : Operand
@@ -55,7 +56,7 @@ pub record CanSwap (o : Opening) (p : Part) (at index w : ℕ) (c : Command) : T
   pub kind : IsWritable header.kind
   pub within : index < header.fields
 
--- `get` of this field
+-- a mutator that may do this `get` of a field
 pub record CanLoad (o : Opening) (p : Part) (at index : ℕ) (c : Command) : Type 0 where
   pub gives : CanGive o p c
   pub dest : ℕ
@@ -67,13 +68,13 @@ pub record CanLoad (o : Opening) (p : Part) (at index : ℕ) (c : Command) : Typ
   pub kind : IsReadable header.kind
   pub within : index < header.fields
 
--- the word lies in the rest of the own nursery, and was not stored yet
+-- a word in the rest of the own nursery that was not stored yet
 pub record CanStore (o : Opening) (p : Part) (at : ℕ) : Type 0 where
   pub from : top_of o p ≤ at
   pub to : at < limit_of o p.number
   pub fresh : (u : UnbornWord) → Contains p.unborn u → u.at ≢ at
 
--- the name and the fields of the new object were stored where it is to begin
+-- a new object whose name and fields were stored at its address, before its header
 pub record CanBear (o : Opening) (p : Part) (at header : ℕ) (c : Command) : Type 0 where
   pub gives : CanGive o p c
   pub makes : IsMaking c
@@ -83,11 +84,11 @@ pub record CanBear (o : Opening) (p : Part) (at header : ℕ) (c : Command) : Ty
   pub name : Contains p.unborn (record { at = at + NAME_OFFSET; word = name_word (next_of o p) })
   pub fields : (i w : ℕ) → slice_get (fields_made (hand_now o p).registers c) i ≡ Some w → Contains p.unborn (record { at = at + HEADER_WORDS + i; word = w })
 
--- the seat is one mutator's, and its part has this
+-- a seat of one mutator that has this property
 abbrev pub Mutates : (Opening → Part → Type 0) → Seen → Type 0
 Mutates R v = (p : Part) × IsMutator v p × R v.opening p
 
--- the first queue entry is the object at this place, and the word is its next position
+-- a collector whose next scan is at this address and offset: the first queue entry's object, and the entry's next position
 pub record CanScan (v : Seen) (at offset : ℕ) : Type 0 where
   pub collects : v.collects ≡ true
   pub entry : Entry

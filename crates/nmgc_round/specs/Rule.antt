@@ -1,4 +1,4 @@
--- The rule of the table: it is stopped, or there is a list of events of a round for which the words and all views stand.
+-- The rule of the table: it is stopped, or there is a list of events of a round with which the words and all views agree.
 use Rattle.std.specs.Prelude.{◌≡◌, ◌⊎◌, ℕ, ◌+◌, ◌<◌, ◌≤◌, Bool, true, false, List, [], ◌∷◌, length, slice_index, Contains, Option, Some, None, IsSome}
 use mathlib.Core.Option.{some}
 use lib.ListN.{get_elem?}
@@ -6,33 +6,32 @@ use Rattle.nmgc_world_spec.specs.{declared.value.Name.Name, declared.value.Value
 use Rattle.nmgc_object.specs.{Places.IsLayout, Places.nursery_place, declared.layout.TheConstants.SHARED_PLACE, declared.size.TheConstants.HEADER_WORDS}
 use Rattle.nmgc_snapshot_laws.specs.{declared.event.Entry.Entry, State.State, State.names_of, Scan.fields_of}
 use Rattle.nmgc_heap_spec.specs.{Shape.header_of, Shape.size_of, Shape.MayChange, Places.Place, Places.Means, Places.ListMeans, Tracked.IsTracked}
-use Rattle.nmgc_round.specs.{Events.Happening, Events.replay, Events.IsLegal, Events.done_by, Events.scans_in, Marking.marks_of, Marking.marks_after, Own.OwnSlots}
+use Rattle.nmgc_round.specs.{Events.Happening, Events.replay, Events.IsLegal, Events.done_by, Events.scans_in, Marking.marks_of, Marking.marks_after, Own.OwnSlots, Objects.Object, Objects.end_of, Objects.earlier, Objects.IsOld, Objects.IsLater, Objects.IsObject, Objects.IsIn, Objects.RepresentsInRound}
 use Rattle.nmgc_round.specs.View.{Answer, plain, word, DoneRow, Hand, FixedWord, UnbornWord, Scan, Opening, Part, Seen, exclusive, hand_now}
 use Rattle.nmgc_world_laws.specs.Holds.{has_result}
-use Rattle.nmgc_round.specs.Objects.{Object, end_of, earlier, IsOld, IsLater, IsObject, IsIn, RepresentsInRound}
 
 -- the state after events
 abbrev pub now : Opening → List Happening → State
 now o es = replay o.core es
 
--- what an answer means
+-- the reply that an answer represents
 abbrev pub Answers : (Place → Type 0) → Answer → Reply → Type 0
 Answers P (plain r) reply = r ≡ reply
 Answers P (word w) reply = (v : Value) × (Given v ≡ reply) × Means P w v
 
--- rows say what happened, one by one
+-- rows that agree with the events, one by one
 abbrev pub AllAnswer : (Place → Type 0) → List DoneRow → List (Command × Reply) → Type 0
 AllAnswer P [] [] = Unit {0}
 AllAnswer P [] (x ∷ xs) = ⊥
 AllAnswer P (r ∷ rs) [] = ⊥
 AllAnswer P (r ∷ rs) (x ∷ xs) = ((r.command ≡ x.0) × Answers P r.answer x.1) × AllAnswer P rs xs
 
--- a word that was read at a position: the header has no value, and an unset field none
+-- a word that was read at a position: the header has no value, and neither has an unset field
 abbrev pub IsRead : (Place → Type 0) → ℕ → Option Value → Type 0
 IsRead P w None = Unit {0}
 IsRead P w (Some v) = Means P w v
 
--- scans say what was read, one by one: position 0 is the header, and an unset field has no value
+-- scans that agree with the values read, one by one: position 0 is the header, and an unset field has no value
 abbrev pub AllRead : (Place → Type 0) → List Scan → List (Entry × Option Value) → Type 0
 AllRead P [] [] = Unit {0}
 AllRead P [] (x ∷ xs) = ⊥
@@ -43,19 +42,20 @@ AllRead P (s ∷ ss) (x ∷ xs) = ((s.entry ≡ x.0) × IsRead P s.word x.1 × (
 abbrev pub AreOwed : (Place → Type 0) → List ℕ → List Name → Type 0
 AreOwed P ws names = (values : List Value) × ListMeans P ws values × (names_among values ≡ names)
 
--- what a seat owes: while marking what the core machine says, and else nothing
+-- the words that a seat owes: while marking words of the names of the marking machine, and else none
 abbrev pub Owes : Bool → (Place → Type 0) → List ℕ → List Name → Type 0
 Owes true P ws names = AreOwed P ws names
 Owes false P ws names = ws ≡ []
 
--- what a mutator has in the world is what its rows leave
+-- a hand that agrees with a mutator's state in the world: the hand that the mutator's rows leave
 pub record IsHand (o : Opening) (born : List Object) (w : World) (m : ℕ) (h : Hand) : Type 0 where
   pub registers : ListMeans (IsIn o born) h.registers (state_of w m).registers
   pub queue : ListMeans (IsIn o born) h.queue (state_of w m).queue
   pub serial : h.serial ≡ serial_of w m
 
--- a part agrees with the state and with what its mutator did; what its steps found refers to what the core machine
--- lists as owed, marking or not; it lists all own stacks
+-- a part agrees with the events. Its rows are its mutator's commands with their replies. Registers, queue, serial and own
+-- stacks agree with the world. The words that its steps found represent values with the references that the marking machine
+-- lists as owed. While marking it owes the same, else nothing
 pub record Fits (o : Opening) (born : List Object) (s : State) (done : List (Command × Reply)) (p : Part) : Type 0 where
   pub exists : p.number < length s.world.mutators
   pub owing : p.number < length s.owed
@@ -65,7 +65,7 @@ pub record Fits (o : Opening) (born : List Object) (s : State) (done : List (Com
   pub owed : Owes o.marking (IsIn o born) p.owed (names_of s.owed p.number)
   pub own : OwnSlots o born s.world p.number (hand_now o p)
 
--- a mutator's nursery, and the first word of it that no object has
+-- a mutator's nursery, and its first word that is in no object
 abbrev pub base_of : Opening → ℕ → ℕ
 base_of o m = nursery_place o.layout m
 
@@ -75,7 +75,7 @@ limit_of o m = nursery_place o.layout m + o.layout.nursery
 abbrev pub top_of : Opening → Part → ℕ
 top_of o p = base_of o p.number + p.used
 
--- the word never changes in a round: header, name, or a field that may not
+-- a word that never changes in a round: a header, a name, or a field that may not change
 pub record IsFixed (o : Opening) (born : List Object) (at offset : ℕ) : Type 0 where
   pub object : Object
   pub here : IsObject o born object
@@ -83,7 +83,7 @@ pub record IsFixed (o : Opening) (born : List Object) (at offset : ℕ) : Type 0
   pub within : offset < size_of object.node
   pub fixed : (i : ℕ) → offset ≡ HEADER_WORDS + i → MayChange (header_of object.node).kind i → ⊥
 
--- a part agrees with the words: its nursery's objects end where the rest begins, and the words that it names stand as they were stored or loaded
+-- a part agrees with the words: its nursery's rest is in no object, and the words that it names are as stored or loaded
 pub record Rests (o : Opening) (born : List Object) (words : List ℕ) (p : Part) : Type 0 where
   pub exists : p.number < o.layout.mutators
   pub room : top_of o p ≤ limit_of o p.number
@@ -91,27 +91,27 @@ pub record Rests (o : Opening) (born : List Object) (words : List ℕ) (p : Part
   pub unborn : (u : UnbornWord) → Contains p.unborn u → (slice_index words u.at ≡ u.word) × (top_of o p ≤ u.at) × (u.at < limit_of o p.number)
   pub fixed : (f : FixedWord) → Contains p.fixed f → IsFixed o born f.at f.offset × (slice_index words (f.at + f.offset) ≡ f.word)
 
--- the seat has a part in the round
+-- a seat with a part in the round
 abbrev pub IsActive : Seen → Type 0
 IsActive v = ((k : ℕ) × (p : Part) × (get_elem? v.parts k ≡ some p)) ⊎ (v.collects ≡ true)
 
--- the seat has no part in a round, and is not the only one
+-- a seat without a part in a round, which is not the only seat. So no flag says that a seat is spent
 abbrev pub IsIdle : Seen → Type 0
 IsIdle v = (v.is_sole ≡ false) × (v.parts ≡ []) × (v.collects ≡ false)
 
--- what one view says is so; each mutator's part is with one seat, and the scans are with one
+-- a view that agrees with the events and words; each mutator's part is at one seat, and the scans are at one
 pub record Agrees (o : Opening) (born : List Object) (words : List ℕ) (es : List Happening) (owner : ℕ → ℕ) (scanner : ℕ) (id : ℕ) (v : Seen) : Type 0 where
   pub shares : v.is_sole ≡ false
   pub opening : IsActive v → v.opening ≡ o
   pub parts : (k : ℕ) (p : Part) → get_elem? v.parts k ≡ some p → (owner p.number ≡ id) × Fits o born (now o es) (done_by p.number es) p × Rests o born words p
   pub scans : v.collects ≡ true → (scanner ≡ id) × AllRead (IsIn o born) v.scans (scans_in es) × (marks_of (now o es) ≡ marks_after o v.scans)
 
--- every name that was tracked as the round began has a place
+-- every name that was tracked when the round began has an address
 abbrev pub ArePlaced : Opening → Type 0
 ArePlaced o = (name : Name) (node : Node) → IsTracked o.core.world (earlier o) name → node_of o.core.world name ≡ Some node → (at : ℕ) ×
     Contains o.places (record { at = at; name = name })
 
--- an object born in the round: its name is new, and it lies in its maker's nursery
+-- an object allocated in the round: its name is new, and it lies in its maker's nursery
 pub record IsNew (o : Opening) (x : Object) : Type 0 where
   pub unknown : node_of o.core.world x.name ≡ None
   pub no_snapshot : node_of o.core.snapshot x.name ≡ None
@@ -119,7 +119,7 @@ pub record IsNew (o : Opening) (x : Object) : Type 0 where
   pub from : base_of o x.name.maker ≤ x.at
   pub to : end_of x ≤ limit_of o x.name.maker
 
--- what holds of an opening whatever happens
+-- the facts of an opening that no step changes
 pub record IsOpening (o : Opening) : Type 0 where
   pub layout : IsLayout o.layout
   pub not_closed : o.core.is_closed ≡ false
@@ -129,7 +129,7 @@ pub record IsOpening (o : Opening) : Type 0 where
   pub wide : o.marking ≡ true → (x : Object) → IsOld o x → IsSome (node_of o.core.snapshot x.name) → IsWide o.core.snapshot x.name
   pub in_segments : (p : Place) → Contains o.places p → (m : ℕ) → m < o.layout.mutators → (p.at < base_of o m) ⊎ (limit_of o m ≤ p.at)
 
--- a queued name has its object, and a node in the snapshot; its next position is one that the node has, and past a thunk's result only where there was none
+-- a queue entry: its name has its object, and a node in the snapshot with this position, past a result only if none was set
 pub record IsQueued (o : Opening) (entry : Entry) : Type 0 where
   pub marking : o.marking ≡ true
   pub object : Object
@@ -140,12 +140,13 @@ pub record IsQueued (o : Opening) (entry : Entry) : Type 0 where
   pub within : entry.position ≤ fields_of node
   pub passed : 2 ≤ entry.position → has_result node ≡ false
 
--- every node of the world is a later one of a node that was there as the round began, or that of an object born since
+-- every node of the world is a later node of one that was there when the round began, or the node of a new object
 abbrev pub AreKnown : Opening → List Object → World → Type 0
 AreKnown o born w = (name : Name) (node : Node) → node_of w name ≡ Some node →
     ((before : Node) × (node_of o.core.world name ≡ Some before) × IsLater before node) ⊎ ((x : Object) × Contains born x × (x.name ≡ name))
 
--- the rule of a round with this opening
+-- the rule of a round: there are events, legal from the opening, and new objects, which the words represent. Each part is at
+-- one seat and agrees. The scans are at one seat and are the scans of the events, and the marks are the fold of the scans
 pub record Keeps (o : Opening) (words : List ℕ) (views : List Seen) : Type 0 where
   pub is : IsOpening o
   pub placed : ArePlaced o
@@ -161,11 +162,11 @@ pub record Keeps (o : Opening) (words : List ℕ) (views : List Seen) : Type 0 w
   pub queued : (entry : Entry) → Contains (now o events).queue entry → IsQueued o entry
   pub agrees : (id : ℕ) (v : Seen) → get_elem? views id ≡ some v → Agrees o born words events owner scanner id v
 
--- between rounds one seat knows the words, and the others have no part
+-- the table is stopped: one seat knows the words, and no other seat has a part
 pub record Stopped (words : List ℕ) (views : List Seen) : Type 0 where
   pub holder : ℕ
   pub each : (id : ℕ) (v : Seen) → get_elem? views id ≡ some v → ((id ≡ holder) × (v ≡ exclusive words)) ⊎ IsIdle v
 
--- the rule of the table: it is stopped, or in a round with some opening
+-- the rule of the table: it is stopped, or in a round with some opening, by the rule of a round
 abbrev pub Holding : List ℕ → List Seen → Type 0
 Holding words views = Stopped words views ⊎ ((o : Opening) × Keeps o words views)

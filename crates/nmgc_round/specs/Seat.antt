@@ -7,22 +7,22 @@ use Rattle.nmgc_round.specs.{declared.table.Round.Round, View.Opening, View.Seen
 abbrev pub RoundSeat : Type 0
 RoundSeat = Seat (Unit {0}) Seen
 
--- what the seat knows
+-- the view of a seat
 abbrev pub seen : Seat (Unit {0}) Seen → Seen
 seen seat = seat.me.0
 
--- how the round began
+-- the opening of a round
 abbrev pub opening_of : Round → Opening
 opening_of round = round.opening.value
 
--- the seat is one of this round
+-- a seat of this round
 abbrev pub IsAt : Round → Seat (Unit {0}) Seen → Type 0
 IsAt round seat = (seat.table_id ≡ round.table.shared.table_id) × (seat.me.1 ≡ []) × ((seen seat).opening ≡ opening_of round)
 
--- it is the same seat, and knows this
+-- the same seat, with this view
 abbrev pub Knows : Round → Seat (Unit {0}) Seen → Seat (Unit {0}) Seen → Seen → Type 0
 Knows round old new v = IsAt round new × (new.id ≡ old.id) × (seen new ≡ v)
 
--- how many words the round has
+-- the number of words of a round
 abbrev pub word_count : Round → ℕ
 word_count round = round.table.shared.table_id.words

@@ -1,18 +1,19 @@
--- When a round may start: the words represent the world, and what is outside them stands for it.
+-- When a round may start: the words represent the world, and so does the state outside them.
 use Rattle.std.specs.Prelude.{◌≡◌, ℕ, ◌<◌, false, List, [], length, Contains, Some}
 use Rattle.nmgc_world_spec.specs.{declared.node.Node.Node, World.IsWorld, World.state_of, World.node_of, World.serial_of}
 use Rattle.nmgc_snapshot_laws.specs.{declared.event.Entry.Entry, State.names_of, State.unmarked}
 use Rattle.nmgc_heap_spec.specs.{Places.ListMeans, Represents.Represents, Represents.NoNode}
 use Rattle.nmgc_round.specs.{View.Hand, View.Opening, View.hand_of, Objects.Object, Objects.IsLater, Objects.IsSnapshot, Objects.earlier, Own.old_stacks, Rule.IsOpening, Rule.IsQueued}
 
--- what a mutator has stands for what it has in the world, and lists the stacks there that it made
+-- a hand that represents a mutator's state in the world, and lists the words of each stack there that it made
 pub record HandStands (o : Opening) (m : ℕ) (h : Hand) : Type 0 where
   pub registers : ListMeans (Contains o.places) h.registers (state_of o.core.world m).registers
   pub queue : ListMeans (Contains o.places) h.queue (state_of o.core.world m).queue
   pub serial : h.serial ≡ serial_of o.core.world m
   pub stacks : h.stacks ≡ old_stacks o.places o.core.world m
 
--- a round may start with these words; where it isn't marking, the state is that of the world alone
+-- a round may start: the words represent the opening's world, with each mutator's registers, queue and serial. Nothing is
+-- owed. Outside marking the state is a bare world's. While marking, queued names have objects, and snapshot nodes are earlier
 pub record CanOpen (o : Opening) (words : List ℕ) : Type 0 where
   pub is : IsOpening o
   pub world : IsWorld o.core.world

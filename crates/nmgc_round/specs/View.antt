@@ -1,7 +1,7 @@
--- What seats know: the state with which the round began, the rows of their mutators, and the collector's scans.
+-- The views of seats: the state when the round began, the rows of their mutators, and the collector's scans.
 --
--- A row holds its answer as a word. What object a pointer in it means is told by the fixed words, once the
--- seat has loaded the name there, or gave birth there; so a row never changes once it stands.
+-- A row has its answer as a word. The object of a pointer in it is known by the fixed words, once the seat has loaded the
+-- name there or allocated the object; so a row never changes.
 use Rattle.std.specs.Prelude.{ℕ, suc, ◌+◌, ◌*◌, ◌-◌, ◌/◌, ◌==◌, List, [], ◌∷◌, ◌++◌, map, drop, take, length, slice_index_or, slice_set, Bool, true, false, if◌then◌else◌}
 use Rattle.nmgc_world_spec.specs.{declared.command.Operand.Operand, declared.command.Operand.TheVariants.Register, declared.command.Operand.TheVariants.Shared, declared.command.Command.Command, declared.command.Reply.Reply, declared.command.Reply.TheVariants.Fine, declared.value.Name.Name, Command.words_made, World.new_world}
 use Rattle.nmgc_world_spec.specs.declared.command.Command.TheVariants.{Num, Nil, Mov, Con, Var, Arr, Thunk, Weak, Stack, Get, Set, Cas, Update, Force, Push, Pop, Deref, Finalise, NextFin, Show, Same, Yield, Collect, Full}
@@ -14,7 +14,8 @@ pub data Answer : Type 0 where
   plain : Reply → Answer
   word : ℕ → Answer
 
--- a command that a mutator did, with its answer
+-- a row: a command that a mutator did, with its answer: a reply that gives no value, or the word of the value given. It never
+-- changes. The object of a pointer in it is known by the name word that the seat loaded at its address
 pub record DoneRow : Type 0 where
   pub command : Command
   pub answer : Answer
@@ -24,7 +25,7 @@ pub record Slots : Type 0 where
   pub at : ℕ
   pub words : List ℕ
 
--- what a mutator has outside the heap: registers and finaliser queue as words, the next serial, and the values of its own stacks
+-- the state of a mutator outside the words: registers and finaliser queue as words, next serial, and the values of own stacks
 pub record Hand : Type 0 where
   pub registers : List ℕ
   pub queue : List ℕ
@@ -37,7 +38,7 @@ pub record FixedWord : Type 0 where
   pub offset : ℕ
   pub word : ℕ
 
--- a word that was stored where no object is yet
+-- a word that was stored at an address that is in no object yet
 pub record UnbornWord : Type 0 where
   pub at : ℕ
   pub word : ℕ
@@ -47,7 +48,8 @@ pub record Scan : Type 0 where
   pub entry : Entry
   pub word : ℕ
 
--- how a round began: the core machine's state, which outside marking is that of a world alone, all places in use, and what each mutator had
+-- the beginning of a round: the layout, whether a cycle is marking, the state of the marking machine (outside marking a bare
+-- world's), all addresses in use, and the hand of each mutator
 pub record Opening : Type 0 where
   pub layout : Layout
   pub marking : Bool
@@ -55,7 +57,8 @@ pub record Opening : Type 0 where
   pub places : List Place
   pub hands : List Hand
 
--- one mutator's part of a view: how many words of its nursery are objects, the words of which its steps found that they are owed while marking, and those that it owes
+-- one mutator's part of a view: its rows, the words that its steps found to be owed while marking, and the words that it
+-- owes. Then the number of its nursery's words in objects, stored words in no object yet, and loaded words that never change
 pub record Part : Type 0 where
   pub number : ℕ
   pub rows : List DoneRow
@@ -65,7 +68,8 @@ pub record Part : Type 0 where
   pub unborn : List UnbornWord
   pub fixed : List FixedWord
 
--- what a seat knows: all words, where it is the only one at a stop, or its part in a round
+-- the view of a seat: for the only seat at a stop all words. In a round it has the opening, the parts of its mutators, and
+-- the scans, if it has the collector's part
 pub record Seen : Type 0 where
   pub is_sole : Bool
   pub words : List ℕ
@@ -74,7 +78,7 @@ pub record Seen : Type 0 where
   pub collects : Bool
   pub scans : List Scan
 
--- the hand of a mutator that isn't there
+-- the empty hand, for a number that no mutator has
 abbrev pub no_hand : Hand
 no_hand = record { registers = []; queue = []; serial = 0; stacks = [] }
 
@@ -87,39 +91,39 @@ abbrev pub word_of : List ℕ → Operand → ℕ
 word_of registers (Register r) = slice_index_or registers r NIL_WORD
 word_of registers Shared = 2 * SHARED_PLACE
 
--- a register takes a word
+-- a hand with another word in a register
 abbrev pub holding : Hand → ℕ → ℕ → Hand
 holding h register w = record h { registers = slice_set h.registers register w }
 
--- a register takes the word that was given, if one was
+-- a hand whose register takes the word that was given, if one was
 abbrev pub taking : Hand → ℕ → Answer → Hand
 taking h register (plain r) = h
 taking h register (word w) = holding h register w
 
--- an object more
+-- a hand after the allocation of an object
 abbrev pub bearing : Hand → ℕ → Answer → Hand
 bearing h register a = taking (record h { serial = h.serial + 1 }) register a
 
--- a stack more
+-- a hand with one more stack
 abbrev pub stacking : Hand → Answer → Hand
 stacking h (plain r) = h
 stacking h (word w) = record h { stacks = record { at = w / 2; words = [] } ∷ h.stacks }
 
--- the stack at a place has other values
+-- stacks with other values in the stack at an address
 abbrev pub with_slots : List Slots → ℕ → (List ℕ → List ℕ) → List Slots
 with_slots stacks at change = map (λ (s : Slots). if s.at == at then record s { words = change s.words } else s) stacks
 
--- a value more on an own stack, if it went there
+-- a hand with one more value on an own stack, if the push succeeded
 abbrev pub pushed : Hand → ℕ → ℕ → Answer → Hand
 pushed h object w (plain Fine) = record h { stacks = with_slots h.stacks (object / 2) (λ ws. ws ++ w ∷ []) }
 pushed h object w a = h
 
--- a value less on it, if one was taken off
+-- a hand with one value less on an own stack, if the pop succeeded
 abbrev pub popped : Hand → ℕ → Answer → Hand
 popped h object (plain r) = h
 popped h object (word w) = record h { stacks = with_slots h.stacks (object / 2) (λ ws. take (length ws - 1) ws) }
 
--- what a row leaves its mutator
+-- the hand that a row leaves its mutator: registers, queue, next serial and stacks, by the row alone
 abbrev pub leaves : Hand → Command → Answer → Hand
 leaves h (Num dest n) a = holding h dest (2 * n + ZERO_WORD)
 leaves h (Nil dest) a = holding h dest NIL_WORD
@@ -146,16 +150,16 @@ leaves h Yield a = h
 leaves h Collect a = h
 leaves h Full a = h
 
--- what rows leave it, one after the other
+-- the hand that rows leave, in order
 abbrev pub rows_leave : Hand → List DoneRow → Hand
 rows_leave h [] = h
 rows_leave h (r ∷ rs) = rows_leave (leaves h r.command r.answer) rs
 
--- what the mutator of a part has
+-- the hand of a part's mutator now
 abbrev pub hand_now : Opening → Part → Hand
 hand_now o p = rows_leave (hand_of o.hands p.number) p.rows
 
--- a part with one row more, and what it owes
+-- a part with one more row, and the words that it owes
 abbrev pub doing : Part → Command → Answer → List ℕ → Part
 doing p c a owed = record p { rows = p.rows ++ record { command = c; answer = a } ∷ []; owed = p.owed ++ owed }
 
@@ -163,11 +167,11 @@ doing p c a owed = record p { rows = p.rows ++ record { command = c; answer = a 
 abbrev pub knowing : Part → ℕ → ℕ → ℕ → Part
 knowing p at offset w = record p { fixed = record { at = at; offset = offset; word = w } ∷ p.fixed }
 
--- a part that names one more word where no object is yet
+-- a part that names one more word in no object yet
 abbrev pub storing : Part → ℕ → ℕ → Part
 storing p at w = record p { unborn = record { at = at; word = w } ∷ p.unborn }
 
--- a part whose unborn words are an object's, of which it knows header and name
+-- a part whose unborn words are now in an object: it knows the object's header and name
 abbrev pub bearing_object : Part → ℕ → ℕ → ℕ → ℕ → Part
 bearing_object p at size header name = record p {
   used = p.used + size;
@@ -175,12 +179,12 @@ bearing_object p at size header name = record p {
   fixed = record { at = at; offset = 0; word = header } ∷ record { at = at; offset = 1; word = name } ∷ p.fixed;
 }
 
--- the parts, of which the first is another
+-- parts with another first part
 abbrev pub first_changed : (Part → Part) → List Part → List Part
 first_changed f [] = []
 first_changed f (p ∷ ps) = f p ∷ ps
 
--- the view whose mutator's part is another
+-- a view with another part of its mutator
 abbrev pub changing : (Part → Part) → Seen → Seen
 changing f v = record v { parts = first_changed f v.parts }
 
@@ -188,11 +192,11 @@ changing f v = record v { parts = first_changed f v.parts }
 abbrev pub loaded : Seen → ℕ → ℕ → ℕ → Seen
 loaded v at offset w = changing (λ p. knowing p at offset w) v
 
--- the view after a store where no object is yet
+-- the view after a store into a word in no object yet
 abbrev pub stored : Seen → ℕ → ℕ → Seen
 stored v at w = changing (λ p. storing p at w) v
 
--- the view after a load where no object is yet: it names the word that was to be stored there, if that is the one found
+-- the view after a load of a word in no object yet: it is named, as after a store, exactly if it is the word to be stored
 abbrev pub met : Seen → ℕ → ℕ → Bool → Seen
 met v at w true = stored v at w
 met v at w false = v
@@ -201,7 +205,7 @@ met v at w false = v
 abbrev pub answered : Seen → Command → Answer → Seen
 answered v c a = changing (λ p. doing p c a []) v
 
--- a word that is owed while marking
+-- the words that are owed for one word: this word while marking, and otherwise none
 abbrev pub owed_word : Bool → ℕ → List ℕ
 owed_word true w = w ∷ []
 owed_word false w = []
@@ -214,15 +218,15 @@ finding p w = record p { found = p.found ++ w ∷ [] }
 abbrev pub swapped : Seen → Command → ℕ → Seen
 swapped v c old = changing (λ p. doing (finding p old) c (plain Fine) (owed_word v.opening.marking old)) v
 
--- the name that a mutator gives next
+-- the name of a mutator's next object
 abbrev pub next_of : Opening → Part → Name
 next_of o p = record { maker = p.number; serial = (hand_now o p).serial }
 
--- the view after a birth at a place
+-- the view after an allocation at an address
 abbrev pub gave_birth : Seen → ℕ → ℕ → Command → Seen
 gave_birth v at header c = changing (λ p. doing (bearing_object p at (words_made c) header (name_word (next_of v.opening p))) c (word (2 * at)) []) v
 
--- the view after a load at the place of a birth: it is that after the birth, if the header is the one found
+-- the view after a look at a new object's header: if the header is already there, the view after the allocation
 abbrev pub met_at_birth : Seen → ℕ → ℕ → Command → Bool → Seen
 met_at_birth v at header c true = gave_birth v at header c
 met_at_birth v at header c false = v
@@ -241,15 +245,15 @@ no_opening = record {
   hands = [];
 }
 
--- a seat that was joined away: it knows nothing
+-- the view of a seat that was joined to another: it knows nothing
 abbrev pub nobody : Seen
 nobody = record { is_sole = false; words = []; opening = no_opening; parts = []; collects = false; scans = [] }
 
--- the only seat, which knows the words
+-- the view of the only seat, which knows the words
 abbrev pub exclusive : List ℕ → Seen
 exclusive ws = record { is_sole = true; words = ws; opening = no_opening; parts = []; collects = false; scans = [] }
 
--- the part of a mutator that did nothing yet
+-- the part of a mutator that has done nothing yet
 abbrev pub blank : ℕ → Part
 blank m = record { number = m; rows = []; found = []; owed = []; used = 0; unborn = []; fixed = [] }
 
@@ -258,6 +262,6 @@ abbrev pub blanks : ℕ → List Hand → List Part
 blanks m [] = []
 blanks m (h ∷ hs) = blank m ∷ blanks (suc m) hs
 
--- the first seat has every part
+-- the view of the first seat, which has every part
 abbrev pub whole : Opening → Seen
 whole o = record { is_sole = false; words = []; opening = o; parts = blanks 0 o.hands; collects = true; scans = [] }

@@ -1,7 +1,7 @@
-//! Compare-exchange of a field: the step at which `cas` takes its place.
+//! Compare-exchange of a field: the step that is the position of `cas` in the order.
 //!
-//! It is one step, whether it writes or not: no other step comes between its look at the word and its write.
-//! Where it writes it is a swap, so while marking it owes the word that it took out.
+//! It is one step, whether it writes or not: no other step comes between its look at the word and its write. If it writes it
+//! is a swap, so while marking it owes the word that it took out.
 ghost use Rattle.std.specs.Prelude.{◌≡◌, ◌+◌, ◌<◌, ◌==◌, []};
 ghost use Rattle.nmgc_object.specs.declared.size.TheConstants.{HEADER_WORDS};
 ghost use Rattle.nmgc_round.specs.{Ready.Mutates, Compare.CanExchange, Compare.FoundOther, Compare.exchanged, Compare.wrote, Seat.IsAt, Seat.Knows, Seat.seen, Seat.word_count};
@@ -10,20 +10,20 @@ use crate::plays::Asked;
 use crate::table::{MutatorSeat, Round};
 use crate::view::View;
 use atomic_table::Play;
+use nmgc_commands::PackedCommand;
 use nmgc_object::{Address, HEADER_WORDS};
-use nmgc_program::PackedCommand;
 use std::marker::{Brand, PhantomData};
 
-/// What a compare-exchange came to.
+/// The outcome of a compare-exchange.
 #[derive(Debug, Drop, PartialEq, Eq)]
 pub enum Exchanged {
-    /// It found the word that it expected, and wrote the other.
+    /// It found the expected word, and wrote the new one.
     Yes,
-    /// It found this word, which is another, and wrote nothing.
+    /// It found this other word, and wrote nothing.
     No { found: u64 },
 }
 
-/// A field is compared by a command, and written where it has the expected word.
+/// The step in which a command compares a field, and writes another word if the field has the expected word.
 pub struct Exchanges<C> {
     asked: PhantomData<C>,
 }
@@ -63,11 +63,11 @@ impl Round {
         }
     }
 
-    /// Stores another word into a field of a variable or an array, where the expected word stands there. The
-    /// `cas` that asks for it takes its place here, and its row answers yes. Then the view has the expected
-    /// word at the end of those that its steps found, and while marking it is owed from this step on. `No`
-    /// comes exactly where another word stands there at this step, and has that word: the row answers no, and nothing
-    /// else changes.
+    /// Compares a field of a variable or an array with the expected word, stores another word if they are equal, and returns
+    /// the outcome. This is the position of the `cas` in the order. `Yes`: the row answers yes, the view has the expected
+    /// word at the end of the words that its steps found, and while marking owes it from this step on. `No`, exactly if the
+    /// field has another word at this step, which is returned: the row answers no, and nothing else changes. The contract
+    /// says that the word is not the expected one; that it was there is in the code.
     pub fn exchange_field(
         &self,
         seat: &mut MutatorSeat,

@@ -1,46 +1,43 @@
-//! What holds of the definitions of a round, for every opening, all words and all views.
+//! Laws of the definitions of a round, for every opening, all words and all views.
 //!
-//! Each function here does nothing; its contract is the law. Those named for a step say that the rule holds
-//! again after it, over lists of words and views alone: one word changes or none, one view changes, the
-//! others are as they were, and the list of events is the one before, or that list with one event at its end
-//! (`specs/Added.antt`). Those named for a split, a join or an end of a round say the same: no word changes,
-//! and no event is added. Each step of `steps`, `seats` and `round` is an instance of one of them, and the
-//! rule holds between any two steps of any threads. So nothing that holds here depends on a schedule.
+//! Each function here does nothing; its contract is the law. The laws named for a step say that the rule holds again after
+//! it, over lists of words and views alone. One word changes or none, one view changes, and the other views stay. The list of
+//! events is the one before, or that list with one event at its end, which the law names (`specs/Added.antt`). The laws named
+//! for a split, a join, or a beginning or end of a round say the same: no word changes, and no event is added. A look ahead
+//! changes neither words nor views, and needs no law. Each step of `steps`, `seats` and `round` is an instance of one of
+//! them, and the rule holds between any two steps of any threads. So no law depends on a schedule.
 ghost use Rattle.std.specs.Prelude.{◌≡◌, ◌≢◌, ◌+◌, ◌<◌, ◌==◌, ℕ, true, List, [], ◌∷◌, ◌++◌, set, slice_index, length, map};
 ghost use mathlib.Core.Option.{some};
 ghost use lib.ListN.{get_elem?};
 ghost use Rattle.nmgc_world_spec.specs.{declared.command.Command.Command, declared.command.Reply.Reply, History.replayed, History.rows_of, History.IsLegal as IsLegalHistory};
 ghost use Rattle.nmgc_object.specs.{declared.size.TheConstants.HEADER_WORDS, declared.layout.TheConstants.SHARED_PLACE, declared.layout.Layout.Layout, Places.IsLayout};
 ghost use Rattle.nmgc_snapshot_laws.specs.{State.State, Machine.Does};
-ghost use Rattle.nmgc_round.specs.{Own.OwnSlots, Rule.Keeps, Rule.Stopped, Added.Stays, Added.AddsCommand, Added.AddsIfMet, Added.AddsScan, Seating.CanSplit, Seating.keeps_rest, Seating.gives_first, Seating.mutates, Seating.collecting, Seating.together, Compare.CanExchange, Compare.exchanged, Compare.words_exchanged, Results.CanForce, Results.CanUpdate, Results.forced, Results.updated, Stacks.CanPeek, Stacks.CanSlot, Stacks.TellsSlot, Stacks.slot_swapped, Stacks.IsRefusedSlot, Stacks.slot_refused, Weaks.CanDeref, Weaks.CanFinalise, Weaks.weak_read, Weaks.weak_taken, Told.CanFix, Told.CanTake, Told.taken, Naming.AllReply, Empty.IsEmptyHeap, Empty.first_opening, Starting.CanOpen, Finishing.IsFinished, Finishing.HasAll, Finishing.HasEach, Finishing.Leaves};
+ghost use Rattle.nmgc_round.specs.{Own.OwnSlots, Rule.Keeps, Rule.Stopped, Added.Stays, Added.AddsCommand, Added.AddsIfMet, Added.AddsScan, Seating.CanSplit, Seating.keeps_rest, Seating.gives_first, Seating.mutates, Seating.collecting, Seating.together, Compare.CanExchange, Compare.exchanged, Compare.words_exchanged, Results.CanForce, Results.CanUpdate, Results.forced, Results.updated, Stacks.CanPeek, Stacks.CanSlot, Stacks.FindsSlot, Stacks.slot_swapped, Stacks.IsRefusedSlot, Stacks.slot_refused, Weaks.CanDeref, Weaks.CanFinalise, Weaks.weak_read, Weaks.weak_taken, Known.CanFix, Known.CanTake, Known.taken, Naming.AllReply, Empty.IsEmptyHeap, Empty.first_opening, Starting.CanOpen, Finishing.IsFinished, Finishing.HasAll, Finishing.HasEach, Finishing.Leaves};
 ghost use Rattle.nmgc_round.specs.View.{hand_of, Opening, Part, Seen, word, whole, exclusive, nobody, loaded, answered, swapped, met, met_at_birth, stored, gave_birth};
-ghost use Rattle.nmgc_round.specs.Ready.{IsMutator, CanLoad, CanSwap, CanStore, CanBear, CanScan, scanned_by};
-ghost use Rattle.nmgc_round.specs.Events.{Happening, event_of, after, replay, IsLegal, done_by, rows_in};
+ghost use Rattle.nmgc_round.specs.{Ready.IsMutator, Ready.CanLoad, Ready.CanSwap, Ready.CanStore, Ready.CanBear, Ready.CanScan, Ready.scanned_by, Events.Happening, Events.event_of, Events.after, Events.replay, Events.IsLegal, Events.done_by, Events.rows_in};
 
-/// A load of a word that never changes, without a place in the order: no word changes, and no event is added.
+/// Proves that a load of a word that never changes, without a position in the order, changes no word and adds no event.
 pub fn fixed_load()
     ensures { (o : Opening) (words : List ℕ) (views : List Seen) (id : ℕ) (v : Seen) (p : Part) (at offset : ℕ) (k : Keeps o words views) →
         get_elem? views id ≡ some v → IsMutator v p → CanFix o p at offset →
         Stays o words views k words (set views id (loaded v at offset (slice_index words (at + offset)))) }
 {}
 
-/// A load of a word that never changes, at which a command takes its place: no word changes, and one command
-/// that changes no node is added.
+/// Proves that a command's load of a fixed word changes no word, and adds one command that changes no node.
 pub fn fixed_load_of_command()
     ensures { (o : Opening) (words : List ℕ) (views : List Seen) (id : ℕ) (v : Seen) (p : Part) (at offset : ℕ) (c : Command)
         (k : Keeps o words views) → get_elem? views id ≡ some v → IsMutator v p → CanTake o p at offset c →
         AddsCommand o words views k p.number c words (set views id (taken v at offset c (slice_index words (at + offset)))) }
 {}
 
-/// A load of a field: no word changes, and one command that changes no node is added.
+/// Proves that a load of a field changes no word, and adds one command that changes no node.
 pub fn field_load()
     ensures { (o : Opening) (words : List ℕ) (views : List Seen) (id : ℕ) (v : Seen) (p : Part) (at index : ℕ) (c : Command)
         (k : Keeps o words views) → get_elem? views id ≡ some v → IsMutator v p → CanLoad o p at index c →
         AddsCommand o words views k p.number c words (set views id (answered v c (word (slice_index words (at + HEADER_WORDS + index))))) }
 {}
 
-/// A swap of a field: its word changes, and one command that changes that field of that node is added. While
-/// marking the view owes the old word.
+/// Proves that a swap of a field changes its word, adds one command that changes it, and while marking owes the old word.
 pub fn field_swap()
     ensures { (o : Opening) (words : List ℕ) (views : List Seen) (id : ℕ) (v : Seen) (p : Part) (at index w : ℕ) (c : Command)
         (k : Keeps o words views) → get_elem? views id ≡ some v → IsMutator v p → CanSwap o p at index w c →
@@ -48,9 +45,8 @@ pub fn field_swap()
         (set views id (swapped v c (slice_index words (at + HEADER_WORDS + index)))) }
 {}
 
-/// A compare-exchange of a field: where the expected word stands there, that word changes, one command that
-/// changes that field of that node is added, and while marking the view owes the expected word. Else no word
-/// changes, and one command that changes no node is added.
+/// Proves the effect of a compare-exchange of a field. If the field has the expected word, it changes, a command that changes
+/// it is added, and while marking the view owes that word. Else no word changes, and a command that changes no node is added.
 pub fn field_exchange()
     ensures { (o : Opening) (words : List ℕ) (views : List Seen) (id : ℕ) (v : Seen) (p : Part) (at index expected w : ℕ) (c : Command)
         (k : Keeps o words views) → get_elem? views id ≡ some v → IsMutator v p → CanExchange o p at index expected w c →
@@ -58,32 +54,31 @@ pub fn field_exchange()
         AddsCommand o words views k p.number c (words_exchanged words (at + HEADER_WORDS + index) w hit) (set views id (exchanged v c expected hit)) }
 {}
 
-/// A load of a thunk's result: no word changes, and one command that changes no node is added.
+/// Proves that a load of a thunk's result changes no word, and adds one command that changes no node.
 pub fn result_load()
     ensures { (o : Opening) (words : List ℕ) (views : List Seen) (id : ℕ) (v : Seen) (p : Part) (at : ℕ) (c : Command) (k : Keeps o words views) →
         get_elem? views id ≡ some v → IsMutator v p → CanForce o p at c →
         AddsCommand o words views k p.number c words (set views id (forced v c (slice_index words (at + HEADER_WORDS)))) }
 {}
 
-/// A compare-exchange of a thunk's result: where there was none its word changes, one command that changes that
-/// node is added, and while marking the view owes the free variables. Else no word changes, and one command that
-/// changes no node is added.
+/// Proves the effect of a compare-exchange of a thunk's result. If there was none, it is stored, a command that changes that
+/// node is added, and while marking the view owes the free variables. Else no word changes, and the command changes no node.
 pub fn result_exchange()
     ensures { (o : Opening) (words : List ℕ) (views : List Seen) (id : ℕ) (v : Seen) (p : Part) (at w : ℕ) (c : Command) (k : Keeps o words views) →
         get_elem? views id ≡ some v → IsMutator v p → CanUpdate o p at w c → let hit = slice_index words (at + HEADER_WORDS) == 0 in
         AddsCommand o words views k p.number c (words_exchanged words (at + HEADER_WORDS) w hit) (set views id (updated v at c hit)) }
 {}
 
-/// A load of a weak pointer's value: no word changes, and one command that changes no node is added. While
-/// marking the view owes the value, if there is one.
+/// Proves that a load of a weak pointer's value changes no word, and adds one command that changes no node. While marking the
+/// view owes the value, if there is one.
 pub fn weak_load()
     ensures { (o : Opening) (words : List ℕ) (views : List Seen) (id : ℕ) (v : Seen) (p : Part) (at : ℕ) (c : Command) (k : Keeps o words views) →
         get_elem? views id ≡ some v → IsMutator v p → CanDeref o p at c →
         AddsCommand o words views k p.number c words (set views id (weak_read v c (slice_index words (at + HEADER_WORDS + 1)))) }
 {}
 
-/// A swap of a weak pointer's value: the word is 0 afterwards, and one command is added that kills that weak
-/// pointer, or changes no node where it was dead. While marking the view owes what an alive one kept.
+/// Proves that a swap of a weak pointer's value leaves the word 0. It adds one command that kills the weak pointer, or
+/// changes no node if it was dead. If it was alive, the view owes it, its value and its finaliser while marking.
 pub fn weak_swap()
     ensures { (o : Opening) (words : List ℕ) (views : List Seen) (id : ℕ) (v : Seen) (p : Part) (at : ℕ) (c : Command) (k : Keeps o words views) →
         get_elem? views id ≡ some v → IsMutator v p → CanFinalise o p at c →
@@ -91,16 +86,15 @@ pub fn weak_swap()
         (set views id (weak_taken v at c (slice_index words (at + HEADER_WORDS + 1)))) }
 {}
 
-/// A load of a slot of an own stack: no word changes, no event is added, and no view changes. It finds what the
-/// mutator's rows leave there.
+/// Proves that a load of a slot of an own stack finds the word that the mutator's rows leave there, and changes nothing.
 pub fn slot_load()
     ensures { (o : Opening) (words : List ℕ) (views : List Seen) (id : ℕ) (v : Seen) (p : Part) (at slot : ℕ) (k : Keeps o words views) →
         get_elem? views id ≡ some v → IsMutator v p → CanPeek o p at slot → Stays o words views k words (set views id v) ×
-        TellsSlot o p at slot (slice_index words (at + HEADER_WORDS + slot)) }
+        FindsSlot o p at slot (slice_index words (at + HEADER_WORDS + slot)) }
 {}
 
-/// A swap of a slot of an own stack: its word changes, and one command that changes that node is added. While
-/// marking the view owes what is popped.
+/// Proves that a swap of a slot of an own stack changes its word, and adds one command that changes that node. While marking
+/// the view owes a popped word.
 pub fn slot_swap()
     ensures { (o : Opening) (words : List ℕ) (views : List Seen) (id : ℕ) (v : Seen) (p : Part) (at slot w : ℕ) (c : Command)
         (k : Keeps o words views) → get_elem? views id ≡ some v → IsMutator v p → CanSlot o p at slot w c →
@@ -108,21 +102,21 @@ pub fn slot_swap()
         (set views id (slot_swapped v c (slice_index words (at + HEADER_WORDS + slot)))) }
 {}
 
-/// A `push` onto a full own stack, or a `pop` off an empty one, at a load of the header of g: no word changes, and one
-/// command that changes no node is added.
+/// Proves that a `push` onto a full own stack, or a `pop` off an empty one, changes no word and adds one command that changes
+/// no node. Its step is a load of the header of g.
 pub fn slot_refusal()
     ensures { (o : Opening) (words : List ℕ) (views : List Seen) (id : ℕ) (v : Seen) (p : Part) (at : ℕ) (c : Command) (k : Keeps o words views) →
         get_elem? views id ≡ some v → IsMutator v p → IsRefusedSlot o p at c → AddsCommand o words views k p.number c words
         (set views id (slot_refused v c (slice_index words SHARED_PLACE))) }
 {}
 
-/// A store where no object is yet: that word changes, and no event is added.
+/// Proves that a store of a word that is in no object yet changes that word, and adds no event.
 pub fn unborn_store()
     ensures { (o : Opening) (words : List ℕ) (views : List Seen) (id : ℕ) (v : Seen) (p : Part) (at w : ℕ) (k : Keeps o words views) →
         get_elem? views id ≡ some v → IsMutator v p → CanStore o p at → Stays o words views k (set words at w) (set views id (stored v at w)) }
 {}
 
-/// A look where no object is yet: no word changes, and no event is added. Where the word that was to be stored stands
+/// Proves that a look at a word that is in no object yet changes no word, and adds no event. If the word to be stored is
 /// there, the view is the one after that store, and else it is as before.
 pub fn unborn_look()
     ensures { (o : Opening) (words : List ℕ) (views : List Seen) (id : ℕ) (v : Seen) (p : Part) (at w : ℕ) (k : Keeps o words views) →
@@ -130,16 +124,15 @@ pub fn unborn_look()
         Stays o words views k words (set views id (met v at w (slice_index words at == w))) }
 {}
 
-/// A birth: a header is written, and one command that makes that node is added.
+/// Proves that the store of a new object's header adds one command that makes the object's node.
 pub fn birth()
     ensures { (o : Opening) (words : List ℕ) (views : List Seen) (id : ℕ) (v : Seen) (p : Part) (at header : ℕ) (c : Command)
         (k : Keeps o words views) → get_elem? views id ≡ some v → IsMutator v p → CanBear o p at header c →
         AddsCommand o words views k p.number c (set words at header) (set views id (gave_birth v at header c)) }
 {}
 
-/// A look at the header where an object is to begin: no word changes. Where that header stands there, this is the birth: one
-/// command that makes that node is added, and the view is the one after the birth. Else no event is added, and the view
-/// is as before.
+/// Proves that a look at the header of an object to be allocated changes no word. If that header is there, this is the
+/// allocation: one command that makes the node is added, and the view follows. Else there is no event, and the view stays.
 pub fn birth_look()
     ensures { (o : Opening) (words : List ℕ) (views : List Seen) (id : ℕ) (v : Seen) (p : Part) (at header : ℕ) (c : Command)
         (k : Keeps o words views) → get_elem? views id ≡ some v → IsMutator v p → CanBear o p at header c →
@@ -147,79 +140,76 @@ pub fn birth_look()
         AddsIfMet o words views k p.number c hit words (set views id (met_at_birth v at header c hit)) }
 {}
 
-/// The collector's load: no word changes, and one scan is added.
+/// Proves that the collector's load changes no word, and adds one scan.
 pub fn scan()
     ensures { (o : Opening) (words : List ℕ) (views : List Seen) (id : ℕ) (v : Seen) (at offset : ℕ) (k : Keeps o words views) →
         get_elem? views id ≡ some v → (can : CanScan v at offset) →
         AddsScan o words views k can.entry words (set views id (scanned_by v (slice_index words (at + offset)))) }
 {}
 
-/// The words of the heap of which nothing was made open the first round of a run.
+/// Proves that the words of the empty heap open the first round of a run.
 pub fn empty_heap_opens()
     ensures { (layout : Layout) (words : List ℕ) → IsLayout layout → IsEmptyHeap layout words → CanOpen (first_opening layout) words }
 {}
 
-/// The hands of an opening have the words of each stack that its mutator made and that is tracked.
+/// Proves that the hands of an opening have the words of each tracked stack that their mutators made.
 pub fn old_stacks_are_listed()
     ensures { (o : Opening) (words : List ℕ) → CanOpen o words → (m : ℕ) → m < o.layout.mutators → OwnSlots o [] o.core.world m (hand_of o.hands m) }
 {}
 
-/// Words that represent a world meet the rule, with a seat that has every part and no events.
+/// Proves that words with which a round can open meet its rule, with a seat that has every part and no events.
 pub fn words_open()
     ensures { (o : Opening) (words : List ℕ) → CanOpen o words → (k : Keeps o words (whole o ∷ [])) × (k.events ≡ []) }
 {}
 
-/// A seat gives its first mutator to a new seat.
+/// Proves that the rule still holds, for the same words and events, after a seat gives its first mutator to a new seat.
 pub fn mutator_split()
     ensures { (o : Opening) (words : List ℕ) (views : List Seen) (id : ℕ) (v : Seen) (k : Keeps o words views) → get_elem? views id ≡ some v →
         CanSplit v → Stays o words views k words (set views id (keeps_rest v) ++ gives_first v ∷ []) }
 {}
 
-/// A seat gives the collector to a new seat.
+/// Proves that the rule still holds, for the same words and events, after a seat gives the collector to a new seat.
 pub fn collector_split()
     ensures { (o : Opening) (words : List ℕ) (views : List Seen) (id : ℕ) (v : Seen) (k : Keeps o words views) → get_elem? views id ≡ some v →
         v.collects ≡ true → Stays o words views k words (set views id (mutates v) ++ collecting v ∷ []) }
 {}
 
-/// A seat takes another's parts in, and that one is no more.
+/// Proves that the rule still holds, for the same words and events, after a seat takes the parts of another, which is gone.
 pub fn join()
     ensures { (o : Opening) (words : List ℕ) (views : List Seen) (id other : ℕ) (v w : Seen) (k : Keeps o words views) →
         get_elem? views id ≡ some v → get_elem? views other ≡ some w → other ≢ id → v.opening ≡ w.opening →
         Stays o words views k words (set (set views id (together v w)) other nobody) }
 {}
 
-/// A seat that has every part ends the round: what it knows holds for the events so far, and from then on it
-/// is the only one.
+/// Proves that a seat with every part can end the round: its view holds for the events so far, and it is then the only seat.
 pub fn round_end()
     ensures { (o : Opening) (words : List ℕ) (views : List Seen) (id : ℕ) (v : Seen) (k : Keeps o words views) → get_elem? views id ≡ some v →
         HasAll v → ((n : IsFinished o words v) × (n.events ≡ k.events)) × Stopped words (set views id (exclusive words)) }
 {}
 
-/// The words that a round leaves represent the world after one order of its commands.
+/// Proves that the words that a round leaves represent the world after one order of its commands.
 pub fn words_represent()
     ensures { (o : Opening) (words : List ℕ) (v : Seen) → IsFinished o words v → HasEach o v → Leaves o words v }
 {}
 
-/// A mutator's commands in the order of the events, with their replies, are its rows by the names that
-/// it loaded.
+/// Proves that a mutator's commands in the order of the events, with their replies, are its rows by the names that it loaded.
 pub fn replies_are_named()
     ensures { (o : Opening) (words : List ℕ) (v : Seen) (h : IsFinished o words v) (k : ℕ) (p : Part) → get_elem? v.parts k ≡ some p →
         (replies : List (Command × Reply)) → AllReply p.fixed p.rows replies → done_by p.number h.events ≡ replies }
 {}
 
-/// The commands among events, in their order, are a legal history of the never-collected heap, and its world
-/// is the one after the events.
+/// Proves that the commands among events are a legal history of the reference heap, with the world after the events.
 pub fn events_are_a_history()
     ensures { (s : State) (events : List Happening) → IsLegal s events → IsLegalHistory s.world (rows_in events) ×
         ((replay s events).world ≡ replayed s.world (rows_in events)) }
 {}
 
-/// A mutator's rows in that history are its commands and replies among the events.
+/// Proves that a mutator's rows in the history of events are its commands and replies among the events.
 pub fn histories_have_the_rows()
     ensures { (m : ℕ) (events : List Happening) → map (λ row. (row.command, row.reply)) (rows_of m (rows_in events)) ≡ done_by m events }
 {}
 
-/// An event of a round does what the core machine says of it.
+/// Proves that an event of a round has the effect that the marking machine gives it.
 pub fn events_are_of_the_machine()
     ensures { (s : State) (happening : Happening) → Does s (event_of happening) (after s happening) }
 {}

@@ -1,25 +1,24 @@
-//! The result of a thunk: the steps at which `force` and `update` take their place.
+//! The result of a thunk: the steps that are the positions of `force` and `update` in the order.
 //!
-//! A thunk has no result at first, and gets one at most once: the step that stores it is a compare-exchange
-//! from an unset word. From then on nothing is said of its free variables any more, so while marking that very
-//! step owes them all. The seat has loaded them before: they never change, and its view names them.
+//! A thunk has no result at first, and gets one at most once: the step that stores it is a compare-exchange from an unset
+//! word. From then on the definitions don't mention its free variables any more, so while marking that very step owes them
+//! all. The seat has loaded them before: they never change, and its view names them.
 //!
-//! Easy to get wrong: no result is the word 0, which stands for no value; and the result's word comes before those
-//! of the free variables.
+//! Easy to get wrong: no result is the word 0, which represents no value. The result's word comes before the free variables.
 ghost use Rattle.std.specs.Prelude.{◌≡◌, ◌≢◌, ◌+◌, ◌<◌, ◌==◌, []};
 ghost use Rattle.nmgc_object.specs.declared.size.TheConstants.{HEADER_WORDS};
-ghost use Rattle.nmgc_round.specs.{Ready.Mutates, Told.IsSafe, Compare.FoundOther, Compare.wrote, Results.CanForce, Results.CanUpdate, Results.forced, Results.updated, Seat.IsAt, Seat.Knows, Seat.seen, Seat.word_count};
+ghost use Rattle.nmgc_round.specs.{Ready.Mutates, Known.IsSafe, Compare.FoundOther, Compare.wrote, Results.CanForce, Results.CanUpdate, Results.forced, Results.updated, Seat.IsAt, Seat.Knows, Seat.seen, Seat.word_count};
 
 use crate::compare::Exchanged;
 use crate::plays::{Asked, Located};
 use crate::table::{MutatorSeat, Round};
 use crate::view::View;
 use atomic_table::Play;
+use nmgc_commands::PackedCommand;
 use nmgc_object::{Address, HEADER_WORDS};
-use nmgc_program::PackedCommand;
 use std::marker::{Brand, PhantomData};
 
-/// A result is loaded by a command.
+/// The step in which a command loads a result.
 pub struct Forces<C> {
     asked: PhantomData<C>,
 }
@@ -28,7 +27,7 @@ impl<C: Asked> Play<(), View> for Forces<C> {
     ghost then = { λ s m n w. ((w.0 ≡ forced m.0 C.command n) × (n ≢ 0 → IsSafe m.0.opening n)) × (w.1 ≡ []) };
 }
 
-/// A result is stored by a command, where there is none.
+/// The step in which a command stores a result, if there is none.
 pub struct Updates<A, C> {
     place: PhantomData<A>,
     asked: PhantomData<C>,
@@ -58,9 +57,8 @@ impl Round {
             .load::<Forces<C>>(seat, at.0 as usize + HEADER_WORDS as usize)
     }
 
-    /// Loads the result of a thunk; 0 where it has none. The `force` that reads it takes its place here: its
-    /// row has the word as its answer, or that there is none. Where the word is a pointer, an object is there
-    /// within the heap's words.
+    /// Loads the result of a thunk and returns its word, or 0 if there is none. This is the position of the `force` in the
+    /// order: its row answers this. If the word is a pointer, its object is within the heap's words.
     pub fn load_result(&self, seat: &mut MutatorSeat, at: Address, command: &PackedCommand) -> u64
         requires seat { IsAt self.now seat.old }
         requires ready { Mutates (λ o p. CanForce o p at.0 command.now) (seen seat.old) }
@@ -103,10 +101,10 @@ impl Round {
         }
     }
 
-    /// Stores the result of a thunk that has none. The `update` that asks for it takes its place here, and its
-    /// row answers that it was updated. The view then has the words of the free variables at the end of those
-    /// that its steps took out, and while marking they are owed from this step on. `No` comes exactly where
-    /// there is a result at this step, and has its word: the row answers so, and nothing else changes.
+    /// Stores the result of a thunk unless it has one, and returns the outcome. This is the position of the `update` in the
+    /// order. `Yes`: the row answers that the thunk was updated. The view has the words of the free variables at the end of
+    /// the words that its steps took out, and while marking owes them from now on. `No`, with its word, exactly if there is a
+    /// result: the row answers so, and nothing else changes. By contract the word isn't 0; that it was there is in the code.
     pub fn exchange_result(
         &self,
         seat: &mut MutatorSeat,

@@ -1,32 +1,31 @@
-//! How a round begins and ends.
+//! The beginning and the end of a round.
 //!
-//! Both are one step on the table of the run, and copy no word. Which world the words represent as the round
-//! begins is nothing that a program has: it is known in proofs alone. So the caller hands in an *opening*, a
-//! value of no bytes that only clauses read, and from then on every seat's view has it.
+//! Both are one step on the table of the run, and copy no word. The world that the words represent as the round begins is no
+//! value of the program: it is known in proofs alone. So the caller hands in an *opening*, a value of no bytes that only
+//! clauses read, and from then on every seat's view has it.
 //!
-//! Easy to get wrong: an error between the two ends would lose the words. So `start` takes the room for
-//! the seats from its caller, and neither end can fail.
+//! Easy to get wrong: an error between the two ends would lose the words. So `start` takes the seats' room, and no end fails.
 ghost use Rattle.std.specs.Prelude.{map, All, [], ◌≡◌, ◌<◌, ◌≤◌, length, vec_capacity};
 ghost use Rattle.nmgc_round.specs.{Starting.CanOpen, Finishing.HasAll, Finishing.IsFinished, Finishing.Leaves, Stop.IsSole, Stop.words_of, Seating.alones, Seating.all_together, Seating.collecting, View.whole, Seat.IsAt, Seat.seen, Seat.word_count, Seat.opening_of};
 
-use crate::chosen::{Chosen, Wanted};
 use crate::plays::{Begun, Ends, Opens};
 use crate::table::{CollectorSeat, Finished, MutatorSeat, Round, Shared, Started};
 use crate::view::Opened;
+use crate::witness::{Witness, WitnessFor};
 use crate::words::Words;
 use nmgc_lists::{List, ListMemory};
 use nmgc_object::Layout;
 use std::marker::Brand;
 
-/// The opening of a round that began with it.
+/// The opening with which a round began.
 pub(crate) struct Same;
 
-impl Wanted<Chosen<Opened>, Opened> for Same {
+impl WitnessFor<Witness<Opened>, Opened> for Same {
     ghost wanted = { λ about x. x ≡ about.value };
 }
 
 impl Round {
-    fn open<C: Begun>(table: &Shared, seat: &mut MutatorSeat, opening: &Chosen<Opened>)
+    fn open<C: Begun>(table: &Shared, seat: &mut MutatorSeat, opening: &Witness<Opened>)
         requires seat { IsSole table.now.shared.table_id seat.old }
         requires asked { C.opening ≡ opening.now.value }
         requires ready { CanOpen opening.now.value (words_of seat.old) }
@@ -36,8 +35,8 @@ impl Round {
         table.shared.load::<Opens<C>>(seat, 0);
     }
 
-    // A round on these words, with one seat that has every part.
-    fn begin(words: Words, marking: bool, opening: &Chosen<Opened>) -> (Round, MutatorSeat)
+    // Opens a round on these words, and returns it with one seat that has every part.
+    fn begin(words: Words, marking: bool, opening: &Witness<Opened>) -> (Round, MutatorSeat)
         requires opens { CanOpen opening.now.value words }
         requires marking { marking ≡ opening.now.value.marking }
         ensures { IsAt result.0 result.1 × (seen result.1 ≡ whole opening.now.value) × (word_count result.0 ≡ length words) ×
@@ -46,7 +45,7 @@ impl Round {
         let Words { table, seat } = words;
         let mut seat = seat;
         Round::open::<Brand>(&table, &mut seat, opening);
-        let opening: Chosen<Opened> = Chosen::of::<Chosen<Opened>, Same>(opening);
+        let opening: Witness<Opened> = Witness::of::<Witness<Opened>, Same>(opening);
         (
             Round {
                 table,
@@ -57,18 +56,18 @@ impl Round {
         )
     }
 
-    /// Begins a round on these words, with a seat for each of the layout's mutators and one for the
-    /// collector. The seats have no rows and no scans, and owe nothing.
+    /// Begins a round on these words, with a seat for each of the layout's mutators and one for the collector. The seats know
+    /// only the opening: they have no rows and no scans, and owe nothing.
     ///
-    /// The opening is the state of the core machine with which the round begins, and the places in use: the
-    /// words represent its world. `marking` says whether a cycle is marking; if not, the state is that of the
-    /// world alone. `room` has room for the seats, and their list lies in `place`, so that nothing can fail here.
-    /// Takes no memory, and no time that grows with the words.
+    /// The opening is the state of the marking machine with which the round begins, and the addresses in use: the words
+    /// represent its world. `marking` says whether a cycle is marking; if not, the state is that of the world alone. `room`
+    /// has room for the seats, and `place` is the memory for their list, so that nothing can fail here. Takes no allocator
+    /// and no memory, and no time that grows with the words.
     pub fn start(
         words: Words,
         layout: Layout,
         marking: bool,
-        opening: &Chosen<Opened>,
+        opening: &Witness<Opened>,
         room: Vec<MutatorSeat>,
         place: ListMemory<MutatorSeat>,
     ) -> Started
@@ -92,14 +91,14 @@ impl Round {
         }
     }
 
-    /// Whether a cycle is marking in this round. It is no step.
+    /// Whether a cycle is marking in this round. The question is no step.
     pub fn is_marking(&self) -> bool
         ensures { result ≡ (opening_of self.now).marking }
     {
         self.marking
     }
 
-    // Ends the round by a seat that has every part.
+    // Ends the round by a seat that has every part, and returns the words.
     fn end(self, last: MutatorSeat) -> Words
         requires { IsAt self last × HasAll (seen last) }
         ensures { IsFinished (opening_of self) result (seen last) × (length result ≡ word_count self) }
@@ -114,11 +113,10 @@ impl Round {
         Words { table, seat }
     }
 
-    /// Ends the round. The seats have the part of every mutator, and the collector's.
-    ///
-    /// There is one list of events for what all seats knew: each could happen at its place, those of a mutator
-    /// are its rows in their order, the collector's scans are the scans, and the words represent the world
-    /// after them. Takes no memory, and no time that grows with the words.
+    /// Ends the round and returns its words. The seats are those of all mutators, and the collector's.
+    /// There is one list of events for the views of all seats, each possible at its position. A mutator's events are its rows
+    /// in their order, the collector's are its scans, and marks and objects owed agree. The words represent the world after
+    /// the events. It cannot fail, and takes no allocator, no memory, and no time that grows with the words.
     pub fn finish(self, mutators: List<MutatorSeat>, collector: CollectorSeat) -> Finished
         requires seats { All (IsAt self) mutators × IsAt self collector }
         requires all { HasAll (all_together (seen collector) (map seen mutators)) }

@@ -1,8 +1,8 @@
-//! Seats are cut off one another and joined again.
+//! Splitting seats, and joining them again.
 //!
-//! The first seat of a round has the part of every mutator and the collector's. A part is only ever at
-//! one seat: cutting and joining move parts and change nothing in them. That is why a seat that has every
-//! part may end the round, and why no event of a mutator is missed or told twice.
+//! The first seat of a round has the part of every mutator and the collector's. A part is only ever at one seat: splitting
+//! and joining move parts and change nothing in them, so no part is lost or doubled. That is why a seat that has every part
+//! may end the round, and why no event of a mutator is missed or counted twice.
 ghost use Rattle.std.specs.Prelude.{map, All, true, [], ◌≡◌, ◌<◌, ◌≤◌, length, vec_capacity};
 ghost use Rattle.nmgc_round.specs.Seating.{from, alones, all_together, CanSplit, keeps_rest, gives_first, mutates, collecting, together};
 ghost use Rattle.nmgc_round.specs.Seat.{IsAt, seen, word_count, opening_of};
@@ -12,7 +12,7 @@ use crate::table::{CollectorSeat, MutatorSeat, Round};
 use nmgc_lists::List;
 
 impl Round {
-    /// Cuts off the seat of the first mutator. The seat keeps the other parts.
+    /// Splits the first mutator's seat off a seat and returns it. The old seat keeps the other parts.
     pub fn split_mutator(&self, seat: &mut MutatorSeat) -> MutatorSeat
         requires seat { IsAt self.now seat.old }
         requires ready { CanSplit (seen seat.old) }
@@ -22,7 +22,7 @@ impl Round {
         self.table.shared.split_seat::<FirstMutator>(seat)
     }
 
-    /// Cuts off the seat of the collector. The seat keeps the mutators' parts.
+    /// Splits the collector's seat off a seat and returns it. The old seat keeps the mutators' parts.
     pub fn split_collector(&self, seat: &mut MutatorSeat) -> CollectorSeat
         requires seat { IsAt self.now seat.old }
         requires ready { (seen seat.old).collects ≡ true }
@@ -32,7 +32,7 @@ impl Round {
         self.table.shared.split_seat::<CollectorAlone>(seat)
     }
 
-    /// Takes another seat's parts in. That seat is no more.
+    /// Takes the parts of another seat into a seat. The other seat is gone.
     pub fn join(&self, seat: &mut MutatorSeat, other: MutatorSeat)
         requires seats { IsAt self.now seat.old × IsAt self.now other }
         requires within { 0 < word_count self.now }
@@ -41,8 +41,7 @@ impl Round {
         self.table.shared.join_seat::<Both>(seat, other)
     }
 
-    /// One seat for each mutator in order of their numbers, from a seat that has them all, into a list that
-    /// has room for them. Takes no memory.
+    /// Splits off one seat for each mutator, in order, from a seat that has them all, into a list with room. Takes no memory.
     pub fn seats_into(&self, seat: MutatorSeat, mutators: usize, seats: &mut Vec<MutatorSeat>)
         requires seat { IsAt self.now seat × (seen seat ≡ from (opening_of self.now) 0 (opening_of self.now).hands) }
         requires count { (mutators ≡ length (opening_of self.now).hands) × (0 < mutators) }
@@ -57,7 +56,7 @@ impl Round {
         seats.push_reserved(seat);
     }
 
-    /// The parts of all seats in one.
+    /// Joins the parts of all seats in one seat, and returns it.
     pub fn gather(&self, seat: MutatorSeat, others: List<MutatorSeat>) -> MutatorSeat
         requires seats { IsAt self.now seat × All (IsAt self.now) others }
         requires within { 0 < word_count self.now }

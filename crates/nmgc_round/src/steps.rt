@@ -1,34 +1,28 @@
 //! The steps of a round, each on one word.
 //!
-//! A step reads or writes one word of the table, in one order with all other steps of all threads. It may be
-//! the place of a command in that order: then the seat's view has one row more, with what the never-collected
-//! heap answers there. A step tells its caller what it found and what its seat knows from then on; no step
-//! changes what another seat knows. Steps take no memory and wait for nobody.
+//! A step reads or writes one word of the table, in one order with all other steps of all threads. It may be the position of
+//! a command in that order: then the seat's view has one more row, with the answer of the reference heap there. A step shows
+//! its caller the word and its seat's view after it, and changes no other view. Steps take no memory and never wait.
 //!
-//! Each step that names an object has the condition that the seat holds it: it is g, or a register has the
-//! word of its place; a load of a header or a name also takes what the mutator's own finaliser queue refers to.
-//! A look ahead has none, since its seat learns nothing from it. What a reply rests on beside the word that is
-//! read is a header, which never changes: the seat has loaded it before, and its view names it.
+//! Each step that names an object has the condition that the seat holds it: it is g, or a register has its address. For a
+//! load of a header or a name the mutator's own finaliser queue will do. A look ahead has no condition, since it shows
+//! nothing. A reply may also depend on a header, which never changes: the seat has loaded it before, and its view names it.
 //!
-//! A swap is the deletion barrier. While marking, the word that it takes out is owed from that very step on,
-//! so there is no moment at which an object of the snapshot is in no field and not yet owed.
+//! A swap is the deletion barrier. While marking, the word that it takes out is owed from that very step on. So an object of
+//! the snapshot is always in a field or owed: `Note [Why the deletion barrier is enough]` (`nmgc_mutator`'s `barrier`).
 //!
-//! Easy to get wrong: the header of a new object is stored last. Until then no other word of it belongs to
-//! any object, so nobody can come across it half made.
+//! Easy to get wrong: the order of the stores of a new object, `Note [The header is stored last]`.
 ghost use Rattle.std.specs.Prelude.{◌≡◌, ◌+◌, ◌<◌, MatchOption, IfNone, IfSome};
 ghost use Rattle.nmgc_object.specs.declared.size.TheConstants.{HEADER_WORDS};
-ghost use Rattle.nmgc_round.specs.View.{word, loaded, answered, swapped, met, met_at_birth, stored, gave_birth};
-ghost use Rattle.nmgc_round.specs.Ready.{Mutates, CanScan, scanned_by, CanLoad, CanSwap, CanStore, CanBear};
-ghost use Rattle.nmgc_round.specs.Told.{CanFix, CanTake, taken, TellsFixed, TellsField, TellsQueue, TellsScan, IsSafe};
-ghost use Rattle.nmgc_round.specs.Seat.{IsAt, Knows, seen, word_count};
+ghost use Rattle.nmgc_round.specs.{View.word, View.loaded, View.answered, View.swapped, View.met, View.met_at_birth, View.stored, View.gave_birth, Ready.Mutates, Ready.CanScan, Ready.scanned_by, Ready.CanLoad, Ready.CanSwap, Ready.CanStore, Ready.CanBear, Known.CanFix, Known.CanTake, Known.taken, Known.FindsFixed, Known.FindsField, Known.FindsQueue, Known.FindsScan, Known.IsSafe, Seat.IsAt, Seat.Knows, Seat.seen, Seat.word_count};
 
 use crate::plays::{
     Asked, Births, Fixes, Hoped, Loads, Located, Looks, Meets, MeetsHeader, Scans, Stores, Swaps,
     Takes,
 };
 use crate::table::{CollectorSeat, MutatorSeat, Round};
+use nmgc_commands::PackedCommand;
 use nmgc_object::{Address, HEADER_WORDS};
-use nmgc_program::PackedCommand;
 use std::marker::Brand;
 
 impl Round {
@@ -38,7 +32,7 @@ impl Round {
         requires ready { Mutates (λ o p. CanFix o p at.0 offset) (seen seat.old) }
         requires within { at.0 + offset < word_count self.now }
         ensures view { Knows self.now seat.old seat.new (loaded (seen seat.old) at.0 offset result) }
-        ensures room { TellsFixed (seen seat.old).opening at.0 offset result }
+        ensures room { FindsFixed (seen seat.old).opening at.0 offset result }
     {
         self.table
             .shared
@@ -58,8 +52,8 @@ impl Round {
         requires ready { Mutates (λ o p. CanTake o p at.0 offset command.now) (seen seat.old) }
         requires within { at.0 + offset < word_count self.now }
         ensures view { Knows self.now seat.old seat.new (taken (seen seat.old) at.0 offset command.now result) }
-        ensures safe { TellsField (seen seat.old).opening offset result }
-        ensures queue { Mutates TellsQueue (seen seat.old) }
+        ensures safe { FindsField (seen seat.old).opening offset result }
+        ensures queue { Mutates FindsQueue (seen seat.old) }
     {
         let _ = command;
         self.table
@@ -67,14 +61,12 @@ impl Round {
             .load::<Takes<A, C>>(seat, at.0 as usize + offset as usize)
     }
 
-    /// Loads a word that never changes in a round: a header, a name, a constructor's field, a free variable,
-    /// a weak pointer's key or finaliser. The seat's view names it from then on. A header and a name are
-    /// told to be valid, and the object's words to be within the heap's.
-    ///
-    /// A command may take its place here: at the header of g one that reads no word which changes, or is
-    /// refused; at a constructor's field the `get` that reads it. Its row has its reply, and where the field is
-    /// a pointer, an object is there within the heap's words. So it is of each finaliser that waited for the
-    /// mutator, of which `nextfin` takes the first.
+    /// Loads and returns a word that never changes in a round: a header, a name, a constructor's field, a free variable, a
+    /// weak pointer's key or finaliser. The seat's view names it from then on. A header or name is valid, and its object
+    /// within the heap.
+    /// It may be the position of a command. At the header of g the command reads no changing word or is refused; at a
+    /// constructor's field it is a `get`. The row has the reply, and if the field is a pointer, its object is within the
+    /// heap's words. So is each finaliser that waited for the mutator; `nextfin` takes the first.
     pub fn load_fixed(
         &self,
         seat: &mut MutatorSeat,
@@ -88,9 +80,9 @@ impl Round {
         requires within { at.0 + offset < word_count self.now }
         ensures view { MatchOption command.entry (Knows self.now seat.old seat.new (loaded (seen seat.old) at.0 offset result)) (λ c.
             Knows self.now seat.old seat.new (taken (seen seat.old) at.0 offset c.now result)) }
-        ensures room { IfNone command.entry (TellsFixed (seen seat.old).opening at.0 offset result) }
-        ensures safe { IfSome command.entry (λ c. TellsField (seen seat.old).opening offset result) }
-        ensures queue { IfSome command.entry (λ c. Mutates TellsQueue (seen seat.old)) }
+        ensures room { IfNone command.entry (FindsFixed (seen seat.old).opening at.0 offset result) }
+        ensures safe { IfSome command.entry (λ c. FindsField (seen seat.old).opening offset result) }
+        ensures queue { IfSome command.entry (λ c. Mutates FindsQueue (seen seat.old)) }
     {
         match command {
             None => self.load_plain::<Brand>(seat, at, offset),
@@ -98,8 +90,7 @@ impl Round {
         }
     }
 
-    /// Loads the word at a place, if the round has one there, and forgets it: the seat knows what it knew. Whoever reads
-    /// a word near it soon waits less for memory.
+    /// Loads the word at an address, if there is one, and forgets it: the view stays. A later read near it is faster.
     pub fn look_ahead(&self, seat: &mut CollectorSeat, at: Address)
         requires { IsAt self.now seat.old }
         ensures { Knows self.now seat.old seat.new (seen seat.old) }
@@ -111,16 +102,15 @@ impl Round {
         self.table.shared.load::<Looks>(seat, place);
     }
 
-    /// Loads the word that the core machine's next scan reads: the first queue entry is the object at this
-    /// place, and the word is its next position. The collector's view has that one scan more. Position 0 tells the
-    /// header of the object as it is in the snapshot, and that its words are within the heap's; a field that is
-    /// a pointer leads within them.
+    /// Loads and returns the word that the marking machine's next scan reads: the first queue entry is the object at this
+    /// address, and the word is at its next position. The view has one more scan. Position 0 has the header of the object's
+    /// node in the snapshot, whose words are within the heap's; if a field is a pointer, its object is within them.
     pub fn scan_load(&self, seat: &mut CollectorSeat, at: Address, offset: u32) -> u64
         requires seat { IsAt self.now seat.old }
         requires ready { CanScan (seen seat.old) at.0 offset }
         requires within { at.0 + offset < word_count self.now }
         ensures view { Knows self.now seat.old seat.new (scanned_by (seen seat.old) result) }
-        ensures told { TellsScan (seen seat.old) result }
+        ensures known { FindsScan (seen seat.old) result }
     {
         self.table
             .shared
@@ -148,8 +138,9 @@ impl Round {
         )
     }
 
-    /// Loads a field of a variable or an array. The `get` that reads it takes its place here, and its row
-    /// has the word as its answer. Where that is a pointer, an object is there within the heap's words.
+    /// Loads a field of a variable or an array, and returns its word. This is the position of the `get` that reads the field,
+    /// and its row has the word as its answer. If it is a pointer, its object is within the heap's words. A constructor's
+    /// field may be loaded too; a mutator takes `load_fixed`, after which its view names the word.
     pub fn load_field(
         &self,
         seat: &mut MutatorSeat,
@@ -189,11 +180,10 @@ impl Round {
         )
     }
 
-    /// Stores another word into a field of a variable or an array, and answers the one that stood there. The
-    /// `set` that writes it takes its place here. The view has that word at the end of those that its steps
-    /// found; the objects that these refer to are those that the core machine lists as owed after the events,
-    /// marking or not. While marking, the old word is owed from this step on. Where it is a pointer, an object is there
-    /// within the heap's words.
+    /// Stores another word into a field of a variable or an array, and returns the word before. This is the position of the
+    /// `set` in the order. The view has the old word at the end of the words that its steps found; they have the references
+    /// that the marking machine lists as owed, marking or not. While marking, the old word is owed from this step on. If it
+    /// is a pointer, its object is within the heap's words.
     pub fn swap_field(
         &self,
         seat: &mut MutatorSeat,
@@ -211,7 +201,7 @@ impl Round {
         self.swap_asked::<Brand>(seat, at, field, word, command)
     }
 
-    // Whether a word where no object is yet is this one. If so, the seat's view names it.
+    // Whether a word that is in no object yet is `word` already. If so, the seat's view names it.
     fn meets<H: Hoped>(&self, seat: &mut MutatorSeat, at: Address, offset: u32, word: u64) -> bool
         requires seat { IsAt self.now seat.old }
         requires hoped { H.word ≡ word }
@@ -225,7 +215,7 @@ impl Round {
             == word
     }
 
-    // Stores a word where no object is yet.
+    // Stores a word at an address that is in no object yet.
     fn store_there(&self, seat: &mut MutatorSeat, at: Address, offset: u32, word: u64)
         requires seat { IsAt self.now seat.old }
         requires ready { Mutates (λ o p. CanStore o p (at.0 + offset)) (seen seat.old) }
@@ -237,9 +227,10 @@ impl Round {
             .store::<Stores>(seat, at.0 as usize + offset as usize, word)
     }
 
-    /// Stores a word of the own nursery that is in no born object, where none was stored yet. The seat's view
-    /// names it until an object is born there. A nursery is filled again in every round, often with the same words,
-    /// and a store of the table costs several loads: so the word is looked at first, and one that is there stays.
+    /// Stores a word in the own nursery at an address that is in no object, and not stored yet. The seat's view names it
+    /// until an object is allocated there. A nursery is filled again in every round, often with the same words, and a store
+    /// costs several loads. So it looks first, and stores if another word is there: two steps, and the first then shows
+    /// nothing. So the view's names of unborn words never change, and a birth has one word for each field.
     pub fn store_unborn(&self, seat: &mut MutatorSeat, at: Address, offset: u32, word: u64)
         requires seat { IsAt self.now seat.old }
         requires ready { Mutates (λ o p. CanStore o p (at.0 + offset)) (seen seat.old) }
@@ -251,7 +242,7 @@ impl Round {
         }
     }
 
-    // Whether the word where an object is to begin is its header. If so, this is its birth.
+    // Whether the word at a new object's address is already the object's header. If so, this look is the allocation.
     fn meets_header<H: Hoped, C: Asked>(
         &self,
         seat: &mut MutatorSeat,
@@ -292,11 +283,24 @@ impl Round {
             .store::<Births<C>>(seat, at.0 as usize, header)
     }
 
-    /// Stores the header of a new object, where the rest of the own nursery begins. Its name and fields were
-    /// stored there before. The command that makes it takes its place here, and its row has the object's
-    /// place as its answer. From then on the view names header and name, and no unborn word. As in `store_unborn`
-    /// a header that stands there stays, from an object of an earlier round, to which nothing refers; the look that
-    /// finds it is the birth.
+    // Note [The header is stored last]
+    //
+    // The step at the header is the allocation: it is the one step that adds the object to the world. The rule of a round
+    // (`specs/Rule.antt`) holds between any two steps, and says that each object of the world has its header, name and fields
+    // in the words. So name and fields are stored before (`CanBear` in `specs/Ready.antt`), while they belong to no object.
+    // With the header first, the fields would still be words of an earlier round, and the rule would be false until the last
+    // store.
+    //
+    // Usually this step is a store. If an object of an earlier round left the same header there, it is the load that finds
+    // it.
+    //
+    // No register or field has the address before this step, so no other thread can find a half-made object. The steps of all
+    // threads are in one order, so no fence is needed before the address is published.
+    /// Stores the header of a new object, at the first unused word of the own nursery. The object's name and fields were
+    /// stored there before. This is the position of the command that makes it, and its row has the object's address as its
+    /// answer. From then on the view names header and name, and no unborn word. As in `store_unborn` it looks first. A header
+    /// that is there stays, from an object of an earlier round, to which nothing refers; the look that finds it is the
+    /// allocation.
     pub fn give_birth(
         &self,
         seat: &mut MutatorSeat,

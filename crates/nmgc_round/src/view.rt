@@ -1,10 +1,9 @@
-//! What the proofs alone know. No value of these types is made.
+//! The values that only proofs know. No value of these types is made.
 //!
-//! A seat and a chosen value have a type for what clauses see of them. These are empty shells for it: the
-//! definitions stand in `specs/View.antt`.
+//! A seat and a chosen value need a type for clauses. These are empty shells; the definitions are in `specs/View.antt`.
 use std::marker::Model;
 
-/// What a seat knows.
+/// The view of a seat.
 pub struct View {
     nothing: u8,
 }
@@ -17,7 +16,7 @@ impl Model for View {
     ghost view = { λ _. nobody };
 }
 
-/// The state with which a round begins, and its places.
+/// The state with which a round begins, and its addresses in use.
 pub struct Opened {
     nothing: u8,
 }

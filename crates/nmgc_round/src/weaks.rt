@@ -1,24 +1,24 @@
-//! The value of a weak pointer: the steps at which `deref` and `finalise` take their place.
+//! The value of a weak pointer: the steps that are the positions of `deref` and `finalise` in the order.
 //!
-//! What a weak pointer keeps is no strong field, so a cycle that marks may count its value as lost. Whoever reads
-//! it makes it count again: while marking, that very load owes the value. A swap kills the weak pointer, so it
-//! owes the weak pointer, its value and its finaliser, which the seat has loaded before.
+//! The value of a weak pointer is no strong field, so a cycle that marks may count it as lost. A load makes it count again:
+//! while marking, that very load owes the value. A swap kills the weak pointer, so it owes the weak pointer, its value and
+//! its finaliser, which the seat has loaded before.
 //!
-//! Easy to get wrong: a dead weak pointer keeps its key and its finaliser as they were, and they mean nothing. So
-//! whether it is alive is told by the value's word alone, at the step itself.
+//! Easy to get wrong: a dead weak pointer keeps its key and its finaliser as they were, and they mean nothing. So only the
+//! value's word shows whether it is alive, at the step itself.
 ghost use Rattle.std.specs.Prelude.{◌≡◌, ◌≢◌, ◌+◌, ◌<◌, []};
 ghost use Rattle.nmgc_object.specs.declared.size.TheConstants.{HEADER_WORDS};
-ghost use Rattle.nmgc_round.specs.{Ready.Mutates, Told.IsSafe, Weaks.CanDeref, Weaks.CanFinalise, Weaks.finaliser_named, Weaks.weak_read, Weaks.weak_taken, Seat.IsAt, Seat.Knows, Seat.seen, Seat.word_count};
+ghost use Rattle.nmgc_round.specs.{Ready.Mutates, Known.IsSafe, Weaks.CanDeref, Weaks.CanFinalise, Weaks.finaliser_named, Weaks.weak_read, Weaks.weak_taken, Seat.IsAt, Seat.Knows, Seat.seen, Seat.word_count};
 
 use crate::plays::{Asked, Located};
 use crate::table::{MutatorSeat, Round};
 use crate::view::View;
 use atomic_table::Play;
+use nmgc_commands::PackedCommand;
 use nmgc_object::{Address, HEADER_WORDS};
-use nmgc_program::PackedCommand;
 use std::marker::{Brand, PhantomData};
 
-/// A weak pointer's value is loaded by a command.
+/// The step in which a command loads a weak pointer's value.
 pub struct Derefs<C> {
     asked: PhantomData<C>,
 }
@@ -27,7 +27,7 @@ impl<C: Asked> Play<(), View> for Derefs<C> {
     ghost then = { λ s m n w. ((w.0 ≡ weak_read m.0 C.command n) × (n ≢ 0 → IsSafe m.0.opening n)) × (w.1 ≡ []) };
 }
 
-/// A weak pointer's value is taken by a command.
+/// The step in which a command takes a weak pointer's value.
 pub struct Finalises<A, C> {
     place: PhantomData<A>,
     asked: PhantomData<C>,
@@ -57,10 +57,9 @@ impl Round {
             .load::<Derefs<C>>(seat, at.0 as usize + HEADER_WORDS as usize + 1)
     }
 
-    /// Loads the value of a weak pointer; 0 where it is dead. The `deref` that reads it takes its place here: its
-    /// row has the word as its answer, or that the weak pointer is dead. A value is at the end of the words that
-    /// the view's steps found, and while marking it is owed from this step on. Where it is a pointer, an object
-    /// is there within the heap's words.
+    /// Loads the value of a weak pointer and returns its word, or 0 if there is none. This is the position of the `deref` in
+    /// the order: its row answers the word or `dead`. A value is at the end of the words that the view's steps found, and
+    /// while marking it is owed from this step on. If it is a pointer, its object is within the heap's words.
     pub fn load_weak(&self, seat: &mut MutatorSeat, at: Address, command: &PackedCommand) -> u64
         requires seat { IsAt self.now seat.old }
         requires ready { Mutates (λ o p. CanDeref o p at.0 command.now) (seen seat.old) }
@@ -91,11 +90,10 @@ impl Round {
             .swap::<Finalises<A, C>>(seat, at.0 as usize + HEADER_WORDS as usize + 1, 0)
     }
 
-    /// Takes the value of a weak pointer, and leaves it dead; answers the value's word, or 0 where it was dead. The
-    /// `finalise` that asks for it takes its place here: its row has the finaliser as its answer, or that the weak
-    /// pointer is dead. Where it was alive, the weak pointer, its value and its finaliser are at the end of the
-    /// words that the view's steps found, and while marking they are owed from this step on; and where the
-    /// finaliser is a pointer, an object is there within the heap's words.
+    /// Kills a weak pointer and returns the word of its value, or 0 if it was dead before. This is the position of the
+    /// `finalise` in the order: its row has the finaliser as its answer, or that the weak pointer is dead. If it was alive,
+    /// the weak pointer, its value and its finaliser are at the end of the words that the view's steps found. While marking
+    /// they are owed from this step on. If the finaliser is a pointer, its object is within the heap's words.
     pub fn swap_weak(&self, seat: &mut MutatorSeat, at: Address, command: &PackedCommand) -> u64
         requires seat { IsAt self.now seat.old }
         requires ready { Mutates (λ o p. CanFinalise o p at.0 command.now) (seen seat.old) }

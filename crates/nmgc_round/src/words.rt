@@ -1,19 +1,18 @@
-//! The words of a run, where one thread alone reads and writes them.
+//! The words of a run, while one thread alone reads and writes them.
 //!
-//! They lie in one table from the beginning of the run on. As the run ends the table is closed, and the report has it. Between rounds the table has one seat
-//! that may step, and its view is the list of all words: so a load tells the word, a store changes the
-//! list, and contracts see the whole as that list. A round takes the words and gives them back, and copies
+//! They lie in one table from the beginning of the run on. As the run ends the table is closed, and the report has it.
+//! Between rounds the table has one seat that may step, and its view is the list of all words. So a load answers the word, a
+//! store changes the list, and contracts see the whole as that list. A round takes the words and gives them back, and copies
 //! none. Code for a stop is written over the trait `HeapWords`, which a plain list implements too.
 //!
-//! Easy to get wrong: each store is ordered with all others and costs several times a load. So a stop writes
-//! no word that stays as it is.
+//! Easy to get wrong: each store is ordered with all stores and costs several loads. So a stop writes no unchanged word.
 ghost use Rattle.std.specs.{Prelude.◌≡◌, Prelude.◌<◌, Prelude.IfOk, Prelude.length, Prelude.set, Prelude.slice_index, Slots.slots_items, Slots.slots_len, Slots.IsFull};
 ghost use Rattle.nmgc_round.specs.Stop.{IsSole};
 
-use crate::chosen::{Chosen, Wanted};
 use crate::plays::{Reads, Writes};
 use crate::table::{MutatorSeat, Shared};
 use crate::view::Stored;
+use crate::witness::{Witness, WitnessFor};
 use atomic_table::{Closed, Table};
 use nmgc_heap_spec::HeapWords;
 use nmgc_lists::NoMemory;
@@ -41,29 +40,29 @@ impl Model for Words {
 /// The words that a table is made with.
 pub(crate) struct Copied;
 
-impl<'a> Wanted<&'a [u64], Stored> for Copied {
+impl<'a> WitnessFor<&'a [u64], Stored> for Copied {
     ghost wanted = { λ words x. x ≡ words.now };
 }
 
 impl Words {
-    /// These words, of which there is at least one.
+    /// Makes a table of these words. There has to be at least one word.
     pub fn new(alloc: Global, words: &[u64]) -> Result<Words, NoMemory>
         requires { 0 < length words.now }
         ensures { IfOk result (λ w. w ≡ words.now) }
     {
-        let first: Chosen<Stored> = Chosen::of::<&[u64], Copied>(&words);
+        let first: Witness<Stored> = Witness::of::<&[u64], Copied>(&words);
         let (table, seat) = Table::of_words(alloc, words, &first)?;
         Ok(Words { table, seat })
     }
 
-    /// How many words there are.
+    /// Returns the number of words.
     pub fn len(&self) -> usize
         ensures { result ≡ length self.now }
     {
         self.table.word_count()
     }
 
-    /// The word at a place. No word changes. Takes no memory.
+    /// Loads the word at an address and returns it. No word changes. Takes no memory.
     pub fn load(&mut self, at: usize) -> u64
         requires { at < length self.old }
         ensures same { self.new ≡ self.old }
@@ -74,7 +73,7 @@ impl Words {
         table.shared.load::<Reads>(seat, at)
     }
 
-    /// Another word stands at a place. All others stay. Takes no memory.
+    /// Stores a word at an address. All other words stay. Takes no memory.
     pub fn store(&mut self, at: usize, word: u64)
         requires { at < length self.old }
         ensures { self.new ≡ set self.old at word }
@@ -84,8 +83,8 @@ impl Words {
         table.shared.store::<Writes>(seat, at, word)
     }
 
-    /// The table, closed: it has these words, all of them and nothing else, and nobody writes them any more. Copies none
-    /// and takes no memory. Whoever has the table gives its memory back, by `Closed::free`.
+    /// Closes the table: it has exactly these words, and no thread writes them any more. Copies none and takes no memory. The
+    /// owner of the table gives its memory back, by `Closed::free`.
     pub fn close(self) -> Closed<(), Global>
         ensures full { IsFull result.words }
         ensures words { slots_items result.words ≡ self }

@@ -4,6 +4,6 @@ use Rattle.nmgc_world_spec.specs.{World.World, World.IsWorld, History.Row, Histo
 use Rattle.nmgc_world_laws.specs.Reachable.{CanReplay}
 use Rattle.nmgc_heap_spec.specs.Represents.{IsEarlier}
 
--- no command changes the header of an object
+-- the law that no command changes the header of an object
 abbrev pub RowsKeepHeaders : Type 0
 RowsKeepHeaders = (w : World) (rows : List Row) → IsWorld w → CanReplay w rows → IsEarlier w (replayed w rows)

@@ -1,4 +1,4 @@
--- What the limits of a script give its runs: a layout, and numbers and objects within the limits at every state.
+-- The limits of a script in its runs: a layout, and numbers and objects within the limits at every state.
 use Rattle.std.specs.Prelude.{ℕ, ◌-◌, ◌<◌, ◌^◌, List, length, All}
 use Rattle.nmgc_world_spec.specs.{declared.command.Command.Command, declared.command.Reply.Reply, Command.Fits, History.Row}
 use Rattle.nmgc_world_laws.specs.Limits.{IsWithin}
@@ -7,31 +7,31 @@ use Rattle.nmgc_script.specs.{Limits.FitsScript, declared.script.Script.Script}
 use Rattle.nmgc_run_spec.specs.{Round.IsRound, Run.Run, Run.IsRun, Run.last_state, Slice.program_of, State.Plan, State.State, State.plan_of, State.layout_of}
 use Rattle.nmgc_run_laws.specs.Sound.{IsRunnable, IsSoundState}
 
--- each command of the programs is one that a script may have
+-- each command of the programs is within the limits of a script
 abbrev pub AreFitting : Plan → List (List Command) → Type 0
 AreFitting plan programs = (m : ℕ) → All (Fits plan.config.words) (program_of programs m)
 
--- the world is within the limits, and what is left of the programs
+-- the world and the rest of the programs are within the limits
 pub record IsWithinLimits (plan : Plan) (s : State) : Type 0 where
   pub world : IsWithin plan.config.words s.world
   pub left : AreFitting plan s.left
 
--- a script within the limits has a layout, and commands that fit; its plan is runnable where its programs are short
--- enough for serials, as any that can be read are
+-- a script whose plan is good: it has a layout, and its commands are within the limits. The plan is runnable if its programs
+-- are short enough for serials, as all programs that can be read are
 pub record HasGoodPlan (script : Script) : Type 0 where
   pub layout : IsLayout (layout_of (plan_of script))
   pub fit : AreFitting (plan_of script) script.threads
   pub runnable : ((m : ℕ) → length (program_of script.threads m) < 2 ^ 32 - 1) → IsRunnable (plan_of script)
 
--- each script within the limits has one
+-- the law that the plan of a script within the limits is good: it has a layout, and its commands are within the limits
 abbrev pub ScriptsHaveGoodPlans : Type 0
 ScriptsHaveGoodPlans = (script : Script) → FitsScript script → HasGoodPlan script
 
--- every state of a run is within the limits
+-- the law that every state of a run is within the limits
 abbrev pub StatesAreWithin : Type 0
 StatesAreWithin = (plan : Plan) (run : Run) → IsRunnable plan → AreFitting plan plan.threads → IsRun plan run → IsWithinLimits plan (last_state run)
 
--- and so is every round from such a state
+-- the law that each round from a sound state within the limits has commands within the limits and ends in a state within them
 abbrev pub RoundsAreWithin : Type 0
 RoundsAreWithin = (plan : Plan) (s t : State) (replies : List (List Reply)) (rows : List Row) → IsSoundState plan s → IsWithinLimits plan s →
     IsRound plan.config s replies rows t → All (λ (row : Row). Fits plan.config.words row.command) rows × IsWithinLimits plan t

@@ -1,4 +1,4 @@
--- Laws of runs, as statements. Each is proved where a function of `laws` has it.
+-- Laws of runs, as statements. The functions of `laws` prove them.
 use Rattle.std.specs.Prelude.{ℕ, ◌≡◌, ◌≤◌, ◌↔◌, ◌+◌, ◌-◌, ◌*◌, ◌/◌, ◌^◌, List, [], ◌∷◌, ◌++◌, length, drop, slice_index_or, count_by, All, Some}
 use Rattle.nmgc_object.specs.{Places.IsLayout, Places.class_count, declared.layout.Layout.Layout, declared.size.TheConstants.DENSE_CLASS, declared.size.TheConstants.DENSE_WORDS}
 use Rattle.nmgc_segment.specs.declared.state.State.TheVariants as stands
@@ -6,71 +6,72 @@ use Rattle.nmgc_segment.specs.Segment.{Segment}
 use Rattle.nmgc_alloc.specs.Numbered.{is}
 use Rattle.nmgc_journal.specs.{declared.report.RoundRows.RoundRows, declared.report.Report.Report, declared.report.StopRow.StopRow, declared.report.CycleRow.CycleRow, declared.report.End.End}
 use Rattle.nmgc_script.specs.{Limits.FitsScript, Limits.upgraded, Limits.HasFewCommands, declared.script.Script.Script}
-use Rattle.nmgc_run_spec.specs.{Slice.program_of, State.Plan, Stop.answer_of, Lawful.IsLawful, Lawful.IsLawfulFor, Crowded.IsRunOf}
-use Rattle.nmgc_run_spec.specs.Run.{Run, Turn, IsRun, IsTurn, Tells, last_state, with_turn}
+use Rattle.nmgc_run_spec.specs.{Slice.program_of, State.Plan, Stop.answer_of, Lawful.IsLawful, Lawful.IsLawfulFor, Crowded.IsRunOf, Run.Run, Run.Turn, Run.IsRun, Run.IsTurn, Run.AreRowsOf, Run.last_state, Run.with_turn}
 
--- the classes of a layout: those of dense blocks, and one more for each doubling of the words of its segments above them
+-- the law that a layout has the classes of dense blocks, and one for each doubling from `DENSE_WORDS` to a segment's words
 abbrev pub ClassesAreCounted : Type 0
 ClassesAreCounted = (layout : Layout) (doublings : ℕ) → IsLayout layout → layout.words ≡ DENSE_WORDS * 2 ^ doublings →
     class_count layout ≡ DENSE_CLASS + 1 + doublings
 
--- how many commands of a mutator the rounds answered
+-- the number of a mutator's commands that the rounds answered
 abbrev pub answered_count : List RoundRows → ℕ → ℕ
 answered_count [] m = 0
 answered_count (rows ∷ rounds) m = length (slice_index_or rows.replies m []) + answered_count rounds m
 
--- what is left of a program are the commands that no round answered: the report determines them
-abbrev pub LeftIsTold : Type 0
-LeftIsTold = (plan : Plan) (run : Run) (rounds : List RoundRows) (stops : List StopRow) (cycles : List CycleRow) → IsRun plan run →
-    Tells run rounds stops cycles → (m : ℕ) → program_of (last_state run).left m ≡ drop (answered_count rounds m) (program_of plan.threads m)
+-- the law that the report determines the rest of each program: the commands that no round answered
+abbrev pub LeftIsDetermined : Type 0
+LeftIsDetermined = (plan : Plan) (run : Run) (rounds : List RoundRows) (stops : List StopRow) (cycles : List CycleRow) → IsRun plan run →
+    AreRowsOf run rounds stops cycles → (m : ℕ) → program_of (last_state run).left m ≡ drop (answered_count rounds m) (program_of plan.threads m)
 
--- the free segments that the last of the rows tells
-abbrev pub free_told : List StopRow → ℕ
-free_told [] = 0
-free_told (row ∷ []) = row.free
-free_told (row ∷ next ∷ rows) = free_told (next ∷ rows)
+-- the number of free segments in the row of the last stop
+abbrev pub last_free_count : List StopRow → ℕ
+last_free_count [] = 0
+last_free_count (row ∷ []) = row.free
+last_free_count (row ∷ next ∷ rows) = last_free_count (next ∷ rows)
 
--- the row of the last stop counts the free segments that the report's heap has
+-- the law that the row of the last stop counts the free segments of the report's heap
 abbrev pub FreeIsReal : Type 0
 FreeIsReal = (plan : Plan) (report : Report) → IsLawfulFor plan report →
-    free_told report.stops ≡ count_by (λ (segment : Segment). is segment.state stands.Free) report.segments.segments
+    last_free_count report.stops ≡ count_by (λ (segment : Segment). is segment.state stands.Free) report.segments.segments
 
--- a report is lawful for a script whatever its version: the plan is the same
+-- the law that a report is lawful for a script whatever the script's version: the plan is the same
 abbrev pub VersionIsNothing : Type 0
 VersionIsNothing = (script : Script) (version : ℕ) (report : Report) → IsLawful script report ↔ IsLawful (record script { version = version }) report
 
--- so a report is lawful for a script exactly where it is lawful for its upgrade
+-- the law that a report is lawful for a script exactly if it is lawful for the script's upgrade
 abbrev pub UpgradeIsNothing : Type 0
 UpgradeIsNothing = (script : Script) (report : Report) → IsLawful script report ↔ IsLawful (upgraded script) report
 
--- once a run has ended, there is a row for each cycle that was begun
+-- the law that the report of a run that has ended has a row for each cycle begun
 abbrev pub EachCycleHasItsRow : Type 0
 EachCycleHasItsRow = (plan : Plan) (run : Run) (rounds : List RoundRows) (stops : List StopRow) (cycles : List CycleRow) (end : End) →
-    IsRun plan run → Tells run rounds stops cycles → answer_of plan (last_state run) ≡ Some end → length cycles ≡ (last_state run).begun
+    IsRun plan run → AreRowsOf run rounds stops cycles → answer_of plan (last_state run) ≡ Some end → length cycles ≡ (last_state run).begun
 
--- a row tells of a cycle that was closed at most (kept - 1) / quota + 1 rounds after its snapshot, rounded down
+-- a cycle closed soon, by its row: at most (kept - 1) / quota + 1 rounds (rounded down) after its snapshot. These are the
+-- rounds that scan one object fewer than it kept, and one more
 abbrev pub IsClosedSoon : ℕ → CycleRow → Type 0
 IsClosedSoon quota row = row.closed ≤ row.from + ((row.kept - 1) / quota + 1)
 
--- so does each of a lawful report of a script within the limits, also where a full cycle closed the cycle
+-- the law that each cycle in a lawful report of a script within the limits was closed soon, even if a full cycle closed it
 abbrev pub ClosingsAreSoon : Type 0
 ClosingsAreSoon = (script : Script) (report : Report) → FitsScript script → IsLawful script report →
     All (IsClosedSoon script.config.quota) report.cycles
 
--- a run with one turn more at its end is a run
+-- the law that a run with a further round and its stop at the end is a run
 abbrev pub RunGoesOn : Type 0
 RunGoesOn = (plan : Plan) (run : Run) (turn : Turn) → IsRun plan run → IsTurn plan (last_state run) turn → IsRun plan (with_turn run turn)
 
--- of it is told what was told before, and what the turn tells
-abbrev pub TellsOneMore : Type 0
-TellsOneMore = (run : Run) (turn : Turn) (rounds : List RoundRows) (stops : List StopRow) (cycles : List CycleRow) → Tells run rounds stops cycles →
-    Tells (with_turn run turn) (rounds ++ turn.replies ∷ []) (stops ++ turn.stop.row ∷ []) (cycles ++ turn.stop.cycles)
+-- the law that the report of a run that goes on by a round and its stop is the report before with their replies and rows
+abbrev pub AddsOneTurn : Type 0
+AddsOneTurn = (run : Run) (turn : Turn) (rounds : List RoundRows) (stops : List StopRow) (cycles : List CycleRow) → AreRowsOf run rounds stops cycles →
+    AreRowsOf (with_turn run turn) (rounds ++ turn.replies ∷ []) (stops ++ turn.stop.row ∷ []) (cycles ++ turn.stop.cycles)
 
--- and its last state is that of the turn
+-- the law that the last state of a run that goes on by a round and its stop is the state after this stop
 abbrev pub LastIsOfTurn : Type 0
 LastIsOfTurn = (run : Run) (turn : Turn) → last_state (with_turn run turn) ≡ turn.stop.state
 
--- every lawful report of a script within the limits is one of its run, and that run is the one for which it is lawful
+-- the law that each lawful report of a script within the limits, with few enough commands, is a report of the script's run,
+-- and of the run for which it is lawful
 abbrev pub LawfulAreOfRuns : Type 0
 LawfulAreOfRuns = (script : Script) (report : Report) → FitsScript script → HasFewCommands script → (lawful : IsLawful script report) →
     (run : IsRunOf script report) × (run.lawful ≡ lawful)

@@ -1,59 +1,57 @@
-//! What holds of runs.
+//! The laws of runs.
 //!
-//! Each function's contract is a law, so that the definitions of `nmgc_run_spec` are seen to say what they should. A body does
-//! nothing but call the laws that its proof rests on.
-ghost use Rattle.nmgc_run_laws.specs.Statements.{ClassesAreCounted, RunGoesOn, TellsOneMore, LastIsOfTurn, LeftIsTold, FreeIsReal, VersionIsNothing, UpgradeIsNothing, EachCycleHasItsRow, ClosingsAreSoon, LawfulAreOfRuns};
+//! Each function's contract is a law that tests the definitions of `nmgc_run_spec`. A body only calls the laws that it needs.
+ghost use Rattle.nmgc_run_laws.specs.Statements.{ClassesAreCounted, RunGoesOn, AddsOneTurn, LastIsOfTurn, LeftIsDetermined, FreeIsReal, VersionIsNothing, UpgradeIsNothing, EachCycleHasItsRow, ClosingsAreSoon, LawfulAreOfRuns};
 ghost use Rattle.nmgc_run_laws.specs.{Places.BlocksAtStop, Places.BlocksAfterRound, Places.BlocksArePlaces, Sound.StatesAreSound, Sound.RoundsAreSound, Sound.TrackedHaveBlocks, Course.RunsAreInCourse, Course.RoundsStayInCourse, Course.PromotionsStayInCourse, Course.CyclesBeginInCourse, Limits.ScriptsHaveGoodPlans, Limits.StatesAreWithin, Limits.RoundsAreWithin};
 
 use nmgc_alloc::laws::counts;
 use nmgc_object::laws::words_differ;
 
-/// A layout has the classes of dense blocks, and one more for each doubling of the words of its segments above them.
+/// Proves how many classes a layout has: the classes of dense blocks, and one more for each doubling that leads from
+/// `DENSE_WORDS` to the words of a segment.
 pub fn classes_are_counted()
     ensures { ClassesAreCounted }
 {}
 
-/// A run goes on by one turn at its end, which tells its replies, the row of its stop and the rows of its
-/// cycles.
+/// Proves that a run with a further round and its stop at the end is a run. Its report is the report before with the replies
+/// and rows of this round and stop, and its last state is the state after this stop.
 pub fn run_goes_on()
     ensures run { RunGoesOn }
-    ensures tells { TellsOneMore }
+    ensures agrees { AddsOneTurn }
     ensures last { LastIsOfTurn }
 {}
 
-/// What is left of each program are the commands that no round of the report answered.
-pub fn left_is_told()
-    ensures { LeftIsTold }
+/// Proves that the rest of each program is the commands that no round of the report answered.
+pub fn left_is_determined()
+    ensures { LeftIsDetermined }
 {}
 
-/// The last stop's row counts the free segments of the report's heap.
+/// Proves that the last stop's row counts the free segments of the report's heap.
 pub fn counts_are_real()
     ensures { FreeIsReal }
 {
     counts();
 }
 
-/// The version of a script says nothing of its reports: a report is lawful for a script exactly where it is lawful for
-/// its upgrade.
+/// Proves that a script's version doesn't matter: a report is lawful for a script exactly if it is lawful for its upgrade.
 pub fn version_is_nothing()
     ensures version { VersionIsNothing }
     ensures upgrade { UpgradeIsNothing }
 {}
 
-/// Once a run has ended, its report has a row for each cycle that was begun.
+/// Proves that the report of a run that has ended has a row for each cycle that was begun.
 pub fn each_cycle_has_its_row()
     ensures { EachCycleHasItsRow }
 {}
 
-/// Each cycle of a lawful report of a script within the limits was closed at most (kept - 1) / quota + 1 rounds after its
-/// snapshot, rounded down, where the quota is how many objects a round scans at most: also one that a full cycle closed.
+/// Proves that each cycle in a lawful report of a script within the limits was closed at most (kept - 1) / quota + 1 rounds
+/// (rounded down) after its snapshot, even if a full cycle closed it. A round scans at most `quota` objects.
 pub fn closings_are_soon()
     ensures { ClosingsAreSoon }
 {}
 
-/// The places in segments are exactly those of the blocks in use, each with an object that fits its
-/// block: so they are at a stop and after a round, and where they are so after a promotion, they are what
-/// a stop asks.
+/// Proves that at a stop and after a round, the places in segments are exactly the blocks in use, and each object fits its
+/// block. If this holds after a promotion, the places are as a stop needs them.
 pub fn places_are_blocks()
     ensures at_stop { BlocksAtStop }
     ensures after_round { BlocksAfterRound }
@@ -62,16 +60,15 @@ pub fn places_are_blocks()
     words_differ();
 }
 
-/// Every state of a run is sound, and so is each round from a sound state: so at every stop each name that
-/// anybody may still speak of has its block.
+/// Proves that states of a run are sound, and rounds from sound states. So at stops tracked names except g have blocks.
 pub fn tracked_names_have_blocks()
     ensures states { StatesAreSound }
     ensures rounds { RoundsAreSound }
     ensures blocks { TrackedHaveBlocks }
 {}
 
-/// The cycle in progress is the last that was begun, at this stop or before; while it marks, exactly the segments wait
-/// that were filled as it began, and each that still waits has its names of then. While none is in progress, none waits.
+/// Proves that the cycle in progress is the last one begun, at this stop or before. While it marks, exactly the segments
+/// filled when it began wait. A segment that waits has its names of then. While no cycle is in progress, no segment waits.
 pub fn cycles_are_in_course()
     ensures runs { RunsAreInCourse }
     ensures rounds { RoundsStayInCourse }
@@ -79,16 +76,15 @@ pub fn cycles_are_in_course()
     ensures begins { CyclesBeginInCourse }
 {}
 
-/// The limits of a script give its runs a layout, and hold of worlds and of what is left of the programs at
-/// every state and through every round.
+/// Proves that a script's limits give a layout, and hold for the world and the programs left in every state and every round.
 pub fn limits_stay()
     ensures scripts { ScriptsHaveGoodPlans }
     ensures states { StatesAreWithin }
     ensures rounds { RoundsAreWithin }
 {}
 
-/// Every lawful report of a script within the limits is one of its run, and that run is the one for which it is lawful:
-/// it ends as heap full exactly where the run's last stop leaves the heap full, and then that stop is crowded.
+/// Proves that a lawful report of a script within the limits, with few enough commands, is a report of the run for which it
+/// is lawful. It ends as heap full exactly if that run's last stop leaves the heap full, and then the last stop is crowded.
 pub fn lawful_are_of_runs()
     ensures { LawfulAreOfRuns }
 {}

@@ -1,48 +1,49 @@
--- When a run ends as heap full, and what it kept then.
+-- When a run ends as heap full, and how many objects it kept then.
 --
--- A stop does a full cycle before it gives the run up. Such a cycle begins with some world and is closed at
--- once, so what it keeps is what can be reached in that world, by the weak-pointer rule. A segment that it
--- leaves in use has an object that it kept. So where too few segments are free after it, it kept more objects
--- than there are segments above the reserve.
+-- A stop does a full cycle before it gives the run up. Such a cycle is closed at once, so it keeps the objects that can be
+-- reached, by the weak-pointer rule, in the world with which it begins. Each segment that it leaves in use has an object that
+-- it kept. So if too few segments are free after it, it kept more objects than there are segments above the reserve.
 use Rattle.std.specs.Prelude.{ℕ, ◌≡◌, ◌≢◌, ◌+◌, ◌<◌, ◌↔◌, List, [], ◌∷◌, length, true}
 use Rattle.nmgc_world_spec.specs.{declared.value.Name.Name, World.World, World.new_world, Step.shared_name, Reach.IsKept, Listing.Counts}
 use Rattle.nmgc_journal.specs.{declared.report.Report.Report, declared.report.End.End, declared.report.End.TheVariants.Done, declared.report.End.TheVariants.HeapFull, Summary.kept_count}
 use Rattle.nmgc_script.specs.declared.script.Script.{Script}
 use Rattle.nmgc_run_spec.specs.{Closing.ClosesNow, Lawful.IsLawful, Run.Run, Run.Stop, Run.Turn, Run.IsRun, Run.IsTurn, Run.AreTurns, State.Plan, State.State, State.plan_of, State.reserve_of, State.start, Stop.IsStop, Stop.DoesFullCycle, Stop.is_short}
 
--- a stop in a run: the world as the round before it began, the state after that round, and what the stop did
+-- a stop in a run: the world as the round before it began, the state after that round, and the stop's result
 pub record StopInRun (plan : Plan) : Type 0 where
   pub began : World
   pub worked : State
   pub stop : Stop
   pub is : IsStop plan began worked stop.state stop.row stop.cycles
 
--- the opening stop
+-- the opening stop of a run
 abbrev pub opening_stop : (plan : Plan) (run : Run) → IsRun plan run → StopInRun plan
 opening_stop plan run i = record { began = new_world (length plan.threads); worked = start plan; stop = run.opening; is = i.opening }
 
--- the stop of a turn
+-- the stop after a round
 abbrev pub next_stop : (plan : Plan) (before : StopInRun plan) (turn : Turn) → IsTurn plan before.stop.state turn → StopInRun plan
 next_stop plan before turn i = record { began = before.stop.state.world; worked = turn.worked; stop = turn.stop; is = i.stop }
 
--- after a stop and turns, the stop of the last turn; the stop itself where there is none
+-- the last stop of a list of rounds after a stop: the stop of the last round, or the stop before if there is no round
 abbrev pub last_after : (plan : Plan) (before : StopInRun plan) (turns : List Turn) → AreTurns plan before.stop.state turns → StopInRun plan
 last_after plan before [] i = before
 last_after plan before (turn ∷ turns) i = last_after plan (next_stop plan before turn i.0) turns i.1
 
--- the last stop of a run
+-- the last stop of a run: the stop of the last round, or the opening stop, with the world and the state before it
 abbrev pub last_stop : (plan : Plan) (run : Run) → IsRun plan run → StopInRun plan
 last_stop plan run i = last_after plan (opening_stop plan run i) run.turns i.turns
 
--- the world with which a full cycle begins at a stop, or would begin: a cycle that is still marking is closed before, and its dead weak pointers die
+-- the world with which a full cycle at a stop would begin: the stop's world, once its objects were promoted and a cycle that
+-- was still marking was closed. If the stop did a full cycle, this cycle began with that world
 abbrev pub BeginsFullWith : (plan : Plan) → StopInRun plan → World → Type 0
 BeginsFullWith plan stop w = (closed : State) × ClosesNow stop.is.ended.progress stop.is.ended closed × (w ≡ closed.world)
 
--- an object that a cycle keeps which begins with this world and is closed at once: nothing was opened or finalised since; g is none
+-- an object other than g that is kept by a cycle that begins with this world and is closed at once
 abbrev pub IsKeptOf : World → Name → Type 0
 IsKeptOf w name = IsKept w [] [] name × (name ≢ shared_name)
 
--- a stop is crowded: the world with which a full cycle would begin at it keeps more objects than there are segments above the reserve
+-- a crowded stop: the world with which a full cycle would begin there keeps more objects than there are segments above the
+-- reserve. Objects are names except g that are live in that world, or kept by the finalisers of its dead weak pointers
 pub record IsCrowded (plan : Plan) (stop : StopInRun plan) : Type 0 where
   pub world : World
   pub begins : BeginsFullWith plan stop world
@@ -50,7 +51,7 @@ pub record IsCrowded (plan : Plan) (stop : StopInRun plan) : Type 0 where
   pub counts : Counts (IsKeptOf world) kept
   pub more : plan.config.segments < kept + reserve_of plan
 
--- a stop leaves the heap full: although it did a full cycle, it leaves fewer segments free than the reserve, and commands are left
+-- a stop that leaves the heap full: it did a full cycle, yet commands are left and fewer segments are free than the reserve
 pub record LeavesHeapFull (plan : Plan) (stop : StopInRun plan) : Type 0 where
   pub cycle : DoesFullCycle stop.is.ended stop.stop.state stop.is.more
   pub short : is_short plan stop.stop.state ≡ true
@@ -60,15 +61,15 @@ abbrev pub IsHeapFull : End → Type 0
 IsHeapFull Done = ⊥
 IsHeapFull (HeapFull free reserve) = Unit {0}
 
--- a report of a script's run: it is lawful, and its end is heap full exactly where the last stop leaves the heap
--- full. Then the last cycle kept more objects than there are segments above the reserve, and the last stop is crowded
+-- a report of a script's run: it is lawful, and its end is heap full exactly if the run's last stop leaves the heap full. In
+-- that case the last cycle kept more objects than there are segments above the reserve, and the last stop is crowded
 pub record IsRunOf (script : Script) (report : Report) : Type 0 where
   pub lawful : IsLawful script report
   pub full : IsHeapFull report.end ↔ LeavesHeapFull (plan_of script) (last_stop (plan_of script) lawful.run lawful.is_run)
   pub kept : IsHeapFull report.end → script.config.segments < kept_count report.cycles + reserve_of (plan_of script)
   pub crowded : IsHeapFull report.end → IsCrowded (plan_of script) (last_stop (plan_of script) lawful.run lawful.is_run)
 
--- a run of a report left the heap full by its cause: its last stop did a full cycle, left fewer segments free than the reserve, and is crowded
+-- a run that left the heap full, with the cause: its last stop did a full cycle, left too few segments free, and is crowded
 abbrev pub IsFullRun : (script : Script) (report : Report) → IsRunOf script report → Type 0
 IsFullRun script report run = LeavesHeapFull (plan_of script) (last_stop (plan_of script) run.lawful.run run.lawful.is_run) ×
     IsCrowded (plan_of script) (last_stop (plan_of script) run.lawful.run run.lawful.is_run)

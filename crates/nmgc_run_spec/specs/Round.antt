@@ -4,34 +4,35 @@ use Rattle.nmgc_world_spec.specs.{declared.command.Command.Command, declared.com
 use Rattle.nmgc_script.specs.declared.script.Config.{Config}
 use Rattle.nmgc_run_spec.specs.{Slice.slices, Slice.rest_of, Slice.some_asks, Slice.is_collect, Slice.is_full, State.State, State.Progress, State.marking, State.sweeping, State.waiting_count}
 use Rattle.nmgc_alloc.specs.AllocState.{AllocState, SweepsSome}
-use Rattle.nmgc_blocks_spec.specs.Cycle.{IsKeptIn}
+use Rattle.nmgc_stop_spec.specs.Cycle.{IsKeptIn}
 
 -- the rows of a mutator's commands with their replies
 abbrev pub answered : ℕ → List Command → List Reply → List Row
 answered m (c ∷ commands) (reply ∷ replies) = record { mutator = m; command = c; reply = reply } ∷ answered m commands replies
 answered m _ _ = []
 
--- what each mutator did in a round
+-- the rows of mutator `m` in a round
 abbrev pub own_rows : List (List Command) → List (List Reply) → ℕ → List Row
 own_rows commands replies m = answered m (slice_index_or commands m []) (slice_index_or replies m [])
 
--- the rows are the history of a round: one order of the commands, each with its reply, that is legal from this world
+-- the history of a round: its rows are the commands with their replies, in an order that is legal from this world
 pub record IsHistory (w : World) (commands : List (List Command)) (replies : List (List Reply)) (rows : List Row) : Type 0 where
   pub lengths : map length replies ≡ map length commands
   pub order : IsOrderOf (own_rows commands replies) rows
   pub legal : IsLegal w rows
 
--- a cycle that is marking takes note of the rows
+-- the progress after a round: a cycle that is marking takes note of the rows
 abbrev pub noted : Progress → List Row → Progress
 noted (marking c) rows = marking (record c { rows = c.rows ++ rows })
 noted progress rows = progress
 
--- what the collector sweeps beside a round: at most so many of the segments that wait
+-- the sweep beside a round: a cycle that is sweeping sweeps `quota` of the waiting segments, or all if fewer wait
 abbrev pub SweepsBeside : ℕ → Progress → AllocState → AllocState → Type 0
 SweepsBeside quota (sweeping c closed) old new = SweepsSome (IsKeptIn c) (min quota (waiting_count old)) old new
 SweepsBeside quota _ old new = new ≡ old
 
--- a round, from one stop to the next
+-- a round, from one stop to the next: the mutators do their slices, in an order that is legal from the world. Beside them, a
+-- cycle that is sweeping sweeps its quota
 pub record IsRound (config : Config) (s : State) (replies : List (List Reply)) (rows : List Row) (t : State) : Type 0 where
   pub history : IsHistory s.world (slices config s.left) replies rows
   pub swept : SweepsBeside config.quota s.progress s.allocation t.allocation

@@ -1,4 +1,4 @@
--- What a mutator does of its program in one round.
+-- The part of its program that a mutator does in one round.
 use Rattle.std.specs.Prelude.{ℕ, ◌-◌, List, [], ◌∷◌, length, map, drop, slice_index_or, Bool, true, false, ◌&&◌, nat_lt, nat_le, if◌then◌else◌}
 use Rattle.std.specs.List.{list_any}
 use Rattle.nmgc_world_spec.specs.{declared.command.Command.Command, declared.command.Command.TheVariants.Yield, declared.command.Command.TheVariants.Collect, declared.command.Command.TheVariants.Full, Command.words_made}
@@ -14,32 +14,33 @@ abbrev pub is_full : Command → Bool
 is_full Full = true
 is_full _ = false
 
--- a slice ends with the command
+-- the command ends a slice
 abbrev pub ends_slice : Command → Bool
 ends_slice Yield = true
 ends_slice Collect = true
 ends_slice Full = true
 ends_slice _ = false
 
--- the command still belongs to a slice with so many commands left, in a nursery with so many words left
+-- a slice that may have `commands` more commands, with `words` words left in the nursery, has room for this command
 abbrev pub is_next : ℕ → ℕ → Command → Bool
 is_next commands words c = nat_lt 0 commands && nat_le (words_made c) words
 
--- the slice of a program: up to the first command that ends it, or the first that no longer belongs to it
+-- the slice of a program: its first commands, up to and with the first that ends a slice, or up to the first without room
 abbrev pub slice : ℕ → ℕ → List Command → List Command
 slice commands words [] = []
 slice commands words (c ∷ program) = if is_next commands words c then c ∷
     (if ends_slice c then [] else slice (commands - 1) (words - words_made c) program) else []
 
--- what a mutator does of the commands that it has left
+-- a mutator's slice in a round: its next commands, up to and with the first `yield`, `collect` or `full`. The slice has at
+-- most `config.slice` commands, and ends before the first whose object lacks room in the nursery
 abbrev pub slice_of : Config → List Command → List Command
 slice_of config left = slice config.slice config.nursery left
 
--- what is left of them then
+-- the commands of a program that are left after its slice
 abbrev pub rest_of : Config → List Command → List Command
 rest_of config left = drop (length (slice_of config left)) left
 
--- a program, by its mutator
+-- the program of mutator `m`
 abbrev pub program_of : List (List Command) → ℕ → List Command
 program_of programs m = slice_index_or programs m []
 
@@ -47,7 +48,7 @@ program_of programs m = slice_index_or programs m []
 abbrev pub slices : Config → List (List Command) → List (List Command)
 slices config left = map (slice_of config) left
 
--- some slice has such a command
+-- some slice has a command with this property
 abbrev pub some_asks : (Command → Bool) → List (List Command) → Bool
 some_asks such commands = list_any (list_any such) commands
 

@@ -1,4 +1,4 @@
--- A stop, step by step: promote; close; end; full cycle, or begin; and what the stop answers.
+-- A stop, step by step: promote, close, end, then do a full cycle or begin a cycle, with the stop's row and answer.
 use Rattle.std.specs.Prelude.{ℕ, ◌≡◌, ◌⊎◌, ◌≤◌, List, [], ◌∷◌, ◌++◌, Bool, true, false, not, ◌&&◌, nat_lt, Option, Some, None, if◌then◌else◌, length}
 use Rattle.nmgc_world_spec.specs.{World.World, Reach.Lists, Listing.ListsNumbers, Listing.Counts, declared.value.Name.Name}
 use Rattle.nmgc_segment.specs.declared.state.State.TheVariants as stands
@@ -7,15 +7,15 @@ use Rattle.nmgc_script.specs.declared.script.Config.{Config}
 use Rattle.nmgc_journal.specs.{declared.report.StopRow.StopRow, declared.report.CycleRow.CycleRow, declared.report.End.End, declared.report.End.TheVariants.Done, declared.report.End.TheVariants.HeapFull}
 use Rattle.nmgc_run_spec.specs.{Slice.has_left, Closing.ClosesOrWaits, Closing.ClosesNow, Closing.IsForcedSoon}
 use Rattle.nmgc_run_spec.specs.State.{Plan, State, Progress, idle, sweeping, phase_of, is_idle, free_count, waiting_count, layout_of, reserve_of, cycle_started}
-use Rattle.nmgc_blocks_spec.specs.Cycle.{Cycle, IsDeadIn, IsSweptIn, IsHadIn, IsFreedIn, IsKeptObject, IsKeptIn}
+use Rattle.nmgc_stop_spec.specs.{Cycle.Cycle, Cycle.IsDeadIn, Cycle.IsSweptIn, Cycle.IsHadIn, Cycle.IsFreedIn, Cycle.IsKeptObject, Cycle.IsKeptIn, Promoted.IsPromoted, Promoted.PlacesEach}
 use Rattle.nmgc_object.specs.declared.layout.Layout.{Layout}
-use Rattle.nmgc_blocks_spec.specs.Promoted.{IsPromoted, PlacesEach}
 
 -- no segment waits to be swept
 abbrev pub IsSwept : State → Type 0
 IsSwept s = NoneIs (IsIn stands.Sweeping) s.allocation
 
--- the row tells the census of the cycle, which was closed and ended at these stops
+-- the census of a cycle that was closed and ended at these stops: its dead weak pointers, number of kept objects, swept
+-- segments, their objects, and the freed objects. It depends only on the snapshot and the names opened and finalised since
 pub record IsCensus (c : Cycle) (closed ended : ℕ) (row : CycleRow) : Type 0 where
   pub number : row.number ≡ c.number
   pub from : row.from ≡ c.from
@@ -27,19 +27,19 @@ pub record IsCensus (c : Cycle) (closed ended : ℕ) (row : CycleRow) : Type 0 w
   pub dead : Lists (IsDeadIn c) row.dead
   pub kept : Counts (IsKeptObject c) row.kept
 
--- the cycle ends: its row tells its census, and the collector is idle
+-- the end of a cycle: its row reports its census, and the collector becomes idle
 pub record Ends (c : Cycle) (closed : ℕ) (s t : State) (cycles : List CycleRow) : Type 0 where
   pub row : CycleRow
   pub census : IsCensus c closed s.number row
-  pub told : cycles ≡ row ∷ []
+  pub cycles_are : cycles ≡ row ∷ []
   pub rest : t ≡ record s { progress = idle }
 
--- a cycle that is sweeping ends where no segment waits, and else goes on
+-- a cycle that is sweeping ends if no segment waits, and otherwise goes on
 abbrev pub EndsOrWaits : Progress → State → State → List CycleRow → Type 0
 EndsOrWaits (sweeping c closed) s t cycles = (IsSwept s × Ends c closed s t cycles) ⊎ ((IsSwept s → ⊥) × (t ≡ s) × (cycles ≡ []))
 EndsOrWaits _ s t cycles = (t ≡ s) × (cycles ≡ [])
 
--- what a full cycle sweeps at a stop: all that wait
+-- the sweep of a full cycle at a stop: it sweeps all waiting segments
 abbrev pub SweepsRest : Progress → AllocState → AllocState → Type 0
 SweepsRest (sweeping c closed) old new = SweepsSome (IsKeptIn c) (waiting_count old) old new
 SweepsRest _ old new = new ≡ old
@@ -53,7 +53,7 @@ pub record Finishes (s t : State) (cycles : List CycleRow) : Type 0 where
   pub others : swept ≡ record closed { allocation = swept.allocation }
   pub ends : EndsOrWaits swept.progress swept t cycles
 
--- some program has commands left, and fewer segments are free than the reserve
+-- the heap is short of segments: some program has commands left, and fewer segments are free than the reserve
 abbrev pub is_short : Plan → State → Bool
 is_short plan s = has_left s.left && nat_lt (free_count s) (reserve_of plan)
 
@@ -61,11 +61,11 @@ is_short plan s = has_left s.left && nat_lt (free_count s) (reserve_of plan)
 abbrev pub IsFullDue : Plan → State → Type 0
 IsFullDue plan s = (s.full ≡ true) ⊎ (is_short plan s ≡ true)
 
--- current and active segments are filed as filled, so that the next cycle sweeps every segment
+-- the state once current and active segments are filed as filled, so that the next cycle sweeps every segment
 abbrev pub with_all_retired : State → State
 with_all_retired s = record s { allocation = all_retired s.allocation }
 
--- a full cycle: a cycle in progress is finished, and then another begins and is finished
+-- a full cycle: any cycle in progress is closed, swept and ended, then another begins and is closed, swept and ended
 pub record DoesFullCycle (s t : State) (cycles : List CycleRow) : Type 0 where
   pub idled : State
   pub before : List CycleRow
@@ -73,23 +73,23 @@ pub record DoesFullCycle (s t : State) (cycles : List CycleRow) : Type 0 where
   pub last : State
   pub own : List CycleRow
   pub again : Finishes (cycle_started (with_all_retired idled)) last own
-  pub told : cycles ≡ before ++ own
+  pub cycles_are : cycles ≡ before ++ own
   pub rest : t ≡ record last { collect = false; full = false }
 
--- a cycle is due: none is in progress, and one was asked for, or enough segments were filled since the last one began
+-- a cycle is due: none is in progress, and one was asked for, or `trigger` segments (not 0) were filled since the last began
 abbrev pub IsCycleDue : Config → State → Type 0
 IsCycleDue config s = (is_idle s.progress ≡ true) × ((s.collect ≡ true) ⊎ ((1 ≤ config.trigger) × (config.trigger ≤ s.allocation.fresh)))
 
--- a cycle begins where one is due
+-- a cycle begins if it is due
 abbrev pub BeginsOrWaits : Config → State → State → Type 0
 BeginsOrWaits config s t = (IsCycleDue config s × (t ≡ record (cycle_started s) { collect = false })) ⊎ ((IsCycleDue config s → ⊥) × (t ≡ s))
 
--- a full cycle where one is due, which closes no cycle too late, else a cycle where one is due
+-- if a full cycle is due, the stop does it and closes no cycle too late; otherwise a cycle begins if it is due
 abbrev pub Proceeds : Plan → State → State → List CycleRow → Type 0
 Proceeds plan s t cycles = (IsFullDue plan s × DoesFullCycle s t cycles × IsForcedSoon plan.config.quota s.progress s.number) ⊎
     ((IsFullDue plan s → ⊥) × BeginsOrWaits plan.config s t × (cycles ≡ []))
 
--- the row of a stop that promoted so many objects
+-- the row of a stop that promoted `count` objects
 abbrev pub stop_row : State → ℕ → StopRow
 stop_row s count = record {
   number = s.number;
@@ -100,15 +100,16 @@ stop_row s count = record {
   promoted = count;
 }
 
--- the whole run is done
+-- the whole run is done: no commands are left, and no cycle is in progress
 abbrev pub is_done : State → Bool
 is_done s = not (has_left s.left) && is_idle s.progress
 
--- what a stop answers: an end, or that the run goes on
+-- the answer of a stop: heap full if the heap is short of segments; otherwise done if the run is done; otherwise none
 abbrev pub answer_of : Plan → State → Option End
 answer_of plan s = if is_short plan s then Some (HeapFull (free_count s) (reserve_of plan)) else (if is_done s then Some Done else None)
 
--- the objects that the round made are promoted in order of names; the world as the round began tells which are young
+-- the promotion of a round's objects: the promoted names are placed in order of names. The world as the round began, `began`,
+-- decides which objects are new
 pub record Promotes (layout : Layout) (began : World) (s t : State) (count : ℕ) : Type 0 where
   pub names : List Name
   pub lists : Lists (IsPromoted began s.world) names
@@ -116,7 +117,8 @@ pub record Promotes (layout : Layout) (began : World) (s t : State) (count : ℕ
   pub many : count ≡ length names
   pub rest : t ≡ record s { allocation = t.allocation }
 
--- a stop after a round that began with this world: the state after it, its row, and the rows of the cycles that it ended
+-- a stop after a round that began with world `began`: promote, close, end, then do a full cycle or begin a cycle. It gives
+-- the state after the stop, its row, and the rows of the cycles that it ended
 pub record IsStop (plan : Plan) (began : World) (s t : State) (row : StopRow) (cycles : List CycleRow) : Type 0 where
   pub promoted : State
   pub count : ℕ
@@ -128,5 +130,5 @@ pub record IsStop (plan : Plan) (began : World) (s t : State) (row : StopRow) (c
   pub ends : EndsOrWaits closed.progress closed ended first
   pub more : List CycleRow
   pub proceeds : Proceeds plan ended t more
-  pub told : cycles ≡ first ++ more
+  pub cycles_are : cycles ≡ first ++ more
   pub shown : row ≡ stop_row t count

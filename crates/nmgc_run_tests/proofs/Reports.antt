@@ -1,2 +1,2 @@
--- What the answer to a script's bytes says of its report.
+-- The report in the answer to a script's bytes.
 pub use Rattle.nmgc_cli.specs.laws.Common.{of_bytes}

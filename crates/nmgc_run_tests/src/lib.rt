@@ -1,4 +1,4 @@
-//! Tests of whole runs, and of images and paths in them.
+//! Tests of whole runs, of the images of their heaps, and of the paths that keep objects in them.
 #![tactic(auto)]
 
 #[cfg(test)]

@@ -1,10 +1,10 @@
-//! The top call over memory. What the program writes of scripts, images and other words is in `examples`; here are the tests that
-//! files can't say.
+//! The top call over memory. The program's output for scripts, images and other arguments is in `examples`; here are the
+//! tests that files can't express.
 //!
-//! - `faults`: scripts that are cut, and sources and sinks that fail. `large`: scripts of the most bytes, and the longest bench.
-//! - `marks`: two markers under a gate. `lines`: command lines, and the numbers of statuses. `running`: what the others share.
+//! - `faults`: scripts that are cut, and sources and sinks that fail. `large`: the longest script.
+//! - `marks`: two markers under a gate. `lines`: command lines, and the numbers of statuses. `running`: shared code.
 //!
-//! Tables are looked through by one function each, whose proof sees no row of them.
+//! Tables are checked by one function each, whose proof sees no row of them.
 mod faults;
 mod large;
 mod lines;

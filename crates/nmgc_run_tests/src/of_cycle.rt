@@ -1,9 +1,8 @@
-//! Whole runs, from the text of a script to the text of the report: with an open gate, and under gates at which
-//! two mutators wait for each other.
+//! Whole runs, from the text of a script to the text of the report: with an open gate, and under gates at which two mutators
+//! wait for each other.
 //!
-//! A gate gives up after many turns of its spin, and notes it, so a round that has its mutators on one thread
-//! fails the test and doesn't hang. What is read under a gate is told too, so a round whose threads only pass the
-//! gate fails as well.
+//! A gate gives up after a long spin, and notes it, so a round that has its mutators on one thread fails the test and doesn't
+//! hang. The numbers read under a gate are checked too, so a round whose threads only pass the gate fails as well.
 ghost use Rattle.std.specs.Prelude.{IfOk};
 ghost use Rattle.nmgc_script.specs.Limits.{IsInLimits};
 
@@ -34,7 +33,7 @@ pub(crate) fn script_of(alloc: Global, text: &str) -> Result<Script, Fail>
 }
 
 // The text of the script's report.
-pub(crate) fn told<R: Threads + Sync, G: Gate>(
+pub(crate) fn reported<R: Threads + Sync, G: Gate>(
     alloc: Global,
     rt: &R,
     script: &str,
@@ -46,20 +45,20 @@ pub(crate) fn told<R: Threads + Sync, G: Gate>(
 }
 
 // Whether the script's report has this text.
-pub(crate) fn tells<R: Threads + Sync, G: Gate>(
+pub(crate) fn reports<R: Threads + Sync, G: Gate>(
     alloc: Global,
     rt: &R,
     script: &str,
     report: &str,
     gate: &G,
 ) -> Result<bool, Fail> {
-    let bytes = told(alloc, rt, script, gate)?;
+    let bytes = reported(alloc, rt, script, gate)?;
     Ok(bytes.as_slice() == report.as_bytes())
 }
 
-// Word 0 belongs to nobody. After it come g's header, 3 + 2048 * 16 for an array of 16 fields, its name and its slots: in
-// the first two are pointers to 0.0 at word 32 and to 1.0 in the next segment, and in the third is nil. The words between
-// the last slot and the first segment are 0 and belong to nobody either.
+// Word 0 is unused. After it come g's header, 3 + 2048 * 16 for an array of 16 fields, its name and its slots. The first two
+// slots point to 0.0 at word 32 and to 1.0 in the next segment, and the third is nil. The words between the last slot and the
+// first segment are 0, and unused too.
 #[test]
 fn a_report_has_the_words_of_the_heap(rt: HostRuntime) -> Result<(), Fail> {
     let script = script_of(rt.alloc(), EXCHANGE)?;
@@ -78,11 +77,27 @@ fn a_report_has_the_words_of_the_heap(rt: HostRuntime) -> Result<(), Fail> {
 
 #[test]
 fn a_thunk_gets_one_result(rt: HostRuntime) -> Result<(), Fail> {
-    for _ in 0..1000u32 {
-        let bytes = told(rt.alloc(), &rt, THUNK, &OpenGate)?;
+    for _ in 0..300u32 {
+        let bytes = reported(rt.alloc(), &rt, THUNK, &OpenGate)?;
         let first = bytes.as_slice() == FIRST_UPDATED_REPORT.as_bytes();
         let second = bytes.as_slice() == SECOND_UPDATED_REPORT.as_bytes();
         assert!(rt; first || second);
+    }
+    Ok(())
+}
+
+// The second mutator's `update` comes first if the other's waits until it has reached its `force`, and last if it waits until
+// the other has reached its own `force`.
+#[test]
+fn either_update_comes_first(rt: HostRuntime) -> Result<(), Fail> {
+    let rows = [
+        ([(5, 5), (5, 5)], SECOND_UPDATED_REPORT),
+        ([(6, 4), (4, 6)], FIRST_UPDATED_REPORT),
+    ];
+    for (waits, report) in rows {
+        let meet = Meet::new([0, 1], waits);
+        assert!(rt; reports(rt.alloc(), &rt, THUNK, report, &meet)?);
+        assert!(rt; meet.has_met());
     }
     Ok(())
 }
@@ -104,33 +119,32 @@ fn number_of(report: &Report, mutator: usize) -> u64 {
     }
 }
 
-// What the two mutators read under this gate.
+// The numbers that the two mutators read under this gate.
 fn race<R: Threads + Sync, G: Gate>(alloc: Global, rt: &R, gate: &G) -> Result<(u64, u64), Fail> {
     let script = script_of(alloc, RACE)?;
-    let told = Collector::run(alloc, rt, &script, gate)?;
-    Ok((number_of(&told, 0), number_of(&told, 1)))
+    let reported = Collector::run(alloc, rt, &script, gate)?;
+    Ok((number_of(&reported, 0), number_of(&reported, 1)))
 }
 
-// Whichever stores last, both can't read the other's number: in one order of the four commands the last `set` is
-// followed by a `get` of its own.
+// They can't both read the other's number: in one order of the four commands, the mutator of the last `set` reads after it.
 #[test]
 fn two_mutators_read_by_one_order(rt: HostRuntime) -> Result<(), Fail> {
-    for _ in 0..1000u32 {
+    for _ in 0..300u32 {
         let read = race(rt.alloc(), &rt, &OpenGate)?;
         assert!(rt; read == (1, 2) || read == (1, 1) || read == (2, 2));
     }
     Ok(())
 }
 
-// A gate at which each of two waits, with some turn of its own, until the other has reached some turn.
+// A gate at which each of two workers waits, at one pass of its own, until the other has reached a given pass.
 #[derive(Drop)]
 pub(crate) struct Meet {
-    // The two: mutators, the collector or the upper half of a sweep.
+    // The two workers: mutators, the collector or the upper half of a sweep.
     who: [u8; 2],
-    // Of each: the turn that waits, and the turn of the other that it waits for.
+    // For each: the pass that waits, and the other's pass that it waits for.
     waits: [(u64, u64); 2],
     reached: [AtomicU64; 2],
-    // Of each: 1 once its turn that waits has come.
+    // For each: 1 once its waiting pass has come.
     come: [AtomicU64; 2],
     given_up: AtomicU64,
 }
@@ -146,14 +160,14 @@ impl Meet {
         }
     }
 
-    // Whether each has come to its turn that waits, and neither gave up.
+    // Whether each has reached its waiting pass, and neither gave up.
     pub(crate) fn has_met(&self) -> bool {
         self.come[0].load(Ordering::SeqCst) == 1
             && self.come[1].load(Ordering::SeqCst) == 1
             && self.given_up.load(Ordering::SeqCst) == 0
     }
 
-    // The last turn of each.
+    // The last pass of each.
     fn reached(&self) -> (u64, u64) {
         (
             self.reached[0].load(Ordering::SeqCst),
@@ -186,17 +200,17 @@ impl Gate for Meet {
     }
 }
 
-// The first command of each waits for that of the other.
+// The first command of each mutator waits for the other's first command.
 #[test]
 fn mutators_run_beside_each_other(rt: HostRuntime) -> Result<(), Fail> {
     let meet = Meet::new([0, 1], [(1, 1), (1, 1)]);
-    assert!(rt; tells(rt.alloc(), &rt, EXCHANGE, EXCHANGE_REPORT, &meet)?);
+    assert!(rt; reports(rt.alloc(), &rt, EXCHANGE, EXCHANGE_REPORT, &meet)?);
     assert!(rt; meet.has_met());
     Ok(())
 }
 
-// The late one's `set` waits until the other has reached its `get`, and that `get` until the late one has reached
-// its own. So both read what the late one stored.
+// The late mutator's `set` waits until the other has reached its `get`, and that `get` waits until the late mutator has
+// reached its own. So both read the number that the late mutator stored.
 #[test]
 fn the_gate_is_passed_before_each_command(rt: HostRuntime) -> Result<(), Fail> {
     for (waits, number) in [([(3, 3), (2, 3)], 2u64), ([(2, 3), (3, 3)], 1u64)] {
@@ -213,18 +227,18 @@ fn the_gate_is_passed_before_each_command(rt: HostRuntime) -> Result<(), Fail> {
 #[test]
 fn the_collector_marks_beside_a_mutator(rt: HostRuntime) -> Result<(), Fail> {
     let meet = Meet::new([0, MAKERS], [(20, 1), (1, 20)]);
-    assert!(rt; tells(rt.alloc(), &rt, OVERWRITTEN, OVERWRITTEN_REPORT, &meet)?);
+    assert!(rt; reports(rt.alloc(), &rt, OVERWRITTEN, OVERWRITTEN_REPORT, &meet)?);
     assert!(rt; meet.has_met());
     Ok(())
 }
 
-// There are three segments to sweep, once 31 objects were scanned: two of them are in the lower half, whose first waits
-// for that of the upper half, and the other way round.
+// There are three segments to sweep, after the scans of 31 objects. Two of them are in the lower half. The first segments of
+// the two halves wait for each other.
 #[test]
 fn the_halves_of_a_sweep_run_beside_each_other(rt: HostRuntime) -> Result<(), Fail> {
     let meet = Meet::new([MAKERS, MAKERS + 1], [(32, 1), (1, 32)]);
     assert!(rt;
-        tells(
+        reports(
             rt.alloc(),
             &rt,
             THREE_SEGMENTS,

@@ -1,12 +1,12 @@
-//! Runs under gates at which all workers of a round wait for each other, and under one that looks at each pass.
+//! Runs under gates at which all workers of a round wait for each other, and under a gate that records each pass.
 //!
-//! A gate gives up after many turns of its spin, and notes it: so a round that has two of its workers on one thread fails
-//! the test and doesn't hang. It counts those who came: so a worker that passes no gate fails the test, and so does one that
+//! A gate gives up after a long spin, and notes it: so a round that has two of its workers on one thread fails the test and
+//! doesn't hang. It counts the workers that came: so a worker that passes no gate fails the test, and so does a worker that
 //! passes it under another number.
 ghost use Rattle.std.specs.Prelude.{◌≤◌, length, IfOk, IfSome};
 ghost use Rattle.nmgc_script.specs.Limits.{IsInLimits};
 
-use crate::of_cycle::{Meet, script_of, told};
+use crate::of_cycle::{Meet, reported, script_of};
 use crate::worked::{EXCHANGE, THREE_SEGMENTS, WAITING};
 use itoa::Buffer;
 use nmgc_cycle::{Collector, StopEnd};
@@ -20,17 +20,17 @@ use std::sync::atomic::{AtomicU64, Ordering};
 use std::test::Fail;
 use std::thread::Threads;
 
-// A gate at which some workers wait for each other, each at one turn of its own.
+// A gate at which some workers wait for each other, each at one pass of its own.
 #[derive(Drop)]
 struct Meeting {
-    // Who they are, and each one's turn.
+    // The workers, and the waiting pass of each.
     awaited: Vec<(u8, u64)>,
     come: AtomicU64,
     given_up: AtomicU64,
 }
 
 impl Meeting {
-    // These wait for each other, and so many mutators, all of them at the same turn.
+    // A gate at which these workers and `mutators` mutators wait for each other, all mutators at the same pass.
     fn new(alloc: Global, mutators: u8, turn: u64, others: &[(u8, u64)]) -> Result<Meeting, Fail> {
         let mut awaited = Vec::from_slice(alloc, others)?;
         for mutator in 0..mutators {
@@ -65,8 +65,8 @@ impl Gate for Meeting {
     }
 }
 
-// A script of so many mutators, each of which makes an object. The first asks for a cycle then, and in the next round,
-// in which the cycle marks, each has one command.
+// A script of `mutators` mutators. Each makes an object. The first then asks for a cycle, and in the next round, in which the
+// cycle marks, each has one command.
 fn many(alloc: Global, mutators: u8) -> Result<String, Fail> {
     let mut text = String::from_str(alloc, "nmgc 2\nheap 1024 64 64 100 1000 0\n")?;
     for mutator in 0..mutators {
@@ -80,21 +80,20 @@ fn many(alloc: Global, mutators: u8) -> Result<String, Fail> {
     Ok(text)
 }
 
-// Looks whether a script's run under the gate is that under an open one.
+// Checks that a script's run under the gate is the run under an open gate.
 fn check_run<R: Threads + Sync + Abort, G: Gate>(
     alloc: Global,
     rt: &R,
     script: &str,
     gate: &G,
 ) -> Result<(), Fail> {
-    let free = told(alloc, rt, script, &OpenGate)?;
-    let held = told(alloc, rt, script, gate)?;
+    let free = reported(alloc, rt, script, &OpenGate)?;
+    let held = reported(alloc, rt, script, gate)?;
     assert!(rt; held.as_slice() == free.as_slice());
     Ok(())
 }
 
-// The third command of each mutator and the collector's first scan wait for one another, for few mutators and for as
-// many as there may be.
+// The third command of each mutator and the collector's first scan wait for each other, for few mutators and for the most.
 #[test]
 fn all_mutators_run_beside_the_marker(rt: HostRuntime) -> Result<(), Fail> {
     for mutators in [8u8, MAKERS] {
@@ -106,8 +105,8 @@ fn all_mutators_run_beside_the_marker(rt: HostRuntime) -> Result<(), Fail> {
     Ok(())
 }
 
-// Two mutators of which the first fills two segments and asks for a cycle. Once 32 objects were scanned, each half of the
-// sweep has one segment, and each mutator has one command.
+// Two mutators. The first fills two segments and asks for a cycle. Once 32 objects were scanned, each half of the sweep has
+// one segment, and each mutator has one command.
 const TWO_AND_A_SWEEP: &str =
     "nmgc 1\nheap 64 64 256 100 1000 0\nthread 0\ncon r0 0 r0 r1\ncon r0 0 r0 r1\ncon r0 0 r0 r1\ncon r0 0 r0 r1\ncon r0 0 r0 r1\ncon r0 0 r0 r1\ncon r0 0 r0 r1\ncon r0 0 r0 r1\ncon r0 0 r0 r1\ncon r0 0 r0 r1\ncon r0 0 r0 r1\ncon r0 0 r0 r1\ncon r0 0 r0 r1\ncon r0 0 r0 r1\ncon r0 0 r0 r1\ncon r0 0 r0 r1\ncon r2 0 r2 r1\ncon r2 0 r2 r1\ncon r2 0 r2 r1\ncon r2 0 r2 r1\ncon r2 0 r2 r1\ncon r2 0 r2 r1\ncon r2 0 r2 r1\ncon r2 0 r2 r1\ncon r2 0 r2 r1\ncon r2 0 r2 r1\ncon r2 0 r2 r1\ncon r2 0 r2 r1\ncon r2 0 r2 r1\ncon r2 0 r2 r1\ncon r2 0 r2 r1\ncon r2 0 r2 r1\ncollect\nyield\nnil r3\nthread 1\nyield\nyield\nnil r3\n";
 
@@ -124,10 +123,10 @@ fn mutators_run_beside_both_halves_of_a_sweep(rt: HostRuntime) -> Result<(), Fai
     Ok(())
 }
 
-// A gate that looks at each pass: a worker's turns are 1, 2, 3 and so on.
+// A gate that checks each pass: a worker's passes are numbered 1, 2, 3 and so on.
 #[derive(Drop)]
 struct Recorder {
-    // The last turn of each worker, by its number.
+    // The last pass of each worker, by its number.
     last: Vec<AtomicU64>,
     wrong: AtomicU64,
 }
@@ -144,7 +143,7 @@ impl Recorder {
         })
     }
 
-    // Whether just these workers passed, each so often.
+    // Whether exactly these workers passed, each this number of times.
     fn has_seen(&self, passes: &[(u8, u64)]) -> bool {
         let mut sum = 0u64;
         for own in self.last.as_slice() {
@@ -175,7 +174,7 @@ impl Gate for Recorder {
     }
 }
 
-// Looks whether just these workers pass in a script's run, each so often.
+// Checks that exactly these workers pass in a script's run, each this number of times.
 fn check_passes<R: Threads + Sync + Abort>(
     alloc: Global,
     rt: &R,
@@ -188,8 +187,8 @@ fn check_passes<R: Threads + Sync + Abort>(
     Ok(())
 }
 
-// Before each command that is tried there is one pass: the seventeenth of the second script waits for room, and is tried
-// twice. Before each of 31 objects that are scanned, and of three segments that are swept, there is one too.
+// There is one pass before each command that is tried: the seventeenth of the second script waits for room, and is tried
+// twice. There is also one before each of 31 objects that are scanned, and before each of three segments that are swept.
 #[test]
 fn each_unit_of_work_has_its_pass(rt: HostRuntime) -> Result<(), Fail> {
     check_passes(rt.alloc(), &rt, EXCHANGE, &[(0, 5), (1, 6)])?;
@@ -198,7 +197,7 @@ fn each_unit_of_work_has_its_pass(rt: HostRuntime) -> Result<(), Fail> {
     check_passes(rt.alloc(), &rt, THREE_SEGMENTS, &passes)
 }
 
-// A collector after two rounds of a script, each after a stop. `None` where one of these ended the run.
+// A collector after two rounds of a script, each after a stop. `None` if one of these ended the run.
 #[tactic(auto, using(crate::proofs::Rounds::has_line))]
 fn after_two_rounds<R: Threads + Sync, G: Gate>(
     alloc: Global,
@@ -221,8 +220,8 @@ fn after_two_rounds<R: Threads + Sync, G: Gate>(
     Ok(Some(collector))
 }
 
-// A variable is overwritten so often while a cycle marks, whose collector scans three objects a round. The first overwrite
-// is the mutator's nineteenth command.
+// A script that overwrites a variable `times` times while a cycle marks, whose collector scans three objects a round. The
+// first overwrite is the mutator's nineteenth command.
 fn overwriting(alloc: Global, times: u32) -> Result<String, Fail> {
     let head =
         "nmgc 1\nheap 32 64 64 65536 3 0\nthread 0\nnum r1 5\ncon r4 0 r1\ncon r5 0 r1\nvar r0 r4\n";
@@ -242,7 +241,7 @@ fn overwriting(alloc: Global, times: u32) -> Result<String, Fail> {
     Ok(text)
 }
 
-// How many entries the collector took out of the ring in the second round, and how many the mutator keeps.
+// The number of entries that the collector took out of the ring in the second round, and the number that the mutator keeps.
 fn taken_and_kept<R: Threads + Sync, G: Gate>(
     alloc: Global,
     rt: &R,
@@ -262,8 +261,8 @@ fn taken_and_kept<R: Threads + Sync, G: Gate>(
     ))
 }
 
-// The collector's first scan waits until the mutator has done its two hundred: three full blocks are in the ring by then,
-// and eight entries are kept. Before each of its three scans it takes a block out, so nothing is left there.
+// The collector's first scan waits until the mutator has done its two hundred overwrites: three full blocks are in the ring
+// by then, and eight entries are kept. Before each of its three scans it takes a block out, so the ring is empty in the end.
 #[test]
 fn full_blocks_reach_the_collector_before_the_stop(rt: HostRuntime) -> Result<(), Fail> {
     let script = overwriting(rt.alloc(), 200)?;
@@ -274,10 +273,10 @@ fn full_blocks_reach_the_collector_before_the_stop(rt: HostRuntime) -> Result<()
     Ok(())
 }
 
-// The collector's first scan waits until the mutator has overwritten the variable 4,160 times: the ring is full by then,
-// with 64 blocks of 64, and one full block is kept. The mutator's next overwrite waits until the collector has taken a
-// block out, as its second scan shows, and then finds that slot: one entry is kept. So 65 blocks went through 64 slots in
-// one round, of which the collector's three scans took three.
+// The collector's first scan waits until the mutator has overwritten the variable 4,160 times. The ring is full by then, with
+// 64 blocks of 64, and one full block is kept. The mutator's next overwrite waits until the collector has taken a block out,
+// as its second scan shows, and then finds that slot: one entry is kept. So 65 blocks went through 64 slots in one round, and
+// the collector's three scans took three of them.
 #[test]
 fn a_slot_that_the_marker_freed_is_found_in_the_same_round(rt: HostRuntime) -> Result<(), Fail> {
     let script = overwriting(rt.alloc(), 4161)?;

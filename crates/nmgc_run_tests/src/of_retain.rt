@@ -1,4 +1,4 @@
-//! Images that are read, answers of the search, and what the judge says of other answers.
+//! Images that are read, answers of the search, and the judge's verdict on other answers.
 ghost use Rattle.std.specs.Prelude.{◌^◌, IfOk};
 ghost use Rattle.nmgc_image.specs.Spelling.{IsSpelledWithin};
 
@@ -12,8 +12,8 @@ use std::alloc::Global;
 use std::process::Abort;
 use std::test::Fail;
 
-// Two mutators. Register 3 of the first refers to 0.2, which refers to 0.1; the queue of the second to 1.0, which refers to
-// 0.1 too. 0.0 is a thunk's free variable, and 0.3 the thunk, to which the first slot of the shared array refers.
+// Two mutators. Register 3 of the first refers to 0.2, which refers to 0.1. The queue of the second refers to 1.0, which
+// refers to 0.1 too. 0.0 is a thunk's free variable, and 0.3 the thunk, to which the first slot of the shared array refers.
 const TEXT: &str = "image 1 2
 mutator 0 serial 4
 register 1 5
@@ -35,7 +35,7 @@ fn name(maker: u8, serial: u32) -> Name {
     Name { maker, serial }
 }
 
-// The names of its nodes.
+// The names of the image's nodes.
 const NAMES: [(u8, u32); 7] = [(0, 0), (0, 1), (0, 2), (0, 3), (1, 0), (1, 1), (32, 0)];
 
 // The image of a text.
@@ -51,7 +51,7 @@ fn image_of(alloc: Global, text: &str) -> Result<Image, Fail>
     }
 }
 
-// An image has what its text says, and its text again.
+// An image has the content of its text, and the same text again.
 #[test]
 fn an_image_is_read(rt: HostRuntime) -> Result<(), Fail> {
     let image = image_of(rt.alloc(), TEXT)?;
@@ -84,7 +84,7 @@ fn level(name: Name, level: u32) -> Level {
     Level { name, level }
 }
 
-// The levels of the image: all but the dead weak pointer are held.
+// The levels of the image: all its objects are held except the dead weak pointer.
 const LEVELS: [(u8, u32, u32); 6] = [
     (0, 0, 2),
     (0, 1, 1),
@@ -103,8 +103,8 @@ fn levels(alloc: Global, rows: &[(u8, u32, u32)]) -> Result<Levels, NoMemory> {
     Ok(Levels { list })
 }
 
-// An answer for 0.1: the root, what it refers to, the field of that by which the path ends, if it has a hop, and the levels;
-// and whether it is certified.
+// An answer for 0.1: the root, its target, the target's field by which the path ends, if it has a hop, and the levels; and
+// whether the answer is certified.
 type Answer = (
     Root,
     (u8, u32),
@@ -133,7 +133,7 @@ fn held(alloc: Global, row: &Answer) -> Result<Retained, NoMemory> {
     })
 }
 
-// Looks whether the search answers a path of so many hops for each name, with these levels, and the judge says yes to it.
+// Checks that the search answers for each name a path of this many hops, with these levels, and that the judge says yes.
 fn check_paths(
     rt: &impl Abort,
     alloc: Global,
@@ -153,11 +153,11 @@ fn check_paths(
     Ok(())
 }
 
-// Looks whether these are the levels.
-fn check_levels(rt: &impl Abort, told: &[Level], rows: &[(u8, u32, u32)]) {
-    assert!(rt; told.len() == rows.len());
-    for (told, (maker, serial, hops)) in told.iter().zip(rows) {
-        assert!(rt; *told == level(name(*maker, *serial), *hops));
+// Compares the levels.
+fn check_levels(rt: &impl Abort, reported: &[Level], rows: &[(u8, u32, u32)]) {
+    assert!(rt; reported.len() == rows.len());
+    for (reported, (maker, serial, hops)) in reported.iter().zip(rows) {
+        assert!(rt; *reported == level(name(*maker, *serial), *hops));
     }
 }
 
@@ -171,7 +171,7 @@ fn answers_are_certified(rt: HostRuntime) -> Result<(), Fail> {
     Ok(())
 }
 
-// The way from register 3 of the first mutator to 0.1, and the one by the queue of the second.
+// The path from register 3 of the first mutator to 0.1, and the path by the queue of the second.
 const BY_REGISTER: Root = Root::Register {
     mutator: 0,
     register: 3,
@@ -182,7 +182,7 @@ const BY_QUEUE: Root = Root::Queue {
     place: 0,
 };
 
-// Levels of which one is too low, and levels without those of an object that is held.
+// Levels with one too low, and levels that lack an object that is held.
 const TOO_LOW: [(u8, u32, u32); 6] = [
     (0, 0, 2),
     (0, 1, 0),
@@ -205,7 +205,7 @@ const ANSWERS: [Answer; 8] = [
     (BY_REGISTER, (0, 2), Some(1), &TOO_FEW, false),
 ];
 
-// Looks what the judge says of each answer.
+// Compares the judge's verdict on each answer.
 fn check_answers(rt: &impl Abort, alloc: Global, text: &str, rows: &[Answer]) -> Result<(), Fail> {
     let image = image_of(alloc, text)?;
     for row in rows {
@@ -215,8 +215,8 @@ fn check_answers(rt: &impl Abort, alloc: Global, text: &str, rows: &[Answer]) ->
     Ok(())
 }
 
-// The judge says no where the root isn't there, a field isn't the one, the path doesn't end at the name, a level is too low,
-// or an object that is held has none; and to an answer that an object which has a level is loose.
+// The judge says no to a wrong root, a wrong field, a path that doesn't end at the name, a level that is too low, and a held
+// object without a level. It also says no to the answer that an object with a level is loose.
 #[test]
 fn wrong_answers_are_not_certified(rt: HostRuntime) -> Result<(), Fail> {
     check_answers(&rt, rt.alloc(), TEXT, &ANSWERS)?;

@@ -1,6 +1,6 @@
-//! Scripts that run under gates or have several reports, each with its text as the rules of a run have it.
+//! Scripts that run under gates or have several reports, each with its text by the rules of a run.
 
-// Two mutators, each of which reads what the other stored in the round before.
+// Two mutators. Each reads the value that the other stored in the round before.
 pub(crate) const EXCHANGE: &str =
     "nmgc 1\nheap 64 64 64 100 1000 0\nthread 0\nnum r1 5\ncon r0 0 r1\nset g 0 r0\nyield\nget r2 g 1\nthread 1\nnum r1 6\ncon r0 0 r1\nset g 1 r0\nyield\nget r2 g 0\nget r3 r2 0\n";
 
@@ -25,7 +25,7 @@ pub(crate) const OVERWRITTEN: &str =
 pub(crate) const OVERWRITTEN_REPORT: &str =
     "report 1\nstop 0 idle free 32 filled 0 sweep 0 promoted 0\nround 1\n0 ok\n0 0.0\n0 0.1\n0 ok\n0 0.2\n0 0.3\n0 0.4\n0 0.5\n0 0.6\n0 0.7\n0 0.8\n0 0.9\n0 0.10\n0 0.11\n0 0.12\n0 0.13\n0 0.14\n0 0.15\n0 ok\nstop 1 marking free 31 filled 0 sweep 1 promoted 16\nround 2\n0 ok\n0 ok\nstop 2 sweeping free 31 filled 0 sweep 1 promoted 0\nround 3\nstop 3 marking free 31 filled 0 sweep 1 promoted 0\ncycle 1 from 1 closed 2 swept 1 had 16 freed 0 kept 16 dead 0\nround 4\nstop 4 sweeping free 31 filled 0 sweep 1 promoted 0\nround 5\nstop 5 idle free 31 filled 0 sweep 0 promoted 0\ncycle 2 from 3 closed 4 swept 1 had 16 freed 1 kept 15 dead 0\nfreed 0.0\nend done\n";
 
-// Two mutators that update one thunk, each with a number of its own. One comes first, and both then read its number.
+// Two mutators that update one thunk, each with a number of its own. One update comes first, and both then read its number.
 pub(crate) const THUNK: &str =
     "nmgc 1\nheap 64 64 64 100 1000 0\nthread 0\nnum r1 5\nthunk r0 r1\nset g 0 r0\nyield\nupdate r0 r1\nforce r2 r0\nthread 1\nyield\nget r0 g 0\nnum r1 6\nupdate r0 r1\nforce r2 r0\n";
 
@@ -35,7 +35,7 @@ pub(crate) const FIRST_UPDATED_REPORT: &str =
 pub(crate) const SECOND_UPDATED_REPORT: &str =
     "report 1\nstop 0 idle free 64 filled 0 sweep 0 promoted 0\nround 1\n0 ok\n0 0.0\n0 ok\n0 ok\n1 ok\nstop 1 idle free 63 filled 0 sweep 0 promoted 1\nround 2\n0 already\n0 6\n1 0.0\n1 ok\n1 updated\n1 6\nstop 2 idle free 63 filled 0 sweep 0 promoted 0\nend done\n";
 
-// Two mutators, each of which stores its number into the first slot of g and reads that slot. Whichever stores last reads its
-// own number, so they can't both read the other's.
+// Two mutators. Each stores its number into the first slot of g and reads that slot. The last one to store reads its own
+// number, so they can't both read the other's.
 pub(crate) const RACE: &str =
     "nmgc 1\nheap 64 64 64 100 1000 0\nthread 0\nnum r1 1\nset g 0 r1\nget r2 g 0\nthread 1\nnum r1 2\nset g 0 r1\nget r2 g 0\n";

@@ -1,13 +1,13 @@
--- A verb is read with so many words exactly where a command of its name has so many.
+-- A verb is read with n tokens exactly if a command of its name has n tokens.
 use Rattle.nmgc_script.proofs.Vocabulary.{◌≡◌, ◌≤◌, ◌+◌, ◌-◌, ℕ, zero, suc, List, [], ◌∷◌, length, refl, sym, ap, subst, ◌∙◌, arith, codes, Result, Ok, AllByRecursion, length-map, All-from_recursion, Operand, Shared, Command, Num, Nil, Mov, Con, Var, Arr, Thunk, Weak, Stack, Get, Set, Cas, Update, Force, Push, Pop, Deref, Finalise, NextFin, Show, Same, Yield, Collect, Full, IsOperandBelow, HasRegistersBelow, HasNumbers, Cause, Verb, Version, IsUsable, operand_word, verb_name, command_words, first_of, HasArity, verb_at, operands_at}
 use Rattle.nmgc_script.specs.declared.verbs.Verb.TheVariants as verb
-use Rattle.nmgc_script.proofs.{WordLaws.ok_is, VerbLaws.verb_again, CommandLaws.words_read, CauseLaws.HasCount, CauseLaws.TellsArity, CauseLaws.operands_tell}
+use Rattle.nmgc_script.proofs.{WordLaws.ok_is, VerbLaws.verb_again, CommandLaws.words_read, CauseLaws.HasCount, CauseLaws.CausesArity, CauseLaws.operands_cause}
 
--- what reading tells of the number of words, where it did not fail
-pub right_of : (P : Type 0) (c : Command) (r : Result Command Cause) → r ≡ Ok c → TellsArity r P → P
-right_of P c r is tells = rw is at tells
+-- a reading that doesn't fail has the right number of tokens
+pub right_of : (P : Type 0) (c : Command) (r : Result Command Cause) → r ≡ Ok c → CausesArity r P → P
+right_of P c r is agrees = rw is at agrees
 
--- a command of the verb's name has a number of words that the verb is read with
+-- a command of the verb's name has a number of tokens that the verb is read with
 pub count_of : (ver : Version) (usable : IsUsable ver) (v : Verb) (c : Command) → HasRegistersBelow ver.registers c → HasNumbers c →
     first_of (command_words c) ≡ verb_name v → HasCount v (length (command_words c))
 count_of ver usable v c registers numbers named =
@@ -15,10 +15,10 @@ count_of ver usable v c registers numbers named =
     let name : verb_name r.0 ≡ verb_name v = sym (ap first_of r.2) ∙ named in
     let same : r.0 ≡ v = ok_is {E = Cause} r.0 v (sym (verb_again r.0) ∙ ap verb_at name ∙ verb_again v) in
     let count : HasCount r.0 (length (verb_name r.0 ∷ r.1)) =
-    right_of (HasCount r.0 (length (verb_name r.0 ∷ r.1))) c (operands_at ver r.0 r.1) r.3 (operands_tell ver usable r.0 (verb_name r.0) r.1) in
+    right_of (HasCount r.0 (length (verb_name r.0 ∷ r.1))) c (operands_at ver r.0 r.1) r.3 (operands_cause ver usable r.0 (verb_name r.0) r.1) in
     subst (λ (n : ℕ). HasCount v n) (sym (ap length r.2)) (subst (λ (k : Verb). HasCount k (length (verb_name r.0 ∷ r.1))) same count)
 
--- so many operands
+-- n operands
 shared : ℕ → List Operand
 shared zero = []
 shared (suc n) = Shared ∷ shared n
@@ -57,7 +57,7 @@ thunk_some ver usable m n e most = (
   omega (arith, e, length-map (shared m) operand_word, length_shared m),
 )
 
--- some command of the verb's name has a number of words that the verb is read with
+-- for a number of tokens that the verb is read with, a command of the verb's name has this number
 pub count_some : (ver : Version) (usable : IsUsable ver) (v : Verb) (n : ℕ) → HasCount v n → HasArity ver (verb_name v) n
 count_some ver usable verb.Num n h = (Num 0 0, omega (arith, usable.some_register), omega arith, refl, sym h)
 count_some ver usable verb.Nil n h = (Nil 0, omega (arith, usable.some_register), tt, refl, sym h)

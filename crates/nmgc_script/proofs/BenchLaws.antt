@@ -5,7 +5,7 @@ use Rattle.nmgc_script.proofs.Vocabulary.{◌≡◌, ◌≤◌, ◌<◌, ◌∙�
 pub once_more : {A : Type 0} (n : ℕ) (xs : List A) → repeated (n + 1) xs ≡ repeated n xs ++ xs
 once_more n xs = rw (add-one n) refl
 
--- what holds of each item of a list holds of each of its copies
+-- a property of each item of a list holds of each of its copies
 All-repeated : {A : Type 0} (P : A → Type 0) (n : ℕ) (xs : List A) → All P xs → All P (repeated n xs)
 All-repeated P zero xs h = All-nil P
 All-repeated P (suc n) xs h = All-append P (repeated n xs) xs (All-repeated P n xs h) h
@@ -14,12 +14,12 @@ length-repeated : {A : Type 0} (n : ℕ) (xs : List A) → length (repeated n xs
 length-repeated zero xs = omega arith
 length-repeated (suc n) xs = omega (arith, length-append (repeated n xs) xs, length-repeated n xs)
 
--- how many cells a list has
+-- the number of cells of a list
 pub cells_are : list_cells ≡ 1024
 unfolding list_cells
 cells_are = refl
 
--- the command that begins a batch, a cell, and the one that ends a batch are within the limits of the bench's segments
+-- the first command of a batch, a cell and the last command of a batch are within the limits of the bench's segments
 nil_fits : Fits 4096 (Nil 0)
 nil_fits = record { registers = lit< tt; numbers = tt; size = lit≤ tt }
 
@@ -33,7 +33,7 @@ cell_fits = record {
 set_fits : (mutator : ℕ) → mutator < 65536 → Fits 4096 (Set Shared mutator (Register 0))
 set_fits mutator h = record { registers = (tt, lit< tt); numbers = h; size = lit≤ tt }
 
--- what holds of its three commands holds of a batch
+-- a property of the three commands of a batch holds of the whole batch
 batch_has : (P : Command → Type 0) (mutator : ℕ) → P (Nil 0) → P cell → P (Set Shared mutator (Register 0)) → All P (batch mutator)
 batch_has P mutator first each last =
     let end : List Command = Set Shared mutator (Register 0) ∷ [] in
@@ -44,7 +44,7 @@ batch_has P mutator first each last =
 batch_fits : (mutator : ℕ) → mutator < 65536 → All (Fits 4096) (batch mutator)
 batch_fits mutator h = batch_has (Fits 4096) mutator nil_fits cell_fits (set_fits mutator h)
 
--- its registers are below 16
+-- a cell's registers are below 16
 cell_names : HasRegistersBelow 16 cell
 cell_names = (
   lit< tt,
@@ -85,7 +85,7 @@ config_fits = record {
   trigger = lit≤ tt;
 }
 
--- what holds of the program of each mutator holds of all
+-- a property of each mutator's program holds of all programs
 each_program : (P : List Command → Type 0) (batches : ℕ) → ((mutator : ℕ) → mutator < 4 → P (bench_program batches mutator)) →
     All P (bench_script batches).threads
 each_program P batches h =
@@ -111,7 +111,7 @@ bench_fits batches = record {
 pub bench_is_short : (batches : ℕ) → batches ≤ most_batches → HasFewCommands (bench_script batches)
 bench_is_short batches h = each_program (λ program. length program ≤ most_script_bytes) batches (λ mutator _. program_is_short batches mutator h)
 
--- a batch was appended, command after command
+-- a batch has been appended, command by command
 pub with_batch : (before begun made after : List Command) (mutator cells : ℕ) → list_cells ≡ cells → begun ≡ before ++ Nil 0 ∷ [] →
     made ≡ begun ++ replicate cells cell → after ≡ made ++ Set Shared mutator (Register 0) ∷ [] → after ≡ before ++ batch mutator
 with_batch before begun made after mutator cells count first more last =

@@ -1,4 +1,4 @@
--- Which cause reading gives where it fails.
+-- Which cause reading gives if it fails.
 use Rattle.nmgc_script.proofs.Vocabulary.{◌≡◌, ◌≤◌, ◌-◌, ◌^◌, ◌⊎◌, ℕ, suc, List, [], ◌∷◌, length, refl, sym, ◌∙◌, arith, inl, inr, Bool, true, false, cond, codes, leb, eqb, Result, Ok, Err, bytes_eq, digits_value, le-leb, leb-true, Command, Num, Nil, Mov, Con, Var, Arr, Thunk, Weak, Stack, Get, Set, Cas, Update, Force, Push, Pop, Deref, Finalise, NextFin, Show, Same, Yield, Collect, Full, Cause, Verb, Version, IsUsable, ◌>>=◌, number_at, register_at, operand_at, long_at, short_at, each_at, none_at, one_at, two_at, three_at, four_at, con_at, thunk_at, operands_at}
 use Rattle.nmgc_script.specs.declared.fault.Cause.TheVariants as cause
 use Rattle.nmgc_script.specs.declared.verbs.Verb.TheVariants as verb
@@ -36,54 +36,54 @@ each_fails ver usable [] = tt
 each_fails ver usable (w ∷ ws) = fails_then cause.Operand (operand_at ver w) _ (operand_fails ver usable w) (λ a.
     fails_then cause.Operand (each_at (operand_at ver) ws) _ (each_fails ver usable ws) (λ b. tt))
 
--- the cause is the number of words where that is wrong, and else a word
-abbrev pub TellsArity : {A : Type 0} → Result A Cause → Type 0 → Type 0
-TellsArity (Ok a) P = P
-TellsArity (Err e) P = ((e ≡ cause.Arity) × (P → ⊥)) ⊎ ((e ≡ cause.Operand) × P)
+-- the cause is the number of tokens if that is wrong, and a token otherwise
+abbrev pub CausesArity : {A : Type 0} → Result A Cause → Type 0 → Type 0
+CausesArity (Ok a) P = P
+CausesArity (Err e) P = ((e ≡ cause.Arity) × (P → ⊥)) ⊎ ((e ≡ cause.Operand) × P)
 
-word_tells : {A : Type 0} (r : Result A Cause) (P : Type 0) → P → FailsBy cause.Operand r → TellsArity r P
-word_tells (Ok a) P p h = p
-word_tells (Err e) P p h = inr (h, p)
+token_cause : {A : Type 0} (r : Result A Cause) (P : Type 0) → P → FailsBy cause.Operand r → CausesArity r P
+token_cause (Ok a) P p h = p
+token_cause (Err e) P p h = inr (h, p)
 
 word_then : {A B : Type 0} (r : Result A Cause) (k : A → Result B Cause) (P : Type 0) → P → FailsBy cause.Operand r →
-    ((a : A) → TellsArity (k a) P) → TellsArity (r >>= k) P
+    ((a : A) → CausesArity (k a) P) → CausesArity (r >>= k) P
 word_then (Ok a) k P p h t = t a
 word_then (Err e) k P p h t = inr (h, p)
 
--- making a command of what was read fails nowhere
-made_tells : {A : Type 0} (r : Result A Cause) (make : A → Command) (P : Type 0) → TellsArity r P → TellsArity (r >>= λ p. Ok (make p)) P
-made_tells (Ok a) make P h = h
-made_tells (Err e) make P h = h
+-- making a command from the fields that were read never fails
+made_cause : {A : Type 0} (r : Result A Cause) (make : A → Command) (P : Type 0) → CausesArity r P → CausesArity (r >>= λ p. Ok (make p)) P
+made_cause (Ok a) make P h = h
+made_cause (Err e) make P h = h
 
-none_tells : (c : Command) (words : List (List ℕ)) → TellsArity (none_at c words) (suc (length words) ≡ 1)
+none_cause : (c : Command) (words : List (List ℕ)) → CausesArity (none_at c words) (suc (length words) ≡ 1)
 unfolding none_at
-none_tells c [] = refl
-none_tells c (x ∷ xs) = inl (refl, λ e. absurd (omega arith))
+none_cause c [] = refl
+none_cause c (x ∷ xs) = inl (refl, λ e. absurd (omega arith))
 
-one_tells : {A : Type 0} (f : List ℕ → Result A Cause) (rf : (word : List ℕ) → FailsBy cause.Operand (f word)) (words : List (List ℕ)) →
-    TellsArity (one_at f words) (suc (length words) ≡ 2)
+one_cause : {A : Type 0} (f : List ℕ → Result A Cause) (rf : (word : List ℕ) → FailsBy cause.Operand (f word)) (words : List (List ℕ)) →
+    CausesArity (one_at f words) (suc (length words) ≡ 2)
 unfolding one_at
-one_tells f rf [] = inl (refl, λ e. absurd (omega arith))
-one_tells f rf (x ∷ other ∷ others) = inl (refl, λ e. absurd (omega arith))
-one_tells f rf (x ∷ []) = word_tells (f x) _ refl (rf x)
+one_cause f rf [] = inl (refl, λ e. absurd (omega arith))
+one_cause f rf (x ∷ other ∷ others) = inl (refl, λ e. absurd (omega arith))
+one_cause f rf (x ∷ []) = token_cause (f x) _ refl (rf x)
 
-two_tells : {A B : Type 0} (f : List ℕ → Result A Cause) (rf : (word : List ℕ) → FailsBy cause.Operand (f word)) (g : List ℕ →
-    Result B Cause) (rg : (word : List ℕ) → FailsBy cause.Operand (g word)) (words : List (List ℕ)) → TellsArity (two_at f g words) (suc (length words) ≡ 3)
+two_cause : {A B : Type 0} (f : List ℕ → Result A Cause) (rf : (word : List ℕ) → FailsBy cause.Operand (f word)) (g : List ℕ →
+    Result B Cause) (rg : (word : List ℕ) → FailsBy cause.Operand (g word)) (words : List (List ℕ)) → CausesArity (two_at f g words) (suc (length words) ≡ 3)
 unfolding two_at
-two_tells f rf g rg [] = inl (refl, λ e. absurd (omega arith))
-two_tells f rf g rg (x ∷ []) = inl (refl, λ e. absurd (omega arith))
-two_tells f rf g rg (x ∷ y ∷ other ∷ others) = inl (refl, λ e. absurd (omega arith))
-two_tells f rf g rg (x ∷ y ∷ []) = word_then (f x) _ _ refl (rf x) (λ a. word_then (g y) _ _ refl (rg y) (λ b. refl))
+two_cause f rf g rg [] = inl (refl, λ e. absurd (omega arith))
+two_cause f rf g rg (x ∷ []) = inl (refl, λ e. absurd (omega arith))
+two_cause f rf g rg (x ∷ y ∷ other ∷ others) = inl (refl, λ e. absurd (omega arith))
+two_cause f rf g rg (x ∷ y ∷ []) = word_then (f x) _ _ refl (rf x) (λ a. word_then (g y) _ _ refl (rg y) (λ b. refl))
 
-three_tells : {A B C : Type 0} (f : List ℕ → Result A Cause) (rf : (word : List ℕ) → FailsBy cause.Operand (f word)) (g : List ℕ →
+three_cause : {A B C : Type 0} (f : List ℕ → Result A Cause) (rf : (word : List ℕ) → FailsBy cause.Operand (f word)) (g : List ℕ →
     Result B Cause) (rg : (word : List ℕ) → FailsBy cause.Operand (g word)) (h : List ℕ → Result C Cause) (rh : (word : List ℕ) →
-    FailsBy cause.Operand (h word)) (words : List (List ℕ)) → TellsArity (three_at f g h words) (suc (length words) ≡ 4)
+    FailsBy cause.Operand (h word)) (words : List (List ℕ)) → CausesArity (three_at f g h words) (suc (length words) ≡ 4)
 unfolding three_at
-three_tells f rf g rg h rh [] = inl (refl, λ e. absurd (omega arith))
-three_tells f rf g rg h rh (x ∷ []) = inl (refl, λ e. absurd (omega arith))
-three_tells f rf g rg h rh (x ∷ y ∷ []) = inl (refl, λ e. absurd (omega arith))
-three_tells f rf g rg h rh (x ∷ y ∷ z ∷ other ∷ others) = inl (refl, λ e. absurd (omega arith))
-three_tells f rf g rg h rh (x ∷ y ∷ z ∷ []) = word_then (f x) _ _ refl (rf x) (λ a.
+three_cause f rf g rg h rh [] = inl (refl, λ e. absurd (omega arith))
+three_cause f rf g rg h rh (x ∷ []) = inl (refl, λ e. absurd (omega arith))
+three_cause f rf g rg h rh (x ∷ y ∷ []) = inl (refl, λ e. absurd (omega arith))
+three_cause f rf g rg h rh (x ∷ y ∷ z ∷ other ∷ others) = inl (refl, λ e. absurd (omega arith))
+three_cause f rf g rg h rh (x ∷ y ∷ z ∷ []) = word_then (f x) _ _ refl (rf x) (λ a.
     word_then (g y) _ _ refl (rg y) (λ b. word_then (h z) _ _ refl (rh z) (λ c. refl)))
 
 two_fail : {A B : Type 0} (f : List ℕ → Result A Cause) (rf : (word : List ℕ) → FailsBy cause.Operand (f word)) (g : List ℕ →
@@ -91,46 +91,46 @@ two_fail : {A B : Type 0} (f : List ℕ → Result A Cause) (rf : (word : List �
 unfolding two_at
 two_fail f rf g rg x y = fails_then cause.Operand (f x) _ (rf x) (λ a. fails_then cause.Operand (g y) _ (rg y) (λ b. tt))
 
-four_tells : {A B C D : Type 0} (f : List ℕ → Result A Cause) (rf : (word : List ℕ) → FailsBy cause.Operand (f word)) (g : List ℕ →
+four_cause : {A B C D : Type 0} (f : List ℕ → Result A Cause) (rf : (word : List ℕ) → FailsBy cause.Operand (f word)) (g : List ℕ →
     Result B Cause) (rg : (word : List ℕ) → FailsBy cause.Operand (g word)) (h : List ℕ → Result C Cause) (rh : (word : List ℕ) →
     FailsBy cause.Operand (h word)) (i : List ℕ → Result D Cause) (ri : (word : List ℕ) → FailsBy cause.Operand (i word)) (words : List (List ℕ)) →
-    TellsArity (four_at f g h i words) (suc (length words) ≡ 5)
+    CausesArity (four_at f g h i words) (suc (length words) ≡ 5)
 unfolding four_at
-four_tells f rf g rg h rh i ri [] = inl (refl, λ e. absurd (omega arith))
-four_tells f rf g rg h rh i ri (x ∷ []) = inl (refl, λ e. absurd (omega arith))
-four_tells f rf g rg h rh i ri (x ∷ y ∷ []) = inl (refl, λ e. absurd (omega arith))
-four_tells f rf g rg h rh i ri (x ∷ y ∷ z ∷ []) = inl (refl, λ e. absurd (omega arith))
-four_tells f rf g rg h rh i ri (x ∷ y ∷ z ∷ t ∷ other ∷ others) = inl (refl, λ e. absurd (omega arith))
-four_tells f rf g rg h rh i ri (x ∷ y ∷ z ∷ t ∷ []) = word_then (two_at f g (x ∷ y ∷ [])) _ _ refl (two_fail f rf g rg x y) (λ a.
+four_cause f rf g rg h rh i ri [] = inl (refl, λ e. absurd (omega arith))
+four_cause f rf g rg h rh i ri (x ∷ []) = inl (refl, λ e. absurd (omega arith))
+four_cause f rf g rg h rh i ri (x ∷ y ∷ []) = inl (refl, λ e. absurd (omega arith))
+four_cause f rf g rg h rh i ri (x ∷ y ∷ z ∷ []) = inl (refl, λ e. absurd (omega arith))
+four_cause f rf g rg h rh i ri (x ∷ y ∷ z ∷ t ∷ other ∷ others) = inl (refl, λ e. absurd (omega arith))
+four_cause f rf g rg h rh i ri (x ∷ y ∷ z ∷ t ∷ []) = word_then (two_at f g (x ∷ y ∷ [])) _ _ refl (two_fail f rf g rg x y) (λ a.
     word_then (two_at h i (z ∷ t ∷ [])) _ _ refl (two_fail h rh i ri z t) (λ b. refl))
 
-con_tells : (ver : Version) (usable : IsUsable ver) (words : List (List ℕ)) → TellsArity (con_at ver words) (3 ≤ suc (length words))
+con_cause : (ver : Version) (usable : IsUsable ver) (words : List (List ℕ)) → CausesArity (con_at ver words) (3 ≤ suc (length words))
 unfolding con_at
-con_tells ver usable [] = inl (refl, λ e. absurd (omega arith))
-con_tells ver usable (dest ∷ []) = inl (refl, λ e. absurd (omega arith))
-con_tells ver usable (dest ∷ tag ∷ fields) =
+con_cause ver usable [] = inl (refl, λ e. absurd (omega arith))
+con_cause ver usable (dest ∷ []) = inl (refl, λ e. absurd (omega arith))
+con_cause ver usable (dest ∷ tag ∷ fields) =
     let right : 3 ≤ suc (suc (suc (length fields))) = omega arith in
     word_then (register_at ver dest) _ _ right (register_fails ver usable dest) (λ d.
     word_then (number_at 255 tag) _ _ right (number_fails 255 tag) (λ t.
     word_then (each_at (operand_at ver) fields) _ _ right (each_fails ver usable fields) (λ fs. right)))
 
-arity_choose : {A : Type 0} (b : Bool) (r : Result A Cause) (P : Type 0) → (b ≡ true → TellsArity r P) → (b ≡ false → P → ⊥) →
-    TellsArity (cond b r (Err cause.Arity)) P
+arity_choose : {A : Type 0} (b : Bool) (r : Result A Cause) (P : Type 0) → (b ≡ true → CausesArity r P) → (b ≡ false → P → ⊥) →
+    CausesArity (cond b r (Err cause.Arity)) P
 arity_choose true r P h k = h refl
 arity_choose false r P h k = inl (refl, k refl)
 
-thunk_tells : (ver : Version) (usable : IsUsable ver) (words : List (List ℕ)) →
-    TellsArity (thunk_at ver words) ((2 ≤ suc (length words)) × (suc (length words) ≤ 10))
+thunk_cause : (ver : Version) (usable : IsUsable ver) (words : List (List ℕ)) →
+    CausesArity (thunk_at ver words) ((2 ≤ suc (length words)) × (suc (length words) ≤ 10))
 unfolding thunk_at
-thunk_tells ver usable [] = inl (refl, λ e. absurd (omega (arith, e.0)))
-thunk_tells ver usable (dest ∷ free) =
+thunk_cause ver usable [] = inl (refl, λ e. absurd (omega (arith, e.0)))
+thunk_cause ver usable (dest ∷ free) =
     arity_choose (leb (length free) 8) _ _
     (λ e. let right : (2 ≤ suc (suc (length free))) × (suc (suc (length free)) ≤ 10) = (omega arith, omega (arith, leb-true (length free) 8 e)) in
     word_then (register_at ver dest) _ _ right (register_fails ver usable dest) (λ d.
     word_then (each_at (operand_at ver) free) _ _ right (each_fails ver usable free) (λ fs. right)))
     (λ e p. let le : length free ≤ 8 = omega (arith, p.1) in absurd (let never : false ≡ true = sym e ∙ le-leb (length free) 8 le in cc))
 
--- the verb is read with so many words, its name included
+-- the verb is read with this number of tokens, its name included
 abbrev pub HasCount : Verb → ℕ → Type 0
 HasCount verb.Num n = n ≡ 3
 HasCount verb.Nil n = n ≡ 2
@@ -157,53 +157,53 @@ HasCount verb.Yield n = n ≡ 1
 HasCount verb.Collect n = n ≡ 1
 HasCount verb.Full n = n ≡ 1
 
-pub operands_tell : (ver : Version) (usable : IsUsable ver) (v : Verb) (name : List ℕ) (words : List (List ℕ)) →
-    TellsArity (operands_at ver v words) (HasCount v (length (name ∷ words)))
-operands_tell ver usable verb.Num name words = made_tells (two_at (register_at ver) long_at words) (λ p.
-    Num p.0 p.1) _ (two_tells (register_at ver) (register_fails ver usable) long_at (number_fails (2 ^ 62 - 1)) words)
-operands_tell ver usable verb.Nil name words = made_tells (one_at (register_at ver) words) (λ p.
-    Nil p) _ (one_tells (register_at ver) (register_fails ver usable) words)
-operands_tell ver usable verb.Mov name words = made_tells (two_at (register_at ver) (operand_at ver) words) (λ p.
-    Mov p.0 p.1) _ (two_tells (register_at ver) (register_fails ver usable) (operand_at ver) (operand_fails ver usable) words)
-operands_tell ver usable verb.Con name words = made_tells (con_at ver words) (λ p. Con p.0 p.1 p.2) _ (con_tells ver usable words)
-operands_tell ver usable verb.Var name words = made_tells (two_at (register_at ver) (operand_at ver) words) (λ p.
-    Var p.0 p.1) _ (two_tells (register_at ver) (register_fails ver usable) (operand_at ver) (operand_fails ver usable) words)
-operands_tell ver usable verb.Arr name words = made_tells (three_at (register_at ver) short_at (operand_at ver) words) (λ p.
-    Arr p.0 p.1 p.2) _ (three_tells (register_at ver) (register_fails ver usable) short_at (number_fails 65535) (operand_at ver)
+pub operands_cause : (ver : Version) (usable : IsUsable ver) (v : Verb) (name : List ℕ) (words : List (List ℕ)) →
+    CausesArity (operands_at ver v words) (HasCount v (length (name ∷ words)))
+operands_cause ver usable verb.Num name words = made_cause (two_at (register_at ver) long_at words) (λ p.
+    Num p.0 p.1) _ (two_cause (register_at ver) (register_fails ver usable) long_at (number_fails (2 ^ 62 - 1)) words)
+operands_cause ver usable verb.Nil name words = made_cause (one_at (register_at ver) words) (λ p.
+    Nil p) _ (one_cause (register_at ver) (register_fails ver usable) words)
+operands_cause ver usable verb.Mov name words = made_cause (two_at (register_at ver) (operand_at ver) words) (λ p.
+    Mov p.0 p.1) _ (two_cause (register_at ver) (register_fails ver usable) (operand_at ver) (operand_fails ver usable) words)
+operands_cause ver usable verb.Con name words = made_cause (con_at ver words) (λ p. Con p.0 p.1 p.2) _ (con_cause ver usable words)
+operands_cause ver usable verb.Var name words = made_cause (two_at (register_at ver) (operand_at ver) words) (λ p.
+    Var p.0 p.1) _ (two_cause (register_at ver) (register_fails ver usable) (operand_at ver) (operand_fails ver usable) words)
+operands_cause ver usable verb.Arr name words = made_cause (three_at (register_at ver) short_at (operand_at ver) words) (λ p.
+    Arr p.0 p.1 p.2) _ (three_cause (register_at ver) (register_fails ver usable) short_at (number_fails 65535) (operand_at ver)
     (operand_fails ver usable) words)
-operands_tell ver usable verb.Thunk name words = made_tells (thunk_at ver words) (λ p. Thunk p.0 p.1) _ (thunk_tells ver usable words)
-operands_tell ver usable verb.Weak name words =
-    made_tells (four_at (register_at ver) (operand_at ver) (operand_at ver) (operand_at ver) words) (λ p.
-    Weak p.0 p.1 p.2 p.3) _ (four_tells (register_at ver) (register_fails ver usable) (operand_at ver) (operand_fails ver usable) (operand_at ver)
+operands_cause ver usable verb.Thunk name words = made_cause (thunk_at ver words) (λ p. Thunk p.0 p.1) _ (thunk_cause ver usable words)
+operands_cause ver usable verb.Weak name words =
+    made_cause (four_at (register_at ver) (operand_at ver) (operand_at ver) (operand_at ver) words) (λ p.
+    Weak p.0 p.1 p.2 p.3) _ (four_cause (register_at ver) (register_fails ver usable) (operand_at ver) (operand_fails ver usable) (operand_at ver)
     (operand_fails ver usable) (operand_at ver) (operand_fails ver usable) words)
-operands_tell ver usable verb.Stack name words = made_tells (two_at (register_at ver) short_at words) (λ p.
-    Stack p.0 p.1) _ (two_tells (register_at ver) (register_fails ver usable) short_at (number_fails 65535) words)
-operands_tell ver usable verb.Get name words = made_tells (three_at (register_at ver) (operand_at ver) short_at words) (λ p.
-    Get p.0 p.1 p.2) _ (three_tells (register_at ver) (register_fails ver usable) (operand_at ver) (operand_fails ver usable) short_at
+operands_cause ver usable verb.Stack name words = made_cause (two_at (register_at ver) short_at words) (λ p.
+    Stack p.0 p.1) _ (two_cause (register_at ver) (register_fails ver usable) short_at (number_fails 65535) words)
+operands_cause ver usable verb.Get name words = made_cause (three_at (register_at ver) (operand_at ver) short_at words) (λ p.
+    Get p.0 p.1 p.2) _ (three_cause (register_at ver) (register_fails ver usable) (operand_at ver) (operand_fails ver usable) short_at
     (number_fails 65535) words)
-operands_tell ver usable verb.Set name words = made_tells (three_at (operand_at ver) short_at (operand_at ver) words) (λ p.
-    Set p.0 p.1 p.2) _ (three_tells (operand_at ver) (operand_fails ver usable) short_at (number_fails 65535) (operand_at ver) (operand_fails ver usable) words)
-operands_tell ver usable verb.Cas name words = made_tells (four_at (operand_at ver) short_at (operand_at ver) (operand_at ver) words) (λ p.
-    Cas p.0 p.1 p.2 p.3) _ (four_tells (operand_at ver) (operand_fails ver usable) short_at (number_fails 65535) (operand_at ver)
+operands_cause ver usable verb.Set name words = made_cause (three_at (operand_at ver) short_at (operand_at ver) words) (λ p.
+    Set p.0 p.1 p.2) _ (three_cause (operand_at ver) (operand_fails ver usable) short_at (number_fails 65535) (operand_at ver) (operand_fails ver usable) words)
+operands_cause ver usable verb.Cas name words = made_cause (four_at (operand_at ver) short_at (operand_at ver) (operand_at ver) words) (λ p.
+    Cas p.0 p.1 p.2 p.3) _ (four_cause (operand_at ver) (operand_fails ver usable) short_at (number_fails 65535) (operand_at ver)
     (operand_fails ver usable) (operand_at ver) (operand_fails ver usable) words)
-operands_tell ver usable verb.Update name words = made_tells (two_at (operand_at ver) (operand_at ver) words) (λ p.
-    Update p.0 p.1) _ (two_tells (operand_at ver) (operand_fails ver usable) (operand_at ver) (operand_fails ver usable) words)
-operands_tell ver usable verb.Force name words = made_tells (two_at (register_at ver) (operand_at ver) words) (λ p.
-    Force p.0 p.1) _ (two_tells (register_at ver) (register_fails ver usable) (operand_at ver) (operand_fails ver usable) words)
-operands_tell ver usable verb.Push name words = made_tells (two_at (operand_at ver) (operand_at ver) words) (λ p.
-    Push p.0 p.1) _ (two_tells (operand_at ver) (operand_fails ver usable) (operand_at ver) (operand_fails ver usable) words)
-operands_tell ver usable verb.Pop name words = made_tells (two_at (register_at ver) (operand_at ver) words) (λ p.
-    Pop p.0 p.1) _ (two_tells (register_at ver) (register_fails ver usable) (operand_at ver) (operand_fails ver usable) words)
-operands_tell ver usable verb.Deref name words = made_tells (two_at (register_at ver) (operand_at ver) words) (λ p.
-    Deref p.0 p.1) _ (two_tells (register_at ver) (register_fails ver usable) (operand_at ver) (operand_fails ver usable) words)
-operands_tell ver usable verb.Finalise name words = made_tells (two_at (register_at ver) (operand_at ver) words) (λ p.
-    Finalise p.0 p.1) _ (two_tells (register_at ver) (register_fails ver usable) (operand_at ver) (operand_fails ver usable) words)
-operands_tell ver usable verb.NextFin name words = made_tells (one_at (register_at ver) words) (λ p.
-    NextFin p) _ (one_tells (register_at ver) (register_fails ver usable) words)
-operands_tell ver usable verb.Show name words = made_tells (one_at (operand_at ver) words) (λ p.
-    Show p) _ (one_tells (operand_at ver) (operand_fails ver usable) words)
-operands_tell ver usable verb.Same name words = made_tells (two_at (operand_at ver) (operand_at ver) words) (λ p.
-    Same p.0 p.1) _ (two_tells (operand_at ver) (operand_fails ver usable) (operand_at ver) (operand_fails ver usable) words)
-operands_tell ver usable verb.Yield name words = none_tells Yield words
-operands_tell ver usable verb.Collect name words = none_tells Collect words
-operands_tell ver usable verb.Full name words = none_tells Full words
+operands_cause ver usable verb.Update name words = made_cause (two_at (operand_at ver) (operand_at ver) words) (λ p.
+    Update p.0 p.1) _ (two_cause (operand_at ver) (operand_fails ver usable) (operand_at ver) (operand_fails ver usable) words)
+operands_cause ver usable verb.Force name words = made_cause (two_at (register_at ver) (operand_at ver) words) (λ p.
+    Force p.0 p.1) _ (two_cause (register_at ver) (register_fails ver usable) (operand_at ver) (operand_fails ver usable) words)
+operands_cause ver usable verb.Push name words = made_cause (two_at (operand_at ver) (operand_at ver) words) (λ p.
+    Push p.0 p.1) _ (two_cause (operand_at ver) (operand_fails ver usable) (operand_at ver) (operand_fails ver usable) words)
+operands_cause ver usable verb.Pop name words = made_cause (two_at (register_at ver) (operand_at ver) words) (λ p.
+    Pop p.0 p.1) _ (two_cause (register_at ver) (register_fails ver usable) (operand_at ver) (operand_fails ver usable) words)
+operands_cause ver usable verb.Deref name words = made_cause (two_at (register_at ver) (operand_at ver) words) (λ p.
+    Deref p.0 p.1) _ (two_cause (register_at ver) (register_fails ver usable) (operand_at ver) (operand_fails ver usable) words)
+operands_cause ver usable verb.Finalise name words = made_cause (two_at (register_at ver) (operand_at ver) words) (λ p.
+    Finalise p.0 p.1) _ (two_cause (register_at ver) (register_fails ver usable) (operand_at ver) (operand_fails ver usable) words)
+operands_cause ver usable verb.NextFin name words = made_cause (one_at (register_at ver) words) (λ p.
+    NextFin p) _ (one_cause (register_at ver) (register_fails ver usable) words)
+operands_cause ver usable verb.Show name words = made_cause (one_at (operand_at ver) words) (λ p.
+    Show p) _ (one_cause (operand_at ver) (operand_fails ver usable) words)
+operands_cause ver usable verb.Same name words = made_cause (two_at (operand_at ver) (operand_at ver) words) (λ p.
+    Same p.0 p.1) _ (two_cause (operand_at ver) (operand_fails ver usable) (operand_at ver) (operand_fails ver usable) words)
+operands_cause ver usable verb.Yield name words = none_cause Yield words
+operands_cause ver usable verb.Collect name words = none_cause Collect words
+operands_cause ver usable verb.Full name words = none_cause Full words

@@ -1,18 +1,18 @@
--- A command that is read is spelled so, and what is spelled so is read.
+-- A command is read exactly from its spelling.
 use Rattle.nmgc_script.proofs.Vocabulary.{◌≡◌, ◌≤◌, ℕ, List, [], ◌∷◌, map, refl, sym, ap, ◌∙◌, subst, decimal, leb, Result, Ok, le-leb, leb-true, All-from_recursion, recursion_from_All, Command, Num, Nil, Mov, Con, Var, Arr, Thunk, Weak, Stack, Get, Set, Cas, Update, Force, Push, Pop, Deref, Finalise, NextFin, Show, Same, Yield, Collect, Full, IsOperandBelow, HasRegistersBelow, HasNumbers, words_made, Fits, Cause, Verb, Version, IsUsable, registers_wider, register_word, operand_word, verb_name, command_words, ◌>>=◌, none_at, operands_at, verb_at, sized, command_at}
 use Rattle.nmgc_script.specs.declared.fault.Cause.TheVariants as cause
 use Rattle.nmgc_script.specs.declared.verbs.Verb.TheVariants as verb
 use Rattle.nmgc_script.proofs.{WordLaws.Reads, WordLaws.bind_ok, WordLaws.guard_ok, WordLaws.ok_is, WordLaws.register_reads, WordLaws.operand_reads, VerbLaws.verb_takes, VerbLaws.verb_again, ShapeLaws.long_reads, ShapeLaws.short_reads, ShapeLaws.one_reads, ShapeLaws.two_reads, ShapeLaws.three_reads, ShapeLaws.four_reads, ShapeLaws.con_reads, ShapeLaws.thunk_reads}
 
--- a script of the version may have the command, where a segment has so many words
+-- a script of the version may have the command if segments have this number of words
 abbrev pub Fit : Version → ℕ → Command → Type 0
 Fit v size c = Fits size c × HasRegistersBelow v.registers c
 
--- a name and the words after it spell the command, whose registers and numbers are within the limits
+-- a name and the tokens after it spell the command, whose registers and numbers are within the limits
 abbrev pub Spell : Version → List ℕ → List (List ℕ) → Command → Type 0
 Spell ver name words c = (name ∷ words ≡ command_words c) × HasRegistersBelow ver.registers c × HasNumbers c
 
--- a command that is made of what its shape reads is spelled so
+-- a command made of the fields that its shape reads has these tokens as its spelling
 made_spells : (ver : Version) (usable : IsUsable ver) → {A : Type 0} {read : List (List ℕ) → Result A Cause} {write : A → List (List ℕ)} {P : A →
     Type 0} → Reads read write P → (make : A → Command) (name : List ℕ) → ((p : A) → P p → Spell ver name (write p) (make p)) →
     (words : List (List ℕ)) (c : Command) → (read words >>= λ p. Ok (make p)) ≡ Ok c → Spell ver name words c
@@ -118,7 +118,7 @@ command_takes ver usable size (name ∷ words) c e =
       ),
     )
 
--- the words of the command are its verb's name and words that are read as it
+-- the tokens of the command are its verb's name and tokens that are read as the command
 abbrev pub IsReadFrom : Version → Command → Type 0
 IsReadFrom ver c = (v : Verb) × (words : List (List ℕ)) × (command_words c ≡ verb_name v ∷ words) × (operands_at ver v words ≡ Ok c)
 
@@ -254,6 +254,6 @@ pub command_again : (ver : Version) (usable : IsUsable ver) (size : ℕ) (c : Co
 command_again ver usable size c h = let r = words_read ver usable c h.1 h.0.numbers in ap (command_at ver size) r.2 ∙
     command_from ver usable size r.0 r.1 c r.3 h.0.size
 
--- a command is read exactly from its words
+-- a command is read exactly from its tokens
 pub command_reads : (ver : Version) (usable : IsUsable ver) (size : ℕ) → Reads (command_at ver size) command_words (Fit ver size)
 command_reads ver usable size = record { takes = command_takes ver usable size; again = command_again ver usable size }

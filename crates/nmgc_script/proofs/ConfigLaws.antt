@@ -1,4 +1,4 @@
--- A heap line is read exactly from its words.
+-- A heap line is read exactly from its tokens.
 use Rattle.nmgc_script.proofs.Vocabulary.{◌≡◌, ◌≤◌, ◌<◌, ◌^◌, ℕ, List, [], ◌∷◌, refl, subst, ap, ◌∙◌, arith, inl, inr, codes, decimal, Ok, Err, leb, is_power_of_two, bytes_eq, bytes_eq-Decides, le-leb, leb-true, Cause, Config, IsSegmentSize, least_segment_words, most_nursery_words, most_quota, most_segment_words, most_segments, most_slice, most_trigger, FitsConfig, heap_words, number_at, between_at, segment_size_at, sizes_at, pace_at, config_at, numbers_at, or_cause, heap_words_at, chosen}
 use Rattle.nmgc_script.specs.declared.fault.Cause.TheVariants as cause
 use Rattle.nmgc_script.proofs.{WordLaws.Reads, WordLaws.bind_ok, WordLaws.guard_ok, WordLaws.ok_is, WordLaws.number_reads, SectionLaws.or_cause_ok}

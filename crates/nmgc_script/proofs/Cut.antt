@@ -44,7 +44,7 @@ module _ (n : ℕ) (bytes line rest : List ℕ) (split : lines_of bytes ≡ line
   pub counted : (n + 1) + length (lines_of rest) ≡ n + length (lines_of bytes)
   counted = rw split (omega arith)
 
--- nothing is kept of nothing
+-- an empty text has no kept lines
 pub kept_none : (n : ℕ) (bytes : List ℕ) → lines_of bytes ≡ [] → kept_from n (lines_of bytes) ≡ []
 unfolding kept_from
 kept_none n bytes none = rw none refl
@@ -53,7 +53,7 @@ kept_none n bytes none = rw none refl
 pub front_of : (s : ℕ) (bytes front back : List ℕ) → bytes ≡ front ++ s ∷ back → front ≡ take (length front) bytes
 front_of s bytes front back e = sym (ap (λ (l : List ℕ). take (length front) l) e ∙ take_at front (s ∷ back) (length front) refl)
 
--- what is left behind a word lies in the text where the word's space ends
+-- the rest after a token lies in the text, at the end of the token's space
 pub rest_on : (s : ℕ) (text rest word after : List ℕ) (from : ℕ) → rest ≡ take (length rest) (drop from text) → rest ≡ word ++ s ∷ after →
     after ≡ take (length after) (drop (from + (length word + 1)) text)
 rest_on s text rest word after from is e =
@@ -62,6 +62,6 @@ rest_on s text rest word after from is e =
     let behind : drop n rest ≡ after = cc (e, append_assoc word (s ∷ []) after, drop_at (word ++ s ∷ []) after n (length_push word s)) in
     cc (behind, is, long, drop-take n (length after) (drop from text), drop-drop n from text)
 
--- and is shorter by both
+-- and the rest is shorter by the token and its space
 pub rest_less : (s : ℕ) (rest word after : List ℕ) → rest ≡ word ++ s ∷ after → length word + 1 + length after ≡ length rest
 rest_less s rest word after e = sym (ap (λ (l : List ℕ). length l) e ∙ length-append word (s ∷ after) ∙ omega arith)

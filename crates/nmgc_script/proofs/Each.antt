@@ -1,8 +1,8 @@
--- Reading items one after the other, as a loop does.
+-- Reading items in order, as a loop does.
 use Rattle.nmgc_script.proofs.Vocabulary.{◌≡◌, ℕ, ◌+◌, ◌<◌, ◌≤◌, List, [], ◌∷◌, ◌++◌, map, length, drop, get_or, Result, Ok, Err, refl, sym, ap, ◌∙◌, append_assoc, add-one, drop-cons, append-nil, drop_all, ◌>>=◌, each_at, Fails, Cause, LineFault}
 use Rattle.nmgc_script.specs.declared.fault.LineFault.TheVariants as fault
 
--- what was read before, and what is still read
+-- the items read before, and the items still to read
 abbrev pub with_front : {B E : Type 0} → List B → Result (List B) E → Result (List B) E
 with_front front read = read >>= λ ys. Ok (front ++ ys)
 
@@ -29,19 +29,19 @@ module _ {V A B E : Type 0} (view : V → A) (f : A → Result B E) (xs : List V
   unfolding each_at
   is_done le so_far = sym (rw (drop_all i xs le, append-nil) at so_far)
 
--- the same at a fault of a line, which may be want of memory
+-- the same at a fault of a line, which may be that memory ran out
 pub fails : {V A B : Type 0} (view : V → A) (f : A →
     Result B Cause) (xs : List V) (i : ℕ) (front : List B) (total : Result (List B) Cause) (d : V) (e : LineFault) → i < length xs →
     Fails e (f (view (get_or xs i d))) → with_front front (each_at f (map view (drop i xs))) ≡ total → Fails e total
 fails view f xs i front total d fault.NoMemory lt h so_far = tt
 fails view f xs i front total d (fault.Bad c) lt h so_far = ends view f xs i front total d c lt h so_far
 
--- a fault of the first step is one of both
+-- a fault of the first step is a fault of both steps
 pub fails_bind : {A B : Type 0} (r : Result A Cause) (f : A → Result B Cause) (e : LineFault) → Fails e r → Fails e (r >>= f)
 fails_bind r f fault.NoMemory h = tt
 fails_bind r f (fault.Bad c) h = rw h refl
 
--- two items are read one after the other
+-- two items are read in sequence
 module _ {A B : Type 0} (f : A → Result B Cause) (x y : A) where
   pub both_read : (a b : B) → f x ≡ Ok a → f y ≡ Ok b → each_at f (x ∷ y ∷ []) ≡ Ok (a ∷ b ∷ [])
   unfolding each_at

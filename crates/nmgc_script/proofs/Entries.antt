@@ -1,4 +1,4 @@
--- Reading entries one after the other, as a loop does.
+-- Reading entries in order, as a loop does.
 use Rattle.nmgc_script.proofs.Vocabulary.{◌≡◌, ℕ, ◌+◌, ◌<◌, List, [], ◌∷◌, ◌++◌, Result, Ok, Err, IfOk, refl, ap, sym, ◌∙◌, append_assoc, append-nil, Command, Cause, LineFault, ScriptFault, Config, Version, Entry, words_of, ◌>>=◌, Gives, GivesAt, FailsAt, placed, at_line, section_at, entry_at, with_entry, rest_at, programs_at, threads_at}
 use Rattle.nmgc_script.specs.declared.fault.Cause.TheVariants as cause
 use Rattle.nmgc_script.specs.declared.fault.LineFault.TheVariants as fault
@@ -16,7 +16,7 @@ pub fails_at_bind : {A B : Type 0} (r : Result A (ℕ × Cause)) (f : A → Resu
 fails_at_bind r f script_fault.NoMemory h = tt
 fails_at_bind r f (script_fault.Bad l c) h = rw h refl
 
--- the programs before, the one that is read, and what is still read
+-- the programs before, the program that is read, and the programs still to read
 abbrev pub with_before : List (List Command) → List Command → Result (List Command × List (List Command)) (ℕ × Cause) → Result (List (List Command)) (ℕ × Cause)
 with_before threads program read = read >>= λ p. Ok (threads ++ (program ++ p.0) ∷ p.1)
 
@@ -58,7 +58,7 @@ pub is_done : (v : Version) (h : Config) (n : ℕ) (threads : List (List Command
 unfolding rest_at
 is_done v h n threads program before total none so_far = sym (rw (none, append-nil) at so_far)
 
--- what is read of a line's words, with the line's number
+-- the result of a line's tokens, with the line's number
 pub line_read : {X : Type 0} (reads : List (List ℕ) →
     Result X Cause) (number : ℕ) (line : List ℕ) (words : List (List ℕ)) (given : Result X LineFault) (out : Result X ScriptFault) →
     words ≡ words_of line → Gives given (reads words) → out ≡ placed number given → GivesAt (λ x. x) out (at_line number (reads (words_of line)))
@@ -71,7 +71,7 @@ pub err_read : {X : Type 0} (out : Result X ScriptFault) (read : Result X (ℕ �
     FailsAt e read
 err_read out read e is h = rw is at h
 
--- what a line gave, where it is no fault
+-- the result of a line without a fault
 pub placed_ok : {X : Type 0} (n : ℕ) (given : Result X LineFault) (x : X) → placed n given ≡ Ok x → given ≡ Ok x
 placed_ok n (Ok y) x e = cc
 placed_ok n (Err fault.NoMemory) x e = absurd cc
@@ -82,7 +82,7 @@ pub within : (n number limit : ℕ) (given : Result Entry LineFault) (out : Resu
     out ≡ Ok entry.Section → IfOk given (λ e. e ≡ entry.Section → n < limit) → n < limit
 within n number limit given out is ok h = (rw (placed_ok number given entry.Section (sym is ∙ ok)) at h) refl
 
--- no section line is there
+-- the text has no section line
 pub no_section : (end number : ℕ) (v : Version) (h : Config) (before : List (ℕ × List ℕ)) → before ≡ [] → number ≡ end →
     threads_at v end h before ≡ Err (number, cause.Thread)
 unfolding threads_at

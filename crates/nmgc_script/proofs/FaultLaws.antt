@@ -3,18 +3,18 @@ use Rattle.std.proofs.{Common.◌≡◌, Common.◌≢◌, Common.◌≤◌, Com
 use Rattle.std.specs.Str.{bytes_eq}
 use Rattle.nmgc_limits.specs.Limits.{most_heap_words}
 use Rattle.nmgc_world_spec.specs.{declared.command.Command.Command, Command.HasRegistersBelow, Command.HasNumbers, Command.words_made}
-use Rattle.nmgc_script.specs.{declared.fault.Cause.Cause, declared.fault.ScriptFault.ScriptFault, declared.script.Config.Config, declared.script.Script.Script, declared.version.Version.Version, declared.sections.Entry.Entry, declared.verbs.Verb.Verb, laws.Versions.IsUsable, laws.Versions.usable_version, laws.Versions.registers_wider, Limits.IsVersion, Limits.total_words, Limits.version_1, Limits.version_2, Spelling.spaced, Spelling.verb_name, Spelling.command_words, Spelling.heap_words, Spelling.section_words, Spelling.version_words, Text.words_of, Text.kept_lines, Text.end_of, Faults.first_of, Faults.HasArity, Faults.HasToBegin, Faults.HasFault, Faults.order_of, Faults.IsFirstFault, Faults.IsFaultless, Faults.begun_with, Faults.TellsRest, Faults.TellsHeap, Faults.TellsFault, Faults.IsToldOf, Reading.◌>>=◌, Reading.or_cause, Reading.verb_at, Reading.operands_at, Reading.sized, Reading.command_at, Reading.thread_at, Reading.section_at, Reading.is_section, Reading.entry_at, Reading.begun_after, Reading.with_entry, Reading.rest_at, Reading.programs_at, Reading.threads_at, Reading.version_at, Reading.heap_words_at, Reading.numbers_at, Reading.heap_at, Reading.script_at, Reading.at_line, Reading.GivesAt, laws.Lines.spaced-words_of, laws.Lines.words_of-line, laws.Lines.heap_line_words, laws.Lines.first_line, laws.Lines.second_line}
+use Rattle.nmgc_script.specs.{declared.fault.Cause.Cause, declared.fault.ScriptFault.ScriptFault, declared.script.Config.Config, declared.script.Script.Script, declared.version.Version.Version, declared.sections.Entry.Entry, declared.verbs.Verb.Verb, laws.Versions.IsUsable, laws.Versions.usable_version, laws.Versions.registers_wider, Limits.IsVersion, Limits.total_words, Limits.version_1, Limits.version_2, Spelling.spaced, Spelling.verb_name, Spelling.command_words, Spelling.heap_words, Spelling.section_words, Spelling.version_words, Text.words_of, Text.kept_lines, Text.end_of, Faults.first_of, Faults.HasArity, Faults.HasToBegin, Faults.HasFault, Faults.order_of, Faults.IsFirstFault, Faults.IsFaultless, Faults.begun_with, Faults.IsFaultInRest, Faults.IsFaultFromHeap, Faults.IsFaultOfText, Faults.IsFaultOf, Reading.◌>>=◌, Reading.or_cause, Reading.verb_at, Reading.operands_at, Reading.sized, Reading.command_at, Reading.thread_at, Reading.section_at, Reading.is_section, Reading.entry_at, Reading.begun_after, Reading.with_entry, Reading.rest_at, Reading.programs_at, Reading.threads_at, Reading.version_at, Reading.heap_words_at, Reading.numbers_at, Reading.heap_at, Reading.script_at, Reading.at_line, Reading.GivesAt, laws.Lines.spaced-words_of, laws.Lines.words_of-line, laws.Lines.heap_line_words, laws.Lines.first_line, laws.Lines.second_line}
 use Rattle.nmgc_script.specs.declared.fault.Cause.TheVariants as cause
 use Rattle.nmgc_script.specs.declared.fault.ScriptFault.TheVariants as script_fault
 use Rattle.nmgc_script.specs.declared.sections.Entry.TheVariants as entry
-use Rattle.nmgc_script.proofs.{WordLaws.FailsBy, WordLaws.fails_choose, WordLaws.bind_ok, WordLaws.ok_is, VerbLaws.verb_takes, VerbLaws.verb_again, VerbLaws.verb_fails, VerbLaws.verb_of_nothing, CommandLaws.Spell, CommandLaws.operands_spell, CommandLaws.sized_takes, CommandLaws.command_again, CauseLaws.result_cases, CauseLaws.fails_is, CauseLaws.HasCount, CauseLaws.TellsArity, CauseLaws.operands_tell, ArityLaws.right_of, ArityLaws.count_of, ArityLaws.count_some, ConfigLaws.heap_takes, ConfigLaws.heap_again, SectionLaws.at_line_ok, SectionLaws.thread_reads, SectionLaws.Begins, SectionLaws.section_takes}
+use Rattle.nmgc_script.proofs.{WordLaws.FailsBy, WordLaws.fails_choose, WordLaws.bind_ok, WordLaws.ok_is, VerbLaws.verb_takes, VerbLaws.verb_again, VerbLaws.verb_fails, VerbLaws.verb_of_nothing, CommandLaws.Spell, CommandLaws.operands_spell, CommandLaws.sized_takes, CommandLaws.command_again, CauseLaws.result_cases, CauseLaws.fails_is, CauseLaws.HasCount, CauseLaws.CausesArity, CauseLaws.operands_cause, ArityLaws.right_of, ArityLaws.count_of, ArityLaws.count_some, ConfigLaws.heap_takes, ConfigLaws.heap_again, SectionLaws.at_line_ok, SectionLaws.thread_reads, SectionLaws.Begins, SectionLaws.section_takes}
 use Rattle.nmgc_lists.specs.laws.Truths.{chosen}
 
 -- the same reading can't give two results
 two_results : {A E : Type 0} (r : Result A E) (a : A) (e : E) → r ≡ Ok a → r ≡ Err e → ⊥
 two_results r a e is not = absurd (let never : Ok a ≡ Err e = sym is ∙ not in cc)
 
--- what a reading goes on to, where the first step did not fail
+-- a reading whose first step doesn't fail continues with the second step
 goes_to : {A B E : Type 0} (r : Result A E) (f : A → Result B E) (a : A) → r ≡ Ok a → (r >>= f) ≡ f a
 goes_to r f a is = rw is refl
 
@@ -49,13 +49,13 @@ heap_fails (name ∷ words) =
 
 -- THE LINE OF A COMMAND
 
--- words are read as the verb and the words after its name
+-- tokens are read as the verb and the tokens after its name
 read_as : (ver : Version) (usable : IsUsable ver) (size : ℕ) (name : List ℕ) (words : List (List ℕ)) (v : Verb) → verb_at name ≡ Ok v →
     command_at ver size (name ∷ words) ≡ (operands_at ver v words >>= λ c. sized size c)
 unfolding command_at
 read_as ver usable size name words v is = rw is refl
 
--- words that spell a command within the limits of registers and numbers are read as it, before its size is looked at
+-- tokens that spell a command within the limits of registers and numbers are read as this command, before its size is checked
 read_operands : (ver : Version) (usable : IsUsable ver) (name : List ℕ) (words : List (List ℕ)) (v : Verb) (c : Command) → verb_at name ≡ Ok v →
     HasRegistersBelow ver.registers c → HasNumbers c → name ∷ words ≡ command_words c → operands_at ver v words ≡ Ok c
 read_operands ver usable name words v c is registers numbers same =
@@ -115,7 +115,7 @@ module _ (ver : Version) (usable : IsUsable ver) (h : Config) (n : ℕ) where
       before cause.Operand lt f = absurd (omega arith)
       before cause.Size lt f = absurd (omega arith)
 
-  -- the number of words is that of a command with the name
+  -- a command of the name has this number of tokens
   right_arity : (name : List ℕ) (words : List (List ℕ)) (v : Verb) → verb_at name ≡ Ok v → HasCount v (length (name ∷ words)) →
       HasArity ver name (length (name ∷ words))
   right_arity name words v is right = subst (λ (k : List ℕ). HasArity ver k (length (name ∷
@@ -158,21 +158,21 @@ module _ (ver : Version) (usable : IsUsable ver) (h : Config) (n : ℕ) where
       before cause.Size lt f = absurd (omega arith)
 
   arity_or_operand : (name : List ℕ) (words : List (List ℕ)) (v : Verb) (e : Cause) (r : Result Command Cause) → r ≡ operands_at ver v words →
-      (HasToBegin n (name ∷ words) → ⊥) → verb_at name ≡ Ok v → TellsArity r (HasCount v (length (name ∷ words))) → r ≡ Err e →
+      (HasToBegin n (name ∷ words) → ⊥) → verb_at name ≡ Ok v → CausesArity r (HasCount v (length (name ∷ words))) → r ≡ Err e →
       IsFirstFault ver h n (name ∷ words) e
-  arity_or_operand name words v e (Ok c) same apart is tells bad = absurd cc
-  arity_or_operand name words v e (Err d) same apart is tells bad = elim tells [
+  arity_or_operand name words v e (Ok c) same apart is agrees bad = absurd cc
+  arity_or_operand name words v e (Err d) same apart is agrees bad = elim agrees [
     | inl p ↦ subst (IsFirstFault ver h n (name ∷ words)) (sym p.0 ∙ err_is {A = Command} d e bad) (arity_fault name words v apart (verb_takes name v is) p.1)
     | inr p ↦ subst (IsFirstFault ver h n (name ∷ words)) (sym p.0 ∙
         err_is {A = Command} d e bad) (operand_fault name words v apart is p.1 (sym same ∙ ap Err p.0))
   ]
 
-  pub command_told : (words : List (List ℕ)) (e : Cause) → (HasToBegin n words → ⊥) → command_at ver h.words words ≡ Err e → IsFirstFault ver h n words e
+  pub command_known : (words : List (List ℕ)) (e : Cause) → (HasToBegin n words → ⊥) → command_at ver h.words words ≡ Err e → IsFirstFault ver h n words e
   unfolding command_at
-  command_told [] e apart bad =
+  command_known [] e apart bad =
       subst (IsFirstFault ver h n []) (err_is {A = Command} cause.Command e bad) (command_fault [] apart (λ v is.
       two_results (verb_at []) v cause.Command (ap verb_at is ∙ verb_again v) verb_of_nothing))
-  command_told (name ∷ words) e apart bad =
+  command_known (name ∷ words) e apart bad =
       elim (result_cases (verb_at name)) [
         | inr p ↦
             let is_command : p.0 ≡ cause.Command = fails_is cause.Command p.0 (verb_at name) (verb_fails name) p.1 in
@@ -183,19 +183,19 @@ module _ (ver : Version) (usable : IsUsable ver) (h : Config) (n : ℕ) where
         | inl v ↦
             let goes : command_at ver h.words (name ∷ words) ≡ (operands_at ver v.0 words >>= λ c. sized h.words c) =
             read_as ver usable h.words name words v.0 v.1 in
-            let tells = operands_tell ver usable v.0 name words in
+            let agrees = operands_cause ver usable v.0 name words in
             elim (result_cases (operands_at ver v.0 words)) [
               | inr p ↦
                   let same : p.0 ≡ e = err_is {A = Command} p.0 e (sym (stops_at (operands_at ver v.0 words) (λ c. sized h.words c) p.0 p.1) ∙
                   sym goes ∙ bad) in
-                  subst (IsFirstFault ver h n (name ∷ words)) same (arity_or_operand name words v.0 p.0 (operands_at ver v.0 words) refl apart v.1 tells p.1)
+                  subst (IsFirstFault ver h n (name ∷ words)) same (arity_or_operand name words v.0 p.0 (operands_at ver v.0 words) refl apart v.1 agrees p.1)
               | inl c ↦
                   let size = sized_fails h.words c.0 e (sym (goes_to (operands_at ver v.0 words) (λ k. sized h.words k) c.0 c.1) ∙ sym goes ∙ bad) in
                   let spelled = operands_spell ver usable v.0 words c.0 c.1 in
                   let same : name ∷ words ≡ command_words c.0 = ap (λ (w : List ℕ). w ∷ words) (verb_takes name v.0 v.1) ∙ spelled.0 in
                   subst (IsFirstFault ver h n (name ∷
                   words)) (sym size.0) (size_fault name words v.0 c.0 apart v.1 (right_of (HasCount v.0 (length (name ∷
-                  words))) c.0 (operands_at ver v.0 words) c.1 tells) spelled.1 spelled.2 same size.1)
+                  words))) c.0 (operands_at ver v.0 words) c.1 agrees) spelled.1 spelled.2 same size.1)
             ]
       ]
 
@@ -224,7 +224,7 @@ module _ (ver : Version) (usable : IsUsable ver) (h : Config) (n : ℕ) where
       named = verb_takes name v.0 v.1
 
       right : HasCount v.0 (length (name ∷ words))
-      right = right_of (HasCount v.0 (length (name ∷ words))) c (operands_at ver v.0 words) read (operands_tell ver usable v.0 name words)
+      right = right_of (HasCount v.0 (length (name ∷ words))) c (operands_at ver v.0 words) read (operands_cause ver usable v.0 name words)
 
       faultless : (e : Cause) → HasFault ver h n (name ∷ words) e → ⊥
       faultless cause.Version f = f
@@ -279,9 +279,9 @@ module _ (ver : Version) (usable : IsUsable ver) (h : Config) (n : ℕ) where
   section_faultless words begins good cause.Operand f = f.0 begins
   section_faultless words begins good cause.Size f = f.0 begins
 
-  section_told : (words : List (List ℕ)) (e : Cause) → HasToBegin n words → section_at ver h n words ≡ Err e → IsFirstFault ver h n words e
+  section_fault : (words : List (List ℕ)) (e : Cause) → HasToBegin n words → section_at ver h n words ≡ Err e → IsFirstFault ver h n words e
   unfolding section_at
-  section_told words e begins bad =
+  section_fault words e begins bad =
       elim (result_cases (thread_at ver words)) [
         | inr p ↦
             let is_thread : p.0 ≡ cause.Thread = fails_is cause.Thread p.0 (thread_at ver words) (thread_fails ver usable words) p.1 in
@@ -321,12 +321,12 @@ module _ (ver : Version) (usable : IsUsable ver) (h : Config) (n : ℕ) where
   apart_of [] some e (inl same) = absurd cc
   apart_of (name ∷ words) some e (inl same) = absurd (let never : false ≡ true = sym e ∙ (bytes_eq-Decides name (codes "thread")).1 same in cc)
 
-  entry_told : (words : List (List ℕ)) (e : Cause) → n ≢ 0 → entry_at ver h n words ≡ Err e → IsFirstFault ver h n words e
+  entry_fault : (words : List (List ℕ)) (e : Cause) → n ≢ 0 → entry_at ver h n words ≡ Err e → IsFirstFault ver h n words e
   unfolding entry_at
-  entry_told words e some bad =
+  entry_fault words e some bad =
       elim (chosen (is_section words) (section_at ver h n words) (command_at ver h.words words >>= λ c. Ok (entry.Order c)) (Err e) bad) [
-        | inl p ↦ section_told words e (begins_of words p.0) p.1
-        | inr p ↦ command_told words e (apart_of words some p.0) (err_map (command_at ver h.words words) (λ c. entry.Order c) e p.1)
+        | inl p ↦ section_fault words e (begins_of words p.0) p.1
+        | inr p ↦ command_known words e (apart_of words some p.0) (err_map (command_at ver h.words words) (λ c. entry.Order c) e p.1)
       ]
 
   begun_is : (words : List (List ℕ)) (b : Bool) → is_section words ≡ b → begun_with n words ≡ cond b (n + 1) n
@@ -365,57 +365,57 @@ pub some_after : (x : Entry) (n : ℕ) → n ≢ 0 → begun_after x n ≢ 0
 some_after entry.Section n some = λ e. omega arith
 some_after (entry.Order c) n some = some
 
-rest_told : (ver : Version) (usable : IsUsable ver) (h : Config) (end n : ℕ) (lines : List (ℕ × List ℕ)) (number : ℕ) (c : Cause) → n ≢ 0 →
-    rest_at ver h n lines ≡ Err (number, c) → TellsRest ver h n end lines number c
+rest_fault : (ver : Version) (usable : IsUsable ver) (h : Config) (end n : ℕ) (lines : List (ℕ × List ℕ)) (number : ℕ) (c : Cause) → n ≢ 0 →
+    rest_at ver h n lines ≡ Err (number, c) → IsFaultInRest ver h n end lines number c
 unfolding rest_at
-rest_told ver usable h end n [] number c some bad = absurd cc
-rest_told ver usable h end n (line ∷ lines) number c some bad =
+rest_fault ver usable h end n [] number c some bad = absurd cc
+rest_fault ver usable h end n (line ∷ lines) number c some bad =
     let words = words_of line.1 in
     elim (result_cases (at_line line.0 (entry_at ver h n words))) [
       | inr p ↦
           let stops : rest_at ver h n (line ∷ lines) ≡ Err p.0 = stops_at (at_line line.0 (entry_at ver h n words)) _ p.0 p.1 in
           let same : p.0 ≡ (number, c) = err_is {A = List Command × List (List Command)} p.0 (number, c) (sym stops ∙ bad) in
           let at = at_line_err line.0 (entry_at ver h n words) number c (p.1 ∙ ap Err same) in
-          inl (at.0, entry_told ver usable h n words c some at.1)
+          inl (at.0, entry_fault ver usable h n words c some at.1)
       | inl x ↦
           let good = entry_good ver usable h n words x.0 some (at_line_ok line.0 (entry_at ver h n words) x.0 x.1) in
           let goes : rest_at ver h n (line ∷ lines) ≡ (rest_at ver h (begun_after x.0 n) lines >>= λ others. Ok (with_entry x.0 others)) =
           goes_to (at_line line.0 (entry_at ver h n words)) _ x.0 x.1 in
-          let later = rest_told ver usable h end (begun_after x.0 n) lines number c (some_after x.0 n some)
+          let later = rest_fault ver usable h end (begun_after x.0 n) lines number c (some_after x.0 n some)
           (err_of (rest_at ver h (begun_after x.0 n) lines) _ number c (λ a e. absurd cc) (sym goes ∙ bad)) in
-          inr (good.0, subst (λ (k : ℕ). TellsRest ver h k end lines number c) (sym good.1) later)
+          inr (good.0, subst (λ (k : ℕ). IsFaultInRest ver h k end lines number c) (sym good.1) later)
     ]
 
-threads_told : (ver : Version) (usable : IsUsable ver) (h : Config) (end : ℕ) (lines : List (ℕ × List ℕ)) (number : ℕ) (c : Cause) →
-    threads_at ver end h lines ≡ Err (number, c) → TellsRest ver h 0 end lines number c
+threads_fault : (ver : Version) (usable : IsUsable ver) (h : Config) (end : ℕ) (lines : List (ℕ × List ℕ)) (number : ℕ) (c : Cause) →
+    threads_at ver end h lines ≡ Err (number, c) → IsFaultInRest ver h 0 end lines number c
 unfolding threads_at programs_at
-threads_told ver usable h end [] number c bad =
+threads_fault ver usable h end [] number c bad =
     let same : ◌≡◌ {A = ℕ × Cause} (end, cause.Thread) (number, c) = err_is {A = List (List Command)} (end, cause.Thread) (number, c) bad in
     (refl, sym (ap (λ (p : ℕ × Cause). p.0) same), sym (ap (λ (p : ℕ × Cause). p.1) same))
-threads_told ver usable h end (line ∷ lines) number c bad =
+threads_fault ver usable h end (line ∷ lines) number c bad =
     let words = words_of line.1 in
     elim (result_cases (at_line line.0 (section_at ver h 0 words))) [
       | inr p ↦
           let stops : threads_at ver end h (line ∷ lines) ≡ Err p.0 = stops_at (at_line line.0 (section_at ver h 0 words)) _ p.0 p.1 in
           let same : p.0 ≡ (number, c) = err_is {A = List (List Command)} p.0 (number, c) (sym stops ∙ bad) in
           let at = at_line_err line.0 (section_at ver h 0 words) number c (p.1 ∙ ap Err same) in
-          inl (at.0, section_told ver usable h 0 words c (inr refl) at.1)
+          inl (at.0, section_fault ver usable h 0 words c (inr refl) at.1)
       | inl x ↦
           let good = section_takes ver usable h 0 words x.0 (at_line_ok line.0 (section_at ver h 0 words) x.0 x.1) in
           let goes : threads_at ver end h (line ∷ lines) ≡ programs_at ver h lines = goes_to (at_line line.0 (section_at ver h 0 words)) _ x.0 x.1 in
-          let later = rest_told ver usable h end 1 lines number c (λ e.
+          let later = rest_fault ver usable h end 1 lines number c (λ e.
           omega arith) (err_of (rest_at ver h 1 lines) _ number c (λ a e. absurd cc) (sym goes ∙ bad)) in
           let begun : 1 ≡ begun_with 0 words = sym (ap (begun_with 0) good.0.0) in
-          inr (section_faultless ver usable h 0 words (inr refl) good.0, subst (λ (k : ℕ). TellsRest ver h k end lines number c) begun later)
+          inr (section_faultless ver usable h 0 words (inr refl) good.0, subst (λ (k : ℕ). IsFaultInRest ver h k end lines number c) begun later)
     ]
 
-heap_told : (ver : Version) (usable : IsUsable ver) (end : ℕ) (lines : List (ℕ × List ℕ)) (number : ℕ) (c : Cause) →
-    (heap_at end lines >>= λ p. threads_at ver end p.0 p.1) ≡ Err (number, c) → TellsHeap ver end lines number c
+heap_fault : (ver : Version) (usable : IsUsable ver) (end : ℕ) (lines : List (ℕ × List ℕ)) (number : ℕ) (c : Cause) →
+    (heap_at end lines >>= λ p. threads_at ver end p.0 p.1) ≡ Err (number, c) → IsFaultFromHeap ver end lines number c
 unfolding heap_at
-heap_told ver usable end [] number c bad =
+heap_fault ver usable end [] number c bad =
     let same : ◌≡◌ {A = ℕ × Cause} (end, cause.Heap) (number, c) = err_is {A = List (List Command)} (end, cause.Heap) (number, c) bad in
     (sym (ap (λ (p : ℕ × Cause). p.0) same), sym (ap (λ (p : ℕ × Cause). p.1) same))
-heap_told ver usable end (line ∷ lines) number c bad =
+heap_fault ver usable end (line ∷ lines) number c bad =
     let words = words_of line.1 in
     elim (result_cases (heap_words_at words)) [
       | inr p ↦
@@ -431,7 +431,7 @@ heap_told ver usable end (line ∷ lines) number c bad =
       | inl h ↦
           let t = heap_takes words h.0 h.1 in
           let goes : (heap_at end (line ∷ lines) >>= λ q. threads_at ver end q.0 q.1) ≡ threads_at ver end h.0 lines = rw h.1 refl in
-          inr (h.0, t.1, sym (spaced-words_of line.1) ∙ ap spaced t.0, threads_told ver usable h.0 end lines number c (sym goes ∙ bad))
+          inr (h.0, t.1, sym (spaced-words_of line.1) ∙ ap spaced t.0, threads_fault ver usable h.0 end lines number c (sym goes ∙ bad))
     ]
 
 err_inner : {A B C E : Type 0} (r : Result A E) (f : A → Result B E) (g : A → B → C) (e : E) → (r >>= λ a. f a >>= λ b. Ok (g a b)) ≡ Err e → (r >>= f) ≡ Err e
@@ -442,30 +442,30 @@ err_inner {A} {B} {C} (Err d) f g e h = ap Err (err_is {A = C} d e h)
 abbrev versioned : Version → List (ℕ × List ℕ) → Result (Version × List (ℕ × List ℕ)) (ℕ × Cause)
 versioned ver lines = Ok (ver, lines)
 
--- what is read after the line of a version
+-- the rest of the script, read after the version line
 abbrev script_after : ℕ → Version × List (ℕ × List ℕ) → Result Script (ℕ × Cause)
 script_after end v = heap_at end v.1 >>= λ heap. threads_at v.0 end heap.0 heap.1 >>= λ threads.
     Ok (let made : Script = record { version = v.0.number; config = heap.0; threads = threads } in made)
 
-version_told : (ver : Version) → IsVersion ver → (end : ℕ) (line : ℕ × List ℕ) (lines : List (ℕ × List ℕ)) (number : ℕ) (c : Cause) →
-    line.1 ≡ spaced (version_words ver.number) → script_after end (ver, lines) ≡ Err (number, c) → TellsFault end (line ∷ lines) number c
-version_told ver known end line lines number c is h = inr (
+version_fault : (ver : Version) → IsVersion ver → (end : ℕ) (line : ℕ × List ℕ) (lines : List (ℕ × List ℕ)) (number : ℕ) (c : Cause) →
+    line.1 ≡ spaced (version_words ver.number) → script_after end (ver, lines) ≡ Err (number, c) → IsFaultOfText end (line ∷ lines) number c
+version_fault ver known end line lines number c is h = inr (
   ver,
   known,
   is,
-  heap_told ver (usable_version ver known) end lines number c (err_inner (heap_at end lines) (λ heap.
+  heap_fault ver (usable_version ver known) end lines number c (err_inner (heap_at end lines) (λ heap.
       threads_at ver end heap.0 heap.1) (λ heap threads. let made : Script = record { version = ver.number; config = heap.0; threads = threads } in
       made) (number, c) h),
 )
 
-script_told : (end : ℕ) (lines : List (ℕ × List ℕ)) (number : ℕ) (c : Cause) → script_at end lines ≡ Err (number, c) → TellsFault end lines number c
+script_fault_is : (end : ℕ) (lines : List (ℕ × List ℕ)) (number : ℕ) (c : Cause) → script_at end lines ≡ Err (number, c) → IsFaultOfText end lines number c
 unfolding script_at version_at
-script_told end [] number c bad =
+script_fault_is end [] number c bad =
     let same : ◌≡◌ {A = ℕ × Cause} (end, cause.Version) (number, c) = err_is {A = Script} (end, cause.Version) (number, c) bad in
     (sym (ap (λ (p : ℕ × Cause). p.0) same), sym (ap (λ (p : ℕ × Cause). p.1) same))
-script_told end (line ∷ lines) number c bad = go (bytes_eq line.1 (codes "nmgc 1")) (bytes_eq line.1 (codes "nmgc 2")) refl refl bad
+script_fault_is end (line ∷ lines) number c bad = go (bytes_eq line.1 (codes "nmgc 1")) (bytes_eq line.1 (codes "nmgc 2")) refl refl bad
   where
-    -- the line differs from that of a version
+    -- the line differs from a version's line
     differs : (text : List ℕ) → bytes_eq line.1 text ≡ false → line.1 ≡ text → ⊥
     differs text is other = absurd (let never : false ≡ true = sym is ∙ (bytes_eq-Decides line.1 text).1 other in cc)
 
@@ -478,16 +478,16 @@ script_told end (line ∷ lines) number c bad = go (bytes_eq line.1 (codes "nmgc
         (cond b (versioned version_1 lines) (cond d (versioned version_2 lines) (Err (line.0, cause.Version))) >>= script_after end) ≡ Err (
           number,
           c,
-        ) → TellsFault end (line ∷ lines) number c
-    go true d is also h = version_told version_1 (inl refl) end line lines number c ((bytes_eq-Decides line.1 (codes "nmgc 1")).0 is ∙ sym first_line) h
-    go false true is also h = version_told version_2 (inr refl) end line lines number c ((bytes_eq-Decides line.1 (codes "nmgc 2")).0 also ∙ sym second_line) h
+        ) → IsFaultOfText end (line ∷ lines) number c
+    go true d is also h = version_fault version_1 (inl refl) end line lines number c ((bytes_eq-Decides line.1 (codes "nmgc 1")).0 is ∙ sym first_line) h
+    go false true is also h = version_fault version_2 (inr refl) end line lines number c ((bytes_eq-Decides line.1 (codes "nmgc 2")).0 also ∙ sym second_line) h
     go false false is also h =
         let same : ◌≡◌ {A = ℕ × Cause} (line.0, cause.Version) (number, c) = err_is {A = Script} (line.0, cause.Version) (number, c) h in
         inl (sym (ap (λ (p : ℕ × Cause). p.0) same), sym (ap (λ (p : ℕ × Cause). p.1) same), no_version is also)
 
--- what is told is the first bad line and its first cause
-pub told : (bytes : List ℕ) (r : Result Script ScriptFault) → GivesAt (λ s. s) r (script_at (end_of bytes) (kept_lines bytes)) →
-    IfErr r (λ fault. IsToldOf bytes fault)
-told bytes (Ok s) h = tt
-told bytes (Err script_fault.NoMemory) h = tt
-told bytes (Err (script_fault.Bad line c)) h = script_told (end_of bytes) (kept_lines bytes) line c h
+-- the reported fault is the first bad line and its first cause
+pub reported : (bytes : List ℕ) (r : Result Script ScriptFault) → GivesAt (λ s. s) r (script_at (end_of bytes) (kept_lines bytes)) →
+    IfErr r (λ fault. IsFaultOf bytes fault)
+reported bytes (Ok s) h = tt
+reported bytes (Err script_fault.NoMemory) h = tt
+reported bytes (Err (script_fault.Bad line c)) h = script_fault_is (end_of bytes) (kept_lines bytes) line c h

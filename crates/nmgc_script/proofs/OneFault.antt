@@ -1,11 +1,11 @@
 -- A text spells a script or has one first bad line with one first cause, and never both.
 use Rattle.std.proofs.{Common.◌≡◌, Common.◌≢◌, Common.ℕ, Common.zero, Common.suc, Common.List, Common.[], Common.◌∷◌, Common.get_or, Common.refl, Common.sym, Common.ap, Common.subst, Common.◌∙◌, Common.arith, Common.inl, Common.inr, Common.codes, Common.Ok, lemmas.Bool.cases_order}
 use Rattle.nmgc_world_spec.specs.declared.command.Command.{Command}
-use Rattle.nmgc_script.specs.{declared.fault.Cause.Cause, declared.script.Config.Config, declared.script.Script.Script, declared.version.Version.Version, laws.Versions.IsUsable, laws.Versions.usable_version, Limits.FitsConfig, Limits.IsVersion, Spelling.spaced, Spelling.heap_words, Spelling.version_words, Spelling.Spells, Text.words_of, Text.kept_lines, Text.end_of, Faults.order_of, Faults.IsFirstFault, Faults.begun_with, Faults.TellsRest, Faults.TellsHeap, Faults.TellsFault, Reading.heap_words_at, Reading.section_at, Reading.entry_at, Reading.begun_after, Reading.at_line, Reading.rest_at, Reading.programs_at, Reading.threads_at, Reading.version_at, Reading.heap_at, Reading.script_at, laws.Lines.spaced-words_of, laws.Lines.words_of-line, laws.Lines.heap_line_words, laws.Lines.first_line, laws.Lines.second_line}
+use Rattle.nmgc_script.specs.{declared.fault.Cause.Cause, declared.script.Config.Config, declared.script.Script.Script, declared.version.Version.Version, laws.Versions.IsUsable, laws.Versions.usable_version, Limits.FitsConfig, Limits.IsVersion, Spelling.spaced, Spelling.heap_words, Spelling.version_words, Spelling.Spells, Text.words_of, Text.kept_lines, Text.end_of, Faults.order_of, Faults.IsFirstFault, Faults.begun_with, Faults.IsFaultInRest, Faults.IsFaultFromHeap, Faults.IsFaultOfText, Reading.heap_words_at, Reading.section_at, Reading.entry_at, Reading.begun_after, Reading.at_line, Reading.rest_at, Reading.programs_at, Reading.threads_at, Reading.version_at, Reading.heap_at, Reading.script_at, laws.Lines.spaced-words_of, laws.Lines.words_of-line, laws.Lines.heap_line_words, laws.Lines.first_line, laws.Lines.second_line}
 use Rattle.nmgc_script.specs.declared.fault.Cause.TheVariants as cause
 use Rattle.nmgc_script.proofs.{WordLaws.bind_ok, WordLaws.ok_is, ConfigLaws.heap_takes, ConfigLaws.heap_again, SectionLaws.at_line_ok, SectionLaws.section_takes, ScriptLaws.script_again, ScriptLaws.version_found, FaultLaws.entry_good, FaultLaws.section_faultless, FaultLaws.some_after}
 
--- the cause at a place of the order
+-- the cause at a position of the order
 cause_of : ℕ → Cause
 cause_of zero = cause.Version
 cause_of (suc zero) = cause.Heap
@@ -44,14 +44,14 @@ abbrev pub Same : ℕ → Cause → ℕ → Cause → Type 0
 Same a c b d = (a ≡ b) × (c ≡ d)
 
 one_rest : (ver : Version) (usable : IsUsable ver) (h : Config) (n end : ℕ) (lines : List (ℕ × List ℕ)) (a : ℕ) (c : Cause) (b : ℕ) (d : Cause) →
-    TellsRest ver h n end lines a c → TellsRest ver h n end lines b d → Same a c b d
+    IsFaultInRest ver h n end lines a c → IsFaultInRest ver h n end lines b d → Same a c b d
 one_rest ver usable h n end [] a c b d p q = (p.1 ∙ sym q.1, p.2 ∙ sym q.2)
 one_rest ver usable h n end (line ∷ lines) a c b d (inl p) (inl q) = (p.0 ∙ sym q.0, one_first ver usable h n (words_of line.1) c d p.1 q.1)
 one_rest ver usable h n end (line ∷ lines) a c b d (inl p) (inr q) = absurd (q.0 c p.1.here)
 one_rest ver usable h n end (line ∷ lines) a c b d (inr p) (inl q) = absurd (p.0 d q.1.here)
 one_rest ver usable h n end (line ∷ lines) a c b d (inr p) (inr q) = one_rest ver usable h (begun_with n (words_of line.1)) end lines a c b d p.1 q.1
 
--- a heap line has one config
+-- a heap line has one configuration
 one_config : (line : List ℕ) (g h : Config) → FitsConfig g → FitsConfig h → line ≡ spaced (heap_words g) → line ≡ spaced (heap_words h) → g ≡ h
 one_config line g h fg fh eg eh =
     let rg : heap_words_at (words_of line) ≡ Ok g = ap (λ (l : List ℕ). heap_words_at (words_of l)) eg ∙
@@ -61,14 +61,14 @@ one_config line g h fg fh eg eh =
     ok_is {E = Cause} g h (sym rg ∙ rh)
 
 one_heap : (ver : Version) (usable : IsUsable ver) (end : ℕ) (lines : List (ℕ × List ℕ)) (a : ℕ) (c : Cause) (b : ℕ) (d : Cause) →
-    TellsHeap ver end lines a c → TellsHeap ver end lines b d → Same a c b d
+    IsFaultFromHeap ver end lines a c → IsFaultFromHeap ver end lines b d → Same a c b d
 one_heap ver usable end [] a c b d p q = (p.0 ∙ sym q.0, p.1 ∙ sym q.1)
 one_heap ver usable end (line ∷ lines) a c b d (inl p) (inl q) = (p.0 ∙ sym q.0, p.1 ∙ sym q.1)
 one_heap ver usable end (line ∷ lines) a c b d (inl p) (inr q) = absurd (p.2 q.0 q.1 q.2)
 one_heap ver usable end (line ∷ lines) a c b d (inr p) (inl q) = absurd (q.2 p.0 p.1 p.2)
 one_heap ver usable end (line ∷ lines) a c b d (inr p) (inr q) =
     let same : p.0 ≡ q.0 = one_config line.1 p.0 q.0 p.1 q.1 p.2 q.2 in
-    one_rest ver usable q.0 0 end lines a c b d (subst (λ (k : Config). TellsRest ver k 0 end lines a c) same p.3) q.3
+    one_rest ver usable q.0 0 end lines a c b d (subst (λ (k : Config). IsFaultInRest ver k 0 end lines a c) same p.3) q.3
 
 abbrev text_of : Version → List ℕ
 text_of v = spaced (version_words v.number)
@@ -84,19 +84,19 @@ one_version line v w (inr a) (inr b) e f = a ∙ sym b
 one_version line v w (inl a) (inr b) e f = absurd (numbers_differ (sym (e ∙ ap text_of a ∙ first_line) ∙ f ∙ ap text_of b ∙ second_line))
 one_version line v w (inr a) (inl b) e f = absurd (numbers_differ (sym (f ∙ ap text_of b ∙ first_line) ∙ e ∙ ap text_of a ∙ second_line))
 
-pub one_fault : (end : ℕ) (lines : List (ℕ × List ℕ)) (a : ℕ) (c : Cause) (b : ℕ) (d : Cause) → TellsFault end lines a c → TellsFault end lines b d → Same a c b d
+pub one_fault : (end : ℕ) (lines : List (ℕ × List ℕ)) (a : ℕ) (c : Cause) (b : ℕ) (d : Cause) → IsFaultOfText end lines a c → IsFaultOfText end lines b d → Same a c b d
 one_fault end [] a c b d p q = (p.0 ∙ sym q.0, p.1 ∙ sym q.1)
 one_fault end (line ∷ lines) a c b d (inl p) (inl q) = (p.0 ∙ sym q.0, p.1 ∙ sym q.1)
 one_fault end (line ∷ lines) a c b d (inl p) (inr q) = absurd (p.2 q.0 q.1 q.2)
 one_fault end (line ∷ lines) a c b d (inr p) (inl q) = absurd (q.2 p.0 p.1 p.2)
 one_fault end (line ∷ lines) a c b d (inr p) (inr q) =
     let same : p.0 ≡ q.0 = one_version line.1 p.0 q.0 p.1 q.1 p.2 q.2 in
-    one_heap q.0 (usable_version q.0 q.1) end lines a c b d (subst (λ (v : Version). TellsHeap v end lines a c) same p.3) q.3
+    one_heap q.0 (usable_version q.0 q.1) end lines a c b d (subst (λ (v : Version). IsFaultFromHeap v end lines a c) same p.3) q.3
 
 -- NEVER BOTH
 
 rest_good : (ver : Version) (usable : IsUsable ver) (h : Config) (n end : ℕ) (lines : List (ℕ × List ℕ)) (p : List Command ×
-    List (List Command)) (a : ℕ) (c : Cause) → n ≢ 0 → rest_at ver h n lines ≡ Ok p → TellsRest ver h n end lines a c → ⊥
+    List (List Command)) (a : ℕ) (c : Cause) → n ≢ 0 → rest_at ver h n lines ≡ Ok p → IsFaultInRest ver h n end lines a c → ⊥
 unfolding rest_at
 rest_good ver usable h n end [] p a c some good t = some t.0
 rest_good ver usable h n end (line ∷ lines) p a c some good t =
@@ -107,11 +107,11 @@ rest_good ver usable h n end (line ∷ lines) p a c some good t =
     elim t [
       | inl q ↦ g.0 c q.1.here
       | inr q ↦ rest_good ver usable h (begun_after b.0 n) end lines o.0 a c (some_after b.0 n some) o.1 (subst (λ (k : ℕ).
-          TellsRest ver h k end lines a c) g.1 q.1)
+          IsFaultInRest ver h k end lines a c) g.1 q.1)
     ]
 
 threads_good : (ver : Version) (usable : IsUsable ver) (h : Config) (end : ℕ) (lines : List (ℕ ×
-    List ℕ)) (threads : List (List Command)) (a : ℕ) (c : Cause) → threads_at ver end h lines ≡ Ok threads → TellsRest ver h 0 end lines a c → ⊥
+    List ℕ)) (threads : List (List Command)) (a : ℕ) (c : Cause) → threads_at ver end h lines ≡ Ok threads → IsFaultInRest ver h 0 end lines a c → ⊥
 unfolding threads_at programs_at
 threads_good ver usable h end [] threads a c good t = absurd cc
 threads_good ver usable h end (line ∷ lines) threads a c good t =
@@ -122,12 +122,12 @@ threads_good ver usable h end (line ∷ lines) threads a c good t =
     let begun : begun_with 0 words ≡ 1 = ap (begun_with 0) g.0.0 in
     elim t [
       | inl q ↦ section_faultless ver usable h 0 words (inr refl) g.0 c q.1.here
-      | inr q ↦ rest_good ver usable h 1 end lines o.0 a c (λ e. omega arith) o.1 (subst (λ (k : ℕ). TellsRest ver h k end lines a c) begun q.1)
+      | inr q ↦ rest_good ver usable h 1 end lines o.0 a c (λ e. omega arith) o.1 (subst (λ (k : ℕ). IsFaultInRest ver h k end lines a c) begun q.1)
     ]
 
 heap_good : (ver : Version) (usable : IsUsable ver) (end : ℕ) (lines : List (ℕ × List ℕ)) (h : Config ×
     List (ℕ × List ℕ)) (threads : List (List Command)) (a : ℕ) (c : Cause) → heap_at end lines ≡ Ok h → threads_at ver end h.0 h.1 ≡ Ok threads →
-    TellsHeap ver end lines a c → ⊥
+    IsFaultFromHeap ver end lines a c → ⊥
 unfolding heap_at
 heap_good ver usable end [] h threads a c good more t = absurd cc
 heap_good ver usable end (line ∷ lines) h threads a c good more t =
@@ -139,7 +139,7 @@ heap_good ver usable end (line ∷ lines) h threads a c good more t =
     elim t [
       | inl q ↦ q.2 b.0 g.1 is
       | inr q ↦ threads_good ver usable b.0 end lines threads a c later (subst (λ (k : Config).
-          TellsRest ver k 0 end lines a c) (one_config line.1 q.0 b.0 q.1 g.1 q.2 is) q.3)
+          IsFaultInRest ver k 0 end lines a c) (one_config line.1 q.0 b.0 q.1 g.1 q.2 is) q.3)
     ]
 
 -- a text without lines names no version
@@ -149,25 +149,25 @@ no_version end p good = absurd cc
 
 version_good : (end : ℕ) (lines : List (ℕ × List ℕ)) (p : Version × List (ℕ × List ℕ)) (h : Config ×
     List (ℕ × List ℕ)) (threads : List (List Command)) (a : ℕ) (c : Cause) → version_at end lines ≡ Ok p → heap_at end p.1 ≡ Ok h →
-    threads_at p.0 end h.0 h.1 ≡ Ok threads → TellsFault end lines a c → ⊥
+    threads_at p.0 end h.0 h.1 ≡ Ok threads → IsFaultOfText end lines a c → ⊥
 version_good end [] p h threads a c good heap more t = no_version end p good
 version_good end (line ∷ lines) p h threads a c good heap more t =
     let f = version_found end line lines p good in
     elim t [
       | inl q ↦ q.2 p.0 f.0 f.1
       | inr q ↦ heap_good p.0 (usable_version p.0 f.0) end p.1 h threads a c heap more (subst (λ (v : Version).
-          TellsHeap v end p.1 a c) (one_version line.1 q.0 p.0 q.1 f.0 q.2 f.1) (subst (λ (l : List (ℕ × List ℕ)). TellsHeap q.0 end l a c) f.2 q.3))
+          IsFaultFromHeap v end p.1 a c) (one_version line.1 q.0 p.0 q.1 f.0 q.2 f.1) (subst (λ (l : List (ℕ × List ℕ)). IsFaultFromHeap q.0 end l a c) f.2 q.3))
     ]
 
--- lines that are read as a script have no fault to tell
-pub none_told : (end : ℕ) (lines : List (ℕ × List ℕ)) (s : Script) (a : ℕ) (c : Cause) → script_at end lines ≡ Ok s → TellsFault end lines a c → ⊥
+-- lines that are read as a script have no fault to report
+pub none_known : (end : ℕ) (lines : List (ℕ × List ℕ)) (s : Script) (a : ℕ) (c : Cause) → script_at end lines ≡ Ok s → IsFaultOfText end lines a c → ⊥
 unfolding script_at
-none_told end lines s a c good t =
+none_known end lines s a c good t =
     let b = bind_ok (version_at end lines) _ s good in
     let h = bind_ok (heap_at end b.0.1) _ s b.2 in
     let p = bind_ok (threads_at b.0.0 end h.0.0 h.0.1) _ s h.2 in
     version_good end lines b.0 h.0 p.0 a c b.1 h.1 p.1 t
 
--- bytes that spell a script have no fault to tell
-pub never_both : (bytes : List ℕ) (s : Script) (a : ℕ) (c : Cause) → Spells bytes s → TellsFault (end_of bytes) (kept_lines bytes) a c → ⊥
-never_both bytes s a c h t = none_told (end_of bytes) (kept_lines bytes) s a c (script_again (end_of bytes) (kept_lines bytes) s h.fits h.lines) t
+-- bytes that spell a script have no fault to report
+pub never_both : (bytes : List ℕ) (s : Script) (a : ℕ) (c : Cause) → Spells bytes s → IsFaultOfText (end_of bytes) (kept_lines bytes) a c → ⊥
+never_both bytes s a c h t = none_known (end_of bytes) (kept_lines bytes) s a c (script_again (end_of bytes) (kept_lines bytes) s h.fits h.lines) t

@@ -1,4 +1,4 @@
--- What was printed is the plain spelling, and is read again.
+-- The printed text is the plain spelling, and is read back.
 use Rattle.std.proofs.{Common.◌≡◌, Common.◌<◌, Common.◌+◌, Common.◌^◌, Common.ℕ, Common.List, Common.[], Common.◌∷◌, Common.◌++◌, Common.map, Common.length, Common.refl, Common.sym, Common.ap, Common.◌∙◌, Common.arith, Common.append_assoc, lemmas.List.Elements.recursion_from_All}
 use Rattle.std.specs.List.{AllByRecursion, All}
 use Rattle.nmgc_world_spec.specs.{declared.command.Command.Command, Command.Fits}

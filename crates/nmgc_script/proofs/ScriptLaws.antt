@@ -40,7 +40,7 @@ nothing : (end : ℕ) (p : Version × List (ℕ × List ℕ)) → version_at end
 unfolding version_at
 nothing end p e = absurd cc
 
--- a line that is read as one of a version is its line
+-- a line that is read as a version's line is that line
 pub version_found : (end : ℕ) (line : ℕ × List ℕ) (lines : List (ℕ × List ℕ)) (p : Version × List (ℕ × List ℕ)) →
     version_at end (line ∷ lines) ≡ Ok p → IsVersion p.0 × (line.1 ≡ spaced (version_words p.0.number)) × (lines ≡ p.1)
 unfolding version_at
@@ -68,7 +68,7 @@ version_takes end (line ∷ lines) p e =
     let f = version_found end line lines p e in
     (cc (f.1, f.2), f.0)
 
--- the line of a version is read as it
+-- a version's line is read as the version
 version_again : (end : ℕ) (line : ℕ × List ℕ) (lines : List (ℕ × List ℕ)) (n : ℕ) → n ≡ (version_of n).number → line.1 ≡ spaced (version_words n) →
     version_at end (line ∷ lines) ≡ Ok (version_of n, lines)
 unfolding version_at
@@ -188,12 +188,12 @@ script_again end (first ∷ second ∷ lines) s fits e =
     let read : script_at end (first ∷ second ∷ lines) ≡ Ok (numbered ver.number s) = rw (version, config, threads) refl in
     read ∙ ap (λ (n : ℕ). Ok (numbered n s)) (sym fits.version)
 
--- what was read is spelled so
+-- a script that is read is spelled by the bytes
 pub found : (bytes : List ℕ) (r : Result Script ScriptFault) → GivesAt (λ s. s) r (script_at (end_of bytes) (kept_lines bytes)) → IfOk r (λ s. Spells bytes s)
 found bytes (Err e) h = tt
 found bytes (Ok s) h = let t = script_takes (end_of bytes) (kept_lines bytes) s h in record { lines = t.0; fits = t.1 }
 
--- what is spelled so is read, unless memory runs out
+-- bytes that spell a script are read as this script, unless memory runs out
 pub only : (bytes : List ℕ) (r : Result Script ScriptFault) (s : Script) → Spells bytes s →
     GivesAt (λ s. s) r (script_at (end_of bytes) (kept_lines bytes)) → MatchResult r (λ read. s ≡ read) (λ fault. fault ≡ script_fault.NoMemory)
 only bytes (Ok read) s h g = ok_is {E = ℕ × Cause} s read (sym (script_again (end_of bytes) (kept_lines bytes) s h.fits h.lines) ∙ g)
@@ -243,7 +243,7 @@ few_commands n (program ∷ programs) =
       length-map program (λ (c : Command). spaced (command_words c)),
     )
 
--- a script has no more commands than its bytes
+-- the number of a script's commands is at most the number of the text's bytes
 pub few_of : (bytes : List ℕ) (s : Script) → Spells bytes s → sum_by (λ program. length program) s.threads ≤ length bytes
 few_of bytes s h =
     let texts : length (map text (kept_lines bytes)) ≡ length (kept_lines bytes) = length-map (kept_lines bytes) text in

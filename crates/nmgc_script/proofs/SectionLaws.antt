@@ -41,7 +41,7 @@ thread_reads ver usable = record { takes = takes; again = again }
     again : (n : ℕ) → n < ver.threads → thread_at ver (section_words n) ≡ Ok n
     again n h = rw ((number_reads (ver.threads - 1) (omega (arith, usable.threads))).again n (omega arith)) refl
 
--- the section line of thread n, for which there is room
+-- the section line of thread n, for which the heap has room
 abbrev pub Begins : Version → Config → ℕ → List (List ℕ) → Type 0
 Begins ver h n words = (words ≡ section_words n) × (n < ver.threads) × (total_words h (n + 1) ≤ most_heap_words)
 
@@ -70,7 +70,7 @@ pub section_again : (ver : Version) (usable : IsUsable ver) (h : Config) (n : �
 unfolding section_at
 section_again ver usable h n few total = rw ((thread_reads ver usable).again n few, eq-eqb n n refl, le-leb (total_words h (n + 1)) most_heap_words total) refl
 
--- the words spell the entry
+-- the tokens spell the entry
 abbrev EntrySpelled : Version → Config → ℕ → List (List ℕ) → Entry → Type 0
 EntrySpelled ver h n words entry.Section = Begins ver h n words
 EntrySpelled ver h n words (entry.Order c) = (words ≡ command_words c) × Fit ver h.words c

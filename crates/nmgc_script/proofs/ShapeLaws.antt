@@ -1,4 +1,4 @@
--- What stands after a name is read exactly as it is written, shape by shape.
+-- The tokens after a name are read exactly as they are written, shape by shape.
 use Rattle.nmgc_script.proofs.Vocabulary.{◌≡◌, ◌≤◌, ◌<◌, ◌-◌, ◌^◌, ℕ, List, [], ◌∷◌, map, length, get_or, refl, ap, subst, arith, inl, inr, decimal, leb, Result, Ok, Err, AllByRecursion, le-leb, leb-true, length-map, Operand, IsRegisterBelow, IsOperandBelow, Cause, LineFault, Version, IsUsable, register_word, operand_word, ◌>>=◌, Fails, register_at, operand_at, long_at, short_at, tag_at, each_at, one_at, two_at, three_at, four_at, con_at, thunk_at, chosen}
 use Rattle.nmgc_script.specs.declared.fault.Cause.TheVariants as cause
 use Rattle.nmgc_script.proofs.{WordLaws.Reads, WordLaws.bind_ok, WordLaws.ok_is, WordLaws.number_reads, WordLaws.register_reads, WordLaws.operand_reads, WordLaws.each_reads, Each.fails_bind}
@@ -165,7 +165,7 @@ thunk_reads ver usable = record { takes = takes; again = again }
       (fields_reads ver usable).again p.1 h.1,
     ) refl
 
--- a fault of the first two of four words is one of all
+-- a fault of the first two of four tokens is a fault of all four
 pub front_fails : {W A B C D : Type 0} (view : W → List ℕ) (f : List ℕ → Result A Cause) (g : List ℕ → Result B Cause) (h : List ℕ →
     Result C Cause) (i : List ℕ → Result D Cause) (words : List W) (first second : W) (e : LineFault) → 4 ≤ length words → length words < 5 →
     Fails e (two_at f g (view (get_or words 0 first) ∷ view (get_or words 1 second) ∷ [])) → Fails e (four_at f g h i (map view words))

@@ -1,4 +1,4 @@
--- The name of a verb is looked up as the verb, and no other name is.
+-- A verb is looked up exactly from its name.
 use Rattle.nmgc_script.proofs.{Vocabulary.◌≡◌, Vocabulary.ℕ, Vocabulary.List, Vocabulary.[], Vocabulary.◌∷◌, Vocabulary.refl, Vocabulary.ap, Vocabulary.◌∙◌, Vocabulary.inl, Vocabulary.inr, Vocabulary.Ok, Vocabulary.Err, Vocabulary.bytes_eq, Vocabulary.bytes_eq-Decides, Vocabulary.Cause, Vocabulary.Verb, Vocabulary.VERBS, Vocabulary.verb_name, Vocabulary.first_named, Vocabulary.verb_at, Vocabulary.chosen, WordLaws.FailsBy, WordLaws.fails_choose, WordLaws.ok_is}
 use Rattle.nmgc_script.specs.declared.fault.Cause.TheVariants as cause
 use Rattle.nmgc_script.specs.declared.verbs.Verb.TheVariants as verb
@@ -12,7 +12,7 @@ first_takes name (w ∷ ws) v e =
       | inr p ↦ first_takes name ws v p.1
     ]
 
--- a name that is looked up is the verb's
+-- a name whose lookup gives a verb is the verb's name
 pub verb_takes : (name : List ℕ) (v : Verb) → verb_at name ≡ Ok v → name ≡ verb_name v
 verb_takes name v e = first_takes name VERBS v e
 

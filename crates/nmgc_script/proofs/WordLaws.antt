@@ -1,23 +1,23 @@
--- A word that is read is the word that was written, and what was written is read again.
+-- A token is read exactly from its spelling.
 use Rattle.nmgc_script.proofs.Vocabulary.{◌≡◌, ◌≤◌, ◌<◌, ◌-◌, ◌^◌, ℕ, List, [], ◌∷◌, map, refl, subst, arith, inl, inr, Bool, true, false, cond, decimal, codes, Result, Ok, Err, ◌&&◌, leb, eqb, AllByRecursion, decimal_is_IsNumeral, bytes_eq-Decides, le-leb, leb-true, eqb-true, bytes_eq, digits_value, Operand, Register, Shared, Cause, Version, IsUsable, IsRegisterBelow, IsOperandBelow, register_word, operand_word, ◌>>=◌, number_at, register_at, operand_at, each_at, both_true, chosen}
 use Rattle.nmgc_script.specs.declared.fault.Cause.TheVariants as cause
 
--- f reads exactly what g writes of the values with P
+-- f reads exactly what g writes for the values with P
 pub record Reads {A B E : Type 0} (f : A → Result B E) (g : B → A) (P : B → Type 0) : Type 0 where
   pub takes : (x : A) (y : B) → f x ≡ Ok y → (x ≡ g y) × P y
   pub again : (y : B) → P y → f (g y) ≡ Ok y
 
--- the value of a step that did not fail
+-- the value of a step that didn't fail
 pub bind_ok : {A B E : Type 0} (r : Result A E) (f : A → Result B E) (y : B) → (r >>= f) ≡ Ok y → (x : A) × (r ≡ Ok x) × (f x ≡ Ok y)
 bind_ok (Ok x) f y e = (x, refl, e)
 bind_ok (Err d) f y e = absurd cc
 
--- a test that did not fail
+-- a test that didn't fail
 pub guard_ok : {A E : Type 0} (b : Bool) (d : E) (x y : A) → cond b (Ok x) (Err d) ≡ Ok y → (b ≡ true) × (x ≡ y)
 guard_ok true d x y e = (refl, cc)
 guard_ok false d x y e = absurd cc
 
--- reading fails with one cause alone
+-- reading fails only with this cause
 abbrev pub FailsBy : {A : Type 0} → Cause → Result A Cause → Type 0
 FailsBy c (Ok x) = Unit {0}
 FailsBy c (Err e) = e ≡ c

@@ -1,4 +1,4 @@
--- Which fault a line has, cause by cause, and which line is told.
+-- Which fault a line has, cause by cause, and which fault is reported.
 use Rattle.std.specs.Prelude.{◌≡◌, ◌≢◌, ◌<◌, ◌+◌, ℕ, List, [], ◌∷◌, ◌⊎◌, length, codes, if◌then◌else◌}
 use Rattle.std.specs.Str.{bytes_eq}
 use Rattle.nmgc_limits.specs.Limits.{most_heap_words}
@@ -7,22 +7,23 @@ use Rattle.nmgc_script.specs.{declared.fault.Cause.Cause, declared.fault.ScriptF
 use Rattle.nmgc_script.specs.declared.fault.Cause.TheVariants as cause
 use Rattle.nmgc_script.specs.declared.fault.ScriptFault.TheVariants as script_fault
 
--- the first word of a line
+-- the first token of a line, or the empty token if there is none
 abbrev pub first_of : List (List ℕ) → List ℕ
 first_of [] = []
 first_of (word ∷ words) = word
 
--- some command of the version has this name and so many words, its name included
+-- a command of the version has this name and this number of tokens, its name included
 abbrev pub HasArity : Version → List ℕ → ℕ → Type 0
 HasArity v name n = (c : Command) × HasRegistersBelow v.registers c × HasNumbers c × (first_of (command_words c) ≡ name) × (length (command_words c) ≡ n)
 
--- a line with such words has to begin a section: it says so, or none was begun before
+-- a line with these tokens has to begin a section: its first token is `thread`, or no section began before it
 abbrev pub HasToBegin : ℕ → List (List ℕ) → Type 0
 HasToBegin n words = (first_of words ≡ codes "thread") ⊎ (n ≡ 0)
 
--- A line after the heap line of a script of version v, where n sections were begun before it, has these words and this fault.
--- The causes are tried in the order of `Cause`, so each case speaks of lines that have no fault of an
--- earlier cause: no section line, no bad total, a known name, the right number of words, good words.
+-- the faults of a line: for each cause, when a line has it. The line is after the heap line in a script of version v, has
+-- these tokens, and n sections began before it. The causes are tried in the order of `Cause`. So each case is about lines
+-- without a fault of an earlier cause: no section line, no bad total, a known name, the right number of tokens, good tokens.
+-- A number of tokens is wrong if no command with the name has this number.
 abbrev pub HasFault : Version → Config → ℕ → List (List ℕ) → Cause → Type 0
 HasFault v h n words cause.Version = ⊥
 HasFault v h n words cause.Heap = ⊥
@@ -35,7 +36,7 @@ HasFault v h n words cause.Operand = (HasToBegin n words → ⊥) × ((c : Comma
 HasFault v h n words cause.Size = (HasToBegin n words → ⊥) × ((c : Command) × HasRegistersBelow v.registers c × HasNumbers c ×
     (words ≡ command_words c) × (h.words < words_made c))
 
--- the place of a cause in the order in which causes are tried
+-- the position of a cause in the order in which causes are tried
 abbrev pub order_of : Cause → ℕ
 order_of cause.Version = 0
 order_of cause.Heap = 1
@@ -46,7 +47,7 @@ order_of cause.Arity = 5
 order_of cause.Operand = 6
 order_of cause.Size = 7
 
--- the line has this fault and none that is tried before it
+-- the line has this fault and no fault of an earlier cause, in the order in which causes are tried
 pub record IsFirstFault (v : Version) (h : Config) (n : ℕ) (words : List (List ℕ)) (c : Cause) : Type 0 where
   pub here : HasFault v h n words c
   pub none_before : (e : Cause) → order_of e < order_of c → HasFault v h n words e → ⊥
@@ -55,33 +56,33 @@ pub record IsFirstFault (v : Version) (h : Config) (n : ℕ) (words : List (List
 abbrev pub IsFaultless : Version → Config → ℕ → List (List ℕ) → Type 0
 IsFaultless v h n words = (e : Cause) → HasFault v h n words e → ⊥
 
--- how many sections were begun up to this line, itself included
+-- the number of sections that began before a line or at it, if n began before it
 abbrev pub begun_with : ℕ → List (List ℕ) → ℕ
 begun_with n words = if bytes_eq (first_of words) (codes "thread") then n + 1 else n
 
--- The first bad line of those after the heap line, where n sections were begun before them, and its
--- first cause. Where they end before a section, it is the line after the last of the text.
-abbrev pub TellsRest : Version → Config → ℕ → ℕ → List (ℕ × List ℕ) → ℕ → Cause → Type 0
-TellsRest v h n end [] number c = (n ≡ 0) × (number ≡ end) × (c ≡ cause.Thread)
-TellsRest v h n end (line ∷ lines) number c =
+-- among the lines after the heap line, with n sections begun before them: the first bad line and its first cause. If the
+-- lines end before any section begins, the bad line is the line after the last line of the text, for the cause `Thread`.
+abbrev pub IsFaultInRest : Version → Config → ℕ → ℕ → List (ℕ × List ℕ) → ℕ → Cause → Type 0
+IsFaultInRest v h n end [] number c = (n ≡ 0) × (number ≡ end) × (c ≡ cause.Thread)
+IsFaultInRest v h n end (line ∷ lines) number c =
     ((number ≡ line.0) × IsFirstFault v h n (words_of line.1) c) ⊎
-    (IsFaultless v h n (words_of line.1) × TellsRest v h (begun_with n (words_of line.1)) end lines number c)
+    (IsFaultless v h n (words_of line.1) × IsFaultInRest v h (begun_with n (words_of line.1)) end lines number c)
 
--- the same, from the heap line on
-abbrev pub TellsHeap : Version → ℕ → List (ℕ × List ℕ) → ℕ → Cause → Type 0
-TellsHeap v end [] number c = (number ≡ end) × (c ≡ cause.Heap)
-TellsHeap v end (line ∷ lines) number c =
+-- the first bad line from the heap line on, and its first cause; without a heap line, the line after the last one
+abbrev pub IsFaultFromHeap : Version → ℕ → List (ℕ × List ℕ) → ℕ → Cause → Type 0
+IsFaultFromHeap v end [] number c = (number ≡ end) × (c ≡ cause.Heap)
+IsFaultFromHeap v end (line ∷ lines) number c =
     ((number ≡ line.0) × (c ≡ cause.Heap) × ((h : Config) → FitsConfig h → line.1 ≢ spaced (heap_words h))) ⊎
-    ((h : Config) × FitsConfig h × (line.1 ≡ spaced (heap_words h)) × TellsRest v h 0 end lines number c)
+    ((h : Config) × FitsConfig h × (line.1 ≡ spaced (heap_words h)) × IsFaultInRest v h 0 end lines number c)
 
--- the same, of a whole text
-abbrev pub TellsFault : ℕ → List (ℕ × List ℕ) → ℕ → Cause → Type 0
-TellsFault end [] number c = (number ≡ end) × (c ≡ cause.Version)
-TellsFault end (line ∷ lines) number c =
+-- the fault of a bad script: the first bad line and its first cause; if the text ends too early, the line after the last
+abbrev pub IsFaultOfText : ℕ → List (ℕ × List ℕ) → ℕ → Cause → Type 0
+IsFaultOfText end [] number c = (number ≡ end) × (c ≡ cause.Version)
+IsFaultOfText end (line ∷ lines) number c =
     ((number ≡ line.0) × (c ≡ cause.Version) × ((v : Version) → IsVersion v → line.1 ≢ spaced (version_words v.number))) ⊎
-    ((v : Version) × IsVersion v × (line.1 ≡ spaced (version_words v.number)) × TellsHeap v end lines number c)
+    ((v : Version) × IsVersion v × (line.1 ≡ spaced (version_words v.number)) × IsFaultFromHeap v end lines number c)
 
--- what is told of bytes that spell no script: the first bad line and its first cause
-abbrev pub IsToldOf : List ℕ → ScriptFault → Type 0
-IsToldOf bytes script_fault.NoMemory = Unit {0}
-IsToldOf bytes (script_fault.Bad line c) = TellsFault (end_of bytes) (kept_lines bytes) line c
+-- the report for bytes that spell no script: the first bad line and its first cause
+abbrev pub IsFaultOf : List ℕ → ScriptFault → Type 0
+IsFaultOf bytes script_fault.NoMemory = Unit {0}
+IsFaultOf bytes (script_fault.Bad line c) = IsFaultOfText (end_of bytes) (kept_lines bytes) line c

@@ -1,7 +1,8 @@
--- Reading from left to right, with the first fault that is met.
+-- Reading from left to right, up to the first fault.
 --
--- This is what the functions of the parser promise each other: each tries the causes of its words in
--- the order in which they are told. What a caller of `parse` is promised stands in Spelling and Faults.
+-- These are the promises of the functions inside the parser to each other. No contract that another crate can call uses them:
+-- the promises to a caller of `parse` are in Spelling and Faults. Each function tries the causes of its tokens in the order
+-- in which they are reported.
 use Rattle.std.specs.Prelude.{◌≡◌, ℕ, ◌+◌, ◌-◌, ◌^◌, List, [], ◌∷◌, length, codes, decimal, Bool, false, Result, Ok, Err, ◌==◌, ◌&&◌, nat_le, if◌then◌else◌}
 use Rattle.std.specs.{Int.is_power_of_two, Str.bytes_eq, Str.Parse.digits_value}
 use Rattle.nmgc_limits.specs.Limits.{most_heap_words, most_nursery_words, most_quota, most_segment_words, most_segments, least_segment_words, most_slice, most_trigger}
@@ -19,7 +20,7 @@ abbrev pub ◌>>=◌ : {A B E : Type 0} → Result A E → (A → Result B E) �
 (Ok x) >>= f = f x
 (Err e) >>= f = Err e
 
--- each item in order, up to the first fault
+-- the result of reading each item in order, or the first fault
 unfoldable pub each_at : {A B E : Type 0} → (A → Result B E) → List A → Result (List B) E
 each_at f [] = Ok []
 each_at f (x ∷ xs) = do
@@ -27,45 +28,45 @@ each_at f (x ∷ xs) = do
   others ← each_at f xs
   Ok (first ∷ others)
 
--- the fault that a function returned is the one that reading gives, unless memory ran out
+-- unless memory ran out, the fault that a function returned is the fault of reading
 abbrev pub Fails : {Y : Type 0} → LineFault → Result Y Cause → Type 0
 Fails fault.NoMemory read = Unit {0}
 Fails (fault.Bad c) read = read ≡ Err c
 
--- what a function returned is what reading gives, unless memory ran out
+-- unless memory ran out, the result of a function is the result of reading
 abbrev pub Gives : {X : Type 0} → Result X LineFault → Result X Cause → Type 0
 Gives (Ok x) read = read ≡ Ok x
 Gives (Err e) read = Fails e read
 
--- WORDS
+-- TOKENS
 
--- the number that a word is the decimal text of, up to a limit
+-- the number of at most `limit` that a token spells in decimal digits
 unfoldable pub number_at : ℕ → List ℕ → Result ℕ Cause
 number_at limit word =
     if bytes_eq word (decimal (digits_value 10 word)) && nat_le (digits_value 10 word) limit then Ok (digits_value 10 word) else Err cause.Operand
 
--- an 'r' and the number of a register of the version
+-- the register of the version that a token spells: an 'r' and a number
 unfoldable pub register_at : Version → List ℕ → Result ℕ Cause
 register_at version [] = Err cause.Operand
 register_at version (b ∷ digits) = if b == 114 then number_at (version.registers - 1) digits else Err cause.Operand
 
--- a 'g' or a register of the version
+-- the operand that a token spells: a 'g' or a register of the version
 unfoldable pub operand_at : Version → List ℕ → Result Operand Cause
 operand_at version word = if bytes_eq word (codes "g") then Ok Shared else register_at version word >>= λ r. Ok (Register r)
 
--- a tag
+-- the tag that a token spells: a number up to 255
 abbrev pub tag_at : List ℕ → Result ℕ Cause
 tag_at word = number_at 255 word
 
--- a number below 2 ^ 62
+-- the number of a value that a token spells: below 2 ^ 62
 abbrev pub long_at : List ℕ → Result ℕ Cause
 long_at word = number_at (2 ^ 62 - 1) word
 
--- an index or a count
+-- the index or count that a token spells: a number up to 65,535
 abbrev pub short_at : List ℕ → Result ℕ Cause
 short_at word = number_at 65535 word
 
--- SHAPES: how many words stand after a name, and what each has to be
+-- SHAPES: the number of tokens after a name, and the form of each
 
 unfoldable pub none_at : Command → List (List ℕ) → Result Command Cause
 none_at c [] = Ok c
@@ -99,7 +100,7 @@ four_at f g h i (x ∷ y ∷ z ∷ w ∷ []) = do
   Ok (front.0, front.1, back.0, back.1)
 four_at f g h i words = Err cause.Arity
 
--- a register, a tag and any number of operands
+-- the register, the tag and the operands, of any number, that tokens spell
 unfoldable pub con_at : Version → List (List ℕ) → Result (ℕ × ℕ × List Operand) Cause
 con_at version (dest ∷ tag ∷ fields) = do
   d ← register_at version dest
@@ -108,13 +109,13 @@ con_at version (dest ∷ tag ∷ fields) = do
   Ok (d, t, fs)
 con_at version words = Err cause.Arity
 
--- a register and at most eight operands
+-- the register and the operands, at most eight, that tokens spell
 unfoldable pub thunk_at : Version → List (List ℕ) → Result (ℕ × List Operand) Cause
 thunk_at version [] = Err cause.Arity
 thunk_at version (dest ∷ free) =
     if nat_le (length free) 8 then (register_at version dest >>= λ d. each_at (operand_at version) free >>= λ fs. Ok (d, fs)) else Err cause.Arity
 
--- the command of the words after each name
+-- the command that a verb and the tokens after its name spell
 abbrev pub operands_at : Version → Verb → List (List ℕ) → Result Command Cause
 operands_at v verb.Num words = two_at (register_at v) long_at words >>= λ p. Ok (Num p.0 p.1)
 operands_at v verb.Nil words = one_at (register_at v) words >>= λ p. Ok (Nil p)
@@ -143,22 +144,22 @@ operands_at v verb.Full words = none_at Full words
 
 -- THE NAMES OF COMMANDS
 
--- the first of some verbs that has the name
+-- the first verb of a list that has a given name
 unfoldable pub first_named : List ℕ → List Verb → Result Verb Cause
 first_named name [] = Err cause.Command
 first_named name (v ∷ vs) = if bytes_eq name (verb_name v) then Ok v else first_named name vs
 
--- the verb that has the name
+-- the verb that has a given name
 abbrev pub verb_at : List ℕ → Result Verb Cause
 verb_at name = first_named name VERBS
 
--- A COMMAND LINE: its name, the number of its words, each word, and its size
+-- A COMMAND LINE: its name, the number of its tokens, each token, and the size of its object
 
--- the object that the command makes fits in a segment
+-- the command, or a fault if the object that it makes doesn't fit in a segment
 unfoldable pub sized : ℕ → Command → Result Command Cause
 sized size command = if nat_le (words_made command) size then Ok command else Err cause.Size
 
--- the command that the words of a line spell
+-- the command that the tokens of a line spell
 unfoldable pub command_at : Version → ℕ → List (List ℕ) → Result Command Cause
 command_at version size [] = Err cause.Command
 command_at version size (name ∷ words) = do
@@ -168,15 +169,15 @@ command_at version size (name ∷ words) = do
 
 -- THE HEAP LINE, whose faults all have one cause
 
--- a number within two limits
+-- the number from `low` to `high` that a token spells
 unfoldable pub between_at : ℕ → ℕ → List ℕ → Result ℕ Cause
 between_at low high word = number_at high word >>= λ n. if nat_le low n then Ok n else Err cause.Operand
 
--- a power of two within the limits of a segment
+-- the number of words of a segment that a token spells: a power of two within the limits
 unfoldable pub segment_size_at : List ℕ → Result ℕ Cause
 segment_size_at word = between_at least_segment_words most_segment_words word >>= λ n. if is_power_of_two n then Ok n else Err cause.Operand
 
--- how large the heap is
+-- the three sizes of a heap that tokens spell: its segments, the words of a segment and the words of a nursery
 unfoldable pub sizes_at : List ℕ → List ℕ → List ℕ → Result (ℕ × ℕ × ℕ) Cause
 sizes_at segments words nursery = do
   s ← between_at 1 most_segments segments
@@ -184,7 +185,7 @@ sizes_at segments words nursery = do
   n ← between_at w most_nursery_words nursery
   Ok (s, w, n)
 
--- how much is done at a time
+-- the pace that tokens spell: the slice, the quota and the trigger
 unfoldable pub pace_at : List ℕ → List ℕ → List ℕ → Result (ℕ × ℕ × ℕ) Cause
 pace_at slice quota trigger = do
   l ← between_at 1 most_slice slice
@@ -192,37 +193,37 @@ pace_at slice quota trigger = do
   t ← number_at most_trigger trigger
   Ok (l, q, t)
 
--- the six numbers
+-- the settings that the six tokens of a heap line spell
 unfoldable pub config_at : List ℕ → List ℕ → List ℕ → List ℕ → List ℕ → List ℕ → Result Config Cause
 config_at segments words nursery slice quota trigger = do
   sizes ← sizes_at segments words nursery
   pace ← pace_at slice quota trigger
   Ok (record { segments = sizes.0; words = sizes.1; nursery = sizes.2; slice = pace.0; quota = pace.1; trigger = pace.2 })
 
--- the settings that the words after heap spell
+-- the settings that the tokens after `heap` spell
 unfoldable pub numbers_at : List (List ℕ) → Result Config Cause
 numbers_at (segments ∷ words ∷ nursery ∷ slice ∷ quota ∷ trigger ∷ []) = config_at segments words nursery slice quota trigger
 numbers_at words = Err cause.Heap
 
--- any fault is this one
+-- the result with this cause in place of any fault
 abbrev pub or_cause : {A : Type 0} → Cause → Result A Cause → Result A Cause
 or_cause c (Ok x) = Ok x
 or_cause c (Err e) = Err c
 
--- the settings that the words of a heap line spell
+-- the settings that the tokens of a heap line spell
 unfoldable pub heap_words_at : List (List ℕ) → Result Config Cause
 heap_words_at [] = Err cause.Heap
 heap_words_at (name ∷ words) = if bytes_eq name (codes "heap") then or_cause cause.Heap (numbers_at words) else Err cause.Heap
 
--- A SECTION LINE: that of the next thread, and the total
+-- A SECTION LINE: the number of the next thread, and the total
 
--- the number of the thread whose section begins
+-- the thread number that the tokens of a section line spell
 unfoldable pub thread_at : Version → List (List ℕ) → Result ℕ Cause
 thread_at version (name ∷ number ∷ []) =
     if bytes_eq name (codes "thread") then or_cause cause.Thread (number_at (version.threads - 1) number) else Err cause.Thread
 thread_at version words = Err cause.Thread
 
--- the section of thread n, of which the total has room
+-- the entry of the line that begins the section of thread n, or a fault if the total has no room for it
 unfoldable pub section_at : Version → Config → ℕ → List (List ℕ) → Result Entry Cause
 section_at v h n words = do
   thread ← thread_at v words
@@ -230,12 +231,12 @@ section_at v h n words = do
 
 -- A LINE AFTER THE FIRST SECTION LINE
 
--- the first word is that of a section line
+-- the first token is the name of a section line
 abbrev pub is_section : List (List ℕ) → Bool
 is_section [] = false
 is_section (name ∷ words) = bytes_eq name (codes "thread")
 
--- what a line is, where n sections began before it
+-- the entry of a line, if n sections began before it
 unfoldable pub entry_at : Version → Config → ℕ → List (List ℕ) → Result Entry Cause
 entry_at v h n words = if is_section words then section_at v h n words else command_at v h.words words >>= λ c. Ok (entry.Order c)
 
@@ -246,12 +247,12 @@ abbrev pub at_line : {A : Type 0} → ℕ → Result A Cause → Result A (ℕ �
 at_line n (Ok x) = Ok x
 at_line n (Err c) = Err (n, c)
 
--- how many sections began, after an entry
+-- the number of sections that began up to an entry, if n began before the entry
 abbrev pub begun_after : Entry → ℕ → ℕ
 begun_after entry.Section n = n + 1
 begun_after (entry.Order c) n = n
 
--- the commands up to the next section and the programs after it, where an entry stands before them
+-- the commands up to the next section and the programs after it, with an entry put before them
 abbrev pub with_entry : Entry → List Command × List (List Command) → List Command × List (List Command)
 with_entry entry.Section rest = ([], rest.0 ∷ rest.1)
 with_entry (entry.Order c) rest = (c ∷ rest.0, rest.1)
@@ -264,28 +265,28 @@ rest_at v h n (line ∷ lines) = do
   others ← rest_at v h (begun_after e n) lines
   Ok (with_entry e others)
 
--- the programs of all sections, where the first has begun
+-- the programs of all sections, read from the lines after the first section line
 unfoldable pub programs_at : Version → Config → List (ℕ × List ℕ) → Result (List (List Command)) (ℕ × Cause)
 programs_at v h lines = rest_at v h 1 lines >>= λ programs. Ok (programs.0 ∷ programs.1)
 
--- the programs of all sections
+-- the programs of all sections, read from the lines after the heap line
 unfoldable pub threads_at : Version → ℕ → Config → List (ℕ × List ℕ) → Result (List (List Command)) (ℕ × Cause)
 threads_at v end h [] = Err (end, cause.Thread)
 threads_at v end h (line ∷ lines) = at_line line.0 (section_at v h 0 (words_of line.1)) >>= λ first. programs_at v h lines
 
--- the version that its line names, and what comes after it
+-- the version that the version line names, and the lines after it
 unfoldable pub version_at : ℕ → List (ℕ × List ℕ) → Result (Version × List (ℕ × List ℕ)) (ℕ × Cause)
 version_at end [] = Err (end, cause.Version)
 version_at end (line ∷ lines) =
     if bytes_eq line.1 (codes "nmgc 1") then Ok (version_1, lines) else
     (if bytes_eq line.1 (codes "nmgc 2") then Ok (version_2, lines) else Err (line.0, cause.Version))
 
--- the heap line, and what comes after it
+-- the settings of the heap line, and the lines after it
 unfoldable pub heap_at : ℕ → List (ℕ × List ℕ) → Result (Config × List (ℕ × List ℕ)) (ℕ × Cause)
 heap_at end [] = Err (end, cause.Heap)
 heap_at end (line ∷ lines) = at_line line.0 (heap_words_at (words_of line.1)) >>= λ config. Ok (config, lines)
 
--- the script of these lines; where they end too early, the line told is the one after the last
+-- the script of these lines; if they end too early, the fault is at the line after the last
 unfoldable pub script_at : ℕ → List (ℕ × List ℕ) → Result Script (ℕ × Cause)
 script_at end lines = do
   version ← version_at end lines
@@ -293,18 +294,18 @@ script_at end lines = do
   threads ← threads_at version.0 end heap.0 heap.1
   Ok (record { version = version.0.number; config = heap.0; threads = threads })
 
--- the same of a fault with its line
+-- unless memory ran out, the fault that a function returned, with its line, is the fault of reading
 abbrev pub FailsAt : {Y : Type 0} → ScriptFault → Result Y (ℕ × Cause) → Type 0
 FailsAt script_fault.NoMemory read = Unit {0}
 FailsAt (script_fault.Bad line c) read = read ≡ Err (line, c)
 
--- what a function returned for a line, with its number where the line is bad
+-- the result of a function for a line, with the number of the line added to a fault
 abbrev pub placed : {X : Type 0} → ℕ → Result X LineFault → Result X ScriptFault
 placed n (Ok x) = Ok x
 placed n (Err fault.NoMemory) = Err script_fault.NoMemory
 placed n (Err (fault.Bad c)) = Err (script_fault.Bad n c)
 
--- what a function returned is what reading gives, seen so, unless memory ran out
+-- unless memory ran out, the result of a function, under this view, is the result of reading
 abbrev pub GivesAt : {X Y : Type 0} → (X → Y) → Result X ScriptFault → Result Y (ℕ × Cause) → Type 0
 GivesAt view (Ok x) read = read ≡ Ok (view x)
 GivesAt view (Err e) read = FailsAt e read

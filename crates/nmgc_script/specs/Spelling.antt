@@ -6,7 +6,7 @@ use Rattle.nmgc_world_spec.specs.declared.command.Command.TheVariants.{Num, Nil,
 use Rattle.nmgc_script.specs.{declared.script.Config.Config, declared.script.Script.Script, declared.verbs.Verb.Verb, Limits.FitsScript, Text.kept_lines}
 use Rattle.nmgc_script.specs.declared.verbs.Verb.TheVariants as verb
 
--- the word of a register, and of an operand
+-- the token of a register, and of an operand
 abbrev pub register_word : ℕ → List ℕ
 register_word r = 114 ∷ decimal r
 
@@ -41,7 +41,7 @@ verb_name verb.Yield = codes "yield"
 verb_name verb.Collect = codes "collect"
 verb_name verb.Full = codes "full"
 
--- the words of a command: its name, and what it is given
+-- the tokens of a command: its name and its operands
 abbrev pub command_words : Command → List (List ℕ)
 command_words (Num dest number) = verb_name verb.Num ∷ register_word dest ∷ decimal number ∷ []
 command_words (Nil dest) = verb_name verb.Nil ∷ register_word dest ∷ []
@@ -68,15 +68,15 @@ command_words Yield = verb_name verb.Yield ∷ []
 command_words Collect = verb_name verb.Collect ∷ []
 command_words Full = verb_name verb.Full ∷ []
 
--- the words of a heap line
+-- the tokens of a heap line
 abbrev pub heap_words : Config → List (List ℕ)
 heap_words c = codes "heap" ∷ decimal c.segments ∷ decimal c.words ∷ decimal c.nursery ∷ decimal c.slice ∷ decimal c.quota ∷ decimal c.trigger ∷ []
 
--- the words of the line that begins the section of thread n
+-- the tokens of the line that begins the section of thread n
 abbrev pub section_words : ℕ → List (List ℕ)
 section_words n = codes "thread" ∷ decimal n ∷ []
 
--- a line of these words
+-- the line of these tokens
 abbrev pub spaced : List (List ℕ) → List ℕ
 spaced words = join_with_byte 32 words
 
@@ -84,16 +84,16 @@ spaced words = join_with_byte 32 words
 abbrev pub program_lines : List Command → List (List ℕ)
 program_lines program = map (λ c. spaced (command_words c)) program
 
--- the sections of the programs, where the first is that of thread n
+-- the section lines of the programs and their commands, numbered from thread n
 abbrev pub section_lines : ℕ → List (List Command) → List (List ℕ)
 section_lines n [] = []
 section_lines n (program ∷ programs) = spaced (section_words n) ∷ program_lines program ++ section_lines (n + 1) programs
 
--- the words of the line that names a version
+-- the tokens of the line that names a version
 abbrev pub version_words : ℕ → List (List ℕ)
 version_words n = codes "nmgc" ∷ decimal n ∷ []
 
--- the lines of a script
+-- the lines of a script, one form for each kind of line
 abbrev pub script_lines : Script → List (List ℕ)
 script_lines s = spaced (version_words s.version) ∷ spaced (heap_words s.config) ∷ section_lines 0 s.threads
 

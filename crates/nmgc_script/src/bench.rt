@@ -1,27 +1,26 @@
 //! The bench's script: a load that makes, keeps and drops lists.
 //!
-//! Each of four mutators makes list after list, and has a slot of the shared array of its own, in which it
-//! keeps the last one; so nothing that one of them does is seen by another, and each run of the script gives
-//! the same report. A list's cells fill a nursery exactly, and one segment once they are promoted. The quota
-//! is more than all objects, so a cycle that begins at one stop is closed at the next. `specs/Bench.antt`
-//! is the script; the code appends its commands one after the other, into room that is taken once.
-//! Easy to get wrong: a batch begins with nil in its register, or its list would end in the one before.
+//! Each of four mutators makes list after list. It keeps the last list in a slot of its own in the shared array. So no
+//! mutator sees an effect of another, and each run of the script gives the same report. The cells of a list fill a nursery
+//! exactly, and one segment after promotion. The quota exceeds the number of objects, so a cycle that begins at one stop is
+//! closed at the next. `specs/Bench.antt` is the script. The code appends its commands in order, into memory that is
+//! allocated once. Easy to get wrong: a batch begins with nil in its register, or its list would end in the list before.
 ghost use Rattle.std.specs.Prelude.{◌≡◌, ◌≤◌, ◌++◌, replicate, IfOk, OnOk};
 ghost use Rattle.nmgc_script.specs.{Bench.most_batches, Bench.cell, Bench.batch, Bench.bench_program, Bench.bench_script, Limits.FitsScript, Limits.HasFewCommands};
 
 use crate::{Config, Script};
+use nmgc_commands::{FixedOperands, Form, PackedCommand};
 use nmgc_lists::{List, NoMemory};
-use nmgc_program::{FewOperands, Form, PackedCommand};
 use nmgc_world_spec::Operand;
 use std::alloc::Global;
 
 /// The most batches of a bench.
 pub const MAX_BATCHES: u32 = 100;
 
-// How many cells a list has: each is four words, and they fill a nursery.
+// The number of cells of a list: each is four words, and they fill a nursery.
 const CELLS: usize = 1024;
 
-// How many commands a batch has: beside the cells one that lets the list go, and one that keeps the new one.
+// The number of commands of a batch: the cells, a command that drops the list, and a command that keeps the new list.
 const BATCH_COMMANDS: usize = CELLS + 2;
 
 const CONFIG: Config = Config {
@@ -33,8 +32,8 @@ const CONFIG: Config = Config {
     trigger: 8,
 };
 
-/// The script of the bench with so many batches for each mutator, from 1 to `MAX_BATCHES`. It is within the
-/// limits of a script. Takes time and memory in its length.
+/// Returns the bench's script with `batches` batches for each mutator, from 1 to `MAX_BATCHES`. It is within the limits of a
+/// script, and its programs are short. Takes time and memory proportional to its length.
 pub fn generate(alloc: Global, batches: u32) -> Result<Script, NoMemory>
     requires some { 1 ≤ batches }
     requires few { batches ≤ most_batches }
@@ -55,7 +54,7 @@ pub fn generate(alloc: Global, batches: u32) -> Result<Script, NoMemory>
     })
 }
 
-// The program of a mutator.
+// Returns the program of `mutator`: `batches` batches.
 #[tactic(auto, using(crate::proofs::BenchLaws::once_more))]
 fn program(alloc: Global, batches: u32, mutator: u32) -> Result<List<PackedCommand>, NoMemory>
     requires { batches ≤ most_batches }
@@ -68,7 +67,7 @@ fn program(alloc: Global, batches: u32, mutator: u32) -> Result<List<PackedComma
     List::from_vec(commands)
 }
 
-// Appends a batch.
+// Appends a batch of `mutator`: the commands that drop its list, make another and store that.
 fn push_batch(commands: &mut Vec<PackedCommand>, mutator: u32) -> Result<(), NoMemory>
     ensures { OnOk result (commands.new.items ≡ commands.old.items ++ batch mutator) }
 {
@@ -86,7 +85,7 @@ fn push_batch(commands: &mut Vec<PackedCommand>, mutator: u32) -> Result<(), NoM
     Ok(())
 }
 
-// Appends so many cells.
+// Appends `count` commands that each add a cell to the list.
 fn push_cells(commands: &mut Vec<PackedCommand>, count: usize) -> Result<(), NoMemory>
     ensures { OnOk result (commands.new.items ≡ commands.old.items ++ replicate count cell) }
 {
@@ -95,7 +94,7 @@ fn push_cells(commands: &mut Vec<PackedCommand>, count: usize) -> Result<(), NoM
             form: Form::Con {
                 dest: 0,
                 tag: 0,
-                fields: FewOperands::pair(Operand::Register(0), Operand::Register(1)),
+                fields: FixedOperands::pair(Operand::Register(0), Operand::Register(1)),
             },
         })?;
     }

@@ -1,20 +1,19 @@
-//! A command line: its name, the number of its words, each word, and the size of its object.
+//! A command line: its name, the number of its tokens, each token, and the size of its object.
 //!
-//! `operands_of` is the table of commands that are read: for each verb the shape of the words after
-//! its name, and the fields that they are. Easy to get wrong: a count that is too
-//! large for a segment is a fault of its size and comes after all faults of words, while one above
-//! 65,535 is no count at all.
+//! `read_command` is the table of commands that are read. For each verb it gives the shape of the tokens after its name, and
+//! the fields that they spell. Easy to get wrong: a count that is too large for a segment is a fault of the size and comes
+//! after all faults of tokens. A count above 65,535 is no count at all.
 ghost use Rattle.std.specs.Prelude.{◌≡◌, ◌<◌, map};
-ghost use Rattle.nmgc_program.specs.Packed.{command_of};
+ghost use Rattle.nmgc_commands.specs.Packed.{command_of};
 ghost use Rattle.nmgc_script.specs.Reading.{Gives, none_at, operands_at, sized, command_at};
 
 use crate::verbs::{Verb, verb_of};
 use crate::version::Version;
 use crate::{Cause, LineFault};
-use nmgc_program::{Form, PackedCommand};
+use nmgc_commands::{Form, PackedCommand};
 use std::alloc::Global;
 
-/// The command that words spell, where a segment has so many words.
+/// Returns the command that the tokens of a line spell, for segments of `size` words. `Bad` has the line's first cause.
 #[tactic(auto, unfolding(crate::specs::Reading::command_at))]
 pub fn command(
     alloc: Global,
@@ -28,11 +27,11 @@ pub fn command(
         return Err(LineFault::Bad(Cause::Command));
     };
     let verb = verb_of(name)?;
-    let command = operands_of(alloc, version, verb, words)?;
+    let command = read_command(alloc, version, verb, words)?;
     sized(command, size)
 }
 
-// The command whose fields are the words that a shape reads: of a form, or made of operands.
+// Reads a command by a shape, which gives its fields: the fields of a form, or of a command made of operands.
 macro_rules! made {
     ($shape:expr => $form:ident { $($field:ident),* }) => {{
         let ($($field),*) = $shape?;
@@ -44,8 +43,8 @@ macro_rules! made {
     }};
 }
 
-// The command of a verb and the words after its name.
-fn operands_of(
+// Returns the command of `verb` that the tokens after its name spell.
+fn read_command(
     alloc: Global,
     version: Version,
     verb: Verb,
@@ -82,7 +81,7 @@ fn operands_of(
     }
 }
 
-// A command with no words after its name.
+// Returns the command of `form`, which has no tokens after its name, or a fault if there are any.
 #[tactic(auto, unfolding(crate::specs::Reading::none_at))]
 fn alone(form: Form, words: &[&[u8]]) -> Result<PackedCommand, LineFault>
     ensures { Gives result (none_at (command_of form) (map (λ w. w.now) words.now)) }
@@ -93,7 +92,7 @@ fn alone(form: Form, words: &[&[u8]]) -> Result<PackedCommand, LineFault>
     Ok(PackedCommand { form })
 }
 
-// A command whose object fits in a segment.
+// Returns the command, or a fault if its object doesn't fit in a segment of `size` words.
 #[tactic(auto, unfolding(crate::specs::Reading::sized))]
 fn sized(command: PackedCommand, size: u32) -> Result<PackedCommand, LineFault>
     ensures { Gives result (sized size command) }

@@ -1,19 +1,18 @@
 //! The heap line.
 //!
-//! Its six numbers are read from left to right, but all its faults have one cause, so the order is
-//! not seen. Easy to get wrong: the least nursery is the number of words of this line's segments.
+//! Its six numbers are read from left to right. All its faults have one cause, so the order isn't visible. Easy to get wrong:
+//! the least nursery is the number of words of this line's segments.
 ghost use Rattle.std.specs.Prelude.{◌≡◌, map, IfOk};
-ghost use Rattle.nmgc_script.specs.Limits.{FitsConfig};
-ghost use Rattle.nmgc_script.specs.Reading.{Gives, between_at, segment_size_at, sizes_at, pace_at, config_at, numbers_at, heap_words_at};
+ghost use Rattle.nmgc_script.specs.{Limits.FitsConfig, Reading.Gives, Reading.between_at, Reading.segment_size_at, Reading.sizes_at, Reading.pace_at, Reading.config_at, Reading.numbers_at, Reading.heap_words_at};
 
-use crate::words::small;
+use crate::tokens::small;
 use crate::{Cause, Config, LineFault};
 use nmgc_limits::{
     MAX_NURSERY_WORDS, MAX_QUOTA, MAX_SEGMENT_WORDS, MAX_SEGMENTS, MAX_SLICE, MAX_TRIGGER,
     MIN_SEGMENT_WORDS,
 };
 
-// A number within two limits.
+// Returns the number from `low` to `high` that a token spells.
 #[tactic(auto, unfolding(crate::specs::Reading::between_at))]
 fn between(word: &[u8], low: u32, high: u32) -> Result<u32, LineFault>
     ensures { Gives result (between_at low high word.now) }
@@ -25,7 +24,7 @@ fn between(word: &[u8], low: u32, high: u32) -> Result<u32, LineFault>
     Ok(number)
 }
 
-// The number of words of a segment.
+// Returns the number of words of a segment that a token spells: a power of two within the limits.
 #[tactic(auto, unfolding(crate::specs::Reading::segment_size_at))]
 fn segment_size(word: &[u8]) -> Result<u32, LineFault>
     ensures { Gives result (segment_size_at word.now) }
@@ -37,7 +36,7 @@ fn segment_size(word: &[u8]) -> Result<u32, LineFault>
     Ok(words)
 }
 
-// How large the heap is.
+// Returns the sizes of a heap that tokens spell: its segments, the words of a segment and the words of a nursery.
 #[tactic(auto, unfolding(crate::specs::Reading::sizes_at))]
 fn sizes(segments: &[u8], words: &[u8], nursery: &[u8]) -> Result<(u32, u32, u32), LineFault>
     ensures { Gives result (sizes_at segments.now words.now nursery.now) }
@@ -47,7 +46,7 @@ fn sizes(segments: &[u8], words: &[u8], nursery: &[u8]) -> Result<(u32, u32, u32
     Ok((segments, words, between(nursery, words, MAX_NURSERY_WORDS)?))
 }
 
-// How much is done at a time.
+// Returns the pace that tokens spell: the slice, the quota and the trigger.
 #[tactic(auto, unfolding(crate::specs::Reading::pace_at))]
 fn pace(slice: &[u8], quota: &[u8], trigger: &[u8]) -> Result<(u32, u32, u32), LineFault>
     ensures { Gives result (pace_at slice.now quota.now trigger.now) }
@@ -59,7 +58,7 @@ fn pace(slice: &[u8], quota: &[u8], trigger: &[u8]) -> Result<(u32, u32, u32), L
     ))
 }
 
-// The settings that six words spell.
+// Returns the settings that the six tokens of a heap line spell.
 #[tactic(auto, unfolding(crate::specs::Reading::config_at))]
 fn config(
     segments: &[u8],
@@ -83,7 +82,7 @@ fn config(
     })
 }
 
-// The settings that the words after `heap` spell.
+// Returns the settings that the tokens after `heap` spell.
 #[tactic(auto, unfolding(crate::specs::Reading::numbers_at))]
 fn numbers(words: &[&[u8]]) -> Result<Config, LineFault>
     ensures { Gives result (numbers_at (map (λ w. w.now) words.now)) }
@@ -96,7 +95,7 @@ fn numbers(words: &[&[u8]]) -> Result<Config, LineFault>
     }
 }
 
-/// The settings that the words of a heap line spell. Takes no memory.
+/// Returns the settings that the tokens of a heap line spell. Takes no memory.
 #[tactic(auto, unfolding(crate::specs::Reading::heap_words_at))]
 pub fn heap_words(words: &[&[u8]]) -> Result<Config, LineFault>
     ensures gives { Gives result (heap_words_at (map (λ w. w.now) words.now)) }

@@ -1,8 +1,8 @@
 //! Why a script could not be read.
 //!
-//! The causes stand in the order in which they are tried on a line, and the first that fits is told.
-//! Easy to get wrong: a line with too few words and an unknown name has the cause `Command`, and one
-//! with a bad word and too few words has the cause `Arity`.
+//! The causes are in the order in which they are tried on a line, and the first that applies is reported. Easy to get wrong:
+//! a line with too few tokens and an unknown name has the cause `Command`. A line with a bad token and too few tokens has the
+//! cause `Arity`.
 ghost use Rattle.std.specs.Prelude.{◌≡◌};
 ghost use Rattle.nmgc_script.specs.declared.fault.LineFault.TheVariants.{NoMemory as no_memory};
 
@@ -10,7 +10,7 @@ use nmgc_lists::NoMemory;
 use std::alloc::{AllocError, AllocFailed};
 use thiserror::Error;
 
-/// What is wrong with a line, in the order in which it is tried.
+/// The faults of a line, in the order in which they are tried.
 #[derive(Clone, Copy, Debug, PartialEq, Eq, Error)]
 pub enum Cause {
     /// The first line isn't `nmgc 1` or `nmgc 2`.
@@ -19,20 +19,20 @@ pub enum Cause {
     /// The second line isn't a heap line within the limits.
     #[error("heap")]
     Heap,
-    /// A section line isn't that of the next thread, of those that the version has, or a line before the first section
-    /// begins with another word.
+    /// A section line doesn't name the next thread, the version has no more threads, or a line before the first section
+    /// begins with another token.
     #[error("thread")]
     Thread,
     /// The section's nursery makes the heap too large.
     #[error("total")]
     Total,
-    /// The first word is no command's name.
+    /// The first token is no command's name.
     #[error("command")]
     Command,
-    /// The command has another number of words.
+    /// The command doesn't take this number of tokens.
     #[error("arity")]
     Arity,
-    /// A word isn't of the form that stands in its place.
+    /// A token doesn't have the form that its position requires.
     #[error("operand")]
     Operand,
     /// The object is larger than a segment.

@@ -1,11 +1,10 @@
 //! Whole scripts: the version line, the heap line, and the sections.
 //!
-//! Lines are read one after the other, each cut into words in one vector that is used again, so the
-//! time is linear in the bytes. The first fault ends the reading, and so it is the first bad line that
-//! is told. Easy to get wrong: where the text ends before the first section, the line told is the one
-//! after the last, counting those that were passed over.
+//! Lines are read in order. Each is cut into tokens in one vector that is reused, so the time is linear in the bytes. The
+//! first fault ends the reading, so the reported line is the first bad line. Easy to get wrong: if the text ends before the
+//! first section, the reported line is the line after the last, and lines that are passed over count.
 ghost use Rattle.std.specs.Prelude.{◌≡◌, ℕ, ◌+◌, ◌<◌, ◌≤◌, ◌^◌, length, sum_by, IfErr, IfOk, MatchResult};
-ghost use Rattle.nmgc_script.specs.{Faults.IsToldOf, Faults.TellsFault, Limits.FitsConfig, Spelling.Spells, declared.fault.Cause.Cause as Why, declared.script.Script.Script as Spelled, Text.kept_after, Text.end_after, Text.kept_lines, Text.end_of, declared.fault.ScriptFault.TheVariants.NoMemory as no_memory};
+ghost use Rattle.nmgc_script.specs.{Faults.IsFaultOf, Faults.IsFaultOfText, Limits.FitsConfig, Spelling.Spells, declared.fault.Cause.Cause as Why, declared.script.Script.Script as Spelled, Text.kept_after, Text.end_after, Text.kept_lines, Text.end_of, declared.fault.ScriptFault.TheVariants.NoMemory as no_memory};
 ghost use Rattle.nmgc_script.specs.Reading.{GivesAt, at_line, version_at, heap_at, programs_at, threads_at, script_at, placed};
 
 use crate::config::heap_words;
@@ -13,8 +12,8 @@ use crate::sections::{Entry, read_entry, section};
 use crate::text::{Lines, cut_words};
 use crate::version::Version;
 use crate::{Cause, Config, LineFault, Script, ScriptFault};
+use nmgc_commands::PackedCommand;
 use nmgc_lists::{List, NoMemory};
-use nmgc_program::PackedCommand;
 use std::alloc::Global;
 
 impl From<NoMemory> for ScriptFault {
@@ -25,32 +24,32 @@ impl From<NoMemory> for ScriptFault {
     }
 }
 
-/// Reads a script. `Bad` tells the first bad line, from 1, and its cause; where the text ends too
-/// early the line is the one after the last. `NoMemory` tells nothing of the bytes. Time is linear in them.
+/// Returns the script that the bytes spell. `Bad` reports the first bad line, from 1, and its cause. If the text ends too
+/// early, the line is the line after the last. `NoMemory` says nothing about the bytes. Takes time linear in the bytes.
 pub fn parse(alloc: Global, bytes: &[u8]) -> Result<Script, ScriptFault>
     requires { length bytes.now ≤ 2 ^ 31 }
-    // What is read is spelled so, and within the limits.
+    // The bytes spell the script that is read, and it is within the limits.
     ensures found { IfOk result (λ script. Spells bytes.now script) }
-    // What is spelled so is read, unless memory runs out.
+    // A script that the bytes spell is read, unless memory runs out.
     ensures only { (script : Spelled) → Spells bytes.now script → MatchResult result (λ read. script ≡ read) (λ fault. fault ≡ ScriptFault.NoMemory) }
-    // It has no more commands than bytes.
+    // The number of the script's commands is at most the number of bytes.
     ensures few { IfOk result (λ script. sum_by (λ program. length program) script.threads ≤ length bytes.now) }
-    // Of bytes that spell no script, the first bad line and its first cause are told.
-    ensures told { IfErr result (λ fault. IsToldOf bytes.now fault) }
+    // If the bytes spell no script, the fault is the first bad line and its first cause.
+    ensures reported { IfErr result (λ fault. IsFaultOf bytes.now fault) }
 {
     script(alloc, bytes)
 }
 
-/// A text spells at most one script, or it has one first bad line with one first cause, and never
-/// both. It does nothing: its contract is the law.
+/// Proves that a text spells at most one script, that it has at most one first bad line with one first cause, and that no
+/// text has both. It does nothing: its contract is the law.
 pub fn spells_one_script(bytes: &[u8])
     ensures script { (one other : Spelled) → Spells bytes.now one → Spells bytes.now other → one ≡ other }
-    ensures fault { (m n : ℕ) (c d : Why) → TellsFault (end_of bytes.now) (kept_lines bytes.now) m c →
-        TellsFault (end_of bytes.now) (kept_lines bytes.now) n d → (m ≡ n) × (c ≡ d) }
-    ensures never_both { (one : Spelled) (n : ℕ) (c : Why) → Spells bytes.now one → TellsFault (end_of bytes.now) (kept_lines bytes.now) n c → ⊥ }
+    ensures fault { (m n : ℕ) (c d : Why) → IsFaultOfText (end_of bytes.now) (kept_lines bytes.now) m c →
+        IsFaultOfText (end_of bytes.now) (kept_lines bytes.now) n d → (m ≡ n) × (c ≡ d) }
+    ensures never_both { (one : Spelled) (n : ℕ) (c : Why) → Spells bytes.now one → IsFaultOfText (end_of bytes.now) (kept_lines bytes.now) n c → ⊥ }
 {}
 
-// Reads a script.
+// Returns the script that the bytes spell, or the first bad line and its cause.
 #[tactic(auto, unfolding(crate::specs::Reading::script_at))]
 fn script(alloc: Global, bytes: &[u8]) -> Result<Script, ScriptFault>
     requires { length bytes.now ≤ 2 ^ 31 }
@@ -68,7 +67,7 @@ fn script(alloc: Global, bytes: &[u8]) -> Result<Script, ScriptFault>
     })
 }
 
-// Reads the version line.
+// Takes the version line from `lines`, and returns the version that it names.
 #[tactic(auto, unfolding(crate::specs::Reading::version_at))]
 fn version_line(lines: &mut Lines) -> Result<Version, ScriptFault>
     ensures gives { GivesAt (λ v. (
@@ -96,7 +95,7 @@ fn version_line(lines: &mut Lines) -> Result<Version, ScriptFault>
     })
 }
 
-// Reads the heap line.
+// Takes the heap line from `lines`, and returns its settings.
 #[tactic(auto, unfolding(crate::specs::Reading::heap_at))]
 fn heap_line<'a>(lines: &mut Lines<'a>, words: &mut Vec<&'a [u8]>) -> Result<Config, ScriptFault>
     ensures gives { GivesAt (λ c. (
@@ -117,7 +116,7 @@ fn heap_line<'a>(lines: &mut Lines<'a>, words: &mut Vec<&'a [u8]>) -> Result<Con
     at_line(number, heap_words(words))
 }
 
-// What a line gave, with its number where it is bad.
+// Returns the result of reading a line, with the number of the line added to a fault.
 fn at_line<T>(number: u32, given: Result<T, LineFault>) -> Result<T, ScriptFault>
     ensures { result ≡ placed number given }
 {
@@ -131,7 +130,7 @@ fn at_line<T>(number: u32, given: Result<T, LineFault>) -> Result<T, ScriptFault
     }
 }
 
-// Reads the sections.
+// Reads all sections, from the lines after the heap line, and returns their programs.
 fn threads<'a>(
     alloc: Global,
     version: Version,
@@ -154,7 +153,7 @@ fn threads<'a>(
     programs(alloc, version, config, lines, words)
 }
 
-// Reads the commands of the first section, and the sections after it.
+// Reads all sections, from the lines after the first section line, and returns their programs.
 fn programs<'a>(
     alloc: Global,
     version: Version,

@@ -1,22 +1,22 @@
 //! Printing: the plain spelling of a script.
 //!
-//! It has no line that is passed over, and each line ends with a line feed, so the spelling is the
-//! same for each reader. Every word after the first stands behind one space. Easy to get wrong: a
-//! thunk without free variables ends with its register and no space after it.
+//! It has no line that is passed over, and each line ends with a line feed. So the spelling is the same for each reader.
+//! Every token after the first stands after one space. Easy to get wrong: a thunk without free variables ends with its
+//! register and no space after it.
 ghost use Rattle.std.specs.Prelude.{◌≡◌, ◌∷◌, [], ◌++◌, decimal, map, IfOk, OnOk};
-ghost use Rattle.nmgc_program.specs.Packed.{command_of};
+ghost use Rattle.nmgc_commands.specs.Packed.{command_of};
 ghost use Rattle.nmgc_script.specs.{Limits.FitsScript, Printing.word_text, Printing.after_spaces};
 ghost use Rattle.nmgc_script.specs.Spelling.{Spells, command_words, ended, heap_words, operand_word, plain, program_lines, section_lines, section_words, spaced, version_words};
 
 use crate::verbs::Verb;
 use crate::{Config, Script};
+use nmgc_commands::{Form, PackedCommand};
 use nmgc_io::push_number;
 use nmgc_lists::{List, NoMemory};
-use nmgc_program::{Form, PackedCommand};
 use nmgc_world_spec::Operand;
 use std::alloc::Global;
 
-/// A word of a line after its first.
+/// A token of a line after its first.
 #[derive(Clone, Copy, Debug, PartialEq, Eq)]
 pub enum Word {
     Register(u8),
@@ -28,7 +28,8 @@ pub enum Word {
 
 use Word::{Number, Operand as Value, Register, Short, Tag};
 
-/// Writes the plain spelling of a script that is within the limits. `parse` reads it back.
+/// Returns the plain spelling of a script that is within the limits. `parse` reads it back. No clause bounds the length of
+/// the text; `parse` requires at most 2^31 bytes.
 pub fn print(alloc: Global, script: &Script) -> Result<Vec<u8>, NoMemory>
     requires { FitsScript script.now }
     ensures text { IfOk result (λ bytes. bytes.items ≡ plain script.now) }
@@ -50,7 +51,7 @@ fn push_version(out: &mut Vec<u8>, version: u8) -> Result<(), NoMemory>
     Ok(())
 }
 
-// Appends a word.
+// Appends the text of a token.
 fn push_word(out: &mut Vec<u8>, word: Word) -> Result<(), NoMemory>
     ensures { OnOk result (out.new.items ≡ out.old.items ++ word_text word) }
 {
@@ -67,7 +68,7 @@ fn push_word(out: &mut Vec<u8>, word: Word) -> Result<(), NoMemory>
     }
 }
 
-// Appends a register's word.
+// Appends the token of a register.
 fn push_register(out: &mut Vec<u8>, register: u8) -> Result<(), NoMemory>
     ensures { OnOk result (out.new.items ≡ out.old.items ++ 114 ∷ decimal register) }
 {
@@ -75,7 +76,7 @@ fn push_register(out: &mut Vec<u8>, register: u8) -> Result<(), NoMemory>
     push_number(out, register as u64)
 }
 
-// Appends words, each behind a space.
+// Appends tokens, each behind a space.
 fn push_words(out: &mut Vec<u8>, words: &[Word]) -> Result<(), NoMemory>
     ensures { OnOk result (out.new.items ≡ out.old.items ++ after_spaces (map word_text words.now)) }
 {
@@ -97,7 +98,7 @@ fn push_operands(out: &mut Vec<u8>, operands: &[Operand]) -> Result<(), NoMemory
     Ok(())
 }
 
-// Appends a name and words.
+// Appends a line that is a name and tokens, without its line feed.
 fn push_line(out: &mut Vec<u8>, name: &[u8], words: &[Word]) -> Result<(), NoMemory>
     ensures { OnOk result (out.new.items ≡ out.old.items ++ spaced (name.now ∷ map word_text words.now)) }
 {
@@ -105,7 +106,7 @@ fn push_line(out: &mut Vec<u8>, name: &[u8], words: &[Word]) -> Result<(), NoMem
     push_words(out, words)
 }
 
-// Appends a name, words and operands.
+// Appends a line that is a name, tokens and operands, without its line feed.
 fn push_long_line(
     out: &mut Vec<u8>,
     name: &[u8],
@@ -118,8 +119,8 @@ fn push_long_line(
     push_operands(out, operands)
 }
 
-// A match on a form, which appends its verb's name and then its fields, each as a word of
-// this kind: commands of such fields alone, commands with operands behind them, commands of none.
+// A match on a form, which appends its verb's name and then its fields, each as a token of the given kind. The three groups
+// are commands of such fields alone, commands with operands after them, and commands without fields.
 macro_rules! printed {
     (
         $out:ident, $packed:ident,
@@ -139,14 +140,14 @@ macro_rules! printed {
     };
 }
 
-// Appends the line of a command, without its end.
+// Appends the line of a command, without its line feed.
 fn push_command(out: &mut Vec<u8>, command: &PackedCommand) -> Result<(), NoMemory>
     ensures { OnOk result (out.new.items ≡ out.old.items ++ spaced (command_words command.now)) }
 {
     push_form(out, command.form())
 }
 
-// Appends the line of a command of this form, without its end.
+// Appends the line of a command of this form, without its line feed.
 fn push_form(out: &mut Vec<u8>, form: &Form) -> Result<(), NoMemory>
     ensures { OnOk result (out.new.items ≡ out.old.items ++ spaced (command_words (command_of form.now))) }
 {
@@ -189,7 +190,7 @@ fn push_program(out: &mut Vec<u8>, program: &[PackedCommand]) -> Result<(), NoMe
     Ok(())
 }
 
-// Appends the line that begins a section.
+// Appends the line that begins the section of `thread`.
 fn push_section(out: &mut Vec<u8>, thread: usize) -> Result<(), NoMemory>
     ensures { OnOk result (out.new.items ≡ out.old.items ++ (spaced (section_words thread) ++ 10 ∷ [])) }
 {
@@ -198,7 +199,7 @@ fn push_section(out: &mut Vec<u8>, thread: usize) -> Result<(), NoMemory>
     Ok(())
 }
 
-// Appends the sections of the programs.
+// Appends the sections of all programs, numbered from 0.
 fn push_sections(out: &mut Vec<u8>, threads: &[List<PackedCommand>]) -> Result<(), NoMemory>
     ensures { OnOk result (out.new.items ≡ out.old.items ++ ended (section_lines 0 threads.now)) }
 {

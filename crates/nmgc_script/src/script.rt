@@ -1,30 +1,30 @@
 //! A script, and the numbers of its heap.
 //!
-//! `specs/Limits.antt` says which scripts are within the limits; the numbers are those of `nmgc_limits`.
-//! A config alone can't keep the limit of the whole heap: the nurseries are as many as the threads, so
-//! the total is a limit of the script. Easy to get wrong: the least nursery depends on the words of a
-//! segment, since an object that fills a segment has to fit in a nursery first.
+//! `specs/Limits.antt` says which scripts are within the limits; the numbers are defined in `nmgc_limits`. A configuration
+//! alone can't keep the limit of the whole heap. There is one nursery for each thread, so the total is a limit of the script.
+//! Easy to get wrong: the least nursery depends on the words of a segment, since an object that fills a segment has to fit in
+//! a nursery first.
 ghost use Rattle.std.specs.Prelude.{◌≡◌};
 ghost use Rattle.nmgc_script.specs.Limits.{FitsScript, upgraded};
 
 use crate::version::Version;
+use nmgc_commands::PackedCommand;
 use nmgc_lists::List;
-use nmgc_program::PackedCommand;
 
 /// The numbers of the heap line. Segments and nurseries are measured in words.
 #[derive(Clone, Copy, Debug, PartialEq, Eq)]
 pub struct Config {
-    /// How many segments there are.
+    /// The number of segments.
     pub segments: u32,
-    /// How many words a segment has: a power of two.
+    /// The number of words of a segment: a power of two.
     pub words: u32,
-    /// How many words a nursery has.
+    /// The number of words of a nursery.
     pub nursery: u32,
-    /// How many commands a mutator gives in a round, at most.
+    /// The greatest number of commands that a mutator gives in a round.
     pub slice: u32,
-    /// How many objects the collector marks, or segments it sweeps, in a round, at most.
+    /// The greatest number of objects that the collector marks, or segments that it sweeps, in a round.
     pub quota: u32,
-    /// After how many filled segments a cycle begins by itself; 0 is never.
+    /// The number of filled segments after which a cycle begins by itself; 0 means never.
     pub trigger: u32,
 }
 
@@ -36,7 +36,7 @@ pub struct Script {
     pub threads: List<List<PackedCommand>>,
 }
 
-/// The script in version 2, with the same config and programs. Takes no memory.
+/// Returns the script in version 2, otherwise unchanged. If `script` is within the limits, so is the result. Takes no memory.
 pub fn upgrade(script: Script) -> Script
     ensures is { result ≡ upgraded script }
     ensures fits { FitsScript script → FitsScript result }

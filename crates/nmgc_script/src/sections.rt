@@ -1,29 +1,29 @@
-//! Sections: a line that begins one, and the commands up to the next.
+//! Sections: the line that begins a section, and the commands up to the next.
 //!
-//! Sections are numbered from 0 in order, and each brings a nursery, so the total is looked at where a
-//! section begins and not at the heap line. Easy to get wrong: the section that begins counts towards
-//! the total itself, and a first word `thread` makes a section line of any line after the heap line.
+//! Sections are numbered from 0 in order. Each brings a nursery, so the total is checked when a section begins and not at the
+//! heap line. Easy to get wrong: the section that begins counts towards the total itself, and a first token `thread` makes a
+//! section line of any line after the heap line.
 ghost use Rattle.std.specs.Prelude.{◌≡◌, ◌+◌, ◌<◌, ◌≤◌, map, IfOk};
 ghost use Rattle.nmgc_script.specs.{Limits.FitsConfig, Limits.total_words, Reading.Gives, Reading.thread_at, Reading.section_at, Reading.is_section, Reading.entry_at};
 
 use crate::commands::command;
+use crate::tokens::small;
 use crate::version::Version;
-use crate::words::small;
 use crate::{Cause, Config, LineFault};
+use nmgc_commands::PackedCommand;
 use nmgc_limits::MAX_HEAP_WORDS;
-use nmgc_program::PackedCommand;
 use std::alloc::Global;
 
-/// What a line is after the heap line.
+/// The content of a line after the heap line.
 #[derive(Drop)]
 pub enum Entry {
-    /// It begins the section of the next thread.
+    /// The beginning of the next thread's section.
     Section,
-    /// It is a command of the section that was begun last.
+    /// A command of the last section that began.
     Order(PackedCommand),
 }
 
-// The number of the thread whose section begins.
+// Returns the thread number that the tokens of a section line spell.
 #[tactic(auto, unfolding(crate::specs::Reading::thread_at))]
 fn thread(version: Version, words: &[&[u8]]) -> Result<u8, LineFault>
     ensures gives { Gives result (thread_at version (map (λ w. w.now) words.now)) }
@@ -42,7 +42,7 @@ fn thread(version: Version, words: &[&[u8]]) -> Result<u8, LineFault>
     }
 }
 
-// The words of all segments, and of a nursery for each of so many threads.
+// Returns the number of words of all segments and `threads` nurseries together.
 fn total_words(config: &Config, threads: u8) -> u32
     requires { FitsConfig config.now }
     ensures { result ≡ total_words config.now threads }
@@ -50,8 +50,8 @@ fn total_words(config: &Config, threads: u8) -> u32
     config.segments * config.words + threads as u32 * config.nursery
 }
 
-/// Reads the line that begins the section of the next thread, where so many were begun before. `Bad`
-/// has the first cause by which it is none. Takes no memory.
+/// Reads the line that begins the next section, after `begun` sections, and returns its entry. If it is no such line, `Bad`
+/// has the first cause. Takes no memory.
 #[tactic(auto, unfolding(crate::specs::Reading::section_at))]
 pub fn section(
     version: Version,
@@ -72,7 +72,7 @@ pub fn section(
     Ok(Entry::Section)
 }
 
-// Whether the first word is that of a section line.
+// Whether the first token is the name of a section line.
 fn is_section(words: &[&[u8]]) -> bool
     ensures { result ≡ is_section (map (λ w. w.now) words.now) }
 {
@@ -82,9 +82,8 @@ fn is_section(words: &[&[u8]]) -> bool
     }
 }
 
-/// Reads a line after the first section line, where so many sections were begun before: the next
-/// section's line, or a command. `Bad` has the line's first cause. Takes memory for a command's
-/// operands alone.
+/// Reads a line after the first section line, with `begun` sections before it, and returns its content: the beginning of the
+/// next section, or a command. `Bad` has the line's first cause. Takes memory only for a command's operands.
 #[tactic(auto, unfolding(crate::specs::Reading::entry_at))]
 pub fn read_entry(
     alloc: Global,

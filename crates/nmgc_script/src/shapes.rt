@@ -1,14 +1,14 @@
-//! Shapes: the words that stand after a command's name, one function for each.
+//! Shapes: the tokens after a command's name, one function for each shape.
 //!
-//! `D` is a register that is written, `V` an operand, `N` a number, `I` an index and `COUNT` a count.
-//! Each function looks at the number of words first, and then at each word from left to right. Easy
-//! to get wrong: with one word too many or too few, no word is looked at.
+//! `D` is a register that is written, `V` an operand, `N` a number, `I` an index and `COUNT` a count. The functions are
+//! methods of `Version`, since the version says which registers a command can name. Each function checks the number of tokens
+//! first, and then each token from left to right. Easy to get wrong: with one token too many or too few, no token is checked.
 ghost use Rattle.std.specs.Prelude.{map};
 ghost use Rattle.nmgc_script.specs.Reading.{Gives, register_at, operand_at, long_at, short_at, one_at, two_at, three_at, four_at, con_at, thunk_at};
 
 use crate::version::Version;
 use crate::{Cause, LineFault};
-use nmgc_program::Operands;
+use nmgc_commands::Operands;
 use nmgc_world_spec::Operand;
 use std::alloc::Global;
 
@@ -16,7 +16,7 @@ use std::alloc::Global;
 const MAX_FREE: usize = 8;
 
 impl Version {
-    /// `D`. Takes no memory.
+    /// Reads the shape `D`: a register to be written. Takes no memory.
     #[tactic(auto, unfolding(crate::specs::Reading::one_at))]
     pub fn dest(self, words: &[&[u8]]) -> Result<u8, LineFault>
         ensures { Gives result (one_at (register_at self) (map (λ w. w.now) words.now)) }
@@ -27,7 +27,7 @@ impl Version {
         self.register(dest)
     }
 
-    /// `V`. Takes no memory.
+    /// Reads the shape `V`: an operand. Takes no memory.
     #[tactic(auto, unfolding(crate::specs::Reading::one_at))]
     pub fn value(self, words: &[&[u8]]) -> Result<Operand, LineFault>
         ensures { Gives result (one_at (operand_at self) (map (λ w. w.now) words.now)) }
@@ -38,7 +38,7 @@ impl Version {
         self.operand(value)
     }
 
-    /// `D N`. Takes no memory.
+    /// Reads the shape `D N`: a register to be written, and a number below 2^62. Takes no memory.
     #[tactic(auto, unfolding(crate::specs::Reading::two_at))]
     pub fn dest_number(self, words: &[&[u8]]) -> Result<(u8, u64), LineFault>
         ensures { Gives result (two_at (register_at self) long_at (map (λ w. w.now) words.now)) }
@@ -49,7 +49,7 @@ impl Version {
         Ok((self.register(dest)?, self.long(number)?))
     }
 
-    /// `D COUNT`. Takes no memory.
+    /// Reads the shape `D COUNT`: a register to be written, and a count. Takes no memory.
     #[tactic(auto, unfolding(crate::specs::Reading::two_at))]
     pub fn dest_count(self, words: &[&[u8]]) -> Result<(u8, u32), LineFault>
         ensures { Gives result (two_at (register_at self) short_at (map (λ w. w.now) words.now)) }
@@ -60,7 +60,7 @@ impl Version {
         Ok((self.register(dest)?, self.short(count)?))
     }
 
-    /// `D V`. Takes no memory.
+    /// Reads the shape `D V`: a register to be written, and an operand. Takes no memory.
     #[tactic(auto, unfolding(crate::specs::Reading::two_at))]
     pub fn dest_value(self, words: &[&[u8]]) -> Result<(u8, Operand), LineFault>
         ensures { Gives result (two_at (register_at self) (operand_at self) (map (λ w. w.now) words.now)) }
@@ -71,7 +71,7 @@ impl Version {
         Ok((self.register(dest)?, self.operand(value)?))
     }
 
-    /// `V V`. Takes no memory.
+    /// Reads the shape `V V`: two operands. Takes no memory.
     #[tactic(auto, unfolding(crate::specs::Reading::two_at))]
     pub fn values(self, words: &[&[u8]]) -> Result<(Operand, Operand), LineFault>
         ensures { Gives result (two_at (operand_at self) (operand_at self) (map (λ w. w.now) words.now)) }
@@ -82,7 +82,7 @@ impl Version {
         Ok((self.operand(left)?, self.operand(right)?))
     }
 
-    /// `V I`, with which longer shapes begin. Takes no memory.
+    /// Reads the shape `V I`, an operand and an index, with which longer shapes begin. Takes no memory.
     #[tactic(auto, unfolding(crate::specs::Reading::two_at))]
     fn value_index(self, words: &[&[u8]]) -> Result<(Operand, u32), LineFault>
         ensures { Gives result (two_at (operand_at self) short_at (map (λ w. w.now) words.now)) }
@@ -93,7 +93,7 @@ impl Version {
         Ok((self.operand(value)?, self.short(index)?))
     }
 
-    /// `D COUNT V`. Takes no memory.
+    /// Reads the shape `D COUNT V`: a register to be written, a count and an operand. Takes no memory.
     #[tactic(auto, unfolding(crate::specs::Reading::three_at))]
     pub fn dest_count_value(self, words: &[&[u8]]) -> Result<(u8, u32, Operand), LineFault>
         ensures { Gives result (three_at (register_at self) short_at (operand_at self) (map (λ w. w.now) words.now)) }
@@ -108,7 +108,7 @@ impl Version {
         ))
     }
 
-    /// `D V I`. Takes no memory.
+    /// Reads the shape `D V I`: a register to be written, an operand and an index. Takes no memory.
     #[tactic(auto, unfolding(crate::specs::Reading::three_at))]
     pub fn dest_value_index(self, words: &[&[u8]]) -> Result<(u8, Operand, u32), LineFault>
         ensures { Gives result (three_at (register_at self) (operand_at self) short_at (map (λ w. w.now) words.now)) }
@@ -123,7 +123,7 @@ impl Version {
         ))
     }
 
-    /// `V I V`. Takes no memory.
+    /// Reads the shape `V I V`: an operand, an index and an operand. Takes no memory.
     #[tactic(auto, unfolding(crate::specs::Reading::three_at))]
     pub fn value_index_value(self, words: &[&[u8]]) -> Result<(Operand, u32, Operand), LineFault>
         ensures { Gives result (three_at (operand_at self) short_at (operand_at self) (map (λ w. w.now) words.now)) }
@@ -138,7 +138,7 @@ impl Version {
         ))
     }
 
-    /// `V I V V`. Takes no memory.
+    /// Reads the shape `V I V V`: an operand, an index and two operands. Takes no memory.
     #[tactic(auto, unfolding(crate::specs::Reading::four_at))]
     pub fn value_index_values(
         self,
@@ -154,7 +154,7 @@ impl Version {
         Ok((object, index, left, right))
     }
 
-    /// `D V V V`. Takes no memory.
+    /// Reads the shape `D V V V`: a register to be written, and three operands. Takes no memory.
     #[tactic(auto, unfolding(crate::specs::Reading::four_at))]
     pub fn dest_values(self, words: &[&[u8]]) -> Result<(u8, Operand, Operand, Operand), LineFault>
         ensures { Gives result (four_at (register_at self) (operand_at self) (operand_at self) (operand_at self) (map (λ w. w.now) words.now)) }
@@ -167,7 +167,7 @@ impl Version {
         Ok((dest, first, second, third))
     }
 
-    /// `D TAG V V ..`, with any number of operands.
+    /// Reads the shape `D TAG V V ..`: a register to be written, a tag, and any number of operands.
     #[tactic(auto, unfolding(crate::specs::Reading::con_at))]
     pub fn dest_tag_values(
         self,
@@ -186,7 +186,7 @@ impl Version {
         ))
     }
 
-    /// `D V V ..`, with at most eight operands.
+    /// Reads the shape `D V V ..`: a register to be written, and at most eight operands.
     #[tactic(auto, unfolding(crate::specs::Reading::thunk_at))]
     pub fn dest_few_values(
         self,

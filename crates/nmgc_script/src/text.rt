@@ -1,19 +1,19 @@
-//! Lines and words of a text.
+//! Lines and tokens of a text.
 //!
-//! A text is cut at line feeds, the last of which may be missing, and a line at single spaces, so two
-//! spaces in a row make an empty word. `Lines` goes over the lines that are read, and keeps the number
-//! of the next line of the text. Easy to get wrong: a line that is passed over still has a number, and
-//! where the text ends too early the line told is one that isn't there.
+//! A text is cut at line feeds, and the last line feed may be missing. A line is cut at single spaces, so two spaces in a row
+//! make an empty token. `Lines` iterates over the lines that are read, and keeps the number of the next line of the text.
+//! Easy to get wrong: a line that is passed over still has a number. If the text ends too early, the reported line doesn't
+//! exist.
 //!
-//! Most lines are shorter than the bytes that are looked at together, so a line is cut together with the text behind it,
-//! which makes up what a look takes.
+//! Most lines are shorter than the group of bytes that is searched at once. So a line is cut together with the text after it,
+//! which fills the group.
 ghost use Rattle.std.specs.Prelude.{◌≡◌, ◌+◌, ◌<◌, ◌≤◌, ◌^◌, [], ◌∷◌, length, map, take, IfSome, IfNone, OnOk};
 ghost use Rattle.nmgc_script.specs.Text.{lines_of, words_of, is_passed, kept_after, end_after, kept_lines, end_of};
 
 use nmgc_io::{cut, cut_within};
 use nmgc_lists::NoMemory;
 
-/// A place in a text: the beginning of a line.
+/// A position in a text: the beginning of a line.
 #[derive(Drop)]
 pub struct Lines<'a> {
     rest: &'a [u8],
@@ -23,7 +23,7 @@ pub struct Lines<'a> {
 }
 
 impl<'a> Lines<'a> {
-    /// The beginning of a text. Takes no memory.
+    /// Returns the position at the beginning of a text, line 1. Takes no memory.
     pub fn new(bytes: &'a [u8]) -> Self
         requires { length bytes.now ≤ 2 ^ 31 }
         ensures kept { kept_after result.number result.rest.now ≡ kept_lines bytes.now }
@@ -36,21 +36,21 @@ impl<'a> Lines<'a> {
         }
     }
 
-    /// The number of the next line of the text.
+    /// Returns the number of the next line of the text.
     pub fn number(&self) -> u32
         ensures { result ≡ self.now.number }
     {
         self.number
     }
 
-    /// The text from the beginning of the line on that `next` gave last.
+    /// Returns the text from the beginning of the last line that `next` returned.
     pub fn text(&self) -> &'a [u8]
         ensures { result.now ≡ self.now.text.now }
     {
         self.text
     }
 
-    /// The next line that isn't passed over, with its number. After `None` the text is at its end.
+    /// Returns the next line that isn't passed over, with its number, and moves past it. After `None` the text is at its end.
     pub fn next(&mut self) -> Option<(u32, &'a [u8])>
         ensures line { IfSome result (λ line. kept_after self.old.number self.old.rest.now ≡ (line.0, line.1.now) ∷
             kept_after self.new.number self.new.rest.now) }
@@ -74,7 +74,7 @@ impl<'a> Lines<'a> {
     }
 }
 
-// Whether a line is empty or a remark.
+// Whether a line is passed over: it is empty or a remark.
 fn is_passed(line: &[u8]) -> bool
     ensures { result ≡ is_passed line.now }
 {
@@ -84,7 +84,7 @@ fn is_passed(line: &[u8]) -> bool
     }
 }
 
-// The first line, and what comes after it.
+// Splits a text into its first line, without the line feed, and the text after it. Returns `None` if the text is empty.
 fn split_line(bytes: &[u8]) -> Option<(&[u8], &[u8])>
     ensures line { IfSome result (λ parts. lines_of bytes.now ≡ parts.0.now ∷ lines_of parts.1.now) }
     ensures less { IfSome result (λ parts. length parts.1.now < length bytes.now) }
@@ -100,7 +100,7 @@ fn split_line(bytes: &[u8]) -> Option<(&[u8], &[u8])>
     }
 }
 
-/// Cuts a line, with which a text begins, into its words, which take the place of those that are there.
+/// Replaces the content of `words` by the tokens of `line`, which is the beginning of `text`.
 pub fn cut_words<'a>(words: &mut Vec<&'a [u8]>, line: &'a [u8], text: &[u8]) -> Result<(), NoMemory>
     requires { line.now ≡ take (length line.now) text.now }
     ensures { OnOk result (map (λ w. w.now) words.new.items ≡ words_of line.now) }

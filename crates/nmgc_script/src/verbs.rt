@@ -1,16 +1,15 @@
 //! The names of commands.
 //!
-//! This is the one table of names, for reading and for printing. A name is looked up before anything
-//! else of its line is looked at, so an unknown name is told even where the line has too many words.
-//! Which verb a name may be is guessed by its first letters, and only where the guess was wrong all are compared: so
-//! nothing rests on the guess but the time of a long script.
-//! Easy to get wrong: a verb that is missing in `VERBS` could be printed and not be read.
+//! This is the one table of names, for reading and for printing. A name is looked up before the rest of its line is checked.
+//! So an unknown name is reported even if the line has too many tokens. The first letters give a guess of the verb. Only if
+//! the guess is wrong, all verbs are compared. So only the time of a long script depends on the guess. Easy to get wrong: a
+//! verb that is missing in `VERBS` could be printed but not read.
 ghost use Rattle.std.specs.Prelude.{◌≡◌};
 ghost use Rattle.nmgc_script.specs.{Reading.Gives, Reading.first_named, Reading.verb_at, Spelling.verb_name};
 
 use crate::{Cause, LineFault};
 
-/// What a command's name says to do.
+/// The action that a command's name requests.
 #[derive(Clone, Copy, Debug, PartialEq, Eq)]
 pub enum Verb {
     Num,
@@ -68,7 +67,7 @@ pub const VERBS: [Verb; 24] = [
 ];
 
 impl Verb {
-    /// The name. Takes no memory.
+    /// Returns the verb's name. Takes no memory.
     pub fn name(self) -> &'static [u8]
         ensures { result.now ≡ verb_name self }
     {
@@ -101,8 +100,8 @@ impl Verb {
     }
 }
 
-// The verb that a name is, if it is one: the letters that are looked at tell each verb from all others. No clause speaks of
-// the answer.
+// Returns a guess of the verb with this name. If there is such a verb, the guess is right: the letters that are compared
+// distinguish it from all other verbs. No clause is about the guess.
 fn likely(name: &[u8]) -> Verb {
     match name {
         [b'c', b'o', b'n', ..] => Verb::Con,
@@ -132,7 +131,7 @@ fn likely(name: &[u8]) -> Verb {
     }
 }
 
-/// The verb of a name. Takes no memory.
+/// Returns the verb that has this name, or a fault if there is none. Takes no memory.
 pub fn verb_of(name: &[u8]) -> Result<Verb, LineFault>
     ensures { Gives result (verb_at name.now) }
 {
@@ -143,7 +142,7 @@ pub fn verb_of(name: &[u8]) -> Result<Verb, LineFault>
     first_named(name, &VERBS)
 }
 
-// The first of some verbs that has the name.
+// Returns the first verb of `verbs` that has this name, or a fault if there is none.
 #[tactic(auto, unfolding(crate::specs::Reading::first_named))]
 fn first_named(name: &[u8], verbs: &[Verb]) -> Result<Verb, LineFault>
     ensures { Gives result (first_named name.now verbs.now) }

@@ -1,26 +1,27 @@
 //! Versions of the grammar.
 //!
-//! A script's first line names its version, and all that differs between versions stands in one value,
-//! which the functions that read a line are given: how many threads a script has, and which registers
-//! a command names. A world may have more of both than an old version can name.
+//! A script's first line names its version. All differences between versions are in one value, which the functions that read
+//! a line receive. They are the number of threads of a script, and the registers that a command names. A world may have more
+//! of both than an old version can name. Facts of both are laws of any usable version (`specs/laws/Versions.antt`). So a
+//! third version is a constant and a line that is read.
 ghost use Rattle.std.specs.Prelude.{◌≡◌};
 ghost use Rattle.nmgc_script.specs.Limits.{version_1, version_2};
 
 use nmgc_limits::{MAKERS, REGISTERS};
 
-/// What a script of a version may name.
+/// The limits of a version.
 #[derive(Clone, Copy, Debug, PartialEq, Eq)]
 pub struct Version {
-    /// The number that the first line gives.
+    /// The number in the first line.
     pub number: u8,
-    /// The most threads.
+    /// The greatest number of threads.
     pub threads: u8,
-    /// How many registers there are to name, from 0.
+    /// The number of registers that can be named, from 0.
     pub registers: u8,
 }
 
 impl Version {
-    /// Version 1. Takes no memory.
+    /// Returns version 1. Takes no memory.
     pub fn first() -> Version
         ensures { result ≡ version_1 }
     {
@@ -31,7 +32,7 @@ impl Version {
         }
     }
 
-    /// Version 2. Takes no memory.
+    /// Returns version 2. Takes no memory.
     pub fn second() -> Version
         ensures { result ≡ version_2 }
     {

@@ -1,7 +1,7 @@
 -- A product in place of a division by the words of a block.
 use Rattle.nmgc_segment.proofs.Vocabulary.{ℕ, ◌≡◌, ◌↔◌, inl, inr, ◌+◌, ◌-◌, ◌*◌, ◌/◌, ◌%◌, ◌<◌, ◌≤◌, ◌∙◌, refl, ap, sym, arith, Bool, true, ◌&&◌, leb, ltb, get_or, mul-le-mul_right, div-add-mod', agree_below_at, and_parts, cases_lt, leb-true, ltb-true, mul-mod_left, div-mul-add, mod-mul-add, le-div, mod_below, block_size, least_block, RECIPROCALS}
 
--- 65536 / d, rounded up, times so many words never errs by a whole block
+-- the product of 65536 / d, rounded up, and a number of words errs by less than a block
 record IsReciprocal (d r : ℕ) : Type 0 where
   pub up : 65536 ≤ d * r
   pub close : (4096 / d + 1) * (d * r - 65536) < r
@@ -15,7 +15,7 @@ is_reciprocal d r = leb 65536 (d * r) && (ltb ((4096 / d + 1) * (d * r - 65536))
 abbrev pub reciprocal : ℕ → ℕ
 reciprocal class = get_or RECIPROCALS class 0
 
--- every number of the table
+-- the property for every number of the table
 reciprocal_of : (class : ℕ) → class ≤ 20 → IsReciprocal (block_size class) (reciprocal class)
 reciprocal_of class le =
     let holds : is_reciprocal (block_size class) (reciprocal class) ≡ true =
@@ -24,14 +24,14 @@ reciprocal_of class le =
     let rest = and_parts _ _ parts.1 in
     record { up = leb-true _ _ parts.0; close = ltb-true _ _ rest.0; small = leb-true _ _ rest.1 }
 
--- a share that is less than the factor is none
+-- a multiple of the factor that is less than the factor is 0
 none_left : (m r : ℕ) → m * r < r → m ≡ 0
 none_left m r h = elim (cases_lt 0 m) [
   | inl some ↦ absurd (let more : 1 * r ≤ m * r = mul-le-mul_right r (omega (arith, some)) in omega (arith, h, more))
   | inr none ↦ omega (arith, none)
 ]
 
--- a product above the lowest digits is the quotient, and these are below the factor where nothing is left
+-- the product without its 16 lowest digits is the quotient; these digits are below the factor exactly if the remainder is 0
 quotient : (n d r : ℕ) → 0 < d → n < 4096 → IsReciprocal d r → (n * r / 65536 ≡ n / d) × ((n * r % 65536 < r) ↔ (n % d ≡ 0))
 quotient n d r pos few h =
     let q : ℕ = n / d in
@@ -58,7 +58,7 @@ quotient n d r pos few h =
       ),
     )
 
--- the block that begins there
+-- the block that begins at the word
 pub block_found : (n class : ℕ) → n < 4096 → class ≤ 20 → n * reciprocal class % 65536 < reciprocal class →
     n ≡ n * reciprocal class / 65536 * block_size class
 block_found n class few le below =
@@ -69,7 +69,7 @@ block_found n class few le below =
     let same : n * reciprocal class / 65536 * d ≡ n / d * d = ap (λ (k : ℕ). k * d) found.0 in
     omega (arith, none, whole, same)
 
--- or none does
+-- no block begins at the word
 pub none_found : (n class block : ℕ) → n < 4096 → class ≤ 20 → reciprocal class ≤ n * reciprocal class % 65536 → n ≡ block * block_size class → ⊥
 none_found n class block few le above is =
     let d = block_size class in
@@ -79,7 +79,7 @@ none_found n class block few le above is =
     let below = found.1.1 none in
     omega (arith, above, below)
 
--- of blocks that begin at one word there is one
+-- at most one block begins at a word
 pub one_block : (n d k block blocks : ℕ) → 0 < d → n ≡ k * d → n ≡ block * d → k < blocks → blocks ≤ block → ⊥
 one_block n d k block blocks pos is found within past =
     let more : (k + 1) * d ≤ block * d = mul-le-mul_right d (omega (arith, within, past)) in

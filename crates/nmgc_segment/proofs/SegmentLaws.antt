@@ -1,8 +1,8 @@
--- What keeps a segment's invariant, and which blocks are in use afterwards.
-use Rattle.nmgc_segment.proofs.Vocabulary.{ℕ, ◌≡◌, ◌≢◌, ◌<◌, ◌≤◌, ◌*◌, ◌/◌, ◌↔◌, ◌∙◌, ◌⊎◌, inl, inr, ap, subst, sym, arith, List, length, slice_index, map, take, drop, ◌++◌, Bool, IsTrue, take_at, cases_eq, cases_lt, le-div_iff_mul-le, block_size, State, Free, Current, IsEpoch, carried, swept, IsFirstUnmarked, class_few, least_block, few_blocks, mark-map, all_carried, swept_bounds, swept_is, zero_swept, TellsMarked, Segment, IsSegment, IsUnused, HasBlocks, InUse, IsMarked, block_count, segment_words, mark_of}
+-- The steps that keep a segment's invariant, and the blocks in use after each.
+use Rattle.nmgc_segment.proofs.Vocabulary.{ℕ, ◌≡◌, ◌≢◌, ◌<◌, ◌≤◌, ◌*◌, ◌/◌, ◌↔◌, ◌∙◌, ◌⊎◌, inl, inr, ap, subst, sym, arith, List, length, slice_index, map, take, drop, ◌++◌, Bool, IsTrue, take_at, cases_eq, cases_lt, le-div_iff_mul-le, block_size, State, Free, Current, IsEpoch, carried, swept, IsFirstUnmarked, class_few, least_block, few_blocks, mark-map, all_carried, swept_bounds, swept_is, zero_swept, ShowsMarked, Segment, IsSegment, IsUnused, HasBlocks, InUse, IsMarked, block_count, segment_words, mark_of}
 use Rattle.std.proofs.Math.ListN.{length-map}
 
--- nothing is in use
+-- no block is in use
 pub unused_from : (s : Segment) → ((b : ℕ) → InUse s b → ⊥) → IsUnused s
 unused_from s none = record {
   next_free = elim (cases_eq s.next_free 0) [ inl e ↦ e | inr ne ↦ absurd (none 0 (inl (omega arith))) ];
@@ -23,7 +23,7 @@ in_state s state h free = record {
   free = λ e. record { next_free = (free e).next_free; unmarked = (free e).unmarked };
 }
 
--- the same, where what is required is said of the segment as a caller sees it
+-- the same, with the premises about the segment as a caller sees it
 pub in_state_from : (s now : Segment) (state : State) → s ≡ now → IsSegment s → (state ≡ Free → (b : ℕ) → InUse now b → ⊥) →
     IsSegment (record s { state = state })
 in_state_from s now state e h none = in_state s state h (λ f. unused_from s (subst (λ (t : Segment). (b : ℕ) → InUse t b → ⊥) (sym e) (none f)))
@@ -53,7 +53,7 @@ pub begun_from : (s now : Segment) (mutator class : ℕ) → s ≡ now → IsSeg
 begun_from s now mutator class e h is fits = begun s mutator class h (ap (λ (t : Segment). t.state) e ∙
     is) (subst (λ (t : Segment). block_size class ≤ segment_words t) (sym e) fits)
 
--- the mark bytes after a function changed each of them in place
+-- the mark bytes after a function has changed each of them in place
 pub remarked : (items slice new : List ℕ) (len : ℕ) (f : ℕ → ℕ) → slice ≡ items → length slice ≡ len → new ≡ map f slice →
     map f items ≡ take len (new ++ drop (length new) items)
 remarked items slice new len f same size is =
@@ -66,13 +66,13 @@ carried_to s blocks epoch marks e h is =
     let P : List ℕ → Type 0 = λ ms. IsSegment (record s { marks = ms }) × HasBlocks (record s { marks = ms }) blocks in
     subst P is (all_carried s epoch e h.0, record { count = rw length-map h.1.count; marked = rw length-map h.1.marked })
 
--- a byte is nonzero after a sweep where it was of the epoch
+-- a byte is nonzero after a sweep if and only if it was the epoch
 kept_byte : (s : Segment) (epoch : ℕ) → IsEpoch epoch → IsSegment s → (b : ℕ) → (slice_index (map (swept epoch) s.marks) b ≢ 0) ↔ (mark_of s b ≡ epoch)
 kept_byte s epoch e h b =
     subst (λ (m : ℕ). (m ≢ 0) ↔
     (mark_of s b ≡ epoch)) (sym (mark-map (swept epoch) s.marks b (zero_swept epoch e))) (swept_bounds epoch (mark_of s b) e (h.bytes b)).2
 
--- which blocks a sweep leaves in use
+-- the blocks that a sweep leaves in use
 swept_use : (s : Segment) (blocks epoch at : ℕ) → IsEpoch epoch → IsSegment s → IsFirstUnmarked (map (swept epoch) s.marks) 0 blocks at → (b : ℕ) →
     InUse (record s { marks = map (swept epoch) s.marks; next_free = at; snap = 0 }) b ↔ (mark_of s b ≡ epoch)
 swept_use s blocks epoch at e h first b = (
@@ -80,7 +80,7 @@ swept_use s blocks epoch at e h first b = (
   (λ marked. inr ((kept_byte s epoch e h b).1 marked)),
 )
 
--- a segment that was swept
+-- a swept segment
 all_swept : (s : Segment) (blocks epoch at : ℕ) → IsEpoch epoch → IsSegment s → HasBlocks s blocks →
     IsFirstUnmarked (map (swept epoch) s.marks) 0 blocks at → IsSegment (record s { marks = map (swept epoch) s.marks; next_free = at; snap = 0 })
 all_swept s blocks epoch at e h n first =
@@ -102,7 +102,7 @@ all_swept s blocks epoch at e h n first =
       };
     }
 
--- the same, of what the code has
+-- the same for the code's vectors
 pub swept_to : (s : Segment) (blocks epoch at : ℕ) (marks slice : List ℕ) → IsEpoch epoch → IsSegment s × HasBlocks s blocks →
     map (swept epoch) s.marks ≡ marks → slice ≡ marks → IsFirstUnmarked slice 0 blocks at →
     IsSegment (record s { marks = marks; next_free = at; snap = 0 }) × HasBlocks (record s { marks = marks; next_free = at; snap = 0 }) blocks
@@ -123,7 +123,7 @@ swept_use_to s now blocks epoch at marks slice seen e h is same first =
 through : {P Q R : Type 0} → (P ↔ Q) → (Q ↔ R) → P ↔ R
 through f g = ((λ p. g.0 (f.0 p)), (λ r. f.1 (g.1 r)))
 
--- what a sweep leaves of the bytes is of its epoch
+-- each nonzero byte after a sweep is the epoch
 pub left_is : (s : Segment) (epoch : ℕ) (marks slice : List ℕ) → IsEpoch epoch → IsSegment s → map (swept epoch) s.marks ≡ marks → slice ≡ marks →
     (b : ℕ) → slice_index slice b ≢ 0 → slice_index slice b ≡ epoch
 left_is s epoch marks slice e h is same =
@@ -137,21 +137,21 @@ pub first_left : (marks slice other : List ℕ) (blocks first : ℕ) → slice �
 first_left marks slice other blocks first is same unmarked some z =
     unmarked.before 0 (omega arith) (omega (arith, some)) (ap (λ (ms : List ℕ). slice_index ms 0) (is ∙ sym same) ∙ z)
 
--- there is a block
+-- a segment has at least one block
 some_block : (s : Segment) → IsSegment s → 0 < block_count s
 some_block s h =
     let pos : 0 < block_size s.class = omega (arith, least_block s.class) in
     (le-div_iff_mul-le pos).1 (omega (arith, h.fits))
 
--- none is in use where none is marked and the first one isn't in use
-pub none_used : (s : Segment) (marked : Bool) (P : Type 0) → TellsMarked s.marks marked → P ↔ ((¬ IsTrue marked) × (s.next_free ≡ 0)) → P ↔
+-- no block is in use if none is marked and `next_free` is 0
+pub none_used : (s : Segment) (marked : Bool) (P : Type 0) → ShowsMarked s.marks marked → P ↔ ((¬ IsTrue marked) × (s.next_free ≡ 0)) → P ↔
     ((b : ℕ) → InUse s b → ⊥)
-none_used s marked P tells answer = through answer (
-  (λ none b used. elim used [ inl below ↦ omega (arith, below, none.1) | inr nz ↦ none.0 (tells.1 (b, nz)) ]),
-  (λ none. ((λ yes. let w = tells.0 yes in none w.0 (inr w.1)), (unused_from s none).next_free)),
+none_used s marked P agrees answer = through answer (
+  (λ none b used. elim used [ inl below ↦ omega (arith, below, none.1) | inr nz ↦ none.0 (agrees.1 (b, nz)) ]),
+  (λ none. ((λ yes. let w = agrees.0 yes in none w.0 (inr w.1)), (unused_from s none).next_free)),
 )
 
--- all are where there is no first one that isn't
+-- all blocks are in use if `next_free` is the number of blocks
 pub all_used : (s : Segment) (blocks : ℕ) (marked : Bool) (P : Type 0) → IsSegment s → HasBlocks s blocks → P ↔
     ((s.next_free ≡ blocks) × (IsTrue marked ⊎ (s.next_free ≢ 0))) → P ↔ ((b : ℕ) → b < block_count s → InUse s b)
 all_used s blocks marked P h n answer = through answer (
@@ -167,14 +167,14 @@ all_used s blocks marked P h n answer = through answer (
       (full, inr (omega (arith, full, some_block s h, n.count)))),
 )
 
--- as many as before
+-- a sweep keeps the number of blocks
 pub swept_blocks : (s now : Segment) (epoch at : ℕ) (marks : List ℕ) → s ≡ now → map (swept epoch) s.marks ≡ marks →
     block_count (record s { marks = marks; next_free = at; snap = 0 }) ≡ block_count now
 swept_blocks s now epoch at marks seen is =
     ap (λ (n : ℕ). 4 * n / block_size s.class) (sym (ap (λ (ms : List ℕ). length ms) is) ∙ length-map s.marks (swept epoch)) ∙
     ap (λ (t : Segment). block_count t) seen
 
--- where the blocks in use are those that were marked, so are none of them and all
+-- if exactly the marked blocks are now in use, none is in use exactly if none was marked, and likewise for all
 pub none_marked : (old new : Segment) (epoch : ℕ) (P : Type 0) → ((b : ℕ) → InUse new b ↔ IsMarked old epoch b) → P ↔ ((b : ℕ) → InUse new b → ⊥) →
     P ↔ ((b : ℕ) → IsMarked old epoch b → ⊥)
 none_marked old new epoch P same answer = (

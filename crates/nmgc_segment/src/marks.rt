@@ -1,25 +1,37 @@
-//! Loops over mark bytes, sixteen at a time, and byte by byte over the rest.
-//! A segment has up to 1,024 mark bytes, and each sweep and each closing goes through all of them.
-//! A loop that changes bytes takes two sixteens in a turn as long as there are so many, or its own steps would cost as much
-//! as the bytes.
+//! Loops over mark bytes, sixteen at a time, and byte by byte over the rest. A segment has up to 1,024 mark bytes, and each
+//! sweep and each closing goes through all of them. A loop that changes bytes takes two sixteens in each step while two are
+//! left, or its overhead would be the cost of the bytes again.
 //!
-//! Easy to get wrong: a search that goes on by how many bytes it just found waits for each sixteen before it loads the
-//! next. So it goes on by sixteen, and looks at the number only where it ends.
+//! Easy to get wrong: a search that advances by the number of bytes it just found waits for each sixteen before it loads the
+//! next. So it advances by sixteen, and uses the number only at the end.
+//!
+//! # Note [Why two epochs are enough]
+//!
+//! A mark byte is 0 or a cycle's epoch. Epochs are 1 and 2 in turn, so a byte left over would look marked two cycles later.
+//! None is left over:
+//! - A `sweep` clears every byte that isn't the cycle's epoch. All waiting segments are swept before the next cycle begins.
+//! - Other segments keep their blocks in use. At the closing, `carry` gives the cycle's epoch to all their bytes except 0. It
+//!   can't clear them. A byte other than 0 also says that the block is in use, and is in the snapshot, if it lies at or above
+//!   `next_free` or `snap`.
+//! - The bytes of a free segment are 0, and so is the byte of each block allocated since the snapshot.
+//!
+//! So between cycles every byte is 0 or the last epoch (`AreSettled` in `nmgc_alloc`), never the next: a cycle begins without
+//! clearing marks. While it marks, a byte of the other epoch is an unmarked block that an earlier cycle kept.
 ghost use Rattle.std.specs.Prelude.{◌≡◌, ◌≢◌, ℕ, ◌↔◌, ◌+◌, ◌<◌, ◌≤◌, ◌==◌, not, map, length, slice_index, IsTrue};
 ghost use Rattle.std.specs.{List.prefix_len, Simd.Lanes.chunk, Simd.Lanes.put_chunk};
-ghost use Rattle.nmgc_segment.specs.{Marks.IsEpoch, Marks.carried, Marks.swept, Marks.IsFirst, Marks.IsFirstUnmarked, Kept.TellsMarked};
+ghost use Rattle.nmgc_segment.specs.{Marks.IsEpoch, Marks.carried, Marks.swept, Marks.IsFirst, Marks.IsFirstUnmarked, Kept.ShowsMarked};
 
 use std::simd::prelude::*;
 
-// How many mark bytes are worked on together.
+// The number of mark bytes in a vector.
 const LANES: usize = 16;
 
-// From two sixteens on, and below so many mark bytes, what the compiler makes of the plain loop is the faster one.
+// From two vectors on and below this number of mark bytes, the compiler's code for the plain loop is faster.
 const SWEPT_BY_LANES: usize = 512;
 
 const CARRIED_BY_LANES: usize = 128;
 
-// How many of the bytes from one on, of as many as there are lanes, come before the first that is this one.
+// Returns how many bytes of the vector at `at` come before the first byte that equals `byte`, or `LANES` if none does.
 #[inline(always)]
 fn run_before(marks: &[u8], at: usize, byte: u8) -> usize
     requires { at + LANES ≤ length marks.now }
@@ -35,7 +47,7 @@ fn run_before(marks: &[u8], at: usize, byte: u8) -> usize
     }
 }
 
-// The first byte from `from` on and below `to` that is this one, or `to` where there is none.
+// Returns the position of the first byte from `from` on and below `to` that equals `byte`, or `to` if none does.
 fn first_of(marks: &[u8], from: usize, to: usize, byte: u8) -> usize
     requires from { from ≤ to }
     requires to { to ≤ length marks.now }
@@ -57,38 +69,37 @@ fn first_of(marks: &[u8], from: usize, to: usize, byte: u8) -> usize
     to
 }
 
-/// The first block from `from` on that isn't marked, or `blocks` where there is none.
+/// Returns the first block from `from` on that isn't marked, or `blocks` if all are marked.
 pub fn first_unmarked(marks: &[u8], from: u32, blocks: u32) -> u32
     requires from { from ≤ blocks }
     requires blocks { blocks ≤ length marks.now }
     ensures { IsFirstUnmarked marks.now from blocks result }
 {
-    // Most segments are filled from their beginning on, and then it is the next one.
+    // Most segments are filled from their beginning on, and then the next block is unmarked.
     if from < blocks && marks[from as usize] == 0 {
         return from;
     }
     first_of(marks, from as usize, blocks as usize, 0) as u32
 }
 
-// Whether a mark byte is of the epoch.
+// Whether any mark byte is the epoch.
 fn has_mark(marks: &[u8], epoch: u8) -> bool
     ensures { IsTrue result ↔ ((b : ℕ) × (b < length marks.now) × (slice_index marks.now b ≡ epoch)) }
 {
     marks.contains(&epoch)
 }
 
-/// Whether any block is marked once all bytes that aren't of the epoch are 0. `first` is the first that is unmarked: only
-/// where this is 0 the bytes are looked at.
+/// Whether any block is still marked after a sweep of the epoch. Reads bytes only if `first`, the first unmarked block, is 0.
 pub fn has_left(marks: &[u8], first: u32, epoch: u8) -> bool
     requires epoch { IsEpoch epoch }
     requires swept { (b : ℕ) → slice_index marks.now b ≢ 0 → slice_index marks.now b ≡ epoch }
     requires before { first ≢ 0 → slice_index marks.now 0 ≢ 0 }
-    ensures { TellsMarked marks.now result }
+    ensures { ShowsMarked marks.now result }
 {
     first != 0 || has_mark(marks, epoch)
 }
 
-// Mark bytes, carried over to the epoch.
+// Sets each byte of the vector at `at` to the epoch, unless the byte is 0.
 #[inline(always)]
 fn carry_lanes(marks: &mut [u8], at: usize, epoch: u8)
     requires { at + LANES ≤ length marks.old }
@@ -101,14 +112,14 @@ fn carry_lanes(marks: &mut [u8], at: usize, epoch: u8)
         .copy_to_slice(&mut marks[at..]);
 }
 
-// A mark byte, carried over to the epoch.
+// Returns a mark byte carried over: 0 stays 0, and any other byte becomes the epoch.
 fn carry_mark(mark: u8, epoch: u8) -> u8
     ensures { result ≡ carried epoch mark }
 {
     if mark == 0 { 0 } else { epoch }
 }
 
-// Carries mark bytes over one by one.
+// Sets each mark byte to the epoch, byte by byte, unless the byte is 0.
 fn carry_rest(marks: &mut [u8], epoch: u8)
     ensures { marks.new ≡ map (carried epoch) marks.old }
 {
@@ -117,7 +128,7 @@ fn carry_rest(marks: &mut [u8], epoch: u8)
     }
 }
 
-// Carries mark bytes over by lanes.
+// Sets each mark byte to the epoch, by vectors, unless the byte is 0.
 fn carry_by_lanes(marks: &mut [u8], epoch: u8)
     ensures { marks.new ≡ map (carried epoch) marks.old }
 {
@@ -134,7 +145,7 @@ fn carry_by_lanes(marks: &mut [u8], epoch: u8)
     carry_rest(&mut marks[at..], epoch);
 }
 
-/// Gives the epoch to each mark byte that isn't 0.
+/// Sets each mark byte to the epoch, unless the byte is 0.
 pub fn carry(marks: &mut [u8], epoch: u8)
     ensures { marks.new ≡ map (carried epoch) marks.old }
 {
@@ -145,7 +156,7 @@ pub fn carry(marks: &mut [u8], epoch: u8)
     }
 }
 
-// Mark bytes, cleared unless they are of the epoch.
+// Clears each byte of the vector at `at`, unless the byte is the epoch.
 #[inline(always)]
 fn sweep_lanes(marks: &mut [u8], at: usize, epoch: u8)
     requires { at + LANES ≤ length marks.old }
@@ -158,14 +169,14 @@ fn sweep_lanes(marks: &mut [u8], at: usize, epoch: u8)
         .copy_to_slice(&mut marks[at..]);
 }
 
-// A mark byte, cleared unless it is of the epoch.
+// Returns a mark byte after a sweep: the byte itself if it is the epoch, and otherwise 0.
 fn sweep_mark(mark: u8, epoch: u8) -> u8
     ensures { result ≡ swept epoch mark }
 {
     if mark == epoch { mark } else { 0 }
 }
 
-// Sweeps mark bytes one by one.
+// Clears each mark byte, byte by byte, unless the byte is the epoch.
 fn sweep_rest(marks: &mut [u8], epoch: u8)
     ensures { marks.new ≡ map (swept epoch) marks.old }
 {
@@ -174,7 +185,7 @@ fn sweep_rest(marks: &mut [u8], epoch: u8)
     }
 }
 
-// Sweeps mark bytes by lanes.
+// Clears each mark byte, by vectors, unless the byte is the epoch.
 fn sweep_by_lanes(marks: &mut [u8], epoch: u8)
     ensures { marks.new ≡ map (swept epoch) marks.old }
 {
@@ -191,7 +202,7 @@ fn sweep_by_lanes(marks: &mut [u8], epoch: u8)
     sweep_rest(&mut marks[at..], epoch);
 }
 
-/// Clears each mark byte but those of the epoch.
+/// Clears each mark byte, unless the byte is the epoch.
 pub fn sweep(marks: &mut [u8], epoch: u8)
     ensures { marks.new ≡ map (swept epoch) marks.old }
 {

@@ -1,11 +1,11 @@
--- How marking ends: by the weak pointers of the snapshot, which may keep what is only reached through
--- them. Each set is the least one with its rules. Everything here follows fields in the world as it is.
+-- The end of marking, by the weak pointers of the snapshot, which may keep names that are only reachable through them. Each
+-- set is the least with its rules. Everything here follows fields in the world as it is.
 use Rattle.std.specs.Prelude.{◌≡◌, ◌⊎◌, ◌↔◌, List, Contains, IsSome, true}
 use Rattle.nmgc_world_spec.specs.{declared.value.Name.Name, declared.node.Parts.Parts, World.node_of, Reach.RefersTo, Reach.IsAlive, Reach.IsPlain, Reach.IsKeptBy, Reach.Lists, Reach.closed}
 use Rattle.nmgc_world_spec.specs.declared.value.Value.TheVariants as value
 use Rattle.nmgc_snapshot_laws.specs.State.{State}
 
--- a weak pointer of the snapshot that was alive there, with its parts there, and wasn't finalised since
+-- a waiting weak pointer: it was alive in the snapshot, with these parts, and hasn't been finalised since
 pub record IsWaiting (s : State) (weak : Name) (parts : Parts) : Type 0 where
   pub alive : IsAlive s.snapshot weak parts
   pub not_finalised : Contains s.finalised weak → ⊥
@@ -15,7 +15,9 @@ pub record IsUnmarked (s : State) (name : Name) : Type 0 where
   pub there : IsSome (node_of s.snapshot name)
   pub unmarked : Contains s.marked name → ⊥
 
--- what the closing marks first: the weak pointer, the value and the finaliser of each waiting weak pointer whose key is plain or marked, and what they reach
+-- the names that the closing marks first. They are the least set that follows strong fields in the world as it is, and has
+-- all that waiting weak pointers with a nil, number or marked key keep. A weak pointer keeps itself, its value and its
+-- finaliser. A key in this set counts as marked. Only unmarked names of the snapshot are in it.
 pub data IsRevived (s : State) : Name → Type 0 where
   plain_key : (weak target : Name) (parts : Parts) → IsWaiting s weak parts → IsPlain parts.key → IsKeptBy weak parts target → IsUnmarked s target →
       IsRevived s target
@@ -25,11 +27,11 @@ pub data IsRevived (s : State) : Name → Type 0 where
       IsKeptBy weak parts target → IsUnmarked s target → IsRevived s target
   field : (name target : Name) → IsRevived s name → RefersTo s.world name target → IsUnmarked s target → IsRevived s target
 
--- marked once every weak pointer with a marked key has kept its parts
+-- the names that are marked once every waiting weak pointer with a nil, number or marked key has kept its parts
 abbrev pub IsMarkedFirst : State → Name → Type 0
 IsMarkedFirst s name = Contains s.marked name ⊎ IsRevived s name
 
--- a weak pointer that dies: its key refers to a name that is not marked by then
+-- a dying weak pointer: it waits, and its key refers to a name that is neither marked already nor among those marked first
 pub record IsDying (s : State) (weak : Name) : Type 0 where
   pub parts : Parts
   pub waiting : IsWaiting s weak parts
@@ -37,16 +39,16 @@ pub record IsDying (s : State) (weak : Name) : Type 0 where
   pub key_is : parts.key ≡ value.Ref key
   pub lost : IsMarkedFirst s key → ⊥
 
--- what the closing marks last: the finalisers of what dies, and what they reach
+-- the names that the closing marks last: the unmarked names of the snapshot reachable from finalisers of dying weak pointers
 pub data IsRescued (s : State) : Name → Type 0 where
   finaliser : (weak target : Name) (dying : IsDying s weak) → dying.parts.finaliser ≡ value.Ref target → IsUnmarked s target → IsRescued s target
   field : (name target : Name) → IsRescued s name → RefersTo s.world name target → IsUnmarked s target → IsRescued s target
 
--- marked in the end
+-- the names that are marked in the end: those marked first, and all that finalisers of dying weak pointers reach
 abbrev pub IsMarkedLast : State → Name → Type 0
 IsMarkedLast s name = IsMarkedFirst s name ⊎ IsRescued s name
 
--- the closing: the marks are completed, and the world is closed with the weak pointers that die
+-- a closing: it completes the marks, only with names of the snapshot, and closes the world with the weak pointers that die
 pub record IsClosing (s next : State) : Type 0 where
   pub dead : List Name
   pub lists : Lists (IsDying s) dead

@@ -1,53 +1,51 @@
 -- The facts that every event before the closing keeps together.
 --
--- The whole argument: what the mutators can come to hold was live at the snapshot or is new, so what they
--- owe and what is marked is live. And each strong field of the snapshot is looked after (`Kept`): its
--- target is marked, owed or pushed, or the field still stands and the object's scan is still to reach it.
--- A field goes away only by a change, and a change owes it; a scan passes a field only by reading it.
+-- The whole argument: all that a mutator can ever hold was live at the snapshot or is new, so owed and marked names are live.
+-- And each strong field of the snapshot is looked after (`Kept`). Its target is marked, owed or pushed, or the field is
+-- unchanged and the object's scan has yet to reach it. Only a change removes a target, and the change owes it. A scan passes
+-- a field only by reading it.
 --
--- What is opened makes more names live. So no fact may ask whether a name isn't live yet: `fields` says of
--- every field that it was there in the snapshot or holds what may be held, and stays true as names are opened.
+-- Opened names make more names live. So no fact may ask whether a name isn't live yet. `fields` says that the target of every
+-- field was its target in the snapshot or may be held, which stays true as names are opened.
 use Rattle.std.specs.Prelude.{◌≡◌, ◌≤◌, ◌+◌, ◌⊎◌, ℕ, length, Some, false, IsSome, All, Contains}
 use Rattle.nmgc_world_spec.specs.{declared.value.Name.Name, declared.node.Parts.Parts, declared.node.Node.Node, World.World, World.node_of, World.serial_of, World.IsWorld, Reach.IsLive, Reach.IsRoot, Reach.IsAlive, Reach.IsKeptBy, Reach.RefersTo}
 use Rattle.nmgc_world_spec.specs.declared.value.Value.TheVariants as value
 use Rattle.nmgc_snapshot_laws.specs.{declared.event.Entry.Entry, State.State, State.names_of}
 use Rattle.nmgc_world_laws.specs.Holds.{CoversReach, OfParts, HasStrongField, StillThere, has_result}
 
--- live in the snapshot
+-- a name that is live in the snapshot
 abbrev pub IsLiveIn : State → Name → Type 0
 IsLiveIn s name = IsLive s.snapshot s.opened name
 
--- a name that a mutator may come to hold: it was made since the snapshot, or it is live there
+-- a name that a mutator may hold: it is new since the snapshot, or live in the snapshot
 abbrev pub MayHold : State → Name → Type 0
 MayHold s name = IsSome (node_of s.snapshot name) → IsLiveIn s name
 
--- a weak pointer that is alive: one of the snapshot has the parts that it had there, and those of a new one are of the names
+-- the parts of a weak pointer that is alive: unchanged if it is in the snapshot, and with only names of `P` if it is new
 pub record AsThen (snapshot : World) (P : Name → Type 0) (weak : Name) (parts : Parts) : Type 0 where
   pub old : IsSome (node_of snapshot weak) → IsAlive snapshot weak parts
   pub new : (IsSome (node_of snapshot weak) → ⊥) → OfParts P parts
 
--- a name that marking won't lose
+-- a name that marking can't lose: it is marked, owed or pushed
 pub data IsSafe (s : State) (name : Name) : Type 0 where
   marked : Contains s.marked name → IsSafe s name
   owed : (m : ℕ) → Contains (names_of s.owed m) name → IsSafe s name
   pushed : (m : ℕ) → Contains (names_of s.pushed m) name → IsSafe s name
 
--- the scan of a name is still to reach its field at a place
+-- a field that the scan of its object hasn't reached: the object isn't marked, or its queue entry isn't past the field
 pub data IsAhead (s : State) (name : Name) (i : ℕ) : Type 0 where
   unmarked : (Contains s.marked name → ⊥) → IsAhead s name i
   queued : (entry : Entry) → Contains s.queue entry → entry.name ≡ name → entry.position ≤ i + 1 → IsAhead s name i
 
--- the strong field is looked after
+-- a strong field that is looked after: its target is safe, or the field is unchanged and the scan hasn't reached it yet
 abbrev pub Kept : State → Name → ℕ → Name → Type 0
 Kept s name i target = IsSafe s target ⊎ (HasStrongField s.world name i (value.Ref target) × IsAhead s name i)
 
--- an entry whose scan went past a thunk's result found none, so there was none at the snapshot
+-- an entry may be past a thunk's result only if the thunk has no result in the snapshot
 abbrev pub IsPassed : State → Entry → Type 0
 IsPassed s entry = (entry.position ≤ 1) ⊎ ((node : Node) → node_of s.snapshot entry.name ≡ Some node → has_result node ≡ false)
 
--- what holds from the first mark on: what is held, owed and pushed was live or is new (`holds`, `owed`, `pushed`),
--- and so are the parts of a new weak pointer (`weaks`); a name that isn't live keeps its node (`others`); a weak
--- pointer that wasn't finalised keeps its parts (`alive`); and what is marked is live
+-- the part of the facts that holds from the first mark on, before all roots are marked; `Facts` lists it
 pub record Base (s : State) : Type 0 where
   pub snapshot : IsWorld s.snapshot
   pub mutators : length s.world.mutators ≡ length s.snapshot.mutators
@@ -66,8 +64,12 @@ pub record Base (s : State) : Type 0 where
   pub queued : (entry : Entry) → Contains s.queue entry → Contains s.marked entry.name
   pub passed : (entry : Entry) → Contains s.queue entry → IsPassed s entry
 
--- what holds from the opening on: the roots are marked, each strong field of the snapshot is looked after, and what
--- was opened, every finalised weak pointer (`ended`) and what these kept (`finalised`) is safe
+-- the facts, from the opening to the closing. Registers, queues, owed and pushed lists, strong fields of live or new objects,
+-- and parts of new weak pointers contain only live or new names (`holds`, `owed`, `pushed`, `fields`, `weaks`). A name that
+-- isn't live keeps its node (`others`). A weak pointer that is alive and wasn't finalised keeps its parts (`alive`). Each
+-- strong field of the snapshot is looked after (`kept`). Marked names are live, queued names are marked, and roots are marked
+-- (`live`, `queued`, `roots`). Opened names, and each finalised weak pointer with all that it kept, are marked, owed or
+-- pushed (`opened`, `ended`, `finalised`).
 pub record Facts (s : State) : Type 0 where
   pub base : Base s
   pub roots : (name : Name) → IsRoot s.snapshot name → Contains s.marked name

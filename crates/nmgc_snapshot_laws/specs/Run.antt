@@ -1,4 +1,4 @@
--- A run of the machine, and the snapshot theorem: what a run has marked.
+-- Runs of the machine, and the snapshot theorem about their marks.
 use Rattle.std.specs.Prelude.{◌≡◌, ◌↔◌, List, [], ◌∷◌, ◌++◌, Contains, Bool, true, false, if◌then◌else◌}
 use Rattle.nmgc_world_spec.specs.{declared.value.Name.Name, World.World, World.IsWorld, History.Row, History.replayed, History.IsLegal, History.opened, History.finalised, Reach.IsLive, Reach.IsDead, Reach.IsKept, Reach.Lists, Reach.closed}
 use Rattle.nmgc_snapshot_laws.specs.{declared.event.Event.Event, State.State, State.opening, Machine.IsPossible, Machine.Passes, Facts.Facts, Closing.IsMarkedFirst, Closing.IsClosing}
@@ -16,12 +16,12 @@ row_of event.Close = []
 abbrev pub rows_if : Bool → Event → List Row
 rows_if done e = if done then row_of e else []
 
--- from one state to another by events, each in turn, and the commands that happened
+-- a run from one state to another by events in order, with the rows of the commands that happened
 abbrev pub Runs : State → List Event → List Row → State → Type 0
 Runs s [] rows last = (rows ≡ []) × (last ≡ s)
 Runs s (e ∷ es) rows last = (done : Bool) × (next : State) × (rest : List Row) × Passes s e done next × (rows ≡ rows_if done e ++ rest) × Runs next es rest last
 
--- before the closing, after these rows: the world is their replay, and what is marked is live in the snapshot
+-- the state before the closing: the world is the replay of these rows, and all marked names are live in the snapshot
 pub record IsMarking (w : World) (rows : List Row) (s : State) : Type 0 where
   pub legal : IsLegal w rows
   pub snapshot : s.snapshot ≡ w
@@ -30,8 +30,8 @@ pub record IsMarking (w : World) (rows : List Row) (s : State) : Type 0 where
   pub finalised : s.finalised ≡ finalised w rows
   pub live : (name : Name) → Contains s.marked name → IsLive w s.opened name
 
--- at the closing, from the state to which the events before it ran, where it could happen: what is marked is what is
--- live, what dies is what is dead, and what is marked in the end is what is kept
+-- the state after an exact closing, which could happen in the state that the events before it reached. Exactly the live names
+-- are marked first, exactly the dead weak pointers die, and exactly the kept names are marked in the end.
 pub record IsExact (w : World) (events : List Event) (rows : List Row) (s : State) : Type 0 where
   pub earlier : List Event
   pub later : List Event
@@ -46,39 +46,42 @@ pub record IsExact (w : World) (events : List Event) (rows : List Row) (s : Stat
   pub kept : (name : Name) → Contains s.marked name ↔ IsKept w before.opened before.finalised name
   pub world : s.world ≡ closed (replayed w rows) closing.dead
 
--- the snapshot theorem, for the state after these events and rows
+-- the snapshot theorem, for the state after these events and rows. Before the closing all marked names are live in the
+-- snapshot. At the closing, in the state that the events before it reached, exactly the live names are marked once the weak
+-- pointers with marked keys have kept their parts. Then exactly the kept names are marked, and exactly the dead weak pointers
+-- die.
 pub record IsSnapshotMarking (w : World) (events : List Event) (rows : List Row) (s : State) : Type 0 where
   pub before : s.is_closed ≡ false → IsMarking w rows s
   pub after : s.is_closed ≡ true → IsExact w events rows s
 
--- the snapshot theorem, for every run from a world (`IsWorld`), whoever did its events
+-- the snapshot theorem, for every run from a world (`IsWorld`), with events from any source
 abbrev pub SnapshotTheorem : Type 0
 SnapshotTheorem = (w : World) → IsWorld w → (events : List Event) (rows : List Row) (s : State) → Runs (opening w) events rows s →
     IsSnapshotMarking w events rows s
 
--- and until the closing, each state of such a run has the facts
+-- the claim that each state of a run from a world has the facts until the closing
 abbrev pub FactsAreKept : Type 0
 FactsAreKept = (w : World) → IsWorld w → (events : List Event) (rows : List Row) (s : State) → Runs (opening w) events rows s → s.is_closed ≡ false → Facts s
 
--- the facts hold at the opening of every world (`IsWorld`)
+-- the claim that the facts hold at the opening of every world (`IsWorld`)
 abbrev pub OpeningHasFacts : Type 0
 OpeningHasFacts = (w : World) → IsWorld w → Facts (opening w)
 
--- every event that happens and doesn't close keeps them, and leaves a world (`IsWorld`)
+-- the claim that every event that happens and doesn't close keeps the facts, and leaves a world (`IsWorld`)
 abbrev pub EventKeepsFacts : Type 0
 EventKeepsFacts = (s next : State) (e : Event) → Facts s → IsWorld s.world → Passes s e true next → next.is_closed ≡ false → Facts next × IsWorld next.world
 
--- and where they hold, a closing is exact: what is marked first is what is live, what dies is what is dead, and what is marked in the end is what is kept
+-- an exact closing: exactly the live names are marked first, the dead weak pointers die, and the kept names end up marked
 pub record IsExactClosing (s next : State) (closing : IsClosing s next) : Type 0 where
   pub live : (name : Name) → IsMarkedFirst s name ↔ IsLive s.snapshot s.opened name
   pub dead : Lists (IsDead s.snapshot s.opened s.finalised) closing.dead
   pub kept : (name : Name) → Contains next.marked name ↔ IsKept s.snapshot s.opened s.finalised name
 
--- so it is with every closing from a state that has the facts
+-- the claim that every closing from a state with the facts is exact
 abbrev pub ClosingIsExact : Type 0
 ClosingIsExact = (s next : State) → Facts s → IsPossible s event.Close → (closing : IsClosing s next) → IsExactClosing s next closing
 
--- a run from a world: its end is what the machine does, each event in turn, and the snapshot theorem holds there
+-- a run from a world: the machine reaches this state by the events in order, and the snapshot theorem holds there
 pub record IsRun (w : World) (events : List Event) (s : State) : Type 0 where
   pub rows : List Row
   pub runs : Runs (opening w) events rows s

@@ -1,12 +1,13 @@
--- What contracts see of the core machine, and how a name is marked.
+-- The state of the marking machine as contracts see it, and the marking of a name.
 use Rattle.std.specs.Prelude.{ℕ, List, [], ◌∷◌, ◌++◌, length, replicate, slice_index_or, Option, Some, None, is_some, Bool, false, not, ◌&&◌, ◌||◌, if◌then◌else◌}
 use Rattle.std.specs.List.{flat_map}
 use Rattle.nmgc_world_spec.specs.{declared.value.Name.Name, declared.value.Value.Value, declared.mutator_state.MutatorState.MutatorState, World.World, World.node_of, Change.is_same_name, Step.shared_name, Reach.strong_fields}
 use Rattle.nmgc_world_spec.specs.declared.value.Value.TheVariants as value
 use Rattle.nmgc_snapshot_laws.specs.declared.event.Entry.{Entry}
 
--- the world as it is, the snapshot, what is marked in the order of marking, what waits to be scanned, for each mutator what it owes and what it
--- pushed, what was opened and what was finalised since the snapshot, and whether marking has ended
+-- a state: the world as it is, the snapshot, the marked names in the order of marking, and the queue of names with the
+-- position that is read next. Then, for each mutator, the names that it owes and the names that it pushed. Then the names
+-- opened and finalised since the snapshot, and whether marking has ended.
 pub record State : Type 0 where
   pub world : World
   pub snapshot : World
@@ -27,44 +28,44 @@ abbrev pub is_listed : Name → List Name → Bool
 is_listed name [] = false
 is_listed name (x ∷ xs) = is_same_name x name || is_listed name xs
 
--- a name of the snapshot that isn't marked
+-- whether the name is an unmarked name of the snapshot
 abbrev pub is_new : State → Name → Bool
 is_new s name = is_some (node_of s.snapshot name) && not (is_listed name s.marked)
 
--- the entry of a name of which nothing was read
+-- the entry of a name before any position is read
 abbrev pub entry_of : Name → Entry
 entry_of name = record { name = name; position = 0 }
 
--- the name is marked and queued at the back
+-- the state after the name was marked and queued at the back
 abbrev pub with_mark : State → Name → State
 with_mark s name = record s { marked = s.marked ++ name ∷ []; queue = s.queue ++ entry_of name ∷ [] }
 
--- a name of the snapshot that isn't marked is marked and queued; any other changes nothing
+-- the state after a name was given to mark: an unmarked name of the snapshot is marked and queued, any other changes nothing
 abbrev pub mark_name : State → Name → State
 mark_name s name = if is_new s name then with_mark s name else s
 
--- the same for what a value refers to
+-- the state after marking the name that a value refers to, if any
 abbrev pub mark_value : State → Value → State
 mark_value s value.Nil = s
 mark_value s (value.Number n) = s
 mark_value s (value.Ref name) = mark_name s name
 
--- the same for what was read, if something was
+-- the state after marking the name that was read, if any
 abbrev pub mark_read : State → Option Value → State
 mark_read s None = s
 mark_read s (Some v) = mark_value s v
 
--- the same for each of the values in order
+-- the state after marking the names that values refer to, in order
 abbrev pub mark_values : State → List Value → State
 mark_values s [] = s
 mark_values s (v ∷ vs) = mark_values (mark_value s v) vs
 
--- what the roots hold: the registers, then the finaliser queues, then the slots of g
+-- the values in the roots: in the registers, then in the finaliser queues, then in the slots of g
 abbrev pub root_values : World → List Value
 root_values w = flat_map (λ (state : MutatorState). state.registers) w.mutators ++
     (flat_map (λ (state : MutatorState). state.queue) w.mutators ++ strong_fields w.shared)
 
--- a world of which g alone is marked
+-- the state of a world in which only g is marked
 abbrev pub unmarked : World → State
 unmarked w = record {
   world = w;
@@ -78,6 +79,7 @@ unmarked w = record {
   is_closed = false;
 }
 
--- marking begins: the world is the snapshot, and its roots are marked and, but for g, queued
+-- the state when marking begins: the world is its own snapshot. g and the targets of registers, finaliser queues and slots of
+-- g are marked. All of these except g are queued, each at its first mention.
 abbrev pub opening : World → State
 opening w = mark_values (unmarked w) (root_values w)

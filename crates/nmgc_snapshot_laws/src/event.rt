@@ -1,11 +1,11 @@
 //! Events, and entries of the mark queue.
 use nmgc_world_spec::{Command, Name, Reply};
 
-/// One thing that happens while marking runs. The order of events is any order: the mutators give
-/// commands, hand over what they owe, and the collector scans and takes, one event at a time.
+/// A single step while marking runs. Events come in any order: the mutators give commands and hand over the names that they
+/// owe, and the collector scans and takes.
 pub enum Event {
-    /// A mutator gave a command, and this was the answer. What the command took out of the reach of
-    /// the snapshot is owed from then on.
+    /// A mutator gave a command, and this was the answer. The names that the command took out of the reach of the snapshot
+    /// are owed from then on.
     Command {
         mutator: u8,
         command: Command,
@@ -25,7 +25,7 @@ pub enum Event {
     Close,
 }
 
-// By hand, so that whoever lets go of one calls this: a derived one is written out, and proved, at each place.
+// Written by hand, so that each drop of an event calls this. A derived drop is written out, and proved, at each drop.
 impl Drop for Event {
     fn drop(self) {
         match self {

@@ -1,34 +1,33 @@
-//! What holds of every run of the machine, whoever does its events.
+//! Laws of every run of the machine, with events from any source.
 //!
-//! Each function here does nothing; its contract is a law over the definitions of `specs/`. So threads that
-//! do such events, and keep no machine, have the law too: whoever shows that a run of its own is a list of
-//! events may cite the theorem, and whoever goes event by event may cite the facts. The lemmas stand in
-//! `specs/laws/`, for lemmas of the crates above.
+//! Each function here does nothing. Its contract is a law over the definitions of `specs/`. So the laws also cover threads
+//! that do such events and keep no machine. A proof that a run is a list of events may cite the theorem, and a proof that
+//! goes event by event may cite the facts. The lemmas are in `specs/laws/`, for lemmas of the crates above.
 ghost use Rattle.nmgc_snapshot_laws.specs.Run.{SnapshotTheorem, FactsAreKept, OpeningHasFacts, EventKeepsFacts, ClosingIsExact};
 
-/// The snapshot theorem: until the end what is marked is live; at the end what is marked first is what is
-/// live, what dies is what is dead, and what is marked last is what is kept.
+/// Proves the snapshot theorem for every run of the marking machine. Until the end, only live names are marked. At the end
+/// exactly the live names are marked first, exactly the dead weak pointers die, and exactly the kept names are marked last.
 pub fn marking_from_a_snapshot_is_exact()
     ensures { SnapshotTheorem }
 {}
 
-/// The facts that every event before the closing keeps hold in each state of a run that isn't closed.
+/// Proves that in every run from a world, each state before the closing has the marking machine's invariant (`Facts`).
 pub fn events_keep_the_facts()
     ensures { FactsAreKept }
 {}
 
-/// The facts hold as marking begins.
+/// Proves that the marking machine's invariant (`Facts`) holds when marking begins.
 pub fn an_opening_has_the_facts()
     ensures { OpeningHasFacts }
 {}
 
-/// Each event but the closing keeps the facts, from whatever state.
+/// Proves that each event except the closing keeps the marking machine's invariant (`Facts`), from any state that has it.
 pub fn an_event_keeps_the_facts()
     ensures { EventKeepsFacts }
 {}
 
-/// Where the facts hold and nothing is queued, owed or pushed, a closing marks what is live, then what is
-/// kept, and what dies in it is what is dead.
+/// Proves that a closing is exact if the facts hold and nothing is queued, owed or pushed. It marks exactly the live names,
+/// then exactly the kept names, and exactly the dead weak pointers die.
 pub fn a_closing_is_exact()
     ensures { ClosingIsExact }
 {}

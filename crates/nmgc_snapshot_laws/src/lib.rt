@@ -1,15 +1,15 @@
-//! Marking from a snapshot, as a machine over events: its definition, and the theorem.
+//! The marking machine: marking from a snapshot, event by event, with the theorem that its marks are exact.
 //!
-//! A cycle of the collector marks what could be reached when it began, while mutators go on writing. The core machine is
-//! that marking with nothing else: a world, a copy of it from the beginning, the marks, a queue, and what the mutators owe.
-//! An event is a command of a mutator, a push of a name that it owes, one position read by the collector, a pushed name
-//! taken by the collector, or the end. They come in any order, and one that can't happen changes nothing. Threads that do
-//! such events and no others do them in some order, so what holds here of every list of events holds of every run of theirs.
+//! A cycle of the collector marks all that was reachable when it began, while mutators go on writing. The marking machine is
+//! this marking alone: a world, a copy of it from the beginning, the marks, a queue, and the names that the mutators owe. An
+//! event is a command of a mutator, a push of an owed name, a position read by the collector, a pushed name taken by the
+//! collector, or the end. Events come in any order, and an event that can't happen changes nothing. Threads that do only such
+//! events do them in some order, so a law of every list of events is a law of every run of the threads.
 //!
-//! The snapshot theorem (`laws`): until the end, all that is marked is live in the snapshot; at the end, exactly what is
-//! live there is marked, and then exactly what is kept. The world is at each moment the replay of the commands that
-//! happened, so marking disturbs no mutator. `Facts` is the induction. The machine that runs is `nmgc_core`'s, and
-//! the head of its `core_machine` tells the argument at length.
+//! The snapshot theorem (`laws`): until the end, only names that are live in the snapshot are marked. At the end, exactly the
+//! live names are marked, and then exactly the kept names. The world is always the replay of the commands that happened, so
+//! marking disturbs no mutator. `Facts` is the induction. The machine as code is in `nmgc_core`, and the head of its
+//! `core_machine` explains the argument at length.
 #![tactic(auto)]
 
 pub mod event;

@@ -1,8 +1,8 @@
--- A sweeper as its cycle begins, as it is closed, and as it ends.
-use Rattle.nmgc_sweep.proofs.Vocabulary.{ℕ, ◌≡◌, ◌≢◌, ◌⊎◌, ◌↔◌, ◌+◌, ◌*◌, ◌<◌, ◌≤◌, ◌∙◌, inl, inr, refl, sym, ap, subst, arith, List, [], ◌∷◌, length, set, cond, sum_by, Option, Some, None, Contains, count_by, get_or-eq_default, cases_lt, sum_by-set, Name, contains_head, contains_tail, contains_cases, Layout, MIN_BLOCK_WORDS, Segment, free_segment, State, Free, Current, Active, Filled, Sweeping, nth, is, Segments, IsWaiting, prepared_state, AllocState, Cells, IsIn, NoneIs, Exists, cells, cycle_begun, StandsFor, begun_cells, sweeping_none, counts_stand, nth-set_same, nth-set_other, used_exists, IsSweptIn, IsHadIn, IsFreedIn, Cycle, ListsNumbers, IsWithoutDoubles, StartIsNoted, LeftStays, ClosingBeginsWork, EndTellsCensus, LeftIsCounted, lists_in_order}
+-- A sweeper when its cycle begins, is closed and ends.
+use Rattle.nmgc_sweep.proofs.Vocabulary.{ℕ, ◌≡◌, ◌≢◌, ◌⊎◌, ◌↔◌, ◌+◌, ◌*◌, ◌<◌, ◌≤◌, ◌∙◌, inl, inr, refl, sym, ap, subst, arith, List, [], ◌∷◌, length, set, cond, sum_by, Option, Some, None, Contains, count_by, get_or-eq_default, cases_lt, sum_by-set, Name, contains_head, contains_tail, contains_cases, Layout, MIN_BLOCK_WORDS, Segment, free_segment, State, Free, Current, Active, Filled, Sweeping, nth, is, Segments, IsWaiting, prepared_state, AllocState, Cells, IsIn, NoneIs, Exists, cells, cycle_begun, StandsFor, begun_cells, sweeping_none, counts_stand, nth-set_same, nth-set_other, used_exists, IsSweptIn, IsHadIn, IsFreedIn, Cycle, ListsNumbers, IsWithoutDoubles, StartIsNoted, LeftStays, ClosingBeginsWork, EndShowsCensus, LeftIsCounted, lists_in_order}
 use Rattle.nmgc_sweep.proofs.Lists.{ascends_first, ascends_rest, once_distinct}
 
--- a segment that waits has its number
+-- a waiting segment has its number
 pub waits_exists : (xs : List Segment) (n : ℕ) → (nth xs n).state ≡ Sweeping → n < length xs
 waits_exists xs n is = elim (cases_lt n (length xs)) [
   | inl low ↦ low
@@ -30,7 +30,7 @@ prepared_sweeps Active e = absurd (cc)
 prepared_sweeps Filled e = inl refl
 prepared_sweeps Sweeping e = inr refl
 
--- the segments that wait as a cycle begins are those that were filled
+-- the segments that wait when a cycle begins are the segments that were filled
 swept_waits : (c : Cycle) → NoneIs (IsIn Sweeping) c.heap → (n : ℕ) → IsSweptIn c n ↔ IsIn Sweeping (cells (cycle_begun c.heap) n)
 swept_waits c none n =
     let same : (cells (cycle_begun c.heap) n).state ≡ prepared_state (cells c.heap n).state = ap (λ (k : Cells). k.state) (begun_cells c.heap n) in (
@@ -110,8 +110,8 @@ closing_begins_work c closed words a segments cycle sweeper stands notes left sw
       begun = h.begun;
     }
 
-pub end_tells_census : EndTellsCensus
-end_tells_census c closed words a segments cycle sweeper work none =
+pub end_shows_census : EndShowsCensus
+end_shows_census c closed words a segments cycle sweeper work none =
     let waits_none : (n : ℕ) → IsIn Sweeping (cells a n) → ⊥ = λ n is. none n (used_exists a n (λ free. let f : Sweeping ≡ Free = sym is ∙ free in cc)) is in
     record {
       swept = work.notes.noted.swept;
@@ -129,11 +129,11 @@ end_tells_census c closed words a segments cycle sweeper work none =
 abbrev waits_one : Segment → ℕ
 waits_one s = cond (is s.state Sweeping) 1 0
 
--- as many wait as are listed
-pub counted : (s : Segments) (left : List ℕ) (xs : List Segment) → ListsNumbers (λ n. (nth xs n).state ≡ Sweeping) left →
+-- the number of waiting segments is the number listed
+pub add_passes : (s : Segments) (left : List ℕ) (xs : List Segment) → ListsNumbers (λ n. (nth xs n).state ≡ Sweeping) left →
     count_by (λ (t : Segment). is t.state Sweeping) xs ≡ length left
-counted s [] xs h = sweeping_none (record s { segments = xs }) (λ i low is. let c = h.complete i is in omega (arith, c.1))
-counted s (n ∷ rest) xs h =
+add_passes s [] xs h = sweeping_none (record s { segments = xs }) (λ i low is. let c = h.complete i is in omega (arith, c.1))
+add_passes s (n ∷ rest) xs h =
     let waits : (nth xs n).state ≡ Sweeping = h.sound n (contains_head n rest) in
     let there : n < length xs = waits_exists xs n waits in
     let ys = set xs n (free_segment 0) in
@@ -152,7 +152,7 @@ counted s (n ∷ rest) xs h =
             | inr r ↦ r
           ];
     } in
-    let all : count_by (λ (t : Segment). is t.state Sweeping) ys ≡ length rest = counted s rest ys lists in
+    let all : count_by (λ (t : Segment). is t.state Sweeping) ys ≡ length rest = add_passes s rest ys lists in
     let change : sum_by waits_one ys + waits_one (nth xs n) ≡ sum_by waits_one xs + 0 = sum_by-set waits_one xs n (free_segment 0) (free_segment 0) there in
     let one : waits_one (nth xs n) ≡ 1 = ap (λ (state : State). cond (is state Sweeping) 1 0) waits in
     let same : sum_by waits_one ys ≡ length rest = all in
@@ -161,4 +161,4 @@ counted s (n ∷ rest) xs h =
 
 pub left_is_counted : LeftIsCounted
 left_is_counted words a segments sweeper stands h = sym (counts_stand segments words a Sweeping stands) ∙
-    counted segments sweeper.left segments.segments h.numbers
+    add_passes segments sweeper.left segments.segments h.numbers

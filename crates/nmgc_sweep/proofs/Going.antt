@@ -1,4 +1,4 @@
--- A sweeper at work while blocks are placed elsewhere.
+-- A sweeper at work while objects are placed in other segments.
 use Rattle.nmgc_sweep.proofs.Vocabulary.{ℕ, ◌≡◌, ◌≢◌, ◌↔◌, ◌∙◌, inl, inr, sym, ap, subst, arith, List, length, length-set, cases_eq, get_or-set_other, Segment, mark_of, Sweeping, nth, Segments, HasNumber, IsChosen, IsWaiting, AllocState, Cells, IsIn, IsTarget, LiesIn, cells, no_cells, StandsFor, nth-set_other, IsKeptIn, Cycle, IsSettledByte, CycleSeen, Sweeper, IsAtWork, KeepsWaiting, WorkGoesOn, PlacingKeepsWaiting}
 use Rattle.nmgc_sweep.proofs.Begins.{left_stays, waits_there}
 

@@ -1,4 +1,4 @@
--- What was listed of segments, whatever the marks are: the names of their blocks in use, and as freed those that aren't marked.
+-- The names listed of segments, for any marks: the names of their blocks in use, and as freed the unmarked blocks' names.
 use Rattle.nmgc_sweep.proofs.Vocabulary.{ℕ, zero, suc, ◌≡◌, ◌<◌, ◌∙◌, inl, inr, sym, ap, subst, arith, List, [], ◌∷◌, ◌++◌, length, Some, append-nil, append_assoc, Contains, Contains-append_left, Contains-append_right, Contains-append_cases, Name, contains_head, contains_tail, contains_cases, Segment, InUse, block_count, SweepsMany, nth, Segments, Ascends, AreDistinct, ListsBlocks, IsLost, named_at, Sweeper, AreLeft, HaveListed, IsNameIn, AreNamedOnce, GrowsBy, HasJudged}
 use Rattle.nmgc_sweep.proofs.Lists.{ascends_first, ascends_rest, distinct_append}
 
@@ -12,7 +12,7 @@ module _ (Passes : Segment → ℕ → Type 0) (uses : (segment : Segment) (bloc
   Here number block name = (block < block_count (at number)) × Passes (at number) block ×
       (named_at segments.layout names number (at number).class block ≡ Some name)
 
-  -- a list grew by the names in these segments, each once where no two blocks have one name
+  -- a list grew by the names in these segments, each once if no two blocks have the same name
   abbrev Lists : List ℕ → List Name → List Name → Type 0
   Lists numbers xs ys = (g : GrowsBy (IsNameIn Passes segments names numbers) xs ys) × (AreNamedOnce segments names numbers → AreDistinct g.added)
 
@@ -59,7 +59,7 @@ module _ (Passes : Segment → ℕ → Type 0) (uses : (segment : Segment) (bloc
         new (subst (λ (k : ℕ). Contains numbers k) (sym same.0) b.1)),
   )
 
--- so of all that were listed
+-- the same for all listed segments
 pub record Judges (segments : Segments) (names : List Name) (before after : Sweeper) (count : ℕ) : Type 0 where
   pub numbers : List ℕ
   pub many : length numbers ≡ count

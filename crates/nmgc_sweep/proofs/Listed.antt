@@ -11,7 +11,7 @@ none_listed P name xs = record {
   once = λ h. tt;
 }
 
--- one block more that doesn't pass
+-- one more block, which doesn't pass
 pub one_passed_over : (P : ℕ → Type 0) (name : ℕ → Option Name) (block : ℕ) (xs ys : List Name) → (P block → ⊥) → ListsBlocks P name block xs ys →
     ListsBlocks P name (block + 1) xs ys
 one_passed_over P name block xs ys fails h = record {
@@ -25,7 +25,7 @@ one_passed_over P name block xs ys fails h = record {
   once = h.once;
 }
 
--- one block more that does
+-- one more block, which passes
 pub one_listed : (P : ℕ → Type 0) (name : ℕ → Option Name) (block : ℕ) (n : Name) (xs ys zs : List Name) → P block → name block ≡ Some n →
     zs ≡ ys ++ n ∷ [] → ListsBlocks P name block xs ys → ListsBlocks P name (block + 1) xs zs
 one_listed P name block n xs ys zs passes is more h = record {
@@ -56,10 +56,10 @@ one_listed P name block n xs ys zs passes is more h = record {
     append_two [] bs cs = refl
     append_two (a ∷ xs) bs cs = ap (λ (l : List Name). a ∷ l) (append_two xs bs cs)
 
--- the place of a block that waits, from that of its segment and the words of a block
-pub placed_at : (layout told : Layout) (number class given block base size : ℕ) → told ≡ layout → given ≡ class → base ≡ segment_place told number →
+-- the address of a waiting block, from its segment's address and the words of a block
+pub placed_at : (layout known : Layout) (number class given block base size : ℕ) → known ≡ layout → given ≡ class → base ≡ segment_place known number →
     size ≡ block_size given → base + block * size ≡ block_place layout number class block
-placed_at layout told number class given block base size e f b s =
+placed_at layout known number class given block base size e f b s =
     cc (b, s, e, f)
 
 -- it lies below the nurseries
@@ -97,14 +97,14 @@ place_named s names number block sound there waits within enough =
     let low = place_low s number block sound there waits within in
     entry_there at (length names) (place_above s number block at sound begins) (omega (arith, low, enough))
 
--- a segment is so many of the least blocks
+-- the words of a segment are a multiple of the least block's
 pub whole_words : (words : ℕ) → IsSegmentSize words → MIN_BLOCK_WORDS * (words / MIN_BLOCK_WORDS) ≡ words
 whole_words words size =
     let least = size.least in
     let none : words % 4 ≡ 0 = none_left words 0 size (omega (arith, least)) (inl refl) in
     omega (arith, none)
 
--- so many entries are enough
+-- this number of entries is enough
 pub entries_enough : (segments words n : ℕ) → IsSegmentSize words → n ≡ segments * (words / MIN_BLOCK_WORDS) → segments * words ≤ MIN_BLOCK_WORDS * n
 entries_enough segments words n size e =
     let q = words / MIN_BLOCK_WORDS in
@@ -112,14 +112,14 @@ entries_enough segments words n size e =
     let all : segments * (4 * q) ≡ segments * words = ap (λ (x : ℕ). segments * x) whole in
     omega (arith, all, e)
 
--- no segment has more blocks than so many of the least
+-- a segment has at most the blocks that it would have of the least class
 pub few_in_segment : (s : Segments) (number : ℕ) → IsSegments s → HasNumber s number → MIN_BLOCK_WORDS * block_count (nth s.segments number) ≤ s.layout.words
 few_in_segment s number sound there =
     let few = few_blocks (nth s.segments number) in
     let words : MIN_BLOCK_WORDS * length (nth s.segments number).marks ≡ s.layout.words = (sound.members number there).words in
     omega (arith, few, words)
 
--- the first that is left, and the others
+-- the first segment that is left, and the rest
 
 drop_first : (numbers : List ℕ) (done number : ℕ) → done < length numbers → number ≡ slice_index_or numbers done number →
     drop done numbers ≡ number ∷ drop (done + 1) numbers
@@ -153,7 +153,7 @@ first_waits s x numbers done first is can some at =
     let split : x.left ≡ first ∷ rest = sym is ∙ taken numbers done first x.left is some at in
     can.waits first (subst (λ (l : List ℕ). Contains l first) (sym split) (contains_head first rest))
 
--- there is room for what is in one segment more, and afterwards for that of the others
+-- there is room for the names of one more segment, and afterwards for the names of the rest
 
 pub room_for_one : (count done most words spare : ℕ) → done < count → words ≤ MIN_BLOCK_WORDS * most →
     (count - done) * most ≤ spare → words ≤ MIN_BLOCK_WORDS * spare
@@ -171,7 +171,7 @@ room_for_others count done most words spare after low few room used =
     let parts : (rest + 1) * most ≡ rest * most + most = omega arith in
     omega (arith, split, parts, few, room, used)
 
--- the segments below a number that wait
+-- the waiting segments below a number
 
 pub below_skip : (s : Segments) (number : ℕ) (numbers : List ℕ) → (IsWaiting s number → ⊥) →
     ListsNumbers (λ n. (n < number) × IsWaiting s n) numbers → ListsNumbers (λ n. (n < number + 1) × IsWaiting s n) numbers

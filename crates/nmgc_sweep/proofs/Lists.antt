@@ -1,4 +1,4 @@
--- Lists of names without doubles, and ascending numbers.
+-- Lists of names without duplicates, and ascending numbers.
 use Rattle.std.proofs.{Common.ℕ, Common.zero, Common.suc, Common.◌≡◌, Common.◌<◌, Common.◌∙◌, Common.inl, Common.inr, Common.refl, Common.sym, Common.ap, Common.subst, Common.arith, Common.List, Common.[], Common.◌∷◌, Common.◌++◌, Common.Option, Common.Some, Common.None, lemmas.Option.slice_get-get_or, lemmas.List.Elements.Contains-append_cases}
 use Rattle.std.specs.Prelude.{Contains, slice_get}
 use Rattle.nmgc_world_spec.specs.{declared.value.Name.Name, Listing.Ascends, Listing.AreDistinct}

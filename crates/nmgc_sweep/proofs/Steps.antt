@@ -1,4 +1,4 @@
--- Segments are swept: what was in them is listed, what was lost in them is freed, and the sweeper is at work still.
+-- Segments are swept: the names in them are listed, the names of lost blocks are freed, and the sweeper is still at work.
 use Rattle.std.proofs.{Common.ℕ, Common.zero, Common.suc, Common.◌≡◌, Common.◌≢◌, Common.◌↔◌, Common.◌+◌, Common.◌-◌, Common.◌*◌, Common.◌^◌, Common.◌<◌, Common.◌≤◌, Common.◌∙◌, Common.inl, Common.inr, Common.refl, Common.sym, Common.ap, Common.subst, Common.arith, Common.List, Common.[], Common.◌∷◌, Common.◌++◌, Common.length, Common.Option, Common.Some, Common.None, Common.length-set, Common.length-append, lemmas.Bool.cases_eq, lemmas.Bool.Decides.nat_tests, lemmas.List.Elements.Contains-append_left, lemmas.List.Elements.Contains-append_right, lemmas.List.Elements.Contains-append_cases}
 use Rattle.std.specs.Prelude.{Contains, IsSome, min}
 use Rattle.nmgc_world_spec.specs.{declared.value.Name.Name, Listing.ListsNumbers}
@@ -7,11 +7,11 @@ use Rattle.nmgc_object.specs.{declared.layout.Layout.Layout, declared.size.TheCo
 use Rattle.nmgc_segment.specs.{Marks.IsEpoch, Marks.swept, Marks.epoch_of, Segment.Segment, Segment.InUse, Segment.IsMarked, Segment.mark_of, Segment.block_count, declared.state.State.TheVariants.Sweeping, laws.Segments.mark-map, laws.Segments.zero_swept}
 use Rattle.nmgc_alloc.specs.{Halves.SweepsMany, Numbered.nth, Numbered.Segments, Numbered.HasNumber, Segments.SweepsNext, Segments.IsWaiting, Stands.Shows, Stands.StandsFor, laws.Cells.swept_by_names, laws.Cells.swept_other, laws.Cells.swept_state, laws.Numbers.nth-set_other, laws.Placing.inside, laws.Sweeping.swept_stands, Settled.IsSettledByte, AllocState.AllocState, AllocState.Cells, AllocState.Sweeps, AllocState.SweepsEach, AllocState.SweepsSome, AllocState.HoldsKept, AllocState.LieOnce, AllocState.LiesIn, AllocState.IsIn, AllocState.cells, AllocState.name_in}
 use Rattle.nmgc_round.specs.Gate.{next_turn, passed}
-use Rattle.nmgc_blocks_spec.specs.{Cycle.IsKeptIn, Cycle.IsSweptIn, Cycle.Cycle, Waiting.AreAsNoted}
-use Rattle.nmgc_sweep.specs.{Sweeping.IsWithoutDoubles, Seen.CycleSeen, Listing.ListsBlocks, Listing.IsLost, Names.AreNamed, Names.named_at, Sweeper.Sweeper, Sweeper.AreLeft, Sweeper.CanList, Work.HasListed, Work.HaveListed, Work.HasSwept, Work.IsAtWork, laws.Names.lies_class, laws.Names.named_swept}
+use Rattle.nmgc_stop_spec.specs.{Cycle.IsKeptIn, Cycle.IsSweptIn, Cycle.Cycle, Waiting.AreAsNoted}
+use Rattle.nmgc_sweep.specs.{Sweeping.IsWithoutDoubles, Seen.CycleSeen, Listing.ListsBlocks, Listing.IsLost, NameTable.AreNamed, NameTable.named_at, Sweeper.Sweeper, Sweeper.AreLeft, Sweeper.CanList, Work.HasListed, Work.HaveListed, Work.HasSwept, Work.IsAtWork, laws.NameTable.lies_class, laws.NameTable.named_swept}
 use Rattle.nmgc_sweep.proofs.Lists.{ascends_first, ascends_rest, distinct_append, distinct_once, once_distinct}
 
--- a segment that was swept doesn't wait any more
+-- a swept segment no longer waits
 swept_done : (a b : AllocState) (n : ℕ) (K : ℕ → Type 0) → Sweeps a b n K → IsIn Sweeping (cells b n) → ⊥
 swept_done a b n K s is = elim s.swept [
   | inl h ↦ let f = sym (ap (λ (c : Cells). c.state) h.1) ∙ is in cc
@@ -19,7 +19,7 @@ swept_done a b n K s is = elim s.swept [
   | inr (inr h) ↦ let f = sym (ap (λ (c : Cells). c.state) h.2) ∙ is in cc
 ]
 
--- a byte once only the marks of the epoch are left
+-- a byte is settled when only the marks of the epoch are left
 swept_byte : (begun epoch mark : ℕ) → 0 < begun → epoch ≡ epoch_of begun → IsSettledByte begun (swept epoch mark)
 swept_byte begun epoch mark some e = elim (cases_eq mark epoch) [
   | inl same ↦ let is : swept epoch mark ≡ epoch = grind (arith, nat_tests) in inr (some, is ∙ e)
@@ -36,13 +36,13 @@ made turns upper epoch numbers had freed left most = record {
   upper_turns = upper;
 }
 
--- a name in a segment that was swept, with Q
+-- a name with Q in a swept segment
 abbrev SoFar : (Name → Type 0) → Cycle → AllocState → Name → Type 0
 SoFar Q c a name = (number block : ℕ) × IsSweptIn c number × (IsIn Sweeping (cells a number) → ⊥) × LiesIn c.heap number block name × Q name
 
 module _ (old new : Segments) (epoch number : ℕ) (first : ℕ) (rest : List ℕ) (left : ListsNumbers (IsWaiting old) (first ∷
     rest)) (next : SweepsNext old new epoch number) where
-  -- the segment that was swept is the first that was left
+  -- the swept segment is the first that was left
   pub first_is : first ≡ number
   first_is = elim (contains_cases first rest number (left.complete number next.least.is)) [
     | inl e ↦ e
@@ -62,7 +62,7 @@ module _ (old new : Segments) (epoch number : ℕ) (first : ℕ) (rest : List �
     | inr (inr active) ↦ let f = sym active ∙ is in cc
   ]
 
-  -- the others are left
+  -- the rest is left
   pub others_left : ListsNumbers (IsWaiting new) rest
   others_left = record {
     ordered = ascends_rest first rest left.ordered;
@@ -100,7 +100,7 @@ module _ (old new : Segments) (epoch number : ℕ) (first : ℕ) (rest : List �
     noted : IsSweptIn c number
     noted = (as_noted number waits).0
 
-    -- a name lies where it lay as the cycle began
+    -- a name lies in the same block as when the cycle began
     lies_then : (block : ℕ) (n : Name) → LiesIn a number block n ↔ LiesIn c.heap number block n
     lies_then block n =
         let same : name_in (cells a number) block ≡ name_in (cells c.heap number) block =
@@ -115,7 +115,7 @@ module _ (old new : Segments) (epoch number : ℕ) (first : ℕ) (rest : List �
     entry_is block n lies = ap (λ (k : ℕ). named_at old.layout names number k block) (sym (lies_class old words a stands number block n lies)) ∙
         named number block n lies
 
-    -- and where a block is in use, what its entry has is the name in it
+    -- and if a block is in use, the name of its entry lies in it
     entry_lies : (block : ℕ) (n : Name) → InUse (nth old.segments number) block →
         named_at old.layout names number (nth old.segments number).class block ≡ Some n → LiesIn a number block n
     entry_lies block n used is =
@@ -129,7 +129,7 @@ module _ (old new : Segments) (epoch number : ℕ) (first : ℕ) (rest : List �
         is_some : (n : Name) → IsSome (Some n)
         is_some n = refl
 
-    -- names with Q are listed, where those of this segment that pass have Q
+    -- names with Q are listed, if exactly the passing names of this segment have Q
     module _ (P : ℕ → Type 0) (Q : Name → Type 0) (uses : (block : ℕ) → P block →
         InUse (nth old.segments number) block) (fits : (block : ℕ) (n : Name) → LiesIn a number block n → P block ↔ Q n)
         (before after : List Name) (lists : ListsBlocks P (named_at old.layout names number (nth old.segments number).class)
@@ -170,7 +170,7 @@ module _ (old new : Segments) (epoch number : ℕ) (first : ℕ) (rest : List �
           let same : f.0 ≡ number = (once f.0 f.1 number g.0 n f.4 ((lies_then g.0 n).0 g.2)).0 in
           f.3 (subst (λ (k : ℕ). IsIn Sweeping (cells a k)) (sym same) waits))))
 
-  -- what was listed of it and freed, and the sweeper with it
+  -- the names listed and freed of the segment, and the sweeper with them
   module _ (e : IsEpoch epoch) (names : List Name) (turns upper most : ℕ) (numbers : List ℕ) (had had_after freed freed_after : List Name)
       (all_listed : ListsBlocks (InUse (nth old.segments number)) (named_at old.layout names number (nth old.segments number).class)
       (block_count (nth old.segments number)) had had_after)
@@ -181,7 +181,7 @@ module _ (old new : Segments) (epoch number : ℕ) (first : ℕ) (rest : List �
     abbrev b : AllocState
     b = (stood e c words a names work.stands named work.notes.once work.sweeping.as_noted).0
 
-    -- the blocks that are kept are those of kept names
+    -- the kept blocks are the blocks of kept names
     by_names : Sweeps a b number (HoldsKept (IsKeptIn c) a number)
     by_names = swept_by_names a b number (IsMarked (nth old.segments number) epoch) (IsKeptIn c) (λ block name lies.
         work.sweeping.marked number block name (waits e c words a names work.stands named work.notes.once work.sweeping.as_noted) lies)
@@ -328,7 +328,7 @@ swept_counted s t names x y turns upper n h = record {
       (f.0, f.1, works_counted c closed words f.0 t cycle y turns upper f.2);
 }
 
--- so many passes more
+-- further passes of the gate
 pub passed_is : (turns count : ℕ) → turns ≤ 2 ^ 64 - 1 → passed turns count ≡ min (turns + count) (2 ^ 64 - 1)
 passed_is turns zero low = omega (arith, low)
 passed_is turns (suc count) low =
@@ -336,7 +336,7 @@ passed_is turns (suc count) low =
     let one : next_turn (min (turns + count) (2 ^ 64 - 1)) ≡ min (turns + suc count) (2 ^ 64 - 1) = omega arith in
     ap next_turn was ∙ one
 
--- none, and more
+-- no segment was swept, and one more
 
 pub none_swept : (s : Segments) (names : List Name) (sweeper : Sweeper) → AreLeft s sweeper → HasSwept s s names sweeper sweeper 0
 none_swept s names sweeper left = record {
@@ -376,7 +376,7 @@ more_swept s t u names x y z m n h k = record {
       );
 }
 
--- names are listed first, of all segments that are swept then: no sweep changes another segment
+-- the names of all segments to be swept are listed first: no sweep changes another segment
 
 pub can_list : (s : Segments) (x : Sweeper) → AreLeft s x → CanList s x
 can_list s x h = record { waits = h.numbers.sound; room = h.room }
@@ -390,7 +390,7 @@ can_list_next s names x y can h = record {
 pub listed_fewer : (s : Segments) (names : List Name) (x y : Sweeper) → HasListed s names x y → length y.left + 1 ≡ length x.left
 listed_fewer s names x y h = let e : length x.left ≡ suc (length y.left) = ap (λ (l : List ℕ). length l) h.left in omega (arith, e)
 
--- one more
+-- one more segment
 pub listed_more : (s : Segments) (names : List Name) (n : ℕ) (x y z : Sweeper) → HaveListed s names n x y → HasListed s names y z →
     HaveListed s names (n + 1) x z
 listed_more s names n x y z h l = let e : suc n ≡ n + 1 = omega arith in subst (λ (k : ℕ). HaveListed s names k x z) e (listed_suc n x h)
@@ -399,7 +399,7 @@ listed_more s names n x y z h l = let e : suc n ≡ n + 1 = omega arith in subst
     listed_suc zero x h = (z, subst (λ (w : Sweeper). HasListed s names w z) h l, refl)
     listed_suc (suc n) x h = (h.0, h.1, listed_suc n h.0 h.2)
 
--- what was listed stays so
+-- listing keeps the epoch and the counts of the gate's passes
 pub listed_keeps : (s : Segments) (names : List Name) (n : ℕ) (x y : Sweeper) → HaveListed s names n x y → (y.seen.epoch ≡ x.seen.epoch) ×
     (y.turns ≡ x.turns) × (y.upper_turns ≡ x.upper_turns)
 listed_keeps s names zero x y h = (ap (λ (w : Sweeper). w.seen.epoch) h, ap (λ (w : Sweeper). w.turns) h, ap (λ (w : Sweeper). w.upper_turns) h)
@@ -411,7 +411,7 @@ listed_keeps s names (suc n) x y h =
       rest.2 ∙ ap (λ (w : Sweeper). w.upper_turns) one,
     )
 
--- one segment that was listed before was swept
+-- one segment listed before was swept
 listed_swept : (listed s t : Segments) (names : List Name) (number : ℕ) (x y : Sweeper) → IsEpoch x.seen.epoch → AreLeft s x →
     s.layout ≡ listed.layout → ((n : ℕ) → Contains x.left n → nth s.segments n ≡ nth listed.segments n) → HasListed listed names x y →
     SweepsNext s t x.seen.epoch number → HasSwept s t names x y 1
@@ -433,7 +433,7 @@ listed_swept listed s t names number x y sound left layout same h next =
     subst (λ (w : Sweeper). HasSwept s t names x w 1) (sym h.rest)
     (subst (λ (w : Sweeper). HasSwept s t names w (made x.turns x.upper_turns x.seen.epoch x.seen.swept y.seen.had y.seen.freed y.left x.most) 1) before swept)
 
--- the others are as they were
+-- the rest is unchanged
 listed_others : (listed s t : Segments) (names : List Name) (number : ℕ) (x y : Sweeper) → AreLeft s x →
     ((n : ℕ) → Contains x.left n → nth s.segments n ≡ nth listed.segments n) → HasListed listed names x y → SweepsNext s t x.seen.epoch number →
     (n : ℕ) → Contains y.left n → nth t.segments n ≡ nth listed.segments n
@@ -444,7 +444,7 @@ listed_others listed s t names number x y left same h next n has =
     others_stay s t x.seen.epoch number h.first y.left numbers next n (λ e. omega (arith, above, is, e))
     ∙ same n (subst (λ (l : List ℕ). Contains l n) (sym h.left) (contains_tail h.first y.left n has))
 
--- so with all that were listed
+-- the same for all listed segments
 pub all_swept : (listed s t : Segments) (names : List Name) (count : ℕ) (x y : Sweeper) → IsEpoch x.seen.epoch → AreLeft s x →
     s.layout ≡ listed.layout → ((n : ℕ) → Contains x.left n → nth s.segments n ≡ nth listed.segments n) → HaveListed listed names count x y →
     SweepsMany x.seen.epoch count s t → HasSwept s t names x y count
@@ -461,7 +461,7 @@ all_swept listed s t names (suc count) x y sound left layout same h m =
     let e : 1 + count ≡ suc count = omega arith in
     subst (λ (k : ℕ). HasSwept s t names x y k) e (more_swept s m.0 t names x z y 1 count one others)
 
--- none is left where so many were
+-- no segment is left if their number is 0
 pub is_none : (left : List ℕ) → length left ≡ 0 → left ≡ []
 is_none [] h = refl
 is_none (x ∷ xs) h = absurd (omega (arith, h))

@@ -1,5 +1,5 @@
 pub mod Listing
-pub mod Names
+pub mod NameTable
 pub mod Sweeper
 pub mod Work
 pub mod Statements

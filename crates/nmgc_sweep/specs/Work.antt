@@ -1,12 +1,12 @@
--- What each call of a sweeper does to its cycle.
+-- The effect of each call of a sweeper on its cycle.
 use Rattle.std.specs.Prelude.{ℕ, zero, suc, ◌≡◌, ◌↔◌, ◌+◌, ◌<◌, List, [], ◌∷◌, ◌++◌, length, Contains, Some}
 use Rattle.nmgc_world_spec.specs.{declared.value.Name.Name, Listing.AreDistinct}
 use Rattle.nmgc_segment.specs.Segment.{Segment, InUse, block_count}
 use Rattle.nmgc_alloc.specs.{Halves.SweepsMany, Numbered.nth, Numbered.Segments, AllocState.AllocState, AllocState.SweepsSome, Stands.StandsFor, Settled.AreSettled}
-use Rattle.nmgc_blocks_spec.specs.Cycle.{IsKeptIn, Cycle}
-use Rattle.nmgc_sweep.specs.{Sweeping.IsSweeping, Seen.CycleSeen, Listing.ListsBlocks, Listing.IsLost, Names.AreNamed, Names.named_at, Sweeper.Sweeper, Sweeper.AreLeft, Sweeper.HasNotes}
+use Rattle.nmgc_stop_spec.specs.Cycle.{IsKeptIn, Cycle}
+use Rattle.nmgc_sweep.specs.{Sweeping.IsSweeping, Seen.CycleSeen, Listing.ListsBlocks, Listing.IsLost, NameTable.AreNamed, NameTable.named_at, Sweeper.Sweeper, Sweeper.AreLeft, Sweeper.HasNotes}
 
--- a sweeper as a cycle begins: all segments that wait are left, and nothing was listed or freed
+-- a sweeper that starts: it noted all waiting segments, and has listed and freed no name
 pub record HasBegun (segments : Segments) (epoch : ℕ) (sweeper : Sweeper) : Type 0 where
   pub epoch_is : sweeper.seen.epoch ≡ epoch
   pub swept : sweeper.seen.swept ≡ sweeper.left
@@ -14,8 +14,8 @@ pub record HasBegun (segments : Segments) (epoch : ℕ) (sweeper : Sweeper) : Ty
   pub freed : sweeper.seen.freed ≡ []
   pub left : AreLeft segments sweeper
 
--- a closed cycle that this sweeper sweeps: the segments stand for the allocation state, the sweeper is the cycle's,
--- and its lists and the marks are what they are to be
+-- a sweeper at work: the cycle was closed, and segments and words represent the allocation state. Marks, listed and freed
+-- names are right for the cycle, and marks are settled in each segment that doesn't wait
 pub record IsAtWork (c : Cycle) (closed : ℕ) (words : List ℕ) (a : AllocState) (segments : Segments) (cycle : CycleSeen) (sweeper : Sweeper) : Type 0 where
   pub stands : StandsFor segments words a
   pub notes : HasNotes c sweeper
@@ -23,7 +23,7 @@ pub record IsAtWork (c : Cycle) (closed : ℕ) (words : List ℕ) (a : AllocStat
   pub settled : AreSettled c.number segments
   pub begun : 0 < c.number
 
--- what is in the first segment that was left is listed, and what a sweep frees of it; the others are left
+-- a listed segment: the names in the first unswept segment were listed, and the names that a sweep of it frees
 pub record HasListed (segments : Segments) (names : List Name) (before after : Sweeper) : Type 0 where
   pub first : ℕ
   pub left : before.left ≡ first ∷ after.left
@@ -33,12 +33,13 @@ pub record HasListed (segments : Segments) (names : List Name) (before after : S
       (named_at segments.layout names first (nth segments.segments first).class) (block_count (nth segments.segments first)) before.seen.freed after.seen.freed
   pub rest : after ≡ record before { seen = record before.seen { had = after.seen.had; freed = after.seen.freed }; left = after.left }
 
--- so with so many of them, one after the other
+-- listed segments: the names in the first `count` unswept segments were listed, segment by segment
 abbrev pub HaveListed : Segments → List Name → ℕ → Sweeper → Sweeper → Type 0
 HaveListed segments names zero before after = after ≡ before
 HaveListed segments names (suc count) before after = (mid : Sweeper) × HasListed segments names before mid × HaveListed segments names count mid after
 
--- so many segments were swept: where the array has the names in the blocks, those that the cycle keeps are left of them, and the sweeper is at work still
+-- swept segments: `count` fewer are left. If the array has the names of blocks and the sweeper was at work, the allocation
+-- state was swept `count` times and keeps the kept names, and the sweeper is still at work
 pub record HasSwept (old new : Segments) (names : List Name) (before after : Sweeper) (count : ℕ) : Type 0 where
   pub left : AreLeft new after
   pub fewer : length after.left + count ≡ length before.left
@@ -48,28 +49,28 @@ pub record HasSwept (old new : Segments) (names : List Name) (before after : Swe
   pub sweeps : (c : Cycle) (closed : ℕ) (words : List ℕ) (a : AllocState) (cycle : CycleSeen) → AreNamed old.layout names a →
       IsAtWork c closed words a old cycle before → (b : AllocState) × SweepsSome (IsKeptIn c) count a b × IsAtWork c closed words b new cycle after
 
--- the name that the array has for a block that passes, of one of these segments
+-- the array has this name for a passing block of one of these segments
 abbrev pub IsNameIn : (Segment → ℕ → Type 0) → Segments → List Name → List ℕ → Name → Type 0
 IsNameIn Passes segments names numbers name = (number : ℕ) × Contains numbers number × (block : ℕ) ×
     (block < block_count (nth segments.segments number)) × Passes (nth segments.segments number) block ×
     (named_at segments.layout names number (nth segments.segments number).class block ≡ Some name)
 
--- a list grew by exactly these names
+-- names were appended to a list: exactly the names for which the predicate holds
 pub record GrowsBy (IsOne : Name → Type 0) (old new : List Name) : Type 0 where
   pub added : List Name
   pub is : new ≡ old ++ added
   pub exactly : (name : Name) → Contains added name ↔ IsOne name
 
--- no two blocks in use of these segments have one name
+-- no two blocks in use of these segments have the same name
 abbrev pub AreNamedOnce : Segments → List Name → List ℕ → Type 0
 AreNamedOnce segments names numbers = (i j a b : ℕ) (name : Name) → Contains numbers i → Contains numbers j →
     InUse (nth segments.segments i) a → InUse (nth segments.segments j) b →
     named_at segments.layout names i (nth segments.segments i).class a ≡ Some name →
     named_at segments.layout names j (nth segments.segments j).class b ≡ Some name → (i ≡ j) × (a ≡ b)
 
--- whatever the marks are, the first so many segments of those that were left were swept by the epoch: what was in use
--- in them was listed as had, and as freed exactly what wasn't marked with the epoch, each once where no two blocks have
--- one name; they are as so many sweeps leave them
+-- the names freed, for any marks: the first `count` unswept segments were swept by the epoch, as by `count` sweeps. `had`
+-- grew by exactly the names that the array has for the blocks in use in these segments. `freed` grew by the names of the
+-- blocks among them that weren't marked with the epoch. Each name is added once if no two blocks have the same name
 pub record HasJudged (old new : Segments) (names : List Name) (before after : Sweeper) (count : ℕ) : Type 0 where
   pub numbers : List ℕ
   pub many : length numbers ≡ count

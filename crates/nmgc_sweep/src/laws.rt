@@ -1,34 +1,33 @@
-//! What a sweeper has of its cycle, from the cycle's beginning to its end.
+//! The facts that a sweeper has about its cycle, from the cycle's beginning to its end.
 //!
-//! Each function here does nothing; its contract is the law, over what the calls of `Sweeper` ensure.
-ghost use Rattle.nmgc_sweep.specs.Statements.{StartIsNoted, LeftStays, ClosingBeginsWork, EndTellsCensus, LeftIsCounted, WorkGoesOn, PlacingKeepsWaiting};
+//! Each function here does nothing; its contract is the law, over the results of `Sweeper`'s calls.
+ghost use Rattle.nmgc_sweep.specs.Statements.{StartIsNoted, LeftStays, ClosingBeginsWork, EndShowsCensus, LeftIsCounted, WorkGoesOn, PlacingKeepsWaiting};
 
-/// As a cycle begins, with no segment waiting and no name in two blocks before, what `Sweeper::start` noted is
-/// what the cycle has to judge.
+/// Proves that `Sweeper::start` notes the segments that a new cycle has to judge, if before the cycle no segment waited and
+/// no name lay in two blocks.
 pub fn start_is_noted()
     ensures { StartIsNoted }
 {}
 
-/// A sweeper's segments are left while the same segments wait, whatever is placed, marked, carried or retired
-/// meanwhile; and as many are left as wait.
+/// Proves that a sweeper's unswept segments stay exactly the waiting segments, as long as the same segments wait. Placing and
+/// marking objects, carrying marks and retiring segments change none of these.
 pub fn segments_are_left()
     ensures stays { LeftStays }
-    ensures counted { LeftIsCounted }
+    ensures add_passes { LeftIsCounted }
 {}
 
-/// At a cycle's closing, where nothing was swept yet and marked are the blocks of kept names, the sweeper is at
-/// work.
+/// Proves that a sweeper is at work when its cycle closes: nothing was swept, and the blocks of kept names alone are marked.
 pub fn closing_begins_work()
     ensures { ClosingBeginsWork }
 {}
 
-/// Once no segment waits, the lists of the sweeper are the census of its cycle.
-pub fn end_tells_census()
-    ensures { EndTellsCensus }
+/// Proves that the lists of a sweeper are the census of its cycle once no segment waits.
+pub fn end_shows_census()
+    ensures { EndShowsCensus }
 {}
 
-/// While a cycle sweeps, a stop places objects in segments that don't wait, and leaves marks: so the sweeper is at
-/// work still, and its segments are left.
+/// Proves that a sweeper stays at work through a stop, and that its segments stay the waiting ones. A stop during the sweep
+/// places objects only in segments that don't wait, and leaves marks.
 pub fn work_goes_on()
     ensures goes_on { WorkGoesOn }
     ensures placing { PlacingKeepsWaiting }

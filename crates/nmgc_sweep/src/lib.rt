@@ -1,27 +1,27 @@
-//! The sweeper: after a cycle was closed, blocks that it didn't keep are used again.
+//! The sweeper: after a cycle is closed, it frees the blocks that the cycle doesn't keep.
 //!
-//! As a cycle begins, the filled segments wait to be swept. Once the cycle was closed, the sweeper sweeps the waiting
-//! segments of least number, so many at a time, in two halves; it does so beside the mutators or at a stop (`sweeper`).
-//! Just before it lists the names in all of these and those of the blocks that the sweep frees (`listing`). It reads them
-//! from an array that has the name of each object in a segment by its place (`names`): beside a round the words of the
-//! heap are the mutators', and to read all names at a stop takes time that grows with the heap. The array is written as
-//! objects move into segments. So neither the stop at which a cycle begins nor any other takes time for the blocks of the
-//! heap.
-//! The lists are put in order once the run is over, so that no mutator waits for that either.
+//! When a cycle begins, the filled segments wait to be swept. After the closing, the sweeper sweeps the waiting segments of
+//! least number, a quota at a time, in two halves, beside the mutators or at a stop (`sweeper`). Just before, it lists the
+//! names in all of these segments and the names of the blocks that the sweep frees (`listing`).
 //!
-//! The promise is the census of the cycle: had are the names in the segments that were filled as the cycle
-//! began, and freed are those of them that the cycle doesn't keep. It speaks of the cycle and of the allocation
-//! state (`specs/Sweeper.antt`, `specs/Work.antt`); `laws` leads from the cycle's beginning to its end, and
-//! `specs/laws` says that the array has the names in blocks all along.
+//! It reads the names from an array that has the name of each object in a segment by its address (`name_table`). In a round
+//! the words of the heap belong to the mutators, and reading all names at a stop takes time that grows with the heap. The
+//! array is written when objects move into segments. So no stop takes time for the blocks of the heap. The lists are put in
+//! order after the run, so that no mutator waits for that either.
 //!
-//! Easy to get wrong: a segment that waits isn't full if it was retired before a full cycle, so each block is looked at.
-//! And a block is kept only where it has this cycle's mark: a mark of an earlier cycle keeps nothing.
+//! The promise is the cycle's census. `had` lists the names in the segments that were filled when the cycle began, and
+//! `freed` the names among them that the cycle doesn't keep. The promise is stated for the cycle and the allocation state
+//! (`specs/Sweeper.antt`, `specs/Work.antt`). `laws` leads from the cycle's beginning to its end, and `specs/laws` says that
+//! the array has the names of blocks all along.
+//!
+//! Easy to get wrong: a waiting segment isn't full if it was retired before a full cycle, so each block is read. And a block
+//! is kept only if it has this cycle's mark, not an earlier one: Note [Why two epochs are enough] in `nmgc_segment`.
 #![tactic(auto)]
 
 pub mod laws;
 mod listing;
-pub mod names;
+pub mod name_table;
 pub mod sweeper;
 
-pub use names::Names;
+pub use name_table::NameTable;
 pub use sweeper::{Census, SweepWork, Sweeper};

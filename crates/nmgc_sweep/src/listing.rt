@@ -1,22 +1,22 @@
-//! The names in a segment that is about to be swept: all of them, and those that the sweep frees.
+//! The names in a segment that is about to be swept: all of them, and the names that the sweep frees.
 //!
-//! Which blocks are in use and which of these are marked is known before the sweep alone: it clears the marks and leaves
-//! in use exactly what was marked with its epoch.
+//! Only before the sweep is it known which blocks are in use and which are marked. The sweep clears the marks and leaves in
+//! use exactly the blocks marked with its epoch.
 ghost use Rattle.std.specs.Prelude.{◌+◌, ◌*◌, ◌≤◌};
 ghost use Rattle.nmgc_object.specs.declared.size.TheConstants.{MIN_BLOCK_WORDS as LEAST};
 ghost use Rattle.nmgc_segment.specs.{Marks.IsEpoch, Segment.InUse, Segment.block_count};
 ghost use Rattle.nmgc_alloc.specs.{Numbered.nth, Numbered.HasNumber, Segments.IsWaiting};
-ghost use Rattle.nmgc_sweep.specs.{Listing.ListsBlocks, Listing.IsLost, Names.HaveEntries, Names.named_at};
+ghost use Rattle.nmgc_sweep.specs.{Listing.ListsBlocks, Listing.IsLost, NameTable.HaveEntries, NameTable.named_at};
 
-use crate::names::Names;
+use crate::name_table::NameTable;
 use nmgc_alloc::Segments;
-use nmgc_names::NameRoom;
+use nmgc_name_lists::NameRoom;
 use nmgc_object::{Address, block_words};
 
-/// Lists the names of the blocks in use of a segment that waits to be swept, and again those of the blocks that aren't
-/// marked with the epoch. There has to be room for as many as a segment may have. Takes time for the blocks of the segment.
+/// Lists the names of a waiting segment's blocks in use in `had`, and the names of those not marked with the epoch in
+/// `freed`. Both lists need room for all blocks that a segment may have. Takes time proportional to the segment's blocks.
 pub(crate) fn list_segment(
-    names: &Names,
+    names: &NameTable,
     segments: &Segments,
     number: u32,
     epoch: u8,

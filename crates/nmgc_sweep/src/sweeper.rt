@@ -1,32 +1,33 @@
-//! The sweeper of one cycle: which segments it has to sweep, and what it listed and freed.
+//! The sweeper of one cycle: the segments that it has to sweep, and the names that it listed and freed.
 //!
-//! The segments that wait are exactly those that are left, in the same order. Each name is judged once, before its
-//! segment's sweep: the sweep leaves in use exactly the blocks that are marked with this cycle's epoch. So a call lists
-//! what is in all segments that it is to sweep, and then sweeps them in two halves, each in a thread of its own: no
-//! sweep touches the marks of another segment. Room for all names is taken at the start, so that sweeping beside the
-//! mutators takes no memory; memory that is reserved isn't touched, and the start takes time for the number of segments
-//! alone. There is room where none of the names follows on another; mostly they do, and the lists are a few spans of them
-//! (`nmgc_names`).
+//! The waiting segments are exactly the segments that this sweeper noted and hasn't swept, in the same order. Each name is
+//! judged once, before its segment's sweep: the sweep leaves in use exactly the blocks that are marked with this cycle's
+//! epoch. So a call lists the names in all segments that it is to sweep, and then sweeps them in two halves, each in its own
+//! thread. No sweep touches the marks of another segment.
 //!
-//! Each half passes the gate under a number of its own, so the sweeper has two counts: its lower half goes on with the
-//! count of the marker, and its upper half counts what upper halves passed before.
+//! Room for all names is taken at the start, so that sweeping beside the mutators takes no memory. Reserved memory isn't
+//! touched, and the start takes time only for the number of segments. The room suffices even if no name follows on another.
+//! Mostly names do follow, and the lists are a few spans (`nmgc_name_lists`).
 //!
-//! Easy to get wrong: the names that were had and freed lie in order of blocks, and several makers' segments
-//! alternate. So a cycle's row, as a report tells it, has them in order, and the sweeper's lists haven't.
+//! Each half passes the gate under its own number, so the sweeper has two counts. The lower half continues the marker's
+//! count. The upper half continues the count of the upper halves before it.
+//!
+//! Easy to get wrong: the had and freed names are in order of blocks, and several makers' segments alternate. So the
+//! sweeper's lists aren't in order of names; a cycle's row in a report is.
 ghost use Rattle.std.specs.Prelude.{ℕ, ◌≡◌, ◌≢◌, ◌-◌, ◌/◌, ◌<◌, ◌≤◌, [], length, min, IsTrue, IfOk, ◌↔◌};
 ghost use Rattle.nmgc_segment.specs.Marks.{IsEpoch};
 ghost use Rattle.nmgc_alloc.specs.{Halves.IsInHalf, Segments.IsWaiting};
 ghost use Rattle.nmgc_world_spec.specs.Listing.{ListsNumbers};
-ghost use Rattle.nmgc_names.specs.Spans.{names_in};
+ghost use Rattle.nmgc_name_lists.specs.Spans.{names_in};
 ghost use Rattle.nmgc_round.specs.Gate.{passed};
-ghost use Rattle.nmgc_sweep.specs.{Names.HaveEntries, Sweeper.AreLeft, Sweeper.CanList, Work.HasBegun, Work.HasListed, Work.HaveListed, Work.HasSwept, Work.HasJudged};
+ghost use Rattle.nmgc_sweep.specs.{NameTable.HaveEntries, Sweeper.AreLeft, Sweeper.CanList, Work.HasBegun, Work.HasListed, Work.HaveListed, Work.HasSwept, Work.HasJudged};
 
 use crate::listing::list_segment;
-use crate::names::Names;
+use crate::name_table::NameTable;
 use nmgc_alloc::Segments;
 use nmgc_limits::MAKERS;
 use nmgc_lists::NoMemory;
-use nmgc_names::{NameList, NameRoom, Span};
+use nmgc_name_lists::{NameList, NameRoom, Span};
 use nmgc_object::MIN_BLOCK_WORDS;
 use nmgc_round::Gate;
 use nmgc_segment::State;
@@ -34,32 +35,32 @@ use std::alloc::Global;
 use std::marker::Model;
 use std::thread::Threads;
 
-/// What the sweeper did in a round: how many segments it swept, and whether none is left.
+/// The work of a sweeper in a round: the number of segments it swept, and whether it has swept all.
 #[derive(Clone, Copy, Debug, PartialEq, Eq)]
 pub struct SweepWork {
     pub swept: u32,
     pub finished: bool,
 }
 
-/// What a cycle's row tells of its sweep. The names are in no order.
+/// A sweep's part of the census, for its cycle's row. The names are in no order.
 #[derive(Drop)]
 pub struct Census {
     /// The numbers of the segments noted at the snapshot, in order.
     pub swept: Vec<u32>,
     /// The names of the blocks in use in these segments at the snapshot.
     pub had: NameList,
-    /// Those that were freed.
+    /// The names among `had` that were freed.
     pub freed: NameList,
 }
 
-/// The sweeper of a cycle. Contracts see its epoch, the segments that it noted, whose objects were in those that it
-/// swept and which of these it freed, the segments that it hasn't swept, for how many names of each it has room, and how
-/// often the gate was passed.
+/// The sweeper of a cycle. Contracts see its epoch, the segments that it noted, the names in the segments that it swept and
+/// the freed names among them. They also see the segments that it hasn't swept, the number of names that it has room for in
+/// each, and how often the gate was passed.
 #[derive(Drop)]
 pub struct Sweeper {
-    /// How often the collector passed the gate as `MAKERS` in the whole run. Stands still at 2^64 - 1.
+    /// How often the collector passed the gate as `MAKERS` in the whole run. It stays at 2^64 - 1.
     pub turns: u64,
-    /// How often the upper halves of its sweeps passed it, as `MAKERS + 1`. Stands still at 2^64 - 1.
+    /// How often the upper halves of its sweeps passed the gate, as `MAKERS + 1`. It stays at 2^64 - 1.
     pub upper_turns: u64,
     epoch: u8,
     swept: Vec<u32>,
@@ -87,7 +88,7 @@ impl Model for Sweeper {
     ghost invariant = { λ s. IsEpoch s.epoch × (s.done ≤ length s.swept.items) × ((length s.swept.items - s.done) * s.most ≤ s.had.spare) × ((length s.swept.items - s.done) * s.most ≤ s.freed.spare) };
 }
 
-// The numbers of the segments that wait to be swept, in order.
+// Returns the numbers of the waiting segments, in order.
 fn waiting(alloc: Global, segments: &Segments) -> Result<Vec<u32>, NoMemory>
     ensures { IfOk result (λ numbers. ListsNumbers (IsWaiting segments.now) numbers.items) }
 {
@@ -100,17 +101,17 @@ fn waiting(alloc: Global, segments: &Segments) -> Result<Vec<u32>, NoMemory>
     Ok(numbers)
 }
 
-// How often the gate was passed, after so many passes more.
-fn counted(turns: u64, passes: u32) -> u64
+// Returns the count of the gate's passes after `passes` further passes.
+fn add_passes(turns: u64, passes: u32) -> u64
     ensures { result ≡ passed turns passes }
 {
     turns.saturating_add(u64::from(passes))
 }
 
 impl Sweeper {
-    /// Notes, as a cycle begins, the segments to be swept, and makes room for their names and for those that will be
-    /// freed: the only memory that a sweeper takes. `Segments::prepare` was just called. `turns` and `upper_turns` are 0
-    /// then. Takes time for the number of segments.
+    /// Makes the sweeper of a cycle that begins, just after `Segments::prepare`: it notes the segments to be swept. It takes
+    /// room for their names and for the names that will be freed, which is the only memory that a sweeper takes. Its `turns`
+    /// and `upper_turns` are 0. Takes time proportional to the number of segments.
     pub fn start(alloc: Global, segments: &Segments, epoch: u8) -> Result<Sweeper, NoMemory>
         requires epoch { IsEpoch epoch }
         ensures begun { IfOk result (λ sweeper. HasBegun segments.now epoch sweeper) }
@@ -119,7 +120,7 @@ impl Sweeper {
     {
         let swept = waiting(alloc, segments)?;
         let most = segments.layout().words / MIN_BLOCK_WORDS;
-        // No heap has so many that this fails.
+        // No heap is so large that this fails.
         let Some(names) = swept.len().checked_mul(most as usize) else {
             return Err(NoMemory);
         };
@@ -135,29 +136,28 @@ impl Sweeper {
         })
     }
 
-    /// The numbers of the segments noted at the snapshot, in order. Takes no memory: none but `start` needs any.
+    /// Returns the numbers of the segments noted at the snapshot, in order. Takes no memory: only `start` does.
     pub fn swept(&self) -> &[u32]
         ensures { result.now ≡ self.now.seen.swept }
     {
         self.swept.as_slice()
     }
 
-    /// The names of the blocks in use at the snapshot in those of these segments that were swept, in no order.
+    /// Returns the names of blocks that were in use at the snapshot, in the segments swept so far. They are in no order.
     pub fn had(&self) -> &[Span]
         ensures { names_in result.now ≡ self.now.seen.had }
     {
         self.had.spans()
     }
 
-    /// The names that were freed so far, in no order.
+    /// Returns the names freed so far, in no order.
     pub fn freed(&self) -> &[Span]
         ensures { names_in result.now ≡ self.now.seen.freed }
     {
         self.freed.spans()
     }
 
-    /// What it noted, listed and freed, for the cycle's row, in lists that have no more room than they need. Needs no
-    /// memory (`NameRoom::into_list`).
+    /// Turns the sweeper into its part of the census: its segments and listed names, without spare room. Takes no memory.
     pub fn into_census(self) -> Census
         ensures swept { result.swept.items ≡ self.seen.swept }
         ensures had { result.had ≡ self.seen.had }
@@ -178,15 +178,15 @@ impl Sweeper {
         Census { swept, had, freed }
     }
 
-    // Whether some segment is left to be swept.
+    // Whether any segment is left to sweep.
     fn has_left(&self) -> bool
         ensures { IsTrue result ↔ (self.now.left ≢ []) }
     {
         self.done < self.swept.len()
     }
 
-    // Lists what is in the first segment that is left, and what a sweep frees of it.
-    fn list_next(&mut self, segments: &Segments, names: &Names)
+    // Lists the names in the first unswept segment, and the names that a sweep of it frees.
+    fn list_next(&mut self, segments: &Segments, names: &NameTable)
         requires can { CanList segments.now self.old }
         requires some { self.old.left ≢ [] }
         requires entries { HaveEntries segments.now.layout names.now }
@@ -204,8 +204,8 @@ impl Sweeper {
         self.done += 1;
     }
 
-    // The same for so many of them.
-    fn list_first(&mut self, segments: &Segments, names: &Names, count: u32)
+    // Lists the names in the first `count` unswept segments, and the names that a sweep of these segments frees.
+    fn list_first(&mut self, segments: &Segments, names: &NameTable, count: u32)
         requires can { CanList segments.now self.old }
         requires enough { count ≤ length self.old.left }
         requires entries { HaveEntries segments.now.layout names.now }
@@ -216,13 +216,13 @@ impl Sweeper {
         }
     }
 
-    // Lists what is in the waiting segments of least number, at most so many, and what is lost of it, and sweeps them.
-    // Answers how many these were. Before each it does `before`, with the half and the number within it.
+    // Sweeps the first `quota` waiting segments, or all if there are fewer, and returns their number. First it lists the
+    // names in these segments, and the names that are freed. Before each sweep it calls `before` with half and position.
     fn sweep_some<R: Threads + Sync, F: Fn(u8, u32) + Sync>(
         &mut self,
         rt: &R,
         segments: &mut Segments,
-        names: &Names,
+        names: &NameTable,
         quota: u32,
         before: &F,
     ) -> u32
@@ -239,21 +239,20 @@ impl Sweeper {
         segments.sweep_many(rt, self.epoch, count, before)
     }
 
-    /// Sweeps beside the mutators, once the cycle was closed: at most `quota` segments, those of least number, in two
-    /// halves, each in a thread of its own; one segment alone starts no thread. The gate is passed before each, as
-    /// `MAKERS` in the lower half, which has one segment more where they are odd, and as `MAKERS + 1` in the upper one;
-    /// the clauses `turns` and `upper_turns` tell the counts. Where `names` has the names in blocks, what was in these
-    /// segments is listed before, and what is freed of it. Whatever the marks are, freed are exactly the names of those
-    /// of their blocks in use that aren't marked with the epoch.
+    /// Sweeps at most `quota` segments beside the mutators, after the cycle is closed, and returns their number and whether
+    /// none is left. It sweeps the waiting segments of least number, in two halves, each in its own thread. For a single
+    /// segment no thread starts. The gate is passed before each sweep, as `MAKERS` in the lower half, which has one segment
+    /// more if the number is odd, and as `MAKERS + 1` in the upper half. The clauses `turns` and `upper_turns` give the
+    /// counts. If `names` has the names of blocks, the names in these segments are listed before, and the freed names. For
+    /// any marks, the freed names are exactly the names of the segments' blocks in use that aren't marked with the epoch.
     ///
-    /// `swept` is the lesser of `quota` and the number of those that waited. `finished` is false exactly where one
-    /// is left. The segments that wait are exactly those that this sweeper noted and hasn't swept. Takes no
-    /// memory, and waits for nobody but the gate.
+    /// `swept` is the lesser of `quota` and the number of waiting segments. `finished` is true exactly if none is left. The
+    /// waiting segments are those that this sweeper noted and hasn't swept. Takes no memory, and waits only at the gate.
     pub fn work<R: Threads + Sync, G: Gate>(
         &mut self,
         rt: &R,
         segments: &mut Segments,
-        names: &Names,
+        names: &NameTable,
         quota: u32,
         gate: &G,
     ) -> SweepWork
@@ -279,17 +278,16 @@ impl Sweeper {
                 gate.pass(MAKERS + half, turns.saturating_add(u64::from(i) + 1));
             },
         );
-        self.turns = counted(lower, swept - swept / 2);
-        self.upper_turns = counted(upper, swept / 2);
+        self.turns = add_passes(lower, swept - swept / 2);
+        self.upper_turns = add_passes(upper, swept / 2);
         SweepWork {
             swept,
             finished: !self.has_left(),
         }
     }
 
-    /// Sweeps all segments that are left, as `work` does, with the mutators stopped. The gate isn't passed, and its
-    /// counts stay.
-    pub fn finish<R: Threads + Sync>(&mut self, rt: &R, segments: &mut Segments, names: &Names)
+    /// Sweeps all segments that are left, in two halves, with the mutators stopped. The gate isn't passed; its counts stay.
+    pub fn finish<R: Threads + Sync>(&mut self, rt: &R, segments: &mut Segments, names: &NameTable)
         requires left { AreLeft segments.old self.old }
         requires entries { HaveEntries segments.old.layout names.now }
         ensures swept { HasSwept segments.old segments.new names.now self.old self.new (length self.old.left) }

@@ -1,48 +1,51 @@
 //! The program `nmgc_trace`: checks traces of a runtime's barrier.
 //!
-//! Each word of the command line names a file with a trace, and `-` is standard input. A trace whose first line is
-//! `trace 2` is of format 2: its barrier is watched (`nmgc_watch`), cycle by cycle, and the first line that can't happen
-//! is told with the reason. Any other is of format 1: its lines are done, one by one, by the core machine
-//! (`nmgc_core`), marker and all. `docs/GUIDE.md` has the forms, and says how to write one for a runtime of one's own.
-//! What a text says and comes to is told by `nmgc_judge`, whose tests stand here too, since nothing else stands on it.
+//! Each argument names a file with a trace, and `-` is standard input. A trace whose first line is `trace 2` is of format 2.
+//! Its barrier is watched (`nmgc_barrier_checker`), cycle by cycle, and the first line that can't happen is reported with the reason.
+//! Any other trace is of format 1: the marking machine (`nmgc_core`) does its lines one by one, marker included.
+//! `docs/GUIDE.md` has the forms, and explains how a runtime can write a trace. `nmgc_trace_checker` has the meaning of a text and
+//! the verdict on it; its tests are here too, since no other crate uses it.
 //!
-//! The word `--live` is standard input too, for a runtime that writes its trace into a pipe while it runs: each empty
-//! line of a trace of format 2 is answered by the line `ok` once all lines before it have happened, and the line that
-//! can't happen is told at once.
+//! The argument `--live` is standard input too, for a runtime that writes its trace into a pipe while it runs. An empty line
+//! of format 2 is answered by `ok` once all lines before it have happened. A line that can't happen is reported at once.
 //!
-//! Each word gets a line, in order, also where its file can't be read: the program goes on with the next word. The exit
-//! status is the gravest one that a word came to, so no word hides the fault of another. From the gravest on: 1 where
-//! something can't be written, 64 where no trace is named or a word is no text, 7 where there was no memory, 3 where a
-//! file can't be read, 2 where a trace has a line that can't happen, lacks the end of a cycle (of format 2: a `stop`
-//! after it) or has 2^64 - 2 lines or more, and 0 where each trace passed.
+//! Each argument gets a line of output, in order, also if its file can't be read: the program goes on with the next argument.
+//! The exit status is the gravest status of all arguments, so no argument hides the fault of another. From the gravest on:
+//!
+//! - 1: something can't be written.
+//! - 64: no trace is named, or an argument is no text.
+//! - 7: there was no memory.
+//! - 3: a file can't be read.
+//! - 2: a trace has a line that can't happen, no end of a cycle (format 2: and a `stop` after it), or 2^64 - 2 lines or more.
+//! - 0: each trace passed.
 #![tactic(auto)]
 
-use nmgc_judge::{Outcome, TraceFault, outcome_of};
+use nmgc_trace_checker::{Outcome, TraceFault, outcome_of};
 use std::process::ExitCode;
 use std::{env, fs, io};
 
-// Standard input, answered while it comes.
+// The argument for standard input that is answered while it is written.
 const LIVE: &str = "--live";
 
-// What a word of the command line comes to, or the program as a whole. Each is graver than those above it.
+// The status of an argument, or of the program as a whole. Each status is graver than the statuses above it.
 #[derive(Clone, Copy, PartialEq, Eq, PartialOrd, Ord)]
 enum Status {
     // The trace passed.
     Passed,
-    // It has a line that can't happen, isn't whole, or is too long.
+    // The trace has a line that can't happen, isn't whole, or is too long.
     Refused,
-    // It couldn't be opened or read.
+    // The trace couldn't be read, or `ok` couldn't be written.
     Unread,
-    // There was no memory for it, or for the words.
+    // There was no memory for the trace, or for the arguments.
     NoMemory,
-    // No trace is named, or a word is no text. Nothing was read.
+    // No trace is named, or an argument is no text. Nothing was read.
     Usage,
-    // Something couldn't be written, and the words that were left weren't read.
+    // Something couldn't be written, and the remaining arguments weren't read.
     Unwritten,
 }
 
 impl Status {
-    // The number with which the process ends.
+    // Returns the exit status of the process.
     fn number(self) -> u8 {
         match self {
             Status::Passed => 0,
@@ -56,10 +59,10 @@ impl Status {
 }
 
 fn main(rt: HostRuntime) -> ExitCode {
-    let status = match tell_all(&rt) {
+    let status = match check_all(&rt) {
         Ok(status) => status,
         Err(error) => {
-            // If this can't be written either, the status alone says it.
+            // If the error can't be written either, only the status reports it.
             let _ = eprintln!(rt; "nmgc_trace: can't write: {error}");
             Status::Unwritten
         }
@@ -67,40 +70,40 @@ fn main(rt: HostRuntime) -> ExitCode {
     ExitCode::from(status.number())
 }
 
-// Tells what each word comes to, and answers the gravest. An error says that something couldn't be written.
-fn tell_all(rt: &HostRuntime) -> io::Result<Status> {
+// Prints the result for each argument, and returns the gravest status. An error means that something couldn't be written.
+fn check_all(rt: &HostRuntime) -> io::Result<Status> {
     let words = match env::args(rt) {
         Ok(words) => words,
-        Err(error) => return tell_no_words(rt, error.kind()),
+        Err(error) => return print_no_arguments(rt, error.kind()),
     };
     let mut gravest = None;
     for word in words.skip(1) {
-        let status = tell(rt, word.as_str())?;
+        let status = check(rt, word.as_str())?;
         gravest = gravest.max(Some(status));
     }
     match gravest {
         Some(status) => Ok(status),
-        None => tell_usage(rt),
+        None => print_usage(rt),
     }
 }
 
-// Tells why the words can't be had: there was no memory for them, or one is no text.
-fn tell_no_words(rt: &HostRuntime, kind: io::ErrorKind) -> io::Result<Status> {
+// Prints why there are no arguments, and returns the status. There was no memory for them, or one is no text.
+fn print_no_arguments(rt: &HostRuntime, kind: io::ErrorKind) -> io::Result<Status> {
     if kind == io::ErrorKind::OutOfMemory {
         println!(rt; "no memory")?;
         return Ok(Status::NoMemory);
     }
-    tell_usage(rt)
+    print_usage(rt)
 }
 
-// Tells which words there are.
-fn tell_usage(rt: &HostRuntime) -> io::Result<Status> {
+// Prints the possible arguments, and returns the status `Usage`.
+fn print_usage(rt: &HostRuntime) -> io::Result<Status> {
     println!(rt; "usage: nmgc_trace FILE.. | nmgc_trace {LIVE}")?;
     Ok(Status::Usage)
 }
 
-// Tells what one word comes to, beside its name.
-fn tell(rt: &HostRuntime, name: &str) -> io::Result<Status> {
+// Checks the trace that an argument names, prints the argument and the result, and returns the status.
+fn check(rt: &HostRuntime, name: &str) -> io::Result<Status> {
     let outcome = outcome_of_word(rt, name);
     if name != LIVE {
         print!(rt; "{name}: ")?;
@@ -129,19 +132,19 @@ fn tell(rt: &HostRuntime, name: &str) -> io::Result<Status> {
     }
 }
 
-// Reads the trace that a word names.
+// Checks the trace that an argument names, and returns the outcome.
 fn outcome_of_word(rt: &HostRuntime, name: &str) -> Result<Outcome, TraceFault> {
     let is_live = name == LIVE;
     if is_live || name == "-" {
         let input = io::BufReader::new(rt.alloc(), rt.reader())?;
-        return outcome_of_reader(rt, input, is_live);
+        return check_trace(rt, input, is_live);
     }
     let file = io::BufReader::new(rt.alloc(), fs::open(rt, name)?)?;
-    outcome_of_reader(rt, file, false)
+    check_trace(rt, file, false)
 }
 
-// Reads a trace, and lets go of its reader.
-fn outcome_of_reader<R: io::BufRead + Drop>(
+// Checks the trace that a reader gives, drops the reader, and returns the outcome. For `is_asked` see `outcome_of`.
+fn check_trace<R: io::BufRead + Drop>(
     rt: &HostRuntime,
     mut reader: R,
     is_asked: bool,

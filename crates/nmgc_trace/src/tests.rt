@@ -1,6 +1,7 @@
-//! What lists of lines come to, which no program judges, and streams that fail. What the program tells of texts is in
-//! `examples/traces` and `examples/rows`.
-use nmgc_judge::{Line, Report, Told, TraceFault, judge, judge_told, line_of, outcome_of, told_of};
+//! Lists of lines, which no program judges, and streams that fail. `examples/traces` and `examples/rows` test the output.
+use nmgc_trace_checker::{
+    Line, Meaning, Report, TraceFault, judge, judge_lines, line_of, meaning_of, outcome_of,
+};
 use std::alloc::Global;
 use std::collections::VecDeque;
 use std::io::{self, BufReader, ErrorKind, Print, Read, Write};
@@ -26,7 +27,7 @@ mark
 close
 ";
 
-// The lines of a text of format 1.
+// Returns the lines of a text of format 1.
 fn lines_of(alloc: Global, text: &str) -> Result<Vec<Line>, Fail> {
     let mut lines = Vec::new(alloc);
     for line in text.lines() {
@@ -35,26 +36,26 @@ fn lines_of(alloc: Global, text: &str) -> Result<Vec<Line>, Fail> {
     Ok(lines)
 }
 
-// The same of format 2.
-fn told_lines(alloc: Global, text: &str) -> Result<Vec<Told>, Fail> {
+// Returns the lines of a text of format 2.
+fn output_lines(alloc: Global, text: &str) -> Result<Vec<Meaning>, Fail> {
     let mut lines = Vec::new(alloc);
     for line in text.lines() {
-        lines.push(told_of(alloc, line)?)?;
+        lines.push(meaning_of(alloc, line)?)?;
     }
     Ok(lines)
 }
 
-// What a list of lines of format 1 is told to come to.
+// Returns the verdict on a list of lines of format 1, as text.
 fn judged(alloc: Global, text: &str) -> Result<String, Fail> {
     let lines = lines_of(alloc, text)?;
     let verdict = judge(alloc, lines.as_slice())?;
     Ok(format!(in alloc; "{verdict}")?)
 }
 
-// What a list of lines of format 2 comes to.
+// Returns the report on a list of lines of format 2.
 fn reported(alloc: Global, text: &str) -> Result<Report, Fail> {
-    let lines = told_lines(alloc, text)?;
-    Ok(judge_told(alloc, lines.as_slice())?)
+    let lines = output_lines(alloc, text)?;
+    Ok(judge_lines(alloc, lines.as_slice())?)
 }
 
 #[test]
@@ -75,7 +76,7 @@ fn lists_of_a_barrier_are_judged(rt: HostRuntime) -> Result<(), Fail> {
     Ok(())
 }
 
-// A text as a stream.
+// Returns a stream of texts, one after the other.
 fn stream(alloc: Global, parts: &[&str]) -> Result<VecDeque<u8>, Fail> {
     let mut bytes = VecDeque::new(alloc);
     for part in parts {
@@ -84,7 +85,7 @@ fn stream(alloc: Global, parts: &[&str]) -> Result<VecDeque<u8>, Fail> {
     Ok(bytes)
 }
 
-// A stream that fails once its bytes were read.
+// A stream that fails after its bytes were read.
 #[derive(Drop)]
 struct Cut {
     bytes: VecDeque<u8>,
@@ -99,8 +100,8 @@ impl Read for Cut {
     }
 }
 
-// Whether a fault is told of a stream that fails behind these bytes.
-fn is_fault_told<P: Print>(alloc: Global, answers: &P, parts: &[&str]) -> Result<bool, Fail> {
+// Whether a fault is reported for a stream that fails after these bytes.
+fn is_fault_printed<P: Print>(alloc: Global, answers: &P, parts: &[&str]) -> Result<bool, Fail> {
     let cut = Cut {
         bytes: stream(alloc, parts)?,
     };
@@ -109,7 +110,7 @@ fn is_fault_told<P: Print>(alloc: Global, answers: &P, parts: &[&str]) -> Result
     Ok(matches!(outcome, Err(TraceFault::Io(_))))
 }
 
-// A fault is never told as the end: not behind a whole line, nor within one, nor before all, nor where the trace is whole.
+// A fault is never reported as the end: after a whole line, within a line, before all lines, or after a whole trace.
 #[test]
 fn a_fault_is_no_end(rt: HostRuntime) -> Result<(), Fail> {
     for parts in [
@@ -125,8 +126,8 @@ fn a_fault_is_no_end(rt: HostRuntime) -> Result<(), Fail> {
         ],
         ["mutators 1\nmark\n", "close"],
     ] {
-        let told = is_fault_told(rt.alloc(), &rt, &parts)?;
-        assert!(rt; told);
+        let printed = is_fault_printed(rt.alloc(), &rt, &parts)?;
+        assert!(rt; printed);
     }
     Ok(())
 }

@@ -1,4 +1,4 @@
--- Every name of std, of the crates below and of this crate's definitions that the proofs speak of.
+-- Every name of std, of the crates below and of this crate's definitions that the proofs use.
 pub use Rattle.nmgc_lists.specs.Room.{Room}
 pub use Rattle.nmgc_object.specs.declared.words.Address.{Address}
 pub use Rattle.nmgc_updrem.specs.{Lines.IsLevelSo, Lines.Reserves, Lines.TakesRestSo, Rings.AtLine, Rings.Receiver, Rings.Ring, Rings.Sender, Rings.entries_of, Rings.sent as all_sent, contracts.level.Level.the_row, contracts.level.Level.of.clauses, contracts.level.Level.of.ended, contracts.level.Level.of.Key.name as #self, laws.Polls.polled_one}

@@ -1,8 +1,7 @@
-//! A value that only clauses read: an end of a ring as it was when both ends were last found level.
+//! A value that only clauses read: an end of a ring when both ends were last found level.
 //!
-//! Easy to get wrong: the library's own snapshot says the same, but a type that has one beside an end of a ring is not
-//! found to be `Send`, since the proof for the snapshot isn't filed with its type. A mutator goes to a thread with
-//! what is here, so this type's proof is filed with it.
+//! Easy to get wrong: the library's own snapshot says the same. But a type that has one beside an end of a ring is not found
+//! to be `Send`, since the snapshot's proof isn't filed with its type. A mutator moves to a thread, so this one is.
 ghost use Rattle.std.specs.Prelude.{◌≡◌};
 ghost use base.Fml.{ftrue};
 
@@ -19,7 +18,7 @@ impl<T> Model for Level<T> {
 }
 
 impl<T> Level<T> {
-    /// What the reference shows now. Nothing happens when it runs.
+    /// Returns, for clauses only, the value that the reference shows now. Nothing happens when it runs.
     pub(crate) fn of(x: &T) -> Level<T>
         ensures { result.value ≡ x.now }
     {

@@ -1,30 +1,30 @@
-//! What a mutator remembers for the marker: the objects to which a command took a reference away.
+//! The remembered set of a mutator: the objects whose references its commands removed, for the marker.
 //!
-//! While a cycle is marking, a mutator that overwrites a field pushes here the place of the object that the
-//! field referred to, in the order in which it came to owe them. So nothing that the snapshot reached is lost,
-//! though a mutator may have moved the only reference to it out of the marker's sight.
+//! While a cycle is marking, a mutator that overwrites a field pushes here the address of the object to which it referred, in
+//! the order of the commands. So no object that was reachable at the snapshot is lost, though its only reference may have
+//! left the marker's sight: `Note [Why the deletion barrier is enough]` in `nmgc_mutator/src/barrier.rt`.
 //!
-//! A push happens in the middle of a round and may take no memory, so room is made before the round.
-//! Contracts see an `UpdRem` as its entries in order, and for how many more it has room.
+//! A push happens in the middle of a round and may take no memory, so room is made before the round. Contracts see an
+//! `UpdRem` as its entries in order, and the number of further entries for which it has room.
 //!
-//! Full blocks go through a ring to the collector beside the mutators (`ring`); what it takes out there
-//! stands in a list of its own for each mutator (`inbox`). At a stop the entries of the list, then those of
-//! the ring, then those kept are together what was pushed since the last stop, in order.
+//! Full blocks go through a ring to the collector beside the mutators (`ring`). The collector puts the entries that it takes
+//! out into a list for each mutator (`inbox`). At a stop the entries of the list, then those in the ring, then those still in
+//! the remembered set are all entries pushed since the last stop, in order.
 //!
-//! Easy to get wrong: that two threads see the same ring is known only once one thread has both ends. So each
-//! end tells what it did itself, and `Inbox::take_rest`, at a stop, ties the two.
+//! Easy to get wrong: that two threads see the same ring is known only once one thread has both ends. So each end counts its
+//! own calls, and `Inbox::take_rest`, at a stop, ties the two.
 #![tactic(auto)]
 
 pub mod block;
 pub mod inbox;
 pub mod laws;
 mod level;
-pub mod polled;
+pub mod poll;
 pub mod ring;
 pub mod updrem;
 
 pub use block::{BLOCK_ENTRIES, UpdBlock};
 pub use inbox::Inbox;
-pub use polled::Polled;
+pub use poll::Poll;
 pub use ring::{RING_BLOCKS, UpdReceiver, UpdSender, link};
 pub use updrem::UpdRem;

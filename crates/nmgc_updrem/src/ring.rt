@@ -1,39 +1,39 @@
 //! A ring of blocks from a mutator to the collector, and its two ends.
 //!
-//! The mutator puts full blocks in beside the collector, which takes them out; neither waits for the other. Each
-//! end knows what it did itself. What the other did it learns where one thread has both, at a stop: what was
-//! received and what the ring holds are then exactly what was sent, in order.
+//! The mutator puts full blocks in while the collector takes them out; neither waits for the other. Each end knows its own
+//! calls. When one thread has both, at a stop, the blocks received and the blocks in the ring are exactly the blocks sent, in
+//! order. That an end looks at the other's progress is tested.
 //!
-//! A stop ends with an empty ring. What a mutator sent since is told by `since`: it is counted from when both ends
-//! were last found level, which a value without bytes remembers (`level`).
+//! A stop ends with an empty ring. `since` has the entries sent since then: it counts from the moment when both ends were
+//! last found level, which a value without bytes remembers (`level`).
 //!
-//! Before each object that it scans, the marker polls every ring, and nearly always finds nothing: so a call asks first
+//! Before each object that it scans, the marker polls every ring, and nearly always finds nothing. So a call asks first
 //! whether there is a block, or a slot, and only then has a block among its locals.
 //!
-//! Easy to get wrong: a sender that finds no slot keeps its block. The mark of an object whose place is lost is lost.
+//! Easy to get wrong: a sender that finds no slot keeps its block. An object whose address is lost is never marked.
 ghost use Rattle.std.specs.Prelude.{◌≡◌, ◌+◌, ◌<◌, ◌≤◌, ◌↔◌, List, [], ◌∷◌, ◌++◌, length, take, IsTrue, IsNone, IfOk, IfSome, IfNone, OnOk, OnErr, vec_len, vec_capacity};
 ghost use Rattle.rtrb.specs.Ring.{received, known_items, SameConsumer};
 ghost use Rattle.nmgc_object.specs.declared.words.Address.{Address};
-ghost use Rattle.nmgc_updrem.specs.{declared.block.TheConstants.BLOCK_ENTRIES, declared.polled.Polled.TheVariants.NoRoom, declared.ring.TheConstants.RING_BLOCKS};
+ghost use Rattle.nmgc_updrem.specs.{declared.block.TheConstants.BLOCK_ENTRIES, declared.poll.Poll.TheVariants.NoRoom, declared.ring.TheConstants.RING_BLOCKS};
 ghost use Rattle.nmgc_updrem.specs.Rings.{IsPair, AreNew, HasSent, HasLooked, HasReceived, KnowsNone, Polls, HasMet, TakesRest, IsLevel};
 
 use crate::block::{BLOCK_ENTRIES, UpdBlock};
 use crate::level::Level;
-use crate::polled::Polled;
+use crate::poll::Poll;
 use nmgc_lists::NoMemory;
 use nmgc_object::Address;
 use rtrb::{Consumer, Producer, RingBuffer};
 use std::alloc::Global;
 use std::marker::Model;
 
-/// How many blocks a ring has room for.
+/// The number of blocks for which a ring has room.
 pub const RING_BLOCKS: usize = 64;
 
-/// The end of a ring into which a mutator puts blocks. It may move to another thread.
+/// A mutator's end of a ring, which puts blocks into the ring. It may move to another thread.
 #[derive(Drop)]
 pub struct UpdSender {
     producer: Producer<UpdBlock>,
-    // The producer as both ends were last found level. It has no bytes.
+    // The producer when both ends were last found level. It has no bytes.
     level: Level<Producer<UpdBlock>>,
 }
 
@@ -54,7 +54,7 @@ impl Model for UpdSender {
     ghost invariant = { λ s. length (sent s.level.value) ≤ length (sent s.producer) };
 }
 
-/// The end from which the collector takes blocks, with a list of entries. It may move to another thread.
+/// The collector's end of a ring, which takes blocks out of the ring, with a list of entries. It may move to another thread.
 #[derive(Drop)]
 pub struct UpdReceiver {
     consumer: Consumer<UpdBlock>,
@@ -76,7 +76,7 @@ impl Model for UpdReceiver {
     } };
 }
 
-/// A ring with room for `RING_BLOCKS` blocks, empty. Takes its memory at once, and no more later but for `reserve`.
+/// Makes an empty ring with room for `RING_BLOCKS` blocks, and returns its two ends. Later only `reserve` takes memory.
 pub fn link(alloc: Global) -> Result<(UpdSender, UpdReceiver), NoMemory>
     ensures { IfOk result (λ ends. AreNew RING_BLOCKS ends.0 ends.1) }
 {
@@ -90,7 +90,7 @@ pub fn link(alloc: Global) -> Result<(UpdSender, UpdReceiver), NoMemory>
 }
 
 impl UpdSender {
-    // Whether this end knows of no free slot. What it knew to be free it still knows.
+    // Whether this end knows of no free slot. Every slot that it knew to be free stays known.
     pub(crate) fn is_full(&mut self) -> bool
         ensures looked { HasLooked self.old self.new }
         ensures value { IsTrue result ↔ (self.new.free ≡ 0) }
@@ -99,8 +99,8 @@ impl UpdSender {
         self.producer.is_full()
     }
 
-    // Puts the first places of a list into the ring as a block. A slot has to be known to be free. It stays a function
-    // of its own when it is built, so that only a call that sends clears memory for a block.
+    // Puts the first `BLOCK_ENTRIES` addresses of a list into the ring as a block. A slot has to be known to be free. The
+    // call isn't inlined, so that memory for a block is cleared only when a block is sent.
     #[inline(never)]
     pub(crate) fn send(&mut self, places: &[Address])
         requires full { BLOCK_ENTRIES ≤ length places.now }
@@ -112,8 +112,8 @@ impl UpdSender {
 }
 
 impl UpdReceiver {
-    /// Takes the oldest block out of the ring. `None` comes only where this end knew of no block as it looked. Takes no
-    /// memory, constant time, and waits for nobody.
+    /// Takes the oldest block out of the ring and returns it: blocks come out in the order in which they went in. Returns
+    /// `None` only if this end knew of no block when it looked. Takes no memory, constant time, and never waits.
     pub fn take(&mut self) -> Option<UpdBlock>
         ensures some { IfSome result (λ block. HasReceived self.old self.new block × (self.new.taken ≡ self.old.taken)) }
         ensures none { IfNone result (KnowsNone self.old self.new) }
@@ -124,7 +124,7 @@ impl UpdReceiver {
         Some(self.consumer.pop_known())
     }
 
-    /// Makes room for at least so many more entries. After `NoMemory` the list is as it was.
+    /// Makes room for at least `entries` more entries. After `NoMemory` the list is unchanged.
     pub fn reserve(&mut self, entries: u32) -> Result<(), NoMemory>
         ensures rest { self.new ≡ record self.old { taken = self.new.taken } }
         ensures items { self.new.taken.items ≡ self.old.taken.items }
@@ -136,33 +136,31 @@ impl UpdReceiver {
         Ok(())
     }
 
-    /// Takes the oldest block out of the ring, if the list has room for it.
-    ///
-    /// `Took`: its entries stand at the list's end. `Nothing` comes only where this end knew of no block as it looked.
-    /// `NoRoom` comes exactly where fewer than `BLOCK_ENTRIES` places of the list are spare, and then nobody looked.
-    /// Takes no memory, and waits for nobody.
-    pub fn poll(&mut self) -> Polled
+    /// Takes the oldest block out of the ring and appends its entries to the list, if the list has room for a block.
+    /// `Took`: a block was taken. `Nothing`: this end knew of no block when it looked. `NoRoom`, exactly if the list has room
+    /// for fewer than `BLOCK_ENTRIES` entries: then this end doesn't look. Takes no memory, and never waits.
+    pub fn poll(&mut self) -> Poll
         ensures polls { Polls self.old self.new result }
         ensures room { (result ≡ NoRoom) ↔ (self.old.taken.spare < BLOCK_ENTRIES) }
     {
         if self.entries.capacity() - self.entries.len() < BLOCK_ENTRIES {
-            return Polled::NoRoom;
+            return Poll::NoRoom;
         }
         if self.consumer.slots() == 0 {
-            return Polled::Nothing;
+            return Poll::Nothing;
         }
         receive(&mut self.consumer, &mut self.entries);
-        Polled::Took
+        Poll::Took
     }
 
-    /// The entries taken since the last `clear`, from the oldest on.
+    /// Returns the entries taken since the last `clear`, from the oldest on.
     pub fn entries(&self) -> &[Address]
         ensures { result.now ≡ self.now.taken.items }
     {
         self.entries.as_slice()
     }
 
-    /// Empties the list. Its room stays.
+    /// Empties the list of entries. The list keeps its room.
     pub fn clear(&mut self)
         ensures rest { self.new ≡ record self.old { taken = self.new.taken } }
         ensures items { self.new.taken.items ≡ [] }
@@ -171,7 +169,8 @@ impl UpdReceiver {
         self.entries.clear();
     }
 
-    // Looks what the ring has, by a thread that has both ends.
+    // Looks into the ring, in a thread with both ends. Then the entries received and those in the ring are all that were
+    // sent.
     pub(crate) fn meet(&mut self, sender: &mut UpdSender)
         requires { IsPair sender.old self.old }
         ensures { HasMet self.old self.new sender.old sender.new }
@@ -179,8 +178,8 @@ impl UpdReceiver {
         self.consumer.slots_beside(&mut sender.producer);
     }
 
-    /// Takes the oldest block out of the ring, by a thread that has both ends. `None` comes exactly where the ring is
-    /// empty. Both ends are level then: the sender counts what it sends from here on anew. Takes no memory.
+    /// Takes the oldest block out of the ring and returns it, in a thread that has both ends. Returns `None` exactly if the
+    /// ring is empty: then both ends are level, and the sender counts its entries anew. Takes no memory.
     pub fn take_rest(&mut self, sender: &mut UpdSender) -> Option<UpdBlock>
         requires { IsPair sender.old self.old }
         ensures some { IfSome result (λ block. TakesRest self.old self.new sender.old sender.new block) }
@@ -194,8 +193,8 @@ impl UpdReceiver {
     }
 }
 
-// The oldest block of a ring comes out, and its entries join a list that has room for them. The block has to be known.
-// It stays a function of its own when it is built, so that a poll that finds nothing clears no memory for a block.
+// Takes the oldest block out of a ring, and appends its entries to a list that has room for them. The block has to be known.
+// The call isn't inlined, so that a poll that finds nothing clears no memory for a block.
 #[inline(never)]
 fn receive(consumer: &mut Consumer<UpdBlock>, entries: &mut Vec<Address>)
     requires known { 0 < length (known_items consumer.old) }
@@ -209,7 +208,7 @@ fn receive(consumer: &mut Consumer<UpdBlock>, entries: &mut Vec<Address>)
     append(entries, &block);
 }
 
-// The entries of a block join a list that has room for them.
+// Appends the entries of a block to a list that has room for them.
 fn append(entries: &mut Vec<Address>, block: &UpdBlock)
     requires { vec_len entries.old + BLOCK_ENTRIES ≤ vec_capacity entries.old }
     ensures items { entries.new.items ≡ entries.old.items ++ block.now }

@@ -1,11 +1,11 @@
--- What scans mark at a stop: all of it has a fact that strong fields of the world hand on.
+-- The marks of scans at a stop: all marked names have a fact that strong fields of the world hand on.
 use Rattle.nmgc_weak.proofs.Vocabulary.{◌≡◌, ◌≤◌, ◌+◌, ℕ, zero, suc, Bool, true, false, cond, eqb, leb, List, [], ◌∷◌, refl, sym, ap, subst, ◌∙◌, arith, Option, Some, None, inl, inr, ◌⊎◌, Contains, IsSome, ◌&&◌, or_parts, and_cases, cases_eq, Contains-append_cases, Contains-push_cases, Name, Value, Node, World, node_of, RefersTo, contains_head, contains_tail, nothing_in, one_is, after_scan, advanced, read_at, moved_on, fields_of, is_last, State, entry_of, mark_name, mark_read, mark_cases, new_there, read_cases, has_result, field_at_place, Happening, did, scanned, replay, AreScans, eq-eqb}
 use Rattle.nmgc_snapshot_laws.specs.declared.event.Entry.{Entry}
 use Rattle.nmgc_world_spec.specs.declared.value.Value.TheVariants as value
 
 module _ (P : Name → Type 0) (w snapshot : World) (hands_on : (name target : Name) → P name → RefersTo w name target →
     IsSome (node_of snapshot target) → P target) where
-  -- an entry of such a name; past a thunk's result only where there is none
+  -- an entry of such a name, which is past a thunk's result only if there is none
   pub record IsClean (entry : Entry) : Type 0 where
     pub name : P entry.name
     pub passed : (entry.position ≤ 1) ⊎ ((node : Node) → node_of w entry.name ≡ Some node → has_result node ≡ false)
@@ -39,7 +39,7 @@ module _ (P : Name → Type 0) (w snapshot : World) (hands_on : (name target : N
   read_clean s (Some (value.Number n)) h may = h
   read_clean s (Some (value.Ref name)) h may = name_clean s name h (may name refl)
 
-  -- what the first entry reads
+  -- the value that the first entry reads
   reads : (entry : Entry) (node : Option Node) (position : ℕ) (target : Name) → IsClean entry → node_of w entry.name ≡ node →
       entry.position ≡ position → read_at node position ≡ Some (value.Ref target) → IsSome (node_of snapshot target) → P target
   reads entry None position target c e at h there = absurd cc
@@ -105,7 +105,7 @@ module _ (P : Name → Type 0) (w snapshot : World) (hands_on : (name target : N
   scans_clean s (did m x r ∷ es) h c = absurd h
   scans_clean s (scanned entry v ∷ es) h c = scans_clean (after_scan s s.queue) es h (scan_clean s s.queue refl c)
 
-  -- where all that waits has the fact, and nothing was read of it
+  -- a state whose waiting names have the fact, before any of their fields was read
   pub clean_from : (s : State) → s.world ≡ w → s.snapshot ≡ snapshot → ((name : Name) → Contains s.marked name → P name) →
       ((entry : Entry) → Contains s.queue entry → P entry.name × (entry.position ≤ 1)) → AreClean s
   clean_from s world is marked queued = record {

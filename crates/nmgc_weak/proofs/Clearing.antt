@@ -1,4 +1,4 @@
--- Value words that become 0 one after another.
+-- Value words that become 0 in order.
 use Rattle.nmgc_weak.proofs.Vocabulary.{◌≡◌, ◌+◌, ◌<◌, ℕ, zero, suc, List, [], ◌∷◌, ◌++◌, length, take, get_or, set, refl, ap, ◌∙◌, arith, length-set, slice_index, OldWeak, Death, value_place, finaliser_place, without_values, deaths_of}
 
 pub cleared_length : (words : List ℕ) (dying : List OldWeak) → length (without_values words dying) ≡ length words
@@ -13,7 +13,7 @@ cleared_more words (x ∷ xs) (suc i) d lt =
     let z : suc i + 1 ≡ suc (i + 1) = omega arith in
     ap (λ n. without_values words (take n (x ∷ xs))) z ∙ cleared_more (set words (value_place x.at.0) 0) xs i d (omega arith)
 
--- the death of one
+-- the death of a weak pointer
 abbrev pub death_of : List ℕ → OldWeak → Death
 death_of words weak = record { weak = weak.weak; finaliser = slice_index words (finaliser_place weak.at.0) }
 

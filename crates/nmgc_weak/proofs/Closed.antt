@@ -15,7 +15,7 @@ of_opening o (d ∷ ds) (x ∷ xs) h = (h.0, of_opening o ds xs h.1)
 of_opening o [] (x ∷ xs) h = absurd h
 of_opening o (d ∷ ds) [] h = absurd h
 
--- another death changes none of those that follow
+-- a further death changes none of those that follow
 still_deaths : (P : Place →
     Type 0) (w : World) (world : IsWorld w) (d : Name) (parts : Parts) (alive : IsAlive w d parts) (dead : List Name) (deaths : List Death) →
     ((n : Name) → Contains dead n → n ≢ d) → DeathsAt P w dead deaths → DeathsAt P (closed_by w d (node_of w d)) dead deaths

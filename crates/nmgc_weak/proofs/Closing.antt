@@ -1,5 +1,5 @@
--- Where no weak pointer is left that keeps something new, what is marked is what is live; and once the finalisers of those
--- that die are marked, what is kept: so the machine has closed.
+-- If no weak pointer is left that keeps anything new, exactly the live names are marked. Once the finalisers of the dying are
+-- marked, exactly the kept names are marked, so the machine has closed.
 use Rattle.std.proofs.Common.{◌≡◌, ◌↔◌, Bool, true, false, List, [], refl, sym, subst, inl, inr}
 use Rattle.std.specs.Prelude.{Contains}
 use Rattle.nmgc_world_spec.specs.{declared.value.Name.Name, declared.value.Value.Value, declared.node.Parts.Parts, Reach.IsAlive, Reach.IsPlain, Reach.IsKeptBy, Reach.IsDead, Reach.IsKept, Reach.Lists, Reach.RefersTo, Reach.closed}
@@ -8,7 +8,7 @@ use Rattle.nmgc_world_spec.specs.Reach as reach
 use Rattle.nmgc_snapshot_laws.specs.{Closing.IsWaiting, Closing.IsClosing, Facts.IsLiveIn, Facts.Facts, Machine.AreEmpty, State.State, State.is_listed, laws.Listed.contains_listed, laws.Listed.not_listed, laws.Lives.stands, laws.Ending.dead_dying, laws.Ending.dying_dead, laws.Ending.kept_last, laws.Ending.last_kept, laws.Ending.dying_lists, laws.Ending.none_ahead, laws.Ending.safe_marked}
 use Rattle.nmgc_weak.specs.Steps.{IsKeyMarked, IsLost}
 
--- where nothing waits, is owed or is pushed, what is safe is marked, and a marked name has its fields marked
+-- if nothing waits, is owed or is pushed, safe names are marked, and the fields of marked names are marked
 module _ (s : State) (f : Facts s) (queue : s.queue ≡ []) (owed : AreEmpty s.owed) (pushed : AreEmpty s.pushed) where
   pub field_marked : (name target : Name) → Contains s.marked name → RefersTo s.snapshot name target → Contains s.marked target
   field_marked name target c r =
@@ -18,7 +18,7 @@ module _ (s : State) (f : Facts s) (queue : s.queue ≡ []) (owed : AreEmpty s.o
         | inr ahead ↦ absurd (none_ahead s f queue owed pushed name i.0 c ahead.1)
       ]
 
-  -- every waiting weak pointer whose key is marked has marked its parts: then what is live is marked
+  -- once every waiting weak pointer with a marked key has marked its parts, all live names are marked
   module _ (full : (weak target : Name) (parts : Parts) → IsWaiting s weak parts → IsKeyMarked s.marked parts.key → IsKeptBy weak parts target →
       Contains s.marked target) where
     by_weak : (weak target : Name) (parts : Parts) → IsAlive s.snapshot weak parts → IsKeyMarked s.marked parts.key → IsKeptBy weak parts target →
@@ -42,7 +42,7 @@ module _ (s : State) (f : Facts s) (queue : s.queue ≡ []) (owed : AreEmpty s.o
     live_marked name (reach.live_key weak target key parts alive is l kept) =
         by_weak weak target parts alive (subst (IsKeyMarked s.marked) (sym is) (live_marked key l)) kept
 
-    -- a lost weak pointer is one that dies
+    -- a lost weak pointer dies
     pub lost_dead : (weak : Name) → IsLost s weak → IsDead s.snapshot s.opened s.finalised weak
     lost_dead weak l = by_key l.parts.key refl
       where
@@ -65,7 +65,7 @@ module _ (s : State) (f : Facts s) (queue : s.queue ≡ []) (owed : AreEmpty s.o
       lost = λ shown. d.lost (f.base.live d.key (let c : IsKeyMarked s.marked (value.Ref d.key) = subst (IsKeyMarked s.marked) d.key_is shown in c));
     }
 
--- a state that may close, whose end is told by live and kept names alone
+-- a state that may close, with its end given by live and kept names alone
 module _ (s : State) (f : Facts s) (queue : s.queue ≡ []) (owed : AreEmpty s.owed) (pushed : AreEmpty s.pushed) where
   pub closes : (dead marked : List Name) → Lists (IsDead s.snapshot s.opened s.finalised) dead →
       ((name : Name) → Contains marked name ↔ IsKept s.snapshot s.opened s.finalised name) →
@@ -84,7 +84,7 @@ module _ (s : State) (f : Facts s) (queue : s.queue ≡ []) (owed : AreEmpty s.o
     refl,
   )
 
-  -- and what a closing says of them
+  -- and the dead and kept names of a closing
   pub closed_dead : (next : State) (c : IsClosing s next) → Lists (IsDead s.snapshot s.opened s.finalised) c.dead
   closed_dead next c = dying_lists s f queue owed pushed c.dead c.lists
 

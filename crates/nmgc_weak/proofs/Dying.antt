@@ -1,4 +1,4 @@
--- Weak pointers that die, in the words: their value words become 0, and words and list stand for the closed world.
+-- Weak pointers that die, in the words: their value words become 0, and words and list represent the closed world.
 use Rattle.nmgc_weak.proofs.Vocabulary.{◌≡◌, ◌≢◌, ◌+◌, ◌≤◌, ℕ, zero, suc, Bool, true, false, cond, eqb, ne_eqb, eq-eqb, List, [], ◌∷◌, set, refl, sym, ap, subst, ◌∙◌, arith, Some, None, inl, inr, ◌⊎◌, Contains, slice_index, filter, not, cases_eq, Name, Value, Weak, Parts, World, IsWorld, node_of, IsAlive, IsAliveWeak, IsBefore, IsInOrder, IsReached, closed, closed_by, contains_head, contains_tail, contains_cases, in_order_first, in_order_rest, not_before_itself, Layout, HEADER_WORDS, Dies, dies_by, Slot, holds, unset, Place, Means, Fills, LiesWell, get_or-set_other, Represents, NoNode, AreEarlier, ListsWeaks, IsListedWeak, IsTracked, field_changed, closing_tracks, closing_keeps_earlier, OldWeak, place_of, places_of, names_of, value_place, without_values, alive_of, is_alive, names_same, of_place, dead_at}
 use Rattle.nmgc_world_spec.specs.declared.value.Value.TheVariants as value
 use Rattle.nmgc_weak.proofs.{Leaving.filter_ordered, Saving.has_place}
@@ -7,7 +7,7 @@ use Rattle.nmgc_weak.proofs.{Leaving.filter_ordered, Saving.has_place}
 pub alive_tracked : (w : World) (earlier : List World) (weak : Name) (parts : Parts) → IsAlive w weak parts → IsTracked w earlier weak
 alive_tracked w earlier weak parts alive = IsReached.start weak (w, contains_head w earlier, IsReached.start weak (inr (weak, parts, alive, inl refl)))
 
--- what a death leaves
+-- the effect of a death
 module _ (w : World) (world : IsWorld w) (d : Name) (parts : Parts) (alive : IsAlive w d parts) where
   abbrev v : World
   v = closed_by w d (node_of w d)
@@ -44,7 +44,7 @@ module _ (w : World) (world : IsWorld w) (d : Name) (parts : Parts) (alive : IsA
   pub world_then : IsWorld v
   world_then = dies.world
 
--- each of these is alive, and has its place
+-- each of these is alive, and has its address
 abbrev pub AreAlive : List Place → World → List OldWeak → Type 0
 AreAlive places w dying = (x : OldWeak) → Contains dying x → Contains places (place_of x) × IsAliveWeak w x.weak
 
@@ -62,13 +62,13 @@ name_there (y ∷ ys) name c = elim (contains_cases y.weak (names_of ys) name c)
   | inr d ↦ let r = name_there ys name d in (r.0, contains_tail y ys r.0 r.1, r.2)
 ]
 
--- a place is above word 0
+-- an address is above word 0
 lies_above : (layout : Layout) (p : Place) → LiesWell layout p HEADER_WORDS → 1 ≤ p.at
 lies_above layout p (inl g) = let e = g.1 in omega arith
 lies_above layout p (inr (ne, inl segment)) = let l = segment.1 p.at (omega arith) (omega arith) in let f = l.from in omega arith
 lies_above layout p (inr (ne, inr nursery)) = let l = nursery.1 p.at (omega arith) (omega arith) in let f = l.from in omega arith
 
--- all of them die, one after another
+-- all of them die in order
 pub all_die : (layout : Layout) (earlier : List World) (places : List Place) (w : World) (words : List ℕ) (dying : List OldWeak) → IsWorld w →
     AreEarlier earlier w → IsInOrder (names_of dying) → AreAlive places w dying → Represents layout earlier NoNode places w words →
     Represents layout earlier NoNode places (closed w (names_of dying)) (without_values words dying)
@@ -107,7 +107,7 @@ set_zero [] (suc i) = refl
 set_zero (w ∷ ws) zero = refl
 set_zero (w ∷ ws) (suc i) = set_zero ws i
 
--- a value word of these is 0, and any other as it was
+-- a value word of these is 0, and any other is as before
 cleared_or : (words : List ℕ) (dying : List OldWeak) (j : ℕ) → (slice_index (without_values words dying) j ≡ slice_index words j) ⊎
     (slice_index (without_values words dying) j ≡ 0)
 cleared_or words [] j = inl refl
@@ -129,7 +129,7 @@ cleared_zero words (y ∷ ys) x c = elim (contains_cases y ys x c) [
   | inr d ↦ cleared_zero (set words (value_place y.at.0) 0) ys x d
 ]
 
--- those that pass a test
+-- the weak pointers that pass a test
 kept_other : (b : Bool) (y x : OldWeak) (kept : List OldWeak) → Contains kept x → Contains (cond b (y ∷ kept) kept) x
 kept_other true y x kept c = contains_tail y kept x c
 kept_other false y x kept c = c
@@ -175,7 +175,7 @@ set_word layout places w earlier words word (value.Ref name) r m e =
     let is = m.1 in
     omega arith
 
--- the list without the dead is that of the closed world
+-- the list without the dead is the closed world's
 module _ (layout : Layout) (earlier : List World) (places : List Place) (w : World) (words : List ℕ) (list dying : List OldWeak) (world : IsWorld w)
     (past : AreEarlier earlier w) (listed : ListsWeaks layout places w (places_of list)) (o : IsInOrder (names_of dying))
     (alive : AreAlive places w dying) (r : Represents layout earlier NoNode places w words) where

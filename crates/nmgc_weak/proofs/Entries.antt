@@ -1,8 +1,8 @@
--- Entries of a row: in order, found by halves, those that left, and what of them is in the list.
+-- Entries of a row: their order, binary search, the entries that left, and the entries in the list.
 use Rattle.nmgc_weak.proofs.Vocabulary.{◌≡◌, ◌≢◌, ◌⊎◌, ◌↔◌, ◌+◌, ◌-◌, ◌/◌, ◌<◌, ◌≤◌, ℕ, zero, suc, Bool, true, false, cond, eqb, eq-eqb, ne_eqb, get_or, List, [], ◌∷◌, ◌++◌, append-nil, length, length-append, take, drop, map, set, refl, sym, ap, subst, ◌∙◌, arith, Some, inl, inr, Contains, filter, slice_get, not, ◌&&◌, drop_all, get_or_default, take-append-drop, take_all, take_more, map_over_more, and_from, cases_lt, cases_order, none-some, same_Some, slice_get-get_or, slice_get_within, Contains-append_left, Contains-append_right, Contains-append_cases, Name, IsBefore, IsInOrder, same_name, before_trans, not_before_itself, in_order_first, in_order_rest, in_order_cons, Address, contains_head, contains_tail, contains_cases, contains_at, contains_map, map_contains, contains_filter, filter_contains, item_map, nothing_in, eq_true, and_both, false_of, unmarked, Entry, OldWeak, Row, listed, entry_names, IsEntryAt, is_same, without, names_of, is_alive, alive_of, value_place, filter_all, filter_cond, filter_same, filter_twice, slice_index}
 use Rattle.nmgc_lists.specs.laws.Items.{place_of}
 
--- of two names of a list in order the one that comes first is before the other
+-- of two names in an ordered list, the one at the earlier position is before the other
 pub before_at : (ns : List Name) (i j : ℕ) (a b : Name) → IsInOrder ns → slice_get ns i ≡ Some a → slice_get ns j ≡ Some b → i < j → IsBefore a b
 before_at [] i j a b o e f lt = absurd (none-some a e)
 before_at (x ∷ xs) zero zero a b o e f lt = absurd (omega arith)
@@ -10,11 +10,11 @@ before_at (x ∷ xs) zero (suc j) a b o e f lt = subst (λ (n : Name). IsBefore 
 before_at (x ∷ xs) (suc i) zero a b o e f lt = absurd (omega arith)
 before_at (x ∷ xs) (suc i) (suc j) a b o e f lt = before_at xs i j a b (in_order_rest x xs o) e f (omega arith)
 
--- the name of the entry at a place
+-- the name of the entry at a position
 pub name_at : (es : List Entry) (i : ℕ) (e : Entry) → slice_get es i ≡ Some e → slice_get (entry_names es) i ≡ Some e.weak.weak
 name_at es i e there = item_map (λ (x : Entry). x.weak.weak) es i e there
 
--- how far a name was looked for by halves: those before one place come before it, and those from another on after it
+-- the progress of a binary search for a name: entries before `low` come before it, and entries from `high` on after it
 pub record IsBetween (es : List Entry) (weak : Name) (low high : ℕ) : Type 0 where
   pub ordered : low ≤ high
   pub within : high ≤ length es
@@ -31,7 +31,7 @@ between_first es weak = record {
 
 module _ (es : List Entry) (weak : Name) (low high middle : ℕ) (o : IsInOrder (entry_names es)) (h : IsBetween es weak low high) (x : Entry)
     (there : slice_get es middle ≡ Some x) (above : low ≤ middle) (below : middle < high) where
-  -- the one in the middle comes before the name
+  -- the entry in the middle comes before the name
   pub between_low : IsBefore x.weak.weak weak → IsBetween es weak (middle + 1) high
   between_low b = record {
     ordered = omega (arith, below);
@@ -63,7 +63,7 @@ module _ (es : List Entry) (weak : Name) (low high middle : ℕ) (o : IsInOrder 
     ];
   }
 
--- the entry that is read at a place
+-- the entry that is read at a position
 abbrev pub no_entry : Entry
 no_entry = record { weak = record { weak = record { maker = 0; serial = 0 }; at = record { 0 = 0 } }; left = false }
 
@@ -73,14 +73,14 @@ nth_entry es i = get_or es i no_entry
 pub entry_there : (es : List Entry) (i : ℕ) → i < length es → slice_get es i ≡ Some (nth_entry es i)
 entry_there es i lt = slice_get-get_or es i no_entry lt
 
--- whoever has a place is read there
+-- an entry is read at its position
 pub read_entry : (es : List Entry) (i : ℕ) (x : Entry) → i < length es → x ≡ get_or es i x → slice_get es i ≡ Some x
 read_entry es i x lt is = slice_get-get_or es i x lt ∙ ap (λ (y : Entry). Some y) (sym is)
 
 pub read_row : (rows : List Row) (i : ℕ) (x : Row) → i < length rows → x ≡ get_or rows i x → slice_get rows i ≡ Some x
 read_row rows i x lt is = slice_get-get_or rows i x lt ∙ ap (λ (y : Row). Some y) (sym is)
 
--- once nothing is between, the name is nowhere
+-- once no entry is between, no entry has the name
 pub between_none : (es : List Entry) (weak : Name) (low high : ℕ) → IsBetween es weak low high → high ≤ low → (e : Entry) → Contains es e →
     e.weak.weak ≢ weak
 between_none es weak low high h past e c same =
@@ -90,11 +90,11 @@ between_none es weak low high h past e c same =
       | inr le ↦ not_before_itself weak (subst (λ (n : Name). IsBefore weak n) same (h.after at.0 e at.1 (omega (arith, past, le))))
     ]
 
--- what lies halfway
+-- the position halfway
 pub halfway : (low high : ℕ) → low < high → (low ≤ low + (high - low) / 2) × (low + (high - low) / 2 < high)
 halfway low high lt = (omega arith, omega arith)
 
--- of two names of which neither is before the other there is one
+-- two names are the same if neither is before the other
 pub neither_before : (a b : Name) → (IsBefore a b → ⊥) → (IsBefore b a → ⊥) → a ≡ b
 neither_before a b p q = elim (cases_order a.maker b.maker) [
   | inl maker ↦ elim (cases_order a.serial b.serial) [
@@ -104,7 +104,7 @@ neither_before a b p q = elim (cases_order a.maker b.maker) [
   | inr apart ↦ elim apart [ inl lt ↦ absurd (p (inl lt)) | inr lt ↦ absurd (q (inl lt)) ]
 ]
 
--- from a place on all come after a name
+-- from a position on all come after a name
 pub record ComeAfter (es : List Entry) (weak : Name) (place : ℕ) : Type 0 where
   pub within : place ≤ length es
   pub after : (j : ℕ) (e : Entry) → slice_get es j ≡ Some e → place ≤ j → IsBefore weak e.weak.weak
@@ -115,7 +115,7 @@ none_after es weak = record {
   after = λ j e there le. absurd (let within = slice_get_within es j e there in omega (arith, within, le));
 }
 
--- so also from the one before it on
+-- so also from the position before it on
 pub one_before : (es : List Entry) (weak : Name) (place : ℕ) (x : Entry) → ComeAfter es weak (place + 1) → slice_get es place ≡ Some x →
     IsBefore weak x.weak.weak → ComeAfter es weak place
 one_before es weak place x h there b = record {
@@ -129,7 +129,7 @@ one_before es weak place x h there b = record {
   ];
 }
 
--- those of the entries that are in the list, one by one
+-- the entries in the list, one by one
 pub listed_cons : (e : Entry) (es : List Entry) → listed (e ∷ es) ≡ cond (not e.left) (e.weak ∷ listed es) (listed es)
 listed_cons e es = by_test (not e.left)
   where
@@ -173,7 +173,7 @@ listed_ordered (e ∷ es) o =
     by_test true rest = in_order_cons e.weak.weak (names_of (listed es)) rest (λ n c. in_order_first e.weak.weak (entry_names es) o n (listed_names es n c))
     by_test false rest = rest
 
--- the names of entries with one more are its name and theirs
+-- the names of entries with a further entry are its name and theirs
 inserted_names : (es : List Entry) (k : ℕ) (x : Entry) (n : Name) → Contains (entry_names (take k es ++ x ∷ drop k es)) n →
     (x.weak.weak ≡ n) ⊎ Contains (entry_names es) n
 inserted_names [] zero x n c = contains_cases x.weak.weak [] n c
@@ -187,14 +187,14 @@ inserted_names (y ∷ ys) (suc k) x n c = elim (contains_cases y.weak.weak (entr
   ]
 ]
 
--- an entry of a name, and where it is
+-- an entry of a name, and its position
 entry_of : (es : List Entry) (n : Name) → Contains (entry_names es) n → (j : ℕ) × (e : Entry) × (slice_get es j ≡ Some e) × (e.weak.weak ≡ n)
 entry_of es n c =
     let r = map_contains (λ (e : Entry). e.weak.weak) es n c in
     let at = place_of es r.0 r.1 in
     (at.0, r.0, at.1, sym r.2)
 
--- at its place they stay in order
+-- with an entry inserted at its position they stay in order
 pub inserted_ordered : (es : List Entry) (k : ℕ) (x : Entry) → IsInOrder (entry_names es) →
     ((j : ℕ) (e : Entry) → slice_get es j ≡ Some e → k ≤ j → IsBefore x.weak.weak e.weak.weak) →
     ((j : ℕ) (e : Entry) → slice_get es j ≡ Some e → j < k → IsBefore e.weak.weak x.weak.weak) → IsInOrder (entry_names (take k es ++ x ∷ drop k es))
@@ -249,7 +249,7 @@ inserted_count es k x in_ =
     let all = ap length (sym (listed_parts es k)) ∙ length-append (listed (take k es)) (listed (drop k es)) in
     omega (arith, more, all)
 
--- the first ones, with one more
+-- the first entries with the next one
 pub listed_more : (es : List Entry) (i : ℕ) (d : Entry) → i < length es →
     listed (take (i + 1) es) ≡ listed (take i es) ++ cond (not (get_or es i d).left) ((get_or es i d).weak ∷ []) []
 listed_more es i d lt =
@@ -293,7 +293,7 @@ reused_has (y ∷ ys) (suc i) old x w there out in_ =
     )
     by_test false rest = rest
 
--- of entries that move together the list stays
+-- the list stays when entries move together
 and_same : (b : Bool) → (b && b) ≡ b
 and_same true = refl
 and_same false = refl
@@ -316,7 +316,7 @@ together_ordered (e ∷ es) o = by_test (not e.left) (together_ordered es (in_or
         in_order_first e.weak.weak (entry_names es) o n (rw r.2 (contains_map (λ (x : Entry). x.weak.weak) es r.0 was)))
     by_test false rest = rest
 
--- two of the same name at the same place
+-- two weak pointers of the same name at the same address
 pub same_old : (a b : OldWeak) → a.weak ≡ b.weak → a.at.0 ≡ b.at.0 → a ≡ b
 same_old a b e f =
     let first : a ≡ record { weak = b.weak; at = a.at } = ap (λ (n : Name). let w : OldWeak = record { weak = n; at = a.at } in w) e in
@@ -335,11 +335,11 @@ is_same_itself a =
     and_from (eqb a.weak.maker a.weak.maker) (eqb a.weak.serial a.weak.serial && eqb a.at.0 a.at.0) (eq-eqb a.weak.maker a.weak.maker refl)
     (and_from (eqb a.weak.serial a.weak.serial) (eqb a.at.0 a.at.0) (eq-eqb a.weak.serial a.weak.serial refl) (eq-eqb a.at.0 a.at.0 refl))
 
--- the list without one that it doesn't have
+-- the list without a weak pointer that it doesn't have
 pub without_none : (w : OldWeak) (l : List OldWeak) → ((x : OldWeak) → Contains l x → x ≢ w) → without w l ≡ l
 without_none w l h = filter_all (λ (x : OldWeak). not (is_same x w)) l (λ x c. ap not (false_of (is_same x w) (λ t. h x c (is_same_true x w t))))
 
--- the entry at a place has left: the list is without it
+-- the entry at a position has left: the list is without it
 pub left_list : (es : List Entry) (i : ℕ) (e : Entry) → IsInOrder (entry_names es) → slice_get es i ≡ Some e →
     listed (set es i (record e { left = true })) ≡ without e.weak (listed es)
 left_list [] i e o there = absurd (none-some e there)
@@ -369,14 +369,14 @@ left_list (x ∷ xs) (suc i) e o there =
     by_test true other = sym (ap (λ (b : Bool). cond (not b) (x.weak ∷ without e.weak (listed xs)) (without e.weak (listed xs))) other)
     by_test false other = refl
 
--- another entry of the same name leaves the names
+-- another entry of the same name keeps the names
 pub set_names : (es : List Entry) (i : ℕ) (e x : Entry) → slice_get es i ≡ Some e → x.weak.weak ≡ e.weak.weak → entry_names (set es i x) ≡ entry_names es
 set_names [] i e x there same = refl
 set_names (y ∷ ys) zero e x there same =
     ap (λ (n : Name). n ∷ entry_names ys) (same ∙ sym (ap (λ (z : Entry). z.weak.weak) (same_Some y e there)))
 set_names (y ∷ ys) (suc i) e x there same = ap (λ (l : List Name). y.weak.weak ∷ l) (set_names ys i e x there same)
 
--- of a name there is one entry
+-- a name has only one entry
 pub only_entry : (es : List Entry) (i : ℕ) (e b : Entry) → IsInOrder (entry_names es) → slice_get es i ≡ Some e → Contains es b →
     b.weak.weak ≡ e.weak.weak → b ≡ e
 only_entry es i e b o there c same =
@@ -389,7 +389,7 @@ only_entry es i e b o there c same =
       ])
     ]
 
--- so one of its name at another place isn't in the list
+-- so a weak pointer of its name at another address isn't in the list
 pub without_other : (es : List Entry) (i : ℕ) (e : Entry) (w : OldWeak) → IsInOrder (entry_names es) → slice_get es i ≡ Some e →
     e.weak.weak ≡ w.weak → e.weak.at.0 ≢ w.at.0 → without w (listed es) ≡ listed es
 without_other es i e w o there named apart = without_none w (listed es) (λ x c same.
@@ -398,13 +398,13 @@ without_other es i e w o there named apart = without_none w (listed es) (λ x c 
     let one = only_entry es i e r.0 o there r.1 (ap (λ (y : OldWeak). y.weak) is ∙ sym named) in
     apart (ap (λ (y : Entry). y.weak.at.0) (sym one) ∙ ap (λ (y : OldWeak). y.at.0) is))
 
--- and where no entry has its name, neither
+-- and a weak pointer whose name no entry has isn't either
 pub without_name : (es : List Entry) (w : OldWeak) → ((e : Entry) → Contains es e → e.weak.weak ≢ w.weak) → without w (listed es) ≡ listed es
 without_name es w none = without_none w (listed es) (λ x c same.
     let r = listed_in es x c in
     none r.0 r.1 (ap (λ (y : OldWeak). y.weak) (r.2 ∙ same)))
 
--- no more are in the list than there are entries
+-- the list is no longer than the entries
 pub listed_few : (es : List Entry) → length (listed es) ≤ length es
 listed_few [] = omega arith
 listed_few (e ∷ es) = rw (listed_cons e es) (by_test (not e.left) (listed_few es))
@@ -413,7 +413,7 @@ listed_few (e ∷ es) = rw (listed_cons e es) (by_test (not e.left) (listed_few 
     by_test true rest = omega (arith, rest)
     by_test false rest = omega (arith, rest)
 
--- another entry at a place adds one at most
+-- another entry at a position adds at most one
 pub set_count : (es : List Entry) (i : ℕ) (x : Entry) → length (listed (set es i x)) ≤ length (listed es) + 1
 set_count [] i x = omega arith
 set_count (y ∷ ys) zero x = rw (listed_cons x ys, listed_cons y ys) (by_tests (not x.left) (not y.left))
@@ -430,7 +430,7 @@ set_count (y ∷ ys) (suc i) x = rw (listed_cons y (set ys i x), listed_cons y y
     by_test true rest = omega (arith, rest)
     by_test false rest = omega (arith, rest)
 
--- an entry of the first ones that is in the list: there is room for it
+-- an entry of the list has room after the entries before it
 pub listed_below : (es : List Entry) (i : ℕ) (d : Entry) → i < length es → (get_or es i d).left ≡ false →
     length (listed (take i es)) + 1 ≤ length (listed es)
 listed_below es i d lt in_ =
@@ -475,7 +475,7 @@ marked_left words x e = ap (λ (b : Bool). let y : Entry = record { weak = x.wea
     either true d e = refl
     either false d e = sym e
 
--- an entry more, in a pass over them: the rest are as they were
+-- a further entry, in a pass over them: the rest are as before
 rest_read : (f : Entry → Entry) (was : List Entry) (i : ℕ) (d : Entry) → get_or (map f (take i was) ++ drop i was) i d ≡ get_or was i d
 rest_read f [] zero d = refl
 rest_read f [] (suc i) d = refl
@@ -487,7 +487,7 @@ module _ (words : List ℕ) (was es : List Entry) (i : ℕ) (lt : i < length was
   pub next_read : nth_entry es i ≡ nth_entry was i
   next_read = ap (λ (l : List Entry). nth_entry l i) done ∙ rest_read (marked words) was i no_entry
 
-  -- one that is in the list lies where its words are read
+  -- the words of an entry in the list are read at its address
   pub next_listed : (nth_entry es i).left ≡ false → Contains (listed was) (nth_entry es i).weak
   next_listed in_ =
       rw next_read (listed_has was (nth_entry was i) (contains_at was i (nth_entry was i) (entry_there was i lt)) (ap (λ (e : Entry). e.left) (sym next_read) ∙ in_))
@@ -500,7 +500,7 @@ pub marked_all : (words : List ℕ) (was es : List Entry) (i : ℕ) → length w
 marked_all words was es i le done =
     cc (done, take_all i was le, drop_all i was le, append-nil (map (marked words) was))
 
--- who stands before a place, where the one just before it comes before a name
+-- the entries before a position, if the entry just before it comes before a name
 pub before_last : (es : List Entry) (place : ℕ) (x : Entry) (weak : Name) → IsInOrder (entry_names es) → slice_get es place ≡ Some x →
     IsBefore x.weak.weak weak → (j : ℕ) (e : Entry) → slice_get es j ≡ Some e → j < place + 1 → IsBefore e.weak.weak weak
 before_last es place x weak o there b j e at lt = elim (cases_lt j place) [
@@ -523,7 +523,7 @@ module _ (es : List Entry) (i : ℕ) (weak : Name) (o : IsInOrder (entry_names e
   found_named : (x : Entry) → x ≡ get_or es i x → x.weak.weak ≡ weak
   found_named x is = ap (λ (e : Entry). e.weak.weak) (found_is x is) ∙ f.named
 
-  -- it lies elsewhere: the list is as it was
+  -- it lies at another address: the list is as before
   pub found_other : (x : Entry) (at : Address) → x ≡ get_or es i x → x.weak.at.0 ≢ at.0 →
       without (record { weak = weak; at = at }) (listed es) ≡ listed es
   found_other x at is apart =
@@ -542,7 +542,7 @@ module _ (es : List Entry) (i : ℕ) (weak : Name) (o : IsInOrder (entry_names e
       let same : m.weak ≡ w = same_old m.weak w (found_named m own) (ap (λ (e : Entry). e.weak.at.0) one ∙ here) in
       left_list es i m o (read_entry es i m found_within own) ∙ ap (λ (y : OldWeak). without y (listed es)) same
 
--- the entry before a place has a name, and left: it is used again
+-- the entry before a position has the name, and left: it is used again
 module _ (es : List Entry) (k : ℕ) (weak : Name) (at : Address) (x : Entry) (o : IsInOrder (entry_names es)) (there : slice_get es k ≡ Some x)
     (named : x.weak.weak ≡ weak) (absent : (w : OldWeak) → Contains (listed es) w → w.weak ≢ weak) where
   reused_left : x.left ≡ true

@@ -1,4 +1,4 @@
--- Those that die, found one after another: in order, since the list is.
+-- The dying, found one by one: in order, since the list is.
 use Rattle.nmgc_weak.proofs.Vocabulary.{◌≡◌, ◌+◌, ◌<◌, ℕ, zero, suc, List, [], ◌∷◌, ◌++◌, length, take, drop, get_or, refl, sym, ap, subst, ◌∙◌, append-nil, append_assoc, arith, inl, inr, ◌⊎◌, Contains, slice_index, Contains-append_left, Contains-push, Contains-push_cases, Name, IsInOrder, contains_head, contains_tail, contains_cases, in_order_first, in_order_rest, in_order_cons, IsEpoch, Segments, Place, Opening, MarkerSeen, OldWeak, CanResolve, IsLostAt, IsLost, AreLost, place_of, places_of, names_of, key_place, names_same}
 use Rattle.nmgc_weak.proofs.{Showing.lost_is, Saving.has_place}
 
@@ -10,7 +10,7 @@ pub places_append : (xs ys : List OldWeak) → places_of (xs ++ ys) ≡ places_o
 places_append [] ys = refl
 places_append (x ∷ xs) ys = ap (λ (l : List Place). place_of x ∷ l) (places_append xs ys)
 
--- one left out of a list in order
+-- an ordered list with an item left out
 before_all : (xs : List Name) (y : Name) (ys : List Name) (n : Name) → Contains (xs ++ ys) n → Contains (xs ++ y ∷ ys) n
 before_all [] y ys n c = contains_tail y ys n c
 before_all (x ∷ xs) y ys n c = elim (contains_cases x (xs ++ ys) n c) [
@@ -23,7 +23,7 @@ in_order_without [] y ys o = in_order_rest y ys o
 in_order_without (x ∷ xs) y ys o = in_order_cons x (xs ++ ys) (in_order_without xs y ys (in_order_rest x (xs ++ y ∷ ys) o)) (λ n c.
     in_order_first x (xs ++ y ∷ ys) o n (before_all xs y ys n c))
 
--- so far: the lost ones among the first so many, with the rest in order
+-- the search so far: the lost weak pointers among the first `i`, with the rest in order
 pub record IsFinding (o : Opening) (list dying : List OldWeak) (i : ℕ) : Type 0 where
   pub ordered : IsInOrder (names_of dying ++ names_of (drop i list))
   pub sound : (p : Place) → Contains (places_of dying) p → Contains (places_of list) p × IsLost o.core p.name

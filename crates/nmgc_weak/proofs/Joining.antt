@@ -1,7 +1,7 @@
--- Finalisers join their makers' queues one after another.
+-- Finalisers join their makers' queues in order.
 use Rattle.nmgc_weak.proofs.Vocabulary.{◌≡◌, ◌≢◌, ◌+◌, ◌<◌, ◌≤◌, ℕ, zero, suc, Bool, true, false, cond, List, [], ◌∷◌, ◌++◌, map, length, take, set, get_or, refl, sym, ap, subst, ◌∙◌, append-nil, append_assoc, length-append, length-set, arith, inl, inr, filter, slice_get, option_map, length-map, map-set, slice_get-map, get_within, cases_eq, eqb_tells, slice_get-set_same, slice_get-set_other, get_at, FinQueue, Death, joins, joined, HaveRoom, Joins, AllJoin, HaveJoined, Some}
 
--- the word of a death, where it joins this queue
+-- the word of a death, if it joins this queue
 abbrev pub one_of : ℕ → Death → List ℕ
 one_of maker death = cond (joins maker death) (death.finaliser ∷ []) []
 
@@ -21,7 +21,7 @@ joined_more maker (d ∷ ds) (suc i) e lt =
     let z : suc i + 1 ≡ suc (i + 1) = omega arith in
     cc (z, joined_cons maker d (take (i + 1) ds), joined_more maker ds i e (omega arith), append_assoc (one_of maker d) (joined maker (take i ds)) (one_of maker (get_or ds i e)), joined_cons maker d (take i ds))
 
--- no more join of the first so many than in all
+-- no more of the first `i` deaths join than of all
 pub joined_part : (maker : ℕ) (ds : List Death) (i : ℕ) (e : Death) → i < length ds →
     length (joined maker (take i ds)) + length (one_of maker (get_or ds i e)) ≤ length (joined maker ds)
 joined_part maker [] i e lt = absurd (omega arith)
@@ -99,7 +99,7 @@ module _ (ds : List Death) (i : ℕ) (e : Death) (old now : List FinQueue) (lt :
     ),
   )
 
-  -- any other its maker's
+  -- any other joins its maker's queue
   pub one_joins : (q r : FinQueue) → d.finaliser ≢ 1 → slice_get now d.weak.maker ≡ Some q → r.words ≡ q.words ++ d.finaliser ∷ [] →
       r.spare + 1 ≡ q.spare → AllJoin (take (i + 1) ds) old (set now d.weak.maker r)
   one_joins q r ne here words spare = (length-set now d.weak.maker r ∙ h.0, λ maker before is. by_maker maker before is (h.1 maker before is))
@@ -152,7 +152,7 @@ module _ {M : Type 0} (queue : M → FinQueue) (with_queue : M → FinQueue → 
   pub joined_count : (ds : List Death) (old now : List M) → HaveJoined queue with_queue ds old now → length now ≡ length old
   joined_count ds old now h = sym (length-map now queue) ∙ h.joined.0 ∙ length-map old queue
 
-  -- the queue of one that is there
+  -- the queue of a mutator
   pub queue_at : (now : List M) (k : ℕ) (m : M) → slice_get now k ≡ Some m → slice_get (map queue now) k ≡ Some (queue m)
   queue_at now k m here = slice_get-map queue now k ∙ ap (option_map queue) here
 
@@ -161,7 +161,7 @@ module _ {M : Type 0} (queue : M → FinQueue) (with_queue : M → FinQueue → 
     pub nil_stays : (get_or ds i e).finaliser ≡ 1 → HaveJoined queue with_queue (take (i + 1) ds) old now
     nil_stays nil = record { joined = nil_joins ds i e (map queue old) (map queue now) lt h.joined nil; rest = h.rest }
 
-    -- any other joins that of its maker, which is the one before with another queue
+    -- any other joins the queue of its maker, and only that queue of the mutator changes
     pub one_joined : ((m : M) (q : FinQueue) → queue (with_queue m q) ≡ q) →
         ((m : M) (q r : FinQueue) → with_queue (with_queue m q) r ≡ with_queue m r) → (m : M) (r : FinQueue) → (get_or ds i e).finaliser ≢ 1 →
         slice_get now (get_or ds i e).weak.maker ≡ Some m → r.words ≡ (queue m).words ++ (get_or ds i e).finaliser ∷ [] →

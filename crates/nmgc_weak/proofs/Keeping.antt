@@ -3,7 +3,7 @@ use Rattle.nmgc_weak.proofs.Vocabulary.{◌≡◌, ℕ, List, refl, sym, ap, sub
 use Rattle.nmgc_world_spec.specs.declared.value.Value.TheVariants as value
 use Rattle.nmgc_weak.proofs.{Parts.ref_in, Parts.named_at, Parts.meant, Parts.HasParts, Parts.has_parts, Parts.of_weak_tracked, Parts.may_queue, Stages.with_marks, Stages.done_marks, Stages.Stage, Stages.CanMark, Stages.stage_mark, Stages.marked_there, Stages.marked_still, Stages.stage_ready, Stages.stage_begins, Stages.stage_done, Stages.done_goes}
 
--- where the key of a weak pointer of the snapshot is marked, what it keeps is live
+-- if the key of a weak pointer of the snapshot is marked, all that it keeps is live
 kept_live : (s : State) → Facts s → (weak target : Name) (parts : Parts) → IsAlive s.snapshot weak parts → (key : Value) → parts.key ≡ key →
     IsKeyMarked s.marked key → IsKeptBy weak parts target → IsLive s.snapshot s.opened target
 kept_live s f weak target parts alive value.Nil e shown kept = plain_key weak target parts alive (subst IsPlain (sym e) tt) kept
@@ -55,7 +55,7 @@ module _ (o : Opening) (words : List ℕ) (s : Segments) (marker : MarkerSeen) (
   abbrev pub third : Marks
   third = with_name o.core.snapshot second (name_meant o.places (slice_index words (finaliser_place at)))
 
-  -- they are marked one after another
+  -- they are marked in order
   pub three : (s1 s2 s3 : Segments) (k1 k2 k3 : MarkerSeen) →
       ((m : Marks) → IsTied o m s marker → IsTied o (with_name o.core.snapshot m (name_at o.places at)) s1 k1) →
       ((m : Marks) → IsTied o m s1 k1 → IsTied o (with_name o.core.snapshot m (name_meant o.places (slice_index words (value_place at)))) s2 k2) →
@@ -98,7 +98,7 @@ module _ (o : Opening) (words : List ℕ) (s : Segments) (marker : MarkerSeen) (
       one_marked second (name_meant o.places (slice_index words (finaliser_place at))) target
       (meant o (slice_index words (finaliser_place at)) parts.finaliser apart word_parts.finaliser ∙ ap ref_in e) (in_snapshot target (inr (inr e)))
 
-  -- and all that they reach once the marker has finished
+  -- and all that is reachable from them once the marker has finished
   pub kept : (s3 s4 : Segments) (k3 k4 : MarkerSeen) → Stage o o.core.opened third s3 k3 →
       ((p : Opening) → IsReady p words s3 k3 → HasFinished p s4 k4) → HasKept o words s4 k4 weaks weak
   kept s3 s4 k3 k4 st fin =

@@ -1,4 +1,4 @@
--- The list as weak pointers leave it: it stays in order.
+-- The list stays in order when weak pointers leave it.
 use Rattle.nmgc_weak.proofs.Vocabulary.{Bool, true, false, cond, List, [], ◌∷◌, subst, inl, inr, Contains, filter, Name, IsInOrder, IsBefore, in_order_first, in_order_rest, in_order_cons, contains_head, contains_tail, contains_cases, OldWeak, names_of}
 
 -- a part of a list in order

@@ -7,7 +7,7 @@ pub mod Clean
 pub mod Showing
 pub mod Closing
 pub mod Saving
-pub mod Telling
+pub mod Knowing
 pub mod Counting
 pub mod Passing
 pub mod Finding

@@ -1,11 +1,11 @@
--- What is left of the list once those with no value have left.
+-- The list once all without a value have left.
 use Rattle.nmgc_weak.proofs.Vocabulary.{◌≡◌, ◌+◌, ℕ, true, List, ◌∷◌, refl, sym, ap, subst, ◌∙◌, arith, Option, Some, None, inl, inr, Contains, slice_index, Name, Weak, Parts, World, node_of, IsAlive, IsAliveWeak, IsInOrder, IsReached, contains_head, contains_tail, Layout, HEADER_WORDS, Place, Means, Represents, NoNode, ListsWeaks, IsListedWeak, holds, unset, IsTracked, OldWeak, KeepsOldWeaks, LeavingLists, place_of, places_of, value_place, alive_of, is_alive, names_same, of_place}
 use Rattle.nmgc_weak.proofs.{Dying.alive_word, Dying.word_alive, Dying.set_word, Dying.filter_keeps, Dying.filter_had, Leaving.filter_ordered, Saving.has_place}
 
 module _ (layout : Layout) (past : List World) (places : List Place) (began w : World) (words : List ℕ) (list : List OldWeak)
     (r : Represents layout (began ∷
     past) NoNode places w words) (listed : ListsWeaks layout places began (places_of list)) (old : KeepsOldWeaks layout places began w) where
-  -- a weak pointer that was alive as the round began is tracked
+  -- a weak pointer that was alive when the round began is tracked
   was_tracked : (weak : Name) (parts : Parts) → IsAlive began weak parts → IsTracked w (began ∷ past) weak
   was_tracked weak parts alive = IsReached.start weak (
     began,
@@ -13,7 +13,7 @@ module _ (layout : Layout) (past : List World) (places : List Place) (began w : 
     IsReached.start weak (inr (weak, parts, alive, inl refl)),
   )
 
-  -- where it lies, by its name
+  -- its address, by its name
   same_at : (at other : ℕ) (weak : Name) → Contains places (record { at = at; name = weak }) →
       Contains places (record { at = other; name = weak }) → at + HEADER_WORDS + 1 ≡ value_place other
   same_at at other weak c d =

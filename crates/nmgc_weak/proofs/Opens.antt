@@ -1,5 +1,5 @@
--- A name of the snapshot that is opened and marked at once keeps the facts: so the machine goes on from the finalisers of
--- those that die as if they had been opened.
+-- A name of the snapshot that is opened and marked at once keeps the facts. So the machine goes on from the finalisers of the
+-- dying as if they had been opened.
 use Rattle.nmgc_weak.proofs.Vocabulary.{◌≡◌, ℕ, List, [], ◌∷◌, ◌++◌, refl, sym, subst, get_or, Option, Some, None, inl, inr, Contains, IsSome, IfSome, All, Contains-push, Contains-push_cases, Name, Value, Node, World, node_of, state_of, IsAlive, IsRoot, field, further, Names, Fields, CoversReach, HasStrongField, MayHold, AsThen, IsSafe, Kept, Base, Facts, owed, pushed, marked, State, mark_name, all_from_contains, live_more, mark_base, mark_cases, still_marked, kept_then}
 use Rattle.nmgc_snapshot_laws.specs.{Facts.queued, Facts.unmarked, State.names_of, laws.Marking.marked_then}
 use Rattle.nmgc_world_spec.specs.declared.value.Value.TheVariants as value
@@ -59,7 +59,7 @@ module _ (s : State) (f : Facts s) (added : Name) (there : IsSome (node_of s.sna
     passed = f.base.passed;
   }
 
-  -- what is safe is so once the name is marked
+  -- safe names stay safe once the name is marked
   safe_wider : (name : Name) → IsSafe s name → IsSafe wider name
   safe_wider name (marked h) = marked h
   safe_wider name (owed m h) = owed m h

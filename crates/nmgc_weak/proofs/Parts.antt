@@ -1,4 +1,4 @@
--- The words of a weak pointer, and which names they mark.
+-- The words of a weak pointer, and the names that they mark.
 use Rattle.nmgc_weak.proofs.Vocabulary.{ne_eqb, eq-eqb, ◌≡◌, ◌+◌, ◌*◌, ◌/◌, ◌%◌, ℕ, true, false, eqb, List, [], ◌∷◌, refl, sym, ap, subst, ◌∙◌, arith, Option, Some, None, inl, inr, Contains, IsSome, slice_index, slice_get, Name, Value, Weak, Parts, World, node_of, IsAlive, IsReached, contains_head, is_some_of, HEADER_WORDS, entry_of, IsWide, IsOfWeak, Place, Means, holds, slots_of, IsTracked, AreEarlier, name_at, name_meant, earlier, IsQueued, CanOpen, Opening, AreApart, key_place, value_place, finaliser_place, some_at}
 use Rattle.nmgc_world_spec.specs.declared.value.Value.TheVariants as value
 
@@ -8,7 +8,7 @@ ref_in value.Nil = None
 ref_in (value.Number n) = None
 ref_in (value.Ref name) = Some name
 
--- the name at a place, where places are apart
+-- the name at an address, if objects are apart
 pub named_at : (o : Opening) (at : ℕ) (name : Name) → AreApart o.layout o.places → Contains o.places (record { at = at; name = name }) →
     name_at o.places at ≡ Some name
 named_at o at name h c =
@@ -16,7 +16,7 @@ named_at o at name h c =
     let same = h.one (record { at = at; name = r.0 }) (record { at = at; name = name }) r.2 c (inr refl) in
     r.1 ∙ ap (λ (p : Place). Some p.name) same
 
--- a word that has a meaning marks what the value refers to
+-- a word that has a meaning marks the name that the value refers to
 pub meant : (o : Opening) (w : ℕ) (v : Value) → AreApart o.layout o.places → Means (Contains o.places) w v → name_meant o.places w ≡ ref_in v
 meant o w value.Nil h e = ap (λ k. name_meant o.places k) e
 meant o w (value.Number n) h e =

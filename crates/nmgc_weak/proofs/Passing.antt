@@ -1,4 +1,4 @@
--- A pass over the list, and that one which marks nothing leaves nothing to be kept.
+-- A pass over the list, and that nothing is left to keep after a pass that marks nothing.
 use Rattle.nmgc_weak.proofs.Vocabulary.{◌≡◌, ◌+◌, ◌<◌, ℕ, zero, suc, List, [], ◌∷◌, ◌++◌, length, take, get_or, refl, sym, ap, subst, ◌∙◌, append-nil, append_assoc, length-append, arith, inl, inr, ◌⊎◌, Contains, IsSome, slice_index, Contains-append_left, Contains-push_cases, Name, Value, Parts, node_of, IsAlive, IsKeptBy, contains_head, one_is, IsWaiting, IsEpoch, Segments, IsSnapshotAt, Place, Opening, MarkerSeen, HasRoomToMark, HasMarked, marked_none, OldWeak, CanResolve, IsKeyMarked, IsKeyMarkedWord, IsLostAt, IsLost, MarksOn, GoesTo, GoesOn, CanKeep, HasKept, HasPassed, HasRevived, place_of, places_of, names_of, key_place, one_parts}
 use Rattle.nmgc_world_spec.specs.declared.value.Value.TheVariants as value
 use Rattle.nmgc_weak.proofs.{Showing.snapshot_is, Showing.snapshot_back, Showing.lost_is, Showing.shown_is, Counting.marked_sum, Saving.listed_place, Saving.place_has_name}
@@ -25,7 +25,7 @@ still_shown o p m value.Nil h = tt
 still_shown o p m (value.Number n) h = tt
 still_shown o p m (value.Ref name) h = still_marked o p m name h
 
--- what waits and what is alive is the same there
+-- the same weak pointers wait and are alive there
 pub waiting_on : (o p : Opening) → MarksOn o p → (weak : Name) (parts : Parts) → IsWaiting o.core weak parts → IsWaiting p.core weak parts
 waiting_on o p m weak parts h =
     let back : o.core.snapshot ≡ p.core.snapshot = sym (ap (λ (x : Opening). x.core.snapshot) m.rest) in
@@ -51,7 +51,7 @@ then_goes o p q words s t k l weaks a b = record { later = then_marks o p q a.la
 pub stays : (o : Opening) (words : List ℕ) (s : Segments) (k : MarkerSeen) (weaks : List Place) → CanResolve o words s k weaks → GoesTo o o words s k weaks
 stays o words s k weaks h = record { later = same_marks o; can = h }
 
--- one weak pointer of the snapshot whose key's word tells that the key is marked
+-- a weak pointer of the snapshot whose key word shows a marked key
 pub can_keep : (o : Opening) (words : List ℕ) (s : Segments) (k : MarkerSeen) (weaks : List Place) (weak : OldWeak) → CanResolve o words s k weaks →
     Contains weaks (place_of weak) → IsEpoch k.epoch → IsSnapshotAt s weak.at.0 →
     IsKeyMarkedWord s k.epoch (slice_index words (key_place weak.at.0)) → CanKeep o words s k weaks weak.at.0 weak.weak
@@ -74,7 +74,7 @@ one_kept o words t l weaks weak s k can h = record {
       h.kept target parts (can.facts.base.alive weak parts w.alive w.not_finalised) (subst (λ (n : Name). IsKeptBy n parts target) (sym same) kept);
 }
 
--- one that isn't of the snapshot, or is lost, keeps nothing
+-- a weak pointer that isn't in the snapshot, or is lost, keeps nothing
 pub none_kept : (o : Opening) (words : List ℕ) (s : Segments) (k : MarkerSeen) (weaks : List Place) (weak : OldWeak) →
     CanResolve o words s k weaks → Contains weaks (place_of weak) →
     (IsEpoch k.epoch × IsLostAt s k.epoch weak.at.0 (slice_index words (key_place weak.at.0))) ⊎ (IsSnapshotAt s weak.at.0 → ⊥) →
@@ -104,7 +104,7 @@ none_kept o words s k weaks weak h c why = record {
       | inr out ↦ out (snap_of parts w)
     ]
 
--- one after another
+-- two steps of a pass
 pub pass_more : (o : Opening) (words : List ℕ) (s t : Segments) (k l : MarkerSeen) (weaks : List Place) (passed : List Name) (weak : Name) →
     (p : HasPassed o words s k weaks passed) → HasPassed p.next words t l weaks (weak ∷ []) → HasPassed o words t l weaks (passed ++ weak ∷ [])
 pass_more o words s t k l weaks passed weak p q = record {
@@ -126,7 +126,7 @@ pass_none o words s k weaks h = record {
   kept = λ name target parts c waiting shown kept. absurd (omega (arith, c.1));
 }
 
--- the names of one more
+-- the names with the next one
 pub names_more : (list : List OldWeak) (i : ℕ) (d : OldWeak) → i < length list →
     names_of (take (i + 1) list) ≡ names_of (take i list) ++ (get_or list i d).weak ∷ []
 names_more [] i d lt = absurd (omega arith)
@@ -159,12 +159,12 @@ saturated o words s t k l list h count p =
           p.kept weak target parts c before (subst (λ (m : List Name). IsKeyMarked m parts.key) same shown) kept;
     }
 
--- from one round of passes to the next
+-- from a round of passes to the next
 pub revived_then : (o p : Opening) (words : List ℕ) (s t : Segments) (k l : MarkerSeen) (weaks : List Place) → GoesTo o p words s k weaks →
     HasRevived p words t l weaks → HasRevived o words t l weaks
 revived_then o p words s t k l weaks a b = record { next = b.next; goes = then_goes o p b.next words s t k l weaks a b.goes; saturated = b.saturated }
 
--- a step that leaves each state goes on from it, and so do two steps
+-- a step that leaves each state is a step on, and so are two steps
 pub goes_nowhere : (words : List ℕ) (s : Segments) (k : MarkerSeen) (weaks : List Place) → GoesOn words s s k k weaks
 goes_nowhere words s k weaks = λ o h. (o, stays o words s k weaks h)
 
@@ -180,7 +180,7 @@ pub passed_on : (words : List ℕ) (s t : Segments) (k l : MarkerSeen) (weaks : 
     ((o : Opening) → CanResolve o words s k weaks → HasPassed o words t l weaks names) → GoesOn words s t k l weaks
 passed_on words s t k l weaks names p = λ o h. let q = p o h in (q.next, q.goes)
 
--- what steps that keep more have come to: the words are the first ones, and what could be resolved still can
+-- the effect of steps that keep more: the words are the first words, and each state that could be resolved still can
 pub record HasGone (first now : List ℕ) (s t : Segments) (k l : MarkerSeen) (weaks : List Place) : Type 0 where
   pub words : now ≡ first
   pub marked : (count : ℕ) × HasMarked s t k l count
@@ -212,7 +212,7 @@ gone_can first now s t k l weaks h can =
     let p = h.goes can.0 can.1 in
     (p.0, subst (λ (w : List ℕ). CanResolve p.0 w t l weaks) (sym h.words) p.1.can)
 
--- and steps that end where nothing is left have revived all
+-- and steps that end with nothing left have revived all
 pub gone_revived : (first now : List ℕ) (s t u : Segments) (k l m : MarkerSeen) (weaks : List Place) → HasGone first now s t k l weaks →
     ((p : Opening) → CanResolve p now t l weaks → HasRevived p now u m weaks) → (o : Opening) → CanResolve o first s k weaks → HasRevived o first u m weaks
 gone_revived first now s t u k l m weaks h all o can =

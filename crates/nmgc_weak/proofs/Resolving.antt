@@ -3,7 +3,7 @@ use Rattle.nmgc_weak.proofs.Vocabulary.{true, map, ◌≡◌, ◌+◌, ◌*◌, 
 use Rattle.nmgc_world_spec.specs.declared.value.Value.TheVariants as value
 use Rattle.nmgc_weak.proofs.{Parts.HasParts, Parts.has_parts, Parts.of_weak_tracked, Closing.closes, Closing.closed_dead, Closing.closed_kept, Dying.AreAlive, Dying.all_die, Dying.lists_closed, Saving.has_place}
 
--- a pointer is no larger than a place may be
+-- a pointer is no larger than an address may be
 small_word : (o : Opening) (words : List ℕ) (s : Segments) (k : MarkerSeen) (weaks : List Place) (w : ℕ) (v : Value) →
     CanResolve o words s k weaks → Means (Contains o.places) w v → (to : ℕ) → w ≡ 2 * to → to < 2 ^ 32
 small_word o words s k weaks w value.Nil h m to e = absurd (omega arith)
@@ -44,7 +44,7 @@ lost_within o words list dying h l x c =
     let at : y.0.at.0 ≡ x.at.0 = ap (λ (p : Place). p.at) y.2 in
     subst (λ (i : ℕ). IsWithin words i) at (h y.0 y.1)
 
--- the one of the list at a place
+-- the weak pointer of the list at an address
 at_place : (list : List OldWeak) (x : OldWeak) → Contains (places_of list) (place_of x) → Contains list x
 at_place list x c =
     let y = of_place list (place_of x) c in
@@ -56,7 +56,7 @@ death_names : (words : List ℕ) (dying : List OldWeak) → names_of dying ≡ m
 death_names words [] = refl
 death_names words (x ∷ xs) = ap (λ (l : List Name). x.weak ∷ l) (death_names words xs)
 
--- the lost ones are of the list, and lose their values
+-- the lost weak pointers are in the list, and lose their values
 pub lost_values : (o : Opening) (words now : List ℕ) (list dying : List OldWeak) (deaths : List Death) → AreLost o (places_of list) dying →
     deaths ≡ deaths_of words dying → now ≡ without_values words dying → HaveLostValues list deaths words now
 lost_values o words now list dying deaths l d e = record {
@@ -70,7 +70,7 @@ lost_values o words now list dying deaths l d e = record {
 abbrev marking : Opening → List Name → Opening
 marking o marked = record o { core = record o.core { marked = marked } }
 
--- a closing from more marks is one from fewer, where both could close: what is live and kept is the same
+-- a closing from more marks is a closing from fewer, if both could close: the live and the kept names are the same
 closing_back : (o : Opening) (m : List Name) (words : List ℕ) (s t : Segments) (k l : MarkerSeen) (weaks : List Place) →
     CanResolve o words s k weaks → CanResolve (marking o m) words t l weaks → (next : State) → (c : IsClosing (marking o m).core next) →
     (d : IsClosing o.core next) × (d.dead ≡ c.dead)
@@ -82,17 +82,17 @@ closing_back o m words s t k l weaks h g next c =
     subst (λ (x : State). (y : IsClosing o.core x) × (y.dead ≡ c.dead)) same d
 
 -- the deaths of the dead
-deaths_told : (o : Opening) (words : List ℕ) (s : Segments) (k : MarkerSeen) (list dying : List OldWeak) → CanResolve o words s k (places_of list) →
+deaths_known : (o : Opening) (words : List ℕ) (s : Segments) (k : MarkerSeen) (list dying : List OldWeak) → CanResolve o words s k (places_of list) →
     ((x : OldWeak) → Contains dying x → Contains (places_of list) (place_of x)) → AreDeaths o (names_of dying) (deaths_of words dying)
-deaths_told o words s k list [] h sub = tt
-deaths_told o words s k list (x ∷ xs) h sub =
+deaths_known o words s k list [] h sub = tt
+deaths_known o words s k list (x ∷ xs) h sub =
     let l = h.listed.sound (place_of x) (sub x (contains_head x xs)) in
     let has = has_parts o words x.at.0 x.weak l.1.0 h.ready.opens l.0 l.1.1 in
-    ((refl, (l.1.0, l.1.1, has.finaliser)), deaths_told o words s k list xs h (λ y c. sub y (contains_tail x xs y c)))
+    ((refl, (l.1.0, l.1.1, has.finaliser)), deaths_known o words s k list xs h (λ y c. sub y (contains_tail x xs y c)))
 
 -- all steps
 module _ (o : Opening) (words : List ℕ) (s t u : Segments) (k l n : MarkerSeen) (list dying : List OldWeak) (h : CanResolve o words s k (places_of list)) where
-  -- from the marks of the revived on
+  -- from the marks after the revival on
   from_marks : (m : List Name) → CanResolve (marking o m) words t l (places_of list) → AreLost (marking o m) (places_of list) dying →
       HasRescued (marking o m) u n dying → HasResolved o (without_values words dying) u n (alive_of (without_values words dying) list) (deaths_of words dying)
   from_marks m g lost saved =
@@ -110,7 +110,7 @@ module _ (o : Opening) (words : List ℕ) (s t u : Segments) (k l n : MarkerSeen
         closing = c.0;
         once = saved.once;
         tied = tied_back m (marks_of saved.next) saved.tied;
-        deaths_are = rw dead (deaths_told o words s k list dying h (λ x d.
+        deaths_are = rw dead (deaths_known o words s k list dying h (λ x d.
             (lost.sound (place_of x) (has_place dying x d)).0));
         represents = subst (λ (w : World). Represents o.layout (earlier o) NoNode o.places w (without_values words dying)) (sym world) repr;
         listed = subst (λ (w : World). ListsWeaks o.layout o.places w (places_of (alive_of (without_values words dying) list))) (sym world) lists;

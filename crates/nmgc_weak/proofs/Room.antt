@@ -2,7 +2,7 @@
 use Rattle.nmgc_weak.proofs.Vocabulary.{◌≡◌, ◌+◌, ◌≤◌, ◌<◌, ℕ, Bool, true, false, cond, eqb, List, [], ◌∷◌, map, length, refl, sym, ap, subst, ◌∙◌, length-append, arith, Option, inl, inr, Contains, is_some, count_by, ◌==◌, ◌&&◌, eqb_tells, sum_by-cons, Name, Node, World, node_of, IsBefore, IsInOrder, contains_head, contains_tail, contains_cases, in_order_first, in_order_rest, not_before_itself, before_trans, name_cases, weak_maker, IsDying, Place, Opening, Death, DeathsHaveRoom, joins, joined, AreDeaths}
 use Rattle.nmgc_weak.proofs.{Joining.one_of, Joining.joined_cons, Saving.listed_place}
 
--- how many a test passes
+-- the number of passes of a test, 1 or 0
 abbrev pub one_if : Bool → ℕ
 one_if true = 1
 one_if false = 0
@@ -14,7 +14,7 @@ one_same false = refl
 pub count_cons : {A : Type 0} (f : A → Bool) (x : A) (xs : List A) → count_by f (x ∷ xs) ≡ one_if (f x) + count_by f xs
 count_cons f x xs = sum_by-cons (λ y. cond (f y) 1 0) x xs ∙ ap (λ (n : ℕ). n + count_by f xs) (sym (one_same (f x)))
 
--- of names in order, a part has no more that pass a test
+-- a part of ordered names has no more names that pass a test
 pub part_counts : (f : Name → Bool) (xs ys : List Name) → IsInOrder xs → IsInOrder ys → ((n : Name) → Contains xs n → Contains ys n) →
     count_by f xs ≤ count_by f ys
 part_counts f [] ys o p sub = omega arith
@@ -46,7 +46,7 @@ part_counts f (x ∷ xs) (y ∷ ys) o p sub = elim (name_cases x y) [
       | inr d ↦ not_before_itself y (subst (λ (m : Name). IsBefore y m) (sym e) (before_trans y x n before (in_order_first x xs o n d)))
     ]
 
--- a count over places is one over their names
+-- a count over addresses is a count over their names
 names_count : (g : Name → Bool) (weaks : List Place) → count_by g (map (λ (p : Place). p.name) weaks) ≡ count_by (λ (p : Place). g p.name) weaks
 names_count g [] = refl
 names_count g (p ∷ ps) = cc (count_cons g p.name (map (λ (q : Place). q.name) ps), names_count g ps, count_cons (λ (q : Place). g q.name) p ps)

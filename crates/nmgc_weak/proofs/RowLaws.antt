@@ -1,4 +1,4 @@
--- Rows of the list, one after another: who joins and who leaves.
+-- Rows of the list in order: the effects of joining and leaving.
 use Rattle.std.proofs.{Common.◌≡◌, Common.◌≢◌, Common.◌⊎◌, Common.◌↔◌, Common.◌+◌, Common.◌<◌, Common.◌≤◌, Common.ℕ, Common.zero, Common.suc, Common.Bool, Common.true, Common.false, Common.cond, Common.eqb, Common.eq-eqb, Common.ne_eqb, Common.slice_index, Common.List, Common.[], Common.◌∷◌, Common.◌++◌, Common.length, Common.length-append, Common.length-set, Common.take, Common.drop, Common.get_or, Common.append-nil, Common.set, Common.refl, Common.sym, Common.ap, Common.subst, Common.◌∙◌, Common.arith, Common.Some, Common.inl, Common.inr, lemmas.Grind.flat_map-append, lemmas.List.take_at, lemmas.List.Sums.count_by-le-length, lemmas.List.Sums.length-filter, lemmas.List.Sums.sum_by-append, lemmas.List.Sums.sum_by-cons, lemmas.Bool.and_from, lemmas.Bool.cases_eq, lemmas.Bool.cases_lt, lemmas.Option.none-some, lemmas.Option.same_Some, lemmas.Option.slice_get_within, lemmas.List.Elements.Contains-append_left, lemmas.List.Elements.Contains-append_right, lemmas.List.Elements.Contains-append_cases, lemmas.List.Elements.filter-append}
 use Rattle.std.specs.{Prelude.Contains, Prelude.filter, Prelude.slice_get, Prelude.not, List.count_by}
 use Rattle.nmgc_limits.specs.declared.mutators.TheConstants.{MAKERS}
@@ -7,7 +7,7 @@ use Rattle.nmgc_lists.specs.{laws.Items.contains_head, laws.Items.contains_tail,
 use Rattle.nmgc_weak.specs.{declared.weaks.OldWeak.OldWeak, Weaks.names_of, Weaks.is_alive, Weaks.value_place, laws.Left.filter_all, laws.Left.filter_same, Rows.Row, Rows.is_same, Rows.without, Rows.list_of, Rows.row_of, Rows.AreRows, Rows.leaves_at, Rows.left_at}
 use Rattle.nmgc_weak.proofs.{Finding.names_append, Entries.is_same_itself, Entries.is_same_true, Entries.same_old}
 
--- rows one after another: names of an earlier row come before those of a later one
+-- rows in order: names of an earlier row come before names of a later row
 rows_before : (a b : Name) → row_of a < row_of b → IsBefore a b
 rows_before a b lt =
     let less : a.maker < b.maker = omega (arith, lt) in
@@ -22,7 +22,7 @@ in_order_append (x ∷ xs) ys o p before =
       | inr k ↦ before x n (contains_head x xs) k
     ])
 
--- in which row of some a weak pointer is
+-- the row of a weak pointer of the list
 pub in_row : (rows : List Row) (w : OldWeak) → Contains (list_of rows) w → (k : ℕ) × (row : Row) × (slice_get rows k ≡ Some row) × Contains row.list w
 in_row [] w c = absurd (nothing_in w c)
 in_row (r ∷ rows) w c = elim (Contains-append_cases r.list (list_of rows) w c) [
@@ -61,7 +61,7 @@ rows_ordered rows room h = ordered_from 0 rows (λ k row there. (h.ordered k row
 pub list_ordered : (rows : List Row) (room : ℕ) (list : List OldWeak) → AreRows rows room → list_of rows ≡ list → IsInOrder (names_of list)
 list_ordered rows room list h is = subst (λ (l : List OldWeak). IsInOrder (names_of l)) is (rows_ordered rows room h)
 
--- one row changed: what joined it joined the list
+-- a row changed: weak pointers that joined it joined the list
 pub row_joined : (rows : List Row) (k : ℕ) (old new : Row) (x w : OldWeak) → slice_get rows k ≡ Some old →
     ((y : OldWeak) → Contains new.list y ↔ (Contains old.list y ⊎ (y ≡ x))) →
     Contains (list_of (set rows k new)) w ↔ (Contains (list_of rows) w ⊎ (w ≡ x))
@@ -101,7 +101,7 @@ row_joined (r ∷ rows) (suc k) old new x w there h =
       ],
     )
 
--- one row is filtered, and the others pass whole
+-- one row is filtered, and all items of the other rows pass
 pub row_filtered : (p : OldWeak → Bool) (rows : List Row) (k : ℕ) (old new : Row) → slice_get rows k ≡ Some old → new.list ≡ filter p old.list →
     ((j : ℕ) (row : Row) (w : OldWeak) → slice_get rows j ≡ Some row → j ≢ k → Contains row.list w → p w ≡ true) →
     list_of (set rows k new) ≡ filter p (list_of rows)
@@ -130,7 +130,7 @@ rows_filtered p (r ∷ rows) (n ∷ later) same h =
     ap (λ (l : List OldWeak). filter p r.list ++ l) (rows_filtered p rows later (omega (arith, same)) (λ k. h (suc k))) ∙
     sym (filter-append p r.list (list_of rows))
 
--- one row is another: how many there are in all
+-- a row was replaced: the number in the list
 pub row_lengths : (rows : List Row) (k : ℕ) (old new : Row) → slice_get rows k ≡ Some old →
     length (list_of (set rows k new)) + length old.list ≡ length (list_of rows) + length new.list
 row_lengths [] k old new there = absurd (none-some old there)
@@ -145,7 +145,7 @@ row_lengths (r ∷ rows) (suc k) old new there =
     let before = length-append r.list (list_of rows) in
     omega (arith, rest, after, before)
 
--- and the rows are rows still, with as much room or less
+-- and the rows are still rows, with the same room or less
 pub set_rows : (rows : List Row) (room less k : ℕ) (old new : Row) → AreRows rows room → slice_get rows k ≡ Some old → less ≤ room →
     ((w : OldWeak) → Contains new.list w → row_of w.weak ≡ k) → IsInOrder (names_of new.list) → less ≤ new.spare → AreRows (set rows k new) less
 set_rows rows room less k old new h there le own ordered spare = record {
@@ -176,7 +176,7 @@ set_rows rows room less k old new h there le own ordered spare = record {
       | inr other ↦ inr (sym (slice_get-set_other rows k j new other) ∙ at)
     ]
 
--- one joins its row
+-- a weak pointer joins its row
 pub joined_rows : (rows : List Row) (room k : ℕ) (old new : Row) (x : OldWeak) → AreRows rows (room + 1) → slice_get rows k ≡ Some old → row_of x.weak ≡ k →
     ((y : OldWeak) → Contains new.list y ↔ (Contains old.list y ⊎ (y ≡ x))) → IsInOrder (names_of new.list) → old.spare ≤ new.spare + 1 →
     AreRows (set rows k new) room
@@ -186,7 +186,7 @@ joined_rows rows room k old new x h there number joins ordered spare =
       | inr e ↦ ap (λ (y : OldWeak). row_of y.weak) e ∙ number
     ]) ordered (let most = h.spare k old there in omega (arith, most, spare))
 
--- one leaves its row
+-- a weak pointer leaves its row
 pub left_rows : (p : OldWeak → Bool) (rows : List Row) (room k : ℕ) (old new : Row) → AreRows rows room → slice_get rows k ≡ Some old →
     new.list ≡ filter p old.list → IsInOrder (names_of new.list) → old.spare ≤ new.spare → AreRows (set rows k new) room
 left_rows p rows room k old new h there is ordered spare =
@@ -215,28 +215,28 @@ all_left p rows later room h same each = record {
     row_there : (k : ℕ) (row : Row) → slice_get later k ≡ Some row → (old : Row) × (slice_get rows k ≡ Some old)
     row_there k row at = item rows k (let within = slice_get_within later k row at in omega (arith, within, same))
 
--- what is filtered is no more
+-- a filtered list is no longer
 pub filtered_few : (p : OldWeak → Bool) (l : List OldWeak) → length (filter p l) ≤ length l
 filtered_few p l =
     let counted : length (filter p l) ≡ count_by p l = length-filter p l in
     let most : count_by p l ≤ length l = count_by-le-length p l in
     omega (arith, counted, most)
 
--- who leaves at a place: one whose value word is 0, and nobody where there is none such
+-- only a weak pointer with value word 0 leaves at an address
 pub none_leaves : (words : List ℕ) (at : ℕ) (list : List OldWeak) →
     ((w : OldWeak) → Contains list w → w.at.0 ≡ at → is_alive words w ≡ false → ⊥) → left_at words at list ≡ list
 none_leaves words at list none = filter_all (λ (w : OldWeak). not (leaves_at words at w)) list (λ w c. ap not (false_of (leaves_at words at w) (λ t.
     let both = and_both (eqb w.at.0 at) (not (is_alive words w)) t in
     none w c (eq_true w.at.0 at both.0) (unmarked (is_alive words w) both.1))))
 
--- where the value word isn't 0, whoever is there is alive
+-- if the value word isn't 0, the weak pointer there is alive
 pub alive_at : (words : List ℕ) (at : ℕ) (w : OldWeak) → slice_index words (value_place at) ≢ 0 → w.at.0 ≡ at → is_alive words w ≡ false → ⊥
 alive_at words at w some is dead =
     let alive : is_alive words w ≡ true = ap not (ne_eqb (slice_index words (value_place w.at.0)) 0 (λ e. some (ap (λ k. slice_index words (value_place k)) (sym is) ∙ e))) in
     let bad : true ≡ false = sym alive ∙ dead in
     cc
 
--- where it is 0, the one of the name there leaves
+-- if it is 0, the weak pointer of the name there leaves
 pub leaves_is : (words : List ℕ) (at : ℕ) (n : Name) (w : OldWeak) → slice_index words (value_place at) ≡ 0 → (w.at.0 ≡ at → w.weak ≡ n) →
     leaves_at words at w ≡ is_same w (record { weak = n; at = record { 0 = at } })
 leaves_is words at n w zero_ named =
@@ -261,7 +261,7 @@ module _ (words : List ℕ) (at : ℕ) (n : Name) (rows : List Row) (room : ℕ)
       let here : w.at.0 ≡ at = eq_true w.at.0 at (and_both (eqb w.at.0 at) (not (is_alive words w)) t).0 in
       other (sym (h.own j row w got c) ∙ ap row_of (named w (of_row rows j row w got c) here)))))
 
-  -- where there is no such row, nobody is of that name
+  -- if there is no such row, no weak pointer has that name
   pub no_row : length rows ≤ row_of n → left_at words at (list_of rows) ≡ list_of rows
   no_row past = none_leaves words at (list_of rows) (λ w c here dead.
       let r = in_row rows w c in
@@ -269,7 +269,7 @@ module _ (words : List ℕ) (at : ℕ) (n : Name) (rows : List Row) (room : ℕ)
       let within = slice_get_within rows r.0 r.1 r.2 in
       omega (arith, past, number, within))
 
--- those of one maker are in one row
+-- all of a maker's are in one row
 none_counted : (p : OldWeak → Bool) (l : List OldWeak) → ((w : OldWeak) → Contains l w → p w ≡ true → ⊥) → count_by p l ≡ 0
 none_counted p [] none = refl
 none_counted p (x ∷ xs) none =
@@ -297,7 +297,7 @@ counted_in p (r ∷ rows) (suc k) row there own =
     let rest = counted_in p rows k row there (λ j x w at c t. let is = own (suc j) x w at c t in omega (arith, is)) in
     omega (arith, sum, first, rest)
 
--- where there is no such row, nobody is of that maker
+-- if there is no such row, no weak pointer has that maker
 pub counted_none : (p : OldWeak → Bool) (rows : List Row) (k : ℕ) → length rows ≤ k →
     ((j : ℕ) (r : Row) (w : OldWeak) → slice_get rows j ≡ Some r → Contains r.list w → p w ≡ true → j ≡ k) → count_by p (list_of rows) ≡ 0
 counted_none p rows k past own = none_counted p (list_of rows) (λ w c t.
@@ -306,7 +306,7 @@ counted_none p rows k past own = none_counted p (list_of rows) (λ w c t.
     let within = slice_get_within rows x.0 x.1 x.2 in
     omega (arith, past, is, within))
 
--- a row more was changed, in a pass over them
+-- a further row was changed, in a pass over them
 pub one_done : (P : Row → Row → Type 0) (was now : List Row) (n : ℕ) (m next : Row) → n < length now → slice_get was n ≡ Some m → P m next →
     ((k : ℕ) (old new : Row) → k < n → slice_get was k ≡ Some old → slice_get now k ≡ Some new → P old new) → (k : ℕ) (old new : Row) → k < n + 1 →
     slice_get was k ≡ Some old → slice_get (set now n next) k ≡ Some new → P old new
@@ -327,7 +327,7 @@ pub empty_joins : (rows : List Row) (r : Row) → r.list ≡ [] → list_of (row
 empty_joins rows r none =
     flat_map-append (λ (x : Row). x.list) rows (r ∷ []) ∙ ap (λ (l : List OldWeak). list_of rows ++ l) (append-nil r.list ∙ none) ∙ append-nil (list_of rows)
 
--- who stands among some and one more
+-- a row among some and a further one
 pub last_or_before : (rows : List Row) (last : Row) (k : ℕ) (row : Row) → slice_get (rows ++ last ∷ []) k ≡ Some row →
     (slice_get rows k ≡ Some row) ⊎ (row ≡ last)
 last_or_before [] last zero row at = inr (sym (same_Some last row at))
@@ -335,7 +335,7 @@ last_or_before [] last (suc k) row at = absurd (none-some row at)
 last_or_before (r ∷ rows) last zero row at = inl at
 last_or_before (r ∷ rows) last (suc k) row at = last_or_before rows last k row at
 
--- the first rows and the next one have no more than all
+-- the first rows and the next one have at most the whole list
 pub rows_part : (rows : List Row) (i : ℕ) (d : Row) → i < length rows →
     length (list_of (take i rows)) + length (get_or rows i d).list ≤ length (list_of rows)
 rows_part [] i d lt = absurd (omega arith)
@@ -348,7 +348,7 @@ rows_part (r ∷ rows) (suc i) d lt =
     let all = length-append r.list (list_of rows) in
     omega (arith, rest, first, all)
 
--- with empty rows more they are rows still
+-- with further empty rows they are still rows
 pub made_rows : (old new : List Row) (room : ℕ) → AreRows old room → length old ≤ length new →
     ((k : ℕ) (row : Row) → slice_get new k ≡ Some row → (slice_get old k ≡ Some row) ⊎ ((row.list ≡ []) × (length old < MAKERS + 1))) →
     AreRows new room
@@ -375,13 +375,13 @@ made_rows old new room h more each = record {
       omega (arith, all, more);
 }
 
--- rows that were written back, of which some left
+-- rows that were written back, after some weak pointers left
 pub record AreWritten (p : OldWeak → Bool) (old new : List Row) (room : ℕ) : Type 0 where
   pub rows : AreRows new room
   pub list : list_of new ≡ filter p (list_of old)
 
 module _ (rows slice new : List Row) (len room : ℕ) (h : AreRows rows room) (same : slice ≡ rows) (all : length slice ≡ len) (count : length new ≡ length slice) where
-  -- what was written to a slice of them is what they are
+  -- the rows have the contents that were written to a slice of them
   pub written : take len (new ++ drop (length new) rows) ≡ new
   written = take_at new (drop (length new) rows) len (count ∙ all)
 
@@ -411,7 +411,7 @@ module _ (rows slice new : List Row) (len room : ℕ) (h : AreRows rows room) (s
       )) in
       (all_stay.rows, all_stay.list ∙ filter_all (λ (w : OldWeak). true) (list_of rows) (λ w c. refl))
 
-  -- with so much room in each
+  -- with room for `more` in each
   pub rows_roomy : (more : ℕ) → ((k : ℕ) (old now : Row) → slice_get slice k ≡ Some old → slice_get new k ≡ Some now →
       (now.list ≡ old.list) × (old.spare ≤ now.spare)) → ((k : ℕ) (row : Row) → slice_get new k ≡ Some row → more ≤ row.spare) →
       MAKERS + 1 ≤ len → AreRows (take len (new ++ drop (length new) rows)) more

@@ -1,4 +1,5 @@
--- The finalisers of those that die are marked, with all that they reach: then the machine has closed but for the words.
+-- The finalisers of the dying are marked, with all that is reachable from them: then the machine has closed, except for the
+-- words.
 use Rattle.nmgc_weak.proofs.Vocabulary.{◌≡◌, ◌<◌, ◌+◌, ℕ, Bool, true, cond, List, [], ◌∷◌, ◌++◌, length, refl, sym, ap, subst, ◌∙◌, append_assoc, ◌≤◌, arith, Option, Some, None, inl, inr, Contains, IsSome, slice_get, slice_index, cases_lt, Contains-append_left, Contains-push_cases, Name, Value, Weak, Parts, node_of, IsAlive, IsKept, IsDead, Lists, RefersTo, closed, contains_head, contains_tail, contains_cases, get_is_some, contains_at, weak_maker, not_shared, InSegment, IsWaiting, Facts, State, entry_of, with_mark, mark_name, part_there, Segments, Place, Means, Marks, marks_of, name_meant, with_name, IsQueued, now, Opening, MarkerSeen, IsReady, HasFinished, IsTied, AreQueued, OldWeak, CanResolve, IsLost, CanRescue, HasRescued, place_at, places_of, names_of, finaliser_place, one_parts, of_place}
 use Rattle.nmgc_lists.specs.laws.Items.{place_of}
 use Rattle.nmgc_snapshot_laws.specs.declared.event.Entry.{Entry}
@@ -27,7 +28,7 @@ has_place (x ∷ xs) w c = elim (contains_cases x xs w c) [
   | inr d ↦ contains_tail (place_at x) (places_of xs) (place_at w) (has_place xs w d)
 ]
 
--- a weak pointer that waits is in the list, since it has its place
+-- a weak pointer that waits is in the list, since it has its address
 pub listed_place : (o : Opening) (words : List ℕ) (s : Segments) (marker : MarkerSeen) (weaks : List Place) → CanResolve o words s marker weaks →
     (weak : Name) (parts : Parts) → IsWaiting o.core weak parts → (p : Place) × Contains weaks p × (p.name ≡ weak)
 listed_place o words s marker weaks h weak parts waiting =
@@ -53,7 +54,7 @@ listed_place o words s marker weaks h weak parts waiting =
     ] in
     (p, h.listed.complete p (placed.there, (parts, alive), in_segment), refl)
 
--- nothing was read of what waits
+-- no position of a waiting name was read
 fresh : (places : List Place) (ats : List ℕ) (entries : List Entry) → AreQueued places ats entries → (entry : Entry) → Contains entries entry →
     entry.position ≤ 1
 fresh places [] [] q entry c = absurd (omega (arith, c.1))
@@ -72,7 +73,7 @@ module _ (o : Opening) (words : List ℕ) (s0 : Segments) (marker0 : MarkerSeen)
   abbrev empty : o.core.queue ≡ []
   empty = h.can.can_close.1
 
-  -- so far: all that is marked is kept, and the finalisers of the first so many are marked
+  -- the state so far: all marked names are kept, and the finalisers of the first `count` are marked
   pub record IsSaving (s : Segments) (marker : MarkerSeen) (count : ℕ) : Type 0 where
     pub opened : List Name
     pub m : Marks
@@ -196,7 +197,7 @@ module _ (o : Opening) (words : List ℕ) (s0 : Segments) (marker0 : MarkerSeen)
                 b.saved;
           }
 
-  -- what strong fields of the world hand on
+  -- the fact that strong fields of the world hand on
   hands_on : (name target : Name) → IsKept o.core.snapshot o.core.opened o.core.finalised name → RefersTo o.core.world name target →
       IsSome (node_of o.core.snapshot target) → IsKept o.core.snapshot o.core.opened o.core.finalised target
   hands_on name target k r there = elim (f.base.fields name target r) [

@@ -1,9 +1,9 @@
--- Scans alone change marks and queue, mark more, and keep the facts.
+-- Scans change only marks and queue, mark more, and keep the facts.
 use Rattle.nmgc_weak.proofs.Vocabulary.{◌≡◌, List, [], ◌∷◌, ◌++◌, refl, sym, ap, subst, ◌∙◌, append-nil, append_assoc, Option, Some, None, is_some, not, and_parts, not-true, not_listed, Name, Value, IsWorld, node_of, Facts, after_scan, advanced, read_at, State, mark_name, mark_value, mark_read, is_listed, mark_cases, scan_facts, Happening, did, scanned, replay, AreDistinct, distinct_push, AreScans}
 use Rattle.nmgc_snapshot_laws.specs.declared.event.Entry.{Entry}
 use Rattle.nmgc_world_spec.specs.declared.value.Value.TheVariants as value
 
--- marks and queue alone are others, and more is marked
+-- only marks and queue differ, and more is marked
 pub record MarksMore (s t : State) : Type 0 where
   pub more : List Name
   pub marked : t.marked ≡ s.marked ++ more

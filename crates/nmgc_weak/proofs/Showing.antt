@@ -1,20 +1,20 @@
--- A key's word tells whether it keeps the weak pointer, and which of the list are lost.
+-- The key word of a weak pointer shows whether it is kept, and so which of the list are lost.
 use Rattle.nmgc_weak.proofs.Vocabulary.{◌≡◌, ◌↔◌, ◌*◌, ◌/◌, ℕ, refl, sym, ap, subst, ◌∙◌, arith, List, inl, inr, ◌⊎◌, Contains, IsSome, slice_index, Name, Value, SHARED_MAKER, Parts, node_of, IsAlive, IsReached, shared_name, same_name, SHARED_PLACE, HEADER_WORDS, IsEpoch, IsWaiting, Segments, IsSnapshotAt, IsMarkedAt, Place, Means, LiesWell, Opening, MarkerSeen, CanResolve, IsKeyMarked, IsKeyMarkedWord, IsLostAt, IsLost, key_place, one_parts, wide_known}
 use Rattle.nmgc_world_spec.specs.declared.value.Value.TheVariants as value
 use Rattle.nmgc_weak.proofs.Parts.{has_parts}
 
--- a marked block is one of the snapshot
+-- a marked block is in the snapshot
 marked_is : (s : Segments) (epoch at : ℕ) → IsEpoch epoch → IsMarkedAt s epoch at → IsSnapshotAt s at
 marked_is s epoch at e h = (h.0, h.1, h.2, inr (λ z. let m = h.3 in omega arith))
 
--- g lies at its place, and nothing else does
+-- only g lies at its address
 at_one : (o : Opening) (at : ℕ) (name : Name) → LiesWell o.layout (record { at = at; name = name }) HEADER_WORDS →
     (name.maker ≡ SHARED_MAKER → at ≡ SHARED_PLACE) × (at ≡ SHARED_PLACE → name.maker ≡ SHARED_MAKER)
 at_one o at name (inl g) = (λ e. g.1, λ e. g.0)
 at_one o at name (inr (ne, inl segment)) = (λ e. absurd (ne e), λ e. let l = segment.1 at (omega arith) (omega arith) in let f = l.from in absurd (omega arith))
 at_one o at name (inr (ne, inr nursery)) = (λ e. absurd (ne e), λ e. let l = nursery.1 at (omega arith) (omega arith) in let f = l.from in absurd (omega arith))
 
--- one of the list that is of the snapshot has its block there
+-- a listed weak pointer of the snapshot has its block in the snapshot
 pub snapshot_back : (o : Opening) (words : List ℕ) (s : Segments) (marker : MarkerSeen) (weaks : List Place) → CanResolve o words s marker weaks →
     (at : ℕ) (weak : Name) → Contains weaks (record { at = at; name = weak }) → IsSome (node_of o.core.snapshot weak) → IsSnapshotAt s at
 snapshot_back o words s marker weaks h at weak c there =
@@ -53,7 +53,7 @@ module _ (o : Opening) (words : List ℕ) (s : Segments) (marker : MarkerSeen) (
         ],
       )
 
-  -- a word that stands for a key shows what the key does
+  -- the word of a key is marked exactly if the key is
   pub word_shown : (w : ℕ) (v : Value) → Means (Contains o.places) w v →
       ((name : Name) → v ≡ value.Ref name → IsSome (node_of o.core.snapshot name)) → IsKeyMarkedWord s marker.epoch w ↔ IsKeyMarked o.core.marked v
   word_shown w value.Nil means there = (λ x. tt, λ x. inl (λ e. omega arith))
@@ -76,7 +76,7 @@ module _ (o : Opening) (words : List ℕ) (s : Segments) (marker : MarkerSeen) (
         ],
       )
 
-  -- one of the list is in the snapshot where its block is
+  -- a listed weak pointer is in the snapshot exactly if its block is
   pub snapshot_is : (at : ℕ) (weak : Name) → Contains weaks (record { at = at; name = weak }) → IsSnapshotAt s at ↔ IsSome (node_of o.core.snapshot weak)
   snapshot_is at weak c =
       let p : Place = record { at = at; name = weak } in
@@ -96,12 +96,12 @@ module _ (o : Opening) (words : List ℕ) (s : Segments) (marker : MarkerSeen) (
       IsAlive o.core.world weak parts → IsWaiting o.core weak parts
   waits at weak parts c there alive = record { alive = (h.facts.base.weaks weak parts alive).old there; not_finalised = λ f. h.gone weak parts f alive }
 
-  -- what a key of the snapshot refers to is of the snapshot
+  -- a key of the snapshot refers to a name of the snapshot
   key_known : (weak : Name) (parts : Parts) → IsAlive o.core.snapshot weak parts → (name : Name) → parts.key ≡ value.Ref name →
       IsSome (node_of o.core.snapshot name)
   key_known weak parts alive name e = wide_known o.core.snapshot h.facts.base.snapshot name (IsReached.start name (inr (weak, parts, alive, inr (inl e))))
 
-  -- the tests of the words find the lost ones
+  -- the tests of the words find the lost weak pointers
   pub lost_is : (at : ℕ) (weak : Name) → Contains weaks (record { at = at; name = weak }) →
       IsLostAt s marker.epoch at (slice_index words (key_place at)) ↔ IsLost o.core weak
   lost_is at weak c =
@@ -128,7 +128,7 @@ module _ (o : Opening) (words : List ℕ) (s : Segments) (marker : MarkerSeen) (
             ),
       )
 
-  -- one of the snapshot whose key's word tells that the key is marked has a key that is marked
+  -- a weak pointer of the snapshot has a marked key if its key word shows it
   pub shown_is : (at : ℕ) (weak : Name) → Contains weaks (record { at = at; name = weak }) → IsSnapshotAt s at →
       IsKeyMarkedWord s marker.epoch (slice_index words (key_place at)) → (parts : Parts) → IsAlive o.core.world weak parts →
       IsKeyMarked o.core.marked parts.key

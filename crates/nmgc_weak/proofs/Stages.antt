@@ -1,4 +1,4 @@
--- A core state at a stop with more marks: what is known on the way from one that could close to the next.
+-- A state of the marking machine at a stop with more marks: the facts on the way from a state that could close to the next.
 use Rattle.nmgc_weak.proofs.Vocabulary.{◌≡◌, ℕ, Bool, true, false, cond, List, [], ◌∷◌, ◌++◌, refl, sym, ap, subst, ◌∙◌, append-nil, append_assoc, arith, Option, Some, None, inl, inr, Contains, IsSome, is_some, not, ◌&&◌, cond_both, and_parts, not-true, Contains-append_left, Contains-push, Contains-push_cases, Name, IsLive, World, IsWorld, node_of, Facts, State, is_listed, with_mark, entry_of, mark_facts, contains_listed, not_listed, Segments, Place, Marks, marks_of, with_name, Object, IsOld, IsOpening, IsQueued, now, CanOpen, HandStands, Opening, Hand, AreDistinct, MarkerSeen, distinct_push, IsReady, HasFinished, IsTied, CanResolve, GoesTo}
 use Rattle.nmgc_snapshot_laws.specs.declared.event.Entry.{Entry}
 use Rattle.nmgc_weak.proofs.Scans.{MarksMore, scans_mark, scans_facts}
@@ -11,7 +11,7 @@ remade o opened m = record o { core = record o.core { marked = m.marked; queue =
 abbrev pub with_marks : Opening → Marks → Opening
 with_marks o m = remade o o.core.opened m
 
--- its opening is one still
+-- it is still an opening
 old_still : (o : Opening) (opened : List Name) (m : Marks) (x : Object) → IsOld o x → IsOld (remade o opened m) x
 old_still o opened m x h = record { there = h.there; tracked = h.tracked; node = h.node }
 
@@ -58,7 +58,7 @@ open_still o opened m words marking h q = record {
   queued = λ entry c. queued_still o opened m entry (q entry c);
 }
 
--- a marker tied to marks is so whatever the opening has marked
+-- a marker tied to marks stays tied, whatever names the opening has marked
 pub retied : (o : Opening) (opened : List Name) (k m : Marks) (s : Segments) (marker : MarkerSeen) → IsTied o m s marker → IsTied (remade o opened k) m s marker
 retied o opened k m s marker h = record {
   snapshot = record { layout = h.snapshot.layout; apart = h.snapshot.apart; sound = h.snapshot.sound; complete = h.snapshot.complete };
@@ -78,7 +78,7 @@ tied_back o opened k m s marker h = record {
   count = h.count;
 }
 
--- the marks as far as they have come
+-- the marks so far
 pub record Stage (o : Opening) (opened : List Name) (m : Marks) (s : Segments) (marker : MarkerSeen) : Type 0 where
   pub more : List Name
   pub marked : m.marked ≡ o.core.marked ++ more
@@ -87,7 +87,7 @@ pub record Stage (o : Opening) (opened : List Name) (m : Marks) (s : Segments) (
   pub once : AreDistinct m.marked
   pub queued : (entry : Entry) → Contains m.queue entry → IsQueued o entry
 
--- a name that may be marked: it is live or new, and one of the snapshot has its object
+-- a name that may be marked: it is live or new, and it has its object if it is in the snapshot
 abbrev pub CanMark : Opening → List Name → Option Name → Type 0
 CanMark o opened None = Unit {0}
 CanMark o opened (Some name) = (IsSome (node_of o.core.snapshot name) → IsLive o.core.snapshot opened name) ×
@@ -141,7 +141,7 @@ stage_mark o opened m s t marker later None h can tied = record {
 }
 stage_mark o opened m s t marker later (Some name) h can tied = stage_name o opened m s t marker later name h can tied
 
--- a name of the snapshot is marked then, and what was marked stays so
+-- a name of the snapshot is marked then, and marked names stay marked
 pub marked_there : (snapshot : World) (m : Marks) (name : Name) → IsSome (node_of snapshot name) → Contains (with_name snapshot m (Some name)).marked name
 marked_there snapshot m name there = name_cases (λ k. Contains k.marked name) snapshot m name
     (λ e. Contains-push m.marked name)
@@ -161,7 +161,7 @@ stage_ready o opened m words s marker marking opens h = record {
   tied = retied o opened m m s marker h.tied;
 }
 
--- as it begins
+-- the stage at the beginning
 pub stage_begins : (o : Opening) (words : List ℕ) (s : Segments) (marker : MarkerSeen) (weaks : List Place) → CanResolve o words s marker weaks →
     Stage o o.core.opened (marks_of o.core) s marker
 stage_begins o words s marker weaks h = record {

@@ -1,4 +1,4 @@
--- What the queues of finalisers are once a cycle was closed with its weak pointers, and what the list is after a round.
+-- The queues of finalisers after a cycle was closed, and the list of weak pointers after a round.
 use Rattle.std.specs.Prelude.{Option, ℕ, ◌≡◌, ◌≤◌, List, ◌∷◌, length, map, Some, slice_get, Contains, IsSome}
 use Rattle.nmgc_world_spec.specs.{declared.value.Name.Name, declared.node.Parts.Parts, declared.node.Node.TheVariants.Weak, World.World, World.IsWorld, World.node_of, Reach.IsInOrder, Reach.IsAlive, Reach.closed}
 use Rattle.nmgc_object.specs.{FinQueue.FinQueue, Places.InSegment, declared.layout.Layout.Layout}
@@ -8,27 +8,29 @@ use Rattle.nmgc_round.specs.View.{Opening}
 use Rattle.nmgc_weak.specs.{Queues.weak_count, Queues.HaveRoom, Queues.AllJoin, declared.weaks.Death.Death, declared.weaks.OldWeak.OldWeak, Resolve.CanResolve, Resolve.AreDeaths, Resolve.HasResolved, Weaks.places_of, Weaks.alive_of}
 use Rattle.nmgc_mark.specs.Seen.{MarkerSeen}
 
--- the deaths have room in the queues of their makers, where each queue has room for the listed weak pointers of the snapshot that its mutator made
+-- the law that each queue has room for the finalisers of its mutator's deaths, if it has room for the mutator's listed weak
+-- pointers of the snapshot
 abbrev pub DeathsHaveRoom : Type 0
 DeathsHaveRoom = (o : Opening) (words before : List ℕ) (s t : Segments) (marker after : MarkerSeen) (weaks : List Place) (list : List OldWeak)
     (deaths : List Death) (queues : List FinQueue) → CanResolve o before s marker weaks → HasResolved o words t after list deaths →
     length queues ≡ length o.core.world.mutators → ((m : ℕ) (queue : FinQueue) → slice_get queues m ≡ Some queue →
     weak_count o.core.snapshot m weaks ≤ queue.spare) → HaveRoom deaths queues
 
--- once they have joined, registers and queues stand for the closed world
+-- the law that registers and queues represent the closed world once the finalisers of the deaths have joined the queues
 abbrev pub QueuesClose : Type 0
 QueuesClose = (o : Opening) (dead : List Name) (deaths : List Death) (registers : List ℕ) (old new : List FinQueue) (serials : List ℕ) →
     IsWorld o.core.world → AreDeaths o dead deaths → IsInOrder dead →
     RepresentsRoots o.places o.core.world registers (map (λ (q : FinQueue). q.words) old) serials → AllJoin deaths old new →
     RepresentsRoots o.places (closed o.core.world dead) registers (map (λ (q : FinQueue). q.words) new) serials
 
--- what has a block was there before, and a weak pointer that is alive was alive with the same parts; one that was alive has its header still
+-- a round that keeps the listed weak pointers. Each object with a block existed before the round. An older weak pointer that
+-- is alive was alive before, with the same parts. A weak pointer that was alive is still a weak pointer, alive or dead.
 pub record KeepsOldWeaks (layout : Layout) (places : List Place) (began w : World) : Type 0 where
   pub blocks : (p : Place) → Contains places p → (segment : ℕ) × InSegment layout segment p.at → IsSome (node_of began p.name)
   pub alive : (weak : Name) (parts : Parts) → IsAlive w weak parts → IsSome (node_of began weak) → IsAlive began weak parts
   pub weak : (weak : Name) (parts : Parts) → IsAlive began weak parts → (parts_now : Option Parts) × (node_of w weak ≡ Some (Weak parts_now))
 
--- what is left of the list once those with no value have left: the weak pointers alive after a round that have a block
+-- the law that after a round, once the dead have left, the list has the weak pointers that are alive and have a block
 abbrev pub LeavingLists : Type 0
 LeavingLists = (layout : Layout) (past : List World) (places : List Place) (began w : World) (words : List ℕ) (list : List OldWeak) →
     IsWorld began → IsWorld w → Represents layout (began ∷ past) NoNode places w words → ListsWeaks layout places began (places_of list) →

@@ -1,4 +1,4 @@
--- The closing of a cycle, as the words and the marker show it: what it asks, and that it is the core machine's.
+-- The closing of a cycle in words and marks: its conditions, and why it is the marking machine's closing.
 use Rattle.std.specs.Prelude.{ℕ, ◌≡◌, true, List, [], ◌∷◌, Contains}
 use Rattle.nmgc_world_spec.specs.{declared.value.Name.Name, declared.node.Parts.Parts, Reach.IsAlive, Listing.AreDistinct}
 use Rattle.nmgc_snapshot_laws.specs.declared.event.Event.TheVariants as event
@@ -9,9 +9,9 @@ use Rattle.nmgc_round.specs.{Marking.marks_of, Objects.earlier, View.Opening}
 use Rattle.nmgc_mark.specs.{Seen.MarkerSeen, Stopped.IsReady, Tie.IsTied}
 use Rattle.nmgc_weak.specs.{declared.weaks.OldWeak.OldWeak, declared.weaks.Death.Death, Weaks.places_of}
 
--- the words represent the world of a core state that could open a round, and marks are that state's; it has the
--- facts, has marked each name once and may close, and these are the weak pointers alive in its world that have a
--- block. A weak pointer that was finalised since the snapshot is dead in that world
+-- the conditions of a closing. The words represent the world of a marking machine that could open a round, and the marker has
+-- its marks. The machine's invariant holds, it has marked each name once, and nothing waits, is owed or is pushed. A weak
+-- pointer that was finalised since the snapshot is dead. The list has the weak pointers that are alive and have a block.
 pub record CanResolve (o : Opening) (words : List ℕ) (s : Segments) (marker : MarkerSeen) (weaks : List Place) : Type 0 where
   pub ready : IsReady o words s marker
   pub marking : o.marking ≡ true
@@ -22,15 +22,15 @@ pub record CanResolve (o : Opening) (words : List ℕ) (s : Segments) (marker : 
   pub earlier_are : AreEarlier (earlier o) o.core.world
   pub listed : ListsWeaks o.layout o.places o.core.world weaks
 
--- each of the dead with the word of its finaliser, in order
+-- the deaths: the dead weak pointers in order, each with the word of its finaliser
 abbrev pub AreDeaths : Opening → List Name → List Death → Type 0
 AreDeaths o [] [] = Unit {0}
 AreDeaths o (weak ∷ weaks) (death ∷ deaths) = ((death.weak ≡ weak) ×
     ((parts : Parts) × IsAlive o.core.world weak parts × Means (Contains o.places) death.finaliser parts.finaliser)) × AreDeaths o weaks deaths
 AreDeaths o _ _ = ⊥
 
--- the core machine has closed: the marker has the marks of the state after it, the deaths are the weak pointers that
--- die there, and words and list stand for the closed world
+-- a resolved closing: the marking machine has closed, and the marker has the machine's marks after the closing. The deaths
+-- are the weak pointers that die at the closing, and words and list represent the closed world.
 pub record HasResolved (o : Opening) (words : List ℕ) (s : Segments) (marker : MarkerSeen) (list : List OldWeak) (deaths : List Death) : Type 0 where
   pub next : Core
   pub closing : IsClosing o.core next

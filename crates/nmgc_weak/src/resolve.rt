@@ -1,18 +1,17 @@
-//! The steps of a closing: which weak pointers keep their parts, and which die.
+//! The steps of a closing: some weak pointers keep their parts, and the rest die.
 //!
-//! Nothing here decides liveness: a key is live by then exactly where it is marked, once no pass over the list
-//! finds a weak pointer that keeps something new. That this is the core machine's closing is told from each
-//! state that could be closed to one with more marks (`specs/Steps.antt`).
+//! Nothing here decides liveness. Once a pass over the list finds no weak pointer that keeps anything new, a key is live
+//! exactly if it is marked. The proof that this is the marking machine's closing goes from each state that could be closed to
+//! a state with more marks (`specs/Steps.antt`).
 //!
-//! A weak pointer that keeps its parts may bring up the key of any other, also of one before it in the list. So those whose
-//! keys aren't marked are filed by the places of their keys, and each place that is marked from then on is looked up
-//! there (`keep_ahead`). However they revive one another, that takes time for the weak pointers and for what is marked, and a
-//! logarithm. Nothing is promised of it but that what it keeps is kept rightly: passes over the list follow, of which one
-//! finds nothing, and that one shows that nothing is left (`pass_until_none`).
+//! A weak pointer that keeps its parts may revive the key of any other, even of an earlier one in the list. So weak pointers
+//! without a marked key are filed by the addresses of their keys, and each address marked from then on is looked up in that
+//! file (`keep_ahead`). However they revive one another, this takes time for the weak pointers and for the marked objects,
+//! and a logarithm. The contracts only promise that all that is kept is kept rightly. Passes over the list follow, and the
+//! last, which finds nothing, shows that nothing is left (`pass_until_none`).
 //!
-//! Easy to get wrong: the finalisers of those that die may reach their own keys. So all of them are found before
-//! the first finaliser is marked, and their value words become 0 last, while the words still represent the world
-//! in which the marker follows fields.
+//! Easy to get wrong: the finalisers of the dying may reach their own keys. So the dying are found before any finaliser is
+//! marked. Their value words become 0 last: the words have to represent the world in which the marker follows fields.
 ghost use Rattle.std.specs.Prelude.{ℕ, ◌≡◌, ◌↔◌, ◌*◌, ◌^◌, ◌+◌, ◌<◌, ◌≤◌, List, length, slice_index, vec_len, vec_capacity, Contains, IsTrue, IfSome, IfNone, [], ◌∷◌};
 ghost use Rattle.nmgc_world_spec.specs.declared.value.Name.{Name};
 ghost use Rattle.nmgc_segment.specs.Marks.{IsEpoch};
@@ -20,9 +19,8 @@ ghost use Rattle.nmgc_alloc.specs.{Blocks.IsSnapshotAt, Blocks.IsMarkedAt, Segme
 ghost use Rattle.nmgc_heap_spec.specs.Places.{Place};
 ghost use Rattle.nmgc_round.specs.{View.Opening, Marking.Marks, Marking.with_name, Marking.name_meant};
 ghost use Rattle.nmgc_mark.specs.{Marker.HasRoomToMark, Marker.HasMarked, Tie.IsTied};
-ghost use Rattle.nmgc_weak.specs.Resolve.{CanResolve};
+ghost use Rattle.nmgc_weak.specs.{Resolve.CanResolve, Weaks.IsWithin, Weaks.AreWithin, Weaks.key_place, Weaks.place_of, Weaks.places_of, Weaks.names_of, Weaks.deaths_of, Weaks.without_values};
 ghost use Rattle.nmgc_weak.specs.Steps.{IsKeyMarkedWord, IsLostAt, CanKeep, HasKept, HasPassed, GoesOn, HasRevived, CanRescue, AreLost, HasRescued};
-ghost use Rattle.nmgc_weak.specs.Weaks.{IsWithin, AreWithin, key_place, place_of, places_of, names_of, deaths_of, without_values};
 
 use crate::weaks::{Death, FINALISER, OldWeak, VALUE};
 use nmgc_alloc::Segments;
@@ -30,7 +28,7 @@ use nmgc_heap_spec::HeapWords;
 use nmgc_mark::Marker;
 use nmgc_object::{Address, FieldWord, HEADER_WORDS, SHARED_PLACE};
 
-// The segment and the number of the block of the snapshot that begins at a place, if one does.
+// Returns the segment and the number of the snapshot's block that begins at an address, or `None` if none begins there.
 fn snapshot_block(segments: &Segments, at: Address) -> Option<(u32, u32)>
     ensures some { IfSome result (λ p. IsBlockAt segments.now p.0 p.1 at.0 × IsSnapshotAt segments.now at.0) }
     ensures none { IfNone result (IsSnapshotAt segments.now at.0 → ⊥) }
@@ -43,14 +41,14 @@ fn snapshot_block(segments: &Segments, at: Address) -> Option<(u32, u32)>
     None
 }
 
-// Whether a block of the snapshot begins at a place.
+// Whether a block of the snapshot begins at an address.
 fn is_of_snapshot(segments: &Segments, at: Address) -> bool
     ensures { IsTrue result ↔ IsSnapshotAt segments.now at.0 }
 {
     snapshot_block(segments, at).is_some()
 }
 
-// Whether a block that is marked begins at a place.
+// Whether a marked block begins at an address.
 fn is_marked(segments: &Segments, at: Address, epoch: u8) -> bool
     requires { IsEpoch epoch }
     ensures { IsTrue result ↔ IsMarkedAt segments.now epoch at.0 }
@@ -91,7 +89,7 @@ fn has_marked_key<W: HeapWords>(
     is_key_marked(segments, key, marker.epoch())
 }
 
-// Whether a weak pointer is of the snapshot, and its key isn't marked.
+// Whether a weak pointer is in the snapshot, and its key isn't marked.
 fn is_lost<W: HeapWords>(marker: &Marker, words: &mut W, segments: &Segments, at: Address) -> bool
     requires { IsWithin (W.words words.old) at.0 }
     ensures words { W.words words.new ≡ W.words words.old }
@@ -102,7 +100,7 @@ fn is_lost<W: HeapWords>(marker: &Marker, words: &mut W, segments: &Segments, at
     is_of_snapshot(segments, at) && !key_marked
 }
 
-// Marks a weak pointer, whose block this is, with its value and its finaliser, and all that these reach.
+// Marks a weak pointer, whose block is given, its value and its finaliser, and all that is reachable from these.
 fn keep<W: HeapWords>(
     marker: &mut Marker,
     words: &mut W,
@@ -130,7 +128,7 @@ fn keep<W: HeapWords>(
     marker.finish(words, segments);
 }
 
-// A weak pointer of the snapshot whose key is marked keeps its parts, and any other is left as it is.
+// Keeps the parts of a weak pointer if it is in the snapshot and its key is marked. Otherwise nothing changes.
 fn keep_if_key_marked<W: HeapWords>(
     marker: &mut Marker,
     words: &mut W,
@@ -155,7 +153,7 @@ fn keep_if_key_marked<W: HeapWords>(
     keep(marker, words, segments, weak.at, number, block);
 }
 
-// A pass over the list: each weak pointer of the snapshot whose key is marked keeps its parts.
+// Goes through the list once, and keeps the parts of each weak pointer of the snapshot whose key is marked.
 fn pass<W: HeapWords>(list: &[OldWeak], marker: &mut Marker, words: &mut W, segments: &mut Segments)
     requires room { HasRoomToMark segments.old marker.old }
     requires within { AreWithin (W.words words.old) list.now }
@@ -171,8 +169,7 @@ fn pass<W: HeapWords>(list: &[OldWeak], marker: &mut Marker, words: &mut W, segm
     }
 }
 
-// Passes over the list until one marks nothing: no weak pointer of the snapshot is left whose key is marked and
-// whose parts aren't marked.
+// Goes through the list until a pass marks nothing: each weak pointer of the snapshot with a marked key has marked parts.
 fn pass_until_none<W: HeapWords>(
     list: &[OldWeak],
     marker: &mut Marker,
@@ -197,14 +194,14 @@ fn pass_until_none<W: HeapWords>(
     }
 }
 
-/// A weak pointer that waits for its key: where the key is, and the place of the weak pointer in the list.
+/// A weak pointer that waits for its key: the address of the key, and the position of the weak pointer in the list.
 #[derive(Clone, Copy, Debug, PartialEq, Eq)]
 pub(crate) struct Waiter {
     key: u32,
     place: usize,
 }
 
-// The place of the key of a weak pointer, where it refers to an object. No clause speaks of the answer.
+// Returns the address to which a weak pointer's key points, or `None` if it is no pointer. No clause is about the answer.
 fn key_of<W: HeapWords>(words: &mut W, at: Address) -> Option<u32>
     requires { IsWithin (W.words words.old) at.0 }
     ensures { W.words words.new ≡ W.words words.old }
@@ -213,7 +210,7 @@ fn key_of<W: HeapWords>(words: &mut W, at: Address) -> Option<u32>
     u32::try_from(FieldWord(key).place()?).ok()
 }
 
-// Files the weak pointer at a place of the list, where its key isn't marked. There has to be room for it.
+// Files a weak pointer with its position in `waiting`, which has room, if it is in the snapshot and its key isn't marked.
 fn file_one<W: HeapWords>(
     weak: OldWeak,
     place: usize,
@@ -237,7 +234,7 @@ fn file_one<W: HeapWords>(
     waiting.push_reserved(Waiter { key, place });
 }
 
-// Files those of the list whose keys aren't marked, by the places of these. No clause says which they are.
+// Files the snapshot's weak pointers without a marked key in `waiting`, in order of keys. No clause says which they are.
 fn file_waiting<W: HeapWords>(
     list: &[OldWeak],
     waiting: &mut Vec<Waiter>,
@@ -257,7 +254,7 @@ fn file_waiting<W: HeapWords>(
     waiting.sort_unstable_by_key(|waiter| waiter.key);
 }
 
-// Where those that wait for a place begin among what is filed. No clause speaks of the answer.
+// Returns the position in `waiting` of the first weak pointer that waits for this key. No clause is about the answer.
 fn first_with(waiting: &[Waiter], key: u32) -> usize {
     let mut low = 0;
     let mut high = waiting.len();
@@ -272,7 +269,7 @@ fn first_with(waiting: &[Waiter], key: u32) -> usize {
     low
 }
 
-// The weak pointer at a place of the list keeps its parts, if there is one whose key is marked.
+// Keeps the parts of the weak pointer at a position of the list, if the position exists and the key is marked.
 fn keep_at<W: HeapWords>(
     list: &[OldWeak],
     place: usize,
@@ -294,7 +291,7 @@ fn keep_at<W: HeapWords>(
     keep_if_key_marked(marker, words, segments, list[place]);
 }
 
-// Those that wait for the object at a place keep their parts, if it is marked.
+// Keeps the parts of the weak pointers that wait for the object at address `key`, if it is marked.
 fn keep_waiting<W: HeapWords>(
     list: &[OldWeak],
     waiting: &[Waiter],
@@ -318,7 +315,7 @@ fn keep_waiting<W: HeapWords>(
     }
 }
 
-// Those keep their parts that wait for what was marked after so many marks, and for what is marked as they do.
+// Keeps the parts of weak pointers that wait for blocks marked after the first `from`, including blocks that this call marks.
 fn follow_marks<W: HeapWords>(
     list: &[OldWeak],
     waiting: &[Waiter],
@@ -342,8 +339,8 @@ fn follow_marks<W: HeapWords>(
     }
 }
 
-// Those whose keys are marked keep their parts, and those that wait for what is marked so, however they revive one another.
-// What it leaves, if anything, is for the passes that follow: no clause says that it leaves nothing.
+// Keeps the parts of weak pointers whose keys are marked, and then of weak pointers whose keys this marks, and so on. Later
+// passes find all that this call leaves: no clause says that it leaves nothing.
 fn keep_ahead<W: HeapWords>(
     list: &[OldWeak],
     waiting: &mut Vec<Waiter>,
@@ -368,8 +365,8 @@ fn keep_ahead<W: HeapWords>(
     follow_marks(list, waiting.as_slice(), from, marker, words, segments);
 }
 
-/// Marks the parts of each weak pointer of the snapshot whose key is marked, until no such weak pointer is left whose parts
-/// aren't. Files in `waiting`, which is empty and has room for the list, those that wait.
+/// Marks the parts of each weak pointer of the snapshot whose key is marked, and repeats this until no further key becomes
+/// marked. In `waiting`, which is empty and has room for the list, it files the weak pointers that wait.
 pub(crate) fn revive<W: HeapWords>(
     list: &[OldWeak],
     waiting: &mut Vec<Waiter>,
@@ -393,7 +390,7 @@ pub(crate) fn revive<W: HeapWords>(
     pass_until_none(list, marker, words, segments);
 }
 
-/// Notes those that die: of the snapshot, with a key that isn't marked.
+/// Appends the dying weak pointers to `dying`: weak pointers of the snapshot whose keys aren't marked.
 pub(crate) fn find_dying<W: HeapWords>(
     list: &[OldWeak],
     dying: &mut Vec<OldWeak>,
@@ -418,7 +415,7 @@ pub(crate) fn find_dying<W: HeapWords>(
     }
 }
 
-/// Notes the finalisers of those that die, and marks them with all that they reach.
+/// Lists the deaths with the finalisers of the dying, and marks these finalisers with all that is reachable from them.
 pub(crate) fn save_finalisers<W: HeapWords>(
     dying: &[OldWeak],
     deaths: &mut Vec<Death>,
@@ -451,7 +448,7 @@ pub(crate) fn save_finalisers<W: HeapWords>(
     marker.finish(words, segments);
 }
 
-/// The value words of those that die become 0, and no other word changes.
+/// Sets the value words of the dying to 0, and changes no other word.
 pub(crate) fn clear_values<W: HeapWords>(dying: &[OldWeak], words: &mut W)
     requires { AreWithin (W.words words.old) dying.now }
     ensures { W.words words.new ≡ without_values (W.words words.old) dying.now }

@@ -1,10 +1,10 @@
-//! One row of the list: the weak pointers of one maker, in order of their serials.
+//! A row of the list: the weak pointers of a maker, in order of their serials.
 //!
-//! A maker's names only grow, so whoever joins comes behind all that are there; and since a row is in order, whoever leaves
-//! is found by halves, in a logarithm. Nothing moves then: an entry says that it left, and once more than half of a row have
-//! left, the others move together; so that is paid for by those that left.
+//! A maker's names only grow, so a new weak pointer joins at the row's end. A row is in order, so binary search finds a
+//! leaving weak pointer, in a logarithm. Nothing moves then: the entry is only flagged as left. Once more than half of a row
+//! has left, the rest moves together, and the leaving weak pointers pay for it.
 //!
-//! Easy to get wrong: an entry that left still stands in the order, and its name may join again.
+//! Easy to get wrong: an entry that left still counts in the order, and its name may join again.
 ghost use Rattle.std.specs.Prelude.{ℕ, ◌≡◌, ◌≢◌, ◌⊎◌, ◌↔◌, ◌+◌, ◌<◌, ◌≤◌, [], ◌++◌, length, slice_get, Some, vec_len, vec_capacity, Contains, IfSome, IfNone, OnOk};
 ghost use Rattle.nmgc_world_spec.specs.Reach.{IsBefore, IsInOrder};
 ghost use Rattle.nmgc_weak.specs.{declared.weaks.OldWeak.OldWeak as Old, declared.row.Entry.Entry as Kept, Weaks.AreInside, Weaks.names_of, Weaks.alive_of, Rows.listed, Rows.entry_names, Rows.without, Rows.IsEntryAt};
@@ -17,18 +17,18 @@ use nmgc_world_spec::Name;
 use std::alloc::Global;
 use std::marker::Model;
 
-/// A weak pointer of a row, and whether it left the list.
+/// An entry of a row: a weak pointer, and whether it left the list.
 #[derive(Clone, Copy, Debug, PartialEq, Eq)]
 pub(crate) struct Entry {
     pub(crate) weak: OldWeak,
     pub(crate) left: bool,
 }
 
-/// A row. Contracts see those that are in the list, in order, and for how many more there is room.
+/// A maker's part of the list. Contracts see its weak pointers in the list, in order, and its room for further weak pointers.
 #[derive(Drop)]
 pub(crate) struct Row {
     entries: Vec<Entry>,
-    // How many of the entries left, at most.
+    // A bound of the number of entries that left.
     gone: usize,
 }
 
@@ -47,7 +47,7 @@ impl Model for Row {
     ghost invariant = { λ r. IsInOrder (entry_names r.entries.items) };
 }
 
-// Where the entry of a name is, if it has one: by halves.
+// Returns the position of a name's entry, found by binary search, or `None` if no entry has this name.
 fn find(entries: &[Entry], weak: Name) -> Option<usize>
     requires { IsInOrder (entry_names entries.now) }
     ensures some { IfSome result (λ place. IsEntryAt entries.now place weak) }
@@ -69,7 +69,7 @@ fn find(entries: &[Entry], weak: Name) -> Option<usize>
     None
 }
 
-// Where a name's place among entries is, looked for from their end: all before it come before the name, and none after it.
+// Returns the position after the last entry that isn't after `weak` in the order of names. Searches from the end.
 fn place_from_end(entries: &[Entry], weak: Name) -> usize
     ensures within { result ≤ length entries.now }
     ensures after { (j : ℕ) (entry : Kept) → slice_get entries.now j ≡ Some entry → result ≤ j → IsBefore weak entry.weak.weak }
@@ -88,7 +88,7 @@ fn place_from_end(entries: &[Entry], weak: Name) -> usize
 }
 
 impl Row {
-    /// An empty row without room. Takes no memory.
+    /// Makes an empty row without room. Takes no memory.
     pub(crate) fn new(alloc: Global) -> Self
         ensures { result ≡ record { list = []; spare = 0 } }
     {
@@ -98,7 +98,7 @@ impl Row {
         }
     }
 
-    /// Makes room for so many more. The list stays, and room is never lost.
+    /// Makes room for at least `more` further weak pointers. The list stays, and room is never lost.
     pub(crate) fn reserve(&mut self, more: usize) -> Result<(), NoMemory>
         ensures list { self.new.list ≡ self.old.list }
         ensures ok { OnOk result (more ≤ self.new.spare) }
@@ -108,8 +108,8 @@ impl Row {
         Ok(())
     }
 
-    /// Adds a weak pointer at its place in the order. There has to be room for it, and it isn't in the list. Takes no memory,
-    /// and time for the names that come after it.
+    /// Adds a weak pointer at its position in the order. There has to be room for it, and its name isn't in the list. Takes
+    /// no memory, and time for the names that come after it.
     pub(crate) fn add(&mut self, weak: Name, at: Address)
         requires room { 0 < self.old.spare }
         requires new { (other : Old) → Contains self.old.list other → other.weak ≢ weak }
@@ -123,7 +123,7 @@ impl Row {
             left: false,
         };
         let place = place_from_end(self.entries.as_slice(), weak);
-        // One of this name left the list before: its entry is used again.
+        // A weak pointer of this name left the list before: its entry is used again.
         if 0 < place {
             let last = place - 1;
             if !is_before(self.entries[last].weak.weak, weak) {
@@ -137,8 +137,8 @@ impl Row {
         }
     }
 
-    /// Takes the weak pointer of this name out of the list, if it lies at this place. Takes no memory, and a logarithm of time;
-    /// where more than half of the row has left, time for the row.
+    /// Takes the weak pointer `weak` out of the list, if the list has it with the address `at`. Takes no memory, and a
+    /// logarithm of time, or time for the row if more than half of the row has left.
     pub(crate) fn leave(&mut self, weak: Name, at: Address)
         ensures list { self.new.list ≡ without (record { weak = weak; at = at }) self.old.list }
         ensures ordered { IsInOrder (names_of self.new.list) }
@@ -154,12 +154,12 @@ impl Row {
         entry.left = true;
         self.gone = self.gone.saturating_add(1);
         if self.gone > self.entries.len() / 2 {
-            self.move_together();
+            self.drop_left_entries();
         }
     }
 
-    // The entries that left are forgotten.
-    fn move_together(&mut self)
+    // Removes the entries that left, and moves the rest together.
+    fn drop_left_entries(&mut self)
         ensures list { self.new.list ≡ self.old.list }
         ensures spare { self.old.spare ≤ self.new.spare }
     {
@@ -167,7 +167,7 @@ impl Row {
         self.gone = 0;
     }
 
-    /// Takes those out of the list whose value word is 0. No word changes. Takes no memory.
+    /// Takes the weak pointers with value word 0 out of the list. No word changes. Takes no memory.
     pub(crate) fn leave_dead<W: HeapWords>(&mut self, words: &mut W)
         requires { AreInside (W.words words.old) self.old.list }
         ensures words { W.words words.new ≡ W.words words.old }
@@ -176,10 +176,10 @@ impl Row {
         ensures spare { self.old.spare ≤ self.new.spare }
     {
         mark_dead(self.entries.as_mut_slice(), words);
-        self.move_together();
+        self.drop_left_entries();
     }
 
-    /// Adds those of the list to another, in order. There has to be room for them. Takes no memory.
+    /// Appends the row's weak pointers that are in the list to `all`, in order. `all` needs room for them. Takes no memory.
     pub(crate) fn list_into(&self, all: &mut Vec<OldWeak>)
         requires { vec_len all.old + length self.now.list ≤ vec_capacity all.old }
         ensures items { all.new.items ≡ all.old.items ++ self.now.list }
@@ -192,7 +192,7 @@ impl Row {
         }
     }
 
-    /// How many entries there are: no fewer than those of the list. Takes no memory.
+    /// Returns the number of entries, which is at least the number of weak pointers in the list. Takes no memory.
     pub(crate) fn count(&self) -> usize
         ensures { length self.now.list ≤ result }
     {
@@ -200,7 +200,7 @@ impl Row {
     }
 }
 
-// Those of some entries whose value word is 0 have left.
+// Flags the entries with value word 0 as left.
 fn mark_dead<W: HeapWords>(entries: &mut [Entry], words: &mut W)
     requires { AreInside (W.words words.old) (listed entries.old) }
     ensures words { W.words words.new ≡ W.words words.old }
@@ -208,7 +208,7 @@ fn mark_dead<W: HeapWords>(entries: &mut [Entry], words: &mut W)
     ensures names { entry_names entries.new ≡ entry_names entries.old }
 {
     for entry in entries.iter_mut() {
-        // The words of one that left mean nothing.
+        // The words of a weak pointer that left mean nothing.
         if !entry.left && words.load(entry.weak.at.0 as usize + VALUE) == 0 {
             entry.left = true;
         }

@@ -1,30 +1,26 @@
-//! The list of weak pointers that have a block, and what becomes of it at a stop.
+//! The list of weak pointers that have a block, and its changes at a stop.
 //!
-//! At every stop the list has exactly the weak pointers that are alive and have a block, with their places, in
-//! order of names. So a closing finds each of them without a look at the segments, and the deaths come in the
-//! order in which their finalisers are queued.
+//! At every stop the list has exactly the weak pointers that are alive and have a block, with their addresses, in order of
+//! names. So a closing finds them without a look at segments, and deaths come in the order in which finalisers are queued.
 //!
-//! It is kept in rows, one for each maker (`row`): a maker's names only grow, so those that join come at the ends of rows,
-//! and those that leave are found by halves. A stop takes time for those that join and leave, and for a whole row only once
-//! more than half of it has left; what goes through the list is a closing, which looks at each weak pointer anyway, and the
-//! report.
+//! The list is stored in rows, one for each maker (`row`). A maker's names only grow, so new weak pointers join at the ends
+//! of rows, and binary search finds the leaving ones. A stop takes time for weak pointers that join and leave, and for a row
+//! only once more than half of it has left. Only a closing, which looks at each anyway, and the report go through the list.
 //!
-//! A stop may not run out of memory half way: room for new weak pointers, and for a death of each, is made
-//! before. Since it may be any row that the next ones join, each row has the whole of that room. Beside the rows there are
-//! five lists with room for all that were listed at the last closing or joined since, and for all for which there is room:
-//! the list in one piece, as a closing takes it, those that wait for their keys, those that die, the deaths, and the names
-//! for the report.
+//! A stop may not run out of memory half way. So room for new weak pointers, and for a death of each, is made before. Since
+//! any row may be joined next, each row has the whole of that room. Beside the rows there are five lists: the list in one
+//! piece for a closing, the waiting weak pointers, the dying, the deaths, and the names for the report. Each has room for all
+//! weak pointers that were listed at the last closing, that joined since, or that may still join.
 //!
-//! Easy to get wrong: what lies in these means nothing between two calls, so each call clears it first; but for the deaths,
-//! and the names, which stay empty.
+//! Easy to get wrong: the contents of these five lists mean nothing between two calls, so each call clears them first. The
+//! exceptions are the deaths, and the names, which stay empty.
 ghost use Rattle.std.specs.Prelude.{ℕ, ◌≡◌, ◌≢◌, ◌⊎◌, ◌↔◌, ◌+◌, ◌<◌, ◌≤◌, List, [], length, vec_len, vec_capacity, Contains, IsTrue, OnOk, OnErr, min, slice_get, Some};
 ghost use Rattle.nmgc_limits.specs.declared.mutators.TheConstants.{MAKERS};
 ghost use Rattle.nmgc_world_spec.specs.Reach.{IsBefore, IsInOrder};
 ghost use Rattle.nmgc_object.specs.declared.size.TheConstants.{HEADER_WORDS};
 ghost use Rattle.nmgc_round.specs.View.{Opening};
 ghost use Rattle.nmgc_mark.specs.Marker.{HasRoomToMark, HasMarked};
-ghost use Rattle.nmgc_weak.specs.{declared.weaks.OldWeak.OldWeak as Old, Resolve.CanResolve, Resolve.HasResolved, Rows.Row as RowShown, Rows.IsNamedAt, Rows.list_of, Rows.left_at};
-ghost use Rattle.nmgc_weak.specs.Weaks.{AreInside, HaveLostValues, alive_of, count_made_by, names_of, places_of, value_place};
+ghost use Rattle.nmgc_weak.specs.{declared.weaks.OldWeak.OldWeak as Old, Resolve.CanResolve, Resolve.HasResolved, Rows.Row as RowShown, Rows.IsNamedAt, Rows.list_of, Rows.left_at, Weaks.AreInside, Weaks.HaveLostValues, Weaks.alive_of, Weaks.count_made_by, Weaks.names_of, Weaks.places_of, Weaks.value_place};
 
 use crate::resolve::{Waiter, clear_values, find_dying, revive, save_finalisers};
 use crate::row::Row;
@@ -40,27 +36,26 @@ use nmgc_world_spec::Name;
 use std::alloc::Global;
 use std::marker::Model;
 
-/// A weak pointer that has a block, and where it lies.
+/// A weak pointer that has a block, and its address.
 #[derive(Clone, Copy, Debug, PartialEq, Eq)]
 pub struct OldWeak {
     pub weak: Name,
     pub at: Address,
 }
 
-/// A weak pointer that died as a cycle was closed, and the word of its finaliser.
+/// A weak pointer that died when a cycle was closed, and the word of its finaliser.
 #[derive(Clone, Copy, Debug, PartialEq, Eq)]
 pub struct Death {
     pub weak: Name,
     pub finaliser: u64,
 }
 
-/// The list of weak pointers that have a block. Contracts see it, for how many more there is room, and the
-/// last deaths.
+/// The list of weak pointers that have a block. Contracts see the list, its room for further ones, and the last deaths.
 #[derive(Drop)]
 pub struct Weaks {
-    // By their makers.
+    // The rows, by maker.
     rows: Vec<Row>,
-    // For how many more there is room, and how many there are at most.
+    // The room for further weak pointers, and a number that the length of the list doesn't exceed.
     room: usize,
     most: usize,
     list: Vec<OldWeak>,
@@ -85,22 +80,22 @@ impl Model for Weaks {
     ghost invariant = { λ a. AreRows a.rows.items a.room × (length (list_of a.rows.items) ≤ a.most) × (a.most + a.room ≤ vec_capacity a.list) × (a.most + a.room ≤ vec_capacity a.waiting) × (a.most + a.room ≤ vec_capacity a.dying) × (a.most + a.room ≤ vec_capacity a.deaths) × (a.most + a.room ≤ vec_capacity a.names) × (a.names.items ≡ []) × (vec_len a.names ≡ 0) };
 }
 
-/// Whether a name is before another, by its maker and then by its serial.
+/// Whether the name `a` is before `b`: by maker, and for the same maker by serial.
 pub(crate) fn is_before(a: Name, b: Name) -> bool
     ensures { IsTrue result ↔ IsBefore a b }
 {
     a.maker < b.maker || (a.maker == b.maker && a.serial < b.serial)
 }
 
-/// Where the words of a weak pointer's value and finaliser are, after its first word.
+/// The offsets of the words of a weak pointer's value and finaliser.
 pub(crate) const VALUE: usize = HEADER_WORDS as usize + 1;
 
 pub(crate) const FINALISER: usize = HEADER_WORDS as usize + 2;
 
-// How many rows there are: one for each number of a mutator, and one for all other names.
+// The number of rows: one for each number of a mutator, and one for all other names.
 const ROWS: usize = MAKERS as usize + 1;
 
-// In which row the names of a maker are.
+// Returns the number of the row that has the names of a maker.
 fn row_of(maker: u8) -> usize
     ensures value { result ≡ min maker MAKERS }
     ensures within { result < ROWS }
@@ -108,8 +103,8 @@ fn row_of(maker: u8) -> usize
     usize::from(maker.min(MAKERS))
 }
 
-// Empty rows join those that are there, up to the last one.
-fn make_rows(alloc: Global, rows: &mut Vec<Row>) -> Result<(), NoMemory>
+// Appends empty rows until no row is missing.
+fn add_missing_rows(alloc: Global, rows: &mut Vec<Row>) -> Result<(), NoMemory>
     ensures list { list_of rows.new.items ≡ list_of rows.old.items }
     ensures more { length rows.old.items ≤ length rows.new.items }
     ensures all { OnOk result (ROWS ≤ length rows.new.items) }
@@ -122,7 +117,7 @@ fn make_rows(alloc: Global, rows: &mut Vec<Row>) -> Result<(), NoMemory>
     Ok(())
 }
 
-// Each row gets room for so many more.
+// Makes room for at least `more` further weak pointers in each row.
 fn reserve_rows(rows: &mut [Row], more: usize) -> Result<(), NoMemory>
     ensures count { length rows.new ≡ length rows.old }
     ensures lists { (k : ℕ) (old new : RowShown) → slice_get rows.old k ≡ Some old → slice_get rows.new k ≡ Some new →
@@ -135,7 +130,7 @@ fn reserve_rows(rows: &mut [Row], more: usize) -> Result<(), NoMemory>
     Ok(())
 }
 
-// The rows as one list, in order. It has room for them.
+// Appends the weak pointers of all rows, in order, to an empty vector that has room for them.
 fn list_rows(rows: &[Row], all: &mut Vec<OldWeak>)
     requires empty { all.old.items ≡ [] }
     requires none { vec_len all.old ≡ 0 }
@@ -148,7 +143,7 @@ fn list_rows(rows: &[Row], all: &mut Vec<OldWeak>)
     }
 }
 
-// Those leave the rows whose value word is 0.
+// Takes the weak pointers with value word 0 out of the rows.
 fn dead_leave<W: HeapWords>(rows: &mut [Row], words: &mut W)
     requires { AreInside (W.words words.old) (list_of rows.old) }
     ensures words { W.words words.new ≡ W.words words.old }
@@ -162,7 +157,7 @@ fn dead_leave<W: HeapWords>(rows: &mut [Row], words: &mut W)
 }
 
 impl Weaks {
-    /// An empty list without room. Takes no memory.
+    /// Makes an empty list without room. Takes no memory.
     pub fn new(alloc: Global) -> Self
         ensures list { result.list ≡ [] }
         ensures spare { result.spare ≡ 0 }
@@ -180,7 +175,7 @@ impl Weaks {
         }
     }
 
-    /// Makes room for at least so many more weak pointers, and for a death of each that there is room for. The
+    /// Makes room for at least `more` further weak pointers, and for a death of each weak pointer that there is room for. The
     /// list and the deaths stay, and room is never lost. After `NoMemory` nothing changed.
     pub fn reserve(&mut self, more: u32) -> Result<(), NoMemory>
         ensures list { self.new.list ≡ self.old.list }
@@ -205,14 +200,14 @@ impl Weaks {
         self.deaths.reserve(wanted)?;
         self.names.reserve(wanted)?;
         let alloc = *self.list.allocator();
-        make_rows(alloc, &mut self.rows)?;
+        add_missing_rows(alloc, &mut self.rows)?;
         reserve_rows(self.rows.as_mut_slice(), more)?;
         self.room = more;
         Ok(())
     }
 
-    /// Adds a weak pointer at its place in the order. There has to be room for it, and it isn't in the list.
-    /// The deaths stay. Takes no memory, and time that goes with how many names of its maker come after it.
+    /// Adds a weak pointer at its position in the order. There has to be room for it, and its name isn't in the list. The
+    /// room shrinks by one, and the deaths stay. Takes no memory, and time for each name of its maker that comes after it.
     pub fn add(&mut self, weak: Name, at: Address)
         requires room { 0 < self.old.spare }
         requires new { (other : Old) → Contains self.old.list other → other.weak ≢ weak }
@@ -227,9 +222,9 @@ impl Weaks {
         self.most += 1;
     }
 
-    /// Adds weak pointers that come in order of names, each at its place in the order. There has to be room for them, and
-    /// none of their names is in the list. The deaths stay. Takes no memory, and time for each that goes with how many names
-    /// of its maker come after it: none where makers give names in their order.
+    /// Adds weak pointers that are in order of names, each at its position in the list. There has to be room for them, and
+    /// none of their names is in the list. The deaths stay. Takes no memory, and for each, time for the names of its maker
+    /// that come after it: none if makers give names in order.
     pub fn add_all(&mut self, fresh: &[OldWeak])
         requires room { length fresh.now ≤ self.old.spare }
         requires ordered { IsInOrder (names_of fresh.now) }
@@ -239,23 +234,22 @@ impl Weaks {
         ensures spare { self.new.spare + length fresh.now ≡ self.old.spare }
         ensures deaths { self.new.deaths ≡ self.old.deaths }
     {
-        // What is read of the list tells the proof that it is in order, also where none join.
+        // Reading a field gives the proof the list's order, even if none join.
         let _room = self.room;
         for weak in fresh {
             self.add(weak.weak, weak.at);
         }
     }
 
-    /// At least as many as there are in the list, so a vector with room for these has room for it (`list_into`). Takes no
-    /// memory, and constant time.
+    /// Returns a bound of the list's length, for the room of a vector (`list_into`). Takes no memory, and constant time.
     pub fn most(&self) -> usize
         ensures { length self.now.list ≤ result }
     {
         self.most
     }
 
-    /// Fills an empty vector with the list, in order of names. There has to be room for it. The list is kept in rows, so no
-    /// slice of it can be lent. Takes no memory, and time for the whole list.
+    /// Fills an empty vector with the list, in order of names. The vector needs room for it. The list is stored in rows, so
+    /// no slice of it can be lent. Takes no memory, and time for the whole list.
     pub fn list_into(&self, all: &mut Vec<OldWeak>)
         requires empty { all.old.items ≡ [] }
         requires none { vec_len all.old ≡ 0 }
@@ -267,7 +261,7 @@ impl Weaks {
         list_rows(self.rows.as_slice(), all);
     }
 
-    /// No more weak pointers of a maker than these are in the list. Takes no memory, and constant time.
+    /// Returns a bound of the number of the maker's weak pointers in the list. Takes no memory, and constant time.
     pub fn count(&self, maker: u8) -> usize
         ensures { count_made_by maker self.now.list ≤ result }
     {
@@ -279,14 +273,14 @@ impl Weaks {
         }
     }
 
-    /// The weak pointers that died at the last closing, in order of names. Takes no memory.
+    /// Returns the weak pointers that died at the last closing, in order of names. Takes no memory.
     pub fn deaths(&self) -> &[Death]
         ensures { result.now ≡ self.now.deaths }
     {
         self.deaths.as_slice()
     }
 
-    /// The names of the list, in order, as a list which lies in `place`. Takes no memory.
+    /// Turns the list into the list of its names, in order, in the memory `place`. Takes no other memory.
     pub fn into_names(self, place: ListMemory<Name>) -> List<Name>
         ensures { result ≡ names_of self.list }
     {
@@ -308,10 +302,9 @@ impl Weaks {
         List::in_place(names, place)
     }
 
-    /// Takes the weak pointer at a place out of the list, if it is one of the list and its value word is 0: one that was
-    /// finalised since the last stop. The name word there has to be its own, since by its name it is found. All others, the
-    /// deaths and the words stay. Takes no memory, and a logarithm of time; where more than half of a row has left, time for
-    /// the row.
+    /// Takes the weak pointer at an address out of the list, if the list has it and its value word is 0: it was finalised
+    /// since the last stop. Its name word has to be its name, by which it is found. The rest of the list, order, room, deaths
+    /// and words stay. Takes no memory, and a logarithm of time, or time for a row if more than half has left.
     pub fn leave_at<W: HeapWords>(&mut self, words: &mut W, at: Address)
         requires inside { value_place at.0 < length (W.words words.old) }
         requires named { IsNamedAt (W.words words.old) at.0 self.old.list }
@@ -335,8 +328,8 @@ impl Weaks {
         }
     }
 
-    /// Takes those out of the list whose value word is 0. Their order, the deaths and the words stay. Takes no memory, and
-    /// time for the whole list.
+    /// Takes the weak pointers with value word 0 out of the list. The order of the rest, the room, the deaths and the words
+    /// stay. Takes no memory, and time for the whole list.
     pub fn leave<W: HeapWords>(&mut self, words: &mut W)
         requires { AreInside (W.words words.old) self.old.list }
         ensures words { W.words words.new ≡ W.words words.old }
@@ -348,16 +341,15 @@ impl Weaks {
         dead_leave(self.rows.as_mut_slice(), words);
     }
 
-    /// Closes a cycle: which weak pointers die, and what is kept through the others.
+    /// Closes a cycle: some weak pointers die, and the rest keep their parts.
     ///
-    /// A weak pointer of the snapshot whose key is nil, a number, g or marked has itself, its value and its
-    /// finaliser marked, with all that strong fields reach from these, until no key is left that was marked in
-    /// this way. The other weak pointers of the snapshot die: their value words become 0, their finalisers are
-    /// marked with all that they reach, and they leave the list and are the deaths. It is the closing of the core
-    /// machine. Those made since the snapshot stay as they are, and no other word changes. The gate isn't passed.
-    /// Takes no memory.
+    /// A weak pointer of the snapshot is kept if its key is nil, a number, g or marked. It is marked, with its value, its
+    /// finaliser and all that is reachable from these along strong fields. This repeats as long as further keys become
+    /// marked. The rest of the snapshot's weak pointers die: their value words become 0, they leave the list, and they are
+    /// the deaths. Their finalisers are marked with all that is reachable from them. This is the marking machine's closing.
+    /// Weak pointers made since the snapshot stay, and no other word changes. The gate isn't passed. Takes no memory.
     ///
-    /// Takes time for the weak pointers of the list and a logarithm, and for what is marked, however the weak pointers
+    /// Takes time for the weak pointers of the list and a logarithm, and for the marked objects, however the weak pointers
     /// revive one another (`revive`).
     pub fn resolve<W: HeapWords>(
         &mut self,

@@ -1,5 +1,5 @@
--- The shape of an object: its kind, its tag and how many fields it has. No command changes it, so an object
--- never changes its size, and its header is written once.
+-- The shape of an object: its kind, its tag and its number of fields. No command changes it, so an object never changes its
+-- size, and its header is written once.
 use Rattle.std.specs.Prelude.{◌≡◌, ◌+◌, ℕ, List, [], length, replicate, Option, Some, None}
 use Rattle.nmgc_world_spec.specs.{declared.value.Name.Name, declared.node.Kind.Kind, declared.node.Node.Node, declared.node.Node.TheVariants.Con, declared.node.Node.TheVariants.Var, declared.node.Node.TheVariants.Arr, declared.node.Node.TheVariants.Thunk, declared.node.Node.TheVariants.Weak, declared.node.Node.TheVariants.Stack, declared.command.Command.Command, World.World, World.node_of, World.IsWorld, Step.CanApply, Step.value_for, Step.values_for, Step.step, History.Row, History.replayed, Reach.closed}
 use Rattle.nmgc_world_spec.specs.declared.node.Kind.TheVariants as kind
@@ -14,12 +14,13 @@ kind_of (Thunk free result) = kind.Thunk
 kind_of (Weak parts) = kind.Weak
 kind_of (Stack size values) = kind.Stack
 
--- only a constructor has a tag
+-- the tag of a constructor; 0 for the other kinds, which have none
 abbrev pub tag_of : Node → ℕ
 tag_of (Con tag values) = tag
 tag_of _ = 0
 
--- how many fields the object has: a thunk its result and its free variables, a weak pointer its three parts also once it is dead, a stack as many as its size
+-- the number of fields of an object. A thunk's result counts beside its free variables, a weak pointer has three also when it
+-- is dead, and a stack's number is its size
 abbrev pub part_count : Node → ℕ
 part_count (Con tag values) = length values
 part_count (Var v) = 1
@@ -28,21 +29,21 @@ part_count (Thunk free result) = length free + 1
 part_count (Weak parts) = 3
 part_count (Stack size values) = size
 
--- the words of an object: a header, a name, and a word for each field
+-- the number of words of an object: a header, a name, and a word for each field
 abbrev pub words_of : Node → ℕ
 words_of node = 2 + part_count node
 
--- one shape: kind, tag and number of parts are the same
+-- two nodes have the same shape: kind, tag and number of fields
 pub record SameShape (before after : Node) : Type 0 where
   pub kind : kind_of after ≡ kind_of before
   pub tag : tag_of after ≡ tag_of before
   pub parts : part_count after ≡ part_count before
 
--- each name that has a node keeps one of the same shape
+-- each name that has a node has a node of the same shape later
 abbrev pub KeepsShapes : World → World → Type 0
 KeepsShapes w v = (name : Name) (before : Node) → node_of w name ≡ Some before → (after : Node) × (node_of v name ≡ Some after) × SameShape before after
 
--- the node that a command makes, if it makes one
+-- the node of the object that a command makes, if it makes one
 abbrev pub made_by : World → ℕ → Command → Option Node
 made_by w m (command.Con dest tag fields) = Some (Con tag (values_for w m fields))
 made_by w m (command.Var dest v) = Some (Var (value_for w m v))
@@ -60,10 +61,10 @@ made_by w m _ = None
 abbrev pub StepKeepsShapes : Type 0
 StepKeepsShapes = (w : World) (m : ℕ) (c : Command) → IsWorld w → CanApply w m c → KeepsShapes w (step w m c).0
 
--- no list of commands does
+-- no list of commands changes the shape of an object
 abbrev pub RowsKeepShapes : Type 0
 RowsKeepShapes = (w : World) (rows : List Row) → IsWorld w → CanReplay w rows → KeepsShapes w (replayed w rows)
 
--- and no closing
+-- no closing changes the shape of an object
 abbrev pub ClosingKeepsShapes : Type 0
 ClosingKeepsShapes = (w : World) (weaks : List Name) → IsWorld w → KeepsShapes w (closed w weaks)

@@ -1,12 +1,12 @@
--- What a change does to a node, and what it answers. Refusals come in the order of the cases, and
--- leave the node as it is. Below `changed` the same stands in two halves: which answers say that a
--- change is done, and what one that is done leaves.
+-- The effect of a change on a node, and the reply. Refusals come in the order of the cases, and leave the node as it is. The
+-- definitions after `changed` split the effect in two: the replies of a change that is done, and the node that it leaves.
 use Rattle.std.specs.Prelude.{ℕ, ◌-◌, List, [], ◌∷◌, ◌++◌, length, slice_get, slice_set, take, Option, Some, None, Bool, true, false, ◌==◌, ◌&&◌, nat_lt, if◌then◌else◌}
 use Rattle.nmgc_world_spec.specs.{declared.value.Name.Name, declared.value.Value.Value, declared.node.Parts.Parts, declared.node.Node.Node, declared.node.Node.TheVariants.Con, declared.node.Node.TheVariants.Var, declared.node.Node.TheVariants.Arr, declared.node.Node.TheVariants.Thunk, declared.node.Node.TheVariants.Weak, declared.node.Node.TheVariants.Stack, declared.command.Reply.Reply, declared.change.Change.Change}
 use Rattle.nmgc_world_spec.specs.declared.value.Value.TheVariants as value
 use Rattle.nmgc_world_spec.specs.declared.command.Reply.TheVariants.{Fine, Yes, No, Updated, Already, Given, NoField, WrongKind, NotOwner, Fixed, Dead, Nothing, StackFull, StackEmpty}
 use Rattle.nmgc_world_spec.specs.declared.change.Change.TheVariants as change
 
+-- whether two names are the same
 abbrev pub is_same_name : Name → Name → Bool
 is_same_name a b = (a.maker == b.maker) && (a.serial == b.serial)
 
@@ -17,12 +17,12 @@ is_same (value.Number m) (value.Number n) = m == n
 is_same (value.Ref a) (value.Ref b) = is_same_name a b
 is_same _ _ = false
 
--- the value, or this refusal where there is none
+-- the reply that gives this value, or the refusal `refusal` if there is no value
 abbrev pub given_or : Reply → Option Value → Reply
 given_or refusal None = refusal
 given_or refusal (Some v) = Given v
 
--- the field at an index of a constructor, a variable or an array
+-- the field at this index, if the node is a constructor, a variable or an array and has such a field; otherwise none
 abbrev pub field_in : Node → ℕ → Option Value
 field_in (Con tag values) index = slice_get values index
 field_in (Var v) index = slice_get (v ∷ []) index
@@ -31,7 +31,7 @@ field_in (Thunk free result) index = None
 field_in (Weak parts) index = None
 field_in (Stack size values) index = None
 
--- `get`: the field of a constructor, a variable or an array
+-- the answer of `get`: the field at this index of a constructor, a variable or an array, or else a refusal
 abbrev pub field_read : Node → ℕ → Reply
 field_read (Con tag values) index = given_or NoField (slice_get values index)
 field_read (Var v) index = given_or NoField (slice_get (v ∷ []) index)
@@ -40,7 +40,7 @@ field_read (Thunk free result) index = WrongKind
 field_read (Weak parts) index = WrongKind
 field_read (Stack size values) index = WrongKind
 
--- `force`: the result of a thunk
+-- the answer of `force`: the result of a thunk, or else a refusal
 abbrev pub result_read : Node → Reply
 result_read (Thunk free result) = given_or Nothing result
 result_read _ = WrongKind
@@ -49,12 +49,12 @@ abbrev pub value_part : Option Parts → Option Value
 value_part None = None
 value_part (Some p) = Some p.value
 
--- `deref`: the value of an alive weak pointer
+-- the answer of `deref`: the value of a weak pointer that is alive, or else a refusal
 abbrev pub value_read : Node → Reply
 value_read (Weak parts) = given_or Dead (value_part parts)
 value_read _ = WrongKind
 
--- `set`: the field of a variable or an array takes a value
+-- the effect of `set`: a variable or an array with this value at the index, or else the same node and a refusal
 abbrev pub field_set : Node → ℕ → Value → Node × Reply
 field_set (Con tag values) index v = (Con tag values, Fixed)
 field_set (Var old) index v = if index == 0 then (Var v, Fine) else (Var old, NoField)
@@ -63,16 +63,16 @@ field_set (Thunk free result) index v = (Thunk free result, WrongKind)
 field_set (Weak parts) index v = (Weak parts, WrongKind)
 field_set (Stack size values) index v = (Stack size values, WrongKind)
 
--- `cas` of a field that holds `old`
+-- the effect of `cas` on a field that holds `old`: the written node if `old` is the expected value, or else the kept node
 abbrev pub exchanged : Value → Value → Node → Node → Node × Reply
 exchanged old expected kept written = if is_same old expected then (written, Yes) else (kept, No)
 
--- `cas` of a field that may not be there
+-- the effect of `cas` on a field: refused if the field doesn't exist, and otherwise by comparison with the expected value
 abbrev pub exchanged_at : Option Value → Value → Node → Node → Node × Reply
 exchanged_at None expected kept written = (kept, NoField)
 exchanged_at (Some old) expected kept written = exchanged old expected kept written
 
--- `cas`: the field of a variable or an array takes a value where it holds the expected one
+-- the effect of `cas`: if a variable or an array holds the expected value at the index, it gets the other value there
 abbrev pub field_exchanged : Node → ℕ → Value → Value → Node × Reply
 field_exchanged (Con tag values) index expected v = (Con tag values, Fixed)
 field_exchanged (Var old) index expected v = exchanged_at (slice_get (old ∷ []) index) expected (Var old) (Var v)
@@ -81,38 +81,38 @@ field_exchanged (Thunk free result) index expected v = (Thunk free result, Wrong
 field_exchanged (Weak parts) index expected v = (Weak parts, WrongKind)
 field_exchanged (Stack size values) index expected v = (Stack size values, WrongKind)
 
--- `update`: a thunk without a result gets one
+-- the effect of `update`: a thunk without a result gets this value as its result
 abbrev pub thunk_updated : Node → Value → Node × Reply
 thunk_updated (Thunk free None) v = (Thunk free (Some v), Updated)
 thunk_updated (Thunk free (Some old)) v = (Thunk free (Some old), Already)
 thunk_updated node v = (node, WrongKind)
 
--- `push` by the stack's maker or another mutator
+-- the effect of `push`: a stack that isn't full gets this value on top, if its maker asks (`own`)
 abbrev pub stack_pushed : Bool → Node → Value → Node × Reply
 stack_pushed own (Stack size values) v =
     if own then (if nat_lt (length values) size then (Stack size (values ++ v ∷ []), Fine) else (Stack size values, StackFull)) else
     (Stack size values, NotOwner)
 stack_pushed own node v = (node, WrongKind)
 
--- all but the last, and the last
+-- all values except the last; the definition after it is the last value
 abbrev pub without_last : List Value → List Value
 without_last values = take (length values - 1) values
 
 abbrev pub last_of : List Value → Option Value
 last_of values = slice_get values (length values - 1)
 
--- `pop` by the stack's maker or another mutator
+-- the effect of `pop`: a stack loses its top, which the reply gives, if its maker asks (`own`)
 abbrev pub stack_popped : Bool → Node → Node × Reply
 stack_popped own (Stack size values) = if own then (Stack size (without_last values), given_or StackEmpty (last_of values)) else (Stack size values, NotOwner)
 stack_popped own node = (node, WrongKind)
 
--- `finalise`: an alive weak pointer dies
+-- the effect of `finalise`: a weak pointer that is alive dies, and the reply gives its finaliser
 abbrev pub weak_finalised : Node → Node × Reply
 weak_finalised (Weak (Some p)) = (Weak None, Given p.finaliser)
 weak_finalised (Weak None) = (Weak None, Dead)
 weak_finalised node = (node, WrongKind)
 
--- a node of this maker after a change, and the reply
+-- the effect of `set`, `cas`, `update`, `push`, `pop` or `finalise` on its node: the next node, and the reply
 abbrev pub changed : Change → ℕ → Node → Node × Reply
 changed (change.Set index v) maker node = field_set node index v
 changed (change.Exchange index expected v) maker node = field_exchanged node index expected v
@@ -121,7 +121,7 @@ changed (change.Push m v) maker node = stack_pushed (maker == m) node v
 changed (change.Pop m) maker node = stack_popped (maker == m) node
 changed change.Finalise maker node = weak_finalised node
 
--- whether a change that is answered so is done
+-- whether a change with this reply is done: ok, yes, updated and a value say so; after any other reply the node is as before
 abbrev pub is_done : Reply → Bool
 is_done Fine = true
 is_done Yes = true
@@ -129,7 +129,7 @@ is_done Updated = true
 is_done (Given v) = true
 is_done _ = false
 
--- the node with another value in a field, if it is an array that has the field, or a variable, which has only one
+-- the node with the value at the index; an array without this field stays as it is, and a variable has one field at any index
 abbrev pub field_written : Node → ℕ → Value → Node
 field_written (Con tag values) index v = Con tag values
 field_written (Var old) index v = Var v
@@ -138,27 +138,27 @@ field_written (Thunk free result) index v = Thunk free result
 field_written (Weak parts) index v = Weak parts
 field_written (Stack size values) index v = Stack size values
 
--- the node with a result, if it is a thunk
+-- the thunk with this value as its result; any other node stays as it is
 abbrev pub result_written : Node → Value → Node
 result_written (Thunk free result) v = Thunk free (Some v)
 result_written node v = node
 
--- the node with a value on top, if it is a stack, whatever its size
+-- the stack with this value on top, whatever its size; any other node stays as it is
 abbrev pub value_pushed : Node → Value → Node
 value_pushed (Stack size values) v = Stack size (values ++ v ∷ [])
 value_pushed node v = node
 
--- the node without its top, if it is a stack
+-- the stack without its top value; any other node stays as it is
 abbrev pub top_dropped : Node → Node
 top_dropped (Stack size values) = Stack size (without_last values)
 top_dropped node = node
 
--- the node, dead if it is a weak pointer
+-- the weak pointer as a dead one; any other node stays as it is
 abbrev pub killed : Node → Node
 killed (Weak parts) = Weak None
 killed node = node
 
--- what a change that is done leaves of a node
+-- the node that a change leaves if the reply says that it is done; nothing is refused here
 abbrev pub written : Change → Node → Node
 written (change.Set index v) node = field_written node index v
 written (change.Exchange index expected v) node = field_written node index v

@@ -1,22 +1,22 @@
--- Which commands a mutator may give.
+-- The commands that a mutator may give.
 --
--- The world that runs (`nmgc_graph`) needs the registers alone. The other limits are those of a script, which the
--- layouts of words rest on.
+-- The world that runs (`nmgc_graph`) needs the limit of registers alone. The other limits hold for scripts, and the layouts
+-- of words depend on them.
 use Rattle.std.specs.Prelude.{ℕ, ◌+◌, ◌<◌, ◌≤◌, ◌^◌, length, All}
 use Rattle.nmgc_limits.specs.declared.mutators.TheConstants.{REGISTERS}
 use Rattle.nmgc_world_spec.specs.{declared.command.Operand.Operand, declared.command.Operand.TheVariants.Register, declared.command.Operand.TheVariants.Shared, declared.command.Command.Command}
 use Rattle.nmgc_world_spec.specs.declared.command.Command.TheVariants.{Num, Nil, Mov, Con, Var, Arr, Thunk, Weak, Stack, Get, Set, Cas, Update, Force, Push, Pop, Deref, Finalise, NextFin, Show, Same, Yield, Collect, Full}
 
--- the register is one of so many
+-- the register's number is below the bound
 abbrev pub IsRegisterBelow : ℕ → ℕ → Type 0
 IsRegisterBelow bound r = r < bound
 
--- the operand's register is one of so many, if it has one
+-- the number of the operand's register is below the bound, if the operand is a register
 abbrev pub IsOperandBelow : ℕ → Operand → Type 0
 IsOperandBelow bound (Register r) = IsRegisterBelow bound r
 IsOperandBelow bound Shared = Unit {0}
 
--- the registers that a command names are among so many
+-- the numbers of all registers that the command names are below the bound
 abbrev pub HasRegistersBelow : ℕ → Command → Type 0
 HasRegistersBelow b (Num dest number) = IsRegisterBelow b dest
 HasRegistersBelow b (Nil dest) = IsRegisterBelow b dest
@@ -47,11 +47,11 @@ HasRegistersBelow b Full = Unit {0}
 abbrev pub IsRegister : ℕ → Type 0
 IsRegister = IsRegisterBelow REGISTERS
 
--- the operand's register exists, if it has one
+-- the operand's register exists, if the operand is a register
 abbrev pub IsOperand : Operand → Type 0
 IsOperand = IsOperandBelow REGISTERS
 
--- the registers of a command exist
+-- all registers of the command exist
 abbrev pub HasRegisters : Command → Type 0
 HasRegisters = HasRegistersBelow REGISTERS
 
@@ -67,7 +67,7 @@ HasNumbers (Set object index value) = index < 65536
 HasNumbers (Cas object index expected value) = index < 65536
 HasNumbers _ = Unit {0}
 
--- how many words the object that a command makes has: a header, a name, and a word for each part
+-- the number of words of the object that a command makes: a header, a name, and a word for each part; 0 if it makes none
 abbrev pub words_made : Command → ℕ
 words_made (Con dest tag fields) = 2 + length fields
 words_made (Var dest value) = 3
@@ -77,7 +77,8 @@ words_made (Weak dest key value finaliser) = 5
 words_made (Stack dest size) = 2 + size
 words_made _ = 0
 
--- a script may have the command, where a segment has so many words
+-- a command fits, so a script may have it: its registers exist, its numbers are within their limits, and its object has at
+-- most `words` words, a segment's size
 pub record Fits (words : ℕ) (c : Command) : Type 0 where
   pub registers : HasRegisters c
   pub numbers : HasNumbers c

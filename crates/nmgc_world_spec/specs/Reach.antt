@@ -1,11 +1,12 @@
--- What can be reached in a world, by the weak-pointer rule: while a weak pointer's key is live, the weak
--- pointer, its value and its finaliser are live too, even where nothing refers to the weak pointer itself.
--- Each set is the least one with its rules: a constructor is a rule, and nothing else is in the set.
+-- Reachability in a world, by the weak-pointer rule. While a weak pointer's key is live, the weak pointer, its value and its
+-- finaliser are live too, even if nothing refers to the weak pointer. Each set is the least one with its rules: each
+-- constructor is a rule, and there are no further members.
 use Rattle.std.specs.Prelude.{◌≡◌, ◌⊎◌, ℕ, ◌<◌, List, [], ◌∷◌, ◌++◌, Option, Some, None, IsSome, Contains}
 use Rattle.nmgc_world_spec.specs.{declared.value.Name.Name, declared.value.Value.Value, declared.node.Parts.Parts, declared.node.Node.Node, declared.node.Node.TheVariants.Con, declared.node.Node.TheVariants.Var, declared.node.Node.TheVariants.Arr, declared.node.Node.TheVariants.Thunk, declared.node.Node.TheVariants.Weak, declared.node.Node.TheVariants.Stack, declared.mutator_state.MutatorState.MutatorState, World.World, World.state_of, World.node_of, Step.shared_name, Step.with_state, Step.with_node}
 use Rattle.nmgc_world_spec.specs.declared.value.Value.TheVariants as value
 
--- the values in a node's strong fields: a thunk with a result no longer holds its free variables, and a weak pointer holds nothing
+-- the values in a node's strong fields: those in a constructor, variable, array or stack; a thunk's result, or else its free
+-- variables; none of a weak pointer
 abbrev pub strong_fields : Node → List Value
 strong_fields (Con tag values) = values
 strong_fields (Var v) = v ∷ []
@@ -15,20 +16,20 @@ strong_fields (Thunk free (Some result)) = result ∷ []
 strong_fields (Weak parts) = []
 strong_fields (Stack size values) = values
 
--- the name has a strong field that refers to the target
+-- the name's node has a strong field that refers to the target
 abbrev pub RefersTo : World → Name → Name → Type 0
 RefersTo w name target = (node : Node) × (node_of w name ≡ Some node) × Contains (strong_fields node) (value.Ref target)
 
--- names with P, and what strong fields reach from these
+-- the names reachable from names with property P: the least set that has all names with P and follows strong fields
 pub data IsReached (w : World) (P : Name → Type 0) : Name → Type 0 where
   start : (name : Name) → P name → IsReached w P name
   field : (name target : Name) → IsReached w P name → RefersTo w name target → IsReached w P target
 
--- g, or what a register or a finaliser queue refers to
+-- a root: g, or a name to which a register or a finaliser queue refers
 abbrev pub IsRoot : World → Name → Type 0
 IsRoot w name = (name ≡ shared_name) ⊎ ((m : ℕ) × Contains ((state_of w m).registers ++ (state_of w m).queue) (value.Ref name))
 
--- a weak pointer that is alive, with its parts
+-- the name names a weak pointer that is alive and has these parts
 abbrev pub IsAlive : World → Name → Parts → Type 0
 IsAlive w weak parts = node_of w weak ≡ Some (Weak (Some parts))
 
@@ -38,11 +39,14 @@ IsPlain value.Nil = Unit {0}
 IsPlain (value.Number n) = Unit {0}
 IsPlain (value.Ref name) = ⊥
 
--- the value and the finaliser of a weak pointer refer to the target, or it is the weak pointer itself
+-- the target is the weak pointer itself, or its value or its finaliser refers to the target
 abbrev pub IsKeptBy : Name → Parts → Name → Type 0
 IsKeptBy weak parts target = (target ≡ weak) ⊎ (parts.value ≡ value.Ref target) ⊎ (parts.finaliser ≡ value.Ref target)
 
--- live names of a world and further names: reached from the roots and the further names that are in the map, along strong fields and by live keys
+-- the live names of a world with further names: the least set that follows strong fields and has all of these. It has g, the
+-- names in registers and finaliser queues, and the further names in the map. It also has each weak pointer that is alive and
+-- has a plain or live key, and this weak pointer's value and finaliser. (GHC's rule: a live key keeps value and finaliser,
+-- even if nothing refers to the weak pointer.)
 pub data IsLive (w : World) (extra : List Name) : Name → Type 0 where
   root : (name : Name) → IsRoot w name → IsLive w extra name
   further : (name : Name) → Contains extra name → IsSome (node_of w name) → IsLive w extra name
@@ -51,7 +55,7 @@ pub data IsLive (w : World) (extra : List Name) : Name → Type 0 where
   live_key : (weak target key : Name) (parts : Parts) → IsAlive w weak parts → parts.key ≡ value.Ref key → IsLive w extra key →
       IsKeptBy weak parts target → IsLive w extra target
 
--- dead weak pointers: alive so far, not finalised, and the key is a reference to a name that isn't live
+-- a dead weak pointer: it is alive so far, it isn't finalised, and its key is a reference to a name that isn't live
 pub record IsDead (w : World) (extra finalised : List Name) (weak : Name) : Type 0 where
   pub parts : Parts
   pub alive : IsAlive w weak parts
@@ -60,7 +64,7 @@ pub record IsDead (w : World) (extra finalised : List Name) (weak : Name) : Type
   pub key_is : parts.key ≡ value.Ref key
   pub lost : IsLive w extra key → ⊥
 
--- kept names: the live ones, the finalisers of dead weak pointers, and what strong fields reach from these
+-- the kept names: the least set that has the live names and the finalisers of dead weak pointers, and follows strong fields
 pub data IsKept (w : World) (extra finalised : List Name) : Name → Type 0 where
   live : (name : Name) → IsLive w extra name → IsKept w extra finalised name
   finaliser : (weak target : Name) (dead : IsDead w extra finalised weak) → dead.parts.finaliser ≡ value.Ref target → IsKept w extra finalised target
@@ -70,36 +74,37 @@ pub data IsKept (w : World) (extra finalised : List Name) : Name → Type 0 wher
 abbrev pub IsBefore : Name → Name → Type 0
 IsBefore a b = (a.maker < b.maker) ⊎ ((a.maker ≡ b.maker) × (a.serial < b.serial))
 
--- each name of the list is before all that follow
+-- the list is in the order of names: each name is before the next
 abbrev pub IsInOrder : List Name → Type 0
 IsInOrder [] = Unit {0}
 IsInOrder (name ∷ []) = Unit {0}
 IsInOrder (name ∷ next ∷ names) = IsBefore name next × IsInOrder (next ∷ names)
 
--- the names are exactly those with P, in order
+-- the list has exactly the names with property P, in the order of names
 pub record Lists (P : Name → Type 0) (names : List Name) : Type 0 where
   pub ordered : IsInOrder names
   pub sound : (name : Name) → Contains names name → P name
   pub complete : (name : Name) → P name → Contains names name
 
--- the finaliser joins the end of the queue, unless it is nil
+-- a mutator's state with a finaliser added at the end of its queue; a finaliser that is nil isn't added
 abbrev pub queued : MutatorState → Value → MutatorState
 queued state value.Nil = state
 queued state (value.Number n) = record state { queue = state.queue ++ value.Number n ∷ [] }
 queued state (value.Ref name) = record state { queue = state.queue ++ value.Ref name ∷ [] }
 
--- one weak pointer dies: its finaliser joins the queue of its maker
+-- the world after one weak pointer died, with its finaliser, unless it is nil, at the end of its maker's queue
 abbrev pub closed_by : World → Name → Option Node → World
 closed_by w weak (Some (Weak (Some parts))) =
     let after = with_node w weak (Weak None) in
     with_state after weak.maker (queued (state_of after weak.maker) parts.finaliser)
 closed_by w weak other = w
 
--- closing: each of the weak pointers dies, in the order of the list
+-- the closing of a world: each weak pointer of the list dies, in the order of the list. Its finaliser, unless it is nil,
+-- joins the end of the queue of the weak pointer's maker. Runs close with the dead weak pointers in the order of names.
 abbrev pub closed : World → List Name → World
 closed w [] = w
 closed w (weak ∷ weaks) = closed (closed_by w weak (node_of w weak)) weaks
 
--- the name is that of a weak pointer that is alive
+-- the name names a weak pointer that is alive
 abbrev pub IsAliveWeak : World → Name → Type 0
 IsAliveWeak w weak = (parts : Parts) × IsAlive w weak parts

@@ -1,5 +1,4 @@
--- What a command does to a world: the next world, and the reply. It is the whole behaviour of a heap
--- that is never collected.
+-- The effect of a command on a world: the next world, and the reply. It is the whole behaviour of the reference heap.
 use Rattle.std.specs.Prelude.{ℕ, ◌-◌, ◌<◌, ◌^◌, List, [], ◌∷◌, ◌++◌, length, map, drop, replicate, slice_get, slice_index_or, slice_set, Option, Some, None, if◌then◌else◌, ◌==◌}
 use Rattle.nmgc_world_spec.specs.{World.World, World.state_of, World.serial_of, World.node_of, Command.HasRegisters, Change.is_same, Change.given_or, Change.field_read, Change.result_read, Change.value_read, Change.changed, declared.value.Name.Name, declared.value.Value.Value, declared.node.Node.Node, declared.change.Change.Change, declared.mutator_state.MutatorState.MutatorState, declared.command.Operand.Operand, declared.command.Operand.TheVariants.Register, declared.command.Operand.TheVariants.Shared, declared.command.Command.Command, declared.command.Reply.Reply, declared.command.Reply.TheVariants.Fine, declared.command.Reply.TheVariants.Yes, declared.command.Reply.TheVariants.No, declared.command.Reply.TheVariants.Given, declared.command.Reply.TheVariants.NoPointer, declared.command.Reply.TheVariants.Nothing}
 use Rattle.nmgc_limits.specs.declared.mutators.TheConstants.{SHARED_MAKER}
@@ -8,7 +7,7 @@ use Rattle.nmgc_world_spec.specs.declared.node.Node.TheVariants as node
 use Rattle.nmgc_world_spec.specs.declared.change.Change.TheVariants as change
 use Rattle.nmgc_world_spec.specs.declared.command.Command.TheVariants.{Num, Nil, Mov, Con, Var, Arr, Thunk, Weak, Stack, Get, Set, Cas, Update, Force, Push, Pop, Deref, Finalise, NextFin, Show, Same, Yield, Collect, Full}
 
--- a world takes a command: the mutator and the registers exist, and one more object still has a serial
+-- a world can take a command: the mutator and the command's registers exist, and the mutator has a serial left
 pub record CanApply (w : World) (m : ℕ) (c : Command) : Type 0 where
   pub mutator : m < length w.mutators
   pub registers : HasRegisters c
@@ -18,7 +17,7 @@ pub record CanApply (w : World) (m : ℕ) (c : Command) : Type 0 where
 abbrev pub shared_name : Name
 shared_name = record { maker = SHARED_MAKER; serial = 0 }
 
--- the value of an operand, with these registers
+-- the value of an operand: the value in its register, among these registers, or the reference to g
 abbrev pub value_of : List Value → Operand → Value
 value_of registers (Register r) = slice_index_or registers r value.Nil
 value_of registers Shared = value.Ref shared_name
@@ -31,83 +30,83 @@ value_for w m operand = value_of (state_of w m).registers operand
 abbrev pub values_for : World → ℕ → List Operand → List Value
 values_for w m operands = map (value_of (state_of w m).registers) operands
 
--- the world with another state of a mutator
+-- the world with this state of a mutator
 abbrev pub with_state : World → ℕ → MutatorState → World
 with_state w m state = record w { mutators = slice_set w.mutators m state }
 
--- a register holds the value
+-- the mutator's state with the value in a register
 abbrev pub holding : MutatorState → ℕ → Value → MutatorState
 holding state register v = record state { registers = slice_set state.registers register v }
 
--- a register holds the value, if there is one
+-- the mutator's state with the value in a register, if there is a value
 abbrev pub holding_given : MutatorState → ℕ → Option Value → MutatorState
 holding_given state register None = state
 holding_given state register (Some v) = holding state register v
 
--- a register of the mutator takes the value
+-- the world with the value in a register of the mutator
 abbrev pub with_register : World → ℕ → ℕ → Value → World
 with_register w m register v = with_state w m (holding (state_of w m) register v)
 
--- the register takes the value that was given, if one was
+-- the world with the value of the reply in a register of the mutator, if the reply gives one
 abbrev pub keeping : World → ℕ → ℕ → Reply → World
 keeping w m register (Given v) = with_register w m register v
 keeping w m register _ = w
 
--- the next name that a mutator gives
+-- the name of the next object that a mutator makes
 abbrev pub next_name : MutatorState → ℕ → Name
 next_name state m = record { maker = m; serial = length state.nodes }
 
--- a new node, whose reference a register holds
+-- the mutator's state with a new node, and its reference in a register
 abbrev pub with_new : MutatorState → ℕ → ℕ → Node → MutatorState
 with_new state m register made = record state {
   registers = slice_set state.registers register (value.Ref (next_name state m));
   nodes = state.nodes ++ made ∷ [];
 }
 
--- a new node: its reference goes into a register, and its name is the answer
+-- the making of a node: the world with the node and with its reference in a register, and the reply that gives the reference
 abbrev pub born : World → ℕ → ℕ → Node → World × Reply
 born w m register made = (with_state w m (with_new (state_of w m) m register made), Given (value.Ref (next_name (state_of w m) m)))
 
--- the object at a serial is another node
+-- the mutator's state with this node at a serial
 abbrev pub with_nth : MutatorState → ℕ → Node → MutatorState
 with_nth state serial made = record state { nodes = slice_set state.nodes serial made }
 
--- the world in which a name has another node
+-- the world with this node at a name
 abbrev pub with_node : World → Name → Node → World
 with_node w name made = if name.maker == SHARED_MAKER then record w {
   shared =
       made;
 } else with_state w name.maker (with_nth (state_of w name.maker) name.serial made)
 
--- the object that a value refers to
+-- the object that a value refers to, if there is one
 abbrev pub object_of : World → Value → Option Node
 object_of w value.Nil = None
 object_of w (value.Number n) = None
 object_of w (value.Ref name) = node_of w name
 
--- what reading an object answers
+-- the answer of a read of an object, or a refusal if there is no object
 abbrev pub read_object : Option Node → (Node → Reply) → Reply
 read_object None read = NoPointer
 read_object (Some found) read = read found
 
--- a change of the node of a name
+-- the effect of a change on the node of a name: the next world and the reply; without a node the change is refused
 abbrev pub change_node : World → Name → Option Node → Change → World × Reply
 change_node w name None c = (w, NoPointer)
 change_node w name (Some found) c = (with_node w name (changed c name.maker found).0, (changed c name.maker found).1)
 
--- a change of the object that a value refers to
+-- the effect of a change on the object that a value refers to: the next world and the reply
 abbrev pub change_object : World → Value → Change → World × Reply
 change_object w value.Nil c = (w, NoPointer)
 change_object w (value.Number n) c = (w, NoPointer)
 change_object w (value.Ref name) c = change_node w name (node_of w name) c
 
--- the write of a field that a command asks for, with the value that refers to the object
+-- the write that a `set` or `cas` asks for, with the value of its object operand; none for other commands
 abbrev pub asked_write : World → ℕ → Command → Option (Value × Change)
 asked_write w m (Set object index v) = Some (value_for w m object, change.Set index (value_for w m v))
 asked_write w m (Cas object index expected v) = Some (value_for w m object, change.Exchange index (value_for w m expected) (value_for w m v))
 asked_write w m _ = None
 
--- the change that a command asks for, with the value that refers to the object
+-- the change that a command asks for, with the value of its object operand; only six commands ask for a change
 abbrev pub asked : World → ℕ → Command → Option (Value × Change)
 asked w m (Update object v) = Some (value_for w m object, change.Update (value_for w m v))
 asked w m (Push object v) = Some (value_for w m object, change.Push m (value_for w m v))
@@ -115,32 +114,33 @@ asked w m (Pop dest object) = Some (value_for w m object, change.Pop m)
 asked w m (Finalise dest object) = Some (value_for w m object, change.Finalise)
 asked w m c = asked_write w m c
 
--- the change that was asked for, if one was
+-- the world after the change that a command asks for, and the reply; without such a change the world stays as it is
 abbrev pub change_asked : World → Option (Value × Change) → World × Reply
 change_asked w None = (w, Fine)
 change_asked w (Some (object, c)) = change_object w object c
 
--- the register takes the value that was read, if one was
+-- the result of a read: the world with the value that the reply gives, if any, in the register, and the reply
 abbrev pub read_into : World → ℕ → ℕ → Reply → World × Reply
 read_into w m dest reply = (keeping w m dest reply, reply)
 
--- the register takes the value that a change gave, if it gave one
+-- the result of a change: its world with the value that the reply gives, if any, in the register, and the reply
 abbrev pub change_into : ℕ → ℕ → World × Reply → World × Reply
 change_into m dest r = (keeping r.0 m dest r.1, r.1)
 
--- the first of the finaliser queue, if there is one, went off into a register
+-- the mutator's state with the first value of its finaliser queue, if any, moved into a register
 abbrev pub with_finaliser : MutatorState → ℕ → MutatorState
 with_finaliser state register = holding_given (record state { queue = drop 1 state.queue }) register (slice_get state.queue 0)
 
--- `nextfin`: the first of the queue goes off into the register
+-- the effect of `nextfin`: the first value of the mutator's finaliser queue, if any, moves into the register
 abbrev pub next_finaliser : World → ℕ → ℕ → World × Reply
 next_finaliser w m dest = (with_state w m (with_finaliser (state_of w m) dest), given_or Nothing (slice_get (state_of w m).queue 0))
 
--- `same`
+-- the answer of `same`: yes if the two values are the same, and no otherwise
 abbrev pub same_reply : Value → Value → Reply
 same_reply a b = if is_same a b then Yes else No
 
--- the next world, and the reply
+-- the step of the world: the next world and the reply for each command, which is the whole behaviour of the reference heap. A
+-- refusal changes nothing.
 abbrev pub step : World → ℕ → Command → World × Reply
 step w m (Num dest number) = (with_register w m dest (value.Number number), Fine)
 step w m (Nil dest) = (with_register w m dest value.Nil, Fine)

@@ -1,7 +1,7 @@
-//! What a command asks of the one object that it names, with the values that its operands have.
+//! The change that a command asks of the one object that it names, with the values of its operands.
 use crate::Value;
 
-/// A change of one object, with the values that the operands have.
+/// A change of one object, with the values of the operands.
 #[derive(Clone, Copy, Debug, PartialEq, Eq)]
 pub enum Change {
     /// A field of a variable or an array takes a value.
@@ -9,7 +9,7 @@ pub enum Change {
         index: u32,
         value: Value,
     },
-    /// A field of a variable or an array takes a value where it holds the expected one.
+    /// A field of a variable or an array takes a value if it holds the expected one.
     Exchange {
         index: u32,
         expected: Value,
@@ -28,6 +28,6 @@ pub enum Change {
     Pop {
         mutator: u8,
     },
-    /// An alive weak pointer dies.
+    /// A weak pointer that is alive dies.
     Finalise,
 }

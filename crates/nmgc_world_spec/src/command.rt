@@ -1,29 +1,29 @@
-//! Commands, and what they answer.
+//! Commands and their replies.
 ghost use Rattle.std.specs.Prelude.{◌≡◌, ◌<◌};
 ghost use Rattle.nmgc_world_spec.specs.Command.{IsMaking, words_made};
 
 use crate::Value;
 use nmgc_lists::List;
 
-/// Where a command takes a value from: a register, or the reference to the shared array.
+/// The source of a value for a command: a register, or the reference to the shared array.
 #[derive(Clone, Copy, Debug, PartialEq, Eq)]
 pub enum Operand {
     Register(u8),
     Shared,
 }
 
-/// What a mutator is asked to do. `dest` is the register that takes the value.
+/// A command of a mutator. `dest` is the register that gets the value.
 pub enum Command {
-    /// Takes a number.
+    /// Puts a number into `dest`.
     Num {
         dest: u8,
         number: u64,
     },
-    /// Takes nil.
+    /// Puts nil into `dest`.
     Nil {
         dest: u8,
     },
-    /// Takes a value.
+    /// Puts a value into `dest`.
     Mov {
         dest: u8,
         value: Operand,
@@ -39,7 +39,7 @@ pub enum Command {
         dest: u8,
         value: Operand,
     },
-    /// Makes an array of so many copies of a value.
+    /// Makes an array of `count` copies of a value.
     Arr {
         dest: u8,
         count: u32,
@@ -50,7 +50,7 @@ pub enum Command {
         dest: u8,
         free: List<Operand>,
     },
-    /// Makes a weak pointer, alive.
+    /// Makes a weak pointer that is alive.
     Weak {
         dest: u8,
         key: Operand,
@@ -74,14 +74,14 @@ pub enum Command {
         index: u32,
         value: Operand,
     },
-    /// Writes a field of a variable or an array where it equals `expected`.
+    /// Writes a field of a variable or an array if the field equals `expected`.
     Cas {
         object: Operand,
         index: u32,
         expected: Operand,
         value: Operand,
     },
-    /// Gives a thunk its result, unless it has one.
+    /// Gives a result to a thunk that has none.
     Update {
         object: Operand,
         value: Operand,
@@ -101,25 +101,25 @@ pub enum Command {
         dest: u8,
         object: Operand,
     },
-    /// Reads the value of an alive weak pointer.
+    /// Reads the value of a weak pointer that is alive.
     Deref {
         dest: u8,
         object: Operand,
     },
-    /// Makes an alive weak pointer dead, and takes its finaliser.
+    /// Kills a weak pointer that is alive, and puts its finaliser into `dest`.
     Finalise {
         dest: u8,
         object: Operand,
     },
-    /// Takes the first finaliser off the mutator's queue.
+    /// Moves the first finaliser of the mutator's queue into `dest`.
     NextFin {
         dest: u8,
     },
-    /// Answers a value.
+    /// Replies with a value.
     Show {
         value: Operand,
     },
-    /// Answers whether two values are the same.
+    /// Replies whether two values are the same.
     Same {
         left: Operand,
         right: Operand,
@@ -132,7 +132,7 @@ pub enum Command {
     Full,
 }
 
-// By hand, so that whoever lets go of one calls this: a derived one is written out, and proved, at each place.
+// Written by hand, so that each drop of a command calls this. A derived drop is written out, and proved, at each call.
 impl Drop for Command {
     fn drop(self) {
         match self {
@@ -197,8 +197,8 @@ impl Drop for Command {
 }
 
 impl Command {
-    /// How many words the object has that the command makes: a header, a name, and a word for each
-    /// part; none where it makes no object. Takes no memory, and constant time.
+    /// Returns the number of words of the object that the command makes: a header, a name, and a word for each part. It is 0
+    /// exactly if the command makes no object, so a slice and the grammar count alike. Takes no memory, and constant time.
     pub fn words_made(&self) -> usize
         ensures words { result ≡ words_made self.now }
         ensures making { 0 < result → IsMaking self.now }
@@ -215,10 +215,10 @@ impl Command {
     }
 }
 
-/// What a command answered. A refusal changed nothing.
+/// The reply to a command. A command that was refused changed nothing.
 #[derive(Clone, Copy, Debug, PartialEq, Eq)]
 pub enum Reply {
-    /// It was done.
+    /// The command was done.
     Fine,
     /// `cas` wrote; the values are the same.
     Yes,
@@ -228,7 +228,7 @@ pub enum Reply {
     Updated,
     /// Refused: the thunk had a result.
     Already,
-    /// The value asked for, or the name of what was made.
+    /// The value asked for, or the name of the new object.
     Given(Value),
     /// Refused: the object operand is nil or a number.
     NoPointer,

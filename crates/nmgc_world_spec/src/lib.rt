@@ -1,9 +1,9 @@
-//! The never-collected heap as a statement: values, names, nodes, commands, and what a command does and answers.
+//! The specification of the reference heap: values, names, nodes, commands, and the effect and the reply of each command.
 //!
 //! A world is a map from names to nodes that only grows, with the registers and the finaliser queue of each mutator. All
-//! that is promised of a run is said in these words: `specs/` has the world, its step and its histories, what can be reached
-//! in it, and what an interval of commands keeps. The types stand here for code and clauses alike, and do little: how many
-//! words a command makes, whether its registers exist, a field of a node. The world that runs is `nmgc_graph`'s.
+//! promises about a run use these words. `specs/` defines the world, its step, its histories, reachability in it, and the
+//! names kept after an interval of commands. The types serve code and clauses alike. Their functions do little: they count
+//! the words that a command makes, check its registers, and read a field of a node. The world that runs is `nmgc_graph`'s.
 #![tactic(auto)]
 
 pub mod change;

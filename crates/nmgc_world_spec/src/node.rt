@@ -1,8 +1,8 @@
-//! Nodes: what the world has at a name.
+//! Nodes: the objects of the world, each at a name.
 //!
-//! The six kinds differ in what a mutator may do to them, and that decides what the collector has to
-//! watch: a constructor never changes, a variable and an array are written field by field, a thunk
-//! is updated once, a weak pointer dies once, and a stack belongs to the mutator that made it.
+//! The six kinds differ in the changes that a mutator may make, and the collector has to watch accordingly. A constructor
+//! never changes. A variable and an array are written field by field. A thunk is updated once. A weak pointer dies once. A
+//! stack belongs to the mutator that made it.
 ghost use Rattle.std.specs.Prelude.{◌≡◌};
 
 use crate::Value;
@@ -20,7 +20,7 @@ pub enum Kind {
     Stack,
 }
 
-/// What an alive weak pointer holds.
+/// The parts of a weak pointer that is alive.
 #[derive(Clone, Copy, Debug, PartialEq, Eq)]
 pub struct Parts {
     pub key: Value,
@@ -28,7 +28,7 @@ pub struct Parts {
     pub finaliser: Value,
 }
 
-/// An object of the never-collected heap.
+/// An object of the reference heap.
 pub enum Node {
     /// A constructor, whose values never change.
     Con {
@@ -43,23 +43,23 @@ pub enum Node {
     Arr {
         values: List<Value>,
     },
-    /// A thunk: its free variables, and its result once it was updated.
+    /// A thunk: its free variables, and its result after an update.
     Thunk {
         free: List<Value>,
         result: Option<Value>,
     },
-    /// A weak pointer. It is dead where it has no parts.
+    /// A weak pointer. It is dead if it has no parts.
     Weak {
         parts: Option<Parts>,
     },
-    /// A stack of at most `size` values, from the bottom up.
+    /// A stack of at most `size` values, in order from the bottom up.
     Stack {
         size: u32,
         values: List<Value>,
     },
 }
 
-// By hand, so that whoever lets go of one calls this: a derived one is written out, and proved, at each place.
+// Written by hand, so that each drop of a node calls this function. A derived drop is written out, and proved, at each call.
 impl Drop for Node {
     fn drop(self) {
         match self {
@@ -76,8 +76,9 @@ impl Drop for Node {
 impl Node {
     ghost use Rattle.nmgc_world_spec.specs.Change.{field_in};
 
-    /// The field at an index of a constructor, a variable or an array. `None` comes exactly where the
-    /// object is of another kind or has no such field. Takes no memory, and constant time.
+    /// Returns the field at `index` of a node that is a constructor, a variable or an array. Returns `None` exactly if the
+    /// node is of another kind or has no such field. `get`, `cas`, the barrier and a scan all use it. Takes no memory, and
+    /// constant time.
     pub fn field(&self, index: usize) -> Option<Value>
         ensures { result ≡ field_in self.now index }
     {

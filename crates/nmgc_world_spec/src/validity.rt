@@ -1,6 +1,6 @@
-//! Whether the registers of a command exist.
+//! A check that the registers of a command exist.
 //!
-//! A script never asks for a register that isn't there. A caller that gets its commands from elsewhere has to ask.
+//! A script never asks for a register that doesn't exist. A caller that gets commands from elsewhere has to check them.
 ghost use Rattle.std.specs.Prelude.{◌↔◌, IsTrue, All};
 ghost use Rattle.nmgc_world_spec.specs.Command.{HasRegisters, IsOperand, IsRegister};
 
@@ -8,8 +8,8 @@ use crate::{Command, Operand};
 use nmgc_limits::REGISTERS;
 
 impl Command {
-    /// Whether the registers of the command exist. Takes no memory, and constant time but for a
-    /// constructor or a thunk, whose operands are looked at one by one.
+    /// Returns whether all registers of the command exist. Takes no memory. Takes constant time, except that the operands of
+    /// a constructor or a thunk are checked one by one.
     pub fn has_registers(&self) -> bool
         ensures { IsTrue result ↔ HasRegisters self.now }
     {
@@ -53,14 +53,14 @@ impl Command {
     }
 }
 
-// Whether the register exists.
+// Whether a register of this number exists.
 fn is_register(register: u8) -> bool
     ensures { IsTrue result ↔ IsRegister register }
 {
     register < REGISTERS
 }
 
-// Whether the operand's register exists, if it has one.
+// Whether the operand is a register that exists or the shared array.
 fn is_operand(operand: Operand) -> bool
     ensures { IsTrue result ↔ IsOperand operand }
 {
@@ -70,7 +70,7 @@ fn is_operand(operand: Operand) -> bool
     }
 }
 
-// Whether the registers of all operands exist.
+// Whether each operand is a register that exists or the shared array.
 fn are_operands(operands: &[Operand]) -> bool
     ensures { IsTrue result ↔ All IsOperand operands.now }
 {

@@ -1,13 +1,13 @@
 //! Names and values.
 //!
-//! An object is told apart from every other by its name: who made it, and how many that maker had
-//! made before. Names are never used again, so a name in a register or a field means one object for
-//! the whole run, wherever the collector has put its words. The shared array g is the one object
-//! that no mutator made; its name is `Name::SHARED`, whose maker is `SHARED_MAKER`.
+//! The name of an object distinguishes it from every other: its maker, and the number of objects that the maker had made
+//! before. Names are never used again. So a name in a register or a field means one object for the whole run, wherever the
+//! collector has put its words. No mutator made the shared array g; its name is `Name::SHARED`, whose maker is
+//! `SHARED_MAKER`.
 
 use nmgc_limits::SHARED_MAKER;
 
-/// Whose object it is, and the number of it among that maker's objects, from 0.
+/// The name of an object: its maker, and its number among the maker's objects, from 0.
 #[derive(Clone, Copy, Debug, PartialEq, Eq)]
 pub struct Name {
     pub maker: u8,
@@ -22,7 +22,7 @@ impl Name {
     };
 }
 
-/// What a register or a field holds. Numbers of a script are below 2^62.
+/// The content of a register or a field. Numbers of a script are below 2^62.
 #[derive(Clone, Copy, Debug, PartialEq, Eq)]
 pub enum Value {
     Nil,

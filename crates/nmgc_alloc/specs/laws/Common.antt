@@ -1,8 +1,8 @@
--- Lemmas that crates above need too.
+-- Lemmas that crates above also need.
 use Rattle.std.specs.Prelude.{◌≡◌, ◌≤◌}
 use Rattle.nmgc_alloc.specs.laws.Vocabulary.{ℕ, arith, Layout, Segment, IsSegment, State, Free, Current, Active, Filled, Sweeping, IsMember, IsCurrent, prepared_snap, prepared_state}
 
--- a segment in a state that isn't free, with a snapshot
+-- a segment with another state, which isn't free, and another snapshot
 pub restated : (s : Segment) (state : State) (snap : ℕ) → IsSegment s → (state ≡ Free → ⊥) → snap ≤ s.next_free →
     IsSegment (record s { state = state; snap = snap })
 restated s state snap h used small = record {
@@ -17,7 +17,7 @@ restated s state snap h used small = record {
   free = λ e. absurd (used e);
 }
 
--- as a cycle begins
+-- a segment when a cycle begins
 pub prepared_in : (layout : Layout) (s : Segment) (state : State) → IsMember layout (record s { state = state }) →
     IsMember layout (record s { state = prepared_state state; snap = prepared_snap state s })
 prepared_in layout s Free h = h
@@ -50,7 +50,7 @@ prepared_in layout s Sweeping h = record {
   owner = λ m e. absurd (cc);
 }
 
--- and it is current where it was
+-- and it is current only if it was current before
 pub prepared_current : (s : Segment) (state : State) (m c : ℕ) → IsCurrent m c (record s {
   state = prepared_state state;
   snap = prepared_snap state s;

@@ -3,7 +3,7 @@ use Rattle.std.specs.Prelude.{◌≡◌, ◌≢◌, ◌+◌, ◌-◌, ◌*◌, �
 use Rattle.nmgc_alloc.specs.laws.Vocabulary.{ℕ, ◌∙◌, inl, inr, refl, ap, subst, sym, arith, true, false, cond, List, length, set, replicate, slice_index, length-set, length-replicate, mul-le-mul_left, mul-le-mul_right, get_or-set_same, get_or-set_other, get_or-replicate, sum_by-set, sum_by-le, All-set, All-replicate, All-get_or, div-add-mod', cases_eq, cases_lt, cases_order, Layout, block_size, IsClassOf, IsSegmentSize, class_count, reserve_count, left_over, object_half, class_fits, Segment, InUse, HasFree, mark_of, segment_words, block_count, free_segment, State, Free, Current, Active, Filled, nth, is, Segments, IsSegments, HasRoom, IsCurrent, Allocates, TakesBlock, as_current, free_count, pair, HasLeft, KeepsReserve}
 use Rattle.nmgc_alloc.specs.laws.{Numbers.nth-set_same, Numbers.nth-set_other, Counts.one_counted, Counts.is_free, Placing.step}
 
--- taking the first unused block of a segment without marks moves the index on by one
+-- taking the first unused block of a segment without marks advances the index by one
 took_next : (old new : Segment) (block : ℕ) → TakesBlock old new block → ((b : ℕ) → mark_of old b ≡ 0) → (new.next_free ≡ old.next_free + 1) ×
     ((b : ℕ) → mark_of new b ≡ 0)
 took_next old new block t none =
@@ -27,7 +27,7 @@ took_next old new block t none =
     ] in
     (omega (arith, up, down), clear)
 
--- pairs have different numbers
+-- different pairs have different numbers
 same_pair : (k a b c d : ℕ) → b < k → d < k → a * k + b ≡ c * k + d → (a ≡ c) × (b ≡ d)
 same_pair k a b c d low small e = elim (cases_order a c) [
   | inl s ↦ let m : a * k ≡ c * k = ap (λ (n : ℕ). n * k) s in (s, omega (arith, m, e))
@@ -38,12 +38,12 @@ same_pair k a b c d low small e = elim (cases_order a c) [
 pair_in : (k a b m : ℕ) → b < k → a < m → a * k + b < m * k
 pair_in k a b m low lt = let l = step a m k lt in omega (arith, l)
 
--- the entry of a table at which it was set
+-- an entry of a table after a different entry was set
 at_or : (xs : List ℕ) (i j v : ℕ) → j ≢ i → slice_index (set xs i v) j ≡ slice_index xs j
 at_or xs i j v ne = get_or-set_other xs i j v 0 ne
 
 module _ (layout : Layout) (size : IsSegmentSize layout.words) where
-  -- what is left in another segment
+  -- the words left in another segment
   untouched : (xs : List Segment) (n : ℕ) (y : Segment) (m c left k : ℕ) → k ≢ n → HasLeft layout xs m c left k → HasLeft layout (set xs n y) m c left k
   untouched xs n y m c left k ne h =
       let e = nth-set_other xs n k y ne in
@@ -54,7 +54,7 @@ module _ (layout : Layout) (size : IsSegmentSize layout.words) where
         fits = rw e h.fits;
       }
 
-  -- one segment changes, and with it what is left for one pair
+  -- one segment changes, and with it the words left for one pair
   changed : (xs : List Segment) (n : ℕ) (y : Segment) (m c v placed words : ℕ) → n < length xs → m < layout.mutators → c < class_count layout
       → ((a b : ℕ) → IsCurrent a b (nth xs n) → (a ≡ m) × (b ≡ c))
       → v ≤ layout.words
@@ -111,7 +111,7 @@ module _ (layout : Layout) (size : IsSegmentSize layout.words) where
         enough = let l = mul-le-mul_left layout.words enough in omega (arith, l);
       }
 
-  -- the segment after the first of its blocks without marks was taken: what is left of it is a block less
+  -- the segment after the first of its unmarked blocks was taken has a block less left
   next_left : (xs : List Segment) (n : ℕ) (was y : Segment) (m c left v block : ℕ) → n < length xs
       → was.state ≡ Current m → was.class ≡ c → segment_words was ≡ layout.words → block_size c ≤ layout.words
       → TakesBlock was y block → ((b : ℕ) → mark_of was b ≡ 0)
@@ -154,7 +154,7 @@ module _ (layout : Layout) (size : IsSegmentSize layout.words) where
             )
       ]
 
-  -- a state that isn't free counts nothing
+  -- a segment in a state that isn't free adds nothing to the free words
   not_free : (w : ℕ) (state other : State) → state ≡ other → is other Free ≡ false → w * cond (is state Free) 1 0 ≡ 0
   not_free w state other e f = let g : is state Free ≡ false = ap (λ (x : State). is x Free) e ∙ f in rw g (omega arith)
 
@@ -165,7 +165,7 @@ module _ (layout : Layout) (size : IsSegmentSize layout.words) where
     | inr s ↦ not_free w y.state Filled s.1 refl
   ]
 
-  -- placing an object that has at least half the words of its block and of what is left over keeps the reserve
+  -- placing an object keeps the reserve, if it has at least half the words of its block and of the words left over
   step_keeps : (xs : List Segment) (n : ℕ) (y : Segment) (m c block placed words : ℕ) → n < length xs → m < layout.mutators →
       c < class_count layout → block_size c ≤ layout.words → left_over layout c + block_size c ≤ 2 * words
       → segment_words (nth xs n) ≡ layout.words
@@ -220,7 +220,7 @@ module _ (layout : Layout) (size : IsSegmentSize layout.words) where
             r (omega (arith, was, gone, z, half, whole))
       ]
 
-  -- the words that free segments make up for are those of all nurseries twice, and a segment for each pair
+  -- the words of the reserve's segments make up for twice the words of all nurseries, and a segment for each pair
   reserve_is : 0 < layout.words →
       2 * layout.mutators * layout.nursery + layout.words * (layout.mutators * class_count layout) < layout.words * reserve_count layout + layout.words
   reserve_is positive =
@@ -230,7 +230,7 @@ module _ (layout : Layout) (size : IsSegmentSize layout.words) where
       let split : w * (all / w) + all % w ≡ all = omega arith in
       omega (arith, rest, split)
 
-  -- with the reserve kept, and no more placed than the nurseries hold, there is a free segment or one that the mutator began
+  -- if the reserve is kept and at most the nurseries' words were placed, a segment is free or the mutator began one
   room : (xs : List Segment) (m c placed : ℕ) → m < layout.mutators → c < class_count layout → placed ≤ layout.mutators * layout.nursery →
       KeepsReserve layout xs placed
       → ((k : ℕ) × (k < length xs) × IsCurrent m c (nth xs k)) ⊎ ((k : ℕ) × (k < length xs) × ((nth xs k).state ≡ Free))
@@ -272,7 +272,7 @@ placing_keeps s new m c at placed words h a low small two most is r =
     ]) r in
     subst (λ (xs : List Segment). KeepsReserve s.layout xs (placed + words)) (sym a.others) kept
 
--- and gives room
+-- and the reserve gives room
 pub reserve_has_room : (s : Segments) (m c placed : ℕ) → IsSegments s → m < s.layout.mutators → c < class_count s.layout →
     placed ≤ s.layout.mutators * s.layout.nursery → KeepsReserve s.layout s.segments placed → HasRoom s m c
 reserve_has_room s m c placed h low small few r = elim (room s.layout h.layout.words s.segments m c placed low small few r) [

@@ -1,4 +1,4 @@
--- Every name of std, of the crates below and of this crate's definitions that the lemmas of these laws speak of.
+-- Every name of std, of the crates below and of this crate's definitions that the lemmas of these laws use.
 pub use Rattle.nmgc_alloc.specs.{AllocState.AllocState, AllocState.AreNames, AllocState.Cells, AllocState.Exists, AllocState.HasBlock, AllocState.HoldsKept, AllocState.IsAllocState, AllocState.IsEmpty, AllocState.IsFirst, AllocState.IsFirstEmpty, AllocState.IsFull, AllocState.IsIn, AllocState.IsNext, AllocState.IsOf, AllocState.IsPlaced, AllocState.IsSwept, AllocState.IsTarget, AllocState.KeepsBlocks, AllocState.LieOnce, AllocState.LiesIn, AllocState.LiesNowhere, AllocState.NoneIs, AllocState.Opens, AllocState.PlacesName, AllocState.Sweeps, AllocState.SweepsEach, AllocState.SweepsSome, AllocState.all_empty, AllocState.all_retired, AllocState.cells, AllocState.count_in, AllocState.cycle_begun, AllocState.name_in, AllocState.no_cells, AllocState.prepared_state, AllocState.restated, AllocState.retired_state, AllocState.with_cells, Blocks.HasAt, Blocks.IsCarried, Blocks.IsMarkedAt, Blocks.IsSnapshotAt, Blocks.IsUsedAt, Blocks.MarksPlace, Blocks.SameMarked, Blocks.blocks_that, Blocks.in_snapshot, Blocks.is_carried, Blocks.is_marked, Blocks.marked_count, Blocks.snapshot_count, CycleSteps.carried_in, CycleSteps.carried_over, CycleSteps.prepared, CycleSteps.prepared_snap, CycleSteps.retired, Numbered.HasNumber, Numbered.Segments, Numbered.block_place, Numbered.is, Numbered.nth, Reserve.HasLeft, Reserve.KeepsReserve, Reserve.free_count, Reserve.pair, Segments.Allocates, Segments.HasNoCurrent, Segments.HasNone, Segments.HasRoom, Segments.IsBlockAt, Segments.IsChosen, Segments.IsCurrent, Segments.IsMember, Segments.IsOwn, Segments.IsSegments, Segments.IsToMark, Segments.MarksBlock, Segments.SweepsNext, Segments.SweepsSegment, Segments.TakesBlock, Segments.all_free, Segments.as_current, Segments.filled_count, Segments.marked_if, Stands.Shows, Stands.StandsFor, Stands.Writes}
 pub use Rattle.nmgc_lists.specs.laws.Truths.{never}
 pub use Rattle.nmgc_object.specs.{Places.InSegment, Places.IsSegmentSize, Places.class_count, Places.left_over, Places.reserve_count, Places.word_total, Size.IsClassOf, Size.block_size, Size.name_place, Words.IsName, Words.name_word, declared.layout.Layout.Layout, declared.layout.TheConstants.FIRST_PLACE, laws.Classes.class_fits, laws.Classes.least_block as large, laws.Classes.object_half}

@@ -1,5 +1,5 @@
--- Each event of the core machine but the end is lax: what it owes is one choice among what is allowed, a push
--- only hands over, and a take marks and then hands over.
+-- Each event of the marking machine except the end is lax. The names that a command owes are one of the allowed choices; a
+-- push only hands over; a take marks and then hands over.
 use Rattle.std.proofs.{Common.◌≡◌, Common.◌≢◌, Common.◌<◌, Common.ℕ, Common.List, Common.[], Common.◌∷◌, Common.◌++◌, Common.length, Common.refl, Common.sym, Common.subst, Common.arith, Common.length-set, Common.Bool, Common.true, Common.false, Common.cond, lemmas.List.Elements.All-head, lemmas.List.Elements.Contains-append_right}
 use Rattle.std.specs.Prelude.{IsSome, All, Contains}
 use Rattle.nmgc_world_spec.specs.{declared.value.Name.Name, World.node_of, World.IsWorld, Step.CanApply, declared.command.Command.Command, Owed.owed_by}
@@ -9,7 +9,7 @@ use Rattle.nmgc_barrier_laws.specs.{Lax.IsGiven, Lax.IsShuffled, Lax.IsLax, Lax.
 use Rattle.nmgc_barrier_laws.specs.Lax as lax
 use Rattle.nmgc_snapshot_laws.specs.laws.Handing as handing
 
--- a command that owes all that `owed_by` says
+-- a command that owes all names of `owed_by`
 pub core_gives : (s : State) → Facts s → IsWorld s.world → (m : ℕ) (c : Command) → CanApply s.world m c → IsGiven s m c (after_command s m c)
 core_gives s f w m c can =
     let place : m < length s.owed = let e : length s.owed ≡ length s.world.mutators = f.base.owed_lists in

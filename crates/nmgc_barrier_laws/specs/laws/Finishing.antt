@@ -1,5 +1,5 @@
--- Beside each list of commands and pushes there is a marker that has finished: it marks each name as it is pushed, and lets go
--- of it; and then it scans until nothing is queued. A scan marks a new name of the snapshot, or the queue has less to read.
+-- Beside each list of commands and pushes a finished marker is possible. It marks each name as it is pushed, and drops it;
+-- then it scans until nothing is queued. Each scan marks a new name of the snapshot, or leaves less to read in the queue.
 use Rattle.std.specs.Prelude.{◌≡◌, ◌≢◌, ◌<◌, ◌≤◌, ◌+◌, ◌-◌, ◌∷◌, ◌++◌, ◌⊎◌, ◌&&◌}
 use Rattle.nmgc_barrier_laws.specs.laws.Vocabulary.{ℕ, List, [], zero, suc, length, replicate, refl, sym, ap, subst, ◌∙◌, arith, Bool, true, false, not, cond, inl, inr, Option, Some, None, eqb, leb, IsSome, is_some, Contains, All, filter, length-replicate, get_or_past, All-nil, All-cons, Contains-append_left, Contains-append_right, Contains-push, cases_eq, cases_lt, false≢true, and_parts, and_from, and_right, or_parts, leb-false, not-true, not_from_true, not_from_false, false_from_ne_true, eqb_tells, SHARED_MAKER, Name, Value, Node, MutatorState, World, node_of, state_of, serial_of, no_mutator, IsWorld, shared_name, contains_cases, contains_head, contains_tail, get_is_some, nothing_in, contains_one, one_is, has_result, Entry, State, names_of, is_listed, is_new, with_mark, mark_name, mark_read, root_values, unmarked, opening, read_at, fields_of, is_last, moved_on, AreEmpty, after_scan, advanced, MayHold, IsSafe, owed, pushed, marked, contains_listed, listed_from, names_same, names_other, mark_cases, marked_then, Cycle, IsPushed, after_owing, Watches, Beside, IsSorted, HasFinished, SomeMarkerFinishes, names_in, after_pushing, no_names}
 use Rattle.nmgc_world_spec.specs.declared.value.Value.TheVariants as value
@@ -102,7 +102,7 @@ module _ (f g : Name → Bool) (k : (n : Name) → f n ≡ true → g n ≡ true
     | inr r ↦ step_lt x (filter f xs) (filter g xs) (f x) (g x) (k x) (filter_less xs name r out within)
   ]
 
--- a name that is marked is new no more, and no other becomes new
+-- a marked name is no longer new, and no other name becomes new
 still_new : (s : State) (name n : Name) → is_new (with_mark s name) n ≡ true → is_new s n ≡ true
 still_new s name n e =
     let p : (is_some (node_of s.snapshot n) ≡ true) × (not (is_listed n (s.marked ++ name ∷ [])) ≡ true) =
@@ -118,7 +118,7 @@ new_no_more s name = and_right (is_some (node_of s.snapshot name)) (not (is_list
 
 -- A SCAN
 
--- what an entry has left to read, and more than that
+-- a bound above the number of positions that an entry has left to read
 abbrev cost_of : Option Node → ℕ → ℕ
 cost_of None position = 1
 cost_of (Some node) position = suc (fields_of node + 1 - position)
@@ -148,7 +148,7 @@ moved_less w entry rest = by_node (node_of w entry.name) refl
     by_node None e = let n : costs w rest < 1 + costs w rest = omega arith in n
     by_node (Some node) e = by_last node e (is_last node entry.position) refl
 
--- reading marks nothing, or a new name
+-- reading marks nothing or a new name
 data Reads (s : State) : State → Type 0 where
   nothing : Reads s s
   fresh : (name : Name) → is_new s name ≡ true → Reads s (with_mark s name)
@@ -160,7 +160,7 @@ reads s (Some (value.Number n)) = nothing
 reads s (Some (value.Ref name)) = mark_cases (Reads s) s name (λ e. fresh name e) (λ e. nothing)
 
 module _ (all : List Name) where
-  -- how many names of the snapshot aren't marked
+  -- the number of unmarked names of the snapshot
   abbrev new_count : State → ℕ
   new_count s = length (filter (is_new s) all)
 
@@ -195,7 +195,7 @@ empty_lists : (lists : List (List Name)) → ((m : ℕ) → names_of lists m ≡
 empty_lists [] each = All-nil (λ (names : List Name). names ≡ [])
 empty_lists (l ∷ ls) each = All-cons (λ (names : List Name). names ≡ []) l ls (each zero) (empty_lists ls (λ m. each (suc m)))
 
--- nothing is pushed that it hasn't taken
+-- a marker that has taken all pushed names
 record IsReady (w : World) (h : Cycle) (all : List Name) (s : State) : Type 0 where
   beside : Beside w h s
   empty : (m : ℕ) → names_of s.pushed m ≡ []
@@ -270,7 +270,7 @@ module _ (w : World) (is : IsWorld w) (h next : Cycle) (s : State) (name : Name)
   others : (m : ℕ) → m ≢ 0 → names_of over.pushed m ≡ []
   others m ne = names_other s.pushed 0 m (names_of s.pushed 0 ++ name ∷ []) ne ∙ empty m
 
-  -- what waits is the name, and that is marked
+  -- the only waiting name is the pushed name, and it is marked
   is_marked : (n : Name) (m : ℕ) → Contains (names_of holding.pushed m) n → IsSome (node_of holding.snapshot n) → Contains holding.marked n
   is_marked n m c there =
       let before : Contains (names_of over.pushed m) n = subst (λ (l : List (List Name)). Contains (names_of l m) n) keeps.pushed c in

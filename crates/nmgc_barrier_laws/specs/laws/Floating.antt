@@ -1,4 +1,4 @@
--- Pushing a name that nobody need hold keeps the facts: it counts as opened, and it is safe.
+-- A push of any name keeps the facts: the name counts as opened, and it is safe.
 use Rattle.std.specs.Prelude.{◌≡◌, ◌<◌, ◌∷◌, ◌++◌}
 use Rattle.nmgc_barrier_laws.specs.laws.Vocabulary.{ℕ, List, [], length, get_or, set, refl, sym, subst, ◌∙◌, length-set, Option, Some, None, inl, inr, IsSome, IfSome, All, Contains, All-append, All-cons, All-nil, Contains-append_left, Contains-append_right, Contains-append_cases, cases_eq, Name, Value, Node, state_of, node_of, further, field, State, names_of, live_more, each_names, names_same, names_other, all_from_contains, Names, Fields, CoversReach, contains_one, one_is, AsThen, MayHold, IsSafe, IsAhead, Kept, Base, Facts, owed, pushed, queued, marked}
 use Rattle.nmgc_snapshot_laws.specs.Facts.{unmarked}

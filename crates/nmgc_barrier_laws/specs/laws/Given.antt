@@ -1,4 +1,4 @@
--- A command that owes at least what is due, and at most what may be held, keeps the facts.
+-- A command that owes at least the names that are due, and at most names that may be held, keeps the facts.
 use Rattle.std.proofs.{Common.◌≡◌, Common.◌<◌, Common.◌≤◌, Common.ℕ, Common.List, Common.◌++◌, Common.length, Common.refl, Common.sym, Common.subst, Common.◌∙◌, Common.arith, Common.length-set, Common.Option, Common.Some, Common.None, Common.inl, Common.inr, Common.◌⊎◌, Common.ap, lemmas.List.Elements.All-append, lemmas.List.Elements.Contains-append_left, lemmas.List.Elements.Contains-append_cases, lemmas.Bool.cases_eq}
 use Rattle.std.specs.Prelude.{IsSome, All, Contains}
 use Rattle.nmgc_world_spec.specs.{declared.value.Name.Name, declared.value.Value.Value, declared.node.Parts.Parts, declared.node.Node.Node, declared.node.Node.TheVariants.Weak, declared.command.Command.Command, World.World, World.node_of, World.serial_of, World.IsWorld, Step.shared_name, Step.step, Reach.IsAlive, Reach.IsKeptBy, Reach.field, History.opened_by, History.finalised_by, laws.Orders.name_cases, Owed.values_owed, Owed.owed_by}
@@ -8,7 +8,7 @@ use Rattle.nmgc_snapshot_laws.specs.{Facts.MayHold, Facts.IsSafe, Facts.IsAhead,
 use Rattle.nmgc_barrier_laws.specs.{Due.IsBroken, Due.IsEnded, Due.IsDue, Lax.after_owing}
 use Rattle.nmgc_snapshot_laws.specs.laws.Commands as command
 
--- a field stands, or it doesn't
+-- a field is there or not
 stands_or : (w : World) (name : Name) (i : ℕ) (target : Name) → HasStrongField w name i (value.Ref target) ⊎ (HasStrongField w name i (value.Ref target) → ⊥)
 stands_or w name i target = by_node (node_of w name) refl
   where
@@ -41,11 +41,11 @@ module _ (s : State) (f : Facts s) (w : IsWorld s.world) (m : ℕ) (c : Command)
   moves : RespectsBarrier (MayHold next) s.world (step s.world m c).0 (values_owed s.world m c)
   moves = command.moves s f w m c lt
 
-  -- what the command owes by the core machine may be held
+  -- the names that the command owes in the marking machine may be held
   pub owes_may : All (MayHold (after_command s m c)) (owed_by s.world m c)
   owes_may = names_among_have (MayHold next) (values_owed s.world m c) moves.owes
 
-  -- and all that is due is among it
+  -- and all names that are due are among them
   pub due_owed : (target : Name) → IsDue s.snapshot s.world m c target → Contains (owed_by s.world m c) target
   due_owed target d = elim d.why [
     | inl b ↦ elim (moves.stays b.name b.place (value.Ref target) b.stood) [
@@ -96,7 +96,7 @@ module _ (s : State) (f : Facts s) (w : IsWorld s.world) (m : ℕ) (c : Command)
       passed = f.base.passed;
     }
 
-    -- what is owed stays owed
+    -- names owed stay owed
     more_owed : (k : ℕ) (name : Name) → Contains (names_of s.owed k) name → Contains (names_of after.owed k) name
     more_owed k name h = elim (cases_eq k m) [
       | inl e ↦ rw (e, names_same s.owed m _ (command.owed_place s f w m c lt)) (Contains-append_left (names_of s.owed m) names name (rw e at h))
@@ -112,7 +112,7 @@ module _ (s : State) (f : Facts s) (w : IsWorld s.world) (m : ℕ) (c : Command)
     still_ahead name i (unmarked h) = unmarked h
     still_ahead name i (queued entry h e le) = queued entry h e le
 
-    -- what is due is safe, and so is g
+    -- each name that is due is safe, and so is g
     due_safe : (target : Name) → IsSome (node_of s.snapshot target) →
         (IsBroken s.snapshot s.world (step s.world m c).0 target ⊎
         (Contains (opened_by s.world m c) target ⊎ IsEnded s.snapshot s.world m c target)) → IsSafe after target
@@ -121,7 +121,7 @@ module _ (s : State) (f : Facts s) (w : IsWorld s.world) (m : ℕ) (c : Command)
       | inr ne ↦ due target (record { there = there; own = ne; why = why })
     ]
 
-    -- a field of the snapshot that stood stands on, or this command breaks it
+    -- an unchanged field of the snapshot stays unchanged, or this command breaks it
     command_kept : (name : Name) (i : ℕ) (target : Name) → HasStrongField s.snapshot name i (value.Ref target) → Kept s name i target → Kept after name i target
     command_kept name i target then (inl safe) = inl (still_safe target safe)
     command_kept name i target then (inr h) = elim (stands_or (step s.world m c).0 name i target) [

@@ -1,10 +1,10 @@
--- What a lax run does to the history.
+-- The effect of a lax run on the history.
 use Rattle.std.specs.Prelude.{◌≡◌, ◌∷◌, ◌++◌, ◌↔◌, ◌⊎◌}
 use Rattle.nmgc_barrier_laws.specs.laws.Vocabulary.{ℕ, List, [], refl, sym, subst, ◌∙◌, append-nil, inl, inr, Contains, All, Name, Command, Reply, World, IsWorld, step, Row, replayed, IsLegal, opened, finalised, opened_by, step_keeps_world, State, opening, unmarked, mark_name, root_values, after_scan, mark_facts, scan_facts, opening_facts, SameHistory, mark_history, scan_history, values_history, closing_is_exact, opened-push, replayed-push, legal_push, finalised-push, live_from, MayHold, IsSafe, Facts, after_owing, IsGiven, IsFloated, LaxKeepsFacts, LaxRow, LaxRuns, LaxTheorem, Contains-append_left, Contains-append_right, Contains-append_cases, nothing_in}
 use Rattle.nmgc_barrier_laws.specs.Lax as lax
 use Rattle.nmgc_barrier_laws.specs.laws.{Given.given_facts, Laxer.shuffled_facts, Floating.floated_facts}
 
--- what counts as opened: what commands opened and what was floated
+-- the names that count as opened: opened by commands, or floated
 abbrev Opens : World → List Row → List Name → List Name → Type 0
 Opens w rows extra names = (name : Name) → Contains names name ↔ (Contains (opened w rows) name ⊎ Contains extra name)
 
@@ -61,7 +61,7 @@ lax_keeps_facts s next f w (lax.scanned e) = (
   subst (λ (t : State). IsWorld t.world) (sym e) (world_of s (after_scan s s.queue) (scan_history s s.queue) w),
 )
 
--- a quiet step of a run that is under way
+-- a step of a run under way that is no command and floats nothing
 quiet_on : (w : World) (rows row : List Row) (extra one : List Name) (s t next : State) → IsUnderWay w rows extra s → row ≡ [] → one ≡ [] →
     next ≡ t → SameHistory s t → Facts t → IsUnderWay w (rows ++ row) (extra ++ one) next
 quiet_on w rows row extra one s t next u none no_name e same f = rw (
@@ -71,7 +71,7 @@ quiet_on w rows row extra one s t next u none no_name e same f = rw (
   append-nil,
 ) (subst (IsUnderWay w rows extra) (sym e) (same_under_way w rows extra s t u same f))
 
--- a command opens what it opens
+-- a command adds the names that it opens
 opens_more : (w : World) (rows : List Row) (extra names new : List Name) (row : Row) → Opens w rows extra names →
     opened_by (replayed w rows) row.mutator row.command ≡ new → Opens w (rows ++ row ∷ []) extra (names ++ new)
 opens_more w rows extra names new row h e name =
@@ -90,7 +90,7 @@ opens_more w rows extra names new row h e name =
       ],
     )
 
--- a command of a run that is under way
+-- a command of a run under way
 given_on : (w : World) (rows : List Row) (extra : List Name) (s next : State) (m : ℕ) (c : Command) (answer : Reply) → IsUnderWay w rows extra s →
     IsGiven s m c next → (step s.world m c).1 ≡ answer → IsUnderWay w (rows ++ (record { mutator = m; command = c; reply = answer }) ∷ []) extra next
 given_on w rows extra s next m c answer u g says =
@@ -109,7 +109,7 @@ given_on w rows extra s next m c answer u g says =
       finalised_is = rw (u.finalised_is, finalised-push w rows row, now) refl;
     })
 
--- a push of whatever in a run that is under way
+-- a push of any name in a run under way
 float_on : (w : World) (rows : List Row) (extra : List Name) (s next : State) (name : Name) → IsUnderWay w rows extra s → IsFloated s name next →
     IsUnderWay w rows (extra ++ name ∷ []) next
 float_on w rows extra s next name u h =

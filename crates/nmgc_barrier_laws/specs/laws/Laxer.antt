@@ -2,7 +2,7 @@
 use Rattle.nmgc_barrier_laws.specs.laws.Vocabulary.{ℕ, subst, inl, inr, IsSome, Name, node_of, State, target_there, part_there, refers, IsSafe, IsAhead, Kept, Base, Facts, owed, pushed, queued, IsShuffled}
 use Rattle.nmgc_snapshot_laws.specs.Facts.{unmarked}
 
--- what waits, in another order: the same state but for the three lists
+-- waiting names in another order: the same state except for the three lists
 module _ (s : State) (f : Facts s) (next : State) (h : IsShuffled s next) where
   ahead_on : (name : Name) (i : ℕ) → IsAhead s name i → IsAhead (record s { queue = next.queue; owed = next.owed; pushed = next.pushed }) name i
   ahead_on name i (unmarked n) = unmarked n

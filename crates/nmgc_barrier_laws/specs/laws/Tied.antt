@@ -1,5 +1,5 @@
--- A watch and a state that a marker is in: what is remembered is on its way to be marked, and what the state owes
--- is what the watch calls due. Each event keeps that, so a watch that ends without debts has an exact end.
+-- The tie between a watch and the state of a marker. The remembered names are on their way to be marked, and the state owes
+-- exactly the names that are due by the watch. Each event keeps the tie, so a watch that ends without debts has an exact end.
 use Rattle.std.proofs.{Common.◌≡◌, Common.◌<◌, Common.ℕ, Common.List, Common.[], Common.◌∷◌, Common.◌++◌, Common.length, Common.get_or, Common.set, Common.refl, Common.sym, Common.ap, Common.subst, Common.◌∙◌, Common.arith, Common.inl, Common.inr, Common.◌⊎◌, Common.false, lemmas.List.Elements.Contains-append_left, lemmas.List.Elements.Contains-append_right, lemmas.List.Elements.Contains-append_cases, lemmas.List.Elements.Contains-get_or, lemmas.Bool.cases_eq}
 use Rattle.std.specs.Prelude.{IsSome, Contains, All, ◌↔◌}
 use Rattle.nmgc_world_spec.specs.{declared.value.Name.Name, declared.command.Command.Command, declared.command.Reply.Reply, World.World, World.node_of, World.IsWorld, Step.step, History.opened_by, History.finalised_by, Owed.owed_by}

@@ -1,4 +1,4 @@
--- A push of whatever keeps a watch and a state tied, and so does the marker; and the end is exact.
+-- A push of any name keeps a watch and a state tied, and so does the marker; and the end is exact.
 use Rattle.std.specs.Prelude.{◌≡◌, ◌<◌, ◌∷◌, ◌++◌, ◌↔◌}
 use Rattle.nmgc_barrier_laws.specs.laws.Vocabulary.{ℕ, List, [], zero, suc, length, replicate, set, refl, sym, ap, subst, ◌∙◌, arith, length-set, inl, inr, Option, Some, None, IsSome, Contains, All, length-replicate, All-nil, All-cons, Contains-append_left, Contains-append_right, Contains-append_cases, cases_eq, Name, Value, World, node_of, IsWorld, IsLive, IsDead, IsKept, Lists, contains_head, nothing_in, contains_one, one_is, name_cases, Entry, State, names_of, mark_name, mark_read, mark_values, root_values, unmarked, opening, read_at, IsPossible, AreEmpty, after_scan, advanced, IsClosing, MayHold, IsSafe, Facts, owed, pushed, marked, names_same, names_other, live_more, mark_cases, mark_facts, scan_facts, closing_is_exact, IsExactClosing, IsShuffled, Debt, Cycle, Owes, IsPushed, IsTook, MarksName, watching, opening_facts, no_names, names_in, IsOnItsWay}
 use Rattle.nmgc_world_spec.specs.declared.value.Value.TheVariants as value
@@ -108,7 +108,7 @@ module _ (h next : Cycle) (s : State) (t : IsTied h s) (name : Name) (w : IsPush
     held = held_on;
   }
 
--- the marker's own steps: they mark more, and leave what is owed and pushed
+-- the marker's own steps: they mark more, and leave the owed and pushed names as they are
 pub record MarksOn (s u : State) : Type 0 where
   pub world : u.world ≡ s.world
   pub snapshot : u.snapshot ≡ s.snapshot
@@ -191,7 +191,7 @@ nothing_owed h s t none m = by_list (names_of s.owed m) refl
     by_list (x ∷ xs) e = let o : Owes h x = t.only m x (subst (λ (l : List Name). Contains l x) (sym e) (contains_head x xs)) in
         absurd (nothing_in o.0 (subst (λ (l : List Debt). Contains l o.0) none o.1))
 
--- lists of the same names of a world
+-- two lists with the same names of a world keep the same names live
 pub live_same : (w : World) (a b : List Name) → ((n : Name) → IsSome (node_of w n) → Contains a n → Contains b n) → (n : Name) → IsLive w a n → IsLive w b n
 live_same w a b k n (reach.root n' r) = reach.root n' r
 live_same w a b k n (reach.further n' c there) = reach.further n' (k n' there c) there
@@ -216,7 +216,7 @@ kept_same w a b fin k n (IsKept.live n' l) = IsKept.live n' (live_same w a b (λ
 kept_same w a b fin k n (IsKept.finaliser weak target d is) = IsKept.finaliser weak target (dead_same w a b fin (λ x there. (k x there).1) weak d) is
 kept_same w a b fin k n (IsKept.field m target h r) = IsKept.field m target (kept_same w a b fin k m h) r
 
--- what counts as opened of the snapshot is what was opened and what was remembered
+-- the names of the snapshot that count as opened are the opened and the remembered names
 opened_both : (h : Cycle) (s : State) → IsTied h s → (n : Name) → IsSome (node_of s.snapshot n) → Contains s.opened n ↔ Contains (h.opened ++ h.remembered) n
 opened_both h s t n there = (
   λ k. elim ((t.opened n there).0 k) [ inl o ↦ Contains-append_left h.opened h.remembered n o | inr r ↦ Contains-append_right h.opened h.remembered n r ],
@@ -239,7 +239,7 @@ tied_end h s next t possible c name =
           h.remembered) l name) (sym t.finalised) (subst (λ (v : World). IsKept v (h.opened ++ h.remembered) h.finalised name) (sym t.snapshot) k))),
     )
 
--- and lets those weak pointers die that are dead by what was opened and what was remembered
+-- and the weak pointers that die in it are those dead by the opened and the remembered names
 pub tied_dies : (h : Cycle) (s next : State) → IsTied h s → IsPossible s event.Close → (c : IsClosing s next) →
     Lists (IsDead h.snapshot (h.opened ++ h.remembered) h.finalised) c.dead
 tied_dies h s next t possible c =
@@ -253,7 +253,7 @@ tied_dies h s next t possible c =
     subst (λ (v : World). Lists (IsDead v (h.opened ++ h.remembered) h.finalised) c.dead) t.snapshot (subst (λ (l : List Name).
     Lists (IsDead s.snapshot (h.opened ++ h.remembered) l) c.dead) t.finalised both)
 
--- what waits in another order, or leaves the pushed names once it is marked
+-- waiting names in another order, or without pushed names that are marked
 pub tied_order : (h : Cycle) (s next : State) → IsTied h s → IsShuffled s next → next.owed ≡ s.owed →
     ((n : Name) → IsSome (node_of s.snapshot n) → IsOnItsWay s n →
     IsOnItsWay (record s { queue = next.queue; owed = next.owed; pushed = next.pushed }) n) →
@@ -306,7 +306,7 @@ tied_opening w h =
       held = λ debt c. absurd (nothing_in debt c);
     }
 
--- it is told what the marker took
+-- a report of a name that the marker took
 pub tied_took : (h next : Cycle) (s : State) → IsTied h s → (name : Name) → IsTook h name next → IsTied next s
 tied_took h next s t name w = subst (λ (x : Cycle). IsTied x s) (sym w.rest) (record {
   facts = t.facts;
@@ -321,7 +321,7 @@ tied_took h next s t name w = subst (λ (x : Cycle). IsTied x s) (sym w.rest) (r
   held = t.held;
 })
 
--- without debts, where the marker has taken and read all, its end can come
+-- without debts, the end can happen once the marker has taken and read all
 pub tied_possible : (h : Cycle) (s : State) → IsTied h s → h.debts ≡ [] → s.queue ≡ [] → AreEmpty s.pushed → IsPossible s event.Close
 tied_possible h s t none empty all = (t.is_open, empty, nothing_listed s.owed (nothing_owed h s t none), all)
   where

@@ -33,7 +33,7 @@ next_epoch n e = elim (eqb_tells (n % 2) 0) [
   ]
 ]
 
--- where marks are settled and no segment waits, none is of the next epoch
+-- no mark has the next epoch, if marks are settled and no segment waits
 pub unmarked_there : (t : RunState) (s : Segments) (words : List ℕ) → StandsFor s words t.allocation → NoneIs (IsIn stands.Sweeping) t.allocation →
     AreSettled t.begun s → (number block : ℕ) → HasNumber s number → mark_of (nth s.segments number) block ≡ epoch_of (t.begun + 1) → ⊥
 unmarked_there t s words stood none settled number block lt e =
@@ -44,7 +44,7 @@ unmarked_there t s words stood none settled number block lt e =
       | inr (some, last) ↦ next_epoch t.begun (sym e ∙ last)
     ]
 
--- marking the roots changes nothing but marks, and queues names of which nothing was read
+-- marking the roots changes only marks, and queues names whose objects were not read yet
 pub record IsBegun (w : World) (s : State) : Type 0 where
   pub world_is : s.world ≡ w
   pub owed_is : s.owed ≡ replicate (length w.mutators) []

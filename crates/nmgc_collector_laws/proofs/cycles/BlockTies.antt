@@ -43,7 +43,7 @@ module _ (o : Opening) (c : Cycle) (s : Segments) (words : List ℕ) (a : AllocS
         place = (λ i. block_place (sym k.layout i) n (class i) b);
       }
 
-  -- a block of the snapshot begins somewhere
+  -- a block of the snapshot has an address
   snapshot_at : (n b : ℕ) → InSnapshot (nth s.segments n) b → IsBlockAt s n b (block_place s.layout n (nth s.segments n).class b)
   snapshot_at n b snap = elim (cases_lt n (length s.segments)) [
     | inl there ↦ let w = snapshot_within (nth s.segments n) b (k.sound.members n there).sound snap in
@@ -53,7 +53,7 @@ module _ (o : Opening) (c : Cycle) (s : Segments) (words : List ℕ) (a : AllocS
         absurd (elim (subst (λ (x : Segment). InSnapshot x b) none snap) [ inl lt ↦ omega arith | inr ne ↦ ne refl ])
   ]
 
-  -- no block begins where g is
+  -- no block begins at the address of g
   above : (n b at : ℕ) → IsBlockAt s n b at → 32 ≤ at
   above n b at g =
       let lies = lies_in s n b at at k.sound g (omega arith)

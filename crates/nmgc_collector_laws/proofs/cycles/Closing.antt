@@ -7,7 +7,7 @@ no_rows [] alone = refl
 no_rows (did m c r ∷ hs) alone = absurd alone
 no_rows (scanned entry v ∷ hs) alone = no_rows hs alone
 
--- the machine at a stop goes on by scans alone, and is at rest again where it scanned whole objects
+-- the machine at a stop goes on by scans alone, and is at rest again if it scanned whole objects
 pub machine_scans : (c : Cycle) (w : World) (core : State) (events : List Happening) → IsMachineAtRest c w core → IsLegal core events →
     AreScans events → All IsUnread (replay core events).queue → IsMachineAtRest c w (replay core events)
 machine_scans c w core events h legal scans fresh =

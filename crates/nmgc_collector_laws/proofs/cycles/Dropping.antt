@@ -1,9 +1,9 @@
--- The places of freed names go, and what is left stands for what was swept.
+-- The places of freed names go, and the rest represents the swept state.
 use Rattle.nmgc_collector_laws.proofs.Vocabulary.{ℕ, ◌≡◌, ◌≢◌, ◌⊎◌, ◌+◌, ◌<◌, ◌≤◌, List, [], ◌∷◌, refl, sym, ap, subst, ◌∙◌, arith, inl, inr, Option, Some, None, cond, set, Contains, IsSome, sum_by, sum_by-set, cases_eq, Name, World, node_of, shared_name, replayed, contains_head, contains_tail, contains_cases, nothing_in, absent, some_of, nursery_place, block_size, Layout, Stands, is, Segments, block_place, IsSegments, AllocState, Cells, Sweeps, SweepsEach, HoldsKept, LiesIn, HasBlock, cells, name_in, count_in, no_cells, StandsFor, none_some, swept_back, swept_other, DropsPlaces, Place, NoNode, ListsWeaks, IsTracked, places_dropped, roots_dropped, tracked_wide, free_tracked, is_block, MutatorEnd, IsKeptIn, FitBlocks, HeapStandsFor, IsBornPlace, snapshots, IsBlockPlace, IsPlaceAtStop, last_state, IsInCycle, IsSoundState, Progress, sweeping, SweepsBeside, free, block_used, states_are_sound, rounds_are_sound, sweeps_keep, tracked_before, tracked_itself, FreesUntracked, RoundFreesUntracked, StopFreesUntracked, FreeGrows, DropsFreed, SweptHoldsAfterRound, SweptHoldsAtStop, DropKeepsRound}
 use Rattle.nmgc_run_spec.specs.State.{State}
 use Rattle.nmgc_segment.specs.declared.state.State.TheVariants as stands
 
--- places, each of which is to stay or to go, without those that go
+-- a list of places without those that go; each stays or goes
 split_places : (P Q : Place → Type 0) (places : List Place) → ((p : Place) → Contains places p → P p ⊎ Q p) → (fewer : List Place) ×
     ((p : Place) → Contains fewer p → Contains places p × P p) × ((p : Place) → Contains places p → Contains fewer p ⊎ Q p)
 split_places P Q [] decide = ([], λ p d. absurd (nothing_in p d), λ p d. absurd (nothing_in p d))
@@ -34,7 +34,7 @@ split_places P Q (x ∷ places) decide =
 module _ (layout : Layout) (earlier : List World) (began w : World) (allocation swept : AllocState)
     (f : FreesUntracked earlier began w allocation swept) (places : List Place) (Born : Place → Type 0) (sound : (p : Place) → Contains places p →
     IsPlaceAtStop layout allocation p ⊎ Born p) where
-  -- a place that stays, and one that goes
+  -- a place that stays, and a place that goes
   abbrev Stays : Place → Type 0
   Stays p = IsPlaceAtStop layout swept p ⊎ Born p
 
@@ -97,7 +97,7 @@ module _ (layout : Layout) (earlier : List World) (began w : World) (allocation 
   keep_unknown : (p : Place) → Contains places p → node_of began p.name ≡ None → Contains fewer p
   keep_unknown p d none = keep_if p d (λ gone. absent (node_of began p.name) none (f.known gone.0.number gone.0.block p.name gone.0.lies))
 
-  -- a place of what is left was one before
+  -- a place after the sweep was a place before
   back : (p : Place) → IsPlaceAtStop layout swept p → IsPlaceAtStop layout allocation p
   back p h = elim h [
     | inl g ↦ inl g
@@ -212,7 +212,7 @@ drop_keeps_round layout earlier w places less nurseries recorded weaks d n order
   },
 )
 
--- a sweep leaves names where they lay
+-- a sweep leaves names in their blocks
 
 module _ (K : Name → Type 0) where
   one_left : (a b : AllocState) (number : ℕ) (s : Sweeps a b number (HoldsKept K a number)) (k block : ℕ) (name : Name) → LiesIn b k block name →
@@ -239,7 +239,7 @@ module _ (K : Name → Type 0) where
       let now = one_left a h.0 number h.1 k block name later.0 in
       (now.0, later.1 ∙ now.1)
 
--- and no free segment is lost
+-- no free segment is lost
 one_frees : (a b : AllocState) (number : ℕ) (K : ℕ → Type 0) → Sweeps a b number K → count_in stands.Free a ≤ count_in stands.Free b
 one_frees a b number K s =
     let set_is : sum_by free (set a.segments number (cells b number)) + free (cells a number) ≡ sum_by free a.segments + free (cells b number) =

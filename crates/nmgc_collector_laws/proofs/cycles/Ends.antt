@@ -1,4 +1,4 @@
--- A cycle that closes with weak pointers: what is marked is what it keeps, and what dies is what is dead.
+-- A cycle that closes with weak pointers: exactly the kept names are marked, and exactly the dead weak pointers die.
 use Rattle.nmgc_collector_laws.proofs.Vocabulary.{ℕ, List, refl, sym, subst, inl, inr, Contains, IsSome, Name, World, node_of, shared_name, IsDead, IsKept, Lists, IsSound, finalised_dead, IsClosing, IsRevived, IsRescued, IsExactClosing, State, opening, closing_is_exact, snapshot_theorem, Segments, AllocState, Opening, IsDeadIn, IsKeptIn, interval_of, Cycle, IsCoreOf, others_counted, once_runs, once_opening, AreOfBlocks, TiesAgree, CycleMayResolve, CycleCloses, facts_of}
 use Rattle.nmgc_snapshot_laws.specs.Run.{IsMarking}
 
@@ -19,7 +19,7 @@ may_resolve c o words s marker weaks sound m pushed empty marking spoken ready l
       listed = listed;
     }
 
--- what a closing marks is of the snapshot
+-- a name marked by a closing is in the snapshot
 revived_there : (s : State) (n : Name) → IsRevived s n → IsSome (node_of s.snapshot n)
 revived_there s n (IsRevived.plain_key weak _ parts w p k u) = u.there
 revived_there s n (IsRevived.marked_key weak _ key parts w p c k u) = u.there
@@ -37,7 +37,7 @@ closed_there s next c old n d = elim ((c.marked n).0 d) [
   | inr r ↦ rescued_there s n r
 ]
 
--- the places are those of the blocks for the closed machine too
+-- the places are the blocks for the closed machine too
 of_blocks : (o : Opening) (c : Cycle) (s : Segments) (words : List ℕ) (allocation : AllocState) (next : State) → IsClosing o.core next →
     AreOfBlocks o c s words allocation o.core → AreOfBlocks o c s words allocation next
 of_blocks o c s words allocation next k h = record {

@@ -1,4 +1,4 @@
--- Of what moved, the weak pointers that are alive join the list; and no more of a snapshot are listed than before.
+-- Moved weak pointers that are alive join the list; no more of a snapshot are listed than before.
 use Rattle.nmgc_collector_laws.proofs.Vocabulary.{ℕ, ◌≡◌, ◌≢◌, ◌+◌, ◌≤◌, List, [], ◌∷◌, Bool, true, false, map, refl, sym, ap, subst, ◌∙◌, arith, inl, inr, Option, Some, None, slice_index, cond, Contains, IsSome, count_by, is_some, ◌==◌, and_parts, sum_by-cons, Node, Con, Var, Arr, Thunk, Weak, Stack, Parts, Name, SHARED_MAKER, Value, IsAlive, IsAliveWeak, IsInOrder, IsReached, World, node_of, contains_head, contains_tail, contains_cases, is_some_of, nothing_in, contains_map, in_order_first, in_order_rest, not_before_itself, InSegment, InNursery, nursery_place, header_word, IsHeader, Layout, Nursery, HEADER_WORDS, Header, Segments, Moved, Copies, new_place, old_place, Place, Means, Represents, NoNode, IsObject, ListsWeaks, IsListedWeak, header_of, holds, IsTracked, settled_cases, settled_comes, settled_stays, Stopped, IsStopped, IsSettled, young_base, JoiningLists, JoinersAreNew, FewerListed, HaveMoved, HaveJoinedList, IsAliveAt, weak_header, places_after, in_segment_low, ◌&&◌}
 use Rattle.nmgc_world_spec.specs.declared.node.Kind.TheVariants as kind
 use Rattle.nmgc_world_spec.specs.declared.value.Value.TheVariants as value
@@ -10,7 +10,7 @@ HeadersDiffer = (a b : Header) → IsHeader a → IsHeader b → header_word a �
 weak_valid : IsHeader weak_header
 weak_valid = (refl, refl)
 
--- a node with the header of a weak pointer is one
+-- a node with the header of a weak pointer is a weak pointer
 weak_of : (node : Node) → header_of node ≡ weak_header → (parts : Option Parts) × (node ≡ Weak parts)
 weak_of (Con tag values) e = absurd (let bad : kind.Con ≡ kind.Weak = ap (λ (h : Header). h.kind) e in cc)
 weak_of (Var v) e = absurd (let bad : kind.Var ≡ kind.Weak = ap (λ (h : Header). h.kind) e in cc)
@@ -35,14 +35,14 @@ module _ (law : HeadersDiffer) (t : Stopped) (s new : Segments) (words after : L
   abbrev base : ℕ
   base = young_base s
 
-  -- what moved is young, and so it lay in its maker's nursery
+  -- a moved object is new, and so it lay in its maker's nursery
   young : (m : Moved) → Contains moves m → node_of t.began m.name ≡ None
   young m c = (k.promoted.sound m.name (contains_map (λ (x : Moved). x.name) moves m c)).0.0
 
   was_high : (m : Moved) → Contains moves m → base ≤ m.from
   was_high m c = (h.round.young (old_place m) (k.moved m c)).1 (young m c)
 
-  -- it isn't g
+  -- a moved object isn't g
   in_nursery : (m : Moved) → Contains moves m → (m.name.maker ≢ SHARED_MAKER) × InNursery s.layout m.name.maker m.from
   in_nursery m c =
       let high = was_high m c in
@@ -86,7 +86,7 @@ module _ (law : HeadersDiffer) (t : Stopped) (s new : Segments) (words after : L
     there : (m : Moved) → Contains moves m → Contains places (new_place m)
     there m c = settled_comes (young_base new) moves t.places m c
 
-    -- what moved lies in a segment
+    -- a moved object lies in a segment
     in_segment : (m : Moved) → Contains moves m → (segment : ℕ) × InSegment new.layout segment m.to
     in_segment m c =
         let low = k.low m c in
@@ -96,7 +96,7 @@ module _ (law : HeadersDiffer) (t : Stopped) (s new : Segments) (words after : L
           | inr (other, inr own) ↦ let i = own.1 m.to (omega arith) (omega arith) in let from = i.from in absurd (omega (arith, low, from))
         ]
 
-    -- a weak pointer among what moved, whose value word isn't 0, is alive
+    -- a moved weak pointer whose value word isn't 0 is alive
     alive_then : (m : Moved) → Contains moves m → IsAliveAt after m.to → IsAliveWeak t.world m.name
     alive_then m c a =
         let n = known m c in
@@ -121,7 +121,7 @@ module _ (law : HeadersDiffer) (t : Stopped) (s new : Segments) (words after : L
       | inr (other, inr own) ↦ let i = own.1 p.at (omega arith) (omega arith) in let from = i.from in omega (arith, from)
     ]
 
-    -- an alive weak pointer among what moved has its words
+    -- a moved weak pointer that is alive has its words
     alive_words : (m : Moved) (c : Contains moves m) (parts : Parts) → IsAlive t.world m.name parts → IsAliveAt after m.to
     alive_words m c parts alive =
         let tracked : IsTracked t.world t.later m.name = IsReached.start m.name (
@@ -168,7 +168,7 @@ joiners_are_new law t s new words after nurseries registers registers_then queue
 
 -- counting
 
--- one, if the place passes
+-- 1 if the place passes
 abbrev one_if : (Place → Bool) → Place → ℕ
 one_if f p = cond (f p) 1 0
 

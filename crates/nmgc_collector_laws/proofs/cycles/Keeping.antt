@@ -4,7 +4,7 @@ use Rattle.nmgc_run_spec.specs.State.{State}
 use Rattle.nmgc_segment.specs.declared.state.State.TheVariants as stands
 use Rattle.nmgc_collector_laws.proofs.{cycles.Beginning.IsBegun, cycles.Beginning.begun, cycles.Pushing.all_empty, cycles.Snapshots.IsReachedBy, cycles.Snapshots.reached_core, cycles.Staying.remembered_stays, cycles.Staying.tie_is_kept, cycles.Taking.HasTaken}
 
--- where nothing is remembered, nothing that counts was pushed
+-- if nothing is remembered, nothing that counts was pushed
 none_at : (places : List Place) (names : List Name) → AreAt places [] names → names ≡ []
 none_at places [] h = refl
 none_at places (name ∷ names) h = absurd h
@@ -14,12 +14,12 @@ none_pushed c places entries pushed none r =
     let names : r.names ≡ [] = none_at places r.names (subst (λ (l : List ℕ). AreAt places l r.names) none r.at) in
     sym r.counted ∙ ap (λ (l : List Name). filter (is_pushed_in c.snapshot) l) names
 
--- nor is any place
+-- if nothing is remembered, no entry is anywhere
 none_low : (seen : CollectorSeen) → NoneRemember seen → (k : ℕ) (mutator : MutatorSeen) → slice_get seen.mutators k ≡ Some mutator → (at : ℕ) →
     Contains mutator.entries at → at < nursery_place seen.segments.layout 0
 none_low seen nothing k mutator there at d = absurd (nothing_in at (subst (λ (l : List ℕ). Contains l at) (nothing k mutator there) d))
 
--- a cycle begins: the marker has marked what the machine marks of the roots, and the sweeper has noted what it is to sweep
+-- a cycle begins: the marker has the marks that the machine gives the roots, and the sweeper has noted the segments to sweep
 pub cycle_is_marking : (s : State) (seen : CollectorSeen) (places : List Place) → IsWorld s.world →
     IsTied (next_cycle s) (cycle_begun s.allocation) seen.segments places seen.marker (opening s.world) → HasRoomToMark seen.segments seen.marker
     → EachMutator seen (λ m mutator. weak_count s.world m seen.weaks ≤ mutator.queue.spare) → NoneRemember seen → seen.cycle.from ≡ s.number →
@@ -50,7 +50,7 @@ cycle_is_marking s seen places world tied room queue_room nothing from noted not
       nothing_listed = nothing_listed;
     }
 
--- at a stop the machine is at rest, and what it is to scan is at the places in the marker's queue
+-- at a stop the machine is at rest, and the objects that it has to scan are in the marker's queue
 pub stop_is_at_rest : (c : Cycle) (s : State) (seen : CollectorSeen) (places : List Place) (h : IsMarking c s seen places) → IsSound (interval_of c) →
     length seen.mutators ≡ length s.world.mutators → NoneRemember seen →
     IsMachineAtRest c s.world h.core × AreAt places seen.marker.queue (map (λ (entry : Entry). entry.name) h.core.queue)
@@ -69,14 +69,14 @@ stop_is_at_rest c s seen places h sound many nothing =
       h.tied.queue,
     )
 
--- what the sweeper noted stays noted
+-- the sweeper's notes stay
 still_noted : (c d : Cycle) (old new : SweeperSeen) → d.number ≡ c.number → d.heap ≡ c.heap → new ≡ old → HasNoted c old → HasNoted d new
 still_noted c d old new number heap same n = subst (HasNoted d) (sym same) (record {
   epoch = n.epoch ∙ ap (λ k. epoch_of k) (sym number);
   swept = subst (λ (a : AllocState). ListsNumbers (λ k. IsOne (IsIn stands.Filled) a k) old.swept) (sym heap) n.swept;
 })
 
--- and where it listed nothing, it still has listed nothing
+-- a sweeper that listed nothing still has listed nothing
 still_nothing : (old new : SweeperSeen) → new ≡ old → HasListedNothing old → HasListedNothing new
 still_nothing old new same n = subst HasListedNothing (sym same) n
 
@@ -129,7 +129,7 @@ promotion_keeps_marking c s old new t words after registers queues moves placed 
       nothing_listed = still_nothing old.sweeper new.sweeper left.sweeper was.nothing_listed;
     }
 
--- once the marker has added what was remembered, which the machine took: nothing is remembered any more
+-- once the marker has added the remembered entries, which the machine took, nothing is remembered any more
 pub add_keeps_marking : (c : Cycle) (s : State) (old new : CollectorSeen) (places : List Place) (names : List Name) (core : Core)
     (h : IsMarking c s old places) → HasTaken c s.world h.core names core → IsTied c s.allocation new.segments places new.marker core →
     HasRoomToMark new.segments new.marker → HasLeft c old new → NoneRemember new →

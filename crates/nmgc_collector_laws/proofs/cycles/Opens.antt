@@ -3,7 +3,7 @@ use Rattle.nmgc_collector_laws.proofs.Vocabulary.{◌≡◌, ℕ, ◌<◌, List,
 use Rattle.nmgc_collector_laws.specs.Worked.{registers_of, serials_of}
 use Rattle.nmgc_collector_laws.proofs.cycles.Snapshots.{IsReachedBy, reached_by, tracked_wide, marked_there, marked_tracked, queued_marked, are_earlier, node_later, fresh_at}
 
--- what waits is at a place
+-- an entry that waits is at a place
 pub at_found : (places : List Place) (ats : List ℕ) (entries : List Entry) (entry : Entry) →
     AreAt places ats (map (λ (e : Entry). e.name) entries) → Contains entries entry → (at : ℕ) × Contains places (record { at = at; name = entry.name })
 at_found places ats [] entry h c = absurd (nothing_in entry c)
@@ -57,7 +57,7 @@ module _ (c : Cycle) (core : State) (s : Segments) (places : List Place) (w : Wo
     in_segments = λ p d m lt. inl (below p d m);
   }
 
-  -- so many words of the one list as a mutator has registers are its own
+  -- `REGISTERS` words of the one list are the mutator's own
   hand_at : (m : ℕ) → m < s.layout.mutators → HandStands o m (get_or o.hands m no_hand)
   hand_at m lt =
       let many = h.count in
@@ -72,7 +72,7 @@ module _ (c : Cycle) (core : State) (s : Segments) (places : List Place) (w : Wo
         stacks = ap (λ (k : ℕ). old_stacks places core.world k) (h.mutators_are m n.0 n.1).number_is;
       })
 
-  -- what waits has its object, and a node in the snapshot
+  -- an entry that waits has its object, and a node in the snapshot
   queued : (entry : Entry) → Contains core.queue entry → IsQueued o entry
   queued entry d =
       let marked = queued_marked c.snapshot c.rows core reached entry d in

@@ -1,4 +1,4 @@
--- The machine goes on after a round, and has pushed what the mutators remember.
+-- The machine goes on after a round, and has pushed the mutators' remembered entries.
 use Rattle.nmgc_collector_laws.proofs.Vocabulary.{◌≡◌, ◌<◌, ℕ, Bool, true, false, List, [], ◌++◌, map, sym, ap, subst, ◌∙◌, arith, append-nil, Some, slice_get, Contains, filter, slice_get_within, Name, World, Row, nursery_place, Event, Facts, is_pushed_in, Runs, State, names_of, opening, facts_kept, snapshot_theorem, map_item, event_of, rows_in, Opening, Part, Seen, marks_of, now, Owes, AreOwed, CanOpen, IsFinished, places_then, Mutator, remembered_of, all_pushed, Done, HaveWorked, own_part, parts_are, slice_at, item, item_found, AreRemembered, IsCoreOf, Cycle, IsMachineAtRest, with_rows, HaveOwed, SlicesAreOwed, GoesOn, MachineGoesOn, runs_then, each_empty}
 use Rattle.nmgc_round.specs.Objects.{IsIn}
 use Rattle.nmgc_collector_laws.proofs.{cycles.Going.Leaves, cycles.Going.round_runs, cycles.Going.leaves_round, cycles.Pushing.AllPushed, cycles.Pushing.push_all, cycles.Remembering.all_found, cycles.Remembering.pushed_low, cycles.Seats.parts_gathered}

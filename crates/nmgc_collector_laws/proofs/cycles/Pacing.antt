@@ -10,7 +10,7 @@ closing_is_soon quota c t seen kept h more counts = elim (cases_lt (c.from + 1) 
 pub closing_comes : ClosingComes
 closing_comes = within_rounds
 
--- where nothing waits at any place, nothing waits
+-- nothing waits if nothing waits at any place
 none_waits : (places : List Place) (entries : List Entry) → AreAt places [] (map (λ (entry : Entry). entry.name) entries) → entries ≡ []
 none_waits places [] h = refl
 none_waits places (entry ∷ entries) h = absurd h

@@ -1,4 +1,4 @@
--- Names that are placed: the others stay where they lay, and segments in use keep their class.
+-- Names that are placed: all other names stay in their blocks, and segments in use keep their class.
 use Rattle.nmgc_collector_laws.proofs.Vocabulary.{◌≡◌, ◌≢◌, ◌⊎◌, ℕ, List, [], ◌∷◌, sym, ap, subst, ◌∙◌, refl, inl, inr, Contains, cases_eq, get_or-set_same, get_or-set_other, Name, World, contains_head, contains_tail, Layout, Free, AllocState, Cells, Exists, IsIn, IsTarget, LiesIn, PlacesName, cells, no_cells, with_cells, AreFreeEmpty, placed_stays, placed_where, placed_free, PlacesEach}
 
 module _ (layout : Layout) (a b : AllocState) (m class : ℕ) (name : Name) (p : PlacesName layout a b m class name) where
@@ -12,7 +12,7 @@ module _ (layout : Layout) (a b : AllocState) (m class : ℕ) (name : Name) (p :
   class_is (inr (none, inl next)) used = next.is.1.1
   class_is (inr (none, inr (no_active, next))) used = absurd (used next.is.1)
 
-  -- a segment that isn't free keeps its class, and isn't free then
+  -- a segment in use keeps its class, and isn't free afterwards
   abbrev Keeps : ℕ → Type 0
   Keeps number = ((cells b number).class ≡ (cells a number).class) × (IsIn Free (cells b number) → ⊥)
 
@@ -34,7 +34,7 @@ module _ (layout : Layout) (a b : AllocState) (m class : ℕ) (name : Name) (p :
     | inr h ↦ by_cells _ _ refl (λ e. cc) h.1
   ]
 
--- what placing names leaves
+-- the allocation state after names were placed
 pub record Stay (a b : AllocState) (names : List Name) : Type 0 where
   pub lies : (number block : ℕ) (n : Name) → LiesIn a number block n → LiesIn b number block n
   pub class : (number : ℕ) → (IsIn Free (cells a number) → ⊥) → (cells b number).class ≡ (cells a number).class

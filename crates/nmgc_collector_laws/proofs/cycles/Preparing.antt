@@ -2,7 +2,7 @@
 use Rattle.nmgc_collector_laws.proofs.Vocabulary.{ℕ, ◌≡◌, ◌+◌, ◌↔◌, List, [], ◌∷◌, refl, sym, ap, subst, ◌∙◌, arith, inl, inr, Contains, length-map, World, IsWorld, contains_head, contains_cases, nothing_in, block_size, Layout, Segment, InUse, InSnapshot, nth, Segments, HasNumber, IsSegments, AllocState, Cells, cells, cycle_begun, IsSnapshotAt, IsUsedAt, prepared, prepared_snapshot, begun_cells, begun_names, nth-map, prepared_stands, Place, Represents, NoNode, RepresentsRoots, remembered, IsPlaceAtStop, registers_of, serials_of, snapshots, epoch_of, StopIsPrepared, StopBegins, all_prepared}
 use Rattle.nmgc_collector_laws.proofs.cycles.Beginning.{unmarked_there}
 
--- a segment keeps its class as a cycle begins, and so each block its place
+-- a segment keeps its class as a cycle begins, and so each block its address
 begun_class : (a : AllocState) (number : ℕ) → (cells (cycle_begun a) number).class ≡ (cells a number).class
 begun_class a number = ap (λ (c : Cells). c.class) (begun_cells a number)
 
@@ -28,7 +28,7 @@ begun_place layout a p = (
   ],
 )
 
--- the world itself may be remembered
+-- the world itself may be used as an earlier world
 own_snapshot : (layout : Layout) (earlier : List World) (places : List Place) (w : World) (words : List ℕ) →
     Represents layout earlier NoNode places w words → Represents layout (w ∷ []) NoNode places w words
 own_snapshot layout earlier places w words r = remembered layout earlier (w ∷ []) NoNode NoNode places w words (record {

@@ -1,8 +1,8 @@
--- All that is owed is pushed: mutator after mutator, and of each one name after another.
+-- All owed objects are pushed: mutator after mutator, and for each mutator one name after another.
 use Rattle.nmgc_collector_laws.proofs.Vocabulary.{◌≡◌, ◌≢◌, ◌<◌, ◌≤◌, ℕ, zero, suc, Bool, true, false, cond, List, [], ◌∷◌, ◌++◌, length, refl, sym, ap, subst, ◌∙◌, arith, append_assoc, append-nil, length-set, inl, inr, filter, get_or_default, get_or_past, cases_eq, cases_lt, Name, World, Event, AreEmpty, after_push, is_pushed_in, pushed_of, Runs, State, names_of, names_same, names_other, runs_then}
 use Rattle.nmgc_snapshot_laws.specs.declared.event.Event.TheVariants as event
 
--- the name as a list where a test passes it, before the others that the test passes
+-- the name as a list if it passes a test, before other names that pass it
 one_passed : (b : Bool) (name : Name) (rest : List Name) → cond b (name ∷ []) [] ++ rest ≡ cond b (name ∷ rest) rest
 one_passed true name rest = refl
 one_passed false name rest = refl
@@ -11,7 +11,7 @@ passed_first : (test : Name → Bool) (old : List Name) (name : Name) (rest : Li
     (old ++ cond (test name) (name ∷ []) []) ++ filter test rest ≡ old ++ filter test (name ∷ rest)
 passed_first test old name rest = cc (append_assoc old (cond (test name) (name ∷ []) []) (filter test rest), one_passed (test name) name (filter test rest))
 
--- a mutator that owed these names has pushed those that count, and nothing else changed
+-- a mutator that owed these names has pushed the names that count, and nothing else changed
 record HasPushed (s t : State) (m : ℕ) (names : List Name) : Type 0 where
   events : List Event
   runs : Runs s events [] t
@@ -72,7 +72,7 @@ push_names s m (name ∷ rest) running lt there e =
     let later = push_names (after_push s m (name ∷ rest)) m rest running (subst (λ n. m < n) (sym (length-set s.owed m rest)) lt) (rw (length-set s.pushed m more) there) (names_same s.owed m rest lt) in
     (later.0, push_first s later.0 m name rest running lt there e later.1)
 
--- the mutators below one have pushed all that they owed
+-- all mutators below `count` have pushed all that they owed
 record HavePushed (s t : State) (count : ℕ) : Type 0 where
   events : List Event
   runs : Runs s events [] t
@@ -84,7 +84,7 @@ record HavePushed (s t : State) (count : ℕ) : Type 0 where
   others_owed : (k : ℕ) → count ≤ k → names_of t.owed k ≡ names_of s.owed k
   others_pushed : (k : ℕ) → count ≤ k → names_of t.pushed k ≡ names_of s.pushed k
 
--- one mutator more
+-- one more mutator
 push_next : (s u t : State) (m : ℕ) → HavePushed s u m → HasPushed u t m (names_of s.owed m) → HavePushed s t (suc m)
 push_next s u t m h p =
     let own : List Name = names_of s.owed m in
@@ -134,7 +134,7 @@ push_below s (suc m) running le same =
 pub all_empty : (lists : List (List Name)) → ((k : ℕ) → k < length lists → names_of lists k ≡ []) → AreEmpty lists
 all_empty lists none k d lt = get_or_default lists k d [] lt ∙ none k lt
 
--- nothing is owed any more, and each mutator has pushed what it owed, as far as it counts
+-- nothing is owed any more, and each mutator has pushed its owed names that count
 pub record AllPushed (s t : State) : Type 0 where
   pub events : List Event
   pub runs : Runs s events [] t

@@ -1,9 +1,9 @@
--- What words that are owed leave to remember: places of names, of which exactly those count that count among all.
+-- Remembered entries of owed words: addresses of names, and exactly the names that count are among them.
 use Rattle.nmgc_collector_laws.proofs.Vocabulary.{◌≡◌, ◌*◌, ◌+◌, ◌/◌, ◌%◌, ◌<◌, ◌&&◌, ◌⊎◌, ◌++◌, ℕ, Bool, true, false, not, cond, eqb, leb, List, [], ◌∷◌, refl, sym, ap, subst, ◌∙◌, arith, inl, inr, Option, None, leb-true, Contains, is_some, filter, and_parts, Node, Name, Value, World, node_of, is_same_name, shared_name, contains_cases, nothing_in, Layout, SHARED_PLACE, FIRST_PLACE, HEADER_WORDS, nursery_place, names_among, is_pushed_in, is_same_name-refl, Place, ListMeans, LiesWell, Opening, Seen, CanOpen, IsFinished, places_then, is_old, all_pushed, opened_below, in_place, is_place, AreAt, old_word, odd_word}
 use Rattle.nmgc_round.specs.Objects.{IsIn}
 use Rattle.nmgc_world_spec.specs.declared.value.Value.TheVariants as value
 
--- its place is below the nurseries
+-- the address of an old word's object is below the nurseries
 old_low : (layout : Layout) (w : ℕ) → is_old layout w ≡ true → w / 2 < nursery_place layout 0
 old_low layout w old =
     let second = (and_parts (eqb (w % 2) 0) (leb FIRST_PLACE (w / 2) && leb (w / 2 + 1) (nursery_place layout 0)) old).1 in
@@ -18,12 +18,12 @@ low_first layout w true rest old later at c = elim (contains_cases (w / 2) rest 
 ]
 low_first layout w false rest old later at c = later at c
 
--- so is all that is remembered
+-- all remembered addresses are below the nurseries
 pub pushed_low : (layout : Layout) (ws : List ℕ) (at : ℕ) → Contains (all_pushed layout ws) at → at < nursery_place layout 0
 pushed_low layout [] at c = absurd (nothing_in at c)
 pushed_low layout (w ∷ ws) at c = low_first layout w (is_old layout w) (all_pushed layout ws) refl (pushed_low layout ws) at c
 
--- entries at places of names, of which as many count as of these names
+-- entries at places of names; the same names count among them as among `all`
 pub record AreFound (snapshot : World) (places : List Place) (entries : List ℕ) (all : List Name) : Type 0 where
   pub names : List Name
   pub at : AreAt places entries names
@@ -39,7 +39,7 @@ module _ (o : Opening) (before words : List ℕ) (v : Seen) (can : CanOpen o bef
   abbrev counts : Name → Bool
   counts = is_pushed_in snapshot
 
-  -- a name that the snapshot hasn't doesn't count, and neither does g
+  -- a name that isn't in the snapshot doesn't count, and neither does g
   unknown_counts : (name : Name) → node_of snapshot name ≡ None → counts name ≡ false
   unknown_counts name none = ap (λ (n : Option Node). is_some n && not (is_same_name name shared_name)) none
 
@@ -74,7 +74,7 @@ module _ (o : Opening) (before words : List ℕ) (v : Seen) (can : CanOpen o bef
       by_place low (inr (own, inl s)) = let k = (s.1 at (omega arith) (omega arith)).from in inl (old_word o.layout at (omega arith) low)
       by_place low (inr (own, inr n)) = absurd (let k = (n.1 at (omega arith) (omega arith)).from in omega arith)
 
-  -- one more word, that of a reference
+  -- one more word, a reference
   found_first : (at : ℕ) (name : Name) (b : Bool) (entries : List ℕ) (all : List Name) → is_old o.layout (2 * at) ≡ b →
       IsIn o h.born (record { at = at; name = name }) → AreFound snapshot places entries all →
       AreFound snapshot places (cond b (2 * at / 2 ∷ []) [] ++ entries) (name ∷ all)
@@ -94,7 +94,7 @@ module _ (o : Opening) (before words : List ℕ) (v : Seen) (can : CanOpen o bef
     ];
   }
 
-  -- so of all words that are owed, those of objects in segments are remembered, and as many names count
+  -- the owed words of objects in segments are remembered, and the same names count
   pub all_found : (ws : List ℕ) (values : List Value) → ListMeans (IsIn o h.born) ws values →
       AreFound snapshot places (all_pushed o.layout ws) (names_among values)
   all_found [] [] means = record { names = []; at = tt; counted = refl }

@@ -1,4 +1,4 @@
--- A closing by its calls: the machine at rest scans on, closes, and what it closes is the cycle. Words, roots and list stand for the closed world.
+-- A closing by its calls: the machine at rest scans on and closes the cycle. Words, roots and list fit the closed world.
 use Rattle.nmgc_collector_laws.proofs.Vocabulary.{ℕ, ◌≡◌, ◌+◌, List, [], map, refl, sym, ap, subst, ◌∙◌, arith, inr, slice_index, IsSome, All-nil, Name, World, IsWorld, node_of, closed, is_some_of, FinQueue, word_total, Layout, HEADER_WORDS, Header, Entry, Core, Cells, LiesIn, cells, StandsFor, Shows, nth, Segments, block_place, Place, Represents, NoNode, IsEarlier, RepresentsRoots, ListsWeaks, size_of, closing_keeps_earlier, world_is_earlier, MutatorEnd, marks_of, earlier, now, CanOpen, Opening, Mutator, FitBlocks, HoldsAtStop, registers_of, serials_of, AreAt, IsCoreOf, IsUnread, epoch_of, CollectorSeen, ends_of, MarkerSeen, Cycle, AreOfBlocks, HasFinished, IsTiedByPlaces, Death, OldWeak, CycleMayResolve, CycleCloses, HasClosed, QueuesClose, CanResolve, places_of, FinishMayResolve, ResolveCloses, ClosedHolds, IsStopOf, IsClosingOf, FinalisersInHand, stop_opening, finished_on, closed_state, IsAtRestMarking, IsMachineAtRest}
 use Rattle.nmgc_run_spec.specs.{Heap.queues_of, State.State}
 use Rattle.nmgc_collector_laws.proofs.{cycles.Closing.machine_scans, cycles.Opens.rest_opens, cycles.Preparing.no_snapshot, cycles.RoundHeap.marked_holds, cycles.RoundHeap.not_free, cycles.Tying.MarksLaw, cycles.Tying.core_snapshot, cycles.Tying.heap_of_blocks}
@@ -135,12 +135,12 @@ module _ (layout : Layout) (c : Cycle) (s : State) (seen : CollectorSeen) (mutat
 
   represents : Represents layout [] NoNode stood w words
   represents =
-      let told : Represents layout (earlier o) NoNode stood w words =
+      let is_known : Represents layout (earlier o) NoNode stood w words =
       subst (λ (y : Layout × World). Represents y.0 (earlier o) NoNode stood y.1 words) (λ i. (
         k.stop.heap.holds.layout_is i,
         world_is i,
       )) k.resolved.represents in
-      no_snapshot layout (earlier o) [] stood w words refl told
+      no_snapshot layout (earlier o) [] stood w words refl is_known
 
   -- no header changed
   still : IsEarlier s.world w
@@ -160,7 +160,7 @@ module _ (layout : Layout) (c : Cycle) (s : State) (seen : CollectorSeen) (mutat
         name = name;
       }) ((k.stop.heap.all _).1 (inr (record { number = number; block = block; lies = lies; at = refl })))).known
 
-  -- each name of a block stands in the words
+  -- each name of a block is in the words
   named : (number : ℕ) → Shows marked seen.words number (cells s.allocation number) → (block : ℕ) (name : Name) →
       LiesIn s.allocation number block name → slice_index words (block_place marked.layout number (nth marked.segments number).class block + 1) ≡
       slice_index words (block_place layout number (cells s.allocation number).class block + 1)

@@ -1,4 +1,4 @@
--- What a round leaves of the heap of a stop, in the words of a run; and what a promotion makes of it.
+-- The heap of a stop after a round, in the terms of a run; and after a promotion.
 use Rattle.nmgc_collector_laws.proofs.Vocabulary.{◌≡◌, ◌≢◌, ◌⊎◌, ◌+◌, ℕ, List, ◌∷◌, map, refl, sym, ap, subst, ◌∙◌, arith, inl, inr, Some, None, slice_index, IsSome, Contains, Contains-append_left, Contains-append_right, Name, World, node_of, contains_tail, is_some_of, contains_map, absent, some_of, word_total, Layout, HEADER_WORDS, Header, AllocState, Cells, LiesIn, cells, no_cells, name_in, StandsFor, Shows, nth, Segments, block_place, size_of, Place, Represents, NoNode, IsEarlier, ListsWeaks, remembered, world_is_earlier, MutatorEnd, Opening, View, Object, place_of, earlier, now, IsKeptThen, places_then, place_cases, still_earlier, FitBlocks, HeapStandsFor, HoldsAfterRound, IsBornPlace, snapshots, IsPlaceAtStop, IsRoundFrom, RoundHolds, MarkedHolds}
 use Rattle.nmgc_run_spec.specs.State.{State}
 use Rattle.nmgc_segment.specs.declared.state.State.TheVariants as stands
@@ -19,7 +19,7 @@ module _ (layout : Layout) (s t : State) (o : Opening) (before after : List ℕ)
   abbrev Old : Place → Type 0
   Old p = IsPlaceAtStop layout s.allocation p
 
-  -- a place of the stop is one of the round's
+  -- a place of the stop is a place of the round
   old_there : (p : Place) → Old p → Contains places p
   old_there p is = Contains-append_left o.places (map place_of born) p (subst (λ (l : List Place). Contains l p) (sym r.places_are) ((r.heap.all p).1 is))
 
@@ -60,7 +60,7 @@ module _ (layout : Layout) (s t : State) (o : Opening) (before after : List ℕ)
       let fits = r.heap.holds.fit number block name was.0 lies was.1 in
       omega (arith, size, fits)
 
-  -- each name of a block stands in the words
+  -- each name of a block is in the words
   named : (number : ℕ) → Shows new before number (cells s.allocation number) → (block : ℕ) (name : Name) → LiesIn s.allocation number block name →
       slice_index after (block_place new.layout number (nth new.segments number).class block + 1) ≡
       slice_index after (block_place layout number (cells s.allocation number).class block + 1)
@@ -112,7 +112,7 @@ module _ (layout : Layout) (s t : State) (o : Opening) (before after : List ℕ)
         }))
   ]
 
-  -- each young name was born
+  -- each new name has a place
   all_born : (name : Name) → node_of s.world name ≡ None → IsSome (node_of t.world name) → (at : ℕ) × Contains places (record { at = at; name = name })
   all_born name none there =
       let node = is_some_of (node_of t.world name) there in
@@ -121,7 +121,7 @@ module _ (layout : Layout) (s t : State) (o : Opening) (before after : List ℕ)
         | inr (x, d, is) ↦ (x.at, subst (λ (n : Name). Contains places (record { at = x.at; name = n })) is (born_there x d))
       ]
 
-  -- no weak pointer that was there has another place
+  -- weak pointers of the stop keep their places
   listed : ListsWeaks layout places s.world weaks
   listed =
       let was = r.heap.listed in

@@ -1,11 +1,11 @@
--- The view of all seats together, where the collector's has scans.
+-- The view of all seats together, if the collector's seat has scans.
 use Rattle.nmgc_collector_laws.proofs.Vocabulary.{◌≡◌, ℕ, suc, Bool, false, cond, List, [], ◌∷◌, ◌++◌, map, refl, sym, ap, subst, ◌∙◌, Some, slice_get, map_item, Opening, Part, Scan, Seen, whole, RoundSeat, seen, collecting, together, all_together, HasEach, HaveWorked, slice_at, slices_gathered, gathered, SlicesAreGathered, same_opening, still_collects}
 
 same_parts : (u v : Seen) (ws : List Seen) → u.parts ≡ v.parts → (all_together u ws).parts ≡ (all_together v ws).parts
 same_parts u v [] e = e
 same_parts u v (w ∷ ws) e = same_parts (together u w) (together v w) ws (ap (λ (ps : List Part). ps ++ w.parts) e)
 
--- and where no other seat is a collector's, its scans
+-- its scans are the first seat's, if no other seat is a collector's
 same_scans : (v : Seen) (ws : List Seen) → ((k : ℕ) (w : Seen) → slice_get ws k ≡ Some w → w.collects ≡ false) → (all_together v ws).scans ≡ v.scans
 same_scans v [] none = refl
 same_scans v (w ∷ ws) none = same_scans (together v w) ws (λ k u e. none (suc k) u e) ∙ ap (λ (b : Bool). cond b w.scans v.scans) (none 0 w refl)

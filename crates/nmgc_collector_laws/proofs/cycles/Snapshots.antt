@@ -1,8 +1,8 @@
--- A machine that is reached from its snapshot: what it still speaks of, and what its nodes have become.
+-- A machine reached from its snapshot: the names that it still uses, and the later nodes of the snapshot's names.
 use Rattle.nmgc_collector_laws.proofs.Vocabulary.{◌≡◌, List, [], ◌∷◌, refl, sym, ap, subst, ◌∙◌, inl, inr, Option, Some, None, IsSome, All, Contains, All-contains, Contains-append_cases, Node, Con, Var, Arr, Thunk, Weak, Stack, Parts, Name, Value, World, IsWorld, node_of, state_of, next_name, step, Row, opened, opened_by, IsLive, IsReached, root, further, plain_key, live_key, step_grows, contains_head, nothing_in, one_is, not_shared, free_if, CanReplay, CountsNew, HoldsOnly, IsSound, IsWide, absent, opened_has, step_holds_only, weaks_held, next_is_new, OfOld, rows_hold, wide_or_new_holds, step_keeps_world, Entry, Facts, State, live_there, facts_kept, snapshot_theorem, AreEarlier, IsEarlier, IsTracked, held_tracked, past_tracked, free_of, IsLater, interval_of, Cycle, IsCoreOf, IsUnread, rows_keep_headers, IsMachineAtRest, of_kept}
 use Rattle.nmgc_snapshot_laws.specs.Run.{IsMarking}
 
--- what is live is in the wide reach, if what was opened is
+-- live names are in the wide reach, if the opened names are
 live_wide : (S : World) (X : List Name) → ((n : Name) → Contains X n → IsSome (node_of S n) → IsWide S n) → (n : Name) → IsLive S X n → IsWide S n
 live_wide S X opens n (root _ r) = IsReached.start n (inl r)
 live_wide S X opens n (further _ c there) = opens n c there
@@ -10,7 +10,7 @@ live_wide S X opens n (IsLive.field from _ l refers) = IsReached.field from n (l
 live_wide S X opens n (plain_key weak _ parts alive plain kept) = IsReached.start n (inr (weak, parts, alive, of_kept weak n parts kept))
 live_wide S X opens n (live_key weak _ key parts alive is l kept) = IsReached.start n (inr (weak, parts, alive, of_kept weak n parts kept))
 
--- what rows open was held
+-- rows open only names that were held
 opened_held : (P : Name → Type 0) (w : World) (rows : List Row) → IsWorld w → CountsNew P w → HoldsOnly P w → CanReplay w rows → (n : Name) →
     Contains (opened w rows) n → P n
 opened_held P w [] is new h can n c = absurd (nothing_in n c)
@@ -55,7 +55,7 @@ module _ (S : World) (rows : List Row) (core : State) (h : IsReachedBy S rows co
   new_counts : CountsNew Old S
   new_counts n gone there = absurd (gone there)
 
-  -- what is held of the snapshot's names was in its wide reach
+  -- a name of the snapshot that is held was in its wide reach
   holds : HoldsOnly Old core.world
   holds = subst (λ (w : World). HoldsOnly Old w) (sym h.marking.world) (rows_hold Old S rows h.world new_counts (wide_or_new_holds S) h.can)
 
@@ -69,7 +69,7 @@ module _ (S : World) (rows : List Row) (core : State) (h : IsReachedBy S rows co
       rw same (held_tracked core.world (core.snapshot ∷ []) Old (λ e k in_ wide known. rw (sym (one_is core.snapshot e in_) ∙
       same) at wide) holds n t (subst (λ (x : World). IsSome (node_of x n)) same there))
 
-  -- what is marked was in it
+  -- marked names were in it
   pub marked_wide : (n : Name) → Contains core.marked n → IsWide S n
   marked_wide n c = live_wide S core.opened opened_wide n (h.marking.live n c)
 
@@ -80,7 +80,7 @@ module _ (S : World) (rows : List Row) (core : State) (h : IsReachedBy S rows co
   marked_tracked n c = past_tracked core.world (core.snapshot ∷
       []) core.snapshot n (contains_head core.snapshot []) (rw h.marking.snapshot (marked_wide n c))
 
-  -- and so was what waits
+  -- entries that wait are marked
   pub queued_marked : (entry : Entry) → Contains core.queue entry → Contains core.marked entry.name
   queued_marked entry c = h.facts.base.queued entry c
 
@@ -94,7 +94,7 @@ module _ (S : World) (rows : List Row) (core : State) (h : IsReachedBy S rows co
   pub are_earlier : AreEarlier (core.snapshot ∷ []) core.world
   are_earlier e c = subst (λ (x : World). IsEarlier x core.world) (one_is core.snapshot e c) snapshot_earlier
 
-  -- a node of the world is a later one of the snapshot's
+  -- a node of the world is a later node of the snapshot's name
   pub node_later : (name : Name) (before now : Node) → node_of core.snapshot name ≡ Some before → node_of core.world name ≡ Some now → IsLater before now
   node_later name before now was is =
       let there = h.facts.base.later name before was in
@@ -122,6 +122,6 @@ module _ (S : World) (rows : List Row) (core : State) (h : IsReachedBy S rows co
       alive_then parts alive = let then = (h.facts.base.weaks name parts alive).old (subst (λ (o : Option Node). IsSome o) (sym was) refl) in
           let both : Some before ≡ Some (Weak (Some parts)) = sym was ∙ then in cc
 
--- nothing was read yet of what waits
+-- nothing was read yet of the objects that wait
 pub fresh_at : (queue : List Entry) → All IsUnread queue → (entry : Entry) → Contains queue entry → entry.position ≡ 0
 fresh_at queue fresh entry c = All-contains IsUnread queue entry fresh c

@@ -1,8 +1,8 @@
--- A promotion keeps the tie: what it moved is young, and so it is in no snapshot; and blocks of the snapshot keep their marks and their places.
+-- A promotion keeps the tie: moved objects are new, and so in no snapshot, whose blocks keep their marks and addresses.
 use Rattle.nmgc_collector_laws.proofs.Vocabulary.{◌≡◌, ◌≢◌, ◌⊎◌, ◌<◌, ◌≤◌, ℕ, List, [], ◌∷◌, length, map, sym, ap, subst, ◌∙◌, arith, inl, inr, Some, None, slice_index, IsSome, Contains, cases_eq, Name, World, IsWorld, node_of, contains_head, contains_tail, is_some_of, contains_one, map_contains, Layout, nursery_place, absent, IsEpoch, Segment, InUse, InSnapshot, IsMarked, mark_of, Free, Entry, Facts, Core, live_there, facts_kept, snapshot_theorem, nth, Segments, HasNumber, AllocState, LiesIn, IsIn, cells, name_in, IsSnapshotAt, IsMarkedAt, Carries, Within, carried_at, snapshot_within, marked_within, free_empty, free_or_not, stands_sound, Place, Moved, old_place, settled_stays, Stopped, young_base, AreAt, AreRemembered, IsCoreOf, IsRightSnapshot, AreMarked, IsTied, HasRoomToMark, MarkerSeen, Cycle, HasPromoted, places_after, epoch_is_epoch, lies_within}
 use Rattle.nmgc_collector_laws.proofs.{cycles.Beginning.epoch_is_some, cycles.Placing.Stay, cycles.Placing.each_stay}
 
--- places of names that are kept among others
+-- places of names in a list that has them too
 pub at_kept : (places more : List Place) (ats : List ℕ) (names : List Name) →
     ((p : Place) → Contains places p → Contains ats p.at → Contains names p.name → Contains more p) → AreAt places ats names → AreAt more ats names
 at_kept places more [] [] kept h = tt
@@ -13,7 +13,7 @@ at_kept places more (at ∷ ats) (name ∷ names) kept h = (
   at_kept places more ats names (λ p c d e. kept p c (contains_tail at ats p.at d) (contains_tail name names p.name e)) h.1,
 )
 
--- what was remembered at places below the nurseries is at these places still
+-- entries remembered below the nurseries are still at these places
 pub remembered_stays : (c : Cycle) (t : Stopped) (new : Segments) (moves : List Moved) (entries : List ℕ) (pushed : List Name) →
     ((at : ℕ) → Contains entries at → at < young_base new) → AreRemembered c t.places entries pushed → AreRemembered c (places_after new moves t) entries pushed
 remembered_stays c t new moves entries pushed low r = record {
@@ -35,7 +35,7 @@ module _ (c : Cycle) (t : Stopped) (s new : Segments) (words after registers : L
   spoken : Contains t.later c.snapshot
   spoken = subst (λ (l : List World). Contains l c.snapshot) (sym h.later_is) (contains_one c.snapshot)
 
-  -- what moved is young, so the snapshot hasn't it
+  -- moved objects are new, so the snapshot doesn't have them
   new_to_began : (n : Name) → Contains moved_names n → node_of t.began n ≡ None
   new_to_began n d = (h.is_settled.promoted.sound n d).0.0
 
@@ -65,7 +65,7 @@ module _ (c : Cycle) (t : Stopped) (s new : Segments) (words after registers : L
   same_size : length new.segments ≡ length s.segments
   same_size = h.sound_after.count ∙ ap (λ (l : Layout). l.segments) h.layout_is ∙ sym h.sound.count
 
-  -- marks and index of a segment are what they were
+  -- marks and index of a segment are as before
   same_mark : (number block : ℕ) → mark_of (nth new.segments number) block ≡ mark_of (nth s.segments number) block
   same_mark number block = ap (λ (l : List ℕ). slice_index l block) (h.marks.marks number)
 
@@ -112,7 +112,7 @@ module _ (c : Cycle) (t : Stopped) (s new : Segments) (words after registers : L
     )
   ]
 
-  -- what waits is of the snapshot, so it lies below the nurseries
+  -- entries that wait are of the snapshot, so they lie below the nurseries
   facts : Facts core
   facts = facts_kept c.snapshot world machine.events c.rows core machine.runs machine.open_yet
 

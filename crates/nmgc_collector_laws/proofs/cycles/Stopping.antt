@@ -6,8 +6,8 @@ use Rattle.nmgc_object.specs.{Places.nursery_place, declared.layout.Layout.Layou
 use Rattle.nmgc_alloc.specs.Segments.{IsSegments}
 use Rattle.nmgc_heap_spec.specs.{Places.Place, Represents.Represents, Represents.NoNode, Roots.RepresentsRoots}
 use Rattle.nmgc_lists.specs.laws.Items.{item_map}
-use Rattle.nmgc_blocks_spec.specs.{Nurseries.nursery_at, Occupied.AreBlocks, Stopped.young_base, laws.Blocks.is_block, Cycle.Cycle}
-use Rattle.nmgc_mutator.specs.{declared.mutator.Mutator.Mutator, Ready.IsUnused, laws.Common.none_told}
+use Rattle.nmgc_stop_spec.specs.{Nurseries.nursery_at, Occupied.AreBlocks, Stopped.young_base, laws.Blocks.is_block, Cycle.Cycle}
+use Rattle.nmgc_mutator.specs.{declared.mutator.Mutator.Mutator, Ready.IsUnused, laws.Common.none_known}
 use Rattle.nmgc_collector_laws.specs.{Rest.IsResting, Collector.AreAtRest, Collector.IsMarking, Seen.CollectorSeen, Seen.MutatorSeen, Seen.end_of, Seen.ends_of, Seen.nurseries_of, Blocks.AreOfBlocks, Blocks.TiesAgree, Heaps.seen_mutator, Heaps.AreShown, Heaps.HeapRests, RestMarking.IsAtRestMarking, RestMarking.opening_beside, laws.Roots.same_registers, laws.Roots.same_queues, laws.Roots.same_serials}
 use Rattle.nmgc_collector_laws.specs.Worked as turn
 use Rattle.nmgc_run_spec.specs.{Heap.HoldsAtStop, Heap.registers_of, Heap.queues_of, Heap.serials_of, Heap.snapshots, State.Plan, State.State, State.Progress, State.marking, State.layout_of}
@@ -84,9 +84,9 @@ module _ (plan : Plan) (s : State) (seen : CollectorSeen) (c : Cycle) (mutators 
         layout_is = own.1;
         whole = own.2;
         unused = unused k m e;
-        no_recorded = none_told m.recorded.items nothing.recorded;
-        no_weaks = none_told m.young_weaks.items nothing.young_weaks;
-        no_finalised = none_told m.finalised.items nothing.finalised;
+        no_recorded = none_known m.recorded.items nothing.recorded;
+        no_weaks = none_known m.young_weaks.items nothing.young_weaks;
+        no_finalised = none_known m.finalised.items nothing.finalised;
       }
 
   pub rests : IsAtRestMarking c kept.core seen.segments places s.world seen.words mutators seen.marker.queue

@@ -1,4 +1,4 @@
--- Where no command owes anything, what is marked is what strong fields reach from the roots of the snapshot.
+-- If no command owes anything, exactly the names that strong fields reach from the snapshot's roots are marked.
 use Rattle.nmgc_collector_laws.proofs.Vocabulary.{◌≡◌, ◌<◌, ℕ, zero, suc, Bool, true, false, List, [], ◌∷◌, ◌++◌, length, refl, sym, ap, subst, ◌∙◌, arith, inl, inr, Option, Some, None, IsSome, IfSome, All, Contains, is_some, flat_map, and_parts, All-nil, All-append, All-head, All-tail, All-contains, Contains-append_left, Contains-append_right, Contains-append_cases, get_or_from_slice_get, Command, Reply, MutatorState, Node, Con, Var, Arr, Thunk, Weak, Stack, Name, Value, World, IsWorld, node_of, state_of, no_mutator, CanApply, next_name, shared_name, step, Row, IsReached, IsRoot, RefersTo, strong_fields, contains_head, contains_tail, at_some, is_some_of, nothing_in, one_is, not_shared, Names, Fields, CoversReach, has_result, strong_at, owed_by, field_at_place, some_of, all_moves, opened_owed, Entry, Event, Facts, IsSafe, IsAhead, marked, owed, queued, Passes, after_scan, advanced, Runs, read_at, field_at, State, names_of, is_listed, mark_name, mark_read, mark_values, opening, root_values, first_state, next_absent, all_from_contains, each_names, live_there, stands, mark_cases, event_keeps_facts, opening_has_facts, opening_world, snapshot_theorem, read_cases, world_scanned, owed_along, stays_closed, none_at_first, thunk_free, not}
 use Rattle.nmgc_lists.specs.laws.Items.{place_of}
 use Rattle.nmgc_world_laws.specs.Holds.{free_of}
@@ -34,7 +34,7 @@ module _ (S : World) (is : IsWorld S) where
   abbrev Kept : Name → Type 0
   Kept n = IsSome (node_of S n) → Strong n
 
-  -- what the snapshot's roots and reached objects hold
+  -- values held by the snapshot's roots and reached objects
   held_fields : (name : Name) → Kept name → (o : Option Node) → node_of S name ≡ o → IfSome o (Fields (Names Kept))
   held_fields name k None e = tt
   held_fields name k (Some node) e = all_from_contains Kept (strong_fields node) (λ target c there.
@@ -68,7 +68,7 @@ module _ (S : World) (is : IsWorld S) where
       subst (λ (t : MutatorState). All (Names Kept) t.queue) (get_or_from_slice_get S.mutators p.0 m no_mutator p.1) (snapshot_holds.queues p.0)))
       (held_fields shared_name shared_kept (Some S.shared) refl))
 
-  -- what is marked is reached so
+  -- marked names are reached so
   abbrev AreStrong : State → Type 0
   AreStrong s = (n : Name) → Contains s.marked n → Strong n
 
@@ -99,7 +99,7 @@ module _ (S : World) (is : IsWorld S) where
     pub none_pushed : (m : ℕ) → names_of s.pushed m ≡ []
     pub strong : AreStrong s
 
-  -- what a scan reads of the snapshot is reached so
+  -- names that a scan reads in the snapshot are reached so
   module _ (s : State) (h : IsStrongSo s) (entry : Entry) (waits : Contains s.queue entry) where
     entry_strong : Strong entry.name
     entry_strong = h.strong entry.name (h.facts.base.queued entry waits)
@@ -151,7 +151,7 @@ module _ (S : World) (is : IsWorld S) where
       let t : State = mark_read s v in
       strong_advanced t t.queue (strong_read s h entry (subst (λ (l : List Entry). Contains l entry) (sym e) (contains_head entry rest)) v refl)
 
-  -- each event keeps it, where the command owes nothing
+  -- each event keeps it, if its command owes nothing
   strong_command : (s next : State) (m : ℕ) (c : Command) (answer : Reply) → IsStrongSo s → Passes s (event.Command m c answer) true next →
       next.is_closed ≡ false → owed_by s.world m c ≡ [] → IsStrongSo next
   strong_command s next m c answer h p running none =
@@ -195,7 +195,7 @@ module _ (S : World) (is : IsWorld S) where
       by_test true e = absurd (let bad : true ≡ false = sym (stays_closed s es rows t h e) ∙ running in cc)
       by_test false e = e
 
-  -- and so does a run whose commands owe nothing
+  -- a run whose commands owe nothing keeps it
   strong_runs : (s : State) (es : List Event) (rows : List Row) (t : State) → Runs s es rows t → t.is_closed ≡ false →
       owed_along s.world rows ≡ [] → IsStrongSo s → IsStrongSo t
   strong_runs s [] rows t h running none so = subst IsStrongSo (sym h.1) so
@@ -236,7 +236,7 @@ module _ (S : World) (is : IsWorld S) where
             subst Strong (one_is shared_name n c) (IsReached.start shared_name (inl refl)));
       }
 
-  -- where nothing waits, all that is reached so is marked, and nothing else
+  -- if nothing waits, exactly the names reached so are marked
   pub record IsExactlyStrong (core : State) : Type 0 where
     pub sound : (n : Name) → Contains core.marked n → Strong n
     pub complete : (n : Name) → Strong n → Contains core.marked n

@@ -44,7 +44,7 @@ carry_settles begun segments sound some number block there awake =
     let not : x.state ≢ stands.Sweeping = λ e. awake (ap (λ (y : Segment). y.state) is ∙ carried_state (epoch_of begun) x x.state ∙ e) in
     rw is (carried_settled begun x x.state block (sound.members number lt).sound refl not some)
 
--- a segment that waits exists, and stands for its cells
+-- a segment that waits exists, and represents its cells
 waits_there : (s : Segments) (words : List ℕ) (a : AllocState) → StandsFor s words a → (number : ℕ) → IsIn stands.Sweeping (cells a number) →
     HasNumber s number × ((nth s.segments number).state ≡ stands.Sweeping)
 waits_there s words a stood number is =
@@ -53,7 +53,7 @@ waits_there s words a stood number is =
     let there : HasNumber s number = omega (arith, low, many) in
     (there, sym (stood.shows number there).state ∙ is)
 
--- and carrying leaves it as it was
+-- carrying leaves a segment that waits as it was
 carry_leaves : (epoch : ℕ) (s : Segments) (number : ℕ) → HasNumber s number → (nth s.segments number).state ≡ stands.Sweeping →
     nth (all_carried epoch s).segments number ≡ nth s.segments number
 carry_leaves epoch s number lt is = cc (nth-map (carried_over epoch) s.segments number lt, is)
@@ -77,14 +77,14 @@ none_twice [] none i j item e f = absurd cc
 none_twice (x ∷ l) none i j item e f = absurd cc
 
 pub closed_cycle_sweeps : ClosedCycleSweeps
-closed_cycle_sweeps c s dead words segments marker cycle sweeper sound stood last whole closed epoch tells noted no_had none =
+closed_cycle_sweeps c s dead words segments marker cycle sweeper sound stood last whole closed epoch agrees noted no_had none =
     let same : marker.epoch ≡ epoch_of s.begun = epoch ∙ ap (λ (k : ℕ). epoch_of k) last.number_is in
     let begun : 0 < s.begun = let some = last.some in let is = last.number_is in omega (arith, some, is) in (
       record {
-        from_is = tells.from_is;
-        closed_is = tells.closed_is;
-        dead = subst (λ (l : List Name). Lists (IsDeadIn c) l) (sym tells.dead_is) closed.lists;
-        kept = subst (λ (k : ℕ). Counts (IsKeptObject c) k) (sym tells.kept_is) closed.kept;
+        from_is = agrees.from_is;
+        closed_is = agrees.closed_is;
+        dead = subst (λ (l : List Name). Lists (IsDeadIn c) l) (sym agrees.dead_is) closed.lists;
+        kept = subst (λ (k : ℕ). Counts (IsKeptObject c) k) (sym agrees.kept_is) closed.kept;
         noted = noted;
         as_noted = whole.as_noted;
         marked = λ number block name is lies.

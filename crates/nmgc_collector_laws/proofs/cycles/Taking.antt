@@ -1,20 +1,20 @@
--- The machine takes all that was pushed: mutator after mutator, and of each one name after another.
+-- The machine takes all pushed objects: mutator after mutator, and for each mutator one name after another.
 use Rattle.nmgc_collector_laws.proofs.Vocabulary.{eqb, eq-eqb, eqb-true, ◌≡◌, ◌≢◌, ◌+◌, ◌<◌, ◌≤◌, ℕ, suc, Bool, true, false, not, ◌&&◌, cond, List, [], ◌∷◌, ◌++◌, length, set, refl, sym, ap, subst, ◌∙◌, arith, append-nil, length-set, inl, inr, Some, Contains, slice_get, is_some, filter, flat_map, cases_eq, and_cases, not-false, Contains-append_left, Name, World, IsWorld, node_of, is_same_name, shared_name, contains_head, contains_tail, contains_cases, nothing_in, Event, Facts, AreEmpty, after_take, is_pushed_in, Runs, State, names_of, is_listed, is_new, entry_of, mark_name, opening, names_same, names_other, listed_from, tested_same, mark_cases, facts_kept, snapshot_theorem, Place, Marks, marks_of, name_at, with_name, Opening, AreAt, AreRemembered, IsCoreOf, Cycle, with_places, runs_then, marks_if}
 use Rattle.nmgc_snapshot_laws.specs.declared.event.Event.TheVariants as event
 use Rattle.nmgc_collector_laws.proofs.cycles.Pushing.{all_empty}
 
--- names are marked one after another, each that is of the snapshot and wasn't marked
+-- names are marked one after another, if they are in the snapshot and weren't marked
 abbrev pub with_names : World → Marks → List Name → Marks
 with_names snapshot m [] = m
 with_names snapshot m (name ∷ names) = with_names snapshot (with_name snapshot m (Some name)) names
 
--- the machine took all that was pushed, and so has marked these names too
+-- the machine took all pushed objects, and so has marked these names too
 pub record HasTaken (c : Cycle) (w : World) (core : State) (names : List Name) (after : State) : Type 0 where
   pub machine : IsCoreOf c w after
   pub none_pushed : AreEmpty after.pushed
   pub marks : marks_of after ≡ with_names c.snapshot (marks_of core) names
 
--- what marking a name changes is marks and queue
+-- marking a name changes only marks and queue
 record OnlyMarks (s t : State) : Type 0 where
   world : t.world ≡ s.world
   snapshot : t.snapshot ≡ s.snapshot
@@ -29,7 +29,7 @@ named s name = mark_cases (λ (t : State). OnlyMarks s t × (t.pushed ≡ s.push
 marks_named : (s : State) (name : Name) → marks_of (mark_name s name) ≡ with_name s.snapshot (marks_of s) (Some name)
 marks_named s name = marks_if (is_new s name) s name
 
--- what is marked stays so
+-- marked names stay marked
 still_if : (b : Bool) (m : Marks) (name other : Name) → Contains m.marked other →
     Contains (cond b (record { marked = m.marked ++ name ∷ []; queue = m.queue ++ entry_of name ∷ [] }) m).marked other
 still_if true m name other c = Contains-append_left m.marked (name ∷ []) other c
@@ -42,13 +42,13 @@ still_marked : (snapshot : World) (m : Marks) (names : List Name) (other : Name)
 still_marked snapshot m [] other c = c
 still_marked snapshot m (name ∷ names) other c = still_marked snapshot (with_name snapshot m (Some name)) names other (still_named snapshot m name other c)
 
--- more names after others
+-- more names after these
 names_then : (snapshot : World) (m : Marks) (names more : List Name) →
     with_names snapshot m (names ++ more) ≡ with_names snapshot (with_names snapshot m names) more
 names_then snapshot m [] more = refl
 names_then snapshot m (name ∷ names) more = names_then snapshot (with_name snapshot m (Some name)) names more
 
--- a name that doesn't count marks nothing where g is marked
+-- a name that doesn't count marks nothing if g is marked
 not_both : (there listed : Bool) → there ≡ false → (there && not listed) ≡ false
 not_both true listed e = absurd cc
 not_both false listed e = refl
@@ -74,7 +74,7 @@ counted_first : (b : Bool) (snapshot : World) (m : Marks) (name : Name) (counted
 counted_first true snapshot m name counted names is shared rest = rest (with_name snapshot m (Some name)) (still_named snapshot m name shared_name shared)
 counted_first false snapshot m name counted names is shared rest = cc (rest m shared, uncounted snapshot m name shared is)
 
--- so names mark the same as those of them that count
+-- names mark the same as the names among them that count
 counted_same : (snapshot : World) (names : List Name) (m : Marks) → Contains m.marked shared_name →
     with_names snapshot m (filter (is_pushed_in snapshot) names) ≡ with_names snapshot m names
 counted_same snapshot [] m shared = refl
@@ -154,7 +154,7 @@ at_both places (at ∷ ats) more [] others a b = absurd a
 at_both places (at ∷ ats) more (name ∷ names) others a b = (a.0, at_both places ats more names others a.1 b)
 
 module _ (c : Cycle) (places : List Place) where
-  -- the mutators from one on were taken from, and what they remember are places of these names
+  -- all mutators from `first` on were taken from, and their remembered entries are places of these names
   record HasTakenFrom (s t : State) (first : ℕ) (entries : List (List ℕ)) : Type 0 where
     names : List Name
     at : AreAt places (flat_map (λ (own : List ℕ). own) entries) names
@@ -166,7 +166,7 @@ module _ (c : Cycle) (places : List Place) where
     others : (k : ℕ) → k < first → names_of t.pushed k ≡ names_of s.pushed k
     marks : marks_of t ≡ with_names c.snapshot (marks_of s) names
 
-  -- what taking from a mutator marks is what its places mark
+  -- taking from a mutator marks the same as the names at its places
   own_marks : (s u : State) (first : ℕ) (entry : List ℕ) → s.snapshot ≡ c.snapshot → Contains s.marked shared_name →
       (r : AreRemembered c places entry (names_of s.pushed first)) → HasTakenOwn s u first (names_of s.pushed first) →
       marks_of u ≡ with_names c.snapshot (marks_of s) r.names
@@ -235,7 +235,7 @@ module _ (c : Cycle) (places : List Place) where
           subst (λ (j : ℕ). AreRemembered c places x (names_of u.pushed j)) place (subst (λ (l : List Name).
           AreRemembered c places x l) (sym (h.others (first + suc k) ne)) (own (suc k) x e))
 
--- what the mutators remember, one after the other, are places of names; the machine takes what it pushed, which marks the same as these names would
+-- the remembered entries, mutator after mutator, are places of names; taking the pushed names marks the same as these
 pub machine_takes : (c : Cycle) (w : World) (core : State) (places : List Place) (entries : List (List ℕ)) → IsWorld c.snapshot →
     IsCoreOf c w core → length entries ≡ length core.pushed →
     ((k : ℕ) (own : List ℕ) → slice_get entries k ≡ Some own → AreRemembered c places own (names_of core.pushed k)) →
@@ -287,7 +287,7 @@ found_at all (p ∷ places) one among at name c =
       | inr later ↦ found_at all places one (λ q d. among q (contains_tail p places q d)) at name later
     ])
 
--- where no two places are the same, they mark what their names mark
+-- if no two places are the same, entries mark the same as their names
 pub places_mark : (o : Opening) (m : Marks) (entries : List ℕ) (names : List Name) →
     ((p q : Place) → Contains o.places p → Contains o.places q → p.at ≡ q.at → p ≡ q) → AreAt o.places entries names →
     with_places o m entries ≡ with_names o.core.snapshot m names

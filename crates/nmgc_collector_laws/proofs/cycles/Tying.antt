@@ -14,13 +14,12 @@ at_more places more (at ∷ ats) (name ∷ names) all h = (all (record { at = at
 pub core_snapshot : CoreHasSnapshot
 core_snapshot c w core sound m = ((snapshot_theorem c.snapshot sound.world m.events c.rows core m.runs).before m.open_yet).snapshot
 
--- what the law of marks says
+-- the law of marks
 abbrev pub MarksLaw : Type 0
 MarksLaw = (core : Core) → Facts core → ((name : Name) → Contains core.marked name → IsSome (node_of core.snapshot name)) × Contains core.marked shared_name
 
--- where words and segments stand for a heap at a stop, an opening with its places has those of the blocks, whatever
--- the machine has scanned since; so the tie by places and that by blocks are one (`TiesAgree`): as a round begins, at
--- the places and the words of before as it ends, after the promotion, and as a cycle begins
+-- if words and segments represent a heap at a stop, an opening with its places has the blocks as places, whatever was scanned
+-- since. So the two ties are one (`TiesAgree`): as a round begins and ends, after the promotion, and as a cycle begins
 pub heap_of_blocks : MarksLaw →
     (layout : Layout) (s : State) (words : List ℕ) (segments : Segments) (ends : List MutatorEnd) (weaks : List Place) (c : Cycle) (w : World)
     (core : Core) (o : Opening) → (h : HoldsAtStop layout s words segments ends weaks) → IsSegments segments → IsSound (interval_of c) →
@@ -50,9 +49,9 @@ heap_of_blocks law layout s words segments ends weaks c w core o h segments_are 
       shared_marked = marked.1;
     }
 
--- a round, from the tie by blocks to that by places and back
+-- a round, from the tie by blocks to the tie by places and back
 
--- what the marker's laws say
+-- the marker's laws
 abbrev pub BeginsLaw : Type 0
 BeginsLaw = (o : Opening) (s : Segments) (marker : MarkerSeen) → IsTiedByPlaces o (marks_of o.core) s marker →
     IsTiedByPlaces o (marks_seen (collecting (whole o))) s marker
@@ -68,7 +67,7 @@ round_begins law agree begins layout s words segments ends weaks c o marker h so
     (core_snapshot c s.world o.core interval machine) in
     begins o segments marker ((agree o c segments words s.allocation o.core marker blocks).0 tied).1
 
--- once it is over, a marker that is tied by places to the view of all seats, with segments of which blocks were marked, is tied to the machine as it goes on
+-- at its end, a marker tied by places to the view of all seats, after marks were set, is tied to the machine as it goes on
 pub round_ends : MarksLaw → TiesAgree → EndsLaw →
     (layout : Layout) (s : State) (before after : List ℕ) (old new : Segments) (ends : List MutatorEnd) (weaks : List Place) (c : Cycle)
     (o : Opening) (v : Seen) (mutators : List Mutator) (core : Core) (marker : MarkerSeen) (h : HoldsAtStop layout s before old ends weaks)

@@ -1,15 +1,15 @@
--- What was born lies in the used parts of the nurseries, in the order of names.
+-- New objects lie in the used parts of the nurseries, in the order of names.
 use Rattle.nmgc_collector_laws.proofs.Vocabulary.{◌≡◌, inl, inr, ℕ, ◌+◌, ◌*◌, ◌<◌, ◌≤◌, List, [], ◌∷◌, refl, sym, ap, subst, ◌∙◌, arith, Some, None, mul-le-mul_right, Contains, IsSome, slice_get, cases_lt, cases_eq, length-map, get_or_from_slice_get, Name, Ref, Node, Reply, Given, IsMaking, words_made, World, node_of, serial_of, state_of, same_name, is_some_get, get_is_some, item_map, not_shared, own_node, IsBefore, nursery_place, Nursery, Header, HEADER_WORDS, Layout, nursery_at, AreUsed, LieInOrder, size_of, Place, Means, Answer, word, DoneRow, Opening, Seen, Object, place_of, now, Answers, AllAnswer, done_by, CanOpen, IsFinished, places_then, Mutator, LieFrom, words_by, Done, HaveWorked, nurseries_of, opened_below, place_cases, is_place, Worker, worker_at}
 use Rattle.nmgc_round.specs.Objects.{end_of, IsIn}
 use Rattle.nmgc_collector_laws.proofs.rounds.Names.{made_count, all_made, makes_or_not, NamedFrom, gives}
 
--- objects that commands made lie one after another from a place on, with names from a serial on
+-- objects that commands made lie one after another from an address on, with names from a serial on
 abbrev pub MadeFrom : (Place → Type 0) → ℕ → ℕ → ℕ → List Done → Type 0
 MadeFrom P m at serial [] = Unit {0}
 MadeFrom P m at serial (d ∷ ds) = (IsMaking d.0 → P (record { at = at; name = record { maker = m; serial = serial } })) ×
     MadeFrom P m (at + words_made d.0) (serial + made_count d.0) ds
 
--- a pointer that a reply gives goes to the place of its name
+-- a pointer that a reply gives goes to the address of its name
 given_at : (P : Place → Type 0) (at : ℕ) (name : Name) → Answers P (word (2 * at)) (Given (Ref name)) → P (record { at = at; name = name })
 given_at P at name h =
     let is : h.0 ≡ Ref name = let e = h.1 in cc in
@@ -17,7 +17,7 @@ given_at P at name h =
     let same : m.0 ≡ at = omega (arith, m.1) in
     subst (λ a. P (record { at = a; name = name })) same m.2
 
--- rows say where, and replies which
+-- rows have the addresses, and replies the names
 made_from : (P : Place → Type 0) (m at serial : ℕ) (rows : List DoneRow) (ds : List Done) → AllAnswer P rows ds → LieFrom at rows →
     NamedFrom m serial ds → MadeFrom P m at serial ds
 made_from P m at serial [] [] a l n = tt
@@ -34,7 +34,7 @@ made_from P m at serial (r ∷ rs) (d ∷ ds) a l n = (
         let e : r.answer ≡ word (2 * at) = l.0 (subst IsMaking (sym a.0.0) is) in
         given_at P at name (subst (λ (y : Reply). Answers P (word (2 * at)) y) (n.0 is) (subst (λ (x : Answer). Answers P x d.1) e a.0.1))
 
--- of what one mutator made, the later lies further up
+-- of one mutator's new objects, the later lies further up
 module _ (P : Place → Type 0) (one : (p q : Place) → P p → P q → p.name ≡ q.name → p ≡ q) (m : ℕ) where
   abbrev IsAt : ℕ → ℕ → Type 0
   IsAt at serial = P (record { at = at; name = record { maker = m; serial = serial } })
@@ -91,14 +91,14 @@ module _ (o : Opening) (before words : List ℕ) (v : Seen) (mutators : List Mut
   one : (p q : Place) → P p → P q → p.name ≡ q.name → p ≡ q
   one p q hp hq e = h.stands.one p q (is_place o h.born p hp) (is_place o h.born q hq) (inl e)
 
-  -- a place in a nursery is that of an object that was born
+  -- a place in a nursery belongs to a new object
   pub born_there : (p : Place) → Contains (places_then o h.born) p → nursery_place o.layout 0 ≤ p.at → (x : Object) × Contains h.born x × (p ≡ place_of x)
   born_there p c up = elim (place_cases o h.born p c) [
     | inl d ↦ absurd (let lt = opened_below o before can p d in omega arith)
     | inr x ↦ x
   ]
 
-  -- its serial is one that its maker gave in the round
+  -- its maker gave its serial in the round
   record IsGiven (x : Object) : Type 0 where
     from : serial_of o.core.world x.name.maker ≤ x.name.serial
     to : x.name.serial < serial_of W x.name.maker
@@ -135,7 +135,7 @@ module _ (o : Opening) (before words : List ℕ) (v : Seen) (mutators : List Mut
       (subst (λ a. LieFrom a t.part.rows) (base_is m t) t.worked.nursery.lie)
       (gives o.core h.events m h.legal).named
 
-  -- of two objects, the one that lies further up has the later name
+  -- of two objects, the higher has the later name
   in_order : (x y : Object) → Contains h.born x → Contains h.born y → x.at < y.at → IsBefore x.name y.name
   in_order x y cx cy lt = elim (cases_lt x.name.maker y.name.maker) [
     | inl before ↦ inl before
@@ -175,7 +175,7 @@ module _ (o : Opening) (before words : List ℕ) (v : Seen) (mutators : List Mut
     end = 0;
   }) (item_map (λ (n : Mutator). n.nursery) mutators m t.mutator t.mutator_there)
 
-  -- an object that was born ends below the top of its maker's nursery
+  -- a new object ends below the top of its maker's nursery
   below_top : (x : Object) (node : Node) → Contains h.born x → node_of W x.name ≡ Some node →
       x.at + size_of node ≤ (nursery_at (nurseries_of mutators) x.name.maker).top
   below_top x node c there =

@@ -1,4 +1,4 @@
--- How deep each own stack is, as a hand lists it, along the commands of a round.
+-- The depth of each own stack, as a hand lists it, along the commands of a round.
 use Rattle.nmgc_collector_laws.proofs.Vocabulary.{◌≡◌, ◌≢◌, ◌⊎◌, ℕ, ◌+◌, ◌-◌, ◌/◌, ◌<◌, Bool, true, false, cond, eqb, ltb, List, [], ◌∷◌, ◌++◌, length, take, refl, sym, ap, subst, ◌∙◌, arith, Option, Some, None, inl, inr, eq-eqb, ne_eqb, lt-ltb, le-ltb, length-append, length-take, min, cases_lt, eqb_tells, none-some, same_Some, some_pair_parts, SHARED_MAKER, Name, Value, Node, Con, Var, Arr, Thunk, Weak, Stack, Change, Operand, Command, Reply, World, state_of, node_of, given, changed, stack_pushed, stack_popped, given_or, without_last, last_of, shared_name, value_for, with_node, with_register, world_holding, keeping, next_name, asked, born, change_node, change_object, step, kind_of, made_by, next_is_new, node_cases, node_born, nodes_kept, as_many, changed_shape, Stepped, Any, stepped, hand_nodes, still_there, Place, Means, ListMeans, Answer, plain, word, Hand, with_slots, taking, pushed, leaves, word_of, slots_at, Answers, slots_same, slots_other, SHARED_PLACE, empty_last, plain_is}
 use Rattle.nmgc_world_laws.specs.laws.Steps.{Object}
 use Rattle.nmgc_world_spec.specs.declared.value.Value.TheVariants as value
@@ -8,11 +8,11 @@ use Rattle.nmgc_world_spec.specs.declared.command.Command.TheVariants as command
 use Rattle.nmgc_world_spec.specs.declared.command.Reply.TheVariants as reply
 use Rattle.nmgc_collector_laws.proofs.rounds.RowRegisters.{IsPlain, operand_means, kept_none}
 
--- the hand lists as many words at a place as the stack there has values
+-- the hand lists the depth of the stack at an address
 abbrev pub HasDepth : Hand → ℕ → List Value → Type 0
 HasDepth h at values = (ws : List ℕ) × (slots_at h.stacks at ≡ Some ws) × (length ws ≡ length values)
 
--- so it does for each stack that the mutator made
+-- the hand lists the depth of each stack that the mutator made
 abbrev pub Depths : (Place → Type 0) → ℕ → World → Hand → Type 0
 Depths P m w h = (p : Place) (size : ℕ) (values : List Value) → P p → p.name.maker ≡ m → node_of w p.name ≡ Some (Stack size values) → HasDepth h p.at values
 
@@ -52,7 +52,7 @@ before_stack ch maker found size values n e =
     let t = stack_kind found k in
     t.2 ∙ sym (still_stack ch maker t.0 t.1 n) ∙ ap (λ (x : Node). (changed ch maker x).0) (sym t.2) ∙ e
 
--- a stack that is there after a step was there before it, with the same values, unless the step made it, or was an own push or pop
+-- a stack after a step was there before it, with the same values, unless the step made it, or was an own push or pop
 stack_before : (w : World) (k : ℕ) (c : Command) → k < length w.mutators → k ≢ SHARED_MAKER → (name : Name) (size : ℕ) (values : List Value)
     → ((ch : Change) → asked w k c ≡ Some (value.Ref name, ch) → NotOwn ch name.maker)
     → (made_by w k c ≡ Some (Stack size values) → name ≡ next_name (state_of w k) k → ⊥)
@@ -80,7 +80,7 @@ stack_before w k c lt own name size values asks makes e =
           | inr other ↦ sym other.1 ∙ now
         ]
 
--- what another mutator asks for is no own push or pop
+-- a change that another mutator asks for is no own push or pop
 asked_other : (w : World) (k : ℕ) (c : Command) (v : Value) (ch : Change) (maker : ℕ) → asked w k c ≡ Some (v, ch) → maker ≢ k → NotOwn ch maker
 asked_other w k (command.Set object index x) v ch maker e ne = subst (λ c. NotOwn c maker) (some_pair_parts _ v _ ch e).1 tt
 asked_other w k (command.Cas object index expected x) v ch maker e ne = subst (λ c. NotOwn c maker) (some_pair_parts _ v _ ch e).1 tt
@@ -145,7 +145,7 @@ same_stacks h command.Yield a l = refl
 same_stacks h command.Collect a l = refl
 same_stacks h command.Full a l = refl
 
--- the node that is written again changes nothing
+-- writing the same node again changes nothing
 again : (w : World) (name : Name) (found made : Node) → node_of w name ≡ Some found → made ≡ found → (n : Name) →
     node_of (with_node w name made) n ≡ node_of w n
 again w name found made there is n = elim (node_cases w name found made there n) [
@@ -276,7 +276,7 @@ pop_cases w m (value.Ref name) = by_node (node_of w name) refl
     by_node (Some (Weak parts)) there = pop_kept w m name (Weak parts) there refl refl
     by_node (Some (Stack size values)) there = pop_stack w m name size values there
 
--- what is left where it wasn't done
+-- the stacks of the hand if it wasn't done
 pushed_not : (h : Hand) (object w : ℕ) (a : Answer) → (a ≡ plain reply.Fine → ⊥) → (pushed h object w a).stacks ≡ h.stacks
 pushed_not h object w (word n) ne = refl
 pushed_not h object w (plain reply.Fine) ne = absurd (ne refl)
@@ -288,7 +288,7 @@ keeping_nodes u m dest v lt n = nodes_kept u m (world_holding (state_of u m) des
 
 module _ (P : Place → Type 0) (one : (p q : Place) → P p → P q → (p.name ≡ q.name) ⊎ (p.at ≡ q.at) →
     p ≡ q) (m : ℕ) (w : World) (own : m ≢ SHARED_MAKER) (h : Hand) (d : Depths P m w h) where
-  -- a command of another
+  -- another mutator's command
   pub depths_other : (k : ℕ) (c : Command) → k < length w.mutators → k ≢ SHARED_MAKER → k ≢ m → Depths P m (step w k c).0 h
   depths_other k c lt theirs ne p size values here mine there = d p size values here mine
       (stack_before w k c lt theirs p.name size values (λ ch e.
@@ -305,7 +305,7 @@ module _ (P : Place → Type 0) (one : (p q : Place) → P p → P q → (p.name
         asked_none w m c (value.Ref p.name) ch p.name.maker l e) (λ made is. made_none w m c size values l made) there) in
         (r.0, ap (λ k. slots_at k p.at) (same_stacks h c a l) ∙ r.1, r.2)
 
-    -- a stack more
+    -- one more stack
     stack_left : (dest n : ℕ) (a : Answer) → Answers P a (born w m dest (Stack n [])).1 → IsPlain a →
         Depths P m (born w m dest (Stack n [])).0 (leaves h (command.Stack dest n) a)
     stack_left dest n (plain x) e none p size values here mine there =
@@ -331,7 +331,7 @@ module _ (P : Place → Type 0) (one : (p q : Place) → P p → P q → (p.name
               (r.0, ap (λ t. cond t (Some []) (slots_at h.stacks p.at)) (ne_eqb (wd / 2) p.at apart) ∙ r.1, r.2)
         ]
 
-    -- what an operand refers to
+    -- the object that an operand refers to
     pointed : (object : Operand) (name : Name) → value_for w m object ≡ value.Ref name → Means P (word_of h.registers object) (value.Ref name)
     pointed object name is = subst (Means P (word_of h.registers object)) is (operand_means P shared h.registers (state_of w m).registers object means)
 
@@ -395,7 +395,7 @@ module _ (P : Place → Type 0) (one : (p q : Place) → P p → P q → (p.name
       | inr f ↦ absurd (let bad = ap given e ∙ f.0 in let some_ : Some v ≡ None = bad in cc)
     ]
 
-    -- after every command the depths are those of the world
+    -- after every command the depths are the world's
     pub depths_left : (c : Command) (a : Answer) → Answers P a (step w m c).1 → IsPlain a → Depths P m (step w m c).0 (leaves h c a)
     depths_left (command.Stack dest n) a e p = stack_left dest n a e p
     depths_left (command.Push object v) a e p = push_left object v a e

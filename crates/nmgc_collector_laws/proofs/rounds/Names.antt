@@ -4,7 +4,7 @@ use Rattle.nmgc_world_spec.specs.declared.command.Command.TheVariants.{Con, Var,
 use Rattle.nmgc_world_laws.specs.laws.Steps.{Hand, Object}
 use Rattle.nmgc_world_spec.specs.declared.value.Value.TheVariants as value
 
--- how many objects a command makes
+-- the number of objects that a command makes
 abbrev pub made_count : Command → ℕ
 made_count (Con dest tag fields) = 1
 made_count (Var dest v) = 1
@@ -14,7 +14,7 @@ made_count (Weak dest key v finaliser) = 1
 made_count (Stack dest size) = 1
 made_count _ = 0
 
--- and so many commands together
+-- the number of objects that commands make together
 abbrev pub all_made : List Done → ℕ
 all_made [] = 0
 all_made (d ∷ ds) = made_count d.0 + all_made ds
@@ -29,12 +29,12 @@ makes_or_not (Weak dest key v finaliser) = inl (tt, refl, omega arith)
 makes_or_not (Stack dest size) = inl (tt, refl, omega arith)
 makes_or_not _ = inr (refl, refl)
 
--- what commands made was named one after another from a serial on
+-- the objects that commands made were named one after another from a serial on
 abbrev pub NamedFrom : ℕ → ℕ → List Done → Type 0
 NamedFrom m serial [] = Unit {0}
 NamedFrom m serial (d ∷ ds) = (IsMaking d.0 → d.1 ≡ Given (value.Ref (record { maker = m; serial = serial }))) × NamedFrom m (serial + made_count d.0) ds
 
--- another state of a mutator, with as many objects
+-- another state of a mutator, with the same number of objects
 kept_serial : (w : World) (m : ℕ) (q : MutatorState) → m < length w.mutators → length q.nodes ≡ serial_of w m → (k : ℕ) →
     serial_of (with_state w m q) k ≡ serial_of w k
 kept_serial w m q lt e k = elim (cases_eq k m) [
@@ -65,7 +65,7 @@ module _ (w : World) (m : ℕ) (c : Command) (none : made_by w m c ≡ None) (lt
   same_serial k = let s = stepped w m c in hand_serial s.between (step w m c).0 (still_there Any w m c (step w m c).0 lt s) s.hand k ∙
       object_serial s.between s.object k
 
--- what a command of a mutator does to serials, and the name that it gives
+-- the effect of a mutator's command on serials, and the name that it gives
 pub record Names (w : World) (m : ℕ) (c : Command) (v : World) (r : Reply) : Type 0 where
   pub own : serial_of v m ≡ serial_of w m + made_count c
   pub others : (k : ℕ) → k ≢ m → serial_of v k ≡ serial_of w k
@@ -97,19 +97,19 @@ names w m (Weak dest key v finaliser) lt = born_names w m dest _ (Weak dest key 
 names w m (Stack dest size) lt = born_names w m dest _ (Stack dest size) lt refl
 names w m c lt = plain_names w m c lt refl refl (λ is. is)
 
--- what these commands made was named from the mutator's next serial on, which rose by as many
+-- the objects of these commands were named from the mutator's next serial on, which rose by their number
 pub record Gives (w v : World) (m : ℕ) (ds : List Done) : Type 0 where
   pub serial : serial_of v m ≡ serial_of w m + all_made ds
   pub named : NamedFrom m (serial_of w m) ds
 
--- a command of the mutator, and what follows
+-- a command of the mutator, and the commands that follow
 gives_own : (w u v : World) (m : ℕ) (c : Command) (r : Reply) (ds : List Done) → Names w m c u r → Gives u v m ds → Gives w v m ((c, r) ∷ ds)
 gives_own w u v m c r ds n g = record {
   serial = let a = n.own in let b = g.serial in omega arith;
   named = (n.gives, subst (λ (k : ℕ). NamedFrom m k ds) n.own g.named);
 }
 
--- a command of another, or a scan
+-- another mutator's command, or a scan
 gives_other : (w u v : World) (m : ℕ) (ds : List Done) → serial_of u m ≡ serial_of w m → Gives u v m ds → Gives w v m ds
 gives_other w u v m ds same g = record {
   serial = let b = g.serial in omega arith;

@@ -1,8 +1,8 @@
--- A command that put a reference to a young object into an older one is recorded.
+-- A command that put a reference to a new object into an older object is recorded.
 use Rattle.nmgc_collector_laws.proofs.Vocabulary.{◌≡◌, ◌+◌, ◌*◌, ◌/◌, ◌%◌, ◌<◌, ◌≤◌, ◌&&◌, ℕ, Bool, true, cond, eqb, leb, List, [], ◌∷◌, ◌++◌, sym, ap, subst, ◌∙◌, arith, inl, inr, eq-eqb, le-leb, Contains, Contains-append_left, Contains-append_right, and_from, World, state_of, shared_name, value_for, step, Row, replayed, HEADER_WORDS, SHARED_PLACE, FIRST_PLACE, Layout, nursery_place, contains_one, Place, Means, plain, Hand, word_of, leaves, OwnRow, is_old, is_young, recorded_at, noted_by, all_recorded, depth_of, slots_at, old_word, plain_answer}
 use Rattle.nmgc_world_spec.specs.History.{IsLegal}
 use Rattle.nmgc_world_spec.specs.declared.value.Value.TheVariants as value
-use Rattle.nmgc_collector_laws.proofs.{rounds.RowRegisters.operand_means, rounds.Along.IsOwn, rounds.Along.Along, rounds.Puts.TellsDepth, rounds.Puts.Puts}
+use Rattle.nmgc_collector_laws.proofs.{rounds.RowRegisters.operand_means, rounds.Along.IsOwn, rounds.Along.Along, rounds.Puts.KnowsDepth, rounds.Puts.Puts}
 
 young_word : (layout : Layout) (at : ℕ) → nursery_place layout 0 ≤ at → is_young layout (2 * at) ≡ true
 young_word layout at high =
@@ -19,7 +19,7 @@ recorded_old layout at index to above low high =
     subst (λ (b : Bool). Contains (cond b (place ∷ []) []) (at + HEADER_WORDS + index)) (sym both) (subst (λ j.
     Contains (place ∷ []) j) is (contains_one place))
 
--- an older object and a young one, each with one place
+-- an older object and a new object, each with one place
 pub record AreApart (P : Place → Type 0) (layout : Layout) (p q : Place) : Type 0 where
   pub above : FIRST_PLACE ≤ p.at
   pub low : p.at < nursery_place layout 0
@@ -42,14 +42,14 @@ module _ (P : Place → Type 0) (layout : Layout) (p q : Place) (apart : AreApar
       let target = subst (Means P (word_of h.registers puts.v)) value (operand_means P shared h.registers (state_of w m).registers puts.v own.registers) in
       let object_is : word_of h.registers puts.object ≡ 2 * p.at = object.1 ∙ ap (λ a. 2 * a) (apart.one_old object.0 object.2) in
       let target_is : word_of h.registers puts.v ≡ 2 * q.at = target.1 ∙ ap (λ a. 2 * a) (apart.one_young target.0 target.2) in
-      let deep : TellsDepth w row.mutator p.name h puts.object = λ size values there mine.
+      let deep : KnowsDepth w row.mutator p.name h puts.object = λ size values there mine.
       let here : P p = subst (λ a. P (record { at = a; name = p.name })) (apart.one_old object.0 object.2) object.2 in
       let t = own.depths p size values here (mine ∙ own.number) there in
       let half : word_of h.registers puts.object / 2 ≡ p.at = omega arith in
       ap (λ y. depth_of (slots_at h.stacks y)) half ∙ ap depth_of t.1 ∙ t.2 in
       rw own.command (rw done (rw (puts.notes layout h deep) (rw (object_is, target_is) (recorded_old layout p.at i q.at apart.above apart.low apart.high))))
 
-  -- the place is recorded among the rows of the mutator that did it
+  -- the address is recorded among the rows of the mutator that did it
   pub recorded_then : (w : World) (before : List Row) (row : Row) (after : List Row) (h : Hand) (own : List OwnRow) → row.mutator ≡ m →
       IsLegal w (before ++ row ∷ after) → Along P m w h own (before ++ row ∷ after) →
       Puts (replayed w before) row.mutator row.command p.name i (value.Ref q.name) → Contains (all_recorded layout h own) (p.at + HEADER_WORDS + i)

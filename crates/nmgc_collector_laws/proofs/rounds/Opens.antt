@@ -1,4 +1,4 @@
--- A heap at rest opens a round: what its mutators have stands for what they have in the world.
+-- A heap at rest opens a round: its mutators' registers, queues and serials represent the world's.
 use Rattle.nmgc_collector_laws.proofs.Vocabulary.{◌≡◌, ℕ, ◌<◌, List, [], length, get_or, refl, sym, ap, subst, ◌∙◌, arith, inl, Contains, false≢true, length-map, length-replicate, get_or_from_slice_get, World, state_of, nursery_place, Segments, Place, item_map, item, Opening, no_hand, IsOpening, old_stacks, HandStands, CanOpen, Mutator, IsAtRest, hand_of, opening_at, HaveAll, own_mean, none_owed}
 use Rattle.nmgc_collector_laws.specs.Turn.{RestOpens}
 
@@ -27,7 +27,7 @@ module _ (s : Segments) (places : List Place) (w : World) (words : List ℕ) (mu
     in_segments = λ p c m lt. inl (below p c m);
   }
 
-  -- so many words of the one list as a mutator has registers are its own
+  -- `REGISTERS` words of the one list are the mutator's own
   hand_at : (m : ℕ) → m < s.layout.mutators → HandStands o m (get_or o.hands m no_hand)
   hand_at m lt =
       let many = h.count in

@@ -1,4 +1,4 @@
--- What stands in a field of an object that was there as the round began stood there then, or a command put it there.
+-- A value in a field of an object that was there as the round began was in it then, or a command put it there.
 use Rattle.nmgc_collector_laws.proofs.Vocabulary.{◌≡◌, ◌⊎◌, ◌/◌, ℕ, Bool, true, false, cond, eqb, ltb, List, [], ◌∷◌, ◌++◌, length, set, refl, sym, ap, ◌∙◌, Option, Some, None, inl, inr, IsSome, slice_get, none-some, same_Some, some_pair_parts, Name, Value, Node, Con, Var, Arr, Thunk, Weak, Stack, Change, Operand, Command, Reply, Fine, Yes, No, Updated, NoField, World, IsWorld, state_of, node_of, given, is_same, exchanged_at, field_set, field_exchanged, thunk_updated, changed, value_for, next_name, change_node, change_object, step, Row, replayed, step_grows, not_shared, HasStrongField, value_written, place_written, Stores, CanReplay, next_is_new, node_cases, absent, step_stores, step_keeps_world, Layout, plain, Hand, word_of, slots_at, recorded_at, noted_by, depth_of}
 use Rattle.nmgc_world_spec.specs.declared.value.Value.TheVariants as value
 use Rattle.nmgc_world_spec.specs.declared.change.Change.TheVariants as change
@@ -19,7 +19,7 @@ field_cases (Thunk free result) index v = inr refl
 field_cases (Weak parts) index v = inr refl
 field_cases (Stack size values) index v = inr refl
 
--- so is a comparison
+-- a test of a comparison
 yes_or_kept : (b : Bool) (written kept : Node) → ((cond {A = Node × Reply} b (written, Yes) (kept, No)).1 ≡ Yes) ⊎
     ((cond {A = Node × Reply} b (written, Yes) (kept, No)).0 ≡ kept)
 yes_or_kept true written kept = inl refl
@@ -39,7 +39,7 @@ exchange_cases (Thunk free result) index expected v = inr refl
 exchange_cases (Weak parts) index expected v = inr refl
 exchange_cases (Stack size values) index expected v = inr refl
 
--- and an update
+-- a test of an update
 update_cases : (found : Node) (v : Value) → ((thunk_updated found v).1 ≡ Updated) ⊎ ((thunk_updated found v).0 ≡ found)
 update_cases (Con tag values) v = inr refl
 update_cases (Var old) v = inr refl
@@ -72,9 +72,9 @@ change_cases w value.Nil c done splits = inr (λ n. refl)
 change_cases w (value.Number k) c done splits = inr (λ n. refl)
 change_cases w (value.Ref name) c done splits = node_changed w name c done splits (node_of w name) refl
 
--- the hand tells the depth of the name's object, to which an operand refers, if it is a stack that the mutator made
-abbrev pub TellsDepth : World → ℕ → Name → Hand → Operand → Type 0
-TellsDepth w m name h object = (size : ℕ) (values : List Value) → node_of w name ≡ Some (Stack size values) → name.maker ≡ m →
+-- the hand lists the depth of the name's object, to which an operand refers, if it is a stack that the mutator made
+abbrev pub KnowsDepth : World → ℕ → Name → Hand → Operand → Type 0
+KnowsDepth w m name h object = (size : ℕ) (values : List Value) → node_of w name ≡ Some (Stack size values) → name.maker ≡ m →
     depth_of (slots_at h.stacks (word_of h.registers object / 2)) ≡ length values
 
 -- the command put the value into this field of the name's object, with a reply at which its mutator records that field
@@ -86,15 +86,15 @@ pub record Puts (w : World) (m : ℕ) (c : Command) (name : Name) (i : ℕ) (x :
   pub value : value_for w m v ≡ x
   pub gives : (step w m c).1 ≡ reply
   pub plainly : given reply ≡ None
-  pub notes : (layout : Layout) (h : Hand) → TellsDepth w m name h object →
+  pub notes : (layout : Layout) (h : Hand) → KnowsDepth w m name h object →
       noted_by layout h c (plain reply) ≡ recorded_at layout (word_of h.registers object) i (word_of h.registers v)
 
--- what a row notes of a field, by its number
+-- a row's notes on a field, by its number
 same_field : (layout : Layout) (h : Hand) (object v : Operand) (i j : ℕ) → i ≡ j →
     recorded_at layout (word_of h.registers object) i (word_of h.registers v) ≡ recorded_at layout (word_of h.registers object) j (word_of h.registers v)
 same_field layout h object v i j e = ap (λ k. recorded_at layout (word_of h.registers object) k (word_of h.registers v)) e
 
--- a command that stores a value puts it there, or left what stood there
+-- a command that stores a value puts it there, or leaves the field
 stored_put : (w : World) (m : ℕ) (c : Command) (name : Name) (i : ℕ) (x : Value) → HasStrongField (step w m c).0 name i x → Stores w m c name i x →
     HasStrongField w name i x ⊎ Puts w m c name i x
 stored_put w m (command.Set object index v) name i x s st =
@@ -197,7 +197,7 @@ pub record IsPut (w : World) (rows : List Row) (name : Name) (i : ℕ) (x : Valu
   pub rows_are : rows ≡ before ++ row ∷ after
   pub puts : Puts (replayed w before) row.mutator row.command name i x
 
--- a field of an object that was there holds what it held, or what a row put there
+-- a field of an object that was there holds its value from before, or a value that a row put there
 pub rows_put : (w : World) (rows : List Row) → IsWorld w → CanReplay w rows → (name : Name) (i : ℕ) (x : Value) → IsSome (node_of w name) →
     HasStrongField (replayed w rows) name i x → HasStrongField w name i x ⊎ IsPut w rows name i x
 rows_put w [] is can name i x there s = inl s

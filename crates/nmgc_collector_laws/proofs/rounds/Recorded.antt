@@ -1,10 +1,10 @@
--- Recorded places are of fields that are there, of objects below the nurseries that the round reached.
+-- Recorded addresses are existing fields of objects below the nurseries that the round reached.
 use Rattle.nmgc_collector_laws.proofs.Vocabulary.{◌≡◌, ◌+◌, ◌*◌, ◌/◌, ◌%◌, ◌<◌, ◌&&◌, ℕ, Bool, true, false, cond, eqb, leb, List, [], ◌∷◌, length, set, refl, sym, ap, subst, ◌∙◌, arith, Option, Some, None, inl, inr, eqb-true, leb-true, IsSome, Contains, slice_get, slice_get_past, get_or_past, Contains-append_left, Contains-append_cases, Contains-get_or, and_parts, cases_lt, eqb_tells, Name, Value, Node, Con, Var, Arr, Thunk, Weak, Stack, Kind, Change, Operand, Register, Shared, Command, Set, Cas, Update, Push, Reply, Fine, Yes, Updated, NoField, NoPointer, World, IsWorld, state_of, node_of, exchanged_at, field_set, field_exchanged, thunk_updated, changed, CanApply, shared_name, value_for, next_name, change_node, change_object, step, Row, replayed, start, step_grows, not_shared, HEADER_WORDS, SHARED_PLACE, FIRST_PLACE, Layout, nursery_place, IsWide, kind_of, part_count, SameShape, CanReplay, nothing_in, one_is, next_is_new, absent, step_adds_one, rows_keep_shapes, step_keeps_world, Place, Means, root_wide, Answer, plain, word, Hand, word_of, leaves, OwnRow, Answers, is_old, is_young, recorded_at, noted_by, all_recorded, depth_of, slots_at, le-ltb}
 use Rattle.nmgc_world_spec.specs.History.{IsLegal}
 use Rattle.nmgc_world_spec.specs.declared.value.Value.TheVariants as value
 use Rattle.nmgc_world_spec.specs.declared.change.Change.TheVariants as change
 use Rattle.nmgc_world_spec.specs.declared.node.Kind.TheVariants as kind
-use Rattle.nmgc_collector_laws.proofs.{rounds.Depths.push_cases, rounds.RowRegisters.operand_means, rounds.Along.IsOwn, rounds.Along.Along, rounds.Puts.TellsDepth}
+use Rattle.nmgc_collector_laws.proofs.{rounds.Depths.push_cases, rounds.RowRegisters.operand_means, rounds.Along.IsOwn, rounds.Along.Along, rounds.Puts.KnowsDepth}
 
 -- a field that a command may write into an object that is there
 abbrev pub IsWritten : Kind → ℕ → Type 0
@@ -55,7 +55,7 @@ exchanged_in (Thunk free result) index expected v e = absurd cc
 exchanged_in (Weak parts) index expected v e = absurd cc
 exchanged_in (Stack size values) index expected v e = absurd cc
 
--- and an update that found no result
+-- an update that found no result wrote such a field
 updated_in : (found : Node) (v : Value) → (thunk_updated found v).1 ≡ Updated → IsField found 0
 updated_in (Con tag values) v e = absurd cc
 updated_in (Var old) v e = absurd cc
@@ -65,7 +65,7 @@ updated_in (Thunk free (Some old)) v e = absurd cc
 updated_in (Weak parts) v e = absurd cc
 updated_in (Stack size values) v e = absurd cc
 
--- what a change that was done wrote is a field that is there
+-- a change that was done wrote an existing field
 abbrev Writes : World → Name → ℕ → Type 0
 Writes w name index = (found : Node) × (node_of w name ≡ Some found) × IsField found index
 
@@ -94,7 +94,7 @@ push_field w m object x name index is e deep = elim (push_cases w m object x) [
   | inr f ↦ absurd (f.0 e)
 ]
 
--- what an operand refers to is in the wide reach
+-- the object that an operand refers to is in the wide reach
 operand_wide : (w : World) (m : ℕ) (o : Operand) (name : Name) → value_for w m o ≡ value.Ref name → IsWide w name
 operand_wide w m (Register r) name e = elim (cases_lt r (length (state_of w m).registers)) [
   | inl lt ↦ root_wide w m name (Contains-append_left (state_of w m).registers (state_of w m).queue (value.Ref name) (rw e at (Contains-get_or (state_of w m).registers r value.Nil lt)))
@@ -127,7 +127,7 @@ pointer_old P layout w v old m =
       low = (let e = m.1 in omega arith);
     }
 
--- a command records a place: it wrote that field, with this reply
+-- a command records an address: it wrote that field, with this reply
 record IsRecording (layout : Layout) (h : Hand) (c : Command) (a : Answer) (at : ℕ) : Type 0 where
   object : Operand
   index : ℕ
@@ -135,7 +135,7 @@ record IsRecording (layout : Layout) (h : Hand) (c : Command) (a : Answer) (at :
   done : a ≡ plain reply
   old : is_old layout (word_of h.registers object) ≡ true
   at_is : word_of h.registers object / 2 + HEADER_WORDS + index ≡ at
-  writes : (w : World) (m : ℕ) (name : Name) → value_for w m object ≡ value.Ref name → (step w m c).1 ≡ reply → TellsDepth w m name h object →
+  writes : (w : World) (m : ℕ) (name : Name) → value_for w m object ≡ value.Ref name → (step w m c).1 ≡ reply → KnowsDepth w m name h object →
       Writes w name index
 
 one_if : (b : Bool) (x at : ℕ) → Contains (cond b (x ∷ []) []) at → (b ≡ true) × (x ≡ at)
@@ -211,7 +211,7 @@ recording layout h (Push object v) (plain _) at c = absurd (nothing_in at c)
 recording layout h (Push object v) (word w) at c = absurd (nothing_in at c)
 recording layout h _ a at c = absurd (nothing_in at c)
 
--- a later world: it has the names of the beginning, and reaches none of them that wasn't reached
+-- a later world: it has the names of the beginning, and reaches none of them that wasn't reached then
 pub record IsSince (began w : World) : Type 0 where
   pub names : (name : Name) → IsSome (node_of began name) → IsSome (node_of w name)
   pub wide : (name : Name) → IsSome (node_of began name) → IsWide w name → IsWide began name
@@ -231,7 +231,7 @@ since_step began w m c is can h = record {
 }
 
 module _ (P : Place → Type 0) (layout : Layout) (began : World) where
-  -- a place of a field that is there, of an object below the nurseries that was reached as the round began if it was there
+  -- the address of an existing field of an object below the nurseries that was reached as the round began if it was there
   pub record IsFieldOf (v : World) (at : ℕ) : Type 0 where
     pub place : Place
     pub index : ℕ
@@ -258,7 +258,7 @@ module _ (P : Place → Type 0) (layout : Layout) (began : World) where
         let p : IsPointer P layout (word_of h.registers k.object) (value_for w m k.object) =
         pointer_old P layout (word_of h.registers k.object) (value_for w m k.object) k.old
         (operand_means P shared h.registers (state_of w m).registers k.object own.registers) in
-        let deep : TellsDepth w m p.place.name h k.object = λ size values there mine.
+        let deep : KnowsDepth w m p.place.name h k.object = λ size values there mine.
         let t = own.depths p.place size values p.there mine there in
         let word = p.word_is in
         let half : word_of h.registers k.object / 2 ≡ p.place.at = omega arith in
@@ -277,7 +277,7 @@ module _ (P : Place → Type 0) (layout : Layout) (began : World) where
           field = field_later f.0 later.0 k.index later.2 f.2;
         }
 
-    -- so is every place that rows of the round recorded
+    -- every address that rows of the round recorded is such an address
     pub recorded_is : (w : World) (rows : List Row) (h : Hand) (own : List OwnRow) → IsSince began w → IsWorld w → CanReplay w rows →
         IsLegal w rows → Along P m w h own rows → (at : ℕ) → Contains (all_recorded layout h own) at → IsFieldOf (replayed w rows) at
     recorded_is w [] h own since is can legal along at c = absurd (nothing_in at (subst (λ (l : List OwnRow). Contains (all_recorded layout h l) at) along c))

@@ -1,4 +1,4 @@
--- What mutators have after a round stands for the roots of its world.
+-- The mutators' state after a round represents the roots of its world.
 use Rattle.nmgc_collector_laws.proofs.Vocabulary.{◌≡◌, ℕ, ◌*◌, ◌<◌, List, [], length, sym, ap, subst, ◌∙◌, arith, Some, slice_get, Contains, length-map, slice_get_within, REGISTERS, World, state_of, serial_of, AllMean, ListMeans, RepresentsRoots, map_item, list_more, Hand, Opening, Seen, hand_now, now, IsHand, IsFinished, places_then, Mutator, Done, HaveWorked, queues_of, RootsAreLeft, same_count, in_place, item, worker_at, HaveAll, registers_count, all_mean}
 use Rattle.nmgc_round.specs.Objects.{IsIn}
 use Rattle.nmgc_collector_laws.specs.Worked.{registers_of, serials_of}
@@ -15,7 +15,7 @@ module _ (o : Opening) (words : List ℕ) (v : Seen) (mutators : List Mutator) (
   as_many : length W.mutators ≡ length mutators
   as_many = same_count o.core h.events h.legal ∙ h.is.mutators ∙ sym all.mutators_are
 
-  -- what a mutator has is what its rows left it
+  -- a mutator's state is as its rows left it
   record IsOwn (k : ℕ) (m : Mutator) : Type 0 where
     size : length m.registers ≡ REGISTERS
     hand : IsHand o h.born W k (roots_in m)
@@ -57,7 +57,7 @@ module _ (o : Opening) (words : List ℕ) (v : Seen) (mutators : List Mutator) (
   next : (k serial : ℕ) → slice_get (serials_of mutators) k ≡ Some serial → serial ≡ serial_of W k
   next k serial e = let m = map_item (λ (x : Mutator). x.serial) mutators k serial e in m.2 ∙ (own_at k m.0 m.1).hand.serial
 
-  -- all of it together
+  -- the roots of all mutators together
   roots : RepresentsRoots (places_then o h.born) W (registers_of mutators) (queues_of mutators) (serials_of mutators)
   roots = record {
     count = registers_count mutators all_whole ∙ ap (λ n. REGISTERS * n) (sym as_many);

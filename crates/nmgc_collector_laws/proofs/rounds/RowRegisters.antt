@@ -1,4 +1,4 @@
--- What a row leaves its mutator in registers means what the command leaves it in the world.
+-- A mutator's registers after a row mean its registers in the world after the command.
 use Rattle.nmgc_collector_laws.proofs.Vocabulary.{◌≡◌, ℕ, zero, suc, ◌+◌, ◌*◌, ◌<◌, List, [], ◌∷◌, length, get_or, set, refl, sym, ap, subst, ◌∙◌, Option, Some, None, inl, inr, set_past, cases_lt, cases_eq, eqb_tells, SHARED_MAKER, Name, Value, Node, MutatorState, Change, Operand, Register, Shared, Command, Num, Mov, Get, Set, Cas, Update, Force, Push, Pop, Deref, Finalise, NextFin, Show, Same, Yield, Collect, Full, Reply, Given, Fine, Nothing, World, state_of, node_of, given, slice_get, drop, same_Some, given_or, changed, shared_name, value_of, value_for, with_state, with_register, with_nth, with_node, keeping, with_finaliser, holding_given, next_name, born, change_node, change_object, change_into, step, SHARED_PLACE, NIL_WORD, ZERO_WORD, state_same, state_other, Place, Means, ListMeans, Answer, plain, word, Hand, word_of, taking, bearing, stacking, pushed, popped, leaves, Answers, count_changed}
 use Rattle.nmgc_world_spec.specs.declared.command.Command.TheVariants.{Nil, Con, Var, Arr, Thunk, Weak, Stack}
 use Rattle.nmgc_world_spec.specs.declared.value.Value.TheVariants as value
@@ -9,7 +9,7 @@ abbrev pub IsPlain : Answer → Type 0
 IsPlain (plain r) = given r ≡ None
 IsPlain (word w) = Unit {0}
 
--- a stack more changes no register
+-- one more stack changes no register
 stacking_registers : (h : Hand) (a : Answer) → h.registers ≡ (stacking h a).registers
 stacking_registers h (plain r) = refl
 stacking_registers h (word w) = refl
@@ -37,7 +37,7 @@ registers_kept w name made k = elim (eqb_tells name.maker SHARED_MAKER) [
           | inr le ↦ ap (λ (l : List MutatorState). (state_of (record w { mutators = l }) k).registers) (set_past w.mutators name.maker q le)
         ]
 
--- so does a change of an object
+-- a change of an object leaves all registers
 registers_changed : (w : World) (v : Value) (c : Change) (k : ℕ) → (state_of (change_object w v c).0 k).registers ≡ (state_of w k).registers
 registers_changed w value.Nil c k = refl
 registers_changed w (value.Number n) c k = refl
@@ -82,7 +82,7 @@ module _ (P : Place → Type 0) where
     held : (dest wd : ℕ) (v : Value) → Means P wd v → ListMeans P (set h.registers dest wd) (state_of (with_register w m dest v) m).registers
     held dest wd v k = rw (state_same w m _ lt) (list_set h.registers (state_of w m).registers dest wd v means k)
 
-    -- a register takes what was given, if something was
+    -- a register takes the given value, if there is one
     taken : (dest : ℕ) (a : Answer) (r : Reply) → Answers P a r → IsPlain a →
         ListMeans P (taking h dest a).registers (state_of (keeping w m dest r) m).registers
     taken dest (plain x) r e none =
@@ -90,7 +90,7 @@ module _ (P : Place → Type 0) where
     taken dest (word wd) r (v, e, k) none = subst (λ (y : Reply).
         ListMeans P (set h.registers dest wd) (state_of (keeping w m dest y) m).registers) e (held dest wd v k)
 
-    -- a register takes the name of what was born
+    -- a register takes the name of a new object
     birth : (dest : ℕ) (made : Node) (a : Answer) → Answers P a (born w m dest made).1 → IsPlain a →
         ListMeans P (bearing h dest a).registers (state_of (born w m dest made).0 m).registers
     birth dest made (plain x) e none = let bad : given x ≡ Some (value.Ref (next_name (state_of w m) m)) = ap given e in absurd cc
@@ -99,7 +99,7 @@ module _ (P : Place → Type 0) where
         rw (state_same w m _ lt) (list_set h.registers (state_of w m).registers dest wd (value.Ref (next_name (state_of w m) m)) means (subst (Means P wd) is k))
 
   module _ (w : World) (m : ℕ) (lt : m < length w.mutators) (h : Hand) (means : ListMeans P h.registers (state_of w m).registers) where
-    -- a change gives a register what it answers
+    -- a change gives its answer to a register
     changed_registers : (dest : ℕ) (object : Operand) (c : Change) (a : Answer) → Answers P a (change_object w (value_for w m object) c).1 →
         IsPlain a → ListMeans P (taking h dest a).registers (state_of (change_into m dest (change_object w (value_for w m object) c)).0 m).registers
     changed_registers dest object c a e p =
@@ -120,7 +120,7 @@ module _ (P : Place → Type 0) where
         let is : Some v ≡ Some x = ap given e in
         list_set h.registers (state_of w m).registers dest wd x means (subst (Means P wd) (same_Some v x is) k)
 
-    -- after every command the registers mean those of the world
+    -- after every command the registers mean the world's
     pub registers_left : P (record { at = SHARED_PLACE; name = shared_name }) → (c : Command) (a : Answer) → Answers P a (step w m c).1 →
         IsPlain a → ListMeans P (leaves h c a).registers (state_of (step w m c).0 m).registers
     registers_left g (Num dest n) a e p = held w m lt h means dest (2 * n + ZERO_WORD) (value.Number n) refl

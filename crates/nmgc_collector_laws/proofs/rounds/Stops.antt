@@ -1,4 +1,4 @@
--- What a round leaves is what a promotion asks.
+-- A round leaves all that a promotion needs.
 use Rattle.nmgc_collector_laws.proofs.Vocabulary.{◌≡◌, ◌↔◌, inl, inr, ℕ, ◌+◌, ◌<◌, ◌≤◌, Bool, true, false, cond, List, [], ◌∷◌, map, sym, ap, subst, arith, None, Contains, IsSome, Contains-append_left, Name, Ref, World, IsWorld, node_of, Row, RefersTo, contains_head, contains_tail, contains_cases, is_some_of, nothing_in, one_is, HasStrongField, place_of_field, absent, old_refers_to_young, old_weaks_stay, nursery_place, Layout, Header, HEADER_WORDS, Segments, size_of, IsTracked, Place, Represents, NoNode, IsEarlier, AreEarlier, remembered, world_is_earlier, past_tracked, AreUsed, LieInOrder, AreBlocks, Stopped, IsRoundOf, young_base, rows_in, Opening, Seen, Object, place_of, earlier, now, CanOpen, IsFinished, places_then, IsKeptThen, Mutator, nurseries_of, RootsAreLeft, BirthsAreInOrder, RoundIsRemembered, RoundIsStopped, stop_after, EventsAreHistory, can_replay, still_world, still_earlier, opened_below, place_cases}
 
 -- the earlier world while a cycle marks is the snapshot
@@ -23,7 +23,7 @@ module _ (history : EventsAreHistory) (o : Opening) (before words : List ℕ) (v
   abbrev rows : List Row
   rows = rows_in h.events
 
-  -- objects are born in the nurseries
+  -- new objects lie in the nurseries
   born_up : (x : Object) → Contains h.born x → nursery_place o.layout 0 ≤ x.at
   born_up x c = let from = (h.new x c).from in omega arith
 
@@ -57,7 +57,7 @@ module _ (history : EventsAreHistory) (o : Opening) (before words : List ℕ) (v
     )
   ]
 
-  -- an older object that refers to a young one was reached by the command that stored it
+  -- an older object that refers to a new object was reached by the command that stored it
   changed : (holder name : Name) → IsSome (node_of o.core.world holder) → node_of o.core.world name ≡ None → RefersTo W holder name →
       IsTracked W (o.core.world ∷ earlier o) holder
   changed holder name there new refers =

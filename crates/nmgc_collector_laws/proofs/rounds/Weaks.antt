@@ -1,4 +1,4 @@
--- The weak pointers that a round made, and the places that their makers noted.
+-- The new weak pointers of a round, and the addresses that their makers noted.
 use Rattle.nmgc_collector_laws.proofs.Vocabulary.{◌≡◌, ◌≢◌, ℕ, ◌*◌, ◌/◌, ◌<◌, List, [], ◌∷◌, ◌++◌, length, refl, sym, ap, subst, ◌∙◌, arith, Option, Some, None, inl, inr, Contains, none-some, same_Some, Contains-append_left, Contains-append_right, Contains-append_cases, SHARED_MAKER, Name, Node, Con, Var, Arr, Thunk, Weak, Stack, Parts, Operand, Command, Reply, World, IsWorld, state_of, node_of, given, changed, next_name, with_node, with_new, born, step, Row, replayed, not_shared, kind_of, made_by, CanReplay, absent, some_of, nothing_in, one_is, contains_one, last_there, next_is_new, node_cases, node_born, node_same, rows_keep_shapes, step_keeps_world, Stepped, Any, stepped, hand_nodes, still_there, Place, Means, Answer, plain, word, OwnRow, Hand, leaves, Answers, weaks_by, all_weaks}
 use Rattle.nmgc_world_spec.specs.History.{IsLegal}
 use Rattle.nmgc_world_laws.specs.laws.Steps.{Object}
@@ -59,7 +59,7 @@ pub record IsMade (w : World) (rows : List Row) (name : Name) : Type 0 where
   pub rows_are : rows ≡ before ++ row ∷ after
   pub made : MadeWeak (replayed w before) row.mutator row.command name
 
--- a weak pointer that is there and wasn't as the rows began was made by one of them
+-- a weak pointer that wasn't there as the rows began was made by one of them
 pub rows_made : (w : World) (rows : List Row) → IsWorld w → CanReplay w rows → (name : Name) (found : Node) → node_of w name ≡ None →
     node_of (replayed w rows) name ≡ Some found → kind_of found ≡ kind.Weak → IsMade w rows name
 rows_made w [] is can name found none there k = absurd (none-some found (sym none ∙ there))
@@ -84,7 +84,7 @@ rows_made w (row ∷ rows) is can name found none there k =
           made = weak_made w row.mutator row.command can.0.mutator (not_shared w row.mutator is can.0.mutator) name first none e first_kind;
         }
 
--- the place in an answer that gives a name
+-- the address in an answer that gives a name
 record IsNamed (P : Place → Type 0) (a : Answer) (name : Name) : Type 0 where
   w : ℕ
   at : ℕ
@@ -99,7 +99,7 @@ named P (word w) name r gives (v, e, k) none =
     let m = subst (Means P w) same k in
     record { w = w; at = m.0; is = refl; word_is = m.1; there = m.2 }
 
--- what a row gave that made a weak pointer
+-- the reply of a row that made a weak pointer
 gave_name : (w : World) (k : ℕ) (c : Command) (r : Reply) → (step w k c).1 ≡ r → IsWeak c → r ≡ reply.Given (value.Ref (next_name (state_of w k) k))
 gave_name w k c r gives weak = sym gives ∙ ap (λ (d : Command). (step w k d).1) weak.is
 
@@ -114,7 +114,7 @@ module _ (P : Place → Type 0) (p : Place) (one : (at : ℕ) → P (record { at
       let weak = made.weak in
       rw (own.command ∙ weak.is) (rw t.is (subst (λ j. Contains (t.w / 2 ∷ []) j) half (contains_one (t.w / 2))))
 
-  -- its place is noted by the mutator that made it
+  -- its address is noted by the mutator that made it
   pub weak_then : (w : World) (before : List Row) (row : Row) (after : List Row) (h : Hand) (own : List OwnRow) → row.mutator ≡ m →
       IsLegal w (before ++ row ∷ after) → Along P m w h own (before ++ row ∷ after) → MadeWeak (replayed w before) row.mutator row.command p.name →
       Contains (all_weaks own) p.at
@@ -129,7 +129,7 @@ module _ (P : Place → Type 0) (p : Place) (one : (at : ℕ) → P (record { at
       rw mine.2 (Contains-append_right (weaks_by r.command r.answer) (all_weaks mine.1) p.at
       (weak_then (step w first.mutator first.command).0 before row after (leaves h r.command r.answer) mine.1 is legal.1 mine.4 made))
 
--- a row that notes a place made a weak pointer
+-- a row that notes an address made a weak pointer
 record IsNoting (c : Command) (a : Answer) (at : ℕ) : Type 0 where
   weak : IsWeak c
   w : ℕ
@@ -152,7 +152,7 @@ noting (command.Weak dest key v finaliser) (word w) at c = record {
 noting (command.Weak dest key v finaliser) (plain x) at c = absurd (nothing_in at c)
 noting _ a at c = absurd (nothing_in at c)
 
--- the object of the next name, once it is born
+-- the object of the next name, once it is made
 born_there : (w : World) (m register : ℕ) (made : Node) → m < length w.mutators → m ≢ SHARED_MAKER →
     node_of (born w m register made).0 (next_name (state_of w m) m) ≡ Some made
 born_there w m register made lt own = node_same w m (with_new (state_of w m) m register made) lt own (next_name (state_of w m) m) refl ∙
@@ -171,7 +171,7 @@ weak_kind (Weak parts) e = (parts, refl)
 weak_kind (Stack size values) e = absurd cc
 
 module _ (P : Place → Type 0) (began : World) where
-  -- a place of a weak pointer that wasn't there as the round began
+  -- the address of a weak pointer that wasn't there as the round began
   pub record IsNewWeak (v : World) (at : ℕ) : Type 0 where
     pub name : Name
     pub parts : Option Parts
@@ -212,7 +212,7 @@ module _ (P : Place → Type 0) (began : World) where
           new = unborn w next since (next_is_new w k mine);
         }
 
-    -- so is every place of a weak pointer that its rows noted
+    -- every address of a weak pointer that its rows noted is such an address
     pub weak_is : (w : World) (rows : List Row) (h : Hand) (own : List OwnRow) → IsSince began w → IsWorld w → CanReplay w rows → IsLegal w rows →
         Along P m w h own rows → (at : ℕ) → Contains (all_weaks own) at → IsNewWeak (replayed w rows) at
     weak_is w [] h own since is can legal along at c = absurd (nothing_in at (subst (λ (l : List OwnRow). Contains (all_weaks l) at) along c))

@@ -1,8 +1,8 @@
--- Short lists that list all there is.
+-- Short lists that are complete.
 use Rattle.nmgc_collector_laws.proofs.Vocabulary.{ℕ, ◌≡◌, [], ◌∷◌, get_or, replicate, arith, subst, inl, inr, Contains, get_or-eq_default, cases_lt, get_or-replicate, Name, Lists, contains_head, contains_cases, none_in}
 use Rattle.std.proofs.Math.ListN.{length-replicate}
 
--- a list of one item many times, and nothing else past its end
+-- a list of one item many times, read also past its end
 pub all_same : {A : Type 0} (count : ℕ) (x : A) (n : ℕ) → get_or (replicate count x) n x ≡ x
 all_same {A} count x n = elim (cases_lt n count) [
   | inl lt ↦ get_or-replicate count n x x lt

@@ -30,14 +30,14 @@ not_full_last : IsFullDue (small_plan object_program) last → ⊥
 not_full_last (inl e) = cc
 not_full_last (inr e) = cc
 
--- nobody asks for a cycle, and none begins by itself
+-- no command asks for a cycle, and none begins by itself
 no_trigger : (s : State) → s.collect ≡ false → IsCycleDue small_heap s → ⊥
 no_trigger s none d = elim d.1 [ inl e ↦ cc | inr both ↦ omega (arith, both.0) ]
 
 not_zero : (k : ℕ) → (0 == suc k) ≡ false
 not_zero k = false_from_ne_true (0 == suc k) (λ e. let same = eqb-true 0 (suc k) e in omega (arith, same))
 
--- the rows are those of mutator 0, and of no other
+-- all rows are mutator 0's
 order : IsOrderOf (own_rows (slices small_heap opened.left) (object_replies ∷ [])) rows
 order zero = refl
 order (suc k) = rw (not_zero k) refl
@@ -73,7 +73,7 @@ places = record {
 nothing_at : (serial : ℕ) → IsSome (slice_get {X = Node} [] serial) → ⊥
 nothing_at serial there = cc
 
--- a name that is new is none of g's
+-- a new name isn't g's
 not_shared : (b : Bool) (shared old new : Option Node) → (if b then shared else old) ≡ None → IsSome (if b then shared else new) → IsSome new
 not_shared true shared old new none some = absurd (not_there shared none some)
 not_shared false shared old new none some = some
@@ -115,7 +115,7 @@ object_is_run = record {
     ends = (refl, refl);
     more = [];
     proceeds = inr (not_full_first, inr (no_trigger opened refl, refl), refl);
-    told = refl;
+    cycles_are = refl;
     shown = refl;
   };
   turns = (
@@ -146,7 +146,7 @@ object_is_run = record {
         ends = (refl, refl);
         more = [];
         proceeds = inr (not_full_last, inr (no_trigger last refl, refl), refl);
-        told = refl;
+        cycles_are = refl;
         shown = refl;
       };
     },

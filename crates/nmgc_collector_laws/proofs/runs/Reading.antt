@@ -1,7 +1,7 @@
--- Words that are as they are said to be, read one by one.
+-- Words that are as specified, read one by one.
 use Rattle.nmgc_collector_laws.proofs.Vocabulary.{ℕ, zero, suc, ◌≡◌, ◌+◌, List, [], ◌∷◌, ◌++◌, length, map, replicate, get_or, arith, refl, subst, Option, Some, None, Bool, true, false, slice_get, if◌then◌else◌, get_or-append-add, Value, Nil, Node, Slot, holds, Place, Means, Fills, HasSlots, AllMean, some_is}
 
--- a name of g's maker has g's node, if it has one, and any other its own
+-- a name of g's maker has g's node, if it has a node, and any other name its own
 pub shared_or : (b d : Bool) (shared : Node) (o : Option Node) (node : Node) (A : Type 0) → (b ≡ true → d ≡ true → A) → (o ≡ Some node → A) →
     (if b then (if d then Some shared else None) else o) ≡ Some node → A
 shared_or true true shared o node A is other e = is refl refl
@@ -40,7 +40,7 @@ module _ (P : Place → Type 0) where
   pub all_mean : (own : List ℕ) (vs : List Value) → EachMeans own vs → AllMean P own 0 vs
   all_mean own vs h i u e = let z : i ≡ 0 + i = omega arith in subst (λ (k : ℕ). Means P (get_or own k 0) u) z (each_means own vs h i u e)
 
-  -- so many nils
+  -- `count` nils
   pub fills_nil : (count : ℕ) → EachFills (replicate count 1) (map holds (replicate count Nil))
   fills_nil zero = tt
   fills_nil (suc count) = (refl, fills_nil count)

@@ -1,4 +1,4 @@
--- The words and segments that a script leaves that makes one object.
+-- The words and segments after a script that makes one object.
 use Rattle.nmgc_collector_laws.proofs.Vocabulary.{◌-◌, ℕ, zero, suc, ◌≡◌, ◌+◌, ◌*◌, ◌<◌, ◌≤◌, ◌⊎◌, ◌↔◌, List, [], ◌∷◌, ◌++◌, length, map, replicate, get_or, slice_index, arith, refl, sym, ap, subst, ◌∙◌, inl, inr, Option, Some, None, lit≤, lit<, IsSome, Contains, slice_get, ◌==◌, REGISTERS, SHARED_MAKER, SHARED_SLOTS, Name, Nil, Number, Node, Con, Arr, Weak, Parts, node_of, state_of, serial_of, shared_name, IsAlive, contains_head, contains_tail, contains_cases, none_in, Layout, InNursery, word_total, InUse, nth, HasNumber, block_place, block_size, name_word, IsName, All-cons, All-nil, StandsFor, Shows, LiesIn, AreNames, all_empty, cells, no_cells, name_in, holds, size_of, zeros_first, Place, HasSlots, AllMean, ListMeans, LiesWell, LiesInSegment, shared_place, IsNamed, IsPlaced, Represents, NoNode, layout_of, ListsWeaks, IsPlaceAtStop, FitBlocks, HasAllRegisters, HoldsAtStop, ObjectIsLawful, small_plan, object_program, object_name, object_words, object_segments, object_mutator, some_is, not_known, eqb-true}
 use Rattle.nmgc_alloc.specs.Segments.{all_free}
 use Rattle.nmgc_lists.specs.laws.Options.{not_none}
@@ -51,7 +51,7 @@ all_places p = (each_place (IsPlaceAtStop layout placed) (inl refl) (inr (record
         subst (λ q. Contains places q) (same_place p (sym at) is.2) (contains_tail shared_place (object_place ∷
         []) object_place (contains_head object_place []))
 
--- what the world has: g, and the object
+-- the names and nodes of the world: g, and the object
 
 only_names : (maker serial : ℕ) (node : Node) → node_of worked.world (record { maker = maker; serial = serial }) ≡ Some node →
     (shared_name ≡ record { maker = maker; serial = serial }) ⊎ (object_name ≡ record { maker = maker; serial = serial })
@@ -83,7 +83,7 @@ object_fields = has_slots (Contains places) (0 ∷ 32771 ∷ 32 ∷ (replicate 1
 makers_differ : object_name ≡ shared_name → ⊥
 makers_differ e = let makers = ap (λ (n : Name). n.maker) e in omega arith
 
--- the object lies in the first segment, as many words as it has
+-- the object's words lie in the first segment
 in_first : (size : ℕ) → size ≤ 4 → LiesInSegment layout 32 size
 in_first size most = (0, λ i from before. record { exists = lit< tt; from = omega (arith, from); before = omega (arith, before, most) })
 
@@ -178,7 +178,7 @@ next : (m serial : ℕ) → slice_get (1 ∷ []) m ≡ Some serial → serial �
 next zero serial e = sym (some_is 1 serial e)
 next (suc m) serial e = absurd cc
 
--- the segments stand for the allocation state: the first has one block in use, and the others are as before the first use
+-- the segments represent the allocation state: the first has one block in use, and each other is as before its first use
 
 used_first : (block : ℕ) → IsSome (name_in (cells placed 0) block) ↔ InUse (nth object_segments.segments 0) block
 used_first zero = (λ some. inl (lit< tt), λ used. refl)
@@ -242,7 +242,7 @@ pub object_is_lawful : NewStands → ObjectIsLawful
 object_is_lawful new = record {
   run = object_run;
   is_run = object_is_run;
-  tells = record { rounds_are = refl; stops_are = refl; cycles_are = refl };
+  agrees = record { rounds_are = refl; stops_are = refl; cycles_are = refl };
   end_is = refl;
   weaks = [];
   weaks_are = refl;

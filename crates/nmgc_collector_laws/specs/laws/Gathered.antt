@@ -1,4 +1,4 @@
--- The seats of mutators that did their slices have every part of the round, and each mutator has what its part says.
+-- The seats of mutators that did their slices have every part of the round, and each mutator has worked as its part says.
 use Rattle.std.specs.Prelude.{◌≡◌, ◌∷◌, ◌++◌}
 use Rattle.nmgc_collector_laws.specs.laws.Vocabulary.{ℕ, suc, List, [], get_or, map, refl, sym, ap, subst, ◌∙◌, arith, append_assoc, append-nil, Some, slice_get, All, length-map, slice_get-get_or, slice_get_within, item_map, item, map_item, Round, DoneRow, Opening, Part, Seen, whole, hand_of, hand_now, AllReply, RoundSeat, IsAt, seen, alone, collecting, together, all_together, CanOpen, HasAll, HasEach, Mutator, part_of, HasHand, numbers, all_recorded, all_weaks, all_finalised, HasDone, Done, HasWorked, HaveWorked, IsResting, SlicesAreDone, SlicesAreGathered, same_opening, still_collects}
 use Rattle.nmgc_collector_laws.specs.laws.Reading.{item_found}
@@ -7,7 +7,7 @@ use Rattle.nmgc_collector_laws.specs.laws.Reading.{item_found}
 abbrev pub own_part : RoundSeat → Part
 own_part seat = part_of (seen seat)
 
--- and it puts the parts of all seats in a row
+-- the parts of all seats in a row
 parts_together : (v : Seen) (seats : List RoundSeat) → ((k : ℕ) (seat : RoundSeat) → slice_get seats k ≡ Some seat →
     (seen seat).parts ≡ own_part seat ∷ []) → (all_together v (map seen seats)).parts ≡ v.parts ++ map own_part seats
 parts_together v [] one = sym (append-nil v.parts)
@@ -16,7 +16,7 @@ parts_together v (s ∷ ss) one =
 
 module _ (o : Opening) (before : List ℕ) (round : Round) (old mutators : List Mutator) (seats : List RoundSeat) (done : List (List Done))
     (opens : CanOpen o before) (h : SlicesAreDone o round old mutators seats done) where
-  -- what was done from the seat of this number
+  -- the work from the seat of this number
   pub record IsSlice (k : ℕ) (seat : RoundSeat) : Type 0 where
     pub m : Mutator
     pub n : Mutator
@@ -36,7 +36,7 @@ module _ (o : Opening) (before : List ℕ) (round : Round) (old mutators : List 
       let d = item done k (omega arith) in
       record { m = m.0; n = n.0; d = d.0; was = m.1; new = n.1; own = d.1; resting = h.resting k m.0 m.1; did = h.each k m.0 n.0 seat d.0 m.1 n.1 e d.1 }
 
-  -- its part says what its mutator did
+  -- its part has its mutator's work
   part_worked : (k : ℕ) (seat : RoundSeat) (s : IsSlice k seat) → HasWorked o (own_part seat) s.n s.d
   part_worked k seat s =
       let w = s.did.went in
@@ -56,7 +56,7 @@ module _ (o : Opening) (before : List ℕ) (round : Round) (old mutators : List 
             (λ i. all_finalised (sym s.did.layout i) (hand_of o.hands (sym w.number i)) (sym w.added i));
       }
 
-  -- what the seat knows that takes all of them in
+  -- the view that takes in all of them
   abbrev pub gathered : Seen
   gathered = all_together (collecting (whole o)) (map seen seats)
 

@@ -1,8 +1,8 @@
--- Where the objects lie that were there as a round began.
+-- The objects that were there as a round began, by address.
 use Rattle.std.specs.Prelude.{◌*◌, ◌<◌, ◌≤◌}
 use Rattle.nmgc_collector_laws.specs.laws.Vocabulary.{ℕ, suc, List, arith, inl, inr, Contains, mul-le-mul_right, nursery_place, HEADER_WORDS, Place, LiesWell, Opening, CanOpen}
 
--- they lie below the nurseries: g in its own words, the others in segments
+-- they lie below the nurseries: g in its own words, all other objects in segments
 pub opened_below : (o : Opening) (before : List ℕ) → CanOpen o before → (p : Place) → Contains o.places p → p.at < nursery_place o.layout 0
 opened_below o before can p c = by_place (can.represents.named p c).lies
   where

@@ -14,7 +14,7 @@ registers_count (m ∷ ms) all =
     let both = length-append m.registers (registers_of ms) in
     omega arith
 
--- a mutator's own stand there one after another
+-- the registers of a mutator lie there one after another
 pub registers_at : (mutators : List Mutator) → HaveAll mutators → (k : ℕ) (m : Mutator) (i : ℕ) → slice_get mutators k ≡ Some m → i < REGISTERS →
     slice_index (registers_of mutators) (REGISTERS * k + i) ≡ slice_index m.registers i
 registers_at [] all k m i e lt = absurd cc
@@ -29,7 +29,7 @@ registers_at (n ∷ ms) all (suc k) m i e lt =
     cc (at, get_or-append-add n.registers (registers_of ms) (REGISTERS * k + i) 0, registers_at ms (λ j x is. all (suc j) x is) k m i e lt)
 
 module _ (P : Place → Type 0) where
-  -- words that stand for values one by one are a list that stands for them
+  -- words that mean values one by one are a list that means them
   pub list_of : (words : List ℕ) (values : List Value) → length words ≡ length values →
       ((i : ℕ) (v : Value) → slice_get values i ≡ Some v → Means P (slice_index words i) v) → ListMeans P words values
   list_of [] [] long h = tt
@@ -51,7 +51,7 @@ module _ (P : Place → Type 0) where
   list_long (w ∷ ws) [] h = absurd h
   list_long (w ∷ ws) (v ∷ vs) h = ap suc (list_long ws vs h.1)
 
-  -- the values of one mutator's registers, by their words among those of all
+  -- the values of one mutator's registers, by their words in the list of all
   module _ (mutators : List Mutator) (all : HaveAll mutators) (k : ℕ) (m : Mutator) (there : slice_get mutators k ≡ Some m) (values : List Value) where
     pub own_mean : length values ≡ REGISTERS → AllMean P (registers_of mutators) (REGISTERS * k) values → ListMeans P m.registers values
     own_mean many h =

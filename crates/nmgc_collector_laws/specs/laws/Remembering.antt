@@ -1,4 +1,4 @@
--- A round leaves what the promotion of its stop asks.
+-- A round leaves all that the promotion of its stop needs.
 use Rattle.std.specs.Prelude.{◌≡◌, ◌<◌, ◌≤◌, ◌∷◌}
 use Rattle.nmgc_collector_laws.specs.laws.Vocabulary.{List, arith, sym, ap, subst, ◌∙◌, inl, inr, None, IsSome, Contains, Name, Ref, Parts, World, IsWorld, node_of, shared_name, Row, replayed, RefersTo, IsAlive, contains_head, contains_tail, contains_cases, HasStrongField, place_of_field, absent, old_refers_to_young, old_weaks_stay, nursery_place, Layout, IsSegments, Place, Represents, NoNode, IsEarlier, IsTracked, past_tracked, AreUsed, LieInOrder, AreBlocks, Remembers, IsRoundOf, HasReserve, HoldsAfterRound, snapshots, RoundIsRemembered, RoundIsForgotten, stopped_after, last_state, CollectorSeen, ends_of, nurseries_of, recorded_in, young_weaks_in, IsSoundRound, State, Plan, layout_of, block_low, born_high, old_low, rows_keep_headers, blocks_after_round, states_are_sound, rounds_are_sound}
 
@@ -19,7 +19,7 @@ module _ (plan : Plan) (s t : State) (rows : List Row) (places : List Place) (se
       p.at < nursery_place (layout_of plan) 0
   outside e p c d there = old_low (layout_of plan) s t places seen.words seen.segments (ends_of seen) seen.weaks segments h p d (sound.names e c p.name there)
 
-  -- what lies high was born, and what was born lies high
+  -- the objects in nurseries are exactly the new objects
   high_young : (p : Place) → Contains places p → nursery_place (layout_of plan) 0 ≤ p.at → node_of s.world p.name ≡ None
   high_young p c high = elim (h.sound p c) [
     | inl (inl g) ↦ let at = ap (λ (q : Place). q.at) g in absurd (omega (arith, at, high))
@@ -38,7 +38,7 @@ module _ (plan : Plan) (s t : State) (rows : List Row) (places : List Place) (se
       there : node_of s.world shared_name ≡ None → ⊥
       there e = cc
 
-  -- an old object that refers to a young one was in the wide reach as the round began
+  -- an old object that refers to a new object was in the wide reach as the round began
   changed : (holder name : Name) → IsSome (node_of s.world holder) → node_of s.world name ≡ None → RefersTo t.world holder name →
       IsTracked t.world (s.world ∷ snapshots t.progress) holder
   changed holder name old none refers =

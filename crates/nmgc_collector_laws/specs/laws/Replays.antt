@@ -1,14 +1,14 @@
--- The events of a round as rows of a history: the world takes their commands in turn, and keeps what it was.
+-- The events of a round as rows of a history: the world takes their commands in turn, and stays a world.
 use Rattle.std.specs.Prelude.{◌≡◌, ◌∷◌}
 use Rattle.nmgc_collector_laws.specs.laws.Vocabulary.{List, [], sym, subst, World, IsWorld, replayed, IsLegalHistory, CanReplay, step_keeps_world, after_command, after_scan, IsEarlier, step_keeps_earlier, Happening, did, scanned, replay, IsLegal, rows_in, world_scanned}
 use Rattle.nmgc_snapshot_laws.specs.State.{State}
 
--- what `nmgc_round` says of the commands among events
+-- the law of `nmgc_round` on the commands among events
 abbrev pub EventsAreHistory : Type 0
 EventsAreHistory = (s : State) (events : List Happening) → IsLegal s events → IsLegalHistory s.world (rows_in events) ×
     ((replay s events).world ≡ replayed s.world (rows_in events))
 
--- the world takes each command at its place
+-- the world takes each command at its position
 pub can_replay : (s : State) (hs : List Happening) → IsLegal s hs → CanReplay s.world (rows_in hs)
 can_replay s [] legal = tt
 can_replay s (did m c r ∷ hs) legal = (legal.0.0.1, can_replay (after_command s m c) hs legal.1)

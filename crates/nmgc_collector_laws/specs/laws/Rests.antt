@@ -2,7 +2,7 @@
 use Rattle.std.specs.Prelude.{◌<◌}
 use Rattle.nmgc_collector_laws.specs.laws.Vocabulary.{ℕ, List, inl, inr, sym, subst, Contains, World, Segments, Moved, settled, Place, Represents, NoNode, RepresentsRoots, settled_cases, Stopped, IsSettled, young_base, SettledIsAtRest}
 
--- what moved lies in segments, and what didn't lay there
+-- after the promotion all objects lie below the nurseries
 pub settled_low : (t : Stopped) (s : Segments) (words registers : List ℕ) (queues : List (List ℕ)) (moves : List Moved) →
     IsSettled t s words registers queues moves → (p : Place) → Contains (settled (young_base s) moves t.places) p → p.at < young_base s
 settled_low t s words registers queues moves h p c = elim (settled_cases (young_base s) moves t.places p c) [

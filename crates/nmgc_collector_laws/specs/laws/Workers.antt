@@ -1,7 +1,7 @@
--- A mutator of a round by its number: its part of the view, itself, and what it did.
+-- A mutator of a round by its number: its part of the view, its state, and its work.
 use Rattle.nmgc_collector_laws.specs.{laws.Vocabulary.◌≡◌, laws.Vocabulary.ℕ, laws.Vocabulary.◌<◌, laws.Vocabulary.List, laws.Vocabulary.◌∙◌, laws.Vocabulary.arith, laws.Vocabulary.Some, laws.Vocabulary.slice_get, laws.Vocabulary.some, laws.Vocabulary.get_elem?, laws.Vocabulary.Opening, laws.Vocabulary.Part, laws.Vocabulary.Mutator, laws.Vocabulary.Done, laws.Vocabulary.HasWorked, laws.Vocabulary.HaveWorked, laws.Vocabulary.item, laws.Reading.item_found}
 
--- mutator k, with its part of the view and what it did
+-- mutator k, with its part of the view and its work
 pub record Worker (o : Opening) (parts : List Part) (mutators : List Mutator) (done : List (List Done)) (k : ℕ) : Type 0 where
   pub part : Part
   pub mutator : Mutator

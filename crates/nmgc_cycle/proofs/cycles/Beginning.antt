@@ -1,9 +1,9 @@
--- A cycle begins at a stop exactly where one is due by the rule of the run.
+-- A cycle begins at a stop exactly if one is due by the rule of the run.
 use Rattle.nmgc_cycle.proofs.Vocabulary.{◌≡◌, true, false, refl, sym, ap, subst, ◌∙◌, arith, inl, inr, State, Progress, idle, marking, sweeping, phase_of, is_idle, IsCycleDue, Script, Collector, Doing, IsDue, phase_in, StandsAt, StartingLeads, BeginningLeads}
 use Rattle.nmgc_journal.specs.declared.report.Phase.TheVariants as phase
 use Rattle.nmgc_cycle.specs.declared.progress.Progress.TheVariants as doing
 
--- the collector is idle exactly where the run's state is
+-- the collector is idle exactly if the run's state is
 idle_then : (p : Doing) (q : Progress) → phase_in p ≡ phase_of q → p ≡ doing.Idle → is_idle q ≡ true
 idle_then p idle e is = refl
 idle_then p (marking k) e is = absurd (let bad : phase.Idle ≡ phase.Marking = ap phase_in (sym is) ∙ e in cc)

@@ -1,11 +1,11 @@
--- The end of a cycle at a stop: its row tells its census, and the collector stands for the state in which none is in progress.
-use Rattle.nmgc_cycle.proofs.Vocabulary.{ℕ, ◌≡◌, List, [], ◌∷◌, ◌++◌, refl, sym, ap, subst, ◌∙◌, inl, inr, append-nil, World, HasNone, none_to_sweep, Represents, NoNode, IsTracked, CycleRow, IsCensus, EndsOrWaits, IsSwept, HoldsInCycle, IsPacedAtStop, IsInCourse, HoldsAtStop, snapshots, ends_of, IsSoundState, State, Plan, Progress, idle, marking, sweeping, phase_of, plan_of, layout_of, Cycle, Script, EndTellsCensus, TellsCensus, IsAtWork, map-append, Collector, Doing, Sweeping, row_of, Ends, Sweeps, seen, cycle_in, phase_in, died, told_row, told_cycles, StandsAt, EndLeads, nothing_in}
-use Rattle.nmgc_alloc.specs.declared.search.Sought.TheVariants as sought
+-- The end of a cycle at a stop: its row has its census, and the collector represents the state without a cycle in progress.
+use Rattle.nmgc_cycle.proofs.Vocabulary.{ℕ, ◌≡◌, List, [], ◌∷◌, ◌++◌, refl, sym, ap, subst, ◌∙◌, inl, inr, append-nil, World, HasNone, none_to_sweep, Represents, NoNode, IsTracked, CycleRow, IsCensus, EndsOrWaits, IsSwept, HoldsInCycle, IsPacedAtStop, IsInCourse, HoldsAtStop, snapshots, ends_of, IsSoundState, State, Plan, Progress, idle, marking, sweeping, phase_of, plan_of, layout_of, Cycle, Script, EndShowsCensus, ShowsCensus, IsAtWork, map-append, Collector, Doing, Sweeping, row_of, Ends, Sweeps, seen, cycle_in, phase_in, died, report_row, report_cycles, StandsAt, EndLeads, nothing_in}
+use Rattle.nmgc_alloc.specs.declared.search.Category.TheVariants as sought
 use Rattle.nmgc_journal.specs.declared.report.Phase.TheVariants as phase
 use Rattle.nmgc_cycle.specs.declared.progress.Progress.TheVariants as doing
-use Rattle.nmgc_cycle.proofs.{cycles.StepReady.none_back, stops.Telling.kept_told}
+use Rattle.nmgc_cycle.proofs.{cycles.StepReady.none_back, stops.Reporting.kept_known}
 
--- the collector once the cycle has ended, and its state
+-- the collector after the end of the cycle, and its state
 abbrev pub ended : Collector → ℕ → ℕ → CycleRow → Collector
 ended c turns upper row = record c {
   cycle = record c.cycle { progress = doing.Idle; turns = turns; upper_turns = upper };
@@ -61,18 +61,18 @@ module _ (script : Script) (c : Collector) (s : State) (h : StandsAt script c s)
   abbrev pub row : CycleRow
   row = row_of c.cycle.begun s.number w (died c.heap.weaks.deaths)
 
-  census : EndTellsCensus → IsSwept s → IsCensus k closed s.number (told_row row)
+  census : EndShowsCensus → IsSwept s → IsCensus k closed s.number (report_row row)
   census law swept =
-      let told : TellsCensus k w.sweeper =
+      let reported : ShowsCensus k w.sweeper =
       law k closed (seen c).words s.allocation c.heap.segments (cycle_in (doing.Sweeping w) (died c.heap.weaks.deaths)) w.sweeper work swept in
       record {
         number = h.matches.begun ∙ sym course.0.number_is;
         from = work.sweeping.from_is;
         closed_at = work.sweeping.closed_is;
         ended_at = refl;
-        swept = told.swept;
-        had = told.had;
-        freed = told.freed;
+        swept = reported.swept;
+        had = reported.had;
+        freed = reported.freed;
         dead = work.sweeping.dead;
         kept = work.sweeping.kept;
       }
@@ -80,7 +80,7 @@ module _ (script : Script) (c : Collector) (s : State) (h : StandsAt script c s)
   stands_then : (turns upper : ℕ) → IsSwept s → StandsAt script (ended c turns upper row) (idled s)
   unfolding heap
   stands_then turns upper swept = record {
-    kept = kept_told script c (ended c turns upper row) refl h.kept;
+    kept = kept_known script c (ended c turns upper row) refl h.kept;
     sound = sound;
     course = swept;
     matches = record { phase = refl; begun = h.matches.begun; collect = h.matches.collect; full = h.matches.full };
@@ -94,30 +94,30 @@ module _ (script : Script) (c : Collector) (s : State) (h : StandsAt script c s)
   }
 
   -- the cycle ended
-  pub ends_now : EndTellsCensus → (new : Collector) → HasNone sought.Sweeping c.heap.segments → new ≡ ended c w.sweeper.turns w.sweeper.upper_turns row →
-      (t : State) × (rows : List CycleRow) × EndsOrWaits s.progress s t rows × (told_cycles new ≡ told_cycles c ++ rows) × StandsAt script new t
+  pub ends_now : EndShowsCensus → (new : Collector) → HasNone sought.Sweeping c.heap.segments → new ≡ ended c w.sweeper.turns w.sweeper.upper_turns row →
+      (t : State) × (rows : List CycleRow) × EndsOrWaits s.progress s t rows × (report_cycles new ≡ report_cycles c ++ rows) × StandsAt script new t
   ends_now law new waits new_is =
       let swept : IsSwept s = none_to_sweep c.heap.segments (seen c).words s.allocation h.heap.holds.stands waits in (
         idled s,
-        told_row row ∷ [],
+        report_row row ∷ [],
         rw is (inl (
           swept,
-          record { row = told_row row; census = census law swept; told = refl; rest = refl },
+          record { row = report_row row; census = census law swept; cycles_are = refl; rest = refl },
         )),
-        ap told_cycles new_is ∙ map-append told_row c.rows.cycles (row ∷ []),
+        ap report_cycles new_is ∙ map-append report_row c.rows.cycles (row ∷ []),
         subst (λ (x : Collector). StandsAt script x (idled s)) (sym new_is) (stands_then w.sweeper.turns w.sweeper.upper_turns swept),
       )
 
-module _ (law : EndTellsCensus) (script : Script) (old new : Collector) (s : State) (h : StandsAt script old s) where
+module _ (law : EndShowsCensus) (script : Script) (old new : Collector) (s : State) (h : StandsAt script old s) where
   abbrev Leads : Type 0
-  Leads = (t : State) × (rows : List CycleRow) × EndsOrWaits s.progress s t rows × (told_cycles new ≡ told_cycles old ++ rows) × StandsAt script new t
+  Leads = (t : State) × (rows : List CycleRow) × EndsOrWaits s.progress s t rows × (report_cycles new ≡ report_cycles old ++ rows) × StandsAt script new t
 
   stays : (q : Progress) → s.progress ≡ q → EndsOrWaits q s s [] → new ≡ old → Leads
   stays q is waits same = (
     s,
     [],
     subst (λ (p : Progress). EndsOrWaits p s s []) (sym is) waits,
-    ap told_cycles same ∙ sym (append-nil (told_cycles old)),
+    ap report_cycles same ∙ sym (append-nil (report_cycles old)),
     subst (λ (x : Collector). StandsAt script x s) (sym same) h,
   )
 
@@ -139,8 +139,8 @@ module _ (law : EndTellsCensus) (script : Script) (old new : Collector) (s : Sta
     )) x.1
   ]
 
--- so it is at every stop
-pub end_leads : EndTellsCensus → EndLeads
+-- the end at any stop
+pub end_leads : EndShowsCensus → EndLeads
 end_leads law script old new s limits h step =
     let phases : phase_in old.cycle.progress ≡ phase_of s.progress = h.matches.phase in
     by_case law script old new s h old.cycle.progress s.progress refl refl phases step

@@ -1,6 +1,5 @@
--- A marker that finished, with the weak pointers resolved, closes its cycle within the bounds, and the collector
--- stands for the closed state, in which the cycle sweeps.
-use Rattle.nmgc_cycle.proofs.Vocabulary.{ℕ, ◌≡◌, ◌+◌, ◌-◌, ◌^◌, ◌<◌, ◌≤◌, List, [], ◌∷◌, length, refl, sym, ap, subst, ◌∙◌, arith, IsSome, length-map, StandsFor, Segments, IsSegments, carried_stands, HeapRests, MarkedHolds, FinishMayResolve, ResolveCloses, ClosedHolds, ClosedCycleSweeps, IsStopOf, IsClosingOf, HaveJoinedInRun, TellsDeaths, closed_state, finished_on, stop_opening, MarkedWait, all_carried, AreEmpty, Name, closed, World, node_of, is_some_of, item_map, nothing_in, Place, IsEarlier, size_of, closing_keeps_earlier, closing_tracks, world_is_earlier, map_item, IsFor, Mutator, IsWhole, Layout, Nursery, HEADER_WORDS, Header, closed_world, closed_names, closed_mutators, closed_serials, Opening, IsKeptObject, Cycle, ClosesNow, IsForcedSoon, IsSoon, AreNurseries, EachMutator, IsEmptied, IsMarking, IsPacedAtStop, HoldsAtStop, Counts, AreSettled, IsSweeping, epoch_of, IsEpoch, CollectorSeen, ends_of, nurseries_of, IsSoundState, State, Progress, idle, marking, sweeping, phase_of, plan_of, layout_of, tracked_fewer, Script, ClosingBeginsWork, IsClosedNow, LeftStays, AreLeft, HasNotes, turned, IsAtWork, Death, IsClosedBy, AreDeaths, HasResolved, places_of, Weaks, HaveEntries, Collector, Marking, Doing, Sweeping, HasClosed, IsClosed, ClosesNowBy, FinishingNowLeads, IsWellFormed, queues_in, died, phase_in, seen, seen_mutator, words_in, StandsAt, IsPacedWithin, FinishingLeads, IsLined, epoch_sound}
+-- A finished marker with resolved weak pointers closes its cycle in bounds, and the collector represents the sweeping state.
+use Rattle.nmgc_cycle.proofs.Vocabulary.{ℕ, ◌≡◌, ◌+◌, ◌-◌, ◌^◌, ◌<◌, ◌≤◌, List, [], ◌∷◌, length, refl, sym, ap, subst, ◌∙◌, arith, IsSome, length-map, StandsFor, Segments, IsSegments, carried_stands, HeapRests, MarkedHolds, FinishMayResolve, ResolveCloses, ClosedHolds, ClosedCycleSweeps, IsStopOf, IsClosingOf, HaveJoinedInRun, ShowsDeaths, closed_state, finished_on, stop_opening, MarkedWait, all_carried, AreEmpty, Name, closed, World, node_of, is_some_of, item_map, nothing_in, Place, IsEarlier, size_of, closing_keeps_earlier, closing_tracks, world_is_earlier, map_item, IsFor, Mutator, IsWhole, Layout, Nursery, HEADER_WORDS, Header, closed_world, closed_names, closed_mutators, closed_serials, Opening, IsKeptObject, Cycle, ClosesNow, IsForcedSoon, IsSoon, AreNurseries, EachMutator, IsEmptied, IsMarking, IsPacedAtStop, HoldsAtStop, Counts, AreSettled, IsSweeping, epoch_of, IsEpoch, CollectorSeen, ends_of, nurseries_of, IsSoundState, State, Progress, idle, marking, sweeping, phase_of, plan_of, layout_of, tracked_fewer, Script, ClosingBeginsWork, IsClosedNow, LeftStays, AreLeft, HasNotes, turned, IsAtWork, Death, IsClosedBy, AreDeaths, HasResolved, places_of, Weaks, HaveEntries, Collector, Marking, Doing, Sweeping, HasClosed, IsClosed, ClosesNowBy, FinishingNowLeads, IsWellFormed, queues_in, died, phase_in, seen, seen_mutator, words_in, StandsAt, IsPacedWithin, FinishingLeads, IsLined, epoch_sound}
 use Rattle.nmgc_mark.specs.Stopped.{HasFinished}
 use Rattle.nmgc_run_spec.specs.Closing.{Closes}
 use Rattle.nmgc_run_laws.specs.Sound.{left_of}
@@ -8,7 +7,7 @@ use Rattle.nmgc_journal.specs.declared.report.Phase.TheVariants as phase
 use Rattle.nmgc_cycle.specs.declared.progress.Progress.TheVariants as doing
 use Rattle.nmgc_cycle.proofs.{cycles.Pacing.forced_soon, cycles.Queued.AreWith, cycles.Queued.are_with, cycles.Queued.new_queues, cycles.Queued.old_queues, cycles.Queued.one_with, cycles.Queued.same_nurseries, cycles.Queued.same_registers, cycles.Queued.same_serials, cycles.Queued.same_whole, cycles.StepReady.StandsInPace, cycles.StepReady.marks, cycles.StepReady.rests_there}
 
--- the laws on which a closing rests
+-- the laws that a closing uses
 pub record ClosingLaws : Type 0 where
   pub rests : HeapRests
   pub may : FinishMayResolve
@@ -20,7 +19,7 @@ pub record ClosingLaws : Type 0 where
   pub left : LeftStays
   pub works : ClosingBeginsWork
 
--- the deaths are told by their names
+-- the names of the deaths
 died_are : (o : Opening) (dead : List Name) (deaths : List Death) → AreDeaths o dead deaths → died deaths ≡ dead
 died_are o [] [] h = refl
 died_are o [] (death ∷ deaths) h = absurd h
@@ -59,7 +58,7 @@ module _ (Paced : Cycle → State → CollectorSeen → Type 0) (laws : ClosingL
   abbrev work : Sweeping
   work = record { from = m.from; closed = st.number; kept = cl.marker.marked; sweeper = turned m.sweeper m.marker.turns }
 
-  -- the cycle as it marked, and what the calls did
+  -- the cycle as it marked, and the effect of the calls
 
   abbrev now : IsMarking k s (seen old) h.heap.places × Paced k s (seen old)
   now = marks Paced laws.rests script old s h k refl
@@ -97,7 +96,7 @@ module _ (Paced : Cycle → State → CollectorSeen → Type 0) (laws : ClosingL
   closed_by : IsClosedBy k s dead cl.marked cl.marker
   closed_by = laws.closes layout k s (seen old) c.mutators.items words cl.marked cl.marker weaks.list weaks.deaths closing
 
-  -- the marker has counted what is kept, and marked no less than before
+  -- the marker has counted the kept objects, and marked no less than before
 
   pub kept_there : Counts (IsKeptObject k) cl.marker.marked
   kept_there = closed_by.kept
@@ -137,7 +136,7 @@ module _ (Paced : Cycle → State → CollectorSeen → Type 0) (laws : ClosingL
   same_there : nurseries_of (seen next) ≡ nurseries_of (seen old)
   same_there = same_nurseries cl.joined.queues c.mutators.items later with_queues
 
-  -- words, roots and list stand for the closed world
+  -- words, roots and list represent the closed world
 
   closed_heap : (g : HoldsAtStop layout t words cl.marked (ends_of (seen next)) (places_of weaks.list)) × (g.places ≡ h.heap.places)
   closed_heap = laws.holds layout k s (seen old) c.mutators.items words cl.marked cl.marker weaks.list weaks.deaths cl.joined.queues
@@ -162,8 +161,8 @@ module _ (Paced : Cycle → State → CollectorSeen → Type 0) (laws : ClosingL
 
   -- the cycle sweeps
 
-  tells : TellsDeaths k st.number dead cl.marker (seen next).cycle
-  tells = record {
+  agrees : ShowsDeaths k st.number dead cl.marker (seen next).cycle
+  agrees = record {
     from_is = now.0.from_is;
     closed_is = refl;
     dead_is = died_are (finished_on o cl.between cl.finisher finished) dead weaks.deaths resolved.deaths_are;
@@ -172,7 +171,7 @@ module _ (Paced : Cycle → State → CollectorSeen → Type 0) (laws : ClosingL
 
   sweeps_then : IsSweeping k st.number st.allocation segments (seen next).cycle m.sweeper.seen × AreSettled st.begun segments
   sweeps_then = laws.sweeps k s dead words cl.marked cl.marker (seen next).cycle m.sweeper.seen cl.sound.0 closed_heap.0.holds.stands h.course.0
-      h.course.1 closed_by epoch_is tells now.0.noted h.sweeper.2 h.sweeper.3
+      h.course.1 closed_by epoch_is agrees now.0.noted h.sweeper.2 h.sweeper.3
 
   left_then : AreLeft segments m.sweeper
   left_then = laws.left c.heap.segments segments m.sweeper (laws.waits c.heap.segments segments before words st.allocation h.heap.holds.stands stands_then)
@@ -200,7 +199,7 @@ module _ (Paced : Cycle → State → CollectorSeen → Type 0) (laws : ClosingL
   at_work = laws.works k st.number words st.allocation segments (seen next).cycle (turned m.sweeper m.marker.turns) stands_then notes_then
       left_turned h.sweeper.1 h.sweeper.2 h.sweeper.3 closed_now
 
-  -- the collector keeps what it keeps, and the state is sound
+  -- the collector stays well-formed, and the state is sound
 
   still_kept : IsWellFormed script next
   still_kept = record {
@@ -311,7 +310,7 @@ module _ (Paced : Cycle → State → CollectorSeen → Type 0) (laws : ClosingL
     },
   )
 
--- whatever is known of its pace, a marker that finished closes its cycle
+-- a marker that finished closes its cycle, whatever the facts on its pace
 module _ (Paced : Cycle → State → CollectorSeen →
     Type 0) (laws : ClosingLaws) (script : Script) (old new : Collector) (s : State) (k : Cycle) (m : Marking) (w : Sweeping)
     (h : StandsInPace Paced script old s) (is : s.progress ≡ marking k) (at : old.cycle.progress ≡ doing.Marking m) (progress : new.cycle.progress ≡
@@ -373,7 +372,7 @@ finishing_leads laws script old new s k m w limits h is at none_left progress cl
     let more = marks_more P laws script old new s k m w h is at progress closing.rest closing.has_words cl in
     (there.0, there.1, paced.closes none_left cl.marker.marked more counted, there.2)
 
--- a closing whatever is left to scan isn't too late, by the pace
+-- a forced closing isn't too late, by the pace
 module _ (laws : ClosingLaws) (script : Script) (old new : Collector) (s : State) (h : StandsAt script old s)
     (closing : HasClosed ClosesNowBy s.number old new) where
   abbrev Leads : Type 0

@@ -1,13 +1,13 @@
 -- A full cycle is the run's, and a stop goes on as the run does.
-use Rattle.nmgc_cycle.proofs.Vocabulary.{ℕ, ◌≡◌, List, [], ◌++◌, length, Bool, false, refl, sym, ap, subst, ◌∙◌, inl, inr, arith, append-nil, append_assoc, IsSome, Segments, HasNone, IsSegments, FIRST_PLACE, counts_stand, CycleRow, ClosesNow, has_left, Plan, State, Progress, idle, marking, sweeping, cycle_started, free_count, plan_of, Finishes, DoesFullCycle, EndsOrWaits, IsFullDue, Proceeds, is_short, with_all_retired, Script, Name, Collector, Marking, Doing, Sweeping, Begins, Ends, CanBegin, HasClosed, HasStarted, HasFinished, StandsAtStop, FinishingNowLeads, SweepingRestLeads, FinishLeads, FilingLeads, FullLeads, ProceedingLeads, words_in, told_cycles, IsInLimits, StandsAt, StartingLeads, EndLeads, BeginReady, BeginningLeads, ◌≤◌}
+use Rattle.nmgc_cycle.proofs.Vocabulary.{ℕ, ◌≡◌, List, [], ◌++◌, length, Bool, false, refl, sym, ap, subst, ◌∙◌, inl, inr, arith, append-nil, append_assoc, IsSome, Segments, HasNone, IsSegments, FIRST_PLACE, counts_stand, CycleRow, ClosesNow, has_left, Plan, State, Progress, idle, marking, sweeping, cycle_started, free_count, plan_of, Finishes, DoesFullCycle, EndsOrWaits, IsFullDue, Proceeds, is_short, with_all_retired, Script, Name, Collector, Marking, Doing, Sweeping, Begins, Ends, CanBegin, HasClosed, HasStarted, HasFinished, StandsAtStop, FinishingNowLeads, SweepingRestLeads, FinishLeads, FilingLeads, FullLeads, ProceedingLeads, words_in, report_cycles, IsInLimits, StandsAt, StartingLeads, EndLeads, BeginReady, BeginningLeads, ◌≤◌}
 use Rattle.nmgc_alloc.specs.Reserve as reserve
-use Rattle.nmgc_alloc.specs.declared.search.Sought.TheVariants as sought
+use Rattle.nmgc_alloc.specs.declared.search.Category.TheVariants as sought
 use Rattle.nmgc_segment.specs.declared.state.State.TheVariants as stands
 use Rattle.nmgc_cycle.specs.declared.progress.Progress.TheVariants as doing
 use Rattle.nmgc_cycle.specs.Full as full
-use Rattle.nmgc_cycle.proofs.{lengths.StopFew.none_waits, stops.Telling.stands_told, stops.WholeStop.KeepsOn, stops.WholeStop.ending_keeps, stops.WholeStop.beginning_keeps}
+use Rattle.nmgc_cycle.proofs.{lengths.StopFew.none_waits, stops.Reporting.stands_known, stops.WholeStop.KeepsOn, stops.WholeStop.ending_keeps, stops.WholeStop.beginning_keeps}
 
--- What a finish does with the run
+-- The effect of a finish on the run
 
 closing_now_keeps : (p : Progress) (s t : State) → ClosesNow p s t → KeepsOn s t
 closing_now_keeps idle s t e = record { number = ap (λ (x : State). x.number) e; left = ap (λ (x : State). x.left) e }
@@ -32,7 +32,7 @@ full_keeps s t rows d =
       left = ap (λ (x : State). x.left) d.rest ∙ again.left ∙ first.left;
     }
 
--- it doesn't look at what was asked for
+-- it doesn't depend on the requests
 module _ (v : Bool) where
   abbrev asking : State → State
   asking x = record x { collect = v }
@@ -45,7 +45,7 @@ module _ (v : Bool) where
   ends_asking : (p : Progress) (s t : State) (rows : List CycleRow) → EndsOrWaits p s t rows → EndsOrWaits p (asking s) (asking t) rows
   ends_asking idle s t rows h = (ap asking h.0, h.1)
   ends_asking (marking k) s t rows h = (ap asking h.0, h.1)
-  ends_asking (sweeping k since) s t rows (inl h) = inl (h.0, record { row = h.1.row; census = h.1.census; told = h.1.told; rest = ap asking h.1.rest })
+  ends_asking (sweeping k since) s t rows (inl h) = inl (h.0, record { row = h.1.row; census = h.1.census; cycles_are = h.1.cycles_are; rest = ap asking h.1.rest })
   ends_asking (sweeping k since) s t rows (inr h) = inr (h.0, ap asking h.1, h.2)
 
   finishes_asking : (s t : State) (rows : List CycleRow) → Finishes s t rows → Finishes (asking s) (asking t) rows
@@ -58,7 +58,7 @@ module _ (v : Bool) where
     ends = ends_asking f.swept.progress f.swept t rows f.ends;
   }
 
--- What a finish does with the collector: none is in progress then
+-- The effect of a finish on the collector: no cycle is in progress then
 
 no_marking : (stop : ℕ) (p : Doing) (old new : Collector) → old.cycle.progress ≡ p → full.ClosesNow stop p old new → (m : Marking) →
     new.cycle.progress ≡ doing.Marking m → ⊥
@@ -105,7 +105,7 @@ finish_leads closing sweeping_rest ending script old new s limits h f =
     let swept : State = record first.0 { allocation = rest.0 } in
     let number : first.0.number ≡ s.number = (closing_now_keeps s.progress s first.0 first.1).number in
     let last = ending script f.swept new swept limits rest.2 (subst (λ (n : ℕ). Ends n f.swept.cycle.progress f.swept new) (sym number) f.ends) in
-    let before : told_cycles f.swept ≡ told_cycles old = ap told_cycles f.sweeps.rest ∙ ap told_cycles f.closes.rest in (
+    let before : report_cycles f.swept ≡ report_cycles old = ap report_cycles f.sweeps.rest ∙ ap report_cycles f.closes.rest in (
       last.0,
       last.1,
       record { closed = first.0; closes = first.1; swept = swept; sweeps = rest.1; others = refl; ends = last.2 },
@@ -117,12 +117,12 @@ finish_leads closing sweeping_rest ending script old new s limits h f =
 
 -- The whole full cycle
 
-started_cycles : (stop : ℕ) (old new : Collector) → HasStarted stop old new → told_cycles new ≡ told_cycles old
-started_cycles stop old new h = ap told_cycles h.is ∙ ap told_cycles h.starts.rest
+started_cycles : (stop : ℕ) (old new : Collector) → HasStarted stop old new → report_cycles new ≡ report_cycles old
+started_cycles stop old new h = ap report_cycles h.is ∙ ap report_cycles h.starts.rest
 
-begun_cycles : (trigger stop : ℕ) (old new : Collector) → Begins trigger stop old new → told_cycles new ≡ told_cycles old
+begun_cycles : (trigger stop : ℕ) (old new : Collector) → Begins trigger stop old new → report_cycles new ≡ report_cycles old
 begun_cycles trigger stop old new (inl h) = started_cycles stop old new h.1
-begun_cycles trigger stop old new (inr h) = ap told_cycles h.1
+begun_cycles trigger stop old new (inr h) = ap report_cycles h.1
 
 pub full_leads : FinishLeads → FilingLeads → StartingLeads → FullLeads
 full_leads finish filing starting script old new s limits h d =
@@ -138,8 +138,8 @@ full_leads finish filing starting script old new s limits h d =
     let last : State = record again.0 { collect = idled.collect } in
     let own : Finishes (cycle_started (with_all_retired idled)) last again.1 =
     finishes_asking idled.collect (record (cycle_started (with_all_retired idled)) { collect = false }) again.0 again.1 again.2 in
-    let cycles : told_cycles new ≡ told_cycles old ++ (first.1 ++ again.1) =
-    cc (d.is, again.3, started_cycles s.number (full.with_all_retired d.idled) d.started d.starts, first.3, append_assoc (told_cycles old) first.1 again.1) in (
+    let cycles : report_cycles new ≡ report_cycles old ++ (first.1 ++ again.1) =
+    cc (d.is, again.3, started_cycles s.number (full.with_all_retired d.idled) d.started d.starts, first.3, append_assoc (report_cycles old) first.1 again.1) in (
       record again.0 { collect = false; full = false },
       first.1 ++ again.1,
       record {
@@ -149,18 +149,18 @@ full_leads finish filing starting script old new s limits h d =
         last = last;
         own = again.1;
         again = own;
-        told = refl {a = first.1 ++ again.1};
+        cycles_are = refl {a = first.1 ++ again.1};
         rest = refl {a = record again.0 { collect = false; full = false }};
       },
       cycles,
-      rw d.is (stands_told script d.last (record d.last { cycle = record d.last.cycle { collect = false; full = false } }) again.0 (record again.0 {
+      rw d.is (stands_known script d.last (record d.last { cycle = record d.last.cycle { collect = false; full = false } }) again.0 (record again.0 {
         collect = false;
         full = false;
       }) refl (refl {a = record again.0 { collect = false; full = false }}) refl refl again.4),
       first.6,
     )
 
--- Where one is due
+-- A full cycle that is due
 
 module _ (script : Script) (c : Collector) (s : State) (left : Bool) (h : StandsAt script c s) (left_is : left ≡ has_left s.left) where
   short_same : full.is_short_of left c ≡ is_short (plan_of script) s
@@ -186,16 +186,16 @@ proceeding_leads whole beginning script old new s left limits h left_is (inr x) 
       there.0,
       [],
       inr ((λ due. x.0 (full_due_back script old s left h left_is due)), there.1, refl),
-      begun_cycles script.config.trigger s.number old new x.1 ∙ sym (append-nil (told_cycles old)),
+      begun_cycles script.config.trigger s.number old new x.1 ∙ sym (append-nil (report_cycles old)),
       there.2,
     )
 
--- however it goes on, the number of the stop and what is left stay
+-- the number of the stop and the commands left stay, however it goes on
 pub proceeding_keeps : (plan : Plan) (s t : State) (rows : List CycleRow) → Proceeds plan s t rows → KeepsOn s t
 proceeding_keeps plan s t rows (inl x) = full_keeps s t rows x.1
 proceeding_keeps plan s t rows (inr x) = beginning_keeps plan.config s t x.1
 
--- What the calls of a full cycle ask for
+-- The requirements of the calls of a full cycle
 
 -- a finish begins no cycle
 pub finished_begun : (stop : ℕ) (old new : Collector) → HasFinished stop old new → new.cycle.begun ≡ old.cycle.begun
@@ -208,26 +208,26 @@ finished_begun stop old new f = ends_begun stop f.swept.cycle.progress f.swept n
     ends_begun stop (doing.Sweeping w) a b (inl h) = ap (λ (x : Collector). x.cycle.begun) h.1
     ends_begun stop (doing.Sweeping w) a b (inr h) = ap (λ (x : Collector). x.cycle.begun) h.1
 
--- once the cycle in progress was closed, the collector stands for a state at the same stop
+-- after the cycle in progress was closed, the collector represents a state at the same stop
 pub closed_at : FinishingNowLeads → (stop : ℕ) (old new : Collector) → StandsAtStop stop old → HasClosed full.ClosesNow stop old new →
     (script : Script) × (t : State) × IsInLimits script × StandsAt script new t
 closed_at closing stop old new (script, s, limits, number, h) closed =
     let led = closing script old new s limits h (subst (λ (n : ℕ). HasClosed full.ClosesNow n old new) (sym number) closed) in
     (script, led.0, limits, led.2)
 
--- once it was finished, none is in progress there
+-- after it was finished, no cycle is in progress there
 pub finished_at : FinishLeads → (stop : ℕ) (old new : Collector) → StandsAtStop stop old → HasFinished stop old new → StandsAtStop stop new ×
     (new.cycle.progress ≡ doing.Idle) × (new.cycle.begun ≡ old.cycle.begun)
 finished_at finish stop old new (script, s, limits, number, h) f =
     let led = finish script old new s limits h (subst (λ (n : ℕ). HasFinished n old new) (sym number) f) in
     ((script, led.0, limits, (finishing_keeps s led.0 led.1 led.2).number ∙ number, led.4), led.5, finished_begun stop old new f)
 
--- with all segments filed, too
+-- also with all segments filed
 pub filed_at : FilingLeads → (stop : ℕ) (c : Collector) → StandsAtStop stop c → c.cycle.progress ≡ doing.Idle →
     IsSegments (full.with_all_retired c).heap.segments → StandsAtStop stop (full.with_all_retired c)
 filed_at filing stop c (script, s, limits, number, h) none sound = (script, with_all_retired s, limits, number, filing script c s limits h none sound)
 
--- and once the next began
+-- and after the next cycle began
 pub started_at : StartingLeads → (stop : ℕ) (old new : Collector) → StandsAtStop stop old → old.cycle.progress ≡ doing.Idle → HasStarted stop old new →
     StandsAtStop stop new
 started_at starting stop old new (script, s, limits, number, h) none started = (
@@ -238,7 +238,7 @@ started_at starting stop old new (script, s, limits, number, h) none started = (
   starting script old new s limits h none (subst (λ (n : ℕ). HasStarted n old new) (sym number) started),
 )
 
--- what a beginning asks for
+-- the requirements of a beginning
 pub record BeginsAt (c : Collector) : Type 0 where
   pub words : IsSome c.heap.words
   pub inside : FIRST_PLACE ≤ length (words_in c.heap.words)
@@ -251,7 +251,7 @@ begins_at ready stop c (script, s, limits, number, h) = record {
   can = λ none. ready script c s limits h none;
 }
 
--- the collector once it was finished and filed, and what a beginning then asks for
+-- the finished and filed collector, and the requirements of a beginning
 pub record IsFiledAt (stop : ℕ) (old idled filed : Collector) : Type 0 where
   pub is : filed ≡ full.with_all_retired idled
   pub sound : IsSegments (full.with_all_retired idled).heap.segments

@@ -2,7 +2,7 @@
 use Rattle.nmgc_cycle.proofs.Vocabulary.{ℕ, ◌≡◌, ◌+◌, ◌≤◌, List, sym, ap, ◌∙◌, arith, inl, inr, cases_lt, AllocState, ClosingIsSoon, ClosingIsPaced, PaceAtStop, Scans, Core, IsSound, Place, IsKeptObject, interval_of, Cycle, IsSoon, IsPacedAfterRound, IsPacedAtStop, Counts, IsCoreOf, CollectorSeen, WorkSeen, State, one_more, IsPacedWithin, some_wait}
 use Rattle.nmgc_collector_laws.specs.Marker.{IsTied}
 
--- what the round left is in pace, and what was added since only waits behind it
+-- the round ended in pace, and later entries only wait behind
 pub paced_within : ClosingIsSoon → ClosingIsPaced → PaceAtStop →
     (quota : ℕ) (c : Cycle) (t : State) (old new : CollectorSeen) (allocation : AllocState) (places : List Place) (core : Core) → IsSound (interval_of c) →
     IsCoreOf c t.world core → IsTied c allocation old.segments places old.marker core → c.from + 1 ≤ t.number → IsPacedAfterRound quota c t old →
@@ -15,7 +15,7 @@ paced_within soon paced at_stop quota c t old new allocation places core sound i
   );
 }
 
--- a closing by force isn't too late: each round since the snapshot scanned its quota, and something waits still
+-- a forced closing isn't too late: each round since the snapshot scanned its quota, and some object still waits
 pub forced_soon : (quota : ℕ) (c : Cycle) (s : State) (seen : CollectorSeen) (kept : ℕ) → IsPacedAtStop quota c s seen → seen.marker.marked ≤ kept →
     Counts (IsKeptObject c) kept → IsSoon quota c s.number
 forced_soon quota c s seen kept paced more counts = elim (cases_lt c.from s.number) [

@@ -1,4 +1,4 @@
--- Segments whose snapshot was taken are segments still.
+-- Segments after a snapshot was taken are still sound.
 use Rattle.nmgc_cycle.proofs.Vocabulary.{ℕ, ◌<◌, length, sym, subst, ◌∙◌, arith, Segment, nth, Segments, IsMember, IsSegments, IsCurrent, prepared, nth-map, all_prepared, prepared_current, prepared_in}
 use Rattle.std.proofs.Math.ListN.{length-map}
 use Rattle.nmgc_alloc.specs.Segments.{IsOwn}

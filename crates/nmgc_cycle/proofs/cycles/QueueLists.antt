@@ -1,7 +1,7 @@
--- Loops over the mutators' queues: what one more step leaves.
+-- Loops over the mutators' queues: the effect of one more step.
 use Rattle.nmgc_cycle.proofs.{Vocabulary.ℕ, Vocabulary.◌≡◌, Vocabulary.◌+◌, Vocabulary.◌<◌, Vocabulary.◌≤◌, Vocabulary.List, Vocabulary.length, Vocabulary.get_or, Vocabulary.slice_index_or, Vocabulary.arith, Vocabulary.subst, Vocabulary.◌∙◌, Vocabulary.slice_set, Vocabulary.get_or_default, Vocabulary.Mutator, Vocabulary.OldWeak, Vocabulary.HasQueueRoom, Vocabulary.count_made_by, rounds.Reserving.up_to}
 
--- one queue more has room
+-- a further queue has room
 pub room_more : (list : List OldWeak) (was now : List Mutator) (n : ℕ) (m next : Mutator) → n < length was → length now ≡ length was →
     m ≡ get_or now n m → ((k : ℕ) (d : Mutator) → k < n →
     HasQueueRoom (count_made_by (slice_index_or was k d).number list) (slice_index_or was k d) (slice_index_or now k d)) →

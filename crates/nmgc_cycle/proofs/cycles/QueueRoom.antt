@@ -1,7 +1,7 @@
--- Mutators whose queues got more room are seen as before but for that, and it is room for each listed weak pointer of a snapshot.
+-- More room in queues changes only the view of that room, which suffices for each listed weak pointer of a snapshot.
 use Rattle.nmgc_cycle.proofs.Vocabulary.{ℕ, suc, ◌≡◌, ◌+◌, ◌<◌, ◌≤◌, Bool, true, false, cond, List, [], ◌∷◌, length, map, arith, refl, subst, slice_index_or, Some, slice_get, is_some, ◌==◌, ◌&&◌, sum_by-cons, get_or_from_slice_get, slice_get_within, slice_get-get_or, World, node_of, Place, Mutator, weak_count, MutatorSeen, end_of, OldWeak, place_of, places_of, HasQueueRoom, HaveQueueRoom, count_made_by, seen_mutator}
 
--- the first mutator, and the others
+-- the first mutator, and the rest
 first_room : (list : List OldWeak) (m n : Mutator) (old new : List Mutator) → HaveQueueRoom list (m ∷ old) (n ∷ new) →
     HasQueueRoom (count_made_by m.number list) m n
 first_room list m n old new h = h.each 0 m (omega arith)
@@ -12,7 +12,7 @@ rest_room list m n old new h = record {
   each = λ k d lt. h.each (suc k) d (omega arith);
 }
 
--- a report tells the same of them
+-- a report has the same of them
 one_end : (count : ℕ) (m n : Mutator) → HasQueueRoom count m n → end_of (seen_mutator n) ≡ end_of (seen_mutator m)
 one_end count m n h =
     cc (h.rest, h.words)
@@ -34,7 +34,7 @@ room_nurseries list (m ∷ old) [] h = absurd (let all : 0 ≡ length (m ∷ old
 room_nurseries list (m ∷ old) (n ∷ new) h =
     cc ((first_room list m n old new h).rest, room_nurseries list old new (rest_room list m n old new h))
 
--- each is one of before
+-- each is an earlier mutator
 pub one_room : (list : List OldWeak) (old new : List Mutator) → HaveQueueRoom list old new → (k : ℕ) (n : Mutator) → slice_get new k ≡ Some n →
     (m : Mutator) × (slice_get old k ≡ Some m) × HasQueueRoom (count_made_by m.number list) m n
 one_room list old new h k n e =
@@ -45,7 +45,7 @@ one_room list old new h k n e =
     let is : slice_index_or new k n ≡ n = get_or_from_slice_get new k n n e in
     (m, there, subst (λ (x : Mutator). HasQueueRoom (count_made_by m.number list) m x) is (h.each k n lt))
 
--- no more weak pointers of the list are in a snapshot than a mutator made
+-- a snapshot has at most the listed weak pointers that a mutator made
 fewer_if : (a b : Bool) → cond (a && b) 1 0 ≤ cond a 1 0
 fewer_if true true = omega arith
 fewer_if true false = omega arith

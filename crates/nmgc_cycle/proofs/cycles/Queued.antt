@@ -1,4 +1,4 @@
--- The mutators once finalisers have joined their queues: nothing else of them changed.
+-- The mutators after finalisers have joined their queues: nothing else of them changed.
 use Rattle.nmgc_cycle.proofs.Vocabulary.{ℕ, suc, ◌≡◌, ◌<◌, List, [], ◌∷◌, length, map, arith, refl, sym, ap, ◌∙◌, slice_index_or, Some, All, slice_get, slice_get_within, slice_get-get_or, All-cons, All-head, All-tail, FinQueue, Mutator, registers_of, queues_of, serials_of, HasAllRegisters, MutatorSeen, end_of, HaveQueues, no_queue, queues_in, seen_mutator}
 
 -- mutator by mutator
@@ -21,7 +21,7 @@ are_with (q ∷ qs) (m ∷ old) (n ∷ new) e h = (
   }),
 )
 
--- what contracts see of them
+-- their view in contracts
 pub same_registers : (queues : List FinQueue) (old new : List Mutator) → AreWith queues old new →
     registers_of (map end_of (map seen_mutator new)) ≡ registers_of (map end_of (map seen_mutator old))
 same_registers [] [] [] h = refl
@@ -73,7 +73,7 @@ same_whole (q ∷ qs) (m ∷ old) (n ∷ new) h all = All-cons HasAllRegisters (
     (cc (h.0, All-head HasAllRegisters (end_of (seen_mutator m)) (map end_of (map seen_mutator old)) all))
     (same_whole qs old new h.1 (All-tail HasAllRegisters (end_of (seen_mutator m)) (map end_of (map seen_mutator old)) all))
 
--- each is one of before
+-- each is an earlier mutator
 pub one_with : (queues : List FinQueue) (old new : List Mutator) → length queues ≡ length old → HaveQueues queues old new → (k : ℕ) (n : Mutator) →
     slice_get new k ≡ Some n → (m : Mutator) × (slice_get old k ≡ Some m) × (n ≡ record m { queue = n.queue })
 one_with queues old new e h k n is =

@@ -1,10 +1,10 @@
--- A cycle that was started where one is due is the run's next cycle.
+-- A due cycle that was started is the run's next cycle.
 use Rattle.nmgc_cycle.proofs.Vocabulary.{ℕ, ◌≡◌, ◌≢◌, ◌+◌, ◌≤◌, List, [], false, refl, sym, ap, subst, ◌∙◌, arith, Some, inl, inr, slice_get, Name, World, shared_name, contains_cases, nothing_in, Layout, Nursery, StandsFor, HasBlock, NoneIs, IsIn, cycle_begun, Segments, begun_names, SnapshotIsMarking, MarkedHolds, PaceBegins, StopIsPrepared, StopBegins, all_prepared, MarkedWait, AreEmpty, Place, IsEarlier, IsTracked, world_is_earlier, map_item, MutatorEnd, most_blocks, HasMarked, blank, IsFor, Mutator, Opening, AreNurseries, EachMutator, IsEmptied, IsMarking, IsPacedAtStop, weak_count, CyclesBeginInCourse, HoldsAtStop, snapshots, epoch_of, MutatorSeen, ends_of, nurseries_of, IsSoundState, State, next_cycle, cycle_started, plan_of, layout_of, Cycle, begun_filed, tracked_fewer, tracked_itself, Script, StartIsNoted, LeftStays, AreLeft, HasNotes, HasBegun, named_begun, HaveEntries, Collector, Marking, StartsMarking, next_epoch, IsWellFormed, IsOwn, HasQueueRoom, count_made_by, seen, seen_mutator, words_in, StandsAt, StartingLeads}
 use Rattle.nmgc_segment.specs.declared.state.State.TheVariants as stands
 use Rattle.nmgc_cycle.specs.declared.progress.Progress.TheVariants as doing
 use Rattle.nmgc_cycle.proofs.{cycles.Closing.words_same, cycles.QueueRoom.counted, cycles.QueueRoom.one_room, cycles.QueueRoom.room_ends, cycles.QueueRoom.room_nurseries, lists.RootLists.seen_at, cycles.StepReady.PreparedBegins, cycles.StepReady.none, cycles.StepReady.snapshot_opening, cycles.StepReady.beginning, cycles.StepReady.prepared_shown}
 
--- the laws on which a beginning rests
+-- the laws that a beginning uses
 pub record BeginningLaws : Type 0 where
   pub prepares : StopIsPrepared
   pub begins : PreparedBegins
@@ -44,7 +44,7 @@ module _ (laws : BeginningLaws) (script : Script) (c : Collector) (s : State) (h
   no_wait : NoneIs (IsIn stands.Sweeping) s.allocation
   no_wait = none laws.prepares laws.begins script c s h at
 
-  -- the mutators are as they were, but for the room in their queues
+  -- only the room in the mutators' queues changed
 
   ends_same : ends_of (seen next) ≡ ends_of (seen c)
   ends_same = room_ends c.heap.weaks.list c.mutators.items before.mutators.items st.queue_room
@@ -52,7 +52,7 @@ module _ (laws : BeginningLaws) (script : Script) (c : Collector) (s : State) (h
   nurseries_same : nurseries_of (seen next) ≡ nurseries_of (seen c)
   nurseries_same = room_nurseries c.heap.weaks.list c.mutators.items before.mutators.items st.queue_room
 
-  -- one of them, without the room
+  -- a mutator, without the room
   was : (n : ℕ) (m : Mutator) → slice_get before.mutators.items n ≡ Some m → (b : Mutator) × (slice_get c.mutators.items n ≡ Some b) ×
       HasQueueRoom (count_made_by b.number c.heap.weaks.list) b m
   was n m e = one_room c.heap.weaks.list c.mutators.items before.mutators.items st.queue_room n m e
@@ -136,7 +136,7 @@ module _ (laws : BeginningLaws) (script : Script) (c : Collector) (s : State) (h
       has_block : (n : Name) → IsTracked s.world [] n → n ≢ shared_name → HasBlock s.allocation n
       has_block n tracked other = h.sound.blocks n (tracked_fewer s.world (snapshots s.progress) n tracked) other
 
-  -- words and segments stand for it
+  -- words and segments represent it
 
   stands_then : StandsFor segments words (cycle_begun s.allocation)
   stands_then = st.marked.stands words (cycle_begun s.allocation) (prepared_shown laws.prepares laws.begins script c s h at)

@@ -1,7 +1,7 @@
--- What the closing of a cycle and its beginning ask for holds at a stop.
+-- The requirements of a cycle's closing and beginning are met at a stop.
 use Rattle.nmgc_cycle.proofs.Vocabulary.{ℕ, ◌≡◌, ◌+◌, ◌≤◌, List, [], length, map, refl, sym, ap, subst, ◌∙◌, arith, true, Some, slice_get, length-map, FinishMayResolve, IsStopOf, finished_on, stop_opening, CoreHasSnapshot, Core, unmarked, World, map_item, item_map, MutatorEnd, Mutator, weak_count, HasRoomToMark, end_of, CollectorSeen, ends_of, DeathsHaveRoom, OldWeak, Marking, seen_mutator, seen, words_in, phase_in, marker_in, AllocState, NoneIs, IsIn, cycle_begun, StandsFor, Segments, HasNone, prepared_stands, AreShown, HeapRests, StopIsPrepared, all_prepared, RestsBeside, opening_beside, IsBeginning, IsPrepared, IsReady, FinQueue, Opening, AreAtRest, HoldsInCycle, IsEmptied, IsMarking, IsPacedAtStop, IsInCourse, AreSettled, epoch_of, State, Progress, idle, marking, sweeping, phase_of, plan_of, layout_of, Cycle, Script, Collector, Doing, CanClose, IsReadyToClose, CanBegin, next_epoch, queues_in, CanCloseNow, CloseNowReady, StandsForState, StandsAt, IsPacedWithin, CloseReady, BeginReady}
 use Rattle.nmgc_collector_laws.specs.Worked.{registers_of}
-use Rattle.nmgc_alloc.specs.declared.search.Sought.TheVariants as sought
+use Rattle.nmgc_alloc.specs.declared.search.Category.TheVariants as sought
 use Rattle.nmgc_journal.specs.declared.report.Phase.TheVariants as phase
 use Rattle.nmgc_run_spec.specs.Heap as run
 use Rattle.nmgc_segment.specs.declared.state.State.TheVariants as stands
@@ -10,11 +10,11 @@ use Rattle.nmgc_cycle.proofs.{lists.MutatorLists.words_of_queues, cycles.Prepare
 
 -- Closing
 
--- what is known of the pace doesn't matter
+-- the facts on the pace don't matter
 abbrev pub StandsInPace : (Cycle → State → CollectorSeen → Type 0) → Script → Collector → State → Type 0
 StandsInPace Paced script c s = StandsForState Paced IsEmptied script c s
 
--- the mutators are shown as the collector has them
+-- the view of the mutators is the collector's
 pub are_shown : (Paced : Cycle → State → CollectorSeen → Type 0) (script : Script) (c : Collector) (s : State) → StandsInPace Paced script c s →
     AreShown c.heap.segments.layout (seen c) c.mutators.items
 are_shown Paced script c s h = record {
@@ -104,7 +104,7 @@ module _ (Paced : Cycle → State → CollectorSeen →
   pub can_close_now : CanCloseNow (words_in c.heap.words) c.heap.segments c.heap.weaks.list (queues_in c.mutators.items) c.cycle.progress
   can_close_now = now_by c.cycle.progress s.progress refl refl h.matches.phase
 
--- so may one whose last work left nothing
+-- also if its last work left nothing
 close_by : (words : List ℕ) (segments : Segments) (weaks : List OldWeak) (queues : List FinQueue) (p : Doing) →
     CanCloseNow words segments weaks queues p → CanClose words segments weaks queues p
 close_by words segments weaks queues doing.Idle can = tt
@@ -116,14 +116,14 @@ close_ready rests core_snapshot may deaths_room script c s limits h =
     close_by (words_in c.heap.words) c.heap.segments c.heap.weaks.list (queues_in c.mutators.items) c.cycle.progress
     (can_close_now (IsPacedWithin script.config.quota) rests core_snapshot may deaths_room script c s h)
 
--- so may any where the pace is that of a stop
+-- also with the pace of a stop
 pub close_now_ready : HeapRests → CoreHasSnapshot → FinishMayResolve → DeathsHaveRoom → CloseNowReady
 close_now_ready rests core_snapshot may deaths_room script c s h =
     can_close_now (IsPacedAtStop script.config.quota) rests core_snapshot may deaths_room script c s h
 
 -- Beginning
 
--- a heap whose segments were just prepared is one with which marking begins
+-- marking may begin with a heap whose segments were just prepared
 abbrev pub PreparedBegins : Type 0
 PreparedBegins = (o : Opening) (s : Segments) (epoch : ℕ) (words registers : List ℕ) (queues : List FinQueue) →
     IsPrepared o s epoch words registers queues → IsBeginning o s epoch words registers queues
@@ -134,7 +134,7 @@ idle_state idle e = refl
 idle_state (marking k) e = absurd (let bad : phase.Idle ≡ phase.Marking = e in cc)
 idle_state (sweeping k closed) e = absurd (let bad : phase.Idle ≡ phase.Sweeping = e in cc)
 
--- where no segment waits by the allocation state, none does
+-- if no segment waits by the allocation state, none does
 pub none_back : (segments : Segments) (words : List ℕ) (a : AllocState) → StandsFor segments words a → NoneIs (IsIn stands.Sweeping) a →
     HasNone sought.Sweeping segments
 none_back segments words a st none i lt waits = none i (let count = st.count in omega (arith, count, lt)) ((st.shows i lt).state ∙ waits)

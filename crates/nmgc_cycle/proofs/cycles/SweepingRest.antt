@@ -1,16 +1,16 @@
--- At a stop all that waits is swept: the places of freed names are gone, and the collector stands for what is left.
+-- All waiting segments are swept at a stop: freed names lose their addresses, and the collector represents the rest.
 use Rattle.nmgc_cycle.proofs.Vocabulary.{ℕ, ◌≡◌, ◌≢◌, List, [], length, refl, sym, ap, subst, ◌∙◌, inl, inr, Some, Contains, IsSome, Weak, Name, IsAliveWeak, shared_name, World, IsWorld, node_of, Layout, AllocState, HasBlock, SweepsSome, Segments, DropsFreed, FreesUntracked, StopFreesUntracked, SweptHoldsAtStop, Place, IsTracked, tracked_wide, wide_tracked, IsFor, IsKeptIn, Cycle, AreNurseries, HoldsAtStop, AreSettled, CollectorSeen, ends_of, nurseries_of, IsOfSnapshot, IsSoundState, State, Progress, idle, marking, sweeping, phase_of, plan_of, layout_of, waiting_count, SweepsRest, each_filed, each_waits, each_lie, sweeps_keep, Script, LeftIsCounted, AreLeft, IsAtWork, HaveEntries, named_swept, Collector, Doing, Sweeping, CanSweepRest, HasSweptAll, SweepsRestBy, SweepingRestLeads, SweepRestReady, IsWellFormed, Sweeps, died, seen, words_in, sweeper_in, cycle_in, phase_in, StandsAt, no_weak}
 use Rattle.nmgc_world_spec.specs.Reach.{start}
 use Rattle.nmgc_journal.specs.declared.report.Phase.TheVariants as phase
 use Rattle.nmgc_cycle.specs.declared.progress.Progress.TheVariants as doing
 
--- the laws on which a sweep at a stop rests
+-- the laws that a sweep at a stop uses
 pub record SweepingLaws : Type 0 where
   pub counted : LeftIsCounted
   pub frees : StopFreesUntracked
   pub holds : SweptHoldsAtStop
 
--- a weak pointer that is alive may still be spoken of
+-- an alive weak pointer is tracked
 alive_tracked : (w : World) (earlier : List World) (weak : Name) → IsAliveWeak w weak → IsTracked w earlier weak
 alive_tracked w earlier weak alive = wide_tracked w earlier weak (start weak (inr (weak, alive.0, alive.1, inl refl)))
 
@@ -20,7 +20,7 @@ alive_other w world weak alive is =
     let node : w.shared ≡ Weak (Some alive.0) = cc in
     no_weak w.shared (Some alive.0) world.shared node
 
--- of fewer places no more are in nurseries
+-- with fewer addresses no more are in nurseries
 pub fewer_nurseries : (layout : Layout) (s : State) (earlier : List World) (places fewer : List Place) (seen : CollectorSeen) →
     DropsFreed layout earlier s.world places fewer → AreNurseries layout places s.world (nurseries_of seen) →
     AreNurseries layout fewer s.world (nurseries_of seen)
@@ -49,7 +49,7 @@ module _ (laws : SweepingLaws) (script : Script) (c : Collector) (st : State) (k
   abbrev words : List ℕ
   words = words_in c.heap.words
 
-  -- the sweeper went through all that is left
+  -- the sweeper swept all segments left
 
   pub swept : (b : AllocState) × SweepsSome (IsKeptIn k) (length w.sweeper.left) st.allocation b ×
       IsAtWork k since words b new (cycle_in (doing.Sweeping w) (died c.heap.weaks.deaths)) v.sweeper
@@ -191,7 +191,7 @@ pub sweeping_rest_leads : SweepingLaws → SweepingRestLeads
 sweeping_rest_leads laws script old new s limits h swept =
     by_case laws script old new s h swept.rest old.cycle.progress s.progress refl refl h.matches.phase swept.sweeps
 
--- a sweeper at a stop has all left that waits
+-- a sweeper at a stop has all waiting segments left
 ready_by : (script : Script) (c : Collector) (s : State) → StandsAt script c s → (p : Doing) (q : Progress) → c.cycle.progress ≡ p → s.progress ≡ q →
     phase_in p ≡ phase_of q → CanSweepRest c.heap.segments c.heap.names p
 ready_by script c s h doing.Idle q at is e = tt

@@ -1,13 +1,13 @@
--- The rounds that may still follow: what leaves them as few, and that the numbers of a run fit 32 bits.
+-- The rounds that may still follow: the steps that leave few, and the 32 bits of a run's numbers.
 use Rattle.nmgc_cycle.proofs.{Vocabulary.ℕ, Vocabulary.◌≡◌, Vocabulary.◌+◌, Vocabulary.◌<◌, Vocabulary.◌≤◌, Vocabulary.◌^◌, Vocabulary.List, Vocabulary.[], Vocabulary.length, Vocabulary.ap, Vocabulary.◌∙◌, Vocabulary.arith, Vocabulary.inl, Vocabulary.inr, Vocabulary.RoundRows, Vocabulary.StopRow, Vocabulary.Script, Vocabulary.threads_few, Vocabulary.Collector, Vocabulary.commands_left, Vocabulary.most_stops, Vocabulary.phase_left, Vocabulary.MayFollow, Vocabulary.AreFew, Vocabulary.NoneIsDue, Vocabulary.commands, Vocabulary.one_cycle, Vocabulary.no_cycle, Vocabulary.CanStop, Vocabulary.IsFresh, Vocabulary.IsInLimits, lengths.Measures.commands_most, lists.Phases.when_idle}
 
--- the stops that were counted are no more than a run has
+-- the stops counted are no more than a run has
 pub within : (N : Type 0) (script : Script) (c : Collector) (stops : ℕ) → MayFollow N script c stops → stops ≤ most_stops script
 within N script c stops (commands h) = omega (arith, h)
 within N script c stops (one_cycle none h) = omega (arith, h)
 within N script c stops (no_cycle none nothing due h) = omega (arith, h)
 
--- and these have numbers of 32 bits
+-- and their numbers have 32 bits
 pub stops_fit : (script : Script) → IsInLimits script → most_stops script < 2 ^ 32
 stops_fit script limits =
     let most = commands_most script limits [] in
@@ -16,7 +16,7 @@ stops_fit script limits =
     let segments = limits.fits.config.segments in
     omega arith
 
--- a step that leaves the commands as they are, and no more for the cycle in progress
+-- a step that changes no commands and adds nothing to the cycle in progress
 pub leaves_few : (N M : Type 0) (script : Script) (c d : Collector) (stops : ℕ) → d.rows.rounds ≡ c.rows.rounds →
     phase_left script.config.segments d.cycle.progress ≤ phase_left script.config.segments c.cycle.progress →
     (N → NoneIsDue script.config.trigger c → M × NoneIsDue script.config.trigger d) → AreFew N script c stops → AreFew M script d stops
@@ -33,7 +33,7 @@ leaves_few N M script c d stops rounds fewer due few = record {
     by (one_cycle none h) = one_cycle (same ∙ none) (omega (arith, h, fewer))
     by (no_cycle none nothing not h) = let both = due nothing not in no_cycle (same ∙ none) both.0 both.1 (omega (arith, h, fewer))
 
--- nothing changed that is counted
+-- no counted part changed
 pub same_few : (N : Type 0) (script : Script) (c d : Collector) (stops : ℕ) → d.rows.rounds ≡ c.rows.rounds → d.cycle.progress ≡ c.cycle.progress →
     d.cycle.collect ≡ c.cycle.collect → d.heap.segments.fresh ≡ c.heap.segments.fresh → AreFew N script c stops → AreFew N script d stops
 same_few N script c d stops rounds progress collect fresh few =
@@ -59,7 +59,7 @@ fresh_few N script c fresh =
 pub fresh_begun : (script : Script) (c : Collector) → IsFresh script c → c.cycle.begun ≤ length c.rows.stops
 fresh_begun script c fresh = let none = fresh.new.matches.begun in omega (arith, none)
 
--- before any stop few follow, and its number and that of a cycle that it begins fit 32 bits
+-- before any stop few follow, and its number and the number of a cycle that it begins fit 32 bits
 pub record Fit (script : Script) (c : Collector) : Type 0 where
   pub within : length c.rows.stops + 1 ≤ most_stops script
   pub number : length c.rows.stops + 1 < 2 ^ 32

@@ -4,7 +4,7 @@ use Rattle.nmgc_cycle.specs.Cycles.{all_prepared}
 use Rattle.nmgc_cycle.specs.declared.progress.Progress.TheVariants as doing
 use Rattle.nmgc_cycle.proofs.{cycles.FullCycle.finished_idle, cycles.FullCycle.finished_begun, rounds.NoneLeft.each_fresh, lengths.StopFew.beginning_few, lengths.StopFew.beginning_more, lengths.StopFew.beginning_begun, stops.WholeStop.ending_keeps}
 
--- since the cycle began nothing was filled by placing
+-- no segment was filled by placing since the cycle began
 
 closing_fresh : (p : Progress) (s t : State) → ClosesNow p s t → t.allocation ≡ s.allocation
 closing_fresh idle s t e = ap (λ (x : State). x.allocation) e
@@ -23,7 +23,7 @@ finishing_fresh s t rows f =
 full_fresh : (s t : State) (rows : List CycleRow) → DoesFullCycle s t rows → t.allocation.fresh ≡ 0
 full_fresh s t rows d = ap (λ (x : State). x.allocation.fresh) d.rest ∙ finishing_fresh (cycle_started (with_all_retired d.idled)) d.last d.own d.again
 
--- none is in progress, and none is due
+-- no cycle is in progress, and none is due
 module _ (script : Script) (old new : Collector) (stops : ℕ) (rounds : new.rows.rounds ≡ old.rows.rounds) (none : new.cycle.progress ≡
     doing.Idle) (not_asked : new.cycle.collect ≡ false) (fresh : new.heap.segments.fresh ≡ 0) where
   none_due : NoneIsDue script.config.trigger new
@@ -46,7 +46,7 @@ module _ (script : Script) (old new : Collector) (stops : ℕ) (rounds : new.row
 full_idle : (stop : ℕ) (old new : Collector) → HasDoneFull stop old new → new.cycle.progress ≡ doing.Idle
 full_idle stop old new d = ap (λ (x : Collector). x.cycle.progress) d.is ∙ finished_idle stop d.started d.last d.again
 
--- a full cycle that is due leaves none filled
+-- a full cycle that is due leaves the count of filled segments 0
 pub fresh_where_due : (plan : Plan) (s t : State) (rows : List CycleRow) → Proceeds plan s t rows → IsFullDue plan s → t.allocation.fresh ≡ 0
 fresh_where_due plan s t rows (inl x) due = full_fresh s t rows x.1
 fresh_where_due plan s t rows (inr x) due = absurd (x.0 due)
@@ -60,7 +60,7 @@ proceeding_few script old new stops stop some t layout stood words stands (inl x
 proceeding_few script old new stops stop some t layout stood words stands (inr x) few rounds fresh =
     beginning_few script old new stops stop layout (λ due. stood due.0) x.1 few
 
--- one cycle more at most was begun
+-- at most one further cycle was begun
 
 pub proceeding_begun : (trigger : ℕ) (some : Bool) (stop : ℕ) (old new : Collector) → ProceedsThen trigger some stop old new →
     new.cycle.begun ≤ old.cycle.begun + 1
@@ -73,7 +73,7 @@ proceeding_begun trigger some stop old new (inl x) =
     omega (arith, first, started, again, is)
 proceeding_begun trigger some stop old new (inr x) = beginning_begun trigger stop old new x.1
 
--- what goes on has something left
+-- a cycle that goes on has work left
 pub proceeding_more : (trigger : ℕ) (some : Bool) (stop : ℕ) (old new : Collector) → ProceedsThen trigger some stop old new → HasMore old.cycle.progress →
     HasMore new.cycle.progress
 proceeding_more trigger some stop old new (inl x) more = subst HasMore (sym (full_idle stop old new x.1)) tt

@@ -1,7 +1,7 @@
--- How many commands are left, and that a round answers one where any is.
+-- The number of commands left: while some are left, a round answers one.
 use Rattle.nmgc_cycle.proofs.Vocabulary.{ℕ, zero, suc, ◌≡◌, ◌+◌, ◌-◌, ◌*◌, ◌<◌, ◌≤◌, List, [], ◌∷◌, ◌++◌, length, drop, refl, sym, ap, subst, ◌∙◌, arith, Bool, true, slice_index_or, inl, inr, All, ◌&&◌, nat_lt, nat_le, if◌then◌else◌, le-leb, lt-ltb, cases_lt, length-drop, All-drop, All-head, All-tail, Fits, words_made, Row, Command, Reply, most_script_bytes, RoundRows, Config, Script, IsRound, slice, slice_of, is_next, ends_slice, program_of, Plan, State, plan_of, answered_count, slice_count, scripts_have_good_plans, left_from, commands_left, IsInLimits}
 
--- where more were answered of each, no more are left
+-- if more of each program were answered, no more are left
 no_more : (old new : ℕ → ℕ) (m : ℕ) (programs : List (List Command)) → ((k : ℕ) → old k ≤ new k) → left_from new m programs ≤ left_from old m programs
 no_more old new m [] more = omega arith
 no_more old new m (program ∷ programs) more =
@@ -9,7 +9,7 @@ no_more old new m (program ∷ programs) more =
     let rest = no_more old new (m + 1) programs more in
     omega arith
 
--- and where more were answered of one that had some left, fewer are left
+-- if more were answered of a program with commands left, fewer are left
 fewer : (old new : ℕ → ℕ) (m j k : ℕ) (programs : List (List Command)) → k ≡ m + j → ((n : ℕ) → old n ≤ new n) →
     old k < length (program_of programs j) → old k < new k → left_from new m programs < left_from old m programs
 fewer old new m j k [] at more some rose = absurd (omega (arith, some))
@@ -24,7 +24,7 @@ fewer old new m (suc j) k (program ∷ programs) at more some rose =
     let rest = fewer old new (m + 1) j k programs (omega arith) more some rose in
     omega arith
 
--- where some are left, some program has some left
+-- if some are left, some program has some left
 some_left : (answered : ℕ → ℕ) (m : ℕ) (programs : List (List Command)) → 1 ≤ left_from answered m programs → (j : ℕ) × (k : ℕ) × (k ≡ m + j) ×
     (answered k < length (program_of programs j))
 some_left answered m [] some = absurd (omega (arith, some))
@@ -36,7 +36,7 @@ some_left answered m (program ∷ programs) some = elim (cases_lt (answered m) (
       (suc rest.0, rest.1, omega (arith, at), rest.3)
 ]
 
--- where none are left, none of any program are
+-- if none are left, no program has any
 none_left : (answered : ℕ → ℕ) (m : ℕ) (programs : List (List Command)) → left_from answered m programs ≡ 0 → (j k : ℕ) → k ≡ m + j →
     length (program_of programs j) ≤ answered k
 none_left answered m [] none j k at = omega arith
@@ -45,7 +45,7 @@ none_left answered m (program ∷ programs) none zero k at =
     subst (λ (n : ℕ). length program ≤ answered n) (let e : m ≡ k = omega arith in e) here
 none_left answered m (program ∷ programs) none (suc j) k at = none_left answered (m + 1) programs (omega (arith, none)) j k (omega arith)
 
--- no more are left than there are
+-- no more commands are left than there are
 pub left_most : (answered : ℕ → ℕ) (m : ℕ) (programs : List (List Command)) → All (λ program. length program ≤ most_script_bytes) programs →
     left_from answered m programs ≤ length programs * most_script_bytes
 left_most answered m [] each = omega arith
@@ -54,13 +54,13 @@ left_most answered m (program ∷ programs) each =
     let rest = left_most answered (m + 1) programs (All-tail (λ program. length program ≤ most_script_bytes) program programs each) in
     omega arith
 
--- one round more was answered
+-- a further round was answered
 pub answered_more : (rounds : List RoundRows) (rows : RoundRows) (m : ℕ) →
     answered_count (rounds ++ rows ∷ []) m ≡ answered_count rounds m + length (slice_index_or rows.replies m [])
 answered_more [] rows m = omega arith
 answered_more (first ∷ rounds) rows m = let rest = answered_more rounds rows m in omega arith
 
--- a program that isn't used up has a slice, where its objects fit a nursery
+-- a program with commands left has a slice, if its objects fit a nursery
 has_slice : (config : Config) (program : List Command) → 1 ≤ config.slice → config.words ≤ config.nursery → All (Fits config.words) program →
     0 < length program → 0 < length (slice_of config program)
 has_slice config [] some fit each left = absurd (omega arith)
@@ -72,11 +72,11 @@ has_slice config (c ∷ program) some fit each left =
     let rest = if ends_slice c then [] else slice (config.slice - 1) (config.nursery - words_made c) program in
     subst (λ (b : Bool). 0 < length (if b then c ∷ rest else [])) (sym next) (omega arith)
 
--- what is left of the programs, by how many commands of each were answered
+-- the rest of the programs, by the number of commands answered of each
 abbrev pub AreLeft : Plan → State → (ℕ → ℕ) → Type 0
 AreLeft plan s answered = (m : ℕ) → program_of s.left m ≡ drop (answered m) (program_of plan.threads m)
 
--- where none are left, nothing of any program is
+-- if none are left, every program is used up
 pub nothing_left : (plan : Plan) (s : State) (answered : ℕ → ℕ) → AreLeft plan s answered → left_from answered 0 plan.threads ≡ 0 → (m : ℕ) →
     length (program_of s.left m) ≡ 0
 nothing_left plan s answered left none m =
@@ -85,7 +85,7 @@ nothing_left plan s answered left none m =
     let same = ap (λ (commands : List Command). length commands) (left m) in
     omega (arith, all, rest, same)
 
--- where some are left, a round leaves fewer
+-- if some are left, a round leaves fewer
 pub round_falls : (script : Script) (s t : State) (replies : List (List Reply)) (rows : List Row) (answered : ℕ → ℕ) → IsInLimits script →
     IsRound script.config s replies rows t → AreLeft (plan_of script) s answered → 1 ≤ left_from answered 0 script.threads →
     left_from (λ m. answered m + length (slice_index_or replies m [])) 0 script.threads < left_from answered 0 script.threads
@@ -109,7 +109,7 @@ round_falls script s t replies rows answered limits round left some =
     let rose : answered j < answered j + length (slice_index_or replies j []) = omega (arith, done, count) in
     fewer answered (λ m. answered m + length (slice_index_or replies m [])) 0 j j script.threads (omega arith) (λ m. omega arith) has rose
 
--- after one round more no more are left than by the replies of that round
+-- after a further round no more are left than by that round's replies
 pub left_then : (threads : List (List Command)) (rounds : List RoundRows) (rows : RoundRows) →
     commands_left threads (rounds ++ rows ∷ []) ≤ left_from (λ m. answered_count rounds m + length (slice_index_or rows.replies m [])) 0 threads
 unfolding commands_left
@@ -128,7 +128,7 @@ pub left_is : (threads : List (List Command)) (rounds : List RoundRows) → comm
 unfolding commands_left
 left_is threads rounds = refl
 
--- a run has no more commands than these
+-- the most commands of a run
 pub commands_most : (script : Script) → IsInLimits script → (rounds : List RoundRows) →
     commands_left script.threads rounds ≤ length script.threads * most_script_bytes
 unfolding commands_left

@@ -1,5 +1,5 @@
 -- A round leaves fewer rounds to follow.
-use Rattle.nmgc_cycle.proofs.Vocabulary.{ℕ, ◌≡◌, ◌+◌, ◌<◌, ◌≤◌, ◌⊎◌, List, [], ◌∷◌, ◌++◌, length, refl, sym, ap, subst, ◌∙◌, arith, Bool, true, false, None, inl, inr, ◌&&◌, not, nat_lt, if◌then◌else◌, cases_lt, Segments, Row, Reply, End, HeapFull, RoundRows, StopRow, Round, RoundSeat, Script, IsAfterRound, Run, last_state, has_left, program_of, Plan, State, Progress, idle, marking, sweeping, phase_of, is_idle, plan_of, free_count, reserve_of, answered_count, answer_of, left_is_told, Name, Collector, Marking, Doing, Sweeping, commands_left, cycle_most, heap_of, most_stops, phase_left, MayFollow, AreFewBeforeStop, HasMore, NoneIsDue, commands, one_cycle, no_cycle, HasHelped, HasScanned, HasSweptSome, IsAfterStop, seen, phase_in, told_cycles, IsInLimits, Some}
+use Rattle.nmgc_cycle.proofs.Vocabulary.{ℕ, ◌≡◌, ◌+◌, ◌<◌, ◌≤◌, ◌⊎◌, List, [], ◌∷◌, ◌++◌, length, refl, sym, ap, subst, ◌∙◌, arith, Bool, true, false, None, inl, inr, ◌&&◌, not, nat_lt, if◌then◌else◌, cases_lt, Segments, Row, Reply, End, HeapFull, RoundRows, StopRow, Round, RoundSeat, Script, IsAfterRound, Run, last_state, has_left, program_of, Plan, State, Progress, idle, marking, sweeping, phase_of, is_idle, plan_of, free_count, reserve_of, answered_count, answer_of, left_is_determined, Name, Collector, Marking, Doing, Sweeping, commands_left, cycle_most, heap_of, most_stops, phase_left, MayFollow, AreFewBeforeStop, HasMore, NoneIsDue, commands, one_cycle, no_cycle, HasHelped, HasScanned, HasSweptSome, IsAfterStop, seen, phase_in, report_cycles, IsInLimits, Some}
 use Rattle.nmgc_journal.specs.declared.report.End.TheVariants.{Done}
 use Rattle.nmgc_journal.specs.declared.report.Phase.TheVariants as phase
 use Rattle.nmgc_cycle.specs.declared.progress.Progress.TheVariants as doing
@@ -32,7 +32,7 @@ module _ (segments quota : ℕ) (round : Round) (from seat : RoundSeat) (old new
             | inr all ↦ omega (arith, was, now, pace, room, all)
           ]
 
-  -- and so does sweeping
+  -- and so does sweeping, of a cycle that sweeps
   swept_falls : (w v : Sweeping) → 1 ≤ length w.sweeper.left → HasSweptSome quota old new names w v →
       phase_left segments (doing.Sweeping v) < phase_left segments (doing.Sweeping w)
   swept_falls w v more h =
@@ -42,14 +42,14 @@ module _ (segments quota : ℕ) (round : Round) (from seat : RoundSeat) (old new
         | inr all ↦ omega (arith, count, all)
       ]
 
-  -- where the collector did its part there is less left to do, unless there was none
+  -- the collector's part leaves less work, unless there was none
   helped : (p q : Doing) → HasMore p → HasHelped round quota from seat old new names p q → ((p ≡ doing.Idle) × (q ≡ doing.Idle)) ⊎
       (phase_left segments q < phase_left segments p)
   helped doing.Idle q more h = inl (refl, h.2)
   helped (doing.Marking m) q more h = inr (rw h.1 (scanned_falls m h.0 more h.2))
   helped (doing.Sweeping w) q more h = inr (rw h.1 (swept_falls w h.0 more h.3))
 
--- a run goes on where commands are left, or a cycle is in progress
+-- a run goes on if commands are left or a cycle is in progress
 busy : (plan : Plan) (s : State) → has_left s.left ≡ false → answer_of plan s ≡ None → is_idle s.progress ≡ false
 busy plan s none e = by (has_left s.left) (nat_lt (free_count s) (reserve_of plan)) (is_idle s.progress) (HeapFull (free_count s) (reserve_of plan)) none e
   where
@@ -71,17 +71,17 @@ module _ (script : Script) (old new : Collector) (run : Run) (replies : List (Li
   abbrev s : State
   s = last_state run
 
-  abbrev told : RoundRows
-  told = record { replies = replies }
+  abbrev reported : RoundRows
+  reported = record { replies = replies }
 
   same_stops : new.rows.stops ≡ old.rows.stops
-  same_stops = after.tells.stops_are ∙ sym still.at_stop.tells.stops_are
+  same_stops = after.agrees.stops_are ∙ sym still.at_stop.agrees.stops_are
 
-  rounds_are : new.rows.rounds ≡ old.rows.rounds ++ told ∷ []
-  rounds_are = after.rounds ∙ ap (λ (r : List RoundRows). r ++ told ∷ []) (after.tells.rounds_are ∙ sym still.at_stop.tells.rounds_are)
+  rounds_are : new.rows.rounds ≡ old.rows.rounds ++ reported ∷ []
+  rounds_are = after.rounds ∙ ap (λ (r : List RoundRows). r ++ reported ∷ []) (after.agrees.rounds_are ∙ sym still.at_stop.agrees.rounds_are)
 
   left : AreLeft (plan_of script) s (answered_count old.rows.rounds)
-  left = left_is_told (plan_of script) run old.rows.rounds old.rows.stops (told_cycles old) still.at_stop.is_run still.at_stop.tells
+  left = left_is_determined (plan_of script) run old.rows.rounds old.rows.stops (report_cycles old) still.at_stop.is_run still.at_stop.agrees
 
   part : ((old.cycle.progress ≡ doing.Idle) × (new.cycle.progress ≡ doing.Idle)) ⊎
       (phase_left script.config.segments new.cycle.progress < phase_left script.config.segments old.cycle.progress)
@@ -98,11 +98,11 @@ module _ (script : Script) (old new : Collector) (run : Run) (replies : List (Li
   fewer_left some =
       let is = left_is script.threads old.rows.rounds in
       let falls = round_falls script s worked replies history (answered_count old.rows.rounds) limits after.round left (omega (arith, some, is)) in
-      let after_it = left_then script.threads old.rows.rounds told in
+      let after_it = left_then script.threads old.rows.rounds reported in
       let now = ap (λ (r : List RoundRows). commands_left script.threads r) rounds_are in
       omega (arith, falls, after_it, now, is)
 
-  -- where no command is left
+  -- no command is left
   module _ (none : commands_left script.threads old.rows.rounds ≡ 0) where
     nothing : (m : ℕ) → length (program_of s.left m) ≡ 0
     nothing = nothing_left (plan_of script) s (answered_count old.rows.rounds) left (sym (left_is script.threads old.rows.rounds) ∙ none)
@@ -111,7 +111,7 @@ module _ (script : Script) (old new : Collector) (run : Run) (replies : List (Li
     leaves = nothing_done script.config s worked replies history after.round nothing
 
     none_now : commands_left script.threads new.rows.rounds ≡ 0
-    none_now = let less = left_less script.threads old.rows.rounds told in
+    none_now = let less = left_less script.threads old.rows.rounds reported in
         let now = ap (λ (r : List RoundRows). commands_left script.threads r) rounds_are in omega (arith, less, now, none)
 
     less : phase_left script.config.segments new.cycle.progress < phase_left script.config.segments old.cycle.progress
@@ -144,7 +144,7 @@ module _ (script : Script) (old new : Collector) (run : Run) (replies : List (Li
   follows (one_cycle none h) = cycle_more none h
   follows (no_cycle none first undue h) = no_cycle (none_now none) (leaves none).world (not_due none undue) (let falls = less none in omega (arith, h, falls))
 
-  -- the field of what a round keeps
+  -- the field of the invariant after a round
   pub round_few : AreFewBeforeStop script new s.world worked.world
   round_few =
       let many : length new.rows.stops ≡ length old.rows.stops = ap (λ (stops : List StopRow). length stops) same_stops in

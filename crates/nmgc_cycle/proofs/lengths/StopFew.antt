@@ -2,10 +2,10 @@
 use Rattle.std.proofs.{Common.ℕ, Common.suc, Common.◌≡◌, Common.◌+◌, Common.◌<◌, Common.◌≤◌, Common.List, Common.[], Common.◌∷◌, Common.◌++◌, Common.length, Common.refl, Common.sym, Common.ap, Common.subst, Common.◌∙◌, Common.arith, Common.Bool, Common.true, Common.false, Common.inl, Common.inr, Common.length-append, lemmas.Bool.cases_lt, lemmas.List.get_or_past}
 use Rattle.std.specs.Prelude.{if◌then◌else◌, Contains, Option}
 use Rattle.nmgc_alloc.specs.{AllocState.AllocState, Stands.StandsFor, Numbered.Segments, Segments.HasNone, Segments.IsWaiting}
-use Rattle.nmgc_alloc.specs.declared.search.Sought.TheVariants as sought
+use Rattle.nmgc_alloc.specs.declared.search.Category.TheVariants as sought
 use Rattle.nmgc_segment.specs.Segment.{Segment, free_segment}
 use Rattle.nmgc_segment.specs.declared.state.State.TheVariants as stands
-use Rattle.nmgc_blocks_spec.specs.Promoted.{IsPromoted, PlacesEach}
+use Rattle.nmgc_stop_spec.specs.Promoted.{IsPromoted, PlacesEach}
 use Rattle.nmgc_world_spec.specs.{World.World, World.node_of, declared.value.Name.Name, Listing.Ascends}
 use Rattle.nmgc_mark.specs.{Marker.StandAsBefore, Beginning.most_blocks, declared.marker.Work.Work}
 use Rattle.nmgc_object.specs.declared.layout.Layout.{Layout}
@@ -18,7 +18,7 @@ use Rattle.nmgc_cycle.specs.declared.progress.Progress.TheVariants as doing
 use Rattle.nmgc_cycle.proofs.lengths.Few.{leaves_few, same_few}
 use Rattle.nmgc_lists.specs.laws.Options.{not_none}
 
--- segments that stand for the same allocation state count as many filled ones
+-- segments that represent the same allocation state have the same count of filled segments
 fresh_by : (old new : Segments) (words after : List ℕ) (a : AllocState) → StandsFor old words a → StandsFor new after a → new.fresh ≡ old.fresh
 fresh_by old new words after a h g = sym g.fresh ∙ h.fresh
 
@@ -27,7 +27,7 @@ fresh_before old new words a h stays = fresh_by old new words words a h (stays w
 
 -- Promotion
 
--- where the world is as it was nothing is young
+-- in an unchanged world no object is new
 none_young : (w : World) (name : Name) → IsPromoted w w name → ⊥
 none_young w name h = not_none (node_of w name) h.0.0 h.0.1
 
@@ -89,7 +89,7 @@ module _ (script : Script) (old new : Collector) (stops : ℕ) (words : List ℕ
 
 -- Closing
 
--- numbers that ascend below a bound are no more than it
+-- ascending numbers below a bound are no more than the bound
 ascending : (m bound n : ℕ) (ns : List ℕ) → Ascends (n ∷ ns) → m ≤ n → ((k : ℕ) → Contains (n ∷ ns) k → k < bound) → m + length (n ∷ ns) ≤ bound
 ascending m bound n [] up from each = let here = each n (0, omega arith, refl) in omega (arith, here, from)
 ascending m bound n (next ∷ ns) up from each =
@@ -101,7 +101,7 @@ few_numbers : (bound : ℕ) (ns : List ℕ) → Ascends ns → ((k : ℕ) → Co
 few_numbers bound [] up each = omega arith
 few_numbers bound (n ∷ ns) up each = let all = ascending 0 bound n ns up (omega arith) each in omega (arith, all)
 
--- a segment that waits is one of the heap's
+-- a waiting segment is a segment of the heap
 waits_in : (segments : Segments) (number : ℕ) → IsWaiting segments number → number < length segments.segments
 waits_in segments number waits = elim (cases_lt number (length segments.segments)) [
   | inl lt ↦ lt
@@ -113,7 +113,7 @@ waits_in segments number waits = elim (cases_lt number (length segments.segments
 pub left_few : (segments : Segments) (sweeper : Sweeper) → AreLeft segments sweeper → length sweeper.left ≤ length segments.segments
 left_few segments sweeper h = few_numbers (length segments.segments) sweeper.left h.numbers.ordered (λ k there. waits_in segments k (h.numbers.sound k there))
 
--- where none is left none waits
+-- if none is left none waits
 pub none_waits : (segments : Segments) (sweeper : Sweeper) → AreLeft segments sweeper → length sweeper.left ≡ 0 → HasNone sought.Sweeping segments
 none_waits segments sweeper h none i lt waits =
     let there = h.numbers.complete i waits in
@@ -222,7 +222,7 @@ module _ (script : Script) (old new : Collector) (stops stop : ℕ) (ends : Ends
       ((w : Sweeping) → old.cycle.progress ≡ doing.Sweeping w → AreLeft old.heap.segments w.sweeper) → HasMore new.cycle.progress
   ending_more goes left = more old.cycle.progress refl ends goes left
 
--- The beginning of one
+-- The beginning of a cycle
 
 module _ (script : Script) (old new : Collector) (stops stop : ℕ) (layout : old.heap.segments.layout ≡
     heap_of script) (due : IsDue script.config.trigger old) (stood : HasStood (all_prepared old.heap.segments) (words_in old.heap.words))
@@ -266,7 +266,7 @@ module _ (script : Script) (old new : Collector) (stops stop : ℕ) (layout : ol
   pub started_few : AreFew (Unit {0}) script old stops → AreFew (Unit {0}) script new stops
   started_few few = record { follow = began few.follow; phase = (let phase = began_phase in omega (arith, phase)) }
 
--- a cycle begins where one is due
+-- a cycle begins if one is due
 pub beginning_few : (script : Script) (old new : Collector) (stops stop : ℕ) → old.heap.segments.layout ≡ heap_of script →
     (IsDue script.config.trigger old → HasStood (all_prepared old.heap.segments) (words_in old.heap.words)) → Begins script.config.trigger stop old new →
     AreFew (Unit {0}) script old stops → AreFew (Unit {0}) script new stops
@@ -278,12 +278,12 @@ beginning_more trigger stop old new (inl h) more = subst HasMore (sym (ap (λ (c
     (ap (λ (w : Work). w.empty) h.1.starts.last)
 beginning_more trigger stop old new (inr h) more = subst (λ (c : Collector). HasMore c.cycle.progress) (sym h.1) more
 
--- one cycle more at most was begun
+-- at most one further cycle was begun
 pub beginning_begun : (trigger stop : ℕ) (old new : Collector) → Begins trigger stop old new → new.cycle.begun ≤ old.cycle.begun + 1
 beginning_begun trigger stop old new (inl h) = let e = ap (λ (c : Collector). c.cycle.begun) h.1.is in omega (arith, e)
 beginning_begun trigger stop old new (inr h) = let e = ap (λ (c : Collector). c.cycle.begun) h.1 in omega (arith, e)
 
--- The whole stop: its row was told, and its answer
+-- The whole stop: its row, and its answer
 
 pub few_at_stop : (script : Script) (c : Collector) (before : List StopRow) (row : StopRow) (answered : Option End) →
     AreFew (Unit {0}) script c (length before + 1) → c.cycle.begun ≤ length before + 1 → HasMore c.cycle.progress →

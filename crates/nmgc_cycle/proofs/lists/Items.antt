@@ -1,7 +1,7 @@
 -- Items of lists.
 use Rattle.nmgc_cycle.proofs.Vocabulary.{ℕ, zero, suc, ◌≡◌, List, [], ◌∷◌, length, refl, ap, subst, Some, slice_get}
 
--- where each item has something that fits it, there is a list of these
+-- if each item has a fitting partner, there is a list of partners
 pub chosen : {A B : Type 0} (P : ℕ → A → B → Type 0) (xs : List A) → ((k : ℕ) (x : A) → slice_get xs k ≡ Some x → (y : B) × P k x y) →
     (ys : List B) × (length ys ≡ length xs) × ((k : ℕ) (x : A) (y : B) → slice_get xs k ≡ Some x → slice_get ys k ≡ Some y → P k x y)
 chosen {A} {B} P [] h = ([], refl, λ k x y e f. absurd (none_here k x e))

@@ -1,4 +1,4 @@
--- Lists that are made of others, item by item.
+-- Lists made from other lists, item by item.
 use Rattle.nmgc_cycle.proofs.Vocabulary.{ℕ, suc, ◌≡◌, List, [], ◌∷◌, length, map, refl, arith, Some, slice_get}
 
 -- two lists with the same results, item by item

@@ -4,20 +4,20 @@ use Rattle.std.proofs.Common.{Vec}
 use Rattle.nmgc_minor.specs.Start.{places_of}
 use Rattle.nmgc_collector_laws.specs.Worked.{registers_of, queues_of, nurseries_of}
 
--- the places of all fields that they recorded
+-- the addresses of all fields that they recorded
 abbrev pub addresses_of : List Mutator → List Address
 addresses_of mutators = flat_map (λ (m : Mutator). m.recorded.items) mutators
 
--- the places of all weak pointers that they made
+-- the addresses of all weak pointers that they made
 abbrev pub young_in : List Mutator → List Address
 young_in mutators = flat_map (λ (m : Mutator). m.young_weaks.items) mutators
 
--- the places of what was recorded
+-- the addresses of the recorded fields
 pub places_of_addresses : (mutators : List Mutator) → places_of (addresses_of mutators) ≡ recorded_of mutators
 places_of_addresses [] = refl
 places_of_addresses (m ∷ mutators) = cc (map-append (λ (at : Address). at.0) m.recorded.items (addresses_of mutators), places_of_addresses mutators)
 
--- and of the weak pointers that were made
+-- and of the new weak pointers
 pub places_of_young : (mutators : List Mutator) → places_of (young_in mutators) ≡ young_weaks_of mutators
 places_of_young [] = refl
 places_of_young (m ∷ mutators) = cc (map-append (λ (at : Address). at.0) m.young_weaks.items (young_in mutators), places_of_young mutators)
@@ -39,7 +39,7 @@ pub same_stopped : (t : Stopped) (s : Segments) (words words' : List ℕ) (nurse
 same_stopped t s words words' nurseries nurseries' registers registers' queues queues' recorded recorded' weaks weaks' w n r q f y h =
     rw (← y) (rw (← f) (rw (← q) (rw (← r) (rw (← n) (subst (λ (x : List ℕ). IsStopped t s x nurseries registers queues recorded weaks) w h)))))
 
--- read as lists of what each mutator has, they stand for what they stood for
+-- read as lists of each mutator's parts, they represent the same
 pub stopped_now : (t : Stopped) (s : Segments) (held : Option (List ℕ)) (words : List ℕ) (old was : List Mutator) → held ≡ Some words → was ≡ old →
     IsStopped t s (words_in held) (nurseries_of old) (registers_of old) (queues_of old) (recorded_of old) (young_weaks_of old) →
     IsStopped t s words (nurseries_of was) (registers_of was) (words_of (queues_in was)) (places_of (addresses_of was)) (places_of (young_in was))

@@ -1,4 +1,4 @@
--- The phase that a collector tells is that of its run: so it has what the phase asks for.
+-- The phase of a collector is its run's, so its parts fit the phase.
 use Rattle.nmgc_cycle.proofs.Vocabulary.{◌≡◌, List, refl, Bool, true, false, Row, Phase, snapshots, noted, Progress, idle, marking, sweeping, phase_of, phase_in, is_marking_in}
 use Rattle.nmgc_journal.specs.declared.report.Phase.TheVariants as phase
 use Rattle.nmgc_cycle.specs.declared.progress.Marking as of_marking

@@ -1,4 +1,4 @@
--- What a script within the limits gives: its plan is runnable, and the states of its runs are sound.
+-- For a script within the limits the plan is runnable, and the states of its runs are sound.
 use Rattle.nmgc_cycle.proofs.Vocabulary.{ℕ, ◌≤◌, length, most_script_bytes, IsLayout, Script, HasGoodPlan, Run, last_state, program_of, IsRunnable, IsSoundState, plan_of, layout_of, few_in_each, runnable_of, scripts_have_good_plans, states_are_sound, Collector, IsAfterStop, IsInLimits}
 
 pub good_plan : (script : Script) → IsInLimits script → HasGoodPlan script

@@ -1,4 +1,4 @@
--- What contracts see of the mutators of a collector, read in the words of a run and in those of a turn.
+-- The view of a collector's mutators, by the definitions of a run and of a round.
 use Rattle.std.proofs.{Common.ℕ, Common.◌≡◌, Common.List, Common.[], Common.◌∷◌, Common.◌++◌, Common.map, Common.refl, Common.ap, Common.◌∙◌, Common.Some, lemmas.Option.slice_get-map}
 use Rattle.std.specs.Prelude.{flat_map, slice_get, option_map}
 use Rattle.nmgc_object.specs.declared.layout.Nursery.{Nursery}

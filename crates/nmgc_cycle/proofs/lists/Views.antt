@@ -1,16 +1,16 @@
--- The lists over all mutators, as contracts see them of the collector, and as the mutators have them.
+-- The lists over all mutators, in the view of the collector and in the mutators.
 use Rattle.std.proofs.{Common.◌≡◌, Common.List, Common.[], Common.◌∷◌, Common.map, lemmas.List.Elements.All-nil, lemmas.List.Elements.All-cons, lemmas.List.Elements.All-head, lemmas.List.Elements.All-tail}
 use Rattle.std.specs.Prelude.{All}
 use Rattle.nmgc_journal.specs.declared.report.MutatorEnd.{MutatorEnd}
 use Rattle.nmgc_mutator.specs.declared.mutator.Mutator.{Mutator}
 use Rattle.nmgc_collector_laws.specs.Worked as worked
-use Rattle.nmgc_run_spec.specs.Heap as told
+use Rattle.nmgc_run_spec.specs.Heap as reported
 use Rattle.nmgc_run_spec.specs.Heap.{HasAllRegisters}
 use Rattle.nmgc_collector_laws.specs.{Seen.ends_of, Seen.end_of, Seen.nurseries_of, Seen.recorded_in, Seen.young_weaks_in, Seen.finalised_in, laws.Roots.same_registers, laws.Roots.same_queues, laws.Roots.same_serials}
 use Rattle.nmgc_cycle.specs.{declared.collector.Collector.Collector, Roots.HasRegisters, Shown.seen, Shown.seen_mutator}
 use Rattle.nmgc_cycle.proofs.lists.RootLists.{same_nurseries, same_recorded, same_weaks, same_finalised}
 
--- the mutators, as a report would tell them
+-- the mutators, as in a report
 abbrev ends_in : List Mutator → List MutatorEnd
 ends_in ms = map end_of (map seen_mutator ms)
 
@@ -20,13 +20,13 @@ each_whole (m ∷ ms) h =
     All-cons HasAllRegisters (end_of (seen_mutator m)) (ends_in ms) (All-head HasRegisters m ms h) (each_whole ms (All-tail HasRegisters m ms h))
 
 module _ (c : Collector) where
-  pub registers_seen : told.registers_of (ends_of (seen c)) ≡ worked.registers_of c.mutators.items
+  pub registers_seen : reported.registers_of (ends_of (seen c)) ≡ worked.registers_of c.mutators.items
   registers_seen = same_registers c.mutators.items
 
-  pub queues_seen : told.queues_of (ends_of (seen c)) ≡ worked.queues_of c.mutators.items
+  pub queues_seen : reported.queues_of (ends_of (seen c)) ≡ worked.queues_of c.mutators.items
   queues_seen = same_queues c.mutators.items
 
-  pub serials_seen : told.serials_of (ends_of (seen c)) ≡ worked.serials_of c.mutators.items
+  pub serials_seen : reported.serials_of (ends_of (seen c)) ≡ worked.serials_of c.mutators.items
   serials_seen = same_serials c.mutators.items
 
   pub nurseries_seen : nurseries_of (seen c) ≡ worked.nurseries_of c.mutators.items

@@ -1,8 +1,8 @@
--- A cycle, or a full one, is asked for exactly where a slice did the command that asks for it.
+-- A cycle, or a full one, is asked for exactly if a slice did the command for it.
 use Rattle.nmgc_cycle.proofs.Vocabulary.{ℕ, zero, suc, ◌≡◌, ◌<◌, ◌↔◌, List, [], ◌∷◌, length, map, take, refl, sym, ap, ◌∙◌, inl, inr, arith, Bool, true, false, IsTrue, Some, slice_get, ◌||◌, list_any, cases_lt, Command, Yield, Collect, Full, Mutator, SliceEnd, IsYield, GoesOn, IsLast, Ended, is_collect, is_full, or_true, not_true}
 use Rattle.nmgc_mutator.specs.declared.mutator.SliceEnd.TheVariants as ending
 
--- a command that ends no slice asks for nothing
+-- a command that ends no slice makes no request
 
 no_yield : (c : Command) → (IsYield c → ⊥) → is_collect c ≡ false
 no_yield Collect h = absurd (h tt)
@@ -13,7 +13,7 @@ no_yield_full Full h = absurd (h tt)
 no_yield_full c h = refl
 
 module _ (such : Command → Bool) (plain : (c : Command) → (IsYield c → ⊥) → such c ≡ false) where
-  -- of the first commands none asks
+  -- no earlier command asks
   none_asks : (program : List Command) (n : ℕ) → ((i : ℕ) (c : Command) → i < n → slice_get program i ≡ Some c → such c ≡ false) →
       list_any such (take n program) ≡ false
   none_asks program zero h = refl
@@ -23,7 +23,7 @@ module _ (such : Command → Bool) (plain : (c : Command) → (IsYield c → ⊥
   none_goes : (program : List Command) (n : ℕ) → GoesOn program n → list_any such (take n program) ≡ false
   none_goes program n on = none_asks program n (λ i c lt e. plain c (on i c lt e))
 
-  -- the last of them does
+  -- the last command asks
   one_asks : (program : List Command) (i : ℕ) (last : Command) → such last ≡ true → slice_get program i ≡ Some last →
       list_any such (take (suc i) program) ≡ true
   one_asks [] i last asks e = absurd cc
@@ -34,7 +34,7 @@ module _ (such : Command → Bool) (plain : (c : Command) → (IsYield c → ⊥
   last_asks program done last asks h = let count : done ≡ suc h.0 = (let n = h.1 in omega (arith, n)) in
       ap (λ (m : ℕ). list_any such (take m program)) count ∙ one_asks program h.0 last asks h.3
 
-  -- none of those before the last asks, and the last doesn't either
+  -- neither an earlier command nor the last asks
   last_asks_not : (program : List Command) (done : ℕ) (c : Command) → IsLast program done c → such c ≡ false → list_any such (take done program) ≡ false
   last_asks_not program done c last not =
       let count = last.1 in
@@ -47,7 +47,7 @@ module _ (such : Command → Bool) (plain : (c : Command) → (IsYield c → ⊥
             ap such (sym same) ∙ not
       ])
 
--- what a slice asks for, by how it ended
+-- the request of a slice, by its end
 
 pub asks_by_end : (program : List Command) (most done : ℕ) (n : Mutator) (end : SliceEnd) (asks : Bool) → Ended program most done n end →
     IsTrue asks ↔ (end ≡ ending.Collect) → asks ≡ list_any is_collect (take done program)
@@ -77,7 +77,7 @@ full_by_end program most done n ending.Full asks h is = is.1 refl ∙ sym (last_
 full_by_end program most done n (ending.Nursery need left) asks h is =
     not_true asks (λ e. let bad : ending.Nursery need left ≡ ending.Full = is.0 e in cc) ∙ sym (none_goes is_full no_yield_full program done h.0)
 
--- two lists of which the same passes
+-- two lists with equal tests of their items
 pub same_any : {A B : Type 0} (f : A → Bool) (g : B → Bool) (xs : List A) (ys : List B) → length xs ≡ length ys →
     ((k : ℕ) (x : A) (y : B) → slice_get xs k ≡ Some x → slice_get ys k ≡ Some y → f x ≡ g y) → list_any f xs ≡ list_any g ys
 same_any f g [] [] e h = refl
@@ -85,7 +85,7 @@ same_any f g [] (y ∷ ys) e h = absurd (omega arith)
 same_any f g (x ∷ xs) [] e h = absurd (omega arith)
 same_any {A} {B} f g (x ∷ xs) (y ∷ ys) e h = cc (h 0 x y refl refl, same_any f g xs ys (omega arith) (λ k a b i j. h (suc k) a b i j))
 
--- and so of a mapped list
+-- and so for a mapped list
 pub any_mapped : {A B : Type 0} (f : B → Bool) (g : A → B) (xs : List A) → list_any f (map g xs) ≡ list_any (λ (x : A). f (g x)) xs
 any_mapped f g [] = refl
 any_mapped f g (x ∷ xs) = ap (λ (b : Bool). f (g x) || b) (any_mapped f g xs)

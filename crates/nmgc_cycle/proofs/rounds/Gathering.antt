@@ -1,14 +1,14 @@
--- What the slices of all mutators leave, by their numbers.
+-- The results of all mutators' slices, by their numbers.
 use Rattle.nmgc_cycle.proofs.Vocabulary.{ℕ, ◌≡◌, List, length, map, slice_index_or, sym, ap, subst, ◌∙◌, arith, Some, slice_get, length-map, slice_get_within, get_or_from_slice_get, Command, map_item, Layout, Round, Opening, RoundSeat, alone, Mutator, HasDone, IsResting, SlicesAreDone, Done, Script, Run, Collector, Worker, IsAfterStop, IsInLimits, left_at, HaveAllWorked, HasWorkedOn, worker_of, workers_of, mutator_of, seat_of, item}
 use Rattle.nmgc_cycle.proofs.{lists.Items.chosen, rounds.Opened.IsOpened, rounds.Readiness.HasSeats, rounds.Readiness.seats_counted, rounds.Readiness.seat_alone, rounds.Readiness.workers_at, rounds.Readiness.workers_count, rounds.Resting.resting, rounds.Resting.mutators_counted, rounds.Slicing.IsSlice, rounds.Slicing.slice_done}
 
--- what worker k did, from what its mutator was
+-- the work of worker k, from its mutator's earlier state
 pub record OneDid (script : Script) (c : Collector) (round : Round) (o : Opening) (k : ℕ) (new : Worker) (done : List Done) : Type 0 where
   pub old : Mutator
   pub old_is : slice_get c.mutators.items k ≡ Some old
   pub slice : IsSlice script.config round o k (left_at script c.positions.items k) old new done
 
--- what all of them did
+-- the work of all workers
 pub record AllDid (script : Script) (c : Collector) (round : Round) (o : Opening) (new : List Worker) : Type 0 where
   pub done : List (List Done)
   pub count : length done ≡ length new

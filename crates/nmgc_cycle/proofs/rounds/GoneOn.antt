@@ -1,27 +1,9 @@
--- What a round leaves of the cycle in progress and of the heap, by what the collector did beside it.
-use Rattle.nmgc_cycle.proofs.Vocabulary.{◌≡◌, ◌≤◌, List, ◌∷◌, nursery_place, AllocState, Place, LieInOrder, Remembers, Opening, RoundIsHistory, RoundIsStopped, RoundTellsFinalised, TellsFinalised, Script, RoundIsMarking, RoundFreesUntracked, SweptHoldsAfterRound, DropKeepsRound, FreeGrows, RoundHolds, PaceAfterRound, MachineGoesOn, MarkedWait, LeftStays, LeftIsCounted, AreNurseries, HoldsInCycle, IsPacedAfterRound, HoldsAfterRound, snapshots, ends_of, nurseries_of, recorded_in, young_weaks_in, finalised_in, Cycle, SweepsBeside, AreNamed, Collector, Sweeps, seen, phase_in}
+-- The cycle in progress and the heap after a round, by the collector's part in it.
+use Rattle.nmgc_cycle.proofs.Vocabulary.{◌≡◌, ◌≤◌, List, ◌∷◌, nursery_place, AllocState, Place, LieInOrder, Remembers, Opening, ListsFinalised, Script, AreNurseries, HoldsInCycle, IsPacedAfterRound, HoldsAfterRound, snapshots, ends_of, nurseries_of, recorded_in, young_weaks_in, finalised_in, Cycle, SweepsBeside, AreNamed, Collector, Sweeps, seen, phase_in}
 use Rattle.nmgc_alloc.specs.Reserve as reserve
-use Rattle.nmgc_cycle.proofs.{rounds.Opened.CanOpenRounds, rounds.Over.IsOver, rounds.Over.s, rounds.Over.w, rounds.Over.t, rounds.Over.last, rounds.Over.shown, rounds.RoundOver.layout}
+use Rattle.nmgc_cycle.proofs.{rounds.Over.IsOver, rounds.Over.s, rounds.Over.w, rounds.Over.t, rounds.Over.last, rounds.Over.shown, rounds.RoundOver.layout}
 
--- the laws of a round
-pub record HasLaws : Type 0 where
-  pub opens : CanOpenRounds
-  pub history : RoundIsHistory
-  pub stopped : RoundIsStopped
-  pub finalised : RoundTellsFinalised
-  pub holds : RoundHolds
-  pub goes_on : MachineGoesOn
-  pub is_marking : RoundIsMarking
-  pub pace : PaceAfterRound
-  pub frees : RoundFreesUntracked
-  pub swept_holds : SweptHoldsAfterRound
-  pub drops : DropKeepsRound
-  pub grows : FreeGrows
-  pub waits : MarkedWait
-  pub left : LeftStays
-  pub counted : LeftIsCounted
-
--- the blocks after the round, and where objects lie; words, segments, nurseries and what is remembered stand for them, and the cycle in progress goes on
+-- the round's blocks and addresses: words, segments, nurseries and remembered entries represent them, and the cycle goes on
 pub record HasGoneOn (script : Script) (c new : Collector) (o : Opening) (x : IsOver script c new o) : Type 0 where
   pub blocks : AllocState
   pub swept : SweepsBeside script.config.quota (s script c new o x).progress (s script c new o x).allocation blocks
@@ -33,7 +15,7 @@ pub record HasGoneOn (script : Script) (c new : Collector) (o : Opening) (x : Is
   pub ordered : LieInOrder (nursery_place (layout script c new o x) 0) at
   pub remembers : Remembers (nursery_place (layout script c new o x) 0) ((s script c new o x).world ∷
       snapshots (t script c new o x blocks).progress) at (w script c new o x) (recorded_in (shown script c new o x)) (young_weaks_in (shown script c new o x))
-  pub told : TellsFinalised (nursery_place (layout script c new o x) 0) at (s script c new o x).world (w script c new o x) (finalised_in (shown script c new o x))
+  pub reported : ListsFinalised (nursery_place (layout script c new o x) 0) at (s script c new o x).world (w script c new o x) (finalised_in (shown script c new o x))
   pub free : reserve.free_count c.heap.segments.segments ≤ reserve.free_count new.heap.segments.segments
   pub cycle : HoldsInCycle (λ (k : Cycle).
       IsPacedAfterRound script.config.quota k (t script c new o x blocks) (shown script c new o x)) (t script c new o x blocks).progress

@@ -1,9 +1,9 @@
--- Of a collector only the inbox changed, and what its mutators know of their rings: contracts see the same.
+-- Only the inbox and the mutators' knowledge of their rings changed: the view in contracts is the same.
 use Rattle.nmgc_cycle.proofs.Vocabulary.{ℕ, ◌≡◌, ◌+◌, ◌≤◌, ◌++◌, List, length, map, refl, sym, ap, subst, ◌∙◌, Some, Global, arith, slice_get, Vec, slice_get_within, World, MAKERS, Address, Mutator, IsWhole, numbers, Receiver, HavePolled, Script, IsAfterRound, Run, last_state, State, Progress, idle, marking, sweeping, plan_of, Collector, MayFollow, commands, one_cycle, no_cycle, AreFewAtStop, AreFewBeforeStop, IsWellFormed, IsOwn, IsAfterStop, HasStopped, HasWorked, DidRound, Sweeps, HasMetSender, HaveLines, HaveMet, seen, seen_mutator, item}
 use Rattle.nmgc_collector_laws.specs.Seen as run
 use Rattle.nmgc_cycle.proofs.{rounds.Lining.lined_on, lists.Mapped.same_maps}
 
--- inbox and mutators are no part of what sweeps, nor of how many stops may follow
+-- inbox and mutators are no part of the sweeper's facts, nor of the bound of stops
 
 sweeps_both : (p : Progress) (s : State) (c : Collector) (inbox : List Receiver) (mutators : Vec Mutator Global) → Sweeps p s c →
     Sweeps p s (record c { inbox = inbox; mutators = mutators })
@@ -62,7 +62,7 @@ module _ (script : Script) (c : Collector) (inbox : List Receiver) where
     workers = k.workers;
   }
 
-  -- what is after a stop stays so
+  -- a stopped collector stays stopped
   pub stop_inbox : (run : Run) → IsWellFormed script other → IsAfterStop script c run → IsAfterStop script other run
   stop_inbox run kept still = record {
     kept = kept;
@@ -79,7 +79,7 @@ inbox_stopped script old new (r, still) rest polled = (
   rw rest (stop_inbox script old new.inbox r (kept_inbox script old new.inbox polled still.kept) still),
 )
 
--- and so is the other way round
+-- and conversely
 pub inbox_before : (script : Script) (old new : Collector) (r : Run) → IsWellFormed script old → new ≡ record old { inbox = new.inbox } →
     IsAfterStop script new r → IsAfterStop script old r
 inbox_before script old new r kept rest still = stop_inbox script (record old { inbox = new.inbox }) old.inbox r kept (rw rest at still)
@@ -146,7 +146,7 @@ module _ (script : Script) (c : Collector) (inbox : List Receiver) (mutators : V
     few = few_before script c inbox mutators (last_state w.run).world w.worked.world w.few;
   }
 
--- so a round is done still
+-- so it is still a round
 pub round_met : (script : Script) (old mid new : Collector) (many : ℕ) → new ≡ record mid { inbox = new.inbox; mutators = new.mutators } →
     HaveMet many mid.inbox new.inbox mid.mutators.items new.mutators.items → DidRound script old mid → DidRound script old new
 unfolding worked_met

@@ -1,17 +1,17 @@
--- The collector after a round, its replies told: what it keeps, and that it worked.
+-- The collector after a round with reported replies: its invariant, and the round.
 use Rattle.nmgc_cycle.proofs.Vocabulary.{ℕ, ◌≡◌, ◌<◌, List, [], ◌∷◌, ◌++◌, length, map, slice_index, refl, sym, ap, subst, ◌∙◌, arith, Some, Global, slice_get, Vec, get_or-map, length-map, get_or_from_slice_get, slice_get_within, map_item, Reply, Layout, IsLayout, RoundRows, IsFor, Mutator, Opening, Done, Script, IsAfterRound, plan_of, answered_count, HaveEntries, Collector, IsWellFormed, IsOwn, DidRound, seen, seen_mutator, cleared, item, slice_index_or}
 use Rattle.nmgc_collector_laws.specs.Seen as run
-use Rattle.nmgc_cycle.proofs.{rounds.AfterRound.gone_on, rounds.AfterRound.is_after, rounds.GoneOn.HasLaws, rounds.GoneOn.HasGoneOn, lengths.Measures.answered_more, rounds.Over.IsOver, rounds.Over.t, rounds.Over.rows, rounds.Over.told, rounds.Over.last, rounds.Over.shown, rounds.Over.worked, rounds.Over.done_count, rounds.Over.mutators_count, rounds.Over.one, rounds.OwnRows.replies_in, lists.Plans.is_layout, rounds.Reserved.sweeps_on, lengths.RoundFew.round_few, rounds.Rounded.one_did, rounds.Rounded.told_is, rounds.Lining.lined_on, rounds.Lining.same_item}
+use Rattle.nmgc_cycle.proofs.{rounds.AfterRound.gone_on, rounds.AfterRound.is_after, Vocabulary.HasRoundLaws, rounds.GoneOn.HasGoneOn, lengths.Measures.answered_more, rounds.Over.IsOver, rounds.Over.t, rounds.Over.rows, rounds.Over.reported, rounds.Over.last, rounds.Over.shown, rounds.Over.worked, rounds.Over.done_count, rounds.Over.mutators_count, rounds.Over.one, rounds.OwnRows.replies_in, lists.Plans.is_layout, rounds.Reserved.sweeps_on, lengths.RoundFew.round_few, rounds.Rounded.one_did, rounds.Rounded.known_is, rounds.Lining.lined_on, rounds.Lining.same_item}
 
 -- contracts see no replies of a mutator
 same_cleared : (ms : List Mutator) → map seen_mutator (map cleared ms) ≡ map seen_mutator ms
 same_cleared [] = refl
 same_cleared (m ∷ ms) = ap (λ (l : List run.MutatorSeen). seen_mutator m ∷ l) (same_cleared ms)
 
-module _ (laws : HasLaws) (script : Script) (c new : Collector) (o : Opening) (x : IsOver script c new o) (mutators : Vec Mutator Global)
+module _ (laws : HasRoundLaws) (script : Script) (c new : Collector) (o : Opening) (x : IsOver script c new o) (mutators : Vec Mutator Global)
     (mutators_are : mutators.items ≡ map cleared new.mutators.items) where
   abbrev row : RoundRows
-  row = record { replies = told script c new o x }
+  row = record { replies = reported script c new o x }
 
   abbrev pub after : Collector
   after = record (last script c new o x) { mutators = mutators }
@@ -60,9 +60,9 @@ module _ (laws : HasLaws) (script : Script) (c new : Collector) (o : Opening) (x
   position_is k lt =
       let d = item x.did.done k (let n = done_count script c new o x in omega (arith, lt, n)) in
       let own : slice_index_or x.did.done k [] ≡ d.0 = get_or_from_slice_get x.did.done k d.0 [] d.1 in
-      let replied : slice_index_or (told script c new o x) k [] ≡ replies_in d.0 =
-      ap (λ (l : List (List Reply)). slice_index_or l k []) (told_is script c new o x) ∙ get_or-map replies_in x.did.done k [] ∙ ap replies_in own in
-      let many : length (slice_index_or (told script c new o x) k []) ≡ length d.0 = cc (replied, length-map d.0 (λ (y : Done). y.1)) in
+      let replied : slice_index_or (reported script c new o x) k [] ≡ replies_in d.0 =
+      ap (λ (l : List (List Reply)). slice_index_or l k []) (known_is script c new o x) ∙ get_or-map replies_in x.did.done k [] ∙ ap replies_in own in
+      let many : length (slice_index_or (reported script c new o x) k []) ≡ length d.0 = cc (replied, length-map d.0 (λ (y : Done). y.1)) in
       let before = x.still.kept.positions k lt in
       let now = (one script c new o x k d.0 d.1).4.position in
       let more = answered_more c.rows.rounds row k in
@@ -88,20 +88,20 @@ module _ (laws : HasLaws) (script : Script) (c new : Collector) (o : Opening) (x
   pub did_round : DidRound script c after
   did_round =
       let g : HasGoneOn script c new o x = gone_on laws script c new o x in
-      let is : IsAfterRound (plan_of script) x.run (told script c new o x) (rows script c new o x) (t script c new o x g.blocks) (seen after) =
-      subst (IsAfterRound (plan_of script) x.run (told script c new o x) (rows script c new o x) (t script c new o x g.blocks)) seen_is
+      let is : IsAfterRound (plan_of script) x.run (reported script c new o x) (rows script c new o x) (t script c new o x g.blocks) (seen after) =
+      subst (IsAfterRound (plan_of script) x.run (reported script c new o x) (rows script c new o x) (t script c new o x g.blocks)) seen_is
       (is_after laws script c new o x g) in (
         record {
           kept = kept;
           goes_on = x.goes_on;
           run = x.run;
-          replies = told script c new o x;
+          replies = reported script c new o x;
           history = rows script c new o x;
           worked = t script c new o x g.blocks;
           after = is;
           sweeper = sweeps_on (t script c new o x g.blocks).progress (t script c new o x g.blocks) (last script c new o x) mutators g.sweeper;
           named = g.named;
-          few = round_few script c after x.run (told script c new o x) (rows script c new o x) (t script c new o x g.blocks) x.limits x.still is
+          few = round_few script c after x.run (reported script c new o x) (rows script c new o x) (t script c new o x g.blocks) x.limits x.still is
               x.did.helped.round x.did.helped.from x.did.helped.seat x.did.helped.helped;
         },
         x.still,

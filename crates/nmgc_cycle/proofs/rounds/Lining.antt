@@ -1,12 +1,12 @@
--- The collector's ends of the rings stay those of the mutators, whatever was polled and sent.
+-- The collector's ends of the rings stay the mutators' other ends, through polls and sends.
 use Rattle.nmgc_cycle.proofs.Vocabulary.{ℕ, zero, suc, ◌≡◌, ◌≢◌, ◌<◌, ◌∙◌, sym, ap, subst, List, [], ◌∷◌, ◌++◌, length, get_or, length-set, append-nil, Some, refl, slice_get, slice_get-get_or, slice_get_within, Room, Address, HasMetSo, Sender, Receiver, AreNew, AtLine, HasPolled, HavePolled, line_goes_on, new_line, at_polled, IsLined, IsPaired, set_here, set_other, last_item}
 use Rattle.nmgc_updrem.specs.Lines.{Reserves}
 
--- two items at one place are one
+-- two items at one position are equal
 pub same_item : {X : Type 0} (l : List X) (k : ℕ) (x y : X) → slice_get l k ≡ Some x → slice_get l k ≡ Some y → x ≡ y
 same_item l k x y e f = let both : Some x ≡ Some y = sym e ∙ f in cc
 
--- a receiver that changed, and the others
+-- a receiver that changed, and the rest
 module _ (C : Receiver → Receiver → Type 0) (k : ℕ) (old new : List Receiver) (h : AtLine C k old new) where
   within : k < length old
   within = slice_get_within old k h.was h.at
@@ -29,7 +29,7 @@ lined_on old new polled k s t ring before (r, at, line) =
     let here : slice_get new k ≡ Some q = slice_get-get_or new k r there in
     (q, here, line_goes_on r q s t line (polled.each k r q at here) ring before)
 
--- what is lined is paired
+-- a lined receiver is paired
 pub paired : (inbox : List Receiver) (k : ℕ) (s : Sender) → IsLined inbox k s → IsPaired inbox k s
 paired inbox k s (r, at, line) = (r, at, line.pair)
 
@@ -45,7 +45,7 @@ met_polled from to r q h = record {
 pub all_met : (from to : Sender) (k : ℕ) (old new : List Receiver) → AtLine (HasMetSo from to) k old new → HavePolled old new
 all_met from to k old new h = at_polled (HasMetSo from to) (met_polled from to) old new k h
 
--- one more item at the end of a list
+-- a further item at the end of a list
 pub grown : {X : Type 0} (xs : List X) (y x : X) (k : ℕ) → slice_get xs k ≡ Some x → slice_get (xs ++ y ∷ []) k ≡ Some x
 grown [] y x k e = absurd cc
 grown (z ∷ xs) y x zero e = e

@@ -1,4 +1,4 @@
--- A sweep frees no weak pointer of the list: those that are alive are tracked.
+-- A sweep frees no weak pointer of the list, since alive weak pointers are tracked.
 use Rattle.nmgc_cycle.proofs.Vocabulary.{◌≡◌, List, ◌∷◌, inl, inr, ap, refl, subst, sym, arith, Contains, IsSome, Name, SHARED_MAKER, World, IsWorld, IsAliveWeak, shared_name, weak_maker, Layout, AllocState, HasBlock, Place, ListsWeaks, FreesUntracked}
 use Rattle.nmgc_world_spec.specs.Reach.{start}
 

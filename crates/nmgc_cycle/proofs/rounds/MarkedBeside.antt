@@ -1,4 +1,4 @@
--- A round beside which a cycle marked, or no cycle was in progress: blocks and places are those of the stop, and what was born.
+-- A round beside marking, or without a cycle: blocks and addresses are the stop's, and the new objects'.
 use Rattle.nmgc_cycle.proofs.Vocabulary.{◌≡◌, ◌≤◌, ◌⊎◌, ◌↔◌, List, [], refl, sym, ap, subst, ◌∙◌, inl, inr, arith, true, cases_lt, Core, IsSound, map_item, Name, StandsFor, Segments, counts_stand, HasMarked, IsTiedByPlaces, marks_seen, marks_after, Opening, View, Script, HasLeft, ShowEntries, IsMachineAtRest, with_rows, Sweeper, HasNotes, AreLeft, interval_of, Cycle, HoldsInCycle, IsMarking, IsPacedAtStop, IsPacedAfterRound, IsLastBegun, AreSettled, noted, SweepsBeside, MarkerSeen, WorkSeen, MutatorSeen, ends_of, IsInCycle, Progress, idle, marking, phase_of, runs_are, rounds_are_sound, Collector, HasHelped, HasScanned, Sweeps, seen, seen_mutator, died, phase_in, marker_in, work_in, sweeper_in, OpensIn}
 use Rattle.nmgc_collector_laws.specs.Owed.{GoesOn}
 use Rattle.nmgc_segment.specs.declared.state.State.TheVariants as stands
@@ -6,10 +6,10 @@ use Rattle.nmgc_alloc.specs.Reserve as reserve
 use Rattle.nmgc_cycle.specs.declared.progress.Marking as held_marking
 use Rattle.nmgc_cycle.specs.declared.progress.Progress as held
 use Rattle.nmgc_cycle.specs.declared.progress.Progress.TheVariants as doing
-use Rattle.nmgc_cycle.proofs.{rounds.GoneOn.HasLaws, rounds.GoneOn.HasGoneOn, rounds.Opened.in_cycle, rounds.Opened.rests_beside, rounds.Over.IsOver, rounds.Over.plan, rounds.Over.s, rounds.Over.w, rounds.Over.t, rounds.Over.rows, rounds.Over.places, rounds.Over.told, rounds.Over.last, rounds.Over.shown, rounds.Over.view, rounds.Over.worked, rounds.Over.can, rounds.Over.queue_kept, lists.Phases.when_idle, lists.Phases.when_marking, lists.Plans.sound_state, rounds.RoundOver.layout, rounds.RoundOver.opening_layout, rounds.RoundOver.nurseries_left, rounds.RoundOver.in_order, rounds.RoundOver.remembered, rounds.RoundOver.finalised_told, rounds.RoundOver.round_from, rounds.Rounded.is_round}
+use Rattle.nmgc_cycle.proofs.{Vocabulary.HasRoundLaws, rounds.GoneOn.HasGoneOn, rounds.Opened.in_cycle, rounds.Opened.rests_beside, rounds.Over.IsOver, rounds.Over.plan, rounds.Over.s, rounds.Over.w, rounds.Over.t, rounds.Over.rows, rounds.Over.places, rounds.Over.reported, rounds.Over.last, rounds.Over.shown, rounds.Over.view, rounds.Over.worked, rounds.Over.can, rounds.Over.queue_kept, lists.Phases.when_idle, lists.Phases.when_marking, lists.Plans.sound_state, rounds.RoundOver.layout, rounds.RoundOver.opening_layout, rounds.RoundOver.nurseries_left, rounds.RoundOver.in_order, rounds.RoundOver.remembered, rounds.RoundOver.finalised_known, rounds.RoundOver.round_from, rounds.Rounded.is_round}
 
-module _ (laws : HasLaws) (script : Script) (c new : Collector) (o : Opening) (x : IsOver script c new o) where
-  -- the phase of the stop's state tells what the collector has
+module _ (laws : HasRoundLaws) (script : Script) (c new : Collector) (o : Opening) (x : IsOver script c new o) where
+  -- the phase of the stop's state is the collector's
   pub phase_with : (p : Progress) → (s script c new o x).progress ≡ p → phase_in c.cycle.progress ≡ phase_of p
   phase_with p e = x.still.at_stop.matches.phase ∙ ap phase_of e
 
@@ -17,7 +17,7 @@ module _ (laws : HasLaws) (script : Script) (c new : Collector) (o : Opening) (x
       HasHelped x.did.helped.round script.config.quota x.did.helped.from x.did.helped.seat c.heap.segments new.heap.segments c.heap.names q new.cycle.progress
   helped_as q e = rw e at x.did.helped.helped
 
-  -- as many segments are free where they stand for the same blocks
+  -- the number of free segments is the same, if they represent the same blocks
   same_free : StandsFor new.heap.segments (seen c).words (s script c new o x).allocation →
       reserve.free_count c.heap.segments.segments ≤ reserve.free_count new.heap.segments.segments
   same_free after =
@@ -46,7 +46,7 @@ module _ (laws : HasLaws) (script : Script) (c new : Collector) (o : Opening) (x
       nurseries = nurseries_left script c new o x laws.stopped;
       ordered = in_order script c new o x laws.stopped;
       remembers = remembered script c new o x laws.stopped;
-      told = finalised_told script c new o x laws.finalised;
+      reported = finalised_known script c new o x laws.finalised;
       free = same_free stands_still;
       cycle = rw e settled;
       sweeper = rw e tt;
@@ -77,7 +77,7 @@ module _ (laws : HasLaws) (script : Script) (c new : Collector) (o : Opening) (x
     abbrev n : held_marking.Marking
     n = did.0
 
-    -- what contracts see of marker, work, sweeper and cycle
+    -- the views of marker, work, sweeper and cycle
     marker_was : (seen c).marker ≡ m.marker
     marker_was = ap marker_in before.1
 
@@ -103,7 +103,7 @@ module _ (laws : HasLaws) (script : Script) (c new : Collector) (o : Opening) (x
     tied =
         rw marker_now (subst (λ (v : View). IsTiedByPlaces v.opening (marks_seen v) new.heap.segments n.marker) x.did.helped.knows did.2.worked.tied)
 
-    -- segments and words stand for what they stood for
+    -- segments and words represent the same
     same_layout : new.heap.segments.layout ≡ layout script c new o x
     same_layout = marked.layout ∙ x.still.kept.layout
 
@@ -137,7 +137,7 @@ module _ (laws : HasLaws) (script : Script) (c new : Collector) (o : Opening) (x
     sound : IsSound (interval_of (with_rows k (rows script c new o x)))
     sound =
         let h = rounds_are_sound (plan script c new o x) (s script c new o x) (t script c new o x (s script c new o x).allocation)
-        (told script c new o x) (rows script c new o x) (sound_state script c x.run x.limits x.still)
+        (reported script c new o x) (rows script c new o x) (sound_state script c x.run x.limits x.still)
         (is_round script c new o x laws.history (s script c new o x).allocation swept_none) in
         (subst (λ (p : Progress). IsInCycle (noted p (rows script c new o x)) (w script c new o x) (s script c new o x).allocation) e h.cycle).0
 
@@ -243,7 +243,7 @@ module _ (laws : HasLaws) (script : Script) (c new : Collector) (o : Opening) (x
       nurseries = nurseries_left script c new o x laws.stopped;
       ordered = in_order script c new o x laws.stopped;
       remembers = remembered script c new o x laws.stopped;
-      told = finalised_told script c new o x laws.finalised;
+      reported = finalised_known script c new o x laws.finalised;
       free = same_free stands_still;
       cycle = subst (λ (p : Progress). HoldsInCycle (λ (j : Cycle).
           IsPacedAfterRound script.config.quota j (t script c new o x (s script c new o x).allocation) (shown script c new o x))

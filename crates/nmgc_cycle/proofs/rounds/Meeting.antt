@@ -30,7 +30,7 @@ module _ (first inbox after : List Receiver) (was now : List Mutator) (k : ℕ) 
   there : slice_get then k ≡ Some n
   there = set_here now k n (slice_get_within now k m at)
 
-  -- what is at a place, by whether it is the one that met
+  -- the mutator at a position, which met or not
   mutators : (j : ℕ) (a b : Mutator) → slice_get was j ≡ Some a → slice_get then j ≡ Some b → HasMetSender a b
   mutators j a b e f = elim (cases_eq j k) [
     | inl same ↦
@@ -70,7 +70,7 @@ module _ (first inbox after : List Receiver) (was now : List Mutator) (k : ℕ) 
     in_order = in_order;
   }
 
--- once all have met, each remembers what was taken out of its ring, then what the ring has, then what it keeps
+-- after all met, each remembers the entries taken out of its ring, then in the ring, then in its set
 pub all_in_order : (first after : List Receiver) (was then : List Mutator) → HaveMet (length was) first after was then → RememberInOrder after then
 all_in_order first after was then h k r m e f =
     let within : k < length was = subst (λ (n : ℕ). k < n) h.count (slice_get_within then k m f) in

@@ -1,4 +1,4 @@
--- A round in which no command is left: nothing is done, nothing is born, and no cycle is asked for.
+-- A round without commands left: nothing is done, no object is made, and no cycle is asked for.
 use Rattle.nmgc_cycle.proofs.Vocabulary.{ℕ, ◌≡◌, ◌<◌, List, [], ◌∷◌, length, cond, refl, sym, ap, subst, ◌∙◌, arith, Bool, true, false, slice_index_or, eqb, ◌||◌, nat_lt, list_any, get_or-map, ltb-true, eq-eqb, get_or_default, Any-from_list_any, Row, IsOrderOf, rows_of, replayed, Command, Reply, AllocState, SweepsEach, Config, IsKeptIn, IsRound, answered, own_rows, SweepsBeside, slice_of, slices, some_asks, is_collect, has_left, program_of, State, Progress, idle, marking, sweeping, Name}
 
 empty_list : {A : Type 0} (xs : List A) → length xs ≡ 0 → xs ≡ []
@@ -62,7 +62,7 @@ beside_fresh quota idle a b e = ap (λ (x : AllocState). x.fresh) e
 beside_fresh quota (marking c) a b e = ap (λ (x : AllocState). x.fresh) e
 beside_fresh quota (sweeping c closed) a b h = each_fresh (IsKeptIn c) a b h.numbers h.sweeps
 
--- what a round leaves as it was where nothing is left of any program
+-- the parts that a round without commands leaves unchanged
 pub record DoesNothing (s t : State) : Type 0 where
   pub world : t.world ≡ s.world
   pub collect : t.collect ≡ s.collect

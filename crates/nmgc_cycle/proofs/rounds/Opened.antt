@@ -1,19 +1,10 @@
 -- The opening of the round after a stop, whatever the collector does there.
-use Rattle.nmgc_cycle.proofs.Vocabulary.{ℕ, ◌≡◌, List, [], ◌∷◌, map, refl, sym, ap, subst, ◌∙◌, false, Some, World, nothing_in, AreEarlier, Place, earlier, CanOpen, Opening, Script, HoldsInCycle, IsMarking, snapshots, Run, last_state, IsInCycle, State, Progress, idle, marking, sweeping, phase_of, plan_of, Cycle, HeapRests, AreShown, CoreHasSnapshot, Collector, IsAfterStop, HasStopped, seen, words_in, is_marking_in, IsInLimits, OpensIn, OpensAt}
+use Rattle.nmgc_cycle.proofs.Vocabulary.{ℕ, ◌≡◌, List, [], ◌∷◌, map, refl, sym, ap, subst, ◌∙◌, false, Some, World, nothing_in, AreEarlier, Place, earlier, CanOpen, Opening, Script, HoldsInCycle, IsMarking, snapshots, Run, last_state, IsInCycle, State, Progress, idle, marking, sweeping, phase_of, plan_of, Cycle, AreShown, Collector, IsAfterStop, HasStopped, seen, words_in, is_marking_in, IsInLimits, OpensIn, OpensAt, HasOpeningLaws}
 use Rattle.nmgc_collector_laws.specs.Rest as turn
-use Rattle.nmgc_collector_laws.specs.Turn as turns
 use Rattle.nmgc_collector_laws.specs.RestMarking as beside
 use Rattle.nmgc_cycle.proofs.{lists.Phases.is_marking_phase, lists.Phases.marks_by_phase, lists.Plans.sound_state, rounds.Resting.still_rests}
 
--- the laws of what opens a round
-pub record CanOpenRounds : Type 0 where
-  pub quiet : turns.RestOpens
-  pub marks : beside.RestOpens
-  pub rests : HeapRests
-  pub snapshot : CoreHasSnapshot
-
--- what all these openings have: layout, places, mutators and world are those of the stop, and the collector speaks of
--- the snapshot while a cycle marks; and the round may begin
+-- such an opening has the stop's layout, addresses, mutators and world, and a marking cycle's snapshot; the round may begin
 pub record IsOpened (script : Script) (c : Collector) (run : Run) (still : IsAfterStop script c run) (o : Opening) : Type 0 where
   pub layout_is : o.layout ≡ c.heap.segments.layout
   pub marks : o.marking ≡ is_marking_in c.cycle.progress
@@ -36,7 +27,7 @@ opening_there script c (run, still) =
     let h = some_opening _ (last_state run).progress (last_state run) c still.at_stop.heap.places still.at_stop.cycle in
     (h.0, (run, still, h.1))
 
-module _ (laws : CanOpenRounds) (script : Script) (c : Collector) (run : Run) (limits : IsInLimits script) (still : IsAfterStop script c run) where
+module _ (laws : HasOpeningLaws) (script : Script) (c : Collector) (run : Run) (limits : IsInLimits script) (still : IsAfterStop script c run) where
   -- whether it is marking
   marks_with : (p : Progress) → (last_state run).progress ≡ p → is_marking_phase (phase_of p) ≡ is_marking_in c.cycle.progress
   marks_with p e = sym (marks_by_phase c.cycle.progress ∙ ap is_marking_phase (still.at_stop.matches.phase ∙ ap phase_of e))
@@ -44,7 +35,7 @@ module _ (laws : CanOpenRounds) (script : Script) (c : Collector) (run : Run) (l
   pub shown_are : AreShown c.heap.segments.layout (seen c) c.mutators.items
   shown_are = record { are = refl; each = λ k m e. let own = still.kept.own k m e in (own.number, own.layout, own.whole) }
 
-  -- where none marks
+  -- if none marks
   quiet : (p : Progress) → (last_state run).progress ≡ p → is_marking_phase (phase_of p) ≡ false → snapshots p ≡ [] →
       IsOpened script c run still (turn.opening_at c.heap.segments.layout (last_state run).world still.at_stop.heap.places c.mutators.items)
   quiet p e none nothing =
@@ -61,7 +52,7 @@ module _ (laws : CanOpenRounds) (script : Script) (c : Collector) (run : Run) (l
         past = λ x h. absurd (nothing_in x h);
       }
 
-  -- and where one does
+  -- and if one does
   pub rests_beside : (k : Cycle) → (last_state run).progress ≡ marking k → (h : IsMarking k (last_state run) (seen c) still.at_stop.heap.places) →
       beside.IsAtRestMarking k h.core c.heap.segments still.at_stop.heap.places (last_state run).world (seen c).words c.mutators.items (seen c).marker.queue
   rests_beside k e h = (laws.rests (plan_of script) (last_state run) (seen c) k c.mutators.items (sound_state script c run limits still)
@@ -94,6 +85,6 @@ module _ (laws : CanOpenRounds) (script : Script) (c : Collector) (run : Run) (l
   opened_in (marking k) o e h = subst (IsOpened script c run still) (sym h.1) (beside_cycle k e h.0)
   opened_in (sweeping k closed) o e h = subst (IsOpened script c run still) (sym h) (quiet (sweeping k closed) e refl refl)
 
--- the opening of a stop is one
-pub opened : CanOpenRounds → (script : Script) (c : Collector) (o : Opening) → IsInLimits script → (h : OpensAt script c o) → IsOpened script c h.0 h.1 o
+-- the opening of a stop is such an opening
+pub opened : HasOpeningLaws → (script : Script) (c : Collector) (o : Opening) → IsInLimits script → (h : OpensAt script c o) → IsOpened script c h.0 h.1 o
 opened laws script c o limits (run, still, is) = opened_in laws script c run limits still (last_state run).progress o refl is

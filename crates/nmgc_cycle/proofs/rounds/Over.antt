@@ -1,4 +1,4 @@
--- A round that is over: what it began with, what it did, and the state of the run after it.
+-- A round that is over: its beginning, its work, and the state of the run after it.
 use Rattle.nmgc_cycle.proofs.Vocabulary.{ℕ, ◌≡◌, ◌+◌, ◌≤◌, List, [], ◌∷◌, ◌++◌, length, map, ap, ◌∙◌, arith, Some, None, slice_get, ◌||◌, slice_get_within, map_item, World, Row, Reply, Layout, AllocState, Place, rows_in, IsFinished, places_then, now, CanOpen, Opening, Seen, Mutator, Done, HaveWorked, Script, gathered, noted, Run, last_state, slices, rest_of, some_asks, is_collect, is_full, State, Plan, plan_of, Collector, IsAfterStop, seen, seen_mutator, IsInLimits, OpensIn, DidSlice, DidSlices, replies_of, item}
 use Rattle.nmgc_collector_laws.specs.Seen as run
 use Rattle.nmgc_cycle.proofs.{rounds.Opened.IsOpened, lists.RootLists.seen_at}
@@ -23,7 +23,7 @@ module _ (script : Script) (c new : Collector) (o : Opening) (x : IsOver script 
   abbrev pub s : State
   s = last_state x.run
 
-  -- what all seats know
+  -- the common view of all seats
   abbrev pub view : Seen
   view = gathered o x.did.scans x.did.seats
 
@@ -33,7 +33,7 @@ module _ (script : Script) (c new : Collector) (o : Opening) (x : IsOver script 
   pub can : CanOpen o x.before
   can = x.op.can x.before x.before_are
 
-  -- the order of all commands, the world after them, and where its objects lie
+  -- the order of all commands, the world after them, and the addresses of its objects
   abbrev pub rows : List Row
   rows = rows_in x.did.leaves.0.events
 
@@ -58,9 +58,9 @@ module _ (script : Script) (c new : Collector) (o : Opening) (x : IsOver script 
   abbrev pub t : AllocState → State
   t allocation = with_world w allocation
 
-  -- the collector once the replies are told, and what contracts see of it
-  abbrev pub told : List (List Reply)
-  told = replies_of new.mutators.items
+  -- the collector with reported replies, and its view in contracts
+  abbrev pub reported : List (List Reply)
+  reported = replies_of new.mutators.items
 
   abbrev pub last : Collector
   last = record c {
@@ -69,7 +69,7 @@ module _ (script : Script) (c new : Collector) (o : Opening) (x : IsOver script 
     inbox = new.inbox;
     mutators = new.mutators;
     positions = new.positions;
-    rows = record c.rows { rounds = c.rows.rounds ++ record { replies = told } ∷ [] };
+    rows = record c.rows { rounds = c.rows.rounds ++ record { replies = reported } ∷ [] };
   }
 
   abbrev pub shown : run.CollectorSeen
@@ -78,14 +78,14 @@ module _ (script : Script) (c new : Collector) (o : Opening) (x : IsOver script 
   pub worked : HaveWorked o (gathered o x.did.scans x.did.seats).parts new.mutators.items x.did.done
   worked = x.did.gathers.worked
 
-  -- there is a mutator and a list of what it did for each program
+  -- each program has a mutator and a list of the commands done
   pub done_count : length x.did.done ≡ length script.threads
   done_count = worked.done_are ∙ ap (λ (l : Layout). l.mutators) (x.op.layout_is ∙ x.still.kept.layout)
 
   pub mutators_count : length new.mutators.items ≡ length script.threads
   mutators_count = worked.mutators_are ∙ ap (λ (l : Layout). l.mutators) (x.op.layout_is ∙ x.still.kept.layout)
 
-  -- what one mutator did
+  -- the work of one mutator
   pub one : (k : ℕ) (d : List Done) → slice_get x.did.done k ≡ Some d → (m : Mutator) × (n : Mutator) × (slice_get c.mutators.items k ≡ Some m) ×
       (slice_get new.mutators.items k ≡ Some n) × DidSlice script c new k m n d
   one k d e =

@@ -9,7 +9,7 @@ replies_in done = map (λ (d : Done). d.1) done
 abbrev pub done_in : List Row → List Done
 done_in rows = map (λ (row : Row). (row.command, row.reply)) rows
 
--- the rows of a mutator are those of its commands with their replies
+-- the rows of a mutator are its commands with their replies
 pub own_again : (m : ℕ) (rows : List Row) → answered m (commands_of (done_in (rows_of m rows))) (replies_in (done_in (rows_of m rows))) ≡ rows_of m rows
 own_again m [] = refl
 own_again m (row ∷ rows) = elim (cases_eq row.mutator m) [
@@ -20,7 +20,7 @@ own_again m (row ∷ rows) = elim (cases_eq row.mutator m) [
   | inr other ↦ rw (ne_eqb row.mutator m other) (own_again m rows)
 ]
 
--- there are as many replies as commands
+-- there is a reply for each command
 pub same_lengths : (done : List (List Done)) → map length (map replies_in done) ≡ map length (map commands_of done)
 same_lengths [] = refl
 same_lengths (d ∷ done) = cc (same d, same_lengths done)

@@ -1,8 +1,8 @@
--- Workers in parts: each part may work where all may, and all have worked where each part has.
+-- Workers in parts: each part may work if all may, and all have worked if each part has.
 use Rattle.nmgc_cycle.proofs.Vocabulary.{ℕ, ◌≡◌, ◌+◌, ◌-◌, ◌≤◌, ◌∙◌, List, ◌++◌, length, slice_index, slice_index_or, inl, inr, refl, sym, ap, subst, arith, length-append, cases_lt, get_or_append_left, get_or-append-add, get_or-append_right, Round, program_of, Script, Worker, left_at, CanWork, HasWorkedOn, CanAllWork, HaveAllWorked, CanWorkFrom, HaveWorkedFrom}
 
 module _ (round : Round) (script : Script) (positions : List ℕ) where
-  -- what holds of a worker and its number holds of the same worker and number
+  -- facts of a worker and its number are facts of the same worker and number
   can_same : (i j : ℕ) (x y : Worker) → i ≡ j → x ≡ y → CanWork round script.config.slice (left_at script positions i) x →
       CanWork round script.config.slice (left_at script positions j) y
   can_same i j x y e f h =
@@ -13,7 +13,7 @@ module _ (round : Round) (script : Script) (positions : List ℕ) where
   did_same i j x y v w e f g h =
       rw (← g) (rw (← f) (subst (λ (k : ℕ). HasWorkedOn round script.config.slice (left_at script positions k) x v) e h))
 
-  -- all workers are those from 0 on
+  -- all workers, as the workers from 0 on
   pub from_first : (workers : List Worker) → CanAllWork round script positions workers → CanWorkFrom round script positions 0 workers
   from_first workers h = record {
     threads_are = let e = h.threads_are in omega (arith, e);
@@ -65,7 +65,7 @@ module _ (round : Round) (script : Script) (positions : List ℕ) where
             (h.each (length front + k) d (omega (arith, lt, sum)));
       }
 
-  -- what both parts did
+  -- the work of both parts
   pub worked_both : (from next : ℕ) (all front back first second : List Worker) → all ≡ front ++ back → from + length front ≡ next →
       HaveWorkedFrom round script positions from front first → HaveWorkedFrom round script positions next back second →
       HaveWorkedFrom round script positions from all (first ++ second)

@@ -1,16 +1,16 @@
--- The workers of a round, in the lists that the round fills; and what they and the collector leave.
+-- The workers of a round, in the lists that the round fills; and the state after them and the collector.
 use Rattle.nmgc_cycle.proofs.Vocabulary.{ℕ, ◌≡◌, ◌+◌, ◌<◌, ◌^◌, List, [], ◌++◌, length, map, take, drop, slice_index, refl, sym, ap, subst, ◌∙◌, Bool, Some, Global, All, ◌||◌, Vec, Segments, IsSegments, Round, Opening, Scan, Seen, whole, RoundSeat, IsAt, opening_of, all_together, collecting, HasAll, Leaves, Mutator, SlicesAreGathered, Script, Name, Collector, Worker, HasHelped, list_any, asks_of, asks_full_of, DidSlices, HaveSliceRoom, CanAllWork, HaveAllWorked, workers_of, mutator_of, seat_of, done_by, seen_mutator, Receiver, HavePolled}
 use Rattle.nmgc_round.specs.Seat.{seen}
 use Rattle.nmgc_collector_laws.specs.Owed as owed
 use Rattle.nmgc_cycle.specs.declared.progress.Progress as held
 use Rattle.nmgc_cycle.specs.declared.progress.Progress.TheVariants as doing
-use Rattle.nmgc_cycle.proofs.{rounds.Ran.MayBegin, rounds.Ran.HasBegun, rounds.Ran.HasRun, rounds.Ran.can_open, rounds.Ran.may_work, rounds.Ran.workers_are, rounds.Ran.has_run, rounds.Readiness.BeginReady, lists.RootLists.seen_at, rounds.Sliced.overwritten, rounds.Sliced.asks_told, rounds.Sliced.asks_full_told, rounds.Sliced.each_did}
+use Rattle.nmgc_cycle.proofs.{rounds.Ran.MayBegin, rounds.Ran.HasBegun, rounds.Ran.HasRun, rounds.Ran.can_open, rounds.Ran.may_work, rounds.Ran.workers_are, rounds.Ran.has_run, Vocabulary.MutatorsAreReady, lists.RootLists.seen_at, rounds.Sliced.overwritten, rounds.Sliced.asks_known, rounds.Sliced.asks_full_known, rounds.Sliced.each_did}
 
--- positions that can move on by so many commands
+-- positions that can advance by these numbers
 abbrev pub CanMove : List ℕ → List ℕ → Type 0
 CanMove positions done = (k : ℕ) → k < length positions → slice_index positions k + slice_index done k < 2 ^ 32
 
--- and that did
+-- positions that advanced
 abbrev pub HaveMoved : List ℕ → List ℕ → List ℕ → Type 0
 HaveMoved old done new = (k : ℕ) → k < length old → slice_index new k ≡ slice_index old k + slice_index done k
 
@@ -28,24 +28,24 @@ are_seated script c o round seats b own own_is workers seated = record {
   seated = seated ∙ ap (λ (v : Vec Mutator Global). workers_of v.items seats) own_is;
 }
 
--- once all have worked, their list has what the slices left
+-- after all have worked, their list has the slices' results
 pub left_in : (workers : Vec Worker Global) (was new : List Worker) → was ≡ workers.items → length new ≡ length was →
     take workers.len (new ++ drop (length new) workers.items) ≡ new
 left_in workers was new was_is count = overwritten workers.len workers.items new (count ∙ ap (λ (l : List Worker). length l) was_is) workers.ok.0
 
 module _ (script : Script) (c : Collector) (o : Opening) (round : Round) (was : List Worker) (u : AreSeated script c o round was) where
-  -- there are as many workers as mutators
+  -- there is a worker for each mutator
   pub counted : length was ≡ length c.mutators.items
   counted = ap (λ (l : List Worker). length l) u.seated ∙ workers_are script c o round u.seats u.begun
 
-  pub can_play : BeginReady → HaveSliceRoom script c → CanAllWork round script c.positions.items was
+  pub can_play : MutatorsAreReady → HaveSliceRoom script c → CanAllWork round script c.positions.items was
   can_play begin room =
       subst (λ (l : List Worker). CanAllWork round script c.positions.items l) (sym u.seated) (may_work begin script c o round u.seats u.begun room)
 
   pub played : SlicesAreGathered → (new : List Worker) → HaveAllWorked round script c.positions.items was new → HasRun script c o round new
   played gather new worked = has_run gather script c o round u.seats new u.begun (rw u.seated at worked)
 
--- what the collector's seat knows once it did its part: its scans
+-- the knowledge of the collector's seat after its part: its scans
 pub record HasScanned (o : Opening) (round : Round) (seat : RoundSeat) : Type 0 where
   pub at : IsAt round seat
   pub scans : List Scan
@@ -71,7 +71,7 @@ scanned o round quota from seat old new names (doing.Sweeping w) after at knows 
   knows = ap seen h.2 ∙ knows;
 }
 
--- what a round leaves, once the words are back
+-- the result of a round, after the words are back
 module _ (script : Script) (c : Collector) (o : Opening) (may : MayBegin script c o) (round : Round) (new : List Worker)
     (ran : HasRun script c o round new) (seat : RoundSeat) (has : HasScanned o round seat) where
   nothing : owed.RememberNothing c.mutators.items
@@ -80,7 +80,7 @@ module _ (script : Script) (c : Collector) (o : Opening) (may : MayBegin script 
   gathers : owed.SlicesAreGathered → owed.IsGathered o has.scans (map seat_of new) (map mutator_of new) ran.did.done
   gathers law = law o may.words round c.mutators.items (map mutator_of new) (map seat_of new) ran.did.done has.scans (can_open script c o may) ran.slices
 
-  -- the seats have every part of the round between them
+  -- the seats together have every part of the round
   pub has_all : owed.SlicesAreGathered → (seats : List RoundSeat) → seats ≡ map seat_of new → HasAll (all_together (seen seat) (map seen seats))
   has_all law seats same = rw has.knows (rw same (gathers law).all)
 
@@ -121,8 +121,8 @@ module _ (script : Script) (c : Collector) (o : Opening) (may : MayBegin script 
       helped = record { round = round; from = from; seat = seat; began = began; knows = has.knows; helped = helped };
       sound = sound;
       polled = polled;
-      collect = collects ∙ ap (λ (b : Bool). c.cycle.collect || b) (asks_told script c may.run may.limits may.still o round new ran.count ran.did);
-      full = askeds ∙ ap (λ (b : Bool). c.cycle.full || b) (asks_full_told script c may.run may.limits may.still o round new ran.count ran.did);
+      collect = collects ∙ ap (λ (b : Bool). c.cycle.collect || b) (asks_known script c may.run may.limits may.still o round new ran.count ran.did);
+      full = askeds ∙ ap (λ (b : Bool). c.cycle.full || b) (asks_full_known script c may.run may.limits may.still o round new ran.count ran.did);
       positions_are = size;
       each = each_did script c may.run may.limits may.still o round new ran.count ran.did (Some words) segments progress collect asked inbox
           mutators positions same moved;

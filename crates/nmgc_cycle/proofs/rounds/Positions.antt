@@ -1,8 +1,8 @@
--- A position is how many commands of its program were answered: there are as many, and what is left are the others.
-use Rattle.nmgc_cycle.proofs.Vocabulary.{ℕ, ◌≡◌, ◌+◌, ◌-◌, ◌<◌, ◌≤◌, ◌^◌, List, [], ◌∷◌, length, map, slice_index_or, slice_index, ap, arith, Some, slice_get, length-drop, Command, serial_of, Mutator, Script, Run, Turn, AreTurns, state_after, last_state, program_of, State, Plan, plan_of, start, answered_count, left_is_told, slice_count, round_left, stop_left, told_cycles, Collector, IsAfterStop, IsInLimits, left_at, slice_few}
+-- A position is the number of commands answered of its program; the rest of the program is left.
+use Rattle.nmgc_cycle.proofs.Vocabulary.{ℕ, ◌≡◌, ◌+◌, ◌-◌, ◌<◌, ◌≤◌, ◌^◌, List, [], ◌∷◌, length, map, slice_index_or, slice_index, ap, arith, Some, slice_get, length-drop, Command, serial_of, Mutator, Script, Run, Turn, AreTurns, state_after, last_state, program_of, State, Plan, plan_of, start, answered_count, left_is_determined, slice_count, round_left, stop_left, report_cycles, Collector, IsAfterStop, IsInLimits, left_at, slice_few}
 use Rattle.nmgc_cycle.proofs.{lists.Plans.sound_state, lists.RootLists.serial_seen}
 
--- what was answered and what is left are the whole program
+-- the commands answered and left are the whole program
 turns_count : (plan : Plan) (s : State) (turns : List Turn) (m : ℕ) → AreTurns plan s turns →
     answered_count (map (λ (turn : Turn). turn.replies) turns) m + length (program_of (state_after s turns).left m) ≡ length (program_of s.left m)
 turns_count plan s [] m h = omega arith
@@ -19,23 +19,23 @@ turns_count plan s (turn ∷ turns) m h =
     omega (arith, rest, stopped, worked, many, few)
 
 module _ (script : Script) (c : Collector) (run : Run) (still : IsAfterStop script c run) (k : ℕ) (exists : k < length script.threads) where
-  -- what is left of a program in the run
+  -- the rest of a program in the run
   pub left_is : program_of (last_state run).left k ≡ left_at script c.positions.items k
-  left_is = cc (left_is_told (plan_of script) run c.rows.rounds c.rows.stops (told_cycles c) still.at_stop.is_run still.at_stop.tells k, still.kept.positions k exists)
+  left_is = cc (left_is_determined (plan_of script) run c.rows.rounds c.rows.stops (report_cycles c) still.at_stop.is_run still.at_stop.agrees k, still.kept.positions k exists)
 
   -- a position lies within its program
   pub position_within : slice_index c.positions.items k ≤ length (program_of script.threads k)
   position_within =
       let plan : Plan = plan_of script in
       let turns : answered_count c.rows.rounds k + length (program_of (last_state run).left k) ≡ length (program_of run.opening.state.left k) =
-      cc (still.at_stop.tells.rounds_are, turns_count plan run.opening.state run.turns k still.at_stop.is_run.turns) in
+      cc (still.at_stop.agrees.rounds_are, turns_count plan run.opening.state run.turns k still.at_stop.is_run.turns) in
       let opening : length (program_of run.opening.state.left k) ≡ length (program_of script.threads k) =
       ap (λ (left : List (List Command)).
       length (program_of left k)) (stop_left plan _ (start plan) run.opening.state run.opening.row run.opening.cycles still.at_stop.is_run.opening) in
       let position = still.kept.positions k exists in
       omega (arith, turns, opening, position)
 
-  -- serials suffice for what is left
+  -- serials suffice for the commands left
   pub serial_fits : (m : Mutator) → IsInLimits script → slice_get c.mutators.items k ≡ Some m →
       m.serial + length (left_at script c.positions.items k) < 2 ^ 32 - 1
   serial_fits m limits e =

@@ -1,5 +1,5 @@
 -- A round, from its beginning to the end of its slices.
-use Rattle.nmgc_cycle.proofs.{Vocabulary.ℕ, Vocabulary.◌≡◌, Vocabulary.List, Vocabulary.length, Vocabulary.map, Vocabulary.◌∙◌, Vocabulary.Some, Vocabulary.All, Vocabulary.Round, Vocabulary.Opening, Vocabulary.RoundSeat, Vocabulary.IsAt, Vocabulary.CanOpen, Vocabulary.SlicesAreDone, Vocabulary.SlicesAreGathered, Vocabulary.Script, Vocabulary.Run, Vocabulary.last_state, Vocabulary.Collector, Vocabulary.Worker, Vocabulary.IsAfterStop, Vocabulary.IsInLimits, Vocabulary.OpensAt, Vocabulary.OpensIn, Vocabulary.HaveSliceRoom, Vocabulary.CanAllWork, Vocabulary.HaveAllWorked, Vocabulary.workers_of, Vocabulary.mutator_of, Vocabulary.seat_of, rounds.Gathering.AllDid, rounds.Gathering.all_did, rounds.Gathering.slices_done, rounds.Opened.CanOpenRounds, rounds.Opened.IsOpened, rounds.Opened.opened, rounds.Readiness.BeginReady, rounds.Readiness.HasSeats, rounds.Readiness.can_all_work, rounds.Readiness.seats_counted, rounds.Readiness.workers_count}
+use Rattle.nmgc_cycle.proofs.{Vocabulary.ℕ, Vocabulary.◌≡◌, Vocabulary.List, Vocabulary.length, Vocabulary.map, Vocabulary.◌∙◌, Vocabulary.Some, Vocabulary.All, Vocabulary.Round, Vocabulary.Opening, Vocabulary.RoundSeat, Vocabulary.IsAt, Vocabulary.CanOpen, Vocabulary.SlicesAreDone, Vocabulary.SlicesAreGathered, Vocabulary.Script, Vocabulary.Run, Vocabulary.last_state, Vocabulary.Collector, Vocabulary.Worker, Vocabulary.IsAfterStop, Vocabulary.IsInLimits, Vocabulary.OpensAt, Vocabulary.OpensIn, Vocabulary.HaveSliceRoom, Vocabulary.CanAllWork, Vocabulary.HaveAllWorked, Vocabulary.workers_of, Vocabulary.mutator_of, Vocabulary.seat_of, rounds.Gathering.AllDid, rounds.Gathering.all_did, rounds.Gathering.slices_done, Vocabulary.HasOpeningLaws, rounds.Opened.IsOpened, rounds.Opened.opened, Vocabulary.MutatorsAreReady, rounds.Readiness.HasSeats, rounds.Readiness.can_all_work, rounds.Readiness.seats_counted, rounds.Readiness.workers_count}
 
 -- the round after a stop may begin
 pub record MayBegin (script : Script) (c : Collector) (o : Opening) : Type 0 where
@@ -11,7 +11,7 @@ pub record MayBegin (script : Script) (c : Collector) (o : Opening) : Type 0 whe
   pub words : List ℕ
   pub words_are : c.heap.words ≡ Some words
 
-abbrev pub may_begin : CanOpenRounds → (script : Script) (c : Collector) (o : Opening) (words : List ℕ) → IsInLimits script → OpensAt script c o →
+abbrev pub may_begin : HasOpeningLaws → (script : Script) (c : Collector) (o : Opening) (words : List ℕ) → IsInLimits script → OpensAt script c o →
     c.heap.words ≡ Some words → MayBegin script c o
 may_begin laws script c o words limits h is = record {
   limits = limits;
@@ -26,7 +26,7 @@ may_begin laws script c o words limits h is = record {
 pub can_open : (script : Script) (c : Collector) (o : Opening) (m : MayBegin script c o) → CanOpen o m.words
 can_open script c o m = m.op.can m.words m.words_are
 
--- a round of the collector that has begun: the seats are those of its opening
+-- a round of the collector that has begun, with the seats of its opening
 pub record HasBegun (script : Script) (c : Collector) (o : Opening) (round : Round) (seats : List RoundSeat) : Type 0 where
   pub may : MayBegin script c o
   pub has : HasSeats o round seats
@@ -36,7 +36,7 @@ pub seats_are : (script : Script) (c : Collector) (o : Opening) (round : Round) 
 seats_are script c o round seats b = seats_counted c.mutators.items o b.may.op.hands_are round seats b.has
 
 -- the workers may do their slices
-pub may_work : (begin : BeginReady) (script : Script) (c : Collector) (o : Opening) (round : Round) (seats : List RoundSeat) →
+pub may_work : (begin : MutatorsAreReady) (script : Script) (c : Collector) (o : Opening) (round : Round) (seats : List RoundSeat) →
     HasBegun script c o round seats → HaveSliceRoom script c → CanAllWork round script c.positions.items (workers_of c.mutators.items seats)
 may_work begin script c o round seats b room =
     can_all_work begin script c b.may.run b.may.limits b.may.still o b.may.op b.may.words (can_open script c o b.may) round seats b.has room
@@ -45,7 +45,7 @@ pub workers_are : (script : Script) (c : Collector) (o : Opening) (round : Round
     length (workers_of c.mutators.items seats) ≡ length c.mutators.items
 workers_are script c o round seats b = workers_count c.mutators.items seats (seats_are script c o round seats b)
 
--- once all did their slices
+-- after all did their slices
 pub record HasRun (script : Script) (c : Collector) (o : Opening) (round : Round) (new : List Worker) : Type 0 where
   pub count : length new ≡ length c.mutators.items
   pub did : AllDid script c round o new

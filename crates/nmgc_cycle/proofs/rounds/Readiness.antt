@@ -1,16 +1,11 @@
 -- As a round begins, each mutator with its seat may do its slice.
-use Rattle.nmgc_cycle.proofs.Vocabulary.{ℕ, zero, suc, ◌≡◌, ◌+◌, ◌<◌, List, [], ◌∷◌, length, map, slice_index, slice_index_or, refl, sym, ap, subst, ◌∙◌, arith, Some, All, slice_get, option_map, length-map, All-drop, slice_get-map, slice_get_within, get_or_from_slice_get, Fits, Layout, Round, Hand, Opening, no_hand, hand_of, RoundSeat, IsAt, opening_of, alone, alones, CanOpen, Mutator, IsWhole, IsUnused, HasHand, Script, Run, program_of, Collector, Worker, IsAfterStop, IsInLimits, left_at, CanWork, CanAllWork, worker_of, workers_of, HaveSliceRoom, item, of_item, alones_count}
+use Rattle.nmgc_cycle.proofs.Vocabulary.{ℕ, zero, suc, ◌≡◌, ◌+◌, ◌<◌, List, [], ◌∷◌, length, map, slice_index, slice_index_or, refl, sym, ap, subst, ◌∙◌, arith, Some, All, slice_get, option_map, length-map, All-drop, slice_get-map, slice_get_within, get_or_from_slice_get, Fits, Layout, Round, Hand, Opening, no_hand, hand_of, RoundSeat, IsAt, opening_of, alone, alones, CanOpen, Mutator, Script, Run, program_of, Collector, Worker, IsAfterStop, IsInLimits, left_at, CanWork, CanAllWork, worker_of, workers_of, HaveSliceRoom, item, of_item, alones_count, MutatorsAreReady}
 use Rattle.nmgc_round.specs.Seat.{seen}
 use Rattle.nmgc_mutator.specs.Ready.{IsReady}
 use Rattle.nmgc_collector_laws.specs.Rest as rest
 use Rattle.nmgc_cycle.proofs.{rounds.Opened.IsOpened, lists.Plans.good_plan, rounds.Positions.position_within, rounds.Resting.resting}
 
--- the law of mutators that this rests on
-abbrev pub BeginReady : Type 0
-BeginReady = (o : Opening) (words : List ℕ) (round : Round) (seat : RoundSeat) (m : Mutator) → CanOpen o words → opening_of round ≡ o →
-    IsAt round seat → seen seat ≡ alone o m.number → o.layout ≡ m.layout → IsWhole m → IsUnused m → HasHand (hand_of o.hands m.number) m → IsReady round seat m
-
--- the seats that a round begins with, by their numbers
+-- the seats at a round's beginning, by their numbers
 alones_at : (o : Opening) (m : ℕ) (hands : List Hand) (k : ℕ) → k < length hands → slice_get (alones o m hands) k ≡ Some (alone o (m + k))
 alones_at o m [] k lt = absurd (omega arith)
 alones_at o m (h ∷ hands) zero lt = ap (λ (n : ℕ). Some (alone o n)) (omega arith)
@@ -57,10 +52,10 @@ module _ (ms : List Mutator) (o : Opening) (hands_are : o.hands ≡
       let same : seen seat ≡ alone o (0 + k) = cc (here, there) in
       same ∙ ap (alone o) zero_first
 
-module _ (begin : BeginReady) (script : Script) (c : Collector) (run : Run) (limits : IsInLimits script) (still : IsAfterStop script c run)
+module _ (begin : MutatorsAreReady) (script : Script) (c : Collector) (run : Run) (limits : IsInLimits script) (still : IsAfterStop script c run)
     (o : Opening) (op : IsOpened script c run still o) (words : List ℕ) (can : CanOpen o words) (round : Round) (seats : List RoundSeat)
     (has : HasSeats o round seats) where
-  -- what a mutator has as the round begins
+  -- the hand of a mutator at a round's beginning
   abbrev own_hand : Mutator → Hand
   own_hand = rest.hand_of o.core.world o.places
 

@@ -1,8 +1,8 @@
--- Room for a round changes nothing that contracts see of a collector.
+-- Room for a round changes nothing in the view of a collector.
 use Rattle.nmgc_cycle.proofs.Vocabulary.{ℕ, ◌≡◌, ◌++◌, List, length, map, sym, ap, subst, ◌∙◌, arith, Some, Global, slice_get, Vec, slice_get_within, get_or_from_slice_get, IsLayout, Layout, Address, Mutator, Reserves, numbers, Script, IsAtStop, Run, last_state, MutatorSeen, State, Progress, idle, marking, sweeping, plan_of, layout_of, AreNamed, Collector, MayFollow, commands, one_cycle, no_cycle, AreFewAtStop, IsWellFormed, IsOwn, IsAfterStop, HasStopped, Sweeps, seen, seen_mutator, AreReserved, item, IsLined, Sender, slice_index_or}
 use Rattle.nmgc_cycle.proofs.lists.Mapped.{same_maps}
 
--- a mutator whose lists have more room is seen as before
+-- a mutator whose lists have more room has the same view
 noting : Mutator → List Address → List Address → List Address → List Address → MutatorSeen
 noting m recorded weaks finalised entries = record {
   registers = m.registers;
@@ -22,7 +22,7 @@ same_seen m n r =
     ap (λ (x : Mutator). noting x n.recorded.items n.young_weaks.items n.finalised.items n.updrem.items) r.rest in
     cc (first, r.recorded.items, r.young_weaks.items, r.finalised.items, r.updrem.items)
 
--- an item of the new list, with what it was
+-- an item of the new list, with its earlier state
 pub was_at : (old new : List Mutator) (k : ℕ) (n : Mutator) → AreReserved old new → slice_get new k ≡ Some n → (m : Mutator) ×
     (slice_get old k ≡ Some m) × Reserves m n
 was_at old new k n r e =
@@ -41,13 +41,13 @@ reserved_seen old new r = same_maps seen_mutator seen_mutator new old r.count (�
     let same : h.0 ≡ m = cc (there, f) in
     same_seen h.0 n h.2 ∙ ap seen_mutator same)
 
--- the mutators are no part of what sweeps
+-- the mutators are no part of the sweeper's facts
 pub sweeps_on : (p : Progress) (s : State) (c : Collector) (mutators : Vec Mutator Global) → Sweeps p s c → Sweeps p s (record c { mutators = mutators })
 sweeps_on idle s c mutators h = h
 sweeps_on (marking k) s c mutators h = (record { notes = h.0.notes; left = h.0.left }, h.1, h.2, h.3)
 sweeps_on (sweeping k closed) s c mutators h = h
 
--- nor of how many stops may follow
+-- nor of the bound of stops
 follow_on : (Nothing : Type 0) (script : Script) (c : Collector) (mutators : Vec Mutator Global) (count : ℕ) → MayFollow Nothing script c count →
     MayFollow Nothing script (record c { mutators = mutators }) count
 follow_on Nothing script c mutators count (commands h) = commands h
@@ -113,7 +113,7 @@ module _ (script : Script) (c : Collector) (run : Run) (still : IsAfterStop scri
     few = few_on script c mutators still.few;
   }
 
--- and so is the other way round
+-- and conversely
 pub still_before : (script : Script) (old new : Collector) (run : Run) → IsWellFormed script old → new ≡ record old { mutators = new.mutators } →
     AreReserved old.mutators.items new.mutators.items → IsAfterStop script new run → IsAfterStop script old run
 still_before script old new run kept rest reserved still =

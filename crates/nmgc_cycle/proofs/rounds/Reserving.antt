@@ -1,7 +1,7 @@
 -- A step of the loop that makes room in the lists of the mutators.
 use Rattle.nmgc_cycle.proofs.Vocabulary.{ℕ, ◌≡◌, ◌+◌, ◌-◌, ◌<◌, ◌≤◌, List, [], length, min, get_or, slice_index, slice_index_or, inl, inr, sym, ap, subst, ◌∙◌, arith, slice_set, cases_lt, length-drop, get_or_default, get_or-set_same, get_or-set_other, Command, Mutator, Reserves, Script, program_of, left_at, HasLists}
 
--- what holds of the new item and of those before it holds of all up to it
+-- a fact of the new item and of all before it is one of all up to it
 pub up_to : {A : Type 0} (P : ℕ → A → Type 0) (xs : List A) (n : ℕ) (x d : A) → n < length xs → (k : ℕ) → k < n + 1 →
     (k < n → P k (slice_index_or xs k d)) → P n x → P k (slice_index_or (slice_set xs n x) k d)
 up_to P xs n x d lt k le before own = elim (cases_lt k n) [
@@ -11,7 +11,7 @@ up_to P xs n x d lt k le before own = elim (cases_lt k n) [
       subst (λ (i : ℕ). P i (slice_index_or (slice_set xs n x) i d)) (sym here) (subst (P n) (sym (get_or-set_same xs n x d lt)) own)
 ]
 
--- so many commands the next slice may have
+-- the number of commands of the next slice
 pub slice_left : (script : Script) (positions : List ℕ) (n size : ℕ) (program : List Command) → n < length script.threads →
     program ≡ get_or script.threads n program → size ≡ min (length program - slice_index positions n) script.config.slice →
     size ≡ min script.config.slice (length (left_at script positions n))

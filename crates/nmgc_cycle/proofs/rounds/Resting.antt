@@ -5,8 +5,8 @@ use Rattle.nmgc_world_spec.specs.World.{World}
 use Rattle.nmgc_object.specs.{Places.nursery_place, declared.layout.Layout.Layout, declared.layout.Nursery.Nursery, declared.layout.TheConstants.SHARED_PLACE, Size.block_size}
 use Rattle.nmgc_alloc.specs.{AllocState.cells, Numbered.block_place}
 use Rattle.nmgc_heap_spec.specs.{Places.Place, Represents.Represents, Represents.NoNode, Roots.RepresentsRoots}
-use Rattle.nmgc_blocks_spec.specs.{Nurseries.nursery_at, Occupied.AreBlocks, Stopped.young_base, laws.Blocks.is_block}
-use Rattle.nmgc_mutator.specs.{declared.mutator.Mutator.Mutator, Ready.IsUnused, laws.Common.none_told as none_noted}
+use Rattle.nmgc_stop_spec.specs.{Nurseries.nursery_at, Occupied.AreBlocks, Stopped.young_base, laws.Blocks.is_block}
+use Rattle.nmgc_mutator.specs.{declared.mutator.Mutator.Mutator, Ready.IsUnused, laws.Common.none_known as none_noted}
 use Rattle.nmgc_collector_laws.specs.{Rest.IsAtRest, Rest.IsResting, Seen.MutatorSeen, Seen.end_of, Seen.ends_of, Seen.nurseries_of, laws.Roots.same_registers, laws.Roots.same_queues, laws.Roots.same_serials}
 use Rattle.nmgc_collector_laws.specs.Worked as turn
 use Rattle.nmgc_script.specs.{declared.script.Script.Script, Limits.IsInLimits}
@@ -15,14 +15,14 @@ use Rattle.nmgc_run_laws.specs.laws.Places.{blocks_at_stop, block_used}
 use Rattle.nmgc_cycle.specs.{declared.collector.Collector.Collector, Keeps.IsAfterStop, Shown.seen, Shown.words_in, Shown.seen_mutator}
 use Rattle.nmgc_cycle.proofs.{lists.Plans.sound_state, lists.RootLists.seen_at}
 
--- words represent a world in another wording
+-- words represent a world, by equal parts
 restated : {layout other : Layout} {earlier none : List World} {words same : List ℕ} (places : List Place) (w : World) → layout ≡ other →
     earlier ≡ none → words ≡ same → Represents layout earlier NoNode places w words → Represents other none NoNode places w same
 restated {layout} {other} {earlier} {none} {words} {same} places w e f g r =
     subst (λ (l : Layout). Represents l none NoNode places w same) e (subst (λ (es : List World).
     Represents layout es NoNode places w same) f (subst (Represents layout earlier NoNode places w) g r))
 
--- the roots of the mutators, as a run reads them and as a turn does
+-- the roots of the mutators, by the definitions of a run and of a round
 pub same_roots : (places : List Place) (w : World) (ms : List Mutator) →
     RepresentsRoots places w (registers_of (map end_of (map seen_mutator ms))) (queues_of (map end_of (map seen_mutator ms)))
     (serials_of (map end_of (map seen_mutator ms))) → RepresentsRoots places w (turn.registers_of ms) (turn.queues_of ms) (turn.serials_of ms)
@@ -31,14 +31,14 @@ same_roots places w ms r =
     RepresentsRoots places w (registers_of (map end_of (map seen_mutator ms))) l (turn.serials_of ms)) (same_queues ms)
     (subst (RepresentsRoots places w (registers_of (map end_of (map seen_mutator ms))) (queues_of (map end_of (map seen_mutator ms)))) (same_serials ms) r))
 
--- the nursery of a mutator is seen by its number
+-- the view of a mutator's nursery, by its number
 pub nursery_seen : (ms : List Mutator) (k : ℕ) (m : Mutator) → slice_get ms k ≡ Some m →
     slice_get (map (λ (n : MutatorSeen). n.nursery) (map seen_mutator ms)) k ≡ Some m.nursery
 nursery_seen ms k m e = slice_get-map (λ (n : MutatorSeen). n.nursery) (map seen_mutator ms) k ∙
     ap (option_map (λ (n : MutatorSeen). n.nursery)) (seen_at ms k m e)
 
 module _ (script : Script) (c : Collector) (run : Run) (limits : IsInLimits script) (still : IsAfterStop script c run) where
-  -- a place lies below the nurseries
+  -- an address below the nurseries
   pub rest_low : (p : Place) → Contains still.at_stop.heap.places p → p.at < young_base c.heap.segments
   rest_low p held = elim ((still.at_stop.heap.all p).0 held) [
     | inl g ↦ let at : p.at ≡ SHARED_PLACE = ap (λ (q : Place). q.at) g in omega (arith, at)
@@ -72,7 +72,7 @@ module _ (script : Script) (c : Collector) (run : Run) (limits : IsInLimits scri
             ap (λ (l : Layout). m.nursery.base + l.nursery) (sym same);
       }
 
-  -- there are as many mutators as the layout has
+  -- the layout's number of mutators
   pub mutators_counted : length c.mutators.items ≡ c.heap.segments.layout.mutators
   mutators_counted = still.kept.count ∙ sym (ap (λ (l : Layout). l.mutators) still.kept.layout)
 

@@ -1,4 +1,4 @@
--- What a round leaves for the promotion of its stop, whatever the collector did beside it.
+-- The facts after a round for its stop's promotion, whatever the collector did beside it.
 use Rattle.std.proofs.{Common.ℕ, Common.suc, Common.◌≡◌, Common.◌+◌, Common.◌<◌, Common.◌≤◌, Common.◌⊎◌, Common.List, Common.[], Common.◌∷◌, Common.length, Common.map, Common.refl, Common.sym, Common.ap, Common.subst, Common.◌∙◌, Common.inl, Common.inr, Common.arith, Common.Some, lemmas.Bool.cases_lt, lemmas.List.get_or_past, lemmas.List.length-map, lemmas.List.Elements.All-nil, lemmas.List.Elements.All-cons, lemmas.Option.slice_get-map, lemmas.Option.get_or_from_slice_get}
 use Rattle.std.specs.Prelude.{All, slice_get, option_map}
 use Rattle.nmgc_world_spec.specs.World.{World}
@@ -6,10 +6,10 @@ use Rattle.nmgc_object.specs.{Places.nursery_place, Places.reserve_count, declar
 use Rattle.nmgc_alloc.specs.{Stands.StandsFor, Numbered.Segments}
 use Rattle.nmgc_alloc.specs.Reserve as reserve
 use Rattle.nmgc_heap_spec.specs.{Places.Place, Roots.RepresentsRoots}
-use Rattle.nmgc_blocks_spec.specs.{Nurseries.AreUsed, Nurseries.AreEmpty, Nurseries.LieInOrder, Nurseries.nursery_at, Occupied.AreBlocks, Remembers.Remembers, Stopped.IsStopped, Stopped.young_base}
+use Rattle.nmgc_stop_spec.specs.{Nurseries.AreUsed, Nurseries.AreEmpty, Nurseries.LieInOrder, Nurseries.nursery_at, Occupied.AreBlocks, Remembers.Remembers, Stopped.IsStopped, Stopped.young_base}
 use Rattle.nmgc_mutator.specs.{declared.mutator.Mutator.Mutator, Ready.words_by}
 use Rattle.nmgc_round.specs.{Naming.AllReply, Objects.earlier, Starting.CanOpen, View.FixedWord, View.Opening, View.DoneRow}
-use Rattle.nmgc_collector_laws.specs.{Turn.RoundIsStopped, Turn.RoundTellsFinalised, Turn.stop_after, Worked.Done, Worked.TellsFinalised, Heaps.IsRoundFrom, Collector.AreNurseries, Seen.end_of, Seen.ends_of, Seen.nurseries_of, Seen.recorded_in, Seen.young_weaks_in, Seen.finalised_in, laws.Roots.same_registers, laws.Roots.same_queues, laws.Roots.same_serials}
+use Rattle.nmgc_collector_laws.specs.{Turn.RoundIsStopped, Turn.RoundListsFinalised, Turn.stop_after, Worked.Done, Worked.ListsFinalised, Heaps.IsRoundFrom, Collector.AreNurseries, Seen.end_of, Seen.ends_of, Seen.nurseries_of, Seen.recorded_in, Seen.young_weaks_in, Seen.finalised_in, laws.Roots.same_registers, laws.Roots.same_queues, laws.Roots.same_serials}
 use Rattle.nmgc_collector_laws.specs.Worked as turn
 use Rattle.nmgc_script.specs.declared.script.Script.{Script}
 use Rattle.nmgc_run_spec.specs.{Heap.HasAllRegisters, Heap.snapshots, Heap.registers_of, Heap.queues_of, Heap.serials_of, Slice.slice_of, Slice.program_of, State.layout_of}
@@ -25,17 +25,17 @@ all_registers (m ∷ ms) h =
     All-cons HasAllRegisters (end_of (seen_mutator m)) (map end_of (map seen_mutator ms)) (h 0 m refl) (all_registers ms (λ k n e. h (suc k) n e))
 
 -- the roots, as a run reads them
-pub told_roots : (places : List Place) (w : World) (ms : List Mutator) →
+pub known_roots : (places : List Place) (w : World) (ms : List Mutator) →
     RepresentsRoots places w (turn.registers_of ms) (turn.queues_of ms) (turn.serials_of ms) →
     RepresentsRoots places w (registers_of (map end_of (map seen_mutator ms))) (queues_of (map end_of (map seen_mutator ms)))
     (serials_of (map end_of (map seen_mutator ms)))
-told_roots places w ms r =
+known_roots places w ms r =
     subst (λ (l : List ℕ).
     RepresentsRoots places w l (queues_of (map end_of (map seen_mutator ms))) (serials_of (map end_of (map seen_mutator ms)))) (sym (same_registers ms))
     (subst (λ (l : List (List ℕ)). RepresentsRoots places w (turn.registers_of ms) l (serials_of (map end_of (map seen_mutator ms)))) (sym (same_queues ms))
     (subst (λ (l : List ℕ). RepresentsRoots places w (turn.registers_of ms) (turn.queues_of ms) l) (sym (same_serials ms)) r))
 
--- who did nothing made nothing
+-- without commands no object was made
 none_done : (d : List Done) → commands_of d ≡ [] → d ≡ []
 none_done [] e = refl
 none_done (x ∷ d) e = absurd (let count : length (commands_of (x ∷ d)) ≡ 0 = ap length e in omega arith)
@@ -56,7 +56,7 @@ module _ (script : Script) (c new : Collector) (o : Opening) (x : IsOver script 
   nursery_is k m e = get_or_from_slice_get (turn.nurseries_of new.mutators.items) k m.nursery _ (slice_get-map (λ (n : Mutator).
       n.nursery) new.mutators.items k ∙ ap (option_map (λ (n : Mutator). n.nursery)) e)
 
-  -- where no commands were left, nothing was made
+  -- if no commands were left, no object was made
   empty : ((m : ℕ) → program_of (s script c new o x).left m ≡ []) → AreEmpty (turn.nurseries_of new.mutators.items)
   empty none maker = elim (cases_lt maker (length new.mutators.items)) [
     | inl lt ↦
@@ -121,7 +121,7 @@ module _ (script : Script) (c new : Collector) (o : Opening) (x : IsOver script 
     pub in_order : LieInOrder (nursery_place layout 0) (places script c new o x)
     in_order = subst (λ (l : Layout). LieInOrder (nursery_place l 0) (places script c new o x)) x.still.kept.layout stopped.order
 
-    -- the worlds of which the collector speaks
+    -- the worlds of the collector's facts
     pub spoken : earlier o ≡ snapshots (t script c new o x (s script c new o x).allocation).progress
     spoken = x.op.spoken ∙ sym (noted_snapshots (s script c new o x).progress (rows script c new o x))
 
@@ -143,7 +143,7 @@ module _ (script : Script) (c new : Collector) (o : Opening) (x : IsOver script 
         earlier o) (places script c new o x) (w script c new o x) (turn.recorded_of new.mutators.items) (turn.weaks_of new.mutators.items))
         x.still.kept.layout stopped.left))))
 
-    -- with segments that stand for the same blocks, the round began with the heap of the stop
+    -- with segments that represent the same blocks, the round began with the heap of the stop
     abbrev pub round_from : (segments : Segments) → segments.layout ≡ layout → StandsFor segments (seen c).words (s script c new o x).allocation →
         IsRoundFrom layout (s script c new o x) (t script c new o x (s script c new o x).allocation) o (seen c).words x.did.words
         (view script c new o x) c.heap.segments segments (ends_of (seen c)) (ends_of (shown script c new o x)) (seen c).weaks
@@ -161,18 +161,18 @@ module _ (script : Script) (c new : Collector) (o : Opening) (x : IsOver script 
       new_layout = same;
       stands = stands;
       registers = all_registers new.mutators.items (λ k m e. (one_did script c new o x k m e).1.2.size);
-      roots = told_roots (places script c new o x) (w script c new o x) new.mutators.items stopped.roots;
+      roots = known_roots (places script c new o x) (w script c new o x) new.mutators.items stopped.roots;
     }
 
-  -- and what it finalised is told
-  module _ (law : RoundTellsFinalised) where
-    pub finalised_told : TellsFinalised (nursery_place layout 0) (places script c new o x) (s script c new o x).world (w script c new o x)
+  -- and its finalised weak pointers are reported
+  module _ (law : RoundListsFinalised) where
+    pub finalised_known : ListsFinalised (nursery_place layout 0) (places script c new o x) (s script c new o x).world (w script c new o x)
         (finalised_in (shown script c new o x))
-    finalised_told =
-        subst (λ (told : List ℕ). TellsFinalised (nursery_place layout 0) (places script c new o x) (s script c new o x).world (w script c new o x) told)
+    finalised_known =
+        subst (λ (reported : List ℕ). ListsFinalised (nursery_place layout 0) (places script c new o x) (s script c new o x).world (w script c new o x) reported)
         (sym (same_finalised new.mutators.items))
-        (subst (λ (began : World). TellsFinalised (nursery_place layout 0) (places script c new o x) began (w script c new o x)
+        (subst (λ (began : World). ListsFinalised (nursery_place layout 0) (places script c new o x) began (w script c new o x)
         (turn.finalised_of new.mutators.items)) x.op.world_is
-        (subst (λ (l : Layout). TellsFinalised (nursery_place l 0) (places script c new o x) o.core.world (w script c new o x)
+        (subst (λ (l : Layout). ListsFinalised (nursery_place l 0) (places script c new o x) o.core.world (w script c new o x)
         (turn.finalised_of new.mutators.items)) opening_layout
         (law o x.before x.did.words (view script c new o x) new.mutators.items x.did.done (can script c new o x) x.did.leaves.0 (worked script c new o x))))

@@ -1,12 +1,12 @@
--- Once the lists of the mutators got their room, each has room for its slice.
+-- After the mutators' lists got their room, each has room for its slice.
 use Rattle.nmgc_cycle.proofs.{Vocabulary.ℕ, Vocabulary.◌≡◌, Vocabulary.◌+◌, Vocabulary.◌-◌, Vocabulary.◌<◌, Vocabulary.◌≤◌, Vocabulary.◌^◌, Vocabulary.length, Vocabulary.min, Vocabulary.slice_index_or, Vocabulary.ap, Vocabulary.subst, Vocabulary.arith, Vocabulary.Result, Vocabulary.Ok, Vocabulary.Err, Vocabulary.OnOk, Vocabulary.slice_get_within, Vocabulary.get_or_from_slice_get, Vocabulary.Mutator, Vocabulary.Reserves, Vocabulary.Script, Vocabulary.Run, Vocabulary.Collector, Vocabulary.IsAfterStop, Vocabulary.IsInLimits, Vocabulary.left_at, Vocabulary.HasLists, Vocabulary.AreReserved, Vocabulary.HaveSliceRoom, Vocabulary.item, rounds.Positions.serial_fits}
 
--- what follows from two facts holds where both do
+-- a consequence of two facts, if both hold
 pub on_both : {T E P Q R : Type 0} (r : Result T E) → (P → Q → R) → OnOk r P → OnOk r Q → OnOk r R
 on_both (Ok x) f p q = f p q
 on_both (Err e) f p q = p
 
--- a slice is no longer than what is left
+-- a slice is no longer than the rest of its program
 min_few : (slice left : ℕ) → min slice left ≤ left
 min_few slice left = omega arith
 

@@ -1,8 +1,8 @@
--- The commands that a slice did are the slice of the rule: as many as fit, up to the first that ends it.
+-- The commands of a slice are the slice of the rule: all that fit, up to the first that ends it.
 use Rattle.nmgc_cycle.proofs.Vocabulary.{ℕ, zero, suc, ◌≡◌, ◌+◌, ◌-◌, ◌<◌, ◌≤◌, List, [], ◌∷◌, ◌++◌, length, take, drop, get_or, Some, rules, refl, sym, ap, ◌∙◌, arith, true, false, add-one, drop-cons, take_more, drop_all, slice_get_within, get_or_from_slice_get, Command, Yield, Collect, Full, words_made, Mutator, SliceEnd, IsYield, GoesOn, IsLast, Ended, slice, ends_slice, is_next, slice_get, append-nil}
 use Rattle.nmgc_mutator.specs.declared.mutator.SliceEnd.TheVariants as ending
 
--- how many words the objects have that commands make
+-- the number of words of the objects that commands make
 abbrev pub all_made : List Command → ℕ
 all_made [] = 0
 all_made (c ∷ cs) = words_made c + all_made cs
@@ -25,7 +25,7 @@ is_next_true commands words c some fits = search (rules, arith)
 is_next_full : (commands words : ℕ) (c : Command) → words < words_made c → is_next commands words c ≡ false
 is_next_full commands words c full = search (rules, arith)
 
--- one command of the slice, and the others
+-- one command of the slice, and the rest
 step : (commands words : ℕ) (c : Command) (program : List Command) → 0 < commands → words_made c ≤ words → (IsYield c → ⊥) →
     slice commands words (c ∷ program) ≡ c ∷ slice (commands - 1) (words - words_made c) program
 step commands words c program some fits on = rw (is_next_true commands words c some fits, not_ends c on) refl
@@ -33,7 +33,7 @@ step commands words c program some fits on = rw (is_next_true commands words c s
 same_slice : (program : List Command) (commands words left room : ℕ) → commands ≡ left → words ≡ room → slice commands words program ≡ slice left room program
 same_slice program commands words left room e f = ap (λ (n : ℕ). slice n words program) e ∙ ap (λ (n : ℕ). slice left n program) f
 
--- commands that all belong to the slice and don't end it, and what follows them
+-- commands of the slice that don't end it, and the commands after them
 along : (program : List Command) (i commands words left room : ℕ) → GoesOn program i → i ≤ length program → commands ≡ i + left →
     words ≡ all_made (take i program) + room → slice commands words program ≡ take i program ++ slice left room (drop i program)
 along program zero commands words left room on within e f = same_slice program commands words left room (omega arith) (omega arith)
@@ -44,13 +44,13 @@ along (c ∷ program) (suc i) commands words left room on within e f =
       along program i (commands - 1) (words - words_made c) left room (λ j d lt is. on (suc j) d (omega arith) is) (omega arith) (omega arith) (omega arith),
     )
 
--- none follows
+-- no command follows
 ends_at : (program : List Command) (i commands words left room : ℕ) → GoesOn program i → i ≤ length program → commands ≡ i + left →
     words ≡ all_made (take i program) + room → slice left room (drop i program) ≡ [] → slice commands words program ≡ take i program
 ends_at program i commands words left room on within e f none =
     cc (along program i commands words left room on within e f, none, append-nil (take i program))
 
--- what is left begins with the next command
+-- the rest begins with the next command
 next_is : (program : List Command) (i : ℕ) (c : Command) → slice_get program i ≡ Some c → (drop i program ≡ c ∷ drop (i + 1) program) ×
     (take (i + 1) program ≡ take i program ++ c ∷ []) × (i < length program)
 next_is program i c e =

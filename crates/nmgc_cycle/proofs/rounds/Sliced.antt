@@ -1,4 +1,4 @@
--- What the slices of a round leave of positions and replies, and whether one asked for a cycle.
+-- Positions and replies after the slices of a round, and whether a slice asked for a cycle.
 use Rattle.nmgc_cycle.proofs.Vocabulary.{ℕ, zero, suc, ◌≡◌, ◌+◌, ◌-◌, ◌<◌, ◌^◌, Bool, List, [], ◌∷◌, ◌++◌, length, map, take, drop, slice_index, refl, sym, ap, subst, ◌∙◌, arith, Option, Some, Global, slice_get, option_map, list_any, Vec, length-drop, slice_get-map, slice_get_within, get_or_from_slice_get, Round, Segments, Opening, Mutator, Ended, tried, passed, Done, Script, map_item, Run, program_of, some_asks, is_collect, is_full, Collector, Worker, IsAfterStop, IsInLimits, asks_of, asks_full_of, left_at, commands_in, mutator_of, done_by, DidSlice, item, Receiver, Sender, slice_index_or}
 use Rattle.nmgc_cycle.specs.declared.progress.Progress as held
 use Rattle.nmgc_cycle.proofs.{rounds.Asking.same_any, rounds.Asking.any_mapped, rounds.Gathering.AllDid, rounds.Gathering.OneDid, lists.Plans.program_few, rounds.Positions.position_within, rounds.Slicing.commands_of}
@@ -12,7 +12,7 @@ overwritten n (x ∷ xs) [] l e = absurd (omega arith)
 overwritten zero (x ∷ xs) (y ∷ ys) l e = absurd (omega arith)
 overwritten (suc n) (x ∷ xs) (y ∷ ys) l e = ap (λ rest. y ∷ rest) (overwritten n xs ys (omega arith) (omega arith))
 
--- the worker at a place did what stands there in the list of all
+-- the worker at a position did the number of commands there
 pub done_of : (ws : List Worker) (k : ℕ) (d : Worker) → k < length ws → slice_index (map done_by ws) k ≡ (slice_index_or ws k d).done
 done_of [] k d lt = absurd (omega (arith, lt))
 done_of (w ∷ ws) zero d lt = refl
@@ -44,15 +44,15 @@ module _ (script : Script) (c : Collector) (run : Run) (limits : IsInLimits scri
       let few = program_few script limits k in
       omega (arith, is, most, left, within, few)
 
-  -- a cycle is asked for where one of them asks
-  pub asks_told : list_any asks_of new ≡ some_asks is_collect (commands_in did.done)
-  asks_told =
+  -- a cycle is asked for if a worker asks
+  pub asks_known : list_any asks_of new ≡ some_asks is_collect (commands_in did.done)
+  asks_known =
       same_any asks_of (λ (d : List Done). list_any is_collect (commands_of d)) new did.done (sym did.count) (λ k x d e f. (did.each k x d e f).slice.asks)
       ∙ sym (any_mapped (list_any is_collect) commands_of did.done)
 
   -- and so is a full one
-  pub asks_full_told : list_any asks_full_of new ≡ some_asks is_full (commands_in did.done)
-  asks_full_told =
+  pub asks_full_known : list_any asks_full_of new ≡ some_asks is_full (commands_in did.done)
+  asks_full_known =
       same_any asks_full_of (λ (d : List Done). list_any is_full (commands_of d)) new did.done (sym did.count) (λ k x d e f.
       (did.each k x d e f).slice.asks_full)
       ∙ sym (any_mapped (list_any is_full) commands_of did.done)

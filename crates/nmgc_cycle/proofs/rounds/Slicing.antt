@@ -1,4 +1,4 @@
--- What the slices of a round leave: each mutator did the slice of the rule, and the seats have every part.
+-- The result of a round's slices: each mutator did the slice of the rule, and the seats have every part.
 use Rattle.nmgc_cycle.proofs.Vocabulary.{ℕ, ◌≡◌, ◌+◌, ◌-◌, ◌≤◌, List, [], ◌∷◌, length, map, take, refl, sym, ap, subst, ◌∙◌, arith, list_any, length-map, length-take-le, slice_get_within, Command, words_made, Layout, Round, Opening, DoneRow, FixedWord, AllReply, RoundSeat, alone, Mutator, SliceEnd, words_by, HasDone, passed, Ended, tried, Done, Config, slice_of, is_collect, is_full, Worker, HasWorkedOn, worker_of}
 use Rattle.nmgc_round.specs.Seat.{seen}
 use Rattle.nmgc_mutator.specs.Ready.{rows_of}
@@ -9,7 +9,7 @@ use Rattle.nmgc_cycle.proofs.{rounds.Asking.asks_by_end, rounds.Asking.full_by_e
 abbrev pub commands_of : List Done → List Command
 commands_of done = map (λ (d : Done). d.0) done
 
--- rows make as many words as their commands
+-- rows make the same number of words as their commands
 made_by : (fixed : List FixedWord) (rows : List DoneRow) (done : List Done) → AllReply fixed rows done → words_by rows ≡ all_made (commands_of done)
 made_by fixed [] [] h = refl
 made_by fixed [] (d ∷ done) h = absurd h
@@ -28,7 +28,7 @@ ended_within program most done n ending.Collect h = let within = slice_get_withi
 ended_within program most done n ending.Full h = let within = slice_get_within program h.0 _ h.3 in let is = h.1 in omega (arith, within, is)
 ended_within program most done n (ending.Nursery need left) h = let within = slice_get_within program done _ h.2.1 in omega (arith, within)
 
--- what one mutator did in a round that began with its seat alone
+-- the work of one mutator in a round that began with its seat alone
 pub record IsSlice (config : Config) (round : Round) (o : Opening) (k : ℕ) (left : List Command) (m : Mutator) (new : Worker) (done : List Done) : Type 0 where
   pub commands : commands_of done ≡ slice_of config left
   pub first : commands_of done ≡ take new.done left

@@ -1,20 +1,20 @@
--- A round beside which a closed cycle swept: places of freed names are gone, and all of which anybody may speak are there.
+-- A round beside sweeping: the addresses of freed names are gone, and all tracked names have theirs.
 use Rattle.nmgc_cycle.proofs.Vocabulary.{ℕ, ◌≡◌, ◌+◌, ◌≤◌, ◌<◌, List, [], ◌∷◌, length, sym, ap, subst, ◌∙◌, inl, inr, arith, Contains, cases_lt, World, Name, contains_head, contains_tail, nursery_place, AllocState, HasBlock, SweepsSome, StandsFor, counts_stand, Place, LieInOrder, Remembers, Opening, Script, DropsFreed, FreesUntracked, Sweeper, AreLeft, IsAtWork, IsKeptIn, Cycle, AreNurseries, IsLastBegun, HoldsAfterRound, snapshots, AreSettled, noted, IsRound, SweepsBeside, ends_of, nurseries_of, recorded_in, young_weaks_in, Progress, sweeping, waiting_count, runs_are, named_swept, Collector, HasSweptSome, Sweeps, seen, died, phase_in, sweeper_in, min}
 use Rattle.nmgc_segment.specs.declared.state.State.TheVariants as stands
 use Rattle.nmgc_alloc.specs.Reserve as reserve
 use Rattle.nmgc_cycle.specs.declared.progress.Progress as held
 use Rattle.nmgc_cycle.specs.declared.progress.Progress.TheVariants as doing
 use Rattle.nmgc_cycle.specs.declared.progress.Sweeping as held_sweeping
-use Rattle.nmgc_cycle.proofs.{rounds.GoneOn.HasLaws, rounds.GoneOn.HasGoneOn, rounds.ListedLeft.listed_left, rounds.MarkedBeside.phase_with, rounds.MarkedBeside.helped_as, rounds.Over.IsOver, rounds.Over.plan, rounds.Over.s, rounds.Over.w, rounds.Over.t, rounds.Over.rows, rounds.Over.places, rounds.Over.told, rounds.Over.last, rounds.Over.shown, rounds.Over.view, lists.Phases.when_sweeping, lists.Phases.noted_snapshots, lists.Plans.is_runnable, lists.Plans.sound_state, rounds.RoundOver.layout, rounds.RoundOver.nurseries_left, rounds.RoundOver.in_order, rounds.RoundOver.remembered, rounds.RoundOver.finalised_told, rounds.RoundOver.round_from, rounds.Rounded.is_round}
+use Rattle.nmgc_cycle.proofs.{Vocabulary.HasRoundLaws, rounds.GoneOn.HasGoneOn, rounds.ListedLeft.listed_left, rounds.MarkedBeside.phase_with, rounds.MarkedBeside.helped_as, rounds.Over.IsOver, rounds.Over.plan, rounds.Over.s, rounds.Over.w, rounds.Over.t, rounds.Over.rows, rounds.Over.places, rounds.Over.reported, rounds.Over.last, rounds.Over.shown, rounds.Over.view, lists.Phases.when_sweeping, lists.Phases.noted_snapshots, lists.Plans.is_runnable, lists.Plans.sound_state, rounds.RoundOver.layout, rounds.RoundOver.nurseries_left, rounds.RoundOver.in_order, rounds.RoundOver.remembered, rounds.RoundOver.finalised_known, rounds.RoundOver.round_from, rounds.Rounded.is_round}
 
--- so many were swept as the quota lets, or all that waited
+-- a quota was swept, or all that waited
 swept_min : (quota count before after : ℕ) → after + count ≡ before → count ≤ quota → (count < quota → after ≡ 0) → count ≡ min quota before
 swept_min quota count before after e most least = elim (cases_lt count quota) [
   | inl less ↦ let none = least less in omega (arith, e, most, none)
   | inr more ↦ omega (arith, e, most, more)
 ]
 
-module _ (laws : HasLaws) (script : Script) (c new : Collector) (o : Opening) (x : IsOver script c new o) (k : Cycle) (closed : ℕ)
+module _ (laws : HasRoundLaws) (script : Script) (c new : Collector) (o : Opening) (x : IsOver script c new o) (k : Cycle) (closed : ℕ)
     (e : (s script c new o x).progress ≡ sweeping k closed) where
   before : (v : held_sweeping.Sweeping) × (c.cycle.progress ≡ doing.Sweeping v)
   before = when_sweeping c.cycle.progress (phase_with laws script c new o x (sweeping k closed) e)
@@ -37,7 +37,7 @@ module _ (laws : HasLaws) (script : Script) (c new : Collector) (o : Opening) (x
   sweeps_before : Sweeps (sweeping k closed) (s script c new o x) c
   sweeps_before = subst (λ (p : Progress). Sweeps p (s script c new o x) c) e x.still.sweeper
 
-  -- with the segments of before, all stands for what it stood for
+  -- with the earlier segments, all represents the same
   whole : HoldsAfterRound (layout script c new o x) (s script c new o x) (t script c new o x (s script c new o x).allocation)
       (places script c new o x) x.did.words c.heap.segments (ends_of (shown script c new o x)) (seen c).weaks
   whole = laws.holds (layout script c new o x) (s script c new o x) (t script c new o x (s script c new o x).allocation) o (seen c).words
@@ -73,19 +73,19 @@ module _ (laws : HasLaws) (script : Script) (c new : Collector) (o : Opening) (x
   beside : SweepsBeside script.config.quota (s script c new o x).progress (s script c new o x).allocation swept.0
   beside = rw e (rw as_many at swept.1)
 
-  round : IsRound script.config (s script c new o x) (told script c new o x) (rows script c new o x) (t script c new o x swept.0)
+  round : IsRound script.config (s script c new o x) (reported script c new o x) (rows script c new o x) (t script c new o x swept.0)
   round = is_round script c new o x laws.history swept.0 beside
 
   same_layout : new.heap.segments.layout ≡ layout script c new o x
   same_layout = did.3.swept.layout ∙ x.still.kept.layout
 
-  -- nobody may speak of what was freed, and no weak pointer of the list was
+  -- no freed name is tracked, and no weak pointer of the list was freed
   frees : FreesUntracked ((s script c new o x).world ∷
       snapshots (t script c new o x swept.0).progress) (s script c new o x).world (w script c new o x) (s script c new o x).allocation swept.0
   frees =
       let none : snapshots (t script c new o x swept.0).progress ≡ [] = noted_snapshots (s script c new o x).progress (rows script c new o x) ∙
       ap snapshots e in
-      rw none (laws.frees (plan script c new o x) x.run k closed (told script c new o x) (rows script c new o x) (t script c new o x swept.0)
+      rw none (laws.frees (plan script c new o x) x.run k closed (reported script c new o x) (rows script c new o x) (t script c new o x swept.0)
       (is_runnable script x.limits) x.still.at_stop.is_run round e)
 
   listed : (p : Place) → Contains (seen c).weaks p → HasBlock swept.0 p.name
@@ -97,7 +97,7 @@ module _ (laws : HasLaws) (script : Script) (c new : Collector) (o : Opening) (x
       listed_left (layout script c new o x) earlier (s script c new o x).world (w script c new o x) (s script c new o x).allocation swept.0
       (places script c new o x) (seen c).weaks (sound_state script c x.run x.limits x.still).world known frees whole.listed
 
-  -- the freed places are gone
+  -- the freed addresses are gone
   fewer : (fewer : List Place) ×
       HoldsAfterRound (layout script c new o x) (s script c new o x) (t script c new o x swept.0) fewer x.did.words new.heap.segments
       (ends_of (shown script c new o x)) (seen c).weaks × DropsFreed (layout script c new o x) ((s script c new o x).world ∷
@@ -147,8 +147,8 @@ module _ (laws : HasLaws) (script : Script) (c new : Collector) (o : Opening) (x
     nurseries = kept_on.0;
     ordered = kept_on.1;
     remembers = kept_on.2;
-    told =
-        let all = finalised_told script c new o x laws.finalised in
+    reported =
+        let all = finalised_known script c new o x laws.finalised in
         record { all = λ p parts there low alive gone. all.all p parts (fewer.2.old p there) low alive gone; low = all.low };
     free = more_free;
     cycle = rw e (work_on.sweeping, settled);

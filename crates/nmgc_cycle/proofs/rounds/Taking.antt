@@ -9,11 +9,11 @@ replies_more : (was : List Mutator) (i : ℕ) (m : Mutator) → i < length was �
     replies_of (take i was) ++ m.replies.items ∷ [] ≡ replies_of (take (i + 1) was)
 replies_more was i m lt e = grind (arith, common_steps, take_more was i m lt)
 
-pub taken_more : (was now : List Mutator) (told : List (List Reply)) (i : ℕ) (d : Mutator) → i < length was → length now ≡ length was →
-    told ≡ replies_of (take i was) → now ≡ map cleared (take i was) ++ drop i was →
-    (told ++ (get_or now i d).replies.items ∷ [] ≡ replies_of (take (i + 1) was)) ×
+pub taken_more : (was now : List Mutator) (reported : List (List Reply)) (i : ℕ) (d : Mutator) → i < length was → length now ≡ length was →
+    reported ≡ replies_of (take i was) → now ≡ map cleared (take i was) ++ drop i was →
+    (reported ++ (get_or now i d).replies.items ∷ [] ≡ replies_of (take (i + 1) was)) ×
     (set now i (cleared (get_or now i d)) ≡ map cleared (take (i + 1) was) ++ drop (i + 1) was)
-taken_more was now told i d lt count e f =
+taken_more was now reported i d lt count e f =
     let m = get_or now i d in
     let is : m ≡ get_or now i m = get_or_default now i d m (omega arith) in (
       ap (λ (l : List (List Reply)). l ++ m.replies.items ∷ []) e ∙ replies_more was i m lt (is ∙ rest_is was now i m lt f),

@@ -1,4 +1,4 @@
--- Whether commands are left, by what was done of each program.
+-- Whether commands are left, by the number done of each program.
 use Rattle.nmgc_cycle.proofs.{Vocabulary.ℕ, Vocabulary.suc, Vocabulary.◌≡◌, Vocabulary.◌-◌, Vocabulary.◌<◌, Vocabulary.◌↔◌, Vocabulary.List, Vocabulary.[], Vocabulary.◌∷◌, Vocabulary.length, Vocabulary.arith, Vocabulary.refl, Vocabulary.Bool, Vocabulary.true, Vocabulary.false, Vocabulary.IsTrue, Vocabulary.nat_lt, Vocabulary.length-drop, Vocabulary.list_any_at, Vocabulary.Command, Vocabulary.RoundRows, Vocabulary.Script, Vocabulary.has_left, Vocabulary.program_of, Vocabulary.answered_count, Vocabulary.SomeIsLeft, Vocabulary.lt-ltb, Vocabulary.slice_index, stops.Begins.IsLeft}
 
 -- some program that isn't used up
@@ -12,10 +12,10 @@ found ((c ∷ program) ∷ left) e = (0, omega arith, omega arith)
 
 module _ (script : Script) (rounds : List RoundRows) (left : List (List Command)) (positions : List ℕ)
     (h : IsLeft script rounds left)
-    (told : (k : ℕ) → k < length script.threads → slice_index positions k ≡ answered_count rounds k) where
-  -- how many commands of a program are left
+    (reported : (k : ℕ) → k < length script.threads → slice_index positions k ≡ answered_count rounds k) where
+  -- the number of commands left of a program
   count : (k : ℕ) → k < length script.threads → length (program_of left k) ≡ length (program_of script.threads k) - slice_index positions k
-  count k lt = cc (h.each k, length-drop (answered_count rounds k) (program_of script.threads k), told k lt)
+  count k lt = cc (h.each k, length-drop (answered_count rounds k) (program_of script.threads k), reported k lt)
 
   to : SomeIsLeft script.threads positions → has_left left ≡ true
   to s =

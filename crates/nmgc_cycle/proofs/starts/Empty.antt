@@ -1,4 +1,4 @@
--- The heap of which nothing was made is what a run begins with: its only place is g's, and no block has a name.
+-- The heap without objects but g is a run's beginning: its only address is g's, and no block has a name.
 use Rattle.nmgc_cycle.proofs.Vocabulary.{ℕ, ◌≡◌, ◌<◌, List, [], ◌∷◌, arith, sym, ap, subst, ◌∙◌, inl, inr, Option, Some, None, Contains, ◌/◌, IfSome, length-replicate, Name, Node, Weak, Parts, World, new_world, node_of, IsAliveWeak, contains_head, contains_cases, nothing_in, new_nodes, Layout, Segment, mark_of, free_segment, all_free, Cells, all_empty, no_cells, name_in, LiesIn, nth_free, first_cells, Place, shared_place, ListsWeaks, FitBlocks, IsPlaceAtStop, AreSettled}
 use Rattle.nmgc_alloc.specs.laws.Numbers.{unmarked}
 
@@ -11,7 +11,7 @@ lies_nowhere count number block name lies =
 pub fit_blocks : (w : World) (count : ℕ) → FitBlocks w (all_empty count)
 fit_blocks w count number block name node lies there = absurd (lies_nowhere count number block name lies)
 
--- the one place is that of g
+-- the only address is g's
 pub place_of_g : (layout : Layout) (count : ℕ) (p : Place) → Contains (shared_place ∷ []) p → IsPlaceAtStop layout (all_empty count) p
 place_of_g layout count p c = elim (contains_cases shared_place [] p c) [ inl e ↦ inl (sym e) | inr none ↦ absurd (nothing_in p none) ]
 

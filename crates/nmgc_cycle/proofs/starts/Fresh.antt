@@ -1,10 +1,10 @@
--- A new collector is what a run begins with.
-use Rattle.nmgc_cycle.proofs.Vocabulary.{false, ℕ, ◌≡◌, ◌≤◌, ◌<◌, List, [], ◌∷◌, length, map, replicate, arith, sym, ap, subst, ◌∙◌, Some, vec_capacity, None, All, IsSome, slice_get, length-replicate, get_or-replicate, slice_get_within, new_world, Layout, IsLayout, word_total, Segments, IsSegments, all_free, all_empty, first_stands, IsFor, first_opening, CanOpen, Mutator, Script, MutatorEnd, plan_of, layout_of, HeapStandsFor, HasAllRegisters, AreSettled, end_of, answered_count, RoundRows, CycleRow, HaveEntries, Collector, IsOwn, IsWellFormed, IsFresh, seen, seen_mutator, phase_in, told_row, shared_place, IsLined, slice_index}
+-- A new collector is the beginning of a run.
+use Rattle.nmgc_cycle.proofs.Vocabulary.{false, ℕ, ◌≡◌, ◌≤◌, ◌<◌, List, [], ◌∷◌, length, map, replicate, arith, sym, ap, subst, ◌∙◌, Some, vec_capacity, None, All, IsSome, slice_get, length-replicate, get_or-replicate, slice_get_within, new_world, Layout, IsLayout, word_total, Segments, IsSegments, all_free, all_empty, first_stands, IsFor, first_opening, CanOpen, Mutator, Script, MutatorEnd, plan_of, layout_of, HeapStandsFor, HasAllRegisters, AreSettled, end_of, answered_count, RoundRows, CycleRow, HaveEntries, Collector, IsOwn, IsWellFormed, IsFresh, seen, seen_mutator, phase_in, report_row, shared_place, IsLined, slice_index}
 use Rattle.nmgc_collector_laws.specs.Collector.{IsNew}
 use Rattle.nmgc_cycle.specs.declared.progress.Progress.TheVariants as progress
 use Rattle.nmgc_cycle.proofs.{starts.Empty.fit_blocks, starts.Empty.place_of_g, starts.Empty.g_has_place, starts.Empty.lists_no_weaks, starts.Empty.no_marks, starts.News.AreNew, starts.News.new_end, starts.News.ends_are, starts.News.have_registers, starts.News.new_roots, starts.Unused.are_empty, starts.Unused.are_nurseries, starts.Unused.nothing_left}
 
--- what a new collector is made of
+-- the parts of a new collector
 pub record IsMade (layout : Layout) (script : Script) (c : Collector) : Type 0 where
   pub lawful : IsLayout layout
   pub nothing : (c.rows.rounds ≡ []) × (c.rows.stops ≡ []) × (c.rows.cycles ≡ [])
@@ -91,7 +91,7 @@ module _ (script : Script) (c : Collector) (made : IsMade (layout_of (plan_of sc
 
   is_new : IsNew (plan_of script) (seen c)
   is_new = record {
-    nothing = (made.nothing.0, made.nothing.1, ap (λ (rows : List CycleRow). map told_row rows) made.nothing.2);
+    nothing = (made.nothing.0, made.nothing.1, ap (λ (rows : List CycleRow). map report_row rows) made.nothing.2);
     matches = record { phase = ap phase_in made.idle.0; begun = made.idle.1; collect = made.idle.2; full = made.idle.3 };
     heap = record {
       places = shared_place ∷ [];

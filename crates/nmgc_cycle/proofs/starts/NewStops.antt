@@ -1,4 +1,4 @@
--- A new collector has what the promotion of its first stop asks: nothing was made yet.
+-- A new collector meets the requirements of its first stop's promotion: no object was made yet.
 use Rattle.nmgc_cycle.proofs.Vocabulary.{ℕ, ◌≡◌, ◌<◌, ◌≤◌, List, [], ◌∷◌, arith, sym, subst, inl, inr, Contains, World, IsWorld, node_of, IsBefore, contains_cases, nothing_in, flat_contains, absent, world_holds, Layout, nursery_place, IsSegments, Place, Represents, NoNode, IsEarlier, world_is_earlier, AreUsed, AreBlocks, Remembers, Stopped, IsStopped, IsRoundOf, AreAtRest, HoldsAtStop, registers_of, queues_of, serials_of, snapshots, CollectorSeen, MutatorSeen, ends_of, nurseries_of, recorded_in, young_weaks_in, Plan, State, start, layout_of, blocks_at_stop, places_low}
 use Rattle.nmgc_lists.specs.laws.Items.{place_of}
 use Rattle.nmgc_heap_spec.specs.laws.Changes.{remembered}

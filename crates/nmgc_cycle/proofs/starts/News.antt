@@ -2,7 +2,7 @@
 use Rattle.nmgc_cycle.proofs.Vocabulary.{ℕ, zero, suc, ◌≡◌, ◌+◌, ◌*◌, ◌<◌, List, [], ◌∷◌, length, map, replicate, get_or, arith, refl, sym, ap, ◌∙◌, Some, length-append, All, Contains, slice_get, length-replicate, get_or-replicate, All-nil, All-append, All-replicate, All-get_or, slice_get_within, slice_get-get_or, REGISTERS, Value, Nil, MutatorState, new_world, new_mutator, each_new, NIL_WORD, Layout, Place, ListMeans, RepresentsRoots, Mutator, IsNew, MutatorEnd, HasAllRegisters, registers_of, queues_of, serials_of, end_of, seen_mutator}
 use Rattle.std.proofs.Math.ListN.{length-map}
 
--- what a new mutator has in hand
+-- the registers, queue and serial of a new mutator
 abbrev pub new_end : MutatorEnd
 new_end = record { registers = replicate REGISTERS NIL_WORD; queue = []; serial = 0 }
 
@@ -22,7 +22,7 @@ same_ends (m ∷ mutators) same =
     let rest = same_ends mutators (λ k n e. same (suc k) n e) in
     cc
 
--- all of them have the same in hand
+-- all of them have the same registers, queue and serial
 pub ends_are : (layout : Layout) (mutators : List Mutator) → AreNew layout mutators →
     map end_of (map seen_mutator mutators) ≡ replicate (length mutators) new_end
 ends_are layout mutators new = same_ends mutators (λ k m e. one_end layout k m (new k m e))
@@ -43,7 +43,7 @@ so_many (suc count) =
     let both = length-append new_end.registers (registers_of (replicate count new_end)) in
     omega arith
 
--- an item of a list of equal ones
+-- an item of a list of equal items
 same_item : {A B : Type 0} (f : A → B) (x : A) (count k : ℕ) (y : B) → slice_get (map f (replicate count x)) k ≡ Some y → f x ≡ y
 same_item f x zero k y e = absurd cc
 same_item f x (suc count) zero y e = cc
@@ -57,7 +57,7 @@ nil_register i v e =
     let same : v ≡ get_or new_mutator.registers i Nil = cc in
     (lt, same ∙ get_or-replicate REGISTERS i Nil Nil lt)
 
--- the words of new mutators stand for the roots of a new world
+-- the words of new mutators represent the roots of a new world
 pub new_roots : (places : List Place) (count : ℕ) →
     RepresentsRoots places (new_world count) (registers_of (replicate count new_end)) (queues_of (replicate count new_end))
     (serials_of (replicate count new_end))

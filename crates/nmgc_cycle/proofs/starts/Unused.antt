@@ -1,4 +1,4 @@
--- The nurseries of new mutators are unused, and nothing is left for a stop.
+-- The nurseries of new mutators are unused, and a stop has nothing to do.
 use Rattle.nmgc_cycle.proofs.{Vocabulary.ℕ, Vocabulary.zero, Vocabulary.suc, Vocabulary.◌≡◌, Vocabulary.◌+◌, Vocabulary.◌<◌, Vocabulary.List, Vocabulary.[], Vocabulary.◌∷◌, Vocabulary.◌++◌, Vocabulary.length, Vocabulary.map, Vocabulary.arith, Vocabulary.refl, Vocabulary.sym, Vocabulary.ap, Vocabulary.subst, Vocabulary.◌∙◌, Vocabulary.inl, Vocabulary.inr, Vocabulary.Some, Vocabulary.slice_get, Vocabulary.cases_lt, Vocabulary.get_or_past, Vocabulary.contains_cases, Vocabulary.World, Vocabulary.Layout, Vocabulary.Nursery, Vocabulary.nursery_place, Vocabulary.nursery_at, Vocabulary.AreEmpty, Vocabulary.Place, Vocabulary.shared_place, Vocabulary.Mutator, Vocabulary.numbers, Vocabulary.IsEmptied, Vocabulary.AreNurseries, Vocabulary.MutatorSeen, Vocabulary.seen_mutator, Vocabulary.Address, starts.News.AreNew}
 use Rattle.std.proofs.Math.ListN.{length-map}
 
@@ -6,14 +6,14 @@ use Rattle.std.proofs.Math.ListN.{length-map}
 abbrev pub nurseries : List Mutator → List Nursery
 nurseries mutators = map (λ (m : MutatorSeen). m.nursery) (map seen_mutator mutators)
 
--- what holds of each mutator's nursery holds of each nursery
+-- a fact of each mutator's nursery is one of each nursery
 each_nursery : (P : ℕ → Nursery → Type 0) (mutators : List Mutator) → ((k : ℕ) (m : Mutator) → slice_get mutators k ≡ Some m → P k m.nursery) →
     (k : ℕ) → k < length mutators → P k (nursery_at (nurseries mutators) k)
 each_nursery P [] each k lt = absurd (omega arith)
 each_nursery P (m ∷ mutators) each zero lt = each zero m refl
 each_nursery P (m ∷ mutators) each (suc k) lt = each_nursery (λ (j : ℕ). P (suc j)) mutators (λ j n e. each (suc j) n e) k (omega arith)
 
--- and of each as contracts see it
+-- and of each in the view of contracts
 each_seen : (P : MutatorSeen → Type 0) (mutators : List Mutator) → ((k : ℕ) (m : Mutator) → slice_get mutators k ≡ Some m → P (seen_mutator m)) →
     (k : ℕ) (s : MutatorSeen) → slice_get (map seen_mutator mutators) k ≡ Some s → P s
 each_seen P [] each k s e = absurd cc

@@ -1,8 +1,8 @@
--- What mutators remember is added to the marker, one mutator after the other.
+-- The remembered entries are added to the marker, one mutator after the other.
 use Rattle.nmgc_cycle.proofs.Vocabulary.{ℕ, ◌≡◌, ◌+◌, ◌<◌, List, [], ◌∷◌, ◌++◌, length, take, get_or, refl, sym, ap, append-nil, append_assoc, subst, ◌∙◌, arith, Some, slice_get, append_cancel_left, map-append, take_more, Address, TakesRestSo, IsLevelSo, Sender, Receiver, AtLine, HasLooked, remembered, IsLined, IsPaired, AnyLine, Segments, IsTied, with_places, Mutator, numbers, Marks, with_name, name_at, Opening, HasRoomToMark, MarkerSeen, HasAdded, remembered_by}
 use Rattle.nmgc_cycle.proofs.{stops.Forgetting.any_none, stops.Forgetting.any_then, stops.Forgetting.as_any, rounds.Lining.line_here, rounds.Lining.same_item}
 
--- one list of places after another
+-- one list of addresses after another
 places_after : (o : Opening) (m : Marks) (a b : List ℕ) → with_places o m (a ++ b) ≡ with_places o (with_places o m a) b
 places_after o m [] b = refl
 places_after o m (at ∷ a) b = places_after o (with_name o.core.snapshot m (name_at o.places at)) a b
@@ -46,7 +46,7 @@ added_then a b s t u m n k x y =
       turns = y.turns ∙ x.turns;
     }
 
--- one mutator more
+-- one more mutator
 pub remembered_more : (ms : List Mutator) (i : ℕ) (d : Mutator) → i < length ms →
     remembered_by (take i ms) ++ remembered (get_or ms i d) ≡ remembered_by (take (i + 1) ms)
 remembered_more ms i d lt = sym (ap remembered_by (take_more ms i d lt) ∙ and_then (take i ms) (get_or ms i d))
@@ -55,7 +55,7 @@ remembered_more ms i d lt = sym (ap remembered_by (take_more ms i d lt) ∙ and_
     and_then [] m = append-nil (remembered m)
     and_then (x ∷ xs) m = ap (λ (l : List ℕ). remembered x ++ l) (and_then xs m) ∙ sym (append_assoc (remembered x) (remembered_by xs) (remembered m))
 
--- of one mutator the marker was given what was taken out of its ring, and then so much of the ring
+-- the marker was given a mutator's entries taken out of its ring, and then a part of the ring
 pub record IsGiving (old new : Segments) (before marker : MarkerSeen) (first inbox : List Receiver) (number : ℕ) (was m : Mutator) : Type 0 where
   pub lined : IsLined first number was.sender
   pub given : List Address
@@ -93,11 +93,11 @@ module _ (old new : Segments) (before marker : MarkerSeen) (first inbox : List R
   }
 
   module _ (g : IsGiving old new before marker first inbox number was m) where
-    -- the two ends are those of one ring still
+    -- the two ends are still the ends of one ring
     pub giving_paired : IsPaired inbox number m.sender
     giving_paired = (g.now, g.at, g.ring ∙ g.lined.2.pair ∙ sym g.looked.ring)
 
-    -- one block more
+    -- one more block
     pub giving_more : (later : Segments) (then : MarkerSeen) (after : List Receiver) (n : Mutator) (block entries : List Address) →
         n ≡ record m { sender = n.sender } → AtLine (TakesRestSo m.sender n.sender block) number inbox after → entries ≡ block →
         HasAdded (numbers entries) new later marker then → IsGiving old later before then first after number was n
@@ -125,7 +125,7 @@ module _ (old new : Segments) (before marker : MarkerSeen) (first inbox : List R
           added = subst (λ (l : List ℕ). HasAdded l old later before then) is all;
         }
 
-    -- the ring is empty: all that was sent since the ends were level is given
+    -- the ring is empty: all entries sent since the ends were level are given
     module _ (after : List Receiver) (n : Mutator) (rest : n ≡
         record m { sender = n.sender }) (h : AtLine (IsLevelSo m.sender n.sender) number inbox after) where
       all_sent : g.lined.0.taken.items ++ g.given ≡ was.sender.since
@@ -136,7 +136,7 @@ module _ (old new : Segments) (before marker : MarkerSeen) (first inbox : List R
           append_cancel_left was.sender.before (g.lined.0.taken.items ++ g.given) was.sender.since
           (sym (append_assoc was.sender.before g.lined.0.taken.items g.given) ∙ ap (λ (l : List Address). l ++ g.given) (sym g.lined.2.received) ∙ total)
 
-      -- and then what it keeps
+      -- and then those in its set
       pub given_all : (later : Segments) (then : MarkerSeen) (entries : List Address) → entries ≡ n.updrem.items →
           HasAdded (numbers entries) new later marker then → HasAdded (remembered was) old later before then
       given_all later then entries are added =

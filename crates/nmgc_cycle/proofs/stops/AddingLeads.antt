@@ -1,10 +1,10 @@
--- Once what was remembered was added, the collector stands for the same state, and nothing is remembered.
+-- After adding, the collector represents the same state, and nothing is remembered.
 use Rattle.nmgc_cycle.proofs.Vocabulary.{ℕ, ◌≡◌, List, length, map, refl, sym, ap, subst, ◌∙◌, Some, Global, ◌≤◌, arith, All, slice_get, Vec, length-map, slice_get_within, Layout, Nursery, StandsFor, Segments, IsSegments, World, map_item, AreEmpty, MutatorEnd, IsFor, Mutator, numbers, Receiver, Script, AreNurseries, EachMutator, HoldsInCycle, IsEmptied, IsMarking, weak_count, HoldsAtStop, HasAllRegisters, HasRoomToMark, MarkerSeen, MutatorSeen, end_of, ends_of, nurseries_of, State, Progress, idle, marking, sweeping, phase_of, plan_of, layout_of, Cycle, AddIsMarking, ClosingIsSoon, ClosingIsPaced, HasLeft, PaceAtStop, MarkedWait, LeftStays, HaveEntries, Collector, Marking, Doing, AddsTo, CanAdd, HasAdded, HasTaken, remembered_by, IsLined, HasForgotten, HaveForgotten, IsWellFormed, IsOwn, Sweeps, seen, seen_mutator, marker_in, phase_in, StandsPromoted, StandsWithin, IsPacedPromoted, IsPacedWithin, AddingLeads, item}
 use Rattle.nmgc_journal.specs.declared.report.Phase.TheVariants as phase
 use Rattle.nmgc_cycle.specs.declared.progress.Progress.TheVariants as doing
 use Rattle.nmgc_cycle.proofs.{lists.Mapped.same_maps, cycles.Pacing.paced_within, lists.RootLists.seen_at}
 
--- the laws on which adding rests
+-- the laws that adding uses
 pub record HasAddingLaws : Type 0 where
   pub marking : AddIsMarking
   pub soon : ClosingIsSoon
@@ -13,7 +13,7 @@ pub record HasAddingLaws : Type 0 where
   pub waits : MarkedWait
   pub left : LeftStays
 
--- of mutators that forgot, contracts see the same but for what they remembered
+-- of mutators that forgot, only the view of their remembered entries changed
 seen_forgot : {B : Type 0} (f : MutatorSeen → B) → ((m n : Mutator) → HasForgotten m n → f (seen_mutator n) ≡ f (seen_mutator m)) →
     (old new : List Mutator) → HaveForgotten old new → map f (map seen_mutator new) ≡ map f (map seen_mutator old)
 seen_forgot f same old new h = same_maps f f (map seen_mutator new) (map seen_mutator old) (length-map new seen_mutator ∙ h.count ∙
@@ -22,7 +22,7 @@ seen_forgot f same old new h = same_maps f f (map seen_mutator new) (map seen_mu
     let y = map_item seen_mutator old k b g in
     ap f x.2 ∙ same y.0 x.0 (h.each k y.0 x.0 y.1 x.1) ∙ sym (ap f y.2))
 
--- whatever was added, but for the cycle
+-- any adding, apart from the cycle
 module _ (script : Script) (old : Collector) (s : State) (h : StandsPromoted script old s) (segments : Segments) (p : Doing) (inbox : List Receiver)
     (mutators : Vec Mutator Global)
     (inbox_is : length inbox ≡ length old.inbox)
@@ -41,7 +41,7 @@ module _ (script : Script) (old : Collector) (s : State) (h : StandsPromoted scr
   nurseries_are : nurseries_of (seen then) ≡ nurseries_of (seen old)
   nurseries_are = seen_forgot (λ (m : MutatorSeen). m.nursery) (λ m n f. ap (λ (x : Mutator). x.nursery) f.rest) old.mutators.items mutators.items forgot
 
-  -- a mutator is one that forgot
+  -- each mutator is an earlier mutator that forgot
   one_forgot : (k : ℕ) (m : Mutator) → slice_get mutators.items k ≡ Some m → (was : Mutator) × (slice_get old.mutators.items k ≡ Some was) × HasForgotten was m
   one_forgot k m e =
       let within = slice_get_within mutators.items k m e in
@@ -62,7 +62,7 @@ module _ (script : Script) (old : Collector) (s : State) (h : StandsPromoted scr
         entries = f.nothing;
       })
 
-  -- the queues have room as before
+  -- the queues' room is the same
   pub room_left : (snapshot : World) → EachMutator (seen old) (λ m mutator. weak_count snapshot m (seen old).weaks ≤ mutator.queue.spare) →
       EachMutator (seen then) (λ m mutator. weak_count snapshot m (seen then).weaks ≤ mutator.queue.spare)
   room_left snapshot room k m e =
@@ -72,7 +72,7 @@ module _ (script : Script) (old : Collector) (s : State) (h : StandsPromoted scr
       let f = was.2 in
       rw x.2 (rw f.rest had)
 
-  -- there are as many
+  -- their number is the same
   pub many : length mutators.items ≡ length old.mutators.items
   many = forgot.count
 
@@ -137,7 +137,7 @@ module _ (script : Script) (old : Collector) (s : State) (h : StandsPromoted scr
     named = h.named;
   }
 
--- where no cycle marks
+-- if no cycle marks
 
 unmarked_cycle : (script : Script) (old : Collector) (s : State) (inbox : List Receiver) (mutators : Vec Mutator Global) (q : Progress) →
     ((k : Cycle) → q ≡ marking k → ⊥) → (places : _) → HoldsInCycle (λ (k : Cycle).
@@ -175,7 +175,7 @@ module _ (script : Script) (old new : Collector) (s : State) (h : StandsPromoted
       (unmarked_cycle script old s new.inbox new.mutators s.progress never h.heap.places h.cycle)
       (unmarked_sweeper old s new.inbox new.mutators s.progress never h.sweeper))
 
--- where one does
+-- if a cycle marks
 
 module _ (laws : HasAddingLaws) (script : Script) (was : Collector) (r : State) (m : Marking) (k : Cycle)
     (h : StandsPromoted script (record was { cycle = record was.cycle { progress = doing.Marking m } }) (record r { progress = marking k }))
@@ -269,7 +269,7 @@ adding_leads laws script old new s limits h taken =
     let phases : phase_in old.cycle.progress ≡ phase_of s.progress = h.matches.phase in
     by_case laws script old new s h taken old.cycle.progress s.progress refl refl phases taken.adds
 
--- after the promotion a marker has room for what is to be added
+-- after the promotion a marker has room for the remembered entries
 pub can_add : (script : Script) (c : Collector) (s : State) → StandsPromoted script c s → CanAdd c.heap.segments c.cycle.progress
 can_add script c s h = by c.cycle.progress s.progress refl refl h.matches.phase
   where

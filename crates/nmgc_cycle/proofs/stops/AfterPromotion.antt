@@ -1,9 +1,9 @@
--- What a collector has once the promotion of its stop is done.
+-- The collector after the promotion of its stop.
 use Rattle.nmgc_cycle.proofs.Vocabulary.{ℕ, ◌≡◌, ◌↔◌, ◌+◌, ◌<◌, List, length, map, arith, refl, sym, ap, subst, ◌∙◌, inl, inr, slice_index_or, Some, Contains, slice_get, get_or-map, length-map, slice_get-get_or, REGISTERS, World, Layout, Nursery, AllocState, StandsFor, Moved, settled, Place, Represents, NoNode, RepresentsRoots, ListsWeaks, map_item, settled_cases, AreEmpty, nursery_at, PlacesEach, Stopped, IsSettled, young_base, moved_of, emptied, Mutator, Script, AreNurseries, HoldsAtStop, FitBlocks, snapshots, registers_of, queues_of, serials_of, IsPlaceAtStop, BlocksArePlaces, Promotes, MutatorSeen, ends_of, nurseries_of, Plan, State, plan_of, layout_of, Collector, CanStop, IsWellFormed, IsOwn, seen, seen_mutator, words_in, HasOnlyEntries, HasListed, HasPromoted, moves_of, moved_names, Receiver, IsLined, remembered}
 use Rattle.nmgc_collector_laws.specs.Worked as worked
 use Rattle.nmgc_cycle.proofs.{stops.Begins.Begins, stops.Promoted.one_promoted, stops.Promoted.serials_promoted, stops.Promoted.nurseries_promoted, starts.NewStops.stopped_in, lists.RootLists.seen_at, lists.Views.registers_seen, lists.Views.queues_seen, lists.Views.serials_seen, lists.Views.nurseries_seen, lists.Views.whole_seen}
 
--- a stop may follow, so the collector is kept
+-- a stop may follow, so the collector is well-formed
 pub kept_of : (script : Script) (c : Collector) → CanStop script c → IsWellFormed script c
 kept_of script c (inl fresh) = fresh.kept
 kept_of script c (inr worked) = worked.kept
@@ -18,7 +18,7 @@ module _ (script : Script) (old new : Collector) (kept : IsWellFormed script old
   abbrev pub w : World
   w = b.state.world
 
-  -- what the promotion settled, and the allocation state then
+  -- the settled heap, and the allocation state then
   pub settled_heap : IsSettled at_stop new.heap.segments (words_in new.heap.words) (worked.registers_of new.mutators.items)
       (worked.queues_of new.mutators.items) (moves_of new)
   settled_heap = p.settled at_stop b.stopped
@@ -31,11 +31,11 @@ module _ (script : Script) (old new : Collector) (kept : IsWellFormed script old
   abbrev pub promoted : State
   promoted = record b.state { allocation = placed.0 }
 
-  -- how many objects moved
+  -- the number of moved objects
   abbrev pub count : ℕ
   count = length new.heap.promotion.moves
 
-  -- where they are
+  -- their addresses
   abbrev pub places : List Place
   places = settled (young_base new.heap.segments) (moves_of new) b.places
 
@@ -45,7 +45,7 @@ module _ (script : Script) (old new : Collector) (kept : IsWellFormed script old
     | inr x ↦ x.1
   ]
 
-  -- the sizes of the heap are those of the plan
+  -- the sizes of the heap are the plan's
   pub layout_is : new.heap.segments.layout ≡ layout_of plan
   layout_is = p.layout ∙ kept.layout
 
@@ -60,7 +60,7 @@ module _ (script : Script) (old new : Collector) (kept : IsWellFormed script old
 
   -- the mutators
 
-  -- each mutator is whole, and nothing is left but what it remembers
+  -- each mutator is whole, and has only its remembered entries left
   pub own : (k : ℕ) (m : Mutator) → slice_get new.mutators.items k ≡ Some m → IsOwn new k m × HasOnlyEntries (seen_mutator m)
   own k m e =
       let was = one_promoted p.forward old.mutators.items new.mutators.items p.held k m e in
@@ -77,13 +77,13 @@ module _ (script : Script) (old new : Collector) (kept : IsWellFormed script old
         record { recorded = refl; young_weaks = refl; finalised = refl },
       )
 
-  -- the heap: words, segments and roots, and what the mutators have in hand
+  -- the heap: words, segments and roots, and the mutators' registers and queues
 
-  -- each mutator as contracts see it
+  -- the view of each mutator
   pub rest : (k : ℕ) (m : MutatorSeen) → slice_get (seen new).mutators k ≡ Some m → HasOnlyEntries m
   rest k m e = let x = map_item seen_mutator new.mutators.items k m e in subst HasOnlyEntries (sym x.2) (own k x.0 x.1).1
 
-  -- what it remembers is what it remembered
+  -- its remembered entries are the same
   pub remembers : (k : ℕ) (m : MutatorSeen) → slice_get (seen new).mutators k ≡ Some m → (before : MutatorSeen) ×
       (slice_get (seen old).mutators k ≡ Some before) × (m.entries ≡ before.entries)
   remembers k m e =
@@ -122,7 +122,7 @@ module _ (script : Script) (old new : Collector) (kept : IsWellFormed script old
   pub are_nurseries : AreNurseries (layout_of plan) places w (nurseries_of (seen new))
   are_nurseries = subst (λ (l : Layout). AreNurseries l places w (nurseries_of (seen new))) layout_is own_nurseries
 
-  -- the roots, as a report would tell them
+  -- the roots, as in a report
   pub roots : RepresentsRoots places w (registers_of (ends_of (seen new))) (queues_of (ends_of (seen new))) (serials_of (ends_of (seen new)))
   roots =
       let registers : worked.registers_of new.mutators.items ≡ registers_of (ends_of (seen new)) = sym (registers_seen new) in
@@ -132,7 +132,7 @@ module _ (script : Script) (old new : Collector) (kept : IsWellFormed script old
       let serials : serials_of (ends_of (seen old)) ≡ serials_of (ends_of (seen new)) = sym (serials_seen new ∙ same ∙ sym (serials_seen old)) in
       rw (← serials) (rw (← queues) (rw registers at settled_heap.roots))
 
-  -- of a mutator's queue the room is what it was
+  -- the room of a mutator's queue is the same
   pub same_spare : (k : ℕ) (m : MutatorSeen) → slice_get (seen new).mutators k ≡ Some m → (before : MutatorSeen) ×
       (slice_get (seen old).mutators k ≡ Some before) × (m.queue.spare ≡ before.queue.spare)
   same_spare k m e =
@@ -145,20 +145,20 @@ module _ (script : Script) (old new : Collector) (kept : IsWellFormed script old
 
   -- the heap at the stop
   module _ (back : BlocksArePlaces) (l : HasListed old new) where
-    pub told : FitBlocks w placed.0 × ((q : Place) → Contains places q ↔ IsPlaceAtStop new.heap.segments.layout placed.0 q)
-    told = back new.heap.segments.layout (snapshots b.state.progress) places w placed.0 (words_in new.heap.words) new.heap.segments settled_heap.represents
+    pub reported : FitBlocks w placed.0 × ((q : Place) → Contains places q ↔ IsPlaceAtStop new.heap.segments.layout placed.0 q)
+    reported = back new.heap.segments.layout (snapshots b.state.progress) places w placed.0 (words_in new.heap.words) new.heap.segments settled_heap.represents
         p.sound refl placed.2 low settled_heap.blocks
 
-    -- listed are those that are alive and have a block
+    -- exactly the weak pointers that are alive and have a block are listed
     pub listed : ListsWeaks new.heap.segments.layout places w (seen new).weaks
     listed = l.lists at_stop b.stopped b.can_list
 
     abbrev pub heap : HoldsAtStop (layout_of plan) promoted (words_in new.heap.words) new.heap.segments (ends_of (seen new)) (seen new).weaks
     heap = record {
       places = places;
-      all = subst (λ (l : Layout). (q : Place) → Contains places q ↔ IsPlaceAtStop l placed.0 q) layout_is told.1;
+      all = subst (λ (l : Layout). (q : Place) → Contains places q ↔ IsPlaceAtStop l placed.0 q) layout_is reported.1;
       holds = record {
-        fit = told.0;
+        fit = reported.0;
         represents = subst (λ (l : Layout). Represents l (snapshots b.state.progress) NoNode places w (words_in new.heap.words)) layout_is
             settled_heap.represents;
         registers = whole_seen new (λ k d lt. (own k (slice_index_or new.mutators.items k d) (slice_get-get_or new.mutators.items k d lt)).0.whole.size);

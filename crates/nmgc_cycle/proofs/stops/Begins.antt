@@ -1,23 +1,23 @@
--- What a stop begins with, whether the collector is new or did a round.
-use Rattle.nmgc_cycle.proofs.Vocabulary.{ℕ, ◌≡◌, ◌+◌, ◌<◌, ◌≤◌, ◌⊎◌, List, [], ◌∷◌, ◌++◌, length, drop, slice_index_or, arith, refl, sym, ap, subst, ◌∙◌, inl, inr, append-nil, Option, Some, None, Contains, IsSome, drop-drop, length-map, Command, Row, World, IsWorld, node_of, new_world, Node, Con, Var, Arr, Thunk, Weak, Stack, Parts, contains_head, flat_contains, is_some_of, nothing_in, place_in, new_is_world, Header, nursery_place, Mutator, numbers_of, AllocState, StandsFor, first_cells, Place, ListsWeaks, header_of, Stopped, IsStopped, young_base, CycleRow, RoundRows, StopRow, Script, AreNurseries, IsEmptied, IsPacedAfterRound, HoldsInCycle, Matches, TellsFinalised, finalised_of, IsInCourse, IsStateInCourse, IsPlaceAtStop, registers_of, queues_of, noted, Run, Turn, IsRun, IsTurn, Tells, last_state, with_turn, ends_of, nurseries_of, recorded_in, young_weaks_in, program_of, IsAble, IsInCycle, AreSoundBlocks, IsSoundRound, LieKnown, Plan, State, Progress, idle, marking, sweeping, start, plan_of, layout_of, Cycle, answered_count, IsStop, runs_are, rounds_stay, round_left, left_is_told, round_is_remembered, states_are_sound, rounds_are_sound, opening_worked, start_programs, run_goes_on, last_is_of_turn, tells_one_more, AreNamed, named_first, Collector, AreFew, CanStop, IsFresh, HasWorked, Sweeps, seen, seen_mutator, told_cycles, IsInLimits, CanList, StandsStopped, places_of, segment_low, slice_get}
+-- The beginning of a stop, whether the collector is new or did a round.
+use Rattle.nmgc_cycle.proofs.Vocabulary.{ℕ, ◌≡◌, ◌+◌, ◌<◌, ◌≤◌, ◌⊎◌, List, [], ◌∷◌, ◌++◌, length, drop, slice_index_or, arith, refl, sym, ap, subst, ◌∙◌, inl, inr, append-nil, Option, Some, None, Contains, IsSome, drop-drop, length-map, Command, Row, World, IsWorld, node_of, new_world, Node, Con, Var, Arr, Thunk, Weak, Stack, Parts, contains_head, flat_contains, is_some_of, nothing_in, place_in, new_is_world, Header, nursery_place, Mutator, numbers_of, AllocState, StandsFor, first_cells, Place, ListsWeaks, header_of, Stopped, IsStopped, young_base, CycleRow, RoundRows, StopRow, Script, AreNurseries, IsEmptied, IsPacedAfterRound, HoldsInCycle, Matches, ListsFinalised, finalised_of, IsInCourse, IsStateInCourse, IsPlaceAtStop, registers_of, queues_of, noted, Run, Turn, IsRun, IsTurn, AreRowsOf, last_state, with_turn, ends_of, nurseries_of, recorded_in, young_weaks_in, program_of, IsAble, IsInCycle, AreSoundBlocks, IsSoundRound, LieKnown, Plan, State, Progress, idle, marking, sweeping, start, plan_of, layout_of, Cycle, answered_count, IsStop, runs_are, rounds_stay, round_left, left_is_determined, round_is_remembered, states_are_sound, rounds_are_sound, opening_worked, start_programs, run_goes_on, last_is_of_turn, one_more_turn, AreNamed, named_first, Collector, AreFew, CanStop, IsFresh, HasWorked, Sweeps, seen, seen_mutator, report_cycles, IsInLimits, CanList, StandsStopped, places_of, segment_low, slice_get}
 use Rattle.nmgc_run_laws.specs.Sound.{AreEarlier}
 use Rattle.nmgc_world_spec.specs.declared.node.Kind.TheVariants as kind
 use Rattle.nmgc_segment.specs.declared.state.State.TheVariants as stands
 use Rattle.nmgc_cycle.proofs.{lengths.Few.fresh_few, lengths.Few.fresh_begun, lengths.Measures.answered_more, lists.MutatorLists.same_stopped, starts.NewStops.stopped_in, starts.NewStops.new_stopped, lists.Plans.is_runnable, lists.RootLists.same_finalised, lists.RootLists.seen_at, stops.StopNumbers.run_number, lists.Views.registers_seen, lists.Views.queues_seen, lists.Views.nurseries_seen, lists.Views.recorded_seen, lists.Views.young_seen}
 
--- a run of which all was told but its last row
-pub record IsToldBut (plan : Plan) (rounds : List RoundRows) (stops : List StopRow) (cycles : List CycleRow) (row : StopRow) (t : State) : Type 0 where
+-- a run whose rows were all reported except its last
+pub record IsReportedBut (plan : Plan) (rounds : List RoundRows) (stops : List StopRow) (cycles : List CycleRow) (row : StopRow) (t : State) : Type 0 where
   pub run : Run
   pub is_run : IsRun plan run
-  pub tells : Tells run rounds (stops ++ row ∷ []) cycles
+  pub agrees : AreRowsOf run rounds (stops ++ row ∷ []) cycles
   pub last : last_state run ≡ t
 
--- what is left of the programs are the commands that no round answered
+-- the commands left in the programs are those that no round answered
 pub record IsLeft (script : Script) (rounds : List RoundRows) (left : List (List Command)) : Type 0 where
   pub count : length left ≡ length script.threads
   pub each : (m : ℕ) → program_of left m ≡ drop (answered_count rounds m) (program_of script.threads m)
 
--- a state before the promotion of its stop: it is sound but for what lies in nurseries, and only names of the world before lie in blocks
+-- a state before its stop's promotion: sound except for nurseries, and only names of the world before are in blocks
 pub record IsSoundBefore (plan : Plan) (began : World) (s : State) : Type 0 where
   pub world : IsWorld s.world
   pub able : IsAble plan s
@@ -26,8 +26,7 @@ pub record IsSoundBefore (plan : Plan) (began : World) (s : State) : Type 0 wher
   pub cycle : IsInCycle s.progress s.world s.allocation
   pub earlier : AreEarlier s
 
--- the world before, and the state that the stop begins with: words, segments, mutators, marker and sweeper stand for
--- it, and a stop of it is one more of the run
+-- the world before, and the stop's first state: the collector's parts represent it, and its stop is the run's next
 pub record Begins (script : Script) (c : Collector) : Type 0 where
   pub began : World
   pub state : State
@@ -50,7 +49,7 @@ pub record Begins (script : Script) (c : Collector) : Type 0 where
   pub begun : c.cycle.begun ≤ length c.rows.stops
   pub left : IsLeft script c.rows.rounds state.left
   pub goes_on : (t : State) (row : StopRow) (cycles : List CycleRow) → IsStop (plan_of script) began state t row cycles →
-      IsToldBut (plan_of script) c.rows.rounds c.rows.stops (told_cycles c ++ cycles) row t
+      IsReportedBut (plan_of script) c.rows.rounds c.rows.stops (report_cycles c ++ cycles) row t
 
 -- the heap at a stop, by the mutators themselves
 stands_of : (t : Stopped) (c : Collector) →
@@ -59,7 +58,7 @@ stands_of : (t : Stopped) (c : Collector) →
 stands_of t c h = same_stopped t c.heap.segments (seen c).words (seen c).words _ _ _ _ _ _ _ _ _ _ refl (nurseries_seen c) (registers_seen c)
     (queues_seen c) (recorded_seen c) (young_seen c) h
 
--- a node with the header of a weak pointer is one
+-- a node with the header of a weak pointer is a weak pointer
 weak_of : (parts : Option Parts) (node : Node) → header_of (Weak parts) ≡ header_of node → (now : Option Parts) × (node ≡ Weak now)
 weak_of parts (Con tag values) e = absurd (let bad : kind.Weak ≡ kind.Con = ap (λ (h : Header). h.kind) e in cc)
 weak_of parts (Var v) e = absurd (let bad : kind.Weak ≡ kind.Var = ap (λ (h : Header). h.kind) e in cc)
@@ -68,7 +67,7 @@ weak_of parts (Thunk free result) e = absurd (let bad : kind.Weak ≡ kind.Thunk
 weak_of parts (Weak now) e = (now, refl)
 weak_of parts (Stack size values) e = absurd (let bad : kind.Weak ≡ kind.Stack = ap (λ (h : Header). h.kind) e in cc)
 
--- what is no name is none
+-- a name is unknown or has a node
 known_or_none : (o : Option Node) → (o ≡ None) ⊎ IsSome o
 known_or_none None = inl refl
 known_or_none (Some node) = inr refl
@@ -80,10 +79,10 @@ none_finalised ms empty at c =
     let i = place_in ms m.0 m.1 in
     nothing_in at (subst (λ (l : List ℕ). Contains l at) (empty i.0 m.0 i.1).finalised m.2)
 
--- the list was that of the world as the round began, and the round made none of these anew
+-- the list fitted the world at the round's beginning, and the round made none of these weak pointers
 can_list_of : (t : Stopped) (c : Collector) → StandsStopped t c → ListsWeaks c.heap.segments.layout t.places t.began (places_of c.heap.weaks.list) →
-    TellsFinalised (young_base c.heap.segments) t.places t.began t.world (finalised_of c.mutators.items) → CanList t c
-can_list_of t c h listed told =
+    ListsFinalised (young_base c.heap.segments) t.places t.began t.world (finalised_of c.mutators.items) → CanList t c
+can_list_of t c h listed reported =
     let past = h.round.past t.began (contains_head t.began t.later) in
     record {
       began = past.world;
@@ -100,7 +99,7 @@ can_list_of t c h listed told =
             let x = weak_of (Some parts) node.0 (past.headers weak (Weak (Some parts)) node.0 alive node.1) in
             (x.0, node.1 ∙ ap (λ (n : Node). Some n) x.1);
       };
-      told = told;
+      reported = reported;
     }
 
 -- a new collector
@@ -110,7 +109,7 @@ new_begins script c limits f =
     let plan : Plan = plan_of script in
     let runnable = is_runnable script limits in
     let count : ℕ = length script.threads in
-    let none : (c.rows.rounds ≡ []) × (c.rows.stops ≡ []) × (told_cycles c ≡ []) = f.new.nothing in
+    let none : (c.rows.rounds ≡ []) × (c.rows.stops ≡ []) × (report_cycles c ≡ []) = f.new.nothing in
     let no_stops : length c.rows.stops ≡ 0 = ap (λ (stops : List StopRow). length stops) none.1 in
     let opening = opening_worked plan runnable in
     let able = start_programs plan runnable in
@@ -151,7 +150,7 @@ new_begins script c limits f =
       goes_on = λ t row cycles stop. record {
         run = record { opening = record { state = t; row = row; cycles = cycles }; turns = [] };
         is_run = record { opening = stop; turns = tt };
-        tells = record {
+        agrees = record {
           rounds_are = none.0;
           stops_are = ap (λ (stops : List StopRow). stops ++ row ∷ []) none.1;
           cycles_are = ap (λ (rows : List CycleRow). rows ++ cycles) none.2 ∙ sym (append-nil cycles);
@@ -190,11 +189,11 @@ module _ (script : Script) (c : Collector) (limits : IsInLimits script) (h : Has
       stands_of at c after
 
   can_list : CanList (stopped_in before.world h.worked h.after.places (seen c)) c
-  can_list = can_list_of (stopped_in before.world h.worked h.after.places (seen c)) c stopped (rw h.kept.layout h.after.heap.listed) (rw h.kept.layout (subst (TellsFinalised (nursery_place (layout_of plan) 0) h.after.places before.world h.worked.world) (same_finalised c.mutators.items) h.after.told))
+  can_list = can_list_of (stopped_in before.world h.worked h.after.places (seen c)) c stopped (rw h.kept.layout h.after.heap.listed) (rw h.kept.layout (subst (ListsFinalised (nursery_place (layout_of plan) 0) h.after.places before.world h.worked.world) (same_finalised c.mutators.items) h.after.reported))
 
   numbers : h.worked.number ≡ length c.rows.stops
   numbers =
-      let n = run_number plan h.run h.after.before c.rows.stops (told_cycles c) h.after.is_run h.after.tells in
+      let n = run_number plan h.run h.after.before c.rows.stops (report_cycles c) h.after.is_run h.after.agrees in
       let more : h.worked.number ≡ before.number + 1 = ap (λ (x : State). x.number) h.after.round.rest in
       omega (arith, n.0, n.1, more)
 
@@ -203,10 +202,10 @@ module _ (script : Script) (c : Collector) (limits : IsInLimits script) (h : Has
     count = ap (λ (x : State). length x.left) h.after.round.rest ∙ length-map before.left _ ∙
         (states_are_sound plan h.run (is_runnable script limits) h.after.is_run).able.programs;
     each = λ m.
-        let told = left_is_told plan h.run h.after.before c.rows.stops (told_cycles c) h.after.is_run h.after.tells m in
+        let reported = left_is_determined plan h.run h.after.before c.rows.stops (report_cycles c) h.after.is_run h.after.agrees m in
         let count : ℕ = length (slice_index_or h.replies m []) in
         round_left plan.config before h.worked h.replies h.history m h.after.round
-        ∙ ap (λ (program : List Command). drop count program) told
+        ∙ ap (λ (program : List Command). drop count program) reported
         ∙ drop-drop count (answered_count h.after.before m) (program_of script.threads m)
         ∙ ap (λ (n : ℕ). drop n (program_of script.threads m)) (sym (ap (λ (r : List RoundRows). answered_count r m) h.after.rounds ∙
         answered_more h.after.before rows m));
@@ -227,16 +226,16 @@ module _ (script : Script) (c : Collector) (limits : IsInLimits script) (h : Has
       omega (arith, number, from)
 
   goes_on : (t : State) (row : StopRow) (cycles : List CycleRow) → IsStop plan before.world h.worked t row cycles →
-      IsToldBut plan c.rows.rounds c.rows.stops (told_cycles c ++ cycles) row t
+      IsReportedBut plan c.rows.rounds c.rows.stops (report_cycles c ++ cycles) row t
   goes_on t row cycles stop =
       let turn : Turn = record { replies = rows; history = h.history; worked = h.worked; stop = record { state = t; row = row; cycles = cycles } } in
       let is : IsTurn plan before turn = record { goes_on = h.after.goes_on; round = h.after.round; stop = stop } in
-      let told : Tells (with_turn h.run turn) (h.after.before ++ rows ∷ []) (c.rows.stops ++ row ∷ []) (told_cycles c ++ cycles) =
-      tells_one_more h.run turn h.after.before c.rows.stops (told_cycles c) h.after.tells in
+      let reported : AreRowsOf (with_turn h.run turn) (h.after.before ++ rows ∷ []) (c.rows.stops ++ row ∷ []) (report_cycles c ++ cycles) =
+      one_more_turn h.run turn h.after.before c.rows.stops (report_cycles c) h.after.agrees in
       record {
         run = with_turn h.run turn;
         is_run = run_goes_on plan h.run turn h.after.is_run is;
-        tells = subst (λ (r : List RoundRows). Tells (with_turn h.run turn) r (c.rows.stops ++ row ∷ []) (told_cycles c ++ cycles)) (sym h.after.rounds) told;
+        agrees = subst (λ (r : List RoundRows). AreRowsOf (with_turn h.run turn) r (c.rows.stops ++ row ∷ []) (report_cycles c ++ cycles)) (sym h.after.rounds) reported;
         last = last_is_of_turn h.run turn;
       }
 
@@ -271,7 +270,7 @@ pub begins : (script : Script) (c : Collector) → IsInLimits script → CanStop
 begins script c limits (inl fresh) = new_begins script c limits fresh
 begins script c limits (inr worked) = worked_begins script c limits worked
 
--- a stop after a round is the last of one turn more
+-- a stop after a round is the last stop of a run with that round
 pub one_turn : (script : Script) (c : Collector) (limits : IsInLimits script) (h : HasWorked script c) (t : State) (row : StopRow)
     (cycles : List CycleRow) (stop : IsStop (plan_of script) (begins script c limits (inr h)).began (begins script c limits (inr h)).state t row
     cycles) → (turn : Turn) × (turn.replies ≡ record { replies = h.replies }) × (turn.worked ≡ h.worked) × (turn.history ≡ h.history) ×

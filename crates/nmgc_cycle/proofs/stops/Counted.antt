@@ -1,10 +1,10 @@
--- How often the collector passed the gate: a stop's steps leave it, and a round adds what was scanned or swept.
+-- The collector's passes of the gate: a stop's steps add none, and a round adds its scans or swept segments.
 use Rattle.nmgc_cycle.proofs.Vocabulary.{ℕ, ◌≡◌, ◌∙◌, ◌-◌, Bool, inl, inr, List, refl, sym, ap, subst, arith, Segments, Round, passed, RoundSeat, Opening, Script, Name, Collector, Marking, Doing, Sweeping, AddsTo, HasTaken, IsClosed, Closes, Ends, HasStarted, Begins, HasHelped, remembered_by, swept_beside, worked_on, upper_worked_on, HasSweptRest, HasFinished, HasDoneFull, turns_by, turns_of, upper_turns_by, upper_turns_of, words_in, DidSlices, ◌/◌}
 use Rattle.nmgc_cycle.specs.Full.{ClosesNow, SweepsRest, Proceeds, with_all_retired}
 use Rattle.nmgc_cycle.specs.declared.progress.Progress.TheVariants as doing
 use Rattle.nmgc_cycle.proofs.{cycles.FullCycle.finished_idle, stops.StopEnds.IsStepped}
 
--- both counts: of what the collector does, and of the upper halves of its sweeps
+-- both counts: the collector's own, and the upper halves' of its sweeps
 abbrev counts_by : Doing → ℕ → ℕ → ℕ × ℕ
 counts_by p turns upper = (turns_by p turns, upper_turns_by p upper)
 
@@ -16,7 +16,7 @@ both p q = λ i. (p i, q i)
 
 -- A stop
 
--- what was remembered was added
+-- the remembered entries were added
 taken : (old new : Collector) → HasTaken old new → counts_of new ≡ counts_of old
 taken old new h = by old.cycle.progress h.adds
   where

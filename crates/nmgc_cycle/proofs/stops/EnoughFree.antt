@@ -1,10 +1,10 @@
--- A stop that gives no end left the reserve free, or no commands are left.
+-- After a stop that isn't an end the reserve is free, or no commands are left.
 use Rattle.nmgc_cycle.proofs.Vocabulary.{ℕ, zero, suc, ◌≡◌, ◌≤◌, ◌⊎◌, List, [], ◌∷◌, length, inl, inr, sym, ap, ◌∙◌, refl, arith, Bool, true, false, Some, None, not, ◌&&◌, ◌||◌, nat_lt, if◌then◌else◌, ltb-false, Command, reserve_count, counts_stand, End, Script, Run, last_state, has_left, program_of, Plan, State, is_idle, free_count, reserve_of, layout_of, plan_of, answer_of, Collector, IsAfterStop, seen, lt-ltb}
 use Rattle.nmgc_journal.specs.declared.report.End.TheVariants.{Done}
 use Rattle.nmgc_segment.specs.declared.state.State.TheVariants as stands
 use Rattle.nmgc_alloc.specs.Reserve as reserve
 
--- it gave no end: where commands are left, it isn't short of segments
+-- it was no end: if commands are left, it isn't short of segments
 not_less : (left less quiet : Bool) (full : End) → (if left && less then Some full else (if not left && quiet then Some Done else None)) ≡ None →
     (left ≡ false) ⊎ (less ≡ false)
 not_less true true quiet full e = absurd cc
@@ -27,7 +27,7 @@ enough plan s e = elim (not_less (has_left s.left) (nat_lt (free_count s) (reser
 ]
 
 module _ (script : Script) (c : Collector) (run : Run) (still : IsAfterStop script c run) (goes_on : c.answered ≡ None) where
-  -- the stop gave no end
+  -- the stop was no end
   pub went_on : answer_of (plan_of script) (last_state run) ≡ None
   went_on = sym still.at_stop.answered ∙ goes_on
 

@@ -1,8 +1,8 @@
--- The mutators forget what they remember, one after the other.
+-- The mutators forget their remembered entries, one mutator after the other.
 use Rattle.nmgc_cycle.proofs.Vocabulary.{ℕ, ◌≡◌, ◌≢◌, ◌+◌, ◌<◌, ◌≤◌, ◌∙◌, sym, ap, subst, List, [], length, set, length-set, append-nil, Some, None, Option, inl, inr, refl, arith, slice_get, cases_eq, slice_get_within, get_or_from_slice_get, set-set, set-get_or, Address, Mutator, BLOCK_ENTRIES, Clears, TakesRestSo, IsLevelSo, Sender, Receiver, AtLine, IsPair, IsLine, in_ring, IsLined, IsPaired, AnyLine, HasForgotten, HaveForgotten, HaveForgottenSoFar, HaveLines, set_here, set_other, length-append}
 use Rattle.nmgc_cycle.proofs.rounds.Lining.{same_item, line_here, line_other, line_count}
 
--- how many entries wait in a ring
+-- the number of entries that wait in a ring
 abbrev pub waiting_in : Option Receiver → Sender → ℕ
 waiting_in None s = 0
 waiting_in (Some r) s = length (in_ring s r)
@@ -25,7 +25,7 @@ still_paired inbox after k s t block (r, at, pair) h =
     let own : IsPair s h.was = subst (λ (x : Receiver). IsPair s x) (sym is) pair in
     (h.is, line_here (TakesRestSo s t block) k inbox after h, h.changes.receives.ring ∙ own ∙ sym h.changes.looked.ring)
 
--- whatever a receiver took, once more
+-- any change of a receiver, twice
 pub any_then : (k : ℕ) (first mid last : List Receiver) → AtLine AnyLine k first mid → AtLine AnyLine k mid last → AtLine AnyLine k first last
 any_then k first mid last x y = record {
   was = x.was;
@@ -38,7 +38,7 @@ any_then k first mid last x y = record {
     twice : (l : List Receiver) (k : ℕ) (a b : Receiver) → set (set l k a) k b ≡ set l k b
     twice l k a b = set-set l k a b
 
--- some receiver took something
+-- a receiver's change is any change
 pub as_any : (C : Receiver → Receiver → Type 0) (k : ℕ) (old new : List Receiver) → AtLine C k old new → AtLine AnyLine k old new
 as_any C k old new h = record { was = h.was; is = h.is; at = h.at; rest = h.rest; changes = tt }
 
@@ -51,7 +51,7 @@ any_none k inbox r at = record {
   changes = tt;
 }
 
--- ends that were found level are those of a mutator that remembers nothing, once its list and its set are empty
+-- level ends, with an empty list and set, are the ends of a mutator that remembers nothing
 pub level_lined : (inbox mid after : List Receiver) (k : ℕ) (s t : Sender) → IsPaired inbox k s → AtLine (IsLevelSo s t) k inbox mid →
     AtLine Clears k mid after → IsLined after k t
 level_lined inbox mid after k s t (r, at, pair) h c =
@@ -66,7 +66,7 @@ level_lined inbox mid after k s t (r, at, pair) h c =
     } in
     (c.is, line_here Clears k mid after c, line)
 
--- so many forgot
+-- the first mutators forgot
 
 pub forgot_none : (inbox : List Receiver) (mutators : List Mutator) → HaveLines inbox mutators → HaveForgottenSoFar 0 inbox inbox mutators mutators
 forgot_none inbox mutators have = record {
@@ -118,14 +118,14 @@ module _ (first inbox after : List Receiver) (was now : List Mutator) (k : ℕ) 
     lines = lines;
   }
 
--- all did
+-- all mutators forgot
 pub all_forgot : (first after : List Receiver) (was now : List Mutator) → HaveForgottenSoFar (length was) first after was now → HaveForgotten was now
 all_forgot first after was now h = record {
   count = h.count;
   each = λ k m n e f. h.each k m n (slice_get_within was k m e) e f;
 }
 
--- so many and more
+-- this number of mutators or more forgot
 pub forgot_enough : (n : ℕ) (first after : List Receiver) (was now : List Mutator) → length was ≤ n → HaveForgottenSoFar n first after was now →
     HaveForgottenSoFar (length was) first after was now
 forgot_enough n first after was now enough h = record {
@@ -136,7 +136,7 @@ forgot_enough n first after was now enough h = record {
   lines = h.lines;
 }
 
--- one that was told otherwise before forgot too
+-- a mutator with an earlier change of its sender forgot too
 pub forgot_after : (m n p : Mutator) → n ≡ record m { sender = n.sender } → HasForgotten n p → HasForgotten m p
 forgot_after m n p is h = record {
   rest = h.rest ∙ ap (λ (x : Mutator). record x { updrem = p.updrem; sender = p.sender }) is;
@@ -161,7 +161,7 @@ draining_more first inbox after number was m n block d rest h = record {
   rest = rest ∙ ap (λ (x : Mutator). record x { sender = n.sender }) d.rest;
 }
 
--- it is, and list and set were emptied
+-- the ring is empty, and list and set were emptied
 module _ (first inbox mid after : List Receiver) (number : ℕ) (was m n p : Mutator) (d : IsDraining first inbox number was m) (rest : n ≡
     record m { sender = n.sender }) (h : AtLine (IsLevelSo m.sender n.sender) number inbox mid) (clears : AtLine Clears number mid after)
     (last : p ≡ record n { updrem = p.updrem }) (empty : p.updrem.items ≡ []) where

@@ -1,5 +1,5 @@
--- The list of weak pointers over the promotion of a stop: those that were finalised leave it, and those that moved and are alive join it.
-use Rattle.nmgc_cycle.proofs.Vocabulary.{ℕ, ◌≡◌, ◌≢◌, ◌^◌, ◌<◌, ◌≤◌, ◌⊎◌, List, [], ◌∷◌, Bool, true, false, cond, length, map, refl, sym, ap, subst, ◌∙◌, arith, inl, inr, slice_index, mul-le-mul_right, ◌*◌, ◌+◌, Contains, filter, not, ◌==◌, ◌&&◌, and_parts, length-map, length-filter, count_by-le-length, Name, SHARED_MAKER, Parts, IsAlive, IsBefore, IsInOrder, node_of, is_some_of, contains_map, map_contains, filter_had, filter_keeps, in_order_cons, in_order_first, in_order_rest, header_word, InSegment, NAME_OFFSET, segment_low, Layout, StandsFor, Segments, IsSegments, KeepsMarks, PlacesEach, Moved, new_place, old_place, settled, IsFor, HaveNoted, promoted_by, Place, ListsWeaks, settled_comes, Stopped, IsStopped, IsSettled, young_base, is_block, JoiningLists, JoinersAreNew, HaveMoved, HaveJoinedList, IsAliveAt, weak_header, moved_of, Move, OldWeak, LeavingLists, Weaks, alive_of, is_alive, names_of, place_of, places_of, value_place, recorded_of, finalised_of, Collector, CanJoin, FinalisedAreTold, FinalisedLeft, MovedJoined, is_alive_at, listed_move, moved_weaks, words_in, CanList, HasListed, HasPromoted, StandsStopped, moves_of, young_weaks_of, true_eq, of_places, names_same, names_moved, eq-eqb, ne_eqb}
+-- The list over a promotion: finalised weak pointers leave it, and those that moved and are alive join it.
+use Rattle.nmgc_cycle.proofs.Vocabulary.{ℕ, ◌≡◌, ◌≢◌, ◌^◌, ◌<◌, ◌≤◌, ◌⊎◌, List, [], ◌∷◌, Bool, true, false, cond, length, map, refl, sym, ap, subst, ◌∙◌, arith, inl, inr, slice_index, mul-le-mul_right, ◌*◌, ◌+◌, Contains, filter, not, ◌==◌, ◌&&◌, and_parts, length-map, length-filter, count_by-le-length, Name, SHARED_MAKER, Parts, IsAlive, IsBefore, IsInOrder, node_of, is_some_of, contains_map, map_contains, filter_had, filter_keeps, in_order_cons, in_order_first, in_order_rest, header_word, InSegment, NAME_OFFSET, segment_low, Layout, StandsFor, Segments, IsSegments, KeepsMarks, PlacesEach, Moved, new_place, old_place, settled, IsFor, HaveNoted, promoted_by, Place, ListsWeaks, settled_comes, Stopped, IsStopped, IsSettled, young_base, is_block, JoiningLists, JoinersAreNew, HaveMoved, HaveJoinedList, IsAliveAt, weak_header, moved_of, Move, OldWeak, LeavingLists, Weaks, alive_of, is_alive, names_of, place_of, places_of, value_place, recorded_of, finalised_of, Collector, CanJoin, FinalisedAreListed, FinalisedLeft, MovedJoined, is_alive_at, listed_move, moved_weaks, words_in, CanList, HasListed, HasPromoted, StandsStopped, moves_of, young_weaks_of, true_eq, of_places, names_same, names_moved, eq-eqb, ne_eqb}
 use Rattle.std.specs.List.{count_by}
 use Rattle.nmgc_collector_laws.specs.Worked.{registers_of, queues_of, nurseries_of}
 
@@ -17,7 +17,7 @@ tests words at a =
     let v : (slice_index words (value_place at) == 0) ≡ false = ne_eqb (slice_index words (value_place at)) 0 a.value in
     ap (λ (y : Bool × Bool). y.0 && not y.1) (λ i. (h i, v i))
 
--- those that moved and are alive: no more than moved, in order, and new
+-- the weak pointers that moved and are alive: no more than moved, in order, and new
 
 pub moved_few : (words : List ℕ) (moves : List Move) → length (moved_weaks words moves) ≤ length moves
 moved_few words moves =
@@ -27,7 +27,7 @@ moved_few words moves =
     let most : count_by test moves ≤ length moves = count_by-le-length test moves in
     omega (arith, all, counted, most)
 
--- each is one that moved
+-- each is a moved object
 one_moved : (words : List ℕ) (moves : List Move) (weak : OldWeak) → Contains (moved_weaks words moves) weak → (m : Move) × Contains moves m ×
     (listed_move m ≡ weak) × (is_alive_at words m.to.0 ≡ true)
 one_moved words moves weak c =
@@ -62,7 +62,7 @@ moved_new words list moves can one other c d =
     λ e. can.new m.0 other m.1 d (e ∙ sym (ap (λ (w : OldWeak). w.weak) m.2))
 
 module _ (old a : Collector) (l : FinalisedLeft old a) where
-  -- those that leave change nothing of the heap
+  -- leaving changes nothing of the heap
   pub stopped_then : (t : Stopped) → StandsStopped t old → StandsStopped t a
   stopped_then t h =
       let words : IsStopped t old.heap.segments (words_in a.heap.words) (nurseries_of old.mutators.items) (registers_of old.mutators.items)
@@ -76,7 +76,7 @@ module _ (old a : Collector) (l : FinalisedLeft old a) where
 module _ (left : LeavingLists) (joining : JoiningLists) (fresh : JoinersAreNew) (old a b new : Collector) (l : FinalisedLeft old a)
     (p : HasPromoted a b) (same : b.heap.weaks ≡ a.heap.weaks) where
   module _ (t : Stopped) (h : StandsStopped t old) (can : CanList t old) where
-    -- the list once some have left
+    -- the list after leaving
     left_listed : ListsWeaks a.heap.segments.layout t.places t.world (places_of a.heap.weaks.list)
     left_listed =
         let then = left old.heap.segments.layout t.later t.places t.began t.world (words_in old.heap.words) old.heap.weaks.list can.began h.world h.represents
@@ -90,7 +90,7 @@ module _ (left : LeavingLists) (joining : JoiningLists) (fresh : JoinersAreNew) 
     moved_there : (m : Move) → Contains b.heap.promotion.moves m → Contains (moves_of b) (moved_of m)
     moved_there m c = contains_map moved_of b.heap.promotion.moves m c
 
-    -- what moved isn't g
+    -- no moved object is g
     is_other : (m : Moved) → Contains (moves_of b) m → m.name.maker ≢ SHARED_MAKER
     is_other m c =
         let k = settled_there in
@@ -135,7 +135,7 @@ module _ (left : LeavingLists) (joining : JoiningLists) (fresh : JoinersAreNew) 
     old_list : (weak : OldWeak) → Contains b.heap.weaks.list weak → Contains a.heap.weaks.list weak
     old_list weak c = subst (λ (w : Weaks). Contains w.list weak) same c
 
-    -- one that joined is one that moved, and is alive by its words
+    -- a weak pointer that joined moved, and is alive by its words
     joiner : (weak : OldWeak) → Contains (moved_weaks (words_in b.heap.words) b.heap.promotion.moves) weak → (m : Move) × Contains b.heap.promotion.moves m ×
         (listed_move m ≡ weak) × IsAliveAt (words_in b.heap.words) m.to.0
     joiner weak c =
@@ -174,7 +174,7 @@ module _ (left : LeavingLists) (joining : JoiningLists) (fresh : JoinersAreNew) 
           rw x.2 (contains_map place_of new.heap.weaks.list (listed_move x.0) ((j.joins.list (listed_move x.0)).1 (inr found)));
     }
 
-    -- all of the collector as after the joining
+    -- the whole collector after the joining
     new_is : new ≡ record b { heap = record b.heap { words = new.heap.words; weaks = new.heap.weaks } }
     new_is = j.rest
 
@@ -201,7 +201,7 @@ module _ (left : LeavingLists) (joining : JoiningLists) (fresh : JoinersAreNew) 
       deaths = j.deaths ∙ ap (λ (w : Weaks). w.deaths) same ∙ l.deaths;
     }
 
-    -- and the promotion is that of the whole step
+    -- and the promotion is the whole step's
     pub promoted : HasPromoted old new
     promoted = record {
       rest = new_is ∙ ap (λ (x : Collector). record x { heap = record x.heap { words = new.heap.words; weaks = new.heap.weaks } }) p.rest ∙
@@ -238,7 +238,7 @@ module _ (left : LeavingLists) (joining : JoiningLists) (fresh : JoinersAreNew) 
       )) p.copied;
     }
 
--- who is dead by its value word isn't alive after the round, so it is told
+-- a weak pointer that is dead by its value word isn't alive after the round, so it is reported
 module _ (leaving : LeavingLists) (t : Stopped) (c : Collector) (h : StandsStopped t c) (can : CanList t c) where
   abbrev held : List ℕ
   held = words_in c.heap.words
@@ -256,7 +256,7 @@ module _ (leaving : LeavingLists) (t : Stopped) (c : Collector) (h : StandsStopp
       let at : x.0.at.0 ≡ weak.at.0 = ap (λ (p : Place). p.at) x.2 in
       false_ne (slice_index held (value_place x.0.at.0)) f.1 (ap (λ k. slice_index held (value_place k)) at ∙ zero_)
 
-  -- a place in a segment lies before the nurseries
+  -- an address in a segment is below the nurseries
   in_segment : (p : Place) → ((segment : ℕ) × InSegment c.heap.segments.layout segment p.at) → p.at < young_base c.heap.segments
   in_segment p s = segment_low c.heap.segments.layout s.0 p.at s.1
 
@@ -270,12 +270,12 @@ module _ (leaving : LeavingLists) (t : Stopped) (c : Collector) (h : StandsStopp
       let total = h.represents.total in
       omega (arith, one, least, nursery, total, low)
 
-  pub finalised_are_told : FinalisedAreTold held c.heap.weaks.list (finalised_of c.mutators.items)
-  finalised_are_told = record {
-    inside = λ at there. total_above at (can.told.low at there);
-    told = λ weak d zero_.
+  pub finalised_are_listed : FinalisedAreListed held c.heap.weaks.list (finalised_of c.mutators.items)
+  finalised_are_listed = record {
+    inside = λ at there. total_above at (can.reported.low at there);
+    reported = λ weak d zero_.
         let l = can.listed.sound (place_of weak) (contains_map place_of c.heap.weaks.list weak d) in
-        can.told.all (place_of weak) l.1.0 l.0 (in_segment (place_of weak) l.2) l.1.1 (dead_gone weak d zero_ l.1.0);
+        can.reported.all (place_of weak) l.1.0 l.0 (in_segment (place_of weak) l.2) l.1.1 (dead_gone weak d zero_ l.1.0);
     named = λ at weak d same.
         let l = can.listed.sound (place_of weak) (contains_map place_of c.heap.weaks.list weak d) in
         let n = h.represents.named (place_of weak) l.0 in

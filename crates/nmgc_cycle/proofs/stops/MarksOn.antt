@@ -1,9 +1,9 @@
--- A stop at which a cycle marks on changes of it the marker alone.
+-- A stop at which a cycle marks on changes only its marker.
 use Rattle.nmgc_cycle.proofs.{Vocabulary.ℕ, Vocabulary.◌≡◌, Vocabulary.◌+◌, Vocabulary.◌∙◌, Vocabulary.Bool, Vocabulary.inl, Vocabulary.inr, Vocabulary.List, Vocabulary.sym, Vocabulary.ap, Vocabulary.arith, Vocabulary.Segments, Vocabulary.MarkerSeen, Vocabulary.Script, Vocabulary.Collector, Vocabulary.Marking, Vocabulary.Doing, Vocabulary.AddsTo, Vocabulary.Closes, Vocabulary.Ends, Vocabulary.MarksOn, Vocabulary.remembered_by, cycles.FullCycle.finished_idle, stops.StopEnds.IsStepped}
 use Rattle.nmgc_cycle.specs.Full.{Proceeds}
 use Rattle.nmgc_cycle.specs.declared.progress.Progress.TheVariants as doing
 
--- what was remembered was added
+-- the remembered entries were added
 added : (entries : List ℕ) (a b : Segments) (m : Marking) (p q : Doing) → p ≡ doing.Marking m → AddsTo entries a b p q →
     (marker : MarkerSeen) × (q ≡ doing.Marking (record m { marker = marker }))
 added entries a b m doing.Idle q is h = absurd (let bad : doing.Idle ≡ doing.Marking m = is in cc)
@@ -20,7 +20,7 @@ module _ (stop : ℕ) (old new : Collector) (n : Marking) (marks : new.cycle.pro
   open_still (doing.Marking m) (inr h) = h.1
   open_still (doing.Sweeping w) h = h
 
-  -- nor does one that ended
+  -- nor does a cycle that ended
   in_progress : (p : Doing) → Ends stop p old new → new ≡ old
   in_progress doing.Idle h = h
   in_progress (doing.Marking m) h = h
@@ -28,7 +28,7 @@ module _ (stop : ℕ) (old new : Collector) (n : Marking) (marks : new.cycle.pro
       absurd (let bad : doing.Idle ≡ doing.Marking n = sym (ap (λ (c : Collector). c.cycle.progress) h.1) ∙ marks in cc)
   in_progress (doing.Sweeping w) (inr h) = h.1
 
-  -- where none began, nothing was done
+  -- if none began, nothing was done
   none_begun : (trigger : ℕ) (left : Bool) → new.cycle.begun ≡ old.cycle.begun → Proceeds trigger left stop old new → new ≡ old
   none_begun trigger left begun (inl h) =
       let idle : new.cycle.progress ≡ doing.Idle = ap (λ (c : Collector). c.cycle.progress) h.1.is ∙ finished_idle stop h.1.started h.1.last h.1.again in

@@ -1,9 +1,9 @@
--- The mutators once what they held was promoted, where it lies.
+-- The mutators after a promotion of their roots in place.
 use Rattle.nmgc_cycle.proofs.Vocabulary.{ℕ, ◌≡◌, List, [], ◌∷◌, length, map, refl, ap, sym, ◌∙◌, Some, slice_get, refill, length-map, emptied, map_item, Mutator, refill_all, Nursery, promoted_by}
 use Rattle.nmgc_mutator.specs.AtStop.{cleared}
 use Rattle.nmgc_collector_laws.specs.Worked.{serials_of, nurseries_of}
 
--- the words that took the places of as many others are all of them
+-- words that replaced the same number of words are all the words
 abbrev pub refilled : (ℕ → ℕ) → Mutator → Mutator
 refilled forward m = record m {
   registers = refill (length m.registers) m.registers (map forward m.registers);
@@ -31,7 +31,7 @@ pub nurseries_promoted : (forward : ℕ → ℕ) (mutators : List Mutator) →
 nurseries_promoted forward [] = refl
 nurseries_promoted forward (m ∷ mutators) = ap (λ (l : List Nursery). emptied m.nursery ∷ l) (nurseries_promoted forward mutators)
 
--- a mutator is what one was, promoted
+-- a mutator is an earlier mutator, promoted
 pub one_promoted : (forward : ℕ → ℕ) (old new : List Mutator) → new ≡ map (promoted_by forward) old → (k : ℕ) (n : Mutator) →
     slice_get new k ≡ Some n → (m : Mutator) × (slice_get old k ≡ Some m) × (n ≡ promoted_by forward m)
 one_promoted forward old new held k n e = map_item (promoted_by forward) old k n (ap (λ (l : List Mutator). slice_get l k) (sym held) ∙ e)

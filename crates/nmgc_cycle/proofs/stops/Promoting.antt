@@ -1,11 +1,11 @@
--- After its promotion the collector stands for the state that the promotion left: the heap, and the cycle in progress.
+-- After its promotion the collector represents the promoted state: the heap, and the cycle in progress.
 use Rattle.nmgc_cycle.proofs.Vocabulary.{ℕ, ◌≡◌, ◌≢◌, ◌⊎◌, ◌<◌, ◌≤◌, ◌+◌, ◌*◌, List, [], ◌∷◌, length, arith, refl, sym, ap, subst, ◌∙◌, inl, inr, Some, None, slice_get, Contains, IsSome, Name, shared_name, World, node_of, contains_head, is_some_of, contains_map, young_base, Layout, MIN_BLOCK_WORDS, nursery_place, AllocState, Cells, LiesIn, HasBlock, cells, name_in, block_place, Moved, new_place, old_place, Place, IsTracked, settled_cases, settled_comes, IsFor, length-map, Mutator, promoted_by, Script, EachMutator, HoldsInCycle, IsPacedAfterRound, weak_count, HoldsAtStop, snapshots, ends_of, IsInCycle, IsSoundState, LieKnown, WaitKnown, Plan, State, Progress, idle, marking, sweeping, plan_of, layout_of, Cycle, SameWait, all_placing_waits, promotions_stay, places_filed, known_then, tracked_known, HasLeft, HasPlaced, KeepsWaiting, place_of, places_of, Death, AreNamed, entry_of, named_at, named_noted, Collector, IsWellFormed, Sweeps, seen, words_in, sweeper_in, cycle_in, died, StandsPromoted, IsPacedPromoted, HasPromotionLaws, HasListed, HasPromoted, moves_of, moved_names, of_places, Receiver, IsLined, young_fresh, slice_index}
 use Rattle.nmgc_collector_laws.specs.Worked as worked
 use Rattle.nmgc_collector_laws.specs.Stays as beside
 use Rattle.nmgc_cycle.proofs.stops.AfterPromotion as after
 use Rattle.nmgc_cycle.proofs.stops.Begins.{Begins}
 
--- what waits knows the names that it knew, since names are placed in no segment that waits
+-- waiting segments have their known names, since no name is placed in one of them
 still_known : (c : Cycle) (a b : AllocState) → SameWait a b → WaitKnown c a → WaitKnown c b
 still_known c a b same known number block name is lies =
     let e = same.back number is in
@@ -28,7 +28,7 @@ module _ (laws : HasPromotionLaws) (script : Script) (old new : Collector) (kept
   abbrev pub t : State
   t = after.promoted script old new kept b p
 
-  -- the collector, by what the promotion changed
+  -- the collector, by the promotion's changes
   abbrev mid : Collector
   mid = record old { heap = new.heap; mutators = new.mutators }
 
@@ -59,7 +59,7 @@ module _ (laws : HasPromotionLaws) (script : Script) (old new : Collector) (kept
     layout = p.layout;
   }
 
-  -- what moved is in no snapshot
+  -- no moved object is in a snapshot
   not_of_snapshot : (c : Cycle) → snapshots s.progress ≡ c.snapshot ∷ [] → (m : Moved) → Contains (moves_of new) m → IsSome (node_of c.snapshot m.name) → ⊥
   not_of_snapshot c spoken m there known =
       let heap = after.settled_heap script old new kept b p in
@@ -70,7 +70,7 @@ module _ (laws : HasPromotionLaws) (script : Script) (old new : Collector) (kept
       let high = (b.stopped.round.young (old_place m) was).1 none in
       omega (arith, low, high)
 
-  -- the list of weak pointers is that of the heap
+  -- the list of weak pointers is the heap's
   module _ (l : HasListed old new) where
     abbrev heap : HoldsAtStop (layout_of plan) t (words_in new.heap.words) new.heap.segments (ends_of (seen new)) (seen new).weaks
     heap = after.heap script old new kept b p laws.back l
@@ -132,7 +132,7 @@ module _ (laws : HasPromotionLaws) (script : Script) (old new : Collector) (kept
       is_settled = after.settled_heap script old new kept b p;
     }
 
-    -- what died at the last closing is what had died
+    -- the deaths of the last closing are the same
     cycle_same : (seen mid).cycle ≡ (seen old).cycle
     cycle_same = ap (λ (deaths : List Death). cycle_in old.cycle.progress (died deaths)) l.deaths
 
@@ -148,7 +148,7 @@ module _ (laws : HasPromotionLaws) (script : Script) (old new : Collector) (kept
               absurd (not_of_snapshot c spoken m.0 m.1 (subst (λ (n : Name). IsSome (node_of c.snapshot n)) name known))
         ]
 
-    -- so the queues have room for what may die
+    -- so the queues have room for all possible deaths
     left_of : (c : Cycle) → snapshots s.progress ≡ c.snapshot ∷ [] →
         EachMutator (seen old) (λ m mutator. weak_count c.snapshot m (seen old).weaks ≤ mutator.queue.spare) → HasLeft c (seen old) (seen mid)
     left_of c spoken room = record {
@@ -200,9 +200,9 @@ module _ (laws : HasPromotionLaws) (script : Script) (old new : Collector) (kept
           rw cycle_same work.0,
         )
 
-    -- what moved was noted, and the rest has its entries
+    -- moved objects were noted, and the rest has its entries
 
-    -- what moved isn't g
+    -- no moved object is g
     moved_other : (m : Moved) → Contains (moves_of new) m → m.name ≢ shared_name
     moved_other m there =
         (young_fresh b.began s.allocation b.sound.known m.name
@@ -210,7 +210,7 @@ module _ (laws : HasPromotionLaws) (script : Script) (old new : Collector) (kept
 
     moved_lies : (m : Moved) → Contains (moves_of new) m → (number : ℕ) × (block : ℕ) × LiesIn t.allocation number block m.name ×
         (m.to ≡ block_place new.heap.segments.layout number (cells t.allocation number).class block)
-    moved_lies m there = elim (((after.told script old new kept b p laws.back l).1 (new_place m)).0
+    moved_lies m there = elim (((after.reported script old new kept b p laws.back l).1 (new_place m)).0
         (settled_comes (young_base new.heap.segments) (moves_of new) b.places m there)) [
           | inl g ↦ absurd (moved_other m there (ap (λ (q : Place). q.name) g))
           | inr x ↦ (x.number, x.block, x.lies, x.at)
@@ -219,7 +219,7 @@ module _ (laws : HasPromotionLaws) (script : Script) (old new : Collector) (kept
     same_base : young_base new.heap.segments ≡ nursery_place (layout_of plan) 0
     same_base = ap (λ (y : Layout). nursery_place y 0) (after.layout_is script old new kept b p)
 
-    -- an old place in a segment has its entry
+    -- an old address in a segment has its entry
     old_named : (q : Place) → Contains b.places q → q.at < young_base new.heap.segments → q.name ≢ shared_name → slice_get old.heap.names (entry_of q.at) ≡
         Some q.name
     old_named q there low other = elim (b.low q there (let e = same_base in omega (arith, low, e))) [
@@ -232,7 +232,7 @@ module _ (laws : HasPromotionLaws) (script : Script) (old new : Collector) (kept
         (named_at new.heap.segments.layout old.heap.names number (cells t.allocation number).class block ≡ Some name)
     came number block name lies =
         let q : Place = record { at = block_place new.heap.segments.layout number (cells t.allocation number).class block; name = name } in
-        let there = ((after.told script old new kept b p laws.back l).1 q).1 (inr (record { number = number; block = block; lies = lies; at = refl })) in
+        let there = ((after.reported script old new kept b p laws.back l).1 q).1 (inr (record { number = number; block = block; lies = lies; at = refl })) in
         elim (settled_cases (young_base new.heap.segments) (moves_of new) b.places q there) [
           | inl x ↦ inl (x.0, x.1, sym (ap (λ (y : Place). y.at) x.2))
           | inr x ↦ inr (old_named q x.0 x.1 (λ g. sound.sound_blocks.shared number block (subst (λ (n : Name). LiesIn t.allocation number block n) g lies)))
@@ -244,7 +244,7 @@ module _ (laws : HasPromotionLaws) (script : Script) (old new : Collector) (kept
         (named_noted new.heap.segments (words_in new.heap.words) t.allocation (moves_of new) old.heap.names new.heap.names p.sound
         (after.placed script old new kept b p).2 p.noted moved_lies came)
 
-    -- what is kept
+    -- the invariant
 
     still_kept : IsWellFormed script mid
     still_kept = record {

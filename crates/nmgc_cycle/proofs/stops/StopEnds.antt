@@ -1,12 +1,12 @@
--- What a stop answers and why, by what it did and what it read in the end.
+-- The answer of a stop and its reason, by the steps of the stop and the values read at its end.
 use Rattle.nmgc_cycle.proofs.Vocabulary.{ℕ, ◌≡◌, ◌<◌, ◌≤◌, ◌⊎◌, ◌↔◌, List, [], ◌∷◌, ◌++◌, length, refl, sym, ap, subst, ◌∙◌, arith, inl, inr, Bool, true, false, Option, IsTrue, count_by, Segment, reserve_count, is, counts_stand, CycleRow, End, Phase, RoundRows, StopRow, Script, Run, Turn, with_turn, has_left, run_free, reserve_of, plan_of, answered_count, stop_row, Collector, StopEnd, HasTaken, Closes, HasClosed, Ends, ProceedsThen, CanStop, IsAfterStop, HasStopped, HasAnswered, HasWorked, StopsAfter, phase_in, words_in, IsInLimits, HasStopLaws, HasPromoted, HasListed, SomeIsLeft, IsDone, IsHeapFullAt, ended_by, slice_index}
 use Rattle.nmgc_segment.specs.declared.state.State.TheVariants as stands
 use Rattle.nmgc_journal.specs.declared.report.Phase.TheVariants as phase
 use Rattle.nmgc_cycle.specs.declared.stop.StopEnd.TheVariants as answer
-use Rattle.nmgc_cycle.proofs.{stops.Begins.Begins, stops.Begins.begins, stops.Begins.one_turn, lists.Phases.when_idle, stops.StopAnswers.Goes, stops.StopAnswers.done, stops.StopAnswers.on, stops.StopAnswers.goes_on, stops.StopAnswers.full, stops.StopSteps.IsLed, stops.StopSteps.proceeds_told, stops.Stopped.row_is, stops.Stopped.quiet_then, stops.Stopped.busy_then, rounds.WhatIsLeft.left_is}
+use Rattle.nmgc_cycle.proofs.{stops.Begins.Begins, stops.Begins.begins, stops.Begins.one_turn, lists.Phases.when_idle, stops.StopAnswers.Goes, stops.StopAnswers.done, stops.StopAnswers.on, stops.StopAnswers.goes_on, stops.StopAnswers.full, stops.StopSteps.IsLed, stops.StopSteps.proceeds_known, stops.Stopped.row_is, stops.Stopped.quiet_then, stops.Stopped.busy_then, rounds.WhatIsLeft.left_is}
 use Rattle.nmgc_cycle.proofs.stops.StopSteps as steps
 
--- what the calls of a stop did, one after another
+-- the effects of a stop's calls, one after another
 pub record IsStepped (script : Script) (old new : Collector) : Type 0 where
   pub number : ℕ
   pub number_is : number ≡ length old.rows.stops
@@ -23,7 +23,7 @@ pub record IsStepped (script : Script) (old new : Collector) : Type 0 where
   pub some_is : IsTrue some ↔ SomeIsLeft script.threads ended.positions.items
   pub proceeds : ProceedsThen script.config.trigger some number ended new
 
--- what was read of the collector then: whether commands are left, its phase, and how many segments are in each state
+-- the values read of the collector then: whether commands are left, its phase, and the counts of segments by state
 pub record IsRead (script : Script) (c : Collector) : Type 0 where
   pub left : Bool
   pub left_is : IsTrue left ↔ SomeIsLeft script.threads c.positions.items
@@ -38,15 +38,15 @@ pub record IsRead (script : Script) (c : Collector) : Type 0 where
   pub reserve : ℕ
   pub reserve_is : reserve ≡ reserve_count c.heap.segments.layout
 
--- commands are left where they were before the last step of the stop
+-- commands are left if they were before the last step of the stop
 pub some_left_then : (script : Script) (old new : Collector) (trigger stop : ℕ) (some : Bool) → ProceedsThen trigger some stop old new →
     IsTrue some ↔ SomeIsLeft script.threads old.positions.items → IsTrue some ↔ SomeIsLeft script.threads new.positions.items
 some_left_then script old new trigger stop some proceeds is =
     let same : new.positions.items ≡ old.positions.items = ap (λ (x : List RoundRows × List StopRow × List ℕ).
-    x.2) (proceeds_told trigger some stop old new proceeds) in
+    x.2) (proceeds_known trigger some stop old new proceeds) in
     subst (λ (positions : List ℕ). IsTrue some ↔ SomeIsLeft script.threads positions) (sym same) is
 
--- why it answers so
+-- the reason for its answer
 abbrev pub Why : (script : Script) (c : Collector) → IsRead script c → StopEnd → Type 0
 Why script c r (answer.HeapFull free reserve) = (free ≡ r.free) × (reserve ≡ r.reserve) × (r.left ≡ true) × (r.free < r.reserve)
 Why script c r answer.Done = (r.left ≡ false) × (phase_in c.cycle.progress ≡ phase.Idle)
@@ -55,7 +55,7 @@ Why script c r answer.GoOn = ((r.left ≡ true) × (r.reserve ≤ r.free)) ⊎ (
 -- the answer and its causes
 
 module _ (script : Script) (c : Collector) (r : IsRead script c) where
-  -- commands are left exactly where that was read
+  -- commands are left exactly if that was read
   none_left : r.left ≡ false → SomeIsLeft script.threads c.positions.items → ⊥
   none_left none some = let bad : false ≡ true = sym none ∙ r.left_is.1 some in cc
 
@@ -142,8 +142,8 @@ module _ (laws : HasStopLaws) (script : Script) (old new : Collector) (limits : 
         steps.stops_are laws script old x.promoted limits can x.promotes x.lists x.added x.adds x.number x.number_is x.closed x.closes x.ended x.ends new x.some x.some_is x.proceeds,
       )
 
-      told : row ≡ stop_row led.state (length x.promoted.heap.promotion.moves)
-      told = row_is led.state (length x.promoted.heap.promotion.moves) x.number r.free r.filled r.sweep many r.phase new.heap.segments (words_in new.heap.words)
+      reported : row ≡ stop_row led.state (length x.promoted.heap.promotion.moves)
+      reported = row_is led.state (length x.promoted.heap.promotion.moves) x.number r.free r.filled r.sweep many r.phase new.heap.segments (words_in new.heap.words)
           led.stands.heap.holds.stands (r.phase_is ∙ led.stands.matches.phase) (led.number ∙ b.number ∙
           sym x.number_is) r.free_is r.filled_is r.sweep_is many_is
 
@@ -160,20 +160,20 @@ module _ (laws : HasStopLaws) (script : Script) (old new : Collector) (limits : 
       reserve_is : r.reserve ≡ reserve_of (plan_of script)
       reserve_is = r.reserve_is ∙ ap reserve_count led.stands.kept.layout
 
-      -- what it answers is what the run does
+      -- the answer is the run's
       result : (e : StopEnd) → Why script new r e → answered ≡ ended_by e →
-          Goes script old new b (length x.promoted.heap.promotion.moves) led rounds_are stops answered row stops_are told
-      result answer.Done why is = done script old new b (length x.promoted.heap.promotion.moves) led rounds_are stops answered row stops_are told (left ∙
+          Goes script old new b (length x.promoted.heap.promotion.moves) led rounds_are stops answered row stops_are reported
+      result answer.Done why is = done script old new b (length x.promoted.heap.promotion.moves) led rounds_are stops answered row stops_are reported (left ∙
           why.0) (quiet_then led.state.progress (sym led.stands.matches.phase ∙ why.1)) is
       result answer.GoOn (inl why) is =
-          goes_on script old new b (length x.promoted.heap.promotion.moves) led rounds_are stops answered row stops_are told r.free r.reserve (left ∙
+          goes_on script old new b (length x.promoted.heap.promotion.moves) led rounds_are stops answered row stops_are reported r.free r.reserve (left ∙
           why.0) free_is reserve_is why.1 is
       result answer.GoOn (inr why) is =
-          on script old new b (length x.promoted.heap.promotion.moves) led rounds_are stops answered row stops_are told (left ∙
+          on script old new b (length x.promoted.heap.promotion.moves) led rounds_are stops answered row stops_are reported (left ∙
           why.0) (busy_then led.state.progress (λ e. why.1 (led.stands.matches.phase ∙ e))) is
       result (answer.HeapFull free reserve) why is =
           let same : answered ≡ ended_by (answer.HeapFull r.free r.reserve) = cc (is, why.0, why.1) in
-          full script old new b (length x.promoted.heap.promotion.moves) led rounds_are stops answered row stops_are told r.free r.reserve (left ∙
+          full script old new b (length x.promoted.heap.promotion.moves) led rounds_are stops answered row stops_are reported r.free r.reserve (left ∙
           why.2) free_is reserve_is why.3 same
 
       has_stopped : (e : StopEnd) → Why script new r e → answered ≡ ended_by e → HasStopped script after
@@ -184,7 +184,7 @@ module _ (laws : HasStopLaws) (script : Script) (old new : Collector) (limits : 
       has_answered answer.Done why is = (has_stopped answer.Done why is, is)
       has_answered (answer.HeapFull free reserve) why is = (has_stopped (answer.HeapFull free reserve) why is, is)
 
-    -- after a round, the run is that of before with one turn more
+    -- after a round, the run is the earlier run with this round and its stop
 
     one_more : (w : HasWorked script old) (rows : List CycleRow) (stop : _) →
         IsAfterStop script after ((begins script old limits (inr w)).goes_on (led (inr w)).state row rows stop).run → (turn : Turn) ×

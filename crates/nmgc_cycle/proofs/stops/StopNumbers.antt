@@ -1,5 +1,5 @@
--- The number of a state is that of the rounds before it.
-use Rattle.nmgc_cycle.proofs.Vocabulary.{ℕ, ◌≡◌, ◌+◌, List, [], ◌∷◌, length, map, arith, ap, inl, inr, length-map, World, StopRow, CycleRow, Config, Plan, State, Progress, idle, marking, sweeping, cycle_started, ClosesOrWaits, ClosesNow, IsStop, EndsOrWaits, Finishes, DoesFullCycle, BeginsOrWaits, Proceeds, with_all_retired, RoundRows, Run, Turn, IsRun, AreTurns, Tells, state_after, last_state}
+-- The number of a state is the number of rounds before it.
+use Rattle.nmgc_cycle.proofs.Vocabulary.{ℕ, ◌≡◌, ◌+◌, List, [], ◌∷◌, length, map, arith, ap, inl, inr, length-map, World, StopRow, CycleRow, Config, Plan, State, Progress, idle, marking, sweeping, cycle_started, ClosesOrWaits, ClosesNow, IsStop, EndsOrWaits, Finishes, DoesFullCycle, BeginsOrWaits, Proceeds, with_all_retired, RoundRows, Run, Turn, IsRun, AreTurns, AreRowsOf, state_after, last_state}
 
 same_number : (s t : State) → t ≡ s → t.number ≡ s.number
 same_number s t e = ap (λ (x : State). x.number) e
@@ -35,7 +35,7 @@ proceeding_number : (plan : Plan) (s t : State) (cycles : List CycleRow) → Pro
 proceeding_number plan s t cycles (inl h) = full_number s t cycles h.1
 proceeding_number plan s t cycles (inr h) = beginning_number plan.config s t h.1
 
--- a stop has the number of what it follows
+-- a stop has the number of the state before it
 pub stop_number : (plan : Plan) (began : World) (s t : State) (row : StopRow) (cycles : List CycleRow) → IsStop plan began s t row cycles → t.number ≡ s.number
 stop_number plan began s t row cycles h =
     cc (
@@ -53,13 +53,13 @@ turns_number plan s (turn ∷ turns) h =
     let worked : turn.worked.number ≡ s.number + 1 = ap (λ (x : State). x.number) h.0.round.rest in
     omega (arith, after, stopped, worked)
 
--- so many rounds, and one stop more, come before the next
+-- a run has one stop more than rounds, and its last state has the number of rounds
 pub run_number : (plan : Plan) (run : Run) (rounds : List RoundRows) (stops : List StopRow) (cycles : List CycleRow) → IsRun plan run →
-    Tells run rounds stops cycles → ((last_state run).number ≡ length rounds) × (length stops ≡ length rounds + 1)
-run_number plan run rounds stops cycles h tells =
+    AreRowsOf run rounds stops cycles → ((last_state run).number ≡ length rounds) × (length stops ≡ length rounds + 1)
+run_number plan run rounds stops cycles h agrees =
     let after : (last_state run).number ≡ run.opening.state.number + length run.turns = turns_number plan run.opening.state run.turns h.turns in
     let opened : run.opening.state.number ≡ 0 = stop_number plan _ _ run.opening.state run.opening.row run.opening.cycles h.opening in
-    let rows : length rounds ≡ length run.turns = cc (tells.rounds_are, length-map run.turns (λ (turn : Turn). turn.replies)) in
+    let rows : length rounds ≡ length run.turns = cc (agrees.rounds_are, length-map run.turns (λ (turn : Turn). turn.replies)) in
     let each : length (map (λ (turn : Turn). turn.stop.row) run.turns) ≡ length run.turns = length-map run.turns (λ (turn : Turn). turn.stop.row) in
-    let all : length stops ≡ length (run.opening.row ∷ map (λ (turn : Turn). turn.stop.row) run.turns) = ap (λ (r : List StopRow). length r) tells.stops_are in
+    let all : length stops ≡ length (run.opening.row ∷ map (λ (turn : Turn). turn.stop.row) run.turns) = ap (λ (r : List StopRow). length r) agrees.stops_are in
     (omega (arith, after, opened, rows), omega (arith, rows, each, all))

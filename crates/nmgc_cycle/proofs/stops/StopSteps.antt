@@ -1,36 +1,36 @@
--- The steps of a stop, one after another, from what it begins with: after each the collector stands for a state of the run at this stop.
-use Rattle.nmgc_cycle.proofs.Vocabulary.{ℕ, ◌≡◌, ◌↔◌, ◌+◌, ◌<◌, ◌≤◌, List, ◌++◌, length, sym, ap, subst, ◌∙◌, arith, inl, inr, Bool, IsTrue, append_assoc, World, CycleRow, RoundRows, StopRow, Script, AreLeft, ClosesOrWaits, Promotes, EndsOrWaits, Proceeds, has_left, State, Progress, idle, marking, sweeping, phase_of, plan_of, layout_of, answered_count, Collector, Marking, Sweeping, Doing, HasTaken, Closes, HasClosed, Ends, BeginsThen, AreFew, HasMore, HasFinished, ProceedsThen, StandsAtStop, CanStop, IsWellFormed, Sweeps, seen, words_in, phase_in, sweeper_in, told_cycles, IsInLimits, StandsPromoted, StandsWithin, StandsAt, HasStopLaws, HasPromoted, HasListed, SomeIsLeft, slice_index}
+-- The steps of a stop, from its beginning on: after each the collector represents a state of the run at this stop.
+use Rattle.nmgc_cycle.proofs.Vocabulary.{ℕ, ◌≡◌, ◌↔◌, ◌+◌, ◌<◌, ◌≤◌, List, ◌++◌, length, sym, ap, subst, ◌∙◌, arith, inl, inr, Bool, IsTrue, append_assoc, World, CycleRow, RoundRows, StopRow, Script, AreLeft, ClosesOrWaits, Promotes, EndsOrWaits, Proceeds, has_left, State, Progress, idle, marking, sweeping, phase_of, plan_of, layout_of, answered_count, Collector, Marking, Sweeping, Doing, HasTaken, Closes, HasClosed, Ends, BeginsThen, AreFew, HasMore, HasFinished, ProceedsThen, StandsAtStop, CanStop, IsWellFormed, Sweeps, seen, words_in, phase_in, sweeper_in, report_cycles, IsInLimits, StandsPromoted, StandsWithin, StandsAt, HasStopLaws, HasPromoted, HasListed, SomeIsLeft, slice_index}
 use Rattle.nmgc_journal.specs.declared.report.Phase.TheVariants as phase
 use Rattle.nmgc_cycle.specs.declared.progress.Progress.TheVariants as doing
 use Rattle.nmgc_cycle.proofs.stops.AfterPromotion as after
 use Rattle.nmgc_cycle.proofs.{stops.Begins.Begins, stops.Begins.begins, cycles.FullCycle.full_due, cycles.FullCycle.proceeding_keeps, lengths.FullFew.fresh_where_due, lengths.FullFew.proceeding_few, lengths.FullFew.proceeding_begun, lengths.FullFew.proceeding_more, lengths.StopFew.promoting_few, lengths.StopFew.taking_few, lengths.StopFew.closing_few, lengths.StopFew.closing_goes, lengths.StopFew.ending_few, lengths.StopFew.ending_more, rounds.WhatIsLeft.left_is, stops.WholeStop.KeepsOn, stops.WholeStop.closing_keeps, stops.WholeStop.ending_keeps}
 use Rattle.nmgc_cycle.proofs.stops.Promoting as promoting
 
--- what a stop tells of rounds and stops, and of how many commands were answered: of that its steps change nothing
-abbrev pub told : Collector → List RoundRows × List StopRow × List ℕ
-told c = (c.rows.rounds, c.rows.stops, c.positions.items)
+-- the rows of rounds and stops, and the positions: a stop's steps don't change them
+abbrev pub reported : Collector → List RoundRows × List StopRow × List ℕ
+reported c = (c.rows.rounds, c.rows.stops, c.positions.items)
 
--- the end changes nothing but the cycle and its row
-ends_told : (stop : ℕ) (p : Doing) (old new : Collector) → Ends stop p old new → (told new ≡ told old) × (new.cycle.begun ≡ old.cycle.begun)
-ends_told stop doing.Idle old new h = (ap told h, ap (λ (x : Collector). x.cycle.begun) h)
-ends_told stop (doing.Marking m) old new h = (ap told h, ap (λ (x : Collector). x.cycle.begun) h)
-ends_told stop (doing.Sweeping w) old new (inl h) = (ap told h.1, ap (λ (x : Collector). x.cycle.begun) h.1)
-ends_told stop (doing.Sweeping w) old new (inr h) = (ap told h.1, ap (λ (x : Collector). x.cycle.begun) h.1)
+-- the end changes only the cycle and its row
+ends_known : (stop : ℕ) (p : Doing) (old new : Collector) → Ends stop p old new → (reported new ≡ reported old) × (new.cycle.begun ≡ old.cycle.begun)
+ends_known stop doing.Idle old new h = (ap reported h, ap (λ (x : Collector). x.cycle.begun) h)
+ends_known stop (doing.Marking m) old new h = (ap reported h, ap (λ (x : Collector). x.cycle.begun) h)
+ends_known stop (doing.Sweeping w) old new (inl h) = (ap reported h.1, ap (λ (x : Collector). x.cycle.begun) h.1)
+ends_known stop (doing.Sweeping w) old new (inr h) = (ap reported h.1, ap (λ (x : Collector). x.cycle.begun) h.1)
 
-begins_told : (trigger stop : ℕ) (old new : Collector) → BeginsThen trigger stop old new → told new ≡ told old
-begins_told trigger stop old new (inl h) = ap told h.1.is ∙ ap told h.1.starts.rest
-begins_told trigger stop old new (inr h) = ap told h.1
+begins_known : (trigger stop : ℕ) (old new : Collector) → BeginsThen trigger stop old new → reported new ≡ reported old
+begins_known trigger stop old new (inl h) = ap reported h.1.is ∙ ap reported h.1.starts.rest
+begins_known trigger stop old new (inr h) = ap reported h.1
 
--- and so through a finish and a full cycle
+-- and so in a finish and a full cycle
 
-finished_told : (stop : ℕ) (old new : Collector) → HasFinished stop old new → told new ≡ told old
-finished_told stop old new f = (ends_told stop f.swept.cycle.progress f.swept new f.ends).0 ∙ ap told f.sweeps.rest ∙ ap told f.closes.rest
+finished_known : (stop : ℕ) (old new : Collector) → HasFinished stop old new → reported new ≡ reported old
+finished_known stop old new f = (ends_known stop f.swept.cycle.progress f.swept new f.ends).0 ∙ ap reported f.sweeps.rest ∙ ap reported f.closes.rest
 
-pub proceeds_told : (trigger : ℕ) (some : Bool) (stop : ℕ) (old new : Collector) → ProceedsThen trigger some stop old new → told new ≡ told old
-proceeds_told trigger some stop old new (inl x) =
+pub proceeds_known : (trigger : ℕ) (some : Bool) (stop : ℕ) (old new : Collector) → ProceedsThen trigger some stop old new → reported new ≡ reported old
+proceeds_known trigger some stop old new (inl x) =
     let d = x.1 in
-    ap told d.is ∙ finished_told stop d.started d.last d.again ∙ ap told d.starts.is ∙ ap told d.starts.starts.rest ∙ finished_told stop old d.idled d.first
-proceeds_told trigger some stop old new (inr x) = begins_told trigger stop old new x.1
+    ap reported d.is ∙ finished_known stop d.started d.last d.again ∙ ap reported d.starts.is ∙ ap reported d.starts.starts.rest ∙ finished_known stop old d.idled d.first
+proceeds_known trigger some stop old new (inr x) = begins_known trigger stop old new x.1
 
 -- the steps of a stop in the run, and the state to which they lead
 pub record IsLed (script : Script) (began : World) (s : State) (many : ℕ) (old new : Collector) : Type 0 where
@@ -44,7 +44,7 @@ pub record IsLed (script : Script) (began : World) (s : State) (many : ℕ) (old
   pub state : State
   pub own : List CycleRow
   pub proceeds : Proceeds (plan_of script) ended state own
-  pub cycles : told_cycles new ≡ told_cycles old ++ (first ++ own)
+  pub cycles : report_cycles new ≡ report_cycles old ++ (first ++ own)
   pub stands : StandsAt script new state
   pub number : state.number ≡ s.number
   pub left : state.left ≡ s.left
@@ -52,7 +52,7 @@ pub record IsLed (script : Script) (began : World) (s : State) (many : ℕ) (old
   pub begun : new.cycle.begun ≤ length old.rows.stops + 1
   pub more : HasMore new.cycle.progress
 
--- while a cycle is in progress, its sweeper has all segments left that wait
+-- while a cycle is in progress, its sweeper has all waiting segments left
 left_marking : (s : State) (c : Collector) (q : Progress) → phase_in c.cycle.progress ≡ phase_of q → Sweeps q s c → (m : Marking) →
     c.cycle.progress ≡ doing.Marking m → AreLeft c.heap.segments m.sweeper
 left_marking s c idle e h m is = absurd (let bad : phase.Marking ≡ phase.Idle = ap phase_in (sym is) ∙ e in cc)
@@ -73,7 +73,7 @@ module _ (laws : HasStopLaws) (script : Script) (old p : Collector) (limits : Is
   abbrev kept : IsWellFormed script old
   kept = after.kept_of script old can
 
-  -- the state that the promotion left
+  -- the state after the promotion
   abbrev pub first : State
   first = promoting.t laws.promotion script old p kept b h
 
@@ -107,14 +107,14 @@ module _ (laws : HasStopLaws) (script : Script) (old p : Collector) (limits : Is
 
       module _ (e : Collector) (ends : Ends number c.cycle.progress c e) where
         pub end_led : (t : State) × (rows : List CycleRow) × EndsOrWaits close_led.0.progress close_led.0 t rows ×
-            (told_cycles e ≡ told_cycles c ++ rows) × StandsAt script e t
+            (report_cycles e ≡ report_cycles c ++ rows) × StandsAt script e t
         end_led = laws.ending script c e close_led.0 limits close_led.2 (rw (number_is ∙ sym b.number ∙
             sym closed_on.0.number) at ends)
 
         ended_on : KeepsOn close_led.0 end_led.0 × (end_led.0.allocation ≡ close_led.0.allocation)
         ended_on = ending_keeps close_led.0.progress close_led.0 end_led.0 end_led.1 end_led.2
 
-        -- where the next cycle may begin
+        -- the state in which the next cycle may begin
         abbrev pub last_ended : State
         last_ended = end_led.0
 
@@ -123,7 +123,7 @@ module _ (laws : HasStopLaws) (script : Script) (old p : Collector) (limits : Is
 
         -- no cycle began yet
         pub begun_is : e.cycle.begun ≡ old.cycle.begun
-        begun_is = (ends_told number c.cycle.progress c e ends).1 ∙ ap (λ (x : Collector). x.cycle.begun) closed.rest ∙
+        begun_is = (ends_known number c.cycle.progress c e ends).1 ∙ ap (λ (x : Collector). x.cycle.begun) closed.rest ∙
             ap (λ (x : Collector). x.cycle.begun) taken.rest ∙ ap (λ (x : Collector). x.cycle.begun) h.rest
 
         few_ended : AreFew (Unit {0}) script e (length old.rows.stops + 1)
@@ -133,9 +133,9 @@ module _ (laws : HasStopLaws) (script : Script) (old p : Collector) (limits : Is
         more_ended = ending_more script c e (length old.rows.stops + 1) number ends (closing_goes number a c closed)
             (left_sweeping close_led.0 c close_led.0.progress close_led.2.matches.phase close_led.2.sweeper)
 
-        -- nothing was told yet
-        ended_told : told e ≡ told old
-        ended_told = (ends_told number c.cycle.progress c e ends).0 ∙ ap told closed.rest ∙ ap told taken.rest ∙ ap told h.rest
+        -- no row was added yet
+        ended_known : reported e ≡ reported old
+        ended_known = (ends_known number c.cycle.progress c e ends).0 ∙ ap reported closed.rest ∙ ap reported taken.rest ∙ ap reported h.rest
 
         left_on : last_ended.left ≡ b.state.left
         left_on = ended_on.0.left ∙ closed_on.0.left
@@ -143,38 +143,38 @@ module _ (laws : HasStopLaws) (script : Script) (old p : Collector) (limits : Is
         number_on : last_ended.number ≡ b.state.number
         number_on = ended_on.0.number ∙ closed_on.0.number
 
-        -- the collector stands for a state at this stop
+        -- the collector represents a state at this stop
         pub at_this_stop : StandsAtStop number e
         at_this_stop = (script, last_ended, limits, number_on ∙ b.number ∙ sym number_is, stands_ended)
 
         module _ (n : Collector) (some : Bool) (some_is : IsTrue some ↔
             SomeIsLeft script.threads e.positions.items) (proceeds : ProceedsThen script.config.trigger some number e n) where
-          -- commands are left, by what was answered of each program
-          left_told : some ≡ has_left b.state.left
-          left_told =
+          -- commands are left, by the number answered of each program
+          result_with : some ≡ has_left b.state.left
+          result_with =
               let positions : (k : ℕ) → k < length script.threads →
               slice_index e.positions.items k ≡ answered_count old.rows.rounds k = λ k lt. stands_ended.kept.positions k lt ∙
-              ap (λ (x : List RoundRows × List StopRow × List ℕ). answered_count x.0 k) ended_told in
+              ap (λ (x : List RoundRows × List StopRow × List ℕ). answered_count x.0 k) ended_known in
               sym (left_is script old.rows.rounds b.state.left e.positions.items b.left positions some some_is)
 
           left_ended : some ≡ has_left last_ended.left
-          left_ended = left_told ∙ ap has_left (sym left_on)
+          left_ended = result_with ∙ ap has_left (sym left_on)
 
           proceed_led : (t : State) × (rows : List CycleRow) × Proceeds (plan_of script) last_ended t rows ×
-              (told_cycles n ≡ told_cycles e ++ rows) × StandsAt script n t
+              (report_cycles n ≡ report_cycles e ++ rows) × StandsAt script n t
           proceed_led = laws.proceeding script e n last_ended some limits stands_ended left_ended (rw (number_is ∙ sym b.number ∙ sym number_on) at proceeds)
 
           proceeded_on : KeepsOn last_ended proceed_led.0
           proceeded_on = proceeding_keeps (plan_of script) last_ended proceed_led.0 proceed_led.1 proceed_led.2
 
-          proceeded_told : told n ≡ told e
-          proceeded_told = proceeds_told script.config.trigger some number e n proceeds
+          proceeded_known : reported n ≡ reported e
+          proceeded_known = proceeds_known script.config.trigger some number e n proceeds
 
           pub rounds_are : n.rows.rounds ≡ old.rows.rounds
-          rounds_are = ap (λ (x : List RoundRows × List StopRow × List ℕ). x.0) (proceeded_told ∙ ended_told)
+          rounds_are = ap (λ (x : List RoundRows × List StopRow × List ℕ). x.0) (proceeded_known ∙ ended_known)
 
           pub stops_are : n.rows.stops ≡ old.rows.stops
-          stops_are = ap (λ (x : List RoundRows × List StopRow × List ℕ). x.1) (proceeded_told ∙ ended_told)
+          stops_are = ap (λ (x : List RoundRows × List StopRow × List ℕ). x.1) (proceeded_known ∙ ended_known)
 
           pub led : IsLed script b.began b.state (length p.heap.promotion.moves) old n
           led = record {
@@ -189,15 +189,15 @@ module _ (laws : HasStopLaws) (script : Script) (old p : Collector) (limits : Is
             own = proceed_led.1;
             proceeds = proceed_led.2;
             cycles =
-                let before : told_cycles c ≡ told_cycles old = ap told_cycles closed.rest ∙ ap told_cycles taken.rest ∙ ap told_cycles h.rest in
-                let ended_cycles : told_cycles e ≡ told_cycles old ++ end_led.1 = end_led.3 ∙ ap (λ (rows : List CycleRow). rows ++ end_led.1) before in
-                proceed_led.3 ∙ ap (λ (rows : List CycleRow). rows ++ proceed_led.1) ended_cycles ∙ append_assoc (told_cycles old) end_led.1 proceed_led.1;
+                let before : report_cycles c ≡ report_cycles old = ap report_cycles closed.rest ∙ ap report_cycles taken.rest ∙ ap report_cycles h.rest in
+                let ended_cycles : report_cycles e ≡ report_cycles old ++ end_led.1 = end_led.3 ∙ ap (λ (rows : List CycleRow). rows ++ end_led.1) before in
+                proceed_led.3 ∙ ap (λ (rows : List CycleRow). rows ++ proceed_led.1) ended_cycles ∙ append_assoc (report_cycles old) end_led.1 proceed_led.1;
             stands = proceed_led.4;
             number = proceeded_on.number ∙ number_on;
             left = proceeded_on.left ∙ left_on;
             few = proceeding_few script e n (length old.rows.stops + 1) number some proceed_led.0 stands_ended.kept.layout (λ none.
                 (laws.begin_ready script e last_ended limits stands_ended none).stood) (words_in n.heap.words) proceed_led.4.heap.holds.stands proceeds
-                few_ended (ap (λ (x : List RoundRows × List StopRow × List ℕ). x.0) proceeded_told) (λ due.
+                few_ended (ap (λ (x : List RoundRows × List StopRow × List ℕ). x.0) proceeded_known) (λ due.
                 fresh_where_due (plan_of script) last_ended proceed_led.0 proceed_led.1 proceed_led.2
                 (full_due script e last_ended some stands_ended left_ended due));
             begun = (let own_begun = proceeding_begun script.config.trigger some number e n proceeds in let before = begun_is in

@@ -1,4 +1,4 @@
--- What a stop answers by the state that it came to, and its row.
+-- The answer of a stop by the state after it, and its row.
 use Rattle.nmgc_cycle.proofs.Vocabulary.{ℕ, ◌≡◌, ◌≤◌, ◌<◌, List, arith, refl, sym, ap, ◌∙◌, Bool, true, false, lt-ltb, le-ltb, count_by, not, ◌&&◌, nat_lt, if◌then◌else◌, Segment, is, Segments, StandsFor, counts_stand, HeapFull, Phase, Idle, StopRow, has_left, Plan, State, Progress, idle, marking, sweeping, is_idle, phase_of, free_count, reserve_of, stop_row, is_short, is_done, answer_of, Some, None}
 use Rattle.nmgc_journal.specs.declared.{report.End.TheVariants.Done, report.Phase.TheVariants.Marking, report.Phase.TheVariants.Sweeping}
 use Rattle.nmgc_segment.specs.declared.state.State.TheVariants as stands
@@ -17,7 +17,7 @@ module _ (plan : Plan) (t : State) where
   is_enough_by free reserve some f r more =
       cc (some, le-ltb (free_count t) (reserve_of plan) (omega (arith, f, r, more)))
 
-  -- what it answers where it isn't: an end only where nothing is left and no cycle is in progress
+  -- its answer if it isn't: an end only if nothing is left and no cycle is in progress
 
   answers_by : is_short plan t ≡ false → answer_of plan t ≡ (if is_done t then Some Done else None)
   answers_by short = ap (λ (b : Bool). if b then Some (HeapFull (free_count t) (reserve_of plan)) else (if is_done t then Some Done else None)) short
@@ -37,13 +37,13 @@ module _ (plan : Plan) (t : State) where
       let done : is_done t ≡ false = ap (λ (b : Bool). not b && is_idle t.progress) some in
       sym (answers_by short ∙ ap (λ (b : Bool). if b then Some Done else None) done)
 
-  -- and where it is, that end
+  -- and if it is, that end
   pub answers_full : (free reserve : ℕ) → free ≡ free_count t → reserve ≡ reserve_of plan → is_short plan t ≡ true →
       Some (HeapFull free reserve) ≡ answer_of plan t
   answers_full free reserve f r short =
       cc (f, r, short)
 
--- the phase tells whether a cycle is in progress
+-- whether a cycle is in progress, by the phase
 
 pub quiet_then : (q : Progress) → phase_of q ≡ Idle → is_idle q ≡ true
 quiet_then idle e = refl
@@ -55,7 +55,7 @@ busy_then idle e = absurd (e refl)
 busy_then (marking c) e = refl
 busy_then (sweeping c closed) e = refl
 
--- the row tells the state by its number and its phase, and the segments by their counts
+-- the row has the number and phase of the state, and the counts of segments
 pub row_is : (t : State) (count stops free filled sweep many : ℕ) (phase : Phase) (segments : Segments) (words : List ℕ) →
     StandsFor segments words t.allocation → phase ≡ phase_of t.progress → t.number ≡ stops
     → free ≡ count_by (λ (segment : Segment). is segment.state stands.Free) segments.segments

@@ -1,4 +1,4 @@
--- How often the mutators passed the gate: a stop's steps leave it, and a round adds what each tried.
+-- The mutators' passes of the gate: a stop's steps add none, and a round adds the commands that each tried.
 use Rattle.nmgc_cycle.proofs.Vocabulary.{ℕ, ◌≡◌, ◌+◌, ◌-◌, ◌∙◌, Bool, inl, inr, List, [], ◌∷◌, length, map, slice_index, refl, sym, ap, subst, arith, Option, None, Some, Global, slice_get, Vec, slice_get_within, get_or_from_slice_get, Command, map_item, RoundRows, Nursery, passed, Opening, Mutator, SliceEnd, Ended, tried, Script, Death, OldWeak, Collector, Doing, Closes, Ends, HasStarted, Begins, HasFinished, HasDoneFull, HaveForgotten, HaveMet, HaveQueueRoom, FinalisersQueued, promoted_by, turns_in, mutator_turns_of, AreReserved, DidSlices, HaveTried, cleared, left_at, item}
 use Rattle.nmgc_cycle.specs.Full.{ClosesNow, Proceeds, with_all_retired}
 use Rattle.nmgc_mutator.specs.declared.mutator.SliceEnd.TheVariants as ending
@@ -8,14 +8,14 @@ use Rattle.nmgc_cycle.proofs.{lists.Mapped.same_maps, rounds.Reserved.was_at, st
 abbrev turns_by : Mutator → ℕ
 turns_by m = m.turns
 
--- of a place in a list: 0 past its end
+-- the count at a position in a list: 0 past its end
 abbrev turns_at : Option Mutator → ℕ
 turns_at None = 0
 turns_at (Some m) = m.turns
 
 -- A stop
 
--- what was forwarded
+-- words were forwarded
 forwarded : (forward : ℕ → ℕ) (ms : List Mutator) → turns_in (map (promoted_by forward) ms) ≡ turns_in ms
 forwarded forward [] = refl
 forwarded forward (m ∷ ms) = ap (λ (l : List ℕ). m.turns ∷ l) (forwarded forward ms)
@@ -85,7 +85,7 @@ stop_turns script old new x =
 
 -- A round
 
--- the end of a slice goes by the nursery alone
+-- the end of a slice depends on the nursery alone
 ended_on : (program : List Command) (slice done : ℕ) (m n : Mutator) (end : SliceEnd) → n.nursery ≡ m.nursery → Ended program slice done m end →
     Ended program slice done n end
 ended_on program slice done m n ending.Slice same h = h
@@ -131,10 +131,10 @@ tried_from script old listed roomy new first reserved second h = λ k m n e f.
     }
 
 -- the replies were taken
-tried_told : (script : Script) (old did : Collector) (mutators : Vec Mutator Global) (rounds : List RoundRows) →
+tried_known : (script : Script) (old did : Collector) (mutators : Vec Mutator Global) (rounds : List RoundRows) →
     mutators.items ≡ map cleared did.mutators.items → HaveTried script old did →
     HaveTried script old (record did { mutators = mutators; rows = record did.rows { rounds = rounds } })
-tried_told script old did mutators rounds same h = λ k m n e f.
+tried_known script old did mutators rounds same h = λ k m n e f.
     let x = map_item cleared did.mutators.items k n (cc (same, f)) in
     let t = h k m x.0 e x.1 in
     record {
@@ -150,7 +150,7 @@ pub played_tried : (script : Script) (o : Opening) (old listed roomy did : Colle
     roomy ≡ record listed { inbox = roomy.inbox } → DidSlices script o roomy did → mutators.items ≡ map cleared did.mutators.items →
     HaveTried script old (record did { mutators = mutators; rows = record did.rows { rounds = rounds } })
 played_tried script o old listed roomy did mutators rounds first reserved second slices same =
-    tried_told script old did mutators rounds same (tried_from script old listed roomy did first reserved second (slices_tried script o roomy did slices))
+    tried_known script old did mutators rounds same (tried_from script old listed roomy did first reserved second (slices_tried script o roomy did slices))
 
 -- the ends of the rings met
 pub met_tried : (script : Script) (old mid new : Collector) (many : ℕ) → new ≡ record mid { inbox = new.inbox; mutators = new.mutators } →

@@ -1,7 +1,7 @@
 -- The steps of a stop together are a stop of the run.
 use Rattle.nmgc_cycle.proofs.Vocabulary.{ℕ, ◌≡◌, List, ◌++◌, refl, ap, inl, inr, World, CycleRow, StopRow, Config, ClosesOrWaits, Promotes, IsStop, EndsOrWaits, BeginsOrWaits, Proceeds, stop_row, Plan, State, Progress, idle, marking, sweeping, layout_of}
 
--- what the steps after the promotion leave as it is
+-- the parts that the steps after the promotion leave unchanged
 pub record KeepsOn (s t : State) : Type 0 where
   pub number : t.number ≡ s.number
   pub left : t.left ≡ s.left
@@ -55,6 +55,6 @@ module _ (plan : Plan) (began : World) (s promoted closed ended t : State) (coun
     ends = ends;
     more = more;
     proceeds = proceeds;
-    told = refl;
+    cycles_are = refl;
     shown = shown;
   }

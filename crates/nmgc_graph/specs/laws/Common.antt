@@ -2,7 +2,7 @@
 use Rattle.std.specs.Prelude.{◌≡◌}
 use Rattle.nmgc_graph.specs.laws.Vocabulary.{ap, Option, Some, None, option_and_then, Parts, Node, Con, Var, Arr, Thunk, Weak, Stack, Name, World, node_of, IsAlive, parts_in, parts_of}
 
--- the parts of a weak pointer are there where it is alive
+-- a weak pointer that has parts is alive
 pub parts_alive : (o : Option Node) (parts : Parts) → option_and_then parts_in o ≡ Some parts → o ≡ Some (Weak (Some parts))
 parts_alive None parts e = absurd cc
 parts_alive (Some (Con tag values)) parts e = absurd cc

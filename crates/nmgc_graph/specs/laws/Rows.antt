@@ -1,4 +1,4 @@
--- A set of names as rows of marks: what adding a name changes, and listing the names.
+-- A set of names as rows of marks: the effect of adding a name, and the list of the names.
 use Rattle.std.specs.Prelude.{◌≡◌, ◌≢◌, ◌<◌, ◌≤◌, ◌+◌}
 use Rattle.nmgc_graph.specs.laws.Vocabulary.{ℕ, List, [], length, set, inl, inr, refl, sym, ◌∙◌, arith, Bool, true, false, not, count_by, IsSome, cases_lt, cases_eq, false≢true, eqb_tells, get_or-set_same, get_or-set_other, get_or_past, length-set, sum_by-set, SHARED_MAKER, Name, World, node_of, state_of, row_of, mark_of, IsMarked, HasPlace, with_mark, unmarked_count, HasPlaces, ListsBefore, lists_maker, same_name, get_is_some, count-set}
 

@@ -1,4 +1,4 @@
--- An object is born: its name and its fields stood there, its header is written, and there is a place more.
+-- A new object: its name and its fields are there already, its header is written, and there is one more place.
 use Rattle.std.specs.Prelude.{◌≡◌, ◌≢◌, ◌⊎◌, ◌+◌, ◌<◌, ◌≤◌}
 use Rattle.nmgc_heap_spec.specs.laws.Vocabulary.{inl, inr, ℕ, List, set, refl, sym, ap, subst, ◌∙◌, arith, slice_index, Some, None, get_or-set_same, get_or-set_other, length-set, slice_get, Contains, IsSome, Name, Node, Weak, World, node_of, IsWorld, name_cases, header_word, Layout, HEADER_WORDS, Slot, unset, header_of, size_of, slots_of, fixed_slots, IsTracked, Place, Fills, HasSlots, LiesWell, IsBetween, IsNamed, IsObject, IsPlaced, Represents, AreEarlier, HaveHeaders, IsSpokenOf, IsBorn}
 use Rattle.nmgc_heap_spec.specs.laws.{Slots.fixed_own, Slots.slots_more, Changes.lies_within, Changes.not_between, Changes.still_object, Changes.still_placed}
@@ -20,7 +20,7 @@ module _ (layout : Layout) (earlier : List World) (K L : Name → Node →
   away : (j : ℕ) → j ≢ x.at → slice_index us j ≡ slice_index words j
   away j ne = get_or-set_other words x.at j (header_word (header_of made)) 0 ne
 
-  -- a name that was known is another
+  -- a known name differs from the new name
   unlike : (n : Name) → IsSome (node_of w n) → n ≢ x.name
   unlike n h e =
       let none : node_of w n ≡ None = ap (λ m. node_of w m) e ∙ b.unknown in
@@ -79,7 +79,7 @@ module _ (layout : Layout) (earlier : List World) (K L : Name → Node →
     ];
   }
 
-  -- an object that is told has no further place among its words
+  -- a specified object has no further place among its words
   alone_still : (p : Place) (node : Node) → Contains places p → IsSpokenOf layout earlier w p → node_of w p.name ≡ Some node →
       IsObject layout places words p node → (q : Place) → Contains more q → (q.at ≤ p.at) ⊎ (p.at + size_of node ≤ q.at)
   alone_still p node c t is o q d = elim (b.place.no_other q d) [

@@ -1,6 +1,6 @@
--- What leaves the words standing for the world: nothing changes but what isn't told, or one field does.
+-- Changes after which the words still represent the world: of unspecified words alone, or of one field.
 use Rattle.std.specs.Prelude.{◌≡◌, ◌≢◌, ◌⊎◌, ◌+◌, ◌-◌, ◌*◌, ◌<◌, ◌≤◌}
-use Rattle.nmgc_heap_spec.specs.laws.Vocabulary.{inl, inr, ℕ, List, set, refl, sym, ap, subst, ◌∙◌, arith, slice_index, Some, None, get_or-set_same, get_or-set_other, length-set, mul-le-mul_right, slice_get, Contains, IsSome, cases_eq, slice_get_within, Name, Node, Weak, World, node_of, IsWorld, IsNodeOf, contains_cases, at_some, name_cases, header_word, IsHeader, word_total, Header, Layout, HEADER_WORDS, Slot, unset, untold, header_of, size_of, slots_of, fixed_slots, free_slots, MayChange, Place, Fills, HasSlots, LiesWell, IsBetween, IsObject, IsPlaced, Represents, AreEarlier, HaveHeaders, IsSameHeap, Remembers, AgreeWhereTold, IsUnborn, ChangesField, DropsPlaces, AddsPlaces}
+use Rattle.nmgc_heap_spec.specs.laws.Vocabulary.{inl, inr, ℕ, List, set, refl, sym, ap, subst, ◌∙◌, arith, slice_index, Some, None, get_or-set_same, get_or-set_other, length-set, mul-le-mul_right, slice_get, Contains, IsSome, cases_eq, slice_get_within, Name, Node, Weak, World, node_of, IsWorld, IsNodeOf, contains_cases, at_some, name_cases, header_word, IsHeader, word_total, Header, Layout, HEADER_WORDS, Slot, unset, unspecified, header_of, size_of, slots_of, fixed_slots, free_slots, MayChange, Place, Fills, HasSlots, LiesWell, IsBetween, IsObject, IsPlaced, Represents, AreEarlier, HaveHeaders, IsSameHeap, Remembers, AgreeWhereKnown, IsUnborn, ChangesField, DropsPlaces, AddsPlaces}
 use Rattle.nmgc_heap_spec.specs.laws.{Slots.slot_count, Slots.fixed_count, Slots.free_count, Slots.free_fixed, Slots.fixed_stays, Slots.fixed_own, Slots.slots_in, Slots.slots_more, Tracking.tracked_more, Tracking.slot_tracked, Meanings.placed_at}
 
 -- an object lies within the words
@@ -17,7 +17,7 @@ lies_within layout p size some (inr (own, inr n)) =
     let e : p.name.maker + 1 ≤ layout.mutators = let x = h.exists in omega (arith, x) in mul-le-mul_right layout.nursery e in
     omega (arith, h.before, up)
 
--- no word where an object may lie belongs to nobody
+-- a word beside g is no word of an object
 pub not_between : (layout : Layout) (p : Place) (size i : ℕ) → LiesWell layout p size → p.at ≤ i → i < p.at + size → IsBetween i → ⊥
 not_between layout p size i (inl g) from before (inl low) = omega (arith, g.1, from, low)
 not_between layout p size i (inl g) from before (inr high) = omega (arith, g.2, before, high.0)
@@ -26,7 +26,7 @@ not_between layout p size i (inr (own, inl s)) from before (inr high) = let h = 
 not_between layout p size i (inr (own, inr n)) from before (inl low) = let h = (n.1 i from before).from in omega (arith, h, low)
 not_between layout p size i (inr (own, inr n)) from before (inr high) = let h = (n.1 i from before).from in omega (arith, h, high.1)
 
--- a world that has the same nodes, as far as the words tell
+-- another world with the same nodes, as far as the words specify them
 pub same_heap : (layout : Layout) (earlier : List World) (K : Name → Node → Type 0) (places : List Place) (w v : World) (words : List ℕ) →
     IsSameHeap earlier places w v → Represents layout earlier K places w words → Represents layout earlier K places v words
 same_heap layout earlier K places w v words same r = record {
@@ -79,7 +79,7 @@ remembered layout earlier later K L places w words more r = record {
       | inr f ↦ p.fields i slot f
     ]
 
--- what holds of the nodes of a world, and of earlier ones
+-- facts about the nodes of a world, and of earlier worlds
 module _ (earlier : List World) (K : Name → Node →
     Type 0) (w : World) (world : IsWorld w) (past : AreEarlier earlier w) (heads : HaveHeaders K w) (name : Name) (node : Node)
     (is : node_of w name ≡ Some node) where
@@ -100,10 +100,10 @@ module _ (earlier : List World) (K : Name → Node →
       let n : (header_of before).fields ≡ (header_of node).fields = ap (λ (h : Header). h.fields) (heads name before node k is) in
       omega (arith, n, fixed_count before, slice_get_within (fixed_slots before) i slot f)
 
--- words that are the same where something is told
+-- words that agree wherever they are specified
 module _ (layout : Layout) (earlier : List World) (K : Name → Node →
     Type 0) (places : List Place) (w : World) (words us : List ℕ) (world : IsWorld w) (past : AreEarlier earlier w) (heads : HaveHeaders K w) where
-  -- an object stays where none of its words changed, among other places if it is alone there too
+  -- an object stays if none of its words changed, also with other places if none of them is among its words
   pub still_object : (others : List Place) (p : Place) (node : Node) →
       ((q : Place) → Contains others q → (q.at ≤ p.at) ⊎ (p.at + size_of node ≤ q.at)) → slice_index us p.at ≡ slice_index words p.at →
       IsObject layout places words p node → IsObject layout others us p node
@@ -127,7 +127,7 @@ module _ (layout : Layout) (earlier : List World) (K : Name → Node →
         same (p.at + HEADER_WORDS + i) (omega arith) (omega arith))) (p.kept before k);
   }
 
-  pub agreeing : AgreeWhereTold layout earlier places w words us → Represents layout earlier K places w words → Represents layout earlier K places w us
+  pub agreeing : AgreeWhereKnown layout earlier places w words us → Represents layout earlier K places w words → Represents layout earlier K places w us
   agreeing agree r = record {
     total = agree.total ∙ r.total;
     one = r.one;
@@ -147,7 +147,7 @@ module _ (layout : Layout) (earlier : List World) (K : Name → Node →
     zeros = λ at nobody. agree.between at nobody ∙ r.zeros at nobody;
   }
 
--- a word of no object that is told changes
+-- a word of no specified object changes
 pub unborn_stored : (layout : Layout) (earlier : List World) (K : Name → Node →
     Type 0) (places : List Place) (w : World) (words : List ℕ) (i word : ℕ) → IsWorld w → AreEarlier earlier w → HaveHeaders K w →
     IsUnborn layout earlier places w i → Represents layout earlier K places w words → Represents layout earlier K places w (set words i word)
@@ -162,7 +162,7 @@ unborn_stored layout earlier K places w words i word world past heads free r =
     })
     r
 
--- places of names that nobody tracks go
+-- places of untracked names go
 pub places_dropped : (layout : Layout) (earlier : List World) (K : Name → Node → Type 0) (places fewer : List Place) (w : World) (words : List ℕ) →
     DropsPlaces earlier K places fewer w → Represents layout earlier K places w words → Represents layout earlier K fewer w words
 places_dropped layout earlier K places fewer w words drops r = record {
@@ -295,10 +295,10 @@ module _ (layout : Layout) (earlier : List World) (K : Name → Node →
     ]
   ]
 
-  -- what earlier nodes tell for good isn't in the field that changed
-  fixed_or_untold : (before : Node) → header_of before ≡ header_of node → (j : ℕ) (slot : Slot) → slice_get (fixed_slots before) j ≡ Some slot →
-      (slot ≡ untold) ⊎ (slice_index us (mine.0.at + HEADER_WORDS + j) ≡ slice_index words (mine.0.at + HEADER_WORDS + j))
-  fixed_or_untold before head j slot f = elim (cases_eq j i) [
+  -- the permanent fields of earlier nodes are not the field that changed
+  fixed_or_unspecified : (before : Node) → header_of before ≡ header_of node → (j : ℕ) (slot : Slot) → slice_get (fixed_slots before) j ≡ Some slot →
+      (slot ≡ unspecified) ⊎ (slice_index us (mine.0.at + HEADER_WORDS + j) ≡ slice_index words (mine.0.at + HEADER_WORDS + j))
+  fixed_or_unspecified before head j slot f = elim (cases_eq j i) [
     | inl same ↦
         let may : MayChange (header_of before).kind j = rw same (subst (λ (h : Header). MayChange h.kind i) (sym head) c.at_one.may) in
         inl (fixed_stays before j slot may f)
@@ -313,9 +313,9 @@ module _ (layout : Layout) (earlier : List World) (K : Name → Node →
     fields = subst (λ (k : ℕ). HasSlots (Contains places) us (k + HEADER_WORDS) (slots_of made)) (sym mine.1) changed_fields;
     free = λ e before d was. slots_more (Contains places) (Contains places) (λ q d.
         d) words us (mine.0.at + HEADER_WORDS) (free_slots before) (λ j slot f.
-        fixed_or_untold before ((past e d).headers p.name before node was c.before) j slot (free_fixed before j slot f)) (mine.0.free e before d was);
+        fixed_or_unspecified before ((past e d).headers p.name before node was c.before) j slot (free_fixed before j slot f)) (mine.0.free e before d was);
     kept = λ before k. slots_more (Contains places) (Contains places) (λ q d.
-        d) words us (mine.0.at + HEADER_WORDS) (fixed_slots before) (fixed_or_untold before (heads p.name before node k c.before)) (mine.0.kept before k);
+        d) words us (mine.0.at + HEADER_WORDS) (fixed_slots before) (fixed_or_unspecified before (heads p.name before node k c.before)) (mine.0.kept before k);
   }
 
   -- the value word of a weak pointer that dies becomes 0

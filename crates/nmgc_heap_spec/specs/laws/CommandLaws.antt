@@ -1,9 +1,9 @@
--- Commands and closings track nothing new but what they make, and leave headers.
+-- Commands add only new names to the tracked names, closings add none, and both leave headers.
 use Rattle.std.specs.Prelude.{◌≡◌, ◌≢◌, ◌⊎◌}
 use Rattle.nmgc_heap_spec.specs.laws.Vocabulary.{inl, inr, ℕ, List, refl, sym, ap, subst, ◌∙◌, Option, Some, Contains, IsSome, SHARED_MAKER, Name, Node, Con, Var, Arr, Thunk, Weak, Stack, Command, World, node_of, state_of, IsWorld, IsNodeOf, changed, CanApply, next_name, with_new, born, step, closed, start, field, RefersTo, step_grows, contains_head, contains_tail, at_some, is_some_of, last_item, name_cases, not_shared, Header, IsWide, HoldsOnly, kind_of, tag_of, part_count, SameShape, KeepsShapes, Object, Any, stepped, hand_nodes, still_there, node_born, node_same, node_cases, next_is_new, absent, some_of, step_holds_only, wide_is_held, from_there, closed_holds, wide_known, world_holds, closed_names, step_keeps_shapes, closing_keeps_shapes, step_keeps_world, header_of, IsTracked, IsEarlier, NodeStep, none, change, birth, StepIsOne, StepChangesField, TrackedAreKnown, StepTracks, StepTracksNoMore, ClosingTracks, StepLeavesHeap, WorldIsEarlier, StepKeepsEarlier, ClosingKeepsEarlier, StepKeepsHeaders, ClosingKeepsHeaders}
 use Rattle.nmgc_heap_spec.specs.laws.{Tracking.tracked_in, NodeChanges.changed_one}
 
--- tracked names are all that is held, and have what holds of all that is held
+-- the world holds tracked names alone, and tracked names have each property of all held names
 pub tracked_holds : (w : World) (earlier : List World) → HoldsOnly (IsTracked w earlier) w
 tracked_holds w earlier = record {
   roots = λ n root. start n (w, contains_head w earlier, start n (inl root));
@@ -15,7 +15,7 @@ pub held_tracked : (v : World) (earlier : List World) (P : Name → Type 0) → 
     HoldsOnly P v → (name : Name) → IsTracked v earlier name → P name
 held_tracked v earlier P past h name t = tracked_in v earlier P (λ n root. wide_is_held P v h n (start n root)) past h.fields name t
 
--- what earlier worlds reach is tracked, whatever the world
+-- the reach of earlier worlds is tracked, whatever the world
 pub past_tracked : (w : World) (earlier : List World) (e : World) (n : Name) → Contains earlier e → IsWide e n → IsTracked w earlier n
 past_tracked w earlier e n c i = start n (e, contains_tail w earlier e c, i)
 
@@ -70,7 +70,7 @@ same_header a b s =
     }) = λ i. record { kind = kinds i; tag = tags i; fields = counts i } in
     header_shape b ∙ mid ∙ sym (header_shape a)
 
--- where shapes stay, headers do
+-- headers stay if shapes stay
 pub still_header : (w v : World) → KeepsShapes w v → (name : Name) (before now : Node) → IsSome (node_of w name) →
     ((was : Node) → node_of w name ≡ Some was → header_of before ≡ header_of was) → node_of v name ≡ Some now → header_of before ≡ header_of now
 still_header w v keeps name before now known same is =
@@ -128,7 +128,7 @@ step_leaves_heap w m c earlier places world past can same = record {
   );
 }
 
--- a command does one thing to the nodes
+-- a command makes one change to the nodes
 module _ (w : World) (m : ℕ) (c : Command) (world : IsWorld w) (can : CanApply w m c) where
   abbrev new : Name
   new = next_name (state_of w m) m

@@ -12,7 +12,7 @@ list_means P [] (v ∷ vs) e h = absurd (omega arith)
 list_means P (w ∷ ws) [] e h = absurd (omega arith)
 list_means P (w ∷ ws) (v ∷ vs) e h = (h 0 v refl, list_means P ws vs (omega arith) (λ i u g. h (suc i) u g))
 
--- a word of a list that stands for values means one of them, and each of them has its word
+-- a word of a list that means values means one of them, and each of them has its word
 pub list_has : (P : Place → Type 0) (words : List ℕ) (values : List Value) (word : ℕ) → ListMeans P words values → Contains words word → (v : Value) ×
     Contains values v × Means P word v
 list_has P [] values word m c = absurd (omega (arith, c.1))
@@ -64,7 +64,7 @@ flat_registers P (x ∷ xs) ws size h =
     rw (take-append-drop REGISTERS ws) at (means_append P (take REGISTERS ws) (drop REGISTERS ws) x.registers
     (flat_map (λ (state : MutatorState). state.registers) xs) a b)
 
--- what lies well lies within the words
+-- an object that lies well lies within the words
 pub lies_within : (layout : Layout) (p : Place) (size : ℕ) → 0 < size → LiesWell layout p size → p.at + size ≤ word_total layout
 lies_within layout p size some (inl g) = let h = g.2 in omega arith
 lies_within layout p size some (inr (own, inl s)) =

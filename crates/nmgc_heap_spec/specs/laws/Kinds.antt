@@ -1,9 +1,8 @@
 -- The slots of a node of each kind, as its values.
 --
--- `HasSlots` serves all kinds at once. A step of a command knows the kind, and then wants the values: these
--- lemmas go from one to the other.
+-- `HasSlots` serves all kinds at once. A step of a command knows the kind and needs the values: these lemmas tie the two.
 use Rattle.std.specs.Prelude.{◌≡◌, ◌⊎◌, ◌+◌, ◌-◌, ◌<◌, ◌≤◌, ◌∷◌, ◌++◌}
-use Rattle.nmgc_heap_spec.specs.laws.Vocabulary.{inl, inr, ℕ, zero, suc, List, [], length, map, replicate, refl, sym, subst, arith, slice_index, Some, None, slice_get, length-map, Value, Node, Con, Var, Arr, Thunk, Weak, Stack, Slot, holds, unset, untold, slots_of, fixed_slots, free_slots, Place, Means, Fills, HasSlots, AllMean, item_map, item_left}
+use Rattle.nmgc_heap_spec.specs.laws.Vocabulary.{inl, inr, ℕ, zero, suc, List, [], length, map, replicate, refl, sym, subst, arith, slice_index, Some, None, slice_get, length-map, Value, Node, Con, Var, Arr, Thunk, Weak, Stack, Slot, holds, unset, unspecified, slots_of, fixed_slots, free_slots, Place, Means, Fills, HasSlots, AllMean, item_map, item_left}
 
 pub map_item : {A B : Type 0} (f : A → B) (xs : List A) (i : ℕ) (y : B) → slice_get (map f xs) i ≡ Some y → (x : A) × (slice_get xs i ≡ Some x) × (y ≡ f x)
 map_item f [] i y e = absurd cc
@@ -20,7 +19,7 @@ item_cases [] ys i s e = inr (i, omega arith, e)
 item_cases (x ∷ xs) ys zero s e = inl e
 item_cases (x ∷ xs) ys (suc i) s e = elim (item_cases xs ys i s e) [ inl l ↦ inl l | inr r ↦ inr (r.0, omega (arith, r.1), r.2) ]
 
--- an item of so many equal ones
+-- an item of a list of equal items
 pub item_all : {A : Type 0} (n i : ℕ) (s : A) → i < n → slice_get (replicate n s) i ≡ Some s
 item_all zero i s lt = absurd (omega arith)
 item_all (suc n) zero s lt = refl
@@ -53,13 +52,13 @@ KeepsFields P words from (Thunk free None) = AllMean P words (from + 1) free
 KeepsFields P words from (Weak (Some parts)) = Means P (slice_index words from) parts.key × Means P (slice_index words (from + 2)) parts.finaliser
 KeepsFields P words from _ = Unit {0}
 
--- of these, the free variables alone
+-- the free variables alone of these fields
 abbrev pub KeepsFree : (Place → Type 0) → List ℕ → ℕ → Node → Type 0
 KeepsFree P words from (Thunk free None) = AllMean P words (from + 1) free
 KeepsFree P words from _ = Unit {0}
 
 module _ (P : Place → Type 0) (words : List ℕ) where
-  -- words that stand for values fill slots that hold them
+  -- words that mean values fill slots that hold them
   pub values_fill : (from : ℕ) (values : List Value) → AllMean P words from values → HasSlots P words from (map holds values)
   values_fill from values h i slot e = let x = map_item holds values i slot e in
       subst (λ (s : Slot). Fills P (slice_index words (from + i)) s) (sym x.2) (h i x.0 x.1)
@@ -67,7 +66,7 @@ module _ (P : Place → Type 0) (words : List ℕ) where
   pub slots_mean : (from : ℕ) (values : List Value) → HasSlots P words from (map holds values) → AllMean P words from values
   slots_mean from values h i v e = h i (holds v) (item_map holds values i v e)
 
-  -- a slot before the others
+  -- the first slot of several
   pub slot_first : (from : ℕ) (s : Slot) (slots : List Slot) → HasSlots P words from (s ∷ slots) → Fills P (slice_index words from) s
   slot_first from s slots h = let z : from + 0 ≡ from = omega arith in subst (λ (k : ℕ). Fills P (slice_index words k) s) z (h 0 s refl)
 
@@ -85,9 +84,9 @@ module _ (P : Place → Type 0) (words : List ℕ) where
   pub slots_none : (from : ℕ) → HasSlots P words from []
   slots_none from i t e = absurd cc
 
-  -- nothing is asked of slots of which nothing is said
-  pub slots_untold : (from n : ℕ) → HasSlots P words from (replicate n untold)
-  slots_untold from n i t e = let a = all_item n i untold t e in subst (λ (u : Slot). Fills P (slice_index words (from + i)) u) (sym a.0) tt
+  -- unspecified slots ask nothing
+  pub slots_unspecified : (from n : ℕ) → HasSlots P words from (replicate n unspecified)
+  slots_unspecified from n i t e = let a = all_item n i unspecified t e in subst (λ (u : Slot). Fills P (slice_index words (from + i)) u) (sym a.0) tt
 
   pub slots_unset : (from depth size : ℕ) (values : List Value) → depth ≡ length values →
       HasSlots P words from (map holds values ++ replicate (size - length values) unset) → AreUnset words from depth size
@@ -119,7 +118,7 @@ module _ (P : Place → Type 0) (words : List ℕ) where
   fields_of_slots from (Var v) h = slot_first from (holds v) [] h
   fields_of_slots from (Arr values) h = slots_mean from values h
   fields_of_slots from (Thunk free None) h = (slot_first from unset (map holds free) h, slots_mean (from + 1) free (slots_rest from unset (map holds free) h))
-  fields_of_slots from (Thunk free (Some result)) h = slot_first from (holds result) (replicate (length free) untold) h
+  fields_of_slots from (Thunk free (Some result)) h = slot_first from (holds result) (replicate (length free) unspecified) h
   fields_of_slots from (Weak None) h = h 1 unset refl
   fields_of_slots from (Weak (Some parts)) h = (
     slot_first from (holds parts.key) (holds parts.value ∷ holds parts.finaliser ∷ []) h,
@@ -140,8 +139,8 @@ module _ (P : Place → Type 0) (words : List ℕ) where
   slots_of_fields from (Var v) h = slots_cons from (holds v) [] h (slots_none (from + 1))
   slots_of_fields from (Arr values) h = values_fill from values h
   slots_of_fields from (Thunk free None) h = slots_cons from unset (map holds free) h.0 (values_fill (from + 1) free h.1)
-  slots_of_fields from (Thunk free (Some result)) h = slots_cons from (holds result) (replicate (length free) untold) h (slots_untold (from + 1) (length free))
-  slots_of_fields from (Weak None) h = three from untold unset untold tt h tt
+  slots_of_fields from (Thunk free (Some result)) h = slots_cons from (holds result) (replicate (length free) unspecified) h (slots_unspecified (from + 1) (length free))
+  slots_of_fields from (Weak None) h = three from unspecified unset unspecified tt h tt
   slots_of_fields from (Weak (Some parts)) h = three from (holds parts.key) (holds parts.value) (holds parts.finaliser) h.0 h.1 h.2
   slots_of_fields from (Stack size values) h = stack_fills from size values h.0 h.1
 
@@ -149,17 +148,17 @@ module _ (P : Place → Type 0) (words : List ℕ) where
   slots_of_kept from (Con tag values) h = slots_none from
   slots_of_kept from (Var v) h = slots_none from
   slots_of_kept from (Arr values) h = slots_none from
-  slots_of_kept from (Thunk free None) h = slots_cons from untold (map holds free) tt (values_fill (from + 1) free h)
+  slots_of_kept from (Thunk free None) h = slots_cons from unspecified (map holds free) tt (values_fill (from + 1) free h)
   slots_of_kept from (Thunk free (Some result)) h = slots_none from
   slots_of_kept from (Weak None) h = slots_none from
-  slots_of_kept from (Weak (Some parts)) h = three from (holds parts.key) untold (holds parts.finaliser) h.0 tt h.1
+  slots_of_kept from (Weak (Some parts)) h = three from (holds parts.key) unspecified (holds parts.finaliser) h.0 tt h.1
   slots_of_kept from (Stack size values) h = slots_none from
 
   pub free_of_slots : (from : ℕ) (node : Node) → HasSlots P words from (free_slots node) → KeepsFree P words from node
   free_of_slots from (Con tag values) h = tt
   free_of_slots from (Var v) h = tt
   free_of_slots from (Arr values) h = tt
-  free_of_slots from (Thunk free None) h = slots_mean (from + 1) free (slots_rest from untold (map holds free) h)
+  free_of_slots from (Thunk free None) h = slots_mean (from + 1) free (slots_rest from unspecified (map holds free) h)
   free_of_slots from (Thunk free (Some result)) h = tt
   free_of_slots from (Weak parts) h = tt
   free_of_slots from (Stack size values) h = tt

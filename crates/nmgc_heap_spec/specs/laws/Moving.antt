@@ -1,12 +1,12 @@
--- Objects that move leave the world that the words represent.
+-- After objects moved, the words still represent the world.
 --
--- Nothing goes step by step here: every new word is a function of an old one, and each tracked object
--- stands at one new place. So each part of the claim is read off the part of the same name before.
+-- There are no steps here: every new word is a function of an old word, and each tracked object lies at one new place. So
+-- each part of the claim follows from the same part before the move.
 use Rattle.std.specs.Prelude.{◌≡◌, ◌<◌, ◌≤◌, ◌+◌, ◌*◌, ◌∷◌, ◌⊎◌}
-use Rattle.nmgc_heap_spec.specs.laws.Vocabulary.{ℕ, List, [], length, map, inl, inr, refl, sym, ap, subst, ◌∙◌, arith, Some, None, Contains, filter, nat_lt, IsSome, ltb-true, lt-ltb, cases_lt, slice_get_within, get_or-map, All-contains, Contains-append_left, Contains-append_right, Contains-append_cases, Name, Value, Nil, Number, Ref, Node, Weak, World, node_of, held_by, IsKnown, IsNodeOf, IsWorld, contains_head, contains_tail, at_some, is_some_of, contains_read, map_contains, filter_contains, contains_filter, contains_map, header_word, InNursery, nursery_place, Layout, HEADER_WORDS, Slot, holds, unset, untold, header_of, slots_of, free_slots, IsTracked, Place, AllMean, ListMeans, Fills, HasSlots, LiesWell, NoNode, IsNamed, IsObject, IsPlaced, Represents, Moved, Moves, StillSpoken, Copies, KeepsObject, new_place, old_place, settled, slice_index}
+use Rattle.nmgc_heap_spec.specs.laws.Vocabulary.{ℕ, List, [], length, map, inl, inr, refl, sym, ap, subst, ◌∙◌, arith, Some, None, Contains, filter, nat_lt, IsSome, ltb-true, lt-ltb, cases_lt, slice_get_within, get_or-map, All-contains, Contains-append_left, Contains-append_right, Contains-append_cases, Name, Value, Nil, Number, Ref, Node, Weak, World, node_of, held_by, IsKnown, IsNodeOf, IsWorld, contains_head, contains_tail, at_some, is_some_of, contains_read, map_contains, filter_contains, contains_filter, contains_map, header_word, InNursery, nursery_place, Layout, HEADER_WORDS, Slot, holds, unset, unspecified, header_of, slots_of, free_slots, IsTracked, Place, AllMean, ListMeans, Fills, HasSlots, LiesWell, NoNode, IsNamed, IsObject, IsPlaced, Represents, Moved, Moves, StillSpoken, Copies, KeepsObject, new_place, old_place, settled, slice_index}
 use Rattle.nmgc_heap_spec.specs.laws.{Slots.slot_count, Slots.free_count, Slots.free_held, Slots.strong_held, Tracking.slot_tracked, Tracking.tracked_more}
 
--- where a place afterwards comes from
+-- the origin of a place after the moves
 pub settled_cases : (base : ℕ) (moves : List Moved) (places : List Place) (q : Place) → Contains (settled base moves places) q →
     ((d : Moved) × Contains moves d × (q ≡ new_place d)) ⊎ (Contains places q × (q.at < base))
 settled_cases base moves places q c = elim (Contains-append_cases (map new_place moves) (filter (λ p. nat_lt p.at base) places) q c) [
@@ -14,7 +14,7 @@ settled_cases base moves places q c = elim (Contains-append_cases (map new_place
   | inr o ↦ let f = filter_contains (λ p. nat_lt p.at base) places q o in inr (f.0, ltb-true q.at base f.1)
 ]
 
--- a place below the base stays, and a new place comes
+-- a place below the base stays, and a new place is added
 pub settled_stays : (base : ℕ) (moves : List Moved) (places : List Place) (p : Place) → Contains places p → p.at < base → Contains (settled base moves places) p
 settled_stays base moves places p c l = Contains-append_right (map new_place moves) (filter (λ q. nat_lt q.at base) places) p (contains_filter (λ q.
     nat_lt q.at base) places p c (lt-ltb p.at base l))
@@ -40,7 +40,7 @@ module _ (layout : Layout) (base : ℕ) (later earlier : List World) (K : Name �
       (Contains places q × (q.at < base))
   after_cases = settled_cases base moves places
 
-  -- a place stays told of where it didn't stand in the emptied part, and where its name is tracked
+  -- a name still has its place if it lay outside the emptied part, or is tracked
   goes : (n : Name) (at : ℕ) → Contains places (record { at = at; name = n }) → (at < base) ⊎ IsTracked w later n → (to : ℕ) ×
       (forward (2 * at) ≡ 2 * to) × Contains (settled base moves places) (record { at = to; name = n })
   goes n at c s = elim (cases_lt at base) [
@@ -58,25 +58,25 @@ module _ (layout : Layout) (base : ℕ) (later earlier : List World) (K : Name �
     ]
   ]
 
-  -- each reference of the slots is to such a one
-  abbrev Told : Slot → Type 0
-  Told slot = (n : Name) → slot ≡ holds (Ref n) → (at : ℕ) → Contains places (record { at = at; name = n }) → (at < base) ⊎ IsTracked w later n
+  -- each reference of the slots is to such a name
+  abbrev IsKnownSlot : Slot → Type 0
+  IsKnownSlot slot = (n : Name) → slot ≡ holds (Ref n) → (at : ℕ) → Contains places (record { at = at; name = n }) → (at < base) ⊎ IsTracked w later n
 
-  fills_after : (word : ℕ) (slot : Slot) → Told slot → Fills (Contains places) word slot → Fills (Contains (settled base moves places)) (forward word) slot
-  fills_after word (holds Nil) told f = ap forward f ∙ m.forwards.nil
-  fills_after word (holds (Number n)) told f = ap forward f ∙ m.forwards.number n
-  fills_after word (holds (Ref n)) told f =
-      let g = goes n f.0 f.2 (told n refl f.0 f.2) in
+  fills_after : (word : ℕ) (slot : Slot) → IsKnownSlot slot → Fills (Contains places) word slot → Fills (Contains (settled base moves places)) (forward word) slot
+  fills_after word (holds Nil) is_known f = ap forward f ∙ m.forwards.nil
+  fills_after word (holds (Number n)) is_known f = ap forward f ∙ m.forwards.number n
+  fills_after word (holds (Ref n)) is_known f =
+      let g = goes n f.0 f.2 (is_known n refl f.0 f.2) in
       (g.0, ap forward f.1 ∙ g.1, g.2)
-  fills_after word unset told f = ap forward f ∙ m.forwards.unset
-  fills_after word untold told f = tt
+  fills_after word unset is_known f = ap forward f ∙ m.forwards.unset
+  fills_after word unspecified is_known f = tt
 
   slots_after : (from to count : ℕ) (slots : List Slot) → length slots ≤ count → Copies forward old new from to count →
-      ((slot : Slot) → Contains slots slot → Told slot) → HasSlots (Contains places) old (from + HEADER_WORDS) slots →
+      ((slot : Slot) → Contains slots slot → IsKnownSlot slot) → HasSlots (Contains places) old (from + HEADER_WORDS) slots →
       HasSlots (Contains (settled base moves places)) new (to + HEADER_WORDS) slots
-  slots_after from to count slots few copies told has i slot e =
+  slots_after from to count slots few copies is_known has i slot e =
       let within : i < count = omega (arith, slice_get_within slots i slot e) in
-      rw (copies.fields i within) (fills_after (slice_index old (from + HEADER_WORDS + i)) slot (told slot (contains_read slots i slot e)) (has i slot e))
+      rw (copies.fields i within) (fills_after (slice_index old (from + HEADER_WORDS + i)) slot (is_known slot (contains_read slots i slot e)) (has i slot e))
 
   sized : (name : Name) (node : Node) → node_of w name ≡ Some node → length (slots_of node) ≤ (header_of node).fields
   sized name node e =
@@ -84,7 +84,7 @@ module _ (layout : Layout) (base : ℕ) (later earlier : List World) (K : Name �
       let c = slot_count node of.sized in
       omega (arith, c)
 
-  -- the fields of a tracked object, at its place afterwards
+  -- the fields of a tracked object, at its new place
   fields_after : (name : Name) (node : Node) (from to : ℕ) → IsTracked w later name → node_of w name ≡ Some node →
       Copies forward old new from to (header_of node).fields → HasSlots (Contains places) old (from + HEADER_WORDS) (slots_of node) →
       HasSlots (Contains (settled base moves places)) new (to + HEADER_WORDS) (slots_of node)
@@ -93,10 +93,10 @@ module _ (layout : Layout) (base : ℕ) (later earlier : List World) (K : Name �
       (λ slot c n s at there. inr (slot_tracked w later name node n t e (subst (λ (x : Slot). Contains (slots_of node) x) s c)))
       has
 
-  -- what an earlier world's values refer to stood outside the emptied part
-  free_told : (e : World) (before : Node) (name : Name) → Contains later e → node_of e name ≡ Some before → (slot : Slot) →
+  -- the free variables of a node in an earlier world refer to objects outside the emptied part
+  last_free_count : (e : World) (before : Node) (name : Name) → Contains later e → node_of e name ≡ Some before → (slot : Slot) →
       Contains (free_slots before) slot → (n : Name) → slot ≡ holds (Ref n) → (at : ℕ) → Contains places (record { at = at; name = n }) → at < base
-  free_told e before name c is slot d n s at there =
+  last_free_count e before name c is slot d n s at there =
       let of = at_some (node_of e name) before (IsNodeOf e) is ((spoken.past e c).world.nodes name) in
       let held = strong_held before (Ref n) (free_held before (Ref n) (subst (λ (x : Slot). Contains (free_slots before) x) s d)) in
       let known : IsSome (node_of e n) = All-contains (IsKnown e) (held_by before) (Ref n) of.known held in
@@ -104,11 +104,11 @@ module _ (layout : Layout) (base : ℕ) (later earlier : List World) (K : Name �
 
   fills_same : (word : ℕ) (slot : Slot) → ((n : Name) → slot ≡ holds (Ref n) → (at : ℕ) → Contains places (record { at = at; name = n }) →
       at < base) → Fills (Contains places) word slot → Fills (Contains (settled base moves places)) word slot
-  fills_same word (holds Nil) told f = f
-  fills_same word (holds (Number n)) told f = f
-  fills_same word (holds (Ref n)) told f = (f.0, f.1, stays_in (record { at = f.0; name = n }) f.2 (told n refl f.0 f.2))
-  fills_same word unset told f = f
-  fills_same word untold told f = tt
+  fills_same word (holds Nil) is_known f = f
+  fills_same word (holds (Number n)) is_known f = f
+  fills_same word (holds (Ref n)) is_known f = (f.0, f.1, stays_in (record { at = f.0; name = n }) f.2 (is_known n refl f.0 f.2))
+  fills_same word unset is_known f = f
+  fills_same word unspecified is_known f = tt
 
   -- the fields of a tracked object that stays
   fields_kept : (name : Name) (node : Node) (at : ℕ) → IsTracked w later name → node_of w name ≡ Some node →
@@ -137,11 +137,11 @@ module _ (layout : Layout) (base : ℕ) (later earlier : List World) (K : Name �
       let has = free e before (spoken.fewer e c) was i slot r in
       elim (keeps.fields i within) [
         | inl f ↦ rw f (fills_after (slice_index old (at + HEADER_WORDS + i)) slot (λ n s from h.
-            inl (free_told e before name c was slot there n s from h)) has)
-        | inr f ↦ rw f.0 (fills_same (slice_index old (at + HEADER_WORDS + i)) slot (free_told e before name c was slot there) has)
+            inl (last_free_count e before name c was slot there n s from h)) has)
+        | inr f ↦ rw f.0 (fills_same (slice_index old (at + HEADER_WORDS + i)) slot (last_free_count e before name c was slot there) has)
       ]
 
-  -- a tracked object that stays where it is
+  -- a tracked object that stays at its address
   stayed : (name : Name) (node : Node) → IsTracked w later name → node_of w name ≡ Some node →
       (p : IsPlaced layout earlier K places old name node) → p.at < base → IsPlaced layout later NoNode (settled base moves places) new name node
   stayed name node t is p l =
@@ -276,23 +276,23 @@ module _ (layout : Layout) (base : ℕ) (later earlier : List World) (K : Name �
     zeros = λ at nobody. m.between at nobody ∙ r.zeros at nobody;
   }
 
-  -- values that hold only references to such places are still meant by the words, forwarded
+  -- forwarded words still mean values whose references all go to such places
   pub all_mean_after : (own : List ℕ) (from : ℕ) (values : List Value) → ((n : Name) → Contains values (Ref n) → IsTracked w later n) →
       from + length values ≤ length own → AllMean (Contains places) own from values →
       AllMean (Contains (settled base moves places)) (map forward own) from values
-  all_mean_after own from values told within mean i v e =
+  all_mean_after own from values is_known within mean i v e =
       let lt = slice_get_within values i v e in
       let in' : from + i < length own = omega (arith, lt, within) in
       let word : slice_index (map forward own) (from + i) ≡ forward (slice_index own (from + i)) = get_or-map forward own (from + i) 0 0 in' in
       rw word (fills_after (slice_index own (from + i)) (holds v) (λ n s at there.
-      inr (told n (subst (λ (x : Value). Contains values x) (let f : v ≡ Ref n = cc in f) (contains_read values i v e)))) (mean i v e))
+      inr (is_known n (subst (λ (x : Value). Contains values x) (let f : v ≡ Ref n = cc in f) (contains_read values i v e)))) (mean i v e))
 
   pub list_means_after : (own : List ℕ) (values : List Value) → ((n : Name) → Contains values (Ref n) → IsTracked w later n) →
       ListMeans (Contains places) own values → ListMeans (Contains (settled base moves places)) (map forward own) values
-  list_means_after [] [] told mean = tt
-  list_means_after [] (v ∷ vs) told mean = absurd mean
-  list_means_after (o ∷ own) [] told mean = absurd mean
-  list_means_after (o ∷ own) (v ∷ vs) told mean = (
-    fills_after o (holds v) (λ n s at there. inr (told n (let e : v ≡ Ref n = cc in subst (λ (u : Value). Contains (v ∷ vs) u) e (contains_head v vs)))) mean.0,
-    list_means_after own vs (λ n c. told n (contains_tail v vs (Ref n) c)) mean.1,
+  list_means_after [] [] is_known mean = tt
+  list_means_after [] (v ∷ vs) is_known mean = absurd mean
+  list_means_after (o ∷ own) [] is_known mean = absurd mean
+  list_means_after (o ∷ own) (v ∷ vs) is_known mean = (
+    fills_after o (holds v) (λ n s at there. inr (is_known n (let e : v ≡ Ref n = cc in subst (λ (u : Value). Contains (v ∷ vs) u) e (contains_head v vs)))) mean.0,
+    list_means_after own vs (λ n c. is_known n (contains_tail v vs (Ref n) c)) mean.1,
   )

@@ -1,6 +1,6 @@
--- Whatever a command does to a node, it changes one field of its object at most, and one that may change.
+-- A command that changes a node changes one field of its object at most, and only a field that may change.
 use Rattle.std.specs.Prelude.{◌≡◌, ◌≢◌, ◌⊎◌, ◌+◌, ◌-◌, ◌<◌, ◌≤◌, ◌∷◌, ◌++◌}
-use Rattle.nmgc_heap_spec.specs.laws.Vocabulary.{inl, inr, ℕ, zero, suc, List, [], length, map, set, take, replicate, refl, sym, ap, subst, ◌∙◌, arith, Bool, true, false, cond, eqb, ltb, Option, Some, None, length-set, length-append, slice_get, ltb-true, length-map, slice_get_within, Value, Node, Parts, Con, Var, Arr, Thunk, Weak, Stack, Reply, Yes, No, Change, IsSized, is_same, exchanged_at, field_set, field_exchanged, thunk_updated, stack_pushed, stack_popped, without_last, weak_finalised, changed, slice_get-set_other, item_map, item_left, Slot, holds, unset, untold, ChangesAt}
+use Rattle.nmgc_heap_spec.specs.laws.Vocabulary.{inl, inr, ℕ, zero, suc, List, [], length, map, set, take, replicate, refl, sym, ap, subst, ◌∙◌, arith, Bool, true, false, cond, eqb, ltb, Option, Some, None, length-set, length-append, slice_get, ltb-true, length-map, slice_get_within, Value, Node, Parts, Con, Var, Arr, Thunk, Weak, Stack, Reply, Yes, No, Change, IsSized, is_same, exchanged_at, field_set, field_exchanged, thunk_updated, stack_pushed, stack_popped, without_last, weak_finalised, changed, slice_get-set_other, item_map, item_left, Slot, holds, unset, unspecified, ChangesAt}
 use Rattle.nmgc_world_spec.specs.declared.change.Change.TheVariants as change
 use Rattle.nmgc_world_spec.specs.declared.node.Kind.TheVariants as kind
 use Rattle.nmgc_heap_spec.specs.laws.Kinds.{map_item, item_right, item_cases, item_all, all_item}
@@ -31,12 +31,12 @@ arr_changed values i v lt = record {
 thunk_changed : (free : List Value) (v : Value) → ChangesAt 0 (Thunk free None) (Thunk free (Some v))
 thunk_changed free v = record { header = refl; within = omega arith; may = refl; rest = rest }
   where
-    rest : (j : ℕ) (slot : Slot) → j ≢ 0 → slice_get (holds v ∷ replicate (length free) untold) j ≡ Some slot →
-        (slice_get (unset ∷ map holds free) j ≡ Some slot) ⊎ (slot ≡ untold)
+    rest : (j : ℕ) (slot : Slot) → j ≢ 0 → slice_get (holds v ∷ replicate (length free) unspecified) j ≡ Some slot →
+        (slice_get (unset ∷ map holds free) j ≡ Some slot) ⊎ (slot ≡ unspecified)
     rest zero slot ne e = absurd (ne refl)
-    rest (suc j) slot ne e = inr (all_item (length free) j untold slot e).0
+    rest (suc j) slot ne e = inr (all_item (length free) j unspecified slot e).0
 
--- beside a stack's top its slots are as before
+-- a stack's slots except the top are as before
 stack_slots : (size : ℕ) (values : List Value) (v : Value) (j : ℕ) (slot : Slot) → length values < size → j ≢ length values →
     slice_get (map holds values ++ replicate (size - length values) unset) j ≡ Some slot →
     slice_get (map holds (values ++ v ∷ []) ++ replicate (size - length (values ++ v ∷ [])) unset) j ≡ Some slot
@@ -115,8 +115,8 @@ pop_one size values fits = elim (last_apart values) [
 pub died : (p : Parts) → ChangesAt 1 (Weak (Some p)) (Weak None)
 died p = record { header = refl; within = omega arith; may = refl; rest = rest }
   where
-    rest : (j : ℕ) (slot : Slot) → j ≢ 1 → slice_get (untold ∷ unset ∷ untold ∷ []) j ≡ Some slot →
-        (slice_get (holds p.key ∷ holds p.value ∷ holds p.finaliser ∷ []) j ≡ Some slot) ⊎ (slot ≡ untold)
+    rest : (j : ℕ) (slot : Slot) → j ≢ 1 → slice_get (unspecified ∷ unset ∷ unspecified ∷ []) j ≡ Some slot →
+        (slice_get (holds p.key ∷ holds p.value ∷ holds p.finaliser ∷ []) j ≡ Some slot) ⊎ (slot ≡ unspecified)
     rest zero slot ne e = inr cc
     rest (suc zero) slot ne e = absurd (ne refl)
     rest (suc (suc zero)) slot ne e = inr cc

@@ -1,9 +1,9 @@
--- What is outside the words: roots, where places change, and the list of weak pointers.
+-- The state outside the words: roots, if places change, and the list of weak pointers.
 use Rattle.std.specs.Prelude.{◌≡◌, ◌+◌, ◌-◌, ◌*◌, ◌<◌, ◌≤◌, ◌∷◌, ◌++◌}
-use Rattle.nmgc_heap_spec.specs.laws.Vocabulary.{inl, inr, ℕ, zero, suc, List, [], length, map, replicate, refl, sym, ap, subst, ◌∙◌, arith, slice_index, Some, None, get_or, slice_get, Contains, cases_lt, length-map, slice_get-get_or, Contains-append_left, Contains-append_right, REGISTERS, SHARED_MAKER, Name, Value, Ref, Node, Con, Var, Arr, Thunk, Weak, Stack, Parts, MutatorState, World, state_of, node_of, no_mutator, IsWorld, IsShared, strong_fields, RefersTo, start, field, IsRoot, IsAlive, IsAliveWeak, contains_head, is_some_get, is_some_of, item_map, item_left, contains_read, InSegment, InNursery, nursery_place, Layout, IsWide, IsWideRoot, IsOfWeak, holds, unset, untold, header_of, slots_of, IsTracked, Place, ListMeans, Represents, RepresentsRoots, ListsWeaks, Moved, Moves, StillSpoken, settled, DropsPlaces}
+use Rattle.nmgc_heap_spec.specs.laws.Vocabulary.{inl, inr, ℕ, zero, suc, List, [], length, map, replicate, refl, sym, ap, subst, ◌∙◌, arith, slice_index, Some, None, get_or, slice_get, Contains, cases_lt, length-map, slice_get-get_or, Contains-append_left, Contains-append_right, REGISTERS, SHARED_MAKER, Name, Value, Ref, Node, Con, Var, Arr, Thunk, Weak, Stack, Parts, MutatorState, World, state_of, node_of, no_mutator, IsWorld, IsShared, strong_fields, RefersTo, start, field, IsRoot, IsAlive, IsAliveWeak, contains_head, is_some_get, is_some_of, item_map, item_left, contains_read, InSegment, InNursery, nursery_place, Layout, IsWide, IsWideRoot, IsOfWeak, holds, unset, unspecified, header_of, slots_of, IsTracked, Place, ListMeans, Represents, RepresentsRoots, ListsWeaks, Moved, Moves, StillSpoken, settled, DropsPlaces}
 use Rattle.nmgc_heap_spec.specs.laws.{Kinds.map_item, Slots.means_in, Tracking.reached_in, Tracking.tracked_in, Tracking.slot_tracked, Meanings.one_at, Meanings.above_zero, Meanings.one_list, Meanings.one_row, Meanings.one_world, Moving.all_mean_after, Moving.list_means_after}
 
--- what roots refer to is in the wide reach, and so tracked
+-- a name that a root refers to is in the wide reach, and so tracked
 pub root_wide : (w : World) (m : ℕ) (n : Name) → Contains ((state_of w m).registers ++ (state_of w m).queue) (Ref n) → IsWide w n
 root_wide w m n c = start n (inl (inr (m, c)))
 
@@ -17,27 +17,27 @@ tracked_wide w n t = tracked_in w [] (IsWide w) (λ k i. start k i) (λ e k c i.
 pub list_in : (P Q : Place → Type 0) (words : List ℕ) (values : List Value) →
     ((n : Name) (at : ℕ) → Contains values (Ref n) → P (record { at = at; name = n }) → Q (record { at = at; name = n })) →
     ListMeans P words values → ListMeans Q words values
-list_in P Q [] [] told h = tt
-list_in P Q [] (v ∷ vs) told h = absurd h
-list_in P Q (w ∷ ws) [] told h = absurd h
-list_in P Q (w ∷ ws) (v ∷ vs) told h = (
-  means_in P Q w v (λ n at e. told n at (subst (λ (u : Value). Contains (v ∷ vs) u) e (contains_head v vs))) h.0,
-  list_in P Q ws vs (λ n at c. told n at (Contains-append_right (v ∷ []) vs (Ref n) c)) h.1,
+list_in P Q [] [] is_known h = tt
+list_in P Q [] (v ∷ vs) is_known h = absurd h
+list_in P Q (w ∷ ws) [] is_known h = absurd h
+list_in P Q (w ∷ ws) (v ∷ vs) is_known h = (
+  means_in P Q w v (λ n at e. is_known n at (subst (λ (u : Value). Contains (v ∷ vs) u) e (contains_head v vs))) h.0,
+  list_in P Q ws vs (λ n at c. is_known n at (Contains-append_right (v ∷ []) vs (Ref n) c)) h.1,
 )
 
--- roots are stood for with other places too, where these have the places of all that roots refer to
+-- roots are represented with other places too, if these include the places of all names that roots refer to
 pub roots_in : (places others : List Place) (w : World) (registers : List ℕ) (queues : List (List ℕ)) (serials : List ℕ) →
     ((n : Name) (at : ℕ) → IsWide w n → Contains places (record { at = at; name = n }) → Contains others (record { at = at; name = n })) →
     RepresentsRoots places w registers queues serials → RepresentsRoots others w registers queues serials
-roots_in places others w registers queues serials told r = record {
+roots_in places others w registers queues serials is_known r = record {
   count = r.count;
   mutators = r.mutators;
   held = λ m lt i v e.
       means_in (Contains places) (Contains others) (slice_index registers (REGISTERS * m + i)) v
-      (λ n at s. told n at (root_wide w m n (Contains-append_left (state_of w m).registers (state_of w m).queue (Ref n) (rw s at (contains_read (state_of w m).registers i v e)))))
+      (λ n at s. is_known n at (root_wide w m n (Contains-append_left (state_of w m).registers (state_of w m).queue (Ref n) (rw s at (contains_read (state_of w m).registers i v e)))))
       (r.held m lt i v e);
   queued = λ m own e. list_in (Contains places) (Contains others) own (state_of w m).queue (λ n at c.
-      told n at (root_wide w m n (Contains-append_right (state_of w m).registers (state_of w m).queue (Ref n) c))) (r.queued m own e);
+      is_known n at (root_wide w m n (Contains-append_right (state_of w m).registers (state_of w m).queue (Ref n) c))) (r.queued m own e);
   next = r.next;
 }
 
@@ -85,12 +85,12 @@ strong_slot (Var x) v c = held_slot (x ∷ []) v c
 strong_slot (Arr values) v c = held_slot values v c
 strong_slot (Thunk free None) v c = let h = held_slot free v c in (suc h.0, h.1)
 strong_slot (Thunk free (Some result)) v c = let h = held_slot (result ∷ []) v c in
-    (h.0, item_left (map holds (result ∷ [])) (replicate (length free) untold) h.0 (holds v) h.1)
+    (h.0, item_left (map holds (result ∷ [])) (replicate (length free) unspecified) h.0 (holds v) h.1)
 strong_slot (Weak parts) v c = absurd (omega (arith, c.1))
 strong_slot (Stack size values) v c = let h = held_slot values v c in
     (h.0, item_left (map holds values) (replicate (size - length values) unset) h.0 (holds v) h.1)
 
--- two worlds for which the same words, roots and list of weak pointers stand, at a stop
+-- two worlds represented by the same words, roots and list of weak pointers, at a stop
 module _ (layout : Layout) (K L : Name → Node →
     Type 0) (places weaks : List Place) (w v : World) (words registers : List ℕ) (queues : List (List ℕ)) (serials : List ℕ)
     (stop : (p : Place) → Contains places p → InNursery layout p.name.maker p.at → ⊥)

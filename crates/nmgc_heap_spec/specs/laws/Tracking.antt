@@ -1,18 +1,18 @@
--- Which names are tracked, where worlds are fewer or a world changes.
+-- The tracked names if there are fewer worlds, or a world changes.
 use Rattle.nmgc_heap_spec.specs.{laws.Vocabulary.◌≡◌, laws.Vocabulary.List, laws.Vocabulary.[], laws.Vocabulary.◌∷◌, laws.Vocabulary.inl, laws.Vocabulary.inr, laws.Vocabulary.sym, laws.Vocabulary.subst, laws.Vocabulary.Some, laws.Vocabulary.Contains, laws.Vocabulary.Name, laws.Vocabulary.Ref, laws.Vocabulary.Node, laws.Vocabulary.Weak, laws.Vocabulary.World, laws.Vocabulary.node_of, laws.Vocabulary.RefersTo, laws.Vocabulary.IsReached, laws.Vocabulary.start, laws.Vocabulary.field, laws.Vocabulary.contains_head, laws.Vocabulary.contains_tail, laws.Vocabulary.contains_cases, laws.Vocabulary.no_more, laws.Vocabulary.IsWide, laws.Vocabulary.IsWideRoot, laws.Vocabulary.IsOfWeak, laws.Vocabulary.holds, laws.Vocabulary.slots_of, laws.Vocabulary.free_slots, laws.Vocabulary.IsTracked, laws.Vocabulary.IsWideIn, laws.Slots.slot_held, laws.Slots.free_held}
 
--- what more names reach is more
+-- more first names reach more
 pub reached_more : (w : World) (P Q : Name → Type 0) → ((n : Name) → P n → Q n) → (name : Name) → IsReached w P name → IsReached w Q name
 reached_more w P Q more name (start n p) = start n (more n p)
 reached_more w P Q more name (field n target r to) = field n target (reached_more w P Q more n r) to
 
--- what is reached has what the first names have and strong fields keep
+-- reached names have each property that the first names have and strong fields keep
 pub reached_in : (w : World) (P Q : Name → Type 0) → ((n : Name) → P n → Q n) → ((n target : Name) → Q n → RefersTo w n target → Q target) →
     (name : Name) → IsReached w P name → Q name
 reached_in w P Q first next name (start n p) = first n p
 reached_in w P Q first next name (field n target r to) = next n target (reached_in w P Q first next n r) to
 
--- of fewer earlier worlds, fewer names are tracked; the world itself is no further one
+-- with fewer earlier worlds, fewer names are tracked; the world itself as an earlier world adds none
 pub tracked_more : (w : World) (later earlier : List World) → ((e : World) → Contains later e → Contains (w ∷ earlier) e) → (name : Name) →
     IsTracked w later name → IsTracked w earlier name
 tracked_more w later earlier more name t =
@@ -27,7 +27,7 @@ tracked_more w later earlier more name t =
     ))
     name t
 
--- tracked names have what the wide reach of the world has, if that of each earlier one has it and strong fields keep it
+-- tracked names have each property of the wide roots and of each earlier world's wide reach, if strong fields keep it
 pub tracked_in : (w : World) (earlier : List World) (Q : Name → Type 0) → ((n : Name) → IsWideRoot w n → Q n) →
     ((e : World) (n : Name) → Contains earlier e → IsWide e n → Q n) → ((n target : Name) → Q n → RefersTo w n target → Q target) → (name : Name) →
     IsTracked w earlier name → Q name
@@ -39,7 +39,7 @@ tracked_in w earlier Q root past next name t =
     ])
     next name t
 
--- what a slot of a tracked name refers to is tracked
+-- a name that a slot of a tracked name refers to is tracked
 pub slot_tracked : (w : World) (earlier : List World) (name : Name) (node : Node) (n : Name) → IsTracked w earlier name →
     node_of w name ≡ Some node → Contains (slots_of node) (holds (Ref n)) → IsTracked w earlier n
 slot_tracked w earlier name node n t e c = elim (slot_held node (Ref n) c) [
@@ -57,7 +57,7 @@ slot_tracked w earlier name node n t e c = elim (slot_held node (Ref n) c) [
       start n (w, contains_head w earlier, start n wide)
 ]
 
--- a free variable in an earlier world of a name of its wide reach refers to a tracked one
+-- the free variables of a name in an earlier world's wide reach refer to tracked names
 pub free_tracked : (w e : World) (earlier : List World) (name : Name) (before : Node) (n : Name) → Contains earlier e → IsWide e name →
     node_of e name ≡ Some before → Contains (free_slots before) (holds (Ref n)) → IsTracked w earlier n
 free_tracked w e earlier name before n c wide was held = start n (

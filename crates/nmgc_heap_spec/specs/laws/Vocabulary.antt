@@ -1,5 +1,5 @@
--- Every name of std, of the crates below and of this crate's definitions that the lemmas of these laws speak of.
-pub use Rattle.nmgc_heap_spec.specs.{Changes.AddsPlaces, Changes.AgreeWhereTold, Changes.AreEarlier, Changes.ChangesAt, Changes.ChangesField, Changes.DropsPlaces, Changes.HaveHeaders, Changes.IsBorn, Changes.IsSameHeap, Changes.IsSpokenOf, Changes.IsUnborn, Changes.Remembers, Commands.ClosingKeepsEarlier, Commands.ClosingKeepsHeaders, Commands.ClosingTracks, Commands.NodeStep, Commands.StepChangesField, Commands.StepIsOne, Commands.StepKeepsEarlier, Commands.StepKeepsHeaders, Commands.StepLeavesHeap, Commands.StepTracks, Commands.StepTracksNoMore, Commands.TrackedAreKnown, Commands.WorldIsEarlier, Commands.birth, Commands.change, Commands.none, Moves.Copies, Moves.KeepsObject, Moves.Moved, Moves.Moves, Moves.StillSpoken, Moves.new_place, Moves.old_place, Moves.settled, Places.AllMean, Places.Fills, Places.HasSlots, Places.HasZeros, Places.IsBetween, Places.LiesWell, Places.ListMeans, Places.Means, Places.Place, Represents.IsEarlier, Represents.IsNamed, Represents.IsObject, Represents.IsPlaced, Represents.NoNode, Represents.Represents, Roots.ListsWeaks, Roots.RepresentsRoots, Samples.own, Shape.MayChange, Shape.Slot, Shape.fixed_slots, Shape.free_slots, Shape.header_of, Shape.holds, Shape.size_of, Shape.slots_of, Shape.unset, Shape.untold, Statements.FieldHasMeaning, Statements.MeaningIsField, Tracked.IsTracked, Tracked.IsWideIn, Written.HeaderIsShape, Written.NodeIsWritten, Written.PartsAreWritten, Written.WorldIsWritten}
+-- The names of std, of the crates below and of this crate's definitions that the lemmas of these laws use.
+pub use Rattle.nmgc_heap_spec.specs.{Changes.AddsPlaces, Changes.AgreeWhereKnown, Changes.AreEarlier, Changes.ChangesAt, Changes.ChangesField, Changes.DropsPlaces, Changes.HaveHeaders, Changes.IsBorn, Changes.IsSameHeap, Changes.IsSpokenOf, Changes.IsUnborn, Changes.Remembers, Commands.ClosingKeepsEarlier, Commands.ClosingKeepsHeaders, Commands.ClosingTracks, Commands.NodeStep, Commands.StepChangesField, Commands.StepIsOne, Commands.StepKeepsEarlier, Commands.StepKeepsHeaders, Commands.StepLeavesHeap, Commands.StepTracks, Commands.StepTracksNoMore, Commands.TrackedAreKnown, Commands.WorldIsEarlier, Commands.birth, Commands.change, Commands.none, Moves.Copies, Moves.KeepsObject, Moves.Moved, Moves.Moves, Moves.StillSpoken, Moves.new_place, Moves.old_place, Moves.settled, Places.AllMean, Places.Fills, Places.HasSlots, Places.HasZeros, Places.IsBetween, Places.LiesWell, Places.ListMeans, Places.Means, Places.Place, Represents.IsEarlier, Represents.IsNamed, Represents.IsObject, Represents.IsPlaced, Represents.NoNode, Represents.Represents, Roots.ListsWeaks, Roots.RepresentsRoots, Samples.own, Shape.MayChange, Shape.Slot, Shape.fixed_slots, Shape.free_slots, Shape.header_of, Shape.holds, Shape.size_of, Shape.slots_of, Shape.unset, Shape.unspecified, Statements.FieldHasMeaning, Statements.MeaningIsField, Tracked.IsTracked, Tracked.IsWideIn, Written.HeaderIsShape, Written.NodeIsWritten, Written.PartsAreWritten, Written.WorldIsWritten}
 pub use Rattle.nmgc_limits.specs.declared.mutators.TheConstants.{REGISTERS, SHARED_MAKER, SHARED_SLOTS}
 pub use Rattle.nmgc_lists.specs.laws.Items.{at_some, contains_at as contains_read, contains_cases, contains_filter, contains_head, contains_map, contains_tail, filter_contains, is_some_get, is_some_of, item_map, map_contains, nothing_in as no_more, slice_get-append as item_left, slice_get-append_last as last_item, slice_get-set_other}
 pub use Rattle.nmgc_object.specs.{Places.InNursery, Places.InSegment, Places.nursery_place, Places.word_total, Words.HasTag, Words.IsHeader, Words.header_word, Words.kind_number, declared.layout.Layout.Layout, declared.size.TheConstants.HEADER_WORDS, declared.words.Header.Header}

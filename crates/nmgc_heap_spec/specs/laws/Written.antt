@@ -1,5 +1,4 @@
--- What is within the limits of a script has words: a valid header, and an object that fits a segment. And
--- the parts of an object lie where parts lie.
+-- A node within a script's limits has a valid header, and an object that fits a segment; its parts lie where parts lie.
 use Rattle.std.specs.Prelude.{◌≡◌, ◌+◌, ◌≤◌}
 use Rattle.nmgc_heap_spec.specs.laws.Vocabulary.{Contains, ℕ, length, refl, sym, ap, subst, ◌∙◌, arith, inl, inr, Some, Name, Node, Con, Var, Arr, Thunk, Weak, Stack, node_of, IsShared, shared_name, name_cases, at_some, header_word, IsHeader, HEADER_WORDS, IsNodeWithin, words_of, header_of, size_of, slots_of, HasSlots, LiesWell, HeaderIsShape, NodeIsWritten, WorldIsWritten, PartsAreWritten, slice_index}
 use Rattle.nmgc_heap_spec.specs.laws.Meanings.{placed_at}

@@ -1,4 +1,4 @@
--- Words that begin as those of a heap with g: word 0, g, and zeros up to the first segment.
+-- Words that begin like a heap with g: word 0, g, and zeros up to the first segment.
 use Rattle.std.specs.Prelude.{◌≡◌, ◌+◌, ◌-◌, ◌<◌, ◌∷◌, ◌++◌}
 use Rattle.nmgc_heap_spec.specs.laws.Vocabulary.{ℕ, zero, suc, ◌∙◌, List, length, replicate, slice_index, inl, inr, refl, ap, arith, get_or_append_left, get_or-append-add, get_or-replicate, SHARED_SLOTS, HasZeros}
 

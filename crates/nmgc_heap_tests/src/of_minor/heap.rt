@@ -18,7 +18,7 @@ use std::marker::Model;
 use std::process::Abort;
 use std::test::Fail;
 
-// The working lists of the passes, which rest between two promotions with what the last one found.
+// The working lists of the passes. Between two promotions they have the results of the last one.
 #[derive(Drop)]
 pub struct Lists {
     pub young: Young,
@@ -41,7 +41,7 @@ impl Model for Lists {
 }
 
 impl Lists {
-    // As `Promotion::reserve` takes them.
+    // Reserves the lists as `Promotion::reserve` does.
     fn reserve(alloc: Global, layout: Layout) -> Result<Lists, NoMemory>
         requires { IsLayout layout }
     {
@@ -66,8 +66,8 @@ impl Lists {
     }
 }
 
-// The words and what is outside them; for each word of the nurseries how many words the object has that begins
-// there, or 0; and the next serial, which all mutators share.
+// The words and all state outside them. `sizes` has for each word of the nurseries the number of words of the object that
+// begins there, or 0. All mutators share the next serial.
 #[derive(Drop)]
 pub struct Heap {
     alloc: Global,
@@ -90,7 +90,7 @@ fn nurseries(alloc: Global, mutators: &[Mutator]) -> Result<Vec<Nursery>, NoMemo
     Ok(nurseries)
 }
 
-// Has the first mutator record these fields and weak pointers.
+// Makes the first mutator record these fields and weak pointers.
 fn note(
     rt: &impl Abort,
     mutators: &mut [Mutator],
@@ -110,7 +110,7 @@ fn note(
     Ok(())
 }
 
-// Walks the heap, and promotes what is found in it, where the first mutator recorded these fields and weak pointers.
+// Makes the first mutator record these fields and weak pointers, walks the heap, and promotes its objects.
 pub fn promote(
     rt: &impl Abort,
     heap: &mut Heap,
@@ -143,7 +143,7 @@ pub fn promote(
     Ok(())
 }
 
-// Wipes the words of nurseries that are empty again: the walk reads those beyond the used part too.
+// Wipes the words of nurseries that are empty again: the walk also reads the words beyond the used part.
 fn wipe(rt: &impl Abort, words: &mut List<u64>, base: u32) {
     let words = words.items_mut();
     assert!(rt; base as usize <= words.len());
@@ -165,12 +165,12 @@ pub const STACK: u64 = 6;
 
 pub const NIL: u64 = 1;
 
-// 64 segments of so many words, and nurseries.
+// A layout of 64 segments of `words` words, and nurseries.
 pub const fn layout(words: u32, nursery: u32, mutators: u8) -> Layout {
     layout!(segments: 64, words: words, nursery: nursery, mutators: mutators)
 }
 
-// A heap without objects but g, whose slots are nil.
+// A heap with g as its only object, whose slots are nil.
 pub fn make_heap(rt: &impl Abort, alloc: Global, layout: Layout) -> Result<Heap, Fail> {
     assert!(rt; layout.words.is_power_of_two() && 16 <= layout.words && layout.words <= 4096);
     assert!(rt; layout.words <= layout.nursery && layout.nursery <= 8192);
@@ -199,21 +199,21 @@ pub fn make_heap(rt: &impl Abort, alloc: Global, layout: Layout) -> Result<Heap,
     })
 }
 
-// Stores a word at a place.
+// Stores a word at an address.
 pub fn store(rt: &impl Abort, words: &mut List<u64>, at: u32, word: u64) {
     let words = words.items_mut();
     assert!(rt; (at as usize) < words.len());
     words[at as usize] = word;
 }
 
-// The word at a place.
+// The word at an address.
 pub fn word(rt: &impl Abort, heap: &Heap, at: u32) -> u64 {
     let words = heap.words.items();
     assert!(rt; (at as usize) < words.len());
     words[at as usize]
 }
 
-// Creates an object at the top of a mutator's nursery, with the next serial, and answers its place.
+// Creates an object at the top of a mutator's nursery, with the next serial, and returns its address.
 pub fn create(rt: &impl Abort, heap: &mut Heap, maker: u8, kind: u64, fields: &[u64]) -> u32 {
     let mutators = heap.mutators.items_mut();
     assert!(rt; usize::from(maker) < mutators.len() && kind < 8 && fields.len() < 4095);
@@ -241,12 +241,12 @@ pub fn create(rt: &impl Abort, heap: &mut Heap, maker: u8, kind: u64, fields: &[
     at
 }
 
-// The word that points to a place.
+// The word that points to an address.
 pub fn to(at: u32) -> u64 {
     2 * u64::from(at)
 }
 
-// Has a register hold a word. The registers are counted through all mutators.
+// Puts a word into a register. The registers are counted through all mutators.
 pub fn hold(rt: &impl Abort, heap: &mut Heap, register: usize, word: u64) {
     let count = REGISTERS as usize;
     let mutators = heap.mutators.items_mut();
@@ -256,7 +256,7 @@ pub fn hold(rt: &impl Abort, heap: &mut Heap, register: usize, word: u64) {
     registers[register % count] = word;
 }
 
-// What a register holds.
+// The word in a register.
 pub fn held(rt: &impl Abort, heap: &Heap, register: usize) -> u64 {
     let count = REGISTERS as usize;
     let mutators = heap.mutators.items();

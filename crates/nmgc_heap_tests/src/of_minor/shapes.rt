@@ -1,8 +1,8 @@
-//! Heaps of every shape: what is shared, cyclic, dead, waiting, or held in one way alone.
+//! Heaps of every shape: objects that are shared, cyclic, dead, waiting, or held in one way alone.
 //!
-//! There are 64 segments of 256 words, of which the first begins at word 32, and nurseries as large as a
-//! segment, of which the first begins at word `YOUNG`. A pointer is twice its word. Young objects lie in the
-//! order of the tables, so each place is a sum of sizes: two words, and one for each field.
+//! There are 64 segments of 256 words, from word 32 on, and nurseries of the same size, from word `YOUNG` on. A pointer is
+//! twice its word. Nursery objects lie in the order of the tables, so each address is a sum of sizes: two words, plus one a
+//! field.
 use super::heap::{
     ARR, CON, Heap, NIL, STACK, THUNK, VAR, WEAK, create, held, hold, layout, make_heap, promote,
     store, to, word,
@@ -13,26 +13,26 @@ use std::alloc::Global;
 use std::process::Abort;
 use std::test::Fail;
 
-// Where the nurseries of mutators 0 and 1 begin.
+// The bases of the nurseries of mutators 0 and 1.
 const YOUNG: u64 = 16416;
 
 const SECOND_YOUNG: u64 = 16672;
 
-// The number of the second mutator's first register, as all are counted.
+// The number of the second mutator's first register, counted through all mutators.
 const SECOND_REGISTER: usize = REGISTERS as usize;
 
 // The word of the number 5.
 const FIVE: u64 = 13;
 
-// An object that is born: its maker, the number of its kind, and its field words.
+// A new object: its maker, the number of its kind, and its field words.
 type Birth = (u8, u64, &'static [u64]);
 
-// An object that moves: its maker, its serial, its place in the nursery, and the new one.
+// An object that moves: its maker, its serial, its address in the nursery, and its new address.
 type Moved = (u8, u32, u32, u32);
 
-// A round and its stop: the objects that are born; the words that are then stored below the nurseries; the
-// words that registers hold, and those that join the first queue; the recorded fields, and the weak pointers
-// that the round made. Then what moves; and words of the heap, registers and the first queue after it.
+// A round and its stop. First the new objects, then the words stored below the nurseries, the words that registers hold, and
+// the words that join the first queue. Then the recorded fields, and the weak pointers that the round made. Last the expected
+// moves, words of the heap, registers and the first queue.
 #[derive(Clone, Copy)]
 struct Round {
     births: &'static [Birth],
@@ -61,8 +61,8 @@ const QUIET: Round = Round {
     queue: &[],
 };
 
-// A constructor that refers to itself, two that refer to each other, an array that shares one with a
-// variable, and a constructor that nobody refers to.
+// A constructor that refers to itself, two that refer to each other, an array that shares one with a variable, and a
+// constructor to which nothing refers.
 const SHARED_AND_CYCLIC: [Round; 1] = [Round {
     births: &[
         (0, CON, &[2 * YOUNG]),
@@ -105,9 +105,9 @@ const SHARED_AND_CYCLIC: [Round; 1] = [Round {
     ..QUIET
 }];
 
-// An alive weak pointer that nobody refers to, with its key and its finaliser; two dead ones, of which one is
-// held, and what only they refer to; a thunk with its result, which no longer holds its free variable, and
-// one that waits; and a stack with two slots left, in a slot of g.
+// An alive weak pointer to which nothing refers, with its key and its finaliser. Two dead weak pointers, with one of them
+// held, and an object to which only they refer. A thunk with its result, which no longer holds its free variable, and a thunk
+// that waits. A stack with two slots left, in a slot of g.
 const WEAK_AND_LAZY: [Round; 1] = [Round {
     births: &[
         (0, CON, &[]),
@@ -157,8 +157,8 @@ const WEAK_AND_LAZY: [Round; 1] = [Round {
     ..QUIET
 }];
 
-// A variable is promoted, and then nobody holds it. One of its fields is recorded, twice over, and refers to
-// a young object; another waits in a queue; and a third is held by nobody.
+// A variable is promoted, and then is held no more. One of its fields is recorded twice, and refers to a nursery object.
+// Another nursery object waits in a queue, and a third is held nowhere.
 const RECORDED_AND_QUEUED: [Round; 2] = [
     Round {
         births: &[(0, VAR, &[NIL])],
@@ -182,8 +182,8 @@ const RECORDED_AND_QUEUED: [Round; 2] = [
     },
 ];
 
-// An object that was promoted waits in a queue while a young one moves: none of the queue's words is young, and it stays
-// as it is. Then a young object waits in the same queue, and one word of the two changes.
+// A promoted object waits in a queue while a nursery object moves: none of the queue's words points to a nursery, and the
+// queue stays as it is. Then a nursery object waits in the same queue, and one word of the two changes.
 const QUEUED_BEFORE: [Round; 3] = [
     Round {
         births: &[(0, CON, &[])],
@@ -211,8 +211,8 @@ const QUEUED_BEFORE: [Round; 3] = [
     },
 ];
 
-// Two mutators, whose objects refer to each other's. Those of mutator 0 move first, though its object was
-// born last but one. Nothing is left to move at the stop after that.
+// Two mutators, whose objects refer to each other's objects. Mutator 0's object moves first, though it was made last but one.
+// Nothing is left to move at the next stop.
 const TWO_MUTATORS: [Round; 2] = [
     Round {
         births: &[
@@ -251,7 +251,7 @@ fn join_all(rt: &impl Abort, heap: &mut Heap, joins: &[u64]) -> Result<(), Fail>
     Ok(())
 }
 
-// Does what happens in a round.
+// Does the steps of a round.
 fn play(rt: &impl Abort, heap: &mut Heap, round: &Round) -> Result<(), Fail> {
     bear_all(rt, heap, round.births);
     for (at, word) in round.stores {
@@ -263,7 +263,7 @@ fn play(rt: &impl Abort, heap: &mut Heap, round: &Round) -> Result<(), Fail> {
     join_all(rt, heap, round.joins)
 }
 
-// Compares the moves with those that are wanted.
+// Compares the moves with the expected moves.
 fn compare_moves(rt: &impl Abort, heap: &Heap, wanted: &[Moved]) {
     let moves = heap.lists.moves();
     assert!(rt; moves.len() == wanted.len());
@@ -275,7 +275,7 @@ fn compare_moves(rt: &impl Abort, heap: &Heap, wanted: &[Moved]) {
     }
 }
 
-// Compares words, registers and the first queue with those that a round wants.
+// Compares words, registers and the first queue with a round's expected values.
 fn compare(rt: &impl Abort, heap: &Heap, round: &Round) {
     for (at, wanted) in round.words {
         assert!(rt; word(rt, heap, *at) == *wanted);
@@ -288,7 +288,7 @@ fn compare(rt: &impl Abort, heap: &Heap, round: &Round) {
     assert!(rt; mutators[0].queue.words() == round.queue);
 }
 
-// Runs rounds of so many mutators from an empty heap.
+// Runs rounds of `mutators` mutators from an empty heap.
 fn run_rounds(rt: &impl Abort, alloc: Global, mutators: u8, rounds: &[Round]) -> Result<(), Fail> {
     let mut heap = make_heap(rt, alloc, layout(256, 256, mutators))?;
     for round in rounds {
@@ -309,7 +309,7 @@ fn heaps_of_every_shape(rt: HostRuntime) -> Result<(), Fail> {
     run_rounds(&rt, rt.alloc(), 2, &TWO_MUTATORS)
 }
 
-// Makes an array of so many words for each of the sizes, holds it, promotes, and compares the new places.
+// Makes an array of each of the sizes in words, holds it, promotes, and compares the new addresses.
 fn move_sizes(rt: &impl Abort, heap: &mut Heap, sizes: &[(usize, u32)]) -> Result<(), Fail> {
     let nils = [NIL; 4094];
     for (index, (size, _)) in sizes.iter().enumerate() {
@@ -326,9 +326,9 @@ fn move_sizes(rt: &impl Abort, heap: &mut Heap, sizes: &[(usize, u32)]) -> Resul
     Ok(())
 }
 
-// Arrays that fill a block, of some dense classes and of each class above, and then the smallest of these classes.
-// A segment has 4,096 words, the first begins at word 32, and each class takes the next one; only the largest block
-// fills one at once.
+// Arrays that fill a block, of some dense classes and of each class above, and then the smallest of these classes. A segment
+// has 4,096 words, the first begins at word 32, and each class takes the next segment. Only the largest block fills one at
+// once.
 #[test]
 fn every_size(rt: HostRuntime) -> Result<(), Fail> {
     let mut heap = make_heap(&rt, rt.alloc(), layout(4096, 8192, 1))?;

@@ -1,28 +1,28 @@
-//! A promotion at a stop, as the run does it: what the words stand for is told by a law, and not by a walk.
+//! A promotion at a stop, as the run does it: a law says which world the words represent, without a walk.
 ghost use Rattle.std.specs.Prelude.{◌≡◌, ◌≤◌, [], ◌∷◌, IfOk, IsTrue, length};
 ghost use Rattle.nmgc_object.specs.Places.{IsLayout};
 ghost use Rattle.nmgc_mutator.specs.declared.mutator.Mutator.{Mutator as MutatorSeen};
 ghost use Rattle.nmgc_alloc.specs.Segments.{all_free};
 ghost use Rattle.nmgc_heap_spec.specs.{Places.HasZeros, Samples.small_layout};
-ghost use Rattle.nmgc_blocks_spec.specs.Samples.{HoldsYoung};
+ghost use Rattle.nmgc_stop_spec.specs.Samples.{HoldsYoung};
 ghost use Rattle.nmgc_minor.specs.Promotion.{IsFor};
 ghost use Rattle.nmgc_heap_tests.specs.Checked.{IsYoungMutator};
 
 use super::heap::NIL;
 use nmgc_alloc::Segments;
-use nmgc_blocks_spec::laws::one_young_object;
 use nmgc_limits::REGISTERS;
-use nmgc_lists::{List, ListMemory, Placed};
+use nmgc_lists::{List, ListMemory, VecList};
 use nmgc_minor::{Move, Promotion};
 use nmgc_mutator::Mutator;
 use nmgc_object::{Address, FinQueue, Layout, Nursery};
+use nmgc_stop_spec::laws::one_young_object;
 use nmgc_updrem::link;
 use nmgc_world_spec::Name;
 use std::alloc::Global;
 use std::process::Abort;
 use std::test::Fail;
 
-// Whether the words that belong to nobody are 0.
+// Whether the unused words are 0.
 fn are_zeros(words: &[u64]) -> bool
     requires { 32 ≤ length words.now }
     ensures { IsTrue result → HasZeros words.now }
@@ -38,7 +38,7 @@ fn are_zeros(words: &[u64]) -> bool
     true
 }
 
-// Looks whether the words are those of the heap whose round made one object.
+// Checks that the heap is the heap after the round that made one object.
 fn check_young(rt: &impl Abort, words: &[u64])
     ensures { HoldsYoung words.now }
 {
@@ -54,7 +54,7 @@ fn check_young(rt: &impl Abort, words: &[u64])
     assert!(rt; words[2082] == 13);
 }
 
-// Promotes it: the nursery is empty afterwards.
+// Promotes that object: the nursery is empty afterwards.
 fn promote_young(
     rt: &impl Abort,
     promotion: &mut Promotion,
@@ -74,7 +74,7 @@ fn promote_young(
     assert!(rt; mutators[0].nursery.top == 2080);
 }
 
-// The one mutator: it holds the object in register 0, its number in register 1, and nil.
+// The one mutator: it holds the object in register 0, the number 5 in register 1, and nil in the rest.
 fn young_mutator(alloc: Global, small: Layout) -> Result<Mutator, Fail>
     requires layout { IsLayout small }
     requires some { 1 ≤ small.mutators }
@@ -85,7 +85,7 @@ fn young_mutator(alloc: Global, small: Layout) -> Result<Mutator, Fail>
     let mut registers = Vec::from_elem(alloc, NIL, REGISTERS as usize)?;
     registers[0] = 4160;
     registers[1] = 13;
-    mutator.registers = Placed::of(registers, ListMemory::new(alloc)?);
+    mutator.registers = VecList::of(registers, ListMemory::new(alloc)?);
     mutator.queue = FinQueue::new(alloc);
     mutator.nursery = Nursery {
         base: 2080,
@@ -97,7 +97,7 @@ fn young_mutator(alloc: Global, small: Layout) -> Result<Mutator, Fail>
     Ok(mutator)
 }
 
-// One object moved, to the first block.
+// Checks that exactly one object moved, to the first block.
 fn compare_move(rt: &impl Abort, moves: &[Move]) {
     assert!(rt; moves.len() == 1);
     assert!(rt;
@@ -111,7 +111,7 @@ fn compare_move(rt: &impl Abort, moves: &[Move]) {
     assert!(rt; moves[0].to == Address(32));
 }
 
-// Compares the words from a place on with those that are wanted.
+// Compares the words from an address on with the expected words.
 fn compare_front(rt: &impl Abort, words: &[u64], from: usize, wanted: &[u64]) {
     assert!(rt; from <= words.len() && wanted.len() <= words.len() - from);
     for i in 0..wanted.len() {
@@ -119,7 +119,7 @@ fn compare_front(rt: &impl Abort, words: &[u64], from: usize, wanted: &[u64]) {
     }
 }
 
-// The words that belong to nobody become 0.
+// Sets the unused words to 0.
 fn clear_nobody(rt: &impl Abort, words: &mut [u64]) {
     assert!(rt; words.len() == 2144);
     words[0] = 0;
@@ -128,8 +128,8 @@ fn clear_nobody(rt: &impl Abort, words: &mut [u64]) {
     }
 }
 
-// A round made a constructor of tag 7 with the number 5. It moves from the beginning of the nursery to the
-// first block of the first segment.
+// A round made a constructor of tag 7 with the number 5. It moves from the nursery's beginning to the first segment's first
+// block.
 #[test]
 fn one_object(rt: HostRuntime) -> Result<(), Fail> {
     let small = layout!(segments: 32, words: 64, nursery: 64, mutators: 1);

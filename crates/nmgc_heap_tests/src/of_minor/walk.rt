@@ -1,10 +1,10 @@
-//! A walk through a heap, which tells what a test's words are good for.
+//! A walk through a heap, which checks that a test's words meet the conditions of promotion.
 //!
-//! The passes ask much of the words that they are given. A test has words and no world that they stand
-//! for, so it looks: where the walk ends, the words are what the passes ask.
+//! The passes ask much of their words. A test has words, but no world that they represent, so it checks them: if the walk
+//! ends, the words meet the passes' conditions.
 //!
-//! Easy to get wrong: the walk takes each even word for a pointer, headers and names too. So a heap needs
-//! enough segments below its nurseries that no header of a large stack, and no high serial, points there.
+//! Easy to get wrong: the walk takes each even word for a pointer, also headers and names. So a heap needs enough segments
+//! below its nurseries that no header of a large stack, and no high serial, points there.
 ghost use Rattle.std.specs.Prelude.{ℕ, ◌≡◌, ◌≢◌, ◌+◌, ◌*◌, ◌<◌, ◌≤◌, IsTrue, length, slice_index, Contains};
 ghost use Rattle.nmgc_object.specs.{Words.header_word, Words.name_word, Words.IsHeader as IsGoodHeader, Words.IsName, Places.IsLayout, Places.reserve_count, declared.words.Address.Address as Place};
 ghost use Rattle.nmgc_alloc.specs.Reserve.{free_count};
@@ -19,7 +19,7 @@ use nmgc_object::{
 use nmgc_world_spec::Name;
 use std::process::Abort;
 
-// Whether an object begins where the word points, if it points to the nurseries.
+// Whether an object begins at the target of the word, if it points to the nurseries.
 fn points_well(sizes: &[u32], base: u32, word: u64) -> bool
     ensures { IsTrue result → PointsWell base sizes.now word }
 {
@@ -156,7 +156,7 @@ pub fn check_nurseries(rt: &impl Abort, layout: Layout, nurseries: &[Nursery])
     }
 }
 
-// Whether the reserve is free.
+// Checks that the reserve is free.
 pub fn check_room(rt: &impl Abort, segments: &Segments)
     ensures { reserve_count segments.now.layout ≤ free_count segments.now.segments }
 {

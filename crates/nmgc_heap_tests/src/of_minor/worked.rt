@@ -5,8 +5,8 @@ use std::alloc::Global;
 use std::process::Abort;
 use std::test::Fail;
 
-// A command that makes an object of a register's word or of two registers' words, and holds it in a
-// register; and how often it is given.
+// A command that makes an object of a register's word or of two registers' words, and holds it in a register; and the number
+// of times that it is given.
 #[derive(Clone, Copy)]
 struct Make {
     times: u32,
@@ -23,9 +23,9 @@ macro_rules! make {
     };
 }
 
-// A round's commands and its stop: the free and the filled segments; how many objects were promoted, all
-// of one block of 4 words, with the serials that follow the first and the places that follow its place;
-// and words of the heap and registers after it.
+// A round's commands and its stop: the free and the filled segments, and the number of promoted objects. Each has a block of
+// 4 words. Their serials follow the first serial, and their addresses follow the first address. Then words of the heap and
+// registers after the stop.
 #[derive(Clone, Copy)]
 struct Round {
     commands: &'static [Make],
@@ -114,7 +114,7 @@ const THREE_FILLED: [Round; 2] = [
     },
 ];
 
-// Does a command as often as it says.
+// Gives a command `times` times.
 fn give(rt: &impl Abort, heap: &mut Heap, command: Make) {
     for _ in 0..command.times {
         let first = held(rt, heap, command.first);
@@ -153,7 +153,7 @@ fn compare(rt: &impl Abort, heap: &Heap, round: &Round) {
     }
 }
 
-// Has a mutator do a round's commands, promotes, and compares.
+// Gives a round's commands, promotes, and compares.
 fn run_round(rt: &impl Abort, heap: &mut Heap, round: &Round) -> Result<(), Fail> {
     for command in round.commands {
         give(rt, heap, *command);
@@ -164,7 +164,7 @@ fn run_round(rt: &impl Abort, heap: &mut Heap, round: &Round) -> Result<(), Fail
     Ok(())
 }
 
-// Runs rounds from an empty heap with a nursery of so many words.
+// Runs rounds from an empty heap with a nursery of `nursery` words.
 fn run_rounds(rt: &impl Abort, alloc: Global, nursery: u32, rounds: &[Round]) -> Result<(), Fail> {
     let mut heap = make_heap(rt, alloc, layout(64, nursery, 1))?;
     for round in rounds {

@@ -1,5 +1,5 @@
-//! A round while a cycle is marking: a variable holds the only reference to an object as the cycle begins. The
-//! collector reads the variable before the mutator overwrites it, or after.
+//! A round while a cycle is marking: a variable holds the only reference to an object as the cycle begins. The collector
+//! reads the variable before the mutator overwrites it, or after that.
 ghost use Rattle.nmgc_mutator.specs.declared.mutator.TheConstants.{MOST_PUSHED};
 ghost use Rattle.std.specs.Prelude.{◌≡◌, ◌*◌, ◌<◌, ◌≤◌, true, [], IfOk, IfSome, vec_capacity};
 ghost use Rattle.nmgc_heap_spec.specs.Samples.{small_layout};
@@ -8,13 +8,13 @@ ghost use Rattle.nmgc_round.specs.{View.whole, Seat.IsAt, Seat.seen, Seat.word_c
 ghost use Rattle.nmgc_heap_tests.specs.Sample.{snapshot_opening, IsSnapshotHeap, IsSnapshotMutator, IsBegun};
 
 use super::laws::a_marking_round_opens;
+use nmgc_commands::{Form, PackedCommand};
 use nmgc_limits::REGISTERS;
-use nmgc_lists::{List, ListMemory, NoMemory, Placed};
+use nmgc_lists::{List, ListMemory, NoMemory, VecList};
 use nmgc_mutator::{Mutator, Step, laws};
 use nmgc_object::{Address, Layout};
-use nmgc_program::{Form, PackedCommand};
-use nmgc_round::chosen::Wanted;
-use nmgc_round::{Chosen, CollectorSeat, MutatorSeat, Opened, Round, Started, Words};
+use nmgc_round::witness::WitnessFor;
+use nmgc_round::{CollectorSeat, MutatorSeat, Opened, Round, Started, Witness, Words};
 use nmgc_updrem::{UpdSender, link};
 use nmgc_world_spec::{Operand, Reply};
 use std::alloc::Global;
@@ -23,14 +23,14 @@ use std::test::Fail;
 // The opening of the round.
 struct AtSnapshot;
 
-impl Wanted<Layout, Opened> for AtSnapshot {
+impl WitnessFor<Layout, Opened> for AtSnapshot {
     ghost wanted = { λ layout o. o ≡ snapshot_opening };
 }
 
-fn opening(layout: &Layout) -> Chosen<Opened>
+fn opening(layout: &Layout) -> Witness<Opened>
     ensures { result.value ≡ snapshot_opening }
 {
-    Chosen::of::<Layout, AtSnapshot>(layout)
+    Witness::of::<Layout, AtSnapshot>(layout)
 }
 
 fn small() -> Layout
@@ -39,8 +39,8 @@ fn small() -> Layout
     layout!(segments: 32, words: 64, nursery: 64, mutators: 1)
 }
 
-// The words up to the last object: g, a constructor with 5, the variable that refers to it, and a chain of
-// fourteen constructors, each of which refers to the one before it.
+// The words up to the last object: g, a constructor with 5, and the variable that refers to it. Then a chain of fourteen
+// constructors; each refers to the one before it.
 const OBJECTS: [u64; 96] = [
     0, 32771, 32, 1, 1, 1, 1, 1, 1, 1, 1, 1, 1, 1, 1, 1, 1, 1, 1, 0, 0, 0, 0, 0, 0, 0, 0, 0, 0, 0,
     0, 0, 2049, 0, 13, 0, 2050, 64, 64, 0, 4097, 128, 1, 13, 4097, 192, 80, 13, 4097, 256, 88, 13,
@@ -61,8 +61,7 @@ pub(super) fn snapshot_heap(alloc: Global) -> Result<Words, NoMemory>
     Ok(heap)
 }
 
-// The mutator as the cycle begins, with room for so many commands: r0 refers to the variable, r1 has 5, and r3 refers to
-// the last object.
+// The mutator as the cycle begins, with room for `commands` commands: r0 has the variable, r1 has 5, r3 the last object.
 pub(super) fn mutator_with(
     alloc: Global,
     commands: u32,
@@ -79,7 +78,7 @@ pub(super) fn mutator_with(
     registers[0] = 72;
     registers[1] = 13;
     registers[3] = 184;
-    mutator.registers = Placed::of(registers, ListMemory::new(alloc)?);
+    mutator.registers = VecList::of(registers, ListMemory::new(alloc)?);
     mutator.serial = 16;
     Ok(mutator)
 }
@@ -136,7 +135,7 @@ fn scan_header(round: &Round, collector: &mut CollectorSeat) -> u64
     round.scan_load(collector, Address(36), 0)
 }
 
-// The collector scans its field.
+// The collector scans the variable's field.
 fn scan_field(round: &Round, collector: &mut CollectorSeat, header: u64) -> u64
     requires seat { IsAt round.now collector.old × (seen collector.old ≡ scanned_by (collecting (whole snapshot_opening)) header) }
     requires words { word_count round.now ≡ word_total small_layout }
@@ -145,7 +144,7 @@ fn scan_field(round: &Round, collector: &mut CollectorSeat, header: u64) -> u64
     round.scan_load(collector, Address(36), 2)
 }
 
-// The mutator overwrites the variable by 5. Whether it did.
+// The mutator overwrites the variable by 5. Returns whether it did.
 fn overwrite(round: &Round, seat: &mut MutatorSeat, mutator: &mut Mutator) -> bool
     requires seat { IsAt round.now seat.old × (seen seat.old ≡ alone snapshot_opening 0) }
     requires mutator { IsSnapshotMutator mutator.old }
@@ -168,7 +167,7 @@ fn overwrite(round: &Round, seat: &mut MutatorSeat, mutator: &mut Mutator) -> bo
     }
 }
 
-// The mutator compares the variable with 5, which it doesn't hold. Whether it answered no.
+// The mutator compares the variable with 5, which it doesn't hold. Returns whether the answer was no.
 fn compare(round: &Round, seat: &mut MutatorSeat, mutator: &mut Mutator) -> bool
     requires seat { IsAt round.now seat.old × (seen seat.old ≡ alone snapshot_opening 0) }
     requires mutator { IsSnapshotMutator mutator.old }
@@ -192,7 +191,7 @@ fn compare(round: &Round, seat: &mut MutatorSeat, mutator: &mut Mutator) -> bool
     }
 }
 
-// The round ends. The word of the variable.
+// Ends the round, and returns the word of the variable.
 fn end(
     round: Round,
     seat: MutatorSeat,
@@ -216,7 +215,7 @@ fn end(
     Some(words.load(38))
 }
 
-// What a round came to: the words that the collector read, and that of the variable in the end.
+// The outcome of a round: the words that the collector read, and the last word of the variable.
 #[derive(Debug, Drop, PartialEq, Eq)]
 struct Outcome {
     header: u64,
@@ -341,7 +340,7 @@ fn a_comparison_that_fails_changes_nothing(rt: HostRuntime) -> Result<(), Fail> 
     Ok(())
 }
 
-// What the reference was that the variable held is pushed, whether the collector read it or not.
+// The reference that the variable held is pushed, whether the collector read it or not.
 #[test]
 fn an_overwritten_reference_is_pushed(rt: HostRuntime) -> Result<(), Fail> {
     let alloc = rt.alloc();

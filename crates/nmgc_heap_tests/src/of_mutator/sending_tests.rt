@@ -1,23 +1,23 @@
-//! Two hundred overwrites in one round while a cycle marks, with nobody at the other end of the ring.
+//! Two hundred overwrites in one round while a cycle marks, without a reader at the other end of the ring.
 ghost use Rattle.std.specs.Prelude.{◌≡◌, ◌≤◌, [], vec_capacity};
 ghost use Rattle.nmgc_round.specs.{Seat.IsAt, Seat.seen, Seating.alone};
 ghost use Rattle.nmgc_heap_tests.specs.Sample.{snapshot_opening, IsSnapshotHeap, IsSnapshotMutator};
 
 use super::laws::a_marking_round_opens;
 use super::marking_tests::{Begun, begin, mutator_with, snapshot_heap};
+use nmgc_commands::{Form, PackedCommand};
 use nmgc_lists::ListMemory;
 use nmgc_mutator::{Mutator, Step, laws};
 use nmgc_object::Address;
-use nmgc_program::{Form, PackedCommand};
 use nmgc_round::{MutatorSeat, Round, Words};
 use nmgc_updrem::link;
 use nmgc_world_spec::{Operand, Reply};
 use std::test::Fail;
 
-// How often the variable is overwritten.
+// The number of overwrites of the variable.
 const TIMES: u32 = 200;
 
-// The variable gets the last object and itself in turn. Whether each store was done.
+// The variable gets the last object and itself in turn. Returns whether each store was done.
 fn overwrite_often(round: &Round, seat: &mut MutatorSeat, mutator: &mut Mutator) -> bool
     requires seat { IsAt round.now seat.old × (seen seat.old ≡ alone snapshot_opening 0) }
     requires mutator { IsSnapshotMutator mutator.old }
@@ -68,8 +68,8 @@ fn overwritten(
     overwrite_often(&round, &mut seat, mutator)
 }
 
-// Each store owes what it overwrote: first the object at word 32, then the last object and the variable in turn. Three full
-// blocks of that are in the ring, and the rest is kept.
+// Each store owes the reference that it overwrote: first the object at word 32, then the last object and the variable in
+// turn. Three full blocks of them are in the ring, and the rest is kept.
 #[test]
 fn full_blocks_wait_in_the_ring(rt: HostRuntime) -> Result<(), Fail> {
     let alloc = rt.alloc();

@@ -1,5 +1,4 @@
-//! Programs on the heap of which nothing was made: slices of one mutator, and two in threads of their own. What commands reply is
-//! in `examples/rows/runs.rows`.
+//! Programs on the empty heap: slices of one mutator, and two in threads. Commands' replies are in `examples/rows/runs.rows`.
 ghost use Rattle.std.specs.Prelude.{ℕ, List, ◌≡◌, ◌<◌, ◌≤◌, [], All, IfOk, IsTrue, length, min, slice_index_or, vec_capacity};
 ghost use Rattle.nmgc_world_spec.specs.Command.{Fits, HasNumbers, words_made};
 ghost use Rattle.nmgc_object.specs.Places.{IsLayout};
@@ -7,13 +6,13 @@ ghost use Rattle.nmgc_round.specs.{Empty.IsEmptyHeap, Empty.first_opening, Start
 ghost use Rattle.nmgc_mutator.specs.{Ready.IsNew, Slice.HasRoom};
 
 use crate::of_round::empty_heap;
+use nmgc_commands::PackedCommand;
 use nmgc_limits::MAKERS;
 use nmgc_lists::{ListMemory, NoMemory};
 use nmgc_mutator::{Mutator, Slice, SliceEnd};
 use nmgc_object::Layout;
-use nmgc_program::PackedCommand;
-use nmgc_round::chosen::Wanted;
-use nmgc_round::{Chosen, Gate, MutatorSeat, OpenGate, Opened, Round, Started, Words};
+use nmgc_round::witness::WitnessFor;
+use nmgc_round::{Gate, MutatorSeat, OpenGate, Opened, Round, Started, Witness, Words};
 use nmgc_updrem::link;
 use nmgc_world_spec::{Command, Name, Operand, Reply, Value};
 use std::alloc::Global;
@@ -25,17 +24,17 @@ use std::thread::Threads;
 // The opening of a run's first round.
 struct First;
 
-impl Wanted<Layout, Opened> for First {
+impl WitnessFor<Layout, Opened> for First {
     ghost wanted = { λ layout o. o ≡ first_opening layout };
 }
 
-fn first_of(layout: &Layout) -> Chosen<Opened>
+fn first_of(layout: &Layout) -> Witness<Opened>
     ensures { result.value ≡ first_opening layout.now }
 {
-    Chosen::of::<Layout, First>(layout)
+    Witness::of::<Layout, First>(layout)
 }
 
-// One mutator, with segments of 16 words and a nursery of so many.
+// A layout of one mutator, with segments of 16 words and a nursery of `nursery` words.
 fn small(nursery: u32) -> Layout
     requires { (16 ≤ nursery) × (nursery ≤ 4194288) }
     ensures layout { IsLayout result }
@@ -69,14 +68,14 @@ fn can_run(command: &Command) -> bool
     false
 }
 
-// Whether all of them are so.
+// Whether a script for segments of 16 words may have all of the commands.
 fn can_run_all(program: &[Command]) -> bool
     ensures { IsTrue result → All (Fits 16) program.now }
 {
     program.iter().all(|command| can_run(command))
 }
 
-// The commands as they lie in a program.
+// Packs the commands as a program has them.
 fn packed(alloc: Global, commands: &[Command]) -> Result<Vec<PackedCommand>, NoMemory>
     ensures { IfOk result (λ program. program.items ≡ commands.now) }
 {
@@ -121,7 +120,7 @@ fn slice_on(
     Some((done, mutator))
 }
 
-// A slice of a new mutator on the heap of which nothing was made, with a nursery of so many words.
+// A slice of a new mutator on the empty heap, with a nursery of `nursery` words.
 fn slice_of(
     alloc: Global,
     nursery: u32,
@@ -197,8 +196,7 @@ fn show(value: u8) -> Command {
     }
 }
 
-// Registers, comparisons and the end of a slice: what is answered, and how often the gate is passed. r1 has 5, r3
-// and r4 are two variables.
+// Registers, comparisons and the end of a slice: replies, and the gate's passes. r1 has 5, r3 and r4 are two variables.
 #[test]
 fn a_slice_ends_at_a_yield(rt: HostRuntime) -> Result<(), Fail> {
     let r = Operand::Register;
@@ -236,7 +234,7 @@ fn a_slice_ends_at_a_yield(rt: HostRuntime) -> Result<(), Fail> {
     Ok(())
 }
 
-// Whether a slice of so many of these commands ends so, with a nursery of 16 words.
+// Whether a slice of at most `slice` of these commands ends so, with a nursery of 16 words.
 fn ends(
     alloc: Global,
     program: &[Command],
@@ -256,8 +254,7 @@ fn ends(
     Ok(ended == Slice { done, end } && mutator.turns == tried)
 }
 
-// The first of the reasons ends a slice. An array with 10 fields has 12 words and a variable 3, so one of each
-// leaves one word of 16.
+// The first of the reasons ends a slice. An array with 10 fields has 12 words and a variable 3, so both leave 1 word of 16.
 #[test]
 fn a_slice_ends_by_the_first_reason(rt: HostRuntime) -> Result<(), Fail> {
     let nil = [num(0, 1), num(0, 2), Command::Yield, num(0, 3)];
@@ -296,7 +293,7 @@ fn a_slice_ends_by_the_first_reason(rt: HostRuntime) -> Result<(), Fail> {
     Ok(())
 }
 
-// What the two mutators of a round read.
+// The numbers that the two mutators of a round read.
 #[derive(Drop)]
 struct Read {
     by: [AtomicU64; 2],
@@ -318,7 +315,7 @@ impl Read {
     }
 }
 
-// A mutator stores its number and one into the first slot of g, and reads that slot.
+// A mutator stores its number plus one into the first slot of g, and reads that slot.
 fn work<G: Gate>(
     alloc: Global,
     round: &Round,
@@ -412,7 +409,7 @@ fn two() -> Layout
     layout!(segments: 1, words: 16, nursery: 16, mutators: 2)
 }
 
-// What each of two mutators reads under this gate.
+// The numbers that two mutators read under this gate.
 fn both<R: Threads + Sync, G: Gate>(
     rt: &R,
     alloc: Global,
@@ -427,8 +424,8 @@ fn both<R: Threads + Sync, G: Gate>(
     Ok((read.of(0), read.of(1)))
 }
 
-// Mutator 0 stores 1 and mutator 1 stores 2. Whichever stores last, both can't read the other's number: in one
-// order of the four commands the last `set` is followed by a `get` of its own.
+// Mutator 0 stores 1 and mutator 1 stores 2. They can't both read the other's number: in one order of the four commands, the
+// mutator of the last `set` reads after it.
 #[test]
 fn two_mutators_read_by_one_order(rt: HostRuntime) -> Result<(), Fail> {
     for _ in 0..1000u32 {
@@ -438,8 +435,8 @@ fn two_mutators_read_by_one_order(rt: HostRuntime) -> Result<(), Fail> {
     Ok(())
 }
 
-// A gate at which the late mutator waits with its `set` until the other has reached its `get`, and that one
-// until the late one has reached its own.
+// A gate that holds up the `set` of the late mutator until the other has reached its `get`, and then that `get` until the
+// late mutator has reached its own.
 #[derive(Drop)]
 struct Meet {
     late: u8,
@@ -462,7 +459,7 @@ impl Gate for Meet {
     }
 }
 
-// Both read what the late one stored, since its `set` comes after the other's and before both reads.
+// Both read the number that the late mutator stored: its `set` comes after the other's `set` and before both reads.
 #[test]
 fn the_gate_is_passed_before_each_command(rt: HostRuntime) -> Result<(), Fail> {
     for late in 0..2u8 {

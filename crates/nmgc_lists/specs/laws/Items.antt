@@ -1,4 +1,4 @@
--- What lists contain, by parts, and their items by place.
+-- The content of lists, by parts, and their items by position.
 use Rattle.std.specs.Prelude.{◌≡◌, ◌∷◌, ◌≢◌, ◌≤◌, ◌+◌, ◌++◌, ◌-◌, ◌⊎◌, ◌<◌}
 use Rattle.nmgc_lists.specs.laws.Vocabulary.{List, [], refl, None, ℕ, subst, Some, length, arith, zero, suc, inl, inr, get_or, set, Bool, true, false, cond, not, Option, ap, map, sym, slice_index, ◌∙◌, take, slice_get, All, IfSome, Contains, count_by, IsSome, filter, option_to_list, flat_map, get_or_from_slice_get, slice_get_within, slice_get-get_or, All-cons, All-nil, All-head, All-tail, Contains-append_left, Contains-append_right, Contains-append_cases, Contains-push_cases, sum_by-set, cases_Bool, cases_eq, AllByRecursion}
 
@@ -7,7 +7,7 @@ pub none_first : {A : Type 0} (xs : List A) → slice_get xs 0 ≡ None → xs �
 none_first [] h = refl
 none_first (x ∷ xs) h = absurd cc
 
--- what holds of all items holds of each
+-- a property of all items holds of each
 pub of_item : {A : Type 0} (P : A → Type 0) (xs : List A) (k : ℕ) (x : A) → All P xs → slice_get xs k ≡ Some x → P x
 of_item P xs k x all e = subst P (get_or_from_slice_get xs k x x e) (all k x (slice_get_within xs k x e))
 
@@ -16,7 +16,7 @@ pub some_wait : (queue : List ℕ) → queue ≢ [] → 1 ≤ length queue
 some_wait [] some = absurd (some refl)
 some_wait (at ∷ queue) some = omega arith
 
--- what holds of all items of two lists together holds of those of each
+-- a property of all items of two lists together holds of the items of each
 pub all_front : {A : Type 0} (P : A → Type 0) (xs ys : List A) → All P (xs ++ ys) → All P xs
 all_front P [] ys all = All-nil P
 all_front P (x ∷ xs) ys all = All-cons P x xs (All-head P x (xs ++ ys) all) (all_front P xs ys (All-tail P x (xs ++ ys) all))
@@ -34,7 +34,7 @@ item_has P (x ∷ xs) (suc i) h = item_has P xs i (All-tail P x xs h)
 pub one_has : {A : Type 0} (P : A → Type 0) (x : A) → P x → All P (x ∷ [])
 one_has P x p = All-cons P x [] p (All-nil P)
 
--- what a list contains, by its first item and the others
+-- the content of a list, by its first item and the rest
 pub contains_head : {A : Type 0} (x : A) (xs : List A) → Contains (x ∷ xs) x
 contains_head x xs = Contains-append_left (x ∷ []) xs x (0, omega arith, refl)
 
@@ -53,7 +53,7 @@ count-set row serial lt e =
     let k = rw e at h in
     omega arith
 
--- there is an item exactly below the length
+-- a list has an item exactly at each position below its length
 pub is_some_get : {A : Type 0} (xs : List A) (i : ℕ) → i < length xs → IsSome (slice_get xs i)
 is_some_get [] i lt = absurd (omega arith)
 is_some_get (x ∷ xs) zero lt = refl
@@ -64,7 +64,7 @@ get_is_some [] i h = absurd cc
 get_is_some (x ∷ xs) zero h = omega arith
 get_is_some (x ∷ xs) (suc i) h = let r = get_is_some xs i h in omega arith
 
--- what is there, and what holds of it
+-- the value of an option, and a property of it
 pub is_some_of : {A : Type 0} (o : Option A) → IsSome o → (x : A) × (o ≡ Some x)
 is_some_of None h = absurd cc
 is_some_of (Some x) h = (x, refl)
@@ -73,7 +73,7 @@ pub at_some : {A : Type 0} (o : Option A) (x : A) (P : A → Type 0) → o ≡ S
 at_some None x P e h = absurd cc
 at_some (Some y) x P e h = let same : y ≡ x = cc in subst P same h
 
--- an item that was written, and the others
+-- the written item, and the other items
 pub slice_get-set_same : {A : Type 0} (xs : List A) (i : ℕ) (x : A) → i < length xs → slice_get (set xs i x) i ≡ Some x
 slice_get-set_same [] i x lt = absurd (omega arith)
 slice_get-set_same (y ∷ xs) zero x lt = refl
@@ -90,13 +90,13 @@ pub slice_get-append_last : {A : Type 0} (xs : List A) (x : A) → slice_get (xs
 slice_get-append_last [] x = refl
 slice_get-append_last (y ∷ xs) x = slice_get-append_last xs x
 
--- an item of mapped items is that of an item
+-- an item of the mapped list is a mapped item
 pub item_map : {A B : Type 0} (f : A → B) (xs : List A) (i : ℕ) (x : A) → slice_get xs i ≡ Some x → slice_get (map f xs) i ≡ Some (f x)
 item_map f [] i x e = absurd cc
 item_map {A} {B} f (y ∷ xs) zero x e = let same : y ≡ x = cc in ap (λ (z : A). Some (f z)) same
 item_map f (y ∷ xs) (suc i) x e = item_map f xs i x e
 
--- what mapped items contain, and what filtered ones
+-- the content of a mapped list and of a filtered list
 pub contains_map : {A B : Type 0} (f : A → B) (xs : List A) (x : A) → Contains xs x → Contains (map f xs) (f x)
 contains_map f [] x c = absurd (omega (arith, c.1))
 contains_map {A} {B} f (y ∷ xs) x c = elim (contains_cases y xs x c) [
@@ -139,7 +139,7 @@ pub back_of : {A : Type 0} (P : A → Type 0) (xs ys : List A) → AllByRecursio
 back_of P [] ys h = h
 back_of P (x ∷ xs) ys h = back_of P xs ys h.1
 
--- lists that begin alike, and a write of what stands there
+-- lists that begin with the same item, and a write of the item that is already at its position
 
 pub same_first : (line other : List ℕ) (lines others : List (List ℕ)) → line ∷ lines ≡ other ∷ others → line ≡ other
 same_first line other lines others e = cc
@@ -149,15 +149,15 @@ word_again [] i = refl
 word_again (w ∷ ws) zero = refl
 word_again (w ∷ ws) (suc i) = ap (λ (xs : List ℕ). w ∷ xs) (word_again ws i)
 
--- an item at a place is contained
+-- an item at a position is contained
 pub contains_at : {A : Type 0} (xs : List A) (i : ℕ) (x : A) → slice_get xs i ≡ Some x → Contains xs x
 contains_at xs i x h = (i, slice_get_within xs i x h, get_or_from_slice_get xs i x x h)
 
--- what is contained has a place
+-- a contained item has a position
 pub place_of : {A : Type 0} (xs : List A) (x : A) → Contains xs x → (i : ℕ) × (slice_get xs i ≡ Some x)
 place_of xs x h = (h.0, slice_get-get_or xs h.0 x h.1 ∙ ap (λ y. Some y) h.2)
 
--- an empty list contains nothing, and a list of one item that
+-- an empty list contains nothing, and a list of one item only this item
 pub nothing_in : {A : Type 0} (x : A) → Contains [] x → ⊥
 nothing_in x (i, lt, e) = omega arith
 
@@ -172,7 +172,7 @@ pub contains_option : {A : Type 0} (o : Option A) (x : A) → o ≡ Some x → C
 contains_option None x e = absurd cc
 contains_option (Some y) x e = let same : y ≡ x = cc in subst (λ z. Contains (z ∷ []) x) (sym same) (contains_one x)
 
--- items of a list to which others were added, and of its front
+-- items of a list to which other items were appended, and of its front
 pub slice_get-append : {A : Type 0} (xs ys : List A) (i : ℕ) (x : A) → slice_get xs i ≡ Some x → slice_get (xs ++ ys) i ≡ Some x
 slice_get-append [] ys i x h = absurd cc
 slice_get-append (y ∷ xs) ys zero x h = h
@@ -184,7 +184,7 @@ slice_get-take (suc n) [] i lt = refl
 slice_get-take (suc n) (x ∷ xs) zero lt = refl
 slice_get-take (suc n) (x ∷ xs) (suc i) lt = slice_get-take n xs i (omega arith)
 
--- an item is still there after a write, or was where the write is
+-- an item is still in the list after a write, or was at the position of the write
 pub kept_or_held : {A : Type 0} (xs : List A) (index : ℕ) (v : A) (i : ℕ) (x : A) → slice_get xs i ≡ Some x →
     (slice_get (set xs index v) i ≡ Some x) ⊎ (slice_get xs index ≡ Some x)
 kept_or_held xs index v i x h = elim (cases_eq i index) [
@@ -192,7 +192,7 @@ kept_or_held xs index v i x h = elim (cases_eq i index) [
   | inr ne ↦ inl (slice_get-set_other xs index i v ne ∙ h)
 ]
 
--- an item is still there after the last went off, or was the last
+-- an item is still in the list after the last is removed, or was the last
 pub kept_or_last : {A : Type 0} (xs : List A) (i : ℕ) (x : A) → slice_get xs i ≡ Some x → (slice_get (take (length xs - 1) xs) i ≡ Some x) ⊎
     (slice_get xs (length xs - 1) ≡ Some x)
 kept_or_last xs i x h =
@@ -202,7 +202,7 @@ kept_or_last xs i x h =
       | inr ne ↦ inl (slice_get-take (length xs - 1) xs i (omega (arith, ne)) ∙ h)
     ]
 
--- what one of the parts contains, all of them contain
+-- an item of one part is an item of all parts together
 pub contains_flat : {A B : Type 0} (f : A → List B) (xs : List A) (x : A) (y : B) → Contains xs x → Contains (f x) y → Contains (flat_map f xs) y
 contains_flat f [] x y h k = absurd (nothing_in x h)
 contains_flat f (z ∷ xs) x y h k = elim (contains_cases z xs x h) [
@@ -210,7 +210,7 @@ contains_flat f (z ∷ xs) x y h k = elim (contains_cases z xs x h) [
   | inr r ↦ Contains-append_right (f z) (flat_map f xs) y (contains_flat f xs x y r k)
 ]
 
--- what all of the parts contain, one of them contains
+-- an item of all parts together is an item of one part
 pub flat_contains : {A B : Type 0} (f : A → List B) (xs : List A) (y : B) → Contains (flat_map f xs) y → (x : A) × Contains xs x × Contains (f x) y
 flat_contains f [] y h = absurd (nothing_in y h)
 flat_contains f (z ∷ xs) y h = elim (Contains-append_cases (f z) (flat_map f xs) y h) [
@@ -218,6 +218,6 @@ flat_contains f (z ∷ xs) y h = elim (Contains-append_cases (f z) (flat_map f x
   | inr r ↦ let rest : (x : _) × Contains xs x × Contains (f x) y = flat_contains f xs y r in (rest.0, contains_tail z xs rest.0 rest.1, rest.2)
 ]
 
--- a place within the list has an item
+-- a position within the list has an item
 pub item : {A : Type 0} (xs : List A) (k : ℕ) → k < length xs → (x : A) × (slice_get xs k ≡ Some x)
 item xs k lt = is_some_of (slice_get xs k) (is_some_get xs k lt)

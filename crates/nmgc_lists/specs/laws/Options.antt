@@ -1,13 +1,13 @@
--- Options: what is there, and that nothing is not something.
+-- Options: their value, and that `None` is no `Some`.
 use Rattle.std.specs.Prelude.{◌≡◌}
 use Rattle.nmgc_lists.specs.laws.Vocabulary.{ap, Option, Some, None, Bor, option_copied, is_some, IsSome}
 
--- a reference is there exactly where what it points to is
+-- an option of references has a value exactly if the option of the values has one
 pub copied_is_some : {A : Type 0} (r : Option (Bor A)) (o : Option A) → option_copied r ≡ o → is_some r ≡ is_some o
 copied_is_some None o e = ap is_some e
 copied_is_some (Some x) o e = ap is_some e
 
--- what is there is one thing
+-- an option has one value
 pub some_is : {A : Type 0} (a b : A) → Some a ≡ Some b → a ≡ b
 some_is {A} a b e = ap (λ (o : Option A). or_first o) e
   where

@@ -1,8 +1,8 @@
--- Tests: what one that passes tells, and what two tell together.
+-- Tests: the conclusions from a test that passes, and from two tests together.
 use Rattle.std.specs.Prelude.{◌≡◌, ◌⊎◌, ◌&&◌, ◌||◌, ◌==◌}
 use Rattle.nmgc_lists.specs.laws.Vocabulary.{true, false, IsTrue, refl, Bool, sym, cond, inl, inr, ℕ, ◌∙◌, not, cases_eq, ne_eqb}
 
--- what fails can't have passed
+-- a failed test hasn't passed
 pub never : {A : Type 0} → IsTrue false → A
 never t = let e : false ≡ true = t in absurd cc
 

@@ -1,4 +1,4 @@
-//! What is read of a world without a command, and sets of names.
+//! Reads of a world without a command, and sets of names.
 use nmgc_graph::*;
 use nmgc_world_spec::Change;
 use std::process::Abort;
@@ -18,7 +18,7 @@ fn expect(
     Ok(())
 }
 
-// Values, objects and their parts, and what a command would change.
+// Values, objects and their parts, and the change that a command asks for.
 #[test]
 fn looking_at_a_world(rt: HostRuntime) -> Result<(), Fail> {
     let mut world = World::new(rt.alloc(), 1)?;

@@ -1,4 +1,4 @@
-//! Worlds that were worked by hand: what is live, dead and kept in them.
+//! Worlds that were worked by hand: their live names, dead weak pointers and kept names.
 ghost use Rattle.std.specs.Prelude.{◌≡◌, IsTrue, IsSome, IfOk, All, [], ◌∷◌};
 ghost use Rattle.nmgc_world_spec.specs.{World.node_of, Command.IsRegister, Command.IsOperand, Command.HasRegisters};
 
@@ -7,7 +7,7 @@ use std::alloc::Global;
 use std::process::Abort;
 use std::test::Fail;
 
-// A command, with the registers that it names: the one that takes the answer comes first.
+// A command, with the registers that it names: the register that takes the answer comes first.
 #[derive(Clone, Copy)]
 enum Step {
     Num(u8, u64),
@@ -20,7 +20,7 @@ enum Step {
     Update(u8, u8),
 }
 
-// What a mutator does, and what is expected of the world then.
+// The steps of a mutator, and the expected state of the world after them.
 #[derive(Clone, Copy)]
 struct Row {
     mutator: u8,
@@ -51,12 +51,12 @@ const A6: Name = name!(0, 6);
 
 const A9: Name = name!(0, 9);
 
-// The objects of the second.
+// The objects of the second mutator.
 const B0: Name = name!(1, 0);
 
 const B1: Name = name!(1, 1);
 
-// Nothing is done, and g alone is live.
+// No step, and g alone is live.
 const QUIET: Row = Row {
     mutator: 0,
     steps: &[],
@@ -67,7 +67,7 @@ const QUIET: Row = Row {
     kept: &[G],
 };
 
-// Each weak pointer keeps the key of the one before it, so one pass over them is not enough.
+// Each weak pointer keeps the key of the one before it, so one pass over them isn't enough.
 const CHAIN: [Row; 2] = [
     Row {
         steps: &[
@@ -131,7 +131,7 @@ const AFTER_CLOSING: Row = Row {
     ..QUIET
 };
 
-// A weak pointer whose key is nil is always live. A thunk with a result lets its variables go.
+// A weak pointer whose key is nil is always live. A thunk with a result drops its free variables.
 const TWO_MAKERS: [Row; 3] = [
     Row {
         mutator: 1,
@@ -266,7 +266,7 @@ fn is_there(world: &World, name: Name) -> bool
     world.node(name).is_some()
 }
 
-// Compares what a world answers with a row.
+// Compares the answers of a world with a row.
 fn compare(rt: &impl Abort, world: &World, row: &Row) -> Result<(), NoMemory> {
     assert!(rt; are_there(world, row.extra));
     let live = world.live(row.extra)?;
@@ -278,7 +278,7 @@ fn compare(rt: &impl Abort, world: &World, row: &Row) -> Result<(), NoMemory> {
     Ok(())
 }
 
-// The world after rows, each of which is compared.
+// The world after rows. It is compared after each row.
 fn after(rt: &impl Abort, alloc: Global, rows: &[Row]) -> Result<World, NoMemory> {
     let mut world = World::new(alloc, 2)?;
     for row in rows {
@@ -339,8 +339,8 @@ fn a_long_list(rt: HostRuntime) -> Result<(), Fail> {
     Ok(())
 }
 
-// Each weak pointer keeps the key of the one before it. If the search passed over all of them for each link, it would take
-// 400,000,000 steps here.
+// Each weak pointer keeps the key of the one before it. A search through all of them for each link would take 400,000,000
+// steps.
 #[test]
 fn a_long_chain_of_weak_pointers(rt: HostRuntime) -> Result<(), Fail> {
     let mut world = World::new(rt.alloc(), 1)?;

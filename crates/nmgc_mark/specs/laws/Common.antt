@@ -7,7 +7,7 @@ use Rattle.nmgc_heap_spec.specs.{Places.Place, Places.LiesWell, Represents.Repre
 use Rattle.nmgc_round.specs.{View.Opening, Marking.Marks, Marking.name_meant, Marking.with_name}
 use Rattle.nmgc_mark.specs.{Tie.AreApart, Tie.IsTied, Seen.MarkerSeen, Marker.HasScanned, Marker.HasRoomToMark, Marker.HasMarked}
 
--- places that words represent are apart
+-- objects that words represent are apart
 
 pub lies_above : (layout : Layout) (p : Place) (size : ℕ) → 0 < size → LiesWell layout p size → 1 ≤ p.at
 lies_above layout p size pos (inl g) = let e = g.1 in omega arith

@@ -10,10 +10,10 @@ old_word layout at above low =
     (and_from (leb FIRST_PLACE (2 * at / 2)) (leb (2 * at / 2 + 1) (nursery_place layout 0)) (le-leb FIRST_PLACE (2 * at / 2) (omega arith))
     (le-leb (2 * at / 2 + 1) (nursery_place layout 0) (omega arith)))
 
--- no places are told
-pub none_told : (l : List Address) → numbers l ≡ [] → l ≡ []
-none_told [] e = refl
-none_told (a ∷ l) e = absurd cc
+-- no addresses
+pub none_known : (l : List Address) → numbers l ≡ [] → l ≡ []
+none_known [] e = refl
+none_known (a ∷ l) e = absurd cc
 
 -- a new mutator with room in its lists
 pub reserved : (number : ℕ) (layout : Layout) (old m : Mutator) → IsNew number layout old → Reserves old m → IsNew number layout m
@@ -32,6 +32,6 @@ reserved number layout old m h r = rw r.rest (record {
   updrem = r.updrem.items ∙ h.updrem;
 })
 
--- an odd word is no pointer, and so none to an object in a segment
+-- an odd word is no pointer, so it refers to no object in a segment
 pub old_odd : (layout : Layout) (w : ℕ) → w % 2 ≡ 1 → is_old layout w ≡ false
 old_odd layout w odd = let e : eqb (w % 2) 0 ≡ false = ne_eqb (w % 2) 0 (omega (arith, odd)) in rw e refl

@@ -1,12 +1,12 @@
--- The classes of blocks: how they rise, which of them a segment has, and what an object leaves of its block.
+-- The classes of blocks: how they increase, which of them a segment has, and which part of its block an object fills.
 use Rattle.std.specs.Prelude.{◌≡◌, ◌+◌, ◌-◌, ◌*◌, ◌^◌, ◌<◌, ◌≤◌, ◌↔◌, ◌⊎◌, ◌/◌, ◌%◌}
 use Rattle.nmgc_object.specs.laws.Vocabulary.{ℕ, zero, suc, inl, inr, refl, ap, subst, sym, arith, count_by, nat_le, ◌∙◌, IsTrue, rules, tests, count_ones, lit≤, ones, is_power_of_two, IsPowerOfTwo, range_with_len, pow-le-pow_right, pow-add, pow_below, ones_cat, zero_from_ones, mod-mul-add, mod_below, cases_order, cases_lt, cases_eq, le-leb, lt-leb, block_size, IsClassOf, IsLayout, IsSegmentSize, class_count, Layout}
 
--- a block of a dense class
+-- the words of a block of a dense class
 pub dense_block : (class : ℕ) → class ≤ 12 → block_size class ≡ class + 4
 dense_block class h = rw (le-leb class 12 h) refl
 
--- a block of a class above them, or of the greatest of them
+-- the words of a block of the greatest dense class, and of each class above it
 pub wide_block : (steps : ℕ) → block_size (steps + 12) ≡ 16 * 2 ^ steps
 wide_block zero = refl
 wide_block (suc n) =
@@ -16,7 +16,7 @@ wide_block (suc n) =
 wide_of : (class : ℕ) → 12 ≤ class → block_size class ≡ 16 * 2 ^ (class - 12)
 wide_of class h = let is : class ≡ class - 12 + 12 = omega arith in ap (λ (c : ℕ). block_size c) is ∙ wide_block (class - 12)
 
--- a class has larger blocks than those below it
+-- a class has larger blocks than the classes below it
 pub block_rises : (c d : ℕ) → c < d → block_size c < block_size d
 block_rises c d lt = elim (cases_lt 12 d) [
   | inr dense ↦ let a = dense_block c (omega arith) in let b = dense_block d dense in omega (arith, a, b)
@@ -34,14 +34,14 @@ block_rises c d lt = elim (cases_lt 12 d) [
       ]
 ]
 
--- no block is smaller than the least
+-- every block has at least four words
 pub least_block : (class : ℕ) → 4 ≤ block_size class
 least_block class = elim (cases_lt 0 class) [
   | inl more ↦ let up = block_rises 0 class more in omega (arith, up)
   | inr none ↦ let e : class ≡ 0 = omega arith in subst (λ (c : ℕ). 4 ≤ block_size c) (sym e) (lit≤ tt)
 ]
 
--- no class has larger blocks than the greatest
+-- a block of at most 4,096 words has a class up to 20
 pub class_few : (class : ℕ) → block_size class ≤ 4096 → class ≤ 20
 class_few class fits = elim (cases_lt 20 class) [
   | inl lt ↦ absurd (let more = block_rises 20 class lt in omega (arith, more))
@@ -72,7 +72,7 @@ power_up_to (suc most) n h one =
 pub power_from_test : (n : ℕ) → IsTrue (is_power_of_two n) → IsPowerOfTwo n
 power_from_test n test = power_up_to n n (omega arith) (search (tests, rules))
 
--- a segment is one block of a class that isn't dense, or of the greatest that is
+-- a segment has the words of one block of the greatest dense class or of a class above it
 pub record IsWhole (words : ℕ) : Type 0 where
   pub steps : ℕ
   pub is : words ≡ 16 * 2 ^ steps
@@ -98,7 +98,7 @@ is_whole words size =
       ];
     }
 
--- the classes whose block fits into such a segment
+-- the classes whose block fits into such a segment are the classes up to the segment's own
 pub fitting : (steps d : ℕ) → (d < steps + 13) ↔ (block_size d ≤ 16 * 2 ^ steps)
 fitting steps d = (
   (λ below. elim (cases_eq d (steps + 12)) [
@@ -111,7 +111,7 @@ fitting steps d = (
   ]),
 )
 
--- how many classes have blocks of at most so many words
+-- the number of classes with blocks of at most `words` words
 abbrev pub count_to : ℕ → ℕ
 count_to words = count_by (λ class. nat_le (block_size class) words) (range_with_len 0 21)
 
@@ -127,7 +127,7 @@ count_at (suc (suc (suc (suc (suc (suc (suc zero))))))) h = refl
 count_at (suc (suc (suc (suc (suc (suc (suc (suc zero)))))))) h = refl
 count_at (suc (suc (suc (suc (suc (suc (suc (suc (suc n))))))))) h = absurd (omega arith)
 
--- the least class whose block holds a whole segment is the last of them
+-- the least class whose block holds a whole segment is the segment's last class
 pub last_class : (words class : ℕ) (w : IsWhole words) → words ≤ block_size class → ((d : ℕ) → d < class → block_size d < words) → class ≡ w.steps + 12
 last_class words class w holds below =
     let whole = wide_block w.steps in
@@ -138,7 +138,7 @@ last_class words class w holds below =
       | inr (inr gt) ↦ absurd (let less = below (w.steps + 12) gt in omega (arith, less, whole, is))
     ]
 
--- the block of the least class that holds what fits into a segment fits too
+-- if `size` words fit into a segment, the block of the least class that holds them fits too
 pub class_fits : (words class size : ℕ) → IsSegmentSize words → size ≤ words → ((c : ℕ) → c < class → block_size c < size) → block_size class ≤ words
 class_fits words class size h le least =
     let w = is_whole words h in
@@ -149,7 +149,7 @@ class_fits words class size h le least =
       | inr few ↦ let fits = (fitting w.steps class).0 (omega (arith, few)) in omega (arith, fits, is)
     ]
 
--- the classes of a layout are those whose block fits into a segment
+-- the classes of a layout are the classes whose block fits into a segment
 pub class_counted : (layout : Layout) (class : ℕ) → IsSegmentSize layout.words → (class < class_count layout) ↔ (block_size class ≤ layout.words)
 class_counted layout class h =
     let w = is_whole layout.words h in
@@ -159,14 +159,14 @@ class_counted layout class h =
       (λ fits. let below : class < w.steps + 13 = (fitting w.steps class).1 (subst (λ (n : ℕ). block_size class ≤ n) is fits) in omega (arith, count, below)),
     )
 
--- the class of an object that a segment holds is one of the layout's
+-- an object that fits into a segment has a class of the layout
 pub object_class : (layout : Layout) (words class : ℕ) → IsLayout layout → words ≤ layout.words → IsClassOf words class →
     (block_size class ≤ layout.words) × (class < class_count layout)
 object_class layout words class h fits is =
     let inside = class_fits layout.words class words h.words fits is.least in
     (inside, (class_counted layout class h.words).1 inside)
 
--- blocks of four words, and those whose words are a power of two, leave nothing of a segment over
+-- blocks of four words, and blocks with a power of two as size, leave no words of a segment over
 pub none_left : (words class : ℕ) → IsSegmentSize words → block_size class ≤ words → (class ≡ 0) ⊎ (12 ≤ class) → words % block_size class ≡ 0
 none_left words class h fits (inl first) =
     let w = is_whole words h in
@@ -189,7 +189,7 @@ none_left words class h fits (inr wide) =
     let positive : 0 < block_size class = let l = least_block class in omega (arith, l) in
     ap (λ (n : ℕ). n % block_size class) is ∙ mod-mul-add (2 ^ (w.steps - k)) (block_size class) 0 positive
 
--- twice the words of an object make up for its block, and for what such blocks leave of a segment over
+-- twice the words of an object are at least the words of its block and the words left over in a segment of such blocks
 pub object_half : (words size class : ℕ) → IsSegmentSize words → 2 ≤ size → size ≤ words → IsClassOf size class →
     words % block_size class + block_size class ≤ 2 * size
 object_half words size class h two fits is =

@@ -38,7 +38,7 @@ are_ready layout r value seats now first cut all same =
       ),
     )
 
--- one pass of the gate more
+-- one more pass of the gate
 pub passed_more : (turns i : ℕ) → next_turn (passed turns i) ≡ passed turns (i + 1)
 passed_more turns i = let e : suc i ≡ i + 1 = omega arith in ap (λ n. passed turns n) e
 
@@ -46,7 +46,7 @@ pub folded_more : (o : Opening) (m : Marks) (ss : List Scan) (s : Scan) → fold
 folded_more o m [] s = refl
 folded_more o m (x ∷ ss) s = folded_more o (after_word o m x) ss s
 
--- what several rows leave
+-- the hand that several rows leave
 pub leave_more : (h : Hand) (rs : List DoneRow) (r : DoneRow) → rows_leave h (rs ++ r ∷ []) ≡ leaves (rows_leave h rs) r.command r.answer
 leave_more h [] r = refl
 leave_more h (s ∷ rs) r = leave_more (leaves h s.command s.answer) rs r
@@ -56,7 +56,7 @@ pub marks_if : (b : Bool) (s : State) (name : Name) → marks_of (cond b (with_m
 marks_if true s name = refl
 marks_if false s name = refl
 
--- the place that begins here
+-- the name at this address
 pub some_at : (places : List Place) (at : ℕ) (name : Name) → Contains places (record { at = at; name = name }) → (n : Name) ×
     (name_at places at ≡ Some n) × Contains places (record { at = at; name = n })
 some_at [] at name c = absurd (let lt = c.1 in omega arith)
@@ -104,7 +104,7 @@ world_scanned s (entry ∷ rest) =
     let t : State = mark_read s read in
     world_advanced t t.queue ∙ world_read s read
 
--- no event changes how many mutators there are
+-- no event changes the number of mutators
 pub same_count : (s : State) (hs : List Happening) → IsLegal s hs → length (replay s hs).world.mutators ≡ length s.world.mutators
 same_count s [] legal = refl
 same_count s (did m c r ∷ hs) legal = same_count (after_command s m c) hs legal.1 ∙ (step_grows s.world m c legal.0.0.1.mutator).mutators

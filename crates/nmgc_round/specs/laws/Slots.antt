@@ -1,4 +1,4 @@
--- Lists of stacks of which one changes.
+-- Lists of stacks with a change of one stack.
 use Rattle.std.specs.Prelude.{◌≡◌, ◌≢◌, ◌∷◌}
 use Rattle.nmgc_round.specs.laws.Vocabulary.{inl, inr, ℕ, List, [], refl, sym, ap, ◌∙◌, true, false, cond, eqb, Some, eq-eqb, ne_eqb, cases_eq, Slots, with_slots, slots_at}
 
@@ -22,7 +22,7 @@ slots_same (s ∷ stacks) at f ws e = elim (cases_eq s.at at) [
       slots_same stacks at f ws rest
 ]
 
--- and the others
+-- and the other stacks
 pub slots_other : (stacks : List Slots) (at y : ℕ) (f : List ℕ → List ℕ) → y ≢ at → slots_at (with_slots stacks at f) y ≡ slots_at stacks y
 slots_other [] at y f ne = refl
 slots_other (s ∷ stacks) at y f ne = elim (cases_eq s.at at) [

@@ -1,4 +1,4 @@
--- Every name of std, of the crates below and of this crate's definitions that the lemmas of these laws speak of.
+-- Every name of std, of the crates below and of this crate's definitions that the lemmas of these laws use.
 pub use Rattle.atomic_table.proofs.Lists.{at_longer}
 pub use Rattle.nmgc_heap_spec.specs.Places.{Place}
 pub use Rattle.nmgc_lists.specs.laws.Items.{contains_cases, contains_head, contains_tail}

@@ -1,8 +1,8 @@
--- How late the cycles of a run are closed: none later than its bound, also where a full cycle closes one, and the rows tell it.
+-- The bound on the closings of a run's cycles: none is later, also if a full cycle closes the cycle, and the rows show it.
 use Rattle.std.specs.Prelude.{◌≡◌, ◌+◌, ◌-◌, ◌*◌, ◌/◌, ◌≤◌, ◌∷◌}
 use Rattle.nmgc_run_laws.specs.laws.Vocabulary.{ℕ, suc, List, [], refl, sym, ap, subst, ◌∙◌, arith, inl, inr, All, flat_map, le-div_iff_mul-le, All-nil, All-cons, All-append, Row, World, CycleRow, StopRow, Config, IsCensus, IsStop, EndsOrWaits, Finishes, DoesFullCycle, BeginsOrWaits, Proceeds, with_all_retired, IsKeptObject, Cycle, ClosesOrWaits, ClosesNow, IsForcedSoon, IsSoon, Counts, noted, Run, Turn, AreTurns, Plan, State, Progress, idle, marking, sweeping, start, cycle_started, plan_of, IsClosedSoon, ClosingsAreSoon, one_count}
 
--- one round more scans a quota more
+-- one more round scans one more quota
 pub one_more : (n from quota : ℕ) → from + 1 ≤ n → (n - from - 1) * quota + quota ≡ (n - from) * quota
 one_more n from quota le =
     let k : ℕ = n - from - 1 in
@@ -19,7 +19,7 @@ within_rounds quota c closed kept some (inr (count, own, less)) counts =
     let most : closed - c.from - 1 ≤ (kept - 1) / quota = (le-div_iff_mul-le {k = quota} {x = closed - c.from - 1} {y = kept - 1} (omega arith)).1 rounds in
     omega arith
 
--- so does one of which a row tells
+-- the closing in a row is within these rounds too
 row_within : (closed at from began rounds : ℕ) → closed ≡ at → from ≡ began → at ≤ began + rounds → closed ≤ from + rounds
 row_within closed at from began rounds e f within = omega arith
 
@@ -36,10 +36,10 @@ abbrev WasSoon : ℕ → Progress → Type 0
 WasSoon quota (sweeping c closed) = IsSoon quota c closed
 WasSoon quota _ = Unit {0}
 
--- nor were those whose rows a step tells
+-- a step's rows are of cycles that weren't closed too late either
 record IsInTime (quota : ℕ) (t : State) (rows : List CycleRow) : Type 0 where
   now : WasSoon quota t.progress
-  told : All (IsClosedSoon quota) rows
+  known : All (IsClosedSoon quota) rows
 
 same_soon : (quota : ℕ) (p : Progress) (t : State) → t.progress ≡ p → WasSoon quota p → WasSoon quota t.progress
 same_soon quota p t e h = subst (λ (q : Progress). WasSoon quota q) (sym e) h
@@ -47,8 +47,8 @@ same_soon quota p t e h = subst (λ (q : Progress). WasSoon quota q) (sym e) h
 stays_soon : (quota : ℕ) (p : Progress) (s t : State) → s.progress ≡ p → t ≡ s → WasSoon quota p → WasSoon quota t.progress
 stays_soon quota p s t e same h = same_soon quota p t (ap (λ (x : State). x.progress) same ∙ e) h
 
-none_told : (quota : ℕ) (rows : List CycleRow) → rows ≡ [] → All (IsClosedSoon quota) rows
-none_told quota rows none = subst (λ (told : List CycleRow). All (IsClosedSoon quota) told) (sym none) (All-nil (IsClosedSoon quota))
+none_known : (quota : ℕ) (rows : List CycleRow) → rows ≡ [] → All (IsClosedSoon quota) rows
+none_known quota rows none = subst (λ (known : List CycleRow). All (IsClosedSoon quota) known) (sym none) (All-nil (IsClosedSoon quota))
 
 closes_soon : (quota : ℕ) (p : Progress) (s t : State) → WasSoon quota p → s.progress ≡ p → ClosesOrWaits quota p s t → WasSoon quota t.progress
 closes_soon quota idle s t h e same = stays_soon quota idle s t e same h
@@ -65,18 +65,18 @@ forced_soon quota (sweeping c closed) s t h e soon same = stays_soon quota (swee
 
 ends_soon : (quota : ℕ) (p : Progress) (s t : State) (rows : List CycleRow) → 1 ≤ quota → WasSoon quota p → s.progress ≡ p → EndsOrWaits p s t rows →
     IsInTime quota t rows
-ends_soon quota idle s t rows some h e waits = record { now = stays_soon quota idle s t e waits.0 h; told = none_told quota rows waits.1 }
-ends_soon quota (marking c) s t rows some h e waits = record { now = stays_soon quota (marking c) s t e waits.0 h; told = none_told quota rows waits.1 }
+ends_soon quota idle s t rows some h e waits = record { now = stays_soon quota idle s t e waits.0 h; known = none_known quota rows waits.1 }
+ends_soon quota (marking c) s t rows some h e waits = record { now = stays_soon quota (marking c) s t e waits.0 h; known = none_known quota rows waits.1 }
 ends_soon quota (sweeping c closed) s t rows some h e (inr waits) = record {
   now = stays_soon quota (sweeping c closed) s t e waits.1 h;
-  told = none_told quota rows waits.2;
+  known = none_known quota rows waits.2;
 }
 ends_soon quota (sweeping c closed) s t rows some h e (inl ends) =
     let row : CycleRow = ends.1.row in
     let soon : IsClosedSoon quota row = row_soon quota c closed s.number row some h ends.1.census in
     record {
       now = same_soon quota idle t (ap (λ (x : State). x.progress) ends.1.rest) tt;
-      told = rw ends.1.told (All-cons (IsClosedSoon quota) row [] soon
+      known = rw ends.1.cycles_are (All-cons (IsClosedSoon quota) row [] soon
           (All-nil (IsClosedSoon quota)));
     }
 
@@ -98,8 +98,8 @@ full_soon quota s t rows some h soon d =
     finishes_soon quota (cycle_started (with_all_retired d.idled)) d.last d.own some tt (inl first) d.again in
     record {
       now = same_soon quota d.last.progress t (ap (λ (x : State). x.progress) d.rest) own.now;
-      told = rw d.told (All-append (IsClosedSoon quota) d.before d.own before.told
-          own.told);
+      known = rw d.cycles_are (All-append (IsClosedSoon quota) d.before d.own before.known
+          own.known);
     }
 
 begins_soon : (quota : ℕ) (config : Config) (s t : State) → WasSoon quota s.progress → BeginsOrWaits config s t → WasSoon quota t.progress
@@ -111,7 +111,7 @@ proceeds_soon : (plan : Plan) (s t : State) (rows : List CycleRow) → 1 ≤ pla
 proceeds_soon plan s t rows some h (inl full) = full_soon plan.config.quota s t rows some h full.2 full.1
 proceeds_soon plan s t rows some h (inr goes) = record {
   now = begins_soon plan.config.quota plan.config s t h goes.1;
-  told = none_told plan.config.quota rows goes.2;
+  known = none_known plan.config.quota rows goes.2;
 }
 
 stop_soon : (plan : Plan) (began : World) (s t : State) (row : StopRow) (rows : List CycleRow) → 1 ≤ plan.config.quota →
@@ -125,8 +125,8 @@ stop_soon plan began s t row rows some h i =
     let last : IsInTime quota t i.more = proceeds_soon plan i.ended t i.more some ended.now i.proceeds in
     record {
       now = last.now;
-      told = rw i.told (All-append (IsClosedSoon quota) i.first i.more ended.told
-          last.told);
+      known = rw i.cycles_are (All-append (IsClosedSoon quota) i.first i.more ended.known
+          last.known);
     }
 
 -- the run
@@ -147,7 +147,7 @@ turns_soon plan s (turn ∷ turns) some h i =
     turn.history h) in
     let stop : IsInTime quota turn.stop.state turn.stop.cycles =
     stop_soon plan s.world turn.worked turn.stop.state turn.stop.row turn.stop.cycles some worked i.0.stop in
-    All-append (IsClosedSoon quota) turn.stop.cycles (flat_map (λ (t : Turn). t.stop.cycles) turns) stop.told
+    All-append (IsClosedSoon quota) turn.stop.cycles (flat_map (λ (t : Turn). t.stop.cycles) turns) stop.known
     (turns_soon plan turn.stop.state turns some stop.now i.1)
 
 pub closings_are_soon : ClosingsAreSoon
@@ -159,5 +159,5 @@ closings_are_soon script report fits lawful =
     let opened : IsInTime quota run.opening.state run.opening.cycles =
     stop_soon plan _ (start plan) run.opening.state run.opening.row run.opening.cycles some tt lawful.is_run.opening in
     let later = turns_soon plan run.opening.state run.turns some opened.now lawful.is_run.turns in
-    rw lawful.tells.cycles_are (All-append (IsClosedSoon quota) run.opening.cycles
-    (flat_map (λ (turn : Turn). turn.stop.cycles) run.turns) opened.told later)
+    rw lawful.agrees.cycles_are (All-append (IsClosedSoon quota) run.opening.cycles
+    (flat_map (λ (turn : Turn). turn.stop.cycles) run.turns) opened.known later)

@@ -1,4 +1,4 @@
--- The cycle in progress, over a run: its number, when it began, and which segments wait for it.
+-- The cycle in progress, over a run: its number, its beginning, and the segments that wait for it.
 use Rattle.std.specs.Prelude.{◌≡◌, ◌≢◌, ◌+◌, ◌∷◌}
 use Rattle.nmgc_run_laws.specs.laws.Vocabulary.{ℕ, List, [], refl, sym, ap, subst, ◌∙◌, arith, inl, inr, true, false, cases_eq, get_or-set_same, get_or-set_other, Name, World, Row, Stands, Layout, prepared_state, retired_state, AllocState, Cells, Exists, IsIn, IsTarget, NoneIs, PlacesName, Sweeps, SweepsEach, HoldsKept, cells, no_cells, all_retired, begun_cells, retired_cells, swept_other, all_swept, first_cells, used_exists, PlacesEach, CycleRow, StopRow, Config, IsKeptIn, Cycle, ClosesOrWaits, ClosesNow, IsLastBegun, WaitsWhole, IsInCourse, IsStateInCourse, RunsAreInCourse, RoundsStayInCourse, PromotionsStayInCourse, CyclesBeginInCourse, AreAsNoted, noted, SweepsBeside, Turn, AreTurns, state_after, Plan, State, Progress, idle, marking, sweeping, is_idle, start, cycle_started, IsStop, EndsOrWaits, Finishes, DoesFullCycle, BeginsOrWaits, Proceeds, with_all_retired, SweepsRest}
 use Rattle.nmgc_segment.specs.declared.state.State.TheVariants as stands
@@ -9,7 +9,7 @@ waits_there a number is = used_exists a number (λ free. let bad : stands.Sweepi
 
 -- placing touches no waiting segment
 
--- the same segments wait in both, and as they were
+-- the same segments wait in both, with the same names
 pub record SameWait (a b : AllocState) : Type 0 where
   pub same : (number : ℕ) → IsIn stands.Sweeping (cells a number) → cells b number ≡ cells a number
   pub back : (number : ℕ) → IsIn stands.Sweeping (cells b number) → cells b number ≡ cells a number
@@ -174,7 +174,7 @@ ends_course (marking c) s t cycles h e ends = subst IsStateInCourse (sym ends.0)
 ends_course (sweeping c number) s t cycles h e (inl ends) = subst IsStateInCourse (sym ends.1.rest) ends.0
 ends_course (sweeping c number) s t cycles h e (inr waits) = subst IsStateInCourse (sym waits.1) (rw e h)
 
--- a finished cycle leaves no segment that waits, and an idle collector
+-- a cycle that was closed, swept and ended leaves no segment that waits, and an idle collector
 record IsQuiet (t : State) : Type 0 where
   is_idle : t.progress ≡ idle
   none : NoneIs (IsIn stands.Sweeping) t.allocation
@@ -206,11 +206,11 @@ finishes s t cycles f h = by s.progress refl h (subst (λ (p : Progress). Closes
     by : (p : Progress) → s.progress ≡ p → IsInCourse p s.number s.begun s.allocation → ClosesNow p s f.closed → IsQuiet t
     by idle e none closes =
         let at : f.closed.progress ≡ idle = ap (λ (x : State). x.progress) closes ∙ e in
-        let told : EndsOrWaits idle f.swept t cycles = ends idle at in
+        let known : EndsOrWaits idle f.swept t cycles = ends idle at in
         let same : f.swept.allocation ≡ s.allocation = sweeps idle at ∙ ap (λ (x : State). x.allocation) closes in
         record {
-          is_idle = ap (λ (x : State). x.progress) told.0 ∙ swept_progress ∙ at;
-          none = subst (λ (x : AllocState). NoneIs (IsIn stands.Sweeping) x) (sym (ap (λ (x : State). x.allocation) told.0 ∙ same)) none;
+          is_idle = ap (λ (x : State). x.progress) known.0 ∙ swept_progress ∙ at;
+          none = subst (λ (x : AllocState). NoneIs (IsIn stands.Sweeping) x) (sym (ap (λ (x : State). x.allocation) known.0 ∙ same)) none;
         }
     by (marking c) e held closes = after c s.number (ap (λ (x : State). x.progress) closes.rest)
     by (sweeping c number) e held closes = after c number (ap (λ (x : State). x.progress) closes ∙ e)
@@ -236,7 +236,7 @@ proceeds_course : (plan : Plan) (s t : State) (cycles : List CycleRow) → Proce
 proceeds_course plan s t cycles (inl f) h = full_course s t cycles f.1 h
 proceeds_course plan s t cycles (inr b) h = begins_course plan.config s t b.1 h
 
--- a stop, and the turns
+-- a stop, and the rounds with their stops
 
 pub stop_course : (plan : Plan) (began : World) (s t : State) (row : StopRow) (cycles : List CycleRow) → IsStop plan began s t row cycles →
     IsStateInCourse s → IsStateInCourse t

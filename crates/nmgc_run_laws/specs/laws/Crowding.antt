@@ -1,4 +1,4 @@
--- What the last stop of a run that ends as heap full did: a full cycle, after which it is crowded. And so every lawful report is one of its run.
+-- The last stop of a run that ends as heap full did a full cycle, and is crowded. So every lawful report is one of its run.
 use Rattle.std.proofs.{Common.ℕ, Common.◌≡◌, Common.◌+◌, Common.◌<◌, Common.◌≤◌, Common.List, Common.[], Common.◌∷◌, Common.◌++◌, Common.length, Common.arith, Common.refl, Common.sym, Common.ap, Common.subst, Common.◌∙◌, Common.Bool, Common.true, Common.Some, Common.None, Common.inl, Common.inr, lemmas.Bool.ltb-true, lemmas.Bool.cases_lt, lemmas.List.get_or_past, lemmas.List.Elements.All-get_or}
 use Rattle.std.specs.Prelude.{nat_lt, ◌&&◌, if◌then◌else◌}
 use Rattle.nmgc_lists.specs.laws.Truths.{and_both}
@@ -7,11 +7,11 @@ use Rattle.nmgc_alloc.specs.laws.Cells.{all_swept}
 use Rattle.nmgc_journal.specs.{declared.report.CycleRow.CycleRow, declared.report.Report.Report, declared.report.End.End, declared.report.End.TheVariants.Done, declared.report.End.TheVariants.HeapFull, Summary.kept_count}
 use Rattle.nmgc_limits.specs.Limits.{most_script_bytes}
 use Rattle.nmgc_script.specs.{Limits.FitsScript, Limits.HasFewCommands, declared.script.Script.Script}
-use Rattle.nmgc_blocks_spec.specs.Cycle.{IsKeptIn, Cycle}
+use Rattle.nmgc_stop_spec.specs.Cycle.{IsKeptIn, Cycle}
 use Rattle.nmgc_run_spec.specs.{Crowded.StopInRun, Crowded.opening_stop, Crowded.next_stop, Crowded.last_after, Crowded.last_stop, Crowded.IsKeptOf, Crowded.IsCrowded, Crowded.LeavesHeapFull, Crowded.IsHeapFull, Crowded.IsRunOf, Lawful.IsLawfulFor, Run.Run, Run.Turn, Run.IsRun, Run.AreTurns, Run.state_after, Run.last_state, Slice.has_left, Slice.program_of, State.State, State.Plan, State.Progress, State.idle, State.marking, State.sweeping, State.free_count, State.reserve_of, State.cycle_started, State.next_cycle, State.plan_of, Stop.EndsOrWaits, Stop.Finishes, Stop.DoesFullCycle, Stop.Proceeds, Stop.with_all_retired, Stop.is_short, Stop.is_done, Stop.answer_of, Stop.SweepsRest}
 use Rattle.nmgc_run_laws.specs.{Statements.LawfulAreOfRuns, Sound.IsRunnable, laws.CycleCounts.free_kept, laws.FullHeaps.full_crowded, laws.FullHeaps.full_short, laws.FullHeaps.kept_last, laws.FullHeaps.full_heap_is_crowded, laws.Limits.scripts_have_good_plans, laws.Programs.HasPrograms, laws.Runs.round_holds, laws.Runs.turn_holds, laws.Runs.opening_worked, laws.Runs.opening_holds, laws.States.IsSoundHere, laws.States.Worked, laws.States.lefts, laws.Stops.stop_holds}
 
--- what a full cycle keeps
+-- the objects that a full cycle keeps
 
 -- the end of a cycle leaves the world
 ended_world : (p : Progress) (s t : State) (cycles : List CycleRow) → EndsOrWaits p s t cycles → t.world ≡ s.world
@@ -20,11 +20,11 @@ ended_world (marking c) s t cycles e = ap (λ (x : State). x.world) e.0
 ended_world (sweeping c number) s t cycles (inl e) = ap (λ (x : State). x.world) e.1.rest
 ended_world (sweeping c number) s t cycles (inr e) = ap (λ (x : State). x.world) e.1
 
--- a finished cycle leaves the world of its closing
+-- a cycle that was closed, swept and ended leaves the world of its closing
 finished_world : (s t : State) (cycles : List CycleRow) (f : Finishes s t cycles) → t.world ≡ f.closed.world
 finished_world s t cycles f = ended_world f.swept.progress f.swept t cycles f.ends ∙ ap (λ (x : State). x.world) f.others
 
--- of a full cycle that leaves too few segments free: the world with which it began keeps more objects than there are segments above the reserve
+-- if a full cycle leaves too few segments free, its first world keeps more objects than there are segments above the reserve
 record KeepsMuch (plan : Plan) (w : World) : Type 0 where
   kept : ℕ
   counts : Counts (IsKeptOf w) kept
@@ -43,16 +43,16 @@ full_keeps plan s t cycles f h few =
     let crowd = full_crowded plan s t cycles f h in
     elim ends [
       | inl e ↦
-          let told : cycles ≡ f.before ++ e.1.row ∷ [] = f.told ∙ ap (λ (rows : List CycleRow). f.before ++ rows) e.1.told in
-          let same : crowd.1.kept ≡ e.1.row.kept = sym (kept_last crowd.0 crowd.1) ∙ ap kept_count (sym crowd.2 ∙ told) ∙ kept_last f.before e.1.row in
+          let known : cycles ≡ f.before ++ e.1.row ∷ [] = f.cycles_are ∙ ap (λ (rows : List CycleRow). f.before ++ rows) e.1.cycles_are in
+          let same : crowd.1.kept ≡ e.1.row.kept = sym (kept_last crowd.0 crowd.1) ∙ ap kept_count (sym crowd.2 ∙ known) ∙ kept_last f.before e.1.row in
           let many : plan.config.segments ≤ crowd.1.kept + free_count t = crowd.3 in
           record { kept = e.1.row.kept; counts = e.1.census.kept; more = omega (arith, many, same, few) }
       | inr waits ↦ absurd (waits.0 none)
     ]
 
--- a stop: where the heap is short after it, it did a full cycle
+-- a stop: if the heap is short after it, it did a full cycle
 
--- what is claimed of a stop
+-- the claim about a stop
 abbrev Claim : (plan : Plan) → StopInRun plan → Type 0
 Claim plan stop = is_short plan stop.stop.state ≡ true → LeavesHeapFull plan stop × IsCrowded plan stop
 
@@ -104,7 +104,7 @@ run_claim plan run i runnable =
     let first : StopInRun plan = opening_stop plan run i in
     turns_claim plan first run.turns i.turns opened.0 opened.1 (stop_claim plan first (opening_worked plan runnable))
 
--- the last stop leaves the last state
+-- the state after the last stop is the last state
 turns_last : (plan : Plan) (before : StopInRun plan) (turns : List Turn) (i : AreTurns plan before.stop.state turns) →
     (last_after plan before turns i).stop.state ≡ state_after before.stop.state turns
 turns_last plan before [] i = refl
@@ -115,12 +115,12 @@ run_last plan run i = turns_last plan (opening_stop plan run i) run.turns i.turn
 
 -- the end
 
--- an end that is heap full comes from a short heap
+-- only a short heap gives the end heap full
 end_short : (plan : Plan) (s : State) (end : End) → answer_of plan s ≡ Some end → IsHeapFull end → is_short plan s ≡ true
 end_short plan s Done e full = absurd full
 end_short plan s (HeapFull free reserve) e full = full_short (is_short plan s) (is_done s) (HeapFull (free_count s) (reserve_of plan)) free reserve e
 
--- and a short heap is such an end
+-- a short heap gives that end
 short_end : (plan : Plan) (s : State) (end : End) → answer_of plan s ≡ Some end → is_short plan s ≡ true → IsHeapFull end
 short_end plan s end e short =
     let A : Bool → Type 0 = λ (b : Bool).
@@ -135,7 +135,7 @@ kept_many : (plan : Plan) (report : Report) (end : End) (lawful : IsLawfulFor pl
     answer_of plan (last_state lawful.run) ≡ Some end → IsHeapFull end → plan.config.segments < kept_count report.cycles + reserve_of plan
 kept_many plan report Done lawful runnable e full = absurd full
 kept_many plan report (HeapFull free reserve) lawful runnable e full =
-    full_heap_is_crowded plan lawful.run report.rounds report.stops report.cycles free reserve runnable lawful.is_run lawful.tells e
+    full_heap_is_crowded plan lawful.run report.rounds report.stops report.cycles free reserve runnable lawful.is_run lawful.agrees e
 
 -- a program has no more commands than a script may have bytes, and so it is short enough for serials
 pub few_in_each : (script : Script) → HasFewCommands script → (m : ℕ) → length (program_of script.threads m) ≤ most_script_bytes
@@ -147,7 +147,7 @@ few_in_each script few m = elim (cases_lt m (length script.threads)) [
 pub runnable_of : (script : Script) → FitsScript script → HasFewCommands script → IsRunnable (plan_of script)
 runnable_of script fits few = (scripts_have_good_plans script fits).runnable (λ m. let short = few_in_each script few m in omega (arith, short))
 
--- a lawful report of a script within the limits is one of its run, the one for which it is lawful
+-- a lawful report of a script within the limits is a report of its run, for which it is lawful
 pub lawful_are_of_runs : LawfulAreOfRuns
 lawful_are_of_runs script report fits few lawful =
     let plan : Plan = plan_of script in

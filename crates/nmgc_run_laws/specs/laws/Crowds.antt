@@ -1,5 +1,4 @@
--- A heap that is full after a full cycle is crowded: each segment that isn't free holds an object that the
--- cycle kept, and no object lies in two.
+-- A heap that is full after a full cycle is crowded: each segment in use has an object that was kept, and none lies in two.
 use Rattle.std.proofs.{Common.ℕ, Common.zero, Common.suc, Common.◌≡◌, Common.◌≢◌, Common.◌⊎◌, Common.◌+◌, Common.◌*◌, Common.◌/◌, Common.◌<◌, Common.◌≤◌, Common.List, Common.[], Common.◌∷◌, Common.length, Common.take, Common.slice_index_or, Common.arith, Common.refl, Common.sym, Common.ap, Common.subst, Common.◌∙◌, Common.Option, Common.Some, Common.None, Common.cond, Common.inl, Common.inr, Math.Nat.lt-div-mul-add, lemmas.List.Sums.sum_by_more, lemmas.List.take_all, lemmas.Bool.cases_eq}
 use Rattle.std.specs.Prelude.{Contains, sum_by}
 use Rattle.nmgc_world_spec.specs.{declared.value.Name.Name, Step.shared_name, Reach.Lists, Listing.AreDistinct}
@@ -8,7 +7,7 @@ use Rattle.nmgc_object.specs.{Size.block_size, declared.layout.Layout.Layout, la
 use Rattle.nmgc_segment.specs.declared.state.State.{State as Stands}
 use Rattle.nmgc_segment.specs.declared.state.State.TheVariants as stands
 use Rattle.nmgc_alloc.specs.{Numbered.is, laws.Cells.none_some, laws.Cells.swept_other, laws.Cells.swept_here, laws.Cells.swept_was, laws.Cells.begun_cells, laws.Cells.retired_cells, AllocState.prepared_state, AllocState.retired_state, AllocState.AllocState, AllocState.Cells, AllocState.Sweeps, AllocState.SweepsEach, AllocState.HoldsKept, AllocState.LiesIn, AllocState.cells, AllocState.no_cells, AllocState.name_in, AllocState.cycle_begun, AllocState.all_retired, AllocState.IsIn, AllocState.NoneIs}
-use Rattle.nmgc_blocks_spec.specs.Cycle.{IsKeptIn, IsKeptObject, Cycle}
+use Rattle.nmgc_stop_spec.specs.Cycle.{IsKeptIn, IsKeptObject, Cycle}
 use Rattle.nmgc_run_laws.specs.{Sound.AreSoundBlocks, laws.CycleCounts.free, laws.Filing.sweep_filed}
 use Rattle.nmgc_world_laws.specs.{laws.Distinct.no_more, laws.Reached.listed_cases as listed_or_not}
 
@@ -31,7 +30,7 @@ has_blocks layout a h number used =
       | inr some ↦ omega (arith, count, some)
     ]
 
--- segments of a full cycle: free, waiting, or with an object of which it can't be that it isn't kept
+-- a segment of a full cycle: free, waiting, or with an object that isn't unkept (a double negation)
 
 pub record IsGood (K : Name → Type 0) (a : AllocState) (number : ℕ) : Type 0 where
   pub block : ℕ
@@ -180,7 +179,7 @@ pick layout K a names h judged kept (suc m) le =
       }
     ]
 
--- the segments are no more than the free ones and the kept objects
+-- the free segments and the kept objects are together no fewer than the segments
 pub crowded : (layout : Layout) (c : Cycle) (a : AllocState) (names : List Name) → AreSoundBlocks layout a → NoneIs (IsIn stands.Sweeping) a →
     ((k : ℕ) → IsJudged (IsKeptIn c) a k) → Lists (IsKeptObject c) names → layout.segments ≤ length names + sum_by free a.segments
 crowded layout c a names h none judged lists =

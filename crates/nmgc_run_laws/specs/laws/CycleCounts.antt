@@ -1,10 +1,9 @@
--- Each cycle that was begun has its row once the run has ended: a full cycle leaves the collector idle,
--- since a sweep of as many segments as wait leaves none that waits.
+-- Each begun cycle has its row once the run has ended. A full cycle leaves the collector idle, since it sweeps all that wait.
 use Rattle.std.specs.Prelude.{◌≡◌, ◌+◌, ◌∷◌, ◌++◌, if◌then◌else◌, ◌&&◌}
 use Rattle.nmgc_run_laws.specs.laws.Vocabulary.{ℕ, List, [], length, map, arith, refl, sym, ap, subst, ◌∙◌, Some, None, Bool, true, false, not, cond, inl, inr, length-append, sum_by, flat_map, sum_by-cons, World, Row, Stands, is, prepared_state, Cells, restated, all_swept, StopRow, CycleRow, End, IsKeptIn, Cycle, has_left, State, Plan, Progress, idle, marking, sweeping, is_idle, start, cycle_started, SweepsRest, IsStop, EndsOrWaits, Finishes, DoesFullCycle, BeginsOrWaits, Proceeds, IsFullDue, with_all_retired, is_short, ClosesOrWaits, ClosesNow, noted, Turn, AreTurns, state_after, last_state, EachCycleHasItsRow}
 use Rattle.nmgc_segment.specs.declared.state.State.TheVariants as stands
 
--- how many cycles are in progress
+-- the number of cycles in progress
 abbrev in_progress : Progress → ℕ
 in_progress idle = 0
 in_progress (marking c) = 1
@@ -15,7 +14,7 @@ idle_none idle e = refl
 idle_none (marking c) e = absurd cc
 idle_none (sweeping c number) e = absurd cc
 
--- a finished cycle has its row, and the collector is idle
+-- a cycle that was closed, swept and ended has its row, and the collector is idle
 record Finished (s t : State) (cycles : List CycleRow) : Type 0 where
   idled : is_idle t.progress ≡ true
   rows : length cycles ≡ in_progress s.progress
@@ -40,7 +39,7 @@ finishes s t cycles f = by s.progress refl (subst (λ (p : Progress). ClosesNow 
     after c number e begun one = elim (ends (sweeping c number) e) [
       | inl h ↦ record {
         idled = ap (λ (x : State). is_idle x.progress) h.1.rest;
-        rows = ap (λ (rows : List CycleRow). length rows) h.1.told ∙ sym one;
+        rows = ap (λ (rows : List CycleRow). length rows) h.1.cycles_are ∙ sym one;
         begun = ap (λ (x : State). x.begun) h.1.rest ∙ swept_begun ∙ begun;
       }
       | inr h ↦ absurd (h.0 (all_swept (IsKeptIn c) f.closed.allocation f.swept.allocation (sweeps (sweeping c number) e)))
@@ -63,7 +62,7 @@ finishes s t cycles f = by s.progress refl (subst (λ (p : Progress). ClosesNow 
         let same : f.closed ≡ s = subst (λ (p : Progress). ClosesNow p s f.closed) e closes in
         after c number (ap (λ (x : State). x.progress) same ∙ e) (ap (λ (x : State). x.begun) same) (ap in_progress e)
 
--- how many rows there were before, with the cycle in progress, is how many cycles were begun
+-- the rows so far and the cycle in progress are together the cycles begun
 abbrev Counted : ℕ → State → Type 0
 Counted n s = n + in_progress s.progress ≡ s.begun
 
@@ -96,13 +95,13 @@ ends_counted n p s t cycles e ends h = by p e ends
     by (marking c) e w = waited w.0 w.1
     by (sweeping c number) e (inr w) = waited w.1 w.2
     by (sweeping c number) e (inl w) =
-        let rows : length cycles ≡ 1 = ap (λ (rows : List CycleRow). length rows) w.1.told in
+        let rows : length cycles ≡ 1 = ap (λ (rows : List CycleRow). length rows) w.1.cycles_are in
         let new : in_progress t.progress ≡ 0 = ap (λ (x : State). in_progress x.progress) w.1.rest in
         let old : in_progress s.progress ≡ 1 = ap in_progress e in
         let begun : t.begun ≡ s.begun = ap (λ (x : State). x.begun) w.1.rest in
         omega (arith, rows, new, old, begun, h)
 
--- free segments are as many once a cycle begins
+-- the number of free segments is the same once a cycle begins
 
 prepared_is_free : (s : Stands) → is (prepared_state s) stands.Free ≡ is s stands.Free
 prepared_is_free stands.Free = refl
@@ -126,7 +125,7 @@ free_kept (c ∷ segments) =
     let old : sum_by free (c ∷ segments) ≡ free c + sum_by free segments = sum_by-cons free c segments in
     omega (arith, one, more, new, old)
 
--- what a stop leaves: the count, and an idle collector where the heap is short
+-- after a stop: the count, and an idle collector if the heap is short
 record Left (plan : Plan) (n : ℕ) (t : State) : Type 0 where
   counted : Counted n t
   idle_if_short : is_short plan t ≡ true → is_idle t.progress ≡ true
@@ -147,7 +146,7 @@ full_left : (plan : Plan) (n : ℕ) (s t : State) (cycles : List CycleRow) → D
 full_left plan n s t cycles f h =
     let before = finishes s f.idled f.before f.finishes in
     let again = finishes (cycle_started (with_all_retired f.idled)) f.last f.own f.again in
-    let rows : length cycles ≡ length f.before + length f.own = ap (λ (rows : List CycleRow). length rows) f.told ∙ length-append f.before f.own in
+    let rows : length cycles ≡ length f.before + length f.own = ap (λ (rows : List CycleRow). length rows) f.cycles_are ∙ length-append f.before f.own in
     let first : length f.before ≡ in_progress s.progress = before.rows in
     let own : length f.own ≡ 1 = again.rows in
     let begun_before : f.idled.begun ≡ s.begun = before.begun in
@@ -173,7 +172,7 @@ stop_counted plan n began s t row cycles i h =
     let ended : Counted (n + length i.first) i.ended = ends_counted n i.closed.progress i.closed i.ended i.first refl i.ends closed in
     let left : Left plan (n + length i.first + length i.more) t = proceeds_left plan (n + length i.first) i.ended t i.more i.proceeds ended in
     let rows : n + length i.first + length i.more ≡ n + length cycles =
-    (let all : length cycles ≡ length i.first + length i.more = ap (λ (rows : List CycleRow). length rows) i.told ∙ length-append i.first i.more in
+    (let all : length cycles ≡ length i.first + length i.more = ap (λ (rows : List CycleRow). length rows) i.cycles_are ∙ length-append i.first i.more in
     omega (arith, all)) in
     subst (λ (k : ℕ). Left plan k t) rows left
 
@@ -182,7 +181,7 @@ noted_same idle rows = refl
 noted_same (marking c) rows = refl
 noted_same (sweeping c number) rows = refl
 
--- the rows of turns
+-- the rows of rounds and their stops
 abbrev rows_of_turns : List Turn → List CycleRow
 rows_of_turns turns = flat_map (λ (turn : Turn). turn.stop.cycles) turns
 
@@ -213,7 +212,7 @@ end_idle false true false full quiet_end end idled e = absurd cc
 end_idle false false quiet full quiet_end end idled e = absurd cc
 
 pub each_cycle_has_its_row : EachCycleHasItsRow
-each_cycle_has_its_row plan run rounds stops cycles end i tells e =
+each_cycle_has_its_row plan run rounds stops cycles end i agrees e =
     let opened : Left plan (0 + length run.opening.cycles) run.opening.state =
     stop_counted plan 0 _ (start plan) run.opening.state run.opening.row run.opening.cycles i.opening refl in
     let last : Left plan (0 + length run.opening.cycles + length (rows_of_turns run.turns)) (last_state run) =
@@ -222,7 +221,7 @@ each_cycle_has_its_row plan run rounds stops cycles end i tells e =
     end_idle (is_short plan (last_state run)) (not (has_left (last_state run).left)) (is_idle (last_state run).progress) _ _ end last.idle_if_short e in
     let none : in_progress (last_state run).progress ≡ 0 = idle_none (last_state run).progress quiet in
     let rows : length cycles ≡ length run.opening.cycles + length (rows_of_turns run.turns) =
-    ap (λ (rows : List CycleRow). length rows) tells.cycles_are ∙ length-append run.opening.cycles (rows_of_turns run.turns) in
+    ap (λ (rows : List CycleRow). length rows) agrees.cycles_are ∙ length-append run.opening.cycles (rows_of_turns run.turns) in
     let counted : 0 + length run.opening.cycles + length (rows_of_turns run.turns) + in_progress (last_state run).progress ≡
     (last_state run).begun = last.counted in
     omega (arith, none, rows, counted)

@@ -1,8 +1,8 @@
--- The blocks through the steps of a run: they stay an allocation state, no name comes to lie in two, and g in none.
+-- The blocks through the steps of a run: they stay an allocation state, no name gets two, and g none.
 use Rattle.std.specs.Prelude.{◌≡◌, ◌≢◌, ◌/◌, ◌<◌, ◌≤◌, ◌∷◌}
 use Rattle.nmgc_run_laws.specs.laws.Vocabulary.{ℕ, List, [], length, arith, refl, sym, ap, subst, Option, Some, None, inl, inr, eqb, false, Contains, slice_get, get_or-eq_default, length-replicate, div-eq_of_lt, cases_eq, cases_lt, ne_eqb, slice_get_within, Name, SHARED_MAKER, Node, MutatorState, World, IsWorld, node_of, state_of, no_mutator, shared_name, IsInOrder, IsBefore, contains_head, contains_tail, in_order_first, in_order_rest, not_before_itself, block_size, IsName, Layout, AllocState, IsAllocState, PlacesName, Opens, IsTarget, Sweeps, SweepsEach, HoldsKept, LiesNowhere, cells, cycle_begun, all_retired, all_empty, name_in, none_some, placed_where, placed_once, swept_back, swept_once, begun_names, begun_once, retired_names, retired_once, first_once, first_cells, first_sound, placed_sound, swept_sound, begun_sound, retired_sound, PlacesObject, PlacesEach, AreSoundBlocks}
 
--- a name of a world is one that words have
+-- words can have each name of a world
 pub world_name : (w : World) → IsWorld w → (n : Name) (node : Node) → node_of w n ≡ Some node → IsName n
 world_name w world n node e = elim (cases_eq n.maker SHARED_MAKER) [
   | inl is ↦ elim (cases_eq n.serial 0) [
@@ -25,7 +25,7 @@ world_name w world n node e = elim (cases_eq n.maker SHARED_MAKER) [
       (omega (arith, maker, few), omega (arith, serial, total), λ m. absurd (ne m))
 ]
 
--- a block of a class in which something is placed fits the segment
+-- a block of a class in which an object is placed fits the segment
 pub placed_fits : (layout : Layout) (a b : AllocState) (m class : ℕ) (name : Name) → IsAllocState layout a → PlacesName layout a b m class name →
     block_size class ≤ layout.words
 placed_fits layout a b m class name h p = by_opens p.opens
@@ -59,7 +59,7 @@ pub each_filed : (layout : Layout) (Kept : Name → Type 0) (a b : AllocState) (
 each_filed layout Kept a b [] e h = subst (AreSoundBlocks layout) (sym e) h
 each_filed layout Kept a b (number ∷ numbers) s h = each_filed layout Kept s.0 b numbers s.2 (sweep_filed layout a s.0 number (HoldsKept Kept a number) s.1 h)
 
--- placing names that lie nowhere
+-- placing a name that lies nowhere
 
 place_filed : (layout : Layout) (w : World) (a b : AllocState) (name : Name) → IsWorld w → PlacesObject layout w a b name → LiesNowhere a name →
     name ≢ shared_name → AreSoundBlocks layout a → AreSoundBlocks layout b

@@ -1,4 +1,4 @@
--- What the rows of a run that ends as heap full tell: its last cycle kept more objects than there are segments above the reserve.
+-- The rows of a run that ends as heap full: its last cycle kept more objects than there are segments above the reserve.
 use Rattle.std.proofs.{Common.ℕ, Common.◌≡◌, Common.◌+◌, Common.◌-◌, Common.◌<◌, Common.◌≤◌, Common.List, Common.[], Common.◌∷◌, Common.◌++◌, Common.length, Common.length-append, Common.arith, Common.refl, Common.sym, Common.ap, Common.subst, Common.◌∙◌, Common.Some, Common.None, Common.Bool, Common.true, Common.false, Common.inl, Common.inr, Common.append_assoc, Common.append-nil, lemmas.Bool.ltb-true}
 use Rattle.std.specs.{Prelude.Option, Prelude.slice_get, Prelude.sum_by, Prelude.nat_lt, Prelude.◌&&◌, Prelude.flat_map, Prelude.if◌then◌else◌, Option.option_map_or}
 use Rattle.nmgc_lists.specs.laws.Truths.{and_both}
@@ -6,13 +6,13 @@ use Rattle.nmgc_world_spec.specs.World.{World, new_world}
 use Rattle.nmgc_segment.specs.declared.state.State.TheVariants as stands
 use Rattle.nmgc_alloc.specs.{AllocState.AllocState, AllocState.IsIn, AllocState.NoneIs, laws.Cells.all_swept}
 use Rattle.nmgc_journal.specs.{declared.report.CycleRow.CycleRow, Summary.kept_count, declared.report.End.End, declared.report.End.TheVariants.Done, declared.report.End.TheVariants.HeapFull, declared.report.RoundRows.RoundRows, declared.report.StopRow.StopRow}
-use Rattle.nmgc_blocks_spec.specs.Cycle.{IsKeptIn, Cycle}
-use Rattle.nmgc_run_spec.specs.{Run.Run, Run.Turn, Run.IsRun, Run.AreTurns, Run.Tells, Run.state_after, Run.last_state, Slice.has_left, State.State, State.Plan, State.Progress, State.sweeping, State.free_count, State.reserve_of, State.start, State.cycle_started, State.layout_of, State.next_cycle, Stop.IsStop, Stop.EndsOrWaits, Stop.DoesFullCycle, Stop.Proceeds, Stop.with_all_retired, Stop.answer_of, Stop.is_short, Stop.is_done, Stop.SweepsRest}
+use Rattle.nmgc_stop_spec.specs.Cycle.{IsKeptIn, Cycle}
+use Rattle.nmgc_run_spec.specs.{Run.Run, Run.Turn, Run.IsRun, Run.AreTurns, Run.AreRowsOf, Run.state_after, Run.last_state, Slice.has_left, State.State, State.Plan, State.Progress, State.sweeping, State.free_count, State.reserve_of, State.start, State.cycle_started, State.layout_of, State.next_cycle, Stop.IsStop, Stop.EndsOrWaits, Stop.DoesFullCycle, Stop.Proceeds, Stop.with_all_retired, Stop.answer_of, Stop.is_short, Stop.is_done, Stop.SweepsRest}
 use Rattle.nmgc_run_laws.specs.{Sound.AreSoundBlocks, Sound.IsRunnable, laws.Crowds.IsJudged, laws.Crowds.each_judged, laws.Crowds.begun_judged, laws.Crowds.crowded, laws.CycleCounts.free, laws.CycleCounts.free_kept, laws.Filing.each_filed, laws.Programs.HasPrograms, laws.Runs.round_holds, laws.Runs.turn_holds, laws.Runs.opening_worked, laws.Runs.opening_holds, laws.States.IsSoundHere, laws.States.Worked, laws.States.lefts, laws.Stops.stop_holds, laws.Stops.full_begins}
 
--- what a full cycle leaves
+-- the heap after a full cycle
 
--- the last row tells so many kept objects that these and the free segments are no fewer than the segments
+-- the last row's kept objects and the free segments are together no fewer than the segments
 abbrev pub Crowded : Plan → State → List CycleRow → Type 0
 Crowded plan t cycles = (before : List CycleRow) × (row : CycleRow) × (cycles ≡ before ++ row ∷ []) × (plan.config.segments ≤ row.kept + free_count t)
 
@@ -40,17 +40,17 @@ full_crowded plan s t cycles f h =
           crowded (layout_of plan) c f.again.swept.allocation e.1.census.kept.0 swept none judged e.1.census.kept.1 in
           let count : free_count t ≡ free_count f.again.swept = ap (λ (a : AllocState). sum_by free a.segments) same in
           let kept : e.1.row.kept ≡ length e.1.census.kept.0 = e.1.census.kept.2 in
-          (f.before, e.1.row, f.told ∙ ap (λ (rows : List CycleRow). f.before ++ rows) e.1.told, omega (arith, many, count, kept))
+          (f.before, e.1.row, f.cycles_are ∙ ap (λ (rows : List CycleRow). f.before ++ rows) e.1.cycles_are, omega (arith, many, count, kept))
       | inr waits ↦ absurd (waits.0 none)
     ]
 
--- a stop: where the heap is short after it, it did a full cycle
+-- a stop: if the heap is short after it, it did a full cycle
 
--- what is told of a stop that ends as heap full: so far, its cycles last
-abbrev pub Told : Plan → State → List CycleRow → Type 0
-Told plan t cycles = is_short plan t ≡ true → Crowded plan t cycles
+-- the rows up to a stop that ends as heap full, its cycles last
+abbrev pub IsCrowdedIfFull : Plan → State → List CycleRow → Type 0
+IsCrowdedIfFull plan t cycles = is_short plan t ≡ true → Crowded plan t cycles
 
-proceeds_crowded : (plan : Plan) (s t : State) (cycles : List CycleRow) → Proceeds plan s t cycles → IsSoundHere plan s → Told plan t cycles
+proceeds_crowded : (plan : Plan) (s t : State) (cycles : List CycleRow) → Proceeds plan s t cycles → IsSoundHere plan s → IsCrowdedIfFull plan t cycles
 proceeds_crowded plan s t cycles (inl f) h short = full_crowded plan s t cycles f.1 h
 proceeds_crowded plan s t cycles (inr (not, inr b, none)) h short = absurd (not (inr (sym (ap (λ (x : State). is_short plan x) b.1) ∙ short)))
 proceeds_crowded plan s t cycles (inr (not, inl b, none)) h short =
@@ -58,31 +58,31 @@ proceeds_crowded plan s t cycles (inr (not, inl b, none)) h short =
     ap (λ (count : ℕ). has_left s.left && nat_lt count (reserve_of plan)) (free_kept s.allocation.segments) in
     absurd (not (inr (sym same ∙ short)))
 
-more_told : (plan : Plan) (t : State) (before cycles : List CycleRow) → Told plan t cycles → Told plan t (before ++ cycles)
-more_told plan t before cycles told short = let k = told short in
+more_known : (plan : Plan) (t : State) (before cycles : List CycleRow) → IsCrowdedIfFull plan t cycles → IsCrowdedIfFull plan t (before ++ cycles)
+more_known plan t before cycles known short = let k = known short in
     (before ++ k.0, k.1, ap (λ (rows : List CycleRow). before ++ rows) k.2 ∙ sym (append_assoc before k.0 (k.1 ∷ [])), k.3)
 
-pub stop_told : (plan : Plan) (began : World) (s t : State) (row : StopRow) (cycles : List CycleRow) → IsStop plan began s t row cycles →
-    Worked plan (lefts s) began s.world s.allocation s.progress → Told plan t cycles
-stop_told plan began s t row cycles i h =
+pub stop_known : (plan : Plan) (began : World) (s t : State) (row : StopRow) (cycles : List CycleRow) → IsStop plan began s t row cycles →
+    Worked plan (lefts s) began s.world s.allocation s.progress → IsCrowdedIfFull plan t cycles
+stop_known plan began s t row cycles i h =
     let ended : IsSoundHere plan i.ended = (stop_holds plan began s t row cycles i h).ended in
-    subst (Told plan t) (sym i.told) (more_told plan t i.first i.more (proceeds_crowded plan i.ended t i.more i.proceeds ended))
+    subst (IsCrowdedIfFull plan t) (sym i.cycles_are) (more_known plan t i.first i.more (proceeds_crowded plan i.ended t i.more i.proceeds ended))
 
 -- the run
 
-turns_told : (plan : Plan) (s : State) (turns : List Turn) (before : List CycleRow) → AreTurns plan s turns → HasPrograms plan s →
-    IsSoundHere plan s → Told plan s before → Told plan (state_after s turns) (before ++ flat_map (λ (turn : Turn). turn.stop.cycles) turns)
-turns_told plan s [] before i able h told = subst (λ (rows : List CycleRow). Told plan s rows) (sym (append-nil before)) told
-turns_told plan s (turn ∷ turns) before i able h told =
+turns_known : (plan : Plan) (s : State) (turns : List Turn) (before : List CycleRow) → AreTurns plan s turns → HasPrograms plan s →
+    IsSoundHere plan s → IsCrowdedIfFull plan s before → IsCrowdedIfFull plan (state_after s turns) (before ++ flat_map (λ (turn : Turn). turn.stop.cycles) turns)
+turns_known plan s [] before i able h known = subst (λ (rows : List CycleRow). IsCrowdedIfFull plan s rows) (sym (append-nil before)) known
+turns_known plan s (turn ∷ turns) before i able h known =
     let next = turn_holds plan s turn i.0 able h in
     let worked = round_holds plan s turn.worked turn.replies.replies turn.history i.0.round able h in
-    let stop : Told plan turn.stop.state turn.stop.cycles = stop_told plan s.world turn.worked turn.stop.state turn.stop.row turn.stop.cycles i.0.stop worked in
-    let rest : Told plan (state_after turn.stop.state turns) ((before ++ turn.stop.cycles) ++ flat_map (λ (t : Turn). t.stop.cycles) turns) =
-    turns_told plan turn.stop.state turns (before ++ turn.stop.cycles) i.1 next.0 next.1 (more_told plan turn.stop.state before turn.stop.cycles stop) in
+    let stop : IsCrowdedIfFull plan turn.stop.state turn.stop.cycles = stop_known plan s.world turn.worked turn.stop.state turn.stop.row turn.stop.cycles i.0.stop worked in
+    let rest : IsCrowdedIfFull plan (state_after turn.stop.state turns) ((before ++ turn.stop.cycles) ++ flat_map (λ (t : Turn). t.stop.cycles) turns) =
+    turns_known plan turn.stop.state turns (before ++ turn.stop.cycles) i.1 next.0 next.1 (more_known plan turn.stop.state before turn.stop.cycles stop) in
     subst (λ (rows : List CycleRow).
-    Told plan (state_after turn.stop.state turns) rows) (append_assoc before turn.stop.cycles (flat_map (λ (t : Turn). t.stop.cycles) turns)) rest
+    IsCrowdedIfFull plan (state_after turn.stop.state turns) rows) (append_assoc before turn.stop.cycles (flat_map (λ (t : Turn). t.stop.cycles) turns)) rest
 
--- the last row tells what the last cycle kept
+-- the last row has the number of objects that the last cycle kept
 pub kept_last : (before : List CycleRow) (row : CycleRow) → kept_count (before ++ row ∷ []) ≡ row.kept
 kept_last before row =
     let size : length (before ++ row ∷ []) - 1 ≡ length before = let sum = length-append before (row ∷ []) in omega arith in
@@ -93,7 +93,7 @@ kept_last before row =
     last_is [] = refl
     last_is (c ∷ rows) = last_is rows
 
--- the answer heap full comes from a short heap
+-- only a short heap gives the answer heap full
 pub full_short : (short quiet : Bool) (full : End) (free_segments reserve : ℕ) →
     (if short then Some full else (if quiet then Some Done else None)) ≡ Some (HeapFull free_segments reserve) → short ≡ true
 full_short true quiet full free_segments reserve e = refl
@@ -101,20 +101,20 @@ full_short false true full free_segments reserve e = absurd cc
 full_short false false full free_segments reserve e = absurd cc
 
 pub full_heap_is_crowded : (plan : Plan) (run : Run) (rounds : List RoundRows) (stops : List StopRow) (cycles : List CycleRow) (free reserve : ℕ) →
-    IsRunnable plan → IsRun plan run → Tells run rounds stops cycles → answer_of plan (last_state run) ≡ Some (HeapFull free reserve) →
+    IsRunnable plan → IsRun plan run → AreRowsOf run rounds stops cycles → answer_of plan (last_state run) ≡ Some (HeapFull free reserve) →
     plan.config.segments < kept_count cycles + reserve_of plan
-full_heap_is_crowded plan run rounds stops cycles free_segments reserve runnable i tells e =
+full_heap_is_crowded plan run rounds stops cycles free_segments reserve runnable i agrees e =
     let opened = opening_holds plan run runnable i in
-    let first : Told plan run.opening.state run.opening.cycles =
-    stop_told plan (new_world (length plan.threads)) (start plan) run.opening.state run.opening.row run.opening.cycles i.opening
+    let first : IsCrowdedIfFull plan run.opening.state run.opening.cycles =
+    stop_known plan (new_world (length plan.threads)) (start plan) run.opening.state run.opening.row run.opening.cycles i.opening
     (opening_worked plan runnable) in
     let last : State = last_state run in
-    let told : Told plan last (run.opening.cycles ++ flat_map (λ (turn : Turn). turn.stop.cycles) run.turns) =
-    turns_told plan run.opening.state run.turns run.opening.cycles i.turns opened.0 opened.1 first in
+    let known : IsCrowdedIfFull plan last (run.opening.cycles ++ flat_map (λ (turn : Turn). turn.stop.cycles) run.turns) =
+    turns_known plan run.opening.state run.turns run.opening.cycles i.turns opened.0 opened.1 first in
     let short : is_short plan last ≡ true = full_short (is_short plan last) (is_done last) _ free_segments reserve e in
-    let crowd = told short in
+    let crowd = known short in
     let few : free_count last < reserve_of plan =
     ltb-true (free_count last) (reserve_of plan) (and_both (has_left last.left) (nat_lt (free_count last) (reserve_of plan)) short).1 in
-    let kept : kept_count cycles ≡ crowd.1.kept = ap kept_count (tells.cycles_are ∙ crowd.2) ∙ kept_last crowd.0 crowd.1 in
+    let kept : kept_count cycles ≡ crowd.1.kept = ap kept_count (agrees.cycles_are ∙ crowd.2) ∙ kept_last crowd.0 crowd.1 in
     let most : plan.config.segments ≤ crowd.1.kept + free_count last = crowd.3 in
     omega (arith, few, kept, most)

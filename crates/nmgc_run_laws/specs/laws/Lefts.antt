@@ -1,6 +1,6 @@
--- What a stop and a round do to what is left of the programs.
+-- The rest of the programs after a stop and after a round.
 use Rattle.std.specs.Prelude.{◌≡◌, ◌∷◌}
-use Rattle.nmgc_run_laws.specs.laws.Vocabulary.{ℕ, List, [], length, map, drop, get_or, slice_index_or, refl, sym, ap, ◌∙◌, inl, inr, get_or-map, drop-drop, Command, Reply, Row, World, Config, StopRow, CycleRow, slice_of, rest_of, program_of, slices, Plan, State, Progress, idle, marking, sweeping, start, cycle_started, ClosesOrWaits, ClosesNow, IsStop, EndsOrWaits, Finishes, DoesFullCycle, BeginsOrWaits, Proceeds, with_all_retired, IsRound, Turn, AreTurns, state_after, LeftIsTold, answered_count}
+use Rattle.nmgc_run_laws.specs.laws.Vocabulary.{ℕ, List, [], length, map, drop, get_or, slice_index_or, refl, sym, ap, ◌∙◌, inl, inr, get_or-map, drop-drop, Command, Reply, Row, World, Config, StopRow, CycleRow, slice_of, rest_of, program_of, slices, Plan, State, Progress, idle, marking, sweeping, start, cycle_started, ClosesOrWaits, ClosesNow, IsStop, EndsOrWaits, Finishes, DoesFullCycle, BeginsOrWaits, Proceeds, with_all_retired, IsRound, Turn, AreTurns, state_after, LeftIsDetermined, answered_count}
 
 same_left : (s t : State) → t ≡ s → t.left ≡ s.left
 same_left s t e = ap (λ (x : State). x.left) e
@@ -46,11 +46,11 @@ stop_left plan began s t row cycles h =
       h.promotes.rest,
     )
 
--- of the lists, the lengths
+-- a list's length in the list of lengths
 length_at : {A : Type 0} (lists : List (List A)) (m : ℕ) → get_or (map length lists) m 0 ≡ length (get_or lists m [])
 length_at lists m = get_or-map length lists m []
 
--- there are as many replies as commands in the slice
+-- there is one reply for each command in the slice
 pub slice_count : (config : Config) (s t : State) (replies : List (List Reply)) (rows : List Row) (m : ℕ) → IsRound config s replies rows t →
     length (slice_index_or replies m []) ≡ length (slice_of config (program_of s.left m))
 slice_count config s t replies rows m h = cc (length_at replies m, h.history.lengths, length_at (slices config s.left) m, get_or-map (slice_of config) s.left m [])
@@ -75,6 +75,6 @@ turns_left plan s (turn ∷ turns) m h =
     let more = answered_count (map (λ (turn : Turn). turn.replies) turns) m in
     cc (after, stopped, worked, drop-drop more (length (slice_index_or turn.replies.replies m [])) (program_of s.left m))
 
-pub left_is_told : LeftIsTold
-left_is_told plan run rounds stops cycles is_run tells m =
-    cc (turns_left plan run.opening.state run.turns m is_run.turns, tells.rounds_are, stop_left plan _ (start plan) run.opening.state run.opening.row run.opening.cycles is_run.opening)
+pub left_is_determined : LeftIsDetermined
+left_is_determined plan run rounds stops cycles is_run agrees m =
+    cc (turns_left plan run.opening.state run.turns m is_run.turns, agrees.rounds_are, stop_left plan _ (start plan) run.opening.state run.opening.row run.opening.cycles is_run.opening)

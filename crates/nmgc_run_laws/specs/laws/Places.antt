@@ -1,4 +1,4 @@
--- The places of a heap are those of the blocks in use.
+-- The places of a heap are its blocks in use.
 use Rattle.std.specs.Prelude.{◌≡◌, ◌≢◌, ◌↔◌, ◌+◌, ◌<◌}
 use Rattle.nmgc_run_laws.specs.laws.Vocabulary.{ℕ, List, length, arith, refl, sym, ap, subst, ◌∙◌, inl, inr, Option, Some, None, IsSome, Contains, slice_index, get_or-eq_default, cases_lt, Name, SHARED_MAKER, Node, World, node_of, shared_name, begins, contains_head, is_some_of, block_size, name_word, IsName, nursery_place, Layout, SHARED_PLACE, nth, Segments, HasNumber, block_place, IsSegments, AllocState, Cells, LiesIn, cells, no_cells, name_in, StandsFor, Shows, one_size, IsTracked, Place, shared_place, Represents, NoNode, IsOccupied, AreBlocks, IsBlockPlace, IsPlaceAtStop, FitBlocks, BlocksAtStop, BlocksAfterRound, none_some}
 use Rattle.nmgc_segment.specs.declared.state.State.TheVariants as stands
@@ -68,7 +68,7 @@ module _ (layout : Layout) (a : AllocState) (words : List ℕ) (segments : Segme
 
   are_blocks : (base : ℕ) (places : List Place) (w : World) → FitBlocks w a → ((p : Place) → IsPlaceAtStop layout a p → Contains places p) →
       ((p : Place) → Contains places p → p.at < base → IsPlaceAtStop layout a p) → AreBlocks segments base places w
-  are_blocks base places w fit told back = record {
+  are_blocks base places w fit is_known back = record {
     held = λ p node c low other e. elim (back p c low) [
       | inl g ↦ absurd (other (ap (λ (q : Place). q.name.maker) g))
       | inr b ↦
@@ -80,7 +80,7 @@ module _ (layout : Layout) (a : AllocState) (words : List ℕ) (segments : Segme
     ];
     filled = λ at size o.
         let n = used_name at size o in
-        (n.0, told (record { at = at; name = n.0 }) (inr (record { number = o.number; block = o.block; lies = n.1; at = n.2 })));
+        (n.0, is_known (record { at = at; name = n.0 }) (inr (record { number = o.number; block = o.block; lies = n.1; at = n.2 })));
   }
 
 pub blocks_at_stop : BlocksAtStop
@@ -111,8 +111,8 @@ module _ (layout : Layout) (earlier : List World) (places : List Place) (w : Wor
   valid p c = (r.named p c).valid
 
   -- the place of a block with a name
-  block_told : (p : Place) → IsBlockPlace layout a p → Contains places p
-  block_told p b =
+  block_known : (p : Place) → IsBlockPlace layout a p → Contains places p
+  block_known p b =
       let o = subst (λ (k : ℕ).
       IsOccupied segments k (block_size (cells a b.number).class)) (sym b.at)
       (block_used layout a words segments same shown b.number b.block p.name b.lies) in
@@ -134,8 +134,8 @@ module _ (layout : Layout) (earlier : List World) (places : List Place) (w : Wor
           ap (λ (k : ℕ). slice_index words (k + 1)) place ∙ h.1.named b.block p.name b.lies
 
   -- g has its place
-  shared_told : Contains places shared_place
-  shared_told =
+  shared_known : Contains places shared_place
+  shared_known =
       let t : IsTracked w earlier shared_name = begins shared_name (w, contains_head w earlier, begins shared_name (inl (inl refl))) in
       let p = r.tracked shared_name w.shared t refl in
       let at : p.at ≡ SHARED_PLACE = elim (r.named (record { at = p.at; name = shared_name }) p.there).lies [
@@ -144,9 +144,9 @@ module _ (layout : Layout) (earlier : List World) (places : List Place) (w : Wor
       ] in
       subst (λ (k : ℕ). Contains places (record { at = k; name = shared_name })) at p.there
 
-  told : (p : Place) → IsPlaceAtStop layout a p → Contains places p
-  told p (inl g) = subst (λ (q : Place). Contains places q) (sym g) shared_told
-  told p (inr b) = block_told p b
+  is_known : (p : Place) → IsPlaceAtStop layout a p → Contains places p
+  is_known p (inl g) = subst (λ (q : Place). Contains places q) (sym g) shared_known
+  is_known p (inr b) = block_known p b
 
   back : (p : Place) → Contains places p → IsPlaceAtStop layout a p
   back p c = elim (r.named p c).lies [
@@ -166,7 +166,7 @@ module _ (layout : Layout) (earlier : List World) (places : List Place) (w : Wor
   fits : FitBlocks w a
   fits number block name node lies e =
       let place : Place = record { at = block_place layout number (cells a number).class block; name = name } in
-      let c = block_told place (record { number = number; block = block; lies = lies; at = refl }) in
+      let c = block_known place (record { number = number; block = block; lies = lies; at = refl }) in
       let own : name.maker ≢ SHARED_MAKER = λ m. elim (r.named place c).lies [
         | inl g ↦ omega (arith, g.1)
         | inr o ↦ o.0 m
@@ -178,4 +178,4 @@ module _ (layout : Layout) (earlier : List World) (places : List Place) (w : Wor
       omega (arith, fit, size)
 
   pub blocks_are_places : FitBlocks w a × ((p : Place) → Contains places p ↔ IsPlaceAtStop layout a p)
-  blocks_are_places = (fits, λ p. (back p, told p))
+  blocks_are_places = (fits, λ p. (back p, is_known p))

@@ -1,9 +1,9 @@
--- What is left of the programs: that each round of it can be replayed, and that serials suffice.
+-- The rest of the programs: each of its rounds can be replayed, and serials suffice.
 use Rattle.std.specs.Prelude.{◌≡◌, ◌+◌, ◌-◌, ◌<◌, ◌≤◌, ◌^◌, ◌∷◌, if◌then◌else◌}
 use Rattle.nmgc_run_laws.specs.laws.Vocabulary.{ℕ, List, [], length, drop, slice_index_or, arith, refl, sym, ap, subst, ◌∙◌, Bool, true, false, inl, inr, All, get_or-map, cases_lt, get_or_past, length-drop, length-map, All-nil, All-cons, All-head, All-tail, All-drop, HasRegisters, words_made, Command, Reply, World, serial_of, Row, replayed, rows_of, CanReplay, CycleRow, StopRow, Config, answered, IsRound, program_of, slice, slice_of, rest_of, is_next, ends_slice, State, Plan, IsStop}
 use Rattle.nmgc_run_laws.specs.laws.{Lefts.slice_count, Lefts.round_left, Lefts.stop_left, Serials.IsGood, Serials.own_count, Serials.all_own, Serials.rows_can, Serials.rows_count, Serials.answered_has, Serials.answered_few, States.IsSoundHere, States.lefts}
 
--- what is left of the programs: their registers exist
+-- the rest of the programs has only registers that exist
 pub record HasPrograms (plan : Plan) (s : State) : Type 0 where
   pub count : length s.left ≡ length plan.threads
   pub registers : (m : ℕ) → All HasRegisters (program_of s.left m)
@@ -40,12 +40,12 @@ slice_few commands words (c ∷ program) =
     (slice_few (commands - 1) (words - words_made c) program)) in
     omega (arith, few)
 
--- each mutator's rows of a round are those of its slice
+-- each mutator's rows of a round are its slice
 own_is : (config : Config) (s t : State) (replies : List (List Reply)) (rows : List Row) → IsRound config s replies rows t → (m : ℕ) →
     rows_of m rows ≡ answered m (slice_of config (program_of s.left m)) (slice_index_or replies m [])
 own_is config s t replies rows round m = cc (round.history.order m, get_or-map (slice_of config) s.left m [])
 
--- what holds of the commands that are left holds of the rows, and of what is left then
+-- a property of all commands that are left is a property of the rows, and of the commands left then
 pub rows_have : (Q : Command → Type 0) (config : Config) (s t : State) (replies : List (List Reply)) (rows : List Row) →
     IsRound config s replies rows t → ((m : ℕ) → All Q (program_of s.left m)) → All (λ (row : Row). Q row.command) rows
 rows_have Q config s t replies rows round h = all_own (λ (row : Row). Q row.command) rows (λ m.
@@ -57,7 +57,7 @@ pub left_has : (Q : Command → Type 0) (config : Config) (s t : State) (replies
     IsRound config s replies rows t → ((m : ℕ) → All Q (program_of s.left m)) → (m : ℕ) → All Q (program_of t.left m)
 left_has Q config s t replies rows round h m = rw (round_left config s t replies rows m round) (All-drop Q (length (slice_index_or replies m [])) (program_of s.left m) (h m))
 
--- the rows of a round can be replayed, and leave room for what is left
+-- the rows of a round can be replayed, and leave serials for the rest of the programs
 module _ (plan : Plan) (s t : State) (replies : List (List Reply)) (rows : List Row) (round : IsRound plan.config s replies rows t)
     (able : HasPrograms plan s) (h : IsSoundHere plan s) where
   own_good : (m : ℕ) → All (IsGood (length s.world.mutators)) (rows_of m rows)

@@ -1,4 +1,4 @@
--- What a round leaves of the fact that a run keeps.
+-- A round keeps the invariant of a run.
 use Rattle.std.specs.Prelude.{◌+◌, ◌-◌, ◌<◌, ◌^◌, ◌∷◌, ◌++◌}
 use Rattle.nmgc_run_laws.specs.laws.Vocabulary.{ℕ, List, [], sym, ap, subst, ◌∙◌, IsSome, World, serial_of, node_of, Row, replayed, closed, CanReplay, nothing_in, world_after, replayed_names, AllocState, tracked_wide, IsKeptIn, Cycle, noted, SweepsBeside, IsOfSnapshot, IsAfterClosing, WaitKnown, LieKnown, AreSoundBlocks, Plan, Progress, idle, marking, sweeping, layout_of}
 use Rattle.nmgc_run_laws.specs.laws.{Filing.each_filed, Serials.rows_mutators, States.IsSoundWith, States.Worked, States.replayed_more, States.can_more, States.known_then, Sweeps.each_waits, Sweeps.each_lie, Sweeps.sweeps_keep, Tracks.tracked_before, Tracks.tracked_young, Tracks.tracked_known}

@@ -1,9 +1,9 @@
--- What holds of every state of a run, by induction over it.
+-- The invariant of every state of a run, by induction over it.
 use Rattle.std.specs.Prelude.{◌≡◌, ◌∷◌}
 use Rattle.nmgc_run_laws.specs.laws.Vocabulary.{ℕ, List, [], length, refl, sym, ap, subst, None, zero-add, IsSome, Contains, length-replicate, Name, Reply, MutatorState, World, IsWorld, serial_of, node_of, new_world, new_mutator, shared_name, Row, at_some, is_some_of, nothing_in, absent, each_new, new_nodes, new_is_world, cells, name_in, all_empty, none_some, first_cells, snapshots, IsRound, noted, Run, Turn, IsRun, IsTurn, AreTurns, state_after, last_state, IsRunnable, IsSoundState, StatesAreSound, RoundsAreSound, TrackedHaveBlocks, State, Plan, Progress, idle, marking, sweeping, start, layout_of}
 use Rattle.nmgc_run_laws.specs.laws.{Filing.first_filed, Programs.HasPrograms, Programs.can_replay, Programs.made_after, Programs.round_programs, Programs.stop_programs, Rounds.round_worked, States.Worked, States.IsSoundHere, States.lefts, States.earlier_then, States.snapshot_known, Stops.stop_holds, Tracks.tracked_known}
 
--- a round, and a turn
+-- a round, and a round with its stop
 
 pub round_holds : (plan : Plan) (s t : State) (replies : List (List Reply)) (rows : List Row) → IsRound plan.config s replies rows t →
     HasPrograms plan s → IsSoundHere plan s → Worked plan (lefts t) s.world t.world t.allocation t.progress
@@ -27,7 +27,7 @@ pub turns_hold : (plan : Plan) (s : State) (turns : List Turn) → AreTurns plan
 turns_hold plan s [] i able h = (able, h)
 turns_hold plan s (turn ∷ turns) i able h = let next = turn_holds plan s turn i.0 able h in turns_hold plan turn.stop.state turns i.1 next.0 next.1
 
--- the beginning: nothing was made
+-- the beginning: no object was made
 
 new_serial : (mutators m : ℕ) → serial_of (new_world mutators) m ≡ 0
 new_serial mutators m = each_new (λ (state : MutatorState). length state.nodes ≡ 0) refl refl mutators m

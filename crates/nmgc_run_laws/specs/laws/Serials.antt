@@ -1,5 +1,5 @@
--- How many objects rows make: a command makes one at most, and only for the mutator that gives it. So rows
--- with mutators and registers that exist can be replayed where serials suffice.
+-- The number of objects that rows make: a command makes one at most, and only for its own mutator. So rows with existing
+-- mutators and registers can be replayed if serials suffice.
 use Rattle.std.specs.Prelude.{◌≡◌, ◌≢◌, ◌+◌, ◌-◌, ◌<◌, ◌≤◌, ◌^◌, ◌∷◌}
 use Rattle.nmgc_run_laws.specs.laws.Vocabulary.{ℕ, List, [], length, arith, refl, sym, subst, ◌∙◌, Bool, true, false, eqb, cond, inl, inr, All, cases_eq, eqb_tells, All-nil, All-cons, All-head, All-tail, Command, Reply, HasRegisters, World, IsWorld, serial_of, CanApply, step, Row, replayed, rows_of, step_grows, CanReplay, step_leaves_others, step_keeps_world, answered}
 
@@ -7,11 +7,11 @@ use Rattle.nmgc_run_laws.specs.laws.Vocabulary.{ℕ, List, [], length, arith, re
 abbrev pub IsGood : ℕ → Row → Type 0
 IsGood count row = (row.mutator < count) × HasRegisters row.command
 
--- how many rows a mutator has
+-- the number of a mutator's rows
 abbrev pub own_count : ℕ → List Row → ℕ
 own_count m rows = length (rows_of m rows)
 
--- what holds of each mutator's own rows holds of all
+-- a property of each mutator's own rows is a property of all rows
 pub all_own : (P : Row → Type 0) (rows : List Row) → ((m : ℕ) → All P (rows_of m rows)) → All P rows
 all_own P [] own = All-nil P
 all_own P (row ∷ rows) own = All-cons P row rows head (all_own P rows (λ m. tail m (own m)))
@@ -42,7 +42,7 @@ own_other m row rows e = elim (eqb_tells row.mutator m) [
   | inr p ↦ rw p.0 refl
 ]
 
--- after a row a mutator has made as many objects more as it has rows less, at most
+-- a row adds no more objects to a mutator than it takes from the mutator's rows to come
 step_count : (w : World) (row : Row) (rows : List Row) (m : ℕ) → IsWorld w → CanApply w row.mutator row.command →
     serial_of (step w row.mutator row.command).0 m + own_count m rows ≤ serial_of w m + own_count m (row ∷ rows)
 step_count w row rows m is can = elim (cases_eq m row.mutator) [
@@ -55,7 +55,7 @@ step_count w row rows m is can = elim (cases_eq m row.mutator) [
       omega (arith, same, own_other m row rows (λ e. other (sym e)))
 ]
 
--- good rows can be replayed where serials suffice
+-- good rows can be replayed if serials suffice
 pub rows_can : (limit : ℕ) (w : World) (rows : List Row) → IsWorld w → All (IsGood (length w.mutators)) rows →
     ((m : ℕ) → serial_of w m + own_count m rows ≤ limit - 1) → limit ≡ 2 ^ 32 - 1 → CanReplay w rows
 rows_can limit w [] world good few is = tt
@@ -76,7 +76,7 @@ rows_can limit w (row ∷ rows) world good few is =
           let b : serial_of w m + own_count m (row ∷ rows) ≤ limit - 1 = few m in omega (arith, a, b)) is,
     )
 
--- what rows make at most
+-- rows make no more objects for a mutator than it has rows
 pub rows_count : (w : World) (rows : List Row) → IsWorld w → CanReplay w rows → (m : ℕ) → serial_of (replayed w rows) m ≤ serial_of w m + own_count m rows
 rows_count w [] is can m = omega arith
 rows_count w (row ∷ rows) is can m =
@@ -90,7 +90,7 @@ pub rows_mutators : (w : World) (rows : List Row) → CanReplay w rows → lengt
 rows_mutators w [] can = refl
 rows_mutators w (row ∷ rows) can = rows_mutators (step w row.mutator row.command).0 rows can.1 ∙ (step_grows w row.mutator row.command can.0.mutator).mutators
 
--- what holds of a mutator's commands holds of its rows
+-- a property of a mutator's commands is a property of its rows
 pub answered_has : (Q : Command → Type 0) (P : Row → Type 0) (m : ℕ) →
     ((c : Command) (r : Reply) → Q c → P (record { mutator = m; command = c; reply = r })) → (commands : List Command) (replies : List Reply) →
     All Q commands → All P (answered m commands replies)

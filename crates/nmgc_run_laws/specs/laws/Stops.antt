@@ -1,4 +1,4 @@
--- What a stop leaves of the fact that a run keeps: step by step.
+-- A stop keeps the invariant of a run, step by step.
 use Rattle.std.specs.Prelude.{◌≡◌, ◌≢◌, ◌⊎◌, ◌+◌, ◌-◌, ◌<◌, ◌^◌, ◌∷◌}
 use Rattle.nmgc_run_laws.specs.laws.Vocabulary.{ℕ, List, [], refl, sym, ap, subst, ◌∙◌, Option, Some, None, inl, inr, IsSome, Contains, Name, Node, World, node_of, shared_name, replayed, closed, contains_cases, nothing_in, closed_world, closed_names, closed_mutators, closed_serials, absent, some_of, Layout, AllocState, HasBlock, LiesNowhere, all_retired, AreFreeEmpty, AllWait, free_empty, placed_has, placed_keeps, placed_back, placed_free, placed_waits, begun_names, retired_names, closing_tracks, tracked_wide, IsTracked, IsYoung, PlacesEach, CycleRow, StopRow, Config, IsKeptIn, Cycle, Closes, ClosesOrWaits, ClosesNow, snapshots, Promotes, IsStop, EndsOrWaits, Finishes, DoesFullCycle, BeginsOrWaits, Proceeds, with_all_retired, SweepsRest, IsOfSnapshot, IsInCycle, LieKnown, State, Plan, Progress, idle, marking, sweeping, layout_of, cycle_started}
 use Rattle.nmgc_run_laws.specs.laws.{Filing.each_filed, Filing.places_filed, Filing.begun_filed, Filing.retired_filed, States.IsSoundWith, States.Worked, States.IsSoundHere, States.lefts, Sweeps.each_waits, Sweeps.each_lie, Sweeps.sweeps_keep, Tracks.tracked_fewer, Tracks.tracked_itself}
@@ -36,7 +36,7 @@ module _ (layout : Layout) (w : World) where
   placed_cycle (marking c) a b names h i = (i.0, i.1, placed_wait (IsOfSnapshot c) a b names h i.2)
   placed_cycle (sweeping c number) a b names h i = (i.0, placed_wait (IsOfSnapshot c) a b names h i.1)
 
--- a young name lies nowhere, and isn't g
+-- a new name lies nowhere, and isn't g
 pub young_fresh : (began : World) (a : AllocState) → LieKnown began a → (n : Name) → node_of began n ≡ None → LiesNowhere a n × (n ≢ shared_name)
 young_fresh began a known n none = (
   λ number block lies. absent (node_of began n) none (known number block n lies),

@@ -1,9 +1,9 @@
--- Tracked names: which of them a round leaves, and that the young among them are promoted.
+-- The tracked names after a round; new names among them are promoted.
 use Rattle.std.specs.Prelude.{◌≡◌, ◌⊎◌, ◌∷◌}
 use Rattle.nmgc_run_laws.specs.laws.Vocabulary.{List, [], refl, sym, subst, Option, Some, None, inl, inr, IsSome, Contains, Name, Node, World, IsWorld, node_of, Row, replayed, IsReached, RefersTo, field, contains_cases, nothing_in, IsWide, HoldsOnly, CanReplay, absent, some_of, rows_hold, from_there, world_holds, old_weaks_stay, IsTracked, tracked_holds, held_tracked, past_tracked, tracked_more, IsYoung, IsFirstPromoted}
 use Rattle.nmgc_world_spec.specs.Reach.{start}
 
--- a name that a world has is tracked
+-- the name is tracked if the world has it
 abbrev pub IsTrackedIfOld : World → List World → Name → Type 0
 IsTrackedIfOld w earlier n = IsSome (node_of w n) → IsTracked w earlier n
 
@@ -25,16 +25,16 @@ tracked_before w earlier rows is can n t = held_tracked (replayed w rows) earlie
 pub tracked_fewer : (w : World) (earlier : List World) (n : Name) → IsTracked w [] n → IsTracked w earlier n
 tracked_fewer w earlier n t = tracked_more w [] earlier (λ e none. absurd (nothing_in e none)) n t
 
--- a world that is its own earlier one tracks no more
+-- a world as its own earlier world tracks no more
 pub tracked_itself : (w : World) (n : Name) → IsTracked w (w ∷ []) n → IsTracked w [] n
 tracked_itself w n t = tracked_more w (w ∷ []) [] (λ e c. c) n t
 
--- every tracked name is one of the world, where it has those of the earlier worlds
+-- every tracked name is a name of the world, if the world has the wide reach of the earlier worlds
 pub tracked_known : (w : World) (earlier : List World) → IsWorld w →
     ((e : World) → Contains earlier e → (n : Name) → IsWide e n → IsSome (node_of w n)) → (n : Name) → IsTracked w earlier n → IsSome (node_of w n)
 tracked_known w earlier is known n t = held_tracked w earlier (λ k. IsSome (node_of w k)) (λ e k c i. known e c k i) (world_holds w is) n t
 
--- a young name that is tracked is promoted
+-- a new name that is tracked is promoted
 module _ (w : World) (rows : List Row) (is : IsWorld w) (can : CanReplay w rows) where
   abbrev new : World
   new = replayed w rows

@@ -1,13 +1,13 @@
--- Every name of std, of the crates below and of this crate's definitions that the lemmas of these laws speak of.
+-- The names of std, of the crates below and of this crate's definitions that the lemmas of these laws use.
 pub use Rattle.nmgc_alloc.specs.{AllocState.AllocState, AllocState.Cells, AllocState.Exists, AllocState.HasBlock, AllocState.HoldsKept, AllocState.IsAllocState, AllocState.IsIn, AllocState.IsTarget, AllocState.LiesIn, AllocState.LiesNowhere, AllocState.NoneIs, AllocState.Opens, AllocState.PlacesName, AllocState.Sweeps, AllocState.SweepsEach, AllocState.SweepsSome, AllocState.all_empty, AllocState.all_retired, AllocState.cells, AllocState.cycle_begun, AllocState.name_in, AllocState.no_cells, AllocState.prepared_state, AllocState.restated, AllocState.retired_state, Numbered.HasNumber, Numbered.Segments, Numbered.block_place, Numbered.is, Numbered.nth, Segments.IsSegments, Stands.Shows, Stands.StandsFor, laws.Cells.AllLie, laws.Cells.AllWait, laws.Cells.AreFreeEmpty, laws.Cells.all_swept, laws.Cells.begun_cells, laws.Cells.begun_names, laws.Cells.begun_once, laws.Cells.first_once, laws.Cells.free_empty, laws.Cells.none_some, laws.Cells.placed_back, laws.Cells.placed_free, laws.Cells.placed_has, laws.Cells.placed_keeps, laws.Cells.placed_once, laws.Cells.placed_waits, laws.Cells.placed_where, laws.Cells.retired_cells, laws.Cells.retired_names, laws.Cells.retired_once, laws.Cells.swept_back, laws.Cells.swept_here, laws.Cells.swept_keeps, laws.Cells.swept_once, laws.Cells.swept_other, laws.Cells.swept_state, laws.Cells.swept_was, laws.OneState.first_cells, laws.Sound.used_exists, laws.Steps.begun_sound, laws.Steps.first_sound, laws.Steps.placed_sound, laws.Steps.retired_sound, laws.Steps.swept_sound}
-pub use Rattle.nmgc_blocks_spec.specs.{Cycle.Cycle, Cycle.IsKeptIn, Cycle.IsKeptObject, Cycle.interval_of, Occupied.AreBlocks, Occupied.IsOccupied, Placed.IsBlockPlace, Placed.IsPlaceAtStop, Promoted.IsFirstPromoted, Promoted.IsYoung, Promoted.PlacesEach, Promoted.PlacesObject, Waiting.AreAsNoted, laws.Blocks.is_block, laws.Blocks.one_size}
+pub use Rattle.nmgc_stop_spec.specs.{Cycle.Cycle, Cycle.IsKeptIn, Cycle.IsKeptObject, Cycle.interval_of, Occupied.AreBlocks, Occupied.IsOccupied, Placed.IsBlockPlace, Placed.IsPlaceAtStop, Promoted.IsFirstPromoted, Promoted.IsYoung, Promoted.PlacesEach, Promoted.PlacesObject, Waiting.AreAsNoted, laws.Blocks.is_block, laws.Blocks.one_size}
 pub use Rattle.nmgc_heap_spec.specs.{Places.Place, Places.shared_place, Represents.IsEarlier, Represents.NoNode, Represents.Represents, Tracked.IsTracked, laws.CommandLaws.closing_tracks, laws.CommandLaws.held_tracked, laws.CommandLaws.past_tracked, laws.CommandLaws.still_earlier, laws.CommandLaws.tracked_holds, laws.CommandLaws.world_is_earlier, laws.Roots.tracked_wide, laws.Tracking.tracked_more}
 pub use Rattle.nmgc_journal.specs.{Summary.kept_count, declared.report.CycleRow.CycleRow, declared.report.End.End, declared.report.End.TheVariants.Done, declared.report.End.TheVariants.HeapFull, declared.report.MutatorEnd.MutatorEnd, declared.report.Report.Report, declared.report.RoundRows.RoundRows, declared.report.StopRow.StopRow}
 pub use Rattle.nmgc_limits.specs.{Limits.most_script_bytes, declared.mutators.TheConstants.SHARED_MAKER}
 pub use Rattle.nmgc_lists.specs.laws.{Items.at_some, Items.contains_cases, Items.contains_head, Items.contains_tail, Items.is_some_of, Items.nothing_in, Options.not_none}
 pub use Rattle.nmgc_object.specs.{Places.nursery_place, Size.block_size, Words.IsName, Words.name_word, declared.layout.Layout.Layout, declared.layout.TheConstants.SHARED_PLACE, laws.Classes.least_block as large}
-pub use Rattle.nmgc_run_laws.specs.{Course.CyclesBeginInCourse, Course.IsInCourse, Course.IsLastBegun, Course.IsStateInCourse, Course.PromotionsStayInCourse, Course.RoundsStayInCourse, Course.RunsAreInCourse, Course.WaitsWhole, Headers.RowsKeepHeaders, Limits.IsWithinLimits, Limits.RoundsAreWithin, Limits.ScriptsHaveGoodPlans, Limits.StatesAreWithin, Places.BlocksAfterRound, Places.BlocksAtStop, Sound.AreSoundBlocks, Sound.IsAfterClosing, Sound.IsInCycle, Sound.IsOfSnapshot, Sound.IsRunnable, Sound.IsSoundState, Sound.LieKnown, Sound.RoundsAreSound, Sound.StatesAreSound, Sound.TrackedHaveBlocks, Sound.WaitKnown, Sound.left_of, Statements.ClosingsAreSoon, Statements.EachCycleHasItsRow, Statements.IsClosedSoon, Statements.LastIsOfTurn, Statements.LawfulAreOfRuns, Statements.LeftIsTold, Statements.RunGoesOn, Statements.TellsOneMore, Statements.answered_count, Statements.free_told}
-pub use Rattle.nmgc_run_spec.specs.{Closing.Closes, Closing.ClosesNow, Closing.ClosesOrWaits, Closing.IsForcedSoon, Closing.IsSoon, Crowded.IsCrowded, Crowded.IsHeapFull, Crowded.IsKeptOf, Crowded.IsRunOf, Crowded.LeavesHeapFull, Crowded.StopInRun, Crowded.last_after, Crowded.last_stop, Crowded.next_stop, Crowded.opening_stop, Heap.FitBlocks, Heap.HoldsAfterRound, Heap.HoldsAtStop, Heap.IsBornPlace, Heap.snapshots, Lawful.IsLawfulFor, Round.IsRound, Round.SweepsBeside, Round.answered, Round.noted, Run.AreTurns, Run.IsRun, Run.IsTurn, Run.Run, Run.Stop, Run.Tells, Run.Turn, Run.last_state, Run.state_after, Slice.ends_slice, Slice.has_left, Slice.is_next, Slice.program_of, Slice.rest_of, Slice.slice, Slice.slice_of, Slice.slices, State.Plan, State.Progress, State.State, State.cycle_started, State.free_count, State.idle, State.is_idle, State.layout_of, State.marking, State.next_cycle, State.plan_of, State.reserve_of, State.start, State.sweeping, Stop.BeginsOrWaits, Stop.DoesFullCycle, Stop.EndsOrWaits, Stop.Finishes, Stop.IsCensus, Stop.IsFullDue, Stop.IsStop, Stop.Proceeds, Stop.Promotes, Stop.SweepsRest, Stop.answer_of, Stop.is_done, Stop.is_short, Stop.with_all_retired}
+pub use Rattle.nmgc_run_laws.specs.{Course.CyclesBeginInCourse, Course.IsInCourse, Course.IsLastBegun, Course.IsStateInCourse, Course.PromotionsStayInCourse, Course.RoundsStayInCourse, Course.RunsAreInCourse, Course.WaitsWhole, Headers.RowsKeepHeaders, Limits.IsWithinLimits, Limits.RoundsAreWithin, Limits.ScriptsHaveGoodPlans, Limits.StatesAreWithin, Places.BlocksAfterRound, Places.BlocksAtStop, Sound.AreSoundBlocks, Sound.IsAfterClosing, Sound.IsInCycle, Sound.IsOfSnapshot, Sound.IsRunnable, Sound.IsSoundState, Sound.LieKnown, Sound.RoundsAreSound, Sound.StatesAreSound, Sound.TrackedHaveBlocks, Sound.WaitKnown, Sound.left_of, Statements.ClosingsAreSoon, Statements.EachCycleHasItsRow, Statements.IsClosedSoon, Statements.LastIsOfTurn, Statements.LawfulAreOfRuns, Statements.LeftIsDetermined, Statements.RunGoesOn, Statements.AddsOneTurn, Statements.answered_count, Statements.last_free_count}
+pub use Rattle.nmgc_run_spec.specs.{Closing.Closes, Closing.ClosesNow, Closing.ClosesOrWaits, Closing.IsForcedSoon, Closing.IsSoon, Crowded.IsCrowded, Crowded.IsHeapFull, Crowded.IsKeptOf, Crowded.IsRunOf, Crowded.LeavesHeapFull, Crowded.StopInRun, Crowded.last_after, Crowded.last_stop, Crowded.next_stop, Crowded.opening_stop, Heap.FitBlocks, Heap.HoldsAfterRound, Heap.HoldsAtStop, Heap.IsBornPlace, Heap.snapshots, Lawful.IsLawfulFor, Round.IsRound, Round.SweepsBeside, Round.answered, Round.noted, Run.AreTurns, Run.IsRun, Run.IsTurn, Run.Run, Run.Stop, Run.AreRowsOf, Run.Turn, Run.last_state, Run.state_after, Slice.ends_slice, Slice.has_left, Slice.is_next, Slice.program_of, Slice.rest_of, Slice.slice, Slice.slice_of, Slice.slices, State.Plan, State.Progress, State.State, State.cycle_started, State.free_count, State.idle, State.is_idle, State.layout_of, State.marking, State.next_cycle, State.plan_of, State.reserve_of, State.start, State.sweeping, Stop.BeginsOrWaits, Stop.DoesFullCycle, Stop.EndsOrWaits, Stop.Finishes, Stop.IsCensus, Stop.IsFullDue, Stop.IsStop, Stop.Proceeds, Stop.Promotes, Stop.SweepsRest, Stop.answer_of, Stop.is_done, Stop.is_short, Stop.with_all_retired}
 pub use Rattle.nmgc_script.specs.{Limits.FitsScript, Limits.HasFewCommands, declared.script.Config.Config, declared.script.Script.Script, laws.Versions.threads_few}
 pub use Rattle.nmgc_segment.specs.declared.state.State.{State as Stands}
 pub use Rattle.nmgc_world_laws.specs.{Limits.IsWithin, Reachable.CanReplay, Reachable.HoldsOnly, laws.Deaths.closed_mutators, laws.Deaths.closed_names, laws.Deaths.closed_serials, laws.Deaths.closed_world, laws.Distinct.no_more, laws.Distinct.one_count, laws.Growth.step_grows, laws.HeldSteps.absent, laws.HeldSteps.some_of, laws.Keeps.step_leaves_others, laws.LimitSteps.closing_keeps_limits, laws.LimitSteps.rows_keep_limits, laws.LiveRows.replayed_names, laws.LiveRows.world_after, laws.NewLimits.new_is_within, laws.NewWorlds.each_new, laws.NewWorlds.new_is_world, laws.NewWorlds.new_nodes, laws.Reached.from_there, laws.Reached.listed_cases as listed_or_not, laws.Reached.nothing_reachable_is_freed, laws.Reached.rows_hold, laws.Reached.wide_known, laws.Reached.world_holds, laws.Shapes.rows_keep_shapes, laws.StoredLaws.old_weaks_stay, laws.WorldSteps.step_keeps_world}

@@ -1,5 +1,7 @@
-//! Scripts that are cut, and sources and sinks that fail, for each word of the program.
-use super::running::{Run, all_words};
+//! Scripts that are cut, and sources and sinks that fail, for each subcommand of the program.
+ghost use Rattle.std.specs.Prelude.{◌≤◌};
+
+use super::running::{Run, all_arguments};
 use nmgc_cli::{Status, nmgc};
 use nmgc_io::{MemorySink, MemorySource};
 use std::alloc::{AllocError, Global};
@@ -8,9 +10,9 @@ use std::test::Fail;
 use std::thread::Threads;
 
 // A script without commands, 41 bytes, and its report.
-const HEAD: &str = "nmgc 1\nheap 32 64 64 100 1000 0\nthread 0\n";
+pub const HEAD: &str = "nmgc 1\nheap 32 64 64 100 1000 0\nthread 0\n";
 
-const EMPTY_REPORT: &str = "report 1
+pub const EMPTY_REPORT: &str = "report 1
 stop 0 idle free 32 filled 0 sweep 0 promoted 0
 end done
 ";
@@ -19,7 +21,7 @@ end done
 const WHOLE: &str =
     "nmgc 1\nheap 32 64 64 100 1000 0\nthread 0\nnum r1 5\ncon r0 7 r1\nget r2 r0 0\nshow r2\nget r2 r0 1\nget r2 r1 0\nshow r0\n";
 
-// Its report, its upgrade, and the image of what it leaves.
+// Its report, its upgrade, and the image of the heap that it leaves.
 const ONE_OBJECT_REPORT: &str = "report 1
 stop 0 idle free 32 filled 0 sweep 0 promoted 0
 round 1
@@ -57,14 +59,14 @@ end
 ";
 
 // The summary of a bench.
-const TWO_BATCHES: &str = "bench 2
-commands 8208
-rounds 4
-cycles 1
-made 8192
-promoted 8192
-freed 4096
-kept 4096
+const ONE_BATCH: &str = "bench 1
+commands 4104
+rounds 1
+cycles 0
+made 4096
+promoted 4096
+freed 0
+kept 0
 end done
 ";
 
@@ -75,26 +77,29 @@ pub fn listed(alloc: Global, call: u64) -> Result<Vec<u64>, AllocError> {
     Ok(calls)
 }
 
-// Does what the words ask for over these bytes, in pieces of 5 bytes, where the read and the write of these numbers fail. No
-// call has number 0.
-pub fn run_words<R: Threads + Sync>(
+// Does the task that the arguments ask for over these bytes, read in pieces of 5 bytes and written in pieces of `piece`. The
+// read and the write of these numbers fail; no call has number 0.
+pub fn run_arguments<R: Threads + Sync>(
     rt: &R,
     alloc: Global,
-    words: &[&str],
+    arguments: &[&str],
     bytes: &[u8],
     read: u64,
     write: u64,
-) -> Result<Run, Fail> {
+    piece: usize,
+) -> Result<Run, Fail>
+    requires { 1 ≤ piece }
+{
     let bytes = Vec::from_slice(alloc, bytes)?;
     let mut source = MemorySource::new(bytes, 5, listed(alloc, read)?);
-    let mut sink = MemorySink::new(alloc, 5, listed(alloc, write)?, 2000)?;
-    let words = all_words(alloc, words)?;
-    let ended = nmgc(alloc, rt, &words, &mut source, &mut sink);
+    let mut sink = MemorySink::new(alloc, piece, listed(alloc, write)?, 2000)?;
+    let arguments = all_arguments(alloc, arguments)?;
+    let ended = nmgc(alloc, rt, &arguments, &mut source, &mut sink);
     Ok(Run { ended, sink })
 }
 
-// What is told of the first bytes of the script with one object, so many of them.
-fn told_of(cut: usize) -> (Status, &'static str) {
+// The answer to the first `cut` bytes of the script with one object.
+fn report_of_text(cut: usize) -> (Status, &'static str) {
     match cut {
         0..=5 => (Status::BadScript, "bad line 1 version\n"),
         6..=30 => (Status::BadScript, "bad line 2 heap\n"),
@@ -120,16 +125,16 @@ end done
 fn a_script_is_cut(rt: HostRuntime) -> Result<(), Fail> {
     let script = WHOLE.as_bytes();
     for cut in 0..51 {
-        let (status, text) = told_of(cut);
+        let (status, text) = report_of_text(cut);
         let bytes = &script[..cut.min(script.len())];
-        let run = run_words(&rt, rt.alloc(), &["run"], bytes, 0, 0)?;
+        let run = run_arguments(&rt, rt.alloc(), &["run"], bytes, 0, 0, 5)?;
         assert!(rt; run.ended.status == status);
         assert!(rt; run.sink.bytes() == text.as_bytes());
     }
     Ok(())
 }
 
-// Words that read, what they are given, what is written then, and whether the report is handed on.
+// Arguments that ask for a read, the bytes, the output, and whether the report is handed on.
 const READERS: [(&[&str], &str, &str, bool); 6] = [
     (&["run"], WHOLE, ONE_OBJECT_REPORT, true),
     (&["run"], HEAD, EMPTY_REPORT, true),
@@ -150,18 +155,18 @@ const READERS: [(&[&str], &str, &str, bool); 6] = [
 ];
 
 // The same for a bench, which reads nothing.
-const BENCH: [(&[&str], &str, &str, bool); 1] = [(&["bench", "2"], "", TWO_BATCHES, true)];
+const BENCH: [(&[&str], &str, &str, bool); 1] = [(&["bench", "1"], "", ONE_BATCH, true)];
 
-// Looks whether each single read that fails is told: one for each piece, and one that finds the end.
+// Checks that each single read that fails is reported: one for each piece, and one that finds the end.
 fn check_reads<R: Threads + Sync + Abort>(
     rt: &R,
     alloc: Global,
     rows: &[(&[&str], &str, &str, bool)],
 ) -> Result<(), Fail> {
-    for (words, bytes, _, _) in rows {
+    for (arguments, bytes, _, _) in rows {
         let reads = bytes.len().div_ceil(5) as u64 + 1;
         for read in 1..reads + 1 {
-            let run = run_words(rt, alloc, words, bytes.as_bytes(), read, 0)?;
+            let run = run_arguments(rt, alloc, arguments, bytes.as_bytes(), read, 0, 5)?;
             assert!(rt; run.ended.status == Status::ReadFault);
             assert!(rt; run.sink.bytes() == b"read fault\n".as_slice());
             assert!(rt; run.ended.report.is_none());
@@ -170,27 +175,38 @@ fn check_reads<R: Threads + Sync + Abort>(
     Ok(())
 }
 
-// Looks whether each single write that fails is told, with what was written before, and whether all is written where none
-// of these reads and writes fails.
+// Checks that each single write that fails is reported, with the bytes written before. Checks that all is written if none of
+// these reads and writes fails.
 fn check_writes<R: Threads + Sync + Abort>(
     rt: &R,
     alloc: Global,
     rows: &[(&[&str], &str, &str, bool)],
-) -> Result<(), Fail> {
-    for (words, bytes, text, is_handed_on) in rows {
+    piece: usize,
+) -> Result<(), Fail>
+    requires { 1 ≤ piece }
+{
+    for (arguments, bytes, text, is_handed_on) in rows {
         let text = text.as_bytes();
         let (reads, writes) = (
             bytes.len().div_ceil(5) as u64 + 1,
-            text.len().div_ceil(5) as u64,
+            text.len().div_ceil(piece) as u64,
         );
         for write in 1..writes + 1 {
-            let run = run_words(rt, alloc, words, bytes.as_bytes(), 0, write)?;
-            let written = (5 * (write as usize - 1)).min(text.len());
+            let run = run_arguments(rt, alloc, arguments, bytes.as_bytes(), 0, write, piece)?;
+            let written = piece.saturating_mul(write as usize - 1).min(text.len());
             assert!(rt; run.ended.status == Status::WriteFault);
             assert!(rt; run.sink.bytes() == &text[..written]);
             assert!(rt; run.ended.report.is_some() == *is_handed_on);
         }
-        let run = run_words(rt, alloc, words, bytes.as_bytes(), reads + 1, writes + 1)?;
+        let run = run_arguments(
+            rt,
+            alloc,
+            arguments,
+            bytes.as_bytes(),
+            reads + 1,
+            writes + 1,
+            piece,
+        )?;
         assert!(rt; run.ended.status == Status::Done);
         assert!(rt; run.sink.bytes() == text);
         assert!(rt; run.ended.report.is_some() == *is_handed_on);
@@ -205,6 +221,6 @@ fn each_read_fails(rt: HostRuntime) -> Result<(), Fail> {
 
 #[test]
 fn each_write_fails(rt: HostRuntime) -> Result<(), Fail> {
-    check_writes(&rt, rt.alloc(), &READERS)?;
-    check_writes(&rt, rt.alloc(), &BENCH)
+    check_writes(&rt, rt.alloc(), &READERS, 5)?;
+    check_writes(&rt, rt.alloc(), &BENCH, 30)
 }

@@ -1,6 +1,6 @@
 //! Two markers beside each other, over the heap that a run leaves.
 //!
-//! Their gate gives up after many turns of its spin, and notes it, so markers on one thread fail the test and don't hang.
+//! Their gate gives up after a long spin, and notes it, so markers on one thread fail the test and don't hang.
 ghost use Rattle.std.specs.Prelude.{◌≤◌, length, IfOk};
 ghost use Rattle.nmgc_cli.specs.Answer.{IsOfScript};
 ghost use Rattle.nmgc_limits.specs.Limits.{most_script_bytes};
@@ -16,7 +16,7 @@ use std::sync::atomic::{AtomicU64, Ordering};
 use std::test::Fail;
 use std::thread::Threads;
 
-// A script of three chains of sixteen objects, of which the first and the last object of the second are dropped.
+// A script of three chains of sixteen objects. The first and the last object of the second chain are dropped.
 fn chains(alloc: Global) -> Result<Vec<u8>, AllocError> {
     let mut script = Vec::from_slice(alloc, b"nmgc 1\nheap 32 64 256 100 1000 0\nthread 0\n")?;
     for line in ["con r0 0 r0 r1\n", "con r2 0 r2 r1\n", "con r3 0 r3 r1\n"] {
@@ -40,7 +40,7 @@ fn report_of<R: Threads + Sync>(alloc: Global, rt: &R, bytes: &[u8]) -> Result<R
     run_bytes(alloc, rt, own)
 }
 
-// The first object of each of two markers waits for that of the other.
+// Each of two markers waits at its first object until the other has reached its first object.
 #[derive(Drop)]
 struct Meet {
     reached: [AtomicU64; 2],

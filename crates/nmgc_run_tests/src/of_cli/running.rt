@@ -1,15 +1,15 @@
-//! What the tests of the top call share: how a run ended, and words.
+//! Code that the tests of the top call share: the end of a run, and arguments.
 use nmgc_cli::Ended;
 use nmgc_io::MemorySink;
 use std::alloc::{AllocError, Global};
 
-// What a run left: how it ended, and what the sink has.
+// The result of a run: its end, and the bytes in the sink.
 pub struct Run {
     pub ended: Ended,
     pub sink: MemorySink,
 }
 
-// By hand, so that whoever lets go of one calls this.
+// By hand, so that each drop calls this function.
 impl Drop for Run {
     fn drop(self) {
         let Run { ended, sink } = self;
@@ -18,11 +18,11 @@ impl Drop for Run {
     }
 }
 
-// Words of a command line.
-pub fn all_words(alloc: Global, words: &[&str]) -> Result<Vec<String>, AllocError> {
+// The arguments of a command line.
+pub fn all_arguments(alloc: Global, arguments: &[&str]) -> Result<Vec<String>, AllocError> {
     let mut all = Vec::new(alloc);
-    for word in words {
-        all.push(String::from_str(alloc, word)?)?;
+    for argument in arguments {
+        all.push(String::from_str(alloc, argument)?)?;
     }
     Ok(all)
 }

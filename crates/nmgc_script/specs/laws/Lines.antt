@@ -1,11 +1,11 @@
--- A line of words, and the words of a line: what was spelled is read again.
+-- A line of tokens, and the tokens of a line: a spelling is read back.
 use Rattle.std.proofs.{Common.◌≡◌, Common.◌≢◌, Common.◌<◌, Common.◌≤◌, Common.◌+◌, Common.◌*◌, Common.◌^◌, Common.◌%◌, Common.ℕ, Common.List, Common.[], Common.◌∷◌, Common.◌++◌, Common.map, Common.length, Common.refl, Common.sym, Common.ap, Common.◌∙◌, Common.arith, Common.Bool, Common.true, Common.false, Common.cond, Common.leb, Common.decimal, Common.codes, Common.inl, Common.inr, Common.lit<, lemmas.Bool.ne_eqb, lemmas.Bool.leb-true, lemmas.Bool.Decides.eqb_tells, lemmas.Fmt.decimal_by_steps, lemmas.Fmt.length-decimal-le, lemmas.Fmt.decimal_digit, lemmas.List.append-nil, lemmas.List.length-append, lemmas.List.Elements.recursion_from_All}
 use Rattle.std.specs.{Prelude.All, List.AllByRecursion}
 use Rattle.nmgc_world_spec.specs.{declared.command.Operand.Operand, declared.command.Operand.TheVariants.Register, declared.command.Operand.TheVariants.Shared, declared.command.Command.Command, declared.command.Command.TheVariants.Num, declared.command.Command.TheVariants.Nil, declared.command.Command.TheVariants.Mov, declared.command.Command.TheVariants.Con, declared.command.Command.TheVariants.Var, declared.command.Command.TheVariants.Arr, declared.command.Command.TheVariants.Thunk, declared.command.Command.TheVariants.Weak, declared.command.Command.TheVariants.Stack, declared.command.Command.TheVariants.Get, declared.command.Command.TheVariants.Set, declared.command.Command.TheVariants.Cas, declared.command.Command.TheVariants.Update, declared.command.Command.TheVariants.Force, declared.command.Command.TheVariants.Push, declared.command.Command.TheVariants.Pop, declared.command.Command.TheVariants.Deref, declared.command.Command.TheVariants.Finalise, declared.command.Command.TheVariants.NextFin, declared.command.Command.TheVariants.Show, declared.command.Command.TheVariants.Same, declared.command.Command.TheVariants.Yield, declared.command.Command.TheVariants.Collect, declared.command.Command.TheVariants.Full, Command.IsRegister, Command.IsOperand, Command.Fits}
 use Rattle.nmgc_script.specs.{Text.words_of, Text.onto_first, Text.is_passed, Spelling.spaced, Spelling.operand_word, Spelling.register_word, Spelling.command_words, Spelling.heap_words, Spelling.section_words, Spelling.version_words, Printing.after_spaces, declared.script.Config.Config, Limits.FitsConfig}
 use Rattle.nmgc_lists.specs.laws.Truths.{cond_true}
 
--- the word has no space
+-- the token has no space
 abbrev pub IsWord : List ℕ → Type 0
 IsWord word = AllByRecursion (λ b. b ≢ 32) word
 
@@ -20,11 +20,11 @@ words_off : (bytes : List ℕ) → IsWord bytes → words_of bytes ≡ bytes ∷
 words_off [] none = refl
 words_off (b ∷ bytes) none = rw (ne_eqb b 32 none.0, words_off bytes none.1) refl
 
--- a word without a space after it is the last
+-- a token without a space after it is the last
 pub words_last : (bytes : List ℕ) → All (λ b. b ≢ 32) bytes → words_of bytes ≡ bytes ∷ []
 words_last bytes none = words_off bytes (recursion_from_All (λ b. b ≢ 32) bytes none)
 
--- words with spaces between are these words again
+-- tokens with spaces between them are read as these tokens
 pub words_again : (word : List ℕ) (words : List (List ℕ)) → IsWord word → AllByRecursion IsWord words → words_of (spaced (word ∷ words)) ≡ word ∷ words
 words_again word [] h hs = words_off word h
 words_again word (v ∷ vs) h hs = rw (words_on word (spaced (v ∷ vs)) h, words_again v vs hs.0 hs.1) refl
@@ -38,7 +38,7 @@ onto_first_spaced b [] = refl
 onto_first_spaced b (w ∷ []) = refl
 onto_first_spaced b (w ∷ v ∷ ws) = refl
 
--- there is a first word
+-- a line has a first token
 words_some : (line : List ℕ) → (w : List ℕ) × (ws : List (List ℕ)) × (words_of line ≡ w ∷ ws)
 words_some [] = ([], [], refl)
 words_some (b ∷ line) = elim (eqb_tells b 32) [
@@ -46,7 +46,7 @@ words_some (b ∷ line) = elim (eqb_tells b 32) [
   | inr p ↦ let more = words_some line in (b ∷ more.0, more.1, rw (p.0, more.2) refl)
 ]
 
--- the words of a line spell the line
+-- the tokens of a line spell the line
 pub spaced-words_of : (line : List ℕ) → spaced (words_of line) ≡ line
 spaced-words_of [] = refl
 spaced-words_of (b ∷ line) = elim (eqb_tells b 32) [
@@ -57,11 +57,11 @@ spaced-words_of (b ∷ line) = elim (eqb_tells b 32) [
   | inr p ↦ rw (p.0, onto_first_spaced b (words_of line)) (ap (λ (l : List ℕ). b ∷ l) (spaced-words_of line))
 ]
 
--- the word has digits and letters alone
+-- all bytes of the token are at least the digit 0
 abbrev IsBare : List ℕ → Type 0
 IsBare word = AllByRecursion (λ b. 48 ≤ b) word
 
--- and few of them
+-- all bytes of the token are at least the digit 0, and it has at most 21 bytes
 abbrev pub IsSmall : List ℕ → Type 0
 IsSmall word = IsBare word × (length word ≤ 21)
 
@@ -112,13 +112,13 @@ tested (b ∷ word) e = let both = cond_true (leb 48 b) (is_bare word) e in (leb
 small : (word : List ℕ) → is_bare word ≡ true → leb (length word) 21 ≡ true → IsSmall word
 small word bare few = (tested word bare, leb-true (length word) 21 few)
 
--- words that make a line: the first isn't empty, and all are small
+-- tokens that make a line: the first isn't empty, and all are small
 abbrev pub MakeLine : List (List ℕ) → Type 0
 MakeLine [] = ⊥
 MakeLine ([] ∷ words) = ⊥
 MakeLine ((b ∷ word) ∷ words) = IsSmall (b ∷ word) × AllByRecursion IsSmall words
 
--- the words that were spelled
+-- the tokens of a line are the tokens that were spelled
 pub words_of-line : (words : List (List ℕ)) → MakeLine words → words_of (spaced words) ≡ words
 words_of-line [] h = absurd h
 words_of-line ([] ∷ words) h = absurd h
@@ -148,7 +148,7 @@ after_length (w ∷ ws) h =
     let both : length (w ++ after_spaces ws) ≡ length w + length (after_spaces ws) = length-append w (after_spaces ws) in
     omega arith
 
--- such a line is one line, which isn't passed over
+-- the line has no line feed and isn't passed over
 pub record IsKept (line : List ℕ) : Type 0 where
   pub one : IsLine line
   pub kept : is_passed line ≡ false
@@ -163,7 +163,7 @@ made_kept ((b ∷ word) ∷ words) h =
       kept = ne_eqb b 35 (λ e. omega arith);
     })
 
--- and isn't long
+-- the line of small tokens has at most 22 bytes for each token
 pub made_short : (words : List (List ℕ)) → MakeLine words → length (spaced words) ≤ 22 * length words
 made_short [] h = absurd h
 made_short ([] ∷ words) h = absurd h

@@ -1,11 +1,11 @@
--- What the limits of a script's version say, whichever version it is.
+-- Facts from the limits of a script's version that hold for every version.
 use Rattle.std.proofs.{Common.◌≡◌, Common.◌≤◌, Common.ℕ, Common.List, Common.length, Common.refl, Common.sym, Common.subst, Common.arith, Common.inl, Common.inr, Common.lit≤, lemmas.List.Elements.All-weaker}
 use Rattle.std.specs.Prelude.{All, Bool, true, false, ◌==◌, if◌then◌else◌}
 use Rattle.nmgc_limits.specs.declared.mutators.TheConstants.{REGISTERS, MAKERS}
 use Rattle.nmgc_world_spec.specs.{declared.command.Operand.Operand, declared.command.Operand.TheVariants.Register, declared.command.Operand.TheVariants.Shared, declared.command.Command.Command, declared.command.Command.TheVariants.Num, declared.command.Command.TheVariants.Nil, declared.command.Command.TheVariants.Mov, declared.command.Command.TheVariants.Con, declared.command.Command.TheVariants.Var, declared.command.Command.TheVariants.Arr, declared.command.Command.TheVariants.Thunk, declared.command.Command.TheVariants.Weak, declared.command.Command.TheVariants.Stack, declared.command.Command.TheVariants.Get, declared.command.Command.TheVariants.Set, declared.command.Command.TheVariants.Cas, declared.command.Command.TheVariants.Update, declared.command.Command.TheVariants.Force, declared.command.Command.TheVariants.Push, declared.command.Command.TheVariants.Pop, declared.command.Command.TheVariants.Deref, declared.command.Command.TheVariants.Finalise, declared.command.Command.TheVariants.NextFin, declared.command.Command.TheVariants.Show, declared.command.Command.TheVariants.Same, declared.command.Command.TheVariants.Yield, declared.command.Command.TheVariants.Collect, declared.command.Command.TheVariants.Full, Command.IsOperand, Command.IsOperandBelow, Command.HasRegisters, Command.HasRegistersBelow, Command.Fits}
 use Rattle.nmgc_script.specs.{declared.script.Script.Script, declared.version.Version.Version, Limits.FitsScript, Limits.IsVersion, Limits.upgraded, Limits.version_1, Limits.version_2, Limits.version_of}
 
--- a version names a register and a thread, and none that there isn't
+-- the version names at least one register and one thread, and only registers and threads that exist
 pub record IsUsable (v : Version) : Type 0 where
   pub number : v.number ≤ 2
   pub some_register : 1 ≤ v.registers
@@ -34,7 +34,7 @@ pub version_is : (v : Version) → IsVersion v → version_of v.number ≡ v
 version_is v (inl e) = subst (λ (w : Version). version_of w.number ≡ w) (sym e) refl
 version_is v (inr e) = subst (λ (w : Version). version_of w.number ≡ w) (sym e) refl
 
--- where a register is below a bound, it is below a greater one
+-- a register below a bound is below every greater bound
 module _ (b : ℕ) (le : b ≤ REGISTERS) where
   operand_wider : (o : Operand) → IsOperandBelow b o → IsOperand o
   operand_wider (Register r) h = omega (arith, h, le)
@@ -69,11 +69,11 @@ module _ (b : ℕ) (le : b ≤ REGISTERS) where
   registers_wider Collect h = tt
   registers_wider Full h = tt
 
--- a script has no more threads than there may be mutators
+-- the number of a script's threads is at most the greatest number of mutators
 pub threads_few : (s : Script) → FitsScript s → length s.threads ≤ MAKERS
 threads_few s fits = let usable = usable_number s.version in omega (arith, fits.threads, usable.threads)
 
--- the limits of version 2 are those of any
+-- a script within the limits of its version is within the limits of version 2
 pub upgraded_fits : (s : Script) → FitsScript s → FitsScript (upgraded s)
 upgraded_fits s fits = record {
   version = refl;

@@ -1,4 +1,4 @@
--- Lemmas that crates above need too.
+-- Lemmas that crates above also need.
 use Rattle.std.proofs.Common.{Bool, true, false, arith, ℕ, ◌%◌}
 use Rattle.std.specs.Prelude.{if◌then◌else◌, ◌==◌}
 use Rattle.nmgc_segment.specs.Marks.{IsEpoch, epoch_of}

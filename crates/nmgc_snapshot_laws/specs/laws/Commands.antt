@@ -1,8 +1,8 @@
--- A command keeps the facts: what it takes out of a field of the snapshot is owed, and what it puts into
--- a register or a field was live, is new, or is opened by this command.
+-- A command keeps the facts. A name that it takes out of a field of the snapshot is owed. A name that it puts into a register
+-- or a field was live, is new, or is opened by this command.
 --
--- A command on a weak pointer makes more names live. So what held of the live names so far is first told of
--- those that are live afterwards: a field of such a name was there in the snapshot, or holds what may be held.
+-- A command on a weak pointer makes more names live. So the facts about the names live so far are first extended to the names
+-- live afterwards. The target of such a name's field was its target in the snapshot, or may be held.
 use Rattle.std.specs.Prelude.{◌≡◌, ◌≢◌, ◌<◌, ◌≤◌, ◌++◌, ◌⊎◌}
 use Rattle.nmgc_snapshot_laws.specs.laws.Vocabulary.{ℕ, List, length, get_or, refl, sym, subst, ◌∙◌, arith, length-set, Option, Some, None, inl, inr, IsSome, IfSome, All, Contains, All-append, Contains-append_left, Contains-append_right, Contains-append_cases, slice_get_past, cases_eq, SHARED_MAKER, Name, Value, Parts, Node, Weak, Operand, Command, state_of, node_of, serial_of, IsWorld, Grows, shared_name, next_name, value_for, step, IsAlive, IsKeptBy, RefersTo, root, further, field, opened_by, finalised_by, step_grows, not_shared, at_some, State, names_of, values_owed, owed_by, after_command, Names, Fields, CoversReach, StillThere, AsThen, MayHold, IsSafe, IsAhead, Kept, Base, Facts, owed, pushed, queued, marked, unmarked, AliveOk, WeaksOk, step_weaks, RespectsBarrier, operand_has, own_node, all_moves, opened_owed, Ends, finalised_owed, each_weak}
 use Rattle.nmgc_world_spec.specs.declared.value.Value.TheVariants as value
@@ -12,7 +12,7 @@ use Rattle.nmgc_snapshot_laws.specs.laws.{Listed.each_names, Listed.names_same, 
 pub holds_shared : (s : State) → MayHold s shared_name
 holds_shared s there = root shared_name (inl refl)
 
--- the next name is none of the snapshot
+-- the next name is not in the snapshot
 pub next_absent : (s : State) (m : ℕ) → Base s → m ≢ SHARED_MAKER → IsSome (node_of s.snapshot (next_name (state_of s.world m) m)) → ⊥
 next_absent s m b own there =
     let le : serial_of s.snapshot m ≤ serial_of s.world m = b.serials m in
@@ -25,7 +25,7 @@ module _ (s : State) (f : Facts s) (w : IsWorld s.world) (m : ℕ) (c : Command)
   abbrev pub next : State
   next = after_command s m c
 
-  -- what may be held before may be held afterwards
+  -- a name that may be held before may be held afterwards
   more : (name : Name) → MayHold s name → MayHold next name
   more name h there = live_more s.snapshot s.opened (opened_by s.world m c) name (h there)
 
@@ -137,7 +137,7 @@ module _ (s : State) (f : Facts s) (w : IsWorld s.world) (m : ℕ) (c : Command)
     passed = f.base.passed;
   }
 
-  -- what is owed stays owed
+  -- an owed name stays owed
   more_owed : (k : ℕ) (name : Name) → Contains (names_of s.owed k) name → Contains (names_of next.owed k) name
   more_owed k name h = elim (cases_eq k m) [
     | inl e ↦ rw (e, names_same s.owed m _ owed_place) (Contains-append_left (names_of s.owed m) (owed_by s.world m c) name (rw e at h))
@@ -153,7 +153,7 @@ module _ (s : State) (f : Facts s) (w : IsWorld s.world) (m : ℕ) (c : Command)
   still_ahead name i (unmarked h) = unmarked h
   still_ahead name i (queued entry h e le) = queued entry h e le
 
-  -- what the command owes is safe
+  -- the names that the command owes are safe
   owed_safe : (name : Name) → Contains (owed_by s.world m c) name → IsSafe next name
   owed_safe name h = owed m (rw (names_same s.owed m (names_of s.owed m ++
       owed_by s.world m c) owed_place) (Contains-append_right (names_of s.owed m) (owed_by s.world m c) name h))
@@ -165,7 +165,7 @@ module _ (s : State) (f : Facts s) (w : IsWorld s.world) (m : ℕ) (c : Command)
     | inr gone ↦ inl (owed_safe target (name_among (values_owed s.world m c) target gone))
   ]
 
-  -- what this command opened is owed
+  -- the names that this command opened are owed
   command_opened : (name : Name) → Contains next.opened name → IsSome (node_of s.snapshot name) → IsSafe next name
   command_opened name h there = elim (Contains-append_cases s.opened (opened_by s.world m c) name h) [
     | inl old ↦ still_safe name (f.opened name old there)
@@ -179,7 +179,7 @@ module _ (s : State) (f : Facts s) (w : IsWorld s.world) (m : ℕ) (c : Command)
     | inr new ↦ owed_safe weak ((finalised_owed s.world m c weak new).2 weak (inl refl))
   ]
 
-  -- and so is what a weak pointer kept that it finalised, since that is what it kept in the snapshot
+  -- and so are the names that this weak pointer kept, since it kept the same names in the snapshot
   command_finalised : (weak target : Name) (parts : Parts) → Contains next.finalised weak → IsAlive s.snapshot weak parts →
       IsKeptBy weak parts target → IsSafe next target
   command_finalised weak target parts h a kept = elim (Contains-append_cases s.finalised (finalised_by s.world m c) weak h) [

@@ -1,6 +1,6 @@
--- At the closing the names marked first are the live ones, the weak pointers that die are the dead ones, and
--- the names marked last are the kept ones. The closing follows fields in the world as it is, and live names
--- are those of the snapshot: a field that was overwritten had its target marked, and one that stands is followed.
+-- At the closing the names marked first are the live names, exactly the dead weak pointers die, and the names marked in the
+-- end are the kept names. The closing follows fields in the world as it is, and live names are names of the snapshot. If a
+-- field was overwritten, its old target was marked. An unchanged field is followed.
 use Rattle.std.specs.Prelude.{◌≡◌, ◌⊎◌}
 use Rattle.nmgc_snapshot_laws.specs.laws.Vocabulary.{ℕ, List, [], length, refl, Bool, true, false, inl, inr, IsSome, Contains, get_or_past, cases_lt, Name, Parts, node_of, IsLive, IsAlive, IsKeptBy, IsDead, IsKept, Lists, RefersTo, State, names_of, is_listed, AreEmpty, IsWaiting, IsUnmarked, IsRevived, IsMarkedFirst, IsDying, IsRescued, IsMarkedLast, nothing_in, IsLiveIn, IsSafe, IsAhead, Facts, HasStrongField}
 use Rattle.nmgc_world_spec.specs.declared.value.Value.TheVariants as value
@@ -12,7 +12,7 @@ use Rattle.nmgc_snapshot_laws.specs.Facts as facts
 pub none_of : (lists : List (List Name)) → AreEmpty lists → (m : ℕ) → names_of lists m ≡ []
 none_of lists h m = elim (cases_lt m (length lists)) [ inl lt ↦ h m [] lt | inr le ↦ get_or_past lists m [] le ]
 
--- nothing waits, is owed or is pushed
+-- no name waits, is owed or is pushed
 module _ (s : State) (f : Facts s) (queue : s.queue ≡ []) (owed : AreEmpty s.owed) (pushed : AreEmpty s.pushed) where
   pub safe_marked : (name : Name) → IsSafe s name → Contains s.marked name
   safe_marked name (facts.marked c) = c
@@ -31,7 +31,7 @@ module _ (s : State) (f : Facts s) (queue : s.queue ≡ []) (owed : AreEmpty s.o
       by_test true e = found (contains_listed name s.marked e)
       by_test false e = new (record { there = there; unmarked = not_listed name s.marked e })
 
-  -- what a field of the snapshot refers to is marked, or the field still stands, and then its object isn't marked
+  -- the target of a field of the snapshot is marked, or the field is unchanged and its object isn't marked
   marked_or_stands : (name target : Name) → RefersTo s.snapshot name target → Contains s.marked target ⊎
       (RefersTo s.world name target × (Contains s.marked name → ⊥))
   marked_or_stands name target r =
@@ -53,7 +53,7 @@ module _ (s : State) (f : Facts s) (queue : s.queue ≡ []) (owed : AreEmpty s.o
     ]
   ]
 
-  -- what a weak pointer of the snapshot keeps was owed when it was finalised, or it waits
+  -- all that a weak pointer of the snapshot keeps was owed when it was finalised, or the weak pointer waits
   first_part : (weak target : Name) (parts : Parts) → IsAlive s.snapshot weak parts → IsKeptBy weak parts target →
       (IsWaiting s weak parts → IsUnmarked s target → IsRevived s target) → IsMarkedFirst s target
   first_part weak target parts alive kept h = by_test (is_listed weak s.finalised) refl
@@ -65,7 +65,7 @@ module _ (s : State) (f : Facts s) (queue : s.queue ≡ []) (owed : AreEmpty s.o
         not_finalised = not_listed weak s.finalised e;
       }))
 
-  -- all that is live is marked first
+  -- all live names are marked first
   pub live_first : (name : Name) → IsLiveIn s name → IsMarkedFirst s name
   live_first name (reach.root n r) = inl (f.roots n r)
   live_first name (reach.further n c there) = inl (safe_marked n (f.opened n c there))
@@ -77,7 +77,7 @@ module _ (s : State) (f : Facts s) (queue : s.queue ≡ []) (owed : AreEmpty s.o
     | inr v ↦ first_part weak target parts alive kept (λ w u. IsRevived.revived_key weak target key parts w is v kept u)
   ]
 
-  -- and only that, since a field of a live name was there in the snapshot, or holds what may be held
+  -- and only live names, since the target of a live name's field was its target in the snapshot, or may be held
   revived_live : (name : Name) → IsRevived s name → IsLiveIn s name
   revived_live name (closing.plain_key weak target parts w plain kept u) = reach.plain_key weak target parts w.alive plain kept
   revived_live name (closing.marked_key weak target key parts w is c kept u) = reach.live_key weak target key parts w.alive is (f.base.live key c) kept
@@ -91,7 +91,7 @@ module _ (s : State) (f : Facts s) (queue : s.queue ≡ []) (owed : AreEmpty s.o
   first_live name (inl c) = f.base.live name c
   first_live name (inr v) = revived_live name v
 
-  -- what dies is what is dead
+  -- the weak pointers that die are the dead weak pointers
   abbrev pub dying_dead : (weak : Name) → IsDying s weak → IsDead s.snapshot s.opened s.finalised weak
   dying_dead weak d = record {
     parts = d.parts;
@@ -118,7 +118,7 @@ module _ (s : State) (f : Facts s) (queue : s.queue ≡ []) (owed : AreEmpty s.o
     complete = λ name d. l.complete name (dead_dying name d);
   }
 
-  -- what is marked last is what is kept
+  -- the names marked in the end are the kept names
   rescued_kept : (name : Name) → IsRescued s name → IsKept s.snapshot s.opened s.finalised name
   rescued_kept name (closing.finaliser weak target d is u) = IsKept.finaliser weak target (dying_dead weak d) is
   rescued_kept name (closing.field n target v r u) = elim (f.base.fields n target r) [

@@ -50,7 +50,7 @@ module _ (s : State) (f : Facts s) (m : ℕ) (name : Name) (rest : List Name) (f
     passed = f.base.passed;
   }
 
-  -- what was pushed stays pushed
+  -- a pushed name stays pushed
   more_pushed : (k : ℕ) (target : Name) → Contains (names_of s.pushed k) target → Contains (names_of (after_push s m (name ∷ rest)).pushed k) target
   more_pushed k target h = elim (cases_eq k m) [
     | inl e ↦ rw (

@@ -34,21 +34,21 @@ listed_from name xs h = by_test (is_listed name xs) refl
     by_test true e = refl
     by_test false e = absurd (not_listed name xs e h)
 
--- lists of which one was replaced
+-- lists with one of them replaced
 pub names_same : (lists : List (List Name)) (m : ℕ) (xs : List Name) → m < length lists → names_of (set lists m xs) m ≡ xs
 names_same lists m xs lt = get_or-set_same lists m xs [] lt
 
 pub names_other : (lists : List (List Name)) (m k : ℕ) (xs : List Name) → k ≢ m → names_of (set lists m xs) k ≡ names_of lists k
 names_other lists m k xs ne = get_or-set_other lists m k xs [] ne
 
--- who has a name exists
+-- a mutator that has a name exists
 pub has_place : (lists : List (List Name)) (m : ℕ) (x : Name) (xs : List Name) → names_of lists m ≡ x ∷ xs → m < length lists
 has_place lists m x xs e = elim (cases_lt m (length lists)) [
   | inl lt ↦ lt
   | inr le ↦ let none : names_of lists m ≡ [] = get_or_past lists m [] le in absurd cc
 ]
 
--- what the new list has and the old ones have, each list has
+-- a property of the new list and of each old list holds for each list
 pub each_names : (R : List Name → Type 0) (lists : List (List Name)) (m : ℕ) (xs : List Name) → m < length lists → R xs →
     ((k : ℕ) → R (names_of lists k)) → (k : ℕ) → R (names_of (set lists m xs) k)
 each_names R lists m xs lt new old k = elim (cases_eq k m) [
@@ -56,7 +56,7 @@ each_names R lists m xs lt new old k = elim (cases_eq k m) [
   | inr ne ↦ subst R (sym (names_other lists m k xs ne)) (old k)
 ]
 
--- the references among values of the names are such names
+-- if values refer only to names with a property, their references have it
 pub names_among_have : (P : Name → Type 0) (values : List Value) → All (Names P) values → All P (names_among values)
 names_among_have P [] h = All-nil P
 names_among_have P (value.Nil ∷ values) h = names_among_have P values (All-tail (Names P) value.Nil values h)
@@ -69,7 +69,7 @@ names_among_have P (value.Ref name ∷ values) h =
 pub name_among : (values : List Value) (name : Name) → Contains values (value.Ref name) → Contains (names_among values) name
 name_among values name h = contains_flat name_in values (value.Ref name) name h (contains_one name)
 
--- what holds of each name that is contained holds of all
+-- a property of each name that the values contain holds for all of them
 pub all_from_contains : (P : Name → Type 0) (values : List Value) → ((name : Name) → Contains values (value.Ref name) → P name) → All (Names P) values
 all_from_contains P values h k d lt = by_value (get_or values k d) (Contains-get_or values k d lt)
   where

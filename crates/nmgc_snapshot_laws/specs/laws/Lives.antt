@@ -3,7 +3,7 @@ use Rattle.std.specs.Prelude.{◌≡◌, ◌∷◌, ◌++◌}
 use Rattle.nmgc_snapshot_laws.specs.laws.Vocabulary.{ℕ, List, [], refl, sym, subst, Option, Some, None, inl, inr, IsSome, All, Contains, All-head, All-cons, All-nil, All-append, All-contains, Contains-append_left, Name, Value, Parts, Node, Con, Var, Arr, Thunk, Weak, Stack, World, state_of, node_of, held_by, IsKnown, IsNodeOf, IsWorld, IsLive, IsRoot, IsAlive, IsKeptBy, RefersTo, strong_fields, root, further, field, plain_key, live_key, strong_at, HasStrongField, place_of_field, field_at_place, contains_head, contains_tail, at_some}
 use Rattle.nmgc_world_spec.specs.declared.value.Value.TheVariants as value
 
--- strong fields are among what a node holds
+-- strong fields are among the values in a node
 strong_held : (Q : Value → Type 0) (node : Node) → All Q (held_by node) → All Q (strong_fields node)
 strong_held Q (Con tag values) h = h
 strong_held Q (Var v) h = h
@@ -13,7 +13,7 @@ strong_held Q (Thunk free (Some result)) h = All-cons Q result [] (All-head Q re
 strong_held Q (Weak parts) h = All-nil Q
 strong_held Q (Stack size values) h = h
 
--- what a field refers to is in the map
+-- the target of a field is in the map
 pub target_there : (w : World) → IsWorld w → (name target : Name) → RefersTo w name target → IsSome (node_of w target)
 target_there w h name target (node, is, c) =
     let P : Value → Type 0 = IsKnown w in
@@ -35,7 +35,7 @@ root_there w h name (inr held) =
     (state_of w held.0).queue) (value.Ref name) (All-append P (state_of w held.0).registers (state_of w held.0).queue (h.known_registers held.0)
     (h.known_queue held.0)) held.1
 
--- what an alive weak pointer keeps is in the map
+-- all that a weak pointer that is alive keeps is in the map
 pub part_there : (w : World) → IsWorld w → (weak target : Name) (parts : Parts) → IsAlive w weak parts → IsKeptBy weak parts target → IsSome (node_of w target)
 part_there w h weak target parts alive kept = by_part kept
   where
@@ -60,7 +60,7 @@ live_there w extra h name (field n target l r) = target_there w h n target r
 live_there w extra h name (plain_key weak target parts alive plain kept) = part_there w h weak target parts alive kept
 live_there w extra h name (live_key weak target key parts alive is l kept) = part_there w h weak target parts alive kept
 
--- what is opened makes more names live
+-- opened names make more names live
 pub live_more : (w : World) (extra more : List Name) (name : Name) → IsLive w extra name → IsLive w (extra ++ more) name
 live_more w extra more name (root n r) = root n r
 live_more w extra more name (further n c there) = further n (Contains-append_left extra more n c) there

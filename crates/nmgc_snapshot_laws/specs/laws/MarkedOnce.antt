@@ -1,4 +1,4 @@
--- Each event of a run that isn't closed keeps what each event keeps; so no name is marked twice, and g stays the first.
+-- Each event of a run that isn't closed keeps an invariant: no name is marked twice, and g stays the first.
 use Rattle.std.specs.Prelude.{◌≡◌, ◌++◌, ◌∷◌}
 use Rattle.nmgc_snapshot_laws.specs.laws.Vocabulary.{ℕ, true, false, List, [], refl, sym, ap, subst, ◌∙◌, Option, Some, None, is_some, and_parts, not-true, Name, Value, Row, World, node_of, shared_name, nothing_in, Entry, Event, Passes, after_push, after_scan, after_take, advanced, Runs, read_at, State, names_of, is_listed, mark_name, mark_read, mark_values, opening, root_values, AreDistinct, distinct_push, not}
 use Rattle.nmgc_snapshot_laws.specs.{State.unmarked, laws.Listed.not_listed, laws.Marking.mark_cases}
@@ -19,7 +19,7 @@ stays_closed s (e ∷ es) rows t (true, next, rest, first, is, later) on = absur
     running event.Close p = p.0.0
 stays_closed s (e ∷ es) rows t (false, next, rest, first, is, later) on = stays_closed next es rest t later (ap (λ (x : State). x.is_closed) first.1 ∙ on)
 
--- the first names stay the first, and no name is marked twice
+-- g is the first marked name, and no name is marked twice
 pub record IsOnce (s : State) : Type 0 where
   pub others : List Name
   pub marked_are : s.marked ≡ shared_name ∷ others
@@ -47,7 +47,7 @@ once_read s (Some value.Nil) h = h
 once_read s (Some (value.Number n)) h = h
 once_read s (Some (value.Ref name)) h = once_name s name h
 
--- other parts don't matter
+-- other parts of the state don't matter
 once_same : (s t : State) → t.marked ≡ s.marked → IsOnce s → IsOnce t
 once_same s t e h = record { others = h.others; marked_are = e ∙ h.marked_are; once = subst AreDistinct (sym e) h.once }
 

@@ -4,7 +4,7 @@ use Rattle.nmgc_snapshot_laws.specs.laws.Vocabulary.{ℕ, [], subst, arith, true
 use Rattle.nmgc_world_spec.specs.declared.value.Value.TheVariants as value
 use Rattle.nmgc_snapshot_laws.specs.laws.Listed.{contains_listed}
 
--- a name that is new is marked, and any other is left
+-- a new name is marked, and any other is left
 pub mark_cases : (R : State → Type 0) (s : State) (name : Name) → (is_new s name ≡ true → R (with_mark s name)) → (is_new s name ≡ false → R s) →
     R (mark_name s name)
 mark_cases R s name new old = cond_both (is_new s name) (with_mark s name) s R new old

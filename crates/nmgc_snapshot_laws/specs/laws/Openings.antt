@@ -1,4 +1,4 @@
--- The facts hold at the opening: the mutators hold what is live, and every root is marked.
+-- The facts hold at the opening: the mutators hold live names, and every root is marked.
 use Rattle.std.specs.Prelude.{◌≡◌, ◌<◌, ◌∷◌, ◌++◌, ◌⊎◌}
 use Rattle.nmgc_snapshot_laws.specs.laws.Vocabulary.{ℕ, List, [], zero, suc, length, replicate, refl, sym, ap, subst, ◌∙◌, arith, Option, Some, None, inl, inr, IsSome, IfSome, All, Contains, flat_map, slice_get, length-replicate, get_or_past, All-head, All-tail, All-nil, All-append, Contains-append_left, Contains-append_right, Contains-append_cases, Contains-get_or, cases_lt, Name, Value, Node, MutatorState, World, state_of, node_of, no_mutator, IsWorld, shared_name, IsRoot, root, field, strong_fields, State, names_of, mark_name, mark_values, root_values, opening, get_or_from_slice_get, nothing_in, one_is, contains_one, contains_flat, place_of, contains_cases, contains_head, contains_tail, name_cases, field_at_place, same_later, Fields, Names, HasStrongField, MayHold, IsLiveIn, Kept, Base, Facts, marked}
 use Rattle.nmgc_snapshot_laws.specs.{State.unmarked, laws.Listed.all_from_contains, laws.Lives.target_there, laws.Lives.refers, laws.Lives.root_there, laws.Marking.mark_cases, laws.Marking.mark_base, laws.Marking.marked_then, laws.Marking.still_marked, laws.Marking.kept_then}
@@ -48,7 +48,7 @@ module _ (w : World) (h : IsWorld w) where
       by_node name may None is = tt
       by_node name may (Some node) is = of_fields node name may is
 
--- marking values one after the other
+-- marking values in order
 values_base : (s : State) (values : List Value) → Base s → All (Names (MayHold s)) values → Base (mark_values s values)
 values_base s [] b h = b
 values_base s (value.Nil ∷ values) b h = values_base s values b (All-tail (Names (MayHold s)) value.Nil values h)
@@ -66,7 +66,7 @@ values_snapshot s (value.Number n ∷ values) = values_snapshot s values
 values_snapshot s (value.Ref name ∷ values) = values_snapshot (mark_name s name) values ∙
     mark_cases (λ t. t.snapshot ≡ s.snapshot) s name (λ e. refl) (λ e. refl)
 
--- and so does what was opened and finalised
+-- and so do the opened and the finalised names
 values_lists : (s : State) (values : List Value) → ((mark_values s values).opened ≡ s.opened) × ((mark_values s values).finalised ≡ s.finalised)
 values_lists s [] = (refl, refl)
 values_lists s (value.Nil ∷ values) = values_lists s values
@@ -109,7 +109,7 @@ values_kept s (value.Number m ∷ values) n i target k = values_kept s values n 
 values_kept s (value.Ref name ∷ values) n i target k = values_kept (mark_name s name) values n i target (kept_then s name n i target k)
 
 module _ (w : World) (h : IsWorld w) where
-  -- what a mutator holds is among the roots' values
+  -- a mutator's values are among the roots' values
   state_there : (k : ℕ) → (k < length w.mutators) ⊎ (state_of w k ≡ no_mutator)
   state_there k = elim (cases_lt k (length w.mutators)) [ inl lt ↦ inl lt | inr le ↦ inr (get_or_past w.mutators k no_mutator le) ]
 

@@ -39,7 +39,7 @@ runs_push s t u (e' ∷ es) rows e done (d, next, rest, first, is, more) p = (
   runs_push next t u es rest e done more p,
 )
 
--- an event that is no command leaves the history
+-- an event that is no command keeps the history
 pub record SameHistory (s t : State) : Type 0 where
   pub world : t.world ≡ s.world
   pub snapshot : t.snapshot ≡ s.snapshot
@@ -195,7 +195,7 @@ exact_later w es rows s e x = record {
   world = x.world;
 }
 
--- no event but the closing closes
+-- only the closing closes
 still_open : (s t : State) → SameHistory s t → s.is_closed ≡ false → t.is_closed ≡ true → ⊥
 still_open s t h e k = let a : t.is_closed ≡ s.is_closed = h.is_closed in let b : false ≡ true = cc in absurd cc
 
@@ -280,7 +280,7 @@ module _ (w : World) (es : List Event) (rows : List Row) (s : State) (r : IsSoFa
   so_far_on e true t p = happened e t p
   so_far_on e false t p = refused e t p
 
--- the events of a run, one after the other
+-- the events of a run in order
 so_far_runs : (w : World) (past : List Event) (rows : List Row) (s : State) (es : List Event) (more : List Row) (t : State) →
     IsSoFar w past rows s → Runs s es more t → IsSoFar w (past ++ es) (rows ++ more) t
 so_far_runs w past rows s [] more t r h =

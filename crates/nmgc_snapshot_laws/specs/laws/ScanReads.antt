@@ -1,8 +1,8 @@
--- What a scan reads, and what stands at its place.
+-- The values that a scan reads, and the values in the fields.
 use Rattle.std.specs.Prelude.{◌≡◌, ◌<◌, ◌≤◌, ◌∷◌, ◌⊎◌}
 use Rattle.nmgc_snapshot_laws.specs.laws.Vocabulary.{ℕ, List, [], zero, suc, length, refl, subst, arith, Some, None, true, inl, inr, slice_get, slice_get_within, same_Some, Value, Node, Con, Var, Arr, Thunk, Weak, Stack, IsSized, strong_at, has_result, free_of, field_at, fields_of}
 
--- a scan reads what stands there
+-- a scan reads the value of the field
 pub read_at_place : (node : Node) (i : ℕ) (v : Value) → strong_at node i ≡ Some v → field_at node i ≡ Some v
 read_at_place (Con tag values) i v h = h
 read_at_place (Var old) i v h = h
@@ -14,7 +14,7 @@ read_at_place (Thunk free (Some result)) (suc i) v h = absurd cc
 read_at_place (Weak parts) i v h = absurd cc
 read_at_place (Stack size values) i v h = h
 
--- what stands at a place is one of the fields that are scanned
+-- a field with a value is among the scanned fields
 pub within_fields : (node : Node) (i : ℕ) (v : Value) → IsSized node → strong_at node i ≡ Some v → i < fields_of node
 within_fields (Con tag values) i v z h = slice_get_within values i v h
 within_fields (Var old) i v z h = slice_get_within (old ∷ []) i v h
@@ -26,7 +26,7 @@ within_fields (Thunk free (Some result)) (suc i) v z h = absurd cc
 within_fields (Weak parts) i v z h = absurd cc
 within_fields (Stack size values) i v z h = let lt : i < length values = slice_get_within values i v h in let le : length values ≤ size = z in omega arith
 
--- what a scan reads stands there, or is a free variable of a thunk that has a result
+-- a scan reads the value of the field, or a free variable of a thunk that has a result
 pub read_cases : (node : Node) (i : ℕ) (v : Value) → field_at node i ≡ Some v → (strong_at node i ≡ Some v) ⊎
     ((has_result node ≡ true) × (1 ≤ i) × ((free : List Value) → free_of node ≡ Some free → strong_at (Thunk free None) i ≡ Some v))
 read_cases (Con tag values) i v h = inl h

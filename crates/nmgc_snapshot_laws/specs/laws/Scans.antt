@@ -1,11 +1,10 @@
--- A scan keeps the facts: what it reads is live, and once it has read a field of the snapshot that
--- still stands, the field's target is marked.
+-- A scan keeps the facts: a name that it reads is live, and the target of an unchanged field that it has read is marked.
 use Rattle.std.specs.Prelude.{◌≡◌, ◌<◌, ◌≤◌, ◌+◌, ◌∷◌, ◌++◌, ◌&&◌}
 use Rattle.nmgc_snapshot_laws.specs.laws.Vocabulary.{ℕ, List, [], zero, suc, refl, sym, ap, subst, ◌∙◌, arith, append-nil, Option, Some, None, Bool, true, false, cond, eqb, leb, inl, inr, IsSome, All, Contains, All-contains, Contains-append_left, Contains-append_right, Contains-append_cases, same_Some, cases_eq, or_parts, or_from, and_cases, and_left, and_right, lt-leb, eq-eqb, ne_eqb, false_from_ne_true, Name, Value, Node, Con, Var, Arr, Thunk, Weak, Stack, node_of, IsWorld, IsNodeOf, IsSized, field, strong_fields, Entry, State, with_mark, entry_of, mark_name, mark_read, read_at, fields_of, is_last, moved_on, has_result, strong_at, free_of, Names, HasStrongField, StillThere, advanced, after_scan, nothing_in, one_is, contains_one, contains_cases, contains_head, contains_tail, at_some, is_some_of, field_at_place, MayHold, IsLiveIn, IsSafe, Kept, IsPassed, Base, Facts, owed, pushed, queued, marked, unmarked}
 use Rattle.nmgc_world_spec.specs.declared.value.Value.TheVariants as value
 use Rattle.nmgc_snapshot_laws.specs.laws.{ScanReads.read_at_place, ScanReads.within_fields, ScanReads.read_cases, Lives.live_there, Lives.target_there, Lives.refers, Marking.mark_cases, Marking.mark_facts, Marking.marked_then}
 
--- what is not at its last position has fields left, and isn't a thunk whose result was read
+-- an entry before its last position has fields left, and isn't at a thunk's result that was read
 not_last : (node : Node) (position : ℕ) → position < fields_of node → (position ≡ 1 → has_result node ≡ false) → is_last node position ≡ false
 not_last node position lt h =
     or_from (leb (fields_of node) position) (eqb position 1 && has_result node) (lt-leb (fields_of node) position lt) (elim (cases_eq position 1) [
@@ -24,13 +23,13 @@ only_result (Thunk free (Some result)) (suc i) v r h = absurd cc
 only_result (Weak parts) i v r h = absurd cc
 only_result (Stack size values) i v r h = absurd cc
 
--- an entry that a field is still ahead of moves on, unless it reads that field now
+-- an entry that has yet to reach a field moves on, unless it reads that field now
 entry_stays : (node : Node) (entry : Entry) (i : ℕ) (v : Value) → i < fields_of node → strong_at node i ≡ Some v → entry.position ≤ i →
     is_last node entry.position ≡ false
 entry_stays node entry i v lt h le = not_last node entry.position (omega arith) (λ e.
     false_from_ne_true (has_result node) (λ r. let z : i ≡ 0 = only_result node i v r h in absurd (omega arith)))
 
--- what an entry is afterwards
+-- the entry after the scan
 moved_cases : (node : Node) (entry e : Entry) → Contains (moved_on (Some node) entry) e → (is_last node entry.position ≡ false) ×
     (e ≡ (record { name = entry.name; position = entry.position + 1 }))
 moved_cases node entry e h = by_test (is_last node entry.position) refl h
@@ -44,7 +43,7 @@ moved_stays : (node : Node) (entry : Entry) → is_last node entry.position ≡ 
     Contains (moved_on (Some node) entry) (record { name = entry.name; position = entry.position + 1 })
 moved_stays node entry e = rw e (contains_one _)
 
--- a thunk of the snapshot without a result, told by what it is later
+-- a thunk without a result, from its free variables
 no_result : (node : Node) (free : List Value) → free_of node ≡ Some free → has_result node ≡ false → node ≡ Thunk free None
 no_result (Con tag values) free e r = absurd cc
 no_result (Var old) free e r = absurd cc
@@ -69,7 +68,7 @@ module _ (s : State) (f : Facts s) (w : IsWorld s.world) (entry : Entry) (rest :
   is_live : IsLiveIn s entry.name
   is_live = f.base.live entry.name (f.base.queued entry is_queued)
 
-  -- what stands in a field of a live object may be held
+  -- the target of a live object's field may be held
   from_field : (node : Node) (i : ℕ) (target : Name) → node_of s.world entry.name ≡ Some node → strong_at node i ≡ Some (value.Ref target) → MayHold s target
   from_field node i target e h =
       let fields : All (Names (MayHold s)) (strong_fields node) =
@@ -104,7 +103,7 @@ module _ (s : State) (f : Facts s) (w : IsWorld s.world) (entry : Entry) (rest :
             field_at_place (Thunk free.0 None) i (value.Ref target) (reads free.0 free.1),
           )
 
-  -- what a scan reads may be held
+  -- the name that a scan reads may be held
   read_may : (node : Node) (position : ℕ) (target : Name) → node_of s.world entry.name ≡ Some node → entry.position ≡ position →
       read_at (Some node) position ≡ Some (value.Ref target) → MayHold s target
   read_may node zero target e at h = absurd cc
@@ -117,7 +116,7 @@ module _ (s : State) (f : Facts s) (w : IsWorld s.world) (entry : Entry) (rest :
 abbrev pub stepped : State → Node → Entry → List Entry → State
 stepped s node entry rest = record s { queue = moved_on (Some node) entry ++ rest }
 
--- an entry whose object's node is known moves on, where what it read is marked
+-- an entry whose object's node is known moves on, once the name that it read is marked
 module _ (s : State) (f : Facts s) (w : IsWorld s.world) (entry : Entry) (rest : List Entry) (first : s.queue ≡ entry ∷
     rest) (node : Node) (is : node_of s.world entry.name ≡ Some node)
     (seen : (i : ℕ) (target : Name) → entry.position ≡ i + 1 → strong_at node i ≡ Some (value.Ref target) → IsSome (node_of s.snapshot target) →
@@ -131,7 +130,7 @@ module _ (s : State) (f : Facts s) (w : IsWorld s.world) (entry : Entry) (rest :
   sized : IsSized node
   sized = let mine : IsNodeOf s.world node = at_some (node_of s.world entry.name) node (IsNodeOf s.world) is (w.nodes entry.name) in mine.sized
 
-  -- a result that was not there is not there at the snapshot
+  -- an object without a result had none in the snapshot
   none_before : has_result node ≡ false → (old : Node) → node_of s.snapshot entry.name ≡ Some old → has_result old ≡ false
   none_before none old e =
       let t : StillThere s.world entry.name old = f.base.later entry.name old e in
@@ -188,7 +187,7 @@ module _ (s : State) (f : Facts s) (w : IsWorld s.world) (entry : Entry) (rest :
   still_safe name (owed k h) = owed k h
   still_safe name (pushed k h) = pushed k h
 
-  -- the field that is ahead of the first entry
+  -- the field that the first entry has yet to reach
   first_kept : (name : Name) (i : ℕ) (target : Name) → IsSome (node_of s.snapshot target) → HasStrongField s.world name i (value.Ref target) →
       entry.name ≡ name → entry.position ≤ i + 1 → Kept (stepped s node entry rest) name i target
   first_kept name i target known st e le =
@@ -244,7 +243,7 @@ first_node s f entry h =
     let t : StillThere s.world entry.name old.0 = f.base.later entry.name old.0 old.1 in
     (t.node, t.node_is)
 
--- what one scan of a known node does, by what it reads
+-- the effect of a scan of a known node, by the value that it reads
 module _ (s : State) (f : Facts s) (w : IsWorld s.world) (entry : Entry) (rest : List Entry) (first : s.queue ≡ entry ∷
     rest) (node : Node) (is : node_of s.world entry.name ≡ Some node) where
   queue_stays : (name : Name) → (more : List Entry) × ((mark_name s name).queue ≡ entry ∷ (rest ++ more))
@@ -253,7 +252,7 @@ module _ (s : State) (f : Facts s) (w : IsWorld s.world) (entry : Entry) (rest :
     rw first refl,
   )) (λ e. ([], rw append-nil first))
 
-  -- what stands at the position that is read is what is read
+  -- the value at the position is the value that is read
   read_is : (i : ℕ) (v : Value) → entry.position ≡ i + 1 → strong_at node i ≡ Some v → read_at (Some node) entry.position ≡ Some v
   read_is i v at h = let at' : entry.position ≡ suc i = omega arith in rw at' (read_at_place node i v h)
 
@@ -281,7 +280,7 @@ module _ (s : State) (f : Facts s) (w : IsWorld s.world) (entry : Entry) (rest :
           subst (λ (n : Name). Contains (mark_name s target).marked n) same (marked_then s target (subst (λ (n : Name).
           IsSome (node_of s.snapshot n)) (sym same) known))
 
-  -- nothing is read, or no name
+  -- no value is read, or a value that is no reference
   scan_plain : (o : Option Value) → read_at (Some node) entry.position ≡ o → ((other : Name) → o ≡ Some (value.Ref other) → ⊥) → Facts (advanced s s.queue)
   scan_plain o h plain = advanced_facts s f w entry rest first node is (λ i other at stood known.
       absurd (plain other (sym h ∙ read_is i (value.Ref other) at stood)))

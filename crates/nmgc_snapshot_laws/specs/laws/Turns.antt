@@ -1,12 +1,12 @@
--- What a command does to the node of each name, where what registers hold is of the names P. Of the node
--- as it was nothing is asked, so this says of every name, held or not, what a step can put into its fields.
+-- The effect of a command on the node of each name, if the registers hold only names with P. Nothing is asked of the node
+-- before. So the lemmas cover every name, held or not, and say which names a step can put into its fields.
 use Rattle.std.specs.Prelude.{◌≡◌, ◌≢◌, ◌<◌, ◌∷◌, ◌⊎◌}
 use Rattle.nmgc_snapshot_laws.specs.laws.Vocabulary.{ℕ, List, [], drop, length, refl, sym, ap, subst, ◌∙◌, Option, Some, None, inl, inr, slice_get, All, Contains, All-cons, All-nil, All-replicate, All-contains, Contains-get_or, Operand, Command, Change, SHARED_MAKER, Name, Value, Parts, Node, Con, Var, Arr, Thunk, Weak, Stack, World, state_of, node_of, changed, shared_name, value_for, with_state, with_node, with_finaliser, holding, holding_given, keeping, born, object_of, change_node, change_object, step, RefersTo, IsAlive, strong_fields, finalised_in, finalised_by, Names, Fields, IsStrongChange, Writes, changed_fields, nothing_in, contains_one, operand_has, operands_have, nodes_kept, node_born, next_is_new, node_cases, change_count, keeping_kept}
 use Rattle.nmgc_world_spec.specs.declared.command.Command.TheVariants as command
 use Rattle.nmgc_world_spec.specs.declared.change.Change.TheVariants as change
 use Rattle.nmgc_world_spec.specs.declared.value.Value.TheVariants as value
 
--- the node of one name, from one world to the next
+-- the node of a name, from one world to the next
 data Turn (P : Name → Type 0) (w v : World) (dead : List Name) (name : Name) : Type 0 where
   kept : node_of v name ≡ node_of w name → Turn P w v dead name
   born_with : (made : Node) → node_of w name ≡ None → node_of v name ≡ Some made → Fields (Names P) made → Turn P w v dead name
@@ -31,7 +31,7 @@ finaliser_kept w m register lt name = by_first (slice_get (state_of w m).queue 0
     by_first (Some v) = nodes_kept w m (holding (record (state_of w m) { queue = drop 1 (state_of w m).queue }) register v) lt refl name
 
 module _ (P : Name → Type 0) (w : World) where
-  -- one turn, and then the same nodes
+  -- a step that is followed by the same nodes
   then_kept : (u v : World) (dead : List Name) (name : Name) → Turn P w u dead name → node_of v name ≡ node_of u name → Turn P w v dead name
   then_kept u v dead name (kept e) same = kept (same ∙ e)
   then_kept u v dead name (born_with made none is f) same = born_with made none (same ∙ is) f
@@ -85,7 +85,7 @@ module _ (P : Name → Type 0) (w : World) where
       by_node (Some (Thunk free result)) e = same_node (Thunk free result) [] e
       by_node (Some (Stack size values)) e = same_node (Stack size values) [] e
 
-  -- what a step puts into a field is of the names
+  -- a step puts only such names into fields
   module _ (v : World) (dead : List Name) (name : Name) where
     writes_more : (found : Node) (c : Change) → Writes (Names P) c → Writes (λ x. Contains (strong_fields found) x ⊎ Names P x) c
     writes_more found (change.Set index x) h = inr h
@@ -126,7 +126,7 @@ module _ (P : Name → Type 0) (w : World) where
     weak_unchanged (change.Pop m) maker parts s = refl
     weak_unchanged change.Finalise maker parts s = absurd s
 
-    -- an alive weak pointer stays so, unless this step finalised it
+    -- a weak pointer stays alive with its parts, unless this step finalised it
     turn_alive : Turn P w v dead name → (parts : Parts) → IsAlive w name parts → IsAlive v name parts ⊎ Contains dead name
     turn_alive (kept e) parts a = inl (e ∙ a)
     turn_alive (born_with made none is f) parts a = absurd cc
@@ -171,10 +171,10 @@ module _ (P : Name → Type 0) (w : World) where
     step_turns (command.NextFin dest) name = kept (finaliser_kept w m dest lt name)
     step_turns _ name = kept refl
 
-    -- a field of the next world was there, or holds one of the names
+    -- the target of a field in the next world was its target before, or has P
     pub step_adds : (c : Command) (name target : Name) → RefersTo (step w m c).0 name target → RefersTo w name target ⊎ P target
     step_adds c name target r = turn_adds (step w m c).0 (finalised_by w m c) name (step_turns c name) target r
 
-    -- an alive weak pointer stays so, unless the command finalised it
+    -- a weak pointer stays alive with its parts, unless the command finalised it
     pub step_alive : (c : Command) (weak : Name) (parts : Parts) → IsAlive w weak parts → IsAlive (step w m c).0 weak parts ⊎ Contains (finalised_by w m c) weak
     step_alive c weak parts a = turn_alive (step w m c).0 (finalised_by w m c) weak (step_turns c weak) parts a

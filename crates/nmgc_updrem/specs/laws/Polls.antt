@@ -1,11 +1,11 @@
--- Polls of the rings: each receiver has more of its own, and there are as many.
+-- Polls of the rings: each receiver has more entries of its own, and their number is the same.
 use Rattle.std.proofs.{Common.ℕ, Common.◌≡◌, Common.◌<◌, Common.◌∙◌, Common.sym, Common.ap, Common.subst, Common.List, Common.[], Common.length, Common.append-nil, Common.set, Common.get_or, Common.length-set, Common.inl, Common.inr, Common.refl, lemmas.Bool.cases_eq, lemmas.List.get_or-set_same, lemmas.List.get_or-set_other, lemmas.Option.slice_get-get_or, lemmas.Option.slice_get_within, lemmas.Option.get_or_from_slice_get}
 use Rattle.std.specs.Prelude.{slice_get, Some}
-use Rattle.nmgc_updrem.specs.{Lines.PollsSo, Rings.Receiver, Rings.Polls, Rings.HasPolled, Rings.HavePolled, Rings.AtLine, declared.polled.Polled.Polled, laws.Lines.polled_none, laws.Lines.polled_then}
-use Rattle.nmgc_updrem.specs.declared.polled.Polled.TheVariants as polled
+use Rattle.nmgc_updrem.specs.{Lines.PollsSo, Rings.Receiver, Rings.Polls, Rings.HasPolled, Rings.HavePolled, Rings.AtLine, declared.poll.Poll.Poll, laws.Lines.polled_none, laws.Lines.polled_then}
+use Rattle.nmgc_updrem.specs.declared.poll.Poll.TheVariants as polled
 
--- whatever a poll answered
-poll_is : (r q : Receiver) (answer : Polled) → Polls r q answer → HasPolled r q
+-- a poll with any answer
+poll_is : (r q : Receiver) (answer : Poll) → Polls r q answer → HasPolled r q
 poll_is r q polled.Took h = record { entries = h.block; ring = h.receives.ring; received = h.receives.received; taken = h.items }
 poll_is r q polled.Nothing h = record {
   entries = [];
@@ -33,7 +33,7 @@ polled_all_then old mid new x y = record {
       polled_then r m q (x.each k r m at here) (y.each k m q here now);
 }
 
--- one receiver changed in no other way
+-- one receiver that changed as by a poll
 pub at_polled : (C : Receiver → Receiver → Type 0) → ((r q : Receiver) → C r q → HasPolled r q) → (mid new : List Receiver) (mutator : ℕ) →
     AtLine C mutator mid new → HavePolled mid new
 at_polled C is_polled mid new mutator h = record {
@@ -54,8 +54,8 @@ at_polled C is_polled mid new mutator h = record {
       ];
 }
 
--- one mutator's ring was polled, after others
-pub polled_one : (old mid new : List Receiver) (mutator : ℕ) (answer : Polled) → HavePolled old mid → AtLine (PollsSo answer) mutator mid new →
+-- a poll of one mutator's ring, after other polls
+pub polled_one : (old mid new : List Receiver) (mutator : ℕ) (answer : Poll) → HavePolled old mid → AtLine (PollsSo answer) mutator mid new →
     HavePolled old new
 polled_one old mid new mutator answer before h = polled_all_then old mid new before (at_polled (PollsSo answer) (λ r q (x : PollsSo answer r q).
     poll_is r q answer x.polls) mid new mutator h)

@@ -2,7 +2,7 @@
 use Rattle.std.specs.Prelude.{◌≡◌, ◌∷◌, ◌+◌}
 use Rattle.nmgc_weak.specs.laws.Vocabulary.{List, [], map, refl, ap, arith, inl, inr, ℕ, Contains, slice_index, contains_head, contains_tail, contains_cases, Name, Place, OldWeak, places_of, names_of, place_at, finaliser_place}
 
--- the names of places are those of the list
+-- the names in the addresses of a list are the names of the list
 pub names_same : (list : List OldWeak) → map (λ (p : Place). p.name) (places_of list) ≡ names_of list
 names_same [] = refl
 names_same (w ∷ ws) = ap (λ (l : List Name). w.weak ∷ l) (names_same ws)

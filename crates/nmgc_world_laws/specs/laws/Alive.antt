@@ -1,16 +1,16 @@
--- Weak pointers that are alive: no command makes one alive but the one that it makes.
+-- Alive weak pointers: a command makes no weak pointer alive except a new one.
 use Rattle.nmgc_world_laws.specs.{laws.Vocabulary.◌≡◌, laws.Vocabulary.◌≢◌, laws.Vocabulary.◌<◌, laws.Vocabulary.ℕ, laws.Vocabulary.length, laws.Vocabulary.refl, laws.Vocabulary.sym, laws.Vocabulary.◌∙◌, laws.Vocabulary.Some, laws.Vocabulary.None, laws.Vocabulary.IfSome, laws.Vocabulary.Operand, laws.Vocabulary.Command, laws.Vocabulary.Change, laws.Vocabulary.SHARED_MAKER, laws.Vocabulary.Name, laws.Vocabulary.Parts, laws.Vocabulary.Node, laws.Vocabulary.Con, laws.Vocabulary.Var, laws.Vocabulary.Arr, laws.Vocabulary.Thunk, laws.Vocabulary.Weak, laws.Vocabulary.Stack, laws.Vocabulary.World, laws.Vocabulary.state_of, laws.Vocabulary.node_of, laws.Vocabulary.changed, laws.Vocabulary.value_for, laws.Vocabulary.next_name, laws.Vocabulary.step, laws.Vocabulary.at_some, laws.Vocabulary.SameShape, laws.Vocabulary.kind_of, laws.Vocabulary.made_by, laws.Keeps.Any, laws.Keeps.stepped, laws.Keeps.stepped_nodes, laws.NodeShapes.changed_shape}
 use Rattle.nmgc_world_spec.specs.declared.command.Command.TheVariants as command
 use Rattle.nmgc_world_spec.specs.declared.change.Change.TheVariants as change
 use Rattle.nmgc_world_spec.specs.declared.node.Kind.TheVariants as kind
 
 module _ (R : Name → Parts → Type 0) where
-  -- the node, where it is an alive weak pointer, has R with its parts
+  -- if the node is a weak pointer that is alive, its name and parts have R
   abbrev pub AliveOk : Name → Node → Type 0
   AliveOk name (Weak (Some parts)) = R name parts
   AliveOk name _ = Unit {0}
 
-  -- every node of a world is so
+  -- all nodes of a world have this property
   abbrev pub WeaksOk : World → Type 0
   WeaksOk w = (name : Name) → IfSome (node_of w name) (AliveOk name)
 
@@ -23,7 +23,7 @@ module _ (R : Name → Parts → Type 0) where
   not_weak name (Weak (Some parts)) other = absurd (other refl)
   not_weak name (Stack size values) other = tt
 
-  -- a node of another kind stays one
+  -- a node of another kind keeps its kind
   stays_other : (c : Change) (maker : ℕ) (name : Name) (node : Node) → (kind_of node ≡ kind.Weak → ⊥) → AliveOk name (changed c maker node).0
   stays_other c maker name node other = not_weak name (changed c maker node).0 (λ e.
       let s : SameShape node (changed c maker node).0 = changed_shape c maker node in other (sym s.kind ∙ e))
@@ -43,7 +43,7 @@ module _ (R : Name → Parts → Type 0) where
   changed_weak change.Finalise maker name (Weak None) h = tt
   changed_weak change.Finalise maker name (Weak (Some parts)) h = tt
 
-  -- so no command does, but for the one that it makes
+  -- a command makes no weak pointer alive except a new one
   module _ (w : World) (m : ℕ) (makes : (key v finaliser : Operand) →
       R (next_name (state_of w m) m) (record { key = value_for w m key; value = value_for w m v; finaliser = value_for w m finaliser })) where
     made_weak : (c : Command) → IfSome (made_by w m c) (AliveOk (next_name (state_of w m) m))

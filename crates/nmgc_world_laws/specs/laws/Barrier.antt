@@ -1,10 +1,10 @@
--- The deletion barrier on one node: a strong field that a change takes away is owed, and a change
--- puts nothing into a strong field but what it was given.
+-- The deletion barrier on one node: a change owes each value that it takes out of a strong field, and puts only its own
+-- values into strong fields.
 use Rattle.std.specs.Prelude.{◌≡◌, ◌-◌, ◌∷◌, ◌++◌, ◌⊎◌}
 use Rattle.nmgc_world_laws.specs.laws.Vocabulary.{ℕ, List, [], zero, suc, length, set, refl, ap, arith, Option, Some, None, Bool, true, false, cond, eqb, ltb, inl, inr, slice_get, All, Contains, IfSome, option_to_list, All-cons, All-nil, All-head, All-set, All-push, All-take, Name, Value, Node, Con, Var, Arr, Thunk, Weak, Stack, Reply, Fine, Yes, No, NoField, StackFull, StackEmpty, Change, is_same, given_or, field_read, result_read, exchanged_at, changed, last_of, stack_pushed, stack_popped, given, strong_fields, field_held, if_same, owed_in, free_held, top_held, strong_at, Fields, IsLater, item_has, contains_at, place_of, contains_option, kept_or_held, kept_or_last, slice_get-append, ne_eqb}
 use Rattle.nmgc_world_spec.specs.declared.change.Change.TheVariants as change
 
--- a strong field has a place
+-- a value in a strong field has a position
 pub place_of_field : (node : Node) (v : Value) → Contains (strong_fields node) v → (i : ℕ) × (strong_at node i ≡ Some v)
 place_of_field (Con tag values) v h = place_of values v h
 place_of_field (Var old) v h = place_of (old ∷ []) v h
@@ -15,7 +15,7 @@ place_of_field (Thunk free (Some result)) v (suc i, lt, e) = absurd (omega arith
 place_of_field (Weak parts) v (i, lt, e) = absurd (omega arith)
 place_of_field (Stack size values) v h = place_of values v h
 
--- what stands at a place is a strong field
+-- a value at a position is in a strong field
 pub field_at_place : (node : Node) (i : ℕ) (v : Value) → strong_at node i ≡ Some v → Contains (strong_fields node) v
 field_at_place (Con tag values) i v h = contains_at values i v h
 field_at_place (Var old) i v h = contains_at (old ∷ []) i v h
@@ -32,7 +32,7 @@ abbrev pub IsStrongChange : Change → Type 0
 IsStrongChange change.Finalise = ⊥
 IsStrongChange _ = Unit {0}
 
--- what a change writes
+-- the value that a change writes has Q
 abbrev pub Writes : (Value → Type 0) → Change → Type 0
 Writes Q (change.Set index v) = Q v
 Writes Q (change.Exchange index expected v) = Q v
@@ -40,7 +40,7 @@ Writes Q (change.Update v) = Q v
 Writes Q (change.Push m v) = Q v
 Writes Q _ = Unit {0}
 
--- one of two nodes
+-- either of two nodes, by a test
 pub two_nodes : (P : Node → Type 0) (b : Bool) (made kept : Node) (r s : Reply) → P made → P kept → P (cond {A = Node × Reply} b (made, r) (kept, s)).0
 two_nodes P true made kept r s h k = h
 two_nodes P false made kept r s h k = k
@@ -54,7 +54,7 @@ module _ (Q : Value → Type 0) where
   one : (v : Value) → Q v → All Q (v ∷ [])
   one v h = All-cons Q v [] h (All-nil Q)
 
-  -- a change puts nothing into a strong field but what it writes
+  -- a change puts only the value that it writes into strong fields
   pub changed_fields : (c : Change) (maker : ℕ) (node : Node) → IsStrongChange c → Writes Q c → Fields Q node → Fields Q (changed c maker node).0
   changed_fields (change.Set index v) maker (Con tag values) s q h = h
   changed_fields (change.Set index v) maker (Var old) s q h = two_nodes (Fields Q) (eqb index 0) (Var v) (Var old) Fine NoField (one v q) h
@@ -101,7 +101,7 @@ module _ (Q : Value → Type 0) where
       popped false = h
   changed_fields change.Finalise maker node s q h = absurd s
 
-  -- what is owed was in a strong field
+  -- each value owed was in a strong field
   if_same_has : (expected : Value) (o : Option Value) → IfSome o Q → All Q (if_same expected o)
   if_same_has expected None h = All-nil Q
   if_same_has expected (Some v) h = by_test (is_same v expected)
@@ -152,7 +152,7 @@ module _ (Q : Value → Type 0) where
   given_has refusal None e h = rw e tt
   given_has refusal (Some v) e h = h
 
-  -- what `get` and `force` answer was in a strong field
+  -- the answers of `get` and `force` were in a strong field
   pub field_read_has : (node : Node) (index : ℕ) → Fields Q node → IfSome (given (field_read node index)) Q
   field_read_has (Con tag values) index h = given_has NoField (slice_get values index) refl (item_has Q values index h)
   field_read_has (Var old) index h = given_has NoField (slice_get (old ∷ []) index) refl (item_has Q (old ∷ []) index h)
@@ -170,7 +170,7 @@ module _ (Q : Value → Type 0) where
   result_read_has (Weak parts) h = tt
   result_read_has (Stack size values) h = tt
 
-  -- and so was what a change answers
+  -- the answer of a change was in a strong field
   two_answers : (b : Bool) (made kept : Node) (r s : Reply) → given r ≡ None → given s ≡ None →
       IfSome (given (cond {A = Node × Reply} b (made, r) (kept, s)).1) Q
   two_answers true made kept r s e d = rw e tt
@@ -224,11 +224,11 @@ module _ (Q : Value → Type 0) where
       popped false = tt
   answer_has change.Finalise maker node s h = absurd s
 
--- a strong field stands after a change, or its value is owed
+-- a value stays in its strong field after a change, or it is owed
 abbrev Stays : Change → Name → Node → ℕ → Value → Node → Type 0
 Stays c name node i x made = (strong_at made i ≡ Some x) ⊎ Contains (owed_in c name node) x
 
--- the same for one of two nodes, where the other is the old one
+-- the same for either of two nodes, if the second is the old node
 written_or_kept : (i : ℕ) (x : Value) (owed : List Value) (b : Bool) (made kept : Node) (r s : Reply) → (strong_at made i ≡ Some x) ⊎
     Contains owed x → strong_at kept i ≡ Some x → (strong_at (cond {A = Node × Reply} b (made, r) (kept, s)).0 i ≡ Some x) ⊎ Contains owed x
 written_or_kept i x owed true made kept r s h k = h
@@ -248,7 +248,7 @@ var_owes old zero zero v x h = inr (contains_option (Some old) x h)
 var_owes old zero (suc i) v x h = absurd cc
 var_owes old (suc index) i v x h = let e : eqb (suc index) 0 ≡ false = ne_eqb (suc index) 0 (λ z. absurd (omega arith)) in rw e (inl h)
 
--- an exchange owes the item where it writes
+-- an exchange owes the item if it writes
 exchange_owes : (i : ℕ) (x : Value) (made kept : Node) (o : Option Value) (expected : Value) → strong_at kept i ≡ Some x →
     ((strong_at made i ≡ Some x) ⊎ (o ≡ Some x)) → (strong_at (exchanged_at o expected kept made).0 i ≡ Some x) ⊎ Contains (if_same expected o) x
 exchange_owes i x made kept None expected k h = inl k
@@ -264,7 +264,7 @@ exchange_var old zero zero expected v x h = exchange_owes zero x (Var v) (Var ol
 exchange_var old zero (suc i) expected v x h = absurd cc
 exchange_var old (suc index) i expected v x h = inl h
 
--- the deletion barrier: a strong field stands after a change, or what it held is owed
+-- the deletion barrier: a value stays in its strong field after a change, or it is owed
 pub stays_or_owed : (c : Change) (name : Name) (node : Node) (i : ℕ) (x : Value) → IsStrongChange c → strong_at node i ≡ Some x →
     Stays c name node i x (changed c name.maker node).0
 stays_or_owed (change.Set index v) name (Con tag values) i x s h = inl h

@@ -1,4 +1,4 @@
--- A closing with exactly the dead weak pointers leaves only kept names held.
+-- After a closing with exactly the dead weak pointers, only kept names are held.
 use Rattle.std.specs.Prelude.{◌≡◌, ◌⊎◌, ◌∷◌}
 use Rattle.nmgc_world_laws.specs.laws.Vocabulary.{List, [], refl, sym, ap, subst, ◌∙◌, Option, Some, None, inl, inr, IsSome, IfSome, All, Contains, All-nil, All-weaker, All-push, All-contains, Contains-append_cases, Name, Value, Parts, Node, Weak, World, IsWorld, state_of, node_of, replayed, opened, finalised, IsLive, IsKept, IsAlive, IsPlain, IsRoot, Lists, closed, closed_by, strong_fields, contains_head, contains_tail, at_some, Names, OfParts, Fields, CoversReach, IsOfWeak, HoldsOnly, IsLiveOrNew, IsNotLost, IsSound, ClosesWell, Interval, IsDeadAfter}
 use Rattle.nmgc_world_spec.specs.declared.value.Value.TheVariants as value
@@ -7,12 +7,12 @@ use Rattle.nmgc_world_laws.specs.laws.{Alive.WeaksOk, HeldSteps.alive_ok, HeldSt
 pub same_parts : (S : World) (d : Name) (a b : Parts) → IsAlive S d a → IsAlive S d b → a ≡ b
 same_parts S d a b e f = let both : Some (Weak (Some a)) ≡ Some (Weak (Some b)) = sym e ∙ f in cc
 
--- of what can't be so, it can't be undecided whether it is so
+-- no statement can be undecided: that it neither holds nor fails is impossible
 undecided : {A : Type 0} → ((A ⊎ (A → ⊥)) → ⊥) → ⊥
 undecided f = f (inr (λ a. f (inl a)))
 
 module _ (i : Interval) (sound : IsSound i) where
-  -- not lost
+  -- the name isn't lost
   abbrev Kept : Name → Type 0
   Kept n = IsNotLost i n
 
@@ -31,7 +31,7 @@ module _ (i : Interval) (sound : IsSound i) where
     alive : WeaksOk (AsThen i.snapshot (opened i.snapshot i.rows)) w
     there : (n : Name) → IsSome (node_of i.snapshot n) → IsSome (node_of w n)
 
-  -- before the first death
+  -- the world before the first death
   begins : Closing (replayed i.snapshot i.rows)
   begins =
       let w : World = replayed i.snapshot i.rows in
@@ -84,7 +84,7 @@ module _ (i : Interval) (sound : IsSound i) where
       let same : dead.parts ≡ parts = same_parts i.snapshot d dead.parts parts dead.alive then in
       value_names Kept parts.finaliser (λ n e old lost. lost (IsKept.finaliser d n dead (ap (λ (p : Parts). p.finaliser) same ∙ e)))
 
-  -- a death
+  -- a death keeps this
   death : (w v : World) (d : Name) → IsDeadAfter i d → Dies w v d → Closing w → Closing v
   death w v d dead dies h = record {
     world = dies.world;
@@ -115,7 +115,7 @@ module _ (i : Interval) (sound : IsSound i) where
   deaths w (d ∷ dead) all h = deaths (closed_by w d (node_of w d)) dead (λ n k.
       all n (contains_tail d dead n k)) (death w (closed_by w d (node_of w d)) d (all d (contains_head d dead)) (dies_by w h.world d) h)
 
-  -- after the last death: the key of what is alive is plain, or live
+  -- after the last death: the key of each weak pointer that is alive is plain or live
   module _ (dead : List Name) (lists : Lists (IsDeadAfter i) dead) where
     abbrev last : World
     last = closed (replayed i.snapshot i.rows) dead
@@ -129,7 +129,7 @@ module _ (i : Interval) (sound : IsSound i) where
         ⊥) (replayed i.snapshot i.rows) dead begins.world (alive_ok (λ k p. Contains (finalised i.snapshot i.rows) k →
         ⊥) (replayed i.snapshot i.rows) (λ k p e. finalised_dead i.snapshot i.rows sound.world sound.rows k p e))) n parts alive
 
-    -- the key of an alive weak pointer of the snapshot is plain, or live
+    -- a key that is plain or live in the snapshot, with the opened names
     abbrev IsLiveKey : Value → Type 0
     IsLiveKey v = IsPlain v ⊎ ((key : Name) × (v ≡ value.Ref key) × IsLive i.snapshot (opened i.snapshot i.rows) key)
 

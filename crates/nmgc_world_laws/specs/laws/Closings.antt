@@ -9,7 +9,7 @@ queued_nodes state Nil = refl
 queued_nodes state (Number n) = refl
 queued_nodes state (Ref name) = refl
 
--- the state of a mutator, one weak pointer of which has died
+-- a mutator's state after the death of one of its weak pointers
 abbrev pub with_dead : MutatorState → ℕ → Value → MutatorState
 with_dead state serial finaliser = queued (with_nth state serial (Weak None)) finaliser
 
@@ -48,7 +48,7 @@ module _ (w : World) (weak : Name) (parts : Parts) (lt : weak.maker < length w.m
   pub closed_length : length (closed_by w weak (Some (Weak (Some parts)))).mutators ≡ length w.mutators
   closed_length = cc (closed_state, length-set w.mutators weak.maker (with_dead (state_of w weak.maker) weak.serial parts.finaliser))
 
--- the world with one weak pointer less is a world
+-- the world after the death of one weak pointer is a world
 module _ (w : World) (h : IsWorld w) (weak : Name) (alive : IsAliveWeak w weak) where
   lt : weak.maker < length w.mutators
   lt = weak_maker w h weak alive

@@ -1,4 +1,4 @@
--- What the death of weak pointers leaves: those that mutators finalise, and those of a closing.
+-- The world after the death of weak pointers, by `finalise` or by a closing.
 use Rattle.std.specs.Prelude.{◌≡◌, ◌≢◌, ◌<◌, ◌⊎◌, ◌∷◌, ◌++◌}
 use Rattle.nmgc_world_laws.specs.laws.Vocabulary.{ℕ, List, [], length, refl, sym, ap, subst, ◌∙◌, Option, Some, None, inl, inr, length-set, IsSome, IfSome, Contains, cases_eq, append-nil, append_assoc, Contains-append_cases, Command, Reply, SHARED_MAKER, Name, Value, Parts, Node, Con, Var, Arr, Thunk, Weak, Stack, MutatorState, World, IsWorld, state_of, serial_of, node_of, value_for, with_state, with_nth, keeping, object_of, change_node, change_object, step, Row, replayed, finalised, finalised_by, finalised_in, IsAlive, IsAliveWeak, queued, closed, closed_by, contains_cases, slice_get-set_same, nothing_in, name_cases, CanReplay, ClosingKeepsWorld, QueueGrows, ClosingLeavesHands}
 use Rattle.nmgc_world_spec.specs.declared.command.Command.TheVariants as command
@@ -59,7 +59,7 @@ step_dies w m (command.Finalise dest object) lt n c =
     (subst (λ (k : ℕ). m < k) (sym d.1) lt) n ∙ d.0
 step_dies w m _ lt n c = absurd (nothing_in n c)
 
--- a name that is none of an alive weak pointer stays so
+-- the name isn't this weak pointer
 abbrev Other : Name → Name → Parts → Type 0
 Other n k parts = k ≡ n → ⊥
 
@@ -90,11 +90,11 @@ finalised_dead w (row ∷ rows) is can n parts alive c =
       | inr later ↦ finalised_dead v rows world can.1 n parts alive later
     ]
 
--- the node of a name is as it was, or the name is that of the weak pointer, which was alive and is dead
+-- the node of a name is as before, or the name is the weak pointer, which was alive and is dead
 abbrev pub NodeLeft : World → World → Name → Name → Type 0
 NodeLeft w v d n = (node_of v n ≡ node_of w n) ⊎ ((n ≡ d) × (node_of v n ≡ Some (Weak None)) × IsAliveWeak w d)
 
--- a queue is as it was, or the finaliser has joined it
+-- a queue is as before, or the finaliser has joined it
 abbrev pub QueueLeft : World → Name → List Value → List Value → Type 0
 QueueLeft w d old new = (new ≡ old) ⊎ ((parts : Parts) × IsAlive w d parts × ((new ≡ old) ⊎ (new ≡ old ++ parts.finaliser ∷ [])))
 
@@ -107,7 +107,7 @@ pub record Dies (w v : World) (d : Name) : Type 0 where
   pub mutators : length v.mutators ≡ length w.mutators
   pub serials : (k : ℕ) → serial_of v k ≡ serial_of w k
 
--- it was dead
+-- the case of a name that names no weak pointer, or a dead weak pointer
 was_dead : (w : World) → IsWorld w → (d : Name) → ((parts : Parts) → IsAlive w d parts → ⊥) → Dies w w d
 was_dead w is d not = record {
   world = is;
@@ -129,7 +129,7 @@ queued_queue state value.Nil = inl refl
 queued_queue state (value.Number n) = inr refl
 queued_queue state (value.Ref name) = inr refl
 
--- it was alive
+-- the case of a weak pointer that is alive
 dies_alive : (w : World) → IsWorld w → (d : Name) (parts : Parts) → IsAlive w d parts → Dies w (closed_by w d (Some (Weak (Some parts)))) d
 dies_alive w is d parts alive =
     let lt : d.maker < length w.mutators = weak_maker w is d (parts, alive) in
@@ -189,7 +189,7 @@ dies_by w is d = by_node (node_of w d) refl
     by_node (Some (Weak (Some parts))) e = dies_alive w is d parts e
     by_node (Some (Stack size values)) e = was (Stack size values) e (λ parts f. cc)
 
--- what is alive after a death was alive before
+-- a weak pointer that is alive after a death was alive before
 pub dies_weaks : (R : Name → Parts → Type 0) (w v : World) (d : Name) → Dies w v d → WeaksOk R w → WeaksOk R v
 dies_weaks R w v d dies h n = elim (dies.nodes n) [
   | inl same ↦ subst (λ (o : Option Node). IfSome o (AliveOk R n)) (sym same) (h n)
@@ -201,7 +201,7 @@ closed_weaks R w [] is h = h
 closed_weaks R w (d ∷ dead) is h = let dies = dies_by w is d in
     closed_weaks R (closed_by w d (node_of w d)) dead dies.world (dies_weaks R w (closed_by w d (node_of w d)) d dies h)
 
--- what died is dead in the end
+-- a weak pointer that died is dead in the end
 pub closed_dead : (w : World) (dead : List Name) → IsWorld w → (n : Name) → Contains dead n → (parts : Parts) → IsAlive (closed w dead) n parts → ⊥
 closed_dead w [] is n c parts alive = nothing_in n c
 closed_dead w (d ∷ dead) is n c parts alive =
@@ -214,7 +214,7 @@ closed_dead w (d ∷ dead) is n c parts alive =
       | inr later ↦ closed_dead v dead dies.world n later parts alive
     ]
 
--- a closing leaves a world with the same names, as many mutators and the same serials
+-- a closing leaves a world with the same names, the same number of mutators and the same serials
 pub closed_world : ClosingKeepsWorld
 closed_world w [] is = is
 closed_world w (d ∷ dead) is = closed_world (closed_by w d (node_of w d)) dead (dies_by w is d).world
@@ -238,7 +238,7 @@ pub closed_serials : (w : World) (dead : List Name) → IsWorld w → (m : ℕ) 
 closed_serials w [] is m = refl
 closed_serials w (d ∷ dead) is m = let dies = dies_by w is d in closed_serials (closed_by w d (node_of w d)) dead dies.world m ∙ dies.serials m
 
--- what each has in hand, but for finalisers that join a queue
+-- each mutator has the same in hand, except that finalisers join its queue
 same_queue : (s t : MutatorState) → t.registers ≡ s.registers → length t.nodes ≡ length s.nodes → t.queue ≡ s.queue → QueueGrows s t
 same_queue s t registers made queue = record { registers = registers; joined = []; queue = queue ∙ sym (append-nil s.queue); made = made }
 

@@ -1,8 +1,8 @@
--- Names without doubles, in order: as many, and the same.
+-- Distinct names, put in order: the same names, and the same number.
 use Rattle.std.specs.Prelude.{◌≡◌, ◌≢◌, ◌⊎◌, ◌+◌, ◌≤◌, ◌∷◌, ◌++◌}
 use Rattle.nmgc_world_laws.specs.laws.Vocabulary.{ℕ, List, [], length, refl, sym, subst, ◌∙◌, arith, inl, inr, Contains, cases_order, Contains-append_cases, Name, IsBefore, IsInOrder, same_name, in_order_first, in_order_rest, in_order_cons, not_before_itself, name_cases, contains_head, contains_tail, contains_cases, nothing_in, one_is, AreDistinct, Counts}
 
--- names in order have no doubles
+-- names in order are distinct
 pub in_order_distinct : (xs : List Name) → IsInOrder xs → AreDistinct xs
 in_order_distinct [] order = tt
 in_order_distinct (x ∷ xs) order = (
@@ -10,7 +10,7 @@ in_order_distinct (x ∷ xs) order = (
   in_order_distinct xs (in_order_rest x xs order),
 )
 
--- nor has a list with a name more at its end that it didn't have
+-- a list of distinct names with one new name at its end is distinct
 pub distinct_push : (xs : List Name) (x : Name) → AreDistinct xs → (Contains xs x → ⊥) → AreDistinct (xs ++ x ∷ [])
 distinct_push [] x once not = (nothing_in x, tt)
 distinct_push (y ∷ xs) x once not = (
@@ -34,7 +34,7 @@ before_cases a b = elim (cases_order a.maker b.maker) [
   | inr (inr gt) ↦ inr (inr (inl gt))
 ]
 
--- the list with a name more, at its place
+-- the list with one more name, inserted in order
 record IsWith (x : Name) (xs ys : List Name) : Type 0 where
   ordered : IsInOrder ys
   long : length ys ≡ length xs + 1
@@ -80,7 +80,7 @@ insert x (y ∷ xs) order not = elim (before_cases x y) [
       )
 ]
 
--- all of them in order
+-- all names of the list, in order
 record IsSorted (xs ys : List Name) : Type 0 where
   ordered : IsInOrder ys
   long : length ys ≡ length xs
@@ -108,14 +108,14 @@ sort (x ∷ xs) once =
       },
     )
 
--- names with P, each once, are as many as there are with P
+-- a list that has each name with P once has as its length the count of names with P
 pub counted : (P : Name → Type 0) (names : List Name) → AreDistinct names → ((n : Name) → Contains names n → P n) →
     ((n : Name) → P n → Contains names n) → Counts P (length names)
 counted P names once sound complete =
     let s : (ys : List Name) × IsSorted names ys = sort names once in
     (s.0, record { ordered = s.1.ordered; sound = λ n c. sound n (s.1.from n c); complete = λ n p. s.1.to n (complete n p) }, sym s.1.long)
 
--- a list without one of its names: of names without doubles, the name isn't in it any more
+-- a list without one of its names; if the names are distinct, the name is no longer in it
 record IsWithout (x : Name) (xs ys : List Name) : Type 0 where
   long : length xs ≡ length ys + 1
   kept : (n : Name) → Contains xs n → n ≢ x → Contains ys n
@@ -160,7 +160,7 @@ remove x (y ∷ xs) c = elim (name_cases y x) [
   ]
 ]
 
--- names with P, each once, without one of them, are as many as there are with P but that one
+-- the same for all names with P except one: the count is lower by 1
 pub others_counted : (P : Name → Type 0) (x : Name) (names : List Name) → AreDistinct names → Contains names x →
     ((n : Name) → Contains names n → P n) → ((n : Name) → P n → Contains names n) → (count : ℕ) → count + 1 ≡ length names →
     Counts (λ n. P n × (n ≡ x → ⊥)) count
@@ -175,7 +175,7 @@ others_counted P x names once there sound complete count long =
     let same : length w.0 ≡ count = omega arith in
     subst (λ (k : ℕ). Counts (λ n. P n × (n ≡ x → ⊥)) k) same all
 
--- names without doubles are no more than those that they are among
+-- distinct names that are all in a list are no more than the list's names
 pub no_more : (xs ys : List Name) → AreDistinct xs → ((n : Name) → Contains xs n → Contains ys n) → length xs ≤ length ys
 no_more [] ys once among = omega arith
 no_more (x ∷ xs) ys once among =
@@ -184,7 +184,7 @@ no_more (x ∷ xs) ys once among =
     let rest = no_more xs less.0 once.1 (λ n c. less.1.kept n (among n (contains_tail x xs n c)) (λ e. once.0 (subst (λ (k : Name). Contains xs k) e c))) in
     omega arith
 
--- there is one count of the names with P
+-- the count of names with P is unique
 pub one_count : (P : Name → Type 0) (a b : ℕ) → Counts P a → Counts P b → a ≡ b
 one_count P a b (xs, lists, is) (ys, others, same) =
     let to = no_more xs ys (in_order_distinct xs lists.ordered) (λ n c. others.complete n (lists.sound n c)) in

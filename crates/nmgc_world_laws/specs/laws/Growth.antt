@@ -6,7 +6,7 @@ use Rattle.nmgc_world_spec.specs.declared.command.Reply.TheVariants as reply
 use Rattle.nmgc_world_spec.specs.declared.change.Change.TheVariants as change
 use Rattle.nmgc_world_spec.specs.declared.value.Value.TheVariants as value
 
--- as many mutators, each of which made as many objects
+-- the same number of mutators, each with the same number of objects
 record SameCounts (w v : World) : Type 0 where
   mutators : length v.mutators ≡ length w.mutators
   serials : (k : ℕ) → serial_of v k ≡ serial_of w k
@@ -17,7 +17,7 @@ same_counts w = record { mutators = refl; serials = λ k. refl }
 same_then : (u v w : World) → SameCounts u v → SameCounts v w → SameCounts u w
 same_then u v w p q = record { mutators = q.mutators ∙ p.mutators; serials = λ k. q.serials k ∙ p.serials k }
 
--- another state of a mutator, with as many objects
+-- another state of a mutator, with the same number of objects
 state_same : (w : World) (m : ℕ) (q : MutatorState) → length q.nodes ≡ length (state_of w m).nodes → SameCounts w (with_state w m q)
 state_same w m q e = record {
   mutators = length-set w.mutators m q;
@@ -70,12 +70,12 @@ asked_mutators : (w : World) (a : Option (Value × Change)) → length (change_a
 asked_mutators w None = refl
 asked_mutators w (Some (object, c)) = (change_same w object c).mutators
 
--- a mutator is still there after the change that was asked for
+-- a mutator still exists after the change that was asked for
 pub asked_keeps : (w v : World) (r : Reply) (a : Option (Value × Change)) (m : ℕ) → change_asked w a ≡ (v, r) → m < length w.mutators → m < length v.mutators
 asked_keeps w v r a m e lt =
     let count : length v.mutators ≡ length w.mutators = sym (ap (λ (p : World × Reply). length p.0.mutators) e) ∙ asked_mutators w a in omega arith
 
--- a name in the map is still there where no serial fell
+-- a name stays in the map if no serial fell
 names_stay : (w v : World) → ((k : ℕ) → serial_of w k ≤ serial_of v k) → (name : Name) → IsSome (node_of w name) → IsSome (node_of v name)
 names_stay w v serials name h = elim (eqb_tells name.maker SHARED_MAKER) [
   | inl p ↦ elim (eqb_tells name.serial 0) [
@@ -116,7 +116,7 @@ change_into_same w m dest v c =
     let r : World × Reply = change_object w v c in
     same_then w r.0 (keeping r.0 m dest r.1) (change_same w v c) (keeping_same r.0 m dest r.1)
 
--- of each command
+-- growth by each command
 pub step_grows : (w : World) (m : ℕ) (c : Command) → m < length w.mutators → Grows w (step w m c).0 m
 step_grows w m (Num dest number) lt = same_grows w _ m (state_same w m _ refl)
 step_grows w m (Nil dest) lt = same_grows w _ m (state_same w m _ refl)
@@ -144,7 +144,7 @@ step_grows w m Yield lt = same_grows w w m (same_counts w)
 step_grows w m Collect lt = same_grows w w m (same_counts w)
 step_grows w m Full lt = same_grows w w m (same_counts w)
 
--- of a call that may want memory
+-- growth by a call that may fail for lack of memory
 pub answer_grows : (w v : World) (m : ℕ) (c : Command) (r : Result Reply NoMemory) → m < length w.mutators →
     IfOk r (λ reply. ◌≡◌ {A = World × Reply} (step w m c) (v, reply)) → OnErr r (v ≡ w) → Grows w v m
 answer_grows w v m c (Ok reply) lt ok err = subst (λ (u : World). Grows w u m) (ap (λ (p : World × Reply). p.0) ok) (step_grows w m c lt)

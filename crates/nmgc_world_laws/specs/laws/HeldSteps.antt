@@ -5,7 +5,7 @@ use Rattle.nmgc_world_spec.specs.declared.command.Command.TheVariants as command
 use Rattle.nmgc_world_spec.specs.declared.value.Value.TheVariants as value
 use Rattle.nmgc_world_laws.specs.laws.{Worlds.not_shared, Moves.operand_has, WeakMoves.all_moves, Alive.AliveOk, Alive.WeaksOk, Alive.step_weaks}
 
--- a fact of alive weak pointers, as one of nodes
+-- a property of weak pointers that are alive, as a property of nodes
 pub alive_ok : (R : Name → Parts → Type 0) (w : World) → ((n : Name) (parts : Parts) → IsAlive w n parts → R n parts) → WeaksOk R w
 alive_ok R w h n = by_node (node_of w n) refl
   where
@@ -22,7 +22,7 @@ alive_ok R w h n = by_node (node_of w n) refl
 pub alive_has : (R : Name → Parts → Type 0) (w : World) → WeaksOk R w → (n : Name) (parts : Parts) → IsAlive w n parts → R n parts
 alive_has R w h n parts e = at_some (node_of w n) (Weak (Some parts)) (AliveOk R n) e (h n)
 
--- what is nowhere isn't there
+-- an option that is `None` has no item
 pub absent : (o : Option Node) → o ≡ None → IsSome o → ⊥
 absent None none some = cc
 absent (Some x) none some = cc
@@ -31,7 +31,7 @@ pub some_of : (o : Option Node) (node : Node) → o ≡ Some node → IsSome o
 some_of o node is = subst (λ (x : Option Node). IsSome x) (sym is) refl
 
 module _ (P : Name → Type 0) where
-  -- a weak pointer and its parts are of the names
+  -- a weak pointer and its parts are in the set
   abbrev pub OfNames : Name → Parts → Type 0
   OfNames weak parts = P weak × OfParts P parts
 
@@ -40,7 +40,7 @@ module _ (P : Name → Type 0) where
   in_names (value.Number k) n h c = absurd (nothing_in n c)
   in_names (value.Ref own) n h c = subst P (one_is own n c) h
 
-  -- what a command opens is a part of an alive weak pointer
+  -- each name that a command opens is a part of a weak pointer that is alive
   pub opened_has : (w : World) (m : ℕ) (c : Command) → WeaksOk OfNames w → (n : Name) → Contains (opened_by w m c) n → P n
   opened_has w m (command.Deref dest object) h n c = by_value (value_for w m object) c
     where
@@ -79,7 +79,7 @@ module _ (P : Name → Type 0) where
       by_value (value.Ref name) d = by_node name (node_of w name) (h name) d
   opened_has w m _ h n c = absurd (nothing_in n c)
 
-  -- facts of values, from facts of names
+  -- properties of values, from properties of names
   pub value_names : (v : Value) → ((n : Name) → v ≡ value.Ref n → P n) → Names P v
   value_names value.Nil h = tt
   value_names (value.Number n) h = tt
@@ -91,7 +91,7 @@ module _ (P : Name → Type 0) where
   pub name_has : (v : Value) (n : Name) → v ≡ value.Ref n → Names P v → P n
   name_has v n e h = subst (Names P) e h
 
-  -- the two forms of 'is held', for values and for names
+  -- the two forms of "is held": for values and for names
   pub held : (w : World) → HoldsOnly P w → CoversReach P w
   held w h = record {
     registers = λ k. values_names (state_of w k).registers (λ n c.

@@ -1,4 +1,4 @@
--- What every command keeps of nodes, and of the other mutators.
+-- The nodes, and the state of other mutators, after every command.
 use Rattle.std.proofs.{Common.◌≡◌, Common.◌≢◌, Common.◌<◌, Common.ℕ, Common.length, Common.refl, Common.sym, Common.ap, Common.subst, Common.◌∙◌, Common.length-set, Common.Option, Common.Some, Common.None, Common.inl, Common.inr, lemmas.Bool.cases_eq, lemmas.Bool.Decides.eqb_tells}
 use Rattle.std.specs.Prelude.{IfSome, All}
 use Rattle.nmgc_world_spec.specs.{declared.command.Command.Command, declared.change.Change.Change, declared.value.Name.Name, declared.value.Value.Value, declared.node.Node.Node, declared.mutator_state.MutatorState.MutatorState, World.World, World.state_of, World.node_of, World.held_by, Change.changed, Step.with_state, Step.with_nth, Step.with_node, Step.next_name, Step.step}
@@ -7,7 +7,7 @@ use Rattle.nmgc_limits.specs.declared.mutators.TheConstants.{SHARED_MAKER}
 use Rattle.nmgc_lists.specs.laws.Items.{at_some}
 use Rattle.nmgc_world_laws.specs.{Shape.made_by, Leaves.SameHands, Leaves.StepLeavesOthers, laws.Barrier.Writes, laws.Steps.Hand, laws.Steps.Object, laws.Steps.Stepped, laws.Steps.AllHeld, laws.Steps.OfNumber, laws.Steps.step_is, laws.NodeLaws.state_same, laws.NodeLaws.state_other, laws.NodeLaws.nodes_kept, laws.NodeLaws.node_born, laws.NodeLaws.node_cases, laws.NodeLaws.as_many, laws.NodeLaws.maker_there}
 
--- a step, where nothing is asked of values
+-- a property that every value has
 abbrev pub Any : Value → Type 0
 Any v = Unit {0}
 
@@ -26,7 +26,7 @@ pub stepped : (w : World) (m : ℕ) (c : Command) → Stepped Any w m c (step w 
 stepped w m c = step_is Any w m c (any_held w) (record { nil = tt; shared = tt; number = any_number c })
 
 module _ (Q : Value → Type 0) where
-  -- another hand changes no node
+  -- a change of registers or queue changes no node
   pub hand_nodes : (w : World) (m : ℕ) (v : World) → m < length w.mutators → Hand Q w m v → (name : Name) → node_of v name ≡ node_of w name
   hand_nodes w m v lt (Hand.same e) name = ap (λ (u : World). node_of u name) e
   hand_nodes w m v lt (Hand.other registers queue e hr hq) name = ap (λ (u : World). node_of u name) e ∙
@@ -38,11 +38,11 @@ module _ (Q : Value → Type 0) where
   object_count w m c v (Object.write name found ch there asks q e) = ap (λ (u : World). length u.mutators) e ∙
       as_many w name found (changed ch name.maker found).0 there
 
-  -- the mutator is still there between the two
+  -- the mutator still exists between the two halves of a step
   pub still_there : (w : World) (m : ℕ) (c : Command) (v : World) → m < length w.mutators → (s : Stepped Q w m c v) → m < length s.between.mutators
   still_there w m c v lt s = subst (λ (n : ℕ). m < n) (sym (object_count w m c s.between s.object)) lt
 
-  -- a fact of each name's node, which a birth has and a change keeps
+  -- a property of each name's node that a new node has and a change keeps
   module _ (F : Name → Node → Type 0) (w : World) (m : ℕ) (c : Command) (lt : m < length w.mutators) (own : m ≢ SHARED_MAKER)
       (makes : (made : Node) → made_by w m c ≡ Some made → F (next_name (state_of w m) m) made)
       (keeps : (name : Name) (found : Node) (change : Change) → node_of w name ≡ Some found → Writes Q change → F name found →
@@ -66,7 +66,7 @@ module _ (Q : Value → Type 0) where
         subst (λ (o : Option Node).
         IfSome o (F name)) (sym (hand_nodes s.between m v (still_there w m c v lt s) s.hand name)) (object_nodes s.between s.object h name)
 
--- the same hands
+-- a mutator has the same in hand as itself
 same_hands : (s : MutatorState) → SameHands s s
 same_hands s = record { registers = refl; queue = refl; made = refl }
 
@@ -76,7 +76,7 @@ then_hands r s t a b = record { registers = b.registers ∙ a.registers; queue =
 equal_hands : (s t : MutatorState) → t ≡ s → SameHands s t
 equal_hands s t e = subst (λ (x : MutatorState). SameHands s x) (sym e) (same_hands s)
 
--- a change of an object changes nobody's hands
+-- a change of an object changes no mutator's registers, queue or number of objects
 write_hands : (w : World) (name : Name) (found made : Node) → node_of w name ≡ Some found → (k : ℕ) →
     SameHands (state_of w k) (state_of (with_node w name made) k)
 write_hands w name found made there k = elim (eqb_tells name.maker SHARED_MAKER) [
@@ -98,7 +98,7 @@ write_hands w name found made there k = elim (eqb_tells name.maker SHARED_MAKER)
           | inr other ↦ equal_hands (state_of w k) (state_of (with_state w name.maker q) k) (state_other w name.maker q lt k other)
         ]
 
--- a command leaves what the other mutators have in hand
+-- a command leaves the registers, the queue and the number of objects of all other mutators
 module _ (Q : Value → Type 0) (k : ℕ) where
   hand_leaves : (w : World) (m : ℕ) (v : World) → m < length w.mutators → k ≢ m → Hand Q w m v → SameHands (state_of w k) (state_of v k)
   hand_leaves w m v lt other (Hand.same e) = equal_hands (state_of w k) (state_of v k) (ap (λ (u : World). state_of u k) e)

@@ -1,11 +1,11 @@
--- Commands that fit keep a world within the limits, and so does closing.
+-- Commands that fit keep a world within the limits, and so does a closing.
 use Rattle.std.specs.Prelude.{◌≡◌, ◌≢◌, ◌<◌, ◌≤◌, ◌+◌, ◌∷◌}
 use Rattle.nmgc_world_laws.specs.laws.Vocabulary.{ℕ, List, [], length, map, sym, ap, subst, ◌∙◌, arith, Option, Some, None, inl, inr, IfSome, All, replicate, length-replicate, length-map, All-cons, All-nil, All-set, All-push, All-tail, All-head, All-replicate, Command, SHARED_MAKER, Name, Value, Node, Weak, MutatorState, Fits, World, state_of, node_of, held_by, changed, value_for, value_of, next_name, step, Row, closed_by, at_some, SameShape, kind_of, tag_of, part_count, words_of, made_by, IsSmall, HasLimits, IsNodeWithin, IsWithin, StepKeepsLimits, RowsKeepLimits, ClosingKeepsLimits}
 use Rattle.nmgc_world_spec.specs.declared.command.Command.TheVariants as command
 use Rattle.nmgc_world_spec.specs.declared.value.Value.TheVariants as value
 use Rattle.nmgc_world_laws.specs.laws.{Worlds.not_shared, NodeLaws.each_state, NodeLaws.states_kept, WorldSteps.step_keeps_world, Deaths.Dies, Deaths.dies_by, Steps.Hand, Steps.Object, Steps.Stepped, Steps.AllHeld, Steps.OfNumber, Steps.operand_held, Steps.operands_held, Steps.changed_held, Steps.step_is, Keeps.still_there, Keeps.stepped_nodes, NodeShapes.changed_shape}
 
--- registers and queues, where names have the fact
+-- registers and queues, if references have the property
 module _ (Q : Value → Type 0) (named : (name : Name) → Q (value.Ref name)) where
   abbrev pub HandHas : MutatorState → Type 0
   HandHas s = All Q s.registers × All Q s.queue
@@ -76,7 +76,7 @@ module _ (words : ℕ) (w : World) (m : ℕ) (h : IsWithin words w) where
   pub within_steps : (c : Command) → Fits words c → Stepped IsSmall w m c (step w m c).0
   within_steps c f = step_is IsSmall w m c all_small (record { nil = tt; shared = tt; number = number_fits c f })
 
--- the shape is the same, so the limits are
+-- limits that depend on the shape stay, since the shape stays
 shape_within : (words : ℕ) (name : Name) (before after : Node) → SameShape before after → All IsSmall (held_by after) →
     IsNodeWithin words name before → IsNodeWithin words name after
 shape_within words name before after s held h = record {
@@ -109,7 +109,7 @@ rows_keep_limits words w (row ∷ rows) is can fits h =
     (All-tail (λ (r : Row). Fits words r.command) row rows fits)
     (step_keeps_limits words w row.mutator row.command is can.0 (All-head (λ (r : Row). Fits words r.command) row rows fits) h)
 
--- a weak pointer that dies
+-- the death of a weak pointer keeps the limits
 dies_within : (words : ℕ) (w v : World) (d : Name) → Dies w v d → IsWithin words w → IsWithin words v
 dies_within words w v d dies h = record {
   registers = λ k. subst (λ (values : List Value). All IsSmall values) (sym (dies.registers k)) (h.registers k);

@@ -1,4 +1,4 @@
--- What is held after rows from a snapshot: names that are live in it, or new.
+-- The names held after rows from a snapshot: live in it, or new.
 use Rattle.std.specs.Prelude.{◌≡◌, ◌≢◌, ◌∷◌}
 use Rattle.nmgc_world_laws.specs.laws.Vocabulary.{ℕ, List, [], refl, ◌∙◌, Option, Some, None, inl, inr, IsSome, IfSome, Contains, Contains-append_left, Contains-append_right, Operand, Command, SHARED_MAKER, Name, Parts, Node, World, IsWorld, state_of, node_of, CanApply, shared_name, value_for, next_name, step, Row, replayed, opened, opened_by, IsLive, IsAlive, strong_fields, Names, OfParts, Fields, CoversReach, CanReplay, IsLiveOrNew, RowsHoldLive, RowsKeepWorld}
 use Rattle.nmgc_world_spec.specs.declared.value.Value.TheVariants as value
@@ -9,11 +9,11 @@ module _ (S : World) (X : List Name) where
   abbrev May : Name → Type 0
   May name = IsLiveOrNew S X name
 
-  -- a weak pointer that is alive: one of the snapshot is as it was there, and the parts of a new one may be held
+  -- a weak pointer that is alive: if it is the snapshot's, it is as it was there; the parts of a new one may be held
   abbrev pub AsThen : Name → Parts → Type 0
   AsThen weak parts = (IsSome (node_of S weak) → IsAlive S weak parts) × ((IsSome (node_of S weak) → ⊥) → OfParts (IsLiveOrNew S X) parts)
 
-  -- a later world: only live or new names are held, and names that aren't live have the node that they had
+  -- a later world: only live or new names are held, and names that aren't live have their old nodes
   pub record LiveHeld (w : World) : Type 0 where
     pub holds : CoversReach (IsLiveOrNew S X) w
     pub alive : WeaksOk AsThen w
@@ -26,7 +26,7 @@ module _ (S : World) (X : List Name) where
   next_absent : (w : World) (m : ℕ) → LiveHeld w → m ≢ SHARED_MAKER → IsSome (node_of S (next_name (state_of w m) m)) → ⊥
   next_absent w m h own there = absent (node_of w (next_name (state_of w m) m)) (next_is_new w m own) (h.there (next_name (state_of w m) m) there)
 
-  -- a step keeps what is held live or new
+  -- a step keeps all held names live or new
   step_live : (w : World) (m : ℕ) (c : Command) → IsWorld w → CanApply w m c → ((n : Name) → Contains (opened_by w m c) n → Contains X n) →
       LiveHeld w → LiveHeld (step w m c).0
   step_live w m c is can o h =
@@ -53,7 +53,7 @@ module _ (S : World) (X : List Name) where
       (λ n c. o n (Contains-append_right (opened_by w row.mutator row.command) (opened v rows) n c))
       (step_live w row.mutator row.command is can.0 (λ n c. o n (Contains-append_left (opened_by w row.mutator row.command) (opened v rows) n c)) h)
 
-  -- the snapshot itself
+  -- this holds of the snapshot itself
   snapshot_live : LiveHeld S
   snapshot_live = record {
     holds = record {
@@ -73,7 +73,7 @@ module _ (S : World) (X : List Name) where
       fields name may (Some node) e = values_names May (strong_fields node) (λ n c there.
           IsLive.field name n (may (some_of (node_of S name) node e)) (node, e, c))
 
--- rows that begin with the snapshot, with all that they open
+-- rows that begin with the snapshot, with all names that they open
 pub live_after : (S : World) (rows : List Row) → IsWorld S → CanReplay S rows → LiveHeld S (opened S rows) (replayed S rows)
 live_after S rows is can = rows_live S (opened S rows) S rows is can (λ n c. c) (snapshot_live S (opened S rows))
 
@@ -85,7 +85,7 @@ pub world_after : RowsKeepWorld
 world_after w [] is can = is
 world_after w (row ∷ rows) is can = world_after (step w row.mutator row.command).0 rows (step_keeps_world w row.mutator row.command is can.0) can.1
 
--- in which names stay
+-- rows leave each name in the map
 pub replayed_names : (w : World) (rows : List Row) → CanReplay w rows → (n : Name) → IsSome (node_of w n) → IsSome (node_of (replayed w rows) n)
 replayed_names w [] can n there = there
 replayed_names w (row ∷ rows) can n there =

@@ -1,4 +1,4 @@
--- What a command may change, for every command at once. P are the names that a mutator may come to hold.
+-- The changes that a command may make, for every command at once. P is the set of names that a mutator may get.
 use Rattle.std.specs.Prelude.{◌≡◌, ◌≢◌, ◌<◌, ◌∷◌, ◌⊎◌}
 use Rattle.nmgc_world_laws.specs.laws.Vocabulary.{ℕ, List, [], map, drop, length, set, refl, sym, ap, subst, ◌∙◌, length-set, Option, Some, None, inl, inr, slice_get, IsSome, IfSome, All, Contains, get_or_past, All-cons, All-nil, All-set, All-drop, All-replicate, All-get_or, cases_lt, Operand, Register, Shared, Command, Num, Mov, Get, Set, Cas, Update, Force, Push, Pop, Deref, Finalise, NextFin, Show, Same, Yield, Collect, Full, Reply, Change, SHARED_MAKER, Name, Value, Node, MutatorState, World, state_of, node_of, given, changed, field_read, result_read, shared_name, value_of, value_for, with_state, with_register, with_new, with_node, with_finaliser, holding_given, next_name, keeping, born, object_of, read_object, change_node, change_object, change_into, step, item_has, at_some, nothing_in, owed_at, owed_of, values_owed, Names, Fields, CoversReach, HasStrongField, StillThere, strong_at, IsLater}
 use Rattle.nmgc_world_spec.specs.declared.command.Command.TheVariants.{Nil, Con, Var, Arr, Thunk, Weak, Stack}
@@ -14,8 +14,8 @@ IsStrong (Deref dest object) = ⊥
 IsStrong (Finalise dest object) = ⊥
 IsStrong _ = Unit {0}
 
--- from one world to another the barrier is respected: what is held stays of the names, a strong field stays or its
--- value is among those owed, and no object outside the names changes
+-- from one world to another the barrier is respected: all names held stay in the set, a value stays in its strong field or is
+-- owed, and no object outside the set changes
 pub record RespectsBarrier (P : Name → Type 0) (w v : World) (owed : List Value) : Type 0 where
   pub mutators : length v.mutators ≡ length w.mutators
   pub holds : CoversReach P v
@@ -25,7 +25,7 @@ pub record RespectsBarrier (P : Name → Type 0) (w v : World) (owed : List Valu
   pub others : (name : Name) → (P name → ⊥) → IsSome (node_of w name) → node_of v name ≡ node_of w name
 
 module _ (P : Name → Type 0) where
-  -- the same nodes
+  -- two worlds with the same nodes
   pub moves_same : (w v : World) → length v.mutators ≡ length w.mutators → ((name : Name) → node_of v name ≡ node_of w name) → CoversReach P v →
       RespectsBarrier P w v []
   moves_same w v count same h = record {
@@ -58,7 +58,7 @@ module _ (P : Name → Type 0) where
       state_moves w m (set (state_of w m).registers register v) (state_of w m).queue lt h
       (All-set (Names P) (state_of w m).registers register v p (h.registers m)) (h.queues m)
 
-  -- a register takes what an answer gave
+  -- a register takes the value that an answer gave
   pub keeping_moves : (w : World) (m register : ℕ) (r : Reply) → m < length w.mutators → CoversReach P w → IfSome (given r) (Names P) →
       RespectsBarrier P w (keeping w m register r) []
   keeping_moves w m register (reply.Given v) lt h p = register_moves w m register v lt h p
@@ -77,7 +77,7 @@ module _ (P : Name → Type 0) where
   keeping_moves w m register reply.StackFull lt h p = stays_put w h
   keeping_moves w m register reply.StackEmpty lt h p = stays_put w h
 
-  -- the first of the queue goes off into a register
+  -- the first value of the queue moves into a register
   finaliser_moves : (w : World) (m register : ℕ) → m < length w.mutators → CoversReach P w →
       RespectsBarrier P w (with_state w m (with_finaliser (state_of w m) register)) []
   finaliser_moves w m register lt h = by_first (slice_get (state_of w m).queue 0) (item_has (Names P) (state_of w m).queue 0 (h.queues m))
@@ -125,7 +125,7 @@ module _ (P : Name → Type 0) where
         ];
       }
 
-  -- one of the names gets another node, of which each strong field is of the names
+  -- a name of the set gets another node, whose strong fields refer only to names of the set
   pub made_moves : (w : World) (name : Name) (found made : Node) (owed : List Value) → node_of w name ≡ Some found → Fields (Names P) made →
       All (Names P) owed → ((i : ℕ) (x : Value) → strong_at found i ≡ Some x → (strong_at made i ≡ Some x) ⊎ Contains owed x) → IsLater found made →
       CoversReach P w → P name → RespectsBarrier P w (with_node w name made) owed
@@ -166,7 +166,7 @@ module _ (P : Name → Type 0) where
         ];
       }
 
-  -- the node of one of the names changes
+  -- the node of a name of the set changes
   node_moves : (w : World) (name : Name) (found : Node) (c : Change) → node_of w name ≡ Some found → IsStrongChange c → Writes (Names P) c →
       CoversReach P w → P name → RespectsBarrier P w (with_node w name (changed c name.maker found).0) (owed_at c name (Some found))
   node_moves w name found c there strong writes h p =
@@ -182,7 +182,7 @@ module _ (P : Name → Type 0) where
   change_node_moves w name None c there strong writes h p = stays_put w h
   change_node_moves w name (Some found) c there strong writes h p = node_moves w name found c there strong writes h p
 
-  -- what an object answers is of the names
+  -- the answer of a change of an object refers to a name of the set
   change_node_gives : (w : World) (name : Name) (o : Option Node) (c : Change) → node_of w name ≡ o → IsStrongChange c → CoversReach P w → P name →
       IfSome (given (change_node w name o c).1) (Names P)
   change_node_gives w name None c there strong h p = tt
@@ -200,7 +200,7 @@ module _ (P : Name → Type 0) where
   change_gives w (value.Number n) c strong h p = tt
   change_gives w (value.Ref name) c strong h p = change_node_gives w name (node_of w name) c refl strong h p
 
-  -- one move and then one that changes no node
+  -- a move, and then a second one that changes no node
   pub then_same : (u v w : World) (owed : List Value) → RespectsBarrier P u v owed → RespectsBarrier P v w [] → RespectsBarrier P u w owed
   then_same u v w owed a b = record {
     mutators = b.mutators ∙ a.mutators;
@@ -225,7 +225,7 @@ module _ (P : Name → Type 0) where
       then_same w (change_object w v c).0 (change_into m dest (change_object w v c)).0 (owed_of w v c) a
       (keeping_moves (change_object w v c).0 m dest (change_object w v c).1 (subst (λ n. m < n) (sym a.mutators) lt) a.holds (change_gives w v c strong h p))
 
-  -- what a reading answers is of the names
+  -- the answer of a read refers to a name of the set
   pub reading_gives : (w : World) (v : Value) (read : Node → Reply) →
       ((node : Node) → Fields (Names P) node → IfSome (given (read node)) (Names P)) → CoversReach P w → Names P v →
       IfSome (given (read_object (object_of w v) read)) (Names P)
@@ -237,7 +237,7 @@ module _ (P : Name → Type 0) where
       by_node None k = tt
       by_node (Some node) k = f node k
 
-  -- an operand's value
+  -- an operand's value refers to a name of the set
   pub operand_has : (registers : List Value) (o : Operand) → P shared_name → All (Names P) registers → Names P (value_of registers o)
   operand_has registers (Register r) g h = elim (cases_lt r (length registers)) [
     | inl lt ↦ All-get_or (Names P) registers r value.Nil lt h
@@ -250,7 +250,7 @@ module _ (P : Name → Type 0) where
   operands_have registers (o ∷ os) g h =
       All-cons (Names P) (value_of registers o) (map (value_of registers) os) (operand_has registers o g h) (operands_have registers os g h)
 
-  -- every command but those on weak pointers
+  -- every command except those on weak pointers
   pub step_moves : (w : World) (m : ℕ) (c : Command) → IsStrong c → m < length w.mutators → m ≢ SHARED_MAKER → P shared_name →
       P (next_name (state_of w m) m) → CoversReach P w → RespectsBarrier P w (step w m c).0 (values_owed w m c)
   step_moves w m (Num dest number) s lt own g p h = register_moves w m dest (value.Number number) lt h tt

@@ -2,14 +2,14 @@
 use Rattle.std.specs.Prelude.{◌≡◌, ◌<◌, ◌≤◌, ◌^◌}
 use Rattle.nmgc_world_laws.specs.laws.Vocabulary.{ℕ, length, refl, sym, subst, arith, inl, inr, IfSome, All, replicate, slice_get, cases_lt, eqb_tells, get_or_past, length-replicate, All-nil, All-replicate, All-get_or, MAKERS, REGISTERS, SHARED_MAKER, SHARED_SLOTS, Name, Nil, Node, Arr, MutatorState, World, IsWorld, IsNodeOf, IsKnown, state_of, node_of, new_world, new_mutator, no_mutator, shared_name, same_name}
 
--- what a new mutator has, and one that isn't there, each state of a new world has
+-- a property of a new mutator and of an absent one is a property of each state of a new world
 pub each_new : (R : MutatorState → Type 0) → R new_mutator → R no_mutator → (count k : ℕ) → R (state_of (new_world count) k)
 each_new R new none count k = elim (cases_lt k (length (replicate count new_mutator))) [
   | inl lt ↦ All-get_or R (replicate count new_mutator) k no_mutator lt (All-replicate R count new_mutator new)
   | inr le ↦ subst R (sym (get_or_past (replicate count new_mutator) k no_mutator le)) none
 ]
 
--- g is its only node
+-- g is the only node of a new world
 pub new_nodes : (F : Name → Node → Type 0) → F shared_name (Arr (replicate SHARED_SLOTS Nil)) → (count : ℕ) (name : Name) →
     IfSome (node_of (new_world count) name) (F name)
 new_nodes F g count name = elim (eqb_tells name.maker SHARED_MAKER) [
@@ -20,7 +20,7 @@ new_nodes F g count name = elim (eqb_tells name.maker SHARED_MAKER) [
   | inr p ↦ rw p.0 (each_new (λ (s : MutatorState). IfSome (slice_get s.nodes name.serial) (F name)) tt tt count name.maker)
 ]
 
--- it is a world
+-- the new state is a world
 pub new_is_world : (mutators : ℕ) → 1 ≤ mutators → mutators ≤ MAKERS → IsWorld (new_world mutators)
 new_is_world count some few =
     let w : World = new_world count in

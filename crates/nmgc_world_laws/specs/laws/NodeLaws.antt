@@ -1,11 +1,11 @@
--- Where the nodes, the registers and the queues of a world are after each way in which a step changes it.
+-- The nodes, the registers and the queues of a world after each kind of change that a step makes.
 use Rattle.std.proofs.{Common.◌≡◌, Common.◌≢◌, Common.◌<◌, Common.ℕ, Common.List, Common.[], Common.◌∷◌, Common.◌++◌, Common.zero, Common.suc, Common.length, Common.refl, Common.sym, Common.ap, Common.subst, Common.◌∙◌, Common.arith, Common.length-set, Common.Option, Common.Some, Common.None, Common.true, Common.cond, Common.eqb, Common.inl, Common.inr, Common.◌⊎◌, lemmas.List.get_or-set_same, lemmas.List.get_or-set_other, lemmas.List.get_or_past, lemmas.Option.slice_get_past, lemmas.Option.slice_get_within, lemmas.Bool.ne_eqb, lemmas.Bool.cases_lt, lemmas.Bool.cases_eq, lemmas.Bool.Decides.eqb_tells}
 use Rattle.std.specs.Prelude.{slice_get}
 use Rattle.nmgc_limits.specs.declared.mutators.TheConstants.{SHARED_MAKER}
 use Rattle.nmgc_world_spec.specs.{declared.value.Name.Name, declared.node.Node.Node, declared.mutator_state.MutatorState.MutatorState, World.World, World.state_of, World.node_of, World.no_mutator, Step.with_state, Step.with_new, Step.with_nth, Step.with_node, Step.next_name, laws.Orders.name_cases, laws.Orders.same_name}
 use Rattle.nmgc_lists.specs.laws.Items.{slice_get-set_same, slice_get-set_other}
 
--- another state of a mutator
+-- the world with another state of a mutator
 module _ (w : World) (m : ℕ) (q : MutatorState) (lt : m < length w.mutators) where
   pub state_same : state_of (with_state w m q) m ≡ q
   state_same = get_or-set_same w.mutators m q no_mutator lt
@@ -13,14 +13,14 @@ module _ (w : World) (m : ℕ) (q : MutatorState) (lt : m < length w.mutators) w
   pub state_other : (k : ℕ) → k ≢ m → state_of (with_state w m q) k ≡ state_of w k
   state_other k ne = get_or-set_other w.mutators m k q no_mutator ne
 
-  -- what the new state has and the old ones have, each state has
+  -- a property of the new state and of all old states is a property of each state
   pub each_state : (R : MutatorState → Type 0) → R q → ((k : ℕ) → R (state_of w k)) → (k : ℕ) → R (state_of (with_state w m q) k)
   each_state R new old k = elim (cases_eq k m) [
     | inl e ↦ subst (λ (j : ℕ). R (state_of (with_state w m q) j)) (sym e) (subst R (sym state_same) new)
     | inr ne ↦ subst R (sym (state_other k ne)) (old k)
   ]
 
-  -- the nodes are the same where the new state has the same
+  -- the nodes stay if the new state has the same nodes
   pub nodes_kept : q.nodes ≡ (state_of w m).nodes → (name : Name) → node_of (with_state w m q) name ≡ node_of w name
   nodes_kept same name = elim (cases_eq name.maker m) [
     | inl e ↦ let s : (state_of (with_state w m q) name.maker).nodes ≡ (state_of w name.maker).nodes = rw (e, state_same) same in
@@ -38,11 +38,11 @@ module _ (w : World) (m : ℕ) (q : MutatorState) (lt : m < length w.mutators) w
   pub node_same : m ≢ SHARED_MAKER → (name : Name) → name.maker ≡ m → node_of (with_state w m q) name ≡ slice_get q.nodes name.serial
   node_same own name e = rw (e, ne_eqb m SHARED_MAKER own, state_same) refl
 
--- a name that a mutator gave has its node in the mutator's state
+-- a name of a mutator has its node in the mutator's state
 pub own_node : (w : World) (m : ℕ) → m ≢ SHARED_MAKER → (name : Name) → name.maker ≡ m → node_of w name ≡ slice_get (state_of w m).nodes name.serial
 own_node w m own name e = rw (e, ne_eqb m SHARED_MAKER own) refl
 
--- the item at a place of a list with one more item is that item, or was there before
+-- the item at a position of a list with one more item is that item, or was there before
 pub get-append_cases : {A : Type 0} (xs : List A) (x : A) (i : ℕ) → ((i ≡ length xs) × (slice_get (xs ++ x ∷ []) i ≡ Some x)) ⊎
     (slice_get (xs ++ x ∷ []) i ≡ slice_get xs i)
 get-append_cases [] x zero = inl (refl, refl)
@@ -53,7 +53,7 @@ get-append_cases (y ∷ xs) x (suc i) = elim (get-append_cases xs x i) [
   | inr e ↦ inr e
 ]
 
--- a new node: the next name has it, and every other name has what it had
+-- the next name has the new node, and all other names keep their nodes
 pub node_born : (w : World) (m register : ℕ) (made : Node) → m < length w.mutators → m ≢ SHARED_MAKER → (name : Name) →
     ((name ≡ next_name (state_of w m) m) × (node_of (with_state w m (with_new (state_of w m) m register made)) name ≡ Some made))
     ⊎ (node_of (with_state w m (with_new (state_of w m) m register made)) name ≡ node_of w name)
@@ -71,7 +71,7 @@ node_born w m register made lt own name =
 pub next_is_new : (w : World) (m : ℕ) → m ≢ SHARED_MAKER → node_of w (next_name (state_of w m) m) ≡ None
 next_is_new w m own = own_node w m own (next_name (state_of w m) m) refl ∙ slice_get_past (state_of w m).nodes (length (state_of w m).nodes) (omega arith)
 
--- a name that has a node gets another
+-- a name that has a node gets another node
 module _ (w : World) (name : Name) (found made : Node) (there : node_of w name ≡ Some found) where
   -- g
   module _ (at : name.maker ≡ SHARED_MAKER) (test : eqb name.maker SHARED_MAKER ≡ true) where
@@ -132,7 +132,7 @@ module _ (w : World) (name : Name) (found made : Node) (there : node_of w name �
           | inr ne ↦ inr (λ x. ne (ap (λ (y : Name). y.maker) x), node_other w m q maker_there n ne)
         ]
 
-  -- the name has the new node, and every other name has what it had
+  -- the name has the new node, and all other names keep their nodes
   pub node_cases : (n : Name) → ((n ≡ name) × (node_of (with_node w name made) n ≡ Some made)) ⊎
       ((n ≡ name → ⊥) × (node_of (with_node w name made) n ≡ node_of w n))
   node_cases n = elim (eqb_tells name.maker SHARED_MAKER) [
@@ -140,7 +140,7 @@ module _ (w : World) (name : Name) (found made : Node) (there : node_of w name �
     | inr p ↦ rw p.0 (nth_cases p.1 n)
   ]
 
-  -- registers and queues are as they were
+  -- registers and queues stay
   pub states_kept : (R : MutatorState → Type 0) → ((s : MutatorState) (nodes : List Node) → R s → R (record s { nodes = nodes })) →
       ((k : ℕ) → R (state_of w k)) → (k : ℕ) → R (state_of (with_node w name made) k)
   states_kept R free h k = elim (eqb_tells name.maker SHARED_MAKER) [
@@ -149,7 +149,7 @@ module _ (w : World) (name : Name) (found made : Node) (there : node_of w name �
         (free (state_of w name.maker) _ (h name.maker)) h k)
   ]
 
-  -- and there are as many mutators
+  -- the number of mutators stays
   pub as_many : length (with_node w name made).mutators ≡ length w.mutators
   as_many = elim (eqb_tells name.maker SHARED_MAKER) [
     | inl p ↦ rw p.0 refl

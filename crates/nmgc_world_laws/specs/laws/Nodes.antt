@@ -1,4 +1,4 @@
--- What reads and changes of a node leave known.
+-- Known values stay known after reads and changes of a node.
 use Rattle.std.specs.Prelude.{◌≡◌, ◌<◌, ◌≤◌, ◌-◌, ◌∷◌, ◌++◌}
 use Rattle.nmgc_world_laws.specs.laws.Vocabulary.{ℕ, List, [], length, set, refl, arith, length-append, length-take, length-set, Option, Some, None, Bool, true, false, cond, eqb, ltb, IfSome, slice_get, All-cons, All-head, All-tail, All-nil, All-set, All-push, All-take, ltb-true, Value, Node, Con, Var, Arr, Thunk, Weak, Stack, Reply, Fine, Yes, No, NoField, StackEmpty, StackFull, Change, World, held_by, IsShared, AreKnown, IsKnown, IsKnownReply, IsKnownChange, IsNodeOf, strong_fields, is_same, given_or, field_read, result_read, value_read, field_set, exchanged_at, field_exchanged, thunk_updated, stack_pushed, stack_popped, last_of, weak_finalised, changed, item_has, one_has}
 use Rattle.nmgc_world_spec.specs.declared.change.Change.TheVariants as change
@@ -8,7 +8,7 @@ module _ (w : World) where
   given_known refusal None r h = r
   given_known refusal (Some v) r h = h
 
-  -- `get` gives what the node holds
+  -- `get` gives a value that the node holds
   pub field_read_known : (node : Node) (index : ℕ) → AreKnown w (held_by node) → IsKnownReply w (field_read node index)
   field_read_known (Con tag values) index h = given_known NoField (slice_get values index) tt (item_has (IsKnown w) values index h)
   field_read_known (Var v) index h = given_known NoField (slice_get (v ∷ []) index) tt (item_has (IsKnown w) (v ∷ []) index h)
@@ -17,7 +17,7 @@ module _ (w : World) where
   field_read_known (Weak parts) index h = tt
   field_read_known (Stack size values) index h = tt
 
-  -- `force` gives what the node holds
+  -- `force` gives a value that the node holds
   pub result_read_known : (node : Node) → AreKnown w (held_by node) → IsKnownReply w (result_read node)
   result_read_known (Con tag values) h = tt
   result_read_known (Var v) h = tt
@@ -27,7 +27,7 @@ module _ (w : World) where
   result_read_known (Weak parts) h = tt
   result_read_known (Stack size values) h = tt
 
-  -- `deref` gives what the node holds
+  -- `deref` gives a value that the node holds
   pub value_read_known : (node : Node) → AreKnown w (held_by node) → IsKnownReply w (value_read node)
   value_read_known (Con tag values) h = tt
   value_read_known (Var v) h = tt
@@ -37,7 +37,7 @@ module _ (w : World) where
   value_read_known (Weak (Some p)) h = All-head (IsKnown w) p.value (p.finaliser ∷ []) (All-tail (IsKnown w) p.key (p.value ∷ p.finaliser ∷ []) h)
   value_read_known (Stack size values) h = tt
 
-  -- one of two nodes that a world may have, with an answer that gives nothing
+  -- either of two nodes that a world may have, with an answer that gives nothing
   either : (b : Bool) (made kept : Node) (r s : Reply) → IsNodeOf w made → IsNodeOf w kept → IsNodeOf w (cond {A = Node × Reply} b (made, r) (kept, s)).0
   either true made kept r s h k = h
   either false made kept r s h k = k
@@ -196,7 +196,7 @@ module _ (w : World) where
       []) (All-tail (IsKnown w) p.key (p.value ∷ p.finaliser ∷ []) h))
   weak_finalised_reply (Stack size values) h = tt
 
-  -- a change gives nothing but what the node held
+  -- a change gives only values that the node held
   pub changed_reply : (c : Change) (maker : ℕ) (node : Node) → AreKnown w (held_by node) → IsKnownReply w (changed c maker node).1
   changed_reply (change.Set index v) maker node h = field_set_reply node index v
   changed_reply (change.Exchange index expected v) maker node h = field_exchanged_reply node index expected v
@@ -229,7 +229,7 @@ changed_shared (change.Push m v) maker (Arr values) h = h
 changed_shared (change.Pop m) maker (Arr values) h = h
 changed_shared change.Finalise maker (Arr values) h = h
 
--- a node's strong fields are among what it holds
+-- a node's strong fields are among the values that it holds
 pub fields_known : (w : World) (node : Node) → AreKnown w (held_by node) → AreKnown w (strong_fields node)
 fields_known w (Con tag values) known = known
 fields_known w (Var v) known = known

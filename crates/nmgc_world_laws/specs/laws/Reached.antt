@@ -1,15 +1,15 @@
--- What can be reached is among the names that are held.
+-- All reachable names are among the names that are held.
 use Rattle.std.specs.Prelude.{◌≡◌, ◌⊎◌, ◌∷◌}
 use Rattle.nmgc_world_laws.specs.laws.Vocabulary.{ℕ, List, [], Option, Some, None, refl, sym, subst, ◌∙◌, inl, inr, IsSome, Contains, All-contains, Contains-append_left, Contains-append_right, Contains-append_cases, Name, Value, Ref, Parts, Node, Weak, World, IsWorld, IsKnown, AreKnown, IsNodeOf, node_of, state_of, next_name, step, Row, replayed, IsReached, IsRoot, IsAlive, RefersTo, Lists, closed, closed_by, strong_fields, contains_head, contains_tail, contains_cases, at_some, nothing_in, name_cases, IsOfWeak, IsWide, HoldsOnly, CountsNew, CanReplay, ClosingHoldsOnly, StepAddsOne, ClosingAddsNone, StaysUnreached, IsNotLost, NothingReachableIsFreed, Stretch, continued, CanContinue, NeverComesBack, NothingReachableIsEverFreed, ReachableIsKept, ReachableIsEverKept, Interval, IsKeptAfter}
 use Rattle.nmgc_world_laws.specs.laws.{Growth.step_grows, Nodes.fields_known, Worlds.not_shared, NodeLaws.next_is_new, WorldSteps.step_keeps_world, HeldSteps.absent, HeldSteps.some_of, HeldSteps.step_holds_only, LiveRows.world_after, LiveRows.replayed_names, Deaths.Dies, Deaths.dies_by, Deaths.closed_world, Deaths.closed_names, Closes.closes_well}
 
--- names that are all that is held have the whole wide reach
+-- a set that has all held names has the whole wide reach
 pub wide_is_held : (P : Name → Type 0) (w : World) → HoldsOnly P w → (name : Name) → IsWide w name → P name
 wide_is_held P w h name (IsReached.start _ (inl root)) = h.roots name root
 wide_is_held P w h name (IsReached.start _ (inr weak)) = h.weaks weak.0 name weak.1 weak.2 weak.3
 wide_is_held P w h name (IsReached.field from _ reached refers) = h.fields from name (wide_is_held P w h from reached) refers
 
--- the wide reach is all that is held
+-- the wide reach has all held names
 pub wide_holds : (w : World) → HoldsOnly (IsWide w) w
 wide_holds w = record {
   roots = λ n root. IsReached.start n (inl root);
@@ -21,11 +21,11 @@ wide_holds w = record {
 pub from_there : (w : World) (name target : Name) → RefersTo w name target → IsSome (node_of w name)
 from_there w name target r = some_of (node_of w name) r.0 r.1
 
--- a name that is counted where it is one of a world, and counted where it is none
+-- a name has P if it is in the world; each name outside the world counts too
 abbrev pub OfOld : (Name → Type 0) → World → Name → Type 0
 OfOld P w name = IsSome (node_of w name) → P name
 
--- the wide reach and all new names are all that is held
+-- the wide reach with all new names has all held names
 pub wide_or_new_holds : (w : World) → HoldsOnly (OfOld (IsWide w) w) w
 wide_or_new_holds w = record {
   roots = λ n root there. IsReached.start n (inl root);
@@ -33,7 +33,7 @@ wide_or_new_holds w = record {
   weaks = λ weak n parts alive of there. IsReached.start n (inr (weak, parts, alive, of));
 }
 
--- rows: what is held after them was held before, or is new
+-- rows: each name held after them was held before, or is new
 pub rows_hold : (P : Name → Type 0) (w : World) (rows : List Row) → IsWorld w → CountsNew P w → HoldsOnly P w → CanReplay w rows → HoldsOnly P (replayed w rows)
 rows_hold P w [] is new h can = h
 rows_hold P w (row ∷ rows) is new h can =
@@ -169,7 +169,7 @@ listed_cases (x ∷ xs) name = elim (name_cases x name) [
   ]
 ]
 
--- so a list of exactly the kept names has each that isn't lost
+-- so a list of exactly the kept names has each name that isn't lost
 not_lost_listed : (i : Interval) (kept : List Name) → Lists (IsKeptAfter i) kept → (name : Name) → IsSome (node_of i.snapshot name) →
     IsNotLost i name → Contains kept name
 not_lost_listed i kept lists name there not_lost = elim (listed_cases kept name) [
@@ -185,7 +185,7 @@ pub reachable_is_ever_kept : ReachableIsEverKept
 reachable_is_ever_kept i dead kept later sound lists all can name there wide =
     not_lost_listed i kept all name there (nothing_reachable_is_ever_freed i dead later sound lists can name wide)
 
--- every name that a world holds is one of its own
+-- each name that a world holds is one of its own names
 
 pub world_holds : (w : World) → IsWorld w → HoldsOnly (λ n. IsSome (node_of w n)) w
 world_holds w is = record {

@@ -5,7 +5,7 @@ use Rattle.nmgc_world_laws.specs.{laws.Vocabulary.◌≡◌, laws.Vocabulary.◌
 abbrev IsAsBefore : World → Name → Node → Type 0
 IsAsBefore w name node = (before : Node) → node_of w name ≡ Some before → SameShape before node
 
--- a world's own nodes
+-- a world's own nodes have it
 as_before : (w : World) (name : Name) → IfSome (node_of w name) (IsAsBefore w name)
 as_before w name = by (node_of w name) refl
   where

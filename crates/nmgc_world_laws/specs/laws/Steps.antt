@@ -1,7 +1,7 @@
--- What a step is, told by how it changes a world: an object, and then the registers and the queue of the
--- mutator. What each of these keeps, every command keeps.
+-- A step as its changes of a world: first of an object, then of the mutator's registers and queue. A property that each of
+-- the two changes keeps is kept by every command.
 --
--- Q is a fact of values, which those of the world have and those that the command brings.
+-- Q is a property of values. The world's values have it, and so do the values that the command brings.
 use Rattle.std.specs.Prelude.{◌≡◌, ◌-◌, ◌∷◌, ◌++◌}
 use Rattle.nmgc_world_laws.specs.laws.Vocabulary.{ℕ, List, [], length, map, set, drop, refl, sym, subst, Option, Some, None, Bool, true, false, eqb, ltb, inl, inr, slice_get, IfSome, All, get_or_past, All-cons, All-nil, All-head, All-set, All-push, All-take, All-drop, All-get_or, cases_lt, Operand, Register, Shared, Command, Reply, Change, Name, Value, Node, Con, Var, Arr, Thunk, Weak, Stack, MutatorState, World, state_of, node_of, given, held_by, changed, field_read, result_read, value_read, stack_pushed, stack_popped, shared_name, value_of, value_for, with_state, with_register, with_node, with_finaliser, holding_given, keeping, born, object_of, read_object, change_node, change_object, change_into, asked, step, item_has, at_some, Fields, made_by}
 use Rattle.nmgc_world_spec.specs.declared.command.Command.TheVariants as command
@@ -10,13 +10,13 @@ use Rattle.nmgc_world_spec.specs.declared.change.Change.TheVariants as change
 use Rattle.nmgc_world_spec.specs.declared.value.Value.TheVariants as value
 use Rattle.nmgc_world_laws.specs.laws.{Barrier.two_nodes, Barrier.exchanged_node, Barrier.Writes, Barrier.field_read_has, Barrier.result_read_has, Barrier.answer_has, NodeLaws.states_kept}
 
--- the mutator's registers and its queue are others, or the same
+-- the mutator's registers and its queue change, or stay the same
 pub data Hand (Q : Value → Type 0) (w : World) (m : ℕ) (v : World) : Type 0 where
   same : v ≡ w → Hand Q w m v
   other : (registers queue : List Value) → v ≡ with_state w m (record { registers = registers; queue = queue; nodes = (state_of w m).nodes }) →
       All Q registers → All Q queue → Hand Q w m v
 
--- an object is born, as the command makes it, or changes, as the command asks, or none does
+-- an object is made, as the command makes it, or changes, as the command asks, or all objects stay the same
 pub data Object (Q : Value → Type 0) (w : World) (m : ℕ) (c : Command) (v : World) : Type 0 where
   same : v ≡ w → Object Q w m c v
   birth : (register : ℕ) (made : Node) → made_by w m c ≡ Some made → v ≡ (born w m register made).0 → Object Q w m c v
@@ -28,18 +28,18 @@ pub record Stepped (Q : Value → Type 0) (w : World) (m : ℕ) (c : Command) (v
   pub object : Object Q w m c between
   pub hand : Hand Q between m v
 
--- every value that a world holds
+-- every value that a world holds has Q
 pub record AllHeld (Q : Value → Type 0) (w : World) : Type 0 where
   pub registers : (k : ℕ) → All Q (state_of w k).registers
   pub queues : (k : ℕ) → All Q (state_of w k).queue
   pub nodes : (name : Name) → IfSome (node_of w name) (λ (node : Node). All Q (held_by node))
 
--- the number that a command brings
+-- the number that a command brings has Q
 abbrev pub OfNumber : (Value → Type 0) → Command → Type 0
 OfNumber Q (command.Num dest n) = Q (value.Number n)
 OfNumber Q _ = Unit {0}
 
--- all that a command brings: nil, g, and a number
+-- all values that a command brings have Q: nil, g, and a number
 pub record Brings (Q : Value → Type 0) (c : Command) : Type 0 where
   pub nil : Q value.Nil
   pub shared : Q (value.Ref shared_name)
@@ -49,7 +49,7 @@ module _ (Q : Value → Type 0) where
   abbrev Held : Node → Type 0
   Held node = All Q (held_by node)
 
-  -- strong fields are among what a node holds
+  -- strong fields are among the values that a node holds
   pub strong_held : (node : Node) → All Q (held_by node) → Fields Q node
   strong_held (Con tag values) h = h
   strong_held (Var v) h = h
@@ -62,7 +62,7 @@ module _ (Q : Value → Type 0) where
   one : (v : Value) → Q v → All Q (v ∷ [])
   one v h = All-cons Q v [] h (All-nil Q)
 
-  -- a change puts nothing into a node but what it writes
+  -- a change puts only the value that it writes into a node
   pub changed_held : (c : Change) (maker : ℕ) (node : Node) → Writes Q c → All Q (held_by node) → All Q (held_by (changed c maker node).0)
   changed_held (change.Set index v) maker (Con tag values) q h = h
   changed_held (change.Set index v) maker (Var old) q h = two_nodes Held (eqb index 0) (Var v) (Var old) reply.Fine reply.NoField (one v q) h
@@ -114,7 +114,7 @@ module _ (Q : Value → Type 0) where
   changed_held change.Finalise maker (Weak (Some parts)) q h = All-nil Q
   changed_held change.Finalise maker (Stack size values) q h = h
 
-  -- what a change answers, the node held
+  -- the node held the value that a change answers
   answer_held : (c : Change) (maker : ℕ) (node : Node) → Held node → IfSome (given (changed c maker node).1) Q
   answer_held (change.Set index v) maker node h = answer_has Q (change.Set index v) maker node tt (strong_held node h)
   answer_held (change.Exchange index expected v) maker node h = answer_has Q (change.Exchange index expected v) maker node tt (strong_held node h)
@@ -129,7 +129,7 @@ module _ (Q : Value → Type 0) where
   answer_held change.Finalise maker (Weak (Some parts)) h = item_has Q (parts.key ∷ parts.value ∷ parts.finaliser ∷ []) 2 h
   answer_held change.Finalise maker (Stack size values) h = tt
 
-  -- what reading a weak pointer answers, it held
+  -- the weak pointer held the value that a read of it answers
   value_read_held : (node : Node) → Held node → IfSome (given (value_read node)) Q
   value_read_held (Con tag values) h = tt
   value_read_held (Var old) h = tt
@@ -149,7 +149,7 @@ module _ (Q : Value → Type 0) where
       by_node None k = tt
       by_node (Some node) k = f node k
 
-  -- a register takes what an answer gave
+  -- a register takes the value that an answer gave
   keeping_hand : (w : World) (m register : ℕ) (r : Reply) → All Q (state_of w m).registers → All Q (state_of w m).queue → IfSome (given r) Q →
       Hand Q w m (keeping w m register r)
   keeping_hand w m register (reply.Given v) hr hq q =
@@ -216,7 +216,7 @@ module _ (Q : Value → Type 0) where
             of_hand _ (Hand.other (set (state_of w m).registers register v) (drop 1 (state_of w m).queue) refl
             (All-set Q (state_of w m).registers register v q (h.registers m)) rest)
 
-    -- a change of an object, with what it leaves the mutator and what it answers
+    -- a change of an object, with the mutator's values after it and its answer
     record Changes (r : World × Reply) : Type 0 where
       object : Object Q w m c r.0
       registers : All Q (state_of r.0 m).registers

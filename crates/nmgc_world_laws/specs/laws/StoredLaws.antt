@@ -1,4 +1,4 @@
--- What a command puts into an object that is there.
+-- The values that a command puts into an existing object.
 use Rattle.std.specs.Prelude.{◌≡◌, ◌≢◌, ◌<◌, ◌-◌, ◌⊎◌, ◌∷◌, ◌++◌}
 use Rattle.nmgc_world_laws.specs.laws.Vocabulary.{ℕ, zero, suc, List, [], length, set, take, refl, sym, ap, subst, ◌∙◌, arith, Option, Some, None, Bool, true, false, cond, eqb, ltb, inl, inr, slice_get, IsSome, get_or_past, set_past, Contains-append_left, Contains-get_or, ne_eqb, cases_lt, cases_eq, Operand, Register, Shared, Command, Reply, Change, SHARED_MAKER, Name, Value, Node, Con, Var, Arr, Thunk, Weak, Stack, World, IsWorld, state_of, node_of, exchanged_at, changed, stack_pushed, stack_popped, shared_name, value_for, next_name, asked, step, Row, replayed, opened, Parts, CanApply, IsReached, IsRoot, IsAlive, same_Some, slice_get-set_same, slice_get-set_other, HasStrongField, strong_at, CanReplay, value_written, place_written, Stores, IsStored, StepStores, OldRefersToYoung, OldWeaksStay, OldWeaksAreFinalised}
 use Rattle.nmgc_world_spec.specs.declared.command.Command.TheVariants as command
@@ -7,7 +7,7 @@ use Rattle.nmgc_world_spec.specs.declared.change.Change.TheVariants as change
 use Rattle.nmgc_world_spec.specs.declared.value.Value.TheVariants as value
 use Rattle.nmgc_world_laws.specs.laws.{Growth.step_grows, Worlds.not_shared, Barrier.field_at_place, Barrier.two_nodes, Barrier.exchanged_node, NodeLaws.get-append_cases, NodeLaws.node_born, NodeLaws.next_is_new, NodeLaws.node_cases, WorldSteps.step_keeps_world, HeldSteps.alive_has, HeldSteps.absent, HeldSteps.some_of, LiveRows.AsThen, LiveRows.LiveHeld, LiveRows.live_after, Reached.step_adds_one, Reached.world_holds, Steps.Object, Steps.Stepped, Keeps.Any, Keeps.stepped, Keeps.still_there, Keeps.hand_nodes}
 
--- what stands in a field after a change stood there before, or the change wrote it there
+-- a value in a field after a change was there before, or the change wrote it there
 abbrev Put : Change → Node → ℕ → Value → Type 0
 Put c node i x = (strong_at node i ≡ Some x) ⊎ ((place_written c node ≡ Some i) × (value_written c ≡ Some x))
 
@@ -104,7 +104,7 @@ changed_put change.Finalise maker (Weak None) i x h = inl h
 changed_put change.Finalise maker (Weak (Some parts)) i x h = absurd cc
 changed_put change.Finalise maker (Stack size values) i x h = inl h
 
--- a command that makes nothing of a name: what stands there afterwards
+-- a value in a field after a command, and its three possible sources
 module _ (w : World) (m : ℕ) (c : Command) (name : Name) (i : ℕ) (x : Value) (lt : m < length w.mutators) (own : m ≢ SHARED_MAKER) where
   abbrev Source : Type 0
   Source = HasStrongField w name i x ⊎ ((name ≡ next_name (state_of w m) m) ⊎ Stores w m c name i x)
@@ -146,7 +146,7 @@ step_stores w m c is can name i x stands =
       field = stands.field;
     })
 
--- what a command asks to change, its mutator holds
+-- the object that a command asks to change is held by its mutator
 operand_root : (w : World) (m : ℕ) (o : Operand) (name : Name) → value_for w m o ≡ value.Ref name → IsRoot w name
 operand_root w m (Register r) name e = elim (cases_lt r (length (state_of w m).registers)) [
   | inl lt ↦ inr (
@@ -171,7 +171,7 @@ asked_root w m (command.Pop dest object) name ch e = operand_root w m object nam
 asked_root w m (command.Finalise dest object) name ch e = operand_root w m object name (ap asked_value e)
 asked_root w m _ name ch e = absurd cc
 
--- where it stood at the beginning, or one of the rows stored it
+-- a value in a field was there at the beginning, or one of the rows stored it
 rows_stored : (w : World) (rows : List Row) → IsWorld w → CanReplay w rows → (name : Name) (i : ℕ) (x : Value) → IsSome (node_of w name) →
     HasStrongField (replayed w rows) name i x → HasStrongField w name i x ⊎ IsStored w rows name i x
 rows_stored w [] is can name i x there s = inl s
@@ -224,7 +224,7 @@ old_weaks_stay w rows is can weak parts there alive =
     let h : LiveHeld w (opened w rows) (replayed w rows) = live_after w rows is can in
     (alive_has (AsThen w (opened w rows)) (replayed w rows) h.alive weak parts alive).0 there
 
--- an alive weak pointer is changed by no change but the one that finalises it
+-- only `finalise` changes a weak pointer that is alive
 weak_changed : (c : Change) (maker : ℕ) (parts : Parts) → ((changed c maker (Weak (Some parts))).0 ≡ Weak (Some parts)) ⊎ (c ≡ change.Finalise)
 weak_changed (change.Set index v) maker parts = inl refl
 weak_changed (change.Exchange index expected v) maker parts = inl refl
@@ -233,7 +233,7 @@ weak_changed (change.Push m v) maker parts = inl refl
 weak_changed (change.Pop m) maker parts = inl refl
 weak_changed change.Finalise maker parts = inr refl
 
--- and that one is asked for by the command that finalises
+-- the change that a command asks for, or else `finalise`
 abbrev asked_change : Option (Value × Change) → Change
 asked_change None = change.Finalise
 asked_change (Some p) = p.1
@@ -251,7 +251,7 @@ asked_finalise w m (command.Pop dest object) weak e = absurd (let d : change.Pop
 asked_finalise w m (command.Finalise dest object) weak e = (dest, object, refl, ap asked_value e)
 asked_finalise w m _ weak e = absurd cc
 
--- after a command a weak pointer that was alive is alive still, or the command finalised it
+-- after a command a weak pointer that was alive is still alive, or the command finalised it
 module _ (w : World) (m : ℕ) (c : Command) (is : IsWorld w) (can : CanApply w m c) (weak : Name) (parts : Parts) (alive : IsAlive w weak parts) where
   alive_or : (v : World) → Object Any w m c v → (node_of v weak ≡ Some (Weak (Some parts))) ⊎ Finalises w m c weak
   alive_or v (Object.same e) = inl (ap (λ (u : World). node_of u weak) e ∙ alive)

@@ -1,4 +1,4 @@
--- Every name of std, of the crates below and of this crate's definitions that the lemmas of these laws speak of.
+-- All names of std, of the crates below and of this crate's definitions that these laws use.
 pub use Rattle.nmgc_limits.specs.declared.mutators.TheConstants.{MAKERS, REGISTERS, SHARED_MAKER, SHARED_SLOTS}
 pub use Rattle.nmgc_lists.specs.{declared.memory.NoMemory.NoMemory, laws.Items.at_some, laws.Items.contains_at, laws.Items.contains_cases, laws.Items.contains_flat, laws.Items.contains_head, laws.Items.contains_one, laws.Items.contains_option, laws.Items.contains_tail, laws.Items.get_is_some, laws.Items.is_some_get, laws.Items.is_some_of, laws.Items.item_has, laws.Items.kept_or_held, laws.Items.kept_or_last, laws.Items.nothing_in, laws.Items.one_has, laws.Items.one_is, laws.Items.place_of, laws.Items.slice_get-append, laws.Items.slice_get-append_last, laws.Items.slice_get-set_other, laws.Items.slice_get-set_same, laws.Options.some_is}
 pub use Rattle.nmgc_world_laws.specs.{Holds.CoversReach, Holds.Fields, Holds.HasStrongField, Holds.IsLater, Holds.Names, Holds.OfParts, Holds.StillThere, Holds.strong_at, Leaves.ClosingLeavesHands, Leaves.QueueGrows, Leaves.SameHands, Leaves.StepLeavesOthers, Limits.ClosingKeepsLimits, Limits.HasLimits, Limits.IsNodeWithin, Limits.IsSmall, Limits.IsWithin, Limits.NewIsWithin, Limits.RowsKeepLimits, Limits.StepKeepsLimits, Reachable.CanContinue, Reachable.CanReplay, Reachable.ClosesWell, Reachable.ClosingAddsNone, Reachable.ClosingHoldsOnly, Reachable.ClosingKeepsWorld, Reachable.CountsNew, Reachable.HoldsOnly, Reachable.IsLiveOrNew, Reachable.IsNotLost, Reachable.IsSound, Reachable.NeverComesBack, Reachable.NothingReachableIsEverFreed, Reachable.NothingReachableIsFreed, Reachable.ReachableIsEverKept, Reachable.ReachableIsKept, Reachable.RowsHoldLive, Reachable.RowsKeepWorld, Reachable.StaysUnreached, Reachable.StepAddsOne, Reachable.StepHoldsOnly, Reachable.Stretch, Reachable.continued, Shape.ClosingKeepsShapes, Shape.KeepsShapes, Shape.RowsKeepShapes, Shape.SameShape, Shape.StepKeepsShapes, Shape.kind_of, Shape.made_by, Shape.part_count, Shape.tag_of, Shape.words_of, Stored.IsStored, Stored.OldRefersToYoung, Stored.OldWeaksAreFinalised, Stored.OldWeaksStay, Stored.StepStores, Stored.Stores, Stored.place_written, Stored.value_written}

@@ -1,5 +1,5 @@
--- What a command may change, also one on weak pointers: what `deref` and `finalise` give and owe is opened,
--- and so it is of the names where all that is opened is.
+-- The changes that any command may make, also on weak pointers. `deref` and `finalise` give and owe opened names and the weak
+-- pointer itself, so all of these are in the set if all opened names are.
 use Rattle.std.specs.Prelude.{◌≡◌, ◌≢◌, ◌<◌, ◌∷◌, ◌⊎◌}
 use Rattle.nmgc_world_laws.specs.laws.Vocabulary.{ℕ, List, [], length, refl, sym, subst, Option, Some, None, inl, inr, IfSome, All, Contains, All-cons, All-nil, All-head, Contains-append_left, Contains-append_right, Contains-append_cases, Command, SHARED_MAKER, Name, Value, Parts, Node, Con, Var, Arr, Thunk, Weak, Stack, World, state_of, node_of, given, changed, value_read, shared_name, value_for, next_name, object_of, read_object, change_node, change_object, change_into, step, IsAlive, IsKeptBy, name_in, given_name, opened_in, opened_by, finalised_in, finalised_by, contains_head, contains_tail, at_some, nothing_in, contains_one, one_is, contains_flat, owed_of, owed_in, owed_at, value_held, values_owed, names_among, owed_by, Names, Fields, CoversReach, strong_at, IsLater}
 use Rattle.nmgc_world_spec.specs.declared.command.Command.TheVariants as command
@@ -7,7 +7,7 @@ use Rattle.nmgc_world_spec.specs.declared.change.Change.TheVariants as change
 use Rattle.nmgc_world_spec.specs.declared.value.Value.TheVariants as value
 use Rattle.nmgc_world_laws.specs.laws.{Barrier.same_later, Moves.RespectsBarrier, Moves.step_moves, Moves.born_moves, Moves.keeping_moves, Moves.made_moves, Moves.stays_put, Moves.then_same, Moves.operand_has}
 
--- a node whose weak pointer dies, if it is one
+-- `finalise` of a node: a weak pointer dies, and other kinds stay
 finalised_stays : (name : Name) (maker : ℕ) (node : Node) (i : ℕ) (x : Value) → strong_at node i ≡ Some x →
     (strong_at (changed change.Finalise maker node).0 i ≡ Some x) ⊎ Contains (owed_in change.Finalise name node) x
 finalised_stays name maker (Weak parts) i x h = absurd cc
@@ -36,7 +36,7 @@ module _ (P : Name → Type 0) where
   finalised_fields maker (Thunk free result) h = h
   finalised_fields maker (Stack size values) h = h
 
-  -- the same move, where something of the names is owed
+  -- the same move, with more values owed that are in the set
   more_owed : (w v : World) (owed : List Value) → All (Names P) owed → RespectsBarrier P w v [] → RespectsBarrier P w v owed
   more_owed w v owed h r = record {
     mutators = r.mutators;
@@ -52,7 +52,7 @@ module _ (P : Name → Type 0) where
   of_value (value.Number n) h = tt
   of_value (value.Ref n) h = h n (contains_one n)
 
-  -- what `deref` owes and gives
+  -- the values that `deref` owes and gives
   deref_owes : (o : Option Node) → ((n : Name) → Contains (given_name (read_object o value_read)) n → P n) → All (Names P) (value_held o)
   deref_owes (Some (Weak (Some parts))) h = All-cons (Names P) parts.value [] (of_value parts.value h) (All-nil (Names P))
   deref_owes (Some (Weak None)) h = All-nil (Names P)
@@ -73,7 +73,7 @@ module _ (P : Name → Type 0) where
   deref_gives (Some (Stack size values)) h = tt
   deref_gives None h = tt
 
-  -- what `finalise` owes and gives
+  -- the values that `finalise` owes and gives
   finalise_owes : (w : World) (v : Value) → Names P v → ((n : Name) → Contains (opened_in (object_of w v)) n → P n) →
       All (Names P) (owed_of w v change.Finalise)
   finalise_owes w value.Nil p h = All-nil (Names P)
@@ -125,7 +125,7 @@ module _ (P : Name → Type 0) where
           (finalised_fields name.maker found (at_some (node_of w name) found (Fields (Names P)) e (h.fields name p)))
           k (finalised_stays name name.maker found) (finalised_later name.maker found) h p
 
-  -- every command, where what it opens is of the names
+  -- every command, if all names that it opens are in the set
   pub all_moves : (w : World) (m : ℕ) (c : Command) → m < length w.mutators → m ≢ SHARED_MAKER → P shared_name → P (next_name (state_of w m) m) →
       ((n : Name) → Contains (opened_by w m c) n → P n) → CoversReach P w → RespectsBarrier P w (step w m c).0 (values_owed w m c)
   all_moves w m (command.Weak dest key v finaliser) lt own g p o h = born_moves P w m dest _ lt own h p (All-nil (Names P))
@@ -144,7 +144,7 @@ module _ (P : Name → Type 0) where
 in_one : (values : List Value) (v : Value) (name : Name) → Contains values v → Contains (name_in v) name → Contains (names_among values) name
 in_one values v name h k = contains_flat name_in values v name h k
 
--- what a command opens, it owes
+-- a command owes each name that it opens
 pub opened_owed : (w : World) (m : ℕ) (c : Command) (name : Name) → Contains (opened_by w m c) name → Contains (owed_by w m c) name
 opened_owed w m (command.Deref dest object) name h = by_node (object_of w (value_for w m object)) h
   where
@@ -182,7 +182,7 @@ opened_owed w m (command.Finalise dest object) name h = by_value (value_for w m 
     by_value (value.Ref at) k = by_node at (node_of w at) k
 opened_owed w m _ name h = absurd (nothing_in name h)
 
--- a weak pointer that a command finalises was alive, and what it kept is owed
+-- a weak pointer that a command finalises was alive, and all names that it kept are owed
 abbrev pub Ends : World → Name → List Name → Type 0
 Ends w weak owed = (parts : Parts) × IsAlive w weak parts × ((target : Name) → IsKeptBy weak parts target → Contains owed target)
 

@@ -1,4 +1,4 @@
--- A weak pointer was made by a mutator: g is an array.
+-- Each weak pointer was made by a mutator, since g is an array.
 use Rattle.std.specs.Prelude.{◌≡◌, ◌<◌}
 use Rattle.nmgc_world_laws.specs.laws.Vocabulary.{length, arith, Bool, true, false, Option, Some, None, cond, eqb, inl, inr, cases_lt, eqb_tells, get_or_past, slice_get_within, SHARED_MAKER, Name, Parts, Node, Con, Var, Arr, Thunk, Weak, Stack, World, state_of, serial_of, no_mutator, IsWorld, IsShared, IsAliveWeak}
 

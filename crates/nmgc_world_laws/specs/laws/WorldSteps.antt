@@ -7,7 +7,7 @@ use Rattle.nmgc_world_spec.specs.declared.change.Change.TheVariants as change
 use Rattle.nmgc_world_spec.specs.declared.value.Value.TheVariants as value
 use Rattle.nmgc_world_laws.specs.laws.{Nodes.field_read_known, Nodes.result_read_known, Nodes.value_read_known, Worlds.holding_keeps, Worlds.finaliser_keeps, Worlds.born_keeps, Worlds.operand_known, Worlds.operands_known, Worlds.read_known, Worlds.is_shared, Worlds.shared_changed, Worlds.shared_reply, Worlds.in_state, Worlds.nth_changed, Worlds.nth_reply, NodeLaws.as_many, HeldSteps.some_of as there_is}
 
--- what a change leaves, and what it answers
+-- the result of a change: a world, and a reply with a known value
 abbrev Leaves : World × Reply → Type 0
 Leaves r = IsWorld r.0 × IsKnownReply r.0 r.1
 

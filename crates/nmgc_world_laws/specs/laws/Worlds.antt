@@ -1,4 +1,4 @@
--- What keeps a world closed.
+-- The changes that keep a world closed.
 use Rattle.std.specs.Prelude.{◌≡◌, ◌≢◌, ◌<◌, ◌≤◌, ◌+◌, ◌-◌, ◌^◌, ◌∷◌, ◌++◌}
 use Rattle.nmgc_world_laws.specs.laws.Vocabulary.{inl, inr, zero, suc, ℕ, List, [], map, length, get_or, set, drop, refl, ap, ◌∙◌, arith, length-append, Option, Some, None, Bool, true, false, cond, eqb, IsSome, IfSome, slice_get, All, refill, get_or-set_same, get_or-set_other, get_or_past, set-get_or, take_all, drop_all, append-nil, All-cons, All-nil, All-set, All-weaker, All-drop, All-get_or, All-head, All-tail, slice_get_past, ne_eqb, eq-eqb, cases_lt, eqb_tells, Operand, Register, Shared, Reply, REGISTERS, SHARED_MAKER, Name, Value, Nil, Number, Ref, Node, Change, MutatorState, World, state_of, node_of, no_mutator, held_by, IsKnown, AreKnown, IsKnownReply, IsKnownChange, IsNodeOf, IsShared, IsWorld, given, IsOperand, changed, with_state, with_register, holding_given, with_new, with_nth, with_finaliser, next_name, value_of, object_of, read_object, item_has, is_some_get, get_is_some, slice_get-append_last, at_some, slice_get-set_same, slice_get-set_other, length-set}
 use Rattle.nmgc_world_laws.specs.laws.Nodes.{changed_known, changed_reply, changed_shared}
@@ -19,7 +19,7 @@ slice_get-append (y ∷ xs) x (suc i) lt = slice_get-append xs x i (omega arith)
 slice_get-append_past : {A : Type 0} (xs : List A) (x : A) (i : ℕ) → length xs < i → slice_get (xs ++ x ∷ []) i ≡ None
 slice_get-append_past xs x i lt = slice_get_past (xs ++ x ∷ []) i (omega (arith, length-append xs (x ∷ [])))
 
--- what each object of a mutator has to be, in a world
+-- the condition of a world on each object of a mutator
 abbrev AreNodes : World → List Node → Type 0
 AreNodes w nodes = (s : ℕ) → IfSome (slice_get nodes s) (IsNodeOf w)
 
@@ -30,7 +30,7 @@ not_shared w m h lt e = omega (arith, h.few)
 own_nodes : (w : World) (m : ℕ) → IsWorld w → m < length w.mutators → AreNodes w (state_of w m).nodes
 own_nodes w m h lt s = rw (ne_eqb m SHARED_MAKER (not_shared w m h lt)) at (h.nodes (record { maker = m; serial = s }))
 
--- a world that knows all that another knows
+-- a world in which all known values of another are known
 module _ (w w' : World) (known : (v : Value) → IsKnown w v → IsKnown w' v) where
   all_known : (values : List Value) → AreKnown w values → AreKnown w' values
   all_known values h = All-weaker (IsKnown w) (IsKnown w') known values h
@@ -41,7 +41,7 @@ module _ (w w' : World) (known : (v : Value) → IsKnown w v → IsKnown w' v) w
   pub reply_known : (r : Reply) → IsKnownReply w r → IsKnownReply w' r
   reply_known r h = if_some_weaker (given r) (IsKnown w) (IsKnown w') known h
 
--- another state of a mutator, with at least as many objects
+-- another state of a mutator, with no fewer objects
 module _ (w : World) (m : ℕ) (q : MutatorState) (lt : m < length w.mutators) where
   same : state_of (with_state w m q) m ≡ q
   same = get_or-set_same w.mutators m q no_mutator lt
@@ -68,7 +68,7 @@ module _ (w : World) (m : ℕ) (q : MutatorState) (lt : m < length w.mutators) w
     still_known (Number n) h = tt
     still_known (Ref name) h = still_there name h
 
-    -- a mutator's state may be replaced by one whose values are known
+    -- a mutator's state may be replaced by a state with known values
     pub state_keeps : (h : IsWorld w) (regs : length q.registers ≡ REGISTERS) (few : length q.nodes < 2 ^ 32)
         (kr : AreKnown (with_state w m q) q.registers) (kq : AreKnown (with_state w m q) q.queue) (kn : AreNodes (with_state w m q) q.nodes)
         → IsWorld (with_state w m q)
@@ -102,7 +102,7 @@ module _ (w : World) (m : ℕ) (q : MutatorState) (lt : m < length w.mutators) w
       ];
     }
 
--- the same state, but for registers and a queue of known values
+-- the same state except for its registers and its queue, whose values are known
 module _ (w : World) (h : IsWorld w) (m : ℕ) (lt : m < length w.mutators) (registers queue : List Value) (regs : length registers ≡
     REGISTERS) (kr : AreKnown w registers) (kq : AreKnown w queue) where
   moved : MutatorState
@@ -124,7 +124,7 @@ holding_keeps w m register v h lt known =
     values_keep w h m lt (set (state_of w m).registers register v) (state_of w m).queue (rw length-set (h.registers m lt))
     (All-set (IsKnown w) (state_of w m).registers register v known (h.known_registers m)) (h.known_queue m)
 
--- a finaliser may go off the queue into a register
+-- a finaliser may move from the queue into a register
 pub finaliser_keeps : (w : World) (m register : ℕ) → IsWorld w → m < length w.mutators → IsWorld (with_state w m (with_finaliser (state_of w m) register))
 finaliser_keeps w m register h lt = by_first (slice_get (state_of w m).queue 0) (item_has (IsKnown w) (state_of w m).queue 0 (h.known_queue m))
   where
@@ -181,7 +181,7 @@ get_or_same [] i d e lt = absurd (omega arith)
 get_or_same (x ∷ xs) zero d e lt = refl
 get_or_same (x ∷ xs) (suc i) d e lt = get_or_same xs i d e (omega arith)
 
--- a world whose mutators were lent, and in which one state was replaced
+-- a world whose mutators were lent, with one state replaced
 module _ (w : World) (h : IsWorld w) (m : ℕ) (lt : m < length w.mutators) (ys : List MutatorState) (e : ys ≡ w.mutators) (d new : MutatorState) where
   pub lent : get_or ys m d ≡ state_of w m
   lent = rw e (get_or_same w.mutators m d no_mutator lt)
@@ -190,7 +190,7 @@ module _ (w : World) (h : IsWorld w) (m : ℕ) (lt : m < length w.mutators) (ys 
       IsWorld (record { shared = w.shared; mutators = refill (length w.mutators) w.mutators (set ys m new) })
   replaced f is k = rw (refill_whole w.mutators (set ys m new) (length-set ys m new ∙ ap length e), e, is ∙ ap f lent) k
 
--- reading a node that a world may have gives a known value, so reading an object does
+-- if reads of a node that a world may have give a known value, so do reads of an object
 pub read_known : (w : World) → IsWorld w → (v : Value) (read : Node → Reply) →
     ((node : Node) → AreKnown w (held_by node) → IsKnownReply w (read node)) → IsKnownReply w (read_object (object_of w v) read)
 read_known w h Nil read known = tt
@@ -311,6 +311,6 @@ module _ (w : World) (h : IsWorld w) (name : Name) (c : Change) (there : IsSome 
         (changed c name.maker old).1
     nth_reply = reply_known w _ nth_lifted (changed c name.maker old).1 (changed_reply w c name.maker old old_is.known)
 
--- a world whose mutator was given the state that it has
+-- a world stays a world if a mutator gets its own state
 pub same_state : (w : World) (h : IsWorld w) (m : ℕ) → IsWorld (with_state w m (state_of w m))
 same_state w h m = rw (set-get_or w.mutators m no_mutator) h

@@ -1,4 +1,4 @@
--- Lemmas that crates above need too.
+-- Lemmas that the crates above need too.
 use Rattle.std.specs.Prelude.{◌≡◌, ◌-◌, ◌∷◌, ◌≢◌, ◌<◌, if◌then◌else◌}
 use Rattle.nmgc_world_spec.specs.laws.Vocabulary.{Option, Some, None, List, [], length, refl, arith, ℕ, Bool, true, false, eqb, ap, eq-eqb, zero, suc, set, ◌∙◌, length-set, sym, subst, inl, inr, IsSome, slice_get, and_from, get_or-set_same, slice_get-get_or, is_some_get, Name, Value, without_last, last_of, is_same_name, Node, Parts, World, node_of, IsAlive, IsKeptBy, IsOfWeak}
 use Rattle.nmgc_world_spec.specs.declared.value.Value.TheVariants as value
@@ -27,7 +27,7 @@ pub name_itself : (a b : Name) → a ≡ b → is_same_name a b ≡ true
 name_itself a b e = and_from (eqb a.maker b.maker) (eqb a.serial b.serial) (eq-eqb a.maker b.maker (ap (λ (n : Name).
     n.maker) e)) (eq-eqb a.serial b.serial (ap (λ (n : Name). n.serial) e))
 
--- a name that was written, and the others
+-- a write of a name leaves the names at all other positions
 pub get_set_other : (xs : List Name) (k i : ℕ) (y : Name) → i ≢ k → slice_get (set xs k y) i ≡ slice_get xs i
 get_set_other [] k i y ne = refl
 get_set_other (x ∷ xs) zero zero y ne = absurd (ne refl)
@@ -40,11 +40,11 @@ get_set_same xs k y low =
     let size = length-set xs k y in
     slice_get-get_or (set xs k y) k y (omega (arith, low, size)) ∙ ap (λ (n : Name). Some n) (get_or-set_same xs k y y low)
 
--- an alive weak pointer is in the map
+-- a weak pointer that is alive is in the map
 pub weak_there : (w : World) (weak : Name) (parts : Parts) → IsAlive w weak parts → IsSome (node_of w weak)
 weak_there w weak parts alive = subst (λ (o : Option Node). IsSome o) (sym alive) refl
 
--- what a weak pointer keeps is of the weak pointer
+-- a name that a weak pointer keeps is the weak pointer or one of its parts
 pub of_weak : (weak target : Name) (parts : Parts) → IsKeptBy weak parts target → IsOfWeak weak parts target
 of_weak weak target parts (inl e) = inl e
 of_weak weak target parts (inr (inl e)) = inr (inr (inl e))

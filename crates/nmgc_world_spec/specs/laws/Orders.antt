@@ -1,4 +1,4 @@
--- Lists of names in order, as they grow and where some are left out.
+-- Lists of names in order, as they grow, and with some names left out.
 use Rattle.std.specs.Prelude.{◌≡◌, ◌<◌, ◌+◌, ◌∷◌, ◌++◌, ◌⊎◌, ◌≢◌}
 use Rattle.nmgc_world_spec.specs.laws.Vocabulary.{ℕ, zero, suc, List, [], length, take, get_or, inl, inr, refl, sym, ap, subst, ◌∙◌, arith, Bool, true, Contains, filter, cases_lt, cases_Bool, cases_eq, Contains-append_left, Contains-push, Contains-push_cases, Contains-get_or, Name, IsBefore, IsInOrder, Lists, IsEarlier, ListsBefore, contains_head, contains_tail, contains_cases}
 
@@ -19,13 +19,13 @@ pub not_before_itself : (a : Name) → IsBefore a a → ⊥
 not_before_itself a (inl p) = omega arith
 not_before_itself a (inr p) = omega arith
 
--- a name that is after all of a list in order joins it at the end
+-- a name that is after all names of a list in order can join it at the end
 pub in_order_push : (xs : List Name) (y : Name) → IsInOrder xs → ((n : Name) → Contains xs n → IsBefore n y) → IsInOrder (xs ++ y ∷ [])
 in_order_push [] y o b = tt
 in_order_push (x ∷ []) y o b = (b x (contains_head x []), tt)
 in_order_push (x ∷ z ∷ zs) y o b = (o.0, in_order_push (z ∷ zs) y o.1 (λ n c. b n (contains_tail x (z ∷ zs) n c)))
 
--- the first of a list in order is before all others
+-- the first name of a list in order is before all later names
 pub in_order_first : (x : Name) (xs : List Name) → IsInOrder (x ∷ xs) → (n : Name) → Contains xs n → IsBefore x n
 in_order_first x [] o n c = absurd (omega (arith, c.1))
 in_order_first x (y ∷ ys) o n c = elim (contains_cases y ys n c) [
@@ -37,7 +37,7 @@ pub in_order_rest : (x : Name) (xs : List Name) → IsInOrder (x ∷ xs) → IsI
 in_order_rest x [] o = tt
 in_order_rest x (y ∷ ys) o = o.1
 
--- a name that is before all of a list in order joins it at the front
+-- a name that is before all names of a list in order can join it at the front
 pub in_order_cons : (x : Name) (xs : List Name) → IsInOrder xs → ((n : Name) → Contains xs n → IsBefore x n) → IsInOrder (x ∷ xs)
 in_order_cons x [] o b = tt
 in_order_cons x (y ∷ ys) o b = (b y (contains_head y ys), o)
@@ -56,7 +56,7 @@ in_order_take (suc i) [] o = tt
 in_order_take (suc i) (x ∷ xs) o = in_order_cons x (take i xs) (in_order_take i xs (in_order_rest x xs o)) (λ n c.
     in_order_first x xs o n (contains_take i xs n c))
 
--- a name of a list in order isn't among those before it
+-- a name of a list in order isn't among the names before it
 pub in_order_apart : (i : ℕ) (xs : List Name) (d : Name) → IsInOrder xs → i < length xs → Contains (take i xs) (get_or xs i d) → ⊥
 in_order_apart zero xs d o lt c = omega (arith, c.1)
 in_order_apart (suc i) [] d o lt c = omega arith
@@ -67,7 +67,7 @@ in_order_apart (suc i) (x ∷ xs) d o lt c = elim (contains_cases x (take i xs) 
   | inr k ↦ in_order_apart i xs d (in_order_rest x xs o) (omega arith) k
 ]
 
--- a list of names, each of which has a place after those before it
+-- the list of names with property P before a position, as the position moves on
 module _ (P : Name → Type 0) where
   place_cases : (n : Name) (maker serial : ℕ) → IsBefore n (record { maker = maker; serial = serial + 1 }) →
       (n ≡ record { maker = maker; serial = serial }) ⊎ IsBefore n (record { maker = maker; serial = serial })
@@ -88,7 +88,7 @@ module _ (P : Name → Type 0) where
     complete = λ n h. elim h.1 [ inl p ↦ absurd (omega arith) | inr p ↦ absurd (omega arith) ];
   }
 
-  -- the name at the place has P, and is listed
+  -- the name at the position has P, and is listed
   pub lists_more : (maker serial : ℕ) (names : List Name) → P (record { maker = maker; serial = serial }) → ListsBefore P maker serial names →
       ListsBefore P maker (serial + 1) (names ++ record { maker = maker; serial = serial } ∷ [])
   lists_more maker serial names p l =
@@ -105,7 +105,7 @@ module _ (P : Name → Type 0) where
         ];
       }
 
-  -- the name at the place doesn't have P, and is left out
+  -- the name at the position doesn't have P, and is left out
   pub lists_same : (maker serial : ℕ) (names : List Name) → (P (record { maker = maker; serial = serial }) → ⊥) → ListsBefore P maker serial names →
       ListsBefore P maker (serial + 1) names
   lists_same maker serial names lacks l = record {

@@ -1,18 +1,18 @@
 use Rattle.nmgc_alloc.proofs.{Vocabulary.ℕ, Vocabulary.ap, Vocabulary.arith, Vocabulary.slice_index_or, Vocabulary.tally_from, FilingLaws.taken_free, FilingLaws.taken_class, FilingLaws.taken_all, FilingLaws.few_taken}
-use Rattle.nmgc_alloc.specs.declared.search.Sought.TheVariants as sought
+use Rattle.nmgc_alloc.specs.declared.search.Category.TheVariants as category
 use Rattle.nmgc_alloc.proofs.filing.take_up.Goals as goal
 
 pub overflow_add-lower : goal.overflow_add-lower
-overflow_add-lower c = omega (arith, c.requires.few sought.Free tt)
+overflow_add-lower c = omega (arith, c.requires.few category.Free tt)
 
 pub enter_many-requires-clause-count : goal.enter_many-requires-clause-count
 enter_many-requires-clause-count c =
-    let few = c.requires.few sought.Free tt in
+    let few = c.requires.few category.Free tt in
     let read = ap (λ (k : ℕ). (slice_index_or c.args.tallies.now k (tally_from 0 0)).count) c.place.ensures in
     omega (arith, few, read)
 
 pub overflow_add-gain : goal.overflow_add-gain
-overflow_add-gain c = omega (arith, c.requires.few (sought.Active c.loop-class.class) c.loop-class-test.true)
+overflow_add-gain c = omega (arith, c.requires.few (category.Active c.loop-class.class) c.loop-class-test.true)
 
 pub enter_many-requires-in-loop-class-clause-count : goal.enter_many-requires-in-loop-class-clause-count
 enter_many-requires-in-loop-class-clause-count c =

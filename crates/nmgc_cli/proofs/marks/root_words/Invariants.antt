@@ -1,7 +1,7 @@
 use Rattle.nmgc_cli.proofs.Vocabulary.{◌≡◌, ◌++◌, List, ℕ, drop, flat_map, MutatorEnd, root_words, registers_of}
 use Rattle.nmgc_cli.proofs.marks.root_words.Given as goal
 
--- the registers so far and those of the mutators left are all
+-- the registers so far with the registers of the mutators left are all registers
 abbrev pub invariant-loop-mutator : goal.invariant-loop-mutator
 invariant-loop-mutator l = l.roots.items ++ registers_of (drop l.mutator-index l.mutators) ≡ registers_of l.mutators
 

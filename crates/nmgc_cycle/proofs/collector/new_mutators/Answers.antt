@@ -1,13 +1,13 @@
 use Rattle.nmgc_cycle.proofs.{Vocabulary.ℕ, Vocabulary.◌≡◌, Vocabulary.◌∙◌, Vocabulary.arith, Vocabulary.subst, Vocabulary.sym, Vocabulary.ap, Vocabulary.List, Vocabulary.[], Vocabulary.◌∷◌, Vocabulary.◌++◌, Vocabulary.length, Vocabulary.Some, Vocabulary.common_steps, Vocabulary.Layout, Vocabulary.Mutator, Vocabulary.IsNew, Vocabulary.Reserves, Vocabulary.Sender, Vocabulary.Receiver, Vocabulary.AreNew, Vocabulary.RING_BLOCKS, Vocabulary.IsLined, Vocabulary.reserved, Vocabulary.slice_get, rounds.Lining.lined_grown, rounds.Lining.lined_new, starts.Lists.each_pushed}
 use Rattle.nmgc_cycle.proofs.collector.new_mutators.Goals as goal
 
--- what the first so many mutators are, with the other ends of their rings
+-- the first mutators, with the other ends of their rings
 record AreMade (layout : Layout) (mutators : List Mutator) (receivers : List Receiver) : Type 0 where
   new : (k : ℕ) (m : Mutator) → slice_get mutators k ≡ Some m → IsNew k layout m
   lines : (k : ℕ) (m : Mutator) → slice_get mutators k ≡ Some m → IsLined receivers k m.sender
   unsent : (k : ℕ) (m : Mutator) → slice_get mutators k ≡ Some m → m.sender.since ≡ []
 
--- one more
+-- a further mutator
 made_more : {s : Sender} (r q : Receiver) (layout : Layout) (number : ℕ) (mutators : List Mutator) (receivers : List Receiver) (m : Mutator) →
     length mutators ≡ number → length receivers ≡ number → AreMade layout mutators receivers → AreNew RING_BLOCKS s r →
     q ≡ record r { taken = q.taken } → q.taken.items ≡ r.taken.items → m.sender ≡ s →

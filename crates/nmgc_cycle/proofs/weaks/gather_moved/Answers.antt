@@ -1,7 +1,7 @@
 use Rattle.nmgc_cycle.proofs.Vocabulary.{length, get_or, ap, arith, Contains-get_or, Move}
 use Rattle.nmgc_cycle.proofs.weaks.gather_moved.Goals as goal
 
--- what stands for a move where there is none
+-- a default for a missing move
 abbrev nothing : Move
 nothing = record { name = record { maker = 0; serial = 0 }; from = record { 0 = 0 }; to = record { 0 = 0 } }
 

@@ -5,7 +5,7 @@ use Rattle.nmgc_cycle.proofs.weaks.leave_each.Goals as goal
 abbrev nowhere : Address
 nowhere = record { 0 = 0 }
 
--- the places that were looked at, with one more
+-- the addresses visited, and one more
 numbers_more : (xs : List Address) (i : ℕ) → i < length xs → numbers (take (i + 1) xs) ≡ numbers (take i xs) ++ (get_or xs i nowhere).0 ∷ []
 numbers_more xs i lt = ap numbers (take_more xs i nowhere lt) ∙ map-append (λ (a : Address). a.0) (take i xs) (get_or xs i nowhere ∷ [])
 

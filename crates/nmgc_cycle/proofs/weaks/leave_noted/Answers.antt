@@ -1,7 +1,7 @@
 use Rattle.nmgc_cycle.proofs.Vocabulary.{ℕ, ◌≡◌, ◌+◌, ◌<◌, List, [], ◌∷◌, ◌++◌, length, slice_index, take, get_or, append-nil, refl, sym, ap, subst, ◌∙◌, arith, Contains, flat_map-append, take_all, take_more, Contains-get_or, contains_flat, contains_map, NAME_OFFSET, Address, Mutator, numbers, finalised_of, left_of, left_both, left_had, left_is_alive, OldWeak}
 use Rattle.nmgc_cycle.proofs.weaks.leave_noted.Goals as goal
 
--- what the first ones noted, with one more
+-- the notes of the first mutators, and one more
 noted_more : (ms : List Mutator) (i : ℕ) (m : Mutator) → i < length ms →
     finalised_of (take (i + 1) ms) ≡ finalised_of (take i ms) ++ numbers (get_or ms i m).finalised.items
 noted_more ms i m lt =
@@ -57,11 +57,11 @@ loop-mutator-preserved g c =
       deaths = c.leave_each.ensures.deaths ∙ inv.deaths;
     }
 
--- all who are dead were told, so the alive ones are left
+-- all dead weak pointers were noted, so the rest is alive
 pub returns-clause-list : goal.returns-clause-list
 returns-clause-list g c =
     let held : List ℕ = g.W.HeapWords.words c.args.words.now in
     c.loop-mutator.invariant.list ∙
     ap (λ (l : List Mutator). left_of held (finalised_of l) c.args.weaks.now.list)
     (take_all c.loop-mutator.mutator-index c.args.mutators.now c.loop-mutator-test.false) ∙
-    left_is_alive held (finalised_of c.args.mutators.now) c.args.weaks.now.list c.requires.told
+    left_is_alive held (finalised_of c.args.mutators.now) c.args.weaks.now.list c.requires.reported

@@ -1,7 +1,7 @@
 use Rattle.nmgc_cycle.proofs.Vocabulary.{refl, arith, on_ok_weaker}
 use Rattle.nmgc_cycle.proofs.weaks.reserve_queue.Goals as goal
 
--- the number is that of the row, and no less than those that it made
+-- the number is the row's, and not below the number of those that it made
 pub returns : goal.returns
 returns c =
     let counted = c.count.ensures in

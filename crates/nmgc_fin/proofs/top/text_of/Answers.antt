@@ -10,6 +10,6 @@ in_order-requires-clause-alike c = handled_alike c.args.jobs.now c.args.handled.
 pub returns : goal.returns
 returns c =
     let count : length c.in_ok-names.names.items ≡ length c.args.jobs.now = c.in_ok-names.ensures.count in
-    IfOk-weaker c.handled_text.result _ _ (λ text told.
+    IfOk-weaker c.handled_text.result _ _ (λ text reported.
     are_done c.args.jobs.now c.args.handled.now.by c.in_ok-names.names.items text.items c.requires.numbered c.requires.handled count
-    c.in_ok-names.ensures.placed (told ∙ ap jobs_text c.as_slice.ensures.value)) c.handled_text.ensures
+    c.in_ok-names.ensures.placed (reported ∙ ap jobs_text c.as_slice.ensures.value)) c.handled_text.ensures

@@ -1,4 +1,4 @@
-use Rattle.nmgc_image.proofs.{Vocabulary.◌≡◌, Vocabulary.◌∙◌, Vocabulary.List, Vocabulary.ℕ, Vocabulary.ap, Vocabulary.map, Vocabulary.take_all, Vocabulary.IfOk-weaker, Vocabulary.Declared, Vocabulary.TellsNames, Vocabulary.has_key, Vocabulary.key_of, Vocabulary.HaveSame, Keys.names_tell, Keys.names_same}
+use Rattle.nmgc_image.proofs.{Vocabulary.◌≡◌, Vocabulary.◌∙◌, Vocabulary.List, Vocabulary.ℕ, Vocabulary.ap, Vocabulary.map, Vocabulary.take_all, Vocabulary.IfOk-weaker, Vocabulary.Declared, Vocabulary.IsTestOf, Vocabulary.has_key, Vocabulary.key_of, Vocabulary.HaveSame, Keys.names_find, Keys.names_same}
 use Rattle.nmgc_image.proofs.declared.of_names.Goals as goal
 
 pub returns : goal.returns
@@ -6,6 +6,6 @@ returns c =
     let all : c.loop-name.keys.items ≡ map key_of c.args.names.now = c.loop-name.invariant ∙
     ap (map key_of) (take_all c.loop-name.name-index c.args.names.now c.loop-name-test.false) in
     IfOk-weaker c.in_order.result (λ (declared : Declared). HaveSame declared.keys.items c.loop-name.keys.items) (λ (declared : Declared).
-    TellsNames (has_key declared.keys.items) c.args.names.now) (λ declared same.
+    IsTestOf (has_key declared.keys.items) c.args.names.now) (λ declared same.
     names_same (has_key declared.keys.items) (has_key (map key_of c.args.names.now)) c.args.names.now (λ name. same name ∙
-    ap (λ (ks : List ℕ). has_key ks name) all) (names_tell c.args.names.now c.requires)) c.in_order.ensures
+    ap (λ (ks : List ℕ). has_key ks name) all) (names_find c.args.names.now c.requires)) c.in_order.ensures

@@ -1,4 +1,4 @@
-use Rattle.nmgc_image.proofs.Vocabulary.{◌≡◌, ◌∙◌, ℕ, List, ap, sym, subst, map, All, IfOk-weaker, Header, IsReadable, told, told_at, fields_at, begins_unset, made_of, value_in}
+use Rattle.nmgc_image.proofs.Vocabulary.{◌≡◌, ◌∙◌, ℕ, List, ap, sym, subst, map, All, IfOk-weaker, Header, IsReadable, value_words, value_words_at, fields_at, begins_unset, made_of, value_in}
 use Rattle.nmgc_image.proofs.objects.node_at.Goals as goal
 
 pub values_of-requires : goal.values_of-requires
@@ -6,8 +6,8 @@ values_of-requires c =
     let object = c.requires.object in
     let fields : c.as_slice-fields.result.now ≡ fields_at c.args.words.now c.args.at object.header = c.as_slice-fields.ensures.value ∙
     c.in_ok-header.ensures.fields object in
-    let same : c.told.result.now ≡ told_at c.args.words.now c.args.at object.header = c.told.ensures ∙ ap (told c.in_ok-header.header.kind) fields ∙
-    ap (λ (h : Header). told h.kind (fields_at c.args.words.now c.args.at object.header)) (c.in_ok-header.ensures.header object) in
+    let same : c.value_words.result.now ≡ value_words_at c.args.words.now c.args.at object.header = c.value_words.ensures ∙ ap (value_words c.in_ok-header.header.kind) fields ∙
+    ap (λ (h : Header). value_words h.kind (fields_at c.args.words.now c.args.at object.header)) (c.in_ok-header.ensures.header object) in
     subst (All (IsReadable c.args.words.now)) (sym same) (c.requires.readable object)
 
 pub returns : goal.returns
@@ -16,9 +16,9 @@ returns c = λ object.
     let is = c.in_ok-header.ensures.header object in
     let fields : c.as_slice-fields.result.now ≡ fields_at words c.args.at object.header = c.as_slice-fields.ensures.value ∙
     c.in_ok-header.ensures.fields object in
-    let same : c.told.result.now ≡ told_at words c.args.at object.header = c.told.ensures ∙ ap (told c.in_ok-header.header.kind) fields ∙
-    ap (λ (h : Header). told h.kind (fields_at words c.args.at object.header)) is in
-    let values : c.in_ok-values.values ≡ map (value_in words) (told_at words c.args.at object.header) = c.in_ok-values.ensures ∙
+    let same : c.value_words.result.now ≡ value_words_at words c.args.at object.header = c.value_words.ensures ∙ ap (value_words c.in_ok-header.header.kind) fields ∙
+    ap (λ (h : Header). value_words h.kind (fields_at words c.args.at object.header)) is in
+    let values : c.in_ok-values.values ≡ map (value_in words) (value_words_at words c.args.at object.header) = c.in_ok-values.ensures ∙
     ap (map (value_in words)) same in
     let unset : c.begins_unset.result ≡ begins_unset (fields_at words c.args.at object.header) = c.begins_unset.ensures ∙ ap begins_unset fields in
     IfOk-weaker c.make_node.result _ _ (λ node e. e

@@ -1,7 +1,7 @@
 use Rattle.nmgc_image.proofs.{Vocabulary.ℕ, Vocabulary.◌≡◌, Vocabulary.List, Vocabulary.[], Vocabulary.subst, Vocabulary.inl, Vocabulary.inr, Vocabulary.Contains, Vocabulary.nothing_in, Vocabulary.Search, Vocabulary.Visits, Vocabulary.IsRootPlace, Visiting.reaches_in}
 use Rattle.nmgc_image.proofs.places.places_of.Goals as goal
 
--- what a search has that had nothing are the places that were added
+-- a search that began empty has exactly the added addresses
 added : (P : ℕ → Type 0) (s t : Search) → s.order.items ≡ [] → Visits P s t → (at : ℕ) → Contains t.order.items at → P at
 added P s t none v at c = elim (v.only at c) [
   | inl old ↦ absurd (nothing_in at (subst (λ (l : List ℕ). Contains l at) none old))

@@ -1,7 +1,7 @@
 use Rattle.nmgc_image.proofs.{Vocabulary.ℕ, Vocabulary.◌≡◌, Vocabulary.List, Vocabulary.[], Vocabulary.sym, Vocabulary.ap, Vocabulary.subst, Vocabulary.arith, Vocabulary.true, Vocabulary.Contains, Vocabulary.Name, Vocabulary.Layout, Vocabulary.name_in, Vocabulary.has_key, Vocabulary.IsWeakIn, Vocabulary.IsWeakRoot, Searching.visits_none, Visiting.below_start, Visiting.below_next, Visiting.below_all}
 use Rattle.nmgc_image.proofs.places.visit_weaks.Goals as goal
 
--- no name is among none
+-- an empty list has no name
 no_key : (keys : List ℕ) (name : Name) → keys ≡ [] → has_key keys name ≡ true → ⊥
 no_key keys name none has = let e : has_key [] name ≡ true = subst (λ (l : List ℕ). has_key l name ≡ true) none has in cc
 

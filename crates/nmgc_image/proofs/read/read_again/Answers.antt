@@ -9,5 +9,5 @@ returns-in_err-reader c =
 pub returns : goal.returns
 returns c =
     let d = test_of c.args.known.now in
-    c.answer.ensures c.args.bytes.now d c.requires.tells (subst (λ (l : List ℕ).
+    c.answer.ensures c.args.bytes.now d c.requires.agrees (subst (λ (l : List ℕ).
     AreRead d l c.in_ok-reader.reader c.read_lines.new.lines.number c.read_lines.new.lines.rest.now) c.new-lines.ensures.rest c.in_ok-reader.ensures)

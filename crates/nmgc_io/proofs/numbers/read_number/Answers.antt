@@ -12,10 +12,10 @@ returns-then-word-eq1-clause-none c =
     let one : length c.args.word.now ≡ 1 = omega arith in
     one_none c.args.word.now c.args.limit c.with_digit.result (omega arith) one c.with_digit.ensures.none
 
-pub returns-then-not-begins_number-clause-none : goal.returns-then-not-begins_number-clause-none
-returns-then-not-begins_number-clause-none c n le e =
+pub returns-then-not-has_no_leading_zero-clause-none : goal.returns-then-not-has_no_leading_zero-clause-none
+returns-then-not-has_no_leading_zero-clause-none c n le e =
     let begin = begins n c.args.word.now (omega arith) e in
-    let is_true = c.begins_number.ensures.1 begin in cc
+    let is_true = c.has_no_leading_zero.ensures.1 begin in cc
 
 pub returns-in_err-number-clause-none : goal.returns-in_err-number-clause-none
 returns-in_err-number-clause-none c =
@@ -25,7 +25,7 @@ returns-in_err-number-clause-none c =
 
 pub returns-clause-found : goal.returns-clause-found
 returns-clause-found c =
-    let begin = c.if-not-begins_number.ensures.0 refl in (
+    let begin = c.if-not-has_no_leading_zero.ensures.0 refl in (
       reads_whole c.loop-byte.number c.loop-byte.byte-index c.args.word.now (omega arith) (omega arith) c.loop-byte.invariant.value
           c.loop-byte.invariant.digits begin,
       omega arith,

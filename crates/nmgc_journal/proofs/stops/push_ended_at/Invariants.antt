@@ -1,7 +1,7 @@
 use Rattle.nmgc_journal.proofs.Vocabulary.{◌≡◌, ◌++◌, drop, flat_map, ended_at, cycle_text}
 use Rattle.nmgc_journal.proofs.stops.push_ended_at.Given as goal
 
--- the lines so far and those of the rest are all
+-- the lines so far with the lines of the cycles left are all lines
 abbrev pub invariant-loop-cycle : goal.invariant-loop-cycle
 invariant-loop-cycle l = l.out.items ++ flat_map cycle_text (ended_at l.number (drop l.cycle-index l.cycles)) ≡ l.fn.out.items ++
     flat_map cycle_text (ended_at l.number l.cycles)

@@ -1,7 +1,7 @@
 use Rattle.nmgc_journal.proofs.Vocabulary.{ℕ, ◌≡◌, ◌∙◌, List, [], ◌∷◌, ◌++◌, ap, refl, subst, sym, OnOk, flat_map, flat_map-append, Name, Span, names_in, names_of, span_lines, name_line}
 use Rattle.nmgc_journal.proofs.stops.push_name_list.Goals as goal
 
--- the lines of spans are those of their names
+-- the lines of spans are the lines of their names
 lines_in : (word : List ℕ) (spans : List Span) → flat_map (span_lines word) spans ≡ flat_map (name_line word) (names_in spans)
 lines_in word [] = refl
 lines_in word (span ∷ spans) =

@@ -1,7 +1,7 @@
 use Rattle.nmgc_minor.proofs.{Vocabulary.◌≡◌, Vocabulary.◌+◌, Vocabulary.◌-◌, Vocabulary.◌≤◌, Vocabulary.◌*◌, Vocabulary.◌++◌, Vocabulary.zero, Vocabulary.suc, Vocabulary.set, Vocabulary.slice_index, Vocabulary.◌∷◌, Vocabulary.ℕ, Vocabulary.List, Vocabulary.[], Vocabulary.length, Vocabulary.refl, Vocabulary.sym, Vocabulary.ap, Vocabulary.subst, Vocabulary.◌∙◌, Vocabulary.arith, Vocabulary.append_assoc, Vocabulary.length-append, Vocabulary.inl, Vocabulary.inr, Vocabulary.◌<◌, Vocabulary.◌⊎◌, Vocabulary.append-nil, Vocabulary.Layout, Vocabulary.Move, Vocabulary.IsMarked, Vocabulary.HasHeaderWord, Vocabulary.CanPlace, Vocabulary.PlacesOne, Vocabulary.PlacesRange, PlacingLaws.range_none, PlacingLaws.range_skip, PlacingLaws.range_later, PlacingLaws.range_more, PlacingLaws.reaches_none, PlacingLaws.reaches_skip, PlacingLaws.reaches_later, PlacingLaws.reaches_more, PlacingLaws.reaches_room, PlacingLaws.reaches_all}
 use Rattle.nmgc_minor.proofs.nurseries.place_all.Goals as goal
 
--- where there is a word, the part isn't empty
+-- a part with a word isn't empty
 left_of : {A : Type 0} {from to : ℕ} → A ⊎ (from ≡ to) → from < to → A
 left_of (inl a) lt = a
 left_of (inr none) lt = absurd (omega arith)
@@ -111,7 +111,7 @@ loop-at-preserved-then-table-index-ne0 g c =
       same = p.same ∙ unchanged;
     }
 
--- no object was found there
+-- no object was found at this address
 pub loop-at-preserved : goal.loop-at-preserved
 loop-at-preserved g c =
     let i = c.loop-at.invariant in

@@ -1,7 +1,7 @@
 use Rattle.nmgc_minor.proofs.{Vocabulary.◌≡◌, Vocabulary.◌+◌, Vocabulary.◌-◌, Vocabulary.◌*◌, Vocabulary.◌<◌, Vocabulary.◌≤◌, Vocabulary.◌++◌, Vocabulary.ℕ, Vocabulary.List, Vocabulary.[], Vocabulary.length, Vocabulary.refl, Vocabulary.sym, Vocabulary.ap, Vocabulary.subst, Vocabulary.◌∙◌, Vocabulary.arith, Vocabulary.inl, Vocabulary.inr, Vocabulary.append_assoc, Vocabulary.slice_index, Vocabulary.mul-le-mul_right, Vocabulary.append-nil, Vocabulary.length-map, Vocabulary.nursery_place, Vocabulary.Layout, Vocabulary.Nursery, Vocabulary.KeepsReserve, Vocabulary.Move, Vocabulary.nursery_at, Vocabulary.AreNurseries, Vocabulary.CanPlaceAll, Vocabulary.PlacesRange, Vocabulary.map, Listing.nursery_is, PlacingLaws.range_none, PlacingLaws.range_gap, PlacingLaws.range_then, PlacingLaws.still_can_place}
 use Rattle.nmgc_minor.proofs.nurseries.place_nurseries.Goals as goal
 
--- where a nursery lies among all, and where its used part ends
+-- the position of a nursery among all, and the end of its used part
 record Lies (layout : Layout) (base length : ℕ) (n : Nursery) (maker : ℕ) : Type 0 where
   exists : maker < layout.mutators
   at : n.base ≡ base + maker * layout.nursery
@@ -33,7 +33,7 @@ lies layout base table nurseries maker a lt =
       next = omega (arith, flat);
     }
 
--- the same of a nursery that is that one
+-- the same for a nursery equal to it
 lies_by : (layout : Layout) (base : ℕ) (table : List ℕ) (nurseries : List Nursery) (maker : ℕ) (n : Nursery) → AreNurseries layout base table nurseries →
     maker < length nurseries → n ≡ nursery_at nurseries maker → Lies layout base (length table) n maker
 lies_by layout base table nurseries maker n a lt is =

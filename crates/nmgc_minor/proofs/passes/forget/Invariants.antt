@@ -1,7 +1,7 @@
 use Rattle.nmgc_minor.proofs.Vocabulary.{◌≡◌, ◌+◌, ◌⊎◌, ℕ, slice_index, take, Contains}
 use Rattle.nmgc_minor.proofs.passes.forget.Given as goal
 
--- an entry is as it was, or it was freed; and the entries of those gone through are free
+-- an entry is unchanged or was freed; the entries of the objects so far are free
 abbrev pub invariant-loop-at : goal.invariant-loop-at
 invariant-loop-at l = record {
   kept : (k : ℕ) → (slice_index l.table k ≡ slice_index l.initial.table k) ⊎ (slice_index l.table k ≡ 0);

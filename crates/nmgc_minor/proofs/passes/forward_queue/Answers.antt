@@ -8,7 +8,7 @@ same_queue a b e f =
     ap (λ (k : ℕ). let n : FinQueue = record { words = b.words; spare = k } in n) f in
     first ∙ second
 
--- a queue without a young object is as it was
+-- a queue without nursery objects is unchanged
 pub returns-then-is_below : goal.returns-then-is_below
 returns-then-is_below c =
     let q : FinQueue = c.args.queue.now in

@@ -1,7 +1,7 @@
 use Rattle.nmgc_minor.proofs.{Vocabulary.ℕ, Vocabulary.◌≡◌, Vocabulary.◌*◌, Vocabulary.◌%◌, Vocabulary.List, Vocabulary.subst, Vocabulary.arith, Vocabulary.Contains, Vocabulary.Notes, NoteLaws.notes_none}
 use Rattle.nmgc_minor.proofs.starts.note_queue.Goals as goal
 
--- none of its words is young
+-- none of its words points into a nursery
 pub returns-then-is_below : goal.returns-then-is_below
 returns-then-is_below c = notes_none c.args.young.now (Contains c.args.queue.now.words) c.requires.young (λ at high there.
     let even : 2 * at % 2 ≡ 0 = omega arith in

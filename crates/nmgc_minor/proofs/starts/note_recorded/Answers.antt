@@ -1,7 +1,7 @@
 use Rattle.nmgc_minor.proofs.{Vocabulary.ℕ, Vocabulary.◌≡◌, Vocabulary.List, Vocabulary.take, Vocabulary.length, Vocabulary.slice_index, Vocabulary.refl, Vocabulary.subst, Vocabulary.sym, Vocabulary.ap, Vocabulary.◌∙◌, Vocabulary.arith, Vocabulary.Contains, Vocabulary.take_all, Vocabulary.Contains-get_or, Vocabulary.Address, Vocabulary.contains_flat, Vocabulary.Notes, Vocabulary.IsWithin, StartLaws.notes_first, StartLaws.notes_item, StartLaws.notes_flat, StartLaws.within_after}
 use Rattle.nmgc_minor.proofs.starts.note_recorded.Goals as goal
 
--- the fields at these places have the word
+-- the word is in a field at one of these addresses
 abbrev Has : List ℕ → List Address → ℕ → Type 0
 Has words recorded w = (at : Address) × Contains recorded at × (slice_index words at.0 ≡ w)
 

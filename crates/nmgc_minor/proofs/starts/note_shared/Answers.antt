@@ -1,7 +1,7 @@
 use Rattle.std.proofs.Common.{ℕ, ◌≡◌, ◌+◌, ◌-◌, ◌<◌, slice_index, ap, subst, ◌∙◌, arith}
 use Rattle.nmgc_limits.specs.declared.mutators.TheConstants.{SHARED_SLOTS}
 use Rattle.nmgc_minor.specs.Young.{IsWithin}
-use Rattle.nmgc_blocks_spec.specs.Strong.{IsAmong}
+use Rattle.nmgc_stop_spec.specs.Strong.{IsAmong}
 use Rattle.nmgc_minor.proofs.NoteLaws.{notes_as}
 use Rattle.nmgc_minor.proofs.starts.note_shared.Goals as goal
 

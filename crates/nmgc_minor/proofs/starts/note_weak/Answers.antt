@@ -1,6 +1,6 @@
 use Rattle.std.proofs.Common.{ℕ, List, ◌≡◌, ◌+◌, ◌-◌, ◌*◌, ◌<◌, slice_index, length, inl, inr, refl, sym, ap, subst, ◌∙◌, arith}
 use Rattle.nmgc_minor.specs.{Found.IsAliveAt, Young.Notes, Young.IsWithin, Start.IsWeakStart}
-use Rattle.nmgc_blocks_spec.specs.Strong.{IsAmong}
+use Rattle.nmgc_stop_spec.specs.Strong.{IsAmong}
 use Rattle.nmgc_minor.proofs.{NoteLaws.notes_then, StartLaws.within_after}
 use Rattle.nmgc_minor.proofs.starts.note_weak.Goals as goal
 

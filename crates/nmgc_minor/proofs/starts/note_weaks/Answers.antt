@@ -1,7 +1,7 @@
 use Rattle.nmgc_minor.proofs.{Vocabulary.ℕ, Vocabulary.List, Vocabulary.take, Vocabulary.length, Vocabulary.refl, Vocabulary.subst, Vocabulary.sym, Vocabulary.ap, Vocabulary.◌∙◌, Vocabulary.arith, Vocabulary.Contains, Vocabulary.take_all, Vocabulary.Contains-get_or, Vocabulary.Address, Vocabulary.contains_flat, Vocabulary.IsWeakStart, Vocabulary.Notes, StartLaws.notes_first, StartLaws.notes_item, StartLaws.notes_flat, StartLaws.within_after}
 use Rattle.nmgc_minor.proofs.starts.note_weaks.Goals as goal
 
--- the weak pointers at these places are alive, and the word is that of one or one of its parts
+-- the word points to a live weak pointer at one of these addresses, or is a part of it
 abbrev Has : List ℕ → List Address → ℕ → Type 0
 Has words weaks w = (at : Address) × Contains weaks at × IsWeakStart words at w
 

@@ -15,14 +15,14 @@ pub loop-low-preserved-then-word-eq0 : goal.loop-low-preserved-then-word-eq0
 loop-low-preserved-then-word-eq0 c =
     let lt = c.loop-low-test.true in
     deep_less c.args.round.now c.args.seat.now c.loop-low.seat c.load_slot-word.new.seat c.args.at.0 c.args.slots c.loop-low.low c.loop-low.high _
-    c.load_slot-word.result c.requires.own c.loop-low.invariant c.load_slot-word.ensures.view c.load_slot-word.ensures.tells (omega arith) (omega arith)
+    c.load_slot-word.result c.requires.own c.loop-low.invariant c.load_slot-word.ensures.view c.load_slot-word.ensures.shows (omega arith) (omega arith)
     c.if-word-eq0.true
 
 pub loop-low-preserved : goal.loop-low-preserved
 loop-low-preserved c =
     let lt = c.loop-low-test.true in
     deep_more c.args.round.now c.args.seat.now c.loop-low.seat c.load_slot-word.new.seat c.args.at.0 c.args.slots c.loop-low.low c.loop-low.high _
-    c.load_slot-word.result c.requires.own c.loop-low.invariant c.load_slot-word.ensures.view c.load_slot-word.ensures.tells (omega arith) (omega arith)
+    c.load_slot-word.result c.requires.own c.loop-low.invariant c.load_slot-word.ensures.view c.load_slot-word.ensures.shows (omega arith) (omega arith)
     c.if-word-eq0.false
 
 pub returns-clause-depth : goal.returns-clause-depth

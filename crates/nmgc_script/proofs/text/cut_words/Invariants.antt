@@ -1,7 +1,7 @@
 use Rattle.nmgc_script.proofs.Vocabulary.{◌≡◌, ◌+◌, ◌≤◌, ◌++◌, map, length, take, drop, words_of}
 use Rattle.nmgc_script.proofs.text.cut_words.Given as goal
 
--- the words so far and those of the rest are those of the line, and the rest lies in the text from a place on
+-- the tokens so far and the tokens of the rest are the line's tokens, and the rest lies in the text at position `from`
 abbrev pub invariant-loop-word : goal.invariant-loop-word
 invariant-loop-word l = record {
   words : map (λ w. w.now) l.words.items ++ words_of l.rest ≡ words_of l.line;

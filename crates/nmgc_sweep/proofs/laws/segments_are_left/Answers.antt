@@ -4,5 +4,5 @@ use Rattle.nmgc_sweep.proofs.laws.segments_are_left.Goals as goal
 pub returns-clause-stays : goal.returns-clause-stays
 returns-clause-stays c = left_stays
 
-pub returns-clause-counted : goal.returns-clause-counted
-returns-clause-counted c = left_is_counted
+pub returns-clause-add_passes : goal.returns-clause-add_passes
+returns-clause-add_passes c = left_is_counted

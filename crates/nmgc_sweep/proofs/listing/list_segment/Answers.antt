@@ -25,7 +25,7 @@ at-name-requires c =
     (place_named c.args.segments.now c.args.names.now c.args.number block c.layout.ensures.sound c.requires.exists c.requires.waits within
     c.requires.entries)
 
--- the room is for as many as the segment has blocks
+-- there is room for the names of all blocks of the segment
 
 pub add-requires : goal.add-requires
 add-requires c =

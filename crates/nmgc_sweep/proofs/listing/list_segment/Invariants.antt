@@ -1,7 +1,7 @@
 use Rattle.nmgc_sweep.proofs.Vocabulary.{◌+◌, ◌≤◌, InUse, nth, ListsBlocks, IsLost, named_at}
 use Rattle.nmgc_sweep.proofs.listing.list_segment.Given as goal
 
--- the names of the blocks so far are listed, and each took the room of one at most
+-- the names of the blocks so far are listed, and each took the room of at most one name
 abbrev pub invariant-loop-block : goal.invariant-loop-block
 invariant-loop-block l = record {
   had : ListsBlocks (InUse (nth l.segments.segments l.number))

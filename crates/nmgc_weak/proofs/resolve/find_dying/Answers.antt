@@ -21,9 +21,9 @@ is_lost-requires g c =
     IsWithin l x.at.0) (sym c.loop-weak.invariant.words) (c.requires.within x
     (at_contains c.args.list.now c.loop-weak.weak-index nobody c.loop-weak-test.true))
 
--- what the test told, at the words of the start
-told_at : (words now : List ℕ) (P : ℕ → Type 0) (at : ℕ) → now ≡ words → P (slice_index now (key_place at)) → P (slice_index words (key_place at))
-told_at words now P at e p = subst (λ (l : List ℕ). P (slice_index l (key_place at))) e p
+-- the answer of the test, at the words of the start
+known_at : (words now : List ℕ) (P : ℕ → Type 0) (at : ℕ) → now ≡ words → P (slice_index now (key_place at)) → P (slice_index words (key_place at))
+known_at words now P at e p = subst (λ (l : List ℕ). P (slice_index l (key_place at))) e p
 
 pub loop-weak-preserved : goal.loop-weak-preserved
 loop-weak-preserved g c =
@@ -40,7 +40,7 @@ loop-weak-preserved g c =
         capacity = rw w.dying-is (w.push_reserved.ensures.capacity ∙ inv.capacity);
         few = rw w.dying-is (let l = w.push_reserved.ensures.len in let f = inv.few in omega arith);
         each = λ o h.
-            let lost = told_at ws now (λ y. IsLostAt s k.epoch x.at.0 y) x.at.0 inv.words (c.is_lost.ensures.lost.0 w.if-is_lost.true) in
+            let lost = known_at ws now (λ y. IsLostAt s k.epoch x.at.0 y) x.at.0 inv.words (c.is_lost.ensures.lost.0 w.if-is_lost.true) in
             rw (w.dying-is, w.push_reserved.ensures.items) (found_one o ws s k c.args.list.now c.loop-weak.dying.items i nobody h
             c.loop-weak-test.true c.is_lost.ensures.epoch (inv.each o h) lost);
       }
@@ -50,7 +50,7 @@ loop-weak-preserved g c =
         few = rw w.dying-is (let f = inv.few in omega arith);
         each = λ o h.
             let hidden = λ (lost : IsLostAt s k.epoch x.at.0 (slice_index ws (key_place x.at.0))).
-            let t = c.is_lost.ensures.lost.1 (told_at now ws (λ y. IsLostAt s k.epoch x.at.0 y) x.at.0 (sym inv.words) lost) in
+            let t = c.is_lost.ensures.lost.1 (known_at now ws (λ y. IsLostAt s k.epoch x.at.0 y) x.at.0 (sym inv.words) lost) in
             let f = w.if-is_lost.false in (let bad : ⊥ = cc in bad) in
             rw w.dying-is (found_none o ws s k c.args.list.now c.loop-weak.dying.items i nobody h c.loop-weak-test.true c.is_lost.ensures.epoch
             (inv.each o h) hidden);

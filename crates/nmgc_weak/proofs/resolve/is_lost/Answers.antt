@@ -2,7 +2,7 @@ use Rattle.nmgc_weak.proofs.Vocabulary.{◌↔◌, refl, Bool, true, false, slic
 use mathlib.Core.Bool.{not}
 use Rattle.nmgc_weak.proofs.resolve.is_lost.Goals as goal
 
--- a test that fails exactly where its claim doesn't hold
+-- a test that fails exactly if its claim doesn't hold
 fails_where : (b : Bool) (P : Type 0) → (IsTrue b ↔ P) → IsTrue (not b) ↔ (P → ⊥)
 fails_where true P h = ((λ e. absurd cc), (λ none. absurd (none (h.0 refl))))
 fails_where false P h = ((λ e p. absurd (let t = h.1 p in cc)), (λ none. refl))

@@ -1,7 +1,7 @@
 use Rattle.nmgc_weak.proofs.Vocabulary.{◌↔◌, refl, subst, sym, Option, Some, None, IfSome, IfNone, IsSnapshotAt, IsBlockAt, IsTrue, is_some}
 use Rattle.nmgc_weak.proofs.resolve.is_of_snapshot.Goals as goal
 
--- something was found exactly where there is something
+-- a search that finds exactly if there is anything to find
 found : {A : Type 0} (o : Option A) (Q : A → Type 0) (P : Type 0) → IfSome o (λ a. Q a × P) → IfNone o (P → ⊥) → IsTrue (is_some o) ↔ P
 found None Q P some_ none = (λ t. absurd cc, λ p. absurd (none p))
 found (Some a) Q P some_ none = (λ t. some_.1, λ p. refl)

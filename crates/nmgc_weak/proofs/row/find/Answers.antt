@@ -1,7 +1,7 @@
 use Rattle.nmgc_weak.proofs.{Vocabulary.◌+◌, Vocabulary.◌-◌, Vocabulary.◌/◌, Vocabulary.◌<◌, Vocabulary.ℕ, Vocabulary.length, Vocabulary.refl, Vocabulary.arith, Vocabulary.iff_false, Entries.between_first, Entries.between_low, Entries.between_high, Entries.between_none, Entries.halfway, Entries.neither_before, Entries.nth_entry, Entries.entry_there}
 use Rattle.nmgc_weak.proofs.row.find.Goals as goal
 
--- what lies halfway between two places
+-- the position halfway between two positions
 abbrev middle : ℕ → ℕ → ℕ
 middle low high = low + (high - low) / 2
 

@@ -2,7 +2,7 @@ use Rattle.std.proofs.Common.{◌≡◌, ◌++◌, map, take, drop}
 use Rattle.nmgc_weak.proofs.Entries.{marked}
 use Rattle.nmgc_weak.proofs.row.mark_dead.Given as goal
 
--- the dead of the entries so far have left, and the rest are as they were
+-- the dead among the entries so far have left, and the rest are as before
 abbrev pub invariant-loop-entry : goal.invariant-loop-entry
 invariant-loop-entry g l = record {
   words : g.W.HeapWords.words l.words ≡ g.W.HeapWords.words l.fn.words;

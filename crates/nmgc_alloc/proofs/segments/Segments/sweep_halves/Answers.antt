@@ -1,4 +1,4 @@
-use Rattle.nmgc_alloc.proofs.{Vocabulary.◌≡◌, Vocabulary.arith, Vocabulary.Sweeping, Vocabulary.sought_count, CountLaws.told_count, HalvesTells.search_begins, HalvesTells.swept_few, HalvesTells.swept_sweeps, HalvesTells.swept_invariant}
+use Rattle.nmgc_alloc.proofs.{Vocabulary.◌≡◌, Vocabulary.arith, Vocabulary.Sweeping, Vocabulary.sought_count, CountLaws.known_count, HalvesCount.search_begins, HalvesCount.swept_few, HalvesCount.swept_sweeps, HalvesCount.swept_invariant}
 use Rattle.nmgc_alloc.proofs.segments.Segments.sweep_halves.Goals as goal
 
 pub sweep_from-past-requires-clause-from : goal.sweep_from-past-requires-clause-from
@@ -12,9 +12,9 @@ take_up-requires-clause-few g c =
 
 pub overflow_sub-waiting : goal.overflow_sub-waiting
 overflow_sub-waiting g c =
-    let told : c.index-waiting.result.now.count ≡ sought_count Sweeping c.args.self.now.segments =
-    told_count Sweeping _ _ _ _ _ _ _ c.self.view_is c.self.invariant tt c.place.ensures c.index-waiting.ensures in
-    omega (arith, told, c.requires.enough)
+    let known : c.index-waiting.result.now.count ≡ sought_count Sweeping c.args.self.now.segments =
+    known_count Sweeping _ _ _ _ _ _ _ c.self.view_is c.self.invariant tt c.place.ensures c.index-waiting.ensures in
+    omega (arith, known, c.requires.enough)
 
 pub invariant_of-self : goal.invariant_of-self
 invariant_of-self g c =

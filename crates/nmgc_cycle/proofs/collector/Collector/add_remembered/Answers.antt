@@ -3,7 +3,7 @@ use Rattle.nmgc_cycle.specs.declared.progress.Progress.{Progress}
 use Rattle.nmgc_cycle.specs.declared.progress.Progress.TheVariants as doing
 use Rattle.nmgc_cycle.proofs.collector.Collector.add_remembered.Goals as goal
 
--- the list that was lent, and what it has then
+-- the lent list, and its new items
 record HaveLeft (was : List Mutator) (after : List Receiver) (then : Vec Mutator Global) : Type 0 where
   mutators : HaveForgotten was then.items
   lines : (k : ℕ) (n : Mutator) → slice_get then.items k ≡ Some n → IsLined after k n.sender
@@ -19,7 +19,7 @@ left own lent new inbox after same h =
       lines = subst (λ (l : List Mutator). (k : ℕ) (n : Mutator) → slice_get l k ≡ Some n → IsLined after k n.sender) (sym back) there.lines;
     }
 
--- where no cycle marks nothing is added
+-- if no cycle marks nothing is added
 adds_none : (entries : List ℕ) (s : Segments) (p : Progress) → ((m : Marking) → p ≡ doing.Marking m → ⊥) → AddsTo entries s s p p
 adds_none entries s doing.Idle not = (refl, refl)
 adds_none entries s (doing.Marking m) not = absurd (not m refl)

@@ -1,78 +1,48 @@
-use Rattle.nmgc_cycle.proofs.{Vocabulary.ℕ, Vocabulary.◌≡◌, Vocabulary.List, Vocabulary.length, Vocabulary.map, Vocabulary.subst, Vocabulary.sym, Vocabulary.ap, Vocabulary.◌∙◌, Vocabulary.arith, Vocabulary.Some, Vocabulary.Global, Vocabulary.vec_capacity, Vocabulary.with_items, Vocabulary.Vec, Vocabulary.Layout, Vocabulary.Collector, Vocabulary.Worker, Vocabulary.DidSlices, Vocabulary.mutator_of, Vocabulary.seat_of, Vocabulary.done_by, rounds.Helping.can_help, lists.MutatorLists.vec_back, rounds.Opened.CanOpenRounds, rounds.Played.CanMove, rounds.Played.HaveMoved, rounds.Played.are_seated, rounds.Played.counted, rounds.Played.can_play, rounds.Played.played, rounds.Played.left_in, rounds.Played.scanned, rounds.Played.has_all, rounds.Played.seats_at, rounds.Played.did_slices, rounds.Ran.HasBegun, rounds.Ran.may_begin, rounds.Ran.can_open, rounds.Ran.seats_are, rounds.Sliced.positions_counted, rounds.Sliced.positions_fit}
+use Rattle.nmgc_cycle.proofs.{Vocabulary.ℕ, Vocabulary.◌≡◌, Vocabulary.List, Vocabulary.length, Vocabulary.map, Vocabulary.subst, Vocabulary.sym, Vocabulary.ap, Vocabulary.◌∙◌, Vocabulary.arith, Vocabulary.Some, Vocabulary.Global, Vocabulary.vec_capacity, Vocabulary.with_items, Vocabulary.Vec, Vocabulary.Layout, Vocabulary.Collector, Vocabulary.Worker, Vocabulary.DidSlices, Vocabulary.mutator_of, Vocabulary.seat_of, Vocabulary.done_by, rounds.Helping.can_help, lists.MutatorLists.vec_back, rounds.Played.CanMove, rounds.Played.HaveMoved, rounds.Played.are_seated, rounds.Played.counted, rounds.Played.can_play, rounds.Played.played, rounds.Played.left_in, rounds.Played.scanned, rounds.Played.has_all, rounds.Played.seats_at, rounds.Played.did_slices, rounds.Ran.HasBegun, rounds.Ran.may_begin, rounds.Ran.can_open, rounds.Ran.seats_are, rounds.Sliced.positions_counted, rounds.Sliced.positions_fit}
 use Rattle.nmgc_cycle.proofs.collector.Collector.do_slices.Goals as goal
 
 pub start-round-requires-clause-opens : goal.start-round-requires-clause-opens
 start-round-requires-clause-opens g c =
-    let laws : CanOpenRounds = record {
-      quiet = c.a_rest_opens_a_round.ensures;
-      marks = c.a_rest_opens_a_round-2.ensures;
-      rests = c.the_heap_goes_on.ensures.rests;
-      snapshot = c.a_heap_ties_by_blocks.ensures.snapshot;
-    } in
     let script = c.args.script.now in
     let own : Collector = c.args.self.now in
     let o = c.args.opening.now.value in
-    let may = may_begin laws script own o c.unwrap-words.result c.requires.limits c.requires.opens (sym c.take.ensures.value ∙ c.unwrap-words.ensures) in
+    let may = may_begin c.slices_lead.ensures.opens script own o c.unwrap-words.result c.requires.limits c.requires.opens (sym c.take.ensures.value ∙ c.unwrap-words.ensures) in
     can_open script own o may
 
 pub start-round-requires-clause-layout : goal.start-round-requires-clause-layout
 start-round-requires-clause-layout g c =
-    let laws : CanOpenRounds = record {
-      quiet = c.a_rest_opens_a_round.ensures;
-      marks = c.a_rest_opens_a_round-2.ensures;
-      rests = c.the_heap_goes_on.ensures.rests;
-      snapshot = c.a_heap_ties_by_blocks.ensures.snapshot;
-    } in
     let script = c.args.script.now in
     let own : Collector = c.args.self.now in
     let o = c.args.opening.now.value in
-    let may = may_begin laws script own o c.unwrap-words.result c.requires.limits c.requires.opens (sym c.take.ensures.value ∙ c.unwrap-words.ensures) in
+    let may = may_begin c.slices_lead.ensures.opens script own o c.unwrap-words.result c.requires.limits c.requires.opens (sym c.take.ensures.value ∙ c.unwrap-words.ensures) in
     c.layout-layout.ensures.layout ∙ sym may.op.layout_is
 
 pub start-round-requires-clause-marking : goal.start-round-requires-clause-marking
 start-round-requires-clause-marking g c =
-    let laws : CanOpenRounds = record {
-      quiet = c.a_rest_opens_a_round.ensures;
-      marks = c.a_rest_opens_a_round-2.ensures;
-      rests = c.the_heap_goes_on.ensures.rests;
-      snapshot = c.a_heap_ties_by_blocks.ensures.snapshot;
-    } in
     let script = c.args.script.now in
     let own : Collector = c.args.self.now in
     let o = c.args.opening.now.value in
-    let may = may_begin laws script own o c.unwrap-words.result c.requires.limits c.requires.opens (sym c.take.ensures.value ∙ c.unwrap-words.ensures) in
+    let may = may_begin c.slices_lead.ensures.opens script own o c.unwrap-words.result c.requires.limits c.requires.opens (sym c.take.ensures.value ∙ c.unwrap-words.ensures) in
     c.is_marking-marking.ensures ∙ sym may.op.marks
 
-pub seated-requires-clause-count : goal.seated-requires-clause-count
-seated-requires-clause-count g c =
-    let laws : CanOpenRounds = record {
-      quiet = c.a_rest_opens_a_round.ensures;
-      marks = c.a_rest_opens_a_round-2.ensures;
-      rests = c.the_heap_goes_on.ensures.rests;
-      snapshot = c.a_heap_ties_by_blocks.ensures.snapshot;
-    } in
+pub seat_all-requires-clause-count : goal.seat_all-requires-clause-count
+seat_all-requires-clause-count g c =
     let script = c.args.script.now in
     let own : Collector = c.args.self.now in
     let o = c.args.opening.now.value in
-    let may = may_begin laws script own o c.unwrap-words.result c.requires.limits c.requires.opens (sym c.take.ensures.value ∙ c.unwrap-words.ensures) in
+    let may = may_begin c.slices_lead.ensures.opens script own o c.unwrap-words.result c.requires.limits c.requires.opens (sym c.take.ensures.value ∙ c.unwrap-words.ensures) in
     let round = c.start-round.result.round in
     let given = c.start-round.result.mutators in
     let s = c.start-round.ensures in
     let b : HasBegun script own o round given = record { may = may; has = record { opened = s.round.0; seen_are = s.mutators.0; at = s.mutators.1 } } in
     c.replace-own.result.ok.0 ∙ ap (λ v. length v.items) c.replace-own.ensures.value ∙ sym (seats_are script own o round given b)
 
-pub seated-requires-clause-room : goal.seated-requires-clause-room
-seated-requires-clause-room g c =
-    let laws : CanOpenRounds = record {
-      quiet = c.a_rest_opens_a_round.ensures;
-      marks = c.a_rest_opens_a_round-2.ensures;
-      rests = c.the_heap_goes_on.ensures.rests;
-      snapshot = c.a_heap_ties_by_blocks.ensures.snapshot;
-    } in
+pub seat_all-requires-clause-room : goal.seat_all-requires-clause-room
+seat_all-requires-clause-room g c =
     let script = c.args.script.now in
     let own : Collector = c.args.self.now in
     let o = c.args.opening.now.value in
-    let may = may_begin laws script own o c.unwrap-words.result c.requires.limits c.requires.opens (sym c.take.ensures.value ∙ c.unwrap-words.ensures) in
+    let may = may_begin c.slices_lead.ensures.opens script own o c.unwrap-words.result c.requires.limits c.requires.opens (sym c.take.ensures.value ∙ c.unwrap-words.ensures) in
     let had = c.replace-own.result.ok.0 in
     let own_had : length c.replace-own.result.items ≡ length own.mutators.items = ap (λ v. length v.items) c.replace-own.ensures.value in
     let count = may.still.kept.count in
@@ -82,31 +52,19 @@ seated-requires-clause-room g c =
 
 pub work-requires-clause-collector : goal.work-requires-clause-collector
 work-requires-clause-collector g c κs within =
-    let laws : CanOpenRounds = record {
-      quiet = c.a_rest_opens_a_round.ensures;
-      marks = c.a_rest_opens_a_round-2.ensures;
-      rests = c.the_heap_goes_on.ensures.rests;
-      snapshot = c.a_heap_ties_by_blocks.ensures.snapshot;
-    } in
     let script = c.args.script.now in
     let own : Collector = c.args.self.now in
     let o = c.args.opening.now.value in
-    let may = may_begin laws script own o c.unwrap-words.result c.requires.limits c.requires.opens (sym c.take.ensures.value ∙ c.unwrap-words.ensures) in
+    let may = may_begin c.slices_lead.ensures.opens script own o c.unwrap-words.result c.requires.limits c.requires.opens (sym c.take.ensures.value ∙ c.unwrap-words.ensures) in
     let s = c.start-round.ensures in
-    can_help laws c.a_heap_ties_by_blocks.ensures.begins script own may.run may.limits may.still c.start-round.result.round
+    can_help c.slices_lead.ensures.opens c.slices_lead.ensures.tied script own may.run may.limits may.still c.start-round.result.round
     c.start-round.result.collector s.collector.0 o may.opens s.collector.1
 
 pub work-requires-clause-inbox : goal.work-requires-clause-inbox
 work-requires-clause-inbox g c κs within =
-    let laws : CanOpenRounds = record {
-      quiet = c.a_rest_opens_a_round.ensures;
-      marks = c.a_rest_opens_a_round-2.ensures;
-      rests = c.the_heap_goes_on.ensures.rests;
-      snapshot = c.a_heap_ties_by_blocks.ensures.snapshot;
-    } in
     let script = c.args.script.now in
     let own : Collector = c.args.self.now in
-    let may = may_begin laws script own c.args.opening.now.value c.unwrap-words.result c.requires.limits c.requires.opens
+    let may = may_begin c.slices_lead.ensures.opens script own c.args.opening.now.value c.unwrap-words.result c.requires.limits c.requires.opens
     (sym c.take.ensures.value ∙ c.unwrap-words.ensures) in
     let many = ap (λ (l : Layout). l.mutators) may.still.kept.layout in
     let count = may.still.kept.inbox in
@@ -114,154 +72,118 @@ work-requires-clause-inbox g c κs within =
 
 pub work-requires-clause-mutators : goal.work-requires-clause-mutators
 work-requires-clause-mutators g c κs within =
-    let laws : CanOpenRounds = record {
-      quiet = c.a_rest_opens_a_round.ensures;
-      marks = c.a_rest_opens_a_round-2.ensures;
-      rests = c.the_heap_goes_on.ensures.rests;
-      snapshot = c.a_heap_ties_by_blocks.ensures.snapshot;
-    } in
     let script = c.args.script.now in
     let own : Collector = c.args.self.now in
     let o = c.args.opening.now.value in
-    let may = may_begin laws script own o c.unwrap-words.result c.requires.limits c.requires.opens (sym c.take.ensures.value ∙ c.unwrap-words.ensures) in
+    let may = may_begin c.slices_lead.ensures.opens script own o c.unwrap-words.result c.requires.limits c.requires.opens (sym c.take.ensures.value ∙ c.unwrap-words.ensures) in
     let round = c.start-round.result.round in
     let given = c.start-round.result.mutators in
     let s = c.start-round.ensures in
     let b : HasBegun script own o round given = record { may = may; has = record { opened = s.round.0; seen_are = s.mutators.0; at = s.mutators.1 } } in
     let was : List Worker = c.as_mut_slice.result.now in
-    let u = are_seated script own o round given b c.replace-own.result c.replace-own.ensures.value was (c.as_mut_slice.ensures.value ∙ c.seated.ensures.workers) in
-    can_play script own o round was u c.a_round_finds_mutators_ready.ensures c.requires.room
+    let u = are_seated script own o round given b c.replace-own.result c.replace-own.ensures.value was (c.as_mut_slice.ensures.value ∙ c.seat_all.ensures.workers) in
+    can_play script own o round was u c.slices_lead.ensures.ready c.requires.room
 
-pub unseated-left-requires-clause-mutators : goal.unseated-left-requires-clause-mutators
-unseated-left-requires-clause-mutators g c =
-    let laws : CanOpenRounds = record {
-      quiet = c.a_rest_opens_a_round.ensures;
-      marks = c.a_rest_opens_a_round-2.ensures;
-      rests = c.the_heap_goes_on.ensures.rests;
-      snapshot = c.a_heap_ties_by_blocks.ensures.snapshot;
-    } in
+pub unseat_all-left-requires-clause-mutators : goal.unseat_all-left-requires-clause-mutators
+unseat_all-left-requires-clause-mutators g c =
     let script = c.args.script.now in
     let own : Collector = c.args.self.now in
     let o = c.args.opening.now.value in
-    let may = may_begin laws script own o c.unwrap-words.result c.requires.limits c.requires.opens (sym c.take.ensures.value ∙ c.unwrap-words.ensures) in
+    let may = may_begin c.slices_lead.ensures.opens script own o c.unwrap-words.result c.requires.limits c.requires.opens (sym c.take.ensures.value ∙ c.unwrap-words.ensures) in
     let round = c.start-round.result.round in
     let given = c.start-round.result.mutators in
     let s = c.start-round.ensures in
     let b : HasBegun script own o round given = record { may = may; has = record { opened = s.round.0; seen_are = s.mutators.0; at = s.mutators.1 } } in
     let was : List Worker = c.as_mut_slice.result.now in
-    let u = are_seated script own o round given b c.replace-own.result c.replace-own.ensures.value was (c.as_mut_slice.ensures.value ∙ c.seated.ensures.workers) in
+    let u = are_seated script own o round given b c.replace-own.result c.replace-own.ensures.value was (c.as_mut_slice.ensures.value ∙ c.seat_all.ensures.workers) in
     let count = counted script own o round was u in
     let same = ap (λ (l : List Worker). length l) c.as_mut_slice.ensures.value in
-    let all = c.seated.new.workers.ok.0 in
+    let all = c.seat_all.new.workers.ok.0 in
     let had = c.replace-own.result.ok in
     let own_had : length c.replace-own.result.items ≡ length own.mutators.items = ap (λ v. length v.items) c.replace-own.ensures.value in
-    let room = c.seated.ensures.left.1 in
-    let still : vec_capacity c.work.new.self.mutators ≡ vec_capacity c.seated.result = ap (λ (y : Collector). vec_capacity y.mutators) c.work.ensures.rest in (
-      ap (λ (y : Collector). y.mutators.items) c.work.ensures.rest ∙ c.seated.ensures.left.0,
+    let room = c.seat_all.ensures.left.1 in
+    let still : vec_capacity c.work.new.self.mutators ≡ vec_capacity c.seat_all.result = ap (λ (y : Collector). vec_capacity y.mutators) c.work.ensures.rest in (
+      ap (λ (y : Collector). y.mutators.items) c.work.ensures.rest ∙ c.seat_all.ensures.left.0,
       omega (arith, count, same, all, had.0, had.1, own_had, room, still),
     )
 
-pub unseated-left-requires-clause-seats : goal.unseated-left-requires-clause-seats
-unseated-left-requires-clause-seats g c =
-    let laws : CanOpenRounds = record {
-      quiet = c.a_rest_opens_a_round.ensures;
-      marks = c.a_rest_opens_a_round-2.ensures;
-      rests = c.the_heap_goes_on.ensures.rests;
-      snapshot = c.a_heap_ties_by_blocks.ensures.snapshot;
-    } in
+pub unseat_all-left-requires-clause-seats : goal.unseat_all-left-requires-clause-seats
+unseat_all-left-requires-clause-seats g c =
     let script = c.args.script.now in
     let own : Collector = c.args.self.now in
     let o = c.args.opening.now.value in
-    let may = may_begin laws script own o c.unwrap-words.result c.requires.limits c.requires.opens (sym c.take.ensures.value ∙ c.unwrap-words.ensures) in
+    let may = may_begin c.slices_lead.ensures.opens script own o c.unwrap-words.result c.requires.limits c.requires.opens (sym c.take.ensures.value ∙ c.unwrap-words.ensures) in
     let round = c.start-round.result.round in
     let given = c.start-round.result.mutators in
     let s = c.start-round.ensures in
     let b : HasBegun script own o round given = record { may = may; has = record { opened = s.round.0; seen_are = s.mutators.0; at = s.mutators.1 } } in
     let was : List Worker = c.as_mut_slice.result.now in
-    let u = are_seated script own o round given b c.replace-own.result c.replace-own.ensures.value was (c.as_mut_slice.ensures.value ∙ c.seated.ensures.workers) in
+    let u = are_seated script own o round given b c.replace-own.result c.replace-own.ensures.value was (c.as_mut_slice.ensures.value ∙ c.seat_all.ensures.workers) in
     let many = c.requires.lists.seats.1 in
     let count = counted script own o round was u in
     let same = ap (λ (l : List Worker). length l) c.as_mut_slice.ensures.value in
-    let all = c.seated.new.workers.ok.0 in
+    let all = c.seat_all.new.workers.ok.0 in
     (c.requires.lists.seats.0, omega (arith, many, count, same, all))
 
 pub finish-words-requires-clause-seats : goal.finish-words-requires-clause-seats
 finish-words-requires-clause-seats g c =
-    let laws : CanOpenRounds = record {
-      quiet = c.a_rest_opens_a_round.ensures;
-      marks = c.a_rest_opens_a_round-2.ensures;
-      rests = c.the_heap_goes_on.ensures.rests;
-      snapshot = c.a_heap_ties_by_blocks.ensures.snapshot;
-    } in
     let script = c.args.script.now in
     let own : Collector = c.args.self.now in
     let o = c.args.opening.now.value in
-    let may = may_begin laws script own o c.unwrap-words.result c.requires.limits c.requires.opens (sym c.take.ensures.value ∙ c.unwrap-words.ensures) in
+    let may = may_begin c.slices_lead.ensures.opens script own o c.unwrap-words.result c.requires.limits c.requires.opens (sym c.take.ensures.value ∙ c.unwrap-words.ensures) in
     let round = c.start-round.result.round in
     let given = c.start-round.result.mutators in
     let s = c.start-round.ensures in
     let b : HasBegun script own o round given = record { may = may; has = record { opened = s.round.0; seen_are = s.mutators.0; at = s.mutators.1 } } in
     let was : List Worker = c.as_mut_slice.result.now in
-    let u = are_seated script own o round given b c.replace-own.result c.replace-own.ensures.value was (c.as_mut_slice.ensures.value ∙ c.seated.ensures.workers) in
+    let u = are_seated script own o round given b c.replace-own.result c.replace-own.ensures.value was (c.as_mut_slice.ensures.value ∙ c.seat_all.ensures.workers) in
     let new : List Worker = c.work.new.workers in
-    let ran = played script own o round was u c.slices_are_gathered.ensures new c.work.ensures.mutators in
-    let left = left_in c.seated.new.workers was new c.as_mut_slice.ensures.value c.work.ensures.mutators.count in
+    let ran = played script own o round was u c.slices_lead.ensures.gathered new c.work.ensures.mutators in
+    let left = left_in c.seat_all.new.workers was new c.as_mut_slice.ensures.value c.work.ensures.mutators.count in
     let seat = c.work.new.seat in
     let after : Collector = c.work.new.self in
     let has = scanned o round script.config.quota c.start-round.result.collector seat own.heap.segments after.heap.segments own.heap.names own.cycle.progress
     after.cycle.progress s.collector.0 s.collector.1 c.work.ensures.collector in
-    let seats : c.in_place.result ≡ map seat_of new = c.in_place.ensures ∙ c.unseated-left.ensures.seats ∙ ap (λ (l : List Worker). map seat_of l) left in
+    let seats : c.in_place.result ≡ map seat_of new = c.in_place.ensures ∙ c.unseat_all-left.ensures.seats ∙ ap (λ (l : List Worker). map seat_of l) left in
     (seats_at script own o may round new ran seat has c.in_place.result seats, has.at)
 
 pub finish-words-requires-clause-all : goal.finish-words-requires-clause-all
 finish-words-requires-clause-all g c =
-    let laws : CanOpenRounds = record {
-      quiet = c.a_rest_opens_a_round.ensures;
-      marks = c.a_rest_opens_a_round-2.ensures;
-      rests = c.the_heap_goes_on.ensures.rests;
-      snapshot = c.a_heap_ties_by_blocks.ensures.snapshot;
-    } in
     let script = c.args.script.now in
     let own : Collector = c.args.self.now in
     let o = c.args.opening.now.value in
-    let may = may_begin laws script own o c.unwrap-words.result c.requires.limits c.requires.opens (sym c.take.ensures.value ∙ c.unwrap-words.ensures) in
+    let may = may_begin c.slices_lead.ensures.opens script own o c.unwrap-words.result c.requires.limits c.requires.opens (sym c.take.ensures.value ∙ c.unwrap-words.ensures) in
     let round = c.start-round.result.round in
     let given = c.start-round.result.mutators in
     let s = c.start-round.ensures in
     let b : HasBegun script own o round given = record { may = may; has = record { opened = s.round.0; seen_are = s.mutators.0; at = s.mutators.1 } } in
     let was : List Worker = c.as_mut_slice.result.now in
-    let u = are_seated script own o round given b c.replace-own.result c.replace-own.ensures.value was (c.as_mut_slice.ensures.value ∙ c.seated.ensures.workers) in
+    let u = are_seated script own o round given b c.replace-own.result c.replace-own.ensures.value was (c.as_mut_slice.ensures.value ∙ c.seat_all.ensures.workers) in
     let new : List Worker = c.work.new.workers in
-    let ran = played script own o round was u c.slices_are_gathered.ensures new c.work.ensures.mutators in
-    let left = left_in c.seated.new.workers was new c.as_mut_slice.ensures.value c.work.ensures.mutators.count in
+    let ran = played script own o round was u c.slices_lead.ensures.gathered new c.work.ensures.mutators in
+    let left = left_in c.seat_all.new.workers was new c.as_mut_slice.ensures.value c.work.ensures.mutators.count in
     let seat = c.work.new.seat in
     let after : Collector = c.work.new.self in
     let has = scanned o round script.config.quota c.start-round.result.collector seat own.heap.segments after.heap.segments own.heap.names own.cycle.progress
     after.cycle.progress s.collector.0 s.collector.1 c.work.ensures.collector in
-    let seats : c.in_place.result ≡ map seat_of new = c.in_place.ensures ∙ c.unseated-left.ensures.seats ∙ ap (λ (l : List Worker). map seat_of l) left in
-    has_all script own o may round new ran seat has c.slices_are_owed.ensures.gathered c.in_place.result seats
+    let seats : c.in_place.result ≡ map seat_of new = c.in_place.ensures ∙ c.unseat_all-left.ensures.seats ∙ ap (λ (l : List Worker). map seat_of l) left in
+    has_all script own o may round new ran seat has c.slices_lead.ensures.parts c.in_place.result seats
 
 pub advance-requires-clause-count : goal.advance-requires-clause-count
 advance-requires-clause-count g c =
-    let laws : CanOpenRounds = record {
-      quiet = c.a_rest_opens_a_round.ensures;
-      marks = c.a_rest_opens_a_round-2.ensures;
-      rests = c.the_heap_goes_on.ensures.rests;
-      snapshot = c.a_heap_ties_by_blocks.ensures.snapshot;
-    } in
     let script = c.args.script.now in
     let own : Collector = c.args.self.now in
     let o = c.args.opening.now.value in
-    let may = may_begin laws script own o c.unwrap-words.result c.requires.limits c.requires.opens (sym c.take.ensures.value ∙ c.unwrap-words.ensures) in
+    let may = may_begin c.slices_lead.ensures.opens script own o c.unwrap-words.result c.requires.limits c.requires.opens (sym c.take.ensures.value ∙ c.unwrap-words.ensures) in
     let round = c.start-round.result.round in
     let given = c.start-round.result.mutators in
     let s = c.start-round.ensures in
     let b : HasBegun script own o round given = record { may = may; has = record { opened = s.round.0; seen_are = s.mutators.0; at = s.mutators.1 } } in
     let was : List Worker = c.as_mut_slice.result.now in
-    let u = are_seated script own o round given b c.replace-own.result c.replace-own.ensures.value was (c.as_mut_slice.ensures.value ∙ c.seated.ensures.workers) in
+    let u = are_seated script own o round given b c.replace-own.result c.replace-own.ensures.value was (c.as_mut_slice.ensures.value ∙ c.seat_all.ensures.workers) in
     let new : List Worker = c.work.new.workers in
-    let ran = played script own o round was u c.slices_are_gathered.ensures new c.work.ensures.mutators in
-    let left = left_in c.seated.new.workers was new c.as_mut_slice.ensures.value c.work.ensures.mutators.count in
+    let ran = played script own o round was u c.slices_lead.ensures.gathered new c.work.ensures.mutators in
+    let left = left_in c.seat_all.new.workers was new c.as_mut_slice.ensures.value c.work.ensures.mutators.count in
     let done : c.as_slice.result.now ≡ new = c.as_slice.ensures.value ∙ left in
     let positions : c.as_mut_slice-2.result.now ≡ own.positions.items = c.as_mut_slice-2.ensures.value ∙
     ap (λ (y : Collector). y.positions.items) c.work.ensures.rest in
@@ -270,25 +192,19 @@ advance-requires-clause-count g c =
 
 pub advance-requires-clause-fits : goal.advance-requires-clause-fits
 advance-requires-clause-fits g c =
-    let laws : CanOpenRounds = record {
-      quiet = c.a_rest_opens_a_round.ensures;
-      marks = c.a_rest_opens_a_round-2.ensures;
-      rests = c.the_heap_goes_on.ensures.rests;
-      snapshot = c.a_heap_ties_by_blocks.ensures.snapshot;
-    } in
     let script = c.args.script.now in
     let own : Collector = c.args.self.now in
     let o = c.args.opening.now.value in
-    let may = may_begin laws script own o c.unwrap-words.result c.requires.limits c.requires.opens (sym c.take.ensures.value ∙ c.unwrap-words.ensures) in
+    let may = may_begin c.slices_lead.ensures.opens script own o c.unwrap-words.result c.requires.limits c.requires.opens (sym c.take.ensures.value ∙ c.unwrap-words.ensures) in
     let round = c.start-round.result.round in
     let given = c.start-round.result.mutators in
     let s = c.start-round.ensures in
     let b : HasBegun script own o round given = record { may = may; has = record { opened = s.round.0; seen_are = s.mutators.0; at = s.mutators.1 } } in
     let was : List Worker = c.as_mut_slice.result.now in
-    let u = are_seated script own o round given b c.replace-own.result c.replace-own.ensures.value was (c.as_mut_slice.ensures.value ∙ c.seated.ensures.workers) in
+    let u = are_seated script own o round given b c.replace-own.result c.replace-own.ensures.value was (c.as_mut_slice.ensures.value ∙ c.seat_all.ensures.workers) in
     let new : List Worker = c.work.new.workers in
-    let ran = played script own o round was u c.slices_are_gathered.ensures new c.work.ensures.mutators in
-    let left = left_in c.seated.new.workers was new c.as_mut_slice.ensures.value c.work.ensures.mutators.count in
+    let ran = played script own o round was u c.slices_lead.ensures.gathered new c.work.ensures.mutators in
+    let left = left_in c.seat_all.new.workers was new c.as_mut_slice.ensures.value c.work.ensures.mutators.count in
     let done : c.as_slice.result.now ≡ new = c.as_slice.ensures.value ∙ left in
     let positions : c.as_mut_slice-2.result.now ≡ own.positions.items = c.as_mut_slice-2.ensures.value ∙
     ap (λ (y : Collector). y.positions.items) c.work.ensures.rest in
@@ -297,30 +213,24 @@ advance-requires-clause-fits g c =
 
 pub returns : goal.returns
 returns g c =
-    let laws : CanOpenRounds = record {
-      quiet = c.a_rest_opens_a_round.ensures;
-      marks = c.a_rest_opens_a_round-2.ensures;
-      rests = c.the_heap_goes_on.ensures.rests;
-      snapshot = c.a_heap_ties_by_blocks.ensures.snapshot;
-    } in
     let script = c.args.script.now in
     let own : Collector = c.args.self.now in
     let o = c.args.opening.now.value in
-    let may = may_begin laws script own o c.unwrap-words.result c.requires.limits c.requires.opens (sym c.take.ensures.value ∙ c.unwrap-words.ensures) in
+    let may = may_begin c.slices_lead.ensures.opens script own o c.unwrap-words.result c.requires.limits c.requires.opens (sym c.take.ensures.value ∙ c.unwrap-words.ensures) in
     let round = c.start-round.result.round in
     let given = c.start-round.result.mutators in
     let s = c.start-round.ensures in
     let b : HasBegun script own o round given = record { may = may; has = record { opened = s.round.0; seen_are = s.mutators.0; at = s.mutators.1 } } in
     let was : List Worker = c.as_mut_slice.result.now in
-    let u = are_seated script own o round given b c.replace-own.result c.replace-own.ensures.value was (c.as_mut_slice.ensures.value ∙ c.seated.ensures.workers) in
+    let u = are_seated script own o round given b c.replace-own.result c.replace-own.ensures.value was (c.as_mut_slice.ensures.value ∙ c.seat_all.ensures.workers) in
     let new : List Worker = c.work.new.workers in
-    let ran = played script own o round was u c.slices_are_gathered.ensures new c.work.ensures.mutators in
-    let left = left_in c.seated.new.workers was new c.as_mut_slice.ensures.value c.work.ensures.mutators.count in
+    let ran = played script own o round was u c.slices_lead.ensures.gathered new c.work.ensures.mutators in
+    let left = left_in c.seat_all.new.workers was new c.as_mut_slice.ensures.value c.work.ensures.mutators.count in
     let seat = c.work.new.seat in
     let after : Collector = c.work.new.self in
     let has = scanned o round script.config.quota c.start-round.result.collector seat own.heap.segments after.heap.segments own.heap.names own.cycle.progress
     after.cycle.progress s.collector.0 s.collector.1 c.work.ensures.collector in
-    let seats : c.in_place.result ≡ map seat_of new = c.in_place.ensures ∙ c.unseated-left.ensures.seats ∙ ap (λ (l : List Worker). map seat_of l) left in
+    let seats : c.in_place.result ≡ map seat_of new = c.in_place.ensures ∙ c.unseat_all-left.ensures.seats ∙ ap (λ (l : List Worker). map seat_of l) left in
     let done : c.as_slice.result.now ≡ new = c.as_slice.ensures.value ∙ left in
     let positions : c.as_mut_slice-2.result.now ≡ own.positions.items = c.as_mut_slice-2.ensures.value ∙
     ap (λ (y : Collector). y.positions.items) c.work.ensures.rest in
@@ -332,22 +242,22 @@ returns g c =
     let move : HaveMoved own.positions.items (map done_by new) moved =
     subst (λ (l : List ℕ). HaveMoved l (map done_by new) moved) positions (subst (λ (l : List Worker).
     HaveMoved c.as_mut_slice-2.result.now (map done_by l) moved) done c.advance.ensures.each) in
-    let did = did_slices script own o may round new ran seat has c.slices_are_owed.ensures.gathered c.slices_are_owed.ensures.owed
+    let did = did_slices script own o may round new ran seat has c.slices_lead.ensures.parts c.slices_lead.ensures.owed
     c.start-round.result.collector s.collector.1 s.round.0 after.heap.segments c.work.ensures.sound after.cycle.progress c.work.ensures.collector
     c.in_place.result seats c.finish-words.result.words c.finish-words.ensures.leaves after.cycle.collect after.cycle.full c.work.ensures.collect
-    c.work.ensures.full after.inbox c.work.ensures.polled c.unseated-left.new.mutators (with_items after.positions moved)
-    (c.unseated-left.ensures.mutators ∙ ap (λ (l : List Worker). map mutator_of l) left) (ap (λ (l : List ℕ). length l) back ∙
+    c.work.ensures.full after.inbox c.work.ensures.polled c.unseat_all-left.new.mutators (with_items after.positions moved)
+    (c.unseat_all-left.ensures.mutators ∙ ap (λ (l : List Worker). map mutator_of l) left) (ap (λ (l : List ℕ). length l) back ∙
     many) (subst (λ (l : List ℕ). HaveMoved own.positions.items (map done_by new) l) (sym back) move) in
-    let room : c.give_back.new.self ≡ own.workers = c.give_back.ensures ∙ c.unseated-left.ensures.left.1 ∙ c.seated.ensures.room ∙
+    let room : c.give_back.new.self ≡ own.workers = c.give_back.ensures ∙ c.unseat_all-left.ensures.left.1 ∙ c.seat_all.ensures.room ∙
     c.lend-workers.ensures.room in
     subst (λ (n : ℕ). DidSlices script o own (record after {
       heap = record after.heap { words = Some c.finish-words.result.words };
-      mutators = c.unseated-left.new.mutators;
+      mutators = c.unseat_all-left.new.mutators;
       positions = with_items after.positions moved;
       workers = n;
     })) (sym room) (subst (λ (y : Collector). DidSlices script o own (record y {
       heap = record y.heap { words = Some c.finish-words.result.words };
-      mutators = c.unseated-left.new.mutators;
+      mutators = c.unseat_all-left.new.mutators;
       positions = with_items after.positions moved;
       workers = own.workers;
     })) (sym c.work.ensures.rest) did)

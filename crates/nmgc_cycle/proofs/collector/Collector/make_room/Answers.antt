@@ -23,10 +23,10 @@ returns-clause-room c =
     on_both c.reserve_all.result (room_after script own new still c.requires.limits old positions) c.reserve_all.ensures.kept c.reserve_all.ensures.room
   where
     room_after : (script : Script) (own : Collector) (new : List Mutator) {run : Run} → IsAfterStop script own run → IsInLimits script →
-        {lent : List Mutator} {told : List ℕ} → lent ≡ own.mutators.items → told ≡ own.positions.items → AreReserved lent new →
-        ((k : ℕ) (d : Mutator) → k < length lent → HasLists (min script.config.slice (length (left_at script told k))) (slice_index_or new k d)) →
+        {lent : List Mutator} {reported : List ℕ} → lent ≡ own.mutators.items → reported ≡ own.positions.items → AreReserved lent new →
+        ((k : ℕ) (d : Mutator) → k < length lent → HasLists (min script.config.slice (length (left_at script reported k))) (slice_index_or new k d)) →
         HaveSliceRoom script (record own { mutators = with_items own.mutators new })
-    room_after script own new {run} still limits {lent} {told} old positions kept room =
+    room_after script own new {run} still limits {lent} {reported} old positions kept room =
         let reserved : AreReserved own.mutators.items new = subst (λ (l : List Mutator). AreReserved l new) old kept in
         let back : (with_items own.mutators new).items ≡ new = with_items_is own.mutators new (reserved.count ∙ sym own.mutators.ok.0) in
         reserved_room script own (record own {

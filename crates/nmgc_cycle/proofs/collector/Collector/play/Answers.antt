@@ -1,4 +1,4 @@
-use Rattle.nmgc_cycle.proofs.{Vocabulary.◌≡◌, Vocabulary.◌++◌, Vocabulary.List, Vocabulary.[], Vocabulary.◌∷◌, Vocabulary.length, Vocabulary.map, Vocabulary.None, Vocabulary.ap, Vocabulary.sym, Vocabulary.subst, Vocabulary.◌∙◌, Vocabulary.with_items, Vocabulary.length-map, Vocabulary.RoundRows, Vocabulary.Mutator, Vocabulary.Collector, Vocabulary.passed, Vocabulary.worked_on, Vocabulary.upper_worked_on, Vocabulary.DidRound, Vocabulary.is_marking_in, Vocabulary.turns_of, Vocabulary.upper_turns_of, Vocabulary.HaveSliceRoom, Vocabulary.HasInboxRoom, Vocabulary.cleared, Vocabulary.replies_of, lists.MutatorLists.vec_back, rounds.Reserved.reserved_stopped, rounds.Reserved.still_before, stops.Counted.round_counts, stops.Counted.round_counts_upper, rounds.GoneOn.HasLaws, rounds.InboxOn.inbox_before, rounds.InboxOn.inbox_stopped, rounds.RoundWorked.on_ok, rounds.RoundWorked.worked_after, stops.Tried.played_tried}
+use Rattle.nmgc_cycle.proofs.{Vocabulary.◌≡◌, Vocabulary.◌++◌, Vocabulary.List, Vocabulary.[], Vocabulary.◌∷◌, Vocabulary.length, Vocabulary.map, Vocabulary.None, Vocabulary.ap, Vocabulary.sym, Vocabulary.subst, Vocabulary.◌∙◌, Vocabulary.with_items, Vocabulary.length-map, Vocabulary.RoundRows, Vocabulary.Mutator, Vocabulary.Collector, Vocabulary.passed, Vocabulary.worked_on, Vocabulary.upper_worked_on, Vocabulary.DidRound, Vocabulary.is_marking_in, Vocabulary.turns_of, Vocabulary.upper_turns_of, Vocabulary.HaveSliceRoom, Vocabulary.HasInboxRoom, Vocabulary.cleared, Vocabulary.replies_of, lists.MutatorLists.vec_back, rounds.Reserved.reserved_stopped, rounds.Reserved.still_before, stops.Counted.round_counts, stops.Counted.round_counts_upper, rounds.InboxOn.inbox_before, rounds.InboxOn.inbox_stopped, rounds.RoundWorked.on_ok, rounds.RoundWorked.worked_after, stops.Tried.played_tried}
 use Rattle.nmgc_cycle.proofs.collector.Collector.play.Goals as goal
 
 pub opening_of-opening-requires : goal.opening_of-opening-requires
@@ -27,28 +27,6 @@ do_slices-requires-clause-inbox g c κs within = λ marks.
 
 pub returns-clause-worked : goal.returns-clause-worked
 returns-clause-worked g c =
-    let laws : HasLaws = record {
-      opens = record {
-        quiet = c.a_rest_opens_a_round.ensures;
-        marks = c.a_rest_opens_a_round-2.ensures;
-        rests = c.the_heap_goes_on.ensures.rests;
-        snapshot = c.a_heap_ties_by_blocks.ensures.snapshot;
-      };
-      history = c.a_round_is_a_history.ensures;
-      stopped = c.a_round_is_stopped.ensures;
-      finalised = c.finalised_are_told.ensures;
-      holds = c.the_heap_goes_on.ensures.round;
-      goes_on = c.the_machine_goes_on.ensures;
-      is_marking = c.the_marker_leads_a_cycle.ensures.round;
-      pace = c.the_pace_is_kept.ensures.round;
-      frees = c.freed_places_go.ensures.round;
-      swept_holds = c.freed_places_go.ensures.after_round;
-      drops = c.freed_places_go.ensures.remembered;
-      grows = c.freed_places_go.ensures.free;
-      waits = c.a_closed_cycle_sweeps.ensures.marked;
-      left = c.segments_are_left.ensures.stays;
-      counted = c.segments_are_left.ensures.counted;
-    } in
     let script = c.args.script.now in
     let listed : Collector = c.make_room.new.self in
     let roomy : Collector = c.make_inbox_room.new.self in
@@ -56,11 +34,11 @@ returns-clause-worked g c =
     let goes_on : roomy.answered ≡ None = ap (λ (x : Collector). x.answered) c.in_ok-make_inbox_room.ensures.rest ∙
     ap (λ (x : Collector). x.answered) c.in_ok-make_room.ensures.rest ∙ c.requires.stopped.1 in
     let was = c.as_mut_slice.ensures.value in
-    let new : List Mutator = c.taken.new.mutators in
+    let new : List Mutator = c.take_rows.new.mutators in
     let rows : RoundRows = c.in_ok-rows.rows in
     let left : new ≡ map cleared did.mutators.items = c.in_ok-rows.ensures.rest ∙ ap (λ (ms : List Mutator). map cleared ms) was in
     let many : length new ≡ length did.mutators.items = ap (λ (ms : List Mutator). length ms) left ∙ length-map did.mutators.items cleared in
-    let told : rows.replies ≡ replies_of did.mutators.items = c.in_ok-rows.ensures.rows ∙ ap replies_of was in
+    let reported : rows.replies ≡ replies_of did.mutators.items = c.in_ok-rows.ensures.rows ∙ ap replies_of was in
     let own : Collector = c.args.self.now in
     let stopped = reserved_stopped script own listed c.requires.stopped.0 c.in_ok-make_room.ensures.rest c.in_ok-make_room.ensures.mutators in
     let before : (x : Collector) → DidRound script roomy x → DidRound script own x = λ x d. (
@@ -72,8 +50,8 @@ returns-clause-worked g c =
       mutators = with_items did.mutators new;
       rows = record did.rows { rounds = did.rows.rounds ++ rows ∷ [] };
     }) =
-    worked_after laws script roomy did c.opening_of-opening.result.value c.requires.limits goes_on c.opening_of-opening.ensures
-    c.do_slices.ensures (with_items did.mutators new) (vec_back did.mutators new many ∙ left) rows told in
+    worked_after c.a_round_leads.ensures script roomy did c.opening_of-opening.result.value c.requires.limits goes_on c.opening_of-opening.ensures
+    c.do_slices.ensures (with_items did.mutators new) (vec_back did.mutators new many ∙ left) rows reported in
     on_ok c.push.result c.push.ensures.ok (λ pushed. subst (λ (l : List RoundRows).
     DidRound script own (record did { mutators = with_items did.mutators new; rows = record did.rows { rounds = l } })) (sym pushed)
     (before (record did { mutators = with_items did.mutators new; rows = record did.rows { rounds = did.rows.rounds ++ rows ∷ [] } }) worked))
@@ -81,7 +59,7 @@ returns-clause-worked g c =
 pub returns-clause-mutator_turns : goal.returns-clause-mutator_turns
 returns-clause-mutator_turns g c =
     let did : Collector = c.do_slices.new.self in
-    let new : List Mutator = c.taken.new.mutators in
+    let new : List Mutator = c.take_rows.new.mutators in
     let was = c.as_mut_slice.ensures.value in
     let left : new ≡ map cleared did.mutators.items = c.in_ok-rows.ensures.rest ∙ ap (λ (ms : List Mutator). map cleared ms) was in
     let many : length new ≡ length did.mutators.items = ap (λ (ms : List Mutator). length ms) left ∙ length-map did.mutators.items cleared in

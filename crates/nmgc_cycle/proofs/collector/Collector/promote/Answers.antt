@@ -1,8 +1,8 @@
-use Rattle.nmgc_cycle.proofs.{Vocabulary.sym, Vocabulary.subst, Vocabulary.IsFor, Vocabulary.HaveEntries, Vocabulary.Collector, stops.ListOver.can_join, stops.ListOver.finalised_are_told, stops.ListOver.listed, stops.ListOver.promoted, stops.ListOver.stopped_then}
+use Rattle.nmgc_cycle.proofs.{Vocabulary.sym, Vocabulary.subst, Vocabulary.IsFor, Vocabulary.HaveEntries, Vocabulary.Collector, stops.ListOver.can_join, stops.ListOver.finalised_are_listed, stops.ListOver.listed, stops.ListOver.promoted, stops.ListOver.stopped_then}
 use Rattle.nmgc_cycle.proofs.collector.Collector.promote.Goals as goal
 
-pub leave-requires-clause-told : goal.leave-requires-clause-told
-leave-requires-clause-told c = let h = c.requires.stopped in finalised_are_told c.the_list_is_left.ensures h.0 c.args.self.now h.1 h.2
+pub leave-requires-clause-reported : goal.leave-requires-clause-reported
+leave-requires-clause-reported c = let h = c.requires.stopped in finalised_are_listed c.the_list_is_left.ensures h.0 c.args.self.now h.1 h.2
 
 pub move_promoted-requires-clause-words : goal.move_promoted-requires-clause-words
 move_promoted-requires-clause-words c = c.leave.ensures.words.1

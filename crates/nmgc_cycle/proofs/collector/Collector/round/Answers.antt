@@ -8,8 +8,8 @@ pub returns-clause-worked : goal.returns-clause-worked
 returns-clause-worked g c =
     round_met c.args.script.now c.args.self.now c.play.new.self c.meet_all.new.self _ c.meet_all.ensures.rest c.meet_all.ensures.met c.in_ok-play.ensures.worked
 
-pub returns-clause-told : goal.returns-clause-told
-returns-clause-told g c = let t = c.in_ok-play.ensures.told in (t.0, ap (λ (x : Collector). x.rows.rounds) c.meet_all.ensures.rest ∙ t.1)
+pub returns-clause-reported : goal.returns-clause-reported
+returns-clause-reported g c = let t = c.in_ok-play.ensures.reported in (t.0, ap (λ (x : Collector). x.rows.rounds) c.meet_all.ensures.rest ∙ t.1)
 
 pub returns-clause-stops : goal.returns-clause-stops
 returns-clause-stops g c = ap (λ (x : Collector). x.rows.stops) c.meet_all.ensures.rest ∙ c.in_ok-play.ensures.stops

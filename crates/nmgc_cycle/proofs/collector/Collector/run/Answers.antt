@@ -6,9 +6,9 @@ stops-smaller g c =
     let before : List StopRow = c.stops.collector.rows.stops in
     let fits = stop_fits c.args.script.now c.stops.collector c.requires c.stops.invariant in
     let most = fits.within in
-    let told = c.in_ok-stop.ensures.stops in
-    let many = ap (λ (stops : List StopRow). length stops) told.1 in
-    let added = length-append before (told.0 ∷ []) in
+    let reported = c.in_ok-stop.ensures.stops in
+    let many = ap (λ (stops : List StopRow). length stops) reported.1 in
+    let added = length-append before (reported.0 ∷ []) in
     let same = ap (λ (stops : List StopRow). length stops) c.in_ok-round-in-GoOn.ensures.stops in
     omega (arith, most, many, added, same)
 
@@ -22,12 +22,12 @@ into_report-requires-in-HeapFull g c = (c.args.script.now, subst (HasAnswered c.
 
 pub returns-in-Done : goal.returns-in-Done
 returns-in-Done g c =
-    let lawful = c.into_report.ensures.told c.args.script.now
+    let lawful = c.into_report.ensures.reported c.args.script.now
     (subst (HasAnswered c.args.script.now c.stop.new.self) c.in-Done.is c.in_ok-stop.ensures.answered) in
     (lawful_are_of_runs c.args.script.now c.into_report.result c.requires.fits c.requires.few lawful).0
 
 pub returns-in-HeapFull : goal.returns-in-HeapFull
 returns-in-HeapFull g c =
-    let lawful = c.into_report-in-HeapFull.ensures.told c.args.script.now
+    let lawful = c.into_report-in-HeapFull.ensures.reported c.args.script.now
     (subst (HasAnswered c.args.script.now c.stop.new.self) c.in-HeapFull.is c.in_ok-stop.ensures.answered) in
     (lawful_are_of_runs c.args.script.now c.into_report-in-HeapFull.result c.requires.fits c.requires.few lawful).0

@@ -3,7 +3,7 @@ use Rattle.nmgc_collector_laws.specs.Worked.{registers_of}
 use Rattle.nmgc_mark.specs.Marker as after
 use Rattle.nmgc_cycle.proofs.collector.Collector.start_marking.Goals as goal
 
--- the same marking, by what is seen of its marker and its sweeper
+-- the same marking, by the views of its marker and its sweeper
 by_view : (stop : ℕ) (old new : Collector) (marker m : MarkerSeen) (sweeper s : Sweeper) → marker ≡ m → sweeper ≡ s →
     StartsMarking stop old new (record { from = stop; marker = m; last = record { scanned = 0; empty = false }; sweeper = s }) →
     StartsMarking stop old new (record { from = stop; marker = marker; last = record { scanned = 0; empty = false }; sweeper = sweeper })
@@ -81,7 +81,7 @@ returns c =
       from_is = refl;
       last = refl;
       words = (c.snapshot.ensures.words ∙ held, refl);
-      sound = c.layout.ensures.sound;
+      sound = c.segments_are_sound.ensures;
       queue_room = subst (λ (ms : List Mutator). HaveQueueRoom old.heap.weaks.list v.items ms) (sym now) room;
       sweeper = counted_sweeper (all_prepared old.heap.segments) (next_epoch old) sweeper old begun;
       turns = (refl, refl, refl);

@@ -32,8 +32,8 @@ add_remembered-requires-clause-can g c =
     can_add c.args.script.now c.promote.new.self _ (steps.stands_first c.a_stop_leads.ensures c.args.script.now c.args.self.now c.promote.new.self
     c.requires.limits c.requires.can c.in_ok-promoted.ensures.promoted c.in_ok-promoted.ensures.listed)
 
-pub close-requires-clause-can : goal.close-requires-clause-can
-close-requires-clause-can g c =
+pub try_close-requires-clause-can : goal.try_close-requires-clause-can
+try_close-requires-clause-can g c =
     c.a_stop_leads.ensures.close_ready c.args.script.now c.add_remembered.new.self _ c.requires.limits
     (steps.stands_within c.a_stop_leads.ensures c.args.script.now c.args.self.now c.promote.new.self c.requires.limits c.requires.can
     c.in_ok-promoted.ensures.promoted c.in_ok-promoted.ensures.listed c.add_remembered.new.self c.add_remembered.ensures)
@@ -43,14 +43,14 @@ has_left-left-requires g c =
     (steps.stands_ended c.a_stop_leads.ensures c.args.script.now c.args.self.now c.promote.new.self c.requires.limits c.requires.can
     c.in_ok-promoted.ensures.promoted c.in_ok-promoted.ensures.listed c.add_remembered.new.self c.add_remembered.ensures
     (length c.items.result.now) (ap (λ (rows : List StopRow).
-    length rows) c.items.ensures) c.close.new.self c.close.ensures c.end.new.self c.in_ok-end.ensures).kept.positions_are
+    length rows) c.items.ensures) c.try_close.new.self c.try_close.ensures c.end.new.self c.in_ok-end.ensures).kept.positions_are
 
 pub proceed-requires-clause-stands : goal.proceed-requires-clause-stands
 proceed-requires-clause-stands g c κs within =
     steps.at_this_stop c.a_stop_leads.ensures c.args.script.now c.args.self.now c.promote.new.self c.requires.limits c.requires.can
     c.in_ok-promoted.ensures.promoted c.in_ok-promoted.ensures.listed c.add_remembered.new.self c.add_remembered.ensures
     (length c.items.result.now) (ap (λ (rows : List StopRow).
-    length rows) c.items.ensures) c.close.new.self c.close.ensures c.end.new.self c.in_ok-end.ensures
+    length rows) c.items.ensures) c.try_close.new.self c.try_close.ensures c.end.new.self c.in_ok-end.ensures
 
 pub proceed-requires-clause-number : goal.proceed-requires-clause-number
 proceed-requires-clause-number g c κs within =
@@ -58,10 +58,10 @@ proceed-requires-clause-number g c κs within =
     let same = steps.begun_is c.a_stop_leads.ensures c.args.script.now c.args.self.now c.promote.new.self c.requires.limits c.requires.can
     c.in_ok-promoted.ensures.promoted c.in_ok-promoted.ensures.listed c.add_remembered.new.self c.add_remembered.ensures
     (length c.items.result.now) (ap (λ (rows : List StopRow).
-    length rows) c.items.ensures) c.close.new.self c.close.ensures c.end.new.self c.in_ok-end.ensures in
+    length rows) c.items.ensures) c.try_close.new.self c.try_close.ensures c.end.new.self c.in_ok-end.ensures in
     omega (arith, few, same)
 
--- what the stop did, what it read in the end, and why it answers as it does
+-- the steps of the stop, the values read at its end, and the reason for its answer
 
 stepped : (g : Over) (c : goal.After-self-1 g) → IsStepped c.args.script.now c.args.self.now c.proceed.new.self
 stepped g c = record {
@@ -72,8 +72,8 @@ stepped g c = record {
   lists = c.in_ok-promoted.ensures.listed;
   added = c.add_remembered.new.self;
   adds = c.add_remembered.ensures;
-  closed = c.close.new.self;
-  closes = c.close.ensures;
+  closed = c.try_close.new.self;
+  closes = c.try_close.ensures;
   ended = c.end.new.self;
   ends = c.in_ok-end.ensures;
   some = c.has_left-left.result;

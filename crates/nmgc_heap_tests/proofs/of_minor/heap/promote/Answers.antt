@@ -1,7 +1,7 @@
 use Rattle.nmgc_heap_tests.proofs.{Vocabulary.ℕ, Vocabulary.◌≡◌, Vocabulary.List, Vocabulary.◌+◌, Vocabulary.◌*◌, Vocabulary.◌<◌, Vocabulary.◌≤◌, Vocabulary.length, Vocabulary.map, Vocabulary.slice_index, Vocabulary.inl, Vocabulary.sym, Vocabulary.subst, Vocabulary.ap, Vocabulary.◌∙◌, Vocabulary.Contains, Vocabulary.flat_map, Vocabulary.FinQueue, Vocabulary.Nursery, Vocabulary.Address, Vocabulary.begins, Vocabulary.map_contains, Vocabulary.flat_contains, Vocabulary.Inputs, Vocabulary.inputs_by, Vocabulary.words_of, Vocabulary.places_of, Vocabulary.Mutator, Vocabulary.nurseries_of, Vocabulary.PointsWell, Vocabulary.PointsWellAll, Vocabulary.AreParts, Vocabulary.AreMade, Vocabulary.IsChecked, CheckedLaws.checked_can}
 use Rattle.nmgc_heap_tests.proofs.of_minor.heap.promote.Goals as goal
 
--- what each mutator has, all of them have
+-- lists over all mutators, from the lists of each mutator
 abbrev registers : Mutator → List ℕ
 registers m = m.registers
 

@@ -1,7 +1,7 @@
 use Rattle.nmgc_heap_tests.proofs.Vocabulary.{ℕ, ◌≡◌, List, ◌<◌, ◌≤◌, ◌+◌, ◌*◌, length, slice_index, subst, ◌∙◌, Contains, get_or_default, Address, PointsWell}
 use Rattle.nmgc_heap_tests.proofs.of_minor.walk.check_mutator.Goals as goal
 
--- what holds at each index holds of what is contained
+-- a property at each index is a property of each contained word
 each : (P : ℕ → Type 0) (xs ys : List ℕ) → xs ≡ ys → ((k : ℕ) → k < length xs → P (slice_index xs k)) → (y : ℕ) → Contains ys y → P y
 each P xs ys same all y c =
     subst P (get_or_default ys c.0 0 y c.1 ∙ c.2) (subst (λ (l : List ℕ). (k : ℕ) → k < length l → P (slice_index l k)) same all c.0 c.1)

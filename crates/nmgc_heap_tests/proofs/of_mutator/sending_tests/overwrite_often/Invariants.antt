@@ -1,7 +1,7 @@
 use Rattle.nmgc_heap_tests.proofs.Vocabulary.{◌≡◌, ◌+◌, ◌≤◌, small_layout, IsReady}
 use Rattle.nmgc_heap_tests.proofs.of_mutator.sending_tests.overwrite_often.Given as goal
 
--- the mutator is ready for the next store, and has room for those that are left
+-- the mutator is ready for the next store, and has room for the stores that are left
 abbrev pub invariant-loop-number : goal.invariant-loop-number
 invariant-loop-number l = record {
   ready : IsReady l.round l.seat l.mutator;

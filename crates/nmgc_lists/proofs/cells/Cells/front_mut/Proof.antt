@@ -1,12 +1,12 @@
--- `front_mut` lends the first elements of the array as a slice. The borrow checker shows no
--- write-back clause for a part of a `[T; N]`, so this proof walks the code by hand.
+-- `front_mut` lends the first elements of the array as a slice. The borrow checker shows no write-back clause for a part of a
+-- `[T; N]`, so this proof goes through the code by hand.
 use Rattle.nmgc_lists.proofs.Vocabulary.{◌≡◌, refl, sym, ap, ◌∙◌, ℕ, ◌*◌, ◌^◌, ◌<◌, ◌≤◌, mul-le-mul_right, arith, List, [], ◌∷◌, ◌++◌, Ura, Fn, named, w64, inst_fn, Val, vptr, vint, SProp, ent, sep, ex, Fml, Lft, GName, Share, ftrue, flft, Memory, size, Routine, Calls, Loops, WpFn, Tables, Logic, sem, open_ref, ◌⊑◌, AllOutlive, Fun, tables, tables_of, WpFn-mono, Item, ‵, ◌⊛◌, raw, given, some, later, ◌$◌, ◌∵◌, !, qed, by, move, keep, drop, split, split3, join, learn, fsplit, fsplit3, fjoin, use1, use2, await, pick, suffices, frame, done, updating, group, now, show, rewrite, Array, RefMutOf, usize, yes, no, follows, mem, number, layout, Laws, uint_vals, uint_Tells, RattleType, owns, MutBor, MutRef, mut_vals, mut_Tells, plain, nothing, Clauses, Ended, closing, on_entry, Meets, triple_of, entered, says, Stays, stay_dropped, walk_of, ends_at, walked, Goes-dropped, Goes-spent_ref, walk_Meets, length, take, drop_list, take-append-drop, length-drop, length-append, take_all, cells, agg, stop, fld, addr, and_then, no_more, returns, enter, alloc_all, pass_all, free_all, look_at, get, through, sets, lends_Elements, MutSlice, Room, slice_val, at, cut_app, join_app, length-take-le, refill, #self}
 use Rattle.nmgc_lists.proofs.CellsMemory.{args, R, S, start, Left, elements_out, elements_in}
 use Rattle.nmgc_lists.specs.contracts.cells.Cells.front_mut as F
 use Rattle.nmgc_lists.proofs.cells.Cells.front_mut.Statement as stated
 use Rattle.nmgc_lists.proofs.cells.Cells.front_mut.Code as code
 
--- as many elements as were lent, before the rest, are the refilled array
+-- the lent elements' new values before the rest are the refilled array
 refill_front : {X : Type 0} (m : ℕ) (xs ws : List X) → m ≤ length xs → length ws ≡ m
     → ws ++ drop_list m xs ≡ refill (length xs) xs ws
 refill_front m xs ws le e =

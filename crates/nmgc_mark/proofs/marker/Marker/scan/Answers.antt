@@ -1,4 +1,4 @@
-use Rattle.nmgc_mark.proofs.{Vocabulary.◌≡◌, Vocabulary.◌≤◌, Vocabulary.◌∙◌, Vocabulary.refl, Vocabulary.sym, Vocabulary.arith, Vocabulary.true, Vocabulary.scanned_by, Vocabulary.entry_now, Vocabulary.has_results, Vocabulary.marked_none, Scanning.can_scan, Scanning.header_there, Fields.header_told, Fields.result_there, Fields.result_set, Fields.result_unset, Fields.field_within, Fields.next_field, Fields.no_result, Fields.with_result, Fields.marked_more, marker.Marker.scan.Goals.then-has_results+else-result-ne0, marker.Marker.scan.Goals.else-has_results}
+use Rattle.nmgc_mark.proofs.{Vocabulary.◌≡◌, Vocabulary.◌≤◌, Vocabulary.◌∙◌, Vocabulary.refl, Vocabulary.sym, Vocabulary.arith, Vocabulary.true, Vocabulary.scanned_by, Vocabulary.entry_now, Vocabulary.has_results, Vocabulary.marked_none, Scanning.can_scan, Scanning.header_there, Fields.header_known, Fields.result_there, Fields.result_set, Fields.result_unset, Fields.field_within, Fields.next_field, Fields.no_result, Fields.with_result, Fields.marked_more, marker.Marker.scan.Goals.then-has_results+else-result-ne0, marker.Marker.scan.Goals.else-has_results}
 use Rattle.nmgc_mark.proofs.marker.Marker.scan.Goals as goal
 
 pub load-requires : goal.load-requires
@@ -24,7 +24,7 @@ scan_field-result-requires-clause-scanning g c =
     let header = c.header_of-header.result in
     let fields = c.fields_scanned-fields.result in
     let l = c.load.ensures c.args.source.now r.0 r.1 (can_scan r.0 s m c.args.at.0 0 0 r.2 refl) in
-    let t = header_told r.0 s m c.args.at.0 c.load.result fields header r.2 l.1 c.header_of-header.ensures c.fields_scanned-fields.ensures in
+    let t = header_known r.0 s m c.args.at.0 c.load.result fields header r.2 l.1 c.header_of-header.ensures c.fields_scanned-fields.ensures in
     let lt = result_there r.0.opening (entry_now r.0).name header fields t.0 (sym c.has_results.ensures ∙ c.if-has_results.true)
     c.fields_scanned-fields.ensures in (
       c.args.source.now,
@@ -42,7 +42,7 @@ returns-then-result-ne0-clause-done g c = λ v shows h.
     let fields = c.fields_scanned-fields.result in
     let thunk = sym c.has_results.ensures ∙ c.if-has_results.true in
     let l = c.load.ensures c.args.source.now v shows (can_scan v s m c.args.at.0 0 0 h refl) in
-    let t = header_told v s m c.args.at.0 c.load.result fields header h l.1 c.header_of-header.ensures c.fields_scanned-fields.ensures in
+    let t = header_known v s m c.args.at.0 c.load.result fields header h l.1 c.header_of-header.ensures c.fields_scanned-fields.ensures in
     let lt = result_there v.opening (entry_now v).name header fields t.0 thunk c.fields_scanned-fields.ensures in
     let u = scanned_by v c.load.result in
     let w = c.scan_field-result.result in
@@ -63,7 +63,7 @@ loop-field-init g c =
         turns = rw w.self-is w.scan_field-result.ensures.turns;
         each = λ v shows h.
             let l = c.load.ensures c.args.source.now v shows (can_scan v s m c.args.at.0 0 0 h refl) in
-            let t = header_told v s m c.args.at.0 c.load.result fields header h l.1 c.header_of-header.ensures c.fields_scanned-fields.ensures in
+            let t = header_known v s m c.args.at.0 c.load.result fields header h l.1 c.header_of-header.ensures c.fields_scanned-fields.ensures in
             let lt = result_there v.opening (entry_now v).name header fields t.0 (sym c.has_results.ensures ∙ w.if-has_results.true)
             c.fields_scanned-fields.ensures in
             let u = scanned_by v c.load.result in
@@ -80,7 +80,7 @@ loop-field-init g c =
         turns = rw w.self-is refl;
         each = λ v shows h.
             let l = c.load.ensures c.args.source.now v shows (can_scan v s m c.args.at.0 0 0 h refl) in
-            let t = header_told v s m c.args.at.0 c.load.result fields header h l.1 c.header_of-header.ensures c.fields_scanned-fields.ensures in
+            let t = header_known v s m c.args.at.0 c.load.result fields header h l.1 c.header_of-header.ensures c.fields_scanned-fields.ensures in
             rw (w.source-is, w.segments-is, w.self-is, w.first-is) (scanned_by v c.load.result, l.0, t.1);
       }
     ]
@@ -94,7 +94,7 @@ scan_field-requires-clause-scanning g c =
     let s = c.args.segments.now in
     let m = c.args.self.now in
     let l = c.load.ensures c.args.source.now r.0 r.1 (can_scan r.0 s m c.args.at.0 0 0 r.2 refl) in
-    let t = header_told r.0 s m c.args.at.0 c.load.result c.fields_scanned-fields.result c.header_of-header.result r.2 l.1 c.header_of-header.ensures
+    let t = header_known r.0 s m c.args.at.0 c.load.result c.fields_scanned-fields.result c.header_of-header.result r.2 l.1 c.header_of-header.ensures
     c.fields_scanned-fields.ensures in
     let u = c.loop-field.invariant.each r.0 r.1 r.2 in (
       c.args.source.now,
@@ -123,7 +123,7 @@ loop-field-preserved g c =
       turns = c.scan_field.ensures.turns ∙ inv.turns;
       each = λ v shows h.
           let l = c.load.ensures c.args.source.now v shows (can_scan v s m c.args.at.0 0 0 h refl) in
-          let t = header_told v s m c.args.at.0 c.load.result c.fields_scanned-fields.result c.header_of-header.result h l.1 c.header_of-header.ensures
+          let t = header_known v s m c.args.at.0 c.load.result c.fields_scanned-fields.result c.header_of-header.result h l.1 c.header_of-header.ensures
           c.fields_scanned-fields.ensures in
           let u = inv.each v shows h in
           let f = c.scan_field.ensures.tied c.args.source.now u.0 u.1 (u.2.more c.loop-field-test.true).0 in (

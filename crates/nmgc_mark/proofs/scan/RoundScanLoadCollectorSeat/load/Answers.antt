@@ -1,4 +1,4 @@
-use Rattle.nmgc_mark.proofs.{Vocabulary.ap, Vocabulary.arith, Vocabulary.subst, Vocabulary.sym, Vocabulary.word_total, Vocabulary.CanScan, Vocabulary.TellsScan, Vocabulary.Seen, Fields.seat_scanned, Fields.words_in}
+use Rattle.nmgc_mark.proofs.{Vocabulary.ap, Vocabulary.arith, Vocabulary.subst, Vocabulary.sym, Vocabulary.word_total, Vocabulary.CanScan, Vocabulary.FindsScan, Vocabulary.Seen, Fields.seat_scanned, Fields.words_in}
 use Rattle.nmgc_mark.proofs.scan.RoundScanLoadCollectorSeat.load.Goals as goal
 
 pub scan_load-requires-clause-seat : goal.scan_load-requires-clause-seat
@@ -18,5 +18,5 @@ scan_load-requires-clause-within c =
 pub returns : goal.returns
 returns c = λ first v shows can. (
   seat_scanned c.args.self.now first c.args.source.now c.scan_load.new.seat v c.scan_load.result shows c.scan_load.ensures.view,
-  subst (λ (u : Seen). TellsScan u c.scan_load.result) shows.2 c.scan_load.ensures.told,
+  subst (λ (u : Seen). FindsScan u c.scan_load.result) shows.2 c.scan_load.ensures.known,
 )

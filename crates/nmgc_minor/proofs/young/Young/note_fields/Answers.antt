@@ -1,5 +1,5 @@
 use Rattle.std.proofs.Common.{ℕ, List, ap, subst, length, arith}
-use Rattle.nmgc_blocks_spec.specs.{Strong.HasStrong, Strong.IsAmong, laws.Ranges.strong_read, laws.Ranges.strong_has}
+use Rattle.nmgc_stop_spec.specs.{Strong.HasStrong, Strong.IsAmong, laws.Ranges.strong_read, laws.Ranges.strong_has}
 use Rattle.nmgc_minor.specs.Young.{Notes}
 use Rattle.nmgc_minor.proofs.NoteLaws.{notes_as}
 use Rattle.nmgc_minor.proofs.young.Young.note_fields.Goals as goal

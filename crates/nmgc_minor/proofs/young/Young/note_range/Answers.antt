@@ -1,6 +1,6 @@
 use Rattle.std.proofs.Common.{ℕ, List, ◌≡◌, ap, subst, refl, sym, ◌∙◌, length, slice_index, arith}
 use Rattle.nmgc_minor.specs.Young.{Notes}
-use Rattle.nmgc_blocks_spec.specs.Strong.{IsAmong}
+use Rattle.nmgc_stop_spec.specs.Strong.{IsAmong}
 use Rattle.nmgc_minor.proofs.NoteLaws.{among_none, among_more, still_within}
 use Rattle.nmgc_minor.proofs.young.Young.note_range.Goals as goal
 

@@ -1,6 +1,6 @@
 use Rattle.std.proofs.Common.{◌≡◌}
 use Rattle.nmgc_minor.specs.Young.{Notes}
-use Rattle.nmgc_blocks_spec.specs.Strong.{IsAmong}
+use Rattle.nmgc_stop_spec.specs.Strong.{IsAmong}
 use Rattle.nmgc_minor.proofs.young.Young.note_range.Given as goal
 
 abbrev pub invariant-loop-at : goal.invariant-loop-at

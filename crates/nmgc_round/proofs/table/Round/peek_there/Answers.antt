@@ -1,4 +1,4 @@
-use Rattle.nmgc_round.proofs.{Vocabulary.ℕ, Vocabulary.subst, Vocabulary.Mutates, Vocabulary.TellsSlot, Vocabulary.seen, Lifts.peek_allows}
+use Rattle.nmgc_round.proofs.{Vocabulary.ℕ, Vocabulary.subst, Vocabulary.Mutates, Vocabulary.FindsSlot, Vocabulary.seen, Lifts.peek_allows}
 use Rattle.nmgc_round.proofs.table.Round.peek_there.Goals as goal
 
 pub load-requires : goal.load-requires
@@ -11,7 +11,7 @@ load-requires g c =
       rw (place.0, place.1) (peek_allows t.table_id.slots p.id p.me c.requires.seat.1 c.args.at.0 c.args.slot c.requires.ready),
     )
 
-pub returns-clause-tells : goal.returns-clause-tells
-returns-clause-tells g c =
+pub returns-clause-shows : goal.returns-clause-shows
+returns-clause-shows g c =
     let place = c.requires.place in
-    subst (λ (y : ℕ × ℕ). Mutates (λ o p. TellsSlot o p y.0 y.1 c.load.result) (seen c.args.seat.now)) (λ i. (place.0 i, place.1 i)) c.load.ensures.2.0.1
+    subst (λ (y : ℕ × ℕ). Mutates (λ o p. FindsSlot o p y.0 y.1 c.load.result) (seen c.args.seat.now)) (λ i. (place.0 i, place.1 i)) c.load.ensures.2.0.1

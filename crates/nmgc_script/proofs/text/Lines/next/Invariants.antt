@@ -1,7 +1,7 @@
 use Rattle.nmgc_script.proofs.Vocabulary.{◌≡◌, ◌+◌, ◌≤◌, length, lines_of, kept_from}
 use Rattle.nmgc_script.proofs.text.Lines.next.Given as goal
 
--- the lines passed over so far were counted
+-- the lines passed over so far have been counted
 abbrev pub invariant-loop-line : goal.invariant-loop-line
 invariant-loop-line l = record {
   kept : kept_from l.self.number (lines_of l.self.rest.now) ≡ kept_from l.initial.self.number (lines_of l.initial.self.rest.now);

@@ -1,7 +1,7 @@
 use Rattle.nmgc_sweep.proofs.Vocabulary.{◌≡◌, ◌+◌, length, CanList, HaveListed}
 use Rattle.nmgc_sweep.proofs.sweeper.Sweeper.list_first.Given as goal
 
--- so many were listed, and the others can be
+-- the segments so far were listed, and the rest can be
 abbrev pub invariant-loop-listed : goal.invariant-loop-listed
 invariant-loop-listed l = record {
   done : HaveListed l.segments l.names l._listed l.initial.self l.self;

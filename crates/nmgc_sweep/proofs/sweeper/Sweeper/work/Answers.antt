@@ -5,8 +5,8 @@ pub returns-clause-swept : goal.returns-clause-swept
 returns-clause-swept g c =
     let old = c.args.segments.now in
     let new = c.sweep_some-swept.new.segments in
-    let turns = c.counted-self-inside.result in
-    let upper = c.counted-self-inside-2.result in
+    let turns = c.add_passes-self-inside.result in
+    let upper = c.add_passes-self-inside-2.result in
     subst (λ (s : Sweeper). HasSwept old new c.args.names.now c.args.self.now (record s {
       turns = turns;
       upper_turns = upper;
@@ -17,8 +17,8 @@ pub returns-clause-judged : goal.returns-clause-judged
 returns-clause-judged g c =
     let old = c.args.segments.now in
     let new = c.sweep_some-swept.new.segments in
-    let turns = c.counted-self-inside.result in
-    let upper = c.counted-self-inside-2.result in
+    let turns = c.add_passes-self-inside.result in
+    let upper = c.add_passes-self-inside-2.result in
     subst (λ (s : Sweeper). HasJudged old new c.args.names.now c.args.self.now (record s {
       turns = turns;
       upper_turns = upper;
@@ -29,14 +29,14 @@ returns-clause-judged g c =
 pub returns-clause-turns : goal.returns-clause-turns
 returns-clause-turns g c =
     let was : c.self.inside.turns ≡ c.args.self.now.turns = ap (λ (s : Sweeper). s.turns) c.self.view_is in
-    c.counted-self-inside.ensures ∙ ap (λ (n : ℕ). passed n (c.sweep_some-swept.result - c.sweep_some-swept.result / 2)) was
+    c.add_passes-self-inside.ensures ∙ ap (λ (n : ℕ). passed n (c.sweep_some-swept.result - c.sweep_some-swept.result / 2)) was
 
 pub returns-clause-upper_turns : goal.returns-clause-upper_turns
 returns-clause-upper_turns g c =
     let was : c.self.inside.upper_turns ≡ c.args.self.now.upper_turns = ap (λ (s : Sweeper). s.upper_turns) c.self.view_is in
-    c.counted-self-inside-2.ensures ∙ ap (λ (n : ℕ). passed n (c.sweep_some-swept.result / 2)) was
+    c.add_passes-self-inside-2.ensures ∙ ap (λ (n : ℕ). passed n (c.sweep_some-swept.result / 2)) was
 
--- a test for some says no exactly where there is none
+-- a test whether some are left fails exactly if none is
 no_where_none : (numbers : List ℕ) (some : Bool) → (IsTrue some ↔ (numbers ≢ [])) → IsTrue (not some) ↔ (numbers ≡ [])
 no_where_none [] true h = (λ no. refl, λ none. absurd (h.0 refl refl))
 no_where_none [] false h = (λ no. refl, λ none. refl)

@@ -1,4 +1,4 @@
--- `of` makes a value of no bytes, whose ghost field is what the reference shows.
+-- `of` makes a value of no bytes, whose ghost field is the value that the reference shows.
 use Rattle.nmgc_updrem.proofs.Vocabulary.{Ura, Fn, a_type, Val, vptr, vstruct, vcons, vnil, inst_fn, SProp, ent, via, fst∗, snd∗, Fml, Memory, Routine, Calls, Loops, WpFn, Tables, Logic, sem, Fun, fact_use, tables, tables_of, WpFn-mono, ‵, raw, ◌⊛◌, ◌$◌, ◌∵◌, !, qed, move, keep, split, join, fjoin, use0, suffices, done, no_more, and_then, returns, enter, agg, alloc_all, pass_all, free_all, look_at, get, sets, RattleType, owns, yes, Are, Ises, owns_show, showss, param, layouts, Laws, makes_shadow, RefOf, types_at, type_at, plain, nothing, Clauses, closing, on_entry, alive, Meets, triple_of, entered, says, Stays, stay_dropped, walk_of, ends_at, Goes-dropped, walk_Meets, ended, clauses, #self}
 use mathlib.{Core.Path.refl, Core.Path.sym, Core.Path.subst, Core.List.List, Core.List.[], Core.List.◌∷◌, Core.List.◌++◌}
 use Prim.Native.Nat.{ℕ}

@@ -1,14 +1,14 @@
 use Rattle.nmgc_weak.proofs.{Vocabulary.◌≡◌, Vocabulary.◌-◌, Vocabulary.◌⊎◌, Vocabulary.◌↔◌, Vocabulary.◌<◌, Vocabulary.◌≤◌, Vocabulary.ℕ, Vocabulary.List, Vocabulary.false, Vocabulary.get_or, Vocabulary.set, Vocabulary.length, Vocabulary.refl, Vocabulary.ap, Vocabulary.sym, Vocabulary.subst, Vocabulary.◌∙◌, Vocabulary.arith, Vocabulary.Some, Vocabulary.Contains, Vocabulary.insert, Vocabulary.slice_get, Vocabulary.iff_false, Vocabulary.IsBefore, Vocabulary.IsInOrder, Vocabulary.Entry, Vocabulary.OldWeak, Vocabulary.Row, Vocabulary.listed, Vocabulary.entry_names, Entries.before_last, Entries.inserted_count, Entries.inserted_has, Entries.inserted_ordered, Entries.listed_ordered, Entries.neither_before, Entries.read_entry, Entries.reused_list, Entries.reused_ordered, Entries.set_count, row.Row.add.Goals.then-place-gt0+else-not-is_before, row.Row.add.Goals.else-place-gt0}
 use Rattle.nmgc_weak.proofs.row.Row.add.Goals as goal
 
--- the last entry that doesn't come after the name, where there is one
+-- the last entry that doesn't come after the name, if there is any
 last_there : (es read : List Entry) (place : ℕ) (x : Entry) → read ≡ es → 0 < place → place ≤ length read → x ≡ get_or es (place - 1) x →
     slice_get es (place - 1) ≡ Some x
 last_there es read place x same some within is =
     let size = ap length same in
     read_entry es (place - 1) x (omega (arith, size, some, within)) is
 
--- it is of the name, where it isn't before it
+-- it has the name, if it isn't before it
 pub invariant_of-self : goal.invariant_of-self
 invariant_of-self c =
     let es = c.self.inside.entries.items in

@@ -53,13 +53,13 @@ returns-then-self-len-clause-list c =
     let w : OldWeak = record { weak = c.args.weak; at = c.args.at } in
     let found = subst (λ (l : List Entry). IsEntryAt l c.in-Some.place c.args.weak) c.as_slice.ensures.value c.in-Some.ensures.some in
     let list : listed c.self.inside.entries.items ≡ c.args.self.now.list = ap (λ (r : Row). r.list) c.self.view_is in
-    c.move_together.ensures.list ∙ found_leaves c.self.inside.entries.items c.in-Some.place c.args.weak c.self.invariant found
+    c.drop_left_entries.ensures.list ∙ found_leaves c.self.inside.entries.items c.in-Some.place c.args.weak c.self.invariant found
     c.index.result.now c.index_mut-entry.result.now c.args.at c.index.ensures c.if-index-at.false c.index_mut-entry.ensures.value ∙ ap (without w) list
 
 pub returns-then-self-len-clause-ordered : goal.returns-then-self-len-clause-ordered
 returns-then-self-len-clause-ordered c =
     let found = subst (λ (l : List Entry). IsEntryAt l c.in-Some.place c.args.weak) c.as_slice.ensures.value c.in-Some.ensures.some in
-    subst (λ (l : List OldWeak). IsInOrder (names_of l)) (sym c.move_together.ensures.list) (listed_ordered _
+    subst (λ (l : List OldWeak). IsInOrder (names_of l)) (sym c.drop_left_entries.ensures.list) (listed_ordered _
     (found_ordered c.self.inside.entries.items c.in-Some.place c.args.weak c.self.invariant found c.index_mut-entry.result.now
     c.index_mut-entry.ensures.value))
 

@@ -13,6 +13,6 @@ returns-clause-ordered g c =
     let size = c.as_mut_slice.ensures.len in
     let kept = c.mark_dead.auto.entries in
     let all = with_items_is c.self.inside.entries c.mark_dead.new.entries (grind (arith, common_steps, size, kept)) in
-    let list = c.move_together.ensures.list ∙ ap listed all in
+    let list = c.drop_left_entries.ensures.list ∙ ap listed all in
     subst (λ (l : List OldWeak). IsInOrder (names_of l)) (sym list)
     (listed_ordered c.mark_dead.new.entries (subst IsInOrder (sym names) c.self.invariant))

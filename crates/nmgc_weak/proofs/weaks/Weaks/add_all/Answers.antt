@@ -5,7 +5,7 @@ use Rattle.nmgc_weak.proofs.weaks.Weaks.add_all.Goals as goal
 abbrev nobody : OldWeak
 nobody = record { weak = record { maker = 0; serial = 0 }; at = record { 0 = 0 } }
 
--- who is among the first ones doesn't have the name of the next one
+-- the first names don't contain the next one
 apart : (fresh : List OldWeak) (i : ℕ) (x other : OldWeak) → IsInOrder (names_of fresh) → i < length fresh → x ≡ get_or fresh i x →
     Contains (take i fresh) other → other.weak ≢ x.weak
 apart fresh i x other ordered lt is c same =
@@ -16,7 +16,7 @@ apart fresh i x other ordered lt is c same =
     in_order_apart i names x.weak ordered (let long = length-map fresh (λ (w : OldWeak). w.weak) in omega (arith, lt, long))
     (subst (λ (n : Name). Contains (take i names) n) (same ∙ sym here) first)
 
--- one more of those that join
+-- a further weak pointer that joins
 one_more : (old now next first : List OldWeak) (x other : OldWeak) → (Contains now other ↔ (Contains old other ⊎ Contains first other)) →
     (Contains next other ↔ (Contains now other ⊎ (other ≡ x))) → Contains next other ↔ (Contains old other ⊎ Contains (first ++ x ∷ []) other)
 one_more old now next first x other before step = (

@@ -1,7 +1,7 @@
 use Rattle.nmgc_weak.proofs.{Vocabulary.◌≡◌, Vocabulary.◌<◌, Vocabulary.◌≤◌, Vocabulary.ℕ, Vocabulary.eqb, Vocabulary.length, Vocabulary.List, Vocabulary.true, Vocabulary.sym, Vocabulary.ap, Vocabulary.subst, Vocabulary.◌∙◌, Vocabulary.arith, Vocabulary.Some, Vocabulary.Contains, Vocabulary.slice_get, Vocabulary.min, Vocabulary.MAKERS, Vocabulary.eq_true, Vocabulary.OldWeak, Vocabulary.Row, Vocabulary.AreRows, Vocabulary.list_of, Vocabulary.Weaks, Vocabulary.count_made_by, Entries.read_row, RowLaws.counted_in, RowLaws.counted_none}
 use Rattle.nmgc_weak.proofs.weaks.Weaks.count.Goals as goal
 
--- whoever is of a maker is in the maker's row
+-- each weak pointer of a maker is in the maker's row
 in_own : (rows : List Row) (room maker number : ℕ) → AreRows rows room → number ≡ min maker MAKERS → (j : ℕ) (row : Row) (w : OldWeak) →
     slice_get rows j ≡ Some row → Contains row.list w → eqb w.weak.maker maker ≡ true → j ≡ number
 in_own rows room maker number h is j row w at has own =

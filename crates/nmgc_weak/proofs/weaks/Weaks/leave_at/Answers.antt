@@ -7,7 +7,7 @@ use Rattle.nmgc_weak.proofs.{Entries.read_row, RowLaws.alive_at, RowLaws.filtere
 use Rattle.nmgc_weak.proofs.weaks.Weaks.leave_at.Goals as goal
 use Rattle.nmgc_alloc.specs.laws.OneState.{same_name}
 
--- who lies there has the name that was read
+-- the weak pointer there has the name that was read
 named_there : (words : List ℕ) (at : ℕ) (list : List OldWeak) (n : Name) → IsNamedAt words at list → IsName n →
     name_word n ≡ slice_index words (at + NAME_OFFSET) → (w : OldWeak) → Contains list w → w.at.0 ≡ at → w.weak ≡ n
 named_there words at list n named valid read w c here =
@@ -24,7 +24,7 @@ left_there words at number n rows room old new list h is zero_ named valid read 
     left_row words at n rows room h zero_ (λ w c here. named_there words at list n named valid read w (subst (λ (l : List OldWeak). Contains l w) is c) here) old new
     (ap (λ (k : ℕ). slice_get rows k) (sym place) ∙ there) left ∙ ap (λ (l : List OldWeak). left_at words at l) is
 
--- and the rows are rows still
+-- and the rows are still rows
 rows_there : (rows : List Row) (room number : ℕ) (x : OldWeak) (old new : Row) → AreRows rows room → slice_get rows number ≡ Some old →
     new.list ≡ without x old.list → IsInOrder (names_of new.list) → old.spare ≤ new.spare → AreRows (set rows number new) room
 rows_there rows room number x old new h there left ordered spare =
@@ -39,7 +39,7 @@ few_there rows number x old new there left =
     let same = ap length left in
     omega (arith, sum, few, same)
 
--- somebody has that value, and is alive
+-- a weak pointer has that value, and is alive
 pub returns-then-load-ne0-clause-list : goal.returns-then-load-ne0-clause-list
 returns-then-load-ne0-clause-list g c =
     let ws = g.W.HeapWords.words c.args.words.now in
@@ -50,7 +50,7 @@ pub returns-then-load-ne0-clause-ordered : goal.returns-then-load-ne0-clause-ord
 returns-then-load-ne0-clause-ordered g c = list_ordered c.self.inside.rows.items c.self.inside.room c.args.self.now.list c.self.invariant.0
     (ap (λ (a : Weaks). a.list) c.self.view_is)
 
--- what is no name is nobody's
+-- a word that is no name is no weak pointer's name
 pub returns-in_default-clause-list : goal.returns-in_default-clause-list
 returns-in_default-clause-list g c =
     let ws = g.W.HeapWords.words c.args.words.now in
@@ -113,7 +113,7 @@ returns-then-number-count-clause-ordered g c =
     rows_ordered (set rows c.row_of-number.result c.leave.new.self) c.self.inside.room
     (rows_there rows c.self.inside.room c.row_of-number.result x row c.leave.new.self c.self.invariant.0 there left.list left.ordered left.spare)
 
--- no row is of that number, so nobody is of that maker
+-- no row has that number, so no weak pointer has that maker
 pub returns-else-number-count-clause-list : goal.returns-else-number-count-clause-list
 returns-else-number-count-clause-list g c =
     let ws = g.W.HeapWords.words c.args.words.now in

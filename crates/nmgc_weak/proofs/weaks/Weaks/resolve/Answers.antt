@@ -16,7 +16,7 @@ resolved_at o s k words now l m d e f g i h = subst (λ (x : List ℕ).
     HasResolved o x s k m e) (sym f) (subst (λ (y : List OldWeak).
     HasResolved o words s k y e) (sym g) (subst (λ (z : List Death). HasResolved o words s k l z) (sym i) h))
 
--- what was revived, and is lost: from the start to the finalisers
+-- the revived and the lost: from the start to the finalisers
 record AreFound (o : Opening) (words : List ℕ) (s : Segments) (k : MarkerSeen) (list dying : List OldWeak) : Type 0 where
   revived : HasRevived o words s k (places_of list)
   lost : AreLost revived.next (places_of list) dying
@@ -103,7 +103,7 @@ clear_values-requires g c =
     within_at ws (g.W.HeapWords.words c.save_finalisers.new.words) c.find_dying.new.dying.items c.as_slice-5.result.now
     (c.save_finalisers.ensures.words ∙ c.find_dying.ensures.words ∙ c.revive.ensures.words) c.as_slice-5.ensures.value dying
 
--- as many as the rows have, for which there is room
+-- there is room for all that the rows have
 pub revive-requires-clause-wait : goal.revive-requires-clause-wait
 revive-requires-clause-wait g c =
     let inv = c.self.invariant in

@@ -1,0 +1,51 @@
+//! The block of each name after each step of the allocation state; no name lies in two blocks.
+//!
+//! Each function here does nothing; its contract is the law, over the steps of the allocation state.
+//!
+//! The blocks that a sweep keeps are given by the mark bytes, as for `Segments::sweep_next`, or by a list of names, as for a
+//! cycle's census. If these agree, a sweep of either kind is a sweep of the other.
+ghost use Rattle.std.specs.Prelude.{ℕ, ◌≡◌, ◌+◌, ◌⊎◌, ◌↔◌, List, Contains};
+ghost use Rattle.nmgc_world_spec.specs.declared.value.Name.{Name};
+ghost use Rattle.nmgc_object.specs.declared.layout.Layout.{Layout};
+ghost use Rattle.nmgc_segment.specs.Segment.{Segment, IsMarked};
+ghost use Rattle.nmgc_alloc.specs.AllocState.{AllocState, IsAllocState, IsIn, NoneIs, PlacesName, Sweeps, SweepsSome, HoldsKept, LiesIn, LiesNowhere, LieOnce, all_empty, cycle_begun, all_retired, count_in};
+
+use nmgc_segment::State;
+
+/// Proves that a placing puts the name into its block and moves no other name, and that a sweep keeps the names in the marked
+/// blocks and in all other segments. A cycle's beginning and retiring move no names.
+pub fn lie()
+    ensures placing { (layout : Layout) (old new : AllocState) (mutator class : ℕ) (name : Name) → IsAllocState layout old →
+        (p : PlacesName layout old new mutator class name) → (number block : ℕ) (other : Name) → LiesIn new number block other ↔
+        (((other ≡ name) × (number ≡ p.number) × (block ≡ p.block)) ⊎ LiesIn old number block other) }
+    ensures sweeping { (old new : AllocState) (segment : Segment) (epoch swept : ℕ) → Sweeps old new swept (IsMarked segment epoch) →
+        (number block : ℕ) (name : Name) → LiesIn new number block name ↔ (LiesIn old number block name × (number ≡ swept → IsMarked segment epoch block)) }
+    ensures begun { (old : AllocState) (number block : ℕ) (name : Name) → LiesIn (cycle_begun old) number block name ↔ LiesIn old number block name }
+    ensures retired { (old : AllocState) (number block : ℕ) (name : Name) → LiesIn (all_retired old) number block name ↔ LiesIn old number block name }
+{}
+
+/// Proves that a name lies in at most one block, at the beginning and after each step, if placed names lay nowhere before.
+pub fn lie_once()
+    ensures first { (count : ℕ) → LieOnce (all_empty count) }
+    ensures placing { (layout : Layout) (old new : AllocState) (mutator class : ℕ) (name : Name) → PlacesName layout old new mutator class name →
+        LiesNowhere old name → LieOnce old → LieOnce new }
+    ensures sweeping { (old new : AllocState) (segment : Segment) (epoch swept : ℕ) → Sweeps old new swept (IsMarked segment epoch) → LieOnce old →
+        LieOnce new }
+    ensures begun { (old : AllocState) → LieOnce old → LieOnce (cycle_begun old) }
+    ensures retired { (old : AllocState) → LieOnce old → LieOnce (all_retired old) }
+{}
+
+/// Proves when sweeps by marks are sweeps by names: if the marked blocks of a segment are the blocks of the names to be kept.
+/// Sweeps follow one another, and once all segments to be swept have been swept, none is to be swept.
+pub fn are_swept()
+    ensures by_names { (old new : AllocState) (segment : Segment) (epoch swept : ℕ) (kept : List Name) →
+        ((block : ℕ) (name : Name) → LiesIn old swept block name → IsMarked segment epoch block ↔ Contains kept name) →
+        Sweeps old new swept (IsMarked segment epoch) → Sweeps old new swept (HoldsKept (Contains kept) old swept) }
+    ensures none { (kept : List Name) (old : AllocState) → SweepsSome (Contains kept) 0 old old }
+    ensures one_more { (kept : List Name) (count swept : ℕ) (old next new : AllocState) → SweepsSome (Contains kept) count old next →
+        Sweeps next new swept (HoldsKept (Contains kept) next swept) → SweepsSome (Contains kept) (count + 1) old new }
+    ensures count { (kept : List Name) (count : ℕ) (old new : AllocState) → SweepsSome (Contains kept) count old new →
+        count_in State.Sweeping new + count ≡ count_in State.Sweeping old }
+    ensures all { (kept : List Name) (old new : AllocState) → SweepsSome (Contains kept) (count_in State.Sweeping old) old new →
+        NoneIs (IsIn State.Sweeping) new }
+{}

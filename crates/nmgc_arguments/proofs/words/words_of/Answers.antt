@@ -1,9 +1,0 @@
-use Rattle.nmgc_arguments.proofs.{Vocabulary.map, Vocabulary.arith, Vocabulary.Global, Vocabulary.map-append, Vocabulary.string_bytes, Passing.one_more}
-use Rattle.nmgc_arguments.proofs.words.words_of.Goals as goal
-
-pub loop-place-preserved : goal.loop-place-preserved
-loop-place-preserved g c =
-    let at = rw c.in-Some.is at c.in_ok-word.ensures in
-    let grown = one_more (g.L.CommandLine.words c.args.line.now) c.loop-place.place (string_bytes {Z =
-    Global} c.in-Some.word) (map (string_bytes {Z = Global}) c.loop-place.words.items) (omega arith) at c.loop-place.invariant in
-    rw (c.in_ok-push.ensures.items, map-append) grown

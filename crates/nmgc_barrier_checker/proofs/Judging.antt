@@ -1,0 +1,459 @@
+-- Every event can happen or has a reason.
+use Rattle.nmgc_barrier_checker.proofs.Vocabulary.{◌≡◌, ◌≢◌, ◌<◌, ◌≤◌, ℕ, List, [], ◌∷◌, ◌++◌, length, map, refl, sym, ap, subst, ◌∙◌, arith, Bool, true, false, not, cond, inl, inr, ◌⊎◌, eqb, Contains, IsSome, is_some, filter, ◌&&◌, ◌↔◌, cases_Bool, cases_lt, false≢true, and_cases, and_parts, and_from, not-false, eqb-true, eq-eqb, Contains-append_left, Contains-append_right, Contains-append_cases, Name, MutatorState, Command, Reply, is_same_name, World, node_of, IsWorld, step, shared_name, Parts, IsAlive, IsDead, IsKept, Lists, closed, contains_head, contains_tail, contains_cases, nothing_in, one_is, contains_one, step_keeps_world, is_listed, tested_same, is_same_name-refl, contains_listed, not_listed, listed_from, Debt, Cycle, watching, IsWatched, IsPushed, IsAllTaken, IsDeadAmong, Event, Why, CycleResult, Watch, IsUntakenName, IsTaken, keys_then, IsOpenedWith, is_done, CanAct, WhyNoAct, AreDone, StopsAt, mutators_of, IsAbsent, IsAgainst, IsLeft, IsResultWith, is_old, MayFree, WhyKept, Can, IsWhy, AreClosed, EveryEventIsJudged, alive_there}
+use Rattle.nmgc_barrier_checker.specs.declared.event.Event.TheVariants as event
+use Rattle.nmgc_barrier_checker.specs.declared.event.Why.TheVariants as why
+use Rattle.nmgc_barrier_checker.specs.declared.watch.Watch.TheVariants as watch
+use Rattle.nmgc_barrier_checker.proofs.{Filters.kept_in, Filters.in_kept, ClosingLaws.keys_are, ClosingLaws.dead_named, ClosingLaws.needs_listed, CycleLaws.not_both, CycleLaws.not_so, Deciding.Decided, Deciding.search, Deciding.all_names, Deciding.listed, Living.dead_decided, Living.dead_listed, Living.kept_listed, Watched.can_cases, Watched.reply_cases, Watched.after, Watched.watched}
+
+-- an event at a line, at some state of the watch
+abbrev Judged : ℕ → Watch → Event → Type 0
+Judged line p e = ((next : Watch) × Can line p e next) ⊎ ((y : Why) × IsWhy p e y)
+
+with_answer : (line m : ℕ) (c : Command) (answer : Reply) (h next : Cycle) → IsTaken line m c h next → (step h.world m c).1 ≡ answer →
+    IsWatched h line m c answer next
+with_answer line m c answer h next t e = record { can = t.can; says = e; rest = t.rest; opened = t.opened; old = t.old; new = t.new; due = t.due }
+
+-- a command
+given : (line m : ℕ) (c : Command) (answer : Reply) (p : Watch) → AreClosed p → Judged line p (event.Given m c answer)
+given line m c answer (watch.Between w) is = elim (can_cases w m c) [
+  | inl can ↦ elim (reply_cases (step w m c).1 answer) [
+    | inl e ↦ inl (watch.Between (step w m c).0, ((step w m c).0, (can, e, refl), refl))
+    | inr ne ↦ inr (why.Answer (step w m c).1, (can, refl, ne))
+  ]
+  | inr never ↦ inr (why.CannotApply, never)
+]
+given line m c answer (watch.Marking h) is = elim (can_cases h.world m c) [
+  | inl can ↦ elim (reply_cases (step h.world m c).1 answer) [
+    | inl e ↦ inl (
+      watch.Marking (after h is.0 line m c can),
+      (after h is.0 line m c can, with_answer line m c answer h (after h is.0 line m c can) (watched h is.0 line m c can) e, refl),
+    )
+    | inr ne ↦ inr (why.Answer (step h.world m c).1, (can, refl, ne))
+  ]
+  | inr never ↦ inr (why.CannotApply, never)
+]
+given line m c answer (watch.Ended left) is = elim (can_cases left.world m c) [
+  | inl can ↦ elim (reply_cases (step left.world m c).1 answer) [
+    | inl e ↦ inl (watch.Ended (record left { world = (step left.world m c).0 }), ((step left.world m c).0, (can, e, refl), refl))
+    | inr ne ↦ inr (why.Answer (step left.world m c).1, (can, refl, ne))
+  ]
+  | inr never ↦ inr (why.CannotApply, never)
+]
+given line m c answer watch.Stopped is = inr (why.Misplaced, refl)
+
+-- a command of several in one line
+acts : (line m : ℕ) (c : Command) (p : Watch) → AreClosed p → ((next : Watch) × CanAct line m c p next) ⊎ ((y : Why) × WhyNoAct m c p y)
+acts line m c (watch.Between w) is = elim (can_cases w m c) [
+  | inl can ↦ elim (cases_Bool (is_done (step w m c).1)) [
+    | inl done ↦ inl (watch.Between (step w m c).0, ((step w m c).0, (can, done, refl), refl))
+    | inr undone ↦ inr (why.Answer (step w m c).1, (can, refl, undone))
+  ]
+  | inr never ↦ inr (why.CannotApply, never)
+]
+acts line m c (watch.Marking h) is = elim (can_cases h.world m c) [
+  | inl can ↦ elim (cases_Bool (is_done (step h.world m c).1)) [
+    | inl done ↦ inl (watch.Marking (after h is.0 line m c can), (after h is.0 line m c can, watched h is.0 line m c can, done, refl))
+    | inr undone ↦ inr (why.Answer (step h.world m c).1, (can, refl, undone))
+  ]
+  | inr never ↦ inr (why.CannotApply, never)
+]
+acts line m c (watch.Ended left) is = elim (can_cases left.world m c) [
+  | inl can ↦ elim (cases_Bool (is_done (step left.world m c).1)) [
+    | inl done ↦ inl (watch.Ended (record left { world = (step left.world m c).0 }), ((step left.world m c).0, (can, done, refl), refl))
+    | inr undone ↦ inr (why.Answer (step left.world m c).1, (can, refl, undone))
+  ]
+  | inr never ↦ inr (why.CannotApply, never)
+]
+acts line m c watch.Stopped is = inr (why.Misplaced, refl)
+
+still_closed : (line m : ℕ) (c : Command) (p next : Watch) → AreClosed p → CanAct line m c p next → AreClosed next
+still_closed line m c (watch.Between w) next is a = subst AreClosed (sym a.2) (subst IsWorld (sym a.1.2) (step_keeps_world w m c is a.1.0))
+still_closed line m c (watch.Marking h) next is a = subst AreClosed (sym a.3) (
+  subst IsWorld (sym (ap (λ (k : Cycle). k.world) a.1.rest)) (step_keeps_world h.world m c is.0 a.1.can),
+  subst IsWorld (sym (ap (λ (k : Cycle). k.snapshot) a.1.rest)) is.1,
+)
+still_closed line m c (watch.Ended left) next is a = subst AreClosed (sym a.2) (subst IsWorld (sym a.1.2) (step_keeps_world left.world m c is a.1.0))
+still_closed line m c watch.Stopped next is a = absurd a
+
+all_acts : (line m : ℕ) (commands : List Command) (p : Watch) → AreClosed p → ((next : Watch) × AreDone line m commands p next) ⊎
+    ((y : Why) × (last : Watch) × StopsAt line m commands p y last)
+all_acts line m [] p is = inl (p, refl)
+all_acts line m (c ∷ cs) p is = elim (acts line m c p is) [
+  | inl a ↦ elim (all_acts line m cs a.0 (still_closed line m c p a.0 is a.1)) [
+    | inl d ↦ inl (d.0, (a.0, a.1, d.1))
+    | inr s ↦ inr (
+      s.0,
+      s.1,
+      record {
+        before = c ∷ s.2.before;
+        command = s.2.command;
+        later = s.2.later;
+        commands_are = ap (λ (l : List Command). c ∷ l) s.2.commands_are;
+        done = (a.0, a.1, s.2.done);
+        reason = s.2.reason;
+      },
+    )
+  ]
+  | inr r ↦ inr (r.0, p, record { before = []; command = c; later = cs; commands_are = refl; done = refl; reason = r.1 })
+]
+
+some_rows : (line m : ℕ) (commands : List Command) (p : Watch) → AreClosed p → ((next : Watch) × ((m < mutators_of p) × AreDone line m commands p next)) ⊎
+    ((y : Why) × ((line' : ℕ) × (last : Watch) × (StopsAt line' m commands p y last ⊎ IsAbsent m p y last)))
+some_rows line m commands p is = elim (cases_lt m (mutators_of p)) [
+  | inl lt ↦ elim (all_acts line m commands p is) [ inl d ↦ inl (d.0, (lt, d.1)) | inr s ↦ inr (s.0, (line, s.1, inl s.2)) ]
+  | inr le ↦ inr (why.CannotApply, (line, p, inr (refl, (λ lt. let l : m < mutators_of p = lt in omega arith), refl)))
+]
+
+rows : (line m : ℕ) (commands : List Command) (p : Watch) → AreClosed p → Judged line p (event.Rows m commands)
+rows line m commands (watch.Between w) is = some_rows line m commands (watch.Between w) is
+rows line m commands (watch.Marking h) is = some_rows line m commands (watch.Marking h) is
+rows line m commands (watch.Ended left) is = some_rows line m commands (watch.Ended left) is
+rows line m commands watch.Stopped is = inr (why.Misplaced, (line, watch.Stopped, (refl, refl)))
+
+-- marking begins
+mark : (line : ℕ) (p : Watch) → Judged line p event.Mark
+mark line (watch.Between w) = inl (watch.Marking (watching w), refl)
+mark line (watch.Marking h) = inr (why.Misplaced, refl)
+mark line (watch.Ended left) = inl (watch.Marking (watching left.world), refl)
+mark line watch.Stopped = inr (why.Misplaced, refl)
+
+-- a push
+module _ (h : Cycle) (name : Name) where
+  abbrev joins : List Name
+  joins = cond (is_some (node_of h.snapshot name)) (h.remembered ++ name ∷ []) h.remembered
+
+  joined_names : (n : Name) → Contains joins n ↔ (Contains h.remembered n ⊎ ((n ≡ name) × IsSome (node_of h.snapshot n)))
+  joined_names n = by_test (is_some (node_of h.snapshot name)) refl
+    where
+      by_test : (b : Bool) → is_some (node_of h.snapshot name) ≡ b → Contains (cond b (h.remembered ++ name ∷ []) h.remembered) n ↔
+          (Contains h.remembered n ⊎ ((n ≡ name) × IsSome (node_of h.snapshot n)))
+      by_test true e = (
+        λ c. elim (Contains-append_cases h.remembered (name ∷ []) n c) [
+          | inl old ↦ inl old
+          | inr new ↦ inr (sym (one_is name n new), subst (λ (x : Name). is_some (node_of h.snapshot x) ≡ true) (one_is name n new) e)
+        ],
+        λ c. elim c [
+          | inl old ↦ Contains-append_left h.remembered (name ∷ []) n old
+          | inr p ↦ Contains-append_right h.remembered (name ∷ []) n (subst (λ (x : Name). Contains (name ∷ []) x) (sym p.0) (contains_one name))
+        ],
+      )
+      by_test false e = (
+        λ c. inl c,
+        λ c. elim c [
+          | inl old ↦ old
+          | inr p ↦ absurd (let t : is_some (node_of h.snapshot name) ≡ true = subst (λ (x : Name). IsSome (node_of h.snapshot x)) p.0 p.1 in
+              false≢true (sym e ∙ t))
+        ],
+      )
+
+  abbrev other : Debt → Bool
+  other d = not (is_same_name d.name name)
+
+  abbrev pushed_next : Cycle
+  pushed_next = record h { remembered = joins; debts = filter other h.debts }
+
+  pushed : IsSome (node_of h.world name) → IsPushed h name pushed_next
+  pushed there = record {
+    there = there;
+    rest = refl;
+    remembered = joined_names;
+    debts = λ d. (
+      λ c. let p : Contains h.debts d × (other d ≡ true) = in_kept other h.debts d c in (
+        p.0,
+        λ e. let t : is_same_name d.name name ≡ true = subst (λ (x : Name). is_same_name d.name x ≡ true) e (is_same_name-refl d.name) in
+            let bad : not true ≡ true = subst (λ (b : Bool). not b ≡ true) t p.1 in cc,
+      ),
+      λ c. kept_in other h.debts d c.0 (elim (cases_Bool (is_same_name d.name name)) [
+        | inl t ↦ absurd (c.1 (tested_same d.name name t))
+        | inr f ↦ ap not f
+      ]),
+    );
+  }
+
+push : (line : ℕ) (name : Name) (p : Watch) → Judged line p (event.Push name)
+push line name (watch.Between w) = inr (why.Misplaced, refl)
+push line name (watch.Marking h) = elim (cases_Bool (is_some (node_of h.world name))) [
+  | inl t ↦ inl (watch.Marking (pushed_next h name), (pushed_next h name, pushed h name t, refl))
+  | inr f ↦ inr (why.NoSuchName name, (refl, λ there. let t : is_some (node_of h.world name) ≡ true = there in false≢true (sym f ∙ t)))
+]
+push line name (watch.Ended left) = inr (why.Misplaced, refl)
+push line name watch.Stopped = inr (why.Misplaced, refl)
+
+-- a mutator that has settled
+settle : (line m : ℕ) (p : Watch) → Judged line p (event.Settle m)
+settle line m (watch.Between w) = inr (why.Misplaced, refl)
+settle line m (watch.Marking h) = elim (cases_lt m (length h.world.mutators)) [
+  | inl lt ↦ elim (search (λ (d : Debt). eqb d.mutator m) h.debts) [
+    | inl f ↦ inr (why.Due f.0, inl (f.0, refl, f.1, eqb-true f.0.mutator m f.2))
+    | inr none ↦ inl (watch.Marking h, ((lt, λ d c own. false≢true (sym (none d c) ∙ eq-eqb d.mutator m own)), refl))
+  ]
+  | inr le ↦ inr (why.CannotApply, inr (refl, λ lt. let l : m < length h.world.mutators = lt in omega arith))
+]
+settle line m (watch.Ended left) = inr (why.Misplaced, refl)
+settle line m watch.Stopped = inr (why.Misplaced, refl)
+
+-- a take
+take : (line : ℕ) (name : Name) (p : Watch) → Judged line p (event.Take name)
+take line name (watch.Between w) = inr (why.Misplaced, refl)
+take line name (watch.Marking h) = elim (cases_Bool (is_listed name h.remembered)) [
+  | inl t ↦ inl (
+    watch.Marking (record h { taken = h.taken ++ name ∷ [] }),
+    (
+      record h { taken = h.taken ++ name ∷ [] },
+      record {
+        pushed = contains_listed name h.remembered t;
+        rest = refl;
+        taken = λ n. (
+          λ c. elim (Contains-append_cases h.taken (name ∷ []) n c) [ inl old ↦ inl old | inr new ↦ inr (sym (one_is name n new)) ],
+          λ c. elim c [
+            | inl old ↦ Contains-append_left h.taken (name ∷ []) n old
+            | inr e ↦
+                Contains-append_right h.taken (name ∷ []) n (subst (λ (x : Name). Contains (name ∷ []) x) (sym e) (contains_one name))
+          ],
+        );
+      },
+      refl,
+    ),
+  )
+  | inr f ↦ inr (why.NotPushed name, (refl, not_listed name h.remembered f))
+]
+take line name (watch.Ended left) = inr (why.Misplaced, refl)
+take line name watch.Stopped = inr (why.Misplaced, refl)
+
+-- the reasons against an end
+least : (debts : List Debt) → (debts ≡ []) ⊎ ((d : Debt) × Contains debts d × ((o : Debt) → Contains debts o → d.line ≤ o.line))
+least [] = inl refl
+least (x ∷ xs) = elim (least xs) [
+  | inl e ↦ inr (
+    x,
+    contains_head x xs,
+    λ o c. elim (contains_cases x xs o c) [
+      | inl same ↦ let is : x.line ≡ o.line = ap (λ (d : Debt). d.line) same in omega arith
+      | inr d ↦ absurd (nothing_in o (subst (λ (l : List Debt). Contains l o) e d))
+    ],
+  )
+  | inr p ↦ elim (cases_lt p.0.line x.line) [
+    | inl lt ↦ inr (
+      p.0,
+      contains_tail x xs p.0 p.1,
+      λ o c. elim (contains_cases x xs o c) [
+        | inl same ↦ let is : x.line ≡ o.line = ap (λ (d : Debt). d.line) same in omega arith
+        | inr d ↦ p.2 o d
+      ],
+    )
+    | inr le ↦ inr (
+      x,
+      contains_head x xs,
+      λ o c. elim (contains_cases x xs o c) [
+        | inl same ↦ let is : x.line ≡ o.line = ap (λ (d : Debt). d.line) same in omega arith
+        | inr d ↦ let less : p.0.line ≤ o.line = p.2 o d in omega arith
+      ],
+    )
+  ]
+]
+
+empty_cases : (names : List Name) → (names ≡ []) ⊎ (names ≢ [])
+empty_cases [] = inl refl
+empty_cases (x ∷ xs) = inr (λ e. cc)
+
+untaken_cases : (h : Cycle) → IsAllTaken h ⊎ ((name : Name) × IsUntakenName h name)
+untaken_cases h = elim (empty_cases h.taken) [
+  | inl e ↦ inl (inl e)
+  | inr some ↦ elim (search (λ n. not (is_same_name n shared_name) && not (is_listed n h.taken)) h.remembered) [
+    | inl f ↦
+        let p : (not (is_same_name f.0 shared_name) ≡ true) ×
+        (not (is_listed f.0 h.taken) ≡ true) = and_parts (not (is_same_name f.0 shared_name)) (not (is_listed f.0 h.taken)) f.2 in
+        inr (
+          f.0,
+          (
+            some,
+            f.1,
+            λ e. let t : is_same_name f.0 shared_name ≡ true = subst (λ (x : Name). is_same_name x shared_name ≡ true) (sym e) (is_same_name-refl shared_name) in
+                let bad : not true ≡ true = subst (λ (b : Bool). not b ≡ true) t p.0 in cc,
+            λ c. let t : is_listed f.0 h.taken ≡ true = listed_from f.0 h.taken c in let bad : not true ≡ true = subst (λ (b : Bool). not b ≡ true) t p.1 in cc,
+          ),
+        )
+    | inr none ↦ inl (inr (λ n c ne. elim (and_cases (not (is_same_name n shared_name)) (not (is_listed n h.taken)) (none n c)) [
+      | inl same ↦ absurd (ne (tested_same n shared_name (not-false (is_same_name n shared_name) same)))
+      | inr there ↦ contains_listed n h.taken (not-false (is_listed n h.taken) there)
+    ]))
+  ]
+]
+
+against : (h : Cycle) → ((h.debts ≡ []) × IsAllTaken h) ⊎ ((y : Why) × IsAgainst h y)
+against h = elim (least h.debts) [
+  | inl e ↦ elim (untaken_cases h) [ inl t ↦ inl (e, t) | inr u ↦ inr (why.Untaken u.0, inr (u.0, refl, u.1)) ]
+  | inr p ↦ inr (why.Due p.0, inl (p.0, refl, p.1, p.2))
+]
+
+-- the names that the commands opened, with the keys of the weak pointers that live on if these die
+module _ (h : Cycle) (dead : List Name) where
+  abbrev lives : Name → Bool
+  lives n = not (is_listed n dead) && not (is_listed n h.finalised)
+
+  lives_yes : (weak : Name) (parts : Parts) → IsAlive h.snapshot weak parts → lives weak ≡ true → (Contains h.finalised weak → ⊥) × (Contains dead weak → ⊥)
+  lives_yes weak parts alive t =
+      let p : (not (is_listed weak dead) ≡ true) × (not (is_listed weak h.finalised) ≡ true) =
+      and_parts (not (is_listed weak dead)) (not (is_listed weak h.finalised)) t in (
+        λ c. not_both (is_listed weak h.finalised) (listed_from weak h.finalised c) p.1,
+        λ c. not_both (is_listed weak dead) (listed_from weak dead c) p.0,
+      )
+
+  lives_no : (weak : Name) → (Contains h.finalised weak → ⊥) → (Contains dead weak → ⊥) → lives weak ≡ true
+  lives_no weak fresh on = and_from (not (is_listed weak dead)) (not (is_listed weak h.finalised)) (not_so (is_listed weak dead) (λ t.
+      on (contains_listed weak dead t))) (not_so (is_listed weak h.finalised) (λ t. fresh (contains_listed weak h.finalised t)))
+
+  with_keys : (names : List Name) × IsOpenedWith h dead names
+  with_keys =
+      let all : List Name = (all_names h.snapshot).0 in (
+        h.opened ++ keys_then h.snapshot (filter lives all),
+        (
+          keys_then h.snapshot (filter lives all),
+          keys_are h dead all lives (λ weak parts alive. (all_names h.snapshot).1.complete weak (alive_there h.snapshot weak parts alive)) lives_yes lives_no,
+          refl,
+        ),
+      )
+
+-- an end
+module _ (h : Cycle) (is : IsWorld h.snapshot) where
+  abbrev kept : List Name
+  kept = (kept_listed h.snapshot is (h.opened ++ h.remembered) h.finalised).0
+
+  needed : (dead : List Name) → (names : List Name) × Lists (IsKept h.snapshot (with_keys h dead).0 h.finalised) names
+  needed dead = kept_listed h.snapshot is (with_keys h dead).0 h.finalised
+
+  abbrev left_of : World → List Name → CycleResult
+  left_of w dead = record { world = w; kept = kept; needed = (needed dead).0; old = map (λ (own : MutatorState). length own.nodes) h.snapshot.mutators; dues = 0 }
+
+  ends : h.debts ≡ [] → IsAllTaken h → (left : CycleResult) × IsLeft h left
+  ends none taken =
+      let dead : (names : List Name) × Lists (IsDead h.snapshot (h.opened ++ h.remembered) h.finalised) names =
+      dead_listed h.snapshot is (h.opened ++ h.remembered) h.finalised in (
+        left_of (closed h.world dead.0) dead.0,
+        record {
+          dead = dead.0;
+          ends = record { debts = none; taken = taken; lists = dead.1; next_is = refl };
+          kept = (kept_listed h.snapshot is (h.opened ++ h.remembered) h.finalised).1;
+          needed = needs_listed h dead.0 (with_keys h dead.0).0 (with_keys h dead.0).1 (needed dead.0).0 (needed dead.0).1;
+          old = refl;
+        },
+      )
+
+  ends_known : h.debts ≡ [] → IsAllTaken h → (named : List Name) →
+      ((weak : Name) → Contains named weak → IsDeadAmong h named weak) → (left : CycleResult) × IsResultWith h named left
+  ends_known none taken named may =
+      let among : Decided (Contains named) = record { test = λ n. is_listed n named; yes = λ n t. contains_listed n named t; no = λ n c. listed_from n named c } in
+      let dead : (names : List Name) × Lists (Contains named) names =
+      listed h.snapshot (Contains named) among (λ n c. alive_there h.snapshot n (may n c).2.parts (may n c).2.alive) in (
+        left_of (closed h.world dead.0) named,
+        record {
+          dead = dead.0;
+          ends = record { debts = none; taken = taken; may = may; lists = dead.1; next_is = refl };
+          kept = (kept_listed h.snapshot is (h.opened ++ h.remembered) h.finalised).1;
+          needed = needs_listed h named (with_keys h named).0 (with_keys h named).1 (needed named).0 (needed named).1;
+          old = refl;
+        },
+      )
+
+close : (line : ℕ) (p : Watch) → AreClosed p → Judged line p event.Close
+close line (watch.Between w) is = inr (why.Misplaced, refl)
+close line (watch.Marking h) is = elim (against h) [
+  | inl p ↦ let e : (left : CycleResult) × IsLeft h left = ends h is.1 p.0 p.1 in inl (watch.Ended e.0, (e.0, e.1, refl))
+  | inr r ↦ inr (r.0, r.1)
+]
+close line (watch.Ended left) is = inr (why.Misplaced, refl)
+close line watch.Stopped is = inr (why.Misplaced, refl)
+
+close_with : (line : ℕ) (named : List Name) (p : Watch) → AreClosed p → Judged line p (event.CloseWith named)
+close_with line named (watch.Between w) is = inr (why.Misplaced, refl)
+close_with line named (watch.Marking h) is = elim (against h) [
+  | inl p ↦
+      let names : (names : List Name) × IsOpenedWith h named names = with_keys h named in
+      let d : Decided (IsDead h.snapshot names.0 h.finalised) = dead_decided h.snapshot is.1 names.0 h.finalised in
+      elim (search (λ n. not (d.test n)) named) [
+        | inl f ↦ inr (
+          why.NotDead f.0,
+          inr (
+            f.0,
+            refl,
+            f.1,
+            λ dead. let bad : not true ≡ true = subst (λ (b : Bool). not b ≡ true) (d.no f.0 ((dead_named h named names.0 names.1 f.0).1 dead)) f.2 in cc,
+          ),
+        )
+        | inr none ↦ let e : (left : CycleResult) × IsResultWith h named left = ends_known h is.1 p.0 p.1 named (λ n c.
+            (dead_named h named names.0 names.1 n).0 (d.yes n (not-false (d.test n) (none n c)))) in
+            inl (watch.Ended e.0, (e.0, e.1, refl))
+      ]
+  | inr r ↦ inr (r.0, inl r.1)
+]
+close_with line named (watch.Ended left) is = inr (why.Misplaced, refl)
+close_with line named watch.Stopped is = inr (why.Misplaced, refl)
+
+-- the names that the runtime marked, and the names that it freed
+missing : (names others : List Name) → ((n : Name) × Contains others n × (Contains names n → ⊥)) ⊎ ((n : Name) → Contains others n → Contains names n)
+missing names others = elim (search (λ n. not (is_listed n names)) others) [
+  | inl f ↦ inl (f.0, f.1, λ c. let bad : not true ≡ true = subst (λ (b : Bool). not b ≡ true) (listed_from f.0 names c) f.2 in cc)
+  | inr none ↦ inr (λ n c. contains_listed n names (not-false (is_listed n names) (none n c)))
+]
+
+marked : (line : ℕ) (names : List Name) (p : Watch) → Judged line p (event.Marked names)
+marked line names (watch.Between w) = inr (why.Misplaced, refl)
+marked line names (watch.Marking h) = inr (why.Misplaced, refl)
+marked line names (watch.Ended left) = elim (missing names left.kept) [
+  | inl f ↦ inr (why.NotListed f.0, inl (f.0, refl, (f.1, f.2)))
+  | inr all ↦ elim (missing left.kept names) [
+    | inl f ↦ inr (why.NotMarked f.0, inr (f.0, refl, (f.1, f.2)))
+    | inr each ↦ inl (watch.Ended left, (λ n. (λ c. each n c, λ c. all n c), refl))
+  ]
+]
+marked line names watch.Stopped = inr (why.Misplaced, refl)
+
+may_free : (left : CycleResult) (n : Name) → MayFree left n ⊎ ((y : Why) × WhyKept left n y)
+may_free left n = elim (cases_Bool (is_some (node_of left.world n))) [
+  | inl there ↦ elim (cases_Bool (is_old left.old n)) [
+    | inl old ↦ elim (cases_Bool (is_listed n left.needed)) [
+      | inl t ↦ inr (why.Needed n, inr (inr (refl, contains_listed n left.needed t)))
+      | inr f ↦ inl (there, old, not_listed n left.needed f)
+    ]
+    | inr new ↦ inr (why.NotOld n, inr (inl (refl, λ old. false≢true (sym new ∙ old))))
+  ]
+  | inr gone ↦ inr (why.NoSuchName n, inl (refl, λ there. let t : is_some (node_of left.world n) ≡ true = there in false≢true (sym gone ∙ t)))
+]
+
+all_free : (left : CycleResult) (names : List Name) → ((n : Name) → Contains names n → MayFree left n) ⊎ ((y : Why) × (n : Name) × Contains names n × WhyKept left n y)
+all_free left [] = inl (λ n c. absurd (nothing_in n c))
+all_free left (x ∷ xs) = elim (may_free left x) [
+  | inl a ↦ elim (all_free left xs) [
+    | inl all ↦ inl (λ n c. elim (contains_cases x xs n c) [ inl same ↦ subst (MayFree left) same a | inr d ↦ all n d ])
+    | inr r ↦ inr (r.0, r.1, contains_tail x xs r.1 r.2, r.3)
+  ]
+  | inr r ↦ inr (r.0, x, contains_head x xs, r.1)
+]
+
+freed : (line : ℕ) (names : List Name) (p : Watch) → Judged line p (event.Freed names)
+freed line names (watch.Between w) = inr (why.Misplaced, refl)
+freed line names (watch.Marking h) = inr (why.Misplaced, refl)
+freed line names (watch.Ended left) = elim (all_free left names) [
+  | inl all ↦ inl (watch.Ended left, (all, refl))
+  | inr r ↦ inr (r.0, (r.1, r.2, r.3))
+]
+freed line names watch.Stopped = inr (why.Misplaced, refl)
+
+stop : (line : ℕ) (p : Watch) → Judged line p event.Stop
+stop line (watch.Between w) = inr (why.Misplaced, refl)
+stop line (watch.Marking h) = inr (why.Misplaced, refl)
+stop line (watch.Ended left) = inl (watch.Stopped, refl)
+stop line watch.Stopped = inr (why.Misplaced, refl)
+
+pub every_event_is_judged : EveryEventIsJudged
+every_event_is_judged line p (event.Given m c answer) is = given line m c answer p is
+every_event_is_judged line p (event.Rows m commands) is = rows line m commands p is
+every_event_is_judged line p event.Mark is = mark line p
+every_event_is_judged line p (event.Push name) is = push line name p
+every_event_is_judged line p (event.Settle m) is = settle line m p
+every_event_is_judged line p (event.Take name) is = take line name p
+every_event_is_judged line p event.Close is = close line p is
+every_event_is_judged line p (event.CloseWith named) is = close_with line named p is
+every_event_is_judged line p (event.Marked names) is = marked line names p
+every_event_is_judged line p (event.Freed names) is = freed line names p
+every_event_is_judged line p event.Stop is = stop line p

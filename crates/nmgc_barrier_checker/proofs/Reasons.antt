@@ -1,0 +1,112 @@
+-- An event with a reason can't happen.
+use Rattle.nmgc_barrier_checker.proofs.Vocabulary.{◌≡◌, ℕ, List, [], sym, subst, ◌∙◌, inl, inr, Contains, Name, Command, Reply, World, CanApply, step, Lists, nothing_in, Debt, Cycle, MarksName, IsAllTaken, barrier_theorem, Event, Why, CycleResult, Watch, IsWhyNot, WhyGive, CanGive, WhyMark, CanMark, WhyPush, CanPush, WhySettle, CanSettle, WhyTake, CanTake, WhyClose, CanClose, WhyCloseWith, CanCloseWith, WhyMarked, CanMarked, WhyFreed, CanFreed, WhyKept, MayFree, IsAgainst, WhyStop, CanStop, ReasonsRefuse, ClosedIsExact}
+use Rattle.nmgc_barrier_checker.specs.declared.event.Event.TheVariants as event
+use Rattle.nmgc_barrier_checker.specs.declared.event.Why.TheVariants as why
+use Rattle.nmgc_barrier_checker.specs.declared.watch.Watch.TheVariants as watch
+use Rattle.nmgc_barrier_checker.proofs.RowLaws.{no_rows}
+
+no_command : (w : World) (m : ℕ) (c : Command) (answer : Reply) (y : Why) → IsWhyNot w m c answer y → CanApply w m c → (step w m c).1 ≡ answer → ⊥
+no_command w m c answer why.CannotApply h can says = h can
+no_command w m c answer (why.Answer r) h can says = h.2 (sym h.1 ∙ says)
+no_command w m c answer why.Misplaced h can says = h
+no_command w m c answer (why.NoSuchName n) h can says = h
+no_command w m c answer (why.Due debt) h can says = h
+no_command w m c answer (why.NotPushed n) h can says = h
+no_command w m c answer (why.NotDead n) h can says = h
+no_command w m c answer (why.NotListed n) h can says = h
+no_command w m c answer (why.NotMarked n) h can says = h
+no_command w m c answer (why.Needed n) h can says = h
+no_command w m c answer (why.NotOld n) h can says = h
+no_command w m c answer (why.Untaken n) h can says = h
+
+no_give : (line m : ℕ) (c : Command) (answer : Reply) (p : Watch) (y : Why) (next : Watch) → WhyGive m c answer p y → CanGive line m c answer p next → ⊥
+no_give line m c answer (watch.Between w) y next h g = no_command w m c answer y h g.1.0 g.1.1
+no_give line m c answer (watch.Marking k) y next h g = no_command k.world m c answer y h g.1.can g.1.says
+no_give line m c answer (watch.Ended left) y next h g = no_command left.world m c answer y h g.1.0 g.1.1
+no_give line m c answer watch.Stopped y next h g = g
+
+no_mark : (p : Watch) (y : Why) (next : Watch) → WhyMark p y → CanMark p next → ⊥
+no_mark (watch.Between w) y next h g = h
+no_mark (watch.Marking k) y next h g = g
+no_mark (watch.Ended left) y next h g = h
+no_mark watch.Stopped y next h g = g
+
+no_push : (name : Name) (p : Watch) (y : Why) (next : Watch) → WhyPush name p y → CanPush name p next → ⊥
+no_push name (watch.Between w) y next h g = g
+no_push name (watch.Marking k) y next h g = h.1 g.1.there
+no_push name (watch.Ended left) y next h g = g
+no_push name watch.Stopped y next h g = g
+
+no_settle : (m : ℕ) (p : Watch) (y : Why) (next : Watch) → WhySettle m p y → CanSettle m p next → ⊥
+no_settle m (watch.Between w) y next h g = g
+no_settle m (watch.Marking k) y next (inl h) g = g.0.1 h.0 h.2 h.3
+no_settle m (watch.Marking k) y next (inr h) g = h.1 g.0.0
+no_settle m (watch.Ended left) y next h g = g
+no_settle m watch.Stopped y next h g = g
+
+no_end : (k : Cycle) (y : Why) → IsAgainst k y → k.debts ≡ [] → IsAllTaken k → ⊥
+no_end k y (inl h) none all = nothing_in h.0 (subst (λ (l : List Debt). Contains l h.0) none h.2)
+no_end k y (inr h) none (inl e) = h.2.0 e
+no_end k y (inr h) none (inr t) = h.2.3 (t h.0 h.2.1 h.2.2)
+
+no_close : (p : Watch) (y : Why) (next : Watch) → WhyClose p y → CanClose p next → ⊥
+no_close (watch.Between w) y next h g = g
+no_close (watch.Marking k) y next h g = no_end k y h g.1.ends.debts g.1.ends.taken
+no_close (watch.Ended left) y next h g = g
+no_close watch.Stopped y next h g = g
+
+no_take : (name : Name) (p : Watch) (y : Why) (next : Watch) → WhyTake name p y → CanTake name p next → ⊥
+no_take name (watch.Between w) y next h g = g
+no_take name (watch.Marking k) y next h g = h.1 g.1.pushed
+no_take name (watch.Ended left) y next h g = g
+no_take name watch.Stopped y next h g = g
+
+no_close_with : (named : List Name) (p : Watch) (y : Why) (next : Watch) → WhyCloseWith named p y → CanCloseWith named p next → ⊥
+no_close_with named (watch.Between w) y next h g = g
+no_close_with named (watch.Marking k) y next (inl h) g = no_end k y h g.1.ends.debts g.1.ends.taken
+no_close_with named (watch.Marking k) y next (inr h) g = h.3 (g.1.ends.may h.0 h.2)
+no_close_with named (watch.Ended left) y next h g = g
+no_close_with named watch.Stopped y next h g = g
+
+no_marked : (names : List Name) (p : Watch) (y : Why) (next : Watch) → WhyMarked names p y → CanMarked names p next → ⊥
+no_marked names (watch.Between w) y next h g = g
+no_marked names (watch.Marking k) y next h g = g
+no_marked names (watch.Ended left) y next (inl h) g = h.2.1 ((g.0 h.0).1 h.2.0)
+no_marked names (watch.Ended left) y next (inr h) g = h.2.1 ((g.0 h.0).0 h.2.0)
+no_marked names watch.Stopped y next h g = g
+
+no_freed_name : (left : CycleResult) (name : Name) (y : Why) → WhyKept left name y → MayFree left name → ⊥
+no_freed_name left name y (inl h) may = h.1 may.0
+no_freed_name left name y (inr (inl h)) may = h.1 may.1
+no_freed_name left name y (inr (inr h)) may = may.2 h.1
+
+no_freed : (names : List Name) (p : Watch) (y : Why) (next : Watch) → WhyFreed names p y → CanFreed names p next → ⊥
+no_freed names (watch.Between w) y next h g = g
+no_freed names (watch.Marking k) y next h g = g
+no_freed names (watch.Ended left) y next h g = no_freed_name left h.0 y h.2 (g.0 h.0 h.1)
+no_freed names watch.Stopped y next h g = g
+
+no_stop : (p : Watch) (y : Why) (next : Watch) → WhyStop p y → CanStop p next → ⊥
+no_stop (watch.Between w) y next h g = g
+no_stop (watch.Marking k) y next h g = g
+no_stop (watch.Ended left) y next h g = h
+no_stop watch.Stopped y next h g = g
+
+pub reasons_refuse : ReasonsRefuse
+reasons_refuse line p (event.Given m c answer) y next h g = no_give line m c answer p y next h g
+reasons_refuse line p (event.Rows m commands) y next h g = no_rows line m commands p next y h g
+reasons_refuse line p event.Mark y next h g = no_mark p y next h g
+reasons_refuse line p (event.Push name) y next h g = no_push name p y next h g
+reasons_refuse line p (event.Settle m) y next h g = no_settle m p y next h g
+reasons_refuse line p (event.Take name) y next h g = no_take name p y next h g
+reasons_refuse line p event.Close y next h g = no_close p y next h g
+reasons_refuse line p (event.CloseWith dead) y next h g = no_close_with dead p y next h g
+reasons_refuse line p (event.Marked names) y next h g = no_marked names p y next h g
+reasons_refuse line p (event.Freed names) y next h g = no_freed names p y next h g
+reasons_refuse line p event.Stop y next h g = no_stop p y next h g
+
+pub closed_is_exact : ClosedIsExact
+closed_is_exact h left l w is s next b possible closing name =
+    let e = (barrier_theorem w is h s b).marks next possible closing name in
+    let kept : Lists (MarksName h) left.kept = elim l [ inl a ↦ a.kept | inr p ↦ p.1.kept ] in
+    (λ m. kept.complete name (e.0 m), λ c. e.1 (kept.sound name c))

@@ -1,0 +1,5 @@
+use Rattle.nmgc_barrier_checker.proofs.Vocabulary.{take, AreDone}
+use Rattle.nmgc_barrier_checker.proofs.watch.Watch.act_all.Given as goal
+
+abbrev pub invariant-loop-command : goal.invariant-loop-command
+invariant-loop-command l = AreDone l.line l.mutator (take l.command-index l.commands) l.fn.self l.self

@@ -1,0 +1,117 @@
+-- The invariant of a cycle, and the results of its calls.
+use Rattle.std.specs.Prelude.{◌≡◌, ◌≢◌, ℕ, List, [], ◌∷◌, ◌++◌, length, flat_map, Option, Some, None, Bool, true, false, not, ◌&&◌, IsSome, Contains, ◌<◌, ◌⊎◌}
+use Rattle.nmgc_world_spec.specs.{declared.value.Name.Name, declared.node.Parts.Parts, declared.command.Command.Command, declared.command.Reply.Reply, World.World, World.node_of, World.IsWorld, Change.is_same_name, Step.CanApply, Step.step, Step.shared_name, Reach.IsAlive, Owed.names_among}
+use Rattle.nmgc_graph.specs.{Marks.mark_of, Search.parts_of}
+use Rattle.nmgc_barrier_laws.specs.{declared.debt.Debt.Debt, Cycle.Cycle, Cycle.IsWatched, Cycle.IsPushed, Cycle.IsTook, Cycle.IsAllTaken, Cycle.AreKeysLeft}
+use Rattle.nmgc_barrier_checker.specs.{declared.accounts.Accounts.Accounts, declared.name_set.NameSet.NameSet, declared.event.Why.Why, Accounts.AreAccounts, Accounts.IsLeastIn, NameSet.IsListed, Rows.is_done}
+use Rattle.nmgc_barrier_checker.specs.declared.event.Why.TheVariants as why
+
+-- the invariant of a cycle. Pushed, opened and taken names are listed, and debts are accounts. A weak pointer of the snapshot
+-- that was alive there and isn't finalised is unchanged. Both worlds are closed
+pub record IsCycle (w s : World) (pushes : NameSet) (owed : Accounts) (opens takes : NameSet) (ends : List Name) : Type 0 where
+  pub remembered : IsListed s pushes
+  pub opened : IsListed s opens
+  pub taken : IsListed s takes
+  pub accounts : AreAccounts pushes.set s owed
+  pub count : length owed.debts ≡ length w.mutators
+  pub alive : (weak : Name) (parts : Parts) → IsAlive s weak parts → (Contains ends weak → ⊥) → IsAlive w weak parts
+  pub snapshot : IsWorld s
+  pub world : IsWorld w
+
+-- a command that the cycle takes, whatever the heap's answer
+abbrev pub IsTaken : ℕ → ℕ → Command → Cycle → Cycle → Type 0
+IsTaken line m c h next = IsWatched h line m c (step h.world m c).1 next
+
+-- the reason why a world can't take a command with this answer
+abbrev pub IsWhyNot : World → ℕ → Command → Reply → Why → Type 0
+IsWhyNot w m c answer why.CannotApply = CanApply w m c → ⊥
+IsWhyNot w m c answer (why.Answer r) = CanApply w m c × ((step w m c).1 ≡ r) × (r ≢ answer)
+IsWhyNot w m c answer why.Misplaced = ⊥
+IsWhyNot w m c answer (why.NoSuchName n) = ⊥
+IsWhyNot w m c answer (why.Due debt) = ⊥
+IsWhyNot w m c answer (why.NotPushed n) = ⊥
+IsWhyNot w m c answer (why.NotDead n) = ⊥
+IsWhyNot w m c answer (why.NotListed n) = ⊥
+IsWhyNot w m c answer (why.NotMarked n) = ⊥
+IsWhyNot w m c answer (why.Needed n) = ⊥
+IsWhyNot w m c answer (why.NotOld n) = ⊥
+IsWhyNot w m c answer (why.Untaken n) = ⊥
+
+-- the outcome of a command with an answer: the cycle took it, or nothing changed and there is a reason
+abbrev pub IsCommand : ℕ → ℕ → Command → Reply → Cycle → Option Why → Cycle → Type 0
+IsCommand line m c answer h None next = IsWatched h line m c answer next
+IsCommand line m c answer h (Some w) next = (next ≡ h) × IsWhyNot h.world m c answer w
+
+-- the reason why a world doesn't do a command
+abbrev pub IsNotDone : World → ℕ → Command → Why → Type 0
+IsNotDone w m c why.CannotApply = CanApply w m c → ⊥
+IsNotDone w m c (why.Answer r) = CanApply w m c × ((step w m c).1 ≡ r) × (is_done r ≡ false)
+IsNotDone w m c y = ⊥
+
+-- the outcome of a command with any answer: it was done, or nothing changed and there is a reason
+abbrev pub IsActing : ℕ → ℕ → Command → Cycle → Option Why → Cycle → Type 0
+IsActing line m c h None next = IsTaken line m c h next × (is_done (step h.world m c).1 ≡ true)
+IsActing line m c h (Some w) next = (next ≡ h) × IsNotDone h.world m c w
+
+-- the outcome of a push: the cycle took it, or nothing changed, since the heap has no such name
+abbrev pub IsPush : Name → Cycle → Option Why → Cycle → Type 0
+IsPush name h None next = IsPushed h name next
+IsPush name h (Some w) next = (next ≡ h) × (w ≡ why.NoSuchName name) × (IsSome (node_of h.world name) → ⊥)
+
+-- a mutator that exists and has no debt of its commands so far
+abbrev pub IsSettled : Cycle → ℕ → Type 0
+IsSettled h m = (m < length h.world.mutators) × ((debt : Debt) → Contains h.debts debt → debt.mutator ≢ m)
+
+-- the reasons why a mutator hasn't settled: it has an unpaid debt, or there is no such mutator
+abbrev pub IsUnsettled : Cycle → ℕ → Why → Type 0
+IsUnsettled h m y = ((debt : Debt) × (y ≡ why.Due debt) × Contains h.debts debt × (debt.mutator ≡ m)) ⊎
+    ((y ≡ why.CannotApply) × (m < length h.world.mutators → ⊥))
+
+-- the outcome of a settle: the mutator has settled, or there is a reason why it hasn't
+abbrev pub IsSettle : ℕ → Cycle → Option Why → Type 0
+IsSettle m h None = IsSettled h m
+IsSettle m h (Some y) = IsUnsettled h m y
+
+-- the outcome of a take: the marker took the name, or nothing changed, since the name wasn't pushed
+abbrev pub IsTake : Name → Cycle → Option Why → Cycle → Type 0
+IsTake name h None next = IsTook h name next
+IsTake name h (Some w) next = (next ≡ h) × (w ≡ why.NotPushed name) × (Contains h.remembered name → ⊥)
+
+-- the cycle's debt of the least line, or none if there are no debts
+abbrev pub IsLeastDebt : Cycle → Option Debt → Type 0
+IsLeastDebt h debt = IsLeastIn h.debts debt
+
+-- a name that was pushed and isn't reported as taken, although takes are reported
+abbrev pub IsUntakenName : Cycle → Name → Type 0
+IsUntakenName h name = (h.taken ≢ []) × Contains h.remembered name × (name ≢ shared_name) × (Contains h.taken name → ⊥)
+
+-- whether a name isn't among the taken names; g doesn't have to be taken
+abbrev pub is_untaken : NameSet → Name → Bool
+is_untaken taken name = not (is_same_name name shared_name) && not (mark_of taken.set name)
+
+-- the outcome of a search among names for a name that still has to be taken
+abbrev pub IsUntakenIn : NameSet → List Name → Option Name → Type 0
+IsUntakenIn taken names None = (name : Name) → Contains names name → is_untaken taken name ≡ false
+IsUntakenIn taken names (Some name) = Contains names name × (is_untaken taken name ≡ true)
+
+-- the outcome of a search for a name that was pushed and isn't reported as taken, although takes are reported
+abbrev pub IsUntakenIf : Cycle → Option Name → Type 0
+IsUntakenIf h None = IsAllTaken h
+IsUntakenIf h (Some name) = IsUntakenName h name
+
+-- whether a name is in neither set
+abbrev pub is_outside : List (List Bool) → List (List Bool) → Name → Bool
+is_outside dying ended weak = not (mark_of dying weak) && not (mark_of ended weak)
+
+-- the target of the key among these parts, if there are parts and the key is a reference
+abbrev pub key_names : Option Parts → List Name
+key_names None = []
+key_names (Some parts) = names_among (parts.key ∷ [])
+
+-- the targets of the keys of those weak pointers that are alive in a world
+abbrev pub keys_then : World → List Name → List Name
+keys_then w weaks = flat_map (λ weak. key_names (parts_of w weak)) weaks
+
+-- the names that the commands opened, followed by the keys of the weak pointers that live on if these weak pointers die
+abbrev pub IsOpenedWith : Cycle → List Name → List Name → Type 0
+IsOpenedWith h dead names = (keys : List Name) × AreKeysLeft h dead keys × (names ≡ h.opened ++ keys)

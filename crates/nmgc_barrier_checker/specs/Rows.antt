@@ -1,0 +1,43 @@
+-- Several commands in one line: a copy of many fields, and a fill.
+use Rattle.std.specs.Prelude.{◌≡◌, ◌+◌, ◌-◌, ◌^◌, min, ℕ, zero, suc, List, [], ◌∷◌, ◌++◌, Bool, true, false, if◌then◌else◌}
+use Rattle.nmgc_world_spec.specs.declared.command.Operand.TheVariants as operand
+use Rattle.nmgc_world_spec.specs.{declared.command.Command.Command, declared.command.Reply.Reply}
+use Rattle.nmgc_world_spec.specs.declared.command.Command.TheVariants as command
+use Rattle.nmgc_world_spec.specs.declared.command.Reply.TheVariants as reply
+use Rattle.nmgc_barrier_checker.specs.{declared.rows.Copying.Copying, declared.rows.Filling.Filling}
+
+-- whether this answer means that a command was done: the answer gives a value, or there was none to give
+abbrev pub is_done : Reply → Bool
+is_done (reply.Given v) = true
+is_done reply.Fine = true
+is_done answer = false
+
+-- the position of the field that a step of a copy copies; a copy that goes down begins with the last field
+abbrev pub turn_place : Copying → ℕ → ℕ
+turn_place copying turn = if copying.down then copying.count - 1 - turn else turn
+
+-- the index of the field at a position after `first`. An index above the greatest becomes the greatest, which no object has
+abbrev pub index_at : ℕ → ℕ → ℕ
+index_at first place = min (first + place) (2 ^ 32 - 1)
+
+-- the load of a step of a copy
+abbrev pub load_of : Copying → ℕ → Command
+load_of copying turn = command.Get copying.via copying.from (index_at copying.first (turn_place copying turn))
+
+-- the store of a step of a copy
+abbrev pub store_of : Copying → ℕ → Command
+store_of copying turn = command.Set copying.to (index_at copying.place (turn_place copying turn)) (operand.Register copying.via)
+
+-- the store of a step of a fill
+abbrev pub write_of : Filling → ℕ → Command
+write_of filling turn = command.Set filling.object (index_at filling.first turn) filling.value
+
+-- the commands of the first steps of a copy of fields by a register: a load and a store for each field, upwards or downwards
+abbrev pub copied : Copying → ℕ → List Command
+copied copying zero = []
+copied copying (suc turn) = copied copying turn ++ load_of copying turn ∷ store_of copying turn ∷ []
+
+-- the commands of the first steps of a fill: a store for each field
+abbrev pub filled : Filling → ℕ → List Command
+filled filling zero = []
+filled filling (suc turn) = filled filling turn ++ write_of filling turn ∷ []

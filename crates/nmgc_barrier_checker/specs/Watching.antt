@@ -1,0 +1,403 @@
+-- When an event can happen, and why it can't: by the heap and the lax rule alone.
+use Rattle.std.specs.Prelude.{◌≡◌, ◌≤◌, ◌↔◌, ◌⊎◌, ◌++◌, ℕ, List, [], ◌∷◌, length, map, slice_index_or, Option, Some, None, Result, Ok, Err, IsSome, Contains, Bool, true, false, ◌||◌, ltb, ◌<◌}
+use Rattle.nmgc_world_spec.specs.{declared.value.Name.Name, declared.command.Command.Command, declared.command.Reply.Reply, declared.mutator_state.MutatorState.MutatorState, World.World, World.node_of, World.IsWorld, Change.is_same_name, Step.CanApply, Step.step, Step.shared_name, Reach.Lists, Reach.IsKept}
+use Rattle.nmgc_snapshot_laws.specs.declared.event.Event.TheVariants as core
+use Rattle.nmgc_snapshot_laws.specs.{State.State, Machine.IsPossible, Closing.IsClosing}
+use Rattle.nmgc_barrier_laws.specs.{declared.debt.Debt.Debt, Barrier.Beside}
+use Rattle.nmgc_barrier_laws.specs.Cycle.{Cycle, watching, IsWatched, IsPushed, IsTook, IsAllTaken, IsEnd, IsEndWith, IsDeadAmong, Needs, MarksName}
+use Rattle.nmgc_barrier_checker.specs.{declared.event.Event.Event, declared.event.Why.Why, declared.cycle_result.CycleResult.CycleResult, declared.watch.Watch.Watch, Cycles.IsWhyNot, Cycles.IsNotDone, Cycles.IsTaken, Cycles.IsSettled, Cycles.IsUnsettled, Cycles.IsUntakenName, Rows.is_done}
+use Rattle.nmgc_barrier_checker.specs.declared.event.Event.TheVariants as event
+use Rattle.nmgc_barrier_checker.specs.declared.event.Why.TheVariants as why
+use Rattle.nmgc_barrier_checker.specs.declared.watch.Watch.TheVariants as watch
+
+-- a command that the heap takes with this answer, outside of a cycle
+abbrev pub IsGiven : World → ℕ → Command → Reply → World → Type 0
+IsGiven w m c answer next = CanApply w m c × ((step w m c).1 ≡ answer) × (next ≡ (step w m c).0)
+
+-- a command that the heap takes with this answer; in a cycle, the names that it makes due are due since this line
+abbrev pub CanGive : ℕ → ℕ → Command → Reply → Watch → Watch → Type 0
+CanGive line m c answer (watch.Between w) next = (after : World) × IsGiven w m c answer after × (next ≡ watch.Between after)
+CanGive line m c answer (watch.Marking h) next = (after : Cycle) × IsWatched h line m c answer after × (next ≡ watch.Marking after)
+CanGive line m c answer (watch.Ended left) next = (after : World) × IsGiven left.world m c answer after × (next ≡ watch.Ended (record left { world = after }))
+CanGive line m c answer watch.Stopped next = ⊥
+
+-- the outcome of a command with an answer, outside of a cycle: the heap took it, or nothing changed and there is a reason
+abbrev pub IsGivenIf : World → ℕ → Command → Reply → Option Why → World → Type 0
+IsGivenIf w m c answer None next = IsGiven w m c answer next
+IsGivenIf w m c answer (Some y) next = (next ≡ w) × IsWhyNot w m c answer y
+
+-- the reasons why a command can't have been given: the heap can't take it, or has another answer; or the watch has stopped
+abbrev pub WhyGive : ℕ → Command → Reply → Watch → Why → Type 0
+WhyGive m c answer (watch.Between w) y = IsWhyNot w m c answer y
+WhyGive m c answer (watch.Marking h) y = IsWhyNot h.world m c answer y
+WhyGive m c answer (watch.Ended left) y = IsWhyNot left.world m c answer y
+WhyGive m c answer watch.Stopped y = y ≡ why.Misplaced
+
+-- a world does a command, with any reply that means that it was done
+abbrev pub IsDone : World → ℕ → Command → World → Type 0
+IsDone w m c next = CanApply w m c × (is_done (step w m c).1 ≡ true) × (next ≡ (step w m c).0)
+
+-- the answer of a test whether a world does a command: none if it does, and otherwise the reason
+abbrev pub IsDoneIf : World → ℕ → Command → Option Why → World → Type 0
+IsDoneIf w m c None next = IsDone w m c next
+IsDoneIf w m c (Some y) next = (next ≡ w) × IsNotDone w m c y
+
+-- a command among several in one line: the heap does it; in a cycle, the names that it makes due are due since this line
+abbrev pub CanAct : ℕ → ℕ → Command → Watch → Watch → Type 0
+CanAct line m c (watch.Between w) next = (after : World) × IsDone w m c after × (next ≡ watch.Between after)
+CanAct line m c (watch.Marking h) next = (after : Cycle) × IsTaken line m c h after × (is_done (step h.world m c).1 ≡ true) × (next ≡ watch.Marking after)
+CanAct line m c (watch.Ended left) next = (after : World) × IsDone left.world m c after × (next ≡ watch.Ended (record left { world = after }))
+CanAct line m c watch.Stopped next = ⊥
+
+-- the reasons why one of several commands can't have been done: the heap can't take it or doesn't do it, or the watch stopped
+abbrev pub WhyNoAct : ℕ → Command → Watch → Why → Type 0
+WhyNoAct m c (watch.Between w) y = IsNotDone w m c y
+WhyNoAct m c (watch.Marking h) y = IsNotDone h.world m c y
+WhyNoAct m c (watch.Ended left) y = IsNotDone left.world m c y
+WhyNoAct m c watch.Stopped y = y ≡ why.Misplaced
+
+-- the outcome of one of several commands in a line: it was done, or nothing changed and there is a reason
+abbrev pub IsAct : ℕ → ℕ → Command → Watch → Option Why → Watch → Type 0
+IsAct line m c p None next = CanAct line m c p next
+IsAct line m c p (Some y) next = (next ≡ p) × WhyNoAct m c p y
+
+-- the commands of one line are done, one after the other
+abbrev pub AreDone : ℕ → ℕ → List Command → Watch → Watch → Type 0
+AreDone line m [] p next = next ≡ p
+AreDone line m (c ∷ cs) p next = (between : Watch) × CanAct line m c p between × AreDone line m cs between next
+
+-- the commands before this one were done, and this one couldn't be done, for this reason
+pub record StopsAt (line m : ℕ) (commands : List Command) (p : Watch) (y : Why) (last : Watch) : Type 0 where
+  pub before : List Command
+  pub command : Command
+  pub later : List Command
+  pub commands_are : commands ≡ before ++ command ∷ later
+  pub done : AreDone line m before p last
+  pub reason : WhyNoAct m command last y
+
+-- the outcome of several commands: all were done, or one couldn't be done and those before it were
+abbrev pub AreActed : ℕ → ℕ → List Command → Watch → Option Why → Watch → Type 0
+AreActed line m commands p None next = AreDone line m commands p next
+AreActed line m commands p (Some y) next = StopsAt line m commands p y next
+
+-- whether the watch has stopped
+abbrev pub is_stopped : Watch → Bool
+is_stopped (watch.Between w) = false
+is_stopped (watch.Marking h) = false
+is_stopped (watch.Ended left) = false
+is_stopped watch.Stopped = true
+
+-- the number of mutators in the heap of a watch
+abbrev pub mutators_of : Watch → ℕ
+mutators_of (watch.Between w) = length w.mutators
+mutators_of (watch.Marking h) = length h.world.mutators
+mutators_of (watch.Ended left) = length left.world.mutators
+mutators_of watch.Stopped = 0
+
+-- several commands in one line, before the stop: the mutator exists, and each can be done after the commands before it
+abbrev pub CanRows : ℕ → ℕ → List Command → Watch → Watch → Type 0
+CanRows line m commands watch.Stopped next = ⊥
+CanRows line m commands p next = (m < mutators_of p) × AreDone line m commands p next
+
+-- there is no such mutator, so nothing changes
+abbrev pub IsAbsent : ℕ → Watch → Why → Watch → Type 0
+IsAbsent m p y last = (y ≡ why.CannotApply) × (m < mutators_of p → ⊥) × (last ≡ p)
+
+-- the reasons why several commands can't happen: one of them couldn't be done, there is no such mutator, or the watch has
+-- stopped. The effect of the commands before the refused command stays
+abbrev pub WhyRows : ℕ → ℕ → List Command → Watch → Why → Watch → Type 0
+WhyRows line m commands watch.Stopped y last = (y ≡ why.Misplaced) × (last ≡ watch.Stopped)
+WhyRows line m commands p y last = StopsAt line m commands p y last ⊎ IsAbsent m p y last
+
+-- the beginning of marking, outside of a cycle: the world is the snapshot
+abbrev pub CanMark : Watch → Watch → Type 0
+CanMark (watch.Between w) next = next ≡ watch.Marking (watching w)
+CanMark (watch.Marking h) next = ⊥
+CanMark (watch.Ended left) next = next ≡ watch.Marking (watching left.world)
+CanMark watch.Stopped next = ⊥
+
+-- the reasons why marking can't begin: a cycle goes on, or the watch has stopped
+abbrev pub WhyMark : Watch → Why → Type 0
+WhyMark (watch.Between w) y = ⊥
+WhyMark (watch.Marking h) y = y ≡ why.Misplaced
+WhyMark (watch.Ended left) y = ⊥
+WhyMark watch.Stopped y = y ≡ why.Misplaced
+
+-- a push in a cycle: of any name that the heap has, due or not, and at any time
+abbrev pub CanPush : Name → Watch → Watch → Type 0
+CanPush name (watch.Between w) next = ⊥
+CanPush name (watch.Marking h) next = (after : Cycle) × IsPushed h name after × (next ≡ watch.Marking after)
+CanPush name (watch.Ended left) next = ⊥
+CanPush name watch.Stopped next = ⊥
+
+-- the reasons why a name can't have been pushed: there is no cycle, or the heap has no such name
+abbrev pub WhyPush : Name → Watch → Why → Type 0
+WhyPush name (watch.Between w) y = y ≡ why.Misplaced
+WhyPush name (watch.Marking h) y = (y ≡ why.NoSuchName name) × (IsSome (node_of h.world name) → ⊥)
+WhyPush name (watch.Ended left) y = y ≡ why.Misplaced
+WhyPush name watch.Stopped y = y ≡ why.Misplaced
+
+-- a settle in a cycle: no debt is left from the mutator's commands
+abbrev pub CanSettle : ℕ → Watch → Watch → Type 0
+CanSettle m (watch.Between w) next = ⊥
+CanSettle m (watch.Marking h) next = IsSettled h m × (next ≡ watch.Marking h)
+CanSettle m (watch.Ended left) next = ⊥
+CanSettle m watch.Stopped next = ⊥
+
+-- the reasons why a mutator can't have settled: there is no cycle, a name is due by its commands, or there is no such mutator
+abbrev pub WhySettle : ℕ → Watch → Why → Type 0
+WhySettle m (watch.Between w) y = y ≡ why.Misplaced
+WhySettle m (watch.Marking h) y = IsUnsettled h m y
+WhySettle m (watch.Ended left) y = y ≡ why.Misplaced
+WhySettle m watch.Stopped y = y ≡ why.Misplaced
+
+-- a take in a cycle, of a name of the snapshot that was pushed. The marker's reads and their times aren't watched
+abbrev pub CanTake : Name → Watch → Watch → Type 0
+CanTake name (watch.Between w) next = ⊥
+CanTake name (watch.Marking h) next = (after : Cycle) × IsTook h name after × (next ≡ watch.Marking after)
+CanTake name (watch.Ended left) next = ⊥
+CanTake name watch.Stopped next = ⊥
+
+-- the reasons why a name can't have been taken: there is no cycle, or the name wasn't pushed
+abbrev pub WhyTake : Name → Watch → Why → Type 0
+WhyTake name (watch.Between w) y = y ≡ why.Misplaced
+WhyTake name (watch.Marking h) y = (y ≡ why.NotPushed name) × (Contains h.remembered name → ⊥)
+WhyTake name (watch.Ended left) y = y ≡ why.Misplaced
+WhyTake name watch.Stopped y = y ≡ why.Misplaced
+
+-- the list has, for each mutator of a world, the number of its names
+abbrev pub AreSerials : World → List ℕ → Type 0
+AreSerials w serials = serials ≡ map (λ (own : MutatorState). length own.nodes) w.mutators
+
+-- the result of a close without debts. It has the world with the dead weak pointers dead, and the names that the commands and
+-- the pushes keep. It has the names that no collector may free if exactly these weak pointers die: the commands or the weak
+-- pointers that live on need them. And it has the number of names of each mutator when the cycle began
+pub record IsLeft (h : Cycle) (left : CycleResult) : Type 0 where
+  pub dead : List Name
+  pub ends : IsEnd h dead left.world
+  pub kept : Lists (MarksName h) left.kept
+  pub needed : Lists (Needs h dead) left.needed
+  pub old : AreSerials h.snapshot left.old
+
+-- the result of a close without debts that reports which weak pointers die, with the names needed if exactly these die
+pub record IsResultWith (h : Cycle) (named : List Name) (left : CycleResult) : Type 0 where
+  pub dead : List Name
+  pub ends : IsEndWith h named dead left.world
+  pub kept : Lists (MarksName h) left.kept
+  pub needed : Lists (Needs h named) left.needed
+  pub old : AreSerials h.snapshot left.old
+
+-- the debt of the least line, as a reason against the end of a cycle
+abbrev pub IsFirstDebt : Cycle → Why → Type 0
+IsFirstDebt h y = (debt : Debt) × (y ≡ why.Due debt) × Contains h.debts debt × ((other : Debt) → Contains h.debts other → debt.line ≤ other.line)
+
+-- a name that was pushed and isn't reported as taken, although takes are reported
+abbrev pub IsUntaken : Cycle → Why → Type 0
+IsUntaken h y = (name : Name) × (y ≡ why.Untaken name) × IsUntakenName h name
+
+-- the reasons why a cycle can't end, whichever weak pointers die: the first debt, or an untaken name
+abbrev pub IsAgainst : Cycle → Why → Type 0
+IsAgainst h y = IsFirstDebt h y ⊎ IsUntaken h y
+
+-- the outcome of a test whether a cycle can end: there are no debts and no untaken names, or there is a reason
+abbrev pub IsAgainstIf : Cycle → Option Why → Type 0
+IsAgainstIf h None = (h.debts ≡ []) × IsAllTaken h
+IsAgainstIf h (Some y) = IsAgainst h y
+
+-- the outcome of a request to end a cycle: the result of the close, or a reason against it
+abbrev pub IsEnding : Cycle → Result CycleResult Why → Type 0
+IsEnding h (Ok left) = IsLeft h left
+IsEnding h (Err y) = IsAgainst h y
+
+-- the end of marking in a cycle without debts, with the result of the close
+abbrev pub CanClose : Watch → Watch → Type 0
+CanClose (watch.Between w) next = ⊥
+CanClose (watch.Marking h) next = (left : CycleResult) × IsLeft h left × (next ≡ watch.Ended left)
+CanClose (watch.Ended left) next = ⊥
+CanClose watch.Stopped next = ⊥
+
+-- the reasons why marking can't end: there is no cycle, or there is a reason against the end of the cycle
+abbrev pub WhyClose : Watch → Why → Type 0
+WhyClose (watch.Between w) y = y ≡ why.Misplaced
+WhyClose (watch.Marking h) y = IsAgainst h y
+WhyClose (watch.Ended left) y = y ≡ why.Misplaced
+WhyClose watch.Stopped y = y ≡ why.Misplaced
+
+-- the end of marking with a report of the weak pointers that die: exactly these die
+abbrev pub CanCloseWith : List Name → Watch → Watch → Type 0
+CanCloseWith named (watch.Between w) next = ⊥
+CanCloseWith named (watch.Marking h) next = (left : CycleResult) × IsResultWith h named left × (next ≡ watch.Ended left)
+CanCloseWith named (watch.Ended left) next = ⊥
+CanCloseWith named watch.Stopped next = ⊥
+
+-- a reported weak pointer that isn't dead if exactly the reported weak pointers die
+abbrev pub IsNotDead : Cycle → List Name → Why → Type 0
+IsNotDead h named y = (weak : Name) × (y ≡ why.NotDead weak) × Contains named weak × (IsDeadAmong h named weak → ⊥)
+
+-- the outcome of a search for a reported weak pointer that isn't dead if exactly the reported weak pointers die
+abbrev pub IsDeadIf : Cycle → List Name → Option Name → Type 0
+IsDeadIf h named None = (weak : Name) → Contains named weak → IsDeadAmong h named weak
+IsDeadIf h named (Some weak) = Contains named weak × (IsDeadAmong h named weak → ⊥)
+
+-- the outcome of a request to end a cycle so that exactly these die: the result of the close, or a reason against it
+abbrev pub IsEndingWith : Cycle → List Name → Result CycleResult Why → Type 0
+IsEndingWith h named (Ok left) = IsResultWith h named left
+IsEndingWith h named (Err y) = IsAgainst h y ⊎ IsNotDead h named y
+
+-- the reasons why marking can't end so that exactly these die: no cycle, a reason against its end, or one of them isn't dead
+abbrev pub WhyCloseWith : List Name → Watch → Why → Type 0
+WhyCloseWith named (watch.Between w) y = y ≡ why.Misplaced
+WhyCloseWith named (watch.Marking h) y = IsAgainst h y ⊎ IsNotDead h named y
+WhyCloseWith named (watch.Ended left) y = y ≡ why.Misplaced
+WhyCloseWith named watch.Stopped y = y ≡ why.Misplaced
+
+-- a report after a cycle that the runtime marked exactly the names that the cycle kept
+abbrev pub CanMarked : List Name → Watch → Watch → Type 0
+CanMarked names (watch.Between w) next = ⊥
+CanMarked names (watch.Marking h) next = ⊥
+CanMarked names (watch.Ended left) next = ((name : Name) → Contains names name ↔ Contains left.kept name) × (next ≡ watch.Ended left)
+CanMarked names watch.Stopped next = ⊥
+
+-- a name of `others` that isn't in `names`
+abbrev pub IsMissing : List Name → List Name → Name → Type 0
+IsMissing names others name = Contains others name × (Contains names name → ⊥)
+
+-- the outcome of a search for a name of `others` that isn't in `names`
+abbrev pub IsMissingIf : List Name → List Name → Option Name → Type 0
+IsMissingIf names others None = (name : Name) → Contains others name → Contains names name
+IsMissingIf names others (Some name) = IsMissing names others name
+
+-- the reasons why the runtime can't have marked exactly these names: there was no cycle, a cycle goes on, a kept name isn't
+-- reported, or a reported name isn't kept
+abbrev pub WhyMarked : List Name → Watch → Why → Type 0
+WhyMarked names (watch.Between w) y = y ≡ why.Misplaced
+WhyMarked names (watch.Marking h) y = y ≡ why.Misplaced
+WhyMarked names (watch.Ended left) y = ((name : Name) × (y ≡ why.NotListed name) × IsMissing names left.kept name) ⊎
+    ((name : Name) × (y ≡ why.NotMarked name) × IsMissing left.kept names name)
+WhyMarked names watch.Stopped y = y ≡ why.Misplaced
+
+-- whether the name is g or one of a world's names, by the number of names of each mutator in the world
+abbrev pub is_old : List ℕ → Name → Bool
+is_old serials name = is_same_name name shared_name || ltb name.serial (slice_index_or serials name.maker 0)
+
+-- a name of the snapshot with which the closed cycle began
+abbrev pub IsOld : CycleResult → Name → Type 0
+IsOld left name = is_old left.old name ≡ true
+
+-- a name that may be freed: the heap and the snapshot have it, and no command or weak pointer that lives on needs it
+abbrev pub MayFree : CycleResult → Name → Type 0
+MayFree left name = IsSome (node_of left.world name) × IsOld left name × (Contains left.needed name → ⊥)
+
+-- a report after a cycle: the runtime freed names of its snapshot that aren't needed. Names made since aren't garbage by it
+abbrev pub CanFreed : List Name → Watch → Watch → Type 0
+CanFreed names (watch.Between w) next = ⊥
+CanFreed names (watch.Marking h) next = ⊥
+CanFreed names (watch.Ended left) next = ((name : Name) → Contains names name → MayFree left name) × (next ≡ watch.Ended left)
+CanFreed names watch.Stopped next = ⊥
+
+-- the reasons why a name can't have been freed: the heap doesn't have it, it was made since the snapshot, or it is needed
+abbrev pub WhyKept : CycleResult → Name → Why → Type 0
+WhyKept left name y = ((y ≡ why.NoSuchName name) × (IsSome (node_of left.world name) → ⊥)) ⊎
+    (((y ≡ why.NotOld name) × (IsOld left name → ⊥)) ⊎ ((y ≡ why.Needed name) × Contains left.needed name))
+
+-- the reasons why the runtime can't have freed these names: no cycle, a cycle goes on, or a name among them can't be freed
+abbrev pub WhyFreed : List Name → Watch → Why → Type 0
+WhyFreed names (watch.Between w) y = y ≡ why.Misplaced
+WhyFreed names (watch.Marking h) y = y ≡ why.Misplaced
+WhyFreed names (watch.Ended left) y = (name : Name) × Contains names name × WhyKept left name y
+WhyFreed names watch.Stopped y = y ≡ why.Misplaced
+
+-- the outcome of a check of reported marked names: exactly these names are kept, or there is a reason
+abbrev pub IsMarkedIf : List Name → CycleResult → Option Why → Type 0
+IsMarkedIf names left None = (name : Name) → Contains names name ↔ Contains left.kept name
+IsMarkedIf names left (Some y) = WhyMarked names (watch.Ended left) y
+
+-- the outcome of a check of reported freed names: all may be freed, or there is a reason
+abbrev pub IsFreedIf : List Name → CycleResult → Option Why → Type 0
+IsFreedIf names left None = (name : Name) → Contains names name → MayFree left name
+IsFreedIf names left (Some y) = WhyFreed names (watch.Ended left) y
+
+-- the stop of a watch, after a cycle has ended: a trace without a cycle shows nothing
+abbrev pub CanStop : Watch → Watch → Type 0
+CanStop (watch.Between w) next = ⊥
+CanStop (watch.Marking h) next = ⊥
+CanStop (watch.Ended left) next = next ≡ watch.Stopped
+CanStop watch.Stopped next = ⊥
+
+-- the reasons why the watch can't stop: a cycle goes on, there was none, or the watch has stopped already
+abbrev pub WhyStop : Watch → Why → Type 0
+WhyStop (watch.Between w) y = y ≡ why.Misplaced
+WhyStop (watch.Marking h) y = y ≡ why.Misplaced
+WhyStop (watch.Ended left) y = ⊥
+WhyStop watch.Stopped y = y ≡ why.Misplaced
+
+-- an event of a line can happen in a state, with the state after it. Several commands: each is done after the commands before
+-- it. A settle: this mutator has no debt. A take: the name was pushed and is in the snapshot. A close: there are no debts,
+-- and if takes are reported, all pushed names except g were taken. A close that reports which weak pointers die: each is dead
+-- if exactly these die. Marked: exactly the names that the cycle kept. Freed: names of the snapshot that the heap has, and
+-- that neither the commands nor a weak pointer that lives on need. A stop: a cycle has ended
+abbrev pub Can : ℕ → Watch → Event → Watch → Type 0
+Can line p (event.Given m c answer) next = CanGive line m c answer p next
+Can line p (event.Rows m commands) next = CanRows line m commands p next
+Can line p event.Mark next = CanMark p next
+Can line p (event.Push name) next = CanPush name p next
+Can line p (event.Settle m) next = CanSettle m p next
+Can line p (event.Take name) next = CanTake name p next
+Can line p event.Close next = CanClose p next
+Can line p (event.CloseWith dead) next = CanCloseWith dead p next
+Can line p (event.Marked names) next = CanMarked names p next
+Can line p (event.Freed names) next = CanFreed names p next
+Can line p event.Stop next = CanStop p next
+
+-- the reasons why an event can't happen, for each kind of event: each is a fact of the state and the event
+abbrev pub IsWhy : Watch → Event → Why → Type 0
+IsWhy p (event.Given m c answer) y = WhyGive m c answer p y
+IsWhy p (event.Rows m commands) y = (line : ℕ) × (last : Watch) × WhyRows line m commands p y last
+IsWhy p event.Mark y = WhyMark p y
+IsWhy p (event.Push name) y = WhyPush name p y
+IsWhy p (event.Settle m) y = WhySettle m p y
+IsWhy p (event.Take name) y = WhyTake name p y
+IsWhy p event.Close y = WhyClose p y
+IsWhy p (event.CloseWith dead) y = WhyCloseWith dead p y
+IsWhy p (event.Marked names) y = WhyMarked names p y
+IsWhy p (event.Freed names) y = WhyFreed names p y
+IsWhy p event.Stop y = WhyStop p y
+
+-- the state after a refused event: nothing changes, except that several commands of a line are done up to the refused command
+abbrev pub Leaves : ℕ → Watch → Event → Why → Watch → Type 0
+Leaves line p (event.Rows m commands) y next = WhyRows line m commands p y next
+Leaves line p e y next = next ≡ p
+
+-- a step: the event happened; or there is a reason, and only the commands of the line before the refused command were done
+abbrev pub IsStep : ℕ → Watch → Event → Option Why → Watch → Type 0
+IsStep line p e None next = Can line p e next
+IsStep line p e (Some y) next = Leaves line p e y next × IsWhy p e y
+
+-- the theorem that an event for which there is a reason can't happen
+abbrev pub ReasonsRefuse : Type 0
+ReasonsRefuse = (line : ℕ) (p : Watch) (e : Event) (y : Why) (next : Watch) → IsWhy p e y → Can line p e next → ⊥
+
+-- the theorem that a closed cycle is exact, for both kinds of close. Every marker beside the cycle that can close then has
+-- marked exactly the kept names, whenever it took and read them
+abbrev pub ClosedIsExact : Type 0
+ClosedIsExact = (h : Cycle) (left : CycleResult) → IsLeft h left ⊎ ((named : List Name) × IsResultWith h named left) → (w : World) → IsWorld w →
+    (s next : State) → Beside w h s → IsPossible s core.Close → IsClosing s next → (name : Name) → Contains next.marked name ↔ Contains left.kept name
+
+-- a watch whose heaps are closed, as in every watch that began with an empty heap
+abbrev pub AreClosed : Watch → Type 0
+AreClosed (watch.Between w) = IsWorld w
+AreClosed (watch.Marking h) = IsWorld h.world × IsWorld h.snapshot
+AreClosed (watch.Ended left) = IsWorld left.world
+AreClosed watch.Stopped = Unit {0}
+
+-- the theorem that for every event, either the event can happen or there is a reason why it can't
+abbrev pub EveryEventIsJudged : Type 0
+EveryEventIsJudged = (line : ℕ) (p : Watch) (e : Event) → AreClosed p → ((next : Watch) × Can line p e next) ⊎ ((y : Why) × IsWhy p e y)
+
+-- the theorem that each marker that took all pushed names has to mark every name that the commands alone keep
+abbrev pub KeptIsMarked : Type 0
+KeptIsMarked = (h : Cycle) → IsWorld h.snapshot → (name : Name) → IsKept h.snapshot h.opened h.finalised name → MarksName h name
+
+-- the theorem that, after a close without a report of the weak pointers that die, every needed name is among the kept names
+abbrev pub NeededIsKept : Type 0
+NeededIsKept = (h : Cycle) (left : CycleResult) → IsWorld h.snapshot → IsLeft h left → (name : Name) → Contains left.needed name → Contains left.kept name

@@ -1,0 +1,206 @@
+//! The debts of each mutator.
+//!
+//! A mutator has a queue of its debts, in the order in which they came, and the set of names that came due by it so far. So a
+//! name is in a queue at most once, however often it comes due, and all queues together take memory for each name and
+//! mutator. A debt counts as long as its name wasn't pushed. Paid debts leave a queue from the front (`forget_paid`), so a
+//! mutator settles in amortised constant time, whatever other mutators owe. The reason against an end is the debt of the
+//! least line, found by a search of all queues.
+//!
+//! Easy to get wrong: two mutators may owe the same name, if it came due by both.
+ghost use Rattle.std.specs.Prelude.{◌≡◌, ◌⊎◌, ◌<◌, ◌≤◌, ◌∷◌, ◌++◌, List, [], false, length, replicate, slice_get, IfOk, OnOk, OnErr, All, Contains, Some, None};
+ghost use Rattle.nmgc_world_spec.specs.declared.value.Name.{Name as NameAt};
+ghost use Rattle.nmgc_graph.specs.Marks.{HasPlaces, mark_of};
+ghost use Rattle.nmgc_barrier_laws.specs.declared.debt.Debt.{Debt as DebtAt};
+ghost use Rattle.nmgc_barrier_checker.specs.Accounts.{AreAccounts, AreNew, IsOwing, IsForgotten, IsLeastIn, IsPaidUp, owed_one, queue_of, all_debts, unpaid};
+
+use crate::due::is_owable;
+use nmgc_barrier_laws::Debt;
+use nmgc_graph::{Marks, World};
+use nmgc_lists::{List, NoMemory, Queue};
+use nmgc_world_spec::Name;
+use std::alloc::Global;
+
+/// For each mutator, its debts and the names that came due by it.
+#[derive(Drop)]
+pub(crate) struct Accounts {
+    pub(crate) debts: List<Queue<Debt>>,
+    pub(crate) names: List<Marks>,
+}
+
+impl Accounts {
+    /// Makes accounts without debts. Takes memory for each mutator and name of the snapshot.
+    pub(crate) fn new(snapshot: &World) -> Result<Self, NoMemory>
+        ensures { IfOk result (AreNew snapshot.now) }
+    {
+        let debts = empty_queues(snapshot.alloc(), snapshot.mutators())?;
+        let names = empty_sets(snapshot)?;
+        Ok(Accounts { debts, names })
+    }
+
+    /// Adds debts for names that came due by a command of the mutator at a line. Leaves out names that can't be due, were
+    /// pushed, or are owed by the mutator already. Paid debts leave the front of the mutator's queue. After `NoMemory` some
+    /// of the names may have come due. Takes amortised constant time for each name.
+    pub(crate) fn owe(
+        &mut self,
+        snapshot: &World,
+        marks: &Marks,
+        line: usize,
+        mutator: u8,
+        names: &[Name],
+    ) -> Result<(), NoMemory>
+        requires are { AreAccounts marks.now snapshot.now self.old }
+        requires mutator { mutator < length self.old.debts }
+        ensures are { AreAccounts marks.now snapshot.now self.new }
+        ensures count { length self.new.debts ≡ length self.old.debts }
+        ensures owing { OnOk result (IsOwing snapshot.now marks.now line mutator names.now self.old self.new) }
+    {
+        self.forget(marks, mutator);
+        for name in names {
+            let debt = Debt {
+                name: *name,
+                line,
+                mutator,
+            };
+            self.owe_one(snapshot, marks, debt)?;
+        }
+        Ok(())
+    }
+
+    // Adds a debt to its mutator's queue if the debt is new.
+    fn owe_one(&mut self, snapshot: &World, marks: &Marks, debt: Debt) -> Result<(), NoMemory>
+        requires are { AreAccounts marks.now snapshot.now self.old }
+        requires mutator { debt.mutator < length self.old.debts }
+        ensures ok { OnOk result (self.new ≡ owed_one snapshot.now marks.now self.old debt) }
+        ensures err { OnErr result (self.new ≡ self.old) }
+    {
+        let mutator = debt.mutator as usize;
+        if !is_owable(snapshot, debt.name)
+            || marks.contains(debt.name)
+            || self.names.items()[mutator].contains(debt.name)
+        {
+            return Ok(());
+        }
+        self.debts.items_mut()[mutator].push(debt)?;
+        self.names.items_mut()[mutator].insert(debt.name);
+        Ok(())
+    }
+
+    // Removes paid debts from the front of a mutator's queue.
+    fn forget(&mut self, marks: &Marks, mutator: u8)
+        requires { mutator < length self.old.debts }
+        ensures { IsForgotten marks.now mutator self.old self.new }
+    {
+        forget_paid(marks, &mut self.debts.items_mut()[mutator as usize]);
+    }
+
+    /// Returns the first unpaid debt of a mutator, if any, and removes the debts before it. Takes amortised constant time.
+    pub(crate) fn first(&mut self, marks: &Marks, mutator: u8) -> Option<Debt>
+        requires { mutator < length self.old.debts }
+        ensures forgotten { IsForgotten marks.now mutator self.old self.new }
+        ensures first { result ≡ slice_get (unpaid marks.now (queue_of self.old.debts mutator)) 0 }
+    {
+        self.forget(marks, mutator);
+        self.debts.items()[mutator as usize].first()
+    }
+
+    /// Whether the last debt of some mutator is of this line. Right after the line's command, this means that the command
+    /// made a name due that its mutator didn't owe before. Takes no memory, and time for each mutator.
+    pub(crate) fn has_of(&self, line: usize) -> bool {
+        for queue in self.debts.items() {
+            if let Some(debt) = queue.items().last() {
+                if debt.line == line {
+                    return true;
+                }
+            }
+        }
+        false
+    }
+
+    /// Returns the unpaid debt of the least line, if there is any. Takes time for each debt that waits.
+    pub(crate) fn least(&self, marks: &Marks) -> Option<Debt>
+        ensures { IsLeastIn (unpaid marks.now (all_debts self.now.debts)) result }
+    {
+        least_among(marks, self.debts.items())
+    }
+}
+
+// Makes `mutators` empty queues.
+fn empty_queues(alloc: Global, mutators: u8) -> Result<List<Queue<Debt>>, NoMemory>
+    ensures { IfOk result (λ queues. queues ≡ replicate mutators []) }
+{
+    let mut queues = List::new(alloc);
+    for _ in 0..mutators {
+        queues.push(Queue::new(alloc))?;
+    }
+    Ok(queues)
+}
+
+// Makes an empty set for each mutator.
+fn empty_sets(snapshot: &World) -> Result<List<Marks>, NoMemory>
+    ensures count { IfOk result (λ sets. length sets ≡ length snapshot.now.mutators) }
+    ensures places { IfOk result (λ sets. All (HasPlaces snapshot.now) sets) }
+    ensures free { IfOk result (λ sets. All (λ set. (name : NameAt) → mark_of set name ≡ false) sets) }
+{
+    let mut sets = List::new(snapshot.alloc());
+    for _ in 0..snapshot.mutators() {
+        sets.push(snapshot.no_names()?)?;
+    }
+    Ok(sets)
+}
+
+// Removes paid debts from the front of a queue.
+fn forget_paid(marks: &Marks, debts: &mut Queue<Debt>)
+    ensures same { unpaid marks.now debts.new ≡ unpaid marks.now debts.old }
+    ensures fewer { (d : DebtAt) → Contains debts.new d → Contains debts.old d }
+    ensures first { IsPaidUp marks.now debts.new }
+{
+    while let Some(debt) = debts.first() {
+        if !marks.contains(debt.name) {
+            return;
+        }
+        debts.take_first();
+    }
+}
+
+// Returns the unpaid debt of the least line in all queues, if there is any.
+fn least_among(marks: &Marks, queues: &[Queue<Debt>]) -> Option<Debt>
+    ensures { IsLeastIn (unpaid marks.now (all_debts queues.now)) result }
+{
+    let mut least = None;
+    for queue in queues {
+        least = least_of(marks, queue.items(), least);
+    }
+    least
+}
+
+// Returns the debt of the least line among `so_far` and the unpaid debts of a queue, if there is any.
+fn least_of(marks: &Marks, debts: &[Debt], so_far: Option<Debt>) -> Option<Debt>
+    ensures { (before : List DebtAt) → IsLeastIn before so_far → IsLeastIn (before ++ unpaid marks.now debts.now) result }
+{
+    let mut least = so_far;
+    for debt in debts {
+        least = lesser(marks, least, *debt);
+    }
+    least
+}
+
+// Returns the debt of the lesser line among `so_far` and a further debt; a paid debt doesn't count.
+fn lesser(marks: &Marks, so_far: Option<Debt>, debt: Debt) -> Option<Debt>
+    ensures { (before : List DebtAt) → IsLeastIn before so_far → IsLeastIn (before ++ unpaid marks.now (debt ∷ [])) result }
+{
+    if marks.contains(debt.name) {
+        return so_far;
+    }
+    Some(earlier(so_far, debt))
+}
+
+// Returns the debt of the lesser line, or the first debt if both lines are the same.
+fn earlier(first: Option<Debt>, second: Debt) -> Debt
+    ensures some { (d : DebtAt) → first ≡ Some d → ((result ≡ d) × (d.line ≤ second.line)) ⊎ ((result ≡ second) × (second.line ≤ d.line)) }
+    ensures none { first ≡ None → result ≡ second }
+{
+    match first {
+        Some(debt) if debt.line <= second.line => debt,
+        _ => second,
+    }
+}

@@ -1,0 +1,290 @@
+//! A cycle that is watched without a marker.
+//!
+//! The cycle has the world as it is, and the snapshot. Of the names of the snapshot it has the pushed names, the names that
+//! the commands opened, and the names that the marker took, if that is reported. Each of these is a list that has each name
+//! once, with a set for a lookup in constant time (`name_set`). Names that came due wait in a queue for each mutator
+//! (`accounts`). A push puts the name into list and set, so it takes amortised constant time; a debt counts as long as its
+//! name isn't in the set. So a cycle takes memory for each name and mutator, however long it goes on.
+//!
+//! Easy to get wrong: a name outside the snapshot has no position in a set. It can't be due; a push of it changes nothing.
+ghost use Rattle.std.specs.Prelude.{◌≡◌, ◌↔◌, ◌<◌, ◌++◌, length, IfOk, OnOk, IsSome, IsTrue};
+ghost use Rattle.nmgc_world_spec.specs.World.{node_of};
+ghost use Rattle.nmgc_barrier_checker.specs.{Dues.targets, Cycles.IsUntakenIn, Cycles.is_untaken};
+
+use crate::accounts::Accounts;
+use crate::due::{Field, gone, is_owable, kept_then, standing};
+use crate::event::Why;
+use crate::name_set::NameSet;
+use crate::rows::is_done;
+use nmgc_barrier_laws::Debt;
+use nmgc_graph::World;
+use nmgc_graph::opened::{finalised_by, opened_by};
+use nmgc_lists::{NoMemory, Queue};
+use nmgc_world_spec::{Command, Name, Reply};
+use std::alloc::Global;
+use std::marker::Model;
+
+/// A watched cycle, from its beginning on.
+#[derive(Drop)]
+pub struct Cycle {
+    pub(crate) world: World,
+    pub(crate) snapshot: World,
+    pub(crate) remembered: NameSet,
+    accounts: Accounts,
+    pub(crate) opened: NameSet,
+    taken: NameSet,
+    pub(crate) finalised: Queue<Name>,
+    dues: u64,
+}
+
+impl Model for Cycle {
+    ghost use Rattle.nmgc_barrier_laws.specs.Cycle.{Cycle as Seen};
+    ghost use Rattle.nmgc_barrier_checker.specs.{Accounts.unpaid, Accounts.all_debts, Cycles.IsCycle};
+
+    ghost Value = { Seen };
+
+    ghost view = { λ c. record { world = c.world; snapshot = c.snapshot; remembered = c.remembered.names; debts = unpaid c.remembered.set (all_debts c.accounts.debts); opened = c.opened.names; taken = c.taken.names; finalised = c.finalised } };
+
+    ghost invariant = { λ c. IsCycle c.world c.snapshot c.remembered c.accounts c.opened c.taken c.finalised };
+}
+
+impl Cycle {
+    ghost use Rattle.nmgc_world_spec.specs.Step.{CanApply};
+    ghost use Rattle.nmgc_barrier_laws.specs.Cycle.{watching, IsPushed};
+    ghost use Rattle.nmgc_barrier_checker.specs.Cycles.{IsTaken, IsCommand, IsActing, IsPush, IsSettle, IsTake, IsLeastDebt, IsUntakenIf};
+
+    /// Begins a cycle: the world is the snapshot. Takes time and memory for each object, and for each name and mutator.
+    pub fn new(world: &World) -> Result<Self, NoMemory>
+        ensures { IfOk result (λ cycle. cycle ≡ watching world.now) }
+    {
+        let alloc = world.alloc();
+        let snapshot = world.copy()?;
+        let remembered = NameSet::new(world)?;
+        let accounts = Accounts::new(world)?;
+        let opened = NameSet::new(world)?;
+        let taken = NameSet::new(world)?;
+        let world = world.copy()?;
+        let finalised = Queue::new(alloc);
+        Ok(Cycle {
+            world,
+            snapshot,
+            remembered,
+            accounts,
+            opened,
+            taken,
+            finalised,
+            dues: 0,
+        })
+    }
+
+    /// Returns the world as it is. Takes no memory and constant time.
+    pub fn world(&self) -> &World
+        ensures { result.now ≡ self.now.world }
+    {
+        &self.world
+    }
+
+    /// Returns how often a command has made a name due so far, whether or not the name was pushed before. A name that a
+    /// `finalise` opens counts twice, as opened and as kept. At most `u64::MAX`. Takes no memory and constant time.
+    pub fn dues(&self) -> u64 {
+        self.dues
+    }
+
+    /// Right after a command of this line: returns whether the command made a name due that its mutator didn't owe before. If
+    /// so, a reason may have to name the line. Takes no memory, and time for each mutator.
+    pub fn is_owed_since(&self, line: usize) -> bool {
+        self.accounts.has_of(line)
+    }
+
+    /// Does a mutator's command at a line, or returns why it can't have been given. Names that the command makes due, and
+    /// that weren't pushed, are due since that line. A refused command changes nothing; after `NoMemory` it may be any cycle.
+    /// Takes amortised constant time for each operand, each field of an object made, and each field that may be removed.
+    pub fn command(
+        &mut self,
+        line: usize,
+        mutator: u8,
+        command: &Command,
+        answer: Reply,
+    ) -> Result<Option<Why>, NoMemory>
+        ensures { IfOk result (λ why. IsCommand line mutator command.now answer self.old why self.new) }
+    {
+        if !self.world.can_apply(mutator, command) {
+            return Ok(Some(Why::CannotApply));
+        }
+        let reply = self.world.reply(mutator, command);
+        if reply != answer {
+            return Ok(Some(Why::Answer(reply)));
+        }
+        self.give(line, mutator, command)?;
+        Ok(None)
+    }
+
+    /// Does a mutator's command at a line, with any answer, if the heap does it, or else returns why not and changes nothing.
+    pub fn act(
+        &mut self,
+        line: usize,
+        mutator: u8,
+        command: &Command,
+    ) -> Result<Option<Why>, NoMemory>
+        ensures { IfOk result (λ why. IsActing line mutator command.now self.old why self.new) }
+    {
+        if !self.world.can_apply(mutator, command) {
+            return Ok(Some(Why::CannotApply));
+        }
+        let reply = self.world.reply(mutator, command);
+        if !is_done(reply) {
+            return Ok(Some(Why::Answer(reply)));
+        }
+        self.give(line, mutator, command)?;
+        Ok(None)
+    }
+
+    // Does a command that the world can take, and adds the names that it opens, finalises and makes due.
+    fn give(&mut self, line: usize, mutator: u8, command: &Command) -> Result<(), NoMemory>
+        requires { CanApply self.old.world mutator command.now }
+        ensures { OnOk result (IsTaken line mutator command.now self.old self.new) }
+    {
+        let fields = standing(&self.snapshot, &self.world, mutator, command)?;
+        let opens = opened_by(&self.world, mutator, command)?;
+        let ends = finalised_by(&self.world, mutator, command)?;
+        let kept = kept_then(&self.snapshot, ends.as_slice())?;
+        self.opened.extend(&self.snapshot, opens.as_slice())?;
+        self.finalised.extend(ends.as_slice())?;
+        self.world.apply(mutator, command)?;
+        let lost = gone(&self.world, fields.items())?;
+        let names = found(
+            self.world.alloc(),
+            lost.items(),
+            opens.as_slice(),
+            kept.as_slice(),
+        )?;
+        let came = count_due(&self.snapshot, names.as_slice());
+        self.dues = self.dues.saturating_add(came);
+        self.accounts.owe(
+            &self.snapshot,
+            &self.remembered.set,
+            line,
+            mutator,
+            names.as_slice(),
+        )?;
+        Ok(())
+    }
+
+    /// Adds a pushed name. A name outside the heap is refused, and changes nothing. Takes amortised constant time.
+    pub fn push(&mut self, name: Name) -> Result<Option<Why>, NoMemory>
+        ensures push { IfOk result (λ why. IsPush name self.old why self.new) }
+    {
+        if self.world.node(name).is_none() {
+            return Ok(Some(Why::NoSuchName(name)));
+        }
+        self.remember(name)?;
+        Ok(None)
+    }
+
+    // Adds a name of the heap to the pushed names.
+    fn remember(&mut self, name: Name) -> Result<(), NoMemory>
+        requires { IsSome (node_of self.old.world name) }
+        ensures { OnOk result (IsPushed self.old name self.new) }
+    {
+        self.remembered.add(&self.snapshot, name)?;
+        Ok(())
+    }
+
+    /// Returns the reason why a mutator hasn't settled, if it hasn't: a debt of its commands that wasn't pushed, or no such
+    /// mutator. Changes nothing. Takes amortised constant time, whatever other mutators owe.
+    pub fn settle(&mut self, mutator: u8) -> Option<Why>
+        ensures settle { IsSettle mutator self.old result }
+        ensures same { self.new ≡ self.old }
+    {
+        if !has_mutator(&self.world, mutator) {
+            return Some(Why::CannotApply);
+        }
+        match self.accounts.first(&self.remembered.set, mutator) {
+            Some(debt) => Some(Why::Due(debt)),
+            None => None,
+        }
+    }
+
+    /// Adds a pushed name to the taken names. Any other name is refused, and changes nothing. Takes amortised constant time.
+    pub fn take(&mut self, name: Name) -> Result<Option<Why>, NoMemory>
+        ensures { IfOk result (λ why. IsTake name self.old why self.new) }
+    {
+        if !self.remembered.has(name) {
+            return Ok(Some(Why::NotPushed(name)));
+        }
+        self.taken.add(&self.snapshot, name)?;
+        Ok(None)
+    }
+
+    /// Returns the debt of the least line, if there is any. Takes time for each debt.
+    pub fn first_debt(&self) -> Option<Debt>
+        ensures { IsLeastDebt self.now result }
+    {
+        self.accounts.least(&self.remembered.set)
+    }
+
+    /// Returns a name that was pushed and not taken, if takes are reported. g needs no push. Takes time for each pushed name.
+    pub fn untaken(&self) -> Option<Name>
+        ensures { IsUntakenIf self.now result }
+    {
+        if self.taken.is_empty() {
+            return None;
+        }
+        untaken_of(&self.taken, self.remembered.names.items())
+    }
+}
+
+// Returns how many of the names may be due.
+fn count_due(snapshot: &World, names: &[Name]) -> u64 {
+    let mut count = 0_u64;
+    for name in names {
+        if is_owable(snapshot, *name) {
+            count = count.saturating_add(1);
+        }
+    }
+    count
+}
+
+// Returns the first of the names that still has to be taken, if there is one.
+fn untaken_of(taken: &NameSet, names: &[Name]) -> Option<Name>
+    ensures { IsUntakenIn taken.now names.now result }
+{
+    for name in names {
+        if is_untaken(taken, *name) {
+            return Some(*name);
+        }
+    }
+    None
+}
+
+// Whether a name isn't among the taken names; g doesn't have to be taken.
+fn is_untaken(taken: &NameSet, name: Name) -> bool
+    ensures { result ≡ is_untaken taken.now name }
+{
+    name != Name::SHARED && !taken.has(name)
+}
+
+// Whether there is a mutator with this number.
+fn has_mutator(world: &World, mutator: u8) -> bool
+    ensures { IsTrue result ↔ (mutator < length world.now.mutators) }
+{
+    mutator < world.mutators()
+}
+
+// Returns the names that may be due: the targets of lost fields, opened names, and names kept by finalised weak pointers.
+fn found(
+    alloc: Global,
+    lost: &[Field],
+    opens: &[Name],
+    kept: &[Name],
+) -> Result<Vec<Name>, NoMemory>
+    ensures { IfOk result (λ names. names.items ≡ targets lost.now ++ (opens.now ++ kept.now)) }
+{
+    let mut names = Vec::new(alloc);
+    for field in lost {
+        names.push(field.target)?;
+    }
+    names.extend_from_slice(opens)?;
+    names.extend_from_slice(kept)?;
+    Ok(names)
+}

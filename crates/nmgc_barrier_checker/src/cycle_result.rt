@@ -1,0 +1,114 @@
+//! The result of a closed cycle.
+//!
+//! A runtime's reports of marked or freed names are compared with it. A runtime may report freed names in many lines, so no
+//! set is made for a line. The names of the cycle are in order, and each reported name is found by a binary search.
+//!
+//! Easy to get wrong: a name made since the cycle began isn't in the snapshot, so the cycle doesn't show that it is garbage.
+//! A sweep that frees it is wrong, whether or not something refers to it.
+ghost use Rattle.std.specs.Prelude.{◌≡◌, ◌↔◌, slice_index_or, IfOk, IsTrue, Contains};
+ghost use Rattle.nmgc_world_spec.specs.declared.value.Name.{Name as NameAt};
+ghost use Rattle.nmgc_graph.specs.{Marks.IsMarked, Search.IsSetOf};
+ghost use Rattle.nmgc_barrier_checker.specs.Watching.{IsMissingIf, is_old};
+
+use crate::event::Why;
+use crate::sorted_names::SortedNames;
+use nmgc_graph::{Marks, World};
+use nmgc_lists::{List, NoMemory};
+use nmgc_world_spec::Name;
+
+/// The world after a cycle, and the names that reports are compared with.
+///
+/// - `kept`: the names of the snapshot that the commands and the pushes keep, in order.
+/// - `needed`: the names kept by commands or living weak pointers, in order: no collector may free them if the same die.
+/// - `old`: the number of names of each mutator in the snapshot. A name with a serial from there on was made since.
+/// - `dues`: how often a command made a name due in the cycle. A name that a `finalise` opens counts twice.
+#[derive(Drop)]
+pub struct CycleResult {
+    pub world: World,
+    pub kept: SortedNames,
+    pub needed: SortedNames,
+    pub old: List<u32>,
+    pub dues: u64,
+}
+
+impl CycleResult {
+    ghost use Rattle.nmgc_barrier_checker.specs.Watching.{IsMarkedIf, IsFreedIf};
+
+    /// Returns the reason, if any, why the runtime can't have marked exactly these names: a kept name isn't among them, or
+    /// one of them isn't kept. Takes memory and time for each kept name, and a binary search for each reported name.
+    pub fn marked(&self, names: &[Name]) -> Result<Option<Why>, NoMemory>
+        ensures { IfOk result (IsMarkedIf names.now self.now) }
+    {
+        if let Some(name) = self.kept.left_out(self.world.alloc(), names)? {
+            return Ok(Some(Why::NotListed(name)));
+        }
+        match self.kept.without(names) {
+            Some(name) => Ok(Some(Why::NotMarked(name))),
+            None => Ok(None),
+        }
+    }
+
+    /// Returns the reason, if any, why the runtime can't have freed these names. The heap doesn't have one of them, it was
+    /// made since the cycle began, or the commands or a weak pointer that lives on need it. Takes no memory, and time for
+    /// each name times the logarithm of the number of needed names.
+    pub fn freed(&self, names: &[Name]) -> Option<Why>
+        ensures { IsFreedIf names.now self.now result }
+    {
+        let old = self.old.items();
+        for name in names {
+            if self.world.node(*name).is_none() {
+                return Some(Why::NoSuchName(*name));
+            }
+            if !is_old(old, *name) {
+                return Some(Why::NotOld(*name));
+            }
+            if self.needed.has(*name) {
+                return Some(Why::Needed(*name));
+            }
+        }
+        None
+    }
+}
+
+// Whether the name is g or one of a world's names, by the number of names of each mutator in the world.
+fn is_old(serials: &[u32], name: Name) -> bool
+    ensures { result ≡ is_old serials.now name }
+{
+    name == Name::SHARED || name.serial < serial_in(serials, name.maker)
+}
+
+// Returns the number of names of the maker, or 0 if the maker isn't a mutator.
+fn serial_in(serials: &[u32], maker: u8) -> u32
+    ensures { result ≡ slice_index_or serials.now maker 0 }
+{
+    match serials.get(maker as usize) {
+        Some(count) => *count,
+        None => 0,
+    }
+}
+
+/// Returns the first of `others` that isn't in `names`. Takes memory and time for each name of the world, for a set of
+/// `names`. Takes constant time for each item of `names`, and of `others` in the set. Any other takes a search of `names`.
+pub(crate) fn missing(
+    world: &World,
+    names: &[Name],
+    others: &[Name],
+) -> Result<Option<Name>, NoMemory>
+    ensures { IfOk result (IsMissingIf names.now others.now) }
+{
+    let set = world.set_of(names)?;
+    for other in others {
+        if !is_among(&set, names, *other) {
+            return Ok(Some(*other));
+        }
+    }
+    Ok(None)
+}
+
+// Whether `name` is in `names`. All names of `set` are in `names`, and are found in constant time.
+fn is_among(set: &Marks, names: &[Name], name: Name) -> bool
+    requires { (n : NameAt) → IsMarked set.now n → Contains names.now n }
+    ensures { IsTrue result ↔ Contains names.now name }
+{
+    set.contains(name) || names.contains(&name)
+}

@@ -1,0 +1,242 @@
+//! The names that a command makes due.
+//!
+//! A field of the snapshot is broken if the world has it until a command and not afterwards. A command changes at most one
+//! object, at few positions: the field that `set` or `cas` writes, the top that `pop` removes, or a thunk's positions that
+//! `update` gives up. So the fields that both worlds have at these positions are noted before the command (`standing`), and
+//! after it the world is asked which of them are gone (`gone`). A finalised weak pointer keeps its parts of the snapshot. So
+//! no table of writes is needed beside the heap's own step.
+//!
+//! Easy to get wrong: once the snapshot's field has gone, another field with its target is no field of the snapshot. It is
+//! one only if the target is written back to the same position of the same object.
+ghost use Rattle.std.specs.Prelude.{◌≡◌, ◌<◌, ◌≤◌, ◌++◌, true, length, filter, not, option_to_list, Some, IfOk, OnOk, Contains};
+ghost use Rattle.nmgc_world_spec.specs.{Command.HasRegisters, World.node_of, Owed.names_among};
+ghost use Rattle.nmgc_world_laws.specs.Holds.{strong_at};
+ghost use Rattle.nmgc_snapshot_laws.specs.Machine.{is_pushed_in};
+ghost use Rattle.nmgc_barrier_checker.specs.{declared.due.Field.Field as FieldAt, Dues.strong_in, Dues.is_ref_to, Dues.stands_in, Dues.first_place, Dues.end_place, Dues.IsStanding, Dues.kept_then};
+ghost use Rattle.nmgc_world_spec.specs.declared.node.Node.TheVariants as NodeIs;
+
+use nmgc_graph::World;
+use nmgc_graph::opened::names_among;
+use nmgc_lists::{List, NoMemory};
+use nmgc_world_spec::{Change, Command, Name, Node, Value};
+use std::slice;
+
+/// A strong field that refers to a target: the object, the position in it, and the target.
+#[derive(Clone, Copy, Debug, PartialEq, Eq)]
+pub struct Field {
+    pub name: Name,
+    pub place: usize,
+    pub target: Name,
+}
+
+// Returns the value in an object's strong field at a position, if there is such a field.
+fn strong_at(node: &Node, place: usize) -> Option<Value>
+    ensures { result ≡ strong_at node.now place }
+{
+    let fields = match node {
+        Node::Con { tag: _, values } | Node::Arr { values } => values.items(),
+        Node::Stack { size: _, values } => values.items(),
+        Node::Var { value } => slice::from_ref(value),
+        Node::Thunk { free, result } => return thunk_at(free.items(), *result, place),
+        Node::Weak { parts: _ } => return None,
+    };
+    fields.get(place).copied()
+}
+
+// Returns the value in a thunk's strong field at a position: its result at 0, then its free variables until it has a result.
+fn thunk_at(free: &[Value], answer: Option<Value>, place: usize) -> Option<Value>
+    ensures { result ≡ strong_at (NodeIs.Thunk free.now answer) place }
+{
+    if place == 0 {
+        return answer;
+    }
+    match answer {
+        Some(_) => None,
+        None => free.get(place - 1).copied(),
+    }
+}
+
+// Returns the value in the strong field of a name's object at a position, if there is such a field.
+fn strong_in(world: &World, name: Name, place: usize) -> Option<Value>
+    ensures { result ≡ strong_in (node_of world.now name) place }
+{
+    match world.node(name) {
+        Some(node) => strong_at(node, place),
+        None => None,
+    }
+}
+
+// Whether a value is a reference to the target.
+fn is_ref_to(target: Name, value: Option<Value>) -> bool
+    ensures { result ≡ is_ref_to target value }
+{
+    match value {
+        Some(Value::Ref(name)) => name.maker == target.maker && name.serial == target.serial,
+        _ => false,
+    }
+}
+
+/// Whether a world has the field: its strong field at this position refers to this target. Takes no memory and constant time.
+pub fn stands(world: &World, field: Field) -> bool
+    ensures { result ≡ stands_in world.now field }
+{
+    is_ref_to(field.target, strong_in(world, field.name, field.place))
+}
+
+// Returns the first position that a change of an object may write or remove.
+fn first_place(change: Change, node: &Node) -> usize
+    ensures { result ≡ first_place change node.now }
+{
+    match change {
+        Change::Set { index, value: _ } => index as usize,
+        Change::Exchange {
+            index,
+            expected: _,
+            value: _,
+        } => index as usize,
+        Change::Pop { mutator: _ } => match node {
+            Node::Stack { size: _, values } => values.items().len().saturating_sub(1),
+            _ => 0,
+        },
+        _ => 0,
+    }
+}
+
+// Returns the position after the last position that a change of an object may write or remove.
+fn end_place(change: Change, node: &Node) -> usize
+    ensures { result ≡ end_place change node.now }
+{
+    match change {
+        Change::Set { index, value: _ } => index as usize + 1,
+        Change::Exchange {
+            index,
+            expected: _,
+            value: _,
+        } => index as usize + 1,
+        Change::Pop { mutator: _ } => match node {
+            Node::Stack { size: _, values } => values.items().len(),
+            _ => 0,
+        },
+        Change::Update { value: _ } => match node {
+            Node::Thunk { free, result: _ } => free.items().len() + 1,
+            _ => 0,
+        },
+        Change::Push {
+            mutator: _,
+            value: _,
+        }
+        | Change::Finalise => 0,
+    }
+}
+
+// Returns the field that both the snapshot and the world have at a position, if there is one.
+fn field_at(snapshot: &World, world: &World, name: Name, place: usize) -> Option<Field>
+    ensures some { (f : FieldAt) → result ≡ Some f → (f.name ≡ name) × (f.place ≡ place) × (stands_in snapshot.now f ≡ true) × (stands_in world.now f ≡ true) }
+    ensures all { (f : FieldAt) → f.name ≡ name → f.place ≡ place → stands_in snapshot.now f ≡ true → stands_in world.now f ≡ true → result ≡ Some f }
+{
+    let Some(Value::Ref(target)) = strong_in(snapshot, name, place) else {
+        return None;
+    };
+    let field = Field {
+        name,
+        place,
+        target,
+    };
+    if stands(world, field) {
+        Some(field)
+    } else {
+        None
+    }
+}
+
+// Returns the fields that both worlds have at positions from `first` until `end`.
+fn fields_at(
+    snapshot: &World,
+    world: &World,
+    name: Name,
+    first: usize,
+    end: usize,
+) -> Result<List<Field>, NoMemory>
+    ensures sound { IfOk result (λ fields. (f : FieldAt) → Contains fields f → (stands_in snapshot.now f ≡ true) × (stands_in world.now f ≡ true)) }
+    ensures all { IfOk result (λ fields. (f : FieldAt) → f.name ≡ name → first ≤ f.place → f.place < end → stands_in snapshot.now f ≡ true →
+        stands_in world.now f ≡ true → Contains fields f) }
+{
+    let mut fields = List::new(world.alloc());
+    for place in first..end {
+        note(&mut fields, field_at(snapshot, world, name, place))?;
+    }
+    Ok(fields)
+}
+
+// Adds a field to the list, if one was found.
+fn note(fields: &mut List<Field>, found: Option<Field>) -> Result<(), NoMemory>
+    ensures { OnOk result (fields.new ≡ fields.old ++ option_to_list found) }
+{
+    match found {
+        Some(field) => fields.push(field),
+        None => Ok(()),
+    }
+}
+
+/// Returns the fields of both worlds at positions that a command may write or remove. Takes constant time for each position.
+pub(crate) fn standing(
+    snapshot: &World,
+    world: &World,
+    mutator: u8,
+    command: &Command,
+) -> Result<List<Field>, NoMemory>
+    requires mutator { mutator < length world.now.mutators }
+    requires registers { HasRegisters command.now }
+    ensures { IfOk result (IsStanding snapshot.now world.now mutator command.now) }
+{
+    match world.asked(mutator, command) {
+        Some((Value::Ref(name), change)) => match world.node(name) {
+            Some(node) => fields_at(
+                snapshot,
+                world,
+                name,
+                first_place(change, node),
+                end_place(change, node),
+            ),
+            None => Ok(List::new(world.alloc())),
+        },
+        _ => Ok(List::new(world.alloc())),
+    }
+}
+
+/// Returns each of the fields that the world doesn't have.
+pub(crate) fn gone(world: &World, fields: &[Field]) -> Result<List<Field>, NoMemory>
+    ensures { IfOk result (λ gone. gone ≡ filter (λ f. not (stands_in world.now f)) fields.now) }
+{
+    let mut gone = List::new(world.alloc());
+    for field in fields {
+        if !stands(world, *field) {
+            gone.push(*field)?;
+        }
+    }
+    Ok(gone)
+}
+
+/// Returns those weak pointers that are alive in the snapshot, with the names in their values and finalisers there.
+pub(crate) fn kept_then(snapshot: &World, weaks: &[Name]) -> Result<Vec<Name>, NoMemory>
+    ensures { IfOk result (λ names. names.items ≡ kept_then snapshot.now weaks.now) }
+{
+    let mut names = Vec::new(snapshot.alloc());
+    for weak in weaks {
+        if let Some(parts) = snapshot.parts(*weak) {
+            let kept = names_among(
+                snapshot.alloc(),
+                &[Value::Ref(*weak), parts.value, parts.finaliser],
+            )?;
+            names.extend_from_slice(kept.as_slice())?;
+        }
+    }
+    Ok(names)
+}
+
+/// Whether a name is in the snapshot and isn't g's: no other name can be due. Takes no memory and constant time.
+pub fn is_owable(snapshot: &World, name: Name) -> bool
+    ensures { result ≡ is_pushed_in snapshot.now name }
+{
+    snapshot.node(name).is_some() && name != Name::SHARED
+}

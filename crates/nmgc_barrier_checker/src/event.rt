@@ -1,0 +1,83 @@
+//! The events of a trace, and the reasons why an event can't have happened.
+use nmgc_barrier_laws::Debt;
+use nmgc_lists::List;
+use nmgc_world_spec::{Command, Name, Reply};
+
+/// A step of a runtime. The marker's reads and their times aren't watched, so there is no event for a read.
+#[derive(Drop)]
+pub enum Event {
+    /// A mutator gave a command, with this answer.
+    Given {
+        mutator: u8,
+        command: Command,
+        answer: Reply,
+    },
+    /// A mutator gave these commands, one after the other, and each was done: it gave a value, or had none to give. So one
+    /// line represents a copy of many fields, or a fill (`rows`). A command with an answer of another kind isn't done here,
+    /// even if it wrote: an exchange answers yes, and an update answers that it updated.
+    Rows {
+        mutator: u8,
+        commands: List<Command>,
+    },
+    /// Marking begins: the world is the snapshot.
+    Mark,
+    /// A barrier, or the collector itself, remembered the name.
+    Push {
+        name: Name,
+    },
+    /// All names that the mutator's commands made due so far are remembered.
+    Settle {
+        mutator: u8,
+    },
+    /// The marker took a pushed name. A cycle with such an event needs one for each pushed name of the snapshot, except g.
+    Take {
+        name: Name,
+    },
+    /// Marking ends. Each weak pointer whose key neither the commands nor the pushes keep dies.
+    Close,
+    /// Marking ends, and exactly these weak pointers die, in the order of their names; none dies if there are no names.
+    CloseWith {
+        dead: List<Name>,
+    },
+    /// In the last cycle the runtime marked exactly these names of the snapshot.
+    Marked {
+        names: List<Name>,
+    },
+    /// After the last cycle the runtime freed these names of its snapshot.
+    Freed {
+        names: List<Name>,
+    },
+    /// The trace ends.
+    Stop,
+}
+
+/// The reason why an event can't have happened. Each reason is a fact about the cycle and the event.
+#[derive(Clone, Copy, Debug, PartialEq, Eq)]
+pub enum Why {
+    /// No event of this kind can happen here: in a cycle, between cycles, or after the stop.
+    Misplaced,
+    /// There is no such mutator or register, or the mutator has no serial left. A settle, and several commands in one line
+    /// (even zero), can have this reason too.
+    CannotApply,
+    /// The heap's answer isn't the event's: it is this one.
+    Answer(Reply),
+    /// The heap has no such name.
+    NoSuchName(Name),
+    /// The name of this debt is due since the debt's line, and wasn't pushed.
+    Due(Debt),
+    /// The name wasn't pushed, or it isn't in the snapshot.
+    NotPushed(Name),
+    /// Takes are reported, and this name was pushed and isn't among them.
+    Untaken(Name),
+    /// The weak pointer isn't dead: the commands or a weak pointer that lives on keep its key, or the key is no object. Or it
+    /// wasn't alive at the snapshot, or was finalised since.
+    NotDead(Name),
+    /// The name has to be marked, and isn't reported.
+    NotListed(Name),
+    /// The name is reported as marked, but the cycle didn't keep it: it isn't kept from the snapshot, or was made since.
+    NotMarked(Name),
+    /// The name is reported as freed, and was made since the cycle began.
+    NotOld(Name),
+    /// The name is reported as freed, and the commands or a weak pointer that lives on need it.
+    Needed(Name),
+}

@@ -1,0 +1,28 @@
+//! The theorems of the watch. Each function does nothing: its contract is the law.
+ghost use Rattle.nmgc_barrier_checker.specs.Watching.{ReasonsRefuse, EveryEventIsJudged, ClosedIsExact, KeptIsMarked, NeededIsKept};
+
+/// Proves that an event with a reason against it can't have happened. So possible events are taken, unless memory runs out.
+pub fn a_reason_refuses()
+    ensures { ReasonsRefuse }
+{}
+
+/// Proves that each event can happen, or there is a reason why it can't. By `a_reason_refuses` both are never true.
+pub fn every_event_is_judged()
+    ensures { EveryEventIsJudged }
+{}
+
+/// Proves that in a cycle that closes without debts, every marker that ends there has marked exactly the kept names. This is
+/// also true if the close reports which weak pointers die.
+pub fn a_closed_cycle_marked_what_it_had_to()
+    ensures { ClosedIsExact }
+{}
+
+/// Proves that each marker that took all pushed names marks every name that the commands alone keep, whatever was pushed.
+pub fn what_the_commands_keep_is_marked()
+    ensures { KeptIsMarked }
+{}
+
+/// Proves that after a close without reported deaths, all needed names are marked, even those that living weak pointers need.
+pub fn what_is_needed_is_kept()
+    ensures { NeededIsKept }
+{}

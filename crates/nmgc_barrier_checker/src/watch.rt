@@ -1,0 +1,412 @@
+//! A runtime's barrier, watched from one event to the next.
+//!
+//! A runtime builds a heap by commands. Marking begins, and from then on each command may make names due until they are
+//! pushed. Marking ends, and the heap goes on, with its dead weak pointers dead. So there may be any number of cycles. Each
+//! event is taken if it can have happened (`specs/Watching`, `Can`), and otherwise refused with a reason that is a fact.
+//!
+//! Easy to get wrong: a refused event changes nothing, so a test can go on. But the earlier commands of its line are done.
+ghost use Rattle.std.specs.Prelude.{◌≡◌, ◌↔◌, ◌<◌, ◌≤◌, length, IfOk, IsTrue};
+ghost use Rattle.nmgc_world_spec.specs.World.{new_world};
+ghost use Rattle.nmgc_barrier_checker.specs.Watching.{IsStep, IsGivenIf, IsAct, IsDoneIf, AreActed, is_stopped, mutators_of};
+ghost use Rattle.nmgc_barrier_checker.specs.declared.event.Event.TheVariants as event;
+ghost use Rattle.nmgc_barrier_checker.specs.declared.watch.Watch.TheVariants as watch;
+
+use crate::cycle::Cycle;
+use crate::cycle_result::CycleResult;
+use crate::event::{Event, Why};
+use crate::rows::is_done;
+use nmgc_graph::World;
+use nmgc_limits::MAKERS;
+use nmgc_lists::{List, NoMemory};
+use nmgc_world_spec::{Command, Name, Reply};
+use std::alloc::Global;
+use std::marker::Model;
+
+/// A cycle that goes on, in its own memory, so that a watch is small. Contracts see it as that cycle. A `List` counts its
+/// items' parts three times against the compiler's limit of 8,192 parts, so a world has 2,989.
+#[derive(Drop)]
+pub struct Running {
+    cycle: Box<Cycle>,
+}
+
+impl Model for Running {
+    ghost use Rattle.nmgc_barrier_laws.specs.Cycle.{Cycle as Seen};
+
+    ghost Value = { Seen };
+
+    ghost view = { λ r. r.cycle.value };
+}
+
+impl Running {
+    ghost use Rattle.nmgc_barrier_laws.specs.Cycle.{watching};
+    ghost use Rattle.nmgc_barrier_checker.specs.{Cycles.IsSettle, Watching.IsEnding, Watching.IsEndingWith};
+
+    // Begins a cycle with this world as its snapshot. Takes the time and memory of `Cycle::new`.
+    fn new(world: &World) -> Result<Self, NoMemory>
+        ensures { IfOk result (λ running. running ≡ watching world.now) }
+    {
+        let cycle = Cycle::new(world)?;
+        Ok(Running {
+            cycle: Box::new(world.alloc(), cycle)?,
+        })
+    }
+
+    /// Returns the cycle that goes on. Takes no memory and constant time.
+    pub fn cycle(&self) -> &Cycle
+        ensures { result.now ≡ self.now }
+    {
+        &self.cycle
+    }
+
+    // Returns the number of mutators.
+    fn mutators(&self) -> u8
+        ensures { result ≡ length self.now.world.mutators }
+    {
+        self.cycle.world().mutators()
+    }
+
+    // Returns the reason why a mutator hasn't settled, if it hasn't.
+    fn settle(&mut self, mutator: u8) -> Option<Why>
+        ensures settle { IsSettle mutator self.old result }
+        ensures same { self.new ≡ self.old }
+    {
+        self.cycle.settle(mutator)
+    }
+
+    // Returns the result of a close, or the reason why the cycle can't end.
+    fn end(&self) -> Result<Result<CycleResult, Why>, NoMemory>
+        ensures { IfOk result (IsEnding self.now) }
+    {
+        self.cycle().end()
+    }
+
+    // Returns the result of a close at which exactly these weak pointers die, or the reason why the cycle can't end so.
+    fn end_with(&self, named: &[Name]) -> Result<Result<CycleResult, Why>, NoMemory>
+        ensures { IfOk result (IsEndingWith self.now named.now) }
+    {
+        self.cycle().end_with(named)
+    }
+}
+
+/// The state of a runtime: before, in, between and after cycles.
+#[derive(Drop)]
+pub enum Watch {
+    /// There has been no cycle.
+    Between(World),
+    /// A cycle goes on.
+    Marking(Running),
+    /// A cycle has ended, and no other cycle has begun.
+    Ended(CycleResult),
+    /// The trace has ended after a cycle.
+    Stopped,
+}
+
+impl Watch {
+    /// Makes a watch over the empty heap of 1 to `MAKERS` mutators.
+    pub fn new(alloc: Global, mutators: u8) -> Result<Self, NoMemory>
+        requires some { 1 ≤ mutators }
+        requires few { mutators ≤ MAKERS }
+        ensures { IfOk result (λ p. p ≡ watch.Between (new_world mutators)) }
+    {
+        Ok(Watch::Between(World::new(alloc, mutators)?))
+    }
+
+    /// Takes the event of a line and returns `None`, or refuses it and returns the reason. A refused event changes nothing,
+    /// but several commands in one line (`Event::Rows`) are done up to the refused one. After `NoMemory` it may be any watch.
+    ///
+    /// A push, a take and a settled mutator take amortised constant time. A command takes that for each operand, each field
+    /// of an object that it makes, and each field that it may remove. Several commands in one line each take it. The
+    /// beginning of a cycle and the stop take time for each object. The end of a cycle takes time for each object and each
+    /// field. A report of marked names takes time for each kept name, and a line that passes reports them all. A report of
+    /// marked or freed names takes a binary search for each reported name.
+    ///
+    /// Memory grows with the heap alone. A cycle has two worlds (three for a moment as it begins or ends), and a few bytes
+    /// for each name and mutator.
+    pub fn step(&mut self, line: usize, event: &Event) -> Result<Option<Why>, NoMemory>
+        ensures { IfOk result (λ why. IsStep line self.old event.now why self.new) }
+    {
+        match event {
+            Event::Given {
+                mutator,
+                command,
+                answer,
+            } => self.give(line, *mutator, command, *answer),
+            Event::Rows { mutator, commands } => self.rows(line, *mutator, commands.items()),
+            Event::Mark => self.mark(),
+            Event::Push { name } => self.push(*name),
+            Event::Settle { mutator } => Ok(self.settle(*mutator)),
+            Event::Take { name } => self.take(*name),
+            Event::Close => self.close(),
+            Event::CloseWith { dead } => self.close_with(dead.items()),
+            Event::Marked { names } => self.marked(names.items()),
+            Event::Freed { names } => Ok(self.freed(names.items())),
+            Event::Stop => Ok(self.stop()),
+        }
+    }
+
+    /// Returns how often a command has made a name due in the cycle that goes on, or otherwise in the last cycle, whether or
+    /// not the name was pushed before. A name that a `finalise` opens counts twice. Returns 0 if there was no cycle, and
+    /// after the stop. A trace in which no name came due tests no barrier. Takes no memory and constant time.
+    pub fn dues(&self) -> u64 {
+        match self {
+            Watch::Marking(running) => running.cycle().dues(),
+            Watch::Ended(left) => left.dues,
+            Watch::Between(_) | Watch::Stopped => 0,
+        }
+    }
+
+    /// Right after a command of this line: whether it made a name due that its mutator didn't owe before. Then a reason may
+    /// have to name the line, at most one for each name and mutator in a cycle. Takes no memory, and time for each mutator.
+    pub fn is_owed_since(&self, line: usize) -> bool {
+        match self {
+            Watch::Marking(running) => running.cycle.is_owed_since(line),
+            Watch::Between(_) | Watch::Ended(_) | Watch::Stopped => false,
+        }
+    }
+
+    // Does a command of a mutator that has this answer, or returns the reason why it can't have been given.
+    fn give(
+        &mut self,
+        line: usize,
+        mutator: u8,
+        command: &Command,
+        answer: Reply,
+    ) -> Result<Option<Why>, NoMemory>
+        ensures { IfOk result (λ why. IsStep line self.old (event.Given mutator command.now answer) why self.new) }
+    {
+        match self {
+            Watch::Between(world) => give(world, mutator, command, answer),
+            Watch::Marking(running) => running.cycle.command(line, mutator, command, answer),
+            Watch::Ended(left) => give(&mut left.world, mutator, command, answer),
+            Watch::Stopped => Ok(Some(Why::Misplaced)),
+        }
+    }
+
+    // Does several commands of a mutator in one line, or returns the reason why one of them can't have been done.
+    fn rows(
+        &mut self,
+        line: usize,
+        mutator: u8,
+        commands: &[Command],
+    ) -> Result<Option<Why>, NoMemory>
+        ensures { IfOk result (λ why. IsStep line self.old (event.Rows mutator commands.now) why self.new) }
+    {
+        if self.is_stopped() {
+            return Ok(Some(Why::Misplaced));
+        }
+        if !self.has_mutator(mutator) {
+            return Ok(Some(Why::CannotApply));
+        }
+        self.act_all(line, mutator, commands)
+    }
+
+    // Whether the heap has a mutator with this number.
+    fn has_mutator(&self, mutator: u8) -> bool
+        ensures { IsTrue result ↔ (mutator < mutators_of self.now) }
+    {
+        mutator < self.mutators()
+    }
+
+    // Returns the number of mutators, or 0 after the stop.
+    fn mutators(&self) -> u8
+        ensures { result ≡ mutators_of self.now }
+    {
+        match self {
+            Watch::Between(world) => world.mutators(),
+            Watch::Marking(running) => running.mutators(),
+            Watch::Ended(left) => left.world.mutators(),
+            Watch::Stopped => 0,
+        }
+    }
+
+    // Whether the watch has stopped.
+    fn is_stopped(&self) -> bool
+        ensures { result ≡ is_stopped self.now }
+    {
+        match self {
+            Watch::Stopped => true,
+            Watch::Between(_) | Watch::Marking(_) | Watch::Ended(_) => false,
+        }
+    }
+
+    // Does the commands in turn, and returns the reason if one of them can't be done. The commands before it stay done.
+    fn act_all(
+        &mut self,
+        line: usize,
+        mutator: u8,
+        commands: &[Command],
+    ) -> Result<Option<Why>, NoMemory>
+        ensures { IfOk result (λ why. AreActed line mutator commands.now self.old why self.new) }
+    {
+        for command in commands {
+            let why = self.act(line, mutator, command)?;
+            if why.is_some() {
+                return Ok(why);
+            }
+        }
+        Ok(None)
+    }
+
+    // Does one command of a line that has several, or returns why it can't have been done. A command that isn't done changes
+    // nothing.
+    fn act(&mut self, line: usize, mutator: u8, command: &Command) -> Result<Option<Why>, NoMemory>
+        ensures { IfOk result (λ why. IsAct line mutator command.now self.old why self.new) }
+    {
+        match self {
+            Watch::Between(world) => act(world, mutator, command),
+            Watch::Marking(running) => running.cycle.act(line, mutator, command),
+            Watch::Ended(left) => act(&mut left.world, mutator, command),
+            Watch::Stopped => Ok(Some(Why::Misplaced)),
+        }
+    }
+
+    // Begins marking, or returns the reason why marking can't begin.
+    fn mark(&mut self) -> Result<Option<Why>, NoMemory>
+        ensures { IfOk result (λ why. IsStep 0 self.old event.Mark why self.new) }
+    {
+        let running = match self {
+            Watch::Between(world) => Running::new(world)?,
+            Watch::Ended(left) => Running::new(&left.world)?,
+            Watch::Marking(_) | Watch::Stopped => return Ok(Some(Why::Misplaced)),
+        };
+        *self = Watch::Marking(running);
+        Ok(None)
+    }
+
+    // Adds a pushed name, or returns the reason why it can't have been pushed.
+    fn push(&mut self, name: Name) -> Result<Option<Why>, NoMemory>
+        ensures { IfOk result (λ why. IsStep 0 self.old (event.Push name) why self.new) }
+    {
+        match self {
+            Watch::Marking(running) => running.cycle.push(name),
+            Watch::Between(_) | Watch::Ended(_) | Watch::Stopped => Ok(Some(Why::Misplaced)),
+        }
+    }
+
+    // Returns the reason why a mutator can't have settled, if there is one.
+    fn settle(&mut self, mutator: u8) -> Option<Why>
+        ensures { IsStep 0 self.old (event.Settle mutator) result self.new }
+    {
+        match self {
+            Watch::Marking(running) => running.settle(mutator),
+            Watch::Between(_) | Watch::Ended(_) | Watch::Stopped => Some(Why::Misplaced),
+        }
+    }
+
+    // Adds a name that the marker took, or returns the reason why it can't have been taken.
+    fn take(&mut self, name: Name) -> Result<Option<Why>, NoMemory>
+        ensures { IfOk result (λ why. IsStep 0 self.old (event.Take name) why self.new) }
+    {
+        match self {
+            Watch::Marking(running) => running.cycle.take(name),
+            Watch::Between(_) | Watch::Ended(_) | Watch::Stopped => Ok(Some(Why::Misplaced)),
+        }
+    }
+
+    // Ends marking, or returns the reason why marking can't end.
+    fn close(&mut self) -> Result<Option<Why>, NoMemory>
+        ensures { IfOk result (λ why. IsStep 0 self.old event.Close why self.new) }
+    {
+        let ended = match self {
+            Watch::Marking(running) => running.end()?,
+            Watch::Between(_) | Watch::Ended(_) | Watch::Stopped => {
+                return Ok(Some(Why::Misplaced));
+            }
+        };
+        match ended {
+            Ok(left) => {
+                *self = Watch::Ended(left);
+                Ok(None)
+            }
+            Err(why) => Ok(Some(why)),
+        }
+    }
+
+    // Ends marking so that exactly these weak pointers die, or returns the reason why it can't end so.
+    fn close_with(&mut self, dead: &[Name]) -> Result<Option<Why>, NoMemory>
+        ensures { IfOk result (λ why. IsStep 0 self.old (event.CloseWith dead.now) why self.new) }
+    {
+        let ended = match self {
+            Watch::Marking(running) => running.end_with(dead)?,
+            Watch::Between(_) | Watch::Ended(_) | Watch::Stopped => {
+                return Ok(Some(Why::Misplaced));
+            }
+        };
+        match ended {
+            Ok(left) => {
+                *self = Watch::Ended(left);
+                Ok(None)
+            }
+            Err(why) => Ok(Some(why)),
+        }
+    }
+
+    // Returns the reason why the runtime can't have marked exactly these names, if there is one.
+    fn marked(&self, names: &[Name]) -> Result<Option<Why>, NoMemory>
+        ensures { IfOk result (λ why. IsStep 0 self.now (event.Marked names.now) why self.now) }
+    {
+        match self {
+            Watch::Ended(left) => left.marked(names),
+            Watch::Between(_) | Watch::Marking(_) | Watch::Stopped => Ok(Some(Why::Misplaced)),
+        }
+    }
+
+    // Returns the reason why the runtime can't have freed these names, if there is one.
+    fn freed(&self, names: &[Name]) -> Option<Why>
+        ensures { IsStep 0 self.now (event.Freed names.now) result self.now }
+    {
+        match self {
+            Watch::Ended(left) => left.freed(names),
+            Watch::Between(_) | Watch::Marking(_) | Watch::Stopped => Some(Why::Misplaced),
+        }
+    }
+
+    // Stops the watch, or returns the reason why the trace can't end here.
+    fn stop(&mut self) -> Option<Why>
+        ensures { IsStep 0 self.old event.Stop result self.new }
+    {
+        match self {
+            Watch::Ended(_) => {}
+            Watch::Between(_) | Watch::Marking(_) | Watch::Stopped => {
+                return Some(Why::Misplaced);
+            }
+        }
+        *self = Watch::Stopped;
+        None
+    }
+}
+
+// Does a command in the world if it can be done and has this answer. Otherwise changes nothing and returns the reason.
+fn give(
+    world: &mut World,
+    mutator: u8,
+    command: &Command,
+    answer: Reply,
+) -> Result<Option<Why>, NoMemory>
+    ensures { IfOk result (λ why. IsGivenIf world.old mutator command.now answer why world.new) }
+{
+    if !world.can_apply(mutator, command) {
+        return Ok(Some(Why::CannotApply));
+    }
+    let reply = world.reply(mutator, command);
+    if reply != answer {
+        return Ok(Some(Why::Answer(reply)));
+    }
+    world.apply(mutator, command)?;
+    Ok(None)
+}
+
+// Does a command in the world, with any answer, if the world does it. Otherwise changes nothing and returns the reason.
+fn act(world: &mut World, mutator: u8, command: &Command) -> Result<Option<Why>, NoMemory>
+    ensures { IfOk result (λ why. IsDoneIf world.old mutator command.now why world.new) }
+{
+    if !world.can_apply(mutator, command) {
+        return Ok(Some(Why::CannotApply));
+    }
+    let reply = world.reply(mutator, command);
+    if !is_done(reply) {
+        return Ok(Some(Why::Answer(reply)));
+    }
+    world.apply(mutator, command)?;
+    Ok(None)
+}

@@ -1,5 +1,0 @@
-use Rattle.nmgc_blocks_spec.proofs.RoomLaws.{reserve_suffices}
-use Rattle.nmgc_blocks_spec.proofs.laws.reserve_suffices.Goals as goal
-
-pub returns : goal.returns
-returns c = reserve_suffices

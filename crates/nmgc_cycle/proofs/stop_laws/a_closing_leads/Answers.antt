@@ -1,0 +1,19 @@
+use Rattle.nmgc_cycle.proofs.{cycles.Closing.closing_leads, cycles.FinishingLeads.finishing_leads, cycles.StepReady.close_ready}
+use Rattle.nmgc_cycle.proofs.stop_laws.a_closing_leads.Goals as goal
+
+pub returns-clause-leads : goal.returns-clause-leads
+returns-clause-leads c = closing_leads (finishing_leads (record {
+  rests = c.the_heap_goes_on.ensures.rests;
+  may = c.a_resolved_cycle_is_closed.ensures.may;
+  closes = c.a_resolved_cycle_is_closed.ensures.closes;
+  holds = c.a_resolved_cycle_is_closed.ensures.holds;
+  marked = c.the_heap_goes_on.ensures.marked;
+  sweeps = c.a_resolved_cycle_is_closed.ensures.sweeps;
+  waits = c.a_closed_cycle_sweeps.ensures.marked;
+  left = c.segments_are_left.ensures.stays;
+  works = c.closing_begins_work.ensures;
+}))
+
+pub returns-clause-ready : goal.returns-clause-ready
+returns-clause-ready c =
+    close_ready c.the_heap_goes_on.ensures.rests c.a_heap_ties_by_blocks.ensures.snapshot c.a_resolved_cycle_is_closed.ensures.may c.queues_close.ensures.room

@@ -1,5 +1,0 @@
-use Rattle.nmgc_heap_spec.proofs.SmallHeap.{words_are_told, no_second_place}
-use Rattle.nmgc_heap_spec.proofs.laws.wrong_words.Goals as goal
-
-pub returns : goal.returns
-returns g c = record { words = words_are_told g.K.KnownNodes.knows; places = no_second_place g.K.KnownNodes.knows }

@@ -1,5 +1,0 @@
-use Rattle.nmgc_image.proofs.Vocabulary.{◌≡◌, map, take, keyed_at}
-use Rattle.nmgc_image.proofs.shown.keyed_of.Given as goal
-
-abbrev pub invariant-loop-at : goal.invariant-loop-at
-invariant-loop-at l = l.keyed.items ≡ map (keyed_at l.words) (take l.at-index l.places)

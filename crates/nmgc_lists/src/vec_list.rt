@@ -1,0 +1,63 @@
+//! Items that always lie in a vector.
+//!
+//! A `List` checks at each access whether its items lie in itself or in a vector. Code that accesses the same items all the
+//! time has them here, such as a command with its registers and a marker with its rings. An access is then an access to the
+//! vector. The memory for the items as a list is allocated at the beginning, so the conversion takes none.
+//!
+//! Easy to get wrong: nothing can be added. A list that has to grow is a `Room`.
+ghost use Rattle.std.specs.Prelude.{◌≡◌};
+
+use crate::list::{List, ListMemory};
+use std::marker::Model;
+
+/// A list whose items lie in a vector of its own. Contracts see it as that list.
+#[derive(Drop)]
+pub struct VecList<T> {
+    items: Vec<T>,
+    place: ListMemory<T>,
+}
+
+impl<T> Model for VecList<T> {
+    ghost use Rattle.std.specs.Prelude.{List};
+
+    ghost Value = { List T };
+
+    ghost view = { λ p. p.items.items };
+}
+
+impl<T> VecList<T> {
+    ghost use Rattle.std.specs.Borrow.{sem};
+    ghost use Rattle.nmgc_lists.specs.PlacedLends.{LendsItems};
+
+    /// Makes a list of a vector's items. `place` is the memory that the list will take as a `List`. Takes no memory.
+    pub fn of(items: Vec<T>, place: ListMemory<T>) -> Self
+        ensures { result ≡ items.items }
+    {
+        VecList { items, place }
+    }
+
+    /// Returns the items in order. No function here takes memory.
+    pub fn items(&self) -> &[T]
+        ensures { result.now ≡ self.now }
+    {
+        self.items.as_slice()
+    }
+
+    /// Lends the items in order, for writing.
+    pub fn items_mut(&mut self) -> &mut [T]
+        ensures* writes_back { sem 𝓛 (LendsItems T.row self.entry result) }
+        ensures value { result.now ≡ self.old }
+    {
+        self.items.as_mut_slice()
+    }
+
+    /// Turns the list into a `List` with the same items, and returns it. Takes constant time.
+    pub fn into_list(self) -> List<T>
+    where
+        T: Drop,
+        ensures { result ≡ self }
+    {
+        let VecList { items, place } = self;
+        List::in_place(items, place)
+    }
+}

@@ -1,6 +1,0 @@
-use Rattle.nmgc_pmark.proofs.Vocabulary.{◌≡◌, ◌++◌, List, drop, flat_map, Name}
-use Rattle.nmgc_pmark.proofs.merge.joined.Given as goal
-
--- the names so far and those of the lists left are all
-abbrev pub invariant-loop-own : goal.invariant-loop-own
-invariant-loop-own l = l.names.items ++ flat_map (λ (own : List Name). own) (drop l.own-index l.by) ≡ flat_map (λ (own : List Name). own) l.by

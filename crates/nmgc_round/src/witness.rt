@@ -1,0 +1,47 @@
+//! A value that only clauses read, chosen in a proof.
+//!
+//! A clause can say that some value exists; a program that goes on from there needs that value by a name. It has no bytes:
+//! `Witness::of` makes it from the fact alone that a value exists. So a caller that only knows that the words represent some
+//! world can begin a round with that world as its opening.
+ghost use Rattle.std.specs.Prelude.{◌≡◌};
+ghost use base.Fml.{ftrue};
+
+use std::marker::{Model, PhantomData};
+
+/// The values that may be chosen for the caller's argument: `wanted` holds of them.
+pub trait WitnessFor<I, T> {
+    ghost wanted: { I → T → Type 0 };
+}
+
+/// A `T` as clauses see it. It has no bytes.
+pub struct Witness<T> {
+    marker: PhantomData<T>,
+    pub ghost value: { T },
+}
+
+impl<T> Model for Witness<T> {
+    ghost also_owns = { λ _. ftrue };
+}
+
+impl<T> Witness<T> {
+    /// Returns a value for which `wanted` holds, chosen in the proof. There has to be one. Nothing happens when it runs.
+    pub fn of<I, Q: WitnessFor<I, T>>(about: &I) -> Witness<T>
+        requires { (x : T) × Q.wanted about.now x }
+        ensures { Q.wanted about.now result.value }
+    {
+        let _ = about;
+        Witness {
+            marker: PhantomData,
+        }
+    }
+}
+
+impl<T> Drop for Witness<T> {
+    fn drop(self) {
+        let Self { marker: _ } = self;
+    }
+}
+
+unsafe impl<T> Send for Witness<T> {}
+
+unsafe impl<T> Sync for Witness<T> {}

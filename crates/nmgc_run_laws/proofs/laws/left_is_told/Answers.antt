@@ -1,5 +1,0 @@
-use Rattle.nmgc_run_laws.specs.laws.Lefts.{left_is_told}
-use Rattle.nmgc_run_laws.proofs.laws.left_is_told.Goals as goal
-
-pub returns : goal.returns
-returns c = left_is_told

@@ -1,0 +1,210 @@
+-- A whole trace has a cycle that ends in it, and each such cycle is exact.
+use Rattle.nmgc_trace_checker.proofs.{Vocabulary.◌≡◌, Vocabulary.◌⊎◌, Vocabulary.◌+◌, Vocabulary.◌++◌, Vocabulary.ℕ, Vocabulary.refl, Vocabulary.sym, Vocabulary.ap, Vocabulary.subst, Vocabulary.arith, Vocabulary.inl, Vocabulary.inr, Vocabulary.List, Vocabulary.[], Vocabulary.◌∷◌, Vocabulary.length, Vocabulary.append_assoc, Vocabulary.length-append, Vocabulary.Command, Vocabulary.World, Vocabulary.Lists, Vocabulary.Cycle, Vocabulary.MarksName, Vocabulary.barrier_theorem, Vocabulary.joint_theorem, Vocabulary.some_finisher, Vocabulary.CycleResult, Vocabulary.Watch, Vocabulary.CanAct, Vocabulary.AreDone, Vocabulary.Meaning, Vocabulary.Begun, Vocabulary.Report, Vocabulary.Comes, Vocabulary.Happens, Vocabulary.report_of, Vocabulary.Closes, Vocabulary.IsWholeReport, Markers.Stood, Markers.stood_at, Checkings.comes_push}
+use Rattle.nmgc_barrier_checker.specs.{declared.event.Event.Event, Watching.Can}
+use Rattle.nmgc_trace_checker.specs.Whole.{IsExact}
+use Rattle.nmgc_barrier_checker.specs.declared.event.Event.TheVariants as event
+use Rattle.nmgc_barrier_checker.specs.declared.watch.Watch.TheVariants as watch
+use Rattle.nmgc_trace_checker.specs.declared.meaning.Meaning.TheVariants as meaning
+use Rattle.nmgc_trace_checker.specs.declared.report.Begun.TheVariants as begun
+
+-- THE RESULT OF A CLOSE
+
+abbrev left_in : CycleResult → Watch → CycleResult
+left_in d (watch.Between w) = d
+left_in d (watch.Marking h) = d
+left_in d (watch.Ended left) = left
+left_in d watch.Stopped = d
+
+not_marking : (left : CycleResult) (h : Cycle) → watch.Ended left ≡ watch.Marking h → ⊥
+not_marking left h e = cc
+
+stopped_marking : (h : Cycle) → watch.Stopped ≡ watch.Marking h → ⊥
+stopped_marking h e = cc
+
+stopped_ended : (left : CycleResult) → watch.Stopped ≡ watch.Ended left → ⊥
+stopped_ended left e = cc
+
+-- a cycle goes on after several commands of one line
+abbrev IsMarking : Watch → Type 0
+IsMarking (watch.Between w) = ⊥
+IsMarking (watch.Marking h) = Unit {0}
+IsMarking (watch.Ended left) = ⊥
+IsMarking watch.Stopped = ⊥
+
+act_marking : (n m : ℕ) (c : Command) (h : Cycle) (after : Watch) → CanAct n m c (watch.Marking h) after → IsMarking after
+act_marking n m c h after can = subst IsMarking (sym can.3) tt
+
+rows_stay : (n m : ℕ) (cs : List Command) (q after : Watch) → AreDone n m cs q after → IsMarking q → IsMarking after
+rows_stay n m [] q after h is = subst IsMarking (sym h) is
+rows_stay n m (c ∷ cs) (watch.Between w) after h is = absurd is
+rows_stay n m (c ∷ cs) (watch.Marking k) after h is = rows_stay n m cs h.0 after h.2 (act_marking n m c k h.0 h.1)
+rows_stay n m (c ∷ cs) (watch.Ended left) after h is = absurd is
+rows_stay n m (c ∷ cs) watch.Stopped after h is = absurd is
+
+rows_marking : (n m : ℕ) (cs : List Command) (h : Cycle) (after : Watch) → AreDone n m cs (watch.Marking h) after → IsMarking after
+rows_marking n m cs h after done = rows_stay n m cs (watch.Marking h) after done tt
+
+-- only a close ends a cycle, and its result lists the names that the pushes and the commands keep
+kept_by : (n : ℕ) (h : Cycle) (e : Event) (left : CycleResult) → Can n (watch.Marking h) e (watch.Ended left) → Lists (MarksName h) left.kept
+kept_by n h (event.Given m c answer) left can = absurd (not_marking left can.0 can.2)
+kept_by n h (event.Rows m commands) left can = absurd (rows_marking n m commands h (watch.Ended left) can.1)
+kept_by n h event.Mark left can = absurd can
+kept_by n h (event.Push name) left can = absurd (not_marking left can.0 can.2)
+kept_by n h (event.Settle m) left can = absurd (not_marking left h can.1)
+kept_by n h (event.Take name) left can = absurd (not_marking left can.0 can.2)
+kept_by n h event.Close left can = subst (λ (l : CycleResult). Lists (MarksName h) l.kept) (sym (ap (left_in left) can.2)) can.1.kept
+kept_by n h (event.CloseWith dead) left can = subst (λ (l : CycleResult). Lists (MarksName h) l.kept) (sym (ap (left_in left) can.2)) can.1.kept
+kept_by n h (event.Marked names) left can = absurd can
+kept_by n h (event.Freed names) left can = absurd can
+kept_by n h event.Stop left can = absurd can
+
+-- and no name is due then
+paid_by : (n : ℕ) (h : Cycle) (e : Event) (left : CycleResult) → Can n (watch.Marking h) e (watch.Ended left) → h.debts ≡ []
+paid_by n h (event.Given m c answer) left can = absurd (not_marking left can.0 can.2)
+paid_by n h (event.Rows m commands) left can = absurd (rows_marking n m commands h (watch.Ended left) can.1)
+paid_by n h event.Mark left can = absurd can
+paid_by n h (event.Push name) left can = absurd (not_marking left can.0 can.2)
+paid_by n h (event.Settle m) left can = absurd (not_marking left h can.1)
+paid_by n h (event.Take name) left can = absurd (not_marking left can.0 can.2)
+paid_by n h event.Close left can = can.1.ends.debts
+paid_by n h (event.CloseWith dead) left can = can.1.ends.debts
+paid_by n h (event.Marked names) left can = absurd can
+paid_by n h (event.Freed names) left can = absurd can
+paid_by n h event.Stop left can = absurd can
+
+exact : (lines : List Meaning) (h : Cycle) (left : CycleResult) → Closes lines h left → IsExact h left
+exact lines h left c =
+    let t : Stood h = stood_at c.earlier h c.comes in
+    let paid : h.debts ≡ [] = paid_by (length c.earlier + 1) h c.close left c.ends in
+    let kept : Lists (MarksName h) left.kept = kept_by (length c.earlier + 1) h c.close left c.ends in
+    record {
+      begins = t.begins;
+      is_world = t.is;
+      watches = t.watches;
+      marker = some_finisher t.begins t.is h t.watches;
+      ends = λ s b done. joint_theorem t.begins t.is h t.watches paid s b done;
+      marks = λ s next b possible closing name. (
+        λ m. kept.complete name (((barrier_theorem t.begins t.is h s b).marks next possible closing name).0 m),
+        λ k. ((barrier_theorem t.begins t.is h s b).marks next possible closing name).1 (kept.sound name k),
+      );
+    }
+
+-- A CYCLE THAT ENDS
+
+abbrev IsOver : Begun → Type 0
+IsOver begun.Nothing = ⊥
+IsOver (begun.Watching (watch.Between w)) = ⊥
+IsOver (begun.Watching (watch.Marking h)) = ⊥
+IsOver (begun.Watching (watch.Ended left)) = Unit {0}
+IsOver (begun.Watching watch.Stopped) = Unit {0}
+
+-- the line of this number ends a cycle
+record Ends (n : ℕ) (p : Begun) (t : Meaning) : Type 0 where
+  cycle : Cycle
+  left : CycleResult
+  close : Event
+  before : p ≡ begun.Watching (watch.Marking cycle)
+  line : t ≡ meaning.Event close
+  can : Can n (watch.Marking cycle) close (watch.Ended left)
+
+-- before the first cycle, several commands of one line begin no cycle
+rows_between : (n m : ℕ) (cs : List Command) (w : World) (after : Watch) → AreDone n m cs (watch.Between w) after → IsOver (begun.Watching after) → ⊥
+rows_between n m [] w after h over = subst (λ (q : Watch). IsOver (begun.Watching q)) h over
+rows_between n m (c ∷ cs) w after h over =
+    let D : Watch → Type 0 = λ q. AreDone n m cs q after in
+    rows_between n m cs h.1.0 after (subst D h.1.2 h.2) over
+
+-- before the first cycle no event ends a cycle
+not_over : (n : ℕ) (w : World) (e : Event) (after : Watch) → Can n (watch.Between w) e after → IsOver (begun.Watching after) → ⊥
+not_over n w (event.Given m c answer) after can over = subst (λ (q : Watch). IsOver (begun.Watching q)) can.2 over
+not_over n w (event.Rows m commands) after can over = rows_between n m commands w after can.1 over
+not_over n w event.Mark after can over = subst (λ (q : Watch). IsOver (begun.Watching q)) can over
+not_over n w (event.Push name) after can over = can
+not_over n w (event.Settle m) after can over = can
+not_over n w (event.Take name) after can over = can
+not_over n w event.Close after can over = can
+not_over n w (event.CloseWith dead) after can over = can
+not_over n w (event.Marked names) after can over = can
+not_over n w (event.Freed names) after can over = can
+not_over n w event.Stop after can over = can
+
+-- one event never leads from a cycle to the stop
+not_stopped : (n : ℕ) (h : Cycle) (e : Event) → Can n (watch.Marking h) e watch.Stopped → ⊥
+not_stopped n h (event.Given m c answer) can = stopped_marking can.0 can.2
+not_stopped n h (event.Rows m commands) can = rows_marking n m commands h watch.Stopped can.1
+not_stopped n h event.Mark can = can
+not_stopped n h (event.Push name) can = stopped_marking can.0 can.2
+not_stopped n h (event.Settle m) can = stopped_marking h can.1
+not_stopped n h (event.Take name) can = stopped_marking can.0 can.2
+not_stopped n h event.Close can = stopped_ended can.0 can.2
+not_stopped n h (event.CloseWith dead) can = stopped_ended can.0 can.2
+not_stopped n h (event.Marked names) can = can
+not_stopped n h (event.Freed names) can = can
+not_stopped n h event.Stop can = can
+
+over_by : (n : ℕ) (q : Watch) (e : Event) (after : Watch) → Can n q e after → IsOver (begun.Watching after) → IsOver (begun.Watching q) ⊎
+    Ends n (begun.Watching q) (meaning.Event e)
+over_by n (watch.Between w) e after can over = absurd (not_over n w e after can over)
+over_by n (watch.Marking h) e (watch.Between w) can over = absurd over
+over_by n (watch.Marking h) e (watch.Marking k) can over = absurd over
+over_by n (watch.Marking h) e (watch.Ended left) can over = inr (record { cycle = h; left = left; close = e; before = refl; line = refl; can = can })
+over_by n (watch.Marking h) e watch.Stopped can over = absurd (not_stopped n h e can)
+over_by n (watch.Ended left) e after can over = inl tt
+over_by n watch.Stopped e after can over = inl tt
+
+ends_at : (n : ℕ) (p : Begun) (t : Meaning) (next : Begun) → Happens n p t next → IsOver next → IsOver p ⊎ Ends n p t
+ends_at n p meaning.Blank next h over = inl (subst IsOver h over)
+ends_at n begun.Nothing (meaning.Mutators count) next h over = absurd (subst IsOver h.2 over)
+ends_at n (begun.Watching q) (meaning.Mutators count) next h over = absurd h
+ends_at n begun.Nothing (meaning.Event e) next h over = absurd h
+ends_at n (begun.Watching q) (meaning.Event e) next h over = over_by n q e h.0 h.1 (subst IsOver h.2 over)
+ends_at n p meaning.Unknown next h over = absurd h
+
+abbrev HasCycle : List Meaning → Type 0
+HasCycle lines = (h : Cycle) × (left : CycleResult) × Closes lines h left
+
+closing : (earlier later : List Meaning) (n : ℕ) (p : Begun) (t : Meaning) → n ≡ length earlier + 1 → Comes 1 begun.Nothing earlier p → Ends n p t →
+    HasCycle (earlier ++ t ∷ later)
+closing earlier later n p t count comes e = (
+  e.cycle,
+  e.left,
+  record {
+    earlier = earlier;
+    close = e.close;
+    later = later;
+    lines_are = ap (λ (x : Meaning). earlier ++ x ∷ later) e.line;
+    comes = subst (Comes 1 begun.Nothing earlier) e.before comes;
+    ends = subst (λ (k : ℕ). Can k (watch.Marking e.cycle) e.close (watch.Ended e.left)) count e.can;
+  },
+)
+
+has_cycle : (earlier later : List Meaning) (n : ℕ) (p last : Begun) → n ≡ length earlier + 1 → Comes 1 begun.Nothing earlier p → Comes n p later last →
+    IsOver last → IsOver p ⊎ HasCycle (earlier ++ later)
+has_cycle earlier [] n p last count before c over = inl (subst IsOver c over)
+has_cycle earlier (t ∷ ts) n p last count before c over =
+    let more : length (earlier ++ t ∷ []) ≡ length earlier + 1 = length-append earlier (t ∷ []) in
+    let whole : (earlier ++ t ∷ []) ++ ts ≡ earlier ++ t ∷ ts = append_assoc earlier (t ∷ []) ts in
+    let comes : Comes 1 begun.Nothing (earlier ++ t ∷ []) c.0 = comes_push 1 begun.Nothing p c.0 earlier t n (omega arith) before c.1 in
+    elim (has_cycle (earlier ++ t ∷ []) ts (n + 1) c.0 last (omega arith) comes c.2 over) [
+      | inl after ↦ elim (ends_at n p t c.0 c.1 after) [
+        | inl is ↦ inl is
+        | inr ends ↦ inr (closing earlier ts n p t count before ends)
+      ]
+      | inr found ↦ inr (subst HasCycle whole found)
+    ]
+
+-- THE REPORT
+
+pub whole_report : (lines : List Meaning) (p : Begun) (r : Report) → Comes 1 begun.Nothing lines p → r ≡ report_of p → IsWholeReport lines r
+whole_report lines p r c e = subst (IsWholeReport lines) (sym e) (by_last p c)
+  where
+    found : IsOver begun.Nothing ⊎ HasCycle lines → HasCycle lines
+    found (inl over) = absurd over
+    found (inr is) = is
+
+    by_last : (q : Begun) → Comes 1 begun.Nothing lines q → IsWholeReport lines (report_of q)
+    by_last begun.Nothing k = tt
+    by_last (begun.Watching (watch.Between w)) k = tt
+    by_last (begun.Watching (watch.Marking h)) k = tt
+    by_last (begun.Watching (watch.Ended left)) k = tt
+    by_last (begun.Watching watch.Stopped) k = (found (has_cycle [] lines 1 begun.Nothing (begun.Watching watch.Stopped) refl refl k tt), exact lines)

@@ -1,0 +1,177 @@
+-- The meaning of the lines of a trace, by their spelling in bytes. A line is tokens with single spaces between.
+use Rattle.std.specs.Prelude.{◌≡◌, ◌⊎◌, ◌<◌, ℕ, List, [], ◌∷◌, ◌++◌, map, codes, decimal, Option, Some, Bool, true, false, nat_lt, All, IfSome}
+use Rattle.std.specs.Io.BufRead.{strip_last}
+use Rattle.nmgc_world_spec.specs.{declared.value.Name.Name, declared.command.Command.Command, declared.command.Reply.Reply, Command.Fits, Command.IsRegister, Command.IsOperand}
+use Rattle.nmgc_world_spec.specs.declared.command.Reply.TheVariants as reply
+use Rattle.nmgc_snapshot_laws.specs.declared.event.Event.{Event as CoreEvent}
+use Rattle.nmgc_snapshot_laws.specs.declared.event.Event.TheVariants as core
+use Rattle.nmgc_barrier_checker.specs.{declared.event.Event.Event, declared.rows.Copying.Copying, declared.rows.Filling.Filling, Rows.copied, Rows.filled}
+use Rattle.nmgc_barrier_checker.specs.declared.event.Event.TheVariants as event
+use Rattle.nmgc_object.specs.Words.{IsName}
+use Rattle.nmgc_script.specs.{Text.lines_of, Text.words_of, Text.is_passed, Spelling.register_word, Spelling.operand_word, Spelling.command_words}
+use Rattle.nmgc_journal.specs.Text.{name_text, reply_text, IsValue}
+use Rattle.nmgc_trace_checker.specs.{declared.line.Line.Line, declared.meaning.Meaning.Meaning}
+use Rattle.nmgc_trace_checker.specs.declared.line.Line.TheVariants as line
+use Rattle.nmgc_trace_checker.specs.declared.meaning.Meaning.TheVariants as meaning
+
+-- THE LINES OF A TEXT
+
+-- the lines of a text, cut at line feeds; the last may have none. A carriage return at the end of a line isn't part of it
+abbrev pub texts_of : List ℕ → List (List ℕ)
+texts_of bytes = map (λ line. strip_last 13 line) (lines_of bytes)
+
+-- the first of these texts say these items, one by one, and these texts are left
+abbrev pub AreSaid : {A : Type 0} → (List ℕ → A → Type 0) → List (List ℕ) → List A → List (List ℕ) → Type 0
+AreSaid says texts [] left = texts ≡ left
+AreSaid says [] (said ∷ others) left = ⊥
+AreSaid says (text ∷ texts) (said ∷ others) left = says text said × AreSaid says texts others left
+
+-- the texts still to be judged, after a line was read with its end: this line and the lines of the rest, or none
+abbrev pub ahead : Bool → List ℕ → List ℕ → List (List ℕ)
+ahead true line rest = strip_last 13 (strip_last 10 line) ∷ texts_of rest
+ahead false line rest = []
+
+-- if the bytes are known, the next line of these bytes was read, or none was left
+abbrev pub IsNextLine : Option (List ℕ) → Option (List ℕ) → List ℕ → Bool → Type 0
+IsNextLine old new line is_there = IfSome old (λ bytes. (rest : List ℕ) × (new ≡ Some rest) × (texts_of bytes ≡ ahead is_there line rest))
+
+-- THE TOKENS OF A LINE
+
+-- tokens that say a number of mutators
+abbrev pub IsMutators : List (List ℕ) → ℕ → Type 0
+IsMutators words count = (count < 256) × (words ≡ codes "mutators" ∷ decimal count ∷ [])
+
+-- an answer that has a text
+abbrev pub IsReply : Reply → Type 0
+IsReply (reply.Given v) = IsValue v
+IsReply answer = Unit {0}
+
+-- the tokens of a mutator's command, and its answer
+abbrev pub given_words : ℕ → List (List ℕ) → List ℕ → List (List ℕ)
+given_words m words answer = decimal m ∷ words ++ codes "=" ∷ answer ∷ []
+
+-- tokens that say a mutator's command, one that a script may have with segments of 4096 words, and its answer
+pub record IsGiven (words : List (List ℕ)) (m : ℕ) (c : Command) (answer : Reply) : Type 0 where
+  pub mutator : m < 256
+  pub fits : Fits 4096 c
+  pub reply : IsReply answer
+  pub words_are : words ≡ given_words m (command_words c) (reply_text answer)
+
+-- the tokens of a copy
+abbrev pub copy_words : Copying → List (List ℕ)
+copy_words k = codes "copy" ∷ operand_word k.to ∷ decimal k.place ∷ operand_word k.from ∷ decimal k.first ∷ decimal k.count ∷ codes "via" ∷
+    register_word k.via ∷ []
+
+-- a copy that a line may have: its numbers are a command's, and it goes downwards if the fields move up
+pub record IsCopying (k : Copying) : Type 0 where
+  pub to : IsOperand k.to
+  pub place : k.place < 65536
+  pub from : IsOperand k.from
+  pub first : k.first < 65536
+  pub count : k.count < 65536
+  pub via : IsRegister k.via
+  pub down : k.down ≡ nat_lt k.first k.place
+
+-- tokens that say a copy that was done, as commands
+pub record IsCopied (words : List (List ℕ)) (m : ℕ) (commands : List Command) : Type 0 where
+  pub mutator : m < 256
+  pub copying : Copying
+  pub valid : IsCopying copying
+  pub words_are : words ≡ given_words m (copy_words copying) (codes "ok")
+  pub commands_are : commands ≡ copied copying copying.count
+
+-- the tokens of a fill
+abbrev pub fill_words : Filling → List (List ℕ)
+fill_words k = codes "fill" ∷ operand_word k.object ∷ decimal k.first ∷ decimal k.count ∷ operand_word k.value ∷ []
+
+-- a fill that a line may have
+pub record IsFilling (k : Filling) : Type 0 where
+  pub object : IsOperand k.object
+  pub first : k.first < 65536
+  pub count : k.count < 65536
+  pub value : IsOperand k.value
+
+-- tokens that say a fill that was done, as commands
+pub record IsFilled (words : List (List ℕ)) (m : ℕ) (commands : List Command) : Type 0 where
+  pub mutator : m < 256
+  pub filling : Filling
+  pub valid : IsFilling filling
+  pub words_are : words ≡ given_words m (fill_words filling) (codes "ok")
+  pub commands_are : commands ≡ filled filling filling.count
+
+-- the pusher: a mutator, or the collector itself
+abbrev pub IsPusher : List ℕ → Type 0
+IsPusher who = (who ≡ codes "-") ⊎ ((m : ℕ) × (m < 256) × (who ≡ decimal m))
+
+-- the tokens of names; a hyphen if there is none
+abbrev pub names_words : List Name → List (List ℕ)
+names_words [] = codes "-" ∷ []
+names_words (name ∷ names) = map name_text (name ∷ names)
+
+-- tokens that say names after a keyword
+abbrev pub AreNames : List (List ℕ) → List ℕ → List Name → Type 0
+AreNames words word names = All IsName names × (words ≡ word ∷ names_words names)
+
+-- FORMAT 2
+
+-- tokens that say an event of a runtime
+abbrev pub SaysEvent : List (List ℕ) → Event → Type 0
+SaysEvent words (event.Given m c answer) = IsGiven words m c answer
+SaysEvent words (event.Rows m commands) = IsCopied words m commands ⊎ IsFilled words m commands
+SaysEvent words event.Mark = words ≡ codes "mark" ∷ []
+SaysEvent words (event.Push name) = (who : List ℕ) × IsPusher who × IsName name × (words ≡ codes "push" ∷ who ∷ name_text name ∷ [])
+SaysEvent words (event.Settle m) = (m < 256) × (words ≡ codes "settle" ∷ decimal m ∷ [])
+SaysEvent words (event.Take name) = IsName name × (words ≡ codes "take" ∷ name_text name ∷ [])
+SaysEvent words event.Close = words ≡ codes "close" ∷ []
+SaysEvent words (event.CloseWith names) = AreNames words (codes "close") names
+SaysEvent words (event.Marked names) = AreNames words (codes "marked") names
+SaysEvent words (event.Freed names) = AreNames words (codes "freed") names
+SaysEvent words event.Stop = words ≡ codes "stop" ∷ []
+
+-- a text that is no line of a trace: it isn't passed over, and says nothing else
+pub record SaysNothing (text : List ℕ) : Type 0 where
+  pub kept : is_passed text ≡ false
+  pub mutators : (count : ℕ) → IsMutators (words_of text) count → ⊥
+  pub event : (e : Event) → SaysEvent (words_of text) e → ⊥
+
+-- the meaning of a line of format 2, by its tokens with single spaces between. It is a command with its answer, a number or
+-- names, each spelled as in scripts and reports. An empty line or a line that begins with `#` says nothing. A line that is
+-- spelled as nothing else is no line of a trace
+abbrev pub Says : List ℕ → Meaning → Type 0
+Says text meaning.Blank = is_passed text ≡ true
+Says text (meaning.Mutators count) = IsMutators (words_of text) count
+Says text (meaning.Event e) = SaysEvent (words_of text) e
+Says text meaning.Unknown = SaysNothing text
+
+-- FORMAT 1
+
+-- tokens that say an event of the marking machine; a take has its name (`SaysLine`)
+abbrev pub SaysCore : List (List ℕ) → CoreEvent → Type 0
+SaysCore words (core.Command m c answer) = IsGiven words m c answer
+SaysCore words (core.Push m) = (m < 256) × (words ≡ codes "push" ∷ decimal m ∷ [])
+SaysCore words core.Scan = words ≡ codes "scan" ∷ []
+SaysCore words (core.Take m) = ⊥
+SaysCore words core.Close = words ≡ codes "close" ∷ []
+
+-- tokens that say that the marker takes a name from a mutator
+abbrev pub IsTakeOf : List (List ℕ) → ℕ → Name → Type 0
+IsTakeOf words m name = (m < 256) × IsName name × (words ≡ codes "take" ∷ decimal m ∷ name_text name ∷ [])
+
+-- a text that is no line of a trace of format 1: it isn't passed over, and says nothing else
+pub record SaysNoLine (text : List ℕ) : Type 0 where
+  pub kept : is_passed text ≡ false
+  pub mutators : (count : ℕ) → IsMutators (words_of text) count → ⊥
+  pub mark : words_of text ≡ codes "mark" ∷ [] → ⊥
+  pub event : (e : CoreEvent) → SaysCore (words_of text) e → ⊥
+  pub take : (m : ℕ) (name : Name) → IsTakeOf (words_of text) m name → ⊥
+  pub drain : words_of text ≡ codes "drain" ∷ [] → ⊥
+
+-- the meaning of a line of format 1, by its tokens. A line that is kept and says nothing else is no line of a trace.
+abbrev pub SaysLine : List ℕ → Line → Type 0
+SaysLine text line.Blank = is_passed text ≡ true
+SaysLine text (line.Mutators count) = IsMutators (words_of text) count
+SaysLine text line.Mark = words_of text ≡ codes "mark" ∷ []
+SaysLine text (line.Event e) = SaysCore (words_of text) e
+SaysLine text (line.Take m name) = IsTakeOf (words_of text) m name
+SaysLine text line.Drain = words_of text ≡ codes "drain" ∷ []
+SaysLine text line.Unknown = SaysNoLine text

@@ -1,0 +1,41 @@
+-- The facts that a trace of format 2 shows of the marker beside its barrier, which isn't in the trace.
+use Rattle.std.specs.Prelude.{◌≡◌, ◌↔◌, ◌+◌, List, ◌∷◌, ◌++◌, length, Contains}
+use Rattle.nmgc_world_spec.specs.{declared.value.Name.Name, World.World, World.IsWorld}
+use Rattle.nmgc_snapshot_laws.specs.declared.event.Event.TheVariants as core
+use Rattle.nmgc_snapshot_laws.specs.{State.State, Machine.IsPossible, Closing.IsClosing}
+use Rattle.nmgc_barrier_laws.specs.{Cycle.Cycle, Barrier.Watches, Barrier.Beside, Barrier.HasFinished, Barrier.EndsExactly}
+use Rattle.nmgc_barrier_checker.specs.{declared.event.Event.Event, declared.cycle_result.CycleResult.CycleResult, Watching.Can}
+use Rattle.nmgc_barrier_checker.specs.declared.watch.Watch.TheVariants as watch
+use Rattle.nmgc_trace_checker.specs.{declared.meaning.Meaning.Meaning, declared.report.Report.Report, Reports.Comes}
+use Rattle.nmgc_trace_checker.specs.declared.meaning.Meaning.TheVariants as meaning
+use Rattle.nmgc_trace_checker.specs.declared.report.Begun.TheVariants as begun
+use Rattle.nmgc_trace_checker.specs.declared.report.Report.TheVariants as report
+
+-- a cycle that ends in a trace, with its result: the lines before its close lead into the cycle, and the close can happen
+pub record Closes (lines : List Meaning) (h : Cycle) (left : CycleResult) : Type 0 where
+  pub earlier : List Meaning
+  pub close : Event
+  pub later : List Meaning
+  pub lines_are : lines ≡ earlier ++ meaning.Event close ∷ later
+  pub comes : Comes 1 begun.Nothing earlier (begun.Watching (watch.Marking h))
+  pub ends : Can (length earlier + 1) (watch.Marking h) close (watch.Ended left)
+
+-- an exact cycle. It began with a world, and got to its state by commands and pushes. Beside it a marker is possible that has
+-- taken all pushed names and read all that it marked. Each such marker can end, and ends exactly, whatever it took and read
+-- when. A marker that ends has marked exactly the names reported as kept
+pub record IsExact (h : Cycle) (left : CycleResult) : Type 0 where
+  pub begins : World
+  pub is_world : IsWorld begins
+  pub watches : Watches begins h
+  pub marker : (s : State) × Beside begins h s × HasFinished s
+  pub ends : (s : State) → Beside begins h s → HasFinished s → EndsExactly h s
+  pub marks : (s next : State) → Beside begins h s → IsPossible s core.Close → IsClosing s next → (name : Name) →
+      Contains next.marked name ↔ Contains left.kept name
+
+-- the theorem's fact of a report: a cycle ends in a whole trace, and each cycle that ends in it is exact
+abbrev pub IsWholeReport : List Meaning → Report → Type 0
+IsWholeReport lines (report.Refused n r) = Unit {0}
+IsWholeReport lines report.Unmarked = Unit {0}
+IsWholeReport lines report.Open = Unit {0}
+IsWholeReport lines report.Cut = Unit {0}
+IsWholeReport lines report.Whole = ((h : Cycle) × (left : CycleResult) × Closes lines h left) × ((h : Cycle) (left : CycleResult) → Closes lines h left → IsExact h left)

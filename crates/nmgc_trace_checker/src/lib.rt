@@ -1,0 +1,33 @@
+//! The meaning of a trace of a runtime's barrier, and the verdict on it.
+//!
+//! - Format 1: `line` is the meaning of a line, `progress` the state of a trace, `verdict` the result. The marking machine
+//!   (`nmgc_core`) does its lines one by one, marker included.
+//! - Format 2: `meaning` is the meaning of a line, `report` the result for a trace, and `checker` the same line by line, with
+//!   `counts` of them. Its barrier is watched (`nmgc_barrier_checker`), cycle by cycle, and the first line that can't happen is
+//!   reported with the reason; `sentence` words it.
+//! - `reading`: a trace of either format, read line by line.
+//!
+//! The judge of each format is proved over lists of lines: a refused line is the first that can't happen, and the lines
+//! before it can. `tokens` and `commands` read a line's tokens, and each line is read as it is spelled (`specs/Said.antt`;
+//! `docs/GUIDE.md` has the forms). If a reader shows contracts its bytes, the judged lines are the lines of its text.
+#![tactic(auto)]
+
+mod checker;
+mod commands;
+mod counts;
+mod line;
+mod meaning;
+mod progress;
+mod reading;
+mod report;
+mod sentence;
+mod tokens;
+mod verdict;
+
+pub use checker::Answer;
+pub use counts::Counts;
+pub use line::{Line, line_of};
+pub use meaning::{Meaning, meaning_of};
+pub use reading::{Outcome, TraceFault, outcome_of};
+pub use report::{Refusal, Report, judge_lines};
+pub use verdict::{Verdict, judge};

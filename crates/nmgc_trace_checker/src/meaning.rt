@@ -1,0 +1,337 @@
+//! The meaning of a line of format 2.
+//!
+//! Commands, answers and names are spelled as in format 1 (`line`). A push has its name. There is no marker: no line scans or
+//! drains, and a take only reports a name that the runtime's own marker took.
+ghost use Rattle.std.specs.Prelude.{◌≡◌, map, IfOk};
+ghost use Rattle.nmgc_trace_checker.specs.Reading.{short_at, place_at, span_at, copying_of, copy_at, copying_at, fill_at, filling_at, rows_at, rows_if, mutators_at, mark_at, push_at, settle_at, take_at, close_at, marked_at, freed_at, stop_at, ending_at, plain_at, parts_at, IsMeaningBy, IsMeaningOfRow};
+ghost use Rattle.nmgc_trace_checker.specs.Said.{Says};
+
+use crate::commands::{command, parts};
+use crate::tokens::{byte, cut_words, is_passed, names, operand, pusher, register, short};
+use nmgc_barrier_checker::rows::{copied, filled};
+use nmgc_barrier_checker::{Copying, Event, Filling};
+use nmgc_journal::read_name;
+use nmgc_lists::{List, NoMemory};
+use nmgc_world_spec::{Command, Operand, Reply};
+use std::alloc::Global;
+
+/// The meaning of a line.
+#[derive(Drop)]
+pub enum Meaning {
+    /// Nothing.
+    Blank,
+    /// The number of mutators.
+    Mutators(u8),
+    /// A step of the runtime, or a report on its last cycle.
+    Event(Event),
+    /// The text is no line of a trace.
+    Unknown,
+}
+
+/// Returns the meaning of a line of format 2, given without its end: `Unknown` exactly if it has no other meaning.
+pub fn meaning_of(alloc: Global, text: &str) -> Result<Meaning, NoMemory>
+    ensures { IfOk result (Says text.now) }
+{
+    let line = text.as_bytes();
+    if is_passed(line) {
+        return Ok(Meaning::Blank);
+    }
+    let mut words = Vec::with_capacity(alloc, 8)?;
+    cut_words(&mut words, line)?;
+    let meaning = meaning_by(alloc, words.as_slice())?;
+    Ok(meaning)
+}
+
+// Returns the meaning of the line with these tokens.
+fn meaning_by(alloc: Global, words: &[&[u8]]) -> Result<Meaning, NoMemory>
+    ensures { IfOk result (IsMeaningBy (plain_at (map (λ w. w.now) words.now)) (map (λ w. w.now) words.now)) }
+{
+    let plain = plain(alloc, words)?;
+    match plain {
+        Some(meaning) => Ok(meaning),
+        None => given(alloc, words),
+    }
+}
+
+// Returns the meaning of a line that begins with a keyword, or `None` if it begins otherwise or its rest is wrong.
+#[tactic(auto, unfolding(crate::specs::Reading::plain_at))]
+fn plain(alloc: Global, words: &[&[u8]]) -> Result<Option<Meaning>, NoMemory>
+    ensures { IfOk result (λ meaning. meaning ≡ plain_at (map (λ w. w.now) words.now)) }
+{
+    let [word, rest @ ..] = words else {
+        return Ok(None);
+    };
+    if *word == b"mutators".as_slice() {
+        return Ok(mutators(rest));
+    }
+    if *word == b"mark".as_slice() {
+        return Ok(mark(rest));
+    }
+    if *word == b"push".as_slice() {
+        return Ok(push(rest));
+    }
+    if *word == b"settle".as_slice() {
+        return Ok(settle(rest));
+    }
+    if *word == b"take".as_slice() {
+        return Ok(take(rest));
+    }
+    ending(alloc, word, rest)
+}
+
+// Returns the meaning of the end of a cycle or of the trace, or of a report on the last cycle; `None` for any other line.
+#[tactic(auto, unfolding(crate::specs::Reading::ending_at))]
+fn ending(alloc: Global, word: &[u8], rest: &[&[u8]]) -> Result<Option<Meaning>, NoMemory>
+    ensures { IfOk result (λ meaning. meaning ≡ ending_at word.now (map (λ w. w.now) rest.now)) }
+{
+    if word == b"close".as_slice() {
+        return close(alloc, rest);
+    }
+    if word == b"marked".as_slice() {
+        return marked(alloc, rest);
+    }
+    if word == b"freed".as_slice() {
+        return freed(alloc, rest);
+    }
+    if word == b"stop".as_slice() {
+        return Ok(stop(rest));
+    }
+    Ok(None)
+}
+
+#[tactic(auto, unfolding(crate::specs::Reading::mutators_at))]
+fn mutators(words: &[&[u8]]) -> Option<Meaning>
+    ensures { result ≡ mutators_at (map (λ w. w.now) words.now) }
+{
+    let [count] = words else {
+        return None;
+    };
+    Some(Meaning::Mutators(byte(count)?))
+}
+
+#[tactic(auto, unfolding(crate::specs::Reading::mark_at))]
+fn mark(words: &[&[u8]]) -> Option<Meaning>
+    ensures { result ≡ mark_at (map (λ w. w.now) words.now) }
+{
+    let [] = words else {
+        return None;
+    };
+    Some(Meaning::Event(Event::Mark))
+}
+
+#[tactic(auto, unfolding(crate::specs::Reading::push_at))]
+fn push(words: &[&[u8]]) -> Option<Meaning>
+    ensures { result ≡ push_at (map (λ w. w.now) words.now) }
+{
+    let [who, name] = words else {
+        return None;
+    };
+    let _who = pusher(who)?;
+    let name = read_name(name)?;
+    Some(Meaning::Event(Event::Push { name }))
+}
+
+#[tactic(auto, unfolding(crate::specs::Reading::settle_at))]
+fn settle(words: &[&[u8]]) -> Option<Meaning>
+    ensures { result ≡ settle_at (map (λ w. w.now) words.now) }
+{
+    let [mutator] = words else {
+        return None;
+    };
+    let mutator = byte(mutator)?;
+    Some(Meaning::Event(Event::Settle { mutator }))
+}
+
+#[tactic(auto, unfolding(crate::specs::Reading::take_at))]
+fn take(words: &[&[u8]]) -> Option<Meaning>
+    ensures { result ≡ take_at (map (λ w. w.now) words.now) }
+{
+    let [name] = words else {
+        return None;
+    };
+    let name = read_name(name)?;
+    Some(Meaning::Event(Event::Take { name }))
+}
+
+#[tactic(auto, unfolding(crate::specs::Reading::close_at))]
+fn close(alloc: Global, words: &[&[u8]]) -> Result<Option<Meaning>, NoMemory>
+    ensures { IfOk result (λ meaning. meaning ≡ close_at (map (λ w. w.now) words.now)) }
+{
+    let [_, ..] = words else {
+        return Ok(Some(Meaning::Event(Event::Close)));
+    };
+    let Some(dead) = names(alloc, words)? else {
+        return Ok(None);
+    };
+    Ok(Some(Meaning::Event(Event::CloseWith { dead })))
+}
+
+#[tactic(auto, unfolding(crate::specs::Reading::marked_at))]
+fn marked(alloc: Global, words: &[&[u8]]) -> Result<Option<Meaning>, NoMemory>
+    ensures { IfOk result (λ meaning. meaning ≡ marked_at (map (λ w. w.now) words.now)) }
+{
+    let Some(names) = names(alloc, words)? else {
+        return Ok(None);
+    };
+    Ok(Some(Meaning::Event(Event::Marked { names })))
+}
+
+#[tactic(auto, unfolding(crate::specs::Reading::freed_at))]
+fn freed(alloc: Global, words: &[&[u8]]) -> Result<Option<Meaning>, NoMemory>
+    ensures { IfOk result (λ meaning. meaning ≡ freed_at (map (λ w. w.now) words.now)) }
+{
+    let Some(names) = names(alloc, words)? else {
+        return Ok(None);
+    };
+    Ok(Some(Meaning::Event(Event::Freed { names })))
+}
+
+#[tactic(auto, unfolding(crate::specs::Reading::stop_at))]
+fn stop(words: &[&[u8]]) -> Option<Meaning>
+    ensures { result ≡ stop_at (map (λ w. w.now) words.now) }
+{
+    let [] = words else {
+        return None;
+    };
+    Some(Meaning::Event(Event::Stop))
+}
+
+// Returns the meaning of a mutator's commands with their answer. Any other tokens are no line of a trace.
+fn given(alloc: Global, words: &[&[u8]]) -> Result<Meaning, NoMemory>
+    ensures { IfOk result (IsMeaningOfRow (parts_at (map (λ w. w.now) words.now))) }
+{
+    let Some((mutator, words, answer)) = parts(words) else {
+        return Ok(Meaning::Unknown);
+    };
+    if let Some(commands) = rows_if(alloc, answer, words)? {
+        return Ok(Meaning::Event(Event::Rows { mutator, commands }));
+    }
+    match command(alloc, words)? {
+        Some(command) => Ok(Meaning::Event(Event::Given {
+            mutator,
+            command,
+            answer,
+        })),
+        None => Ok(Meaning::Unknown),
+    }
+}
+
+// Returns the commands of a copy or a fill if `answer` says that it was done, and otherwise `None`.
+fn rows_if(alloc: Global, answer: Reply, words: &[&[u8]]) -> Result<Option<List<Command>>, NoMemory>
+    ensures { IfOk result (λ rows. rows ≡ rows_if answer (map (λ w. w.now) words.now)) }
+{
+    match answer {
+        Reply::Fine => rows(alloc, words),
+        _ => Ok(None),
+    }
+}
+
+// Returns the commands of the copy or the fill that tokens spell, or `None`.
+#[tactic(auto, unfolding(crate::specs::Reading::rows_at))]
+fn rows(alloc: Global, words: &[&[u8]]) -> Result<Option<List<Command>>, NoMemory>
+    ensures { IfOk result (λ rows. rows ≡ rows_at (map (λ w. w.now) words.now)) }
+{
+    let [verb, rest @ ..] = words else {
+        return Ok(None);
+    };
+    if *verb == b"copy".as_slice() {
+        let Some(copying) = copying(rest) else {
+            return Ok(None);
+        };
+        return Ok(Some(copied(alloc, copying)?));
+    }
+    if *verb == b"fill".as_slice() {
+        let Some(filling) = filling(rest) else {
+            return Ok(None);
+        };
+        return Ok(Some(filled(alloc, filling)?));
+    }
+    Ok(None)
+}
+
+// Returns the copy that the tokens `B J A I N via R` after `copy` spell, or `None`.
+#[tactic(auto, unfolding(crate::specs::Reading::copying_at))]
+fn copying(words: &[&[u8]]) -> Option<Copying>
+    ensures { result ≡ copying_at (map (λ w. w.now) words.now) }
+{
+    let [to, place, from, first, count, word, via] = words else {
+        return None;
+    };
+    if *word != b"via".as_slice() {
+        return None;
+    }
+    copy(to, place, from, first, count, via)
+}
+
+// Returns the copy that six tokens spell. If the fields move up, it goes downwards, so that none is overwritten unread.
+#[tactic(auto, unfolding(crate::specs::Reading::copy_at))]
+fn copy(
+    to: &[u8],
+    place: &[u8],
+    from: &[u8],
+    first: &[u8],
+    count: &[u8],
+    via: &[u8],
+) -> Option<Copying>
+    ensures { result ≡ copy_at to.now place.now from.now first.now count.now via.now }
+{
+    let (to, place) = place_of(to, place)?;
+    let (from, first) = place_of(from, first)?;
+    let (count, via) = span(count, via)?;
+    Some(Copying {
+        from,
+        first,
+        to,
+        place,
+        count,
+        via,
+        down: first < place,
+    })
+}
+
+// Returns the object and the index of a field that two tokens spell, or `None`.
+#[tactic(auto, unfolding(crate::specs::Reading::place_at))]
+fn place_of(object: &[u8], index: &[u8]) -> Option<(Operand, u32)>
+    ensures { result ≡ place_at object.now index.now }
+{
+    let object = operand(object)?;
+    let index = short(index)?;
+    Some((object, index))
+}
+
+// Returns the number of fields and the register that two tokens spell, or `None`.
+#[tactic(auto, unfolding(crate::specs::Reading::span_at))]
+fn span(count: &[u8], via: &[u8]) -> Option<(u32, u8)>
+    ensures { result ≡ span_at count.now via.now }
+{
+    let count = short(count)?;
+    let via = register(via)?;
+    Some((count, via))
+}
+
+// Returns the fill that the tokens `B J N V` after `fill` spell, or `None`.
+#[tactic(auto, unfolding(crate::specs::Reading::filling_at))]
+fn filling(words: &[&[u8]]) -> Option<Filling>
+    ensures { result ≡ filling_at (map (λ w. w.now) words.now) }
+{
+    let [object, first, count, value] = words else {
+        return None;
+    };
+    fill(object, first, count, value)
+}
+
+// Returns the fill that four tokens spell, or `None`.
+#[tactic(auto, unfolding(crate::specs::Reading::fill_at))]
+fn fill(object: &[u8], first: &[u8], count: &[u8], value: &[u8]) -> Option<Filling>
+    ensures { result ≡ fill_at object.now first.now count.now value.now }
+{
+    let (object, first) = place_of(object, first)?;
+    let count = short(count)?;
+    let value = operand(value)?;
+    Some(Filling {
+        object,
+        first,
+        count,
+        value,
+    })
+}

@@ -1,0 +1,194 @@
+//! A trace, read line by line.
+//!
+//! The first line determines the format. A line is judged when read, and then forgotten, except for texts that `checker`
+//! keeps. So it takes the memory of the trace's heap, and answers a runtime that writes into a pipe at the wrong line.
+ghost use Rattle.std.specs.Prelude.{◌≡◌, ◌&&◌, true, codes, string_bytes, IfErr, IfOk};
+ghost use Rattle.std.specs.{Io.BufRead.strip_last, Str.bytes_eq};
+ghost use Rattle.nmgc_trace_checker.specs.{declared.reading.TraceFault.TheVariants.NoMemory as no_memory, Outcomes.IsFault, Outcomes.IsTooLong, Outcomes.IsOutcome, Outcomes.IsMarked, Outcomes.IsWatched, Outcomes.is_passed_of, Said.IsNextLine, Said.ahead, Said.texts_of};
+
+use crate::checker::{Answer, TraceChecker};
+use crate::line::line_of;
+use crate::progress::Progress;
+use crate::verdict::{Verdict, refusal, verdict_at_end};
+use nmgc_lists::NoMemory;
+use std::alloc::Global;
+use std::io::{BufRead, Print};
+use std::{fmt, io};
+
+/// The result for a trace.
+#[derive(Drop)]
+pub enum Outcome {
+    /// The verdict on a trace of format 1.
+    Marked(Verdict),
+    /// The answer to a trace of format 2.
+    Watched(Answer),
+}
+
+impl Outcome {
+    /// Whether the trace passes. A trace of format 2 has to be whole, and in a trace of format 1 marking has to have ended.
+    /// The program's exit status shows it. Takes no memory and constant time.
+    pub fn is_passed(&self) -> bool
+        ensures { result ≡ is_passed_of self.now }
+    {
+        match self {
+            Outcome::Marked(verdict) => verdict.is_passed(),
+            Outcome::Watched(answer) => answer.report.is_whole(),
+        }
+    }
+}
+
+impl fmt::Display for Outcome {
+    fn fmt<W: fmt::Write>(&self, f: &mut fmt::Formatter<W>) -> fmt::Result {
+        match self {
+            Outcome::Marked(verdict) => write!(f, "{verdict}"),
+            Outcome::Watched(answer) => write!(f, "{answer}"),
+        }
+    }
+}
+
+/// The reason why there is no outcome.
+#[derive(Debug, Drop)]
+pub enum TraceFault {
+    /// There was no memory.
+    NoMemory,
+    /// The trace couldn't be read, or `ok` couldn't be written, for another cause than memory.
+    Io(io::Error),
+    /// The trace has 2^64 - 2 lines or more, even if it ends at line 2^64 - 2.
+    TooLong,
+}
+
+impl From<NoMemory> for TraceFault {
+    ghost from_gives = { λ _ fault. fault ≡ no_memory };
+
+    fn from(_error: NoMemory) -> Self {
+        TraceFault::NoMemory
+    }
+}
+
+// A reader's error for a line without room counts as no memory here. Such an error never means that a trace is too long.
+impl From<io::Error> for TraceFault {
+    ghost from_gives = { λ _ fault. IsFault ⊥ fault };
+
+    fn from(error: io::Error) -> Self {
+        match error.kind() {
+            io::ErrorKind::OutOfMemory => TraceFault::NoMemory,
+            _ => TraceFault::Io(error),
+        }
+    }
+}
+
+/// Reads a trace up to its end, or to the first line that can't happen, and returns the outcome. The outcome is what `judge`
+/// or `judge_lines` reports for some lines. If the reader shows contracts its bytes, these are the lines of that text, in
+/// order, all or up to the refused line. The first line determines the format. If `is_asked`, each empty line of a trace of
+/// format 2 is answered by `ok` once all lines before it have happened. Takes memory for the trace's heap, its longest line,
+/// and the commands of its longest copy or fill. In format 2 also for the texts of lines that made names due in the current
+/// cycle, at most one for each name and mutator. An error is the reason why there is no outcome; `TooLong` means 2^64 - 2
+/// lines or more. Counts and the text of a line are tested.
+pub fn outcome_of<R: BufRead, P: Print>(
+    alloc: Global,
+    reader: &mut R,
+    answers: &P,
+    is_asked: bool,
+) -> Result<Outcome, TraceFault>
+    ensures outcome { IfOk result (IsOutcome (R.remaining reader.old)) }
+    ensures fault { IfErr result (IsFault (IsTooLong texts_of (R.remaining reader.old))) }
+{
+    let mut text = String::new(alloc);
+    let is_there = next_line(reader, &mut text)?;
+    if is_watched(is_there, text.as_str()) {
+        let answer = watched(alloc, reader, text, answers, is_asked)?;
+        return Ok(Outcome::Watched(answer));
+    }
+    let verdict = marked(alloc, reader, text, is_there)?;
+    Ok(Outcome::Marked(verdict))
+}
+
+// Returns the verdict on a trace of format 1 whose first line, `text`, was read if it `is_there`.
+fn marked<R: BufRead>(
+    alloc: Global,
+    reader: &mut R,
+    mut text: String,
+    is_there: bool,
+) -> Result<Verdict, TraceFault>
+    ensures lines { IfOk result (IsMarked (R.remaining reader.old) is_there (string_bytes text)) }
+    ensures fault { IfErr result (IsFault (IsTooLong (ahead is_there (string_bytes text)) (R.remaining reader.old))) }
+{
+    let mut progress = Progress::Nothing;
+    let mut goes_on = is_there;
+    for number in 1..usize::MAX {
+        if !goes_on {
+            let meaning = verdict_at_end(progress)?;
+            return Ok(meaning);
+        }
+        let line = line_of(alloc, without_end(text.as_str()))?;
+        let next = progress.after(alloc, &line)?;
+        match next {
+            Some(reached) => progress = reached,
+            None => return Ok(refusal(&line, number)),
+        }
+        goes_on = next_line(reader, &mut text)?;
+    }
+    drop(progress);
+    Err(TraceFault::TooLong)
+}
+
+// Returns the answer to a trace of format 2 whose first line, `text`, was read.
+fn watched<R: BufRead, P: Print>(
+    alloc: Global,
+    reader: &mut R,
+    mut text: String,
+    answers: &P,
+    is_asked: bool,
+) -> Result<Answer, TraceFault>
+    ensures lines { IfOk result (IsWatched (R.remaining reader.old)) }
+    ensures fault { IfErr result (IsFault (IsTooLong (ahead true (string_bytes text)) (R.remaining reader.old))) }
+{
+    let mut checker = TraceChecker::new(alloc);
+    for number in 2..usize::MAX {
+        if !next_line(reader, &mut text)? {
+            return Ok(checker.end_answer());
+        }
+        let line = without_end(text.as_str());
+        let refused = checker.line(alloc, number, line)?;
+        if let Some(refusal) = refused {
+            let answer = checker.refusal_answer(alloc, number, refusal)?;
+            return Ok(answer);
+        }
+        if is_asked && line.is_empty() {
+            answers.println("ok")?;
+        }
+    }
+    drop(checker);
+    Err(TraceFault::TooLong)
+}
+
+// Replaces `text` by the next line of a trace, with its end, and returns whether there is a next line.
+fn next_line<R: BufRead>(reader: &mut R, text: &mut String) -> io::Result<bool>
+    ensures { IfOk result (IsNextLine (R.remaining reader.old) (R.remaining reader.new) (string_bytes text.new)) }
+{
+    text.clear();
+    reader.read_line(text)?;
+    Ok(!text.as_str().is_empty())
+}
+
+// Whether there is a first line and it begins a trace of format 2.
+fn is_watched(is_there: bool, text: &str) -> bool
+    ensures { result ≡ (is_there && bytes_eq (strip_last 13 (strip_last 10 text.now)) (codes "trace 2")) }
+{
+    is_there && is_head(without_end(text))
+}
+
+// Whether a line is the head of a trace of format 2.
+fn is_head(text: &str) -> bool
+    ensures { result ≡ bytes_eq text.now (codes "trace 2") }
+{
+    text.as_bytes() == b"trace 2".as_slice()
+}
+
+// Returns a line without its end: a line feed, and a carriage return before that.
+fn without_end(text: &str) -> &str
+    ensures { result.now ≡ strip_last 13 (strip_last 10 text.now) }
+{
+    let text = text.strip_suffix('\n').unwrap_or(text);
+    text.strip_suffix('\r').unwrap_or(text)
+}

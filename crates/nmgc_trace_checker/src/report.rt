@@ -1,0 +1,132 @@
+//! The result for a trace of format 2: the first line that can't happen, with the reason, or whether the trace is whole.
+ghost use Rattle.std.specs.Prelude.{List, ◌≡◌, IfOk};
+ghost use Rattle.nmgc_trace_checker.specs.{Reports.IsHappening, Reports.IsReport, Reports.report_of, Reports.is_whole, Whole.IsWholeReport};
+ghost use Rattle.nmgc_trace_checker.specs.declared.meaning.Meaning.TheVariants as known_is;
+
+use crate::meaning::Meaning;
+use nmgc_barrier_checker::{Watch, Why};
+use nmgc_limits::MAKERS;
+use nmgc_lists::NoMemory;
+use std::alloc::Global;
+
+/// The state of a trace.
+#[derive(Drop)]
+pub enum Begun {
+    /// There are no mutators yet.
+    Nothing,
+    /// The runtime is being watched.
+    Watching(Watch),
+}
+
+/// Why a line can't happen.
+#[derive(Clone, Copy, Debug, PartialEq, Eq)]
+pub enum Refusal {
+    /// The text is no line of a trace.
+    Unknown,
+    /// No line of this kind can come here, or the number of mutators isn't allowed.
+    Misplaced,
+    /// The event can't have happened, for this reason.
+    Event(Why),
+}
+
+/// The result for a trace. Lines are counted from 1.
+#[derive(Clone, Copy, Debug, PartialEq, Eq)]
+pub enum Report {
+    /// The line with this number can't happen, and all lines before it can.
+    Refused(usize, Refusal),
+    /// Each line can happen, and no cycle has begun.
+    Unmarked,
+    /// Each line can happen, and a cycle goes on.
+    Open,
+    /// Each line can happen, and the last cycle has ended; but the trace may not be whole.
+    Cut,
+    /// Each line can happen, at least one cycle has ended, none goes on, and the trace is whole.
+    Whole,
+}
+
+impl Report {
+    /// Whether each line can happen, and the trace is whole. Takes no memory and constant time.
+    pub fn is_whole(&self) -> bool
+        ensures { result ≡ is_whole self.now }
+    {
+        match self {
+            Report::Whole => true,
+            Report::Refused(_, _) | Report::Unmarked | Report::Open | Report::Cut => false,
+        }
+    }
+}
+
+/// Returns the report on lines of a trace of format 2. It is `Refused` exactly if a line can't happen after the lines before
+/// it, which all can, in order. It then has the first such line, with a reason that is a fact there. Otherwise each line can
+/// happen, and the report is the state after them. It is `Whole` exactly if each line can happen and the last event is a
+/// stop, so a cycle ended without debts. Beside each cycle that ended a finished marker is possible, each finished marker can
+/// end there, and a marker that ends has marked exactly the names reported as kept. The marker isn't in the trace.
+pub fn judge_lines(alloc: Global, lines: &[Meaning]) -> Result<Report, NoMemory>
+    ensures report { IfOk result (IsReport lines.now) }
+    ensures whole { IfOk result (IsWholeReport lines.now) }
+{
+    let mut begun = Begun::Nothing;
+    for (index, meaning) in lines.iter().enumerate() {
+        let refused = happen(&mut begun, alloc, index + 1, meaning)?;
+        if let Some(refusal) = refused {
+            drop(begun);
+            return Ok(Report::Refused(index + 1, refusal));
+        }
+    }
+    let report = report_of(&begun);
+    drop(begun);
+    Ok(report)
+}
+
+/// Does a line, or returns the reason why the line can't happen.
+pub(crate) fn happen(
+    begun: &mut Begun,
+    alloc: Global,
+    line: usize,
+    meaning: &Meaning,
+) -> Result<Option<Refusal>, NoMemory>
+    ensures { IfOk result (λ refused. IsHappening line begun.old meaning.now refused begun.new) }
+{
+    match meaning {
+        Meaning::Blank => Ok(None),
+        Meaning::Unknown => Ok(Some(Refusal::Unknown)),
+        Meaning::Mutators(count) => start(begun, alloc, *count),
+        Meaning::Event(event) => match begun {
+            Begun::Nothing => Ok(Some(Refusal::Misplaced)),
+            Begun::Watching(watch) => match watch.step(line, event)? {
+                Some(why) => Ok(Some(Refusal::Event(why))),
+                None => Ok(None),
+            },
+        },
+    }
+}
+
+// Begins with the empty heap of `count` mutators. If something has begun or that number isn't allowed, returns a refusal.
+fn start(begun: &mut Begun, alloc: Global, count: u8) -> Result<Option<Refusal>, NoMemory>
+    ensures { IfOk result (λ refused. IsHappening 0 begun.old (known_is.Mutators count) refused begun.new) }
+{
+    match begun {
+        Begun::Nothing => {}
+        Begun::Watching(_) => return Ok(Some(Refusal::Misplaced)),
+    }
+    if count == 0 || count > MAKERS {
+        return Ok(Some(Refusal::Misplaced));
+    }
+    *begun = Begun::Watching(Watch::new(alloc, count)?);
+    Ok(None)
+}
+
+/// Returns the report on a trace whose lines can all happen, from the state after them.
+pub(crate) fn report_of(begun: &Begun) -> Report
+    ensures { result ≡ report_of begun.now }
+{
+    match begun {
+        Begun::Nothing => Report::Unmarked,
+        Begun::Watching(watch) => match watch {
+            Watch::Between(_) => Report::Unmarked,
+            Watch::Marking(_) => Report::Open,
+            Watch::Ended(_) => Report::Cut,
+            Watch::Stopped => Report::Whole,
+        },
+    }
+}

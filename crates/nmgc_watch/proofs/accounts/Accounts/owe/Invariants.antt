@@ -1,6 +1,0 @@
-use Rattle.std.proofs.Common.{take}
-use Rattle.nmgc_watch.proofs.AccountLaws.{Owed}
-use Rattle.nmgc_watch.proofs.accounts.Accounts.owe.Given as goal
-
-abbrev pub invariant-loop-name : goal.invariant-loop-name
-invariant-loop-name l = Owed l.snapshot l.marks l.line l.mutator (take l.name-index l.names) l.fn.self l.self

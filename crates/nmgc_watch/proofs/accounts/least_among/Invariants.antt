@@ -1,5 +1,0 @@
-use Rattle.nmgc_watch.proofs.Vocabulary.{take, IsLeastIn, all_debts, unpaid}
-use Rattle.nmgc_watch.proofs.accounts.least_among.Given as goal
-
-abbrev pub invariant-loop-queue : goal.invariant-loop-queue
-invariant-loop-queue l = IsLeastIn (unpaid l.marks (all_debts (take l.queue-index l.queues))) l.least

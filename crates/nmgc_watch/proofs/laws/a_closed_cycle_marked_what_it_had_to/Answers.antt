@@ -1,5 +1,0 @@
-use Rattle.nmgc_watch.proofs.Reasons.{closed_is_exact}
-use Rattle.nmgc_watch.proofs.laws.a_closed_cycle_marked_what_it_had_to.Goals as goal
-
-pub returns : goal.returns
-returns c = closed_is_exact

@@ -1,5 +1,0 @@
-use Rattle.nmgc_watch.proofs.Judging.{every_event_is_judged}
-use Rattle.nmgc_watch.proofs.laws.every_event_is_judged.Goals as goal
-
-pub returns : goal.returns
-returns c = every_event_is_judged
