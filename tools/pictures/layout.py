@@ -3,7 +3,8 @@
 Levels stand in columns from left to right, that of the roots first, and the columns in strips from top to bottom, as words
 stand in lines. A level of many objects has several columns. Beside its parent an object stands as high as that, if there
 is room. A field is drawn as a line where it leads to the next column, so that no line runs behind a box; else the boxes
-tell it in words. Where there are few objects, lines that lead back are drawn too.
+tell it in words. Where there are few objects, lines that lead back are drawn too: with more than two dozen, lines that cross
+can't be followed.
 """
 from collections import defaultdict
 from typing import NamedTuple
