@@ -1,4 +1,4 @@
--- The effect of sweeps on the kinds of segments that are searched for: the increase of each.
+-- The number of segments that sweeps add to each kind that is searched for.
 use Rattle.std.specs.Prelude.{ℕ, ◌≡◌, ◌+◌, ◌<◌, ◌≤◌, ◌⊎◌, List, length, slice_index}
 use Rattle.nmgc_limits.specs.Limits.{most_segments}
 use Rattle.nmgc_segment.specs.Segment.{Segment}
@@ -10,7 +10,7 @@ IsOutcome Free = Unit {0}
 IsOutcome (Active class) = class < CLASSES
 IsOutcome Sweeping = ⊥
 
--- the number of segments that sweeps made segments of the kind
+-- the number of segments that sweeps added to the kind
 abbrev pub gained : Filed → Category → ℕ
 gained filed Free = filed.free
 gained filed (Active class) = slice_index filed.active class
@@ -30,7 +30,7 @@ pub record Files (gain : Category → ℕ) (many : ℕ) (old new : List Segment)
   pub each : (category : Category) → IsOutcome category → sought_count category new ≡ sought_count category old + gain category
   pub filled : filled_count new ≡ filled_count old + many
 
--- a tally after sweeps: it stays right if `gain` segments, from `from` on and below `end`, enter its kind and none leaves
+-- a tally after sweeps: it stays right if `gain` segments from `from` on and below `end` enter its kind, and none leaves it
 abbrev pub EntersMany : ℕ → ℕ → ℕ → Tally → Tally → Type 0
 EntersMany gain from end old new = (category : Category) (was now : List Segment) → length now ≡ length was → end ≤ length was → IsTally category was old →
     ((i : ℕ) → Is category (nth was i) → Is category (nth now i)) →

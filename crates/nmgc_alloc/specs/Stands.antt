@@ -7,7 +7,7 @@ use Rattle.nmgc_segment.specs.declared.state.State.TheVariants as stands
 use Rattle.nmgc_alloc.specs.{Numbered.nth, Numbered.Segments, Numbered.block_place, Numbered.HasNumber, AllocState.Cells, AllocState.no_cells, AllocState.name_in, AllocState.AllocState, AllocState.cells, AllocState.AreNames}
 
 -- cells that a segment and the words of the heap show: state and class are equal, and a block is in use exactly if it has a
--- name. That name, a valid one, is the block's second word. A free segment has no class and no names
+-- name. The name is valid, and is the block's second word. A free segment has no class and no names
 pub record Shows (s : Segments) (words : List ℕ) (number : ℕ) (c : Cells) : Type 0 where
   pub state : c.state ≡ (nth s.segments number).state
   pub free : c.state ≡ stands.Free → c ≡ no_cells
@@ -25,7 +25,7 @@ pub record StandsFor (s : Segments) (words : List ℕ) (allocation : AllocState)
   pub fresh : allocation.fresh ≡ s.fresh
   pub shows : (number : ℕ) → HasNumber s number → Shows s words number (cells allocation number)
 
--- words before and after an object was written at an address: the second is its name, and no word outside its block changed
+-- words before and after an object is written at an address: its second word is its name, and words outside its block stay
 pub record Writes (old new : List ℕ) (at class : ℕ) (name : Name) : Type 0 where
   pub length : length new ≡ length old
   pub second : slice_index new (name_place at) ≡ name_word name

@@ -2,10 +2,10 @@
 //!
 //! The mark bytes and the state of a segment belong to it alone, so two threads may sweep segments without order between
 //! them. The tallies belong to all segments. So each half counts the results of its sweeps into a value of its own, and the
-//! caller takes up both afterwards. The result doesn't depend on which half was first. The caller lends these values. If each
-//! function on the way returned them, they would be copied each time, which takes as long as sweeping a few segments.
+//! caller takes up both afterwards. The result doesn't depend on which half was first. The caller lends these values: if each
+//! function on the way returned them, copying them would take as long as sweeping a few segments.
 //!
-//! Easy to get wrong: if the number is odd, the lower half has one more, and for a single segment no thread starts.
+//! Easy to get wrong: if the number of segments is odd, the lower half has one more. For one segment no thread starts.
 ghost use Rattle.std.specs.Prelude.{ℕ, ◌≡◌, ◌+◌, ◌-◌, ◌/◌, ◌<◌, ◌≤◌, take, drop, length, if◌then◌else◌};
 ghost use Rattle.nmgc_limits.specs.Limits.{most_segments};
 ghost use Rattle.nmgc_segment.specs.Marks.{IsEpoch};
@@ -17,7 +17,7 @@ use crate::filing::Filed;
 use nmgc_segment::{Segment, State};
 use std::thread::{Threads, join_mut};
 
-// If a segment waits, sweeps it as the next of its half and counts the result. Returns the number of sweeps of the half.
+// Sweeps the segment if it waits, as the next of its half, and counts the result. Returns the half's number of sweeps so far.
 fn sweep_waiting<F: Fn(u8, u32)>(
     before: &F,
     half: u8,
@@ -66,7 +66,8 @@ fn sweep_part<F: Fn(u8, u32)>(
     }
 }
 
-// Sweeps two parts in two threads, and counts the results apart. The calling thread has the lower part, which is larger.
+// Sweeps two parts in two threads, and counts the results of each. The calling thread sweeps the lower part, which isn't
+// smaller. If the upper part is empty, no thread starts.
 fn sweep_both<R: Threads + Sync, F: Fn(u8, u32) + Sync>(
     rt: &R,
     before: &F,
@@ -104,7 +105,7 @@ fn sweep_both<R: Threads + Sync, F: Fn(u8, u32) + Sync>(
 }
 
 // Returns 1 if the segment waits to be swept, and otherwise 0.
-fn waits(segment: &Segment) -> u32
+fn waiting_count(segment: &Segment) -> u32
     ensures { result ≡ (if is_in_category Sweeping segment.now then 1 else 0) }
 {
     if segment.state() == State::Sweeping {
@@ -114,8 +115,8 @@ fn waits(segment: &Segment) -> u32
     }
 }
 
-// Returns a position such that exactly `count` segments wait from `from` on and below it.
-fn behind(segments: &[Segment], from: usize, count: u32) -> usize
+// Returns the end of a range that begins at `from` and has exactly `count` waiting segments.
+fn end_of_waiting(segments: &[Segment], from: usize, count: u32) -> usize
     requires from { from ≤ length segments.now }
     requires enough { count ≤ sought_count Sweeping (drop from segments.now) }
     ensures from_on { from ≤ result }
@@ -127,13 +128,13 @@ fn behind(segments: &[Segment], from: usize, count: u32) -> usize
         if left == 0 {
             return number;
         }
-        left -= waits(&segments[number]);
+        left -= waiting_count(&segments[number]);
     }
     segments.len()
 }
 
 // Sweeps the first `count` waiting segments in two halves, and returns a number below which they all lie.
-fn sweep_first<R: Threads + Sync, F: Fn(u8, u32) + Sync>(
+fn sweep_in_halves<R: Threads + Sync, F: Fn(u8, u32) + Sync>(
     rt: &R,
     before: &F,
     epoch: u8,
@@ -152,8 +153,8 @@ fn sweep_first<R: Threads + Sync, F: Fn(u8, u32) + Sync>(
         (lower_filed.new.filled + upper_filed.new.filled) segments.old segments.new }
 {
     let upper = count / 2;
-    let middle = behind(segments, 0, count - upper);
-    let end = behind(segments, middle, upper);
+    let middle = end_of_waiting(segments, 0, count - upper);
+    let end = end_of_waiting(segments, middle, upper);
     let (front, _) = segments.split_at_mut(end);
     let (lower_half, upper_half) = front.split_at_mut(middle);
     sweep_both(
@@ -168,9 +169,10 @@ fn sweep_first<R: Threads + Sync, F: Fn(u8, u32) + Sync>(
     end
 }
 
-/// Sweeps the first `count` waiting segments in two halves, each in order and in its own thread. Returns a number: below it
-/// all waiting segments were swept, and from it on nothing changed. Each half counts its results into a value without counts.
-/// Before each sweep it calls `before`, with the half and the position in it. No segment below `from` waits.
+/// Sweeps the first `count` waiting segments in two halves, each in order and in its own thread. No segment below `from`
+/// waits. Returns a number: below it all waiting segments were swept, and from it on nothing changed. Each half adds its
+/// results to counts that are 0 at first. Before each sweep it calls `before`, with the half and the position in it. No
+/// clause says so: the condition on `before` says with which arguments it may be called.
 pub fn sweep_from<R: Threads + Sync, F: Fn(u8, u32) + Sync>(
     rt: &R,
     before: &F,
@@ -193,5 +195,5 @@ pub fn sweep_from<R: Threads + Sync, F: Fn(u8, u32) + Sync>(
     ensures from_on { from ≤ result }
 {
     let (_, waiting) = segments.split_at_mut(from);
-    from + sweep_first(rt, before, epoch, count, lower_filed, upper_filed, waiting)
+    from + sweep_in_halves(rt, before, epoch, count, lower_filed, upper_filed, waiting)
 }

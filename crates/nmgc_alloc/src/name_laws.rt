@@ -3,7 +3,7 @@
 //! Each function here does nothing; its contract is the law, over the steps of the allocation state.
 //!
 //! The blocks that a sweep keeps are given by the mark bytes, as for `Segments::sweep_next`, or by a list of names, as for a
-//! cycle's census. If these agree, a sweep of either kind is a sweep of the other.
+//! cycle's census. If these agree, a sweep by marks is a sweep by names.
 ghost use Rattle.std.specs.Prelude.{ℕ, ◌≡◌, ◌+◌, ◌⊎◌, ◌↔◌, List, Contains};
 ghost use Rattle.nmgc_world_spec.specs.declared.value.Name.{Name};
 ghost use Rattle.nmgc_object.specs.declared.layout.Layout.{Layout};
@@ -12,9 +12,9 @@ ghost use Rattle.nmgc_alloc.specs.AllocState.{AllocState, IsAllocState, IsIn, No
 
 use nmgc_segment::State;
 
-/// Proves that a placing puts the name into its block and moves no other name, and that a sweep keeps the names in the marked
-/// blocks and in all other segments. A cycle's beginning and retiring move no names.
-pub fn lie()
+/// Proves that names keep their blocks, unless a sweep drops them. Placing a name puts it into its block and moves no other
+/// name. A sweep keeps the names in the marked blocks and in other segments. A cycle's beginning and retiring move no name.
+pub fn names_keep_their_blocks()
     ensures placing { (layout : Layout) (old new : AllocState) (mutator class : ℕ) (name : Name) → IsAllocState layout old →
         (p : PlacesName layout old new mutator class name) → (number block : ℕ) (other : Name) → LiesIn new number block other ↔
         (((other ≡ name) × (number ≡ p.number) × (block ≡ p.block)) ⊎ LiesIn old number block other) }
@@ -25,7 +25,7 @@ pub fn lie()
 {}
 
 /// Proves that a name lies in at most one block, at the beginning and after each step, if placed names lay nowhere before.
-pub fn lie_once()
+pub fn names_lie_once()
     ensures first { (count : ℕ) → LieOnce (all_empty count) }
     ensures placing { (layout : Layout) (old new : AllocState) (mutator class : ℕ) (name : Name) → PlacesName layout old new mutator class name →
         LiesNowhere old name → LieOnce old → LieOnce new }
@@ -35,9 +35,10 @@ pub fn lie_once()
     ensures retired { (old : AllocState) → LieOnce old → LieOnce (all_retired old) }
 {}
 
-/// Proves when sweeps by marks are sweeps by names: if the marked blocks of a segment are the blocks of the names to be kept.
-/// Sweeps follow one another, and once all segments to be swept have been swept, none is to be swept.
-pub fn are_swept()
+/// Proves that a sweep by marks is a sweep by names, if the segment's marked blocks are the blocks of the names to be kept.
+/// Sweeps by names add up: one more may follow any number of sweeps, and each leaves one segment less to sweep. If the sweeps
+/// are equal in number to the segments to be swept, none is left.
+pub fn sweeps_are_by_names()
     ensures by_names { (old new : AllocState) (segment : Segment) (epoch swept : ℕ) (kept : List Name) →
         ((block : ℕ) (name : Name) → LiesIn old swept block name → IsMarked segment epoch block ↔ Contains kept name) →
         Sweeps old new swept (IsMarked segment epoch) → Sweeps old new swept (HoldsKept (Contains kept) old swept) }

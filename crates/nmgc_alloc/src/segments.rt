@@ -3,12 +3,11 @@
 //! Placing must take constant time except for the search within one segment, so no object needs a search through all
 //! segments. A table has the number of each mutator's current segment of each class. Another has a tally of each kind of
 //! segment that is searched for: free segments, segments to be swept, and active segments of a class. A tally has their
-//! number and a range without any. So a search that would find nothing isn't made, and each search continues the last. The
-//! counts take constant time, since each is updated when a segment changes its state.
+//! number, and ranges without any. So there is no search if none would be found, and each search goes on where the last one
+//! ended. The counts take constant time, since each is updated when a segment changes its state.
 //!
 //! Easy to get wrong: the number in the table may be of a segment that has been filled or retired since, so the code reads
-//! its state. The table is right about the absence of a current segment only because each new current segment is written to
-//! it.
+//! its state. A missing current segment is noticed only because each new one is written to the table.
 ghost use Rattle.std.specs.Prelude.{ℕ, ◌≡◌, ◌≢◌, ◌↔◌, ◌+◌, ◌<◌, ◌≤◌, ◌/◌, ◌%◌, map, min, replicate, count_by, slice_set, IsTrue, IfOk, IfSome, IfNone};
 ghost use Rattle.nmgc_object.specs.Places.{IsLayout, IsSegmentSize, segment_place};
 ghost use Rattle.nmgc_segment.specs.{Marks.IsEpoch, Segment.free_segment, Segment.block_count};
@@ -56,8 +55,8 @@ impl Model for Segments {
     } in IsSegments shown × Leads s.segments.items s.current.items × HaveTallies s.segments.items s.tallies.items s.filled };
 }
 
-// Returns the number of the segment that contains a word, and the word's offset from the segment's first word. `distance`
-// counts from the first word of all segments. The words of a segment are a power of two, so no division is needed.
+// Returns the number of the segment that contains a word, and the word's offset from the segment's first word. `distance` is
+// its distance from the first word of all segments. A segment has `words` words, a power of two: no division is needed.
 fn split(distance: u32, words: u32) -> (u32, u32)
     requires { IsSegmentSize words }
     ensures number { result.0 ≡ distance / words }
@@ -89,8 +88,8 @@ fn zeroes(alloc: Global, length: usize) -> Result<Vec<u32>, NoMemory>
 fn first_tallies(alloc: Global, segments: u32) -> Result<Vec<Tally>, NoMemory>
     ensures { IfOk result (λ tallies. tallies.items ≡ slice_set (replicate KINDS (tally_from 0 segments)) 0 (tally_from segments 0)) }
 {
-    let mut tallies = vec![in alloc; Tally::starting(0, segments); KINDS]?;
-    tallies[Category::Free.place()] = Tally::starting(segments, 0);
+    let mut tallies = vec![in alloc; Tally::new(0, segments); KINDS]?;
+    tallies[Category::Free.place()] = Tally::new(segments, 0);
     Ok(tallies)
 }
 
@@ -124,10 +123,11 @@ impl Segments {
     {
         // Note [Lines that do nothing]
         //
-        // Reading a field of a value gives the prover the invariant of its type: here, that all segments are sound. So `let _
-        // = &self.segments;` in a method, and `let _ = segments.layout();` in a caller, do nothing when they run. A call of a
-        // law (as in `nmgc_cycle/src/stop_laws.rt`) does nothing either: it gives the prover the law. `let _ = command;` is
-        // for an argument that only clauses read.
+        // Some lines do nothing when they run. A read of a field, as here, gives the prover the invariant of the value's
+        // type: that all segments are sound. In other methods it may be `let _limit = self.limit;`, and a caller writes
+        // `let _ = segments.layout();`. A call of a law, such as `a_stop_leads();` in `nmgc_cycle/src/stop.rt`, gives the
+        // prover the law. `let _ = command;` is for an argument that only clauses read. Before a call that changes
+        // something, `let _` only drops the answer: `let _ = self.queue.take_first();`.
         let _ = &self.segments;
         self.layout
     }
@@ -169,8 +169,9 @@ impl Segments {
         self.tallies[Category::Sweeping.place()].count
     }
 
-    // Returns the number in the table for a mutator and a class: the mutator's current segment of the class if it has one.
-    fn noted(&self, mutator: u8, class: u8) -> u32
+    // Returns the entry for a mutator and a class in the table of current segments: the number of the mutator's current
+    // segment of the class. Without such a segment, the entry means nothing.
+    fn table_entry(&self, mutator: u8, class: u8) -> u32
         requires mutator { mutator < MAKERS }
         requires class { class < CLASSES }
         ensures noted { (number : ℕ) → HasNumber self.now number → IsCurrent mutator class (nth self.now.segments number) → result ≡ number }
@@ -180,14 +181,14 @@ impl Segments {
         self.current[usize::from(mutator) * CLASSES + usize::from(class)]
     }
 
-    // Returns the mutator's current segment of the class, or `None` exactly if it has none.
+    // Returns the number of the mutator's current segment of the class, or `None` exactly if it has none.
     fn current_of(&self, mutator: u8, class: u8) -> Option<u32>
         requires mutator { mutator < MAKERS }
         requires class { class < CLASSES }
         ensures some { IfSome result (λ number. IsOwn self.now mutator class number) }
         ensures none { IfNone result (HasNoCurrent self.now mutator class) }
     {
-        let number = self.noted(mutator, class);
+        let number = self.table_entry(mutator, class);
         if number as usize >= self.segments.len() {
             return None;
         }
@@ -199,7 +200,7 @@ impl Segments {
         }
     }
 
-    // Returns the segment of the kind that has the least number, or `None` exactly if there is none of the kind.
+    // Returns the least number of a segment of the kind, or `None` exactly if there is no such segment.
     fn least(&self, category: Category) -> Option<u32>
         requires { IsKind category }
         ensures some { IfSome result (λ number. IsLeast category self.now number) }
@@ -215,7 +216,7 @@ impl Segments {
         }
     }
 
-    // Makes segment `number`, the least of its kind (active or free), the mutator's current segment of the class.
+    // Makes segment `number`, the least-numbered of its kind (active or free), the mutator's current segment of the class.
     fn make_current(&mut self, number: u32, mutator: u8, class: u8, category: Category)
         requires mutator { mutator < MAKERS }
         requires class { class < CLASSES }
@@ -232,9 +233,9 @@ impl Segments {
         self.tallies[category.place()].leave(number, self.layout.segments);
     }
 
-    // Takes the first unused block of a current segment and returns its number. If no block is left, `take_block` has filed
-    // the segment as filled, and it is counted here.
-    fn take_in(&mut self, number: u32) -> u32
+    // Takes the first unused block of a current segment, and returns the block's number. If no block is left, `take_block`
+    // has filed the segment as filled, and it is counted here.
+    fn take_block_in(&mut self, number: u32) -> u32
         requires exists { HasNumber self.old number }
         requires current { (mutator : ℕ) × ((nth self.old.segments number).state ≡ State.Current mutator) }
         ensures takes { TakesBlock (nth self.old.segments number) (nth self.new.segments number) result }
@@ -252,22 +253,19 @@ impl Segments {
         block
     }
 
-    // Chooses the segment for the next object of a mutator and a class, makes it the mutator's current segment of that class,
-    // and returns its number.
+    // Chooses the segment for a mutator's next object of a class, makes it current, and returns its number.
     //
     // Note [The placing rule]
     //
-    // The address of a new object depends only on the segments, its mutator and its class: the least class whose blocks are
-    // large enough for it. The object goes into the mutator's current segment of the class. If there is none, the active
-    // segment of the class of least number becomes current, or else the least free segment.
+    // The address to which an object is promoted depends only on the segments, its mutator and its class: the least class
+    // whose blocks are large enough for it. The object goes into the mutator's current segment of the class. If there is
+    // none, the least-numbered active segment of the class becomes current, or else the least-numbered free one.
     //
-    // In that segment the object takes the least block that isn't in use. If this was the last, the segment is filed as
-    // filled and counted in `fresh`. So a current segment always has a free block, and filled segments and segments to be
-    // swept take no objects.
+    // There the object takes the least unused block. If no block is free then, the segment is filed as filled and counted in
+    // `fresh`. So a current segment always has a free block; filled segments and segments to be swept take no objects.
     //
-    // A promotion places objects in order of names. So a run's report doesn't depend on how the code searches for a segment.
-    // The rule is `Allocates` in `specs/Segments.antt`, and by names, as in a run's report, `PlacesName` in
-    // `specs/AllocState.antt`.
+    // Promotions place objects in order of names. So a report doesn't depend on how the code finds a segment. The rule is
+    // `Allocates` in `specs/Segments.antt`, and by names, as in a report, `PlacesName` in `specs/AllocState.antt`.
     fn choose_segment(&mut self, mutator: u8, class: u8) -> u32
         requires mutator { mutator < MAKERS }
         requires class { class < CLASSES }
@@ -295,9 +293,9 @@ impl Segments {
         }
     }
 
-    /// Whether there is room for a mutator's object of a class. There is if the mutator has a current segment of the class,
-    /// which always has a free block. There is also if an active segment of the class or a free segment exists. It is for
-    /// tests: promotion knows from the reserve that there is room.
+    /// Returns true exactly if there is room for a mutator's object of a class. The room is in the mutator's current segment
+    /// of the class, which always has a free block, in an active segment of the class, or in a free segment. It is for tests:
+    /// promotion knows from the reserve that there is room.
     pub fn has_room(&self, mutator: u8, class: u8) -> bool
         requires mutator { IsMutator self.now.layout mutator }
         requires class { IsClass self.now.layout class }
@@ -310,7 +308,7 @@ impl Segments {
     }
 
     /// Places an object of the class for the mutator by Note [The placing rule], and returns its address. Constant time
-    /// except for the search of the next unused block, and of the next segment if one was filled.
+    /// except for the search for the next unused block, and for the next segment if the current one was filled.
     pub fn allocate(&mut self, mutator: u8, class: u8) -> Address
         requires mutator { IsMutator self.old.layout mutator }
         requires class { IsClass self.old.layout class }
@@ -320,13 +318,12 @@ impl Segments {
     {
         let _ = &self.segments;
         let number = self.choose_segment(mutator, class);
-        let block = self.take_in(number);
+        let block = self.take_block_in(number);
         self.place_of(number, block)
     }
 
-    /// Returns the segment and the number of the block that begins at an address. Returns `None` exactly if no block of a
-    /// segment that isn't free begins there. The segment is found by a shift, since its words are a power of two. Constant
-    /// time.
+    /// Returns the number of the segment and of its block that begins at an address, or `None` exactly if no block of a
+    /// segment that isn't free begins there. A shift finds the segment, since its words are a power of two. Constant time.
     pub fn block_at(&self, at: Address) -> Option<(u32, u32)>
         ensures some { IfSome result (λ p. IsBlockAt self.now p.0 p.1 at.0) }
         ensures none { IfNone result ((number block : ℕ) → IsBlockAt self.now number block at.0 → ⊥) }
@@ -363,8 +360,7 @@ impl Segments {
         }
     }
 
-    /// Marks a block found by `block_at` if it is an unmarked block of the snapshot, and returns whether it did. Constant
-    /// time.
+    /// Marks a block if it is an unmarked block of the snapshot, and returns whether it marked the block. Constant time.
     pub fn mark(&mut self, number: u32, block: u32, epoch: u8) -> bool
         requires epoch { IsEpoch epoch }
         requires exists { HasNumber self.old number }
@@ -436,7 +432,7 @@ impl Segments {
     {
         cycle_steps::prepare_all(self.segments.as_mut_slice());
         self.fresh = 0;
-        self.tallies[Category::Sweeping.place()] = Tally::starting(self.filled, 0);
+        self.tallies[Category::Sweeping.place()] = Tally::new(self.filled, 0);
         self.filled = 0;
     }
 
@@ -449,8 +445,8 @@ impl Segments {
         cycle_steps::carry_all(self.segments.as_mut_slice(), epoch);
     }
 
-    /// Sweeps the segment to be swept of least number, and returns its number. Returns `None` exactly if there is none.
-    /// Constant time except for the search of that segment and the sweep.
+    /// Sweeps the least-numbered segment that is to be swept, and returns its number. Returns `None` exactly if there is
+    /// none. Constant time except for the search for that segment and the sweep.
     pub fn sweep_next(&mut self, epoch: u8) -> Option<u32>
         requires { IsEpoch epoch }
         ensures none { IfNone result (HasNoneIn State.Sweeping self.old × (self.new ≡ self.old)) }
@@ -463,10 +459,10 @@ impl Segments {
     }
 
     /// Sweeps the first `quota` segments to be swept, by number, or all if there are fewer, and returns how many it swept.
-    /// The result is the same as after that number of calls of `sweep_next`.
-    /// It sweeps two halves in two threads. If the number is odd, the lower half has one segment more. For a single segment,
-    /// or if a thread can't be started, the calling thread does the work. Before each sweep it calls `before`, with the half,
-    /// 0 or 1, and the position in it from 0. Takes no memory.
+    /// The result is the same as after that number of calls of `sweep_next`. Takes no memory. It sweeps two halves in two
+    /// threads. If the number is odd, the lower half has one segment more. For a single segment, or if a thread can't be
+    /// started, the calling thread does the work. Before each sweep it calls `before`, with the half, 0 or 1, and the
+    /// position in it from 0. No clause says so: the condition on `before` says which arguments are allowed.
     pub fn sweep_many<R: Threads + Sync, F: Fn(u8, u32) + Sync>(
         &mut self,
         rt: &R,
@@ -539,7 +535,7 @@ impl Segments {
             waiting.from,
             end,
         );
-        self.tallies[Category::Sweeping.place()] = Tally::starting(waiting.count - count, end);
+        self.tallies[Category::Sweeping.place()] = Tally::new(waiting.count - count, end);
         self.filled += lower.filled + upper.filled;
     }
 
@@ -571,7 +567,7 @@ impl Segments {
         let free = self.tallies[Category::Free.place()];
         let sweeping = self.tallies[Category::Sweeping.place()];
         self.filled = self.layout.segments - free.count - sweeping.count;
-        self.tallies.fill(Tally::starting(0, self.layout.segments));
+        self.tallies.fill(Tally::new(0, self.layout.segments));
         self.tallies[Category::Free.place()] = free;
         self.tallies[Category::Sweeping.place()] = sweeping;
     }

@@ -6,8 +6,8 @@ use Rattle.nmgc_barrier_laws.specs.{declared.debt.Debt.Debt, Cycle.Cycle, Cycle.
 use Rattle.nmgc_barrier_checker.specs.{declared.accounts.Accounts.Accounts, declared.name_set.NameSet.NameSet, declared.event.Why.Why, Accounts.AreAccounts, Accounts.IsLeastIn, NameSet.IsListed, Rows.is_done}
 use Rattle.nmgc_barrier_checker.specs.declared.event.Why.TheVariants as why
 
--- the invariant of a cycle. Pushed, opened and taken names are listed, and debts are accounts. A weak pointer of the snapshot
--- that was alive there and isn't finalised is unchanged. Both worlds are closed
+-- the invariant of a cycle. Pushed, opened and taken names are lists with sets (`IsListed`), and the debts are in accounts. A
+-- weak pointer that was alive in the snapshot and isn't finalised is unchanged. Both worlds are closed
 pub record IsCycle (w s : World) (pushes : NameSet) (owed : Accounts) (opens takes : NameSet) (ends : List Name) : Type 0 where
   pub remembered : IsListed s pushes
   pub opened : IsListed s opens

@@ -1,5 +1,4 @@
--- How the names that a command makes due are found: by the positions that it may write or remove, and by the fields that both
--- the snapshot and the world have there.
+-- How a command's due names are found: by fields that snapshot and world share at positions that the command may change.
 use Rattle.std.specs.Prelude.{◌≡◌, ◌+◌, ◌-◌, ◌<◌, ◌≤◌, ℕ, zero, suc, List, [], ◌∷◌, length, map, flat_map, Option, Some, None, Bool, true, false, Contains}
 use Rattle.nmgc_world_spec.specs.{declared.value.Name.Name, declared.value.Value.Value, declared.node.Parts.Parts, declared.node.Node.Node, declared.node.Node.TheVariants.Con, declared.node.Node.TheVariants.Var, declared.node.Node.TheVariants.Arr, declared.node.Node.TheVariants.Thunk, declared.node.Node.TheVariants.Weak, declared.node.Node.TheVariants.Stack, declared.change.Change.Change, declared.command.Command.Command, World.World, World.node_of, Change.is_same_name, Step.asked, Owed.names_among}
 use Rattle.nmgc_world_spec.specs.declared.value.Value.TheVariants as value
@@ -57,7 +56,7 @@ end_place (change.Push m v) node = 0
 end_place (change.Pop m) node = depth node
 end_place change.Finalise node = 0
 
--- fields that both the snapshot and the world have, among them all at positions that the command may write or remove
+-- fields that both the snapshot and the world have, and at least all at positions that the command may write or remove
 pub record IsStanding (snapshot w : World) (m : ℕ) (c : Command) (fields : List Field) : Type 0 where
   pub sound : (f : Field) → Contains fields f → (stands_in snapshot f ≡ true) × (stands_in w f ≡ true)
   pub all : (f : Field) (ch : Change) (node : Node) → asked w m c ≡ Some (value.Ref f.name, ch) → node_of w f.name ≡ Some node →

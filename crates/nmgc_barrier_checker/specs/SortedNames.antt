@@ -6,7 +6,7 @@ use Rattle.nmgc_world_spec.specs.{declared.value.Name.Name, Reach.IsBefore}
 abbrev pub StandsAt : List Name → ℕ → Name → Type 0
 StandsAt names place name = (place < length names) × (slice_index_or names place name ≡ name)
 
--- bounds for the position of a name: names at positions below `least` come before it, and names at `end` and after it don't
+-- bounds for the position of a name: names at positions below `least` come before the name, and names at `end` or above don't
 pub record IsBetween (names : List Name) (name : Name) (least end : ℕ) : Type 0 where
   pub most : end ≤ length names
   pub before : (i : ℕ) (n : Name) → StandsAt names i n → i < least → IsBefore n name

@@ -288,7 +288,7 @@ IsOld left name = is_old left.old name ≡ true
 abbrev pub MayFree : CycleResult → Name → Type 0
 MayFree left name = IsSome (node_of left.world name) × IsOld left name × (Contains left.needed name → ⊥)
 
--- a report after a cycle: the runtime freed names of its snapshot that aren't needed. Names made since aren't garbage by it
+-- a report after a cycle: the runtime freed names of its snapshot that aren't needed, and none that were made since
 abbrev pub CanFreed : List Name → Watch → Watch → Type 0
 CanFreed names (watch.Between w) next = ⊥
 CanFreed names (watch.Marking h) next = ⊥
@@ -377,8 +377,8 @@ IsStep line p e (Some y) next = Leaves line p e y next × IsWhy p e y
 abbrev pub ReasonsRefuse : Type 0
 ReasonsRefuse = (line : ℕ) (p : Watch) (e : Event) (y : Why) (next : Watch) → IsWhy p e y → Can line p e next → ⊥
 
--- the theorem that a closed cycle is exact, for both kinds of close. Every marker beside the cycle that can close then has
--- marked exactly the kept names, whenever it took and read them
+-- the theorem that a closed cycle is exact, for both kinds of close. Take any marker that is possible beside the cycle and
+-- can close now, in whatever order it took names and read objects. After its closing, exactly the kept names are marked
 abbrev pub ClosedIsExact : Type 0
 ClosedIsExact = (h : Cycle) (left : CycleResult) → IsLeft h left ⊎ ((named : List Name) × IsResultWith h named left) → (w : World) → IsWorld w →
     (s next : State) → Beside w h s → IsPossible s core.Close → IsClosing s next → (name : Name) → Contains next.marked name ↔ Contains left.kept name

@@ -1,12 +1,12 @@
 //! The debts of each mutator.
 //!
-//! A mutator has a queue of its debts, in the order in which they came, and the set of names that came due by it so far. So a
-//! name is in a queue at most once, however often it comes due, and all queues together take memory for each name and
-//! mutator. A debt counts as long as its name wasn't pushed. Paid debts leave a queue from the front (`forget_paid`), so a
-//! mutator settles in amortised constant time, whatever other mutators owe. The reason against an end is the debt of the
-//! least line, found by a search of all queues.
+//! A mutator has a queue of its debts, in the order in which they came, and the set of the names that its commands made due
+//! so far. So a name is in a queue at most once, however often it comes due, and all queues together take memory for each
+//! name and mutator. A debt counts as long as its name wasn't pushed. Paid debts leave a queue from the front
+//! (`forget_paid`), so a mutator settles in amortised constant time, whatever other mutators owe. The reason against an end
+//! is the debt of the least line, found by a search of all queues.
 //!
-//! Easy to get wrong: two mutators may owe the same name, if it came due by both.
+//! Easy to get wrong: two mutators may owe the same name, if commands of both made it due.
 ghost use Rattle.std.specs.Prelude.{◌≡◌, ◌⊎◌, ◌<◌, ◌≤◌, ◌∷◌, ◌++◌, List, [], false, length, replicate, slice_get, IfOk, OnOk, OnErr, All, Contains, Some, None};
 ghost use Rattle.nmgc_world_spec.specs.declared.value.Name.{Name as NameAt};
 ghost use Rattle.nmgc_graph.specs.Marks.{HasPlaces, mark_of};
@@ -20,7 +20,7 @@ use nmgc_lists::{List, NoMemory, Queue};
 use nmgc_world_spec::Name;
 use std::alloc::Global;
 
-/// For each mutator, its debts and the names that came due by it.
+/// For each mutator, its debts and the names that its commands made due.
 #[derive(Drop)]
 pub(crate) struct Accounts {
     pub(crate) debts: List<Queue<Debt>>,
@@ -39,7 +39,7 @@ impl Accounts {
 
     /// Adds debts for names that came due by a command of the mutator at a line. Leaves out names that can't be due, were
     /// pushed, or are owed by the mutator already. Paid debts leave the front of the mutator's queue. After `NoMemory` some
-    /// of the names may have come due. Takes amortised constant time for each name.
+    /// debts may have been added. Takes amortised constant time for each name.
     pub(crate) fn owe(
         &mut self,
         snapshot: &World,
@@ -66,7 +66,7 @@ impl Accounts {
         Ok(())
     }
 
-    // Adds a debt to its mutator's queue if the debt is new.
+    // Adds a debt to its mutator's queue if its name may be due, wasn't pushed, and didn't come due by this mutator before.
     fn owe_one(&mut self, snapshot: &World, marks: &Marks, debt: Debt) -> Result<(), NoMemory>
         requires are { AreAccounts marks.now snapshot.now self.old }
         requires mutator { debt.mutator < length self.old.debts }
@@ -94,7 +94,7 @@ impl Accounts {
     }
 
     /// Returns the first unpaid debt of a mutator, if any, and removes the debts before it. Takes amortised constant time.
-    pub(crate) fn first(&mut self, marks: &Marks, mutator: u8) -> Option<Debt>
+    pub(crate) fn first_unpaid(&mut self, marks: &Marks, mutator: u8) -> Option<Debt>
         requires { mutator < length self.old.debts }
         ensures forgotten { IsForgotten marks.now mutator self.old self.new }
         ensures first { result ≡ slice_get (unpaid marks.now (queue_of self.old.debts mutator)) 0 }
@@ -103,9 +103,9 @@ impl Accounts {
         self.debts.items()[mutator as usize].first()
     }
 
-    /// Whether the last debt of some mutator is of this line. Right after the line's command, this means that the command
-    /// made a name due that its mutator didn't owe before. Takes no memory, and time for each mutator.
-    pub(crate) fn has_of(&self, line: usize) -> bool {
+    /// Whether the last debt of some mutator has this line. Right after the line's command, this means that the command made
+    /// a name due that its mutator didn't owe before. Takes no memory, and time for each mutator.
+    pub(crate) fn has_debt_of_line(&self, line: usize) -> bool {
         for queue in self.debts.items() {
             if let Some(debt) = queue.items().last() {
                 if debt.line == line {
@@ -116,8 +116,8 @@ impl Accounts {
         false
     }
 
-    /// Returns the unpaid debt of the least line, if there is any. Takes time for each debt that waits.
-    pub(crate) fn least(&self, marks: &Marks) -> Option<Debt>
+    /// Returns the unpaid debt of the least line, if there is any. Takes time for each debt in the queues.
+    pub(crate) fn least_unpaid(&self, marks: &Marks) -> Option<Debt>
         ensures { IsLeastIn (unpaid marks.now (all_debts self.now.debts)) result }
     {
         least_among(marks, self.debts.items())
@@ -179,23 +179,23 @@ fn least_of(marks: &Marks, debts: &[Debt], so_far: Option<Debt>) -> Option<Debt>
 {
     let mut least = so_far;
     for debt in debts {
-        least = lesser(marks, least, *debt);
+        least = lesser_unpaid(marks, least, *debt);
     }
     least
 }
 
-// Returns the debt of the lesser line among `so_far` and a further debt; a paid debt doesn't count.
-fn lesser(marks: &Marks, so_far: Option<Debt>, debt: Debt) -> Option<Debt>
+// Returns the debt of the lesser line of `so_far` and a further debt, which counts only if it is unpaid.
+fn lesser_unpaid(marks: &Marks, so_far: Option<Debt>, debt: Debt) -> Option<Debt>
     ensures { (before : List DebtAt) → IsLeastIn before so_far → IsLeastIn (before ++ unpaid marks.now (debt ∷ [])) result }
 {
     if marks.contains(debt.name) {
         return so_far;
     }
-    Some(earlier(so_far, debt))
+    Some(earlier_debt(so_far, debt))
 }
 
-// Returns the debt of the lesser line, or the first debt if both lines are the same.
-fn earlier(first: Option<Debt>, second: Debt) -> Debt
+// Returns the debt of the lesser line: the first debt if both lines are the same, and the second if there is no first.
+fn earlier_debt(first: Option<Debt>, second: Debt) -> Debt
     ensures some { (d : DebtAt) → first ≡ Some d → ((result ≡ d) × (d.line ≤ second.line)) ⊎ ((result ≡ second) × (second.line ≤ d.line)) }
     ensures none { first ≡ None → result ≡ second }
 {

@@ -1,18 +1,18 @@
 //! The end of a cycle.
 //!
-//! Without debts the snapshot alone decides the end. The roots and the names opened by commands or pushed are live, with all
-//! that is reachable from them. Each weak pointer whose key isn't live dies.
+//! Without debts, the snapshot and the opened, pushed and finalised names decide the end. The roots and the names opened by
+//! commands or pushed are live, with all that is reachable from them. Each weak pointer whose key isn't live dies.
 //!
-//! Easy to get wrong: reported deaths are judged by the names that the commands keep, not by floating names. Floating names
-//! are kept too. A weak pointer may live on although the commands don't keep its key: the key floats, or the weak pointer
-//! isn't reported. It lives as long as its key, its finaliser is still to run even if no mutator holds it, and a mutator that
+//! Easy to get wrong: a name floats if only pushes keep it. Floating names are kept, but reported deaths are judged by the
+//! names that the commands keep. A weak pointer may live on although the commands don't keep its key: the key floats, or the
+//! weak pointer isn't reported. While it lives, its finaliser is still to run even if no mutator holds it, and a mutator that
 //! holds it can still read its value. So its key counts for the names that may be freed and the weak pointers that may die.
 ghost use Rattle.std.specs.Prelude.{◌≡◌, ◌++◌, [], None, IfOk, All, filter};
 ghost use Rattle.nmgc_world_spec.specs.Reach.{IsInOrder, IsAliveWeak, closed};
 ghost use Rattle.nmgc_barrier_checker.specs.{Cycles.is_outside, Cycles.keys_then, Watching.AreSerials};
 
 use crate::cycle::Cycle;
-use crate::cycle_result::{CycleResult, missing};
+use crate::cycle_result::{CycleResult, first_missing};
 use crate::event::Why;
 use crate::sorted_names::SortedNames;
 use nmgc_graph::opened::names_among;
@@ -28,77 +28,77 @@ impl Cycle {
 
     /// Returns the result of a close. If the cycle can't end, returns the reason: the debt of the least line, or an untaken
     /// name. Takes time and memory for each object, field and debt, however weak pointers revive one another.
-    pub fn end(&self) -> Result<Result<CycleResult, Why>, NoMemory>
+    pub fn result_or_why(&self) -> Result<Result<CycleResult, Why>, NoMemory>
         ensures { IfOk result (IsEnding self.now) }
     {
-        match self.against() {
+        match self.reason_against_end() {
             Some(why) => Ok(Err(why)),
-            None => Ok(Ok(self.left()?)),
+            None => Ok(Ok(self.close_result()?)),
         }
     }
 
-    /// Returns the result of a close at which just these weak pointers, if any, die in order of names, or the reason against
-    /// it. Each has to be dead by the names that the commands keep, and by the keys of the weak pointers that live on.
-    pub fn end_with(&self, named: &[Name]) -> Result<Result<CycleResult, Why>, NoMemory>
+    /// Returns the result of a close at which exactly these weak pointers die, in order of names, or the reason against such
+    /// a close. Each has to be dead: neither the commands nor the weak pointers that live on keep its key.
+    pub fn result_or_why_with(&self, named: &[Name]) -> Result<Result<CycleResult, Why>, NoMemory>
         ensures { IfOk result (IsEndingWith self.now named.now) }
     {
-        match self.against() {
+        match self.reason_against_end() {
             Some(why) => Ok(Err(why)),
-            None => self.result_with(named),
+            None => self.result_if_dead(named),
         }
     }
 
-    // Returns the reason why the cycle can't end, whichever weak pointers die, if there is one.
-    fn against(&self) -> Option<Why>
+    // Returns the reason, if any, why the cycle can't end at all: the debt of the least line, or a name that wasn't taken.
+    fn reason_against_end(&self) -> Option<Why>
         ensures { IsAgainstIf self.now result }
     {
         if let Some(debt) = self.first_debt() {
             return Some(Why::Due(debt));
         }
-        match self.untaken() {
+        match self.first_untaken() {
             Some(name) => Some(Why::Untaken(name)),
             None => None,
         }
     }
 
     // Returns the result of a close without debts at which these weak pointers die, or the reason why one of them isn't dead.
-    fn result_with(&self, named: &[Name]) -> Result<Result<CycleResult, Why>, NoMemory>
+    fn result_if_dead(&self, named: &[Name]) -> Result<Result<CycleResult, Why>, NoMemory>
         requires none { self.now.debts ≡ [] }
         requires taken { IsAllTaken self.now }
         ensures { IfOk result (IsEndingWith self.now named.now) }
     {
-        match self.not_dead(named)? {
+        match self.first_not_dead(named)? {
             Some(weak) => Ok(Err(Why::NotDead(weak))),
-            None => Ok(Ok(self.left_by(named)?)),
+            None => Ok(Ok(self.close_result_with(named)?)),
         }
     }
 
-    // Returns the first of the weak pointers that isn't dead if exactly these die, if there is one.
-    fn not_dead(&self, named: &[Name]) -> Result<Option<Name>, NoMemory>
+    // Returns the first of these weak pointers that isn't dead if exactly these die, or `None` if all of them are dead.
+    fn first_not_dead(&self, named: &[Name]) -> Result<Option<Name>, NoMemory>
         ensures { IfOk result (IsDeadIf self.now named.now) }
     {
-        let names = self.opened_with(named)?;
+        let names = self.opened_and_keys(named)?;
         let dead = self
             .snapshot
             .dead_weaks(names.as_slice(), self.finalised.items())?;
-        let other = missing(&self.snapshot, dead.items(), named)?;
+        let other = first_missing(&self.snapshot, dead.items(), named)?;
         Ok(other)
     }
 
-    // Returns the result of a close without debts.
-    fn left(&self) -> Result<CycleResult, NoMemory>
+    // Returns the result of a close without debts, at which all dead weak pointers die.
+    fn close_result(&self) -> Result<CycleResult, NoMemory>
         requires none { self.now.debts ≡ [] }
         requires taken { IsAllTaken self.now }
         ensures { IfOk result (IsLeft self.now) }
     {
-        let dead = self.dead()?;
-        let world = closed(&self.world, dead.items())?;
-        let left = self.leaving(world, dead.items())?;
+        let dead = self.dying_weaks()?;
+        let world = copy_and_close(&self.world, dead.items())?;
+        let left = self.make_result(world, dead.items())?;
         Ok(left)
     }
 
     // Returns the result of a close without debts at which exactly these weak pointers die.
-    fn left_by(&self, named: &[Name]) -> Result<CycleResult, NoMemory>
+    fn close_result_with(&self, named: &[Name]) -> Result<CycleResult, NoMemory>
         requires none { self.now.debts ≡ [] }
         requires taken { IsAllTaken self.now }
         requires dead { IsDeadIf self.now named.now None }
@@ -106,16 +106,16 @@ impl Cycle {
     {
         let set = self.snapshot.set_of(named)?;
         let dead = set.names(self.snapshot.alloc())?;
-        let world = closed(&self.world, dead.items())?;
-        let left = self.leaving(world, named)?;
+        let world = copy_and_close(&self.world, dead.items())?;
+        let left = self.make_result(world, named)?;
         Ok(left)
     }
 
-    // Returns the weak pointers that die: the opened and pushed names don't keep their keys live.
-    fn dead(&self) -> Result<List<Name>, NoMemory>
+    // Returns the weak pointers that die, in order: neither roots nor opened or pushed names keep their keys live.
+    fn dying_weaks(&self) -> Result<List<Name>, NoMemory>
         ensures { IfOk result (Lists (IsDead self.now.snapshot (self.now.opened ++ self.now.remembered) self.now.finalised)) }
     {
-        let all = joined(
+        let all = join_names(
             self.world.alloc(),
             self.opened.names.items(),
             self.remembered.names.items(),
@@ -126,20 +126,20 @@ impl Cycle {
         Ok(dead)
     }
 
-    // Returns the result of a close that leaves this world, at which these weak pointers die.
-    fn leaving(&self, world: World, dead: &[Name]) -> Result<CycleResult, NoMemory>
+    // Makes the result of a close at which these weak pointers die, and after which the heap is this world.
+    fn make_result(&self, world: World, dead: &[Name]) -> Result<CycleResult, NoMemory>
         ensures world { IfOk result (λ left. left.world ≡ world) }
         ensures kept { IfOk result (λ left. Lists (HasToMark self.now) left.kept) }
         ensures needed { IfOk result (λ left. Lists (Needs self.now dead.now) left.needed) }
         ensures old { IfOk result (λ left. AreSerials self.now.snapshot left.old) }
     {
-        let all = joined(
+        let all = join_names(
             self.world.alloc(),
             self.opened.names.items(),
             self.remembered.names.items(),
         )?;
         let kept = self.snapshot.kept(all.as_slice(), self.finalised.items())?;
-        let needed = self.needed(dead)?;
+        let needed = self.needed_names(dead)?;
         let old = serials(&self.snapshot)?;
         Ok(CycleResult {
             world,
@@ -151,10 +151,10 @@ impl Cycle {
     }
 
     // Returns the names that no collector may free if exactly these weak pointers die.
-    fn needed(&self, dead: &[Name]) -> Result<List<Name>, NoMemory>
+    fn needed_names(&self, dead: &[Name]) -> Result<List<Name>, NoMemory>
         ensures { IfOk result (Lists (Needs self.now dead.now)) }
     {
-        let names = self.opened_with(dead)?;
+        let names = self.opened_and_keys(dead)?;
         let needed = self
             .snapshot
             .kept(names.as_slice(), self.finalised.items())?;
@@ -162,15 +162,15 @@ impl Cycle {
     }
 
     // Returns the names that the commands opened, followed by the keys of the weak pointers that live on if these die.
-    fn opened_with(&self, dead: &[Name]) -> Result<Vec<Name>, NoMemory>
+    fn opened_and_keys(&self, dead: &[Name]) -> Result<Vec<Name>, NoMemory>
         ensures { IfOk result (λ names. IsOpenedWith self.now dead.now names.items) }
     {
         let weaks = self.snapshot.alive_weaks()?;
         let dying = self.snapshot.set_of(dead)?;
         let ended = self.snapshot.set_of(self.finalised.items())?;
-        let living = outside(self.world.alloc(), weaks.items(), &dying, &ended)?;
+        let living = weaks_outside(self.world.alloc(), weaks.items(), &dying, &ended)?;
         let keys = keys_then(&self.snapshot, living.items())?;
-        let names = joined(
+        let names = join_names(
             self.world.alloc(),
             self.opened.names.items(),
             keys.as_slice(),
@@ -180,7 +180,7 @@ impl Cycle {
 }
 
 // Returns those weak pointers that are in neither set.
-fn outside(
+fn weaks_outside(
     alloc: Global,
     weaks: &[Name],
     dying: &Marks,
@@ -219,7 +219,7 @@ fn keys_then(world: &World, weaks: &[Name]) -> Result<Vec<Name>, NoMemory>
 }
 
 // Returns the names of both lists, one list after the other.
-fn joined(alloc: Global, left: &[Name], right: &[Name]) -> Result<Vec<Name>, NoMemory>
+fn join_names(alloc: Global, left: &[Name], right: &[Name]) -> Result<Vec<Name>, NoMemory>
     ensures { IfOk result (λ names. names.items ≡ left.now ++ right.now) }
 {
     let mut names = Vec::new(alloc);
@@ -240,7 +240,7 @@ fn serials(world: &World) -> Result<List<u32>, NoMemory>
 }
 
 // Returns a copy of the world in which these weak pointers are dead.
-fn closed(world: &World, dead: &[Name]) -> Result<World, NoMemory>
+fn copy_and_close(world: &World, dead: &[Name]) -> Result<World, NoMemory>
     requires ordered { IsInOrder dead.now }
     requires alive { All (IsAliveWeak world.now) dead.now }
     ensures { IfOk result (λ after. after ≡ closed world.now dead.now) }

@@ -3,8 +3,8 @@
 //! The cycle has the world as it is, and the snapshot. Of the names of the snapshot it has the pushed names, the names that
 //! the commands opened, and the names that the marker took, if that is reported. Each of these is a list that has each name
 //! once, with a set for a lookup in constant time (`name_set`). Names that came due wait in a queue for each mutator
-//! (`accounts`). A push puts the name into list and set, so it takes amortised constant time; a debt counts as long as its
-//! name isn't in the set. So a cycle takes memory for each name and mutator, however long it goes on.
+//! (`accounts`). A push adds a name to the pushed names, so it takes amortised constant time; a debt counts until its name is
+//! pushed. So a cycle takes memory for each name and mutator, however long it goes on.
 //!
 //! Easy to get wrong: a name outside the snapshot has no position in a set. It can't be due; a push of it changes nothing.
 ghost use Rattle.std.specs.Prelude.{◌≡◌, ◌↔◌, ◌<◌, ◌++◌, length, IfOk, OnOk, IsSome, IsTrue};
@@ -12,7 +12,7 @@ ghost use Rattle.nmgc_world_spec.specs.World.{node_of};
 ghost use Rattle.nmgc_barrier_checker.specs.{Dues.targets, Cycles.IsUntakenIn, Cycles.is_untaken};
 
 use crate::accounts::Accounts;
-use crate::due::{Field, gone, is_owable, kept_then, standing};
+use crate::due::{Field, common_fields, is_owable, kept_then, missing_fields};
 use crate::event::Why;
 use crate::name_set::NameSet;
 use crate::rows::is_done;
@@ -84,21 +84,21 @@ impl Cycle {
         &self.world
     }
 
-    /// Returns how often a command has made a name due so far, whether or not the name was pushed before. A name that a
-    /// `finalise` opens counts twice, as opened and as kept. At most `u64::MAX`. Takes no memory and constant time.
+    /// Returns how often commands made a name due so far. A name counts even if it was pushed before, and twice if a
+    /// `finalise` opens it: as opened and as kept. Returns at most `u64::MAX`. Takes no memory and constant time.
     pub fn dues(&self) -> u64 {
         self.dues
     }
 
-    /// Right after a command of this line: returns whether the command made a name due that its mutator didn't owe before. If
-    /// so, a reason may have to name the line. Takes no memory, and time for each mutator.
+    /// Whether the command just done at this line made a name due that its mutator didn't owe before in the cycle. If so, a
+    /// reason may have to name the line. Takes no memory, and time for each mutator.
     pub fn is_owed_since(&self, line: usize) -> bool {
-        self.accounts.has_of(line)
+        self.accounts.has_debt_of_line(line)
     }
 
-    /// Does a mutator's command at a line, or returns why it can't have been given. Names that the command makes due, and
-    /// that weren't pushed, are due since that line. A refused command changes nothing; after `NoMemory` it may be any cycle.
-    /// Takes amortised constant time for each operand, each field of an object made, and each field that may be removed.
+    /// Does a mutator's command if the heap gives it this answer, or else returns why not and changes nothing. Names that the
+    /// command makes due are due since `line`, unless they were pushed or are owed by the mutator already. After `NoMemory`
+    /// the cycle may be in any state. Takes amortised constant time for each operand, and each field made or perhaps removed.
     pub fn command(
         &mut self,
         line: usize,
@@ -119,7 +119,7 @@ impl Cycle {
         Ok(None)
     }
 
-    /// Does a mutator's command at a line, with any answer, if the heap does it, or else returns why not and changes nothing.
+    /// Does a mutator's command at a line if its answer means that it is done, or else returns why not and changes nothing.
     pub fn act(
         &mut self,
         line: usize,
@@ -144,15 +144,15 @@ impl Cycle {
         requires { CanApply self.old.world mutator command.now }
         ensures { OnOk result (IsTaken line mutator command.now self.old self.new) }
     {
-        let fields = standing(&self.snapshot, &self.world, mutator, command)?;
+        let fields = common_fields(&self.snapshot, &self.world, mutator, command)?;
         let opens = opened_by(&self.world, mutator, command)?;
         let ends = finalised_by(&self.world, mutator, command)?;
         let kept = kept_then(&self.snapshot, ends.as_slice())?;
         self.opened.extend(&self.snapshot, opens.as_slice())?;
         self.finalised.extend(ends.as_slice())?;
         self.world.apply(mutator, command)?;
-        let lost = gone(&self.world, fields.items())?;
-        let names = found(
+        let lost = missing_fields(&self.world, fields.items())?;
+        let names = due_candidates(
             self.world.alloc(),
             lost.items(),
             opens.as_slice(),
@@ -170,7 +170,7 @@ impl Cycle {
         Ok(())
     }
 
-    /// Adds a pushed name. A name outside the heap is refused, and changes nothing. Takes amortised constant time.
+    /// Adds a pushed name. Refuses a name that the heap doesn't have, and changes nothing. Takes amortised constant time.
     pub fn push(&mut self, name: Name) -> Result<Option<Why>, NoMemory>
         ensures push { IfOk result (λ why. IsPush name self.old why self.new) }
     {
@@ -190,16 +190,16 @@ impl Cycle {
         Ok(())
     }
 
-    /// Returns the reason why a mutator hasn't settled, if it hasn't: a debt of its commands that wasn't pushed, or no such
-    /// mutator. Changes nothing. Takes amortised constant time, whatever other mutators owe.
-    pub fn settle(&mut self, mutator: u8) -> Option<Why>
+    /// Returns the reason why a mutator hasn't settled, or `None` if it has. The reason is a debt of its commands that wasn't
+    /// pushed, or that there is no such mutator. Changes nothing. Takes amortised constant time, whatever other mutators owe.
+    pub fn reason_against_settle(&mut self, mutator: u8) -> Option<Why>
         ensures settle { IsSettle mutator self.old result }
         ensures same { self.new ≡ self.old }
     {
         if !has_mutator(&self.world, mutator) {
             return Some(Why::CannotApply);
         }
-        match self.accounts.first(&self.remembered.set, mutator) {
+        match self.accounts.first_unpaid(&self.remembered.set, mutator) {
             Some(debt) => Some(Why::Due(debt)),
             None => None,
         }
@@ -216,25 +216,25 @@ impl Cycle {
         Ok(None)
     }
 
-    /// Returns the debt of the least line, if there is any. Takes time for each debt.
+    /// Returns the debt of the least line, or `None` if there are no debts. Takes time for each debt.
     pub fn first_debt(&self) -> Option<Debt>
         ensures { IsLeastDebt self.now result }
     {
-        self.accounts.least(&self.remembered.set)
+        self.accounts.least_unpaid(&self.remembered.set)
     }
 
-    /// Returns a name that was pushed and not taken, if takes are reported. g needs no push. Takes time for each pushed name.
-    pub fn untaken(&self) -> Option<Name>
+    /// Returns the first pushed name except g that no take reports, if takes are reported. Takes time for each pushed name.
+    pub fn first_untaken(&self) -> Option<Name>
         ensures { IsUntakenIf self.now result }
     {
         if self.taken.is_empty() {
             return None;
         }
-        untaken_of(&self.taken, self.remembered.names.items())
+        first_untaken_in(&self.taken, self.remembered.names.items())
     }
 }
 
-// Returns how many of the names may be due.
+// Returns the number of these names that may be due (`is_owable`).
 fn count_due(snapshot: &World, names: &[Name]) -> u64 {
     let mut count = 0_u64;
     for name in names {
@@ -246,7 +246,7 @@ fn count_due(snapshot: &World, names: &[Name]) -> u64 {
 }
 
 // Returns the first of the names that still has to be taken, if there is one.
-fn untaken_of(taken: &NameSet, names: &[Name]) -> Option<Name>
+fn first_untaken_in(taken: &NameSet, names: &[Name]) -> Option<Name>
     ensures { IsUntakenIn taken.now names.now result }
 {
     for name in names {
@@ -271,8 +271,8 @@ fn has_mutator(world: &World, mutator: u8) -> bool
     mutator < world.mutators()
 }
 
-// Returns the names that may be due: the targets of lost fields, opened names, and names kept by finalised weak pointers.
-fn found(
+// Returns the names that may have come due: targets of lost fields, opened names, and names kept by finalised weak pointers.
+fn due_candidates(
     alloc: Global,
     lost: &[Field],
     opens: &[Name],

@@ -19,8 +19,8 @@ use nmgc_world_spec::Name;
 /// The world after a cycle, and the names that reports are compared with.
 ///
 /// - `kept`: the names of the snapshot that the commands and the pushes keep, in order.
-/// - `needed`: the names kept by commands or living weak pointers, in order: no collector may free them if the same die.
-/// - `old`: the number of names of each mutator in the snapshot. A name with a serial from there on was made since.
+/// - `needed`: the names kept by commands or living weak pointers, in order: not to be freed if the same weak pointers die.
+/// - `old`: the number of names of each mutator in the snapshot. A name whose serial isn't below it was made since.
 /// - `dues`: how often a command made a name due in the cycle. A name that a `finalise` opens counts twice.
 #[derive(Drop)]
 pub struct CycleResult {
@@ -36,22 +36,22 @@ impl CycleResult {
 
     /// Returns the reason, if any, why the runtime can't have marked exactly these names: a kept name isn't among them, or
     /// one of them isn't kept. Takes memory and time for each kept name, and a binary search for each reported name.
-    pub fn marked(&self, names: &[Name]) -> Result<Option<Why>, NoMemory>
+    pub fn reason_against_marked(&self, names: &[Name]) -> Result<Option<Why>, NoMemory>
         ensures { IfOk result (IsMarkedIf names.now self.now) }
     {
-        if let Some(name) = self.kept.left_out(self.world.alloc(), names)? {
+        if let Some(name) = self.kept.first_left_out(self.world.alloc(), names)? {
             return Ok(Some(Why::NotListed(name)));
         }
-        match self.kept.without(names) {
+        match self.kept.first_missing(names) {
             Some(name) => Ok(Some(Why::NotMarked(name))),
             None => Ok(None),
         }
     }
 
-    /// Returns the reason, if any, why the runtime can't have freed these names. The heap doesn't have one of them, it was
-    /// made since the cycle began, or the commands or a weak pointer that lives on need it. Takes no memory, and time for
+    /// Returns the reason, if any, why the runtime can't have freed these names. One of them isn't in the heap, was made
+    /// since the cycle began, or is needed by the commands or by a weak pointer that lives on. Takes no memory, and time for
     /// each name times the logarithm of the number of needed names.
-    pub fn freed(&self, names: &[Name]) -> Option<Why>
+    pub fn reason_against_freed(&self, names: &[Name]) -> Option<Why>
         ensures { IsFreedIf names.now self.now result }
     {
         let old = self.old.items();
@@ -87,9 +87,9 @@ fn serial_in(serials: &[u32], maker: u8) -> u32
     }
 }
 
-/// Returns the first of `others` that isn't in `names`. Takes memory and time for each name of the world, for a set of
-/// `names`. Takes constant time for each item of `names`, and of `others` in the set. Any other takes a search of `names`.
-pub(crate) fn missing(
+/// Returns the first of `others` that isn't in `names`, if any. Makes a set of `names`, with memory and time for each name of
+/// the world. Each name takes constant time, but a name of `others` outside the set takes a search of `names`.
+pub(crate) fn first_missing(
     world: &World,
     names: &[Name],
     others: &[Name],

@@ -1,10 +1,10 @@
 //! The names that a command makes due.
 //!
-//! A field of the snapshot is broken if the world has it until a command and not afterwards. A command changes at most one
-//! object, at few positions: the field that `set` or `cas` writes, the top that `pop` removes, or a thunk's positions that
-//! `update` gives up. So the fields that both worlds have at these positions are noted before the command (`standing`), and
-//! after it the world is asked which of them are gone (`gone`). A finalised weak pointer keeps its parts of the snapshot. So
-//! no table of writes is needed beside the heap's own step.
+//! A command breaks a field of the snapshot if the world has the field before the command and not after it. A command changes
+//! at most one object, at few positions: the field that `set` or `cas` writes, the top that `pop` removes, or a thunk's
+//! positions that `update` gives up. So the fields that both worlds have at these positions are noted before the command
+//! (`common_fields`), and those that the world doesn't have after it are found (`missing_fields`). The names that a finalised
+//! weak pointer kept are read in the snapshot. So no table of writes is needed beside the heap's own step.
 //!
 //! Easy to get wrong: once the snapshot's field has gone, another field with its target is no field of the snapshot. It is
 //! one only if the target is written back to the same position of the same object.
@@ -76,8 +76,8 @@ fn is_ref_to(target: Name, value: Option<Value>) -> bool
     }
 }
 
-/// Whether a world has the field: its strong field at this position refers to this target. Takes no memory and constant time.
-pub fn stands(world: &World, field: Field) -> bool
+/// Whether a world has this field: the strong field at its position refers to its target. Takes no memory and constant time.
+pub fn has_field(world: &World, field: Field) -> bool
     ensures { result ≡ stands_in world.now field }
 {
     is_ref_to(field.target, strong_in(world, field.name, field.place))
@@ -142,7 +142,7 @@ fn field_at(snapshot: &World, world: &World, name: Name, place: usize) -> Option
         place,
         target,
     };
-    if stands(world, field) {
+    if has_field(world, field) {
         Some(field)
     } else {
         None
@@ -178,8 +178,8 @@ fn note(fields: &mut List<Field>, found: Option<Field>) -> Result<(), NoMemory>
     }
 }
 
-/// Returns the fields of both worlds at positions that a command may write or remove. Takes constant time for each position.
-pub(crate) fn standing(
+/// Returns the fields that both worlds have at positions that a command may write or remove, in constant time for each.
+pub(crate) fn common_fields(
     snapshot: &World,
     world: &World,
     mutator: u8,
@@ -205,12 +205,12 @@ pub(crate) fn standing(
 }
 
 /// Returns each of the fields that the world doesn't have.
-pub(crate) fn gone(world: &World, fields: &[Field]) -> Result<List<Field>, NoMemory>
+pub(crate) fn missing_fields(world: &World, fields: &[Field]) -> Result<List<Field>, NoMemory>
     ensures { IfOk result (λ gone. gone ≡ filter (λ f. not (stands_in world.now f)) fields.now) }
 {
     let mut gone = List::new(world.alloc());
     for field in fields {
-        if !stands(world, *field) {
+        if !has_field(world, *field) {
             gone.push(*field)?;
         }
     }

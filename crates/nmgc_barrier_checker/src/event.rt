@@ -12,9 +12,9 @@ pub enum Event {
         command: Command,
         answer: Reply,
     },
-    /// A mutator gave these commands, one after the other, and each was done: it gave a value, or had none to give. So one
-    /// line represents a copy of many fields, or a fill (`rows`). A command with an answer of another kind isn't done here,
-    /// even if it wrote: an exchange answers yes, and an update answers that it updated.
+    /// A mutator gave these commands, one after the other, and each was done: its answer was a value, or there was none to
+    /// give. So one line can represent a copy of many fields, or a fill (`rows`). A command with another kind of answer
+    /// doesn't count as done, even if it wrote: an exchange answers yes, and an update answers that it updated.
     Rows {
         mutator: u8,
         commands: List<Command>,
@@ -33,9 +33,9 @@ pub enum Event {
     Take {
         name: Name,
     },
-    /// Marking ends. Each weak pointer whose key neither the commands nor the pushes keep dies.
+    /// Marking ends. A weak pointer dies if neither the commands nor the pushes keep its key.
     Close,
-    /// Marking ends, and exactly these weak pointers die, in the order of their names; none dies if there are no names.
+    /// Marking ends, and exactly these weak pointers die, in the order of their names. If there are no names, none dies.
     CloseWith {
         dead: List<Name>,
     },
@@ -56,10 +56,10 @@ pub enum Event {
 pub enum Why {
     /// No event of this kind can happen here: in a cycle, between cycles, or after the stop.
     Misplaced,
-    /// There is no such mutator or register, or the mutator has no serial left. A settle, and several commands in one line
-    /// (even zero), can have this reason too.
+    /// There is no such mutator or register, or the mutator has no serial left. A settle can have this reason too, and so can
+    /// several commands in one line, even zero.
     CannotApply,
-    /// The heap's answer isn't the event's: it is this one.
+    /// The heap gives this answer. It isn't the event's, or doesn't mean that the command in a line of several was done.
     Answer(Reply),
     /// The heap has no such name.
     NoSuchName(Name),

@@ -6,13 +6,14 @@ pub fn a_reason_refuses()
     ensures { ReasonsRefuse }
 {}
 
-/// Proves that each event can happen, or there is a reason why it can't. By `a_reason_refuses` both are never true.
+/// Proves that each event can happen or has a reason against it, if the worlds are closed. Never both: `a_reason_refuses`.
 pub fn every_event_is_judged()
     ensures { EveryEventIsJudged }
 {}
 
-/// Proves that in a cycle that closes without debts, every marker that ends there has marked exactly the kept names. This is
-/// also true if the close reports which weak pointers die.
+/// Proves that a cycle that closes without debts has marked exactly the kept names, whichever marker ran beside it. A trace
+/// doesn't show the marker, so the law is about every marker that is possible beside the commands and pushes, and that can
+/// close when the cycle does. It holds whether or not the close reports which weak pointers die.
 pub fn a_closed_cycle_marked_what_it_had_to()
     ensures { ClosedIsExact }
 {}
@@ -22,7 +23,7 @@ pub fn what_the_commands_keep_is_marked()
     ensures { KeptIsMarked }
 {}
 
-/// Proves that after a close without reported deaths, all needed names are marked, even those that living weak pointers need.
+/// Proves that after a close without reported deaths all needed names are kept, even if only living weak pointers need them.
 pub fn what_is_needed_is_kept()
     ensures { NeededIsKept }
 {}

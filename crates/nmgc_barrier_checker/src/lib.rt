@@ -1,19 +1,19 @@
-//! A checker of a runtime's barrier: which of its steps the lax rule allows, and why it refuses a step.
+//! A checker of a runtime's barrier: which steps of the runtime the lax rule allows, and why it refuses other steps.
 //!
-//! A collector that marks from a snapshot while mutators run loses nothing as long as its barrier remembers the names that
-//! are due (`nmgc_barrier_laws`). These are the target of a field of the snapshot that goes, a value read out of a weak
-//! pointer, and the names that a finalised weak pointer kept. The snapshot, the heap and the command alone decide that. So a
-//! runtime's barrier is checked without its marker, by the steps of the mutators and the remembered names. Each step is
-//! allowed, or refused with a reason and the line since which it is true.
+//! A collector that marks from a snapshot while mutators run loses nothing if its barrier remembers the names that are due
+//! (`nmgc_barrier_laws`). These are the targets of the snapshot's fields that commands remove, the values read out of weak
+//! pointers, and the names that a finalised weak pointer kept. The snapshot, the heap and the commands alone decide that. So
+//! a runtime's barrier is checked without its marker, by the steps of the mutators and the remembered names. Each step is
+//! allowed, or refused with a reason. A reason about a debt has the line since which its name is due.
 //!
-//! - `event`: the events, and the reasons. `watch`: the machine over events, any number of cycles.
-//! - `cycle`: one cycle. `closing`: its end. `cycle_result`: its result, compared with the names that the runtime marked or freed.
-//!   `sorted_names`: names that are found by a binary search.
+//! - `event`: the events, and the reasons. `watch`: the state of a runtime, event by event, over any number of cycles.
+//! - `cycle`: one cycle. `closing`: its end. `cycle_result`: its result, compared with the names that the runtime marked or
+//!   freed. `sorted_names`: names that are found by a binary search.
 //! - `accounts`: the debts of each mutator. `name_set`: names, each once.
-//! - `due`: the names that a command makes due (`nmgc_graph::opened` has opened and finalised names). `rows`: a copy, a fill.
-//! - `laws`: a reason refuses; and beside a cycle that closes without debts, any marker marked exactly the right names.
+//! - `due`: the names that a command makes due (`nmgc_graph::opened` has opened and finalised names). `rows`: copies, fills.
+//! - `laws`: each event can happen or has a reason against it, never both; and a cycle that closes without debts is exact.
 //!
-//! `specs/Watching` has the relation; `Watch::step` is proved against it both ways. `nmgc_trace_checker` uses this crate.
+//! `specs/Watching` defines the possible events, and `Watch::step` takes exactly these. `nmgc_trace_checker` uses this crate.
 #![tactic(auto)]
 
 mod accounts;

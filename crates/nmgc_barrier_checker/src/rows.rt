@@ -40,8 +40,8 @@ pub fn copied(alloc: Global, copying: Copying) -> Result<List<Command>, NoMemory
 {
     let mut commands = List::new(alloc);
     for turn in 0..copying.count {
-        commands.push(load(copying, turn))?;
-        commands.push(store(copying, turn))?;
+        commands.push(copy_load(copying, turn))?;
+        commands.push(copy_store(copying, turn))?;
     }
     Ok(commands)
 }
@@ -52,13 +52,13 @@ pub fn filled(alloc: Global, filling: Filling) -> Result<List<Command>, NoMemory
 {
     let mut commands = List::new(alloc);
     for turn in 0..filling.count {
-        commands.push(write(filling, turn))?;
+        commands.push(fill_store(filling, turn))?;
     }
     Ok(commands)
 }
 
-// Returns the load of step `turn` of a copy.
-fn load(copying: Copying, turn: u32) -> Command
+// Returns the load in step `turn` of a copy.
+fn copy_load(copying: Copying, turn: u32) -> Command
     requires { turn < copying.count }
     ensures { result ≡ load_of copying turn }
 {
@@ -69,8 +69,8 @@ fn load(copying: Copying, turn: u32) -> Command
     }
 }
 
-// Returns the store of step `turn` of a copy.
-fn store(copying: Copying, turn: u32) -> Command
+// Returns the store in step `turn` of a copy.
+fn copy_store(copying: Copying, turn: u32) -> Command
     requires { turn < copying.count }
     ensures { result ≡ store_of copying turn }
 {
@@ -81,8 +81,8 @@ fn store(copying: Copying, turn: u32) -> Command
     }
 }
 
-// Returns the store of step `turn` of a fill.
-fn write(filling: Filling, turn: u32) -> Command
+// Returns the store in step `turn` of a fill.
+fn fill_store(filling: Filling, turn: u32) -> Command
     ensures { result ≡ write_of filling turn }
 {
     Command::Set {
@@ -104,7 +104,7 @@ fn turn_place(copying: Copying, turn: u32) -> u32
     }
 }
 
-// Returns the index of the field `place` positions after the field `first`, and at most the greatest number.
+// Returns the index of the field `place` positions after the field `first`, or the greatest number if the index is above it.
 fn index_at(first: u32, place: u32) -> u32
     ensures { result ≡ index_at first place }
 {

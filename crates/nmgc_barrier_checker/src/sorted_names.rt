@@ -51,8 +51,8 @@ impl SortedNames {
         self.find(name).is_some()
     }
 
-    /// Returns the first item of `others` that isn't here, if any. Takes no memory, and the time of `has` for each item.
-    pub(crate) fn without(&self, others: &[Name]) -> Option<Name>
+    /// Returns the first of `others` that isn't among these names, if any. Takes no memory, and the time of `has` for each.
+    pub(crate) fn first_missing(&self, others: &[Name]) -> Option<Name>
         ensures { IsMissingIf self.now others.now result }
     {
         for other in others {
@@ -63,11 +63,15 @@ impl SortedNames {
         None
     }
 
-    /// Returns the first name not in `others`. Takes memory and time per name, and the time of `has` per item of `others`.
-    pub(crate) fn left_out(&self, alloc: Global, others: &[Name]) -> Result<Option<Name>, NoMemory>
+    /// Returns the first of these names not in `others`, if any. Takes memory and time per name, and a `has` per other name.
+    pub(crate) fn first_left_out(
+        &self,
+        alloc: Global,
+        others: &[Name],
+    ) -> Result<Option<Name>, NoMemory>
         ensures { IfOk result (IsMissingIf others.now self.now) }
     {
-        let met = self.met(alloc, others)?;
+        let met = self.which_are_in(alloc, others)?;
         let names = self.names.items();
         for place in 0..names.len() {
             if !met[place] {
@@ -78,7 +82,7 @@ impl SortedNames {
     }
 
     // Returns, for each of these names, whether it is in `others`.
-    fn met(&self, alloc: Global, others: &[Name]) -> Result<Vec<bool>, NoMemory>
+    fn which_are_in(&self, alloc: Global, others: &[Name]) -> Result<Vec<bool>, NoMemory>
         ensures { IfOk result (λ met. AreMet self.now others.now met.items) }
     {
         let mut met = vec![in alloc; false; self.names.items().len()]?;

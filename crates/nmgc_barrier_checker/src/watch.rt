@@ -4,7 +4,7 @@
 //! pushed. Marking ends, and the heap goes on, with its dead weak pointers dead. So there may be any number of cycles. Each
 //! event is taken if it can have happened (`specs/Watching`, `Can`), and otherwise refused with a reason that is a fact.
 //!
-//! Easy to get wrong: a refused event changes nothing, so a test can go on. But the earlier commands of its line are done.
+//! Easy to get wrong: a refused event changes nothing, so a test can go on. But the commands before it in its line stay done.
 ghost use Rattle.std.specs.Prelude.{◌≡◌, ◌↔◌, ◌<◌, ◌≤◌, length, IfOk, IsTrue};
 ghost use Rattle.nmgc_world_spec.specs.World.{new_world};
 ghost use Rattle.nmgc_barrier_checker.specs.Watching.{IsStep, IsGivenIf, IsAct, IsDoneIf, AreActed, is_stopped, mutators_of};
@@ -22,8 +22,8 @@ use nmgc_world_spec::{Command, Name, Reply};
 use std::alloc::Global;
 use std::marker::Model;
 
-/// A cycle that goes on, in its own memory, so that a watch is small. Contracts see it as that cycle. A `List` counts its
-/// items' parts three times against the compiler's limit of 8,192 parts, so a world has 2,989.
+/// A cycle that goes on, in its own memory, so that a watch is small: a type may have at most 8,192 parts. A `List` counts
+/// the parts of its items three times, so a world alone has 2,989. Contracts see the cycle itself.
 #[derive(Drop)]
 pub struct Running {
     cycle: Box<Cycle>,
@@ -65,26 +65,26 @@ impl Running {
         self.cycle.world().mutators()
     }
 
-    // Returns the reason why a mutator hasn't settled, if it hasn't.
-    fn settle(&mut self, mutator: u8) -> Option<Why>
+    // Returns the reason why a mutator hasn't settled, or `None` if it has.
+    fn reason_against_settle(&mut self, mutator: u8) -> Option<Why>
         ensures settle { IsSettle mutator self.old result }
         ensures same { self.new ≡ self.old }
     {
-        self.cycle.settle(mutator)
+        self.cycle.reason_against_settle(mutator)
     }
 
     // Returns the result of a close, or the reason why the cycle can't end.
-    fn end(&self) -> Result<Result<CycleResult, Why>, NoMemory>
+    fn result_or_why(&self) -> Result<Result<CycleResult, Why>, NoMemory>
         ensures { IfOk result (IsEnding self.now) }
     {
-        self.cycle().end()
+        self.cycle().result_or_why()
     }
 
-    // Returns the result of a close at which exactly these weak pointers die, or the reason why the cycle can't end so.
-    fn end_with(&self, named: &[Name]) -> Result<Result<CycleResult, Why>, NoMemory>
+    // Returns the result of a close at which exactly these weak pointers die, or the reason against such a close.
+    fn result_or_why_with(&self, named: &[Name]) -> Result<Result<CycleResult, Why>, NoMemory>
         ensures { IfOk result (IsEndingWith self.now named.now) }
     {
-        self.cycle().end_with(named)
+        self.cycle().result_or_why_with(named)
     }
 }
 
@@ -111,14 +111,15 @@ impl Watch {
         Ok(Watch::Between(World::new(alloc, mutators)?))
     }
 
-    /// Takes the event of a line and returns `None`, or refuses it and returns the reason. A refused event changes nothing,
-    /// but several commands in one line (`Event::Rows`) are done up to the refused one. After `NoMemory` it may be any watch.
+    /// Takes the event of a line and returns `None`, or refuses it and returns the reason. `line` is any number of the
+    /// caller's, by which a debt is reported. A refused event changes nothing, but several commands in one line
+    /// (`Event::Rows`) are done up to the refused one. After `NoMemory` the watch may be in any state.
     ///
-    /// A push, a take and a settled mutator take amortised constant time. A command takes that for each operand, each field
-    /// of an object that it makes, and each field that it may remove. Several commands in one line each take it. The
-    /// beginning of a cycle and the stop take time for each object. The end of a cycle takes time for each object and each
-    /// field. A report of marked names takes time for each kept name, and a line that passes reports them all. A report of
-    /// marked or freed names takes a binary search for each reported name.
+    /// A push, a take and a settled mutator take amortised constant time. A command takes that time for each operand, each
+    /// field of an object that it makes, and each field that it may remove. That is true of each of several commands in a
+    /// line too. The beginning of a cycle and the stop take time for each object. The end of a cycle takes time for each
+    /// object and each field. A report of marked names takes time for each kept name; one that passes lists them all. A
+    /// report of marked or freed names takes a binary search for each reported name.
     ///
     /// Memory grows with the heap alone. A cycle has two worlds (three for a moment as it begins or ends), and a few bytes
     /// for each name and mutator.
@@ -131,22 +132,22 @@ impl Watch {
                 command,
                 answer,
             } => self.give(line, *mutator, command, *answer),
-            Event::Rows { mutator, commands } => self.rows(line, *mutator, commands.items()),
+            Event::Rows { mutator, commands } => self.do_line(line, *mutator, commands.items()),
             Event::Mark => self.mark(),
             Event::Push { name } => self.push(*name),
-            Event::Settle { mutator } => Ok(self.settle(*mutator)),
+            Event::Settle { mutator } => Ok(self.reason_against_settle(*mutator)),
             Event::Take { name } => self.take(*name),
             Event::Close => self.close(),
             Event::CloseWith { dead } => self.close_with(dead.items()),
-            Event::Marked { names } => self.marked(names.items()),
-            Event::Freed { names } => Ok(self.freed(names.items())),
+            Event::Marked { names } => self.reason_against_marked(names.items()),
+            Event::Freed { names } => Ok(self.reason_against_freed(names.items())),
             Event::Stop => Ok(self.stop()),
         }
     }
 
-    /// Returns how often a command has made a name due in the cycle that goes on, or otherwise in the last cycle, whether or
-    /// not the name was pushed before. A name that a `finalise` opens counts twice. Returns 0 if there was no cycle, and
-    /// after the stop. A trace in which no name came due tests no barrier. Takes no memory and constant time.
+    /// Returns how often commands made a name due in the cycle that goes on, or in the last cycle if none goes on. A name
+    /// counts even if it was pushed before, and twice if a `finalise` opens it. Returns 0 if there was no cycle, and after
+    /// the stop. A trace in which no name came due tests no barrier. Takes no memory and constant time.
     pub fn dues(&self) -> u64 {
         match self {
             Watch::Marking(running) => running.cycle().dues(),
@@ -155,8 +156,8 @@ impl Watch {
         }
     }
 
-    /// Right after a command of this line: whether it made a name due that its mutator didn't owe before. Then a reason may
-    /// have to name the line, at most one for each name and mutator in a cycle. Takes no memory, and time for each mutator.
+    /// Whether the command just done at this line made a name due that its mutator didn't owe before in the cycle. If so, a
+    /// reason may name the line: at most one line for each name and mutator. Takes no memory, and time for each mutator.
     pub fn is_owed_since(&self, line: usize) -> bool {
         match self {
             Watch::Marking(running) => running.cycle.is_owed_since(line),
@@ -164,7 +165,7 @@ impl Watch {
         }
     }
 
-    // Does a command of a mutator that has this answer, or returns the reason why it can't have been given.
+    // Does a mutator's command if the heap gives it this answer, or returns the reason why it can't have been given.
     fn give(
         &mut self,
         line: usize,
@@ -182,8 +183,8 @@ impl Watch {
         }
     }
 
-    // Does several commands of a mutator in one line, or returns the reason why one of them can't have been done.
-    fn rows(
+    // Does a mutator's commands of one line, up to the first that can't have been done, and returns the reason against it.
+    fn do_line(
         &mut self,
         line: usize,
         mutator: u8,
@@ -229,7 +230,7 @@ impl Watch {
         }
     }
 
-    // Does the commands in turn, and returns the reason if one of them can't be done. The commands before it stay done.
+    // Does the commands in turn up to the first that can't be done, and returns the reason against that command, if any.
     fn act_all(
         &mut self,
         line: usize,
@@ -247,8 +248,7 @@ impl Watch {
         Ok(None)
     }
 
-    // Does one command of a line that has several, or returns why it can't have been done. A command that isn't done changes
-    // nothing.
+    // Does one of several commands in a line, or returns the reason why it can't have been done and changes nothing.
     fn act(&mut self, line: usize, mutator: u8, command: &Command) -> Result<Option<Why>, NoMemory>
         ensures { IfOk result (λ why. IsAct line mutator command.now self.old why self.new) }
     {
@@ -284,11 +284,11 @@ impl Watch {
     }
 
     // Returns the reason why a mutator can't have settled, if there is one.
-    fn settle(&mut self, mutator: u8) -> Option<Why>
+    fn reason_against_settle(&mut self, mutator: u8) -> Option<Why>
         ensures { IsStep 0 self.old (event.Settle mutator) result self.new }
     {
         match self {
-            Watch::Marking(running) => running.settle(mutator),
+            Watch::Marking(running) => running.reason_against_settle(mutator),
             Watch::Between(_) | Watch::Ended(_) | Watch::Stopped => Some(Why::Misplaced),
         }
     }
@@ -308,7 +308,7 @@ impl Watch {
         ensures { IfOk result (λ why. IsStep 0 self.old event.Close why self.new) }
     {
         let ended = match self {
-            Watch::Marking(running) => running.end()?,
+            Watch::Marking(running) => running.result_or_why()?,
             Watch::Between(_) | Watch::Ended(_) | Watch::Stopped => {
                 return Ok(Some(Why::Misplaced));
             }
@@ -322,12 +322,12 @@ impl Watch {
         }
     }
 
-    // Ends marking so that exactly these weak pointers die, or returns the reason why it can't end so.
+    // Ends marking with the death of exactly these weak pointers, or returns the reason against such an end.
     fn close_with(&mut self, dead: &[Name]) -> Result<Option<Why>, NoMemory>
         ensures { IfOk result (λ why. IsStep 0 self.old (event.CloseWith dead.now) why self.new) }
     {
         let ended = match self {
-            Watch::Marking(running) => running.end_with(dead)?,
+            Watch::Marking(running) => running.result_or_why_with(dead)?,
             Watch::Between(_) | Watch::Ended(_) | Watch::Stopped => {
                 return Ok(Some(Why::Misplaced));
             }
@@ -342,21 +342,21 @@ impl Watch {
     }
 
     // Returns the reason why the runtime can't have marked exactly these names, if there is one.
-    fn marked(&self, names: &[Name]) -> Result<Option<Why>, NoMemory>
+    fn reason_against_marked(&self, names: &[Name]) -> Result<Option<Why>, NoMemory>
         ensures { IfOk result (λ why. IsStep 0 self.now (event.Marked names.now) why self.now) }
     {
         match self {
-            Watch::Ended(left) => left.marked(names),
+            Watch::Ended(left) => left.reason_against_marked(names),
             Watch::Between(_) | Watch::Marking(_) | Watch::Stopped => Ok(Some(Why::Misplaced)),
         }
     }
 
     // Returns the reason why the runtime can't have freed these names, if there is one.
-    fn freed(&self, names: &[Name]) -> Option<Why>
+    fn reason_against_freed(&self, names: &[Name]) -> Option<Why>
         ensures { IsStep 0 self.now (event.Freed names.now) result self.now }
     {
         match self {
-            Watch::Ended(left) => left.freed(names),
+            Watch::Ended(left) => left.reason_against_freed(names),
             Watch::Between(_) | Watch::Marking(_) | Watch::Stopped => Some(Why::Misplaced),
         }
     }
@@ -396,7 +396,7 @@ fn give(
     Ok(None)
 }
 
-// Does a command in the world, with any answer, if the world does it. Otherwise changes nothing and returns the reason.
+// Does a command in the world if the heap's answer means that it is done. Otherwise changes nothing and returns the reason.
 fn act(world: &mut World, mutator: u8, command: &Command) -> Result<Option<Why>, NoMemory>
     ensures { IfOk result (λ why. IsDoneIf world.old mutator command.now why world.new) }
 {

@@ -23,7 +23,7 @@ after_pushing s m name debts = record s {
   owed = slice_set (replicate (length s.owed) []) m (names_in debts);
 }
 
--- a step of the marker that reorders waiting names or drops marked names; each name that is on its way to be marked stays so
+-- a step of the marker that reorders waiting names or drops marked names, and loses no name that is on its way to be marked
 pub record IsSorted (s next : State) : Type 0 where
   pub shuffled : IsShuffled s next
   pub owed : next.owed ≡ s.owed
@@ -38,7 +38,7 @@ pub data Watches (w : World) : Cycle → Type 0 where
 
 -- a cycle that began with this world, and the state of a marker beside it. After a command the marker owes the debts. After a
 -- push the name floats, in the list of any mutator, and its debts go. Unseen, the marker marks names that may be held, scans,
--- and takes waiting names in any order. A report of a take leaves its state as it is
+-- and takes waiting names in any order. A report of a take leaves the marker's state as it is
 pub data Beside (w : World) : Cycle → State → Type 0 where
   start : Beside w (watching w) (opening w)
   command : (h next : Cycle) (s : State) (line m : ℕ) (c : Command) (answer : Reply) → Beside w h s → IsWatched h line m c answer next →

@@ -1,5 +1,4 @@
--- The names that a command has at least to remember. They depend on the snapshot, the world and the command alone, and not on
--- the marks.
+-- The names that a command must at least remember. They depend on the snapshot, the world and the command, not on marks.
 use Rattle.std.specs.Prelude.{◌≢◌, ◌⊎◌, ℕ, IsSome, Contains}
 use Rattle.nmgc_world_spec.specs.{declared.value.Name.Name, declared.node.Parts.Parts, declared.command.Command.Command, World.World, World.node_of, Step.shared_name, Step.step, Reach.IsAlive, Reach.IsKeptBy, History.opened_by, History.finalised_by}
 use Rattle.nmgc_world_spec.specs.declared.value.Value.TheVariants as value

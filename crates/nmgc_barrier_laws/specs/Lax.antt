@@ -1,5 +1,5 @@
--- The lax rule: a marker and a barrier freer than the marking machine. A command owes at least the names that are due and at
--- most names that may be held. Waiting names may be handed over in any order, by any mutator, with others that may be held.
+-- The lax rule gives marker and barrier more freedom than the marking machine has. A command owes at least the names that are
+-- due and at most names that may be held. Any mutator may hand over waiting names, and others that may be held, in any order.
 use Rattle.std.specs.Prelude.{◌≡◌, ◌≢◌, ◌<◌, ◌↔◌, ◌⊎◌, ℕ, List, [], ◌∷◌, ◌++◌, length, slice_set, IsSome, All, Contains, false, true}
 use Rattle.nmgc_world_spec.specs.{declared.value.Name.Name, declared.command.Command.Command, declared.command.Reply.Reply, World.World, World.node_of, World.IsWorld, Step.CanApply, Step.step, History.Row, History.IsLegal, History.replayed, History.opened, History.finalised, Reach.IsLive}
 use Rattle.nmgc_snapshot_laws.specs.{declared.event.Entry.Entry, declared.event.Event.Event, State.State, State.names_of, State.mark_name, State.opening, Machine.IsPossible, Machine.Passes, Machine.after_command, Machine.after_scan, Closing.IsClosing, Facts.MayHold, Facts.IsSafe, Facts.Facts, Run.IsExactClosing}
@@ -18,8 +18,8 @@ pub record IsGiven (s : State) (m : ℕ) (c : Command) (next : State) : Type 0 w
   pub held : All (MayHold next) names
   pub due : (target : Name) → IsDue s.snapshot s.world m c target → IsSafe next target
 
--- another order of waiting names, also across mutators. No entry of the queue is lost or new. Names that are owed or pushed
--- then may be held. A name may leave a list if it is safe elsewhere: all safe names stay safe
+-- another order of waiting names, also across mutators. No entry of the queue is lost or new. All names that are owed or
+-- pushed afterwards may be held. A name may leave a list if it is safe elsewhere: all safe names stay safe
 pub record IsShuffled (s next : State) : Type 0 where
   pub rest : next ≡ record s { queue = next.queue; owed = next.owed; pushed = next.pushed }
   pub queue : (entry : Entry) → Contains next.queue entry ↔ Contains s.queue entry
@@ -72,7 +72,7 @@ pub data LaxRuns (s : State) : List Row → List Name → State → Type 0 where
       LaxRuns s (rows ++ row) (extra ++ one) next
 
 -- the snapshot theorem at the end of a lax run. The world is the replay of the run's commands. The names that count as opened
--- are those that the commands opened and those that floated. Until the end marked names are live with these names. Any
+-- are those that the commands opened and those that floated. Until the end all marked names are live, given these names. Any
 -- closing that can happen then is exact, as for the marking machine
 pub record IsLaxMarking (w : World) (rows : List Row) (extra : List Name) (s : State) : Type 0 where
   pub legal : IsLegal w rows

@@ -14,31 +14,31 @@ pub fn a_lax_step_keeps_the_facts()
     ensures { LaxKeepsFacts }
 {}
 
-/// Proves the snapshot theorem for lax runs: until the end every marked name is live, and an end is exact. So a marker with a
-/// lax barrier is exact, if names remembered without need count as opened.
+/// Proves the snapshot theorem for lax runs: until the closing every marked name is live, and any closing is exact. So a
+/// marker with a lax barrier is exact, if names remembered without need count as opened.
 pub fn a_lax_marking_is_exact()
     ensures { LaxTheorem }
 {}
 
-/// Proves that a watched barrier is exact, whatever the marker beside it takes and reads, and when. Without debts nothing is
-/// owed, so an end waits for the marker alone. An end marks exactly the names that the commands and the pushes keep.
+/// Proves that a watched barrier is exact, whatever the marker beside it takes and reads, and whenever. Without debts nothing
+/// is owed, so the end waits only for the marker. The end marks exactly the names that the commands and the pushes keep.
 pub fn a_barrier_without_debts_is_exact()
     ensures { BarrierTheorem }
 {}
 
-/// Proves that a finished marker is exact. Suppose that a list of commands and pushes ends without debts, and that a marker
-/// beside it has taken all pushed names and emptied its queue. Then the marker can end. When it ends, exactly the names that
-/// the commands and pushes keep are marked (`MarksName`), and exactly the weak pointers that are dead by them die.
+/// Proves that a finished marker is exact. Beside commands and pushes that leave no debts, a marker can end if it has taken
+/// all pushed names and emptied its queue. Its end marks exactly the names that the commands and pushes keep (`MarksName`).
+/// Exactly the weak pointers die that are dead if opened and pushed names count as live.
 pub fn a_finished_marker_is_exact()
     ensures { JointTheorem }
 {}
 
 /// Proves that a marker is possible beside any list of commands and pushes.
-pub fn a_marker_is_beside()
+pub fn a_marker_is_possible()
     ensures { SomeMarkerIsBeside }
 {}
 
-/// Proves that a finished marker is possible beside any commands and pushes. If nothing is due, the marker can end.
-pub fn a_marker_finishes()
+/// Proves that a finished marker is possible beside any commands and pushes. So `a_finished_marker_is_exact` isn't empty.
+pub fn a_finished_marker_is_possible()
     ensures { SomeMarkerFinishes }
 {}

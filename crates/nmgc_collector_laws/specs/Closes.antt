@@ -19,7 +19,7 @@ abbrev pub ClosingComes : Type 0
 ClosingComes = (quota : ℕ) (c : Cycle) (closed kept : ℕ) → 1 ≤ quota → IsSoon quota c closed → Counts (IsKeptObject c) kept →
     closed ≤ c.from + ((kept - 1) / quota + 1)
 
--- the law that a closing isn't too early, if the last round's work left nothing: then, if nothing was owed, all that the
+-- the law that a closing isn't too early after a round that left nothing to scan: if nothing was owed, all that the
 -- snapshot's roots reach was scanned
 abbrev pub ClosingIsPaced : Type 0
 ClosingIsPaced = (quota : ℕ) (c : Cycle) (t : State) (seen : CollectorSeen) (allocation : AllocState) (places : List Place) (core : Core) →

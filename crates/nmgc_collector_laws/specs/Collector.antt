@@ -25,7 +25,7 @@ pub record Matches (seen : CollectorSeen) (s : State) : Type 0 where
   pub collect : seen.collect ≡ s.collect
   pub full : seen.full ≡ s.full
 
--- the nurseries are the mutators' whole parts of the words, and nursery objects lie in the used parts of their makers'
+-- the nurseries are the mutators' whole parts of the words; each nursery object lies in the used part of its maker's nursery
 pub record AreNurseries (layout : Layout) (places : List Place) (w : World) (nurseries : List Nursery) : Type 0 where
   pub used : AreUsed layout (nursery_place layout 0) places w nurseries
   pub ends : (maker : ℕ) → maker < layout.mutators → (nursery_at nurseries maker).end ≡ (nursery_at nurseries maker).base + layout.nursery
@@ -65,13 +65,13 @@ pub record IsMarking (c : Cycle) (s : State) (seen : CollectorSeen) (places : Li
   pub noted : HasNoted c seen.sweeper
   pub nothing_listed : HasListedNothing seen.sweeper
 
--- the pace of marking at a stop: each round since the snapshot scanned its quota, and if there was one, the marker isn't done
+-- the pace of marking at a stop: each round since the snapshot scanned its quota, and after such rounds something waits
 pub record IsPacedAtStop (quota : ℕ) (c : Cycle) (s : State) (seen : CollectorSeen) : Type 0 where
   pub scanned : HasScanned seen.marker ((s.number - c.from) * quota)
   pub not_done : c.from < s.number → seen.marker.queue ≢ []
 
--- the pace of marking after a round: earlier rounds scanned their quotas, and this round did too unless nothing was left.
--- Unless it is the first round, something waited at the stop before, and so something was scanned
+-- the pace of marking after a round: earlier rounds scanned their quotas, and this round scanned its quota or left nothing.
+-- If it isn't the first round, something waited at the stop before, and so something was scanned
 pub record IsPacedAfterRound (quota : ℕ) (c : Cycle) (t : State) (seen : CollectorSeen) : Type 0 where
   pub scanned : HasScanned seen.marker ((t.number - c.from - 1) * quota + seen.work.scanned)
   pub most : seen.work.scanned ≤ quota
@@ -79,7 +79,7 @@ pub record IsPacedAfterRound (quota : ℕ) (c : Cycle) (t : State) (seen : Colle
   pub quota_or_done : (seen.work.scanned ≡ quota) ⊎ (seen.work.empty ≡ true)
   pub empty : (seen.work.empty ≡ true) ↔ (seen.marker.queue ≡ [])
 
--- what the cycle in progress requires of marker, sweeper and marks
+-- the conditions of the cycle in progress on marker, sweeper and marks
 abbrev pub HoldsInCycle : (Cycle → Type 0) → Progress → State → CollectorSeen → List Place → Type 0
 HoldsInCycle Paced idle s seen places = AreSettled s.begun seen.segments
 HoldsInCycle Paced (marking c) s seen places = IsMarking c s seen places × Paced c

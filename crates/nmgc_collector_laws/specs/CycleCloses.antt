@@ -19,7 +19,7 @@ CycleMayResolve = (c : Cycle) (o : Opening) (words : List ℕ) (s : Segments) (m
     IsCoreOf c o.core.world o.core → AreEmpty o.core.pushed → o.core.queue ≡ [] → o.marking ≡ true → AreEarlier (earlier o) o.core.world →
     IsReady o words s marker → ListsWeaks o.layout o.places o.core.world weaks → CanResolve o words s marker weaks
 
--- a closed cycle: its census's dead weak pointers die, exactly kept names in blocks are marked, and the marker counted them
+-- a closed cycle: its census's dead weak pointers die, and the marker marked and counted exactly the kept names in blocks
 pub record HasClosed (c : Cycle) (s : State) (dead : List Name) (segments : Segments) (marker : MarkerSeen) : Type 0 where
   pub lists : Lists (IsDeadIn c) dead
   pub closes : Closes c s (record s { world = closed s.world dead; progress = sweeping c s.number })

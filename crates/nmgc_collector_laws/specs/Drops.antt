@@ -1,7 +1,7 @@
 -- The heap after a sweep: the places of freed names are gone, and freed names are no longer used.
 --
--- A round or a stop whose collector sweeps is first taken as one that leaves the segments, with all places that it had. Then
--- the freed places go, and segments and words represent the rest.
+-- A round or stop with a sweep is first treated as if the segments stayed, with all places from before. Then the freed places
+-- go, and segments and words represent the rest.
 use Rattle.std.specs.Prelude.{ℕ, ◌≡◌, ◌≢◌, ◌≤◌, List, [], ◌∷◌, Contains, IsSome, Some}
 use Rattle.nmgc_world_spec.specs.{declared.command.Reply.Reply, declared.node.Node.Node, declared.value.Name.Name, declared.value.Value.TheVariants.Ref, World.World, World.node_of, Step.shared_name, History.Row}
 use Rattle.nmgc_segment.specs.declared.state.State.TheVariants as stands
@@ -14,8 +14,8 @@ use Rattle.nmgc_collector_laws.specs.Collector.{AreNurseries}
 use Rattle.nmgc_run_spec.specs.{Heap.HoldsAtStop, Heap.HoldsAfterRound, Heap.snapshots, Round.IsRound, Run.Run, Run.IsRun, Run.last_state, State.Plan, State.State, State.sweeping}
 use Rattle.nmgc_run_laws.specs.Sound.{AreSoundBlocks, IsAfterClosing, IsRunnable, LieKnown, WaitKnown}
 
--- a sweep of untracked names: names stay in their blocks, among them all tracked names except g and new objects. No free
--- variable known to an earlier world refers to an untracked name
+-- a sweep that frees only untracked names: names stay in their blocks, and all tracked names except g and new objects still
+-- have a block. Free variables of tracked names, as an earlier world has them, refer to tracked names
 pub record FreesUntracked (earlier : List World) (began w : World) (allocation swept : AllocState) : Type 0 where
   pub once : LieOnce allocation
   pub shared : LiesNowhere allocation shared_name

@@ -30,8 +30,8 @@ pub record AreShown (layout : Layout) (seen : CollectorSeen) (mutators : List Mu
   pub are : seen.mutators ≡ map seen_mutator mutators
   pub each : (k : ℕ) (m : Mutator) → slice_get mutators k ≡ Some m → (m.number ≡ k) × (m.layout ≡ layout) × IsWhole m
 
--- the law that the heap of a sound state at a stop, also before its answer, is at rest beside a marking cycle, if the
--- mutators have nothing left of their round. So the marker may finish there
+-- the law that at a stop the heap of a sound state is at rest beside a marking cycle, if the mutators have nothing left of
+-- their round. So the marker may finish, even before the stop's answer
 abbrev pub HeapRests : Type 0
 HeapRests = (plan : Plan) (s : State) (seen : CollectorSeen) (c : Cycle) (mutators : List Mutator) → IsSoundState plan s →
     (h : HoldsAtStop (layout_of plan) s seen.words seen.segments (ends_of seen) seen.weaks) → AreAtRest (layout_of plan) h.places s.world seen →

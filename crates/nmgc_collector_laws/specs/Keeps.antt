@@ -24,7 +24,7 @@ pub record HasLeft (c : Cycle) (old new : CollectorSeen) : Type 0 where
 abbrev pub ShowEntries : CollectorSeen → List Mutator → Type 0
 ShowEntries seen mutators = EachMutator seen (λ k mutator. (m : Mutator) × (slice_get mutators k ≡ Some m) × (mutator.entries ≡ remembered_of m))
 
--- the law that a promotion keeps all that a collector keeps of a marking cycle, if marker and remembered entries stay
+-- the law that a promotion keeps the invariant of a marking cycle (`IsMarking`), if marker and remembered entries stay
 abbrev pub PromotionKeepsMarking : Type 0
 PromotionKeepsMarking =
     (c : Cycle) (s : State) (old new : CollectorSeen) (t : Stopped) (words after registers : List ℕ) (queues : List (List ℕ)) (moves : List Moved)

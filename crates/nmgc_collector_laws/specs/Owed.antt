@@ -7,7 +7,7 @@ use Rattle.nmgc_mutator.specs.{declared.mutator.Mutator.Mutator, Does.remembered
 use Rattle.nmgc_collector_laws.specs.{Turn.SlicesAreDone, Worked.Done, Worked.HaveWorked, Marker.AreRemembered, Marker.IsCoreOf, RestMarking.IsMachineAtRest, RestMarking.with_rows}
 use Rattle.nmgc_stop_spec.specs.Cycle.{Cycle}
 
--- each mutator remembers, in its ring and its set together, the addresses in segments of objects its part owes, in order
+-- each mutator remembers, in ring and set together, the addresses in segments of the objects that its part owes, in order
 abbrev pub HaveOwed : Opening → List Part → List Mutator → Type 0
 HaveOwed o parts mutators = (k : ℕ) (p : Part) (m : Mutator) → slice_get parts k ≡ Some p → slice_get mutators k ≡ Some m →
     remembered_of m ≡ all_pushed o.layout p.owed
@@ -48,7 +48,7 @@ pub record GoesOn (c : Cycle) (o : Opening) (words : List ℕ) (v : Seen) (h : I
       AreRemembered (with_rows c (rows_in h.events)) (places_then o h.born) (remembered_of m) (names_of core.pushed k)
   pub low : (k : ℕ) (m : Mutator) → slice_get mutators k ≡ Some m → (at : ℕ) → Contains (remembered_of m) at → at < nursery_place o.layout 0
 
--- the law that after each finished round the machine can go through its events and push all owed objects
+-- the law that the machine can go through the events of each finished round and then push all owed objects
 abbrev pub MachineGoesOn : Type 0
 MachineGoesOn = (c : Cycle) (o : Opening) (before words : List ℕ) (v : Seen) (mutators : List Mutator) (done : List (List Done)) →
     o.marking ≡ true → CanOpen o before → IsMachineAtRest c o.core.world o.core → (h : IsFinished o words v) → HaveWorked o v.parts mutators done →

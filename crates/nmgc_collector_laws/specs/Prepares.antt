@@ -15,8 +15,7 @@ use Rattle.nmgc_mark.specs.Beginning.{IsPrepared}
 abbrev pub all_prepared : Segments → Segments
 all_prepared s = record s { segments = map prepared s.segments; fresh = 0 }
 
--- the law that a heap with prepared segments is ready for marking, if no segment waits and marks are settled: no byte is the
--- next epoch
+-- the law that a heap with prepared segments is ready for marking, if no segment waits and no mark byte is the next epoch
 abbrev pub StopIsPrepared : Type 0
 StopIsPrepared = (layout : Layout) (s : State) (words : List ℕ) (segments : Segments) (ends : List MutatorEnd) (weaks : List Place)
     (queues : List FinQueue) (o : Opening) → (h : HoldsAtStop layout s words segments ends weaks) → IsWorld s.world → IsSegments segments →

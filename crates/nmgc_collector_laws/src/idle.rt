@@ -13,7 +13,7 @@ pub fn a_heap_at_rest_opens_a_round()
     ensures { RestOpens }
 {}
 
-/// Proves that after all slices the mutators' seats have all parts of a round, and each part says what its mutator did.
+/// Proves that after all slices the mutators' seats together have all parts of the round, each with its mutator's commands.
 pub fn slices_are_gathered()
     ensures { SlicesAreGathered }
 {}
@@ -28,27 +28,27 @@ pub fn a_round_is_a_history()
     replies_are_named();
 }
 
-/// Proves that registers, queues and serials of the mutators represent the roots of the world after a round.
-pub fn roots_are_left()
+/// Proves that after a round the mutators' registers, queues and serials represent the roots of the world.
+pub fn roots_are_represented()
     ensures { RootsAreLeft }
 {}
 
 /// Proves that the new objects of a round lie in the used parts of the nurseries, in the order of names.
-pub fn births_are_in_order()
+pub fn new_objects_are_in_order()
     ensures { BirthsAreInOrder }
 {}
 
-/// Proves that the mutators recorded all fields that a promotion has to read besides the roots. Each reference from an older
-/// object to a new one is in a recorded field. The weak pointers noted are new, and include all that are new and alive.
-pub fn a_round_is_remembered()
+/// Proves that the mutators recorded all fields that a promotion has to read besides the roots: the fields of older objects,
+/// except slots of g, that refer to new objects. The weak pointers noted are new, and include all that are alive.
+pub fn promotion_fields_are_recorded()
     ensures { RoundIsRemembered }
 {
     events_are_a_history();
     old_stacks_are_listed();
 }
 
-/// Proves that the mutators report each weak pointer that was alive when the round began, has a block, and is dead after the
-/// round. The mutator that finalised the weak pointer reports its address, and reports no address outside the segments.
+/// Proves that the mutators report the address of each weak pointer that was alive when the round began, has a block, and is
+/// dead after the round. They report no address in a nursery.
 pub fn finalised_are_listed()
     ensures { RoundListsFinalised }
 {
@@ -56,17 +56,18 @@ pub fn finalised_are_listed()
     old_stacks_are_listed();
 }
 
-/// Proves that a round leaves a heap at a stop, with all that the stop's promotion needs.
-pub fn a_round_is_stopped()
+/// Proves that a round leaves a heap at a stop, with all that the stop's promotion needs. The reserve of segments has to be
+/// free, or no nursery may have an object.
+pub fn a_round_leaves_a_heap_at_a_stop()
     ensures { RoundIsStopped }
 {
     events_are_a_history();
-    roots_are_left();
-    births_are_in_order();
-    a_round_is_remembered();
+    roots_are_represented();
+    new_objects_are_in_order();
+    promotion_fields_are_recorded();
 }
 
-/// Proves that the heap is at rest after a promotion while no cycle is marking.
-pub fn a_promotion_rests()
+/// Proves that a promotion leaves the heap at rest, if no cycle is marking.
+pub fn a_promotion_leaves_a_heap_at_rest()
     ensures { SettledIsAtRest }
 {}

@@ -4,7 +4,7 @@
 //! pointers), and the ties between them. `specs/Seen.antt` is the view of a collector in contracts. `specs/Collector.antt` is
 //! the invariant between calls: the report so far describes one run, and the collector's state represents the last state of
 //! that run. `specs/Blocks.antt` and `specs/Marker.antt` tie the marker to the marking machine by blocks, as a run does, and
-//! `specs/CycleCloses.antt` says that a closing is a run's.
+//! `specs/CycleCloses.antt` says that a closing by the marker is a closing of the run.
 //!
 //! - `idle`: a round, from the stop before it to the promotion of the stop after it, while no cycle marks. At a stop words,
 //!   blocks and mutators represent a world (`specs/Rest.antt`), so a round may open. The mutators do their slices, and each
@@ -15,9 +15,9 @@
 //!   (`specs/Owed.antt`), and marks and queue of the marker are the machine's (`specs/Tie.antt`, `specs/Calls.antt`).
 //!   `specs/Prepares.antt`, `specs/Stays.antt`, `specs/Keeps.antt`, `specs/Closes.antt`, `specs/Resolves.antt`,
 //!   `specs/Joins.antt`, `specs/Sweeps.antt` and `specs/Drops.antt` follow the cycle from its beginning to its end.
-//! - `ties`: the marker's two ties are equal, and a closing with weak pointers is a run's.
+//! - `ties`: the marker's tie by places is its tie by blocks, and a closing with weak pointers is a closing of the run.
 //! - `leaving`: the results of a round for its promotion, and the worlds that the collector may use afterwards.
-//! - `samples`: a whole run, so the definitions can be met.
+//! - `samples`: a whole run, which shows that the definitions can be met.
 //!
 //! Nothing here runs. Each function's contract is a law.
 //!

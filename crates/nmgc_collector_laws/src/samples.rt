@@ -7,7 +7,7 @@ use nmgc_alloc::laws;
 
 /// Proves that a script that makes one object has a run of one round, whose stop promotes the object. The whole report of
 /// that run is lawful, with the words and the segments at its end.
-pub fn one_object_in_words()
+pub fn a_run_of_one_object_is_lawful()
     ensures { ObjectIsLawful }
 {
     laws::new();

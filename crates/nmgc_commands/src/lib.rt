@@ -1,9 +1,9 @@
 //! Commands as they lie in a program: 16 bytes each.
 //!
 //! A script is the largest part of a run's memory, and its programs are read once, from front to back. So the number of bytes
-//! of a command matters. A `nmgc_world_spec::Command` has a list of operands of sixteen bytes, and so takes twenty-four. Here
-//! a few operands lie in the command itself, and more in memory of their own. Contracts see a packed command as the command
-//! that it represents, and a program as a list of commands: their meaning is in `nmgc_world_spec` alone. `Command` is for
+//! of a command matters. A `nmgc_world_spec::Command` takes twenty-four, since its list of operands takes sixteen. Here a few
+//! operands lie in the command itself, and more in memory of their own. Contracts see a packed command as the command that it
+//! represents, and a program as a list of commands: their meaning is in `nmgc_world_spec` alone. `Command` is for
 //! definitions, and for callers of one command at a time: the reference heap, the marking machine, the checker.
 //!
 //! `operands` has the operands of one command, `packed` the command.

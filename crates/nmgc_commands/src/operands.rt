@@ -4,8 +4,8 @@
 //! take thirteen bytes and may lie at any address. So they fill a command of sixteen bytes behind its kind, its register and
 //! its tag. The pointer to a vector takes eight bytes, at an address that eight divides, and fits there too.
 //!
-//! Easy to get wrong: the memory in which operands lie is no part of their value. So a vector may have few of them, and
-//! contracts don't distinguish it from a few that lie in the command.
+//! Easy to get wrong: the memory in which operands lie is no part of their value. So a vector may have a few operands too,
+//! and contracts don't distinguish these from operands that lie in the command.
 ghost use Rattle.std.specs.Prelude.{◌≡◌, ◌<◌, [], ◌∷◌, ◌++◌, length, IsTrue, IsFalse, IfOk, OnOk, OnErr};
 ghost use Rattle.nmgc_commands.specs.Operands.{held_operands, HasRoom};
 
@@ -58,7 +58,7 @@ impl FixedOperands {
         }
     }
 
-    // Whether there is room for no further operand.
+    // Whether there is no room for one more operand.
     fn is_full(&self) -> bool
         ensures full { IsTrue result → length self.now ≡ FEW_OPERANDS }
         ensures room { IsFalse result → length self.now < FEW_OPERANDS }
@@ -101,7 +101,7 @@ impl Model for ManyOperands {
 
 impl ManyOperands {
     // Makes a list of a vector's operands. Takes memory for one value of type `Vec`.
-    fn of(alloc: Global, items: Vec<Operand>) -> Result<Self, NoMemory>
+    fn from_vec(alloc: Global, items: Vec<Operand>) -> Result<Self, NoMemory>
         ensures { IfOk result (λ many. many ≡ items.items) }
     {
         Ok(ManyOperands {
@@ -135,6 +135,7 @@ pub(crate) enum Held {
 }
 
 impl Held {
+    // Returns the operands in order.
     fn items(&self) -> &[Operand]
         ensures { result.now ≡ held_operands self.now }
     {
@@ -144,7 +145,7 @@ impl Held {
         }
     }
 
-    // Whether one more operand needs other memory than the operands have.
+    // Whether the operands lie in the command, and there is no room for one more.
     fn is_full(&self) -> bool
         ensures full { IsTrue result → HasRoom self.now → ⊥ }
         ensures room { IsFalse result → HasRoom self.now }
@@ -163,7 +164,7 @@ impl Held {
         let mut items = Vec::with_capacity(alloc, 4 * FEW_OPERANDS)?;
         items.extend_from_slice(self.items())?;
         items.push(operand)?;
-        let many = ManyOperands::of(alloc, items)?;
+        let many = ManyOperands::from_vec(alloc, items)?;
         *self = Held::Many(many);
         Ok(())
     }
@@ -224,7 +225,7 @@ impl Operands {
         ensures { IfOk result (λ operands. operands ≡ items.items) }
     {
         Ok(Operands {
-            held: Held::Many(ManyOperands::of(alloc, items)?),
+            held: Held::Many(ManyOperands::from_vec(alloc, items)?),
         })
     }
 

@@ -212,8 +212,8 @@ impl Form {
     }
 }
 
-/// A command of a program. Contracts see it as that command. Code that makes a command writes its form. Code that reads a
-/// command calls `form`, whose contract names the command of the form.
+/// A command of a program. Contracts see it as a `Command`. Code that makes a command writes its form. Code that reads a
+/// command calls `form`; its contract says which command the form represents.
 pub struct PackedCommand {
     pub form: Form,
 }
@@ -237,8 +237,8 @@ impl Model for PackedCommand {
     ghost view = { λ p. command_of p.form };
 }
 
-// A match on a command, packed or not, which makes the other kind. Commands with a list of operands have their own arms.
-macro_rules! turned {
+// Makes a packed command of a command, or the reverse, by a match. The caller gives the arms for lists of operands.
+macro_rules! convert {
     ($command:ident: $from:ident => $to:ident { $($arms:tt)* }) => {
         match $command {
             $from::Num { dest, number } => Ok($to::Num { dest: *dest, number: *number }),
@@ -318,11 +318,11 @@ fn thunk_form(dest: u8, free: Operands) -> Form
     }
 }
 
-// Returns a command in the form in which it lies in memory, with a copy of its operands.
+// Returns the form of a command, with a copy of its operands.
 fn packed_form(alloc: Global, command: &Command) -> Result<Form, NoMemory>
     ensures { IfOk result (λ form. command_of form ≡ command.now) }
 {
-    turned!(command: Command => Form {
+    convert!(command: Command => Form {
         Command::Con { dest, tag, fields } => {
             let fields = operands_of(alloc, fields.items())?;
             Ok(con_form(*dest, *tag, fields))
@@ -338,7 +338,7 @@ fn packed_form(alloc: Global, command: &Command) -> Result<Form, NoMemory>
 fn command_in(alloc: Global, form: &Form) -> Result<Command, NoMemory>
     ensures { IfOk result (λ command. command ≡ command_of form.now) }
 {
-    turned!(form: Form => Command {
+    convert!(form: Form => Command {
         Form::Con { dest, tag, fields } => {
             let fields = list_of(alloc, fields.items())?;
             Ok(Command::Con { dest: *dest, tag: *tag, fields })
@@ -379,8 +379,7 @@ impl PackedCommand {
         }
     }
 
-    /// Packs a command and returns it. Two operands lie in the command, any other number in a vector. Takes memory only for
-    /// the operands of a constructor or a thunk.
+    /// Packs a command and returns it. Takes memory only for a constructor's or thunk's operands, unless there are two.
     pub fn pack(alloc: Global, command: &Command) -> Result<Self, NoMemory>
         ensures { IfOk result (λ packed. packed ≡ command.now) }
     {
@@ -389,7 +388,7 @@ impl PackedCommand {
         })
     }
 
-    /// Unpacks the command, with its operands in a list. Takes memory only for the operands of a constructor or a thunk.
+    /// Returns the command, with its operands in a list. Takes memory only for the operands of a constructor or a thunk.
     pub fn unpack(&self, alloc: Global) -> Result<Command, NoMemory>
         ensures { IfOk result (λ command. command ≡ self.now) }
     {
@@ -405,7 +404,7 @@ impl PackedCommand {
     }
 
     /// Returns the number of words of the object that the command makes: a header, a name, and a word for each part. It is 0
-    /// exactly if the command makes no object, so a slice and the grammar count alike. Takes no memory, and constant time.
+    /// exactly if no object is made. A slice and the grammar of scripts count by it. Takes no memory, and constant time.
     pub fn words_made(&self) -> usize
         ensures words { result ≡ words_made self.now }
         ensures making { 0 < result → IsMaking self.now }

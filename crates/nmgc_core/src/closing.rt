@@ -33,14 +33,14 @@ pub(crate) struct Closing {
     pub(crate) dead: List<Name>,
 }
 
-/// Returns the final marks of a closing, and the weak pointers that die.
-pub(crate) fn find(core: &Core) -> Result<Closing, NoMemory>
+/// Returns the marks after a closing, and the weak pointers that die. Changes nothing.
+pub(crate) fn find_closing(core: &Core) -> Result<Closing, NoMemory>
     ensures { IfOk result (IsFound core.now) }
 {
-    let weaks = waiting(core)?;
-    let mut finding = begin(core)?;
+    let weaks = waiting_weaks(core)?;
+    let mut finding = begin_search(core)?;
     finding.revive(core, weaks.items())?;
-    let dead = finding.lost(core, weaks.items())?;
+    let dead = finding.dying_weaks(core, weaks.items())?;
     finding.rescue(core, dead.items())?;
     Ok(Closing {
         marks: finding.marks,
@@ -48,17 +48,17 @@ pub(crate) fn find(core: &Core) -> Result<Closing, NoMemory>
     })
 }
 
-// Returns the search at its beginning: it has the names that were marked before the closing.
-fn begin(core: &Core) -> Result<Finding, NoMemory>
+// Makes the search as it begins: with the names that were marked before the closing, and nothing to follow.
+fn begin_search(core: &Core) -> Result<Finding, NoMemory>
     ensures { IfOk result (IsReviving core.now) }
 {
-    let marks = core.snapshot().set_of(core.names())?;
+    let marks = core.snapshot().set_of(core.marked_names())?;
     let work = List::new(core.snapshot().alloc());
     Ok(Finding { marks, work })
 }
 
 // Returns the weak pointers that were alive in the snapshot and have not been finalised since, in order.
-fn waiting(core: &Core) -> Result<List<Name>, NoMemory>
+fn waiting_weaks(core: &Core) -> Result<List<Name>, NoMemory>
     ensures { IfOk result (Lists (IsWaitingWeak core.now)) }
 {
     let snapshot = core.snapshot();
@@ -127,7 +127,7 @@ impl Finding {
         }
     }
 
-    // Takes names off the worklist and marks what their fields refer to, until the worklist is empty.
+    // Takes names off the worklist and marks the targets of their fields, until the worklist is empty.
     fn follow(&mut self, core: &Core) -> Result<(), NoMemory>
         requires { IsSearch core.now self.old }
         ensures followed { OnOk result (IsFollowed core.now self.old self.new) }
@@ -167,7 +167,7 @@ impl Finding {
         }
     }
 
-    // For each of the weak pointers in turn: if its key is marked, marks it, its value and its finaliser.
+    // In turn, marks each weak pointer whose key is marked, with its value and its finaliser.
     fn mark_weaks(&mut self, core: &Core, weaks: &[Name]) -> Result<(), NoMemory>
         requires reviving { IsReviving core.now self.old }
         requires waiting { All (IsWaitingWeak core.now) weaks.now }
@@ -179,7 +179,7 @@ impl Finding {
         Ok(())
     }
 
-    // Marks what weak pointers with marked keys keep: passes over them, and follows fields, until a pass marks nothing new.
+    // Marks all that weak pointers with marked keys keep: passes over the weak pointers until a pass marks nothing new.
     fn revive(&mut self, core: &Core, weaks: &[Name]) -> Result<(), NoMemory>
         requires reviving { IsReviving core.now self.old }
         requires waiting { Lists (IsWaitingWeak core.now) weaks.now }
@@ -194,7 +194,7 @@ impl Finding {
     }
 
     // Returns the weak pointers whose keys aren't marked, in order.
-    fn lost(&self, core: &Core, weaks: &[Name]) -> Result<List<Name>, NoMemory>
+    fn dying_weaks(&self, core: &Core, weaks: &[Name]) -> Result<List<Name>, NoMemory>
         requires found { IsFirstFound core.now self.now }
         requires waiting { Lists (IsWaitingWeak core.now) weaks.now }
         ensures { IfOk result (Lists (IsDying core.now)) }

@@ -1,27 +1,27 @@
 //! The marking machine, and why marking from a snapshot is exact.
 //!
-//! The collector reads each object once, a position at a time, and never comes back. A mutator could move the last reference
-//! to an object from a field that the collector has not read yet into a field that it has passed. The deletion barrier
-//! prevents that: a command that takes a reference out of a field owes it. The closing waits until all owed names are pushed,
-//! taken, marked and scanned. See `Note [Why the deletion barrier is enough]` in `nmgc_mutator/src/barrier.rt`.
+//! Note [Why the deletion barrier is enough] in `nmgc_mutator/src/barrier.rt` has the short form. The collector reads each
+//! object once, a position at a time, and never comes back. A mutator could move the last reference to an object from a field
+//! that the collector has not read yet into a field that it has passed. The deletion barrier prevents that: a command that
+//! takes a reference out of a field owes it. The closing waits until all owed names are pushed, taken, marked and scanned.
 //!
 //! Every event keeps all of the following facts together:
 //!
 //! - A name in a register, queue, owed or pushed list, new object, or strong field of a live object is live in the snapshot
 //!   or new: made since. A mutator gets references only from registers and fields of objects that it holds.
 //! - An object that isn't live has the node that it had in the snapshot, since no mutator can reach it to write.
-//! - For every strong field of the snapshot, its target is marked, owed or pushed, or the field is unchanged and the object's
-//!   scan has still to reach it. A field goes away only by a change of its object, which owes the target. The scan passes it
-//!   only by reading it, which marks the target.
+//! - For every strong field of the snapshot, its target is marked, owed or pushed, or the field is unchanged and no scan has
+//!   passed it. Then its object isn't marked yet, or the object's scan has still to reach the field. A field goes away only
+//!   by a command that owes its target. A scan passes a field only by reading it, and marks the target then.
 //! - A weak pointer of the snapshot that is alive and wasn't finalised has the parts that it had there.
 //! - Every marked name is live, every queued name is marked, and the roots of the snapshot are marked.
 //! - Every name that was opened, and every finalised weak pointer with the names that it kept, is marked, owed or pushed.
 //!
-//! Reading or finalising a weak pointer opens names, which makes more of the snapshot live. So a fact about objects not live
-//! until then is needed. Each strong field in the world was in the snapshot, or has a target that the first fact allows.
+//! Reading or finalising a weak pointer opens names, and so makes more of the snapshot live. So a fact covers objects that
+//! aren't live yet too: each strong field in the world was in the snapshot, or has a target that the first fact allows.
 //!
-//! If nothing is queued, owed or pushed, only 'marked' is left of the third fact. So the marked names are closed under the
-//! strong fields of the snapshot and contain its roots: they contain all live names.
+//! If nothing is queued, owed or pushed, no scan is left, and the third fact says that a marked object's targets are marked.
+//! So the marked names are closed under the strong fields of the snapshot and contain its roots: they contain all live names.
 //!
 //! Easy to get wrong: the third fact is about the snapshot's fields, so the old value is owed. A barrier on the new value
 //! would lose a target whose field was overwritten before the scan.
@@ -31,13 +31,13 @@ ghost use Rattle.nmgc_graph.specs.Marks.{HasPlaces, mark_of};
 ghost use Rattle.nmgc_snapshot_laws.specs.{State.is_listed, Machine.is_pushed_in, Machine.AreEmpty};
 
 use crate::answers::is_answer;
-use crate::closing::find;
+use crate::closing::find_closing;
 use crate::lists::{
     are_empty, count_at, drop_first_at, empty_lists, extend_at, first_at, truncate_at,
 };
 use crate::owed::owed_by;
 use crate::roots::root_values;
-use crate::scan::{moved_on, read};
+use crate::scan::{next_entry, read};
 use nmgc_graph::opened::{finalised_by, opened_by};
 use nmgc_graph::{Marks, World};
 use nmgc_lists::{List, NoMemory, Queue};
@@ -49,8 +49,8 @@ use std::slice;
 
 /// A world in which marking runs: the state of the marking machine.
 ///
-/// `marks` is the set of the names in `marked`, for a lookup in constant time. Contracts see the other fields. The facts of
-/// the machine are no invariant of it: it may run from any closed world, and its opening gives them.
+/// `marks` is the set of the names in `marked`, for a lookup in constant time. Contracts see the other fields. The invariant
+/// (`IsCore`) has few of the facts above: a machine may begin with any closed world, and its opening has the facts.
 pub struct Core {
     world: World,
     snapshot: World,
@@ -115,7 +115,7 @@ impl Core {
         let roots = root_values(&world)?;
         let mut core = Core::unmarked(world)?;
         core.mark_values(roots.as_slice())?;
-        // Reading a field shows that the world is closed, since the world of every machine is closed.
+        // Note [Lines that do nothing] in `nmgc_alloc`: this gives the prover that the world is closed, as in every machine.
         let _ = &core.marks;
         Ok(core)
     }
@@ -129,7 +129,7 @@ impl Core {
         let marks = set_of_shared(&world)?;
         let owed = empty_lists(alloc, world.mutators())?;
         let pushed = empty_lists(alloc, world.mutators())?;
-        let marked = only_shared(alloc)?;
+        let marked = list_of_shared(alloc)?;
         Ok(Core {
             world,
             snapshot,
@@ -190,7 +190,7 @@ impl Core {
         }
     }
 
-    // Marks and queues the name that a read value refers to, if there is one and it is an unmarked name of the snapshot.
+    // Marks and queues the name that was read, if a value was read that refers to an unmarked name of the snapshot.
     fn mark_read(&mut self, read: Option<Value>) -> Result<(), NoMemory>
         ensures ok { OnOk result (self.new ≡ mark_read self.old read) }
         ensures err { OnErr result (self.new ≡ self.old) }
@@ -206,7 +206,7 @@ impl Core {
         requires { slice_get self.old.queue 0 ≡ Some entry }
         ensures { self.new ≡ advanced self.old self.old.queue }
     {
-        match moved_on(&self.world, entry) {
+        match next_entry(&self.world, entry) {
             Some(next) => self.queue.set_first(next),
             None => {
                 self.queue.take_first();
@@ -229,7 +229,7 @@ impl Core {
         let names = owed_by(&self.world, mutator, command)?;
         let opens = opened_by(&self.world, mutator, command)?;
         let ends = finalised_by(&self.world, mutator, command)?;
-        self.open(
+        self.do_command(
             mutator,
             command,
             names.as_slice(),
@@ -240,7 +240,7 @@ impl Core {
     }
 
     // Does a command in the world, and adds the names that it owes, opens and finalises.
-    fn open(
+    fn do_command(
         &mut self,
         mutator: u8,
         command: &Command,
@@ -260,15 +260,15 @@ impl Core {
     {
         let before = self.opened.items().len();
         self.opened.extend(opens)?;
-        if let Err(error) = self.finalise(mutator, command, names, ends) {
+        if let Err(error) = self.do_and_finalise(mutator, command, names, ends) {
             self.opened.truncate(before);
             return Err(error);
         }
         Ok(())
     }
 
-    // Does a command that opens nothing, and adds the names that it owes and finalises.
-    fn finalise(
+    // Does a command in the world, and adds the names that it owes and finalises. The names that it opens were added before.
+    fn do_and_finalise(
         &mut self,
         mutator: u8,
         command: &Command,
@@ -286,15 +286,15 @@ impl Core {
     {
         let before = self.finalised.items().len();
         self.finalised.extend(ends)?;
-        if let Err(error) = self.give(mutator, command, names) {
+        if let Err(error) = self.do_and_owe(mutator, command, names) {
             self.finalised.truncate(before);
             return Err(error);
         }
         Ok(())
     }
 
-    // Does a command that opens and finalises nothing new, and adds the names that it owes.
-    fn give(&mut self, mutator: u8, command: &Command, names: &[Name]) -> Result<(), NoMemory>
+    // Does a command in the world, and adds the names that it owes. The names that it opens and finalises were added before.
+    fn do_and_owe(&mut self, mutator: u8, command: &Command, names: &[Name]) -> Result<(), NoMemory>
         requires can { CanApply self.old.world mutator command.now }
         requires ended { (weak : NameAt) → Contains (finalised_by self.old.world mutator command.now) weak → Contains self.old.finalised weak }
         ensures ok { OnOk result (self.new ≡ (record self.old {
@@ -321,12 +321,12 @@ impl Core {
         let Some(name) = first_at(self.owed.items(), mutator) else {
             return Ok(false);
         };
-        extend_at(&mut self.pushed, mutator, pushed_of(&self.snapshot, &name))?;
+        extend_at(&mut self.pushed, mutator, name_to_push(&self.snapshot, &name))?;
         drop_first_at(&mut self.owed, mutator);
         Ok(true)
     }
 
-    // Reads the position of the queue's first entry, and marks the name that was read. Returns whether there was an entry.
+    // Reads the position of the queue's first entry, marks the name read, and moves on. Returns whether there was an entry.
     fn scan(&mut self) -> Result<bool, NoMemory>
         requires { self.old.is_closed ≡ false }
         ensures done { IfOk result (λ done. Passes self.old event.Scan done self.new) }
@@ -364,7 +364,7 @@ impl Core {
         if !self.is_done() {
             return Ok(false);
         }
-        let found = find(self)?;
+        let found = find_closing(self)?;
         let marked = found.marks.names(self.world.alloc())?;
         let mut world = self.world.copy()?;
         world.close(found.dead.items())?;
@@ -384,20 +384,20 @@ impl Core {
 
     /// Does an event exactly if it can happen, and returns whether it happened. After `false` or `NoMemory` nothing has
     /// changed. Takes constant time for each operand, and each value read or owed. The closing takes time for each object,
-    /// and passes over weak pointers once per link of the longest chain in which each revives the next one's key.
+    /// and passes over weak pointers once per link of the longest chain in which a weak pointer revives the key of the next.
     pub fn step(&mut self, event: &Event) -> Result<bool, NoMemory>
         ensures done { IfOk result (λ done. Passes self.old event.now done self.new) }
         ensures err { OnErr result (self.new ≡ self.old) }
         ensures closed { IsWorld self.new.world }
     {
-        let done = self.happen(event);
-        // Reading a field shows that the world is closed, since the world of every machine is closed.
+        let done = self.try_event(event);
+        // Note [Lines that do nothing] in `nmgc_alloc`: this gives the prover that the world is closed, as in every machine.
         let _ = &self.marks;
         done
     }
 
     // Does an event if it can happen, and returns whether it happened.
-    fn happen(&mut self, event: &Event) -> Result<bool, NoMemory>
+    fn try_event(&mut self, event: &Event) -> Result<bool, NoMemory>
         ensures done { IfOk result (λ done. Passes self.old event.now done self.new) }
         ensures err { OnErr result (self.new ≡ self.old) }
     {
@@ -417,11 +417,11 @@ impl Core {
         }
     }
 
-    /// Begins marking with a world, does each of the events in turn if it can happen, and returns the machine. The snapshot
-    /// theorem (`IsRun`) holds for all lists of events and closed worlds. The world is the replay of the commands. Before the
-    /// closing all marked names are live in the snapshot, with the opened names. The closing marks exactly the live names,
-    /// and then, with the finalisers of the dead, exactly the kept names. Exactly the dead weak pointers die, and the world
-    /// is the replay closed with them.
+    /// Begins marking with a world, does each of the events in turn if it can happen, and returns the machine. Its clause is
+    /// the snapshot theorem (`IsRun`), for all lists of events and closed worlds. Before the closing, the world is the replay
+    /// of the commands that happened, and all marked names are live in the snapshot, if opened names count as roots. The
+    /// closing marks exactly the live names, and then, from the finalisers of dying weak pointers, exactly the kept names.
+    /// Exactly the dead weak pointers die, and the world is the replay closed with them.
     pub fn run(world: World, events: &[Event]) -> Result<Self, NoMemory>
         ensures { IfOk result (IsRun world events.now) }
     {
@@ -467,9 +467,8 @@ impl Core {
         self.finalised.items()
     }
 
-    /// Returns the marked names, in the order of marking until the closing and in the order of names after it. All are names
-    /// of the snapshot.
-    pub(crate) fn names(&self) -> &[Name]
+    /// Returns the marked names, all of the snapshot: in order of marking until the closing, in order of names after it.
+    pub(crate) fn marked_names(&self) -> &[Name]
         ensures names { result.now ≡ self.now.marked }
         ensures there { (name : NameAt) → Contains self.now.marked name → IsSome (node_of self.now.snapshot name) }
     {
@@ -485,7 +484,7 @@ impl Core {
 }
 
 // Returns the name that a push hands over: the name itself if it is in the snapshot and isn't g, and otherwise no name.
-fn pushed_of<'a>(snapshot: &World, name: &'a Name) -> &'a [Name]
+fn name_to_push<'a>(snapshot: &World, name: &'a Name) -> &'a [Name]
     ensures { result.now ≡ (if is_pushed_in snapshot.now name.now then name.now ∷ [] else []) }
 {
     if snapshot.node(*name).is_some() && *name != Name::SHARED {
@@ -496,7 +495,7 @@ fn pushed_of<'a>(snapshot: &World, name: &'a Name) -> &'a [Name]
 }
 
 // Returns a list that contains only g's name.
-fn only_shared(alloc: Global) -> Result<List<Name>, NoMemory>
+fn list_of_shared(alloc: Global) -> Result<List<Name>, NoMemory>
     ensures { IfOk result (λ names. names ≡ shared_name ∷ []) }
 {
     let mut names = List::new(alloc);

@@ -20,7 +20,7 @@ pub use Rattle.nmgc_run_spec.specs.{Closing.ClosesNow, Closing.ClosesOrWaits, Cl
 pub use Rattle.nmgc_script.specs.{Limits.IsInLimits, declared.script.Config.Config, declared.script.Script.Script, laws.Versions.threads_few}
 pub use Rattle.nmgc_segment.specs.{Marks.IsEpoch, Marks.epoch_of, Segment.Segment, Segment.free_segment, Segment.mark_of, laws.Common.epoch_sound}
 pub use Rattle.nmgc_snapshot_laws.specs.State.{State as Core, opening, unmarked}
-pub use Rattle.nmgc_sweep.specs.{NameTable.AreNamed, NameTable.HaveEntries, NameTable.HaveNoted, NameTable.entry_of, NameTable.named_at, Statements.ClosingBeginsWork, Statements.EndShowsCensus, Statements.IsClosedNow, Statements.KeepsWaiting, Statements.LeftIsCounted, Statements.LeftStays, Statements.StartIsNoted, Statements.ShowsCensus, Sweeper.AreLeft, Sweeper.HasNotes, Sweeper.Sweeper, Sweeper.turned, Sweeping.IsSweeping, Work.HasBegun, Work.IsAtWork, laws.NameTable.low_entry, laws.NameTable.named_begun, laws.NameTable.named_first, laws.NameTable.named_noted, laws.NameTable.named_retired, laws.NameTable.named_swept, laws.NameTable.one_noted}
+pub use Rattle.nmgc_sweep.specs.{NameTable.AreNamed, NameTable.HaveEntries, NameTable.HaveNoted, NameTable.entry_of, NameTable.named_at, Statements.ClosingBeginsWork, Statements.EndShowsCensus, Statements.IsClosedNow, Statements.KeepsWaiting, Statements.LeftIsCounted, Statements.LeftStays, Statements.StartNotesSegments, Statements.ShowsCensus, Sweeper.AreLeft, Sweeper.HasNotes, Sweeper.Sweeper, Sweeper.turned, Sweeping.IsSweeping, Work.HasBegun, Work.IsAtWork, laws.NameTable.low_entry, laws.NameTable.named_begun, laws.NameTable.named_first, laws.NameTable.named_noted, laws.NameTable.named_retired, laws.NameTable.named_swept, laws.NameTable.one_noted}
 pub use Rattle.nmgc_updrem.specs.{Lines.Clears, Lines.HasMetSo, Lines.IsLevelSo, Lines.TakesRestSo, Rings.AreNew, Rings.AtLine, Rings.HasLooked, Rings.HasPolled, Rings.HavePolled, Rings.IsLine, Rings.IsPair, Rings.Receiver, Rings.Sender, Rings.in_ring, declared.block.TheConstants.BLOCK_ENTRIES, declared.ring.TheConstants.RING_BLOCKS, laws.Lines.line_goes_on, laws.Lines.line_is, laws.Lines.new_line, laws.Polls.at_polled, laws.Polls.polled_all_none, laws.Polls.polled_all_then}
 pub use Rattle.nmgc_weak.specs.{Closes.DeathsHaveRoom, Closes.LeavingLists, Queues.HaveRoom, Queues.weak_count, Resolve.AreDeaths, Resolve.CanResolve, Resolve.HasResolved, Rows.left_of, Weaks.Weaks, Weaks.alive_of, Weaks.is_alive, Weaks.names_of, Weaks.place_of, Weaks.places_of, Weaks.value_place, declared.weaks.Death.Death, declared.weaks.OldWeak.OldWeak, laws.Common.names_same, laws.Common.of_place as of_places, laws.Left.left_both, laws.Left.left_had, laws.Left.left_is_alive, laws.Left.left_more}
 pub use Rattle.nmgc_world_laws.specs.{Reachable.IsSound, laws.Deaths.closed_mutators, laws.Deaths.closed_names, laws.Deaths.closed_serials, laws.Deaths.closed_world, laws.HeldSteps.absent, laws.NewWorlds.each_new, laws.NewWorlds.new_is_world, laws.NewWorlds.new_nodes, laws.NodeLaws.get-append_cases, laws.Reached.world_holds, laws.Weaks.not_array as no_weak, laws.Weaks.weak_maker, laws.Worlds.refill_whole}

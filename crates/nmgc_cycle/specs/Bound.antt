@@ -1,6 +1,6 @@
 -- The bound by which a run ends, and by which its stops and its cycles have numbers of 32 bits.
 --
--- While commands are left each round answers one at least. After that no object is made: each round scans an object, finds
+-- While commands are left, each round answers at least one. After that no object is made: each round scans an object, finds
 -- that none waits to be scanned, or sweeps a segment. So the cycle in progress ends, and at most one more begins. The rounds
 -- that may still follow are counted; with the stops done they never exceed the bound at the run's beginning.
 use Rattle.std.specs.Prelude.{ℕ, ◌≡◌, ◌+◌, ◌-◌, ◌*◌, ◌<◌, ◌≤◌, List, [], ◌∷◌, length, false, if◌then◌else◌}
@@ -33,7 +33,7 @@ phase_left segments progress.Idle = 0
 phase_left segments (progress.Marking m) = if m.last.empty then segments + 1 else m.marker.spare + length m.marker.queue + segments + 2
 phase_left segments (progress.Sweeping w) = length w.sweeper.left
 
--- the cycle in progress has work for the next round: its marker wasn't done, or a segment waits
+-- if a cycle is in progress, the next round has work for it: its marker wasn't done, or a segment waits
 abbrev pub HasMore : Progress → Type 0
 HasMore progress.Idle = Unit {0}
 HasMore (progress.Marking m) = m.last.empty ≡ false
@@ -62,7 +62,7 @@ pub data MayFollow (Nothing : Type 0) (script : Script) (c : Collector) (stops :
   no_cycle : commands_left script.threads c.rows.rounds ≡ 0 → Nothing → NoneIsDue script.config.trigger c →
       stops + phase_left script.config.segments c.cycle.progress ≤ most_stops script → MayFollow Nothing script c stops
 
--- few rounds may follow, and the cycle in progress takes at most the rounds of one cycle
+-- a bound of the rounds that may follow; the cycle in progress takes at most the rounds of one cycle
 pub record AreFew (Nothing : Type 0) (script : Script) (c : Collector) (stops : ℕ) : Type 0 where
   pub follow : MayFollow Nothing script c stops
   pub phase : phase_left script.config.segments c.cycle.progress ≤ cycle_most (heap_of script)
@@ -73,7 +73,7 @@ pub record AreFewAtStop (script : Script) (c : Collector) : Type 0 where
   pub begun : c.cycle.begun ≤ length c.rows.stops
   pub more : HasMore c.cycle.progress
 
--- the bound before a stop, which counts as done: the world at the beginning of the last round is known
+-- the bound before a stop, which counts as done: the last round began with the world `began` and left the world `w`
 pub record AreFewBeforeStop (script : Script) (c : Collector) (began w : World) : Type 0 where
   pub few : AreFew (w ≡ began) script c (length c.rows.stops + 1)
   pub begun : c.cycle.begun ≤ length c.rows.stops

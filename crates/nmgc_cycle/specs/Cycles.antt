@@ -46,8 +46,7 @@ pub record HasSweptSome (quota : ℕ) (old new : Segments) (names : List Name) (
   pub turns : v.sweeper.turns ≡ passed w.sweeper.turns (count - count / 2)
   pub upper_turns : v.sweeper.upper_turns ≡ passed w.sweeper.upper_turns (count / 2)
 
--- the collector's part of a round: none; or a quota of objects scanned, fewer only if none is left; or a quota of segments
--- swept, or all left
+-- the collector's part of a round: none; or `quota` objects scanned, or `quota` segments swept, fewer only if none is left
 abbrev pub HasHelped : Round → ℕ → RoundSeat → RoundSeat → Segments → Segments → List Name → Progress → Progress → Type 0
 HasHelped round quota from seat old new names progress.Idle after = (seat ≡ from) × (new ≡ old) × (after ≡ progress.Idle)
 HasHelped round quota from seat old new names (progress.Marking m) after = (n : Marking) × (after ≡ progress.Marking n) ×
@@ -55,7 +54,7 @@ HasHelped round quota from seat old new names (progress.Marking m) after = (n : 
 HasHelped round quota from seat old new names (progress.Sweeping w) after = (v : Sweeping) × (after ≡ progress.Sweeping v) × (seat ≡ from) ×
     HasSweptSome quota old new names w v
 
--- the number of segments swept beside a round, from one progress to the next
+-- the number of segments swept in a round: the sweeper has fewer left by this number
 abbrev pub swept_beside : Sweeping → Sweeping → ℕ
 swept_beside w v = length w.sweeper.left - length v.sweeper.left
 
@@ -76,12 +75,12 @@ upper_worked_on _ _ = 0
 abbrev pub remembered_by : List Mutator → List ℕ
 remembered_by mutators = all_entries (map seen_mutator mutators)
 
--- if a cycle marks, its marker has room for more entries
+-- if a cycle marks, its marker has room for every block of the snapshot that it hasn't marked
 abbrev pub CanAdd : Segments → Progress → Type 0
 CanAdd segments (progress.Marking m) = HasRoomToMark segments m.marker
 CanAdd segments _ = Unit {0}
 
--- these addresses were added to the marker: unmarked blocks of the snapshot there are marked, and wait to be scanned
+-- these addresses were added to the marker: unmarked blocks of the snapshot at them are now marked, and wait to be scanned
 pub record HasAdded (entries : List ℕ) (old new : Segments) (before after : MarkerSeen) : Type 0 where
   pub marked : HasMarked old new before after 0
   pub tied : (o : Opening) (m : Marks) → IsTied o m old before → IsTied o (with_places o m entries) new after
@@ -93,7 +92,7 @@ AddsTo entries old new (progress.Marking m) after = (marker : MarkerSeen) × (af
     HasAdded entries old new m.marker marker × IsSegments new
 AddsTo entries old new p after = (after ≡ p) × (new ≡ old)
 
--- adding, a step of a stop: a cycle's marker got the remembered entries. They are forgotten: inbox and rings are empty
+-- adding, a step of a stop: if a cycle marks, its marker got the remembered entries. They are forgotten, and rings are empty
 pub record HasTaken (old new : Collector) : Type 0 where
   pub rest : new ≡ record old {
     heap = record old.heap { segments = new.heap.segments };
@@ -106,7 +105,7 @@ pub record HasTaken (old new : Collector) : Type 0 where
   pub lines : (k : ℕ) (n : Mutator) → slice_get new.mutators.items k ≡ Some n → IsLined new.inbox k n.sender
   pub adds : AddsTo (remembered_by old.mutators.items) old.heap.segments new.heap.segments old.cycle.progress new.cycle.progress
 
--- a marker may finish: it has room, and the marks and queue of a state that opens a round on these words. After that the weak
+-- a marker may finish: it has room, and the marks and queue of a state that opens a round on these words. Then the weak
 -- pointers of the list may be resolved, and the queues have room for the finalisers of those that die
 pub record IsReadyToClose (words : List ℕ) (segments : Segments) (weaks : List OldWeak) (queues : List FinQueue) (m : Marking) : Type 0 where
   pub room : HasRoomToMark segments m.marker
@@ -184,7 +183,7 @@ Ends stop (progress.Sweeping w) old new = (HasNone sought.Sweeping old.heap.segm
     })) ⊎ ((HasNone sought.Sweeping old.heap.segments → ⊥) × (new ≡ old))
 Ends stop _ old new = new ≡ old
 
--- a cycle that marks on over the whole stop: only its marker changed, and the answer of its last work is kept
+-- a cycle that is marking before and after a stop: only its marker changed, and the answer of its last work is kept
 abbrev pub MarksOn : Collector → Collector → Type 0
 MarksOn old new = (m n : Marking) → old.cycle.progress ≡ progress.Marking m → new.cycle.progress ≡ progress.Marking n → new.cycle.begun ≡ old.cycle.begun →
     n ≡ record m { marker = n.marker }
@@ -209,8 +208,7 @@ pub record CanBegin (c : Collector) : Type 0 where
       IsBeginning o (all_prepared c.heap.segments) (next_epoch c) (words_in c.heap.words) (registers_of c.mutators.items) (queues_in c.mutators.items)
 
 -- the start of marking at this stop: the segments were prepared, the sweeper noted the waiting segments, and the marker
--- marked the objects that the roots refer to. Both have the collector's count of passes. The queues have room for the
--- closing's finalisers
+-- marked the objects that the roots refer to. Both have the collector's count of passes. Queues have room for the finalisers
 pub record StartsMarking (stop : ℕ) (old new : Collector) (marking : Marking) : Type 0 where
   pub rest : new ≡ record old { heap = record old.heap { words = new.heap.words; segments = new.heap.segments }; mutators = new.mutators }
   pub from_is : marking.from ≡ stop

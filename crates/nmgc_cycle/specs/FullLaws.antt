@@ -13,7 +13,7 @@ use Rattle.nmgc_cycle.specs.declared.progress.Progress.TheVariants as doing
 abbrev pub StandsAtStop : ℕ → Collector → Type 0
 StandsAtStop stop c = (script : Script) × (s : State) × IsInLimits script × (s.number ≡ stop) × StandsAt script c s
 
--- a closing in a full cycle is a closing of the run, not too late, whatever is left to scan
+-- a closing in a full cycle is a closing of the run, within its bound, whatever is left to scan
 abbrev pub FinishingNowLeads : Type 0
 FinishingNowLeads = (script : Script) (old new : Collector) (s : State) → IsInLimits script → StandsAt script old s →
     HasClosed ClosesNow s.number old new → (t : State) × run_closing.ClosesNow s.progress s t × StandsAt script new t ×
@@ -24,7 +24,7 @@ abbrev pub SweepingRestLeads : Type 0
 SweepingRestLeads = (script : Script) (old new : Collector) (s : State) → IsInLimits script → StandsAt script old s → HasSweptRest old new →
     (b : AllocState) × run.SweepsRest s.progress s.allocation b × StandsAt script new (record s { allocation = b })
 
--- a finish of the cycle in progress in the code is a finish of it in the run, not too late, and then no cycle is in progress
+-- a cycle that the code finishes is finished in the run too, within its bound, and then no cycle is in progress
 abbrev pub FinishLeads : Type 0
 FinishLeads = (script : Script) (old new : Collector) (s : State) → IsInLimits script → StandsAt script old s → HasFinished s.number old new →
     (t : State) × (rows : List CycleRow) × run.Finishes s t rows × (report_cycles new ≡ report_cycles old ++ rows) × StandsAt script new t ×
@@ -35,7 +35,7 @@ abbrev pub FilingLeads : Type 0
 FilingLeads = (script : Script) (c : Collector) (s : State) → IsInLimits script → StandsAt script c s → c.cycle.progress ≡ doing.Idle →
     IsSegments (with_all_retired c).heap.segments → StandsAt script (with_all_retired c) (run.with_all_retired s)
 
--- a full cycle in the code is a full cycle of the run, with its rows, and not too late
+-- a full cycle in the code is a full cycle of the run, with its rows, and within its bound
 abbrev pub FullLeads : Type 0
 FullLeads = (script : Script) (old new : Collector) (s : State) → IsInLimits script → StandsAt script old s → HasDoneFull s.number old new →
     (t : State) × (rows : List CycleRow) × run.DoesFullCycle s t rows × (report_cycles new ≡ report_cycles old ++ rows) × StandsAt script new t ×

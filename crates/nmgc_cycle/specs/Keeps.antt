@@ -37,8 +37,7 @@ pub record IsOwn (c : Collector) (k : ℕ) (m : Mutator) : Type 0 where
 
 -- a well-formed collector, whatever its run: its parts are for the script's layout, with a name entry for each block, and the
 -- words are there. Mutators have their numbers and no replies, and the inbox has each ring's other end. The positions count
--- the commands answered of each program. The list of the mutators' ends is empty, with room for all, and there is room for a
--- worker for each
+-- the commands answered of each program. The list of mutators' ends is empty, with room for all. Workers have room
 pub record IsWellFormed (script : Script) (c : Collector) : Type 0 where
   pub layout : c.heap.segments.layout ≡ layout_of (plan_of script)
   pub sound : IsSegments c.heap.segments
@@ -60,7 +59,7 @@ pub record IsFresh (script : Script) (c : Collector) : Type 0 where
   pub goes_on : c.answered ≡ None
   pub new : IsNew (plan_of script) (seen c)
 
--- a stopped collector, by this run, which leads to its state and ends with its last stop. The array has the names in blocks
+-- a collector after the last stop of this run, which leads to its state. The array of names has the names of the blocks
 pub record IsAfterStop (script : Script) (c : Collector) (run : Run) : Type 0 where
   pub kept : IsWellFormed script c
   pub at_stop : IsAtStop (plan_of script) run (seen c)
@@ -85,7 +84,7 @@ pub record HasWorked (script : Script) (c : Collector) : Type 0 where
   pub named : AreNamed (layout_of (plan_of script)) c.heap.names worked.allocation
   pub few : AreFewBeforeStop script c (last_state run).world worked.world
 
--- a round between two collectors: the earlier is after the last stop of the run that the later continues by this round
+-- a round between two collectors: the old one is after the last stop of a run, the new one after a further round of the run
 abbrev pub DidRound : Script → Collector → Collector → Type 0
 DidRound script old new = (worked : HasWorked script new) × IsAfterStop script old worked.run
 

@@ -4,7 +4,7 @@ use Rattle.nmgc_limits.specs.declared.mutators.TheConstants.{MAKERS}
 use Rattle.nmgc_mutator.specs.{declared.mutator.Mutator.Mutator, Does.remembered, Records.numbers}
 use Rattle.nmgc_updrem.specs.Rings.{Sender, Receiver, IsPair, IsLine, IsInOrder, HavePolled, HasLooked, in_ring}
 
--- receiver k is the other end of this sender's ring: it received the entries sent before both were level, then its list
+-- receiver k is the other end of this sender's ring: it received the entries sent before both ends were level, then its list
 abbrev pub IsLined : List Receiver → ℕ → Sender → Type 0
 IsLined inbox k s = (r : Receiver) × (slice_get inbox k ≡ Some r) × IsLine r s
 

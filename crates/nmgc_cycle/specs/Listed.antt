@@ -13,7 +13,7 @@ use Rattle.nmgc_cycle.specs.{declared.collector.Collector.Collector, Roots.queue
 abbrev pub is_alive_at : List ℕ → ℕ → Bool
 is_alive_at words at = (slice_index words at == header_word weak_header) && not (slice_index words (value_place at) == 0)
 
--- a move, as an item of the list
+-- a moved object, as an item of the list of weak pointers
 abbrev pub listed_move : Move → OldWeak
 listed_move m = record { weak = m.name; at = m.to }
 
@@ -21,7 +21,7 @@ listed_move m = record { weak = m.name; at = m.to }
 abbrev pub moved_weaks : List ℕ → List Move → List OldWeak
 moved_weaks words moves = map listed_move (filter (λ (m : Move). is_alive_at words m.to.0) moves)
 
--- the header and value word of each moved object are among the heap's
+-- the header of each moved object, and the word that has the value of a weak pointer, are among the heap's words
 abbrev pub AreMovedInside : List ℕ → List Move → Type 0
 AreMovedInside words moves = (m : Move) → Contains moves m → value_place m.to.0 < length words
 
@@ -32,13 +32,13 @@ pub record CanJoin (words : List ℕ) (list : List OldWeak) (moves : List Move) 
   pub new : (m : Move) (other : OldWeak) → Contains moves m → Contains list other → other.weak ≢ m.name
   pub few : length moves < 2 ^ 32
 
--- the list with further weak pointers, in order
+-- a list of weak pointers with further weak pointers, in order
 pub record IsMergeOf (old fresh new : List OldWeak) : Type 0 where
   pub ordered : IsInOrder (names_of new)
   pub list : (other : OldWeak) → Contains new other ↔ (Contains old other ⊎ Contains fresh other)
 
--- the mutators report the weak pointers finalised in the round: each listed weak pointer dead by now is at a reported
--- address. The value words there are among the words, and the name word of each listed weak pointer is its own
+-- the mutators report the weak pointers finalised in the round: each listed weak pointer that is dead by now is at a reported
+-- address. The value word at a reported address is among the words. Each listed weak pointer's name word is its own
 pub record FinalisedAreListed (words : List ℕ) (list : List OldWeak) (finalised : List ℕ) : Type 0 where
   pub inside : (at : ℕ) → Contains finalised at → value_place at < length words
   pub reported : (weak : OldWeak) → Contains list weak → slice_index words (value_place weak.at.0) ≡ 0 → Contains finalised weak.at.0
@@ -64,7 +64,7 @@ pub record HasQueueRoom (count : ℕ) (old new : Mutator) : Type 0 where
   pub words : new.queue.words ≡ old.queue.words
   pub room : count ≤ new.queue.spare
 
--- room for the finalisers: for each weak pointer of the list, the queue of the mutator that made it has room for one
+-- room for the finalisers: each mutator's queue has room for a finaliser of each listed weak pointer that the mutator made
 pub record HaveQueueRoom (list : List OldWeak) (old new : List Mutator) : Type 0 where
   pub count : length new ≡ length old
   pub each : (k : ℕ) (d : Mutator) → k < length old →

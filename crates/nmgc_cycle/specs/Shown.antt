@@ -86,7 +86,7 @@ mutator_turns_of c = turns_in c.mutators.items
 abbrev pub report_row : CycleRow → CycleRow
 report_row row = record row { had = in_order row.had; freed = in_order row.freed }
 
--- a row has no name twice among the names had, nor among the names freed. So its spans in order have names in order
+-- no name is twice among the names that a row had, nor among those that it freed. So if its spans are in order, its names are
 abbrev pub HasNamesOnce : CycleRow → Type 0
 HasNamesOnce row = AreDistinct row.had × AreDistinct row.freed
 

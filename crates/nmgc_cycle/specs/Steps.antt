@@ -57,7 +57,7 @@ StandsAt script c s = StandsForState (IsPacedAtStop script.config.quota) IsEmpti
 
 -- Each step leads from such a state to the next, by the rule of the run
 
--- adding leaves the state as it is
+-- adding the remembered entries leaves the state as it is
 abbrev pub AddingLeads : Type 0
 AddingLeads = (script : Script) (old new : Collector) (s : State) → IsInLimits script → StandsPromoted script old s → HasTaken old new →
     StandsWithin script new s

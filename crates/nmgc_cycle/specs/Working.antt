@@ -46,7 +46,7 @@ pub record HaveAllWorked (round : Round) (script : Script) (positions : List ℕ
   pub each : (k : ℕ) (d : Worker) → k < length old →
       HasWorkedOn round script.config.slice (left_at script positions k) (slice_index_or old k d) (slice_index_or new k d)
 
--- each worker from number `from` on may do its slice; below, did it
+-- each worker from number `from` on may do its slice (`CanWorkFrom`), and did it (`HaveWorkedFrom`)
 pub record CanWorkFrom (round : Round) (script : Script) (positions : List ℕ) (from : ℕ) (workers : List Worker) : Type 0 where
   pub threads_are : from + length workers ≤ length script.threads
   pub positions_are : from + length workers ≤ length positions
@@ -86,8 +86,8 @@ done_by worker = worker.done
 
 -- empty lists with room for `count` seats
 pub record HaveRoom (count : ℕ) (lists : Lists) : Type 0 where
-  pub room : (lists.room.items ≡ []) × (count ≤ vec_capacity lists.room)
-  pub seats : (lists.seats.items ≡ []) × (count ≤ vec_capacity lists.seats)
+  pub given : (lists.given.items ≡ []) × (count ≤ vec_capacity lists.given)
+  pub taken : (lists.taken.items ≡ []) × (count ≤ vec_capacity lists.taken)
 
 -- lists of a mutator with room for the notes of `count` commands: a command pushes eight words at most
 pub record HasLists (count : ℕ) (m : Mutator) : Type 0 where
@@ -126,7 +126,7 @@ abbrev pub OpensAt : Script → Collector → Opening → Type 0
 OpensAt script c o = (run : Run) × (h : IsAfterStop script c run) × OpensIn (last_state run).progress (last_state run) c h.at_stop.heap.places o
 
 -- mutator k's part in a round: it did its slice of the commands left, with these replies, and counted a pass of the gate for
--- each command tried. Its finaliser queue has no less room, and its sender is the same ring's
+-- each command tried. Its finaliser queue has no less room, and its sender is of the same ring
 pub record DidSlice (script : Script) (old new : Collector) (k : ℕ) (m n : Mutator) (done : List Done) : Type 0 where
   pub commands : map (λ (d : Done). d.0) done ≡ slice_of script.config (left_at script old.positions.items k)
   pub replies : n.replies.items ≡ m.replies.items ++ map (λ (d : Done). d.1) done
@@ -151,7 +151,7 @@ abbrev pub commands_in : List (List Done) → List (List Command)
 commands_in done = map (λ (d : List Done). map (λ (x : Done). x.0) d) done
 
 -- a finished round whose replies aren't reported yet: the words are back, each mutator did its slice and remembers the
--- objects owed, and the collector did its part. A cycle, or a full one, is asked for if it was before or a slice asked
+-- objects owed, and the collector did its part. A cycle, or a full one, is asked for if it was before or a slice asks for it
 pub record DidSlices (script : Script) (o : Opening) (old new : Collector) : Type 0 where
   pub rest : new ≡ record old {
     heap = record old.heap { words = new.heap.words; segments = new.heap.segments };

@@ -2,21 +2,20 @@
 //!
 //! Its fields are in groups: the heap (`Heap`), the state of its cycles (`CycleState`), and the rows of the report (`Rows`).
 //! Beside them are the mutators, the other ends of their rings, the number of commands answered of each program, and the
-//! answer of the last stop. Memory that the report takes as the run ends is kept for it from the beginning (`ReportMemory`).
+//! answer of the last stop. The memory that the report needs as the run ends is taken at the beginning (`ReportMemory`).
 //!
-//! Most memory that grows with the heap is taken at the beginning (`Collector::new`). The table of words is made from a list
-//! of the same length, which is given back at once, so that its pages serve later lists. Room that may never be filled is
-//! taken before that list, or it would lie in those pages. Each cycle takes the marker's queue and the sweeper's lists as it
-//! begins.
+//! Most memory that grows with the heap is taken at the beginning (`Collector::new`). The table of words is copied from a
+//! list of the same length. This list is freed at once, and its pages serve later lists. Room that may never be filled is
+//! taken before the list, or this room would lie in those pages. A cycle takes the marker's queue and the sweeper's lists.
 //!
-//! The report is made when nothing may fail any more. So it has the words of the table, in place. The final registers, queues
-//! and serials go into a list that has its room from the beginning and is empty until then (`IsWellFormed`).
+//! The report is made when nothing may fail any more. So it takes over the table of words, without a copy. The final
+//! registers, queues and serials go into a list that is empty until then, with room from the beginning (`IsWellFormed`).
 //!
-//! A run ends. While commands are left, a round answers one at least, since a slice has room for one command and a nursery
-//! for the largest object. If none are left, a round advances the cycle in progress, after which at most one more begins.
-//! `specs/Bound.antt` bounds the rounds that may follow, so a stop's number has 32 bits.
+//! Every run ends. While commands are left, each round answers at least one, since a slice has room for one command and a
+//! nursery for the largest object. If none are left, each round advances the cycle in progress, and at most one more cycle
+//! begins. `specs/Bound.antt` bounds the rounds that may follow, so a stop's number has 32 bits.
 //!
-//! Easy to get wrong: a command that waits for room in the nursery was not answered, so it is still left of its program.
+//! Easy to get wrong: a command that waits for room in the nursery wasn't answered, so its program still has it left.
 ghost use Rattle.std.specs.Prelude.{◌≡◌, ℕ, ◌+◌, ◌<◌, ◌≤◌, ◌⊎◌, [], length, map, slice_get, slice_index, vec_len, vec_capacity, Some, IfOk};
 ghost use Rattle.nmgc_limits.specs.declared.mutators.TheConstants.{SHARED_SLOTS};
 ghost use Rattle.nmgc_object.specs.{declared.layout.TheConstants.SHARED_PLACE, declared.size.TheConstants.HEADER_WORDS, Places.IsLayout};
@@ -51,7 +50,7 @@ use nmgc_world_spec::{Kind, Name};
 use std::alloc::Global;
 use std::thread::Threads;
 
-/// A run so far: its heap, its mutators, and the rows that its report has so far.
+/// The state of a run: its heap, its mutators, and the rows of its report so far.
 #[derive(Drop)]
 pub struct Collector {
     pub(crate) alloc: Global,
@@ -60,9 +59,9 @@ pub struct Collector {
     pub(crate) mutators: Vec<Mutator>,
     // Room for the workers of a round, one for each mutator.
     pub(crate) workers: WorkerRoom,
-    // The other ends of the mutators' rings, and the entries taken out of each since the last stop.
+    // The other ends of the mutators' rings, and the entries taken out of each ring since the last stop.
     pub(crate) inbox: Inbox,
-    // The number of commands of each program that were answered.
+    // For each program, the number of its commands that were answered.
     pub(crate) positions: Vec<u32>,
     pub(crate) rows: Rows,
     pub(crate) cycle: CycleState,
@@ -94,9 +93,9 @@ pub(crate) struct CycleState {
     pub(crate) collect: bool,
     // Whether a full cycle was asked for since the last one was done.
     pub(crate) full: bool,
-    // The collector's passes of the gate in the run. A cycle in progress has the count in its marker or sweeper.
+    // How often the collector passed the gate in the run. While a cycle is in progress, its marker or sweeper has the count.
     pub(crate) turns: u64,
-    // The passes by the upper halves of its sweeps, likewise.
+    // How often the upper halves of its sweeps passed the gate. While a cycle is in progress, its sweeper has the count.
     pub(crate) upper_turns: u64,
 }
 
@@ -168,15 +167,15 @@ fn empty_words(alloc: Global, layout: Layout) -> Result<Vec<u64>, NoMemory>
     Ok(words)
 }
 
-// Returns the most commands of the first slice of a mutator's program. No clause constrains the answer.
-fn first_slice(script: &Script, number: u8) -> u32 {
+// Returns the most commands that the first slice of program `number` may have. No clause constrains the answer.
+fn most_commands(script: &Script, number: u8) -> u32 {
     match script.threads.items().get(usize::from(number)) {
         Some(program) => program.items().len().min(script.config.slice as usize) as u32,
         None => 0,
     }
 }
 
-// Returns a bound of the entries that `commands` commands send, in whole blocks. No clause constrains the answer.
+// Returns an upper bound of the entries that `commands` commands send, in whole blocks. No clause constrains the answer.
 fn most_entries(commands: u32) -> u32 {
     commands
         .saturating_mul(MOST_PUSHED)
@@ -200,7 +199,7 @@ fn new_mutators(
     let place = ListMemory::new(alloc)?;
     let mut receivers = Vec::with_capacity(alloc, layout.mutators as usize)?;
     for number in 0..layout.mutators {
-        let commands = first_slice(script, number);
+        let commands = most_commands(script, number);
         let (sender, mut receiver) = link(alloc)?;
         receiver.reserve(most_entries(commands))?;
         let mut mutator = Mutator::new(alloc, number, layout, sender)?;
@@ -211,7 +210,7 @@ fn new_mutators(
     Ok((mutators, Inbox::new(VecList::of(receivers, place))))
 }
 
-// Takes memory for `count` words, and gives it back untouched. It changes only the time of the run. The C library returns a
+// Takes memory for `count` words, and gives it back untouched. This changes only the time of the run. The C library returns a
 // large block to the system when it is freed, and from then on keeps blocks up to that size, at most 32 MiB. So when the list
 // from which the words are copied is freed, its pages, already touched, are used again.
 fn keep_freed_pages(alloc: Global, count: usize) -> Result<(), NoMemory> {
@@ -219,7 +218,7 @@ fn keep_freed_pages(alloc: Global, count: usize) -> Result<(), NoMemory> {
     Ok(())
 }
 
-// Returns the words of a new run, in their table. The list from which they are copied is given back.
+// Returns the words of a new run, in their table. The list from which they are copied is freed.
 fn new_words(alloc: Global, layout: Layout) -> Result<Words, NoMemory>
     requires { IsLayout layout }
     ensures { IfOk result (IsEmptyHeap layout) }
@@ -230,12 +229,12 @@ fn new_words(alloc: Global, layout: Layout) -> Result<Words, NoMemory>
 }
 
 impl Collector {
-    /// Makes the collector of a script's run, as it is before the first stop. There are no rows, and no command was answered.
-    /// The registers and g are full of nil, every segment is free, the gate was not passed, and each mutator's ring is empty.
-    /// Requires that the script is within the limits. Takes memory for the words, and for the same number again until they
-    /// lie in their table. Also for the segments with their marks and the names of objects in them, and for the promotion of
-    /// full nurseries. Also for the notes of the first slices, the workers of a round, and a ring of `RING_BLOCKS` blocks for
-    /// each mutator. A cycle's memory is taken when the cycle begins.
+    /// Makes the collector of a script's run, as it is before the first stop: it has no rows, and no command was answered.
+    /// Each register and each slot of g is nil, every segment is free, the gate wasn't passed, and each mutator's ring is
+    /// empty. Requires that the script is within the limits. Takes memory for the table of words and, until it is made, for a
+    /// list of the same length. Segments with their marks and names take memory, and so does the promotion of full nurseries.
+    /// So do the notes of the first slices, the workers of a round, and a ring of `RING_BLOCKS` blocks for each mutator. A
+    /// cycle takes its memory as it begins.
     pub fn new(alloc: Global, script: &Script) -> Result<Collector, NoMemory>
         requires { IsInLimits script.now }
         ensures fresh { IfOk result (λ collector. IsFresh script.now collector) }
@@ -293,8 +292,8 @@ impl Collector {
     /// The report is lawful: it reports one run of the script, to its end. Its words represent the last world, and word 0 and
     /// the words between g and the first segment are 0. It ends with `Done` if every command was answered. It ends with
     /// `HeapFull` exactly if a full cycle at the last stop left fewer segments free than the reserve, and commands are left.
-    /// Then the last cycle kept more objects than there are segments above the reserve, and so does the world with which that
-    /// full cycle began. Requires that the script is within the limits. After `NoMemory` nothing of the run is left.
+    /// Then the last cycle kept more objects than there are segments above the reserve, and the world with which that full
+    /// cycle began has more kept objects than that. Requires a script within the limits. After `NoMemory` the run is gone.
     pub fn run<R: Threads + Sync, G: Gate>(
         alloc: Global,
         rt: &R,
@@ -316,7 +315,7 @@ impl Collector {
         }
     }
 
-    /// Returns the mutators, by number. After a round each has the remembered entries that it didn't send. Takes no memory.
+    /// Returns the mutators in order. After a round each has the remembered entries that it didn't send. Takes no memory.
     pub fn mutators(&self) -> &[Mutator]
         ensures { result.now ≡ self.now.mutators.items }
     {
@@ -331,7 +330,7 @@ impl Collector {
         &self.inbox
     }
 
-    /// Makes the report of the run, which is lawful. Requires that the run has ended with `end`, as its last stop answered.
+    /// Turns the collector into the report of its run, which is lawful. Requires that the last stop ended the run with `end`.
     /// The report has the collector's rows, words and segments, and each mutator's registers, queue and serial as they are.
     /// The names in a cycle's row are put in order. Takes no memory, and copies no word of the heap.
     pub fn into_report(self, end: End) -> Report
@@ -379,7 +378,7 @@ impl Collector {
     }
 }
 
-// Fills `ends`, which has room for it, with the final registers, queue and serial of each mutator, and returns it.
+// Returns `ends`, filled with the final registers, queue and serial of each mutator. It has to be empty, with room for them.
 fn all_ends(mutators: Vec<Mutator>, ends: Vec<MutatorEnd>) -> Vec<MutatorEnd>
     requires empty { ends.items ≡ [] }
     requires room { vec_len mutators ≤ vec_capacity ends }

@@ -1,16 +1,15 @@
 //! The steps of a stop that advance a cycle: adding, closing, end and beginning.
 //!
 //! Note [The steps of a stop] in stop.rt has their order. All that takes memory here may fail, since the words are back from
-//! the round. `nmgc_run_spec`'s `specs/Closing.antt` defines when a cycle may be closed, and its effect on the world.
-//! `specs/Cycles.antt` defines the calls' effects, in part by the same names, and `specs/Steps.antt` relates the two.
+//! the round. `nmgc_run_spec`'s `specs/Closing.antt` defines when a cycle may be closed, and the effect of a closing on the
+//! world. `specs/Cycles.antt` defines the calls' effects, in part by the same names, and `specs/Steps.antt` relates the two.
 //!
 //! A mutator's remembered entries are the entries taken out of its ring, then those in the ring, then those in its set. They
 //! go to the marker in this order. Then all three are empty, even if no cycle marks. So at a stop the ends of each ring are
 //! level: all entries sent were received.
 //!
-//! Easy to get wrong: while a cycle marks, the marker gets the remembered entries at each stop, before it is decided whether
-//! the cycle is closed, and even if it isn't. The decision depends on the marker's work in the last round alone. The entries
-//! can't prevent a closing: it scans the objects that they add.
+//! Easy to get wrong: while a cycle marks, the marker gets the remembered entries at each stop, even if the cycle isn't
+//! closed. They can't prevent a closing, which depends only on the marker's work in the last round, and scans their objects.
 ghost use Rattle.std.specs.Prelude.{ℕ, ◌≡◌, ◌↔◌, ◌+◌, ◌*◌, ◌<◌, ◌≤◌, ◌^◌, IfOk, IfSome, IfNone, OnOk, IsSome, IsTrue, Some, length, slice_get};
 ghost use Rattle.nmgc_object.specs.declared.layout.TheConstants.{FIRST_PLACE};
 ghost use Rattle.nmgc_alloc.specs.Segments.{IsSegments};
@@ -42,15 +41,14 @@ fn epoch_of(number: u32) -> u8
     if number % 2 == 0 { 2 } else { 1 }
 }
 
-// Does nothing when it runs: it gives the prover that all segments are still sound after the marker's or sweeper's work (Note
-// [Lines that do nothing] in `nmgc_alloc`).
+// Note [Lines that do nothing] in `nmgc_alloc`: shows the prover that segments are sound after the marker or sweeper worked.
 pub(crate) fn segments_are_sound(segments: &Segments)
     ensures { IsSegments segments.now }
 {
     let _ = segments.layout();
 }
 
-// Takes the oldest block out of a mutator's ring, and returns it. After `None` the two ends are level.
+// Takes the oldest block out of a mutator's ring, and returns it, or `None` if the ring is empty: its ends are level then.
 fn take_block(inbox: &mut Inbox, number: u8, mutator: &mut Mutator) -> Option<UpdBlock>
     requires { IsPaired inbox.old number mutator.old.sender }
     ensures rest { mutator.new ≡ record mutator.old { sender = mutator.new.sender } }
@@ -60,8 +58,8 @@ fn take_block(inbox: &mut Inbox, number: u8, mutator: &mut Mutator) -> Option<Up
     inbox.take_rest(number, mutator.sender())
 }
 
-// Gives a mutator's remembered entries to the marker: first the entries taken out of its ring, then the entries in the ring,
-// which is empty afterwards, and then the entries in its set.
+// Gives a mutator's remembered entries to the marker: the entries taken out of its ring, the entries in the ring, and the
+// entries in its set, in this order. The ring is empty afterwards.
 fn add_one(
     marker: &mut Marker,
     segments: &mut Segments,
@@ -165,9 +163,9 @@ impl Collector {
         };
     }
 
-    // Closes a cycle, and returns it as it begins to sweep, with the marker's count of the gate's passes. Changes the words,
-    // the segments, the list of weak pointers and the mutators' queues. It scans to the end, resolves the weak pointers,
-    // queues the finalisers of those that die, and carries the marks of segments that aren't to be swept.
+    // Closes a cycle, and returns the cycle as it begins to sweep. The marker scans to the end, weak pointers are resolved,
+    // finalisers of those that die are queued, and marks of segments that aren't to be swept are carried over. Words,
+    // segments, the list of weak pointers and queues change. The sweeper gets the marker's count of the gate's passes.
     pub(crate) fn close(&mut self, marking: Marking, stop: u32) -> Sweeping
         requires words { IsSome self.old.heap.words }
         requires ready { IsReadyToClose (words_in self.old.heap.words) self.old.heap.segments self.old.heap.weaks.list (queues_in self.old.mutators.items)
@@ -215,7 +213,7 @@ impl Collector {
         }
     }
 
-    // If a cycle sweeps and no segment waits, ends it: adds its row, and leaves the collector idle with the sweeper's counts.
+    // If a cycle sweeps and no segment waits, ends the cycle: adds its row, and goes idle with the sweeper's counts.
     pub(crate) fn end(&mut self, stop: u32) -> Result<(), NoMemory>
         ensures { OnOk result (Ends stop self.old.cycle.progress self.old self.new) }
     {
@@ -299,6 +297,7 @@ impl Collector {
         segments_are_sound(&self.heap.segments);
         weaks::reserve_queues(self.mutators.as_mut_slice(), &self.heap.weaks)?;
         marker.turns = self.cycle.turns;
+        // Until the closing the marker counts on: `close` gives its count to the sweeper, whose count isn't read before.
         sweeper.turns = self.cycle.turns;
         sweeper.upper_turns = self.cycle.upper_turns;
         Ok(Marking {

@@ -1,9 +1,9 @@
 //! A full cycle, done at one stop. The cycle in progress is closed, swept and ended. Then a new cycle that sweeps every
 //! segment in use begins, and is closed, swept and ended too.
 //!
-//! Step 4 of Note [The steps of a stop] in stop.rt says when it is done. After it each segment that isn't free has an object
-//! that the cycle kept, so a heap that is still short of segments is full of kept objects. `specs/Full.antt` defines the
-//! effect of its parts, and `specs/FullLaws.antt` relates them to the run.
+//! Step 4 of Note [The steps of a stop] in stop.rt says when one is due. After a full cycle, each segment that isn't free has
+//! an object that the cycle kept, so a heap that is still short of segments is full of kept objects. `specs/Full.antt`
+//! defines the effect of its parts, and `specs/FullLaws.antt` relates them to the run.
 //!
 //! Easy to get wrong: current and active segments are swept only if they are filed as filled before the cycle begins. And the
 //! cycle in progress is closed whatever its marker's last work answered: the closing scans the rest.
@@ -47,7 +47,7 @@ impl Collector {
         };
     }
 
-    // Sweeps all segments that wait, without passing the gate.
+    // If a cycle sweeps, sweeps all segments that wait, without passing the gate.
     fn sweep_rest<R: Threads + Sync>(&mut self, rt: &R)
         requires can { CanSweepRest self.old.heap.segments self.old.heap.names self.old.cycle.progress }
         ensures { HasSweptRest self.old self.new }
@@ -60,7 +60,7 @@ impl Collector {
         }
     }
 
-    // Closes, sweeps and ends the cycle in progress at this stop.
+    // Closes, sweeps and ends the cycle in progress at this stop, if there is one.
     fn finish_cycle<R: Threads + Sync>(&mut self, rt: &R, stop: u32) -> Result<(), NoMemory>
         requires stands { StandsAtStop stop self.old }
         ensures { OnOk result (HasFinished stop self.old self.new) }
@@ -73,7 +73,7 @@ impl Collector {
     }
 
     // Does a full cycle at this stop, and clears the requests for a cycle and for a full cycle.
-    fn full_cycle<R: Threads + Sync>(&mut self, rt: &R, stop: u32) -> Result<(), NoMemory>
+    fn do_full_cycle<R: Threads + Sync>(&mut self, rt: &R, stop: u32) -> Result<(), NoMemory>
         requires stands { StandsAtStop stop self.old }
         requires number { self.old.cycle.begun + 1 < 2 ^ 32 }
         ensures { OnOk result (HasDoneFull stop self.old self.new) }
@@ -89,7 +89,7 @@ impl Collector {
     }
 
     // If a full cycle is due, does it. Otherwise, if a cycle is due, begins it.
-    pub(crate) fn proceed<R: Threads + Sync>(
+    pub(crate) fn do_due_cycle<R: Threads + Sync>(
         &mut self,
         rt: &R,
         left: bool,
@@ -102,7 +102,7 @@ impl Collector {
     {
         a_full_cycle_leads();
         if self.is_full_due(left) {
-            self.full_cycle(rt, stop)?;
+            self.do_full_cycle(rt, stop)?;
             Ok(())
         } else {
             self.begin(trigger, stop)?;

@@ -1,4 +1,4 @@
-//! The names of objects in segments, noted at each stop, and the names of a cycle's row, in order for a report.
+//! The names of moved objects, which each stop notes, and the names in a cycle's row, which a report has in order.
 ghost use Rattle.std.specs.Prelude.{◌≡◌, ◌<◌, length, map, All, Contains};
 ghost use Rattle.nmgc_minor.specs.{Placing.moved_of, declared.placing.Move.Move as Moving};
 ghost use Rattle.nmgc_sweep.specs.NameTable.{HaveNoted, entry_of};
@@ -27,8 +27,7 @@ fn put_row_in_order(row: &mut CycleRow)
     row.freed.put_in_order();
 }
 
-/// Puts each row's names in order. Requires that no list has a name twice. Takes no memory, and time that depends on the
-/// spans.
+/// Puts each row's names in order. Requires that no list has a name twice. Takes no memory, but time for the spans.
 pub(crate) fn put_rows_in_order(rows: &mut [CycleRow])
     requires { All HasNamesOnce rows.old }
     ensures { rows.new ≡ map report_row rows.old }

@@ -1,11 +1,11 @@
 //! The collector's work beside the mutators: none, or marking, or sweeping.
 //!
-//! In a round it works on a thread of its own, if it has work and some program has commands left. It writes marks and
-//! segments that wait to be swept; the mutators look at neither. It passes the gate before each object that it scans and
+//! In a round the collector works on a thread of its own, if it has work and some program has commands left. It writes marks
+//! and segments that wait to be swept; the mutators look at neither. It passes the gate before each object that it scans and
 //! before each segment that it sweeps. It counts these passes through the whole run: marker and sweeper hand the count on.
 //! Segments are swept in two halves. The upper half has a further thread, with its own number and count at the gate.
 //!
-//! The sweeper starts as its cycle begins, to note the segments that are to be swept. It works once the cycle was closed. It
+//! The sweeper starts as its cycle begins, to note the segments that are to be swept, and sweeps once the cycle is closed. It
 //! reads the names of the objects in these segments from the array of names, to which nothing is written in a round.
 ghost use Rattle.std.specs.Prelude.{◌≡◌, ◌≤◌, length};
 ghost use Rattle.nmgc_updrem.specs.Rings.{HavePolled};
@@ -27,7 +27,7 @@ pub struct Marking {
     pub marker: Marker,
     /// The answer of the marker's last work.
     pub last: Work,
-    /// It noted, as the cycle began, the segments that are to be swept.
+    /// The sweeper, which noted the segments to be swept as the cycle began.
     pub sweeper: Sweeper,
 }
 
@@ -74,7 +74,7 @@ impl Progress {
     }
 
     /// Whether there is work beside the mutators: an object to scan, or, in a cycle that sweeps, one of `waiting` segments to
-    /// sweep. No clause constrains the answer, since `work` is soon done if there is none. Takes no memory.
+    /// sweep. No clause constrains the answer, since `work` is soon done if nothing is left. Takes no memory.
     pub fn has_work(&self, waiting: u32) -> bool {
         match self {
             Progress::Idle => false,
@@ -83,9 +83,9 @@ impl Progress {
         }
     }
 
-    /// Does the collector's part of a round: scans at most `quota` objects, or sweeps at most `quota` segments, and fewer
-    /// only if no more are left. Before each object the collector polls the ring of each mutator. The marker's answer is kept
-    /// for the stop. Takes no memory, and waits for the gate alone.
+    /// Does the collector's part of a round, if a cycle is in progress: scans `quota` objects or sweeps `quota` segments,
+    /// fewer only if no more are left. Before each object it polls the ring of each mutator. The marker's answer is kept for
+    /// the stop. Takes no memory, and waits for the gate alone.
     pub fn work<R: Threads + Sync, G: Gate>(
         &mut self,
         rt: &R,

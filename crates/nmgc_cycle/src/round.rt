@@ -5,13 +5,13 @@
 //! lasts for the run. Then the words go into the round and come back from it, and nothing in between can fail. Only then are
 //! the replies taken off the mutators, for the report.
 //!
-//! The opening of the round, with the world that the words represent, exists in proofs alone (`Witness`). It is the last state
-//! of the run that the collector's rows describe; while a cycle marks it also has the marking machine to which the marker is
-//! tied (`OpensAt`). The round gets `marking` by the same phase, since mutators owe overwritten references exactly then.
+//! The opening of the round, with the world that the words represent, exists in proofs alone (`Witness`). It is the last
+//! state of the run that the collector's rows describe. While a cycle marks, it also has the marking machine to which the
+//! marker is tied (`OpensAt`). The round's `marking` is true then, since only then do mutators owe overwritten references.
 //!
-//! Commands, replies and worlds don't depend on the collector: it writes only marks and segments that wait. `DidSlices` and
-//! `HasHelped` describe its cycle after the round phase by phase. The marker's marks come from its scans, and from a swept
-//! segment only freed names are gone.
+//! Commands, replies and worlds don't depend on the collector: it writes only marks and segments that wait. `HasHelped` and
+//! `DidSlices` describe the collector's cycle after the round, phase by phase. While a cycle marks, only scans add marks.
+//! While it sweeps, a swept segment loses only the names that were freed.
 //!
 //! Easy to get wrong: a request for a cycle or a full one lasts until a stop grants it, so a round may only add requests.
 ghost use Rattle.std.specs.Prelude.{ℕ, ◌≡◌, ◌||◌, ◌<◌, ◌≤◌, ◌+◌, ◌^◌, [], ◌∷◌, ◌++◌, true, None, Some, IfOk, OnOk, length, map, min, slice_get, slice_index, slice_index_or};
@@ -42,15 +42,15 @@ use std::alloc::Global;
 use std::mem;
 use std::thread::Threads;
 
-// The memory of a round's seats: two lists with room, and the memory in which each will lie. The round hands out its seats in
-// one list, and the seats go back to it in the other. Both are made anew for each round, since the round takes them by value,
-// and contracts don't see the room of a `List`. A seat has no bytes.
+// The memory of a round's seats: two lists with room, and the memory in which each will lie. The round hands its seats out in
+// `given`, and takes them back in `taken`. Both lists are made anew for each round, since the round takes them by value, and
+// contracts don't see the room of a `List`. A seat has no bytes.
 #[derive(Drop)]
 struct Lists {
-    room: Vec<MutatorSeat>,
-    seats: Vec<MutatorSeat>,
-    given: ListMemory<MutatorSeat>,
-    taken: ListMemory<MutatorSeat>,
+    given: Vec<MutatorSeat>,
+    taken: Vec<MutatorSeat>,
+    given_memory: ListMemory<MutatorSeat>,
+    taken_memory: ListMemory<MutatorSeat>,
 }
 
 impl Lists {
@@ -59,10 +59,10 @@ impl Lists {
         ensures { IfOk result (λ lists. HaveRoom count lists) }
     {
         Ok(Lists {
-            room: Vec::with_capacity(alloc, count)?,
-            seats: Vec::with_capacity(alloc, count)?,
-            given: ListMemory::new(alloc)?,
-            taken: ListMemory::new(alloc)?,
+            given: Vec::with_capacity(alloc, count)?,
+            taken: Vec::with_capacity(alloc, count)?,
+            given_memory: ListMemory::new(alloc)?,
+            taken_memory: ListMemory::new(alloc)?,
         })
     }
 }
@@ -76,6 +76,7 @@ impl<'a> WitnessFor<(&'a Script, &'a Collector), Opened> for AfterStop {
     ghost wanted = { λ about o. OpensAt about.0.now about.1.now o };
 }
 
+// Returns the opening of the round after the last stop.
 fn opening_of(script: &Script, collector: &Collector) -> Witness<Opened>
     requires { HasStopped script.now collector.now }
     ensures { OpensAt script.now collector.now result.value }
@@ -85,21 +86,22 @@ fn opening_of(script: &Script, collector: &Collector) -> Witness<Opened>
 
 impl Collector {
     /// Does one round: each mutator with commands left does a slice, in a thread of its own, and passes `gate` before each
-    /// command that it tries. The round has one legal order of all its commands, whatever the schedule was, from the world of
-    /// the stop before it. Words and mutators represent the world after it. Replies follow earlier replies; no stop's row
-    /// changes.
+    /// command that it tries. Whatever the schedule was, all commands of the round have one legal order from the world of the
+    /// stop before the round. Words and mutators represent the world after this order. The round's replies follow the earlier
+    /// replies, and no stop's row changes.
     ///
-    /// Beside the mutators the collector passes `gate` before each object or segment. While a cycle marks it scans `quota`
-    /// objects, or all if there are fewer. The marker then has the marks and queue of the marking machine after this order
-    /// and these scans, at the quota's pace. Of a closed cycle it sweeps `quota` segments in two halves, or all that wait if
-    /// there are fewer; of their names only those that the cycle keeps are left. Passes are counted through the whole run
-    /// (`mutator_turns`, `turns`, `upper_turns`). A mutator's count grows by the commands tried, also if a command waits for
-    /// room. The collector's grows by objects scanned or segments swept; the upper half of a sweep has its own count. A cycle
-    /// that a slice asks for is due at the next stop without a cycle in progress, a full cycle at the next stop.
+    /// Beside the mutators the collector passes `gate` before each object that it scans and each segment that it sweeps.
+    /// While a cycle marks, it scans `quota` objects, or all if there are fewer. The marker then has the marks and queue of
+    /// the marking machine after this order and these scans, at the quota's pace. After a closing, it sweeps `quota` segments
+    /// in two halves, or all that wait if there are fewer. In these, only names that the cycle keeps are left. Passes are
+    /// counted through the whole run (`mutator_turns`, `turns`, `upper_turns`). A mutator's count grows by the commands that
+    /// it tried, even if the last waits for room. The collector's grows by objects scanned or segments swept; the upper half
+    /// of a sweep has its own count. A full cycle that a slice asks for is due at the next stop, an ordinary one at the next
+    /// stop without a cycle in progress.
     ///
     /// While a cycle marks, mutators send full blocks of remembered entries through their rings, and the collector takes them
     /// out. Afterwards each mutator remembers the entries taken out of its ring, then those in the ring, then those in its
-    /// set. Requires that the last stop answered `GoOn` and no round followed. After `NoMemory` nothing is known.
+    /// set. Requires that the last stop answered `GoOn` and no round followed. After `NoMemory` no clause applies.
     pub fn round<R: Threads + Sync, G: Gate>(
         &mut self,
         rt: &R,
@@ -117,7 +119,7 @@ impl Collector {
             passed (upper_turns_of self.old) (upper_worked_on self.old.cycle.progress self.new.cycle.progress)) }
         ensures remembered { OnOk result (RememberInOrder self.new.inbox self.new.mutators.items) }
     {
-        self.play(rt, script, gate)?;
+        self.do_round(rt, script, gate)?;
         self.meet_all();
         Ok(())
     }
@@ -132,8 +134,8 @@ impl Collector {
         meet_each(&mut self.inbox, self.mutators.as_mut_slice());
     }
 
-    // Does the round, except the meeting of the rings' ends.
-    fn play<R: Threads + Sync, G: Gate>(
+    // Does the round, and adds its row of replies. The two ends of each ring meet only afterwards (`meet_all`).
+    fn do_round<R: Threads + Sync, G: Gate>(
         &mut self,
         rt: &R,
         script: &Script,
@@ -188,7 +190,8 @@ impl Collector {
         reserve_inbox(&mut self.inbox, script, self.positions.as_slice())
     }
 
-    // Does the slices of all mutators, and the collector's part beside them. Nothing here can fail.
+    // Does the slices of all mutators, and the collector's part beside them. For the round, the words, the mutators and the
+    // workers' room leave the collector's fields, and come back. These moves take no memory, and nothing here can fail.
     fn do_slices<R: Threads + Sync, G: Gate>(
         &mut self,
         rt: &R,
@@ -206,23 +209,24 @@ impl Collector {
     {
         slices_lead();
         let Lists {
-            room,
-            mut seats,
-            given: given_place,
-            taken: taken_place,
+            given,
+            mut taken,
+            given_memory,
+            taken_memory,
         } = lists;
         let words = self.heap.words.take().unwrap();
         let layout = self.heap.segments.layout();
         let marking = self.cycle.progress.is_marking();
         let Started {
             round,
-            mutators: given,
+            mutators: seats,
             mut collector,
-        } = Round::start(words, layout, marking, opening, room, given_place);
+        } = Round::start(words, layout, marking, opening, given, given_memory);
         let mut workers = self.workers.lend(self.alloc);
-        let own = mem::replace(&mut self.mutators, Vec::new(self.alloc));
-        self.mutators = seat_all(own, given, &mut workers);
-        self.work(
+        // Until `unseat_all`, the workers have the mutators, and the list in `self.mutators` is empty, with its room.
+        let mutators = mem::replace(&mut self.mutators, Vec::new(self.alloc));
+        self.mutators = seat_all(mutators, seats, &mut workers);
+        self.run_workers(
             rt,
             &round,
             &mut collector,
@@ -231,14 +235,14 @@ impl Collector {
             gate,
         );
         advance(self.positions.as_mut_slice(), workers.as_slice());
-        let left = unseat_all(workers, &mut self.mutators, &mut seats);
-        self.workers.give_back(left);
-        let Finished { words } = round.finish(List::in_place(seats, taken_place), collector);
+        let emptied = unseat_all(workers, &mut self.mutators, &mut taken);
+        self.workers.give_back(emptied);
+        let Finished { words } = round.finish(List::in_place(taken, taken_memory), collector);
         self.heap.words = Some(words);
     }
 
     // Does the workers' slices, with the collector's part beside them, and notes the slices' requests.
-    fn work<R: Threads + Sync, G: Gate>(
+    fn run_workers<R: Threads + Sync, G: Gate>(
         &mut self,
         rt: &R,
         round: &Round,
@@ -345,7 +349,7 @@ fn reserve_all(mutators: &mut [Mutator], script: &Script, positions: &[u32]) -> 
     Ok(())
 }
 
-// Advances each position by the number of commands that its worker did.
+// Advances the position of each program by the number of commands that its worker did.
 #[tactic(auto, using(crate::proofs::rounds::Sliced::done_of))]
 fn advance(positions: &mut [u32], workers: &[Worker])
     requires count { length workers.now ≡ length positions.old }
@@ -368,7 +372,7 @@ fn take_replies(alloc: Global, mutator: &mut Mutator) -> Result<Replies, NoMemor
     Ok(replies)
 }
 
-// Clears all mutators' lists of replies, and returns the round's row with the replies that were in them.
+// Returns the round's row, with the replies in the mutators' lists, and clears these lists.
 fn take_rows(alloc: Global, mutators: &mut [Mutator]) -> Result<RoundRows, NoMemory>
     ensures rows { IfOk result (λ rows. rows.replies ≡ replies_of mutators.old) }
     ensures rest { OnOk result (mutators.new ≡ map cleared mutators.old) }

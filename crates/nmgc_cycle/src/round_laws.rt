@@ -4,8 +4,8 @@
 ghost use Rattle.nmgc_cycle.specs.RoundLaws.{HasOpeningLaws, HasRoundLaws, HasSliceLaws};
 
 use nmgc_collector_laws::idle::{
-    a_heap_at_rest_opens_a_round, a_round_is_a_history, a_round_is_stopped, finalised_are_listed,
-    slices_are_gathered,
+    a_heap_at_rest_opens_a_round, a_round_is_a_history, a_round_leaves_a_heap_at_a_stop,
+    finalised_are_listed, slices_are_gathered,
 };
 use nmgc_collector_laws::marking::{
     a_closed_cycle_sweeps, a_heap_at_rest_opens_a_round as opens_beside, a_heap_ties_by_blocks,
@@ -13,9 +13,9 @@ use nmgc_collector_laws::marking::{
     the_marker_leads_a_cycle, the_pace_is_kept,
 };
 use nmgc_mutator::laws::a_round_finds_mutators_ready;
-use nmgc_sweep::laws::segments_are_left;
+use nmgc_sweep::laws::unswept_segments_wait;
 
-// The round after a stop has an opening with the stop's state, and may begin with it.
+// Proves that a round may begin after a stop, with an opening that has the state of that stop.
 fn an_opening_leads()
     ensures { HasOpeningLaws }
 {
@@ -25,7 +25,7 @@ fn an_opening_leads()
     a_heap_ties_by_blocks();
 }
 
-// All laws that the slices of a round need: mutators and marker may begin, and together the slices are the round's.
+// Proves all laws that the slices of a round need: mutators and marker may begin, and together the slices are the round's.
 pub(crate) fn slices_lead()
     ensures { HasSliceLaws }
 {
@@ -36,19 +36,19 @@ pub(crate) fn slices_lead()
     slices_are_owed();
 }
 
-// All laws that a round needs: its opening, and the state to which its slices and the collector's part lead.
+// Proves all laws that a round needs: its opening, and the state to which its slices and the collector's part lead.
 pub(crate) fn a_round_leads()
     ensures { HasRoundLaws }
 {
     an_opening_leads();
     the_heap_goes_on();
     a_round_is_a_history();
-    a_round_is_stopped();
+    a_round_leaves_a_heap_at_a_stop();
     finalised_are_listed();
     the_machine_goes_on();
     the_marker_leads_a_cycle();
     the_pace_is_kept();
     freed_places_go();
     a_closed_cycle_sweeps();
-    segments_are_left();
+    unswept_segments_wait();
 }

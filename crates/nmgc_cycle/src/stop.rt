@@ -9,19 +9,20 @@
 //! # Note [The steps of a stop]
 //!
 //! The steps in order, numbered as in `docs/FORMATS.md`. One stop may close a cycle, end it and begin another.
-//! 1. Promote (`promote`). Finalised weak pointers leave the list (`leave`). Objects move into segments, and their names are
-//!    noted (`move_promoted`). Moved weak pointers that are alive join the list (`join`). Then the nurseries are empty, and
-//!    of the round's notes the mutators have only remembered entries left.
+//! 1. Promote (`promote`). Finalised weak pointers leave the list (`remove_finalised`). Nursery objects move into segments if
+//!    they can be reached from roots, slots of g, recorded fields or new weak pointers that are alive. Their names are noted
+//!    (`move_promoted`). Moved weak pointers that are alive join the list (`add_moved`). Then the nurseries are empty, and of
+//!    the round's notes the mutators have only remembered entries left.
 //! 2. Close (`add_remembered`, `try_close`). The remembered entries go to the marker, if a cycle marks, and are forgotten. If
-//!    the marker's work in the last round left nothing to scan, the cycle is closed (`close`), also if these entries added
-//!    objects. A closing has four parts: the marker scans to the end, weak pointers are resolved, finalisers of those that
-//!    die are queued, and the marks of segments that aren't to be swept are carried over.
+//!    the marker's work in the last round left nothing to scan, the cycle is closed (`close`), even if these entries added
+//!    objects, and sweeps from then on. A closing has four parts: the marker scans to the end, weak pointers are resolved,
+//!    finalisers of those that die are queued, and the marks of segments that aren't to be swept are carried over.
 //! 3. End (`end`). A cycle that sweeps ends if no segment waits, and its row is added.
-//! 4. Full cycle (`full_cycle`, by `proceed`), if it is due (`is_full_due`): it was asked for, or commands are left and fewer
-//!    segments are free than the reserve. The cycle in progress is closed, swept and ended (`finish_cycle`). Current and
-//!    active segments are filed as filled (`retire_all`). A new cycle begins (`start`), and is closed, swept and ended too.
-//!    Requests for a cycle and for a full one are forgotten.
-//! 5. Begin (`begin`, by `proceed`). If step 4 wasn't done and a cycle is due (`is_due`), it begins (`start`).
+//! 4. Full cycle (`do_full_cycle`, by `do_due_cycle`), if it is due (`is_full_due`): it was asked for, or commands are left
+//!    and fewer segments are free than the reserve. The cycle in progress is closed, swept and ended (`finish_cycle`).
+//!    Current and active segments are filed as filled (`retire_all`). A new cycle begins (`start`), and is closed, swept and
+//!    ended too. Requests for a cycle and for a full one are forgotten.
+//! 5. Begin (`begin`, by `do_due_cycle`). If step 4 wasn't done and a cycle is due (`is_due`), it begins (`start`).
 //! 6. Answer (`stop`). The row gets the numbers of the heap that this stop leaves. The answer is chosen: the run goes on, is
 //!    done, or has a full heap. An end is kept in `answered`.
 ghost use Rattle.std.specs.Prelude.{ℕ, ◌≡◌, ◌↔◌, ◌^◌, ◌<◌, [], ◌∷◌, ◌++◌, IfOk, OnOk, IsSome, IsTrue, length};
@@ -55,28 +56,28 @@ pub enum StopEnd {
 }
 
 impl Collector {
-    /// Does a stop, and returns its answer: promotes exactly the objects of the round that the rule names, advances the
-    /// cycle, and adds the stop's row.
+    /// Does a stop, and returns its answer: promotes objects of the round, advances the cycle, and adds the stop's row.
     ///
-    /// The nurseries are empty afterwards. Exactly the weak pointers finalised in the round leave the list, and those that
-    /// moved and are alive join it. So the list has exactly the weak pointers that are alive and have a block. A cycle is
-    /// closed, ends with its census, a full cycle is done if one is due, and the next begins, exactly as a run allows it. The
-    /// row has the numbers of the heap that the stop leaves, and follows the rows before; rows of rounds stay. The run after
-    /// the stop is the run before the round, with this round and this stop, whatever the answer. Only weak pointers that die
-    /// at a closing change the world. No command is answered.
+    /// Exactly the objects that the rule names are promoted, and the nurseries are empty afterwards. Exactly the weak
+    /// pointers finalised in the round leave the list, and those that moved and are alive join it. So the list has exactly
+    /// the weak pointers that are alive and have a block. By the rules of a run, a cycle is closed, and a cycle ends with its
+    /// census. A full cycle is done exactly if it is due; otherwise a cycle begins exactly if it is due. The stop's row has
+    /// the numbers of the heap that the stop leaves, and follows the rows before; rows of rounds stay. The run after the stop
+    /// is the run before the round, with this round and this stop, whatever the answer. Only weak pointers that die at a
+    /// closing change the world. No command is answered.
     ///
     /// Answers `Done` exactly if no command is left and no cycle is in progress. Answers `HeapFull` exactly if commands are
-    /// left and fewer segments are free than the reserve, in spite of the full cycle that it then did. If a cycle marks on,
-    /// only its marker changed: the answer of its last work is kept, and that left something. A full cycle sweeps in two
-    /// halves, each in a thread of its own. The gate isn't passed. The mutators' counts stay, and the collector's are handed
-    /// on: from a marker to its sweeper, and from a sweeper that ends to the next cycle's marker and sweeper.
+    /// left and fewer segments are free than the reserve, even after a full cycle at this stop. If a cycle marks before and
+    /// after the stop, only its marker changed: the answer of the marker's last work is kept, and says that objects were left
+    /// to scan. A full cycle sweeps in two halves, each in a thread of its own. The gate isn't passed. The mutators' counts
+    /// stay, and the collector's are handed on: from a marker to its sweeper, and from a sweeper that ends to the next cycle.
     ///
-    /// Requires that no stop was done yet, or a round since the last stop. Takes memory for weak pointers that join the list,
-    /// and for the rows of the stop and of a cycle that ends. A beginning takes it for the marker's queue, the sweeper's
-    /// lists and finaliser queues. Takes time for promoted objects, roots, weak pointers that leave or join the list,
-    /// recorded and remembered fields, and segments. A closing adds the objects left to scan, the list of weak pointers with
-    /// a logarithm, and the mark bytes of segments in use that don't wait to be swept. A full cycle adds all reachable
-    /// objects and every block. After `NoMemory` nothing is known of the collector.
+    /// Requires that no stop was done yet, or that a round followed the last stop. Takes memory for weak pointers that join
+    /// the list, and for the rows of the stop and of a cycle that ends. A cycle that begins takes memory for the marker's
+    /// queue, the sweeper's lists and finaliser queues. Takes time for promoted objects, roots, weak pointers that leave or
+    /// join the list, recorded fields, remembered entries, and segments. A closing adds the objects left to scan, the list of
+    /// weak pointers with a logarithm, and the mark bytes of segments in use that don't wait to be swept. A full cycle adds
+    /// all reachable objects and every block. After `NoMemory` nothing is known of the collector.
     pub fn stop<R: Threads + Sync>(&mut self, rt: &R, script: &Script) -> Result<StopEnd, NoMemory>
         requires limits { IsInLimits script.now }
         requires can { CanStop script.now self.old }
@@ -97,8 +98,8 @@ impl Collector {
         self.add_remembered();
         self.try_close(number);
         self.end(number)?;
-        let left = self.has_left(script);
-        self.proceed(rt, left, script.config.trigger, number)?;
+        let left = self.has_commands_left(script);
+        self.do_due_cycle(rt, left, script.config.trigger, number)?;
         let free = self.heap.segments.free_count();
         let row = StopRow {
             number,
@@ -117,12 +118,12 @@ impl Collector {
         } else {
             StopEnd::GoOn
         };
-        self.answered = ended(end);
+        self.answered = end_of_answer(end);
         Ok(end)
     }
 
     // Whether any program has commands left.
-    fn has_left(&self, script: &Script) -> bool
+    fn has_commands_left(&self, script: &Script) -> bool
         requires { length self.now.positions.items ≡ length script.now.threads }
         ensures { IsTrue result ↔ SomeIsLeft script.now.threads self.now.positions.items }
     {
@@ -142,9 +143,9 @@ impl Collector {
     {
         the_list_is_left();
         the_list_is_joined();
-        self.leave();
+        self.remove_finalised();
         self.move_promoted();
-        self.join()?;
+        self.add_moved()?;
         Ok(self.heap.promotion.moves().len() as u32)
     }
 
@@ -166,8 +167,8 @@ impl Collector {
     }
 }
 
-// Returns the end of the run, if the stop answered one.
-fn ended(end: StopEnd) -> Option<End>
+// Returns the end of the run that a stop's answer means, or `None` if the run goes on.
+fn end_of_answer(end: StopEnd) -> Option<End>
     ensures { result ≡ ended_by end }
 {
     match end {

@@ -1,7 +1,7 @@
 //! Laws on the steps of a stop that advance a cycle: each leads to the state of the run after that step.
 //!
 //! A function here does nothing; its contract is the law, and its body calls the laws that the proof uses. `stop` calls them,
-//! and so has the fact that each of its steps is the run's.
+//! so each of its steps is proved to be the run's.
 ghost use Rattle.nmgc_cycle.specs.{Steps.AddingLeads, Steps.ClosingLeads, Steps.EndLeads, Steps.StartingLeads, Steps.BeginningLeads, Steps.CloseReady, Steps.BeginReady, FullLaws.CloseNowReady, FullLaws.FinishingNowLeads, FullLaws.SweepRestReady, FullLaws.SweepingRestLeads, FullLaws.FinishLeads, FullLaws.FilingLeads, FullLaws.ProceedingLeads, StopLaws.HasStopLaws};
 
 use nmgc_collector_laws::marking::{
@@ -12,11 +12,12 @@ use nmgc_collector_laws::marking::{
 use nmgc_mark::laws::prepared_heaps_begin;
 use nmgc_run_laws::laws::{cycles_are_in_course, places_are_blocks};
 use nmgc_sweep::laws::{
-    closing_begins_work, end_shows_census, segments_are_left, start_is_noted, work_goes_on,
+    closing_begins_work, end_shows_census, start_notes_segments, unswept_segments_wait,
+    work_goes_on,
 };
 use nmgc_weak::laws::queues_close;
 
-// Proves that adding the remembered entries to a marker keeps the collector's state, and that nothing is remembered then.
+// Proves that the collector represents the same state after the remembered entries were given to a marker or forgotten.
 pub(crate) fn an_adding_leads()
     ensures { AddingLeads }
 {
@@ -24,10 +25,10 @@ pub(crate) fn an_adding_leads()
     a_closing_is_in_bounds();
     the_pace_is_kept();
     a_closed_cycle_sweeps();
-    segments_are_left();
+    unswept_segments_wait();
 }
 
-// Proves that a marker whose last work left nothing may finish. Then the cycle is closed in bounds, and otherwise it goes on.
+// Proves that a marker whose last work left nothing may finish. Its cycle is closed then, in bounds; otherwise it goes on.
 pub(crate) fn a_closing_leads()
     ensures leads { ClosingLeads }
     ensures ready { CloseReady }
@@ -37,7 +38,7 @@ pub(crate) fn a_closing_leads()
     a_resolved_cycle_is_closed();
     queues_close();
     a_closed_cycle_sweeps();
-    segments_are_left();
+    unswept_segments_wait();
     closing_begins_work();
 }
 
@@ -58,14 +59,14 @@ pub(crate) fn a_beginning_leads()
     prepared_heaps_begin();
     the_heap_goes_on();
     the_marker_leads_a_cycle();
-    start_is_noted();
-    segments_are_left();
+    start_notes_segments();
+    unswept_segments_wait();
     a_closed_cycle_sweeps();
     the_pace_is_kept();
     cycles_are_in_course();
 }
 
-// Proves that a cycle is a finished cycle of the run if it is closed by force, swept and ended in a full cycle at a stop.
+// Proves that a cycle that is closed, swept and ended at one stop, as in a full cycle, is finished by the rules of the run.
 pub(crate) fn a_finish_leads()
     ensures close_ready { CloseNowReady }
     ensures closing { FinishingNowLeads }
@@ -78,13 +79,13 @@ pub(crate) fn a_finish_leads()
     a_resolved_cycle_is_closed();
     queues_close();
     a_closed_cycle_sweeps();
-    segments_are_left();
+    unswept_segments_wait();
     closing_begins_work();
     freed_places_go();
     an_end_leads();
 }
 
-// Proves that a full cycle at a stop is the run's, and that the stop goes on as the run does if none is due.
+// Proves that a full cycle at a stop is a full cycle of the run. If none is due, the stop goes on as the run does.
 pub(crate) fn a_full_cycle_leads()
     ensures finish { FinishLeads }
     ensures filing { FilingLeads }
@@ -104,7 +105,7 @@ pub(crate) fn a_stop_leads()
     marking_goes_on();
     the_list_is_joined();
     a_closed_cycle_sweeps();
-    segments_are_left();
+    unswept_segments_wait();
     work_goes_on();
     an_adding_leads();
     a_closing_leads();

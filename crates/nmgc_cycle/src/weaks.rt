@@ -1,8 +1,8 @@
 //! Weak pointers at a stop: which leave the list, which join it, and how finalisers get into the queues.
 //!
-//! A round leaves the list as it is. At the stop after it, weak pointers that were finalised leave, and those that were
-//! promoted alive join. A closing may not run out of memory half way, so from the snapshot on the queues have room for a
-//! finaliser of each listed weak pointer.
+//! The list has the weak pointers that are alive and have a block, in a row for each maker (`nmgc_weak`). A round leaves it
+//! as it is. At the stop after it, weak pointers that were finalised leave, and those that were promoted alive join. A
+//! closing may not run out of memory half way, so from the snapshot on the queues have room for all its finalisers.
 //!
 //! Mutators note the weak pointers that they finalise, so a stop looks at these notes, and not through the list. New weak
 //! pointers join at the end of their maker's row. So a stop takes time for the changes of the round, except when more than
@@ -79,8 +79,8 @@ fn join_all(weaks: &mut Weaks, fresh: &[OldWeak])
     weaks.add_all(fresh);
 }
 
-// Takes those weak pointers at these addresses off the list that are dead by now.
-fn leave_each<W: HeapWords>(weaks: &mut Weaks, words: &mut W, finalised: &[Address])
+// Takes the weak pointers at these addresses off the list, if they are dead by now.
+fn remove_each<W: HeapWords>(weaks: &mut Weaks, words: &mut W, finalised: &[Address])
     requires inside { (at : Place) → Contains finalised.now at → value_place at.0 < length (W.words words.old) }
     requires named { (at : ℕ) → IsNamedAt (W.words words.old) at weaks.old.list }
     ensures words { W.words words.new ≡ W.words words.old }
@@ -92,21 +92,21 @@ fn leave_each<W: HeapWords>(weaks: &mut Weaks, words: &mut W, finalised: &[Addre
     }
 }
 
-// Takes those weak pointers off the list that the mutators noted as finalised and that are dead by now.
-fn leave_noted<W: HeapWords>(weaks: &mut Weaks, words: &mut W, mutators: &[Mutator])
+// Takes all dead weak pointers off the list: they are among those that the mutators noted as finalised.
+fn remove_noted<W: HeapWords>(weaks: &mut Weaks, words: &mut W, mutators: &[Mutator])
     requires { FinalisedAreListed (W.words words.old) weaks.old.list (finalised_of mutators.now) }
     ensures words { W.words words.new ≡ W.words words.old }
     ensures list { weaks.new.list ≡ alive_of (W.words words.old) weaks.old.list }
     ensures deaths { weaks.new.deaths ≡ weaks.old.deaths }
 {
     for mutator in mutators {
-        leave_each(weaks, words, mutator.finalised());
+        remove_each(weaks, words, mutator.finalised());
     }
 }
 
 impl Collector {
-    // Takes the weak pointers that are dead by now off the heap's list.
-    pub(crate) fn leave(&mut self)
+    // Takes the weak pointers that were finalised, and so are dead by now, off the heap's list.
+    pub(crate) fn remove_finalised(&mut self)
         requires words { IsSome self.old.heap.words }
         requires reported { FinalisedAreListed (words_in self.old.heap.words) self.old.heap.weaks.list (finalised_of self.old.mutators.items) }
         ensures { FinalisedLeft self.old self.new }
@@ -114,11 +114,11 @@ impl Collector {
         let Some(words) = &mut self.heap.words else {
             unreachable!()
         };
-        leave_noted(&mut self.heap.weaks, words, self.mutators.as_slice());
+        remove_noted(&mut self.heap.weaks, words, self.mutators.as_slice());
     }
 
     // Adds the weak pointers that were promoted and are alive to the heap's list.
-    pub(crate) fn join(&mut self) -> Result<(), NoMemory>
+    pub(crate) fn add_moved(&mut self) -> Result<(), NoMemory>
         requires words { IsSome self.old.heap.words }
         requires can { CanJoin (words_in self.old.heap.words) self.old.heap.weaks.list self.old.heap.promotion.moves }
         ensures { OnOk result (MovedJoined self.old self.new) }
@@ -166,11 +166,11 @@ pub fn queue_all(deaths: &[Death], mutators: &mut [Mutator])
 pub fn dead_names(alloc: Global, deaths: &[Death]) -> Result<List<Name>, NoMemory>
     ensures { IfOk result (λ names. names ≡ died deaths.now) }
 {
-    List::from_vec(all_dead(alloc, deaths)?)
+    List::from_vec(collect_dead(alloc, deaths)?)
 }
 
 // Returns the names of the weak pointers that died, in the order of the deaths, as a vector.
-fn all_dead(alloc: Global, deaths: &[Death]) -> Result<Vec<Name>, NoMemory>
+fn collect_dead(alloc: Global, deaths: &[Death]) -> Result<Vec<Name>, NoMemory>
     ensures { IfOk result (λ names. names.items ≡ died deaths.now) }
 {
     Ok(deaths.iter().map(|death| death.weak).collect(alloc)?)

@@ -4,13 +4,13 @@
 //! commands that it did. So the workers share only the round, and each worker's contract describes its effect.
 //!
 //! Between two rounds there are no workers. Their room lasts for the run (`WorkerRoom`), and so does the room of the
-//! mutators' list, which is empty within a round. `seat_all` and `unseat_all` take the items of a list from its front, as a queue
-//! in the list's memory, and give the list back empty. So no round takes memory for either.
+//! mutators' list, which is empty within a round. `seat_all` and `unseat_all` take the items of a list from its front, as a
+//! queue in the list's memory, and give the list back empty. So no round takes memory for either.
 //!
-//! A thread is started only for work. A mutator whose program has ended gets none. Nor does the collector if it has nothing
-//! to do or no program has commands left. So the workers are split with half of those with commands left on either side. A
-//! part in which at most one worker has any does its slices one after the other. Starting a thread takes longer than a short
-//! round.
+//! Starting a thread takes longer than a short round, so a thread is started only for work. A mutator whose program has ended
+//! gets none. Nor does the collector if it has nothing to do, or if no program has commands left. The workers are split into
+//! two parts, each with half of the workers that have commands left, and the parts are split in the same way. A part with at
+//! most one such worker isn't split: its slices are done one after the other, on one thread.
 //!
 //! Easy to get wrong: if no thread can be started, the caller does the work, one worker after the other. So nothing here may
 //! depend on two workers running side by side.
@@ -49,8 +49,8 @@ pub struct Worker {
 }
 
 impl Worker {
-    // Does the mutator's slice of `program`, and notes the number of its commands and its requests.
-    fn work<G: Gate>(&mut self, round: &Round, program: &[PackedCommand], slice: u32, gate: &G)
+    // Does the mutator's slice of `program`, and notes the number of commands that it did and the requests of the slice.
+    fn do_slice<G: Gate>(&mut self, round: &Round, program: &[PackedCommand], slice: u32, gate: &G)
         requires { CanWork round.now slice program.now self.old }
         ensures { HasWorkedOn round.now slice program.now self.old self.new }
     {
@@ -63,7 +63,7 @@ impl Worker {
     }
 }
 
-/// Room for the workers of a round, which lasts for the run. Contracts see their number.
+/// Room for the workers of a round, which lasts for the run. Contracts see the number of workers for which there is room.
 #[derive(Drop)]
 pub struct WorkerRoom {
     // Empty.
@@ -151,9 +151,9 @@ fn count_left(script: &Script, positions: &[u32], from: usize, end: usize) -> us
     count
 }
 
-// Returns the number of the worker with which the second part begins, so that each part has half of the workers with commands
-// left. If at most one worker has any, there are no parts, and the answer is `from`.
-fn cut(script: &Script, positions: &[u32], from: usize, end: usize) -> usize
+// Returns the number of the worker with which the second of two parts begins, each with half of the workers that have
+// commands left. Returns `from` if at most one worker has commands left: then there is only one part.
+fn middle_of(script: &Script, positions: &[u32], from: usize, end: usize) -> usize
     requires { (end ≤ length script.now.threads) × (end ≤ length positions.now) }
     ensures { from < result → result < end }
 {
@@ -201,12 +201,13 @@ fn work_in_turn<R: Threads + Sync, G: Gate>(
             let number = from + index;
             let program = script.threads.items()[number].items();
             let left = &program[positions[number] as usize..];
-            worker.work(round, left, script.config.slice, gate);
+            worker.do_slice(round, left, script.config.slice, gate);
         },
     );
 }
 
 // Does the slices of the workers `from` to `end`, without `end`. Each worker with commands left has its own thread.
+// `cycle(parts)` says that this function and `work_both_parts` call each other, and are proved together.
 #[cycle(parts)]
 fn work_part<R: Threads + Sync, G: Gate>(
     rt: &R,
@@ -222,20 +223,20 @@ fn work_part<R: Threads + Sync, G: Gate>(
     requires all { from + length workers.old ≡ end }
     ensures { HaveWorkedFrom round.now script.now positions.now from workers.old workers.new }
 {
-    let middle = cut(script, positions, from, end);
+    let middle = middle_of(script, positions, from, end);
     if middle <= from {
         work_in_turn(rt, round, script, positions, gate, from, workers);
         return;
     }
     let (front, back) = workers.split_at_mut(middle - from);
-    both_parts(
+    work_both_parts(
         rt, round, script, positions, gate, from, middle, end, front, back,
     );
 }
 
 // Does the slices of two parts of the workers in two threads. The caller's thread does the first part.
 #[cycle(parts)]
-fn both_parts<R: Threads + Sync, G: Gate>(
+fn work_both_parts<R: Threads + Sync, G: Gate>(
     rt: &R,
     round: &Round,
     script: &Script,
@@ -282,7 +283,7 @@ pub fn work_all<R: Threads + Sync, G: Gate>(
 
 /// Does each worker's slice of the rest of its program, and beside them the collector's part. Only the collector and workers
 /// with commands left have threads. If the collector has nothing to do, or no program has commands left, its part comes
-/// first, without a thread except a sweep's.
+/// first, without a thread of its own. Even then the upper half of a sweep has one.
 pub fn work_beside<R: Threads + Sync, G: Gate>(
     rt: &R,
     round: &Round,
@@ -377,8 +378,7 @@ pub fn seat_all(
     left.into_vec()
 }
 
-/// Moves mutators and seats out of the workers into their lists, which have room for them. Returns the workers' list, empty,
-/// with its room.
+/// Moves mutators and seats out of the workers into lists, which have room. Returns the workers' list, empty, with its room.
 pub fn unseat_all(
     workers: Vec<Worker>,
     mutators: &mut Vec<Mutator>,

@@ -2,12 +2,12 @@
 use Rattle.nmgc_graph.proofs.Vocabulary.{◌≡◌, List, [], ◌∷◌, ◌++◌, inl, inr, refl, sym, ap, subst, ◌∙◌, arith, Bool, true, ◌⊎◌, Option, Some, None, Contains, All, IsSome, IfSome, option_and_then, cases_Bool, All-cons, All-tail, Name, Value, Nil, Number, Ref, Parts, Node, Con, Var, Arr, Thunk, Weak, Stack, Search, World, node_of, AreKnown, IsNodeOf, IsWorld, parts_held, IsMarked, IsPlaced, HasPlaces, IsAlive, IsAliveWeak, IsKeptBy, IsLive, with_weak, with_weaks, parts_in, parts_of, is_key_marked, AreRevived, name_in, key_of, contains_head, contains_tail, contains_cases, name_placed, parts_from_alive, parts_alive, alive_from_parts}
 use Rattle.nmgc_graph.proofs.{Searches.same_ref, Searches.Marks, Searches.no_marks, Searches.then_marks, Searches.values_mark, Searches.are_placed, Follows.places_stay}
 
--- an alive weak pointer waits for the name that its key refers to
+-- a weak pointer that is alive waits for the name that its key refers to
 pub key_from_alive : (w : World) (weak name : Name) (parts : Parts) → IsAlive w weak parts → parts.key ≡ Ref name → key_of w weak ≡ Some name
 key_from_alive w weak name parts alive e =
     ap (λ (o : Option Parts). option_and_then (λ (p : Parts). name_in p.key) o) (parts_from_alive w weak parts alive) ∙ ap name_in e
 
--- the values in an alive weak pointer are known
+-- the values in a weak pointer that is alive are known
 pub parts_known : (w : World) (o : Option Node) → IfSome o (IsNodeOf w) → (parts : Parts) → option_and_then parts_in o ≡ Some parts →
     AreKnown w (parts_held (Some parts))
 parts_known w None is parts e = absurd cc
@@ -155,7 +155,7 @@ module _ (w : World) (h : IsWorld w) where
         | inr d ↦ weaks_done xs t placed weak target parts d alive shown kept
       ]
 
-  -- after a pass over all alive weak pointers, each with a marked key has marked its parts, unless the key waits
+  -- after a pass over all weak pointers that are alive, each with a marked key has marked its parts, unless the key waits
   pub revived : (weaks : List Name) (s : Search) → HasPlaces w s.marks → ((weak : Name) → IsAliveWeak w weak → Contains weaks weak) →
       AreRevived w (with_weaks w s weaks)
   revived weaks s places all weak target parts alive shown kept = weaks_done weaks s places weak target parts (all weak (parts, alive)) alive shown kept

@@ -1,6 +1,6 @@
--- The search for names: a set of marked names, some of them still waiting on a worklist.
+-- A search for names: a set of marked names, some of them still waiting on a worklist.
 --
--- Only private contracts use these words. `Reach` alone defines the answers of the public calls.
+-- Only private contracts use these definitions. The answers of the public calls are defined by `Reach` alone.
 use Rattle.std.specs.Prelude.{◌≡◌, ◌⊎◌, ◌≤◌, List, [], ◌∷◌, ◌++◌, map, flat_map, Bool, true, false, not, ◌&&◌, Contains, IsSome, fold, Option, Some, None, option_and_then, if◌then◌else◌}
 use Rattle.nmgc_world_spec.specs.{declared.value.Name.Name, declared.value.Value.Value, declared.node.Parts.Parts, declared.node.Node.Node, declared.node.Node.TheVariants.Weak, World.World, World.node_of, declared.mutator_state.MutatorState.MutatorState, Step.shared_name}
 use Rattle.nmgc_world_spec.specs.declared.value.Value.TheVariants as value

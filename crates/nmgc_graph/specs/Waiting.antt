@@ -1,8 +1,8 @@
 -- The weak pointers of a list, filed by the names that they wait for, which are their keys.
 --
--- These are words of the private contracts. A weak pointer is represented by its position in the list. The weak pointers that
--- wait for a name are represented by a bound: their positions are below it, and the last is just below it. The bound is 0 if
--- none waits.
+-- Only private contracts use these definitions. A weak pointer is represented by its position in the list. The weak pointers
+-- that wait for a name are represented by a bound: their positions are below it, and the last is just below it. The bound is
+-- 0 if no weak pointer waits.
 use Rattle.std.specs.Prelude.{◌≡◌, ℕ, ◌+◌, ◌<◌, ◌≤◌, List, [], ◌∷◌, ◌++◌, length, slice_index, slice_index_or, slice_set, Option, Some, None, IsSome, Contains, option_and_then}
 use Rattle.nmgc_world_spec.specs.{declared.value.Name.Name, declared.value.Value.Value, declared.node.Parts.Parts, World.World, World.node_of}
 use Rattle.nmgc_world_spec.specs.declared.value.Value.TheVariants as value
@@ -52,8 +52,7 @@ pub record IsBound (w : World) (weaks : List Name) (name : Name) (place bound : 
   pub below : (k : ℕ) → k < place → key_of w (weak_at weaks k) ≡ Some name → k < bound
   pub last : (k : ℕ) → bound ≡ k + 1 → key_of w (weak_at weaks k) ≡ Some name
 
--- the index of the first `count` weak pointers: each name has its bound, and each weak pointer that waits has the bound
--- before it
+-- the index of the first `count` weak pointers: each name's bound, and for each weak pointer that waits the bound before it
 pub record AreFiled (w : World) (weaks : List Name) (count : ℕ) (waiting : Waiting) : Type 0 where
   pub counted : length waiting.before ≡ count
   pub places : (name : Name) → IsSome (node_of w name) → HasBound waiting.bounds name

@@ -2,13 +2,13 @@
 //!
 //! `set`, `cas`, `update`, `push`, `pop` and `finalise` differ in the object they want and in their writes. They agree in all
 //! else: the object is looked up, refused by its kind, changed in place, and a reply is given. So the world lends the object
-//! once, and the change is done here, on the node alone, in two halves. `change_reply` only reads: it gives the reply, which
-//! also says whether the change is done. `write` writes for a change that is done, and refuses nothing. `World::apply` uses
-//! both. `World::reply`, which changes nothing, uses the first alone, so they can't differ. The readers `get`, `force` and
-//! `deref` are here too, since they refuse by kind in the same way.
+//! once, and the change is made here, on the node alone, in two halves. `change_reply` only reads: it gives the reply, which
+//! says whether the change is done. If it is, `write` makes the change, and refuses nothing. `World::apply` uses both halves,
+//! and `World::reply` the first alone, so the two can't differ. The readers for `get`, `force` and `deref` are here too,
+//! since they refuse by kind in the same way.
 //!
-//! Easy to get wrong: `write` doesn't check for refusals again, and writes a variable's field at any index. So it is only for
-//! changes whose reply says that they are done.
+//! Easy to get wrong: `write` doesn't check for refusals again, and writes a variable's field at any index. So it may be
+//! called only if the reply says that the change is done.
 ghost use Rattle.std.specs.Prelude.{◌≡◌, IfOk, OnOk, OnErr};
 ghost use Rattle.nmgc_world_spec.specs.Change.{changed, field_read, result_read, value_read, field_set, field_exchanged, thunk_updated, stack_pushed, stack_popped, weak_finalised, is_same, given_or, is_done, written, field_written, result_written, value_pushed, top_dropped, killed};
 ghost use Rattle.nmgc_world_spec.specs.declared.value.Value.{Value as ValueAt};
@@ -16,8 +16,8 @@ ghost use Rattle.nmgc_world_spec.specs.declared.value.Value.{Value as ValueAt};
 use nmgc_lists::NoMemory;
 use nmgc_world_spec::{Change, Node, Reply, Value};
 
-/// Returns the reply to `get` for an object: a field of a constructor, a variable or an array, or a refusal. Takes no memory,
-/// and constant time.
+/// Returns the reply to `get` for an object: the field at `index` of a constructor, a variable or an array, or a refusal.
+/// Takes no memory, and constant time.
 pub fn read_field(node: &Node, index: u32) -> Reply
     ensures { result ≡ field_read node.now index }
 {
@@ -75,8 +75,7 @@ pub fn same(left: Value, right: Value) -> bool
     }
 }
 
-/// Returns the reply to a change of a node that `maker` made. This half of a change only reads: the node stays as it is.
-/// Takes no memory, and constant time.
+/// Returns the reply to a change of a node that `maker` made. The node stays as it is. Takes no memory, and constant time.
 pub fn change_reply(node: &Node, maker: u8, change: Change) -> Reply
     ensures { result ≡ (changed change maker node.now).1 }
 {
@@ -94,7 +93,7 @@ pub fn change_reply(node: &Node, maker: u8, change: Change) -> Reply
     }
 }
 
-// Returns the reply to a write of a field.
+// Returns the reply to `set`: a write of a field.
 fn set_reply(node: &Node, index: u32) -> Reply
     ensures { (v : ValueAt) → result ≡ (field_set node.now index v).1 }
 {
@@ -111,7 +110,7 @@ fn set_reply(node: &Node, index: u32) -> Reply
     }
 }
 
-// Returns the reply to a write that is done only if the field has the expected value.
+// Returns the reply to `cas`: a write of a field that is done only if the field has the expected value.
 fn exchange_reply(node: &Node, index: u32, expected: Value) -> Reply
     ensures { (v : ValueAt) → result ≡ (field_exchanged node.now index expected v).1 }
 {
@@ -209,9 +208,8 @@ fn is_done(reply: Reply) -> bool
     }
 }
 
-/// Changes the node of an object in place and returns the reply: `change_reply`, then the half that writes. `maker`, a
-/// mutator or g's maker, made the object. A refusal, `No` or `Already` leaves the node as it was. Only a push takes memory.
-/// After `NoMemory` the node is unchanged.
+/// Changes the node of an object in place, and returns the reply. `maker`, a mutator or g's maker, made the object. A
+/// refusal, `No` or `Already` leaves the node as it was. Only a push takes memory. After `NoMemory` the node is unchanged.
 #[tactic(auto, using(crate::proofs::Changes::done_is, crate::proofs::Changes::refused_is))]
 pub fn change_in_place(node: &mut Node, maker: u8, change: Change) -> Result<Reply, NoMemory>
     ensures ok { IfOk result (λ reply. changed change maker node.old ≡ (node.new, reply)) }
@@ -225,7 +223,7 @@ pub fn change_in_place(node: &mut Node, maker: u8, change: Change) -> Result<Rep
     Ok(reply)
 }
 
-// Writes a change that is done into the node. After `NoMemory` the node is unchanged.
+// Makes a change in the node; the reply has to say that the change is done. After `NoMemory` the node is unchanged.
 fn write(node: &mut Node, change: Change) -> Result<(), NoMemory>
     ensures ok { OnOk result (node.new ≡ written change node.old) }
     ensures err { OnErr result (node.new ≡ node.old) }

@@ -1,8 +1,8 @@
-//! Closing: weak pointers die, and their finalisers are queued.
+//! Closing a world: weak pointers die, and their finalisers are queued.
 //!
-//! The collector finds the dead weak pointers of a snapshot and closes the world with them at a stop. Each of them dies, and
-//! its finaliser, unless nil, joins the end of its maker's finaliser queue, in order of the weak pointers' names. So two runs
-//! that find the same dead weak pointers hand out the same finalisers in the same order.
+//! The collector finds the weak pointers that are dead by its snapshot, and closes the world with them at a stop. Each of
+//! them dies, in the order of names. Its finaliser, unless nil, joins the end of the finaliser queue of the weak pointer's
+//! maker. So two runs that find the same dead weak pointers hand out the same finalisers in the same order.
 ghost use Rattle.std.specs.Prelude.{◌≡◌, ◌<◌, All, OnOk, OnErr, length, slice_get, Some, None};
 ghost use Rattle.nmgc_world_spec.specs.{Reach.queued, Step.with_nth};
 ghost use Rattle.nmgc_graph.specs.Closing.{finaliser_of};
@@ -15,9 +15,9 @@ impl World {
     ghost use Rattle.nmgc_world_spec.specs.{World.IsWorld, World.node_of, Reach.IsAliveWeak, Reach.IsInOrder, Reach.closed, Reach.closed_by};
     ghost use Rattle.nmgc_graph.specs.Closing.{IsPartlyClosed};
 
-    /// Closes the world with dead weak pointers: in the order of their names each dies, and its finaliser, unless nil, joins
-    /// the end of its maker's queue. After `NoMemory` the world is closed with only the first of them. Takes time
-    /// proportional to their number.
+    /// Closes the world with the weak pointers in `dead`, which are in the order of names. Each of them dies, and its
+    /// finaliser joins the end of the queue of the weak pointer's maker, unless the finaliser is nil. After `NoMemory` the
+    /// world is closed with only the first few of them. Takes time proportional to their number.
     pub fn close(&mut self, dead: &[Name]) -> Result<(), NoMemory>
         requires ordered { IsInOrder dead.now }
         requires alive { All (IsAliveWeak self.old) dead.now }
@@ -26,7 +26,7 @@ impl World {
         ensures closed { IsWorld self.new }
     {
         let answer = self.close_all(dead);
-        // Reading a field gives the checker the invariant of every world: it is closed.
+        // Note [Lines that do nothing] in `nmgc_alloc`: this gives the prover that the world is closed, as every world is.
         let _ = &self.mutators;
         answer
     }
@@ -51,15 +51,15 @@ impl World {
         ensures ok { OnOk result (self.new ≡ closed_by self.old weak (node_of self.old weak)) }
         ensures err { OnErr result (self.new ≡ self.old) }
     {
-        die(
+        kill_and_queue(
             &mut self.mutators.items_mut()[weak.maker as usize],
             weak.serial,
         )
     }
 }
 
-// Makes this mutator's weak pointer with a serial dead, and queues its finaliser.
-fn die(state: &mut MutatorState, serial: u32) -> Result<(), NoMemory>
+// Makes the mutator's weak pointer with this serial dead, and queues its finaliser.
+fn kill_and_queue(state: &mut MutatorState, serial: u32) -> Result<(), NoMemory>
     requires { serial < length state.old.nodes }
     ensures ok { OnOk result (state.new ≡ queued (with_nth state.old serial (Node.Weak None)) (finaliser_of (slice_get state.old.nodes serial))) }
     ensures err { OnErr result (state.new ≡ state.old) }
@@ -80,7 +80,7 @@ fn finaliser_of(node: &Node) -> Value
     }
 }
 
-// Adds a finaliser to the end of the queue, unless it is nil.
+// Adds a finaliser to the end of the mutator's queue, unless the finaliser is nil.
 fn enqueue(state: &mut MutatorState, finaliser: Value) -> Result<(), NoMemory>
     ensures ok { OnOk result (state.new ≡ queued state.old finaliser) }
     ensures err { OnErr result (state.new ≡ state.old) }

@@ -1,12 +1,11 @@
-//! The reference heap, a heap that is never collected, as code: the world that commands change.
+//! The reference heap as code: a heap that is never collected. Its state is a world, which commands change.
 //!
-//! Every reply of the collector is judged by this model. It has no heap words, no blocks and no marks. A world is a map from
-//! names to nodes that only grows, with the registers and the finaliser queue of each mutator. Its specification and its
-//! types are in `nmgc_world_spec`. It is called by the marking machine, the checker of traces and the tests, but by no run of
-//! the collector.
+//! Every reply of the collector is judged by this model, which has no heap words, no blocks and no marks. A world is a map
+//! from names to nodes that only grows, with the registers and the finaliser queue of each mutator. `nmgc_world_spec` has its
+//! types and its specification. The marking machine, the checker of traces and the tests use this crate; no run uses it.
 //!
-//! `Marks` is a set of names. Lists and the error for want of memory come from `nmgc_lists`, and the numbers of registers,
-//! mutators and shared slots come from `nmgc_limits`. This crate names all of these again.
+//! `Marks` is a set of names. This crate exports lists and `NoMemory` of `nmgc_lists` again, and the numbers of registers,
+//! mutators and shared slots of `nmgc_limits`.
 #![tactic(auto)]
 
 pub mod change;

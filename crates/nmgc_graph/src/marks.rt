@@ -2,7 +2,7 @@
 //!
 //! The names of a world are dense: a maker's serials run from 0 without a gap. So a set is a row of marks for each maker.
 //! Adding a name and asking for a name take constant time, and the rows in order give the names in order. The search for live
-//! names counts down the number of names that aren't in the set, so that it ends.
+//! names ends, since it only adds names to its set, and the set has places for finitely many.
 ghost use Rattle.std.specs.Prelude.{◌≡◌, ◌+◌, ◌<◌, ◌≤◌, ◌^◌, [], ◌∷◌, ◌++◌, length, true, false, not, replicate, slice_index_or, slice_set, IfOk, OnOk, All};
 ghost use Rattle.nmgc_graph.specs.Marks.{HasPlace, IsMarked, mark_of, row_of, with_mark};
 ghost use Rattle.nmgc_world_spec.specs.{Reach.Lists, Order.ListsBefore};
@@ -12,7 +12,7 @@ use nmgc_world_spec::Name;
 use std::alloc::Global;
 use std::marker::Model;
 
-/// A set of names, which has places for finitely many names of each maker.
+/// A set of names, with places for finitely many names of each maker.
 #[derive(Drop)]
 pub struct Marks {
     rows: List<List<bool>>,
@@ -27,7 +27,7 @@ impl Model for Marks {
 }
 
 impl Marks {
-    /// Makes a set without places. Takes no memory.
+    /// Makes an empty set, without places for names. Takes no memory.
     pub(crate) fn new(alloc: Global) -> Self
         ensures { result ≡ [] }
     {
@@ -84,7 +84,7 @@ impl Marks {
         self.rows.items()[maker as usize].items()
     }
 
-    // Adds the names of `maker` in the set to a list, which has the names of the makers before it.
+    // Adds the set's names of `maker` to a list that has the set's names of all makers before.
     fn list_row(&self, maker: u8, names: &mut List<Name>) -> Result<(), NoMemory>
         requires maker { maker < length self.now }
         requires serials { All (λ row. length row ≤ 2 ^ 32) self.now }

@@ -1,8 +1,8 @@
-//! The names that a command opens, and the weak pointer that it kills: for the marking machine, and for the watch over a
-//! barrier.
+//! The names that a command opens, and the weak pointer that it kills: for the marking machine and the barrier checker.
 //!
 //! A mutator that reads a weak pointer's value, or finalises a weak pointer, may get a reference to an object that was
-//! reachable in no other way. From then on these names count as live. The collector no longer kills a finalised weak pointer.
+//! reachable in no other way. The command *opens* the names in such values: they count as live from then on. The collector
+//! doesn't kill a finalised weak pointer again.
 ghost use Rattle.std.specs.Prelude.{◌≡◌, ◌<◌, length, IfOk, option_and_then};
 ghost use Rattle.nmgc_world_spec.specs.{Command.HasRegisters, Command.IsOperand, Owed.names_among, History.opened_by, History.finalised_by, Step.value_for, Step.object_of};
 ghost use Rattle.nmgc_graph.specs.Search.{parts_in};
@@ -12,8 +12,9 @@ use nmgc_lists::NoMemory;
 use nmgc_world_spec::{Command, Name, Operand, Parts, Value};
 use std::alloc::Global;
 
-/// Returns the names, at most two, that a command opens if the world takes it. After `NoMemory` there is no answer. Takes
-/// constant time.
+/// Returns the names, at most two, that a mutator's command opens if it is done in this world. `deref` opens the name in the
+/// value that it reads. `finalise` opens the names in the value and the finaliser of the weak pointer that it kills. After
+/// `NoMemory` there is no answer. Takes constant time.
 pub fn opened_by(world: &World, mutator: u8, command: &Command) -> Result<Vec<Name>, NoMemory>
     requires mutator { mutator < length world.now.mutators }
     requires registers { HasRegisters command.now }
@@ -33,8 +34,8 @@ pub fn opened_by(world: &World, mutator: u8, command: &Command) -> Result<Vec<Na
     }
 }
 
-/// Returns the weak pointer, if any, that a command kills if the world takes it. After `NoMemory` there is no answer. Takes
-/// constant time.
+/// Returns the weak pointer, if any, that a mutator's command kills if it is done in this world: only `finalise` kills. After
+/// `NoMemory` there is no answer. Takes constant time.
 pub fn finalised_by(world: &World, mutator: u8, command: &Command) -> Result<Vec<Name>, NoMemory>
     requires mutator { mutator < length world.now.mutators }
     requires registers { HasRegisters command.now }
@@ -50,7 +51,7 @@ pub fn finalised_by(world: &World, mutator: u8, command: &Command) -> Result<Vec
     }
 }
 
-// Returns the parts of the weak pointer that an operand refers to, if that weak pointer exists and is alive.
+// Returns the parts of the object to which an operand refers, if the object is a weak pointer that is alive.
 fn parts_of(world: &World, mutator: u8, object: Operand) -> Option<Parts>
     requires mutator { mutator < length world.now.mutators }
     requires operand { IsOperand object }

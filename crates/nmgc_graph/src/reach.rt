@@ -1,13 +1,14 @@
 //! Live names, dead weak pointers and kept names.
 //!
-//! Each is a least set: it contains only the names that its rules give. The search marks the roots, and passes once over the
-//! weak pointers that are alive. If a key is live, the weak pointer, its value and its finaliser are live too. Then it takes
-//! up the marked names one by one. For each it marks the targets of its strong fields, and all that is kept by the weak
-//! pointers with just this key. An index finds these weak pointers, so each is looked at twice at most, however they revive
-//! one another.
+//! The live names are a least set, and so are the kept names: each contains only the names that its rules give. If the key of
+//! a weak pointer is live, the weak pointer, its value and its finaliser are live too. The search for live names marks the
+//! roots. Then a pass over the weak pointers that are alive marks those with a marked key. Last it takes up the marked names
+//! one by one. For each name it marks the targets of the name's strong fields, and the weak pointers that have this name as
+//! key. With a weak pointer it marks value and finaliser. An index finds these weak pointers, so each is looked at twice at
+//! most, however they revive one another.
 //!
 //! Easy to get wrong: a single pass is not enough, since a weak pointer may revive the key of a weak pointer before it. A
-//! weak pointer whose key is nil or a number waits for no name. And the weak pointer itself need not be referred to.
+//! weak pointer with nil or a number as key is live from the start. And a weak pointer needs no reference to be live.
 ghost use Rattle.std.specs.Prelude.{◌≡◌, ℕ, ◌+◌, ◌<◌, [], false, IsSome, IfSome, IfOk, OnOk, All, length, flat_map};
 ghost use Rattle.nmgc_world_spec.specs.declared.value.Name.{Name as NameAt};
 ghost use Rattle.nmgc_graph.specs.{Marks.IsPlaced, Marks.mark_of, Search.with_values, Search.values_held, Search.parts_in, Search.fields_in};
@@ -25,34 +26,35 @@ impl World {
     ghost use Rattle.nmgc_graph.specs.{Marks.HasPlaces, Marks.count_of, Waiting.key_of, Waiting.bounds_of, Waiting.bound_of, Waiting.AreFiled, Waiting.IsRevival};
     ghost use Rattle.nmgc_graph.specs.Search.{IsSearch, IsFollowed, parts_of, with_weak, with_weaks, starts_of, IsLiveSearch, IsLiveFound, IsKeptFound, IsLost, IsSetOf, is_lost, finalisers_of};
 
-    /// Returns the live names in order: g, the targets of registers and finaliser queues, the further names, and all that is
-    /// reachable from these along strong fields and by live keys. After `NoMemory` there is no answer. Takes time
-    /// proportional to the names, their fields and the further names, and memory for each name.
-    pub fn live(&self, extra: &[Name]) -> Result<List<Name>, NoMemory>
+    /// Returns the live names in order. They are the least set that has g, the targets of registers and finaliser queues, and
+    /// the names in `extra`, and that follows strong fields. It also has each weak pointer that is alive and whose key is
+    /// live, nil or a number, with value and finaliser. After `NoMemory` there is no answer. Takes time proportional to the
+    /// names, their fields and `extra`, and memory for each name.
+    pub fn live_names(&self, extra: &[Name]) -> Result<List<Name>, NoMemory>
         requires { All (λ name. IsSome (node_of self.now name)) extra.now }
         ensures { IfOk result (λ names. Lists (IsLive self.now extra.now) names) }
     {
-        // Reading a field gives the checker the invariant of every world: it is closed.
+        // Note [Lines that do nothing] in `nmgc_alloc`: this gives the prover that the world is closed, as every world is.
         let _ = &self.mutators;
         let weaks = self.alive_weaks()?;
         let search = self.find_live(extra, weaks.items())?;
         search.marks.names(self.alloc)
     }
 
-    /// Returns the dead weak pointers in order: alive so far, not among `finalised`, and with a key that refers to a name
-    /// that isn't live. Names of `finalised` outside the map have no effect. Takes the time of `live`, and constant time for
-    /// each name of `finalised`.
+    /// Returns the dead weak pointers in order, which die at the closing. Each is alive so far and isn't in `finalised`, and
+    /// its key refers to a name that isn't live. Names in `finalised` that the world doesn't have are ignored. Takes the time
+    /// of `live_names`, and constant time for each name in `finalised`.
     pub fn dead_weaks(&self, extra: &[Name], finalised: &[Name]) -> Result<List<Name>, NoMemory>
         requires { All (λ name. IsSome (node_of self.now name)) extra.now }
         ensures { IfOk result (λ names. Lists (IsDead self.now extra.now finalised.now) names) }
     {
         let weaks = self.alive_weaks()?;
         let search = self.find_live(extra, weaks.items())?;
-        self.lost(&search, weaks.items(), finalised)
+        self.lost_weaks(&search, weaks.items(), finalised)
     }
 
     /// Returns the kept names in order: the live names, the finalisers of dead weak pointers, and all that is reachable from
-    /// these along strong fields. Takes the time of `live`, and constant time for each name of `finalised`.
+    /// these along strong fields. Takes the time of `live_names`, and constant time for each name in `finalised`.
     pub fn kept(&self, extra: &[Name], finalised: &[Name]) -> Result<List<Name>, NoMemory>
         requires { All (λ name. IsSome (node_of self.now name)) extra.now }
         ensures { IfOk result (λ names. Lists (IsKept self.now extra.now finalised.now) names) }
@@ -62,7 +64,7 @@ impl World {
         search.marks.names(self.alloc)
     }
 
-    // Returns the search that has marked exactly the kept names.
+    // Returns a search that has marked exactly the kept names.
     fn find_kept(&self, extra: &[Name], finalised: &[Name]) -> Result<Search, NoMemory>
         requires { All (λ name. IsSome (node_of self.now name)) extra.now }
         ensures { IfOk result (IsKeptFound self.now extra.now finalised.now) }
@@ -70,7 +72,7 @@ impl World {
         let _ = &self.mutators;
         let weaks = self.alive_weaks()?;
         let mut search = self.find_live(extra, weaks.items())?;
-        let dead = self.lost(&search, weaks.items(), finalised)?;
+        let dead = self.lost_weaks(&search, weaks.items(), finalised)?;
         self.mark_finalisers(dead.items(), &mut search)?;
         self.follow(&mut search)?;
         Ok(search)
@@ -87,7 +89,7 @@ impl World {
         Ok(weaks)
     }
 
-    // Adds `maker`'s weak pointers that are alive to a list, which has the weak pointers of the makers before it.
+    // Adds the weak pointers of `maker` that are alive to a list that has them for all makers before.
     fn list_weaks(&self, maker: u8, weaks: &mut List<Name>) -> Result<(), NoMemory>
         requires maker { maker < length self.now.mutators }
         requires before { ListsBefore (IsAliveWeak self.now) maker 0 weaks.old }
@@ -103,8 +105,8 @@ impl World {
         Ok(())
     }
 
-    // Returns the weak pointers that are alive and not finalised, and whose keys aren't marked, in order.
-    fn lost(
+    // Returns the weak pointers that are alive and not in `finalised`, and whose keys aren't marked, in order.
+    fn lost_weaks(
         &self,
         search: &Search,
         weaks: &[Name],
@@ -133,8 +135,8 @@ impl World {
         }
     }
 
-    /// Returns the set of those given names that are in the map. After `NoMemory` there is no answer. Takes memory and time
-    /// for each name of this world, and constant time for each given name.
+    /// Returns the set of those names in `names` that are in the map. After `NoMemory` there is no answer. Takes memory and
+    /// time for each name of this world, and constant time for each name in `names`.
     pub fn set_of(&self, names: &[Name]) -> Result<Marks, NoMemory>
         ensures { IfOk result (IsSetOf self.now names.now) }
     {
@@ -147,7 +149,7 @@ impl World {
         Ok(marks)
     }
 
-    // Marks the finalisers of those weak pointers that are alive.
+    // Marks the finalisers of the weak pointers in `weaks` that are alive.
     fn mark_finalisers(&self, weaks: &[Name], search: &mut Search) -> Result<(), NoMemory>
         requires { HasPlaces self.now search.old.marks }
         ensures { OnOk result (search.new ≡ with_values search.old (finalisers_of self.now weaks.now)) }
@@ -161,7 +163,7 @@ impl World {
         Ok(())
     }
 
-    // Marks all that is reachable from the waiting names along strong fields.
+    // Marks all names that strong fields reach from the names on the worklist, and empties the worklist.
     fn follow(&self, search: &mut Search) -> Result<(), NoMemory>
         requires { IsSearch self.now search.old }
         ensures followed { OnOk result (IsFollowed self.now search.old search.new) }
@@ -210,7 +212,7 @@ impl World {
         }
     }
 
-    // For each of the weak pointers in order: marks it, its value and its finaliser, if its key is marked.
+    // Goes over weak pointers in order: each one with a marked key is marked, with its value and its finaliser.
     fn mark_weaks(&self, weaks: &[Name], search: &mut Search) -> Result<(), NoMemory>
         requires { HasPlaces self.now search.old.marks }
         ensures { OnOk result (search.new ≡ with_weaks self.now search.old weaks.now) }
@@ -234,8 +236,8 @@ impl World {
         }
     }
 
-    // Returns an index without weak pointers, with a place for each name of the world.
-    fn none_filed(&self) -> Result<Waiting, NoMemory>
+    // Makes an index without weak pointers, with a place for each name of the world.
+    fn empty_index(&self) -> Result<Waiting, NoMemory>
         ensures before { IfOk result (λ waiting. waiting.before ≡ []) }
         ensures counts { IfOk result (λ waiting. (maker : ℕ) → length (bounds_of waiting.bounds maker) ≡ count_of self.now maker) }
         ensures none { IfOk result (λ waiting. (name : NameAt) → bound_of waiting.bounds name ≡ 0) }
@@ -247,18 +249,18 @@ impl World {
         Ok(waiting)
     }
 
-    // Returns the index of weak pointers by the names that they wait for.
-    fn filed(&self, weaks: &[Name]) -> Result<Waiting, NoMemory>
+    // Makes an index of weak pointers by the names that they wait for, which are their keys.
+    fn index_weaks(&self, weaks: &[Name]) -> Result<Waiting, NoMemory>
         ensures { IfOk result (AreFiled self.now weaks.now (length weaks.now)) }
     {
-        let mut waiting = self.none_filed()?;
+        let mut waiting = self.empty_index()?;
         for weak in weaks {
             waiting.add(self.key(*weak))?;
         }
         Ok(waiting)
     }
 
-    // Marks the weak pointers that wait for `name`, with their values and their finalisers.
+    // Marks the weak pointers that wait for `name`, a marked name, with their values and their finalisers.
     fn revive(
         &self,
         name: Name,
@@ -305,7 +307,7 @@ impl World {
         Ok(marks)
     }
 
-    // Marks g, the targets of the mutators' registers and queues, and the further names.
+    // Marks g, the targets of the mutators' registers and queues, and the names in `extra`.
     fn mark_starts(&self, extra: &[Name], search: &mut Search) -> Result<(), NoMemory>
         requires extra { All (λ name. IsSome (node_of self.now name)) extra.now }
         requires places { HasPlaces self.now search.old.marks }
@@ -316,8 +318,8 @@ impl World {
         search.mark_names(extra)
     }
 
-    // Returns a search that has marked its starts: g, the targets of registers and queues, and the further names.
-    fn start(&self, extra: &[Name]) -> Result<Search, NoMemory>
+    // Returns a search that has marked its starts: g, the targets of registers and queues, and the names in `extra`.
+    fn start_search(&self, extra: &[Name]) -> Result<Search, NoMemory>
         requires { All (λ name. IsSome (node_of self.now name)) extra.now }
         ensures { IfOk result (IsLiveSearch self.now extra.now) }
     {
@@ -329,15 +331,15 @@ impl World {
         Ok(search)
     }
 
-    // Returns the search that has marked exactly the live names.
+    // Returns a search that has marked exactly the live names. `weaks` are the weak pointers that are alive.
     fn find_live(&self, extra: &[Name], weaks: &[Name]) -> Result<Search, NoMemory>
         requires extra { All (λ name. IsSome (node_of self.now name)) extra.now }
         requires weaks { Lists (IsAliveWeak self.now) weaks.now }
         ensures { IfOk result (IsLiveFound self.now extra.now) }
     {
         let _ = &self.mutators;
-        let waiting = self.filed(weaks)?;
-        let mut search = self.start(extra)?;
+        let waiting = self.index_weaks(weaks)?;
+        let mut search = self.start_search(extra)?;
         self.mark_weaks(weaks, &mut search)?;
         while let Some(name) = search.work.pop() {
             self.mark_fields(name, &mut search)?;

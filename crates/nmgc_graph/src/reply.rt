@@ -1,8 +1,8 @@
 //! The reply that a command would get.
 //!
 //! A world that has stepped can't step back. A caller that wants a reply before anything changes asks here. For example, an
-//! event of the marking machine contains its command's reply, and happens only if the world gives this reply. The replies for
-//! an object, a change and two values come from the very readers that `apply` uses.
+//! event of the marking machine contains its command's reply, and happens only if the world gives this reply. Replies to
+//! reads, changes and `same` come from the very functions that `apply` uses.
 ghost use Rattle.std.specs.Prelude.{◌≡◌, ◌<◌, length};
 
 use crate::World;
@@ -12,7 +12,7 @@ use nmgc_world_spec::{Change, Command, Name, Reply, Value};
 impl World {
     ghost use Rattle.nmgc_world_spec.specs.{Command.HasRegisters, Step.step, Step.asked, Step.change_asked, Step.change_object, Step.next_name, World.state_of};
 
-    /// Returns the reply of `apply` to a command, if there is memory. Changes nothing. Takes no memory, and constant time.
+    /// Returns the reply that `apply` gives if there is memory. Changes nothing. Takes no memory, and constant time.
     pub fn reply(&self, mutator: u8, command: &Command) -> Reply
         requires mutator { mutator < length self.now.mutators }
         requires registers { HasRegisters command.now }

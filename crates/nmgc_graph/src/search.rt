@@ -1,8 +1,9 @@
-//! The search for names: the marked names, and those that still wait.
+//! A search for names: the marked names, and a worklist of marked names that wait.
 //!
-//! A name is marked once and joins the worklist once, when it is found. So a search takes time proportional to the names that
-//! it marks and the fields that it reads, and it needs no recursion. Marked names that are not on the worklist have been
-//! followed. So all that a name refers to has to be marked between taking it off the worklist and taking the next.
+//! A name is marked once, and joins the worklist when it is marked. So a search takes time proportional to the names that it
+//! marks and the fields that it reads, and it needs no recursion. The fields of a marked name refer to marked names, unless
+//! the name is on the worklist. So once a name is taken off the list, all names in its fields have to be marked before the
+//! next one is taken.
 ghost use Rattle.std.specs.Prelude.{◌≡◌, All, OnOk, map};
 ghost use Rattle.nmgc_world_spec.specs.{declared.value.Value.TheVariants.Ref, Reach.strong_fields};
 ghost use Rattle.nmgc_graph.specs.Marks.{HasPlace, IsPlaced};
@@ -11,7 +12,7 @@ use crate::marks::Marks;
 use nmgc_lists::{List, NoMemory};
 use nmgc_world_spec::{Name, Node, Value};
 
-/// The marked names, and the names among them that wait.
+/// The marked names, and the worklist: the marked names that wait for their fields to be marked.
 #[derive(Drop)]
 pub(crate) struct Search {
     pub(crate) marks: Marks,
@@ -21,7 +22,7 @@ pub(crate) struct Search {
 impl Search {
     ghost use Rattle.nmgc_graph.specs.Search.{with_name, with_value, with_values, is_key_marked};
 
-    /// Marks a name. If it wasn't marked before, it waits from now on.
+    /// Marks a name, and puts it on the worklist if it wasn't marked before.
     pub(crate) fn mark(&mut self, name: Name) -> Result<(), NoMemory>
         requires { HasPlace self.old.marks name }
         ensures { OnOk result (self.new ≡ with_name self.old name) }
@@ -54,7 +55,7 @@ impl Search {
         Ok(())
     }
 
-    /// Marks each of these names. Those that weren't marked before wait from now on.
+    /// Marks each of these names, and puts those that weren't marked before on the worklist.
     pub(crate) fn mark_names(&mut self, names: &[Name]) -> Result<(), NoMemory>
         requires { All (HasPlace self.old.marks) names.now }
         ensures { OnOk result (self.new ≡ with_values self.old (map Ref names.now)) }

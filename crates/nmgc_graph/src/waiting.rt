@@ -1,10 +1,11 @@
-//! The weak pointers that wait for each name.
+//! An index of weak pointers by the names that they wait for.
 //!
-//! A weak pointer lives as soon as its key does. So when the search takes up a name, it has to find exactly the weak pointers
-//! that wait for it. They are in a list, and a weak pointer is represented by its position there. The index has a bound for
-//! each name: all that wait for it have positions below the bound, and the last is just below it. For each weak pointer it
-//! also has the bound that its key had before, which leads to the weak pointer before it. So filing a weak pointer takes
-//! constant time, and going over those that wait for a name takes time for these alone.
+//! A weak pointer waits for its key: it becomes live when the key is live. So when the search takes up a name, it has to find
+//! exactly the weak pointers that wait for this name. They are in a list, and a position in the list represents a weak
+//! pointer. The index has a bound for each name. The weak pointers that wait for the name have positions below the bound, and
+//! the last is just below it. For each weak pointer the index also has the bound that its key had before, which leads to the
+//! weak pointer before it with the same key. So filing a weak pointer takes constant time, and going over those that wait for
+//! a name takes time for these alone.
 //!
 //! Easy to get wrong: a bound is one more than a position, and 0 if none waits. Each bound on the way is smaller than the
 //! bound before it, so the way ends.
@@ -14,7 +15,7 @@ use nmgc_lists::{List, NoMemory};
 use nmgc_world_spec::Name;
 use std::alloc::Global;
 
-/// The bound of each name for the weak pointers that wait for it, and for each weak pointer the bound before it.
+/// The bound of each name, and for each weak pointer the bound that its key had before.
 #[derive(Drop)]
 pub(crate) struct Waiting {
     pub(crate) bounds: List<List<usize>>,
@@ -49,7 +50,7 @@ impl Waiting {
     {
         let bound = self.before.items().len() + 1;
         let before = match key {
-            Some(name) => raise(
+            Some(name) => replace_bound(
                 &mut self.bounds.items_mut()[name.maker as usize],
                 name.serial,
                 bound,
@@ -59,7 +60,7 @@ impl Waiting {
         self.before.push(before)
     }
 
-    /// Returns the bound of the weak pointers that wait for a name; it is 0 if none waits. Takes constant time.
+    /// Returns the bound of a name; it is 0 if no weak pointer waits for the name. Takes constant time.
     pub(crate) fn bound(&self, name: Name) -> usize
         ensures { result ≡ bound_of self.now.bounds name }
     {
@@ -69,7 +70,7 @@ impl Waiting {
         }
     }
 
-    /// Returns the bound that the key of the weak pointer at `place` had before the filing. Takes constant time.
+    /// Returns the bound that a weak pointer's key had before the weak pointer, at `place`, was filed. Takes constant time.
     pub(crate) fn bound_before(&self, place: usize) -> usize
         requires { place < length self.now.before }
         ensures { result ≡ slice_index self.now.before place }
@@ -79,7 +80,7 @@ impl Waiting {
 }
 
 // Sets the bound of a serial, and returns its old bound.
-fn raise(row: &mut List<usize>, serial: u32, bound: usize) -> usize
+fn replace_bound(row: &mut List<usize>, serial: u32, bound: usize) -> usize
     requires { serial < length row.old }
     ensures before { result ≡ slice_index row.old serial }
     ensures row { row.new ≡ slice_set row.old serial bound }

@@ -2,12 +2,12 @@
 //!
 //! A world is a finite map from names to nodes that only grows, with the registers, the finaliser queue and the next serial
 //! of each mutator. Its invariant is that it is closed: every reference in a register, a queue or a node names a node of the
-//! map. The collector is judged by it: a reply of a run is right if this world gives it.
+//! map. The collector is judged by this model: a reply of a run is right if the world gives the same reply.
 //!
-//! Each command works on one level at a time, the state of a mutator or a node, in a function of its own. A method here only
-//! lends the part. Nothing is ever taken off the map, so a known reference stays known, and closedness needs no more.
+//! Each change of a mutator's state, or of a node, is a function of its own. A method of the world only lends it that part.
+//! No name ever leaves the map. So a world stays closed if each reference that is written names a node of the map.
 //!
-//! Easy to get wrong: after want of memory nothing may have changed. So all memory is taken before a register is written.
+//! Easy to get wrong: after `NoMemory` nothing may have changed. So all memory is taken before a register is written.
 ghost use Rattle.std.specs.Prelude.{replicate, Some, None, [], ◌≡◌, ◌-◌, ◌<◌, ◌≤◌, ◌^◌, length, map, IfOk, IfSome, IsSome, OnOk, OnErr, slice_get, option_copied, All};
 ghost use Rattle.nmgc_world_spec.specs.{World.new_mutator, Command.IsOperand, Command.IsRegister, Step.value_of, Step.with_new, Step.next_name, Step.holding, Step.with_finaliser, Step.with_nth, declared.node.Node.Node as NodeAt, Change.given_or, Change.changed, Change.field_read, Change.result_read, Change.value_read};
 
@@ -71,9 +71,8 @@ impl World {
         })
     }
 
-    /// Does a command of a mutator, and returns the reply, as the step of the world does. `can_apply` returns whether the
-    /// conditions hold. A refusal, or `NoMemory`, changes nothing. The world stays closed, no name leaves it, and serials
-    /// only rise.
+    /// Does a command of a mutator, and returns the reply, as `step` defines them. `can_apply` returns whether the conditions
+    /// hold. A refusal, or `NoMemory`, changes nothing. The world stays closed, no name leaves it, and serials only rise.
     pub fn apply(&mut self, mutator: u8, command: &Command) -> Result<Reply, NoMemory>
         requires mutator { mutator < length self.old.mutators }
         requires registers { HasRegisters command.now }
@@ -83,14 +82,14 @@ impl World {
         ensures closed { IsWorld self.new }
         ensures grows { Grows self.old self.new mutator }
     {
-        let answer = self.answer(mutator, command);
-        // Reading a field gives the checker the invariant of every world: it is closed.
+        let answer = self.do_command(mutator, command);
+        // Note [Lines that do nothing] in `nmgc_alloc`: this gives the prover that the world is closed, as every world is.
         let _ = &self.mutators;
         answer
     }
 
     // Does a command of a mutator, and returns the reply.
-    fn answer(&mut self, mutator: u8, command: &Command) -> Result<Reply, NoMemory>
+    fn do_command(&mut self, mutator: u8, command: &Command) -> Result<Reply, NoMemory>
         requires mutator { mutator < length self.old.mutators }
         requires registers { HasRegisters command.now }
         requires serial { serial_of self.old mutator < 2 ^ 32 - 1 }
@@ -122,16 +121,16 @@ impl World {
                 dest,
                 object,
                 index,
-            } => Ok(self.keep(
+            } => Ok(self.keep_reply(
                 mutator,
                 *dest,
                 self.field(self.value(mutator, *object), *index),
             )),
             Command::Force { dest, object } => {
-                Ok(self.keep(mutator, *dest, self.result_of(self.value(mutator, *object))))
+                Ok(self.keep_reply(mutator, *dest, self.result_of(self.value(mutator, *object))))
             }
             Command::Deref { dest, object } => {
-                Ok(self.keep(
+                Ok(self.keep_reply(
                     mutator,
                     *dest,
                     self.weak_value(self.value(mutator, *object)),
@@ -151,7 +150,7 @@ impl World {
         }
     }
 
-    // Makes a constructor, and replies with its name.
+    // Makes a constructor, puts its reference into `dest`, and replies with its name.
     fn make_con(
         &mut self,
         mutator: u8,
@@ -170,7 +169,7 @@ impl World {
         self.add(mutator, dest, Node::Con { tag, values })
     }
 
-    // Makes a variable, and replies with its name.
+    // Makes a variable, puts its reference into `dest`, and replies with its name.
     fn make_var(&mut self, mutator: u8, dest: u8, value: Operand) -> Result<Reply, NoMemory>
         requires mutator { mutator < length self.old.mutators }
         requires serial { serial_of self.old mutator < 2 ^ 32 - 1 }
@@ -183,7 +182,7 @@ impl World {
         self.add(mutator, dest, Node::Var { value })
     }
 
-    // Makes an array of `count` copies of a value, and replies with its name.
+    // Makes an array of `count` copies of a value, puts its reference into `dest`, and replies with its name.
     fn make_arr(
         &mut self,
         mutator: u8,
@@ -203,7 +202,7 @@ impl World {
         self.add(mutator, dest, Node::Arr { values })
     }
 
-    // Makes a thunk without a result, and replies with its name.
+    // Makes a thunk without a result, puts its reference into `dest`, and replies with its name.
     fn make_thunk(&mut self, mutator: u8, dest: u8, free: &[Operand]) -> Result<Reply, NoMemory>
         requires mutator { mutator < length self.old.mutators }
         requires serial { serial_of self.old mutator < 2 ^ 32 - 1 }
@@ -216,7 +215,7 @@ impl World {
         self.add(mutator, dest, Node::Thunk { free, result: None })
     }
 
-    // Makes a weak pointer that is alive, and replies with its name.
+    // Makes a weak pointer that is alive, puts its reference into `dest`, and replies with its name.
     fn make_weak(
         &mut self,
         mutator: u8,
@@ -244,7 +243,7 @@ impl World {
         self.add(mutator, dest, Node::Weak { parts: Some(parts) })
     }
 
-    // Makes an empty stack for at most `size` values, and replies with its name.
+    // Makes an empty stack for at most `size` values, puts its reference into `dest`, and replies with its name.
     fn make_stack(&mut self, mutator: u8, dest: u8, size: u32) -> Result<Reply, NoMemory>
         requires mutator { mutator < length self.old.mutators }
         requires serial { serial_of self.old mutator < 2 ^ 32 - 1 }
@@ -256,7 +255,7 @@ impl World {
         self.add(mutator, dest, Node::Stack { size, values })
     }
 
-    /// Returns the reply to `get` of a value: a field of its object, or a refusal. Takes no memory, and constant time.
+    /// Returns the reply to `get` for the object of a value: a field, or a refusal. Takes no memory, and constant time.
     pub fn field(&self, object: Value, index: u32) -> Reply
         ensures reply { result ≡ read_object (object_of self.now object) (λ node. field_read node index) }
         ensures known { IsKnownReply self.now result }
@@ -267,7 +266,8 @@ impl World {
         }
     }
 
-    /// Returns the reply to `force` of a value: the result of its thunk, or a refusal. Takes no memory, and constant time.
+    /// Returns the reply to `force` for the object of a value: a thunk's result, or a refusal. Takes no memory, and constant
+    /// time.
     pub fn result_of(&self, object: Value) -> Reply
         ensures reply { result ≡ read_object (object_of self.now object) result_read }
         ensures known { IsKnownReply self.now result }
@@ -278,7 +278,8 @@ impl World {
         }
     }
 
-    /// Returns the reply to `deref` of a value: its weak pointer's value, or a refusal. Takes no memory, and constant time.
+    /// Returns the reply to `deref` for the object of a value: a weak pointer's value, or a refusal. Takes no memory, and
+    /// constant time.
     pub fn weak_value(&self, object: Value) -> Reply
         ensures reply { result ≡ read_object (object_of self.now object) value_read }
         ensures known { IsKnownReply self.now result }
@@ -289,7 +290,7 @@ impl World {
         }
     }
 
-    // Does the change that a command asks for, and returns the reply.
+    // Does the change that a command asks for, if it asks for a change, and returns the reply.
     fn change(&mut self, mutator: u8, command: &Command) -> Result<Reply, NoMemory>
         requires mutator { mutator < length self.old.mutators }
         requires registers { HasRegisters command.now }
@@ -303,7 +304,7 @@ impl World {
         }
     }
 
-    // Does the change that a command asks for, and puts the value that the reply gives, if any, into a register.
+    // Does the change that a command asks for, puts the value in the reply, if any, into a register, and returns the reply.
     fn change_into(
         &mut self,
         mutator: u8,
@@ -317,12 +318,12 @@ impl World {
         ensures err { OnErr result (self.new ≡ self.old) }
     {
         let reply = self.change(mutator, command)?;
-        Ok(self.keep(mutator, register, reply))
+        Ok(self.keep_reply(mutator, register, reply))
     }
 
-    /// Returns the change that a command asks for, and the value that has to refer to the object. Returns `None` exactly if
-    /// the command asks for no change. By it the marking machine and the barrier checker find the references that a command
-    /// removes. Takes no memory, and constant time.
+    /// Returns the value of a command's object operand, and the change that the command asks of this object. Returns `None`
+    /// exactly if the command asks for no change. The marking machine and the barrier checker use it to find the references
+    /// that a command removes. Takes no memory, and constant time.
     pub fn asked(&self, mutator: u8, command: &Command) -> Option<(Value, Change)>
         requires mutator { mutator < length self.now.mutators }
         requires registers { HasRegisters command.now }
@@ -438,7 +439,7 @@ impl World {
         ensures world { self.new ≡ with_register self.old mutator register value }
         ensures reply { result ≡ Reply.Fine }
     {
-        hold(
+        write_register(
             &mut self.mutators.items_mut()[mutator as usize],
             register,
             value,
@@ -473,7 +474,7 @@ impl World {
     }
 
     // Writes the value that a reply gives, if any, into a register, and returns the reply.
-    fn keep(&mut self, mutator: u8, register: u8, reply: Reply) -> Reply
+    fn keep_reply(&mut self, mutator: u8, register: u8, reply: Reply) -> Reply
         requires mutator { mutator < length self.old.mutators }
         requires register { IsRegister register }
         requires known { IsKnownReply self.old reply }
@@ -543,8 +544,8 @@ impl World {
     }
 }
 
-// Puts a value into a register.
-fn hold(state: &mut MutatorState, register: u8, value: Value)
+// Writes a value into a register of a mutator's state.
+fn write_register(state: &mut MutatorState, register: u8, value: Value)
     requires registers { length state.old.registers ≡ REGISTERS }
     requires register { IsRegister register }
     ensures { state.new ≡ holding state.old register value }
@@ -562,7 +563,7 @@ fn take_finaliser(state: &mut MutatorState, register: u8) -> Reply
     let Some(value) = state.queue.take_first() else {
         return Reply::Nothing;
     };
-    hold(state, register, value);
+    write_register(state, register, value);
     Reply::Given(value)
 }
 
@@ -578,7 +579,7 @@ fn value_at(registers: &[Value], operand: Operand) -> Value
     }
 }
 
-// Returns the values of operands in order, with these registers.
+// Returns the values that operands have with these registers, in order.
 fn values_at(
     alloc: Global,
     registers: &[Value],
@@ -614,7 +615,7 @@ fn add_node(
         serial: state.nodes.items().len() as u32,
     };
     state.nodes.push(made)?;
-    hold(state, register, Value::Ref(name));
+    write_register(state, register, Value::Ref(name));
     Ok(name)
 }
 
@@ -640,7 +641,7 @@ fn copies(alloc: Global, value: Value, count: usize) -> Result<List<Value>, NoMe
     List::from_vec(vec![in alloc; value; count]?)
 }
 
-// Returns the states that `mutators` mutators have before any command.
+// Returns a list of `mutators` equal states: the state of a mutator before any command.
 fn new_mutators(alloc: Global, mutators: u8) -> Result<List<MutatorState>, NoMemory>
     ensures { IfOk result (λ states. states ≡ replicate mutators new_mutator) }
 {

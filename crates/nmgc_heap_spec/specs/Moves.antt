@@ -25,8 +25,7 @@ old_place m = record { at = m.from; name = m.name }
 abbrev pub settled : ℕ → List Moved → List Place → List Place
 settled base moves places = map new_place moves ++ filter (λ p. nat_lt p.at base) places
 
--- how field words change: a pointer to a moved object goes to its new address; pointers below the base, nil, numbers and
--- unset fields stay
+-- how field words change: pointers to moved objects follow them; pointers below the base, nil, numbers and unset fields stay
 pub record Forwards (base : ℕ) (moves : List Moved) (forward : ℕ → ℕ) : Type 0 where
   pub unset : forward 0 ≡ 0
   pub nil : forward NIL_WORD ≡ NIL_WORD

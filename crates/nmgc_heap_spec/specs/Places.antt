@@ -20,7 +20,7 @@ abbrev pub shared_place : Place
 shared_place = record { at = SHARED_PLACE; name = shared_name }
 
 -- the meaning of a field word: 1 is nil, 2n + 3 the number n, and 2a a reference to the object at address a, a place of P.
--- That numbers are small enough for a word is a fact of the world, and that addresses are is a fact of the layout
+-- (The world ensures that numbers fit a word, and the layout that addresses fit.)
 abbrev pub Means : (Place → Type 0) → ℕ → Value → Type 0
 Means P word value.Nil = word ≡ NIL_WORD
 Means P word (value.Number n) = word ≡ 2 * n + ZERO_WORD
@@ -59,8 +59,8 @@ LiesInNursery layout maker at size = (size ≤ layout.words) × ((i : ℕ) → a
 abbrev pub shared_end : ℕ
 shared_end = SHARED_PLACE + HEADER_WORDS + SHARED_SLOTS
 
--- a word beside g: word 0, or a word between g and the first segment. It belongs to no object. (Nor do the words after a
--- segment's last block, which aren't specified)
+-- a word beside g: word 0, or a word between g and the first segment. It belongs to no object. (Words after a segment's last
+-- block belong to none either, and aren't specified)
 abbrev pub IsBetween : ℕ → Type 0
 IsBetween at = (at < SHARED_PLACE) ⊎ ((shared_end ≤ at) × (at < FIRST_PLACE))
 

@@ -16,8 +16,8 @@ pub record IsNamed (layout : Layout) (w : World) (words : List ℕ) (p : Place) 
   pub name : slice_index words (p.at + NAME_OFFSET) ≡ name_word p.name
   pub lies : LiesWell layout p HEADER_WORDS
 
--- an object of this node lies at the place. It has the node's header, its words lie where words of an object may lie, and no
--- other place is among them
+-- an object of this node lies at the place: it has the node's header, lies well with its size (`LiesWell`), and no other
+-- place is in it
 pub record IsObject (layout : Layout) (places : List Place) (words : List ℕ) (p : Place) (node : Node) : Type 0 where
   pub header : slice_index words p.at ≡ header_word (header_of node)
   pub valid : IsHeader (header_of node)

@@ -1,15 +1,15 @@
 //! The laws of words that represent a world.
 //!
 //! Each function here does nothing; its contract is the law, over all layouts, worlds, places and words. A round knows its
-//! objects by their first nodes, whose permanent fields may still be read. The known nodes are a predicate, which no clause
-//! can range over. So a type parameter represents it, and a call of a law at `Brand` picks it.
+//! objects by their first nodes, whose permanent fields may still be read. These known nodes are a predicate, and no clause
+//! can range over predicates. So a type parameter represents it (`KnownNodes`), and callers pick it by the type `Brand`.
 ghost use Rattle.nmgc_heap_spec.specs.Commands.{StepIsOne, StepChangesField, TrackedAreKnown, StepTracks, StepTracksNoMore, ClosingTracks, StepLeavesHeap, WorldIsEarlier, StepKeepsEarlier, ClosingKeepsEarlier, StepKeepsHeaders, ClosingKeepsHeaders};
 ghost use Rattle.nmgc_heap_spec.specs.{Samples.SnapshotStands, Samples.WordsAreDetermined, Samples.NoSecondPlace, Written.HeaderIsShape, Written.NodeIsWritten, Written.WorldIsWritten, Written.PartsAreWritten};
 ghost use Rattle.nmgc_heap_spec.specs.Statements.{OnePlace, OneMeaning, MeaningIsSet, MeaningIsField, FieldHasMeaning, OneNode, OneWorld, OneWording, SameHeap, FieldChange, NodeChange, UnbornStore, Birth, Move, MoveOfRoots, Remembrance, Agreement, DropOfPlaces, DropOfRoots, Addition, AdditionOfRoots};
 
 use std::marker::Brand;
 
-/// The nodes by which a round knows its names.
+/// The known nodes: the nodes by which a round knows its objects.
 pub trait KnownNodes {
     ghost use Rattle.nmgc_world_spec.specs.{declared.value.Name.Name, declared.node.Node.Node};
 
@@ -24,93 +24,95 @@ impl KnownNodes for Brand {
 }
 
 /// Proves that a name has one place and a field word one meaning. The word of an unset field has no meaning.
-pub fn one_meaning<K: KnownNodes>()
+pub fn words_have_one_meaning<K: KnownNodes>()
     ensures place { OnePlace K.knows }
     ensures word { OneMeaning K.knows }
     ensures set { MeaningIsSet K.knows }
 {}
 
-/// Proves that what a word means and what a field holds agree. If a word means a value that is small enough for a word, it is
-/// the word of a field with this value, so decoding it gives the value. Conversely, the word of a field means the value of
-/// the field.
+/// Proves that the meaning of a field word agrees with its decoding. If a word means a value, and the value fits a word, the
+/// word encodes a field with this value: decoding gives the value. Conversely, the word that encodes a field means the
+/// field's value.
 pub fn meanings_are_fields<K: KnownNodes>()
     ensures word { MeaningIsField K.knows }
     ensures field { FieldHasMeaning }
 {}
 
-/// Proves that words determine the world on tracked names: if they represent two worlds, a name tracked in both has the same
-/// header and specified fields in both. At a stop, with the same roots and list of weak pointers, both have one wide reach.
-pub fn one_world<K: KnownNodes, L: KnownNodes>()
+/// Proves that words determine the world as far as names are tracked. If the same words represent two worlds, a name tracked
+/// in both has the same header and the same specified fields in both. At a stop, worlds with the same words, roots and list
+/// of weak pointers have the same wide reach.
+pub fn words_determine_the_world<K: KnownNodes, L: KnownNodes>()
     ensures node { OneNode K.knows L.knows }
     ensures reach { OneWorld K.knows L.knows }
 {}
 
-/// Proves that a world has one wording at the same places: two lists of words that represent it have the same names, headers
-/// and fields wherever they are specified.
-pub fn one_wording<K: KnownNodes, L: KnownNodes>()
+/// Proves that a world determines its words at given places. Two lists of words that represent the world there agree at each
+/// name, and for tracked names at the header and at each specified field.
+pub fn the_world_determines_words<K: KnownNodes, L: KnownNodes>()
     ensures { OneWording K.knows L.knows }
 {}
 
-/// Proves that if no node changes, words still represent the world. They represent each other world that has the same node at
-/// every place and for every name that it tracks.
-pub fn same_heap<K: KnownNodes>()
+/// Proves that words still represent the world if no node changes. They represent any other world that has the same nodes at
+/// all places and for all tracked names, and tracks no further name.
+pub fn words_stay_if_no_node_changes<K: KnownNodes>()
     ensures { SameHeap K.knows }
 {}
 
-/// Proves that words still represent the world after one field of one node changes, and its word with it. Every command that
-/// changes a node changes at most one field of its object, and never a permanent field.
-pub fn field_changed<K: KnownNodes>()
+/// Proves that words still represent the world after one field of one node changes, and its word with it. A command that
+/// changes a node changes at most one of its fields, and never a permanent field.
+pub fn fields_may_change<K: KnownNodes>()
     ensures words { FieldChange K.knows }
     ensures commands { NodeChange }
 {}
 
-/// Proves that words still represent the world after an unspecified word is stored, as of an object not yet made. The word
-/// isn't a name, isn't in a specified object, and isn't beside g.
-pub fn unborn_word_stored<K: KnownNodes>()
+/// Proves that words still represent the world after a store to an unspecified word, such as a word of an object that isn't
+/// made yet. The word isn't a name, isn't in a specified object, and isn't beside g.
+pub fn unspecified_words_may_change<K: KnownNodes>()
     ensures { UnbornStore K.knows }
 {}
 
-/// Proves that words represent the world after an object is made: once its name and its fields are there, its header is
-/// written. From then on L knows the names that K knew, and may know the new name by its first node.
-pub fn object_born<K: KnownNodes, L: KnownNodes>()
+/// Proves that words represent the world with a new object once the object's header is written. Its name and its fields are
+/// in the words already. After that L may know the names that K knew, and the new name by its first node.
+pub fn objects_may_be_made<K: KnownNodes, L: KnownNodes>()
     ensures { Birth K.knows L.knows }
 {}
 
 /// Proves that words still represent the world after objects move and all pointers follow. Every new word is a function of an
-/// old word, and each tracked object lies at one new place. Registers and queues, forwarded, represent the same roots.
-pub fn objects_moved<K: KnownNodes>()
+/// old word, and each tracked object that moves has one new place. Forwarded registers and queues represent the same roots.
+pub fn objects_may_move<K: KnownNodes>()
     ensures words { Move K.knows }
     ensures roots { MoveOfRoots K.knows }
 {}
 
-/// Proves that words still represent the world when the collector uses fewer earlier worlds, or also the world as it is now.
-/// That is the snapshot of a cycle that begins, or the world as a round begins, by whose nodes L may know names.
-pub fn remembered<K: KnownNodes, L: KnownNodes>()
+/// Proves that words still represent the world if the collector uses fewer earlier worlds, or also the world as it is now.
+/// This world is then the snapshot of a new cycle, or the world as a round begins, and L may know names by its nodes.
+pub fn worlds_may_be_remembered<K: KnownNodes, L: KnownNodes>()
     ensures { Remembrance K.knows L.knows }
 {}
 
-/// Proves that words still represent the world after places of untracked names go, whatever words are then at these places.
-pub fn places_dropped<K: KnownNodes>()
+/// Proves that words still represent the world, and registers and queues its roots, after places of untracked names go,
+/// whatever words are then at these places.
+pub fn places_may_be_dropped<K: KnownNodes>()
     ensures words { DropOfPlaces K.knows }
     ensures roots { DropOfRoots K.knows }
     ensures rest { Agreement K.knows }
 {}
 
-/// Proves that words still represent the world when there are more places than before.
-pub fn places_added<K: KnownNodes>()
+/// Proves that words still represent the world, and registers and queues its roots, if there are further places.
+pub fn places_may_be_added<K: KnownNodes>()
     ensures words { Addition K.knows }
     ensures roots { AdditionOfRoots }
 {}
 
 /// Proves that a command changes no node, or one field of one node, or makes one node with the next name of its mutator. So
-/// the words represent the world after each command by `same_heap`, `field_changed` or `object_born`.
+/// one of `words_stay_if_no_node_changes`, `fields_may_change` and `objects_may_be_made` applies to it.
 pub fn command_is_one_change()
     ensures step { StepIsOne }
     ensures field { StepChangesField }
 {}
 
-/// Proves that all tracked names are names of the world, and that a name which isn't tracked becomes tracked only if a
-/// command makes its object. A closing makes no name tracked. A command that changes no node leaves the heap as it is.
+/// Proves that only a command that makes an object adds a tracked name, and only this object's name. A closing adds none. All
+/// tracked names are names of the world. A command that changes no node leaves the heap as it is.
 pub fn nothing_new_is_tracked()
     ensures known { TrackedAreKnown }
     ensures step { StepTracks }
@@ -119,8 +121,8 @@ pub fn nothing_new_is_tracked()
     ensures heap { StepLeavesHeap }
 {}
 
-/// Proves that earlier worlds stay earlier worlds after every command and closing. The nodes by which a round knows its
-/// objects keep their headers: no object ever changes its size.
+/// Proves that commands and closings change no header, and so no object's size. Earlier worlds stay earlier worlds, and the
+/// nodes by which a round knows its objects keep their headers. A world is an earlier world of itself.
 pub fn headers_stay<K: KnownNodes>()
     ensures itself { WorldIsEarlier }
     ensures step { StepKeepsEarlier }
@@ -129,9 +131,9 @@ pub fn headers_stay<K: KnownNodes>()
     ensures closing_known { ClosingKeepsHeaders K.knows }
 {}
 
-/// Proves that the header of a node is its kind, its tag and its number of fields, and that the header gives the number of
-/// words of its object. So a node within the limits of a script has words: its header can be written, also for g, and every
-/// other object fits a segment. In words that represent a world, name, header and fields lie where `nmgc_object` puts them.
+/// Proves that objects can be written as words. A node's header is its kind, its tag and its number of fields, and gives the
+/// number of words of its object. In a world within the limits of a script, each header can be written, and each object
+/// except g fits a segment. In words that represent a world, name, header and fields lie where `nmgc_object` puts them.
 pub fn objects_have_words<K: KnownNodes>()
     ensures shape { HeaderIsShape }
     ensures node { NodeIsWritten }
@@ -139,14 +141,14 @@ pub fn objects_have_words<K: KnownNodes>()
     ensures parts { PartsAreWritten K.knows }
 {}
 
-/// Proves that some words represent a small world. As a cycle begins, a variable there holds the only reference to an object.
-pub fn one_snapshot()
+/// Proves that certain words represent a small world, so that the definitions can be met. As a cycle begins there, a variable
+/// holds the only reference to an object.
+pub fn a_small_world_has_words()
     ensures { SnapshotStands }
 {}
 
-/// Proves that wrong words don't represent the snapshot of `one_snapshot`: all words that represent it at its places have the
-/// right header, name and pointer for its variable. And no words represent any world in which the first name has a second
-/// place.
+/// Proves that wrong words fail: all words that represent the world of `a_small_world_has_words` at the same places have the
+/// right header, name and pointer of its variable. No words represent a world in which the first name has two places.
 pub fn wrong_words_fail<K: KnownNodes>()
     ensures words { WordsAreDetermined K.knows }
     ensures places { NoSecondPlace K.knows }

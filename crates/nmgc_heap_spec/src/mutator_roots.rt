@@ -1,11 +1,12 @@
-//! A mutator's state outside the words, in the mutator itself.
+//! The state of a mutator outside the heap's words, read and changed in place.
 //!
-//! At a stop registers and finaliser queues are roots, for promotion and for the snapshot of a cycle; a closing adds to the
-//! queues. With the nursery come the lists that the round left. All of it lies in the mutators, which are defined above this
-//! crate. So code reads and changes it over this trait, mutator after mutator, and nothing is taken out and put back.
+//! At a stop registers and finaliser queues are roots, for promotion and for the snapshot of a cycle, and a closing adds to
+//! the queues. The stop also needs the nursery, and the lists that the round left. All of this lies in the mutators, which
+//! are defined above this crate. So a stop's code goes over the mutators by this trait, and takes nothing out of them.
 //!
-//! Easy to get wrong: to change the registers is not to change the queue, and neither changes the lists of the round. The
-//! laws say so. Without them a caller that doesn't know the mutator would know nothing of one part once another was changed.
+//! Easy to get wrong: a change of the registers leaves the queue as it is, a change of the queue leaves the registers, and
+//! neither changes nursery or lists. The trait's laws say so. Without them a caller that doesn't know the type would know
+//! nothing of one part once another was changed.
 ghost use Rattle.std.specs.{Prelude.◌≡◌, Prelude.ℕ, Prelude.List, Prelude.[], Prelude.length, Borrow.sem, Borrow.Lends, Borrow.Array, Borrow.u64};
 ghost use Rattle.nmgc_object.specs.{FinQueue.FinQueue as Queue, declared.layout.Nursery.Nursery as NurserySeen, declared.words.Address.Address as Place};
 ghost use Rattle.nmgc_object.specs.contracts.fin_queue.FinQueue as queues;
@@ -65,7 +66,7 @@ pub trait MutatorRoots {
     fn young_weaks(&self) -> &[Address]
         ensures { result.now ≡ young_weaks self.now };
 
-    /// Empties the mutator's nursery, and the lists that it recorded in the round.
+    /// Empties the mutator's nursery, and the lists that it recorded in the round. Registers and queue stay.
     fn empty(&mut self)
         ensures { self.new ≡ after_stop self.old };
 

@@ -7,13 +7,13 @@ fn laws_ask_nothing(rt: HostRuntime) {
     idle::a_heap_at_rest_opens_a_round();
     idle::slices_are_gathered();
     idle::a_round_is_a_history();
-    idle::roots_are_left();
-    idle::births_are_in_order();
-    idle::a_round_is_remembered();
-    idle::a_round_is_stopped();
-    idle::a_promotion_rests();
-    leaving::round_is_remembered();
-    leaving::round_is_forgotten();
+    idle::roots_are_represented();
+    idle::new_objects_are_in_order();
+    idle::promotion_fields_are_recorded();
+    idle::a_round_leaves_a_heap_at_a_stop();
+    idle::a_promotion_leaves_a_heap_at_rest();
+    leaving::a_round_leaves_all_for_a_promotion();
+    leaving::the_snapshot_outlives_a_round();
     marking::a_heap_at_rest_opens_a_round();
     marking::slices_are_owed();
     marking::the_machine_goes_on();
@@ -28,7 +28,7 @@ fn laws_ask_nothing(rt: HostRuntime) {
     marking::marking_goes_on();
     marking::the_pace_is_kept();
     marking::the_heap_goes_on();
-    samples::one_object_in_words();
+    samples::a_run_of_one_object_is_lawful();
     ties::ties_agree();
     ties::a_cycle_closes();
 }

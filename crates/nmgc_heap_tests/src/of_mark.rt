@@ -86,8 +86,8 @@ fn remembered_places(rt: HostRuntime) -> Result<(), Fail> {
 fn laws_ask_nothing(rt: HostRuntime) {
     let _ = &rt;
     laws::prepared_heaps_begin();
-    laws::round_begins();
-    laws::round_ends();
+    laws::a_round_begins_tied();
+    laws::a_round_ends_tied();
     laws::places_may_grow();
     laws::marks_are_of_the_snapshot();
     laws::all_reached_is_marked();

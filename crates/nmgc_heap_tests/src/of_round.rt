@@ -77,7 +77,7 @@ fn work(round: &Round, seat: &mut MutatorSeat, layout: Layout, number: u8) -> (u
             value: Operand::Register(1),
         },
     };
-    round.give_birth(seat, Address(base), 2050, &make);
+    round.store_header(seat, Address(base), 2050, &make);
     let share = PackedCommand {
         form: Form::Set {
             object: Operand::Shared,
@@ -207,30 +207,30 @@ fn what_each_mutator_did_stands_in_the_words(rt: HostRuntime) -> Result<(), Fail
 #[test]
 fn laws_ask_nothing(rt: HostRuntime) {
     let _ = &rt;
-    laws::fixed_load();
-    laws::fixed_load_of_command();
-    laws::field_load();
-    laws::field_swap();
-    laws::field_exchange();
-    laws::result_load();
-    laws::result_exchange();
-    laws::weak_load();
-    laws::weak_swap();
-    laws::slot_load();
-    laws::slot_swap();
-    laws::slot_refusal();
-    laws::unborn_store();
-    laws::unborn_look();
-    laws::birth();
-    laws::birth_look();
+    laws::fixed_loads_keep_the_rule();
+    laws::fixed_loads_of_commands_keep_the_rule();
+    laws::field_loads_keep_the_rule();
+    laws::field_swaps_keep_the_rule();
+    laws::field_exchanges_keep_the_rule();
+    laws::result_loads_keep_the_rule();
+    laws::result_exchanges_keep_the_rule();
+    laws::weak_loads_keep_the_rule();
+    laws::weak_swaps_keep_the_rule();
+    laws::slot_loads_keep_the_rule();
+    laws::slot_swaps_keep_the_rule();
+    laws::slot_refusals_keep_the_rule();
+    laws::unborn_stores_keep_the_rule();
+    laws::unborn_looks_keep_the_rule();
+    laws::allocations_keep_the_rule();
+    laws::looks_at_headers_keep_the_rule();
     laws::scan();
     laws::empty_heap_opens();
     laws::old_stacks_are_listed();
     laws::words_open();
-    laws::mutator_split();
-    laws::collector_split();
-    laws::join();
-    laws::round_end();
+    laws::mutator_splits_keep_the_rule();
+    laws::collector_splits_keep_the_rule();
+    laws::joins_keep_the_rule();
+    laws::a_whole_seat_ends_the_round();
     laws::words_represent();
     laws::replies_are_named();
     laws::events_are_a_history();

@@ -7,13 +7,13 @@ fn laws_ask_nothing(rt: HostRuntime) {
     laws::classes_are_counted();
     laws::run_goes_on();
     laws::left_is_determined();
-    laws::counts_are_real();
-    laws::version_is_nothing();
+    laws::free_segments_are_counted();
+    laws::a_version_changes_nothing();
     laws::each_cycle_has_its_row();
     laws::closings_are_soon();
     laws::places_are_blocks();
     laws::tracked_names_have_blocks();
     laws::cycles_are_in_course();
     laws::limits_stay();
-    laws::lawful_are_of_runs();
+    laws::lawful_reports_are_of_runs();
 }

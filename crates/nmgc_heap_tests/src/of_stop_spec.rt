@@ -8,5 +8,5 @@ fn laws_ask_nothing(rt: HostRuntime) {
     laws::fields_are_shown();
     laws::placing_takes_a_new_block();
     laws::reserve_suffices();
-    laws::one_young_object();
+    laws::a_stop_may_have_a_new_object();
 }

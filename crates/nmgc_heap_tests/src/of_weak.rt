@@ -32,7 +32,7 @@ const SECOND: OldWeak = OldWeak {
 fn listed(alloc: Global, weaks: &Weaks) -> Result<Vec<OldWeak>, NoMemory>
     ensures { IfOk result (λ all. all.items ≡ weaks.now.list) }
 {
-    let mut all = Vec::with_capacity(alloc, weaks.most())?;
+    let mut all = Vec::with_capacity(alloc, weaks.length_bound())?;
     weaks.list_into(&mut all);
     Ok(all)
 }

@@ -23,6 +23,7 @@ impl<T, const N: usize> FixedVec<T, N> {
         }
     }
 
+    /// Returns the allocator for the memory of more items.
     pub(crate) fn alloc(&self) -> Global {
         self.alloc
     }

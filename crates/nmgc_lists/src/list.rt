@@ -3,7 +3,7 @@
 //! It is `Vec` with one error for lack of memory, and with room for two items in the value itself. Most constructors of a
 //! world have one or two fields, so `pair` saves an allocation for each. More items lie in a vector that has memory of its
 //! own, so a list is small wherever it lies. Only `push`, `copy` and `from_vec` take memory; after an error the list is
-//! unchanged. The position of the items is not part of the list's value: contracts never see it.
+//! unchanged. Contracts never see where the items lie.
 //!
 //! Easy to get wrong: a list made by `new` or `pair` has no vector, even after an item was taken off. So the next `push` onto
 //! it takes memory, even if the value itself would have room.
@@ -68,6 +68,7 @@ impl<T> Items<T> {
     ghost use Rattle.std.specs.Borrow.{sem};
     ghost use Rattle.nmgc_lists.specs.ItemsLends.{LendsThem};
 
+    // Returns the allocator of the items' memory.
     fn alloc(&self) -> Global {
         match self {
             Items::Empty(empty) => empty.alloc(),
@@ -102,8 +103,8 @@ impl<T> Items<T> {
     }
 }
 
-// Returns no items: the items of an empty list.
-fn empty<T>(alloc: Global) -> Items<T>
+// Returns the items of an empty list.
+fn no_items<T>(alloc: Global) -> Items<T>
     ensures items { items_of result ≡ [] }
     ensures full { HasExactLength result }
 {
@@ -111,15 +112,15 @@ fn empty<T>(alloc: Global) -> Items<T>
 }
 
 // Returns one item, which lies in the list itself.
-fn single<T>(alloc: Global, item: T) -> Items<T>
+fn one_item<T>(alloc: Global, item: T) -> Items<T>
     ensures items { items_of result ≡ item ∷ [] }
     ensures full { HasExactLength result }
 {
     Items::Single(FixedVec::new(alloc, [item]))
 }
 
-// Returns the items in a vector: in their own if they lie in one, and otherwise in the empty vector `room`. Takes no memory.
-fn gathered<T: Drop>(items: Items<T>, room: Vec<T>) -> Vec<T>
+// Returns the items in a vector: their own if they lie in one, and otherwise the empty vector `room`. Takes no memory.
+fn into_vector<T: Drop>(items: Items<T>, room: Vec<T>) -> Vec<T>
     requires full { HasExactLength items }
     requires empty { room.items ≡ [] }
     requires enough { 2 ≤ vec_capacity room }
@@ -149,7 +150,7 @@ fn gathered<T: Drop>(items: Items<T>, room: Vec<T>) -> Vec<T>
 }
 
 // Takes the last item off. Returns the items before it, and the item, or `None` if there is no item. Takes no memory.
-fn last_of<T: Drop>(items: Items<T>) -> (Items<T>, Option<T>)
+fn split_last<T: Drop>(items: Items<T>) -> (Items<T>, Option<T>)
     requires { HasExactLength items }
     ensures full { HasExactLength result.0 }
     ensures last { IfSome result.1 (λ item. items_of items ≡ items_of result.0 ++ item ∷ []) }
@@ -160,12 +161,12 @@ fn last_of<T: Drop>(items: Items<T>) -> (Items<T>, Option<T>)
         Items::Single(single) => {
             let alloc = single.alloc();
             let [only] = single.into_array();
-            (empty(alloc), Some(only))
+            (no_items(alloc), Some(only))
         }
         Items::Pair(pair) => {
             let alloc = pair.alloc();
             let [first, second] = pair.into_array();
-            (single(alloc, first), Some(second))
+            (one_item(alloc, first), Some(second))
         }
         Items::Many(mut items) => {
             let last = items.as_mut().pop();
@@ -175,7 +176,7 @@ fn last_of<T: Drop>(items: Items<T>) -> (Items<T>, Option<T>)
 }
 
 // Takes the first item off. Returns the item, or `None` if there is no item, and the items after it. Takes no memory.
-fn first_of<T: Drop>(items: Items<T>) -> (Option<T>, Items<T>)
+fn split_first<T: Drop>(items: Items<T>) -> (Option<T>, Items<T>)
     requires { HasExactLength items }
     ensures full { HasExactLength result.1 }
     ensures first { IfSome result.0 (λ item. items_of items ≡ item ∷ items_of result.1) }
@@ -186,21 +187,22 @@ fn first_of<T: Drop>(items: Items<T>) -> (Option<T>, Items<T>)
         Items::Single(single) => {
             let alloc = single.alloc();
             let [only] = single.into_array();
-            (Some(only), empty(alloc))
+            (Some(only), no_items(alloc))
         }
         Items::Pair(pair) => {
             let alloc = pair.alloc();
             let [first, second] = pair.into_array();
-            (Some(first), single(alloc, second))
+            (Some(first), one_item(alloc, second))
         }
         Items::Many(mut items) => {
-            let first = first_taken(items.as_mut());
+            let first = remove_first(items.as_mut());
             (first, Items::Many(items))
         }
     }
 }
 
-fn first_taken<T>(items: &mut Vec<T>) -> Option<T>
+// Takes the first item off a vector and returns it, or `None` exactly if the vector is empty. The other items are moved.
+fn remove_first<T>(items: &mut Vec<T>) -> Option<T>
     ensures first { IfSome result (λ item. items.old.items ≡ item ∷ items.new.items) }
     ensures empty { IfNone result ((items.old.items ≡ []) × (items.new.items ≡ [])) }
 {
@@ -212,6 +214,7 @@ fn first_taken<T>(items: &mut Vec<T>) -> Option<T>
 
 // These functions are for items in the value itself. For items in a vector they are right too, but slower.
 impl<T: Drop> Items<T> {
+    // Adds an item at the end, and moves all items into a vector. After `NoMemory` the items are unchanged.
     fn add(&mut self, item: T) -> Result<(), NoMemory>
         requires { HasExactLength self.old }
         ensures full { HasExactLength self.new }
@@ -221,8 +224,8 @@ impl<T: Drop> Items<T> {
         let alloc = self.alloc();
         let mut place = Box::new(alloc, Vec::new(alloc))?;
         let room = Vec::with_capacity(alloc, 4)?;
-        let few = mem::replace(self, empty(alloc));
-        let mut items = gathered(few, room);
+        let few = mem::replace(self, no_items(alloc));
+        let mut items = into_vector(few, room);
         let pushed = items.push(item);
         let _ = Box::replace(&mut place, items);
         *self = Items::Many(place);
@@ -230,6 +233,7 @@ impl<T: Drop> Items<T> {
         Ok(())
     }
 
+    // Takes the last item off and returns it, or `None` exactly if there is no item. Takes no memory.
     fn take_last(&mut self) -> Option<T>
         requires { HasExactLength self.old }
         ensures full { HasExactLength self.new }
@@ -237,12 +241,13 @@ impl<T: Drop> Items<T> {
         ensures empty { IfNone result ((items_of self.old ≡ []) × (items_of self.new ≡ [])) }
     {
         let alloc = self.alloc();
-        let few = mem::replace(self, empty(alloc));
-        let (rest, last) = last_of(few);
+        let few = mem::replace(self, no_items(alloc));
+        let (rest, last) = split_last(few);
         *self = rest;
         last
     }
 
+    // Takes the first item off and returns it, or `None` exactly if there is no item. Takes no memory.
     fn take_first(&mut self) -> Option<T>
         requires { HasExactLength self.old }
         ensures full { HasExactLength self.new }
@@ -250,8 +255,8 @@ impl<T: Drop> Items<T> {
         ensures empty { IfNone result ((items_of self.old ≡ []) × (items_of self.new ≡ [])) }
     {
         let alloc = self.alloc();
-        let few = mem::replace(self, empty(alloc));
-        let (first, rest) = first_of(few);
+        let few = mem::replace(self, no_items(alloc));
+        let (first, rest) = split_first(few);
         *self = rest;
         first
     }
@@ -266,7 +271,7 @@ impl<T> List<T> {
         ensures { result ≡ [] }
     {
         List {
-            items: empty(alloc),
+            items: no_items(alloc),
         }
     }
 
@@ -363,7 +368,7 @@ impl<T: Drop> List<T> {
         ensures empty { IfNone result ((self.old ≡ []) × (self.new ≡ [])) }
     {
         match &mut self.items {
-            Items::Many(items) => first_taken(items.as_mut()),
+            Items::Many(items) => remove_first(items.as_mut()),
             _ => self.items.take_first(),
         }
     }

@@ -1,8 +1,7 @@
 //! A queue: items are added at the end and taken from the front.
 //!
 //! Taking the first item moves an index and no items, so it takes constant time for every length. Taken items stay in memory.
-//! A queue of finalisers gets at most one item for each weak pointer ever made, and the model keeps all of these anyway. A
-//! mark queue gets each name once.
+//! A mark queue gets each name once, and a queue of owed or pushed names gets a few for each command.
 ghost use Rattle.std.specs.Prelude.{◌≡◌, ◌↔◌, ◌<◌, ◌≤◌, [], ◌∷◌, ◌++◌, drop, take, length, slice_get, slice_set, IsTrue, OnOk, OnErr};
 
 use crate::NoMemory;

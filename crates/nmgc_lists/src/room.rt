@@ -43,8 +43,7 @@ impl<T> Room<T> {
         }
     }
 
-    /// Makes room for at least `more` further items. The items stay, and room is never lost. After `NoMemory` nothing
-    /// changed.
+    /// Makes room for at least `more` further items. Items and room are never lost. After `NoMemory` nothing changed.
     pub fn reserve(&mut self, more: u32) -> Result<(), NoMemory>
         ensures items { self.new.items ≡ self.old.items }
         ensures ok { OnOk result (more ≤ self.new.spare) }

@@ -1,8 +1,8 @@
 //! Items that always lie in a vector.
 //!
-//! A `List` checks at each access whether its items lie in itself or in a vector. Code that accesses the same items all the
-//! time has them here, such as a command with its registers and a marker with its rings. An access is then an access to the
-//! vector. The memory for the items as a list is allocated at the beginning, so the conversion takes none.
+//! A `List` checks at each access whether its items lie in itself or in a vector. Items that are accessed all the time are in
+//! a `VecList`: the registers of a mutator, the rings of a marker. An access is then an access to the vector. The memory for
+//! the items as a list is allocated at the beginning, so the conversion takes none.
 //!
 //! Easy to get wrong: nothing can be added. A list that has to grow is a `Room`.
 ghost use Rattle.std.specs.Prelude.{◌≡◌};
@@ -10,7 +10,7 @@ ghost use Rattle.std.specs.Prelude.{◌≡◌};
 use crate::list::{List, ListMemory};
 use std::marker::Model;
 
-/// A list whose items lie in a vector of its own. Contracts see it as that list.
+/// A list whose items lie in a vector of its own. Contracts see it as a list.
 #[derive(Drop)]
 pub struct VecList<T> {
     items: Vec<T>,
@@ -29,14 +29,14 @@ impl<T> VecList<T> {
     ghost use Rattle.std.specs.Borrow.{sem};
     ghost use Rattle.nmgc_lists.specs.PlacedLends.{LendsItems};
 
-    /// Makes a list of a vector's items. `place` is the memory that the list will take as a `List`. Takes no memory.
+    /// Makes a list of a vector's items. `place` is the memory that `into_list` will use. Takes no memory.
     pub fn of(items: Vec<T>, place: ListMemory<T>) -> Self
         ensures { result ≡ items.items }
     {
         VecList { items, place }
     }
 
-    /// Returns the items in order. No function here takes memory.
+    /// Returns the items in order. No function of this type takes memory.
     pub fn items(&self) -> &[T]
         ensures { result.now ≡ self.now }
     {

@@ -39,22 +39,22 @@ fn list(rt: HostRuntime) -> Result<(), Fail> {
 #[test]
 fn laws_ask_nothing(rt: HostRuntime) {
     let _ = &rt;
-    laws::one_meaning::<Brand>();
+    laws::words_have_one_meaning::<Brand>();
     laws::meanings_are_fields::<Brand>();
-    laws::one_world::<Brand, Brand>();
-    laws::one_wording::<Brand, Brand>();
-    laws::same_heap::<Brand>();
-    laws::field_changed::<Brand>();
-    laws::unborn_word_stored::<Brand>();
-    laws::object_born::<Brand, Brand>();
-    laws::objects_moved::<Brand>();
-    laws::remembered::<Brand, Brand>();
-    laws::places_dropped::<Brand>();
-    laws::places_added::<Brand>();
+    laws::words_determine_the_world::<Brand, Brand>();
+    laws::the_world_determines_words::<Brand, Brand>();
+    laws::words_stay_if_no_node_changes::<Brand>();
+    laws::fields_may_change::<Brand>();
+    laws::unspecified_words_may_change::<Brand>();
+    laws::objects_may_be_made::<Brand, Brand>();
+    laws::objects_may_move::<Brand>();
+    laws::worlds_may_be_remembered::<Brand, Brand>();
+    laws::places_may_be_dropped::<Brand>();
+    laws::places_may_be_added::<Brand>();
     laws::command_is_one_change();
     laws::nothing_new_is_tracked();
     laws::headers_stay::<Brand>();
     laws::objects_have_words::<Brand>();
-    laws::one_snapshot();
+    laws::a_small_world_has_words();
     laws::wrong_words_fail::<Brand>();
 }

@@ -8,9 +8,9 @@ fn laws_ask_nothing(rt: HostRuntime) {
     laws::hands_stay();
     laws::nothing_else_is_held();
     laws::what_is_lost_stays_lost();
-    laws::only_the_live_is_held();
+    laws::only_live_or_new_names_are_held();
     laws::nothing_reachable_is_freed();
-    laws::young_is_stored();
+    laws::new_values_are_stored();
     laws::shapes_stay();
     laws::limits_stay();
 }

@@ -32,7 +32,7 @@ pub record MarksAt (old new : Segments) (before after : MarkerSeen) (at : ℕ) :
   pub layout : new.layout ≡ old.layout
   pub stands : StandAsBefore old new
 
--- a marker after it scanned `count` more objects: each block that it marked took a place in its list
+-- a marker after it scanned `count` more objects: these left the queue, and each marked block joined it and used some room
 pub record HasScanned (old new : MarkerSeen) (count : ℕ) : Type 0 where
   pub epoch : new.epoch ≡ old.epoch
   pub grows : old.marked ≤ new.marked

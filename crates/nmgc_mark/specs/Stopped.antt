@@ -10,8 +10,8 @@ AreScans [] = Unit {0}
 AreScans (did m c r ∷ hs) = ⊥
 AreScans (scanned entry v ∷ hs) = AreScans hs
 
--- a view that a collector alone could have by now: scans alone lead to it from an opening and its words, which only proofs
--- know. So a stop's scans are the scans of a round in which no mutator does anything.
+-- a view that the collector could have by now if it is alone: only scans lead to the view, from an opening and its words,
+-- which only proofs know. So a stop's scans are the scans of a round in which no mutator does anything.
 pub record IsAlone (o : Opening) (words : List ℕ) (v : Seen) : Type 0 where
   pub opening : v.opening ≡ o
   pub collects : v.collects ≡ true
@@ -22,12 +22,12 @@ pub record IsAlone (o : Opening) (words : List ℕ) (v : Seen) : Type 0 where
 abbrev pub WordsShow : List ℕ → List ℕ → Seen → Type 0
 WordsShow first words v = (words ≡ first) × IsAlone v.opening words v
 
--- a marker ready to scan at a stop: the words represent an opening's world, and the marker has its marks and queue
+-- a marker ready to scan at a stop: the words represent an opening's world, and its machine has the marker's marks and queue
 pub record IsReady (o : Opening) (words : List ℕ) (s : Segments) (marker : MarkerSeen) : Type 0 where
   pub opens : CanOpen o words
   pub tied : IsTied o (marks_of o.core) s marker
 
--- a finished marker: scans alone lead the marking machine to the marker's marks, with nothing queued
+-- a finished marker: scans alone lead the marking machine to the marker's marks and an empty queue
 pub record HasFinished (o : Opening) (s : Segments) (marker : MarkerSeen) : Type 0 where
   pub events : List Happening
   pub scans : AreScans events

@@ -11,7 +11,7 @@ use Rattle.nmgc_mark.specs.{Seen.MarkerSeen, Marker.HasMarked, Tie.IsTied}
 abbrev pub marks_seen : Seen → Marks
 marks_seen v = marks_after v.opening v.scans
 
--- the entry that a view's collector scans next: the first of its queue
+-- the entry that the collector of a view scans next: the first of the view's queue
 abbrev pub entry_now : Seen → Entry
 entry_now v = first_of (marks_seen v).queue
 
@@ -26,17 +26,18 @@ with_first entry m = record { marked = m.marked; queue = entry ∷ m.queue }
 abbrev pub IsCollector : Round → RoundSeat → Type 0
 IsCollector round seat = IsAt round seat × ((seen seat).collects ≡ true)
 
--- the same seat at a later time: its view differs only by further scans
+-- the same seat at a later time: its view has further scans, and is otherwise the same
 pub record IsLaterSeat (old new : RoundSeat) : Type 0 where
   pub id : new.id ≡ old.id
   pub scans : List Scan
   pub knows : seen new ≡ record (seen old) { scans = (seen old).scans ++ scans }
 
--- the collector's seat has this view by now, after scans alone since the first seat
+-- the collector's seat has this view by now, and since the first seat it has done only scans
 abbrev pub SeatShows : Round → RoundSeat → RoundSeat → Seen → Type 0
 SeatShows round first seat v = IsCollector round seat × IsLaterSeat first seat × (seen seat ≡ v)
 
--- an object in the middle of its scan: it is the first entry, at this address and position, and all other marks are tied
+-- an object in the middle of its scan: the view's first entry is for the object at this address, and is at this
+-- position. Apart from that entry, marks and queue are tied
 pub record IsScanning (v : Seen) (s : Segments) (marker : MarkerSeen) (at position : ℕ) : Type 0 where
   pub collects : v.collects ≡ true
   pub first : marks_seen v ≡ with_first (entry_now v) (rest_of (marks_seen v))
@@ -56,7 +57,7 @@ pub record IsDone (from v : Seen) (s : Segments) (marker : MarkerSeen) : Type 0 
   pub opening : v.opening ≡ from.opening
   pub tied : IsTied v.opening (marks_seen v) s marker
 
--- a round's work of `count` scanned objects: the same seat with more scans, and a marker with the marks and queue of its view
+-- a round's work of `count` scanned objects: the same seat with more scans, and a marker with its view's marks and queue
 pub record HasWorked (round : Round) (from seat : RoundSeat) (old new : Segments) (before marker : MarkerSeen) (count : ℕ) : Type 0 where
   pub collector : IsCollector round seat
   pub later : IsLaterSeat from seat

@@ -1,4 +1,4 @@
-//! Scanning at a stop, with the mutators stopped: until nothing waits, by plain loads (`scan`).
+//! Scanning at a stop, with the mutators stopped: by plain loads (`scan`), until the queue is empty.
 ghost use Rattle.std.specs.Prelude.{ℕ, ◌≡◌, []};
 ghost use Rattle.nmgc_round.specs.View.{Opening};
 ghost use Rattle.nmgc_mark.specs.{Marker.HasRoomToMark, Marker.HasMarked, Stopped.IsReady, Stopped.HasFinished};
@@ -13,8 +13,8 @@ impl Marker {
     /// Scans until the queue is empty, with the mutators stopped.
     ///
     /// Before the call, the words represent the world of a marking machine that could open a round, and the marker has the
-    /// marks and the queue of that machine. After it, the marker has the marks of the same machine once it has scanned all
-    /// that was left. No word changes. The gate isn't passed, and the count of its passes stays. Takes no memory.
+    /// marks and the queue of that machine. After it, the marker has the marks that the same machine has once it has scanned
+    /// its whole queue. No word changes. The gate isn't passed, and the count of its passes stays. Takes no memory.
     pub fn finish<W: HeapWords>(&mut self, words: &mut W, segments: &mut Segments)
         requires room { HasRoomToMark segments.old self.old }
         requires ready { (o : Opening) × IsReady o (W.words words.old) segments.old self.old }

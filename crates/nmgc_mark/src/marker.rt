@@ -37,7 +37,7 @@ pub struct Work {
 /// blocks that it marked and of passes of the gate.
 #[derive(Drop)]
 pub struct Marker {
-    /// The number of the collector's passes of the gate in the whole run. It stays at 2^64 - 1.
+    /// The number of the collector's passes of the gate in the whole run. Once it is 2^64 - 1, it stays so.
     pub turns: u64,
     epoch: u8,
     found: Room<Address>,
@@ -63,7 +63,7 @@ impl Model for Marker {
     ghost invariant = { λ m. IsEpoch m.epoch × (m.first ≤ length m.found.items) × (length m.found.items ≤ m.limit) × (m.limit ≤ length m.found.items + m.found.spare) };
 }
 
-/// Returns the most blocks that can be in use in a heap of this layout. Takes no memory.
+/// Returns the greatest number of blocks that can be in use in a heap of this layout. Takes no memory.
 pub fn most_blocks(layout: Layout) -> u32
     requires { IsLayout layout }
     ensures { result ≡ most_blocks layout }
@@ -89,9 +89,9 @@ impl Marker {
     }
 
     /// Makes the marker of a cycle that begins: it has marked and queued the targets of registers, finaliser queues and the
-    /// slots of g, in this order. The marking machine opens with these marks and this queue. `Segments::prepare` was just
-    /// called: no mark byte is the epoch. Registers and queues are read in the mutators. The marker has room for every block,
-    /// which is the only memory that it takes, and its `turns` is 0. After `NoMemory` no block was marked.
+    /// slots of g, in this order. The marking machine opens with these marks and this queue. `Segments::prepare` came before,
+    /// so no mark byte is the epoch. Registers and queues are read in place. The marker has room for every block, which is
+    /// the only memory that it takes, and its `turns` is 0. After `NoMemory` no block was marked.
     pub fn snapshot<W: HeapWords, M: MutatorRoots>(
         alloc: Global,
         words: &mut W,
@@ -177,8 +177,8 @@ impl Marker {
         }
     }
 
-    /// Marks and queues, in order, the blocks at remembered addresses that are in the snapshot and weren't marked. The
-    /// marking machine takes the names that the mutator pushed. An address without a block is passed over. The count of the
+    /// Marks and queues, in order, the blocks at remembered addresses that are in the snapshot and weren't marked. In the
+    /// marking machine this marks the mutator's pushed names. An address without a block is passed over. The count of the
     /// gate's passes stays.
     pub fn add(&mut self, segments: &mut Segments, entries: &[Address])
         requires { HasRoomToMark segments.old self.old }
@@ -191,8 +191,8 @@ impl Marker {
         }
     }
 
-    /// Marks and queues the block `block` of segment `number`, which begins at `at`, if it is in the snapshot and wasn't
-    /// marked. A caller that has found the block needs no second look-up. The count of the gate's passes stays.
+    /// Marks and queues a block, if the block is in the snapshot and wasn't marked: block `block` of segment `number`, at the
+    /// address `at`. A caller that has found the block needs no second look-up. The count of the gate's passes stays.
     pub fn mark_block(&mut self, segments: &mut Segments, at: Address, number: u32, block: u32)
         requires room { HasRoomToMark segments.old self.old }
         requires begins { IsBlockAt segments.old number block at.0 }
@@ -259,8 +259,8 @@ impl Marker {
         Some(at)
     }
 
-    // Looks at the headers of the objects that are scanned next, `AHEAD` at a time, so that the waits for their memory
-    // overlap. Each header is far from the one before. The seat's knowledge stays.
+    // Looks at the headers of the next `AHEAD` objects in the queue, once in `AHEAD` calls: `scanned` objects were scanned in
+    // this round so far. So the waits for these headers overlap, each far from the one before. The seat's view stays.
     pub(crate) fn look_ahead(&self, round: &Round, seat: &mut CollectorSeat, scanned: u32)
         requires { IsAt round.now seat.old }
         ensures { Knows round.now seat.old seat.new (seen seat.old) }
@@ -284,7 +284,7 @@ impl Marker {
         self.found.add(at);
     }
 
-    // Marks and queues the block that begins at an address, if it is in the snapshot and wasn't marked.
+    // Marks and queues the block that begins at an address, if the block is in the snapshot and wasn't marked.
     fn mark(&mut self, segments: &mut Segments, at: Address)
         requires { HasRoomToMark segments.old self.old }
         ensures { MarksAt segments.old segments.new self.old self.new at.0 }
@@ -296,8 +296,8 @@ impl Marker {
         }
     }
 
-    /// Marks and queues the block to which a field's word points, if it is in the snapshot and wasn't marked. The count of
-    /// the gate's passes stays.
+    /// Marks and queues the block to which a field's word points, if the block is in the snapshot and wasn't marked. The
+    /// count of the gate's passes stays.
     pub fn mark_word(&mut self, segments: &mut Segments, word: u64)
         requires room { HasRoomToMark segments.old self.old }
         requires small { (at : ℕ) → word ≡ 2 * at → at < 2 ^ 32 }

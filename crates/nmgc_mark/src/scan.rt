@@ -1,10 +1,11 @@
 //! Scanning an object: its header, and then field after field.
 //!
 //! Each word of an object is one scan of the marking machine, and the target of a field is marked before the next field is
-//! read. Beside the mutators, the collector's seat loads the words. At a stop, with the mutators stopped, plain loads do. A
-//! law of rounds makes plain loads scans of the machine too: the collector's work at a stop is a round in which no mutator
-//! does anything (`specs/Stopped.antt`). Since the collector is alone, that round needs no table. So there is one loop, over
-//! a trait that says how a load changes the collector's knowledge. The compiler makes a loop for each of the two loads.
+//! read. Beside the mutators, the collector's seat loads the words. At a stop, with the mutators stopped, plain loads are
+//! enough, and they too count as scans of the machine. The collector's work at a stop is a round in which no mutator does
+//! anything (`specs/Stopped.antt`), and a law of rounds says what a scan does there. Since the collector is alone, that round
+//! needs no table. So one loop, over a trait that says how a load changes the collector's knowledge, serves both kinds of
+//! load.
 //!
 //! Easy to get wrong: a thunk's result is its first field, and if it was set, nothing else of the thunk is scanned. So that
 //! field is scanned before the loop, which looks for no result.
@@ -22,10 +23,10 @@ use nmgc_world_spec::Kind;
 
 /// A way to load the words of objects that are scanned: by a seat of a round, or from the words at a stop.
 pub(crate) trait ScanLoad<S> {
-    // There were only scans since the first source, and the collector may have this view by now.
+    // Only scans lead from the first source to the second, and the collector may have this view by then.
     ghost shows: { Self → S → S → Seen → Type 0 };
 
-    /// Loads the word that a view scans next, and returns it. The view then has one more scan.
+    /// Loads and returns the word that a view scans next, `offset` words after `at`. The view then has one more scan.
     fn load(&self, source: &mut S, at: Address, offset: u32) -> u64
         requires { (first : S) × (v : Seen) × shows self.now first source.old v × CanScan v at.0 offset × (at.0 + offset < word_total v.opening.layout) }
         ensures { (first : S) (v : Seen) → shows self.now first source.old v → CanScan v at.0 offset →
@@ -40,7 +41,7 @@ impl ScanLoad<CollectorSeat> for Round {
     }
 }
 
-/// Loads at a stop, where the collector goes on alone.
+/// The loads at a stop, when the collector is alone: plain loads of the words.
 pub(crate) struct AtStop;
 
 impl<W: HeapWords> ScanLoad<W> for AtStop {
@@ -52,7 +53,7 @@ impl<W: HeapWords> ScanLoad<W> for AtStop {
     }
 }
 
-/// Returns the number of an object's fields that are scanned: all, or none of a weak pointer.
+/// Returns the number of fields that are scanned in an object: all its fields, but 0 for a weak pointer.
 fn fields_scanned(header: Header) -> u32
     ensures { result ≡ fields_scanned header.kind header.fields }
 {
@@ -62,8 +63,8 @@ fn fields_scanned(header: Header) -> u32
     }
 }
 
-/// Whether the object is a thunk, which may have a result.
-fn has_results(header: Header) -> bool
+/// Whether the object is a thunk, the only kind that may have a result.
+fn is_thunk(header: Header) -> bool
     ensures { result ≡ has_results header.kind }
 {
     match header.kind {
@@ -73,7 +74,7 @@ fn has_results(header: Header) -> bool
 }
 
 impl Marker {
-    // Scans a field of the object that the first entry names, marks the field's target, and returns the field's word.
+    // Scans the next field of the object that is being scanned: loads its word, marks the target, and returns the word.
     fn scan_field<S, L: ScanLoad<S>>(
         &mut self,
         loads: &L,
@@ -97,7 +98,7 @@ impl Marker {
         word
     }
 
-    /// Scans an object to its end and marks the targets of its fields. Its entry has to be the first of the view's queue.
+    /// Scans an object to its end, and marks the targets of its scanned fields. It has to be the view's next object, unread.
     pub(crate) fn scan<S, L: ScanLoad<S>>(
         &mut self,
         loads: &L,
@@ -115,7 +116,7 @@ impl Marker {
         let header = header_of(loads.load(source, at, 0));
         let fields = fields_scanned(header);
         let mut first = 0;
-        if has_results(header) {
+        if is_thunk(header) {
             let result = self.scan_field(loads, source, segments, at, 0);
             if result != 0 {
                 return;

@@ -9,8 +9,7 @@
 //! Marking waits for memory more than it computes, since the next object's header is far away. So at every eighth object the
 //! headers of the next eight are looked at together (`Round::look_ahead`), which is no scan.
 //!
-//! Easy to get wrong: only the queue on return says whether anything is left. The quota doesn't: a round that scans its whole
-//! quota may leave nothing.
+//! Easy to get wrong: only `empty` says whether anything is left. A round that scans its whole quota may leave nothing.
 ghost use Rattle.std.specs.Prelude.{◌≡◌, ◌<◌, ◌≤◌, [], ◌↔◌, IsTrue, length};
 ghost use Rattle.nmgc_round.specs.{Gate.next_turn, Gate.passed, Seat.seen};
 ghost use Rattle.nmgc_mark.specs.{Marker.HasRoomToMark, Marker.turned, Tie.IsTied, Work.IsCollector, Work.HasWorked, Work.marks_seen};
@@ -33,13 +32,14 @@ impl Marker {
 
     /// Scans at most `quota` objects from the queue's front beside the mutators, and returns their number and whether the
     /// queue is empty. Each object is scanned to its end, each word by the scan load. Before each object the gate is passed
-    /// and counted (clause `turns`), and each mutator's ring is polled once. The inbox has a receiver for each mutator.
+    /// and counted (clause `turns`), and each mutator's ring is polled once. No clause says that the gate is called or that a
+    /// ring is polled; tests show both. The inbox has a receiver for each mutator.
     ///
     /// The headers of several objects are looked at before these objects are scanned, and the seat learns nothing from this.
     ///
-    /// Before and after, marks and queue are those of the marking machine in the collector's view. Each object is scanned
-    /// once in a cycle: marked objects that don't wait were scanned. `empty` is false exactly if `quota` objects were scanned
-    /// and the queue isn't empty. Takes no memory, and waits only for the gate.
+    /// Before and after, the marker has the marks and queue of the marking machine in the collector's view. Each object is
+    /// scanned once in a cycle, and a marked object that isn't queued was scanned. `empty` is false exactly if `quota`
+    /// objects were scanned and the queue isn't empty. Takes no memory, and waits only for the gate.
     pub fn work<G: Gate>(
         &mut self,
         round: &Round,

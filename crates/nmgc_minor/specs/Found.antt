@@ -1,6 +1,6 @@
 -- The nursery objects that are promoted: a least set, defined on the words alone.
 --
--- Nursery objects lie from the word `base` on. At a stop, `promote` promises that these are the world's promoted objects.
+-- Nursery objects lie from the word `base` on. At a stop the set is the world's promoted objects, as `promote` promises.
 use Rattle.std.specs.Prelude.{ℕ, ◌≡◌, ◌≢◌, ◌+◌, ◌*◌, ◌<◌, ◌≤◌, List, slice_index, Contains}
 use Rattle.nmgc_limits.specs.declared.mutators.TheConstants.{SHARED_SLOTS}
 use Rattle.nmgc_object.specs.{declared.layout.TheConstants.SHARED_PLACE, declared.words.TheConstants.WEAK_FIELDS, declared.size.TheConstants.HEADER_WORDS}

@@ -12,7 +12,7 @@ pub record Inputs : Type 0 where
   pub recorded : List ℕ
   pub weaks : List ℕ
 
--- the search's inputs fit a world: registers and queues hold the world's values in any order, and the lists are a round's
+-- the search's inputs fit a world: registers and queues hold its values in any order, and both lists are from one round
 pub record HasInputs (base : ℕ) (earlier : List World) (places : List Place) (w : World) (inputs : Inputs) : Type 0 where
   pub held : (word : ℕ) → Contains inputs.registers word → (m : ℕ) × (v : Value) × Contains (state_of w m).registers v × Means (Contains places) word v
   pub holds_all : (m : ℕ) (n : Name) → Contains (state_of w m).registers (Ref n) → (at : ℕ) × Contains inputs.registers (2 * at) ×

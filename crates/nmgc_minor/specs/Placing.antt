@@ -82,8 +82,7 @@ PlacesEach layout words old (m ∷ moves) new =
     (mid : AllocState) × (class : ℕ) × (step : PlacesName layout old mid m.name.maker class m.name)
     × IsClassAt words m.from.0 class × (m.to.0 ≡ block_place layout step.number class step.block) × PlacesEach layout words mid moves new
 
--- if the old segments represented an allocation state, the new segments represent the state after the placings, once the new
--- blocks have their names
+-- if the old segments represent an allocation state, the new segments, with the blocks' names, represent it after placing
 abbrev pub StandsAfter : Segments → Segments → List ℕ → List Move → Type 0
 StandsAfter s s' words moves = (names : List ℕ) (old : AllocState) → nursery_place s.layout 0 ≤ length names → StandsFor s names old →
     (new : AllocState) × PlacesEach s.layout words old moves new × StandsFor s' (with_names names moves) new

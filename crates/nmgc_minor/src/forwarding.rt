@@ -1,7 +1,7 @@
 //! The third pass: pointers are changed by the table of new addresses, and objects are copied.
 //!
 //! Easy to get wrong: words without meaning are forwarded too, such as the free variables of a thunk that has its result, and
-//! they may have any value. So `forwarded` has no precondition on its word, and leaves words that don't point into the table.
+//! they may have any value. So `forward_word` has no condition on its word, and leaves words that don't point into the table.
 ghost use Rattle.std.specs.Prelude.{ℕ, ◌≡◌, ◌+◌, ◌<◌, ◌≤◌, length, slice_index, set, map, Contains};
 ghost use Rattle.std.specs.List.{flat_map};
 ghost use Rattle.nmgc_stop_spec.specs.Strong.{HasHeader};
@@ -16,7 +16,7 @@ use nmgc_object::{Address, FieldWord, HEADER_WORDS, SHARED_PLACE, fields_of};
 
 /// Returns the word to store once objects have moved. If the word points to an object with a new address in the table, it
 /// becomes a pointer to this address; every other word is unchanged.
-pub fn forwarded(table: &[u32], base: u32, word: u64) -> u64
+pub fn forward_word(table: &[u32], base: u32, word: u64) -> u64
     ensures { result ≡ forward_word table.now base word }
 {
     let Some(at) = FieldWord(word).place() else {
@@ -43,13 +43,13 @@ pub fn forward_words(table: &[u32], base: u32, words: &mut [u64])
     ensures { words.new ≡ map (forward_word table.now base) words.old }
 {
     for word in words.iter_mut() {
-        *word = forwarded(table, base, *word);
+        *word = forward_word(table, base, *word);
     }
 }
 
-// Stores a word at an address, unless the word is there already. In the table of a run a store costs several loads, and a
-// block that is used again often gets the words that it had.
-fn put<W: HeapWords>(words: &mut W, at: usize, word: u64)
+// Stores a word at an address, unless the address has this word already. In the table of a run a store costs several loads,
+// and a block that is used again often gets the words that it had.
+fn store_if_changed<W: HeapWords>(words: &mut W, at: usize, word: u64)
     requires { at < length (W.words words.old) }
     ensures { W.words words.new ≡ set (W.words words.old) at word }
 {
@@ -58,14 +58,14 @@ fn put<W: HeapWords>(words: &mut W, at: usize, word: u64)
     }
 }
 
-// Changes the word at an address into a pointer to the new address, if it points to a moved object. A word that stays isn't
-// stored, since a store costs several loads in the table of a run.
+// Changes the word at an address into a pointer to the new address, if it points to a moved object. Other words aren't stored
+// again, since a store costs several loads in the table of a run.
 fn forward_at<W: HeapWords>(table: &[u32], base: u32, words: &mut W, at: usize)
     requires { at < length (W.words words.old) }
     ensures { W.words words.new ≡ set (W.words words.old) at (forward_word table.now base (slice_index (W.words words.old) at)) }
 {
     let word = words.load(at);
-    let now = forwarded(table, base, word);
+    let now = forward_word(table, base, word);
     if now != word {
         words.store(at, now);
     }
@@ -82,7 +82,7 @@ pub fn forward_shared<W: HeapWords>(table: &[u32], base: u32, words: &mut W)
     }
 }
 
-// Forwards the fields at the addresses in `recorded`. An address may occur more than once.
+// Forwards the fields at the addresses in `recorded`. An address may occur twice: a forwarded field doesn't change again.
 fn forward_places<W: HeapWords>(table: &[u32], base: u32, words: &mut W, recorded: &[Address])
     requires inside { (at : Address) → Contains recorded.now at → at.0 < length (W.words words.old) }
     requires small { (k : ℕ) → slice_index table.now k < base }
@@ -93,7 +93,7 @@ fn forward_places<W: HeapWords>(table: &[u32], base: u32, words: &mut W, recorde
     }
 }
 
-/// Forwards the fields that the mutators recorded. A field may occur more than once.
+/// Forwards the fields that the mutators recorded. A field may have been recorded more than once.
 pub fn forward_recorded<W: HeapWords, M: MutatorRoots>(
     table: &[u32],
     base: u32,
@@ -110,7 +110,7 @@ pub fn forward_recorded<W: HeapWords, M: MutatorRoots>(
     }
 }
 
-// Copies `count` fields of an object to another address, and forwards each.
+// Copies `count` fields of an object to another address, each field forwarded.
 fn copy_fields<W: HeapWords>(
     table: &[u32],
     base: u32,
@@ -127,11 +127,11 @@ fn copy_fields<W: HeapWords>(
     let target = to as usize + HEADER_WORDS as usize;
     for i in 0..count as usize {
         let word = words.load(source + i);
-        put(words, target + i, forwarded(table, base, word));
+        store_if_changed(words, target + i, forward_word(table, base, word));
     }
 }
 
-// Returns the number of fields of an object.
+// Returns the number of fields of the object at `from`.
 fn field_count<W: HeapWords>(words: &mut W, from: u32) -> u32
     requires { HasHeader (W.words words.old) from }
     ensures count { (header : Header) → HasHeaderWord (W.words words.old) from header → result ≡ header.fields }
@@ -147,7 +147,7 @@ fn copy_word<W: HeapWords>(words: &mut W, from: usize, to: usize)
     ensures { W.words words.new ≡ set (W.words words.old) to (slice_index (W.words words.old) from) }
 {
     let word = words.load(from);
-    put(words, to, word);
+    store_if_changed(words, to, word);
 }
 
 // Copies the object at `from` to `to`, with its fields forwarded.
@@ -163,7 +163,7 @@ fn copy_object<W: HeapWords>(table: &[u32], base: u32, words: &mut W, from: u32,
     copy_word(words, from as usize + 1, to as usize + 1);
 }
 
-/// Copies each of the objects to its new address, with its fields forwarded.
+/// Copies each moved object to its new address, with its fields forwarded.
 pub fn copy_all<W: HeapWords>(table: &[u32], base: u32, words: &mut W, moves: &[Move])
     requires { CanCopyAll base (W.words words.old) moves.now }
     ensures { CopiesAll (forward_word table.now base) (W.words words.old) (W.words words.new) moves.now }

@@ -1,15 +1,15 @@
-//! Promotion: at a stop, the new objects of all nurseries that survive are copied into segments.
+//! Promotion: at a stop, the surviving objects of all nurseries are copied into segments.
 //!
 //! The mutators are stopped, so words are read and written plainly. None of the three passes takes memory, sorts or hashes:
 //!
-//! 1. *Mark* (`starts`, `young`). It finds the nursery objects to which the roots, the slots of g, the recorded fields and
-//!    live new weak pointers refer. It follows strong fields from these. A table by nursery word has the found objects. They
-//!    wait in a list that is read once. Words are only read.
+//! 1. *Find* (`starts`, `young`). It finds the nursery objects to which the roots, the slots of g, the recorded fields and
+//!    live new weak pointers refer, and follows strong fields from there. Found objects are noted in a table by nursery word,
+//!    and wait in a list that is read once. Words are only read.
 //! 2. *Place* (`nurseries`, `placing`). It reads the table from its beginning on, but skips the words of a found object. A
 //!    nursery's objects lie in the order of their serials, and the nurseries in the order of their makers, so this is the
 //!    order of names. Each found object is given a block, and the block's address becomes its entry. Words are only read.
 //! 3. *Forward* (`forwarding`). It forwards the slots of g and the recorded fields by the table. Then it copies each found
-//!    object to its block with its fields forwarded, and then it forwards the roots.
+//!    object to its block with its fields forwarded, and forwards the roots.
 //!
 //! No pass writes to a nursery, and only the last pass writes to a block. So all facts about the old words hold to the end,
 //! and each new word is a function of an old one. Therefore one proof for all words shows that they represent the same world.

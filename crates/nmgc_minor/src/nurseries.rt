@@ -13,9 +13,8 @@ use nmgc_alloc::Segments;
 use nmgc_heap_spec::{HeapWords, MutatorRoots};
 use nmgc_lists::Room;
 
-/// Gives each found object at an address from `from` on and below `to` a block, in the order of addresses, and lists the
-/// moves. The table gets the new addresses.
-pub fn place_all<W: HeapWords>(
+/// Gives a block to each found object from `from` on and below `to`, in address order. Notes the moves in list and table.
+pub fn place_nursery<W: HeapWords>(
     base: u32,
     table: &mut [u32],
     moves: &mut Room<Move>,
@@ -59,7 +58,7 @@ pub fn place_all<W: HeapWords>(
     }
 }
 
-/// Gives each found object in the mutators' nurseries a block, in the order of addresses, and lists the moves.
+/// Gives a block to each found object in the nurseries, in order of addresses. Notes the moves in list and table.
 pub fn place_nurseries<W: HeapWords, M: MutatorRoots>(
     base: u32,
     table: &mut [u32],
@@ -82,7 +81,7 @@ pub fn place_nurseries<W: HeapWords, M: MutatorRoots>(
 {
     for (maker, mutator) in mutators.iter().enumerate() {
         let nursery = mutator.nursery();
-        place_all(
+        place_nursery(
             base,
             table,
             moves,

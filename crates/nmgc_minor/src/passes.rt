@@ -1,20 +1,20 @@
 //! The three passes over the words, and over the roots outside them.
 //!
-//! Between two promotions the working lists keep the objects found by the last one. Their entries are freed one by one when
-//! the next promotion begins, since a table as long as all nurseries is too long to be wiped at each stop.
+//! Between two promotions the working lists keep the objects found by the last promotion. The next promotion begins by
+//! setting their entries to 0, one by one. The table is as long as all nurseries, too long to be wiped at each stop.
 //!
 //! The contents of mutators are read and changed in place, one mutator after the other, without a list of them.
 //!
-//! Easy to get wrong: no pass writes to a nursery. So the third may copy objects in any order, each as the round left it.
+//! Easy to get wrong: no pass writes to a nursery. So the third pass copies objects as the round left them, in any order.
 ghost use Rattle.std.specs.Prelude.{ℕ, ◌≡◌, ◌≢◌, ◌+◌, ◌*◌, ◌<◌, ◌≤◌, List, [], length, map, slice_index, Contains};
 ghost use Rattle.nmgc_object.specs.Places.{nursery_place};
 ghost use Rattle.nmgc_alloc.specs.Segments.{IsSegments};
 ghost use Rattle.nmgc_minor.specs.{Start.inputs_by, Forwarding.forward_word, Promotes.CanPromote, Promotes.CanPromoteWith, Promotes.Promotes, Promotes.Leaves, Promotes.forwarded, Promotes.promoted, Resting.IsResting, Resting.IsCleared};
 
-use crate::forwarding::{copy_all, forward_recorded, forward_shared, forward_words, forwarded};
+use crate::forwarding::{copy_all, forward_recorded, forward_shared, forward_word, forward_words};
 use crate::nurseries::place_nurseries;
 use crate::placing::Move;
-use crate::starts::mark;
+use crate::starts::find_survivors;
 use crate::young::Young;
 use nmgc_alloc::Segments;
 use nmgc_heap_spec::{HeapWords, MutatorRoots};
@@ -40,7 +40,7 @@ fn promote_words<W: HeapWords, M: MutatorRoots>(
     ensures sound { IsSegments segments.new }
     ensures layout { segments.new.layout ≡ segments.old.layout }
 {
-    mark(young, words, mutators);
+    find_survivors(young, words, mutators);
     let base = young.base;
     place_nurseries(
         base,
@@ -57,7 +57,7 @@ fn promote_words<W: HeapWords, M: MutatorRoots>(
 }
 
 // Sets the table's entries of the objects in `found` to 0.
-fn forget(base: u32, table: &mut [u32], found: &[Address])
+fn clear_entries(base: u32, table: &mut [u32], found: &[Address])
     requires { (at : Address) → Contains found.now at → (base ≤ at.0) × (at.0 < base + length table.old) }
     ensures size { length table.new ≡ length table.old }
     ensures free { ((k : ℕ) → slice_index table.old k ≢ 0 → Contains found.now (record { 0 = base + k })) → (k : ℕ) → slice_index table.new k ≡ 0 }
@@ -67,7 +67,7 @@ fn forget(base: u32, table: &mut [u32], found: &[Address])
     }
 }
 
-// Forwards the words of a queue. If it has no nursery object, as in every run, it isn't read or changed.
+// Forwards the words of a queue. If no word leads into a nursery, as in every run, the queue is neither read nor changed.
 fn forward_queue(table: &[u32], base: u32, queue: &mut FinQueue)
     ensures { queue.new ≡ forwarded (forward_word table.now base) queue.old }
 {
@@ -76,7 +76,7 @@ fn forward_queue(table: &[u32], base: u32, queue: &mut FinQueue)
     }
     for i in 0..queue.words().len() {
         let word = queue.words()[i];
-        queue.set(i, forwarded(table, base, word));
+        queue.set(i, forward_word(table, base, word));
     }
 }
 
@@ -100,24 +100,23 @@ fn settle<M: MutatorRoots>(table: &[u32], base: u32, mutators: &mut [M])
     }
 }
 
-// Empties the working lists of everything that the last promotion left in them.
+// Empties the working lists, and the table, of everything that the last promotion left in them.
 fn clear(young: &mut Young, moves: &mut Room<Move>)
     requires { IsResting young.old moves.old }
     ensures cleared { IsCleared young.new moves.new }
     ensures base { young.new.base ≡ young.old.base }
     ensures size { length young.new.table.items ≡ length young.old.table.items }
 {
-    forget(young.base, young.table.as_mut_slice(), young.found.items());
+    clear_entries(young.base, young.table.as_mut_slice(), young.found.items());
     young.found.clear();
     moves.clear();
 }
 
-/// Promotes: runs the three passes over the words, and over the registers, queues and nurseries of the mutators. It needs no
-/// world that the words represent.
+/// Runs the three passes of a promotion over words, registers, queues and nurseries. The words need not represent a world.
 ///
-/// The working lists have to be of the size that the nurseries of the segments' layout need. Pointers into the nurseries have
-/// to lead to objects that lie one after another in the used part of their maker's nursery. Either the reserve is free, or no
-/// nursery has an object (`specs/Promotes.antt`, `CanPromoteWith`).
+/// The working lists have to fit the nurseries of the segments' layout. Pointers into the nurseries have to lead to objects
+/// that lie one after another in the used part of their maker's nursery. Either the reserve is free, or no nursery has an
+/// object (`specs/Promotes.antt`, `CanPromoteWith`).
 ///
 /// It copies exactly the nursery objects reachable from the roots, the slots of g, the recorded fields and the live new weak
 /// pointers. Each is copied once, in order of names; `moves` lists them. Each pointer to such an object leads to its new

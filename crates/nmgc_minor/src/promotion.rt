@@ -71,17 +71,16 @@ impl Promotion {
     /// Moves the promoted objects from the nurseries into segments, each once, in order of names. Each object goes into the
     /// block that Note [The placing rule] in `nmgc_alloc` gives for its maker and its class. Every pointer to a moved object
     /// is changed, in the roots, the slots of g, the recorded fields and the moved objects, so the words represent the same
-    /// world. No mark and no snapshot index changes. Takes no memory.
+    /// world. No mark and no snapshot index changes. No more objects move than the nurseries have words. Takes no memory.
     ///
     /// The mutators' registers, queues and nurseries are read and changed in place, and so are their two lists of the round.
-    /// Nurseries and lists are empty afterwards. A mutator's `recorded` has the addresses of the fields of older objects in
-    /// which it stored a new object in the round. Its `young_weaks` has the weak pointers that it made. Either at least the
-    /// layout's reserve of segments has to be free, or no nursery has an object.
+    /// Nurseries and lists are empty afterwards, and finaliser queues keep their room. A mutator's `recorded` has the
+    /// addresses of the fields of older objects in which it stored a new object in the round. Its `young_weaks` has the weak
+    /// pointers that it made. Either at least the layout's reserve of segments has to be free, or no nursery has an object.
     ///
-    /// The time is proportional to the objects that this and the last promotion move, the fields of this promotion's objects,
-    /// the roots, both lists and the used words of the nurseries. The table is read for these words, except the later words
-    /// of a found object. If a segment was filled, the search for the next is added. The time grows neither with the heap nor
-    /// with unused words.
+    /// The time is proportional to the objects that this and the last promotion move, the fields of this one's objects, the
+    /// roots, both lists and the nurseries' used words. It grows neither with the heap nor with unused words: the table is
+    /// read only for used words, except a found object's later words. If a segment was filled, add the search for the next.
     pub fn promote<W: HeapWords, M: MutatorRoots>(
         &mut self,
         words: &mut W,

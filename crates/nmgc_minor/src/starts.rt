@@ -22,8 +22,8 @@ fn note_registers<M: MutatorRoots>(young: &mut Young, mutators: &[M])
     }
 }
 
-// Notes the nursery objects to which a queue points. A queue without nursery objects isn't read. In a run no queue has any:
-// words joined the queue at a closing, when the nurseries were empty.
+// Notes the nursery objects to which a queue points. A queue without nursery objects isn't read. In a run no queue has
+// nursery objects: words join a queue at a closing, when the nurseries are empty.
 fn note_queue(young: &mut Young, queue: &FinQueue)
     requires young { IsYoung young.old }
     requires within { (word : ℕ) → Contains queue.now.words word → IsWithin young.old word }
@@ -74,7 +74,7 @@ fn note_recorded<W: HeapWords, M: MutatorRoots>(young: &mut Young, words: &mut W
     }
 }
 
-// Notes a new weak pointer that is alive, and the nursery objects in its parts. A dead one is passed over.
+// Notes a new weak pointer that is alive, and the nursery objects in its parts. A dead weak pointer is skipped.
 fn note_weak<W: HeapWords>(young: &mut Young, words: &mut W, at: Address)
     requires young { IsYoung young.old }
     requires inside { at.0 + (HEADER_WORDS + WEAK_FIELDS) ≤ length (W.words words.old) }
@@ -89,7 +89,7 @@ fn note_weak<W: HeapWords>(young: &mut Young, words: &mut W, at: Address)
     }
 }
 
-// Notes the weak pointers of a list that are alive, and the nursery objects in their parts.
+// Notes the weak pointers in `weaks` that are alive, and the nursery objects in their parts.
 fn note_all_weaks<W: HeapWords>(young: &mut Young, words: &mut W, weaks: &[Address])
     requires young { IsYoung young.old }
     requires inside { (at : Address) → Contains weaks.now at → at.0 + (HEADER_WORDS + WEAK_FIELDS) ≤ length (W.words words.old) }
@@ -130,8 +130,12 @@ fn note_shared<W: HeapWords>(young: &mut Young, words: &mut W)
 }
 
 /// Finds the nursery objects that survive, and notes them in the table. It sets no mark byte, since mark bytes belong to the
-/// cycle. The contents of mutators are read in place.
-pub fn mark<W: HeapWords, M: MutatorRoots>(young: &mut Young, words: &mut W, mutators: &[M])
+/// cycle. The contents of mutators are only read, in place.
+pub fn find_survivors<W: HeapWords, M: MutatorRoots>(
+    young: &mut Young,
+    words: &mut W,
+    mutators: &[M],
+)
     requires young { IsYoung young.old }
     requires empty { young.old.found.items ≡ [] }
     requires inside { FIRST_PLACE ≤ length (W.words words.old) }

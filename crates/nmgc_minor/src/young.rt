@@ -24,8 +24,8 @@ pub struct Young {
     pub found: Room<Address>,
 }
 
-/// Returns the addresses at which an object's strong fields begin and end, the end left out. A thunk with a result holds only
-/// the result, and a thunk without a result its free variables. A weak pointer holds nothing.
+/// Returns the address of an object's first strong field, and the address after its last one. A thunk's only strong field is
+/// its result, if it has one; otherwise its strong fields are its free variables. A weak pointer has none.
 pub fn strong_fields<W: HeapWords>(words: &mut W, at: Address) -> (usize, usize)
     requires { HasHeader (W.words words.old) at.0 }
     ensures range { IsStrongRange (W.words words.old) at.0 result.0 result.1 }
@@ -65,8 +65,8 @@ impl Young {
         }
     }
 
-    /// Notes the nursery object of the table's entry `index` as found, unless it is already.
-    fn put(&mut self, index: usize)
+    /// Notes as found the nursery object of the table's entry `index`, unless it was found before.
+    fn note_entry(&mut self, index: usize)
         requires young { IsYoung self.old }
         requires index { index < length self.old.table.items }
         ensures { Notes self.old self.new (λ w. w ≡ 2 * (self.old.base + index)) }
@@ -77,18 +77,18 @@ impl Young {
         }
     }
 
-    /// Notes the nursery object to which a field word points, if it points to one.
+    /// Notes as found the nursery object to which a field word points, if it points to one.
     pub fn note(&mut self, word: u64)
         requires young { IsYoung self.old }
         requires within { IsWithin self.old word }
         ensures { Notes self.old self.new (λ w. w ≡ word) }
     {
         if let Some(index) = self.entry(word) {
-            self.put(index);
+            self.note_entry(index);
         }
     }
 
-    /// Notes the nursery objects to which the field words point.
+    /// Notes as found the nursery objects to which the field words point.
     pub fn note_all(&mut self, words: &[u64])
         requires young { IsYoung self.old }
         requires within { (word : ℕ) → Contains words.now word → IsWithin self.old word }
@@ -99,7 +99,7 @@ impl Young {
         }
     }
 
-    /// Notes the nursery objects to which the words at addresses from `from` on and below `to` point.
+    /// Notes as found the nursery objects to which the words from address `from` on and below `to` point.
     pub fn note_range<W: HeapWords>(&mut self, words: &mut W, from: usize, to: usize)
         requires young { IsYoung self.old }
         requires ordered { from ≤ to }
@@ -114,7 +114,7 @@ impl Young {
         }
     }
 
-    /// Notes the nursery objects to which the strong fields of an object point.
+    /// Notes as found the nursery objects to which an object's strong fields point.
     fn note_fields<W: HeapWords>(&mut self, words: &mut W, at: Address)
         requires young { IsYoung self.old }
         requires can { CanFollow self.old (W.words words.old) at.0 }
@@ -126,7 +126,7 @@ impl Young {
         self.note_range(words, from, to);
     }
 
-    /// Follows the strong fields of found objects and notes the nursery objects there, until it finds no further one.
+    /// Notes as found all nursery objects that strong fields reach from objects found before. Each object is read once.
     pub fn follow<W: HeapWords>(&mut self, words: &mut W)
         requires young { IsYoung self.old }
         requires can { (at : ℕ) → IsFound self.old.base (W.words words.old) (PointsIn self.old) at → CanFollow self.old (W.words words.old) at }

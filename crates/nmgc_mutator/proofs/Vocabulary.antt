@@ -2,7 +2,7 @@
 pub use Rattle.nmgc_heap_spec.specs.Shape.{MayChange}
 pub use Rattle.nmgc_limits.specs.declared.mutators.TheConstants.{REGISTERS}
 pub use Rattle.nmgc_lists.specs.{Room.Room, laws.Items.contains_cases, laws.Items.contains_head, laws.Items.contains_tail}
-pub use Rattle.nmgc_mutator.specs.{Acts.Acts, Acts.HasActed, Acts.HasNoted, Acts.HasStepRoom, Acts.StepsTo, Acts.most_pushed, Acts.most_weaks, Acts.weaks_of, Acts.with_weaks, Does.Does, Does.Finds, Does.HasDone, Does.HasFlushed, Does.HasNoBlock, Does.HasReplied, Does.HasUsed, Does.IsFilling, Does.IsYield, Does.SameLine, Does.Went, Does.dest_made, Does.next_name, Does.remembered, Does.with_finalised, Does.with_recorded, Does.with_updrem, Ready.HasHand, Ready.IsNursery, Ready.IsReady, Ready.IsWhole, Ready.LieFrom, Ready.first_part, Ready.hand_in, Ready.part_of, Ready.rows_of, Ready.with_register, Ready.words_by, Records.all_finalised, Records.all_pushed, Records.all_recorded, Records.all_weaks, Records.depth_of, Records.finalised_by, Records.is_old, Records.is_young, Records.noted_by, Records.numbers, Records.pushed_at, Records.recorded_at, Records.recorded_by, Records.weaks_by, Slice.Ended, Slice.GoesOn, Slice.HasRoom, Slice.HasRun, Slice.IsEnd, Slice.IsRunning, Slice.tried, Slice.turned, Stacks.HasDepth, Stacks.HasNoStack, Stacks.IsOwnStack, Stacks.Owns, Thunks.AreLoaded}
+pub use Rattle.nmgc_mutator.specs.{Acts.Acts, Acts.HasActed, Acts.HasNoted, Acts.HasStepRoom, Acts.StepsTo, Acts.most_pushed, Acts.most_weaks, Acts.weaks_of, Acts.with_weaks, Does.Does, Does.Finds, Does.HasDone, Does.HasFlushed, Does.HasNoBlock, Does.HasReplied, Does.HasUsed, Does.IsFilling, Does.IsYield, Does.SameLine, Does.Went, Does.dest_made, Does.next_name, Does.remembered, Does.with_finalised, Does.with_recorded, Does.with_updrem, Ready.HasHand, Ready.IsNursery, Ready.IsReady, Ready.IsWhole, Ready.LieFrom, Ready.first_part, Ready.hand_in, Ready.part_of, Ready.rows_of, Ready.with_register, Ready.words_by, Records.all_finalised, Records.all_pushed, Records.all_recorded, Records.all_weaks, Records.depth_of, Records.finalised_by, Records.is_old, Records.is_young, Records.noted_by, Records.numbers, Records.pushed_at, Records.recorded_at, Records.recorded_by, Records.weaks_by, Slice.Ended, Slice.GoesOn, Slice.HasRoom, Slice.HasRun, Slice.IsEnd, Slice.IsRunning, Slice.tried, Slice.with_turns, Stacks.HasDepth, Stacks.HasNoStack, Stacks.IsOwnStack, Stacks.Owns, Thunks.AreLoaded}
 pub use Rattle.nmgc_mutator.specs.{declared.mutator.Mutator.Mutator, declared.mutator.SliceEnd.SliceEnd, declared.mutator.Step.Step, declared.mutator.Step.TheVariants.Replied, laws.Common.old_odd}
 pub use Rattle.nmgc_object.specs.{FinQueue.FinQueue, Places.nursery_place, Places.word_total, Words.HasFields, Words.IsName, Words.header_word, Words.kind_number, Words.name_word, declared.layout.Layout.Layout, declared.layout.Nursery.Nursery, declared.layout.TheConstants.FIRST_PLACE, declared.layout.TheConstants.SHARED_PLACE, declared.size.TheConstants.HEADER_WORDS, declared.words.Address.Address, declared.words.Header.Header, declared.words.TheConstants.NIL_WORD, declared.words.TheConstants.TAG_UNIT}
 pub use Rattle.nmgc_round.specs.{Compare.exchanged, Gate.next_turn, Gate.passed, Making.fields_made, Making.header_made, Naming.AllReply, Naming.IsNamed, Naming.Replies, Owing.finding_all, Owing.fixed_at, Owing.fixed_from, Owing.owed_words, Own.slots_at, Ready.CanBear, Ready.CanGive, Ready.CanStore, Ready.IsMutator, Ready.Mutates, Ready.Names, Results.forced, Results.free_named, Results.result_answer, Results.updated, Rule.limit_of, Rule.top_of, Seat.IsAt, Seat.Knows, Seat.RoundSeat, Seat.opening_of, Seat.seen, Seat.word_count, Stacks.CanPeek, Stacks.CanSlot, Stacks.IsOwn, Stacks.IsRefusedSlot, Stacks.FindsSlot, Stacks.slot_refusal_reply, Stacks.slot_refused, Stacks.slot_swapped, Known.CanFix, Known.CanAnswer, Known.IsSafe, Known.TakesPlace, Known.FindsQueue, Known.first_answer, Known.get_refusal, Known.header_at, Known.owner_refusal, Known.refused, Known.set_refusal, Known.taken, Known.known, Known.known_answer, View.Answer, View.DoneRow, View.FixedWord, View.Hand, View.Opening, View.Part, View.Seen, View.Slots, View.UnbornWord, View.answered, View.bearing_object, View.changing, View.doing, View.finding, View.first_changed, View.gave_birth, View.hand_now, View.hand_of, View.holding, View.knowing, View.leaves, View.loaded, View.next_of, View.owed_word, View.plain, View.rows_leave, View.stored, View.storing, View.swapped, View.word, View.word_of, Weaks.CanFinalise, Weaks.finaliser_named, Weaks.weak_read, Weaks.weak_taken}

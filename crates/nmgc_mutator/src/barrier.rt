@@ -9,28 +9,26 @@
 //! weak pointer. So `deref` owes the value that it reads, and `finalise` owes the weak pointer that it kills, with value and
 //! finaliser. `owed_by` lists all (`specs/Owed.antt` of `nmgc_world_spec`).
 //!
-//! Marking is then exact for the snapshot. The marker scans each marked object once. For each strong field of the snapshot,
-//! either its target is marked, owed or pushed, or the field is unchanged and its scan is still to come. A command that
-//! changes the field owes the target; the scan marks it. A closing gives all pushed references to the marker, and scans until
-//! nothing is queued. The mutators are stopped, so nothing is owed. So all these targets are marked, as are the snapshot's
-//! roots.
+//! Then no object that was live at the snapshot is lost. The marker scans each marked object once. For each strong field of
+//! the snapshot, its target is marked, owed or pushed, or the field is unchanged and not scanned yet. In that case its object
+//! isn't marked, or its scan is still to come. A command that changes the field owes the target; the scan marks it. Stops
+//! give the marker all pushed references; a closing scans until nothing is queued. Mutators are stopped, so nothing is owed.
+//! So a marked object's strong fields have marked targets. The roots are marked, so all live objects of the snapshot are.
 //!
-//! New references need no push. A mutator gets a reference only from its registers, its queue, and the fields of objects that
-//! it holds. So its object is live in the snapshot or was made since, and objects made since are kept.
-//! `nmgc_core/src/core_machine.rt` has the whole argument, `nmgc_snapshot_laws` the theorem.
+//! New references need no push. A mutator gets references only from its registers and queue, and fields of objects that it
+//! holds. So their objects are live in the snapshot or made since, and objects made since are kept. So only objects live in
+//! the snapshot are marked, until weak pointers are resolved: marking is exact. (Reading or finalising a weak pointer makes
+//! more of the snapshot live.) `nmgc_core/src/core_machine.rt` has the argument, `nmgc_snapshot_laws` the theorem.
 //!
-//! A Dijkstra-style insertion barrier would push the new word of each store, so that no scanned field refers to an unmarked
-//! object. It may free an object in the same cycle in which it became garbage. But a load into a register is no store, and
-//! the loaded field may be overwritten before its scan. So a closing would have to scan the registers again. Here only the
-//! beginning of a cycle scans them.
+//! A Dijkstra-style insertion barrier pushes the new word of each store, so no scanned field refers to an unmarked object. It
+//! may free an object in the cycle in which it became garbage. But a load into a register is no store, and the field may be
+//! overwritten before its scan. So a closing would have to scan registers again. Here only a cycle's start does.
 //!
 //! The word is taken out by one step of the round, a swap or an exchange, whose answer shows the very word that it replaced.
 //! So of several mutators that write one field, each owes the word that its own step replaced, and none is missed, however
-//! late it is pushed. Whether a cycle marks changes only at stops, so no mutator can miss the change, and no handshake is
-//! needed.
+//! late it is pushed. Marking begins and ends only at stops, so no mutator can miss that, and no handshake is needed.
 //!
-//! The barrier doesn't look whether an object is marked, and takes no memory: `Mutator::reserve` makes the room before the
-//! round.
+//! The barrier doesn't look whether an object is marked, and takes no memory: `Mutator::reserve` makes room before a round.
 //!
 //! # Promotion
 //!
@@ -96,7 +94,7 @@ impl Mutator {
         }
     }
 
-    // Pushes an owed word, if the round is marking and it refers to a segment: `Note [Why the deletion barrier is enough]`.
+    // Pushes an owed word, if the round is marking and it refers to a segment: Note [Why the deletion barrier is enough].
     pub(crate) fn push(&mut self, marking: bool, word: u64)
         requires one { IsWhole self.old }
         requires room { 0 < self.old.updrem.spare }

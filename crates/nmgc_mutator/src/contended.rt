@@ -1,6 +1,6 @@
 //! The commands on words that several threads change: `cas`, `update`, `force`, `deref` and `finalise`.
 //!
-//! Each is one step of the round, with loads of words that never change before and after it.
+//! Each takes its place in the order by one step of the round. The words that it loads before and after never change.
 //!
 //! Easy to get wrong: `update` and `finalise` owe more than the word of that step, and owe it from that very step on. So a
 //! thunk's free variables and a weak pointer's finaliser are loaded before it: by then the seat must name them.
@@ -17,8 +17,8 @@ use nmgc_round::{Exchanged, MutatorSeat, Round};
 use nmgc_world_spec::{Kind, Operand, Reply};
 
 impl Mutator {
-    // Refuses a command and returns the reply, at the header of g (Note [Where a command takes its place in the order]). It
-    // calls `answer_in_order`, which ensures `Does`, and itself ensures `Acts`: nothing was noted.
+    // Refuses a command by the load of the header of g, and returns the reply: Note [Where a command takes its place in the
+    // order] in `commands`. It calls `answer_in_order`, which ensures `Does`, and itself ensures `Acts`: nothing was noted.
     pub(crate) fn refuse(
         &self,
         round: &Round,
@@ -109,7 +109,7 @@ impl Mutator {
         if word == 0 {
             return Reply::Nothing;
         }
-        self.hold(dest, word);
+        self.set_register(dest, word);
         Reply::Given(self.value(round, seat, Operand::Register(dest)))
     }
 
@@ -141,7 +141,7 @@ impl Mutator {
         if word == 0 {
             return Reply::Dead;
         }
-        self.hold(dest, word);
+        self.set_register(dest, word);
         self.push(round.is_marking(), word);
         Reply::Given(self.value(round, seat, Operand::Register(dest)))
     }
@@ -176,7 +176,7 @@ impl Mutator {
         if word == 0 {
             return Reply::Dead;
         }
-        self.hold(dest, finaliser);
+        self.set_register(dest, finaliser);
         let owed = [FieldWord::of_place(at.0).0, word, finaliser];
         self.push_words(round.is_marking(), &owed);
         self.note_finalised(at);

@@ -17,7 +17,7 @@ use nmgc_object::{Address, HEADER_WORDS, NAME_OFFSET, SHARED_PLACE, decode_name}
 use nmgc_round::{MutatorSeat, Round};
 use nmgc_world_spec::{Kind, Operand, Reply};
 
-// Returns the number of values on an own stack. Slots are used from the bottom up, so a binary search finds the depth.
+// Returns the number of values on a stack of the mutator's own. Slots fill from the bottom up, so a binary search finds it.
 fn depth(round: &Round, seat: &mut MutatorSeat, at: Address, slots: u32) -> u32
     requires seat { IsAt round.now seat.old }
     requires own { IsOwnStack (seen seat.old) at.0 slots }
@@ -41,7 +41,7 @@ fn depth(round: &Round, seat: &mut MutatorSeat, at: Address, slots: u32) -> u32
 }
 
 impl Mutator {
-    // Returns the own stack to which an operand refers, and its number of slots. If it refers to none, returns the refusal.
+    // Returns the mutator's own stack to which an operand refers, and its number of slots, or the refusal if there is none.
     fn own_stack(
         &self,
         round: &Round,
@@ -128,7 +128,7 @@ impl Mutator {
             return Reply::StackEmpty;
         }
         let word = round.swap_slot(seat, at, depth - 1, 0, command);
-        self.hold(dest, word);
+        self.set_register(dest, word);
         self.push(round.is_marking(), word);
         Reply::Given(self.value(round, seat, Operand::Register(dest)))
     }
@@ -153,7 +153,7 @@ impl Mutator {
         };
         round.load_fixed(seat, Address(SHARED_PLACE), 0, Some(command));
         let _ = self.queue.take_first();
-        self.hold(dest, word);
+        self.set_register(dest, word);
         Reply::Given(self.value(round, seat, Operand::Register(dest)))
     }
 }

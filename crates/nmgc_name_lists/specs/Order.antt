@@ -6,7 +6,7 @@ use Rattle.nmgc_world_spec.specs.declared.value.Name.{Name}
 abbrev pub is_before : Name → Name → Bool
 is_before a b = nat_lt a.maker b.maker || ((a.maker == b.maker) && nat_lt a.serial b.serial)
 
--- a list with a name inserted: it comes after the leading names of the list that are before it in order
+-- a list with a name inserted: behind the leading names of the list that are before this name in order
 abbrev pub put : Name → List Name → List Name
 put name [] = name ∷ []
 put name (other ∷ names) = if is_before other name then other ∷ put name names else name ∷ other ∷ names

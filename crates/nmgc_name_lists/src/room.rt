@@ -1,7 +1,8 @@
 //! A list of names that takes its memory before it is filled.
 //!
-//! Its room suffices even if no name follows on another, since then each is a span of its own. Reserved memory isn't touched:
-//! if names follow one another, few of its bytes ever are. Contracts see its names, and for how many more there is room.
+//! Its room is one span for each name, so it suffices even if no name follows another. Reserved memory isn't touched until a
+//! span is written to it: if names follow one another, few of its bytes are ever used. Contracts see its names, and the
+//! number of further names for which there is room.
 //!
 //! A few spans at the front of a large room would keep its memory from being used again as a whole. So a list of few spans
 //! gets a copy of them, and the whole room is given back. If there is no memory for the copy, the spans stay in the room.
@@ -49,18 +50,19 @@ fn add_name(spans: &mut Vec<Span>, name: Name)
     if count > 0 {
         let last = spans[count - 1];
         if last.is_followed_by(name) {
-            spans[count - 1] = last.with(name);
+            spans[count - 1] = last.with_name(name);
             return;
         }
     }
-    spans.push_reserved(Span::of(name));
+    spans.push_reserved(Span::new(name));
 }
 
-// The most spans that count as few: they take at most a page, so copying them takes a stop no time that grows with the heap.
+// The most spans that count as few. They take at most a page, so a stop's time to copy them doesn't grow with the heap.
 const FEW: usize = 512;
 
-// Returns the same spans and gives spare room back. If they are few, and there is memory for it, they are a copy.
-fn trimmed(spans: Vec<Span>) -> Vec<Span>
+// Gives back the spare room of the spans, and returns the same spans. If they are few, it returns a copy of them in memory of
+// its own, provided that there is memory for the copy.
+fn trim_spans(spans: Vec<Span>) -> Vec<Span>
     ensures { result.items ≡ spans.items }
 {
     let mut spans = spans;
@@ -103,14 +105,13 @@ impl NameRoom {
         self.spans.as_slice()
     }
 
-    /// Returns the names as a list, and gives the spare room back. Needs no memory; takes some, if there is any, to copy few
-    /// spans.
+    /// Returns the names as a list, and gives spare room back. Needs no memory; takes some, if any, to copy few spans.
     pub fn into_list(self) -> NameList
         ensures { result ≡ self.names }
     {
         let NameRoom { spans, count } = self;
         NameList {
-            spans: trimmed(spans),
+            spans: trim_spans(spans),
             count,
         }
     }

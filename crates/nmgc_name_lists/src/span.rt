@@ -25,7 +25,7 @@ impl Span {
 
     /// Makes the span of one name.
     #[inline]
-    pub(crate) fn of(name: Name) -> Span
+    pub(crate) fn new(name: Name) -> Span
         ensures { names_of result ≡ name ∷ [] }
     {
         Span {
@@ -35,7 +35,7 @@ impl Span {
         }
     }
 
-    /// Whether a name comes right after the span's last name, and the span has room for it.
+    /// Returns true exactly if a name comes right after the span's last name, and the span's count has room for one more.
     #[inline]
     pub(crate) fn is_followed_by(&self, name: Name) -> bool
         ensures { IsTrue result ↔ IsNext self.now name }
@@ -47,7 +47,7 @@ impl Span {
 
     /// Returns the span with `name`, its next name, added at its end.
     #[inline]
-    pub(crate) fn with(&self, name: Name) -> Span
+    pub(crate) fn with_name(&self, name: Name) -> Span
         requires { IsNext self.now name }
         ensures { names_of result ≡ names_of self.now ++ name ∷ [] }
     {

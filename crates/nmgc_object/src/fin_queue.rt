@@ -8,7 +8,7 @@
 //! is made when more words were taken than are left.
 //!
 //! Words join at a closing, when every nursery is empty, so promotion need not read a queue that has only such words. The
-//! queue keeps an upper bound of its pointers and answers in constant time that none leads to a nursery.
+//! queue keeps an upper bound of its pointers, so it can say in constant time that no pointer leads to a nursery.
 //!
 //! Easy to get wrong: positions count from the first word that is left, not from the first word ever added.
 ghost use Rattle.std.specs.Prelude.{◌≡◌, ◌+◌, ◌-◌, ◌%◌, ◌<◌, ◌≤◌, [], ◌∷◌, ◌++◌, length, drop, slice_get, slice_set, IsTrue, OnOk, OnErr};
@@ -54,9 +54,8 @@ impl FinQueue {
         }
     }
 
-    /// Makes room for at least `more` further words, and never loses room. After `NoMemory` the words are unchanged. When
-    /// more words were taken than are left, the words that are left move into the memory of the taken words. So moving costs
-    /// no more than taking did.
+    /// Makes room for at least `more` further words, and never loses room. After `NoMemory` the words stay. If more words
+    /// were taken than are left, the words left move into the taken words' memory. So moving costs no more than taking.
     pub fn reserve(&mut self, more: u32) -> Result<(), NoMemory>
         ensures words { self.new.words ≡ self.old.words }
         ensures room { OnOk result (more ≤ self.new.spare) }
@@ -87,7 +86,7 @@ impl FinQueue {
         ensures spare { self.new.spare + 1 ≡ self.old.spare }
     {
         self.words.push_reserved(word);
-        self.highest = raised(self.highest, word);
+        self.highest = bound_with(self.highest, word);
     }
 
     /// Takes the first word off the queue and returns it, or `None` exactly if the queue is empty. Constant time.
@@ -112,7 +111,7 @@ impl FinQueue {
         &self.words[self.first..]
     }
 
-    /// Returns the words of the queue in order, as a list whose head lies in `place`. Takes no memory.
+    /// Returns the words of the queue in order, as a list that uses the memory `place`. Takes no memory.
     pub fn into_list(self, place: ListMemory<u64>) -> List<u64>
         ensures { result ≡ self.words }
     {
@@ -128,18 +127,18 @@ impl FinQueue {
         List::in_place(words, place)
     }
 
-    /// Replaces the word at the position `place` of the queue by `word`, and changes no other word. Takes no memory.
+    /// Replaces the word at the position `place` of the queue with `word`, and changes no other word. Takes no memory.
     pub fn set(&mut self, place: usize, word: u64)
         requires { place < length self.old.words }
         ensures words { self.new.words ≡ slice_set self.old.words place word }
         ensures spare { self.new.spare ≡ self.old.spare }
     {
         self.words[self.first + place] = word;
-        self.highest = raised(self.highest, word);
+        self.highest = bound_with(self.highest, word);
     }
 
-    /// Returns true only if each pointer among the words leads below the address `place`. It may return false although each
-    /// does, because of a word that was taken or changed since. Takes no memory, and constant time.
+    /// Returns true only if each pointer among the words leads below the address `place`. It may return false even if all
+    /// pointers lead below it, after a larger pointer was taken off or replaced. Takes no memory, and constant time.
     #[tactic(auto, using(crate::proofs::Pointers::below_of))]
     pub fn is_below(&self, place: u32) -> bool
         ensures { IsTrue result → ArePointersBelow self.now.words place }
@@ -148,8 +147,8 @@ impl FinQueue {
     }
 }
 
-// Returns an upper bound of pointers, raised if `word` is a pointer that is larger.
-fn raised(highest: u64, word: u64) -> u64
+// Returns the larger of `highest` and `word` if the word is a pointer, and otherwise `highest`.
+fn bound_with(highest: u64, word: u64) -> u64
     ensures kept { highest ≤ result }
     ensures pointer { word % 2 ≡ 0 → word ≤ result }
 {

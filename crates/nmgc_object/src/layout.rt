@@ -61,7 +61,7 @@ impl Layout {
         FIRST_PLACE + self.segments * self.words + u32::from(self.mutators) * self.nursery
     }
 
-    /// Returns the number of classes: those whose blocks fit into a segment. Takes no memory.
+    /// Returns the number of classes whose blocks fit into a segment. Takes no memory.
     pub fn classes(&self) -> u8
         requires { IsLayout self.now }
         ensures count { result ≡ class_count self.now }
@@ -70,7 +70,7 @@ impl Layout {
         class_of(self.words) + 1
     }
 
-    /// Returns the number of free segments that is enough to promote every nursery. Full nurseries need segments with twice
+    /// Returns the number of free segments that suffices to promote every nursery. Full nurseries need segments with twice
     /// their words, and each class of each mutator needs one segment more. Takes no memory.
     pub fn reserve(&self) -> u32
         requires { IsLayout self.now }

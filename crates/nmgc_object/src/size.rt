@@ -1,8 +1,7 @@
 //! The words of an object, and the classes of blocks.
 //!
-//! Blocks have 4 to 16 words, one class for each size, and then 32, 64 words and so on, up to a whole segment. An object is
-//! placed in a block of the least class that holds it. An object of 4 to 16 words fills its block, a larger one more than
-//! half.
+//! Blocks have 4 to 16 words, one class for each size, and then 32, 64 and so on, up to a whole segment. An object is placed
+//! in a block of the least class that holds it. An object of 4 to 16 words fills its block, a larger one more than half.
 //!
 //! Easy to get wrong: if a block's words aren't a power of two, some words of a segment lie after its last block and are
 //! unused. So a segment full of objects has fewer words of objects than it has words.
@@ -43,9 +42,9 @@ const _: () = prove!(MAX_BLOCK_WORDS == DENSE_WORDS << (MAX_CLASS - DENSE_CLASS)
 
 const _: () = prove!(MAX_BLOCK_WORDS == HEADER_WORDS + MAX_FIELDS);
 
-/// Returns the words of an object of this kind with `parts` parts: the values of a constructor or array, the free variables
-/// of a thunk, the slots of a stack. A thunk has one word more for its result. A variable and a weak pointer have a fixed
-/// size. Takes no memory.
+/// Returns the number of words of an object of this kind with `parts` parts: the values of a constructor or array, the free
+/// variables of a thunk, the slots of a stack. A thunk has one word more for its result. A variable and a weak pointer have a
+/// fixed size. Takes no memory.
 pub fn words_of(kind: Kind, parts: u32) -> u32
     requires { parts ≤ MAX_PARTS }
     ensures { result ≡ word_count kind parts }
@@ -59,7 +58,7 @@ pub fn words_of(kind: Kind, parts: u32) -> u32
     HEADER_WORDS + fields
 }
 
-/// Returns the words of an object with this header. Takes no memory.
+/// Returns the number of words of an object with this header. Takes no memory.
 pub fn object_words(header: Header) -> u32
     requires { IsHeader header }
     ensures size { result ≡ object_size header }
@@ -68,7 +67,7 @@ pub fn object_words(header: Header) -> u32
     HEADER_WORDS + header.fields
 }
 
-/// Returns the words of a block of this class. Takes no memory.
+/// Returns the number of words of a block of this class. Takes no memory.
 pub fn block_words(class: u8) -> u32
     requires { class ≤ MAX_CLASS }
     ensures size { result ≡ block_size class }

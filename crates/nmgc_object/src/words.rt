@@ -5,11 +5,10 @@
 //! they may be read without order among threads.
 //!
 //! A field's code separates the words that the collector follows from the words that it ignores. The word 0 is an unset
-//! field, or a dead weak pointer's value; an even word is a pointer; an odd word is nil or a number. Only `FieldWord` decodes
-//! them.
+//! field, or a dead weak pointer's value; even words are pointers, odd words nil or numbers. Only `FieldWord` decodes them.
 //!
-//! Easy to get wrong: a word is not valid because its parts look sound one by one. Only constructors have tags, and the
-//! number of fields depends on the kind, so decoding tests both together.
+//! Easy to get wrong: a word whose parts look sound one by one may still be no valid word. Only constructors have tags, and
+//! the number of fields depends on the kind, so decoding tests both together.
 ghost use Rattle.std.specs.Prelude.{◌≡◌, ◌≢◌, ◌↔◌, ◌+◌, ◌*◌, ◌%◌, ◌<◌, ◌≤◌, IfSome, IfNone, IsTrue};
 ghost use Rattle.nmgc_world_spec.specs.{declared.value.Name.Name, declared.node.Kind.Kind};
 ghost use Rattle.nmgc_object.specs.{Words.kind_number, Words.header_word, Words.name_word, Words.field_word, Words.IsHeader, Words.IsName, Words.IsField, declared.words.TheConstants.NUMBER_LIMIT, declared.words.TheConstants.NIL_WORD, declared.words.TheConstants.ZERO_WORD, declared.words.Header.Header, declared.words.Field.Field};
@@ -73,7 +72,7 @@ pub enum Field {
 
 /// The word of a field. Only this type encodes and decodes such words. An even word is twice an address: 0 if the field is
 /// unset (as a dead weak pointer's value), otherwise the address of the object to which it points. An odd word is nil or a
-/// number. The functions accept any word, also a word without meaning.
+/// number. `place` and `number` accept any word, also a word without meaning.
 #[derive(Clone, Copy, Debug, PartialEq, Eq)]
 pub struct FieldWord(pub u64);
 
@@ -202,7 +201,7 @@ pub fn decode_header(word: u64) -> Option<Header>
 }
 
 /// Returns the valid header that has this word. It tests nothing: the caller knows that the word is a valid header. Promotion
-/// and marking read a header for each object. Takes no memory.
+/// and marking call it for each object. Takes no memory.
 #[inline]
 pub fn header_of(word: u64) -> Header
     requires { (header : Header) × IsHeader header × (header_word header ≡ word) }
@@ -218,8 +217,7 @@ pub fn header_of(word: u64) -> Header
     }
 }
 
-/// Returns the number of fields in the word of a valid header, by one shift. The caller knows that the word is a valid
-/// header. Takes no memory.
+/// Returns the number of fields in the word of a header, by one shift. The caller knows that it is valid. Takes no memory.
 #[inline]
 pub fn fields_of(word: u64) -> u32
     requires { (header : Header) × IsHeader header × (header_word header ≡ word) }
@@ -256,8 +254,7 @@ pub fn decode_name(word: u64) -> Option<Name>
     })
 }
 
-/// Returns the valid name that has this word. It tests nothing: the caller knows that the word is a valid name. Takes no
-/// memory.
+/// Returns the valid name that has this word. It tests nothing: the caller knows that there is one. Takes no memory.
 #[inline]
 pub fn name_of(word: u64) -> Name
     requires { (name : Name) × IsName name × (name_word name ≡ word) }
@@ -270,7 +267,7 @@ pub fn name_of(word: u64) -> Name
 }
 
 /// Returns the word of a field. A number is below `NUMBER_LIMIT`, and a pointer isn't 0. Takes no memory.
-pub fn encode_value(field: Field) -> u64
+pub fn encode_field(field: Field) -> u64
     requires { IsField field }
     ensures { result ≡ field_word field }
 {
@@ -283,7 +280,7 @@ pub fn encode_value(field: Field) -> u64
 }
 
 /// Returns the field that has this word. Returns `None` exactly if no valid field has it. Takes no memory.
-pub fn decode_value(word: u64) -> Option<Field>
+pub fn decode_field(word: u64) -> Option<Field>
     ensures some { IfSome result (λ field. IsField field × (field_word field ≡ word)) }
     ensures none { IfNone result ((field : Field) → IsField field → field_word field ≢ word) }
 {

@@ -12,7 +12,7 @@ Stays o words views k new others = (n : Keeps o new others) × (n.events ≡ k.e
 abbrev pub AddsCommand : (o : Opening) (words : List ℕ) (views : List Seen) → Keeps o words views → ℕ → Command → List ℕ → List Seen → Type 0
 AddsCommand o words views k m c new others = (r : Reply) × (n : Keeps o new others) × (n.events ≡ k.events ++ did m c r ∷ [])
 
--- after a look: if the expected word was there, the rule holds again with one more event, this command; else with the same
+-- after a look: the rule holds again, with one more event, this command, if the expected word was there; else with no more
 abbrev pub AddsIfMet : (o : Opening) (words : List ℕ) (views : List Seen) → Keeps o words views → ℕ → Command → Bool → List ℕ → List Seen → Type 0
 AddsIfMet o words views k m c true new others = AddsCommand o words views k m c new others
 AddsIfMet o words views k m c false new others = Stays o words views k new others

@@ -36,7 +36,7 @@ abbrev pub wrote : Exchanged → Bool
 wrote outcome.Yes = true
 wrote (outcome.No found) = false
 
--- a compare-exchange that wrote nothing answers a word other than the expected one
+-- a compare-exchange that wrote nothing returns a word other than the expected one
 abbrev pub FoundOther : ℕ → Exchanged → Type 0
 FoundOther expected outcome.Yes = Unit {0}
 FoundOther expected (outcome.No found) = found ≢ expected

@@ -11,8 +11,7 @@ use Rattle.nmgc_round.specs.View.{Hand, Opening}
 abbrev pub empty_array : Node
 empty_array = Arr (replicate SHARED_SLOTS Nil)
 
--- the words of the empty heap: g in its own words, 0 at address 0 and between g and the first segment, and no other object.
--- From the first segment on there are any words
+-- the words of the empty heap: g in its own words, 0 in other words before the segments, and any words in these
 pub record IsEmptyHeap (layout : Layout) (words : List ℕ) : Type 0 where
   pub total : length words ≡ word_total layout
   pub header : slice_index words SHARED_PLACE ≡ header_word (header_of empty_array)

@@ -1,4 +1,4 @@
--- The facts at the end of a round: the rule, of the words and of the seat that has every part.
+-- The facts at the end of a round: its rule, for the words and the one seat that has every part.
 use Rattle.std.specs.Prelude.{◌≡◌, true, ℕ, ◌<◌, List, ◌∷◌, ◌++◌, map, length, Contains}
 use mathlib.Core.Option.{some}
 use lib.ListN.{get_elem?}
@@ -9,7 +9,7 @@ use Rattle.nmgc_heap_spec.specs.{Places.Place, Represents.Represents}
 use Rattle.nmgc_round.specs.{Events.Happening, Events.IsLegal, Events.done_by, Events.scans_in, View.Opening, View.Part, View.Seen, View.exclusive, Marking.marks_of, Marking.marks_after, Objects.Object, Objects.place_of, Objects.earlier, Objects.IsObject, Objects.IsIn, Objects.RepresentsInRound}
 use Rattle.nmgc_round.specs.Rule.{now, AllRead, Fits, Rests, IsOpening, ArePlaced, IsNew, IsQueued, AreKnown}
 
--- a round that is over: the words, and the view of all seats given back, agree with one list of events
+-- a round that is over: the words, and the views of all its seats joined in one, agree with one list of events
 pub record IsFinished (o : Opening) (words : List ℕ) (v : Seen) : Type 0 where
   pub is : IsOpening o
   pub placed : ArePlaced o

@@ -1,7 +1,6 @@
--- Commands whose position in the order is the load of the header of g, and their answers (`known_answer`, `TakesPlace`,
--- `CanAnswer`). Note [Where a command takes its place in the order] in `nmgc_mutator/src/commands.rt`. They read no word that
--- changes. A refusal depends on the header of its object, or the maker in its name. Then the facts that loads show
--- (`FindsFixed` ..).
+-- Commands whose position is the load of the header of g, and their answers (`known_answer`, `TakesPlace`, `CanAnswer`): Note
+-- [Where a command takes its place in the order] in `nmgc_mutator/src/commands.rt`. They read no word that changes. A refusal
+-- depends on the header of the command's object, or on the maker in its name. At the end: the facts that loads show.
 use Rattle.std.specs.Prelude.{◌≡◌, ◌≢◌, ◌⊎◌, ℕ, zero, suc, ◌+◌, ◌<◌, ◌*◌, ◌/◌, ◌%◌, ◌≤◌, ◌==◌, ◌&&◌, nat_le, List, [], ◌∷◌, Contains, Some, slice_get, if◌then◌else◌}
 use Rattle.nmgc_world_spec.specs.{declared.value.Name.Name, declared.node.Node.Node, declared.command.Operand.Operand, declared.command.Command.Command, declared.command.Reply.Reply, World.node_of}
 use Rattle.nmgc_world_spec.specs.declared.node.Kind.TheVariants as kind
@@ -54,7 +53,7 @@ known_answer h fixed (Show v) = word (word_of h.registers v)
 known_answer h fixed (Same left right) = plain (if word_of h.registers left == word_of h.registers right then Yes else No)
 known_answer h fixed _ = plain Fine
 
--- an operand that is refused: it is no object, or its header doesn't fit the command
+-- an operand that is refused: its word is no pointer, or its object's header doesn't fit the command
 abbrev pub IsRefused : Opening → Part → Operand → (Header → Type 0) → Type 0
 IsRefused o p object bad = (operand_word o p object % 2 ≡ 1) ⊎
     ((at : ℕ) × (header : Header) × (operand_word o p object ≡ 2 * at) × Names p at header × bad header)
@@ -121,7 +120,7 @@ abbrev pub taken : Seen → ℕ → ℕ → Command → ℕ → Seen
 taken v at zero c w = loaded (known v c) at zero w
 taken v at (suc offset) c w = loaded (answered v c (word w)) at (suc offset) w
 
--- a word loaded at offset 0 is a valid header, and its object's words are within the words
+-- a word loaded at offset 0 is a valid header, and its object lies within the heap's words
 pub record FindsHeader (o : Opening) (at w : ℕ) : Type 0 where
   pub header : Header
   pub valid : IsHeader header
@@ -134,23 +133,23 @@ pub record FindsName (w : ℕ) : Type 0 where
   pub valid : IsName name
   pub word_is : w ≡ name_word name
 
--- the facts that a fixed load shows: a header is valid and its object within the words, and a name is valid
+-- the facts that a fixed load shows: a header is valid and its object within the heap's words, and a name is valid
 abbrev pub FindsFixed : Opening → ℕ → ℕ → ℕ → Type 0
 FindsFixed o at offset w = (offset ≡ 0 → FindsHeader o at w) × (offset ≡ 1 → FindsName w)
 
--- a word that is no pointer, or points to an object whose header and name are within the words
+-- a word that is no pointer, or points to an object whose header and name are within the heap's words
 abbrev pub IsSafe : Opening → ℕ → Type 0
 IsSafe o w = (at : ℕ) → w ≡ 2 * at → at + HEADER_WORDS ≤ word_total o.layout
 
--- each finaliser that waits for the mutator has its header and name within the words
+-- each finaliser that waits for the mutator has its header and name within the heap's words
 abbrev pub FindsQueue : Opening → Part → Type 0
 FindsQueue o p = (i w : ℕ) → slice_get (hand_now o p).queue i ≡ Some w → IsSafe o w
 
--- a word loaded after header and name is a field: if it is a pointer, its object's header and name are within the words
+-- a word loaded after header and name is a field: if a pointer, its object's header and name are within the heap's words
 pub record FindsField (o : Opening) (offset w : ℕ) : Type 0 where
   pub safe : (i : ℕ) → offset ≡ HEADER_WORDS + i → IsSafe o w
 
--- the word is the header of the node of this name in the snapshot, whose words are within the words
+-- the word is the header of the snapshot's node of this name, and that node's words lie within the heap's words
 pub record FindsNode (o : Opening) (name : Name) (w : ℕ) : Type 0 where
   pub node : Node
   pub there : node_of o.core.snapshot name ≡ Some node

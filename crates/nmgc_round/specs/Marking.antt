@@ -24,7 +24,7 @@ name_at (p ∷ ps) at = if p.at == at then Some p.name else name_at ps at
 abbrev pub name_meant : List Place → ℕ → Option Name
 name_meant places w = if w == 0 then None else (if w % 2 == 0 then name_at places (w / 2) else None)
 
--- the name that a word read at a position refers to: the header refers to none
+-- the name to which the word at a position refers: the header refers to none
 abbrev pub name_read : List Place → ℕ → ℕ → Option Name
 name_read places zero w = None
 name_read places (suc i) w = name_meant places w

@@ -69,7 +69,7 @@ pub record IsSnapshot (o : Opening) (x : Object) (node : Node) : Type 0 where
 abbrev pub IsEarlierNode : Opening → Object → Node → Type 0
 IsEarlierNode o x node = (node ≡ x.node) ⊎ IsSnapshot o x node
 
--- the fields of an earlier node that stay: of the first node all that never change, of the snapshot's the free variables
+-- the fields of an earlier node that stay: for the first node all that never change, for the snapshot's the free variables
 abbrev pub KeepsOf : (o : Opening) (x : Object) (before : Node) → (Place → Type 0) → List ℕ → ℕ → IsEarlierNode o x before → Type 0
 KeepsOf o x before P words from (inl e) = HasSlots P words from (fixed_slots before)
 KeepsOf o x before P words from (inr s) = HasSlots P words from (free_slots before)
@@ -91,9 +91,8 @@ pub record IsStanding (o : Opening) (born : List Object) (w : World) (words : Li
   pub kept : (before : Node) (k : IsEarlierNode o x before) → IsLater before x.node × KeepsOf o x before (IsIn o born) words (x.at + HEADER_WORDS) k
 
 -- words that represent a world in a round. Each name in use has one address and each address one name, a valid name of the
--- world. Each object lies well (`LiesWell`), apart from all other addresses. It has its header, the fields of its node now,
--- and those fields of its first node that never change; while marking also the free variables of the snapshot's thunk. Word 0
--- and the words between g and the first segment are 0
+-- world. Each object lies well (`LiesWell`), apart from other addresses. It has its header, its node's fields now, and its
+-- first node's unchanging fields; while marking also the free variables of the snapshot's thunk. The words beside g are 0
 pub record RepresentsInRound (o : Opening) (born : List Object) (w : World) (words : List ℕ) : Type 0 where
   pub total : length words ≡ word_total o.layout
   pub one : (p q : Place) → IsPlace o born p → IsPlace o born q → (p.name ≡ q.name) ⊎ (p.at ≡ q.at) → p ≡ q
@@ -102,7 +101,7 @@ pub record RepresentsInRound (o : Opening) (born : List Object) (w : World) (wor
   pub objects : (x : Object) → IsObject o born x → IsStanding o born w words x
   pub zeros : HasZeros words
 
--- a word that is in no object, is neither header nor name of any address in use, and is not beside g
+-- a word in no object that is neither header nor name of any address in use, and doesn't lie beside g
 pub record IsFree (o : Opening) (born : List Object) (i : ℕ) : Type 0 where
   pub objects : (x : Object) → IsObject o born x → (i < x.at) ⊎ (end_of x ≤ i)
   pub places : (q : Place) → IsPlace o born q → (i < q.at) ⊎ (q.at + HEADER_WORDS ≤ i)

@@ -1,6 +1,6 @@
--- When a step may be taken, by its seat's view. Its object is g, or a register has its address; for a load of its header or
--- name the own finaliser queue will do. The header on which the answer depends was loaded, the command fits the layout, and
--- word and field are the operands'.
+-- When a step may be taken, by its seat's view. The step's object is g, or one of the mutator's registers has its address;
+-- for a load of a header or name, the mutator's finaliser queue may have it instead. The header on which the answer depends
+-- was loaded before, the command fits the layout, and word and field are the operands'.
 use Rattle.std.specs.Prelude.{◌≡◌, ◌≢◌, ℕ, ◌+◌, ◌-◌, ◌*◌, ◌<◌, ◌≤◌, ◌^◌, true, false, List, [], ◌∷◌, Contains, slice_get, Some}
 use Rattle.nmgc_world_spec.specs.{declared.node.Kind.Kind, declared.command.Operand.Operand, declared.command.Command.Command, declared.command.Command.TheVariants.Get, declared.command.Command.TheVariants.Set, Command.Fits, Command.IsMaking, Command.words_made, Step.shared_name}
 use Rattle.nmgc_world_spec.specs.declared.node.Kind.TheVariants as kind
@@ -17,7 +17,7 @@ pub record IsMutator (v : Seen) (p : Part) : Type 0 where
 abbrev pub HasPart : Seen → ℕ → Type 0
 HasPart v m = (p : Part) × IsMutator v p × (p.number ≡ m)
 
--- a command that the mutator may give: a script for this layout may have it, and one more object has a serial
+-- a command that the mutator may give: a script for this layout may have it, and there is a serial for one more object
 pub record CanGive (o : Opening) (p : Part) (c : Command) : Type 0 where
   pub fits : Fits o.layout.words c
   pub serial : (hand_now o p).serial < 2 ^ 32 - 1
@@ -68,7 +68,7 @@ pub record CanLoad (o : Opening) (p : Part) (at index : ℕ) (c : Command) : Typ
   pub kind : IsReadable header.kind
   pub within : index < header.fields
 
--- a word in the rest of the own nursery that was not stored yet
+-- a word in the unused rest of the mutator's nursery to which nothing was stored yet
 pub record CanStore (o : Opening) (p : Part) (at : ℕ) : Type 0 where
   pub from : top_of o p ≤ at
   pub to : at < limit_of o p.number
@@ -84,7 +84,7 @@ pub record CanBear (o : Opening) (p : Part) (at header : ℕ) (c : Command) : Ty
   pub name : Contains p.unborn (record { at = at + NAME_OFFSET; word = name_word (next_of o p) })
   pub fields : (i w : ℕ) → slice_get (fields_made (hand_now o p).registers c) i ≡ Some w → Contains p.unborn (record { at = at + HEADER_WORDS + i; word = w })
 
--- a seat of one mutator that has this property
+-- a seat of one mutator, whose opening and part have this property
 abbrev pub Mutates : (Opening → Part → Type 0) → Seen → Type 0
 Mutates R v = (p : Part) × IsMutator v p × R v.opening p
 

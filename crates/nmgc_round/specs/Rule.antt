@@ -55,7 +55,7 @@ pub record IsHand (o : Opening) (born : List Object) (w : World) (m : ℕ) (h : 
 
 -- a part agrees with the events. Its rows are its mutator's commands with their replies. Registers, queue, serial and own
 -- stacks agree with the world. The words that its steps found represent values with the references that the marking machine
--- lists as owed. While marking it owes the same, else nothing
+-- lists as owed. While marking it owes the same words, else none
 pub record Fits (o : Opening) (born : List Object) (s : State) (done : List (Command × Reply)) (p : Part) : Type 0 where
   pub exists : p.number < length s.world.mutators
   pub owing : p.number < length s.owed
@@ -95,7 +95,7 @@ pub record Rests (o : Opening) (born : List Object) (words : List ℕ) (p : Part
 abbrev pub IsActive : Seen → Type 0
 IsActive v = ((k : ℕ) × (p : Part) × (get_elem? v.parts k ≡ some p)) ⊎ (v.collects ≡ true)
 
--- a seat without a part in a round, which is not the only seat. So no flag says that a seat is spent
+-- an idle seat: it has no part in a round, and isn't the only seat at a stop. So no flag says that a seat is spent
 abbrev pub IsIdle : Seen → Type 0
 IsIdle v = (v.is_sole ≡ false) × (v.parts ≡ []) × (v.collects ≡ false)
 
@@ -129,7 +129,7 @@ pub record IsOpening (o : Opening) : Type 0 where
   pub wide : o.marking ≡ true → (x : Object) → IsOld o x → IsSome (node_of o.core.snapshot x.name) → IsWide o.core.snapshot x.name
   pub in_segments : (p : Place) → Contains o.places p → (m : ℕ) → m < o.layout.mutators → (p.at < base_of o m) ⊎ (limit_of o m ≤ p.at)
 
--- a queue entry: its name has its object, and a node in the snapshot with this position, past a result only if none was set
+-- a queue entry: its name has its object, and a node in the snapshot with this position, after a result only if none was set
 pub record IsQueued (o : Opening) (entry : Entry) : Type 0 where
   pub marking : o.marking ≡ true
   pub object : Object

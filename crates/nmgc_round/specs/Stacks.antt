@@ -1,4 +1,4 @@
--- A slot of an own stack: when it may be loaded or swapped, and the seat's view after that.
+-- A slot of a mutator's own stack: when it may be loaded or swapped, and the seat's view after that.
 use Rattle.std.specs.Prelude.{◌≡◌, ◌≢◌, ◌⊎◌, ℕ, ◌+◌, ◌*◌, ◌<◌, ◌≤◌, List, length, slice_index, Contains, Some}
 use Rattle.nmgc_world_spec.specs.{declared.value.Name.Name, declared.command.Operand.Operand, declared.command.Command.Command, declared.command.Command.TheVariants.Push, declared.command.Command.TheVariants.Pop, declared.command.Reply.Reply, declared.command.Reply.TheVariants.Fine, declared.command.Reply.TheVariants.StackFull, declared.command.Reply.TheVariants.StackEmpty}
 use Rattle.nmgc_world_spec.specs.declared.node.Kind.TheVariants as kind
@@ -18,7 +18,7 @@ pub record IsOwn (o : Opening) (p : Part) (at : ℕ) : Type 0 where
   pub named : Contains p.fixed (record { at = at; offset = 1; word = name_word name })
   pub own : name.maker ≡ p.number
 
--- a load of a slot of an own stack
+-- a mutator that may load this slot of a stack of its own
 pub record CanPeek (o : Opening) (p : Part) (at slot : ℕ) : Type 0 where
   pub stack : IsOwn o p at
   pub within : slot < stack.header.fields
@@ -59,7 +59,7 @@ abbrev pub slot_swapped : Seen → Command → ℕ → Seen
 slot_swapped v (Pop dest object) n = changing (λ p. doing (finding p n) (Pop dest object) (word n) (owed_word v.opening.marking n)) v
 slot_swapped v c n = answered v c (plain Fine)
 
--- a refused `push`: the operand refers to an own stack that is full, as a stack without slots always is
+-- a refused `push`: the operand refers to a full stack of the mutator's own (a stack without slots is always full)
 pub record RefusesPush (o : Opening) (p : Part) (at : ℕ) (c : Command) : Type 0 where
   pub gives : CanGive o p c
   pub stack : IsOwn o p at
@@ -67,7 +67,7 @@ pub record RefusesPush (o : Opening) (p : Part) (at : ℕ) (c : Command) : Type 
   pub command : c ≡ Push stack.object value
   pub full : (ws : List ℕ) → slots_at (hand_now o p).stacks at ≡ Some ws → stack.header.fields ≤ length ws
 
--- a refused `pop`: the operand refers to an own stack that has no value on it, as a stack without slots never has
+-- a refused `pop`: the operand refers to an empty stack of the mutator's own (a stack without slots is always empty)
 pub record RefusesPop (o : Opening) (p : Part) (at : ℕ) (c : Command) : Type 0 where
   pub gives : CanGive o p c
   pub stack : IsOwn o p at

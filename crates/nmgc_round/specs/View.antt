@@ -68,8 +68,8 @@ pub record Part : Type 0 where
   pub unborn : List UnbornWord
   pub fixed : List FixedWord
 
--- the view of a seat: for the only seat at a stop all words. In a round it has the opening, the parts of its mutators, and
--- the scans, if it has the collector's part
+-- the view of a seat. The only seat at a stop knows all words. In a round a seat knows the opening, the parts of its
+-- mutators, and the scans if it has the collector's part
 pub record Seen : Type 0 where
   pub is_sole : Bool
   pub words : List ℕ
@@ -113,12 +113,12 @@ stacking h (word w) = record h { stacks = record { at = w / 2; words = [] } ∷ 
 abbrev pub with_slots : List Slots → ℕ → (List ℕ → List ℕ) → List Slots
 with_slots stacks at change = map (λ (s : Slots). if s.at == at then record s { words = change s.words } else s) stacks
 
--- a hand with one more value on an own stack, if the push succeeded
+-- a hand with one more value on a stack of its mutator's own, if the push succeeded
 abbrev pub pushed : Hand → ℕ → ℕ → Answer → Hand
 pushed h object w (plain Fine) = record h { stacks = with_slots h.stacks (object / 2) (λ ws. ws ++ w ∷ []) }
 pushed h object w a = h
 
--- a hand with one value less on an own stack, if the pop succeeded
+-- a hand with one value less on a stack of its mutator's own, if the pop succeeded
 abbrev pub popped : Hand → ℕ → Answer → Hand
 popped h object (plain r) = h
 popped h object (word w) = record h { stacks = with_slots h.stacks (object / 2) (λ ws. take (length ws - 1) ws) }

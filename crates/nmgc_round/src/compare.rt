@@ -1,7 +1,7 @@
 //! Compare-exchange of a field: the step that is the position of `cas` in the order.
 //!
-//! It is one step, whether it writes or not: no other step comes between its look at the word and its write. If it writes it
-//! is a swap, so while marking it owes the word that it took out.
+//! It is one step, whether it writes or not: no other step comes between its look at the word and its write. If it writes, it
+//! is a swap, so while marking the seat owes the word that was taken out.
 ghost use Rattle.std.specs.Prelude.{◌≡◌, ◌+◌, ◌<◌, ◌==◌, []};
 ghost use Rattle.nmgc_object.specs.declared.size.TheConstants.{HEADER_WORDS};
 ghost use Rattle.nmgc_round.specs.{Ready.Mutates, Compare.CanExchange, Compare.FoundOther, Compare.exchanged, Compare.wrote, Seat.IsAt, Seat.Knows, Seat.seen, Seat.word_count};
@@ -33,7 +33,8 @@ impl<C: Asked> Play<(), View> for Exchanges<C> {
 }
 
 impl Round {
-    fn exchange_asked<C: Asked>(
+    // Does the compare-exchange of a field, as the position of a `cas`, and returns the outcome. `C` is `command`.
+    fn exchange_field_for<C: Asked>(
         &self,
         seat: &mut MutatorSeat,
         at: Address,
@@ -63,11 +64,10 @@ impl Round {
         }
     }
 
-    /// Compares a field of a variable or an array with the expected word, stores another word if they are equal, and returns
-    /// the outcome. This is the position of the `cas` in the order. `Yes`: the row answers yes, the view has the expected
-    /// word at the end of the words that its steps found, and while marking owes it from this step on. `No`, exactly if the
-    /// field has another word at this step, which is returned: the row answers no, and nothing else changes. The contract
-    /// says that the word is not the expected one; that it was there is in the code.
+    /// Stores a word into a field of a variable or an array if the field has the expected word, and returns the outcome. This
+    /// is the position of the `cas` in the order. After `Yes` the row answers yes. The expected word is the last word that
+    /// the view's steps found, and while marking it is owed from this step on. After `No` the field had another word, the row
+    /// answers no, and nothing else changes. By contract `found` isn't the expected word; that it was there is in the code.
     pub fn exchange_field(
         &self,
         seat: &mut MutatorSeat,
@@ -83,6 +83,6 @@ impl Round {
         ensures view { Knows self.now seat.old seat.new (exchanged (seen seat.old) command.now expected (wrote result)) }
         ensures found { FoundOther expected result }
     {
-        self.exchange_asked::<Brand>(seat, at, field, expected, word, command)
+        self.exchange_field_for::<Brand>(seat, at, field, expected, word, command)
     }
 }

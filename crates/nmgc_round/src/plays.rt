@@ -1,9 +1,12 @@
-//! The rule of the table, and the seat's view after each step.
+//! The rule of the table, and the seat's view after each kind of step.
 //!
-//! The table asks for each kind of step for the seat's view after it, by the word that the step found. Here is that list, one
-//! type a kind. That the rule holds after the step is asked at the step itself. A kind has no parameter for a command or an
-//! address in the heap. So those are a type parameter, which each public step picks from its own arguments. No value of these
-//! types is made.
+//! For each kind of step the table asks how the word that the step found changes the seat's view. This file has the answers,
+//! a type for each kind. That the rule holds after a step is proved at the step. No value of these types is made.
+//!
+//! The table gives a kind neither the command nor the address in the heap. So clauses get these by a type parameter `C`, `A`
+//! or `H`, whose trait has them as ghost members. A public step such as `swap_field` calls a private one,
+//! `swap_field_for::<Brand>`. `Brand` is the kit's type for such calls: each call gives the members its own values, here the
+//! step's arguments (`Invariants.antt` in `swap_field`'s proof). No step has the values of the `impl`s here, such as `Yield`.
 ghost use Rattle.std.specs.Prelude.{◌≡◌, ◌==◌, ℕ, [], set, slice_index};
 ghost use Rattle.nmgc_world_spec.specs.{declared.command.Command.Command, declared.command.Command.TheVariants.Yield};
 ghost use Rattle.nmgc_round.specs.View.{Opening, no_opening, word, answered, swapped, met, met_at_birth, stored, loaded, gave_birth, whole, exclusive, nobody};
@@ -14,7 +17,7 @@ use crate::witness::Witness;
 use atomic_table::{Join, Play, Split, TableRule};
 use std::marker::{Brand, PhantomData};
 
-/// The command whose position in the order is a step.
+/// A command as a type: the one whose position in the order is the step.
 pub trait Asked {
     ghost command: { Command };
 }
@@ -23,7 +26,7 @@ impl Asked for Brand {
     ghost command = { Yield };
 }
 
-/// The address of a step, and the offset there.
+/// An address as a type: that of the step's object, with the offset or slot of the step's word there.
 pub trait Located {
     ghost at: { ℕ };
 
@@ -36,7 +39,7 @@ impl Located for Brand {
     ghost offset = { 0 };
 }
 
-/// The word that a load expects.
+/// A word as a type: the one that a load hopes to find.
 pub trait Hoped {
     ghost word: { ℕ };
 }
@@ -45,7 +48,7 @@ impl Hoped for Brand {
     ghost word = { 0 };
 }
 
-/// The opening with which a round begins.
+/// An opening as a type: the one with which a round begins.
 pub trait Begun {
     ghost opening: { Opening };
 }
@@ -144,7 +147,7 @@ impl<C: Asked> Play<(), View> for Swaps<C> {
     ghost then = { λ s m n w. ((w.0 ≡ swapped m.0 C.command n) × IsSafe m.0.opening n) × (w.1 ≡ []) };
 }
 
-/// The step that looks at a word that is in no object yet.
+/// The step that loads a word that is in no object yet.
 pub struct Meets<H> {
     hoped: PhantomData<H>,
 }
@@ -160,7 +163,7 @@ impl Play<(), View> for Stores {
     ghost then = { λ s m n w. (w.0 ≡ stored m.0 s.word s.first) × (w.1 ≡ []) };
 }
 
-/// The step that looks at the address of a new object's header.
+/// The step that loads the word at the address of a new object's header.
 pub struct MeetsHeader<H, C> {
     hoped: PhantomData<H>,
     asked: PhantomData<C>,
@@ -170,7 +173,7 @@ impl<H: Hoped, C: Asked> Play<(), View> for MeetsHeader<H, C> {
     ghost then = { λ s m n w. (w.0 ≡ met_at_birth m.0 s.word H.word C.command (n == H.word)) × (w.1 ≡ []) };
 }
 
-/// The step that stores a new object's header: `Note [The header is stored last]`.
+/// The step that stores a new object's header: Note [The header is stored last].
 pub struct Births<C> {
     asked: PhantomData<C>,
 }

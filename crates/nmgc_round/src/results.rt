@@ -1,10 +1,10 @@
 //! The result of a thunk: the steps that are the positions of `force` and `update` in the order.
 //!
 //! A thunk has no result at first, and gets one at most once: the step that stores it is a compare-exchange from an unset
-//! word. From then on the definitions don't mention its free variables any more, so while marking that very step owes them
-//! all. The seat has loaded them before: they never change, and its view names them.
+//! word. From then on its free variables are no strong fields, so while marking that very step owes them all. The seat has
+//! loaded them before: they never change, and its view names them.
 //!
-//! Easy to get wrong: no result is the word 0, which represents no value. The result's word comes before the free variables.
+//! Easy to get wrong: a result that isn't set is the word 0, which represents no value. It lies before the free variables.
 ghost use Rattle.std.specs.Prelude.{◌≡◌, ◌≢◌, ◌+◌, ◌<◌, ◌==◌, []};
 ghost use Rattle.nmgc_object.specs.declared.size.TheConstants.{HEADER_WORDS};
 ghost use Rattle.nmgc_round.specs.{Ready.Mutates, Known.IsSafe, Compare.FoundOther, Compare.wrote, Results.CanForce, Results.CanUpdate, Results.forced, Results.updated, Seat.IsAt, Seat.Knows, Seat.seen, Seat.word_count};
@@ -38,7 +38,8 @@ impl<A: Located, C: Asked> Play<(), View> for Updates<A, C> {
 }
 
 impl Round {
-    fn force_asked<C: Asked>(
+    // Loads a thunk's result, as the position of a `force`, and returns its word or 0. `C` is `command`.
+    fn load_result_for<C: Asked>(
         &self,
         seat: &mut MutatorSeat,
         at: Address,
@@ -57,8 +58,8 @@ impl Round {
             .load::<Forces<C>>(seat, at.0 as usize + HEADER_WORDS as usize)
     }
 
-    /// Loads the result of a thunk and returns its word, or 0 if there is none. This is the position of the `force` in the
-    /// order: its row answers this. If the word is a pointer, its object is within the heap's words.
+    /// Loads the result of a thunk and returns its word, or 0 if the thunk has none. This is the position of the `force` in
+    /// the order: its row answers the word or `none`. If the word is a pointer, its object lies within the heap's words.
     pub fn load_result(&self, seat: &mut MutatorSeat, at: Address, command: &PackedCommand) -> u64
         requires seat { IsAt self.now seat.old }
         requires ready { Mutates (λ o p. CanForce o p at.0 command.now) (seen seat.old) }
@@ -66,10 +67,11 @@ impl Round {
         ensures view { Knows self.now seat.old seat.new (forced (seen seat.old) command.now result) }
         ensures safe { result ≢ 0 → IsSafe (seen seat.old).opening result }
     {
-        self.force_asked::<Brand>(seat, at, command)
+        self.load_result_for::<Brand>(seat, at, command)
     }
 
-    fn update_asked<A: Located, C: Asked>(
+    // Stores a thunk's result if there is none, as the position of an `update`. `A` is `at`, and `C` is `command`.
+    fn exchange_result_for<A: Located, C: Asked>(
         &self,
         seat: &mut MutatorSeat,
         at: Address,
@@ -102,9 +104,9 @@ impl Round {
     }
 
     /// Stores the result of a thunk unless it has one, and returns the outcome. This is the position of the `update` in the
-    /// order. `Yes`: the row answers that the thunk was updated. The view has the words of the free variables at the end of
-    /// the words that its steps took out, and while marking owes them from now on. `No`, with its word, exactly if there is a
-    /// result: the row answers so, and nothing else changes. By contract the word isn't 0; that it was there is in the code.
+    /// order. After `Yes` the row answers `updated`. The words of the free variables are last among the words that the view's
+    /// steps found, and while marking the seat owes them from this step on. After `No` the thunk has a result, the row
+    /// answers `already`, and nothing else changes. By contract `found` isn't 0; that it is the result is in the code.
     pub fn exchange_result(
         &self,
         seat: &mut MutatorSeat,
@@ -118,6 +120,6 @@ impl Round {
         ensures view { Knows self.now seat.old seat.new (updated (seen seat.old) at.0 command.now (wrote result)) }
         ensures found { FoundOther 0 result }
     {
-        self.update_asked::<Brand, Brand>(seat, at, word, command)
+        self.exchange_result_for::<Brand, Brand>(seat, at, word, command)
     }
 }

@@ -1,10 +1,9 @@
 //! The beginning and the end of a round.
 //!
-//! Both are one step on the table of the run, and copy no word. The world that the words represent as the round begins is no
-//! value of the program: it is known in proofs alone. So the caller hands in an *opening*, a value of no bytes that only
-//! clauses read, and from then on every seat's view has it.
+//! Each is one step on the run's table, and copies no word. The world that the words represent is no value of the program:
+//! only proofs know it. So the caller hands in an *opening*, a value of no bytes that only clauses read. All views have it.
 //!
-//! Easy to get wrong: an error between the two ends would lose the words. So `start` takes the seats' room, and no end fails.
+//! Easy to get wrong: an error in between would lose the words. So `start` gets the seats' memory, and neither step fails.
 ghost use Rattle.std.specs.Prelude.{map, All, [], ◌≡◌, ◌<◌, ◌≤◌, length, vec_capacity};
 ghost use Rattle.nmgc_round.specs.{Starting.CanOpen, Finishing.HasAll, Finishing.IsFinished, Finishing.Leaves, Stop.IsSole, Stop.words_of, Seating.alones, Seating.all_together, Seating.collecting, View.whole, Seat.IsAt, Seat.seen, Seat.word_count, Seat.opening_of};
 
@@ -17,7 +16,7 @@ use nmgc_lists::{List, ListMemory};
 use nmgc_object::Layout;
 use std::marker::Brand;
 
-/// The opening with which a round began.
+/// Chooses the opening of the argument, as a new witness.
 pub(crate) struct Same;
 
 impl WitnessFor<Witness<Opened>, Opened> for Same {
@@ -25,6 +24,7 @@ impl WitnessFor<Witness<Opened>, Opened> for Same {
 }
 
 impl Round {
+    // Begins a round by the only seat, which then has every part of it. `C` is `opening`.
     fn open<C: Begun>(table: &Shared, seat: &mut MutatorSeat, opening: &Witness<Opened>)
         requires seat { IsSole table.now.shared.table_id seat.old }
         requires asked { C.opening ≡ opening.now.value }
@@ -59,10 +59,10 @@ impl Round {
     /// Begins a round on these words, with a seat for each of the layout's mutators and one for the collector. The seats know
     /// only the opening: they have no rows and no scans, and owe nothing.
     ///
-    /// The opening is the state of the marking machine with which the round begins, and the addresses in use: the words
-    /// represent its world. `marking` says whether a cycle is marking; if not, the state is that of the world alone. `room`
-    /// has room for the seats, and `place` is the memory for their list, so that nothing can fail here. Takes no allocator
-    /// and no memory, and no time that grows with the words.
+    /// The opening has the state of the marking machine as the round begins, and the addresses in use; the words represent
+    /// its world. `marking` says whether a cycle is marking; if not, the state has only its world. `room` is an empty list
+    /// with room for the mutators' seats, and `place` is the memory in which it will lie, so nothing can fail here. Takes no
+    /// allocator, no memory, and no time that grows with the words.
     pub fn start(
         words: Words,
         layout: Layout,
@@ -83,7 +83,7 @@ impl Round {
         let mut first = first;
         let collector = round.split_collector(&mut first);
         let mut seats = room;
-        round.seats_into(first, usize::from(layout.mutators), &mut seats);
+        round.split_all(first, usize::from(layout.mutators), &mut seats);
         Started {
             round,
             mutators: List::in_place(seats, place),
@@ -91,7 +91,7 @@ impl Round {
         }
     }
 
-    /// Whether a cycle is marking in this round. The question is no step.
+    /// Whether a cycle is marking in this round. The answer takes no step.
     pub fn is_marking(&self) -> bool
         ensures { result ≡ (opening_of self.now).marking }
     {
@@ -114,9 +114,9 @@ impl Round {
     }
 
     /// Ends the round and returns its words. The seats are those of all mutators, and the collector's.
-    /// There is one list of events for the views of all seats, each possible at its position. A mutator's events are its rows
+    /// All views agree with one list of events, and each event is possible at its position. A mutator's events are its rows
     /// in their order, the collector's are its scans, and marks and objects owed agree. The words represent the world after
-    /// the events. It cannot fail, and takes no allocator, no memory, and no time that grows with the words.
+    /// the events. Can't fail, and takes no allocator, no memory, and no time that grows with the words.
     pub fn finish(self, mutators: List<MutatorSeat>, collector: CollectorSeat) -> Finished
         requires seats { All (IsAt self) mutators × IsAt self collector }
         requires all { HasAll (all_together (seen collector) (map seen mutators)) }

@@ -32,7 +32,7 @@ impl Round {
         self.table.shared.split_seat::<CollectorAlone>(seat)
     }
 
-    /// Takes the parts of another seat into a seat. The other seat is gone.
+    /// Moves all parts of another seat into a seat. The other seat is gone.
     pub fn join(&self, seat: &mut MutatorSeat, other: MutatorSeat)
         requires seats { IsAt self.now seat.old × IsAt self.now other }
         requires within { 0 < word_count self.now }
@@ -41,8 +41,8 @@ impl Round {
         self.table.shared.join_seat::<Both>(seat, other)
     }
 
-    /// Splits off one seat for each mutator, in order, from a seat that has them all, into a list with room. Takes no memory.
-    pub fn seats_into(&self, seat: MutatorSeat, mutators: usize, seats: &mut Vec<MutatorSeat>)
+    /// Splits a seat with the parts of all mutators into a seat for each, which it adds to `seats` in order. Takes no memory.
+    pub fn split_all(&self, seat: MutatorSeat, mutators: usize, seats: &mut Vec<MutatorSeat>)
         requires seat { IsAt self.now seat × (seen seat ≡ from (opening_of self.now) 0 (opening_of self.now).hands) }
         requires count { (mutators ≡ length (opening_of self.now).hands) × (0 < mutators) }
         requires room { (seats.old.items ≡ []) × (mutators ≤ vec_capacity seats.old) }

@@ -2,16 +2,17 @@
 //!
 //! A step reads or writes one word of the table, in one order with all other steps of all threads. It may be the position of
 //! a command in that order: then the seat's view has one more row, with the answer of the reference heap there. A step shows
-//! its caller the word and its seat's view after it, and changes no other view. Steps take no memory and never wait.
+//! its caller the word and its seat's view after it. It changes no other view, takes no memory, and never waits. A public
+//! step such as `swap_field` calls a private one, `swap_field_for`, whose type parameters `plays` explains.
 //!
-//! Each step that names an object has the condition that the seat holds it: it is g, or a register has its address. For a
-//! load of a header or a name the mutator's own finaliser queue will do. A look ahead has no condition, since it shows
+//! A step at an object has a condition: the object is g, or one of the mutator's registers has its address. For a load of a
+//! header or a name, the mutator's own finaliser queue may have it instead. A look ahead has no condition, since it shows
 //! nothing. A reply may also depend on a header, which never changes: the seat has loaded it before, and its view names it.
 //!
-//! A swap is the deletion barrier. While marking, the word that it takes out is owed from that very step on. So an object of
-//! the snapshot is always in a field or owed: `Note [Why the deletion barrier is enough]` (`nmgc_mutator`'s `barrier`).
+//! A swap is the deletion barrier. While marking, the word taken out is owed from that step on. So a reference of the
+//! snapshot is in its field or owed: Note [Why the deletion barrier is enough] in `nmgc_mutator/src/barrier.rt`.
 //!
-//! Easy to get wrong: the order of the stores of a new object, `Note [The header is stored last]`.
+//! Easy to get wrong: the order of the stores of a new object, Note [The header is stored last].
 ghost use Rattle.std.specs.Prelude.{◌≡◌, ◌+◌, ◌<◌, MatchOption, IfNone, IfSome};
 ghost use Rattle.nmgc_object.specs.declared.size.TheConstants.{HEADER_WORDS};
 ghost use Rattle.nmgc_round.specs.{View.word, View.loaded, View.answered, View.swapped, View.met, View.met_at_birth, View.stored, View.gave_birth, Ready.Mutates, Ready.CanScan, Ready.scanned_by, Ready.CanLoad, Ready.CanSwap, Ready.CanStore, Ready.CanBear, Known.CanFix, Known.CanTake, Known.taken, Known.FindsFixed, Known.FindsField, Known.FindsQueue, Known.FindsScan, Known.IsSafe, Seat.IsAt, Seat.Knows, Seat.seen, Seat.word_count};
@@ -26,7 +27,8 @@ use nmgc_object::{Address, HEADER_WORDS};
 use std::marker::Brand;
 
 impl Round {
-    fn load_plain<A: Located>(&self, seat: &mut MutatorSeat, at: Address, offset: u32) -> u64
+    // Loads a word that never changes, and returns it. `A` is `at` and `offset`.
+    fn load_fixed_at<A: Located>(&self, seat: &mut MutatorSeat, at: Address, offset: u32) -> u64
         requires seat { IsAt self.now seat.old }
         requires place { (A.at ≡ at.0) × (A.offset ≡ offset) }
         requires ready { Mutates (λ o p. CanFix o p at.0 offset) (seen seat.old) }
@@ -39,7 +41,8 @@ impl Round {
             .load::<Fixes<A>>(seat, at.0 as usize + offset as usize)
     }
 
-    fn load_taking<A: Located, C: Asked>(
+    // Loads a word that never changes, as the position of a command, and returns it. `A` is `at` and `offset`, `C` is `command`.
+    fn load_fixed_for<A: Located, C: Asked>(
         &self,
         seat: &mut MutatorSeat,
         at: Address,
@@ -62,11 +65,12 @@ impl Round {
     }
 
     /// Loads and returns a word that never changes in a round: a header, a name, a constructor's field, a free variable, a
-    /// weak pointer's key or finaliser. The seat's view names it from then on. A header or name is valid, and its object
-    /// within the heap.
-    /// It may be the position of a command. At the header of g the command reads no changing word or is refused; at a
-    /// constructor's field it is a `get`. The row has the reply, and if the field is a pointer, its object is within the
-    /// heap's words. So is each finaliser that waited for the mutator; `nextfin` takes the first.
+    /// weak pointer's key or finaliser. The seat's view names it from then on. Without a command, a loaded name is valid, and
+    /// so is a loaded header, whose object lies within the heap's words. With a command, the load is its position in the
+    /// order, and its row has the reply. At the header of g this command reads no changing word or is refused; at a
+    /// constructor's field it is a `get`. If the field is a pointer, its object lies within the heap's words. So does each
+    /// object in the mutator's finaliser queue. No command loads at an object to which the queue alone refers: `nextfin`
+    /// takes the word into a register as it is, and then an operand refers to the object.
     pub fn load_fixed(
         &self,
         seat: &mut MutatorSeat,
@@ -85,12 +89,12 @@ impl Round {
         ensures queue { IfSome command.entry (λ c. Mutates FindsQueue (seen seat.old)) }
     {
         match command {
-            None => self.load_plain::<Brand>(seat, at, offset),
-            Some(command) => self.load_taking::<Brand, Brand>(seat, at, offset, command),
+            None => self.load_fixed_at::<Brand>(seat, at, offset),
+            Some(command) => self.load_fixed_for::<Brand, Brand>(seat, at, offset, command),
         }
     }
 
-    /// Loads the word at an address, if there is one, and forgets it: the view stays. A later read near it is faster.
+    /// Loads the word at an address, if there is one, and drops it, so that later reads near it are faster. The view stays.
     pub fn look_ahead(&self, seat: &mut CollectorSeat, at: Address)
         requires { IsAt self.now seat.old }
         ensures { Knows self.now seat.old seat.new (seen seat.old) }
@@ -102,9 +106,9 @@ impl Round {
         self.table.shared.load::<Looks>(seat, place);
     }
 
-    /// Loads and returns the word that the marking machine's next scan reads: the first queue entry is the object at this
-    /// address, and the word is at its next position. The view has one more scan. Position 0 has the header of the object's
-    /// node in the snapshot, whose words are within the heap's; if a field is a pointer, its object is within them.
+    /// Loads and returns the word of the marking machine's next scan. The queue's first entry is for the object at this
+    /// address; its next position has this offset. The view has one more scan. At position 0 the word is the header of the
+    /// object's node in the snapshot, whose words are in the heap. Later words are fields; a pointer's object is there.
     pub fn scan_load(&self, seat: &mut CollectorSeat, at: Address, offset: u32) -> u64
         requires seat { IsAt self.now seat.old }
         requires ready { CanScan (seen seat.old) at.0 offset }
@@ -117,7 +121,8 @@ impl Round {
             .load::<Scans>(seat, at.0 as usize + offset as usize)
     }
 
-    fn load_asked<C: Asked>(
+    // Loads a field, as the position of a `get`, and returns its word. `C` is `command`.
+    fn load_field_for<C: Asked>(
         &self,
         seat: &mut MutatorSeat,
         at: Address,
@@ -139,8 +144,8 @@ impl Round {
     }
 
     /// Loads a field of a variable or an array, and returns its word. This is the position of the `get` that reads the field,
-    /// and its row has the word as its answer. If it is a pointer, its object is within the heap's words. A constructor's
-    /// field may be loaded too; a mutator takes `load_fixed`, after which its view names the word.
+    /// and its row has the word as its answer. If the word is a pointer, its object lies within the heap's words. A
+    /// constructor's field may be loaded too; a mutator loads it by `load_fixed`, so that its view names the word.
     pub fn load_field(
         &self,
         seat: &mut MutatorSeat,
@@ -154,10 +159,11 @@ impl Round {
         ensures view { Knows self.now seat.old seat.new (answered (seen seat.old) command.now (word result)) }
         ensures safe { IsSafe (seen seat.old).opening result }
     {
-        self.load_asked::<Brand>(seat, at, field, command)
+        self.load_field_for::<Brand>(seat, at, field, command)
     }
 
-    fn swap_asked<C: Asked>(
+    // Stores a word into a field, as the position of a `set`, and returns the word before. `C` is `command`.
+    fn swap_field_for<C: Asked>(
         &self,
         seat: &mut MutatorSeat,
         at: Address,
@@ -180,10 +186,10 @@ impl Round {
         )
     }
 
-    /// Stores another word into a field of a variable or an array, and returns the word before. This is the position of the
-    /// `set` in the order. The view has the old word at the end of the words that its steps found; they have the references
-    /// that the marking machine lists as owed, marking or not. While marking, the old word is owed from this step on. If it
-    /// is a pointer, its object is within the heap's words.
+    /// Stores a word into a field of a variable or an array, and returns the word before. This is the position of the `set`
+    /// in the order. The view has the old word last among the words that its steps found. These have the references that the
+    /// marking machine lists as owed, whether a cycle marks or not. While marking, the seat owes the old word from this step
+    /// on. If the old word is a pointer, its object lies within the heap's words.
     pub fn swap_field(
         &self,
         seat: &mut MutatorSeat,
@@ -198,11 +204,11 @@ impl Round {
         ensures view { Knows self.now seat.old seat.new (swapped (seen seat.old) command.now result) }
         ensures safe { IsSafe (seen seat.old).opening result }
     {
-        self.swap_asked::<Brand>(seat, at, field, word, command)
+        self.swap_field_for::<Brand>(seat, at, field, word, command)
     }
 
-    // Whether a word that is in no object yet is `word` already. If so, the seat's view names it.
-    fn meets<H: Hoped>(&self, seat: &mut MutatorSeat, at: Address, offset: u32, word: u64) -> bool
+    // Loads a word that is in no object yet, and returns whether it is `word`. If so, the view names it. `H` is `word`.
+    fn look_at<H: Hoped>(&self, seat: &mut MutatorSeat, at: Address, offset: u32, word: u64) -> bool
         requires seat { IsAt self.now seat.old }
         requires hoped { H.word ≡ word }
         requires ready { Mutates (λ o p. CanStore o p (at.0 + offset)) (seen seat.old) }
@@ -227,23 +233,23 @@ impl Round {
             .store::<Stores>(seat, at.0 as usize + offset as usize, word)
     }
 
-    /// Stores a word in the own nursery at an address that is in no object, and not stored yet. The seat's view names it
-    /// until an object is allocated there. A nursery is filled again in every round, often with the same words, and a store
-    /// costs several loads. So it looks first, and stores if another word is there: two steps, and the first then shows
-    /// nothing. So the view's names of unborn words never change, and a birth has one word for each field.
+    /// Stores a word in the mutator's nursery, at an address that is in no object and wasn't stored to yet. The seat's view
+    /// names the word until an object is allocated there. A nursery is filled again in every round, often with the same
+    /// words, and a store costs several loads. So the word there is loaded first. If it differs, `word` is stored, and that
+    /// load adds nothing to the view. So the view's names of unborn words stay, and an allocation has one for each field.
     pub fn store_unborn(&self, seat: &mut MutatorSeat, at: Address, offset: u32, word: u64)
         requires seat { IsAt self.now seat.old }
         requires ready { Mutates (λ o p. CanStore o p (at.0 + offset)) (seen seat.old) }
         requires within { at.0 + offset < word_count self.now }
         ensures { Knows self.now seat.old seat.new (stored (seen seat.old) (at.0 + offset) word) }
     {
-        if !self.meets::<Brand>(seat, at, offset, word) {
+        if !self.look_at::<Brand>(seat, at, offset, word) {
             self.store_there(seat, at, offset, word);
         }
     }
 
-    // Whether the word at a new object's address is already the object's header. If so, this look is the allocation.
-    fn meets_header<H: Hoped, C: Asked>(
+    // Loads a new object's first word, and returns whether it is the header. If so, this is the allocation. `H` is `header`.
+    fn look_at_header<H: Hoped, C: Asked>(
         &self,
         seat: &mut MutatorSeat,
         at: Address,
@@ -264,7 +270,8 @@ impl Round {
             == header
     }
 
-    fn birth_asked<C: Asked>(
+    // Stores a new object's header, as the position of the command that makes the object. `C` is `command`.
+    fn store_header_for<C: Asked>(
         &self,
         seat: &mut MutatorSeat,
         at: Address,
@@ -288,20 +295,17 @@ impl Round {
     // The step at the header is the allocation: it is the one step that adds the object to the world. The rule of a round
     // (`specs/Rule.antt`) holds between any two steps, and says that each object of the world has its header, name and fields
     // in the words. So name and fields are stored before (`CanBear` in `specs/Ready.antt`), while they belong to no object.
-    // With the header first, the fields would still be words of an earlier round, and the rule would be false until the last
-    // store.
+    // With the header first, the fields would still be words of an earlier round, and the rule false until the last store.
     //
-    // Usually this step is a store. If an object of an earlier round left the same header there, it is the load that finds
-    // it.
+    // Usually this step is a store. If an earlier round's object left the same header there, it is the load that finds it.
     //
-    // No register or field has the address before this step, so no other thread can find a half-made object. The steps of all
-    // threads are in one order, so no fence is needed before the address is published.
-    /// Stores the header of a new object, at the first unused word of the own nursery. The object's name and fields were
-    /// stored there before. This is the position of the command that makes it, and its row has the object's address as its
-    /// answer. From then on the view names header and name, and no unborn word. As in `store_unborn` it looks first. A header
-    /// that is there stays, from an object of an earlier round, to which nothing refers; the look that finds it is the
-    /// allocation.
-    pub fn give_birth(
+    // Before this step neither a register nor a field that a command may follow has the address. So no other thread can find
+    // a half-made object. The steps of all threads are in one order, so no fence is needed before the address is published.
+    /// Stores the header of a new object, at the first unused word of the mutator's nursery. Its name and fields were stored
+    /// there before. This is the position of the command that makes the object, and its row has the object's address as its
+    /// answer. From then on the view names header and name, and no unborn word. As in `store_unborn`, that word is loaded
+    /// first. If it is already this header, left by an unreferenced object of an earlier round, the load is the allocation.
+    pub fn store_header(
         &self,
         seat: &mut MutatorSeat,
         at: Address,
@@ -313,8 +317,8 @@ impl Round {
         requires within { at.0 < word_count self.now }
         ensures { Knows self.now seat.old seat.new (gave_birth (seen seat.old) at.0 header command.now) }
     {
-        if !self.meets_header::<Brand, Brand>(seat, at, header, command) {
-            self.birth_asked::<Brand>(seat, at, header, command);
+        if !self.look_at_header::<Brand, Brand>(seat, at, header, command) {
+            self.store_header_for::<Brand>(seat, at, header, command);
         }
     }
 }

@@ -1,6 +1,6 @@
-//! The values that only proofs know. No value of these types is made.
+//! The types of values that only proofs know. No value of these types is made.
 //!
-//! A seat and a chosen value need a type for clauses. These are empty shells; the definitions are in `specs/View.antt`.
+//! In clauses a seat's view and a chosen value need a type. These are empty shells; the definitions are in `specs/View.antt`.
 use std::marker::Model;
 
 /// The view of a seat.
@@ -16,7 +16,7 @@ impl Model for View {
     ghost view = { λ _. nobody };
 }
 
-/// The state with which a round begins, and its addresses in use.
+/// The opening of a round: the state with which it begins, and the addresses in use.
 pub struct Opened {
     nothing: u8,
 }

@@ -1,11 +1,11 @@
 //! The value of a weak pointer: the steps that are the positions of `deref` and `finalise` in the order.
 //!
-//! The value of a weak pointer is no strong field, so a cycle that marks may count it as lost. A load makes it count again:
-//! while marking, that very load owes the value. A swap kills the weak pointer, so it owes the weak pointer, its value and
-//! its finaliser, which the seat has loaded before.
+//! The value of a weak pointer is no strong field, so the marker may not reach it. A load puts the value into a register. So
+//! while marking, that very load owes it. A swap kills the weak pointer. So while marking, that very swap owes the weak
+//! pointer, its value and its finaliser. The seat has loaded the finaliser before.
 //!
-//! Easy to get wrong: a dead weak pointer keeps its key and its finaliser as they were, and they mean nothing. So only the
-//! value's word shows whether it is alive, at the step itself.
+//! Easy to get wrong: the key and the finaliser of a dead weak pointer keep their words, which mean nothing. Only the word of
+//! the value shows, at the step itself, whether the weak pointer is alive.
 ghost use Rattle.std.specs.Prelude.{◌≡◌, ◌≢◌, ◌+◌, ◌<◌, []};
 ghost use Rattle.nmgc_object.specs.declared.size.TheConstants.{HEADER_WORDS};
 ghost use Rattle.nmgc_round.specs.{Ready.Mutates, Known.IsSafe, Weaks.CanDeref, Weaks.CanFinalise, Weaks.finaliser_named, Weaks.weak_read, Weaks.weak_taken, Seat.IsAt, Seat.Knows, Seat.seen, Seat.word_count};
@@ -38,7 +38,8 @@ impl<A: Located, C: Asked> Play<(), View> for Finalises<A, C> {
 }
 
 impl Round {
-    fn deref_asked<C: Asked>(
+    // Loads a weak pointer's value, as the position of a `deref`, and returns its word or 0. `C` is `command`.
+    fn load_weak_for<C: Asked>(
         &self,
         seat: &mut MutatorSeat,
         at: Address,
@@ -57,9 +58,9 @@ impl Round {
             .load::<Derefs<C>>(seat, at.0 as usize + HEADER_WORDS as usize + 1)
     }
 
-    /// Loads the value of a weak pointer and returns its word, or 0 if there is none. This is the position of the `deref` in
-    /// the order: its row answers the word or `dead`. A value is at the end of the words that the view's steps found, and
-    /// while marking it is owed from this step on. If it is a pointer, its object is within the heap's words.
+    /// Loads the value of a weak pointer and returns its word, or 0 if the weak pointer is dead. This is the position of the
+    /// `deref` in the order: its row answers the word or `dead`. A value is last among the words that the view's steps found,
+    /// and while marking it is owed from this step on. If the value is a pointer, its object lies within the heap's words.
     pub fn load_weak(&self, seat: &mut MutatorSeat, at: Address, command: &PackedCommand) -> u64
         requires seat { IsAt self.now seat.old }
         requires ready { Mutates (λ o p. CanDeref o p at.0 command.now) (seen seat.old) }
@@ -67,10 +68,11 @@ impl Round {
         ensures view { Knows self.now seat.old seat.new (weak_read (seen seat.old) command.now result) }
         ensures safe { result ≢ 0 → IsSafe (seen seat.old).opening result }
     {
-        self.deref_asked::<Brand>(seat, at, command)
+        self.load_weak_for::<Brand>(seat, at, command)
     }
 
-    fn finalise_asked<A: Located, C: Asked>(
+    // Takes a weak pointer's value out, as the position of a `finalise`, and returns its word or 0. `A` is `at`, `C` `command`.
+    fn swap_weak_for<A: Located, C: Asked>(
         &self,
         seat: &mut MutatorSeat,
         at: Address,
@@ -91,9 +93,9 @@ impl Round {
     }
 
     /// Kills a weak pointer and returns the word of its value, or 0 if it was dead before. This is the position of the
-    /// `finalise` in the order: its row has the finaliser as its answer, or that the weak pointer is dead. If it was alive,
-    /// the weak pointer, its value and its finaliser are at the end of the words that the view's steps found. While marking
-    /// they are owed from this step on. If the finaliser is a pointer, its object is within the heap's words.
+    /// `finalise` in the order: its row has the finaliser or `dead` as its answer. If the weak pointer was alive, it, its
+    /// value and its finaliser are last among the words that the view's steps found. While marking, the seat owes all three
+    /// from this step on. If the finaliser is a pointer, its object lies within the heap's words.
     pub fn swap_weak(&self, seat: &mut MutatorSeat, at: Address, command: &PackedCommand) -> u64
         requires seat { IsAt self.now seat.old }
         requires ready { Mutates (λ o p. CanFinalise o p at.0 command.now) (seen seat.old) }
@@ -101,6 +103,6 @@ impl Round {
         ensures view { Knows self.now seat.old seat.new (weak_taken (seen seat.old) at.0 command.now result) }
         ensures safe { result ≢ 0 → Mutates (λ o p. IsSafe o (finaliser_named at.0 p)) (seen seat.old) }
     {
-        self.finalise_asked::<Brand, Brand>(seat, at, command)
+        self.swap_weak_for::<Brand, Brand>(seat, at, command)
     }
 }

@@ -1,19 +1,19 @@
 //! A value that only clauses read, chosen in a proof.
 //!
-//! A clause can say that some value exists; a program that goes on from there needs that value by a name. It has no bytes:
-//! `Witness::of` makes it from the fact alone that a value exists. So a caller that only knows that the words represent some
-//! world can begin a round with that world as its opening.
+//! A clause can say that some value exists; a program that goes on from there needs a name for that value. A witness is this
+//! name, and has no bytes: `Witness::of` makes it from the fact alone that a value exists. So a caller that only knows that
+//! the words represent some world can begin a round with that world as its opening.
 ghost use Rattle.std.specs.Prelude.{◌≡◌};
 ghost use base.Fml.{ftrue};
 
 use std::marker::{Model, PhantomData};
 
-/// The values that may be chosen for the caller's argument: `wanted` holds of them.
+/// The condition on a chosen value: `wanted` holds of it and the caller's argument.
 pub trait WitnessFor<I, T> {
     ghost wanted: { I → T → Type 0 };
 }
 
-/// A `T` as clauses see it. It has no bytes.
+/// The name of a chosen value of type `T`, which only clauses read. It has no bytes.
 pub struct Witness<T> {
     marker: PhantomData<T>,
     pub ghost value: { T },
@@ -24,7 +24,7 @@ impl<T> Model for Witness<T> {
 }
 
 impl<T> Witness<T> {
-    /// Returns a value for which `wanted` holds, chosen in the proof. There has to be one. Nothing happens when it runs.
+    /// Returns the name of a value that `wanted` allows, chosen in the proof. There has to be one. Does nothing at run time.
     pub fn of<I, Q: WitnessFor<I, T>>(about: &I) -> Witness<T>
         requires { (x : T) × Q.wanted about.now x }
         ensures { Q.wanted about.now result.value }

@@ -1,11 +1,11 @@
 //! The words of a run, while one thread alone reads and writes them.
 //!
 //! They lie in one table from the beginning of the run on. As the run ends the table is closed, and the report has it.
-//! Between rounds the table has one seat that may step, and its view is the list of all words. So a load answers the word, a
+//! Between rounds the table has one seat that may step, and its view is the list of all words. So a load returns the word, a
 //! store changes the list, and contracts see the whole as that list. A round takes the words and gives them back, and copies
 //! none. Code for a stop is written over the trait `HeapWords`, which a plain list implements too.
 //!
-//! Easy to get wrong: each store is ordered with all stores and costs several loads. So a stop writes no unchanged word.
+//! Easy to get wrong: each store is ordered with all stores, and costs several loads. So a stop writes no unchanged word.
 ghost use Rattle.std.specs.{Prelude.◌≡◌, Prelude.◌<◌, Prelude.IfOk, Prelude.length, Prelude.set, Prelude.slice_index, Slots.slots_items, Slots.slots_len, Slots.IsFull};
 ghost use Rattle.nmgc_round.specs.Stop.{IsSole};
 
@@ -37,7 +37,7 @@ impl Model for Words {
     ghost invariant = { λ h. IsSole h.table.shared.table_id h.seat };
 }
 
-/// The words that a table is made with.
+/// Chooses the words of the argument, as the first words of a table.
 pub(crate) struct Copied;
 
 impl<'a> WitnessFor<&'a [u64], Stored> for Copied {
@@ -45,7 +45,7 @@ impl<'a> WitnessFor<&'a [u64], Stored> for Copied {
 }
 
 impl Words {
-    /// Makes a table of these words. There has to be at least one word.
+    /// Makes a table with a copy of these words, at least one.
     pub fn new(alloc: Global, words: &[u64]) -> Result<Words, NoMemory>
         requires { 0 < length words.now }
         ensures { IfOk result (λ w. w ≡ words.now) }
@@ -83,8 +83,8 @@ impl Words {
         table.shared.store::<Writes>(seat, at, word)
     }
 
-    /// Closes the table: it has exactly these words, and no thread writes them any more. Copies none and takes no memory. The
-    /// owner of the table gives its memory back, by `Closed::free`.
+    /// Closes the table and returns it: it has exactly these words, and no thread writes them any more. Copies none and takes
+    /// no memory. The table's owner gives the memory back, by `Closed::free`.
     pub fn close(self) -> Closed<(), Global>
         ensures full { IsFull result.words }
         ensures words { slots_items result.words ≡ self }

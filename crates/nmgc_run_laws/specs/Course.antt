@@ -20,7 +20,7 @@ pub record WaitsWhole (c : Cycle) (allocation : AllocState) : Type 0 where
   pub all : (number : ℕ) → IsSweptIn c number → IsIn stands.Sweeping (cells allocation number)
 
 -- a cycle in course: it is the last one begun, at this stop or before. While it marks, exactly the segments filled when it
--- began wait, with their names of then; while it sweeps, some of them do. While no cycle is in progress, no segment waits
+-- began wait, with the names of then; while it sweeps, some of them still wait. Without a cycle, no segment waits
 abbrev pub IsInCourse : Progress → ℕ → ℕ → AllocState → Type 0
 IsInCourse idle number begun allocation = NoneIs (IsIn stands.Sweeping) allocation
 IsInCourse (marking c) number begun allocation = IsLastBegun c number begun × WaitsWhole c allocation

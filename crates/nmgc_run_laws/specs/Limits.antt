@@ -31,7 +31,7 @@ ScriptsHaveGoodPlans = (script : Script) → FitsScript script → HasGoodPlan s
 abbrev pub StatesAreWithin : Type 0
 StatesAreWithin = (plan : Plan) (run : Run) → IsRunnable plan → AreFitting plan plan.threads → IsRun plan run → IsWithinLimits plan (last_state run)
 
--- the law that each round from a sound state within the limits has commands within the limits and ends in a state within them
+-- the law that each round from a sound state within the limits has commands and a new state within the limits
 abbrev pub RoundsAreWithin : Type 0
 RoundsAreWithin = (plan : Plan) (s t : State) (replies : List (List Reply)) (rows : List Row) → IsSoundState plan s → IsWithinLimits plan s →
     IsRound plan.config s replies rows t → All (λ (row : Row). Fits plan.config.words row.command) rows × IsWithinLimits plan t

@@ -74,8 +74,8 @@ abbrev pub AreEarlier : State → Type 0
 AreEarlier s = (e : World) → Contains (snapshots s.progress) e → IsEarlier e s.world
 
 -- a sound state, at a stop: a world with as many mutators as programs, and the rest of the programs can be done. The blocks
--- are an allocation state; no name lies in two, and only known names lie in any. The cycle's rows and its closing lead from
--- its snapshot to the world. Each tracked name except g has its block
+-- are an allocation state; no name lies in two blocks, and only names of the world lie in blocks. The cycle's rows and its
+-- closing lead from its snapshot to the world. Each tracked name except g has its block
 pub record IsSoundState (plan : Plan) (s : State) : Type 0 where
   pub world : IsWorld s.world
   pub able : IsAble plan s

@@ -47,8 +47,8 @@ abbrev pub EachCycleHasItsRow : Type 0
 EachCycleHasItsRow = (plan : Plan) (run : Run) (rounds : List RoundRows) (stops : List StopRow) (cycles : List CycleRow) (end : End) →
     IsRun plan run → AreRowsOf run rounds stops cycles → answer_of plan (last_state run) ≡ Some end → length cycles ≡ (last_state run).begun
 
--- a cycle closed soon, by its row: at most (kept - 1) / quota + 1 rounds (rounded down) after its snapshot. These are the
--- rounds that scan one object fewer than it kept, and one more
+-- a cycle closed soon, by its row: at most (kept - 1) / quota + 1 rounds after its snapshot, with the quotient rounded down.
+-- So the rounds before the last can't scan as many objects as the cycle kept
 abbrev pub IsClosedSoon : ℕ → CycleRow → Type 0
 IsClosedSoon quota row = row.closed ≤ row.from + ((row.kept - 1) / quota + 1)
 
@@ -61,12 +61,12 @@ ClosingsAreSoon = (script : Script) (report : Report) → FitsScript script → 
 abbrev pub RunGoesOn : Type 0
 RunGoesOn = (plan : Plan) (run : Run) (turn : Turn) → IsRun plan run → IsTurn plan (last_state run) turn → IsRun plan (with_turn run turn)
 
--- the law that the report of a run that goes on by a round and its stop is the report before with their replies and rows
+-- the law that a further round and its stop add their replies and rows to a run's report, and change nothing else in it
 abbrev pub AddsOneTurn : Type 0
 AddsOneTurn = (run : Run) (turn : Turn) (rounds : List RoundRows) (stops : List StopRow) (cycles : List CycleRow) → AreRowsOf run rounds stops cycles →
     AreRowsOf (with_turn run turn) (rounds ++ turn.replies ∷ []) (stops ++ turn.stop.row ∷ []) (cycles ++ turn.stop.cycles)
 
--- the law that the last state of a run that goes on by a round and its stop is the state after this stop
+-- the law that once a round and its stop are added to a run, its last state is the state after this stop
 abbrev pub LastIsOfTurn : Type 0
 LastIsOfTurn = (run : Run) (turn : Turn) → last_state (with_turn run turn) ≡ turn.stop.state
 

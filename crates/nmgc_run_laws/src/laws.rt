@@ -7,34 +7,33 @@ ghost use Rattle.nmgc_run_laws.specs.{Places.BlocksAtStop, Places.BlocksAfterRou
 use nmgc_alloc::laws::counts;
 use nmgc_object::laws::words_differ;
 
-/// Proves how many classes a layout has: the classes of dense blocks, and one more for each doubling that leads from
-/// `DENSE_WORDS` to the words of a segment.
+/// Proves that a layout has the classes of dense blocks, and one for each doubling from `DENSE_WORDS` to a segment's words.
 pub fn classes_are_counted()
     ensures { ClassesAreCounted }
 {}
 
-/// Proves that a run with a further round and its stop at the end is a run. Its report is the report before with the replies
-/// and rows of this round and stop, and its last state is the state after this stop.
+/// Proves that a run stays a run when a further round and its stop are added at the end. Its report then has the replies and
+/// rows of this round and stop at the end, and its last state is the state after this stop.
 pub fn run_goes_on()
     ensures run { RunGoesOn }
     ensures agrees { AddsOneTurn }
     ensures last { LastIsOfTurn }
 {}
 
-/// Proves that the rest of each program is the commands that no round of the report answered.
+/// Proves that a run's report determines the rest of each program: the commands that no round of the report answered.
 pub fn left_is_determined()
     ensures { LeftIsDetermined }
 {}
 
 /// Proves that the last stop's row counts the free segments of the report's heap.
-pub fn counts_are_real()
+pub fn free_segments_are_counted()
     ensures { FreeIsReal }
 {
     counts();
 }
 
 /// Proves that a script's version doesn't matter: a report is lawful for a script exactly if it is lawful for its upgrade.
-pub fn version_is_nothing()
+pub fn a_version_changes_nothing()
     ensures version { VersionIsNothing }
     ensures upgrade { UpgradeIsNothing }
 {}
@@ -44,14 +43,15 @@ pub fn each_cycle_has_its_row()
     ensures { EachCycleHasItsRow }
 {}
 
-/// Proves that each cycle in a lawful report of a script within the limits was closed at most (kept - 1) / quota + 1 rounds
-/// (rounded down) after its snapshot, even if a full cycle closed it. A round scans at most `quota` objects.
+/// Proves that each cycle was closed soon after its snapshot, in a lawful report of a script within the limits. If the cycle
+/// kept n objects, and a round scans at most `quota` objects, it was closed at most (n - 1) / quota + 1 rounds later, with
+/// the quotient rounded down. This is so even if a full cycle closed it.
 pub fn closings_are_soon()
     ensures { ClosingsAreSoon }
 {}
 
 /// Proves that at a stop and after a round, the places in segments are exactly the blocks in use, and each object fits its
-/// block. If this holds after a promotion, the places are as a stop needs them.
+/// block. If a promotion leaves places with this property, and none in a nursery, they are the places of a heap at a stop.
 pub fn places_are_blocks()
     ensures at_stop { BlocksAtStop }
     ensures after_round { BlocksAfterRound }
@@ -60,7 +60,7 @@ pub fn places_are_blocks()
     words_differ();
 }
 
-/// Proves that states of a run are sound, and rounds from sound states. So at stops tracked names except g have blocks.
+/// Proves that states of a run, and rounds from sound states, are sound. So at stops all tracked names except g have blocks.
 pub fn tracked_names_have_blocks()
     ensures states { StatesAreSound }
     ensures rounds { RoundsAreSound }
@@ -68,7 +68,7 @@ pub fn tracked_names_have_blocks()
 {}
 
 /// Proves that the cycle in progress is the last one begun, at this stop or before. While it marks, exactly the segments
-/// filled when it began wait. A segment that waits has its names of then. While no cycle is in progress, no segment waits.
+/// filled when it began wait. Each waiting segment has the names that it had then. Without a cycle, no segment waits.
 pub fn cycles_are_in_course()
     ensures runs { RunsAreInCourse }
     ensures rounds { RoundsStayInCourse }
@@ -76,7 +76,7 @@ pub fn cycles_are_in_course()
     ensures begins { CyclesBeginInCourse }
 {}
 
-/// Proves that a script's limits give a layout, and hold for the world and the programs left in every state and every round.
+/// Proves that a script within the limits has a layout, and that its worlds and the rest of its programs stay within them.
 pub fn limits_stay()
     ensures scripts { ScriptsHaveGoodPlans }
     ensures states { StatesAreWithin }
@@ -85,6 +85,6 @@ pub fn limits_stay()
 
 /// Proves that a lawful report of a script within the limits, with few enough commands, is a report of the run for which it
 /// is lawful. It ends as heap full exactly if that run's last stop leaves the heap full, and then the last stop is crowded.
-pub fn lawful_are_of_runs()
+pub fn lawful_reports_are_of_runs()
     ensures { LawfulAreOfRuns }
 {}

@@ -2,9 +2,9 @@
 --
 -- The schedule decides when the marker has nothing left to scan, so a run has a choice here, between two bounds. Both count
 -- the rounds since the snapshot, with `quota` scans each. A closing comes no later than the first stop by which these scans
--- could have marked all objects that the cycle keeps. If no objects were owed, it comes no earlier than the first stop by
--- which they could have marked all that the snapshot's roots reach. A closing forced by a full cycle keeps the first bound
--- alone: it may come before the marker has nothing left.
+-- could have marked all objects that the cycle keeps. If no objects were owed, a closing comes no earlier than the first stop
+-- by which these scans could have marked all that the snapshot's roots reach. A closing forced by a full cycle keeps only the
+-- first bound: it may come while objects are still to be scanned.
 use Rattle.std.specs.Prelude.{ℕ, ◌≡◌, ◌≢◌, ◌⊎◌, ◌+◌, ◌-◌, ◌*◌, ◌<◌, ◌≤◌, List, [], ◌∷◌, ◌++◌}
 use Rattle.nmgc_world_spec.specs.{declared.value.Name.Name, World.World, Step.step, Step.shared_name, History.Row, Reach.IsRoot, Reach.Lists, Reach.closed, Reach.IsReached, Owed.owed_by, Listing.Counts}
 use Rattle.nmgc_stop_spec.specs.Cycle.{IsDeadIn, IsKeptObject, Cycle}
@@ -19,7 +19,7 @@ owed w (row ∷ rows) = owed_by w row.mutator row.command ++ owed (step w row.mu
 abbrev pub IsStrongObject : World → Name → Type 0
 IsStrongObject w name = IsReached w (IsRoot w) name × (name ≢ shared_name)
 
--- not too late: at most one round after the snapshot, or the rounds before the last scan fewer objects than are kept
+-- not too late: at most one round after the snapshot, or the rounds before the last scan fewer objects than the cycle keeps
 abbrev pub IsSoon : ℕ → Cycle → ℕ → Type 0
 IsSoon quota c closed = (closed ≤ c.from + 1) ⊎ ((kept : ℕ) × Counts (IsKeptObject c) kept × ((closed - c.from - 1) * quota < kept))
 

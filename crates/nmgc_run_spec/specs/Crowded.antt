@@ -1,8 +1,8 @@
--- When a run ends as heap full, and how many objects it kept then.
+-- When a run ends as heap full, and how many objects its last cycle then kept.
 --
--- A stop does a full cycle before it gives the run up. Such a cycle is closed at once, so it keeps the objects that can be
--- reached, by the weak-pointer rule, in the world with which it begins. Each segment that it leaves in use has an object that
--- it kept. So if too few segments are free after it, it kept more objects than there are segments above the reserve.
+-- Before a stop ends a run as heap full, it does a full cycle. Such a cycle is closed at once, so it keeps the objects that
+-- can be reached, by the weak-pointer rule, in the world with which it begins. Each segment still in use after it has a kept
+-- object. So if too few segments are free then, the cycle kept more objects than there are segments above the reserve.
 use Rattle.std.specs.Prelude.{ℕ, ◌≡◌, ◌≢◌, ◌+◌, ◌<◌, ◌↔◌, List, [], ◌∷◌, length, true}
 use Rattle.nmgc_world_spec.specs.{declared.value.Name.Name, World.World, World.new_world, Step.shared_name, Reach.IsKept, Listing.Counts}
 use Rattle.nmgc_journal.specs.{declared.report.Report.Report, declared.report.End.End, declared.report.End.TheVariants.Done, declared.report.End.TheVariants.HeapFull, Summary.kept_count}
@@ -42,8 +42,8 @@ BeginsFullWith plan stop w = (closed : State) × ClosesNow stop.is.ended.progres
 abbrev pub IsKeptOf : World → Name → Type 0
 IsKeptOf w name = IsKept w [] [] name × (name ≢ shared_name)
 
--- a crowded stop: the world with which a full cycle would begin there keeps more objects than there are segments above the
--- reserve. Objects are names except g that are live in that world, or kept by the finalisers of its dead weak pointers
+-- a crowded stop: a full cycle that began at the stop would keep more objects than there are segments above the reserve.
+-- These are the names except g that are live in the cycle's first world, or kept by finalisers of its dead weak pointers
 pub record IsCrowded (plan : Plan) (stop : StopInRun plan) : Type 0 where
   pub world : World
   pub begins : BeginsFullWith plan stop world

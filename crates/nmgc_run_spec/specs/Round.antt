@@ -31,8 +31,7 @@ abbrev pub SweepsBeside : ℕ → Progress → AllocState → AllocState → Typ
 SweepsBeside quota (sweeping c closed) old new = SweepsSome (IsKeptIn c) (min quota (waiting_count old)) old new
 SweepsBeside quota _ old new = new ≡ old
 
--- a round, from one stop to the next: the mutators do their slices, in an order that is legal from the world. Beside them, a
--- cycle that is sweeping sweeps its quota
+-- a round between stops: mutators do their slices in an order legal from the world, and a sweeping cycle sweeps its quota
 pub record IsRound (config : Config) (s : State) (replies : List (List Reply)) (rows : List Row) (t : State) : Type 0 where
   pub history : IsHistory s.world (slices config s.left) replies rows
   pub swept : SweepsBeside config.quota s.progress s.allocation t.allocation

@@ -44,7 +44,7 @@ abbrev pub AreTurns : Plan → State → List Turn → Type 0
 AreTurns plan s [] = Unit {0}
 AreTurns plan s (turn ∷ turns) = IsTurn plan s turn × AreTurns plan turn.stop.state turns
 
--- a run of a plan, up to its end or to a stop before it
+-- a run of a plan, up to its end or to an earlier stop
 pub record IsRun (plan : Plan) (run : Run) : Type 0 where
   pub opening : IsStop plan (new_world (length plan.threads)) (start plan) run.opening.state run.opening.row run.opening.cycles
   pub turns : AreTurns plan run.opening.state run.turns

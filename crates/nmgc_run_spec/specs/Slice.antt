@@ -25,14 +25,14 @@ ends_slice _ = false
 abbrev pub is_next : ℕ → ℕ → Command → Bool
 is_next commands words c = nat_lt 0 commands && nat_le (words_made c) words
 
--- the slice of a program: its first commands, up to and with the first that ends a slice, or up to the first without room
+-- the slice of a program: its commands up to and including the first that ends a slice, or up to the first without room
 abbrev pub slice : ℕ → ℕ → List Command → List Command
 slice commands words [] = []
 slice commands words (c ∷ program) = if is_next commands words c then c ∷
     (if ends_slice c then [] else slice (commands - 1) (words - words_made c) program) else []
 
--- a mutator's slice in a round: its next commands, up to and with the first `yield`, `collect` or `full`. The slice has at
--- most `config.slice` commands, and ends before the first whose object lacks room in the nursery
+-- a mutator's slice in a round: its next commands, up to and including the first `yield`, `collect` or `full`. The slice has
+-- at most `config.slice` commands, and ends before the first command whose object lacks room in the nursery
 abbrev pub slice_of : Config → List Command → List Command
 slice_of config left = slice config.slice config.nursery left
 

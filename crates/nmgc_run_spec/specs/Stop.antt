@@ -65,7 +65,8 @@ IsFullDue plan s = (s.full ≡ true) ⊎ (is_short plan s ≡ true)
 abbrev pub with_all_retired : State → State
 with_all_retired s = record s { allocation = all_retired s.allocation }
 
--- a full cycle: any cycle in progress is closed, swept and ended, then another begins and is closed, swept and ended
+-- a full cycle: a cycle in progress is closed, swept and ended. Then current and active segments are filed as filled, a new
+-- cycle begins, is closed, swept and ended, and the requests are forgotten
 pub record DoesFullCycle (s t : State) (cycles : List CycleRow) : Type 0 where
   pub idled : State
   pub before : List CycleRow
@@ -76,7 +77,8 @@ pub record DoesFullCycle (s t : State) (cycles : List CycleRow) : Type 0 where
   pub cycles_are : cycles ≡ before ++ own
   pub rest : t ≡ record last { collect = false; full = false }
 
--- a cycle is due: none is in progress, and one was asked for, or `trigger` segments (not 0) were filled since the last began
+-- a cycle is due: no cycle is in progress, and either a cycle was asked for, or `trigger` isn't 0 and at least `trigger`
+-- segments were filled since the last cycle began
 abbrev pub IsCycleDue : Config → State → Type 0
 IsCycleDue config s = (is_idle s.progress ≡ true) × ((s.collect ≡ true) ⊎ ((1 ≤ config.trigger) × (config.trigger ≤ s.allocation.fresh)))
 
@@ -84,7 +86,7 @@ IsCycleDue config s = (is_idle s.progress ≡ true) × ((s.collect ≡ true) ⊎
 abbrev pub BeginsOrWaits : Config → State → State → Type 0
 BeginsOrWaits config s t = (IsCycleDue config s × (t ≡ record (cycle_started s) { collect = false })) ⊎ ((IsCycleDue config s → ⊥) × (t ≡ s))
 
--- if a full cycle is due, the stop does it and closes no cycle too late; otherwise a cycle begins if it is due
+-- if a full cycle is due, the stop does it and closes no cycle too late; otherwise a cycle begins if one is due
 abbrev pub Proceeds : Plan → State → State → List CycleRow → Type 0
 Proceeds plan s t cycles = (IsFullDue plan s × DoesFullCycle s t cycles × IsForcedSoon plan.config.quota s.progress s.number) ⊎
     ((IsFullDue plan s → ⊥) × BeginsOrWaits plan.config s t × (cycles ≡ []))

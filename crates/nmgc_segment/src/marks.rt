@@ -11,8 +11,8 @@
 //! None is left over:
 //! - A `sweep` clears every byte that isn't the cycle's epoch. All waiting segments are swept before the next cycle begins.
 //! - Other segments keep their blocks in use. At the closing, `carry` gives the cycle's epoch to all their bytes except 0. It
-//!   can't clear them. A byte other than 0 also says that the block is in use, and is in the snapshot, if it lies at or above
-//!   `next_free` or `snap`.
+//!   can't clear them: at or above `next_free` only such a byte says that the block is in use, and at or above `snap` that it
+//!   is in the snapshot.
 //! - The bytes of a free segment are 0, and so is the byte of each block allocated since the snapshot.
 //!
 //! So between cycles every byte is 0 or the last epoch (`AreSettled` in `nmgc_alloc`), never the next: a cycle begins without
@@ -26,9 +26,10 @@ use std::simd::prelude::*;
 // The number of mark bytes in a vector.
 const LANES: usize = 16;
 
-// From two vectors on and below this number of mark bytes, the compiler's code for the plain loop is faster.
+// The plain loop of a sweep is faster, as compiled, if there are at least two vectors but fewer mark bytes than this.
 const SWEPT_BY_LANES: usize = 512;
 
+// The same bound for carrying marks over.
 const CARRIED_BY_LANES: usize = 128;
 
 // Returns how many bytes of the vector at `at` come before the first byte that equals `byte`, or `LANES` if none does.
@@ -90,7 +91,7 @@ fn has_mark(marks: &[u8], epoch: u8) -> bool
 }
 
 /// Whether any block is still marked after a sweep of the epoch. Reads bytes only if `first`, the first unmarked block, is 0.
-pub fn has_left(marks: &[u8], first: u32, epoch: u8) -> bool
+pub fn is_any_marked(marks: &[u8], first: u32, epoch: u8) -> bool
     requires epoch { IsEpoch epoch }
     requires swept { (b : ℕ) → slice_index marks.now b ≢ 0 → slice_index marks.now b ≡ epoch }
     requires before { first ≢ 0 → slice_index marks.now 0 ≢ 0 }
@@ -146,7 +147,7 @@ fn carry_by_lanes(marks: &mut [u8], epoch: u8)
 }
 
 /// Sets each mark byte to the epoch, unless the byte is 0.
-pub fn carry(marks: &mut [u8], epoch: u8)
+pub fn carry_marks(marks: &mut [u8], epoch: u8)
     ensures { marks.new ≡ map (carried epoch) marks.old }
 {
     if 2 * LANES <= marks.len() && marks.len() < CARRIED_BY_LANES {
@@ -203,7 +204,7 @@ fn sweep_by_lanes(marks: &mut [u8], epoch: u8)
 }
 
 /// Clears each mark byte, unless the byte is the epoch.
-pub fn sweep(marks: &mut [u8], epoch: u8)
+pub fn sweep_marks(marks: &mut [u8], epoch: u8)
     ensures { marks.new ≡ map (swept epoch) marks.old }
 {
     if 2 * LANES <= marks.len() && marks.len() < SWEPT_BY_LANES {

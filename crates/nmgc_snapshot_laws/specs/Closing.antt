@@ -15,9 +15,9 @@ pub record IsUnmarked (s : State) (name : Name) : Type 0 where
   pub there : IsSome (node_of s.snapshot name)
   pub unmarked : Contains s.marked name → ⊥
 
--- the names that the closing marks first. They are the least set that follows strong fields in the world as it is, and has
--- all that waiting weak pointers with a nil, number or marked key keep. A weak pointer keeps itself, its value and its
--- finaliser. A key in this set counts as marked. Only unmarked names of the snapshot are in it.
+-- the names that the closing marks first: the least set with two rules. A waiting weak pointer whose key is nil, a number or
+-- marked adds itself, its value and its finaliser; a key in this set counts as marked. A name of the set adds the targets of
+-- its strong fields in the world as it is. Only unmarked names of the snapshot are added.
 pub data IsRevived (s : State) : Name → Type 0 where
   plain_key : (weak target : Name) (parts : Parts) → IsWaiting s weak parts → IsPlain parts.key → IsKeptBy weak parts target → IsUnmarked s target →
       IsRevived s target
@@ -27,7 +27,7 @@ pub data IsRevived (s : State) : Name → Type 0 where
       IsKeptBy weak parts target → IsUnmarked s target → IsRevived s target
   field : (name target : Name) → IsRevived s name → RefersTo s.world name target → IsUnmarked s target → IsRevived s target
 
--- the names that are marked once every waiting weak pointer with a nil, number or marked key has kept its parts
+-- the marked names after the closing's first part: names marked before the closing, and names that the closing marks first
 abbrev pub IsMarkedFirst : State → Name → Type 0
 IsMarkedFirst s name = Contains s.marked name ⊎ IsRevived s name
 

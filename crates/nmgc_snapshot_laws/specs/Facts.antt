@@ -2,11 +2,10 @@
 --
 -- The whole argument: all that a mutator can ever hold was live at the snapshot or is new, so owed and marked names are live.
 -- And each strong field of the snapshot is looked after (`Kept`). Its target is marked, owed or pushed, or the field is
--- unchanged and the object's scan has yet to reach it. Only a change removes a target, and the change owes it. A scan passes
--- a field only by reading it.
+-- unchanged and no scan has passed it. Only a change removes a target, and owes it. A scan passes a field only by reading it.
 --
--- Opened names make more names live. So no fact may ask whether a name isn't live yet. `fields` says that the target of every
--- field was its target in the snapshot or may be held, which stays true as names are opened.
+-- Opened names make more names live. So a fact about the fields of live names alone wouldn't be kept. `fields` is about all
+-- names: the target of every field was its target in the snapshot or may be held, which stays true as names are opened.
 use Rattle.std.specs.Prelude.{◌≡◌, ◌≤◌, ◌+◌, ◌⊎◌, ℕ, length, Some, false, IsSome, All, Contains}
 use Rattle.nmgc_world_spec.specs.{declared.value.Name.Name, declared.node.Parts.Parts, declared.node.Node.Node, World.World, World.node_of, World.serial_of, World.IsWorld, Reach.IsLive, Reach.IsRoot, Reach.IsAlive, Reach.IsKeptBy, Reach.RefersTo}
 use Rattle.nmgc_world_spec.specs.declared.value.Value.TheVariants as value
@@ -45,7 +44,7 @@ Kept s name i target = IsSafe s target ⊎ (HasStrongField s.world name i (value
 abbrev pub IsPassed : State → Entry → Type 0
 IsPassed s entry = (entry.position ≤ 1) ⊎ ((node : Node) → node_of s.snapshot entry.name ≡ Some node → has_result node ≡ false)
 
--- the part of the facts that holds from the first mark on, before all roots are marked; `Facts` lists it
+-- the part of the facts that holds from the first mark on, before all roots are marked; the comment on `Facts` explains it
 pub record Base (s : State) : Type 0 where
   pub snapshot : IsWorld s.snapshot
   pub mutators : length s.world.mutators ≡ length s.snapshot.mutators

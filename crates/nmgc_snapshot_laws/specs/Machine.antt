@@ -8,8 +8,8 @@ use Rattle.nmgc_snapshot_laws.specs.declared.event.Event.TheVariants as event
 abbrev pub AreEmpty : List (List Name) → Type 0
 AreEmpty lists = All (λ names. names ≡ []) lists
 
--- an event that can happen; after the closing none can. A command can if the world can take it and gives this answer. A push,
--- a scan or a take can if there is something to push, scan or take. The closing can if nothing is queued, owed or pushed.
+-- an event that can happen; none can happen after the closing. A command: the world can take it and gives this answer. A
+-- push, a scan or a take: there is something to push, scan or take. The closing: nothing is queued, owed or pushed.
 abbrev pub IsPossible : State → Event → Type 0
 IsPossible s (event.Command m c answer) = (s.is_closed ≡ false) × CanApply s.world m c × ((step s.world m c).1 ≡ answer)
 IsPossible s (event.Push m) = (s.is_closed ≡ false) × (names_of s.owed m ≢ [])
@@ -17,7 +17,7 @@ IsPossible s event.Scan = (s.is_closed ≡ false) × (s.queue ≢ [])
 IsPossible s (event.Take m) = (s.is_closed ≡ false) × (names_of s.pushed m ≢ [])
 IsPossible s event.Close = (s.is_closed ≡ false) × (s.queue ≡ []) × AreEmpty s.owed × AreEmpty s.pushed
 
--- the state after a command: the world takes its step, and the mutator owes the names that the command took away
+-- the state after a command: the world takes its step, and the names that the command owes, opens and finalises are added
 abbrev pub after_command : State → ℕ → Command → State
 after_command s m c = record s {
   world = (step s.world m c).0;

@@ -30,8 +30,8 @@ pub record IsMarking (w : World) (rows : List Row) (s : State) : Type 0 where
   pub finalised : s.finalised ≡ finalised w rows
   pub live : (name : Name) → Contains s.marked name → IsLive w s.opened name
 
--- the state after an exact closing, which could happen in the state that the events before it reached. Exactly the live names
--- are marked first, exactly the dead weak pointers die, and exactly the kept names are marked in the end.
+-- the state after an exact closing. The closing could happen in the state that the events before it reached. Exactly the live
+-- names are marked first, exactly the dead weak pointers die, and exactly the kept names are marked in the end.
 pub record IsExact (w : World) (events : List Event) (rows : List Row) (s : State) : Type 0 where
   pub earlier : List Event
   pub later : List Event
@@ -47,9 +47,8 @@ pub record IsExact (w : World) (events : List Event) (rows : List Row) (s : Stat
   pub world : s.world ≡ closed (replayed w rows) closing.dead
 
 -- the snapshot theorem, for the state after these events and rows. Before the closing all marked names are live in the
--- snapshot. At the closing, in the state that the events before it reached, exactly the live names are marked once the weak
--- pointers with marked keys have kept their parts. Then exactly the kept names are marked, and exactly the dead weak pointers
--- die.
+-- snapshot. At the closing, exactly the live names are marked once the weak pointers with marked keys have kept their parts.
+-- Then exactly the kept names are marked, and exactly the dead weak pointers die.
 pub record IsSnapshotMarking (w : World) (events : List Event) (rows : List Row) (s : State) : Type 0 where
   pub before : s.is_closed ≡ false → IsMarking w rows s
   pub after : s.is_closed ≡ true → IsExact w events rows s

@@ -40,7 +40,7 @@ entry_of name = record { name = name; position = 0 }
 abbrev pub with_mark : State → Name → State
 with_mark s name = record s { marked = s.marked ++ name ∷ []; queue = s.queue ++ entry_of name ∷ [] }
 
--- the state after a name was given to mark: an unmarked name of the snapshot is marked and queued, any other changes nothing
+-- the state after marking a name: an unmarked name of the snapshot is marked and queued, and any other name changes nothing
 abbrev pub mark_name : State → Name → State
 mark_name s name = if is_new s name then with_mark s name else s
 

@@ -4,14 +4,14 @@ use nmgc_world_spec::{Command, Name, Reply};
 /// A single step while marking runs. Events come in any order: the mutators give commands and hand over the names that they
 /// owe, and the collector scans and takes.
 pub enum Event {
-    /// A mutator gave a command, and this was the answer. The names that the command took out of the reach of the snapshot
-    /// are owed from then on.
+    /// A mutator gave a command, and this was the answer. From then on the mutator owes the names in `owed_by`, such as the
+    /// old target of a field that was overwritten.
     Command {
         mutator: u8,
         command: Command,
         answer: Reply,
     },
-    /// A mutator pushes the first name that it owes to its remembered set.
+    /// The first name that a mutator owes goes into its remembered set. A name outside the snapshot, or g, is dropped.
     Push {
         mutator: u8,
     },

@@ -1,12 +1,13 @@
 //! Laws of every run of the machine, with events from any source.
 //!
 //! Each function here does nothing. Its contract is a law over the definitions of `specs/`. So the laws also cover threads
-//! that do such events and keep no machine. A proof that a run is a list of events may cite the theorem, and a proof that
-//! goes event by event may cite the facts. The lemmas are in `specs/laws/`, for lemmas of the crates above.
+//! that do such events and keep no machine. A proof about a whole list of events may cite the theorem, and a proof that goes
+//! event by event may cite the facts. The lemmas are in `specs/laws/`, for lemmas of the crates above.
 ghost use Rattle.nmgc_snapshot_laws.specs.Run.{SnapshotTheorem, FactsAreKept, OpeningHasFacts, EventKeepsFacts, ClosingIsExact};
 
-/// Proves the snapshot theorem for every run of the marking machine. Until the end, only live names are marked. At the end
-/// exactly the live names are marked first, exactly the dead weak pointers die, and exactly the kept names are marked last.
+/// Proves the snapshot theorem: the marks of every run of the marking machine are exact. Before the closing, only names that
+/// are live in the snapshot are marked. The closing completes these marks to exactly the live names. Then exactly the dead
+/// weak pointers die, and the marks are completed to exactly the kept names.
 pub fn marking_from_a_snapshot_is_exact()
     ensures { SnapshotTheorem }
 {}
@@ -26,8 +27,8 @@ pub fn an_event_keeps_the_facts()
     ensures { EventKeepsFacts }
 {}
 
-/// Proves that a closing is exact if the facts hold and nothing is queued, owed or pushed. It marks exactly the live names,
-/// then exactly the kept names, and exactly the dead weak pointers die.
+/// Proves that a closing is exact if the facts (`Facts`) hold and nothing is queued, owed or pushed. The marks are completed
+/// to exactly the live names, then to exactly the kept names, and exactly the dead weak pointers die.
 pub fn a_closing_is_exact()
     ensures { ClosingIsExact }
 {}

@@ -17,13 +17,13 @@ IsHeldByOld began w name = (holder : Name) × IsSome (node_of began holder) × R
 abbrev pub IsOfYoungWeak : World → World → Name → Type 0
 IsOfYoungWeak began w name = (weak : Name) × (parts : Parts) × IsYoung began w weak × IsAlive w weak parts × IsOfWeak weak parts name
 
--- the names at which the search for promoted objects begins: the roots, the names to which an older object refers. They also
--- include the new weak pointers that are alive, with the names in their parts
+-- the names at which the search for promoted objects begins: the roots, and the names to which an older object refers. They
+-- also include the new weak pointers that are alive, with the names in their parts
 abbrev pub IsFirstPromoted : World → World → Name → Type 0
 IsFirstPromoted began w name = IsRoot w name ⊎ (IsHeldByOld began w name ⊎ IsOfYoungWeak began w name)
 
 -- the promotion rule. A new name is promoted if strong fields lead to it from the roots, from an object that isn't new, or
--- from a new weak pointer that is alive or its three parts
+-- from a new weak pointer that is alive, or from a part of such a weak pointer
 abbrev pub IsPromoted : World → World → Name → Type 0
 IsPromoted began w name = IsYoung began w name × IsReached w (IsFirstPromoted began w) name
 

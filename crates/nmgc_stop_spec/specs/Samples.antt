@@ -1,5 +1,4 @@
--- A small heap at a stop with its words: 32 unused segments of 64 words, one mutator, and a nursery as large as a segment.
--- The round before the stop made one object.
+-- A small heap at a stop in words: 32 free segments of 64 words, one mutator, and a nursery of 64 words with a new object.
 use Rattle.std.specs.Prelude.{ℕ, ◌≡◌, ◌+◌, ◌-◌, ◌<◌, List, [], ◌∷◌, length, replicate, slice_index}
 use Rattle.nmgc_world_spec.specs.{declared.command.Command.TheVariants.Num, declared.command.Command.TheVariants.Con, declared.command.Operand.TheVariants.Register, World.World, World.new_world}
 use Rattle.nmgc_limits.specs.declared.mutators.TheConstants.{REGISTERS, SHARED_MAKER, SHARED_SLOTS}

@@ -55,7 +55,7 @@ pub fn reserve_suffices()
     ensures { ReserveSuffices }
 {}
 
-/// Proves that words represent a heap at a stop whose round made one object, so there is a heap with something to promote.
-pub fn one_young_object()
+/// Proves that a sample's words represent a heap at a stop with one new object, so such heaps exist.
+pub fn a_stop_may_have_a_new_object()
     ensures { OneYoung }
 {}

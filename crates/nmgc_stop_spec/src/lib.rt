@@ -7,8 +7,7 @@
 //! `Waiting`): the objects that the cycle judges, frees and keeps, by its snapshot alone. Promotion, the sweeper, the stops
 //! and the run cite these definitions; nothing here runs.
 //!
-//! Easy to get wrong: a block in use may hold an object that is no longer used. Its place and its name still count here,
-//! though its fields mean nothing.
+//! Easy to get wrong: a block in use may hold an object no longer used: its place and name count, its fields mean nothing.
 #![tactic(auto)]
 
 pub mod laws;

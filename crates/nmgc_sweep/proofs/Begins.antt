@@ -1,5 +1,5 @@
 -- A sweeper when its cycle begins, is closed and ends.
-use Rattle.nmgc_sweep.proofs.Vocabulary.{ℕ, ◌≡◌, ◌≢◌, ◌⊎◌, ◌↔◌, ◌+◌, ◌*◌, ◌<◌, ◌≤◌, ◌∙◌, inl, inr, refl, sym, ap, subst, arith, List, [], ◌∷◌, length, set, cond, sum_by, Option, Some, None, Contains, count_by, get_or-eq_default, cases_lt, sum_by-set, Name, contains_head, contains_tail, contains_cases, Layout, MIN_BLOCK_WORDS, Segment, free_segment, State, Free, Current, Active, Filled, Sweeping, nth, is, Segments, IsWaiting, prepared_state, AllocState, Cells, IsIn, NoneIs, Exists, cells, cycle_begun, StandsFor, begun_cells, sweeping_none, counts_stand, nth-set_same, nth-set_other, used_exists, IsSweptIn, IsHadIn, IsFreedIn, Cycle, ListsNumbers, IsWithoutDoubles, StartIsNoted, LeftStays, ClosingBeginsWork, EndShowsCensus, LeftIsCounted, lists_in_order}
+use Rattle.nmgc_sweep.proofs.Vocabulary.{ℕ, ◌≡◌, ◌≢◌, ◌⊎◌, ◌↔◌, ◌+◌, ◌*◌, ◌<◌, ◌≤◌, ◌∙◌, inl, inr, refl, sym, ap, subst, arith, List, [], ◌∷◌, length, set, cond, sum_by, Option, Some, None, Contains, count_by, get_or-eq_default, cases_lt, sum_by-set, Name, contains_head, contains_tail, contains_cases, Layout, MIN_BLOCK_WORDS, Segment, free_segment, State, Free, Current, Active, Filled, Sweeping, nth, is, Segments, IsWaiting, prepared_state, AllocState, Cells, IsIn, NoneIs, Exists, cells, cycle_begun, StandsFor, begun_cells, sweeping_none, counts_stand, nth-set_same, nth-set_other, used_exists, IsSweptIn, IsHadIn, IsFreedIn, Cycle, ListsNumbers, IsWithoutDoubles, StartNotesSegments, LeftStays, ClosingBeginsWork, EndShowsCensus, LeftIsCounted, lists_in_order}
 use Rattle.nmgc_sweep.proofs.Lists.{ascends_first, ascends_rest, once_distinct}
 
 -- a waiting segment has its number
@@ -44,8 +44,8 @@ swept_waits c none n =
           elim was [ inl filled ↦ (there, filled) | inr waits ↦ absurd (none n there waits) ]),
     )
 
-pub start_is_noted : StartIsNoted
-start_is_noted c words segments epoch sweeper stands none once e h =
+pub start_notes_segments : StartNotesSegments
+start_notes_segments c words segments epoch sweeper stands none once e h =
     let waits_swept : (n : ℕ) → IsWaiting segments n ↔ IsSweptIn c n = λ n.
     let there = waits_there segments words (cycle_begun c.heap) stands n in
     let was = swept_waits c none n in
@@ -130,10 +130,10 @@ abbrev waits_one : Segment → ℕ
 waits_one s = cond (is s.state Sweeping) 1 0
 
 -- the number of waiting segments is the number listed
-pub add_passes : (s : Segments) (left : List ℕ) (xs : List Segment) → ListsNumbers (λ n. (nth xs n).state ≡ Sweeping) left →
+pub waiting_counted : (s : Segments) (left : List ℕ) (xs : List Segment) → ListsNumbers (λ n. (nth xs n).state ≡ Sweeping) left →
     count_by (λ (t : Segment). is t.state Sweeping) xs ≡ length left
-add_passes s [] xs h = sweeping_none (record s { segments = xs }) (λ i low is. let c = h.complete i is in omega (arith, c.1))
-add_passes s (n ∷ rest) xs h =
+waiting_counted s [] xs h = sweeping_none (record s { segments = xs }) (λ i low is. let c = h.complete i is in omega (arith, c.1))
+waiting_counted s (n ∷ rest) xs h =
     let waits : (nth xs n).state ≡ Sweeping = h.sound n (contains_head n rest) in
     let there : n < length xs = waits_exists xs n waits in
     let ys = set xs n (free_segment 0) in
@@ -152,7 +152,7 @@ add_passes s (n ∷ rest) xs h =
             | inr r ↦ r
           ];
     } in
-    let all : count_by (λ (t : Segment). is t.state Sweeping) ys ≡ length rest = add_passes s rest ys lists in
+    let all : count_by (λ (t : Segment). is t.state Sweeping) ys ≡ length rest = waiting_counted s rest ys lists in
     let change : sum_by waits_one ys + waits_one (nth xs n) ≡ sum_by waits_one xs + 0 = sum_by-set waits_one xs n (free_segment 0) (free_segment 0) there in
     let one : waits_one (nth xs n) ≡ 1 = ap (λ (state : State). cond (is state Sweeping) 1 0) waits in
     let same : sum_by waits_one ys ≡ length rest = all in
@@ -161,4 +161,4 @@ add_passes s (n ∷ rest) xs h =
 
 pub left_is_counted : LeftIsCounted
 left_is_counted words a segments sweeper stands h = sym (counts_stand segments words a Sweeping stands) ∙
-    add_passes segments sweeper.left segments.segments h.numbers
+    waiting_counted segments sweeper.left segments.segments h.numbers

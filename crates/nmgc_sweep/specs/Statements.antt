@@ -10,8 +10,8 @@ use Rattle.nmgc_sweep.specs.{Sweeping.AreKeptMarked, Seen.CycleSeen, Sweeper.Swe
 use Rattle.nmgc_name_lists.specs.Order.{in_order}
 
 -- the law that a sweeper that starts when a cycle begins is the cycle's sweeper
-abbrev pub StartIsNoted : Type 0
-StartIsNoted = (c : Cycle) (words : List ℕ) (segments : Segments) (epoch : ℕ) (sweeper : Sweeper) → StandsFor segments words (cycle_begun c.heap) →
+abbrev pub StartNotesSegments : Type 0
+StartNotesSegments = (c : Cycle) (words : List ℕ) (segments : Segments) (epoch : ℕ) (sweeper : Sweeper) → StandsFor segments words (cycle_begun c.heap) →
     NoneIs (IsIn stands.Sweeping) c.heap → LieOnce c.heap → epoch ≡ epoch_of c.number → HasBegun segments epoch sweeper → HasNotes c sweeper
 
 -- the law that a sweeper's segments are still exactly the waiting segments, as long as the same segments wait
@@ -47,7 +47,7 @@ abbrev pub EndShowsCensus : Type 0
 EndShowsCensus = (c : Cycle) (closed : ℕ) (words : List ℕ) (a : AllocState) (segments : Segments) (cycle : CycleSeen) (sweeper : Sweeper) →
     IsAtWork c closed words a segments cycle sweeper → NoneIs (IsIn stands.Sweeping) a → ShowsCensus c sweeper
 
--- the law that as many segments wait as the sweeper has left
+-- the law that the number of waiting segments is the number of segments that the sweeper has left
 abbrev pub LeftIsCounted : Type 0
 LeftIsCounted = (words : List ℕ) (a : AllocState) (segments : Segments) (sweeper : Sweeper) → StandsFor segments words a →
     AreLeft segments sweeper → count_in stands.Sweeping a ≡ length sweeper.left

@@ -7,8 +7,7 @@ use Rattle.nmgc_sweep.specs.{Sweeping.HasNoted, Seen.SweeperSeen}
 use Rattle.nmgc_stop_spec.specs.Cycle.{Cycle}
 
 -- a sweeper: the view that any collector's sweeper has, the segments that it hasn't swept, in order, and the number of names
--- that it has room for, for each segment. Two counts say how often the collector passed the gate in the whole run, for the
--- upper halves of its sweeps and for all else
+-- that it has room for in each. Two counts of the gate's passes in the whole run: by upper halves of sweeps, and by all else
 pub record Sweeper : Type 0 where
   pub seen : SweeperSeen
   pub left : List ℕ

@@ -16,7 +16,7 @@ pub record HasNoted (c : Cycle) (sweeper : SweeperSeen) : Type 0 where
   pub epoch : sweeper.epoch ≡ epoch_of c.number
   pub swept : ListsNumbers (IsSweptIn c) sweeper.swept
 
--- the sweeper has listed no name, as before its cycle is closed
+-- a sweeper that has listed no name, as before its cycle is closed
 abbrev pub HasListedNothing : SweeperSeen → Type 0
 HasListedNothing sweeper = (sweeper.had ≡ []) × (sweeper.freed ≡ [])
 

@@ -13,7 +13,7 @@ use nmgc_alloc::Segments;
 use nmgc_name_lists::NameRoom;
 use nmgc_object::{Address, block_words};
 
-/// Lists the names of a waiting segment's blocks in use in `had`, and the names of those not marked with the epoch in
+/// Adds the names of all blocks in use of a waiting segment to `had`, and the names of those not marked with the epoch to
 /// `freed`. Both lists need room for all blocks that a segment may have. Takes time proportional to the segment's blocks.
 pub(crate) fn list_segment(
     names: &NameTable,

@@ -6,14 +6,14 @@
 //! thread. No sweep touches the marks of another segment.
 //!
 //! Room for all names is taken at the start, so that sweeping beside the mutators takes no memory. Reserved memory isn't
-//! touched, and the start takes time only for the number of segments. The room suffices even if no name follows on another.
-//! Mostly names do follow, and the lists are a few spans (`nmgc_name_lists`).
+//! touched, and the start takes time only for the number of segments. The room suffices even if no two names are consecutive.
+//! Mostly they are, and the lists are a few spans (`nmgc_name_lists`).
 //!
 //! Each half passes the gate under its own number, so the sweeper has two counts. The lower half continues the marker's
 //! count. The upper half continues the count of the upper halves before it.
 //!
-//! Easy to get wrong: the had and freed names are in order of blocks, and several makers' segments alternate. So the
-//! sweeper's lists aren't in order of names; a cycle's row in a report is.
+//! Easy to get wrong: the names had and freed are in the order of their blocks, and several makers' segments alternate. So
+//! the sweeper's lists aren't in order of names; a cycle's row in a report is.
 ghost use Rattle.std.specs.Prelude.{ℕ, ◌≡◌, ◌≢◌, ◌-◌, ◌/◌, ◌<◌, ◌≤◌, [], length, min, IsTrue, IfOk, ◌↔◌};
 ghost use Rattle.nmgc_segment.specs.Marks.{IsEpoch};
 ghost use Rattle.nmgc_alloc.specs.{Halves.IsInHalf, Segments.IsWaiting};
@@ -58,12 +58,12 @@ pub struct Census {
 /// each, and how often the gate was passed.
 #[derive(Drop)]
 pub struct Sweeper {
-    /// How often the collector passed the gate as `MAKERS` in the whole run. It stays at 2^64 - 1.
+    /// How often the collector passed the gate as `MAKERS` in the whole run. The count stops at 2^64 - 1.
     pub turns: u64,
-    /// How often the upper halves of its sweeps passed the gate, as `MAKERS + 1`. It stays at 2^64 - 1.
+    /// How often the upper halves of its sweeps passed the gate, as `MAKERS + 1`. The count stops at 2^64 - 1.
     pub upper_turns: u64,
     epoch: u8,
-    swept: Vec<u32>,
+    noted: Vec<u32>,
     done: usize,
     most: u32,
     had: NameRoom,
@@ -78,18 +78,18 @@ impl Model for Sweeper {
     ghost Value = { Shown };
 
     ghost view = { λ s. record {
-      seen = record { epoch = s.epoch; swept = s.swept.items; had = s.had.names; freed = s.freed.names };
-      left = drop s.done s.swept.items;
+      seen = record { epoch = s.epoch; swept = s.noted.items; had = s.had.names; freed = s.freed.names };
+      left = drop s.done s.noted.items;
       most = s.most;
       turns = s.turns;
       upper_turns = s.upper_turns;
     } };
 
-    ghost invariant = { λ s. IsEpoch s.epoch × (s.done ≤ length s.swept.items) × ((length s.swept.items - s.done) * s.most ≤ s.had.spare) × ((length s.swept.items - s.done) * s.most ≤ s.freed.spare) };
+    ghost invariant = { λ s. IsEpoch s.epoch × (s.done ≤ length s.noted.items) × ((length s.noted.items - s.done) * s.most ≤ s.had.spare) × ((length s.noted.items - s.done) * s.most ≤ s.freed.spare) };
 }
 
 // Returns the numbers of the waiting segments, in order.
-fn waiting(alloc: Global, segments: &Segments) -> Result<Vec<u32>, NoMemory>
+fn waiting_segments(alloc: Global, segments: &Segments) -> Result<Vec<u32>, NoMemory>
     ensures { IfOk result (λ numbers. ListsNumbers (IsWaiting segments.now) numbers.items) }
 {
     let mut numbers = Vec::new(alloc);
@@ -101,7 +101,7 @@ fn waiting(alloc: Global, segments: &Segments) -> Result<Vec<u32>, NoMemory>
     Ok(numbers)
 }
 
-// Returns the count of the gate's passes after `passes` further passes.
+// Returns the count of the gate's passes after `passes` further passes. The count stops at 2^64 - 1.
 fn add_passes(turns: u64, passes: u32) -> u64
     ensures { result ≡ passed turns passes }
 {
@@ -110,25 +110,25 @@ fn add_passes(turns: u64, passes: u32) -> u64
 
 impl Sweeper {
     /// Makes the sweeper of a cycle that begins, just after `Segments::prepare`: it notes the segments to be swept. It takes
-    /// room for their names and for the names that will be freed, which is the only memory that a sweeper takes. Its `turns`
-    /// and `upper_turns` are 0. Takes time proportional to the number of segments.
+    /// room for their names and for the names that will be freed. A sweeper needs no further memory. Its `turns` and
+    /// `upper_turns` are 0. Takes time proportional to the number of segments.
     pub fn start(alloc: Global, segments: &Segments, epoch: u8) -> Result<Sweeper, NoMemory>
         requires epoch { IsEpoch epoch }
         ensures begun { IfOk result (λ sweeper. HasBegun segments.now epoch sweeper) }
         ensures turns { IfOk result (λ sweeper. sweeper.turns ≡ 0) }
         ensures upper_turns { IfOk result (λ sweeper. sweeper.upper_turns ≡ 0) }
     {
-        let swept = waiting(alloc, segments)?;
+        let noted = waiting_segments(alloc, segments)?;
         let most = segments.layout().words / MIN_BLOCK_WORDS;
         // No heap is so large that this fails.
-        let Some(names) = swept.len().checked_mul(most as usize) else {
+        let Some(names) = noted.len().checked_mul(most as usize) else {
             return Err(NoMemory);
         };
         Ok(Sweeper {
             turns: 0,
             upper_turns: 0,
             epoch,
-            swept,
+            noted,
             done: 0,
             most,
             had: NameRoom::with_room(alloc, names)?,
@@ -136,11 +136,11 @@ impl Sweeper {
         })
     }
 
-    /// Returns the numbers of the segments noted at the snapshot, in order. Takes no memory: only `start` does.
+    /// Returns the numbers of the segments noted at the snapshot, in order. Takes no memory.
     pub fn swept(&self) -> &[u32]
         ensures { result.now ≡ self.now.seen.swept }
     {
-        self.swept.as_slice()
+        self.noted.as_slice()
     }
 
     /// Returns the names of blocks that were in use at the snapshot, in the segments swept so far. They are in no order.
@@ -157,7 +157,9 @@ impl Sweeper {
         self.freed.spans()
     }
 
-    /// Turns the sweeper into its part of the census: its segments and listed names, without spare room. Takes no memory.
+    /// Turns the sweeper into its part of the census: the segments noted at the snapshot, the names listed in the segments
+    /// that it swept, and the freed names among them. The spare room of both lists of names is given back. Needs no memory;
+    /// takes some, if there is any, to copy short lists.
     pub fn into_census(self) -> Census
         ensures swept { result.swept.items ≡ self.seen.swept }
         ensures had { result.had ≡ self.seen.had }
@@ -167,7 +169,7 @@ impl Sweeper {
             turns: _,
             upper_turns: _,
             epoch: _,
-            swept,
+            noted: swept,
             done: _,
             most: _,
             had,
@@ -179,10 +181,10 @@ impl Sweeper {
     }
 
     // Whether any segment is left to sweep.
-    fn has_left(&self) -> bool
+    fn is_work_left(&self) -> bool
         ensures { IsTrue result ↔ (self.now.left ≢ []) }
     {
-        self.done < self.swept.len()
+        self.done < self.noted.len()
     }
 
     // Lists the names in the first unswept segment, and the names that a sweep of it frees.
@@ -192,7 +194,7 @@ impl Sweeper {
         requires entries { HaveEntries segments.now.layout names.now }
         ensures { HasListed segments.now names.now self.old self.new }
     {
-        let number = self.swept[self.done];
+        let number = self.noted[self.done];
         list_segment(
             names,
             segments,
@@ -241,10 +243,10 @@ impl Sweeper {
 
     /// Sweeps at most `quota` segments beside the mutators, after the cycle is closed, and returns their number and whether
     /// none is left. It sweeps the waiting segments of least number, in two halves, each in its own thread. For a single
-    /// segment no thread starts. The gate is passed before each sweep, as `MAKERS` in the lower half, which has one segment
-    /// more if the number is odd, and as `MAKERS + 1` in the upper half. The clauses `turns` and `upper_turns` give the
-    /// counts. If `names` has the names of blocks, the names in these segments are listed before, and the freed names. For
-    /// any marks, the freed names are exactly the names of the segments' blocks in use that aren't marked with the epoch.
+    /// segment no thread starts. Before each sweep the gate is passed, as `MAKERS` in the lower half and as `MAKERS + 1` in
+    /// the upper half. If the number is odd, the lower half has one segment more. The clauses `turns` and `upper_turns` give
+    /// the counts. If `names` has the names of blocks, the names in these segments are listed before, and the freed names.
+    /// For any marks, the freed names are exactly the names of the segments' blocks in use that aren't marked with the epoch.
     ///
     /// `swept` is the lesser of `quota` and the number of waiting segments. `finished` is true exactly if none is left. The
     /// waiting segments are those that this sweeper noted and hasn't swept. Takes no memory, and waits only at the gate.
@@ -282,7 +284,7 @@ impl Sweeper {
         self.upper_turns = add_passes(upper, swept / 2);
         SweepWork {
             swept,
-            finished: !self.has_left(),
+            finished: !self.is_work_left(),
         }
     }
 

@@ -1,5 +1,4 @@
--- The finalisers of the dying are marked, with all that is reachable from them: then the machine has closed, except for the
--- words.
+-- The finalisers of the dying are marked, with all reachable from them: then the machine has closed, except for the words.
 use Rattle.nmgc_weak.proofs.Vocabulary.{◌≡◌, ◌<◌, ◌+◌, ℕ, Bool, true, cond, List, [], ◌∷◌, ◌++◌, length, refl, sym, ap, subst, ◌∙◌, append_assoc, ◌≤◌, arith, Option, Some, None, inl, inr, Contains, IsSome, slice_get, slice_index, cases_lt, Contains-append_left, Contains-push_cases, Name, Value, Weak, Parts, node_of, IsAlive, IsKept, IsDead, Lists, RefersTo, closed, contains_head, contains_tail, contains_cases, get_is_some, contains_at, weak_maker, not_shared, InSegment, IsWaiting, Facts, State, entry_of, with_mark, mark_name, part_there, Segments, Place, Means, Marks, marks_of, name_meant, with_name, IsQueued, now, Opening, MarkerSeen, IsReady, HasFinished, IsTied, AreQueued, OldWeak, CanResolve, IsLost, CanRescue, HasRescued, place_at, places_of, names_of, finaliser_place, one_parts, of_place}
 use Rattle.nmgc_lists.specs.laws.Items.{place_of}
 use Rattle.nmgc_snapshot_laws.specs.declared.event.Entry.{Entry}

@@ -8,8 +8,7 @@ use Rattle.nmgc_round.specs.View.{Opening}
 use Rattle.nmgc_weak.specs.{Queues.weak_count, Queues.HaveRoom, Queues.AllJoin, declared.weaks.Death.Death, declared.weaks.OldWeak.OldWeak, Resolve.CanResolve, Resolve.AreDeaths, Resolve.HasResolved, Weaks.places_of, Weaks.alive_of}
 use Rattle.nmgc_mark.specs.Seen.{MarkerSeen}
 
--- the law that each queue has room for the finalisers of its mutator's deaths, if it has room for the mutator's listed weak
--- pointers of the snapshot
+-- the law that a queue with room for its mutator's listed weak pointers of the snapshot has room for the deaths' finalisers
 abbrev pub DeathsHaveRoom : Type 0
 DeathsHaveRoom = (o : Opening) (words before : List ℕ) (s t : Segments) (marker after : MarkerSeen) (weaks : List Place) (list : List OldWeak)
     (deaths : List Death) (queues : List FinQueue) → CanResolve o before s marker weaks → HasResolved o words t after list deaths →

@@ -28,7 +28,7 @@ abbrev pub AllJoin : List Death → List FinQueue → List FinQueue → Type 0
 AllJoin deaths old new = (length new ≡ length old) × ((maker : ℕ) (before : FinQueue) → slice_get old maker ≡ Some before → (after : FinQueue) ×
     (slice_get new maker ≡ Some after) × Joins before after (joined maker deaths))
 
--- the mutators after the deaths: their queues have the finalisers of their deaths, and nothing else of a mutator changed
+-- the mutators after the deaths: their queues have the finalisers of their deaths, and no other part of a mutator changed
 pub record HaveJoined {M : Type 0} (queue : M → FinQueue) (with_queue : M → FinQueue → M) (deaths : List Death) (old new : List M) : Type 0 where
   pub joined : AllJoin deaths (map queue old) (map queue new)
   pub rest : (maker : ℕ) (before : M) → slice_get old maker ≡ Some before → (own : FinQueue) × (slice_get new maker ≡ Some (with_queue before own))

@@ -5,7 +5,8 @@ use Rattle.nmgc_object.specs.declared.size.TheConstants.{HEADER_WORDS}
 use Rattle.nmgc_heap_spec.specs.Places.{Place}
 use Rattle.nmgc_weak.specs.{declared.weaks.OldWeak.OldWeak, declared.weaks.Death.Death}
 
--- the list in contracts: its weak pointers with addresses, in order of names, the room for further ones, and the last deaths
+-- the list in contracts: its weak pointers with addresses, in order of names, the room for further ones, and the last deaths.
+-- With addresses the same statement serves stops and rounds; a report has the names alone
 pub record Weaks : Type 0 where
   pub list : List OldWeak
   pub spare : ℕ

@@ -3,15 +3,14 @@
 //! Each function here does nothing. Its contract is the law, over the clauses of this crate's calls.
 ghost use Rattle.nmgc_weak.specs.Closes.{DeathsHaveRoom, QueuesClose, LeavingLists};
 
-/// Proves that a closing's finalisers fit their queues, and that the result is right. If each queue has room for its
-/// mutator's listed weak pointers of the snapshot, it has room for the finalisers of the deaths. Once these have joined,
-/// registers, queues and serials represent the closed world.
+/// Proves that the finalisers of a closing's deaths fit the queues, and that registers, queues and serials represent the
+/// closed world once these finalisers have joined. Each queue needs room for its mutator's weak pointers of the snapshot.
 pub fn queues_close()
     ensures room { DeathsHaveRoom }
     ensures closed { QueuesClose }
 {}
 
-/// Proves that after a round, once the dead have left, the list has exactly the live weak pointers that have a block.
+/// Proves that once the dead have left after a round, the list has exactly the weak pointers that are alive and have a block.
 pub fn the_list_is_left()
     ensures { LeavingLists }
 {}

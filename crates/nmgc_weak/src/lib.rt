@@ -1,10 +1,9 @@
 //! Weak pointers at a stop: their list, their deaths when a cycle closes, and their finalisers.
 //!
 //! Each weak pointer that is alive and has a block is in a list, with its address, in order of names (`weaks`). The list is
-//! stored in a row for each maker (`row`). At each stop new weak pointers join the list, and weak pointers that were
-//! finalised in the round leave it. When a cycle closes, `Weaks::resolve` finds which weak pointers of the snapshot keep
-//! their values and finalisers, since their keys are live, and which die (`resolve`). The finalisers of the dying join their
-//! makers' queues (`queues`).
+//! stored in a row for each maker (`row`). At each stop new weak pointers join the list, and finalised weak pointers leave
+//! it. When a cycle closes, `Weaks::resolve` finds which weak pointers of the snapshot keep their values and finalisers,
+//! since their keys are live, and which die. The finalisers of the dying join their makers' queues (`queues`).
 //!
 //! The promise is that the closing is the marking machine's (`specs/Resolve.antt`). Exactly the objects that the cycle keeps
 //! are marked, the deaths are exactly the dead weak pointers, and words and list represent the closed world. `laws` says this

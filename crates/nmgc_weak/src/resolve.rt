@@ -100,7 +100,7 @@ fn is_lost<W: HeapWords>(marker: &Marker, words: &mut W, segments: &Segments, at
     is_of_snapshot(segments, at) && !key_marked
 }
 
-// Marks a weak pointer, whose block is given, its value and its finaliser, and all that is reachable from these.
+// Marks the weak pointer in the block at `at`, its value, its finaliser, and all that is reachable from these.
 fn keep<W: HeapWords>(
     marker: &mut Marker,
     words: &mut W,
@@ -128,7 +128,7 @@ fn keep<W: HeapWords>(
     marker.finish(words, segments);
 }
 
-// Keeps the parts of a weak pointer if it is in the snapshot and its key is marked. Otherwise nothing changes.
+// Marks a weak pointer with its parts, if it is in the snapshot and its key is marked. Otherwise nothing changes.
 fn keep_if_key_marked<W: HeapWords>(
     marker: &mut Marker,
     words: &mut W,
@@ -153,7 +153,7 @@ fn keep_if_key_marked<W: HeapWords>(
     keep(marker, words, segments, weak.at, number, block);
 }
 
-// Goes through the list once, and keeps the parts of each weak pointer of the snapshot whose key is marked.
+// Goes through the list once, and marks the parts of each weak pointer that is in the snapshot and has a marked key.
 fn pass<W: HeapWords>(list: &[OldWeak], marker: &mut Marker, words: &mut W, segments: &mut Segments)
     requires room { HasRoomToMark segments.old marker.old }
     requires within { AreWithin (W.words words.old) list.now }
@@ -169,7 +169,7 @@ fn pass<W: HeapWords>(list: &[OldWeak], marker: &mut Marker, words: &mut W, segm
     }
 }
 
-// Goes through the list until a pass marks nothing: each weak pointer of the snapshot with a marked key has marked parts.
+// Goes through the list until a pass marks nothing. Then all the snapshot's weak pointers with marked keys have marked parts.
 fn pass_until_none<W: HeapWords>(
     list: &[OldWeak],
     marker: &mut Marker,
@@ -201,7 +201,7 @@ pub(crate) struct Waiter {
     place: usize,
 }
 
-// Returns the address to which a weak pointer's key points, or `None` if it is no pointer. No clause is about the answer.
+// Returns the address to which a weak pointer's key points, `None` if the key is no pointer. No clause is about the answer.
 fn key_of<W: HeapWords>(words: &mut W, at: Address) -> Option<u32>
     requires { IsWithin (W.words words.old) at.0 }
     ensures { W.words words.new ≡ W.words words.old }
@@ -210,7 +210,7 @@ fn key_of<W: HeapWords>(words: &mut W, at: Address) -> Option<u32>
     u32::try_from(FieldWord(key).place()?).ok()
 }
 
-// Files a weak pointer with its position in `waiting`, which has room, if it is in the snapshot and its key isn't marked.
+// If a weak pointer of the snapshot has no marked key, files its key and its position in `waiting`, which has room for it.
 fn file_one<W: HeapWords>(
     weak: OldWeak,
     place: usize,
@@ -234,7 +234,7 @@ fn file_one<W: HeapWords>(
     waiting.push_reserved(Waiter { key, place });
 }
 
-// Files the snapshot's weak pointers without a marked key in `waiting`, in order of keys. No clause says which they are.
+// Files in `waiting`, in order of keys, the snapshot's weak pointers that have no marked key. No clause says which are filed.
 fn file_waiting<W: HeapWords>(
     list: &[OldWeak],
     waiting: &mut Vec<Waiter>,
@@ -254,7 +254,7 @@ fn file_waiting<W: HeapWords>(
     waiting.sort_unstable_by_key(|waiter| waiter.key);
 }
 
-// Returns the position in `waiting` of the first weak pointer that waits for this key. No clause is about the answer.
+// Returns the position of the first entry of `waiting` whose key is at least `key`. No clause is about the answer.
 fn first_with(waiting: &[Waiter], key: u32) -> usize {
     let mut low = 0;
     let mut high = waiting.len();
@@ -269,7 +269,7 @@ fn first_with(waiting: &[Waiter], key: u32) -> usize {
     low
 }
 
-// Keeps the parts of the weak pointer at a position of the list, if the position exists and the key is marked.
+// If the list has, at this position, a weak pointer of the snapshot with a marked key, marks the parts of that weak pointer.
 fn keep_at<W: HeapWords>(
     list: &[OldWeak],
     place: usize,
@@ -291,7 +291,7 @@ fn keep_at<W: HeapWords>(
     keep_if_key_marked(marker, words, segments, list[place]);
 }
 
-// Keeps the parts of the weak pointers that wait for the object at address `key`, if it is marked.
+// If the object at address `key` is marked, marks the parts of the weak pointers that wait for this object.
 fn keep_waiting<W: HeapWords>(
     list: &[OldWeak],
     waiting: &[Waiter],
@@ -315,7 +315,7 @@ fn keep_waiting<W: HeapWords>(
     }
 }
 
-// Keeps the parts of weak pointers that wait for blocks marked after the first `from`, including blocks that this call marks.
+// Marks the parts of weak pointers that wait for a block marked after the first `from`, even if this call marks the block.
 fn follow_marks<W: HeapWords>(
     list: &[OldWeak],
     waiting: &[Waiter],
@@ -339,8 +339,8 @@ fn follow_marks<W: HeapWords>(
     }
 }
 
-// Keeps the parts of weak pointers whose keys are marked, and then of weak pointers whose keys this marks, and so on. Later
-// passes find all that this call leaves: no clause says that it leaves nothing.
+// Marks the parts of weak pointers with marked keys, then the parts of weak pointers whose keys became marked, and so on. No
+// clause says that none is left: later passes find the rest.
 fn keep_ahead<W: HeapWords>(
     list: &[OldWeak],
     waiting: &mut Vec<Waiter>,
@@ -365,8 +365,8 @@ fn keep_ahead<W: HeapWords>(
     follow_marks(list, waiting.as_slice(), from, marker, words, segments);
 }
 
-/// Marks the parts of each weak pointer of the snapshot whose key is marked, and repeats this until no further key becomes
-/// marked. In `waiting`, which is empty and has room for the list, it files the weak pointers that wait.
+/// Marks the parts of each listed weak pointer that is in the snapshot and has a marked key, until no further key becomes
+/// marked. The weak pointers that wait for keys are filed in `waiting`, which is empty before and has room.
 pub(crate) fn revive<W: HeapWords>(
     list: &[OldWeak],
     waiting: &mut Vec<Waiter>,
@@ -390,7 +390,7 @@ pub(crate) fn revive<W: HeapWords>(
     pass_until_none(list, marker, words, segments);
 }
 
-/// Appends the dying weak pointers to `dying`: weak pointers of the snapshot whose keys aren't marked.
+/// Fills `dying`, which is empty, with the listed weak pointers that are in the snapshot and have no marked key, in order.
 pub(crate) fn find_dying<W: HeapWords>(
     list: &[OldWeak],
     dying: &mut Vec<OldWeak>,
@@ -415,7 +415,7 @@ pub(crate) fn find_dying<W: HeapWords>(
     }
 }
 
-/// Lists the deaths with the finalisers of the dying, and marks these finalisers with all that is reachable from them.
+/// Lists each dying weak pointer and its finaliser in `deaths`, and marks the finalisers and all that is reachable from them.
 pub(crate) fn save_finalisers<W: HeapWords>(
     dying: &[OldWeak],
     deaths: &mut Vec<Death>,
@@ -448,7 +448,7 @@ pub(crate) fn save_finalisers<W: HeapWords>(
     marker.finish(words, segments);
 }
 
-/// Sets the value words of the dying to 0, and changes no other word.
+/// Sets the value words of the dying weak pointers to 0, and changes no other word.
 pub(crate) fn clear_values<W: HeapWords>(dying: &[OldWeak], words: &mut W)
     requires { AreWithin (W.words words.old) dying.now }
     ensures { W.words words.new ≡ without_values (W.words words.old) dying.now }

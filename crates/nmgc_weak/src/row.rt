@@ -1,8 +1,8 @@
 //! A row of the list: the weak pointers of a maker, in order of their serials.
 //!
 //! A maker's names only grow, so a new weak pointer joins at the row's end. A row is in order, so binary search finds a
-//! leaving weak pointer, in a logarithm. Nothing moves then: the entry is only flagged as left. Once more than half of a row
-//! has left, the rest moves together, and the leaving weak pointers pay for it.
+//! leaving weak pointer, in logarithmic time. Nothing moves then: the entry is only flagged as left. Once more than half of a
+//! row has left, the rest moves together, and the leaving weak pointers pay for it.
 //!
 //! Easy to get wrong: an entry that left still counts in the order, and its name may join again.
 ghost use Rattle.std.specs.Prelude.{ℕ, ◌≡◌, ◌≢◌, ◌⊎◌, ◌↔◌, ◌+◌, ◌<◌, ◌≤◌, [], ◌++◌, length, slice_get, Some, vec_len, vec_capacity, Contains, IfSome, IfNone, OnOk};
@@ -28,7 +28,7 @@ pub(crate) struct Entry {
 #[derive(Drop)]
 pub(crate) struct Row {
     entries: Vec<Entry>,
-    // A bound of the number of entries that left.
+    // An upper bound on the number of entries that left.
     gone: usize,
 }
 
@@ -69,7 +69,7 @@ fn find(entries: &[Entry], weak: Name) -> Option<usize>
     None
 }
 
-// Returns the position after the last entry that isn't after `weak` in the order of names. Searches from the end.
+// Returns the least position from which on all entries come after `weak` in the order of names. Searches from the end.
 fn place_from_end(entries: &[Entry], weak: Name) -> usize
     ensures within { result ≤ length entries.now }
     ensures after { (j : ℕ) (entry : Kept) → slice_get entries.now j ≡ Some entry → result ≤ j → IsBefore weak entry.weak.weak }
@@ -108,8 +108,8 @@ impl Row {
         Ok(())
     }
 
-    /// Adds a weak pointer at its position in the order. There has to be room for it, and its name isn't in the list. Takes
-    /// no memory, and time for the names that come after it.
+    /// Adds a weak pointer at its position in the order. There has to be room for it, and the list may not have its name yet.
+    /// Takes no memory, and time for the names that come after it.
     pub(crate) fn add(&mut self, weak: Name, at: Address)
         requires room { 0 < self.old.spare }
         requires new { (other : Old) → Contains self.old.list other → other.weak ≢ weak }
@@ -137,8 +137,8 @@ impl Row {
         }
     }
 
-    /// Takes the weak pointer `weak` out of the list, if the list has it with the address `at`. Takes no memory, and a
-    /// logarithm of time, or time for the row if more than half of the row has left.
+    /// Takes the weak pointer `weak` out of the list, if the list has it with the address `at`. Takes no memory, and
+    /// logarithmic time, or time for the whole row if more than half of the row has left.
     pub(crate) fn leave(&mut self, weak: Name, at: Address)
         ensures list { self.new.list ≡ without (record { weak = weak; at = at }) self.old.list }
         ensures ordered { IsInOrder (names_of self.new.list) }
@@ -175,7 +175,7 @@ impl Row {
         ensures ordered { IsInOrder (names_of self.new.list) }
         ensures spare { self.old.spare ≤ self.new.spare }
     {
-        mark_dead(self.entries.as_mut_slice(), words);
+        flag_dead(self.entries.as_mut_slice(), words);
         self.drop_left_entries();
     }
 
@@ -201,7 +201,7 @@ impl Row {
 }
 
 // Flags the entries with value word 0 as left.
-fn mark_dead<W: HeapWords>(entries: &mut [Entry], words: &mut W)
+fn flag_dead<W: HeapWords>(entries: &mut [Entry], words: &mut W)
     requires { AreInside (W.words words.old) (listed entries.old) }
     ensures words { W.words words.new ≡ W.words words.old }
     ensures listed { listed entries.new ≡ alive_of (W.words words.old) (listed entries.old) }

@@ -1,11 +1,11 @@
 //! The list of weak pointers that have a block, and its changes at a stop.
 //!
 //! At every stop the list has exactly the weak pointers that are alive and have a block, with their addresses, in order of
-//! names. So a closing finds them without a look at segments, and deaths come in the order in which finalisers are queued.
+//! names. So a closing finds them without looking at segments, and deaths come in the order in which finalisers are queued.
 //!
-//! The list is stored in rows, one for each maker (`row`). A maker's names only grow, so new weak pointers join at the ends
-//! of rows, and binary search finds the leaving ones. A stop takes time for weak pointers that join and leave, and for a row
-//! only once more than half of it has left. Only a closing, which looks at each anyway, and the report go through the list.
+//! The list is stored in rows, one for each maker (`row`). A maker's names only grow, so weak pointers join at the ends of
+//! rows, and binary search finds them when they leave. A stop takes time for weak pointers that join and leave, and for a row
+//! only once more than half of it has left. Only a closing, which judges each, and the report go through the list.
 //!
 //! A stop may not run out of memory half way. So room for new weak pointers, and for a death of each, is made before. Since
 //! any row may be joined next, each row has the whole of that room. Beside the rows there are five lists: the list in one
@@ -55,7 +55,7 @@ pub struct Death {
 pub struct Weaks {
     // The rows, by maker.
     rows: Vec<Row>,
-    // The room for further weak pointers, and a number that the length of the list doesn't exceed.
+    // The room for further weak pointers, and an upper bound on the length of the list.
     room: usize,
     most: usize,
     list: Vec<OldWeak>,
@@ -144,7 +144,7 @@ fn list_rows(rows: &[Row], all: &mut Vec<OldWeak>)
 }
 
 // Takes the weak pointers with value word 0 out of the rows.
-fn dead_leave<W: HeapWords>(rows: &mut [Row], words: &mut W)
+fn leave_dead<W: HeapWords>(rows: &mut [Row], words: &mut W)
     requires { AreInside (W.words words.old) (list_of rows.old) }
     ensures words { W.words words.new ≡ W.words words.old }
     ensures count { length rows.new ≡ length rows.old }
@@ -175,8 +175,8 @@ impl Weaks {
         }
     }
 
-    /// Makes room for at least `more` further weak pointers, and for a death of each weak pointer that there is room for. The
-    /// list and the deaths stay, and room is never lost. After `NoMemory` nothing changed.
+    /// Makes room for at least `more` further weak pointers, and for a death of each weak pointer that the list may then
+    /// have. List and deaths stay, and room is never lost. After `NoMemory` nothing changed.
     pub fn reserve(&mut self, more: u32) -> Result<(), NoMemory>
         ensures list { self.new.list ≡ self.old.list }
         ensures deaths { self.new.deaths ≡ self.old.deaths }
@@ -206,8 +206,8 @@ impl Weaks {
         Ok(())
     }
 
-    /// Adds a weak pointer at its position in the order. There has to be room for it, and its name isn't in the list. The
-    /// room shrinks by one, and the deaths stay. Takes no memory, and time for each name of its maker that comes after it.
+    /// Adds a weak pointer at its position in the order. There has to be room for it, and the list may not have its name yet.
+    /// The room shrinks by one, and the deaths stay. Takes no memory, and time for the later names of its maker.
     pub fn add(&mut self, weak: Name, at: Address)
         requires room { 0 < self.old.spare }
         requires new { (other : Old) → Contains self.old.list other → other.weak ≢ weak }
@@ -223,8 +223,8 @@ impl Weaks {
     }
 
     /// Adds weak pointers that are in order of names, each at its position in the list. There has to be room for them, and
-    /// none of their names is in the list. The deaths stay. Takes no memory, and for each, time for the names of its maker
-    /// that come after it: none if makers give names in order.
+    /// the list may have none of their names yet. The deaths stay. Takes no memory. Each addition takes time for the names of
+    /// the same maker that come after the new name: none if makers give names in order.
     pub fn add_all(&mut self, fresh: &[OldWeak])
         requires room { length fresh.now ≤ self.old.spare }
         requires ordered { IsInOrder (names_of fresh.now) }
@@ -234,15 +234,15 @@ impl Weaks {
         ensures spare { self.new.spare + length fresh.now ≡ self.old.spare }
         ensures deaths { self.new.deaths ≡ self.old.deaths }
     {
-        // Reading a field gives the proof the list's order, even if none join.
+        // Note [Lines that do nothing] in `nmgc_alloc`: this gives the prover the list's order, even if none join.
         let _room = self.room;
         for weak in fresh {
             self.add(weak.weak, weak.at);
         }
     }
 
-    /// Returns a bound of the list's length, for the room of a vector (`list_into`). Takes no memory, and constant time.
-    pub fn most(&self) -> usize
+    /// Returns an upper bound on the list's length, for a vector's room (`list_into`). Takes no memory, and constant time.
+    pub fn length_bound(&self) -> usize
         ensures { length self.now.list ≤ result }
     {
         self.most
@@ -261,7 +261,7 @@ impl Weaks {
         list_rows(self.rows.as_slice(), all);
     }
 
-    /// Returns a bound of the number of the maker's weak pointers in the list. Takes no memory, and constant time.
+    /// Returns an upper bound on the number of listed weak pointers that this maker made. Takes no memory, and constant time.
     pub fn count(&self, maker: u8) -> usize
         ensures { count_made_by maker self.now.list ≤ result }
     {
@@ -280,7 +280,7 @@ impl Weaks {
         self.deaths.as_slice()
     }
 
-    /// Turns the list into the list of its names, in order, in the memory `place`. Takes no other memory.
+    /// Turns this list of weak pointers into the list of their names, in order, in the memory `place`. Takes no other memory.
     pub fn into_names(self, place: ListMemory<Name>) -> List<Name>
         ensures { result ≡ names_of self.list }
     {
@@ -302,9 +302,9 @@ impl Weaks {
         List::in_place(names, place)
     }
 
-    /// Takes the weak pointer at an address out of the list, if the list has it and its value word is 0: it was finalised
-    /// since the last stop. Its name word has to be its name, by which it is found. The rest of the list, order, room, deaths
-    /// and words stay. Takes no memory, and a logarithm of time, or time for a row if more than half has left.
+    /// Takes the weak pointer at an address out of the list, if the list has one at this address and its value word is 0:
+    /// then it was finalised since the last stop. The name word has to be its name, by which it is found. The rest of the
+    /// list, room, deaths and words stay. Takes no memory, and logarithmic time, or time for a row if over half has left.
     pub fn leave_at<W: HeapWords>(&mut self, words: &mut W, at: Address)
         requires inside { value_place at.0 < length (W.words words.old) }
         requires named { IsNamedAt (W.words words.old) at.0 self.old.list }
@@ -338,7 +338,7 @@ impl Weaks {
         ensures spare { self.new.spare ≡ self.old.spare }
         ensures deaths { self.new.deaths ≡ self.old.deaths }
     {
-        dead_leave(self.rows.as_mut_slice(), words);
+        leave_dead(self.rows.as_mut_slice(), words);
     }
 
     /// Closes a cycle: some weak pointers die, and the rest keep their parts.

@@ -1,7 +1,7 @@
 -- The names that a world holds, the positions of fields in an object, and the parts of an object that stay.
 --
--- A mutator gets a name only by a read of a field that has it, or by making it. So if a set of names covers all that mutators
--- can reach (`CoversReach`), it does so after each command that makes no name outside it.
+-- A mutator gets a name only by a read of a field that has it, or by making it. So a set that covers all names that mutators
+-- can reach (`CoversReach`) still covers them after each command that makes no name outside the set.
 use Rattle.std.specs.Prelude.{◌≡◌, ℕ, zero, suc, List, [], ◌∷◌, slice_get, Option, Some, None, Bool, true, false, IfSome, All}
 use Rattle.nmgc_world_spec.specs.{declared.value.Name.Name, declared.value.Value.Value, declared.node.Parts.Parts, declared.node.Node.Node, declared.node.Node.TheVariants.Con, declared.node.Node.TheVariants.Var, declared.node.Node.TheVariants.Arr, declared.node.Node.TheVariants.Thunk, declared.node.Node.TheVariants.Weak, declared.node.Node.TheVariants.Stack, World.World, World.state_of, World.node_of, Reach.strong_fields}
 use Rattle.nmgc_world_spec.specs.declared.value.Value.TheVariants as value
@@ -16,7 +16,7 @@ Names P (value.Ref name) = P name
 abbrev pub Fields : (Value → Type 0) → Node → Type 0
 Fields Q node = All Q (strong_fields node)
 
--- a set with all names that mutators hold and all in strong fields of its names; unreferenced weak pointers may be missing
+-- a set with all names that mutators hold, and all in strong fields of its names; unreferenced weak pointers may be missing
 pub record CoversReach (P : Name → Type 0) (w : World) : Type 0 where
   pub registers : (k : ℕ) → All (Names P) (state_of w k).registers
   pub queues : (k : ℕ) → All (Names P) (state_of w k).queue

@@ -4,8 +4,8 @@
 -- snapshot's names in the world's wide reach are kept. And no later command brings back a name that was lost: a mutator gets
 -- a name only by a read of a field that has it, or by making it.
 --
--- P below is the set of names that may be held. A step keeps all held names in P, so the wide reach is in P. For a
--- snapshot, P says of each of its names that it isn't lost.
+-- P below is the set of names that may be held. A step keeps all held names in P, so the wide reach is in P. For a cycle, P
+-- has all names except the lost names of its snapshot.
 use Rattle.std.specs.Prelude.{◌≡◌, ◌⊎◌, ◌≤◌, ℕ, List, [], ◌∷◌, Bool, IsSome, IsTrue, Contains}
 use Rattle.nmgc_limits.specs.declared.mutators.TheConstants.{MAKERS}
 use Rattle.nmgc_world_spec.specs.{declared.value.Name.Name, declared.node.Parts.Parts, declared.command.Command.Command, World.World, World.state_of, World.node_of, World.new_world, World.IsWorld, Step.CanApply, Step.next_name, Step.step, History.Row, History.replayed, History.opened, Reach.IsRoot, Reach.RefersTo, Reach.IsAlive, Reach.IsLive, Reach.Lists, Reach.closed, Wide.IsOfWeak, Wide.IsWide, Interval.Interval, Interval.IsKeptAfter, Interval.IsDeadAfter}

@@ -1,7 +1,7 @@
 -- The commands that put a value into an existing object, and the field that gets it.
 --
--- A promotion looks for nursery objects from the roots and from old objects only. It needn't look through all old objects. A
--- reference to a nursery object is in an old one only if a command stored it. That command reached the old object, so the
+-- A promotion looks for nursery objects from the roots and from old objects, but needn't look through all old objects. A
+-- reference to a nursery object is in an old object only if a command stored it. That command reached the old object, so the
 -- object was in the wide reach as the round began. The parts of an old weak pointer never change, so they are old too.
 use Rattle.std.specs.Prelude.{◌≡◌, ◌⊎◌, ◌++◌, ℕ, List, ◌∷◌, length, Option, Some, None, IsSome}
 use Rattle.nmgc_world_spec.specs.{declared.value.Name.Name, declared.value.Value.Value, declared.node.Parts.Parts, declared.node.Node.Node, declared.node.Node.TheVariants.Stack, declared.change.Change.Change, declared.command.Command.Command, declared.command.Command.TheVariants.Finalise, declared.command.Operand.Operand, World.World, World.state_of, World.node_of, World.IsWorld, Step.CanApply, Step.next_name, Step.value_for, Step.asked, Step.step, History.Row, History.replayed, Reach.IsAlive, Wide.IsWide}

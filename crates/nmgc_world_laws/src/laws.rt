@@ -8,8 +8,8 @@ ghost use Rattle.nmgc_world_spec.specs.declared.value.Name.{Name};
 ghost use Rattle.nmgc_world_laws.specs.Reachable.{StepHoldsOnly, ClosingHoldsOnly, Passes, StepKeepsWorld, RowsKeepWorld, ClosingKeepsWorld, NewIsWorld, StepAddsOne, ClosingAddsNone, StaysUnreached, RowsHoldLive, NeverComesBack, ClosesWell, NothingReachableIsFreed, NothingReachableIsEverFreed, ReachableIsKept, ReachableIsEverKept};
 ghost use Rattle.nmgc_world_laws.specs.{Leaves.StepLeavesOthers, Leaves.ClosingLeavesHands, Shape.StepKeepsShapes, Shape.RowsKeepShapes, Shape.ClosingKeepsShapes, Stored.StepStores, Stored.OldRefersToYoung, Stored.OldWeaksStay, Stored.OldWeaksAreFinalised, Limits.NewIsWithin, Limits.StepKeepsLimits, Limits.RowsKeepLimits, Limits.ClosingKeepsLimits};
 
-/// Proves that a world stays a world: every reference names a node, and each part has its size. `World::new` makes a world.
-/// After a command, a list of commands, or a closing with any weak pointers, there is still a world.
+/// Proves that commands, lists of commands, and closings with any weak pointers turn a world into a world: every reference
+/// names a node, and each part has its size. The world that `World::new` makes is a world in this sense.
 pub fn worlds_stay()
     ensures new { NewIsWorld }
     ensures step { StepKeepsWorld }
@@ -24,16 +24,16 @@ pub fn hands_stay()
     ensures closing { ClosingLeavesHands }
 {}
 
-/// Proves that each name held after a command was held before, or is the name that the command makes. Each name held after a
-/// closing was held before. Both hold for every set of names that a test decides (for others: `step_holds_only`,
-/// `closed_holds`).
+/// Proves that each name held after a command was held before it, or is the name that the command makes. After a closing no
+/// further name is held. The clauses say so by sets: a set with the names held before and the new name has all names held
+/// after. They speak of each set that a test decides; for other sets see the lemmas `step_holds_only` and `closed_holds`.
 pub fn nothing_else_is_held()
     ensures step { (test : Name → Bool) → StepHoldsOnly (Passes test) }
     ensures closing { (test : Name → Bool) → ClosingHoldsOnly (Passes test) }
 {}
 
-/// Proves that a command adds to the wide reach at most the name that it makes, and that a closing adds nothing. A name of a
-/// world that is outside its wide reach never comes back, whatever commands and closings follow.
+/// Proves that a command adds to the wide reach at most the name that it makes, and that a closing adds nothing. A name that
+/// a world has outside its wide reach never comes back, whatever commands and closings follow.
 pub fn what_is_lost_stays_lost()
     ensures step { StepAddsOne }
     ensures closing { ClosingAddsNone }
@@ -41,9 +41,9 @@ pub fn what_is_lost_stays_lost()
     ensures run { NeverComesBack }
 {}
 
-/// Proves that after commands from a snapshot, mutators hold only new names, and names that are live in the snapshot together
-/// with the names that the commands opened. A name of the snapshot that isn't live keeps its node.
-pub fn only_the_live_is_held()
+/// Proves that after commands from a snapshot mutators hold only new names and live names. A live name here is live in the
+/// snapshot if the names that the commands opened count as roots. A name of the snapshot that isn't live keeps its node.
+pub fn only_live_or_new_names_are_held()
     ensures { RowsHoldLive }
 {}
 
@@ -59,11 +59,11 @@ pub fn nothing_reachable_is_freed()
     ensures ever_kept { ReachableIsEverKept }
 {}
 
-/// Proves where values in strong fields come from: a value was in the field before the command, or the command made the
-/// object, or the command stored the value. So a field of an old object refers to a new object only if one of the commands
-/// since stored the reference. That old object was in the wide reach as the commands began. An old weak pointer keeps its
-/// parts while it is alive. If it was alive before commands and isn't after them, one of them finalised it.
-pub fn young_is_stored()
+/// Proves that a value in a strong field was there before the command, or the command made the object, or the command stored
+/// the value there. So a field of an old object refers to a new object only if one of the commands since stored the
+/// reference. That old object was in the wide reach as the commands began. An old weak pointer keeps its parts while it is
+/// alive. If it was alive before commands and is dead after them, one of them finalised it.
+pub fn new_values_are_stored()
     ensures step { StepStores }
     ensures rows { OldRefersToYoung }
     ensures weaks { OldWeaksStay }

@@ -94,7 +94,7 @@ stack_pushed own (Stack size values) v =
     (Stack size values, NotOwner)
 stack_pushed own node v = (node, WrongKind)
 
--- all values except the last; the definition after it is the last value
+-- all values except the last; `last_of` is the last value, if there is one
 abbrev pub without_last : List Value → List Value
 without_last values = take (length values - 1) values
 

@@ -1,7 +1,6 @@
 -- The commands that a mutator may give.
 --
--- The world that runs (`nmgc_graph`) needs the limit of registers alone. The other limits hold for scripts, and the layouts
--- of words depend on them.
+-- `nmgc_graph` needs only the limit of registers. The other limits hold for scripts, and the layouts of words depend on them.
 use Rattle.std.specs.Prelude.{ℕ, ◌+◌, ◌<◌, ◌≤◌, ◌^◌, length, All}
 use Rattle.nmgc_limits.specs.declared.mutators.TheConstants.{REGISTERS}
 use Rattle.nmgc_world_spec.specs.{declared.command.Operand.Operand, declared.command.Operand.TheVariants.Register, declared.command.Operand.TheVariants.Shared, declared.command.Command.Command}
@@ -77,8 +76,7 @@ words_made (Weak dest key value finaliser) = 5
 words_made (Stack dest size) = 2 + size
 words_made _ = 0
 
--- a command fits, so a script may have it: its registers exist, its numbers are within their limits, and its object has at
--- most `words` words, a segment's size
+-- a command fits a script: its registers exist, its numbers are within limits, and its object fits a segment of `words` words
 pub record Fits (words : ℕ) (c : Command) : Type 0 where
   pub registers : HasRegisters c
   pub numbers : HasNumbers c

@@ -12,7 +12,7 @@ pub enum Operand {
     Shared,
 }
 
-/// A command of a mutator. `dest` is the register that gets the value.
+/// A command of a mutator. `dest` is the register that gets the result.
 pub enum Command {
     /// Puts a number into `dest`.
     Num {
@@ -198,7 +198,7 @@ impl Drop for Command {
 
 impl Command {
     /// Returns the number of words of the object that the command makes: a header, a name, and a word for each part. It is 0
-    /// exactly if the command makes no object, so a slice and the grammar count alike. Takes no memory, and constant time.
+    /// exactly if no object is made. Slices and scripts count by the same definition. Takes no memory, and constant time.
     pub fn words_made(&self) -> usize
         ensures words { result ≡ words_made self.now }
         ensures making { 0 < result → IsMaking self.now }
@@ -220,9 +220,9 @@ impl Command {
 pub enum Reply {
     /// The command was done.
     Fine,
-    /// `cas` wrote; the values are the same.
+    /// `cas` wrote, or the values of `same` are the same.
     Yes,
-    /// `cas` found another value; the values differ.
+    /// `cas` found another value, or the values of `same` differ.
     No,
     /// The thunk has its result now.
     Updated,

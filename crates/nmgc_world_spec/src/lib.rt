@@ -1,9 +1,9 @@
-//! The specification of the reference heap: values, names, nodes, commands, and the effect and the reply of each command.
+//! The specification of the reference heap, which is never collected: values, names, nodes, commands, effects and replies.
 //!
 //! A world is a map from names to nodes that only grows, with the registers and the finaliser queue of each mutator. All
-//! promises about a run use these words. `specs/` defines the world, its step, its histories, reachability in it, and the
-//! names kept after an interval of commands. The types serve code and clauses alike. Their functions do little: they count
-//! the words that a command makes, check its registers, and read a field of a node. The world that runs is `nmgc_graph`'s.
+//! promises about a run use these terms. `specs/` defines the world, its step, its histories, reachability in it, and the
+//! names kept after an interval of commands. Code and clauses use the same types. Their functions do little: they count the
+//! words that a command makes, check its registers, and read a field of a node. `nmgc_graph` is the world as code.
 #![tactic(auto)]
 
 pub mod change;

@@ -1,8 +1,8 @@
 //! Nodes: the objects of the world, each at a name.
 //!
-//! The six kinds differ in the changes that a mutator may make, and the collector has to watch accordingly. A constructor
-//! never changes. A variable and an array are written field by field. A thunk is updated once. A weak pointer dies once. A
-//! stack belongs to the mutator that made it.
+//! The six kinds differ in the changes that a mutator may make, and the collector has to allow for each. A constructor never
+//! changes. A variable and an array are written field by field. A thunk is updated once. A weak pointer dies once. A stack
+//! belongs to the mutator that made it.
 ghost use Rattle.std.specs.Prelude.{◌≡◌};
 
 use crate::Value;
@@ -76,9 +76,8 @@ impl Drop for Node {
 impl Node {
     ghost use Rattle.nmgc_world_spec.specs.Change.{field_in};
 
-    /// Returns the field at `index` of a node that is a constructor, a variable or an array. Returns `None` exactly if the
-    /// node is of another kind or has no such field. `get`, `cas`, the barrier and a scan all use it. Takes no memory, and
-    /// constant time.
+    /// Returns the field at `index` of a constructor, a variable or an array, and `None` exactly if the node is of another
+    /// kind or has no such field. `get`, `cas`, the barrier and a scan all use it. Takes no memory, and constant time.
     pub fn field(&self, index: usize) -> Option<Value>
         ensures { result ≡ field_in self.now index }
     {

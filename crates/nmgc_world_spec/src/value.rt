@@ -1,9 +1,8 @@
 //! Names and values.
 //!
 //! The name of an object distinguishes it from every other: its maker, and the number of objects that the maker had made
-//! before. Names are never used again. So a name in a register or a field means one object for the whole run, wherever the
-//! collector has put its words. No mutator made the shared array g; its name is `Name::SHARED`, whose maker is
-//! `SHARED_MAKER`.
+//! before. No name is used again. So a name in a register or a field means one object for the whole run, wherever the
+//! collector puts its words. No mutator made the shared array g; its name is `Name::SHARED`, with maker `SHARED_MAKER`.
 
 use nmgc_limits::SHARED_MAKER;
 

@@ -50,7 +50,7 @@ prepared_in layout s Sweeping h = record {
   owner = λ m e. absurd (cc);
 }
 
--- and it is current only if it was current before
+-- a segment is current when a cycle begins only if it was current before
 pub prepared_current : (s : Segment) (state : State) (m c : ℕ) → IsCurrent m c (record s {
   state = prepared_state state;
   snap = prepared_snap state s;

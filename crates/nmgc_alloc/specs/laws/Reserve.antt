@@ -272,7 +272,7 @@ placing_keeps s new m c at placed words h a low small two most is r =
     ]) r in
     subst (λ (xs : List Segment). KeepsReserve s.layout xs (placed + words)) (sym a.others) kept
 
--- and the reserve gives room
+-- the reserve gives room
 pub reserve_has_room : (s : Segments) (m c placed : ℕ) → IsSegments s → m < s.layout.mutators → c < class_count s.layout →
     placed ≤ s.layout.mutators * s.layout.nursery → KeepsReserve s.layout s.segments placed → HasRoom s m c
 reserve_has_room s m c placed h low small few r = elim (room s.layout h.layout.words s.segments m c placed low small few r) [

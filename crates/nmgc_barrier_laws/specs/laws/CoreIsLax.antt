@@ -48,7 +48,7 @@ module _ (s : State) (f : Facts s) (m : ℕ) (name : Name) (rest : List Name) (f
     safe = handing.drop_safe s f m name rest first done;
   }
 
--- a take: the name is marked, and then it leaves
+-- a take: the name is marked, and then it leaves the pushed names
 pub record TakesLaxly (s next : State) : Type 0 where
   pub name : Name
   pub may : MayHold s name

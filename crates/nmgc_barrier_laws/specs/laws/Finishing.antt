@@ -1,5 +1,5 @@
--- Beside each list of commands and pushes a finished marker is possible. It marks each name as it is pushed, and drops it;
--- then it scans until nothing is queued. Each scan marks a new name of the snapshot, or leaves less to read in the queue.
+-- Beside each list of commands and pushes a finished marker is possible. It marks and drops each name as it is pushed. Then
+-- it scans until nothing is queued. Each scan marks a new name of the snapshot, or leaves less to read in the queue.
 use Rattle.std.specs.Prelude.{◌≡◌, ◌≢◌, ◌<◌, ◌≤◌, ◌+◌, ◌-◌, ◌∷◌, ◌++◌, ◌⊎◌, ◌&&◌}
 use Rattle.nmgc_barrier_laws.specs.laws.Vocabulary.{ℕ, List, [], zero, suc, length, replicate, refl, sym, ap, subst, ◌∙◌, arith, Bool, true, false, not, cond, inl, inr, Option, Some, None, eqb, leb, IsSome, is_some, Contains, All, filter, length-replicate, get_or_past, All-nil, All-cons, Contains-append_left, Contains-append_right, Contains-push, cases_eq, cases_lt, false≢true, and_parts, and_from, and_right, or_parts, leb-false, not-true, not_from_true, not_from_false, false_from_ne_true, eqb_tells, SHARED_MAKER, Name, Value, Node, MutatorState, World, node_of, state_of, serial_of, no_mutator, IsWorld, shared_name, contains_cases, contains_head, contains_tail, get_is_some, nothing_in, contains_one, one_is, has_result, Entry, State, names_of, is_listed, is_new, with_mark, mark_name, mark_read, root_values, unmarked, opening, read_at, fields_of, is_last, moved_on, AreEmpty, after_scan, advanced, MayHold, IsSafe, owed, pushed, marked, contains_listed, listed_from, names_same, names_other, mark_cases, marked_then, Cycle, IsPushed, after_owing, Watches, Beside, IsSorted, HasFinished, SomeMarkerFinishes, names_in, after_pushing, no_names}
 use Rattle.nmgc_world_spec.specs.declared.value.Value.TheVariants as value

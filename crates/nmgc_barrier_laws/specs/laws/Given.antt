@@ -45,7 +45,7 @@ module _ (s : State) (f : Facts s) (w : IsWorld s.world) (m : ℕ) (c : Command)
   pub owes_may : All (MayHold (after_command s m c)) (owed_by s.world m c)
   owes_may = names_among_have (MayHold next) (values_owed s.world m c) moves.owes
 
-  -- and all names that are due are among them
+  -- all names that are due are among the names that the command owes in the marking machine
   pub due_owed : (target : Name) → IsDue s.snapshot s.world m c target → Contains (owed_by s.world m c) target
   due_owed target d = elim d.why [
     | inl b ↦ elim (moves.stays b.name b.place (value.Ref target) b.stood) [
@@ -96,7 +96,7 @@ module _ (s : State) (f : Facts s) (w : IsWorld s.world) (m : ℕ) (c : Command)
       passed = f.base.passed;
     }
 
-    -- names owed stay owed
+    -- a name that was owed stays owed
     more_owed : (k : ℕ) (name : Name) → Contains (names_of s.owed k) name → Contains (names_of after.owed k) name
     more_owed k name h = elim (cases_eq k m) [
       | inl e ↦ rw (e, names_same s.owed m _ (command.owed_place s f w m c lt)) (Contains-append_left (names_of s.owed m) names name (rw e at h))

@@ -239,7 +239,7 @@ tied_end h s next t possible c name =
           h.remembered) l name) (sym t.finalised) (subst (λ (v : World). IsKept v (h.opened ++ h.remembered) h.finalised name) (sym t.snapshot) k))),
     )
 
--- and the weak pointers that die in it are those dead by the opened and the remembered names
+-- the weak pointers that die in an end from a tied state are those dead by the opened and the remembered names
 pub tied_dies : (h : Cycle) (s next : State) → IsTied h s → IsPossible s event.Close → (c : IsClosing s next) →
     Lists (IsDead h.snapshot (h.opened ++ h.remembered) h.finalised) c.dead
 tied_dies h s next t possible c =

@@ -3,7 +3,7 @@ use Rattle.nmgc_cycle.proofs.Vocabulary.{ℕ, ◌≡◌, List, [], ◌∷◌, �
 use Rattle.nmgc_alloc.specs.declared.search.Category.TheVariants as sought
 use Rattle.nmgc_journal.specs.declared.report.Phase.TheVariants as phase
 use Rattle.nmgc_cycle.specs.declared.progress.Progress.TheVariants as doing
-use Rattle.nmgc_cycle.proofs.{cycles.StepReady.none_back, stops.Reporting.kept_known}
+use Rattle.nmgc_cycle.proofs.{cycles.StepReady.none_back, stops.Reporting.kept_reported}
 
 -- the collector after the end of the cycle, and its state
 abbrev pub ended : Collector → ℕ → ℕ → CycleRow → Collector
@@ -80,7 +80,7 @@ module _ (script : Script) (c : Collector) (s : State) (h : StandsAt script c s)
   stands_then : (turns upper : ℕ) → IsSwept s → StandsAt script (ended c turns upper row) (idled s)
   unfolding heap
   stands_then turns upper swept = record {
-    kept = kept_known script c (ended c turns upper row) refl h.kept;
+    kept = kept_reported script c (ended c turns upper row) refl h.kept;
     sound = sound;
     course = swept;
     matches = record { phase = refl; begun = h.matches.begun; collect = h.matches.collect; full = h.matches.full };

@@ -5,7 +5,7 @@ use Rattle.nmgc_alloc.specs.declared.search.Category.TheVariants as sought
 use Rattle.nmgc_segment.specs.declared.state.State.TheVariants as stands
 use Rattle.nmgc_cycle.specs.declared.progress.Progress.TheVariants as doing
 use Rattle.nmgc_cycle.specs.Full as full
-use Rattle.nmgc_cycle.proofs.{lengths.StopFew.none_waits, stops.Reporting.stands_known, stops.WholeStop.KeepsOn, stops.WholeStop.ending_keeps, stops.WholeStop.beginning_keeps}
+use Rattle.nmgc_cycle.proofs.{lengths.StopFew.none_waits, stops.Reporting.stands_reported, stops.WholeStop.KeepsOn, stops.WholeStop.ending_keeps, stops.WholeStop.beginning_keeps}
 
 -- The effect of a finish on the run
 
@@ -153,7 +153,7 @@ full_leads finish filing starting script old new s limits h d =
         rest = refl {a = record again.0 { collect = false; full = false }};
       },
       cycles,
-      rw d.is (stands_known script d.last (record d.last { cycle = record d.last.cycle { collect = false; full = false } }) again.0 (record again.0 {
+      rw d.is (stands_reported script d.last (record d.last { cycle = record d.last.cycle { collect = false; full = false } }) again.0 (record again.0 {
         collect = false;
         full = false;
       }) refl (refl {a = record again.0 { collect = false; full = false }}) refl refl again.4),

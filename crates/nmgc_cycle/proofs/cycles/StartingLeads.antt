@@ -1,5 +1,5 @@
 -- A due cycle that was started is the run's next cycle.
-use Rattle.nmgc_cycle.proofs.Vocabulary.{ℕ, ◌≡◌, ◌≢◌, ◌+◌, ◌≤◌, List, [], false, refl, sym, ap, subst, ◌∙◌, arith, Some, inl, inr, slice_get, Name, World, shared_name, contains_cases, nothing_in, Layout, Nursery, StandsFor, HasBlock, NoneIs, IsIn, cycle_begun, Segments, begun_names, SnapshotIsMarking, MarkedHolds, PaceBegins, StopIsPrepared, StopBegins, all_prepared, MarkedWait, AreEmpty, Place, IsEarlier, IsTracked, world_is_earlier, map_item, MutatorEnd, most_blocks, HasMarked, blank, IsFor, Mutator, Opening, AreNurseries, EachMutator, IsEmptied, IsMarking, IsPacedAtStop, weak_count, CyclesBeginInCourse, HoldsAtStop, snapshots, epoch_of, MutatorSeen, ends_of, nurseries_of, IsSoundState, State, next_cycle, cycle_started, plan_of, layout_of, Cycle, begun_filed, tracked_fewer, tracked_itself, Script, StartIsNoted, LeftStays, AreLeft, HasNotes, HasBegun, named_begun, HaveEntries, Collector, Marking, StartsMarking, next_epoch, IsWellFormed, IsOwn, HasQueueRoom, count_made_by, seen, seen_mutator, words_in, StandsAt, StartingLeads}
+use Rattle.nmgc_cycle.proofs.Vocabulary.{ℕ, ◌≡◌, ◌≢◌, ◌+◌, ◌≤◌, List, [], false, refl, sym, ap, subst, ◌∙◌, arith, Some, inl, inr, slice_get, Name, World, shared_name, contains_cases, nothing_in, Layout, Nursery, StandsFor, HasBlock, NoneIs, IsIn, cycle_begun, Segments, begun_names, SnapshotIsMarking, MarkedHolds, PaceBegins, StopIsPrepared, StopBegins, all_prepared, MarkedWait, AreEmpty, Place, IsEarlier, IsTracked, world_is_earlier, map_item, MutatorEnd, most_blocks, HasMarked, blank, IsFor, Mutator, Opening, AreNurseries, EachMutator, IsEmptied, IsMarking, IsPacedAtStop, weak_count, CyclesBeginInCourse, HoldsAtStop, snapshots, epoch_of, MutatorSeen, ends_of, nurseries_of, IsSoundState, State, next_cycle, cycle_started, plan_of, layout_of, Cycle, begun_filed, tracked_fewer, tracked_itself, Script, StartNotesSegments, LeftStays, AreLeft, HasNotes, HasBegun, named_begun, HaveEntries, Collector, Marking, StartsMarking, next_epoch, IsWellFormed, IsOwn, HasQueueRoom, count_made_by, seen, seen_mutator, words_in, StandsAt, StartingLeads}
 use Rattle.nmgc_segment.specs.declared.state.State.TheVariants as stands
 use Rattle.nmgc_cycle.specs.declared.progress.Progress.TheVariants as doing
 use Rattle.nmgc_cycle.proofs.{cycles.Closing.words_same, cycles.QueueRoom.counted, cycles.QueueRoom.one_room, cycles.QueueRoom.room_ends, cycles.QueueRoom.room_nurseries, lists.RootLists.seen_at, cycles.StepReady.PreparedBegins, cycles.StepReady.none, cycles.StepReady.snapshot_opening, cycles.StepReady.beginning, cycles.StepReady.prepared_shown}
@@ -11,7 +11,7 @@ pub record BeginningLaws : Type 0 where
   pub stop : StopBegins
   pub marked : MarkedHolds
   pub marks : SnapshotIsMarking
-  pub noted : StartIsNoted
+  pub noted : StartNotesSegments
   pub left : LeftStays
   pub waits : MarkedWait
   pub pace : PaceBegins

@@ -1,7 +1,7 @@
 -- The collector after a round with reported replies: its invariant, and the round.
 use Rattle.nmgc_cycle.proofs.Vocabulary.{ℕ, ◌≡◌, ◌<◌, List, [], ◌∷◌, ◌++◌, length, map, slice_index, refl, sym, ap, subst, ◌∙◌, arith, Some, Global, slice_get, Vec, get_or-map, length-map, get_or_from_slice_get, slice_get_within, map_item, Reply, Layout, IsLayout, RoundRows, IsFor, Mutator, Opening, Done, Script, IsAfterRound, plan_of, answered_count, HaveEntries, Collector, IsWellFormed, IsOwn, DidRound, seen, seen_mutator, cleared, item, slice_index_or}
 use Rattle.nmgc_collector_laws.specs.Seen as run
-use Rattle.nmgc_cycle.proofs.{rounds.AfterRound.gone_on, rounds.AfterRound.is_after, Vocabulary.HasRoundLaws, rounds.GoneOn.HasGoneOn, lengths.Measures.answered_more, rounds.Over.IsOver, rounds.Over.t, rounds.Over.rows, rounds.Over.reported, rounds.Over.last, rounds.Over.shown, rounds.Over.worked, rounds.Over.done_count, rounds.Over.mutators_count, rounds.Over.one, rounds.OwnRows.replies_in, lists.Plans.is_layout, rounds.Reserved.sweeps_on, lengths.RoundFew.round_few, rounds.Rounded.one_did, rounds.Rounded.known_is, rounds.Lining.lined_on, rounds.Lining.same_item}
+use Rattle.nmgc_cycle.proofs.{rounds.AfterRound.gone_on, rounds.AfterRound.is_after, Vocabulary.HasRoundLaws, rounds.GoneOn.HasGoneOn, lengths.Measures.answered_more, rounds.Over.IsOver, rounds.Over.t, rounds.Over.rows, rounds.Over.reported, rounds.Over.last, rounds.Over.shown, rounds.Over.worked, rounds.Over.done_count, rounds.Over.mutators_count, rounds.Over.one, rounds.OwnRows.replies_in, lists.Plans.is_layout, rounds.Reserved.sweeps_on, lengths.RoundFew.round_few, rounds.Rounded.one_did, rounds.Rounded.reported_is, rounds.Lining.lined_on, rounds.Lining.same_item}
 
 -- contracts see no replies of a mutator
 same_cleared : (ms : List Mutator) → map seen_mutator (map cleared ms) ≡ map seen_mutator ms
@@ -61,7 +61,7 @@ module _ (laws : HasRoundLaws) (script : Script) (c new : Collector) (o : Openin
       let d = item x.did.done k (let n = done_count script c new o x in omega (arith, lt, n)) in
       let own : slice_index_or x.did.done k [] ≡ d.0 = get_or_from_slice_get x.did.done k d.0 [] d.1 in
       let replied : slice_index_or (reported script c new o x) k [] ≡ replies_in d.0 =
-      ap (λ (l : List (List Reply)). slice_index_or l k []) (known_is script c new o x) ∙ get_or-map replies_in x.did.done k [] ∙ ap replies_in own in
+      ap (λ (l : List (List Reply)). slice_index_or l k []) (reported_is script c new o x) ∙ get_or-map replies_in x.did.done k [] ∙ ap replies_in own in
       let many : length (slice_index_or (reported script c new o x) k []) ≡ length d.0 = cc (replied, length-map d.0 (λ (y : Done). y.1)) in
       let before = x.still.kept.positions k lt in
       let now = (one script c new o x k d.0 d.1).4.position in

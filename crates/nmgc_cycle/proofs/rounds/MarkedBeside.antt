@@ -6,7 +6,7 @@ use Rattle.nmgc_alloc.specs.Reserve as reserve
 use Rattle.nmgc_cycle.specs.declared.progress.Marking as held_marking
 use Rattle.nmgc_cycle.specs.declared.progress.Progress as held
 use Rattle.nmgc_cycle.specs.declared.progress.Progress.TheVariants as doing
-use Rattle.nmgc_cycle.proofs.{Vocabulary.HasRoundLaws, rounds.GoneOn.HasGoneOn, rounds.Opened.in_cycle, rounds.Opened.rests_beside, rounds.Over.IsOver, rounds.Over.plan, rounds.Over.s, rounds.Over.w, rounds.Over.t, rounds.Over.rows, rounds.Over.places, rounds.Over.reported, rounds.Over.last, rounds.Over.shown, rounds.Over.view, rounds.Over.worked, rounds.Over.can, rounds.Over.queue_kept, lists.Phases.when_idle, lists.Phases.when_marking, lists.Plans.sound_state, rounds.RoundOver.layout, rounds.RoundOver.opening_layout, rounds.RoundOver.nurseries_left, rounds.RoundOver.in_order, rounds.RoundOver.remembered, rounds.RoundOver.finalised_known, rounds.RoundOver.round_from, rounds.Rounded.is_round}
+use Rattle.nmgc_cycle.proofs.{Vocabulary.HasRoundLaws, rounds.GoneOn.HasGoneOn, rounds.Opened.in_cycle, rounds.Opened.rests_beside, rounds.Over.IsOver, rounds.Over.plan, rounds.Over.s, rounds.Over.w, rounds.Over.t, rounds.Over.rows, rounds.Over.places, rounds.Over.reported, rounds.Over.last, rounds.Over.shown, rounds.Over.view, rounds.Over.worked, rounds.Over.can, rounds.Over.queue_kept, lists.Phases.when_idle, lists.Phases.when_marking, lists.Plans.sound_state, rounds.RoundOver.layout, rounds.RoundOver.opening_layout, rounds.RoundOver.nurseries_left, rounds.RoundOver.in_order, rounds.RoundOver.remembered, rounds.RoundOver.finalised_listed, rounds.RoundOver.round_from, rounds.Rounded.is_round}
 
 module _ (laws : HasRoundLaws) (script : Script) (c new : Collector) (o : Opening) (x : IsOver script c new o) where
   -- the phase of the stop's state is the collector's
@@ -46,7 +46,7 @@ module _ (laws : HasRoundLaws) (script : Script) (c new : Collector) (o : Openin
       nurseries = nurseries_left script c new o x laws.stopped;
       ordered = in_order script c new o x laws.stopped;
       remembers = remembered script c new o x laws.stopped;
-      reported = finalised_known script c new o x laws.finalised;
+      reported = finalised_listed script c new o x laws.finalised;
       free = same_free stands_still;
       cycle = rw e settled;
       sweeper = rw e tt;
@@ -243,7 +243,7 @@ module _ (laws : HasRoundLaws) (script : Script) (c new : Collector) (o : Openin
       nurseries = nurseries_left script c new o x laws.stopped;
       ordered = in_order script c new o x laws.stopped;
       remembers = remembered script c new o x laws.stopped;
-      reported = finalised_known script c new o x laws.finalised;
+      reported = finalised_listed script c new o x laws.finalised;
       free = same_free stands_still;
       cycle = subst (λ (p : Progress). HoldsInCycle (λ (j : Cycle).
           IsPacedAfterRound script.config.quota j (t script c new o x (s script c new o x).allocation) (shown script c new o x))

@@ -4,7 +4,7 @@ use Rattle.nmgc_round.specs.Seat.{seen}
 use Rattle.nmgc_collector_laws.specs.Owed as owed
 use Rattle.nmgc_cycle.specs.declared.progress.Progress as held
 use Rattle.nmgc_cycle.specs.declared.progress.Progress.TheVariants as doing
-use Rattle.nmgc_cycle.proofs.{rounds.Ran.MayBegin, rounds.Ran.HasBegun, rounds.Ran.HasRun, rounds.Ran.can_open, rounds.Ran.may_work, rounds.Ran.workers_are, rounds.Ran.has_run, Vocabulary.MutatorsAreReady, lists.RootLists.seen_at, rounds.Sliced.overwritten, rounds.Sliced.asks_known, rounds.Sliced.asks_full_known, rounds.Sliced.each_did}
+use Rattle.nmgc_cycle.proofs.{rounds.Ran.MayBegin, rounds.Ran.HasBegun, rounds.Ran.HasRun, rounds.Ran.can_open, rounds.Ran.may_work, rounds.Ran.workers_are, rounds.Ran.has_run, Vocabulary.MutatorsAreReady, lists.RootLists.seen_at, rounds.Sliced.overwritten, rounds.Sliced.asks_are, rounds.Sliced.asks_full_are, rounds.Sliced.each_did}
 
 -- positions that can advance by these numbers
 abbrev pub CanMove : List ℕ → List ℕ → Type 0
@@ -121,8 +121,8 @@ module _ (script : Script) (c : Collector) (o : Opening) (may : MayBegin script 
       helped = record { round = round; from = from; seat = seat; began = began; knows = has.knows; helped = helped };
       sound = sound;
       polled = polled;
-      collect = collects ∙ ap (λ (b : Bool). c.cycle.collect || b) (asks_known script c may.run may.limits may.still o round new ran.count ran.did);
-      full = askeds ∙ ap (λ (b : Bool). c.cycle.full || b) (asks_full_known script c may.run may.limits may.still o round new ran.count ran.did);
+      collect = collects ∙ ap (λ (b : Bool). c.cycle.collect || b) (asks_are script c may.run may.limits may.still o round new ran.count ran.did);
+      full = askeds ∙ ap (λ (b : Bool). c.cycle.full || b) (asks_full_are script c may.run may.limits may.still o round new ran.count ran.did);
       positions_are = size;
       each = each_did script c may.run may.limits may.still o round new ran.count ran.did (Some words) segments progress collect asked inbox
           mutators positions same moved;

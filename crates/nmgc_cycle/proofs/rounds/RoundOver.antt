@@ -25,11 +25,11 @@ all_registers (m ∷ ms) h =
     All-cons HasAllRegisters (end_of (seen_mutator m)) (map end_of (map seen_mutator ms)) (h 0 m refl) (all_registers ms (λ k n e. h (suc k) n e))
 
 -- the roots, as a run reads them
-pub known_roots : (places : List Place) (w : World) (ms : List Mutator) →
+pub reported_roots : (places : List Place) (w : World) (ms : List Mutator) →
     RepresentsRoots places w (turn.registers_of ms) (turn.queues_of ms) (turn.serials_of ms) →
     RepresentsRoots places w (registers_of (map end_of (map seen_mutator ms))) (queues_of (map end_of (map seen_mutator ms)))
     (serials_of (map end_of (map seen_mutator ms)))
-known_roots places w ms r =
+reported_roots places w ms r =
     subst (λ (l : List ℕ).
     RepresentsRoots places w l (queues_of (map end_of (map seen_mutator ms))) (serials_of (map end_of (map seen_mutator ms)))) (sym (same_registers ms))
     (subst (λ (l : List (List ℕ)). RepresentsRoots places w (turn.registers_of ms) l (serials_of (map end_of (map seen_mutator ms)))) (sym (same_queues ms))
@@ -161,14 +161,14 @@ module _ (script : Script) (c new : Collector) (o : Opening) (x : IsOver script 
       new_layout = same;
       stands = stands;
       registers = all_registers new.mutators.items (λ k m e. (one_did script c new o x k m e).1.2.size);
-      roots = known_roots (places script c new o x) (w script c new o x) new.mutators.items stopped.roots;
+      roots = reported_roots (places script c new o x) (w script c new o x) new.mutators.items stopped.roots;
     }
 
   -- and its finalised weak pointers are reported
   module _ (law : RoundListsFinalised) where
-    pub finalised_known : ListsFinalised (nursery_place layout 0) (places script c new o x) (s script c new o x).world (w script c new o x)
+    pub finalised_listed : ListsFinalised (nursery_place layout 0) (places script c new o x) (s script c new o x).world (w script c new o x)
         (finalised_in (shown script c new o x))
-    finalised_known =
+    finalised_listed =
         subst (λ (reported : List ℕ). ListsFinalised (nursery_place layout 0) (places script c new o x) (s script c new o x).world (w script c new o x) reported)
         (sym (same_finalised new.mutators.items))
         (subst (λ (began : World). ListsFinalised (nursery_place layout 0) (places script c new o x) began (w script c new o x)

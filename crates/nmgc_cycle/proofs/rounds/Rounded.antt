@@ -16,8 +16,8 @@ module _ (script : Script) (c new : Collector) (o : Opening) (x : IsOver script 
       (p.0, (d.0, d.1, h.each k p.0 m d.0 p.1 e d.1))
 
   -- the replies, and the commands, which are the slices of the rule
-  pub known_is : reported script c new o x ≡ map replies_in x.did.done
-  known_is = let h = worked script c new o x in same_maps (λ (m : Mutator).
+  pub reported_is : reported script c new o x ≡ map replies_in x.did.done
+  reported_is = let h = worked script c new o x in same_maps (λ (m : Mutator).
       m.replies.items) replies_in new.mutators.items x.did.done (h.mutators_are ∙ sym h.done_are) (λ k m d e f. replied script c new o x k m d e f)
 
   pub slices_are : slices script.config (s script c new o x).left ≡ map commands_of x.did.done
@@ -50,7 +50,7 @@ module _ (script : Script) (c new : Collector) (o : Opening) (x : IsOver script 
         let own : List Done = slice_index_or x.did.done m [] in
         let commands : slice_index_or (slices script.config (s script c new o x).left) m [] ≡ commands_of own =
         ap (λ (l : List (List Command)). slice_index_or l m []) slices_are ∙ get_or-map commands_of x.did.done m [] in
-        let replies : slice_index_or (reported script c new o x) m [] ≡ replies_in own = cc (known_is, get_or-map replies_in x.did.done m []) in
+        let replies : slice_index_or (reported script c new o x) m [] ≡ replies_in own = cc (reported_is, get_or-map replies_in x.did.done m []) in
         sym (
         cc (commands, replies, each_done m, own_again m (rows script c new o x))
         )
@@ -60,7 +60,7 @@ module _ (script : Script) (c new : Collector) (o : Opening) (x : IsOver script 
         IsRound script.config (s script c new o x) (reported script c new o x) (rows script c new o x) (t script c new o x allocation)
     is_round allocation swept = record {
       history = record {
-        lengths = cc (known_is, same_lengths x.did.done, slices_are);
+        lengths = cc (reported_is, same_lengths x.did.done, slices_are);
         order = order;
         legal = legal;
       };

@@ -45,14 +45,14 @@ module _ (script : Script) (c : Collector) (run : Run) (limits : IsInLimits scri
       omega (arith, is, most, left, within, few)
 
   -- a cycle is asked for if a worker asks
-  pub asks_known : list_any asks_of new ≡ some_asks is_collect (commands_in did.done)
-  asks_known =
+  pub asks_are : list_any asks_of new ≡ some_asks is_collect (commands_in did.done)
+  asks_are =
       same_any asks_of (λ (d : List Done). list_any is_collect (commands_of d)) new did.done (sym did.count) (λ k x d e f. (did.each k x d e f).slice.asks)
       ∙ sym (any_mapped (list_any is_collect) commands_of did.done)
 
   -- and so is a full one
-  pub asks_full_known : list_any asks_full_of new ≡ some_asks is_full (commands_in did.done)
-  asks_full_known =
+  pub asks_full_are : list_any asks_full_of new ≡ some_asks is_full (commands_in did.done)
+  asks_full_are =
       same_any asks_full_of (λ (d : List Done). list_any is_full (commands_of d)) new did.done (sym did.count) (λ k x d e f.
       (did.each k x d e f).slice.asks_full)
       ∙ sym (any_mapped (list_any is_full) commands_of did.done)

@@ -5,7 +5,7 @@ use Rattle.nmgc_alloc.specs.Reserve as reserve
 use Rattle.nmgc_cycle.specs.declared.progress.Progress as held
 use Rattle.nmgc_cycle.specs.declared.progress.Progress.TheVariants as doing
 use Rattle.nmgc_cycle.specs.declared.progress.Sweeping as held_sweeping
-use Rattle.nmgc_cycle.proofs.{Vocabulary.HasRoundLaws, rounds.GoneOn.HasGoneOn, rounds.ListedLeft.listed_left, rounds.MarkedBeside.phase_with, rounds.MarkedBeside.helped_as, rounds.Over.IsOver, rounds.Over.plan, rounds.Over.s, rounds.Over.w, rounds.Over.t, rounds.Over.rows, rounds.Over.places, rounds.Over.reported, rounds.Over.last, rounds.Over.shown, rounds.Over.view, lists.Phases.when_sweeping, lists.Phases.noted_snapshots, lists.Plans.is_runnable, lists.Plans.sound_state, rounds.RoundOver.layout, rounds.RoundOver.nurseries_left, rounds.RoundOver.in_order, rounds.RoundOver.remembered, rounds.RoundOver.finalised_known, rounds.RoundOver.round_from, rounds.Rounded.is_round}
+use Rattle.nmgc_cycle.proofs.{Vocabulary.HasRoundLaws, rounds.GoneOn.HasGoneOn, rounds.ListedLeft.listed_left, rounds.MarkedBeside.phase_with, rounds.MarkedBeside.helped_as, rounds.Over.IsOver, rounds.Over.plan, rounds.Over.s, rounds.Over.w, rounds.Over.t, rounds.Over.rows, rounds.Over.places, rounds.Over.reported, rounds.Over.last, rounds.Over.shown, rounds.Over.view, lists.Phases.when_sweeping, lists.Phases.noted_snapshots, lists.Plans.is_runnable, lists.Plans.sound_state, rounds.RoundOver.layout, rounds.RoundOver.nurseries_left, rounds.RoundOver.in_order, rounds.RoundOver.remembered, rounds.RoundOver.finalised_listed, rounds.RoundOver.round_from, rounds.Rounded.is_round}
 
 -- a quota was swept, or all that waited
 swept_min : (quota count before after : ℕ) → after + count ≡ before → count ≤ quota → (count < quota → after ≡ 0) → count ≡ min quota before
@@ -148,7 +148,7 @@ module _ (laws : HasRoundLaws) (script : Script) (c new : Collector) (o : Openin
     ordered = kept_on.1;
     remembers = kept_on.2;
     reported =
-        let all = finalised_known script c new o x laws.finalised in
+        let all = finalised_listed script c new o x laws.finalised in
         record { all = λ p parts there low alive gone. all.all p parts (fewer.2.old p there) low alive gone; low = all.low };
     free = more_free;
     cycle = rw e (work_on.sweeping, settled);

@@ -10,9 +10,9 @@ pub kept_of : (script : Script) (c : Collector) (end : End) → HasEnded script 
 kept_of script c end h = (stopped_by script c end h).0.1.kept
 
 -- the names of the list are its addresses' names
-names_known : (list : List OldWeak) → names_of list ≡ map (λ (p : Place). p.name) (places_of list)
-names_known [] = refl
-names_known (weak ∷ list) = ap (λ (l : List Name). weak.weak ∷ l) (names_known list)
+names_are : (list : List OldWeak) → names_of list ≡ map (λ (p : Place). p.name) (places_of list)
+names_are [] = refl
+names_are (weak ∷ list) = ap (λ (l : List Name). weak.weak ∷ l) (names_are list)
 
 -- it reports the run, to the end that the last stop answered
 pub reported : (script : Script) (c : Collector) (end : End) → HasEnded script c end → IsLawful script (report_of c end)
@@ -25,7 +25,7 @@ reported script c end h =
       agrees = at_stop.agrees;
       end_is = sym at_stop.answered ∙ stopped.1;
       weaks = (seen c).weaks;
-      weaks_are = names_known c.heap.weaks.list;
+      weaks_are = names_are c.heap.weaks.list;
       heap = at_stop.heap;
     }
 

@@ -1,5 +1,5 @@
 -- The collector after a stop has answered.
-use Rattle.nmgc_cycle.proofs.{Vocabulary.ℕ, Vocabulary.◌≡◌, Vocabulary.◌<◌, Vocabulary.◌≤◌, Vocabulary.List, Vocabulary.[], Vocabulary.◌∷◌, Vocabulary.◌++◌, Vocabulary.refl, Vocabulary.sym, Vocabulary.ap, Vocabulary.subst, Vocabulary.◌∙◌, Vocabulary.true, Vocabulary.false, Vocabulary.Option, Vocabulary.Some, Vocabulary.None, Vocabulary.CycleRow, Vocabulary.End, Vocabulary.RoundRows, Vocabulary.StopRow, Vocabulary.Script, Vocabulary.AreRowsOf, Vocabulary.last_state, Vocabulary.has_left, Vocabulary.Plan, Vocabulary.State, Vocabulary.is_idle, Vocabulary.plan_of, Vocabulary.free_count, Vocabulary.reserve_of, Vocabulary.IsStop, Vocabulary.stop_row, Vocabulary.answer_of, Vocabulary.report_cycles, Vocabulary.Collector, Vocabulary.AreFewAtStop, Vocabulary.IsAfterStop, Vocabulary.StandsAt, stops.Begins.Begins, stops.Begins.IsReportedBut, lengths.StopFew.few_at_stop, stops.StopSteps.IsLed, stops.Stopped.is_short_by, stops.Stopped.is_enough_by, stops.Stopped.answers_done, stops.Stopped.answers_on, stops.Stopped.answers_none, stops.Stopped.answers_full, stops.Reporting.stands_known, stops.WholeStop.whole_stop}
+use Rattle.nmgc_cycle.proofs.{Vocabulary.ℕ, Vocabulary.◌≡◌, Vocabulary.◌<◌, Vocabulary.◌≤◌, Vocabulary.List, Vocabulary.[], Vocabulary.◌∷◌, Vocabulary.◌++◌, Vocabulary.refl, Vocabulary.sym, Vocabulary.ap, Vocabulary.subst, Vocabulary.◌∙◌, Vocabulary.true, Vocabulary.false, Vocabulary.Option, Vocabulary.Some, Vocabulary.None, Vocabulary.CycleRow, Vocabulary.End, Vocabulary.RoundRows, Vocabulary.StopRow, Vocabulary.Script, Vocabulary.AreRowsOf, Vocabulary.last_state, Vocabulary.has_left, Vocabulary.Plan, Vocabulary.State, Vocabulary.is_idle, Vocabulary.plan_of, Vocabulary.free_count, Vocabulary.reserve_of, Vocabulary.IsStop, Vocabulary.stop_row, Vocabulary.answer_of, Vocabulary.report_cycles, Vocabulary.Collector, Vocabulary.AreFewAtStop, Vocabulary.IsAfterStop, Vocabulary.StandsAt, stops.Begins.Begins, stops.Begins.IsReportedBut, lengths.StopFew.few_at_stop, stops.StopSteps.IsLed, stops.Stopped.is_short_by, stops.Stopped.is_enough_by, stops.Stopped.answers_done, stops.Stopped.answers_on, stops.Stopped.answers_none, stops.Stopped.answers_full, stops.Reporting.stands_reported, stops.WholeStop.whole_stop}
 use Rattle.nmgc_journal.specs.declared.report.End.TheVariants as end
 
 -- a collector that represents the last state of a run is stopped by it
@@ -42,7 +42,7 @@ module _ (script : Script) (old new : Collector) (b : Begins script old) (many :
   last = record new { rows = record new.rows { stops = stops }; answered = answered }
 
   stands : StandsAt script last t
-  stands = stands_known script new last t t refl refl led.stands.matches.collect led.stands.matches.full led.stands
+  stands = stands_reported script new last t t refl refl led.stands.matches.collect led.stands.matches.full led.stands
 
   few : AreFewAtStop script last
   few = rw stops_are (few_at_stop script new old.rows.stops row answered led.few led.begun led.more)

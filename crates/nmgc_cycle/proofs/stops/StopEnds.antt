@@ -3,7 +3,7 @@ use Rattle.nmgc_cycle.proofs.Vocabulary.{ℕ, ◌≡◌, ◌<◌, ◌≤◌, ◌
 use Rattle.nmgc_segment.specs.declared.state.State.TheVariants as stands
 use Rattle.nmgc_journal.specs.declared.report.Phase.TheVariants as phase
 use Rattle.nmgc_cycle.specs.declared.stop.StopEnd.TheVariants as answer
-use Rattle.nmgc_cycle.proofs.{stops.Begins.Begins, stops.Begins.begins, stops.Begins.one_turn, lists.Phases.when_idle, stops.StopAnswers.Goes, stops.StopAnswers.done, stops.StopAnswers.on, stops.StopAnswers.goes_on, stops.StopAnswers.full, stops.StopSteps.IsLed, stops.StopSteps.proceeds_known, stops.Stopped.row_is, stops.Stopped.quiet_then, stops.Stopped.busy_then, rounds.WhatIsLeft.left_is}
+use Rattle.nmgc_cycle.proofs.{stops.Begins.Begins, stops.Begins.begins, stops.Begins.one_turn, lists.Phases.when_idle, stops.StopAnswers.Goes, stops.StopAnswers.done, stops.StopAnswers.on, stops.StopAnswers.goes_on, stops.StopAnswers.full, stops.StopSteps.IsLed, stops.StopSteps.proceeding_reported, stops.Stopped.row_is, stops.Stopped.quiet_then, stops.Stopped.busy_then, rounds.WhatIsLeft.left_is}
 use Rattle.nmgc_cycle.proofs.stops.StopSteps as steps
 
 -- the effects of a stop's calls, one after another
@@ -43,7 +43,7 @@ pub some_left_then : (script : Script) (old new : Collector) (trigger stop : ℕ
     IsTrue some ↔ SomeIsLeft script.threads old.positions.items → IsTrue some ↔ SomeIsLeft script.threads new.positions.items
 some_left_then script old new trigger stop some proceeds is =
     let same : new.positions.items ≡ old.positions.items = ap (λ (x : List RoundRows × List StopRow × List ℕ).
-    x.2) (proceeds_known trigger some stop old new proceeds) in
+    x.2) (proceeding_reported trigger some stop old new proceeds) in
     subst (λ (positions : List ℕ). IsTrue some ↔ SomeIsLeft script.threads positions) (sym same) is
 
 -- the reason for its answer

@@ -11,26 +11,26 @@ abbrev pub reported : Collector → List RoundRows × List StopRow × List ℕ
 reported c = (c.rows.rounds, c.rows.stops, c.positions.items)
 
 -- the end changes only the cycle and its row
-ends_known : (stop : ℕ) (p : Doing) (old new : Collector) → Ends stop p old new → (reported new ≡ reported old) × (new.cycle.begun ≡ old.cycle.begun)
-ends_known stop doing.Idle old new h = (ap reported h, ap (λ (x : Collector). x.cycle.begun) h)
-ends_known stop (doing.Marking m) old new h = (ap reported h, ap (λ (x : Collector). x.cycle.begun) h)
-ends_known stop (doing.Sweeping w) old new (inl h) = (ap reported h.1, ap (λ (x : Collector). x.cycle.begun) h.1)
-ends_known stop (doing.Sweeping w) old new (inr h) = (ap reported h.1, ap (λ (x : Collector). x.cycle.begun) h.1)
+end_reported : (stop : ℕ) (p : Doing) (old new : Collector) → Ends stop p old new → (reported new ≡ reported old) × (new.cycle.begun ≡ old.cycle.begun)
+end_reported stop doing.Idle old new h = (ap reported h, ap (λ (x : Collector). x.cycle.begun) h)
+end_reported stop (doing.Marking m) old new h = (ap reported h, ap (λ (x : Collector). x.cycle.begun) h)
+end_reported stop (doing.Sweeping w) old new (inl h) = (ap reported h.1, ap (λ (x : Collector). x.cycle.begun) h.1)
+end_reported stop (doing.Sweeping w) old new (inr h) = (ap reported h.1, ap (λ (x : Collector). x.cycle.begun) h.1)
 
-begins_known : (trigger stop : ℕ) (old new : Collector) → BeginsThen trigger stop old new → reported new ≡ reported old
-begins_known trigger stop old new (inl h) = ap reported h.1.is ∙ ap reported h.1.starts.rest
-begins_known trigger stop old new (inr h) = ap reported h.1
+begin_reported : (trigger stop : ℕ) (old new : Collector) → BeginsThen trigger stop old new → reported new ≡ reported old
+begin_reported trigger stop old new (inl h) = ap reported h.1.is ∙ ap reported h.1.starts.rest
+begin_reported trigger stop old new (inr h) = ap reported h.1
 
 -- and so in a finish and a full cycle
 
-finished_known : (stop : ℕ) (old new : Collector) → HasFinished stop old new → reported new ≡ reported old
-finished_known stop old new f = (ends_known stop f.swept.cycle.progress f.swept new f.ends).0 ∙ ap reported f.sweeps.rest ∙ ap reported f.closes.rest
+finish_reported : (stop : ℕ) (old new : Collector) → HasFinished stop old new → reported new ≡ reported old
+finish_reported stop old new f = (end_reported stop f.swept.cycle.progress f.swept new f.ends).0 ∙ ap reported f.sweeps.rest ∙ ap reported f.closes.rest
 
-pub proceeds_known : (trigger : ℕ) (some : Bool) (stop : ℕ) (old new : Collector) → ProceedsThen trigger some stop old new → reported new ≡ reported old
-proceeds_known trigger some stop old new (inl x) =
+pub proceeding_reported : (trigger : ℕ) (some : Bool) (stop : ℕ) (old new : Collector) → ProceedsThen trigger some stop old new → reported new ≡ reported old
+proceeding_reported trigger some stop old new (inl x) =
     let d = x.1 in
-    ap reported d.is ∙ finished_known stop d.started d.last d.again ∙ ap reported d.starts.is ∙ ap reported d.starts.starts.rest ∙ finished_known stop old d.idled d.first
-proceeds_known trigger some stop old new (inr x) = begins_known trigger stop old new x.1
+    ap reported d.is ∙ finish_reported stop d.started d.last d.again ∙ ap reported d.starts.is ∙ ap reported d.starts.starts.rest ∙ finish_reported stop old d.idled d.first
+proceeding_reported trigger some stop old new (inr x) = begin_reported trigger stop old new x.1
 
 -- the steps of a stop in the run, and the state to which they lead
 pub record IsLed (script : Script) (began : World) (s : State) (many : ℕ) (old new : Collector) : Type 0 where
@@ -123,7 +123,7 @@ module _ (laws : HasStopLaws) (script : Script) (old p : Collector) (limits : Is
 
         -- no cycle began yet
         pub begun_is : e.cycle.begun ≡ old.cycle.begun
-        begun_is = (ends_known number c.cycle.progress c e ends).1 ∙ ap (λ (x : Collector). x.cycle.begun) closed.rest ∙
+        begun_is = (end_reported number c.cycle.progress c e ends).1 ∙ ap (λ (x : Collector). x.cycle.begun) closed.rest ∙
             ap (λ (x : Collector). x.cycle.begun) taken.rest ∙ ap (λ (x : Collector). x.cycle.begun) h.rest
 
         few_ended : AreFew (Unit {0}) script e (length old.rows.stops + 1)
@@ -134,8 +134,8 @@ module _ (laws : HasStopLaws) (script : Script) (old p : Collector) (limits : Is
             (left_sweeping close_led.0 c close_led.0.progress close_led.2.matches.phase close_led.2.sweeper)
 
         -- no row was added yet
-        ended_known : reported e ≡ reported old
-        ended_known = (ends_known number c.cycle.progress c e ends).0 ∙ ap reported closed.rest ∙ ap reported taken.rest ∙ ap reported h.rest
+        ended_reported : reported e ≡ reported old
+        ended_reported = (end_reported number c.cycle.progress c e ends).0 ∙ ap reported closed.rest ∙ ap reported taken.rest ∙ ap reported h.rest
 
         left_on : last_ended.left ≡ b.state.left
         left_on = ended_on.0.left ∙ closed_on.0.left
@@ -154,7 +154,7 @@ module _ (laws : HasStopLaws) (script : Script) (old p : Collector) (limits : Is
           result_with =
               let positions : (k : ℕ) → k < length script.threads →
               slice_index e.positions.items k ≡ answered_count old.rows.rounds k = λ k lt. stands_ended.kept.positions k lt ∙
-              ap (λ (x : List RoundRows × List StopRow × List ℕ). answered_count x.0 k) ended_known in
+              ap (λ (x : List RoundRows × List StopRow × List ℕ). answered_count x.0 k) ended_reported in
               sym (left_is script old.rows.rounds b.state.left e.positions.items b.left positions some some_is)
 
           left_ended : some ≡ has_left last_ended.left
@@ -167,14 +167,14 @@ module _ (laws : HasStopLaws) (script : Script) (old p : Collector) (limits : Is
           proceeded_on : KeepsOn last_ended proceed_led.0
           proceeded_on = proceeding_keeps (plan_of script) last_ended proceed_led.0 proceed_led.1 proceed_led.2
 
-          proceeded_known : reported n ≡ reported e
-          proceeded_known = proceeds_known script.config.trigger some number e n proceeds
+          proceeded_reported : reported n ≡ reported e
+          proceeded_reported = proceeding_reported script.config.trigger some number e n proceeds
 
           pub rounds_are : n.rows.rounds ≡ old.rows.rounds
-          rounds_are = ap (λ (x : List RoundRows × List StopRow × List ℕ). x.0) (proceeded_known ∙ ended_known)
+          rounds_are = ap (λ (x : List RoundRows × List StopRow × List ℕ). x.0) (proceeded_reported ∙ ended_reported)
 
           pub stops_are : n.rows.stops ≡ old.rows.stops
-          stops_are = ap (λ (x : List RoundRows × List StopRow × List ℕ). x.1) (proceeded_known ∙ ended_known)
+          stops_are = ap (λ (x : List RoundRows × List StopRow × List ℕ). x.1) (proceeded_reported ∙ ended_reported)
 
           pub led : IsLed script b.began b.state (length p.heap.promotion.moves) old n
           led = record {
@@ -197,7 +197,7 @@ module _ (laws : HasStopLaws) (script : Script) (old p : Collector) (limits : Is
             left = proceeded_on.left ∙ left_on;
             few = proceeding_few script e n (length old.rows.stops + 1) number some proceed_led.0 stands_ended.kept.layout (λ none.
                 (laws.begin_ready script e last_ended limits stands_ended none).stood) (words_in n.heap.words) proceed_led.4.heap.holds.stands proceeds
-                few_ended (ap (λ (x : List RoundRows × List StopRow × List ℕ). x.0) proceeded_known) (λ due.
+                few_ended (ap (λ (x : List RoundRows × List StopRow × List ℕ). x.0) proceeded_reported) (λ due.
                 fresh_where_due (plan_of script) last_ended proceed_led.0 proceed_led.1 proceed_led.2
                 (full_due script e last_ended some stands_ended left_ended due));
             begun = (let own_begun = proceeding_begun script.config.trigger some number e n proceeds in let before = begun_is in

@@ -131,10 +131,10 @@ tried_from script old listed roomy new first reserved second h = λ k m n e f.
     }
 
 -- the replies were taken
-tried_known : (script : Script) (old did : Collector) (mutators : Vec Mutator Global) (rounds : List RoundRows) →
+tried_cleared : (script : Script) (old did : Collector) (mutators : Vec Mutator Global) (rounds : List RoundRows) →
     mutators.items ≡ map cleared did.mutators.items → HaveTried script old did →
     HaveTried script old (record did { mutators = mutators; rows = record did.rows { rounds = rounds } })
-tried_known script old did mutators rounds same h = λ k m n e f.
+tried_cleared script old did mutators rounds same h = λ k m n e f.
     let x = map_item cleared did.mutators.items k n (cc (same, f)) in
     let t = h k m x.0 e x.1 in
     record {
@@ -150,7 +150,7 @@ pub played_tried : (script : Script) (o : Opening) (old listed roomy did : Colle
     roomy ≡ record listed { inbox = roomy.inbox } → DidSlices script o roomy did → mutators.items ≡ map cleared did.mutators.items →
     HaveTried script old (record did { mutators = mutators; rows = record did.rows { rounds = rounds } })
 played_tried script o old listed roomy did mutators rounds first reserved second slices same =
-    tried_known script old did mutators rounds same (tried_from script old listed roomy did first reserved second (slices_tried script o roomy did slices))
+    tried_cleared script old did mutators rounds same (tried_from script old listed roomy did first reserved second (slices_tried script o roomy did slices))
 
 -- the ends of the rings met
 pub met_tried : (script : Script) (old mid new : Collector) (many : ℕ) → new ≡ record mid { inbox = new.inbox; mutators = new.mutators } →

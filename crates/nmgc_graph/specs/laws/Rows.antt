@@ -52,7 +52,7 @@ module _ (marks : List (List Bool)) (name : Name) (place : HasPlace marks name) 
   pub makers_kept : length (with_mark marks name) ≡ length marks
   makers_kept = length-set marks name.maker (set (row_of marks name.maker) name.serial true)
 
--- adding a new name takes it off those that aren't in the set
+-- adding a new name makes the names outside the set one fewer
 pub one_fewer : (marks : List (List Bool)) (name : Name) → HasPlace marks name → mark_of marks name ≡ false →
     unmarked_count (with_mark marks name) + 1 ≡ unmarked_count marks
 one_fewer marks name place new =

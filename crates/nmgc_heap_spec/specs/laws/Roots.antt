@@ -155,7 +155,7 @@ module _ (layout : Layout) (K L : Name → Node →
       let e : w.shared ≡ Weak (Some parts) = cc in
       subst IsShared e world.shared
 
-  -- an alive weak pointer is listed
+  -- a weak pointer that is alive is listed
   weak_listed : (weak : Name) (parts : Parts) → IsAlive w weak parts → IsAliveWeak v weak
   weak_listed weak parts alive =
       let wide : IsWide w weak = start weak (inr (weak, parts, alive, inl refl)) in

@@ -13,7 +13,7 @@ held_one (x ∷ values) v c = elim (contains_cases (holds x) (map holds values) 
 none_held : (n : ℕ) (s : Slot) (v : Value) → (s ≡ holds v → ⊥) → Contains (replicate n s) (holds v) → ⊥
 none_held n s v differs c = All-contains (λ t. t ≡ holds v → ⊥) (replicate n s) (holds v) (All-replicate (λ t. t ≡ holds v → ⊥) n s differs) c refl
 
--- a slot holds a strong field, or a part of an alive weak pointer
+-- a slot holds a strong field, or a part of a weak pointer that is alive
 pub slot_held : (node : Node) (v : Value) → Contains (slots_of node) (holds v) → Contains (strong_fields node) v ⊎
     ((parts : Parts) × (node ≡ Weak (Some parts)) × Contains (parts.key ∷ parts.value ∷ parts.finaliser ∷ []) v)
 slot_held (Con tag values) v c = inl (held_one values v c)

@@ -15,7 +15,7 @@ use nmgc_lists::{List, ListMemory, VecList};
 use nmgc_minor::{Move, Promotion};
 use nmgc_mutator::Mutator;
 use nmgc_object::{Address, FinQueue, Layout, Nursery};
-use nmgc_stop_spec::laws::one_young_object;
+use nmgc_stop_spec::laws::a_stop_may_have_a_new_object;
 use nmgc_updrem::link;
 use nmgc_world_spec::Name;
 use std::alloc::Global;
@@ -68,7 +68,7 @@ fn promote_young(
     requires one { (m : MutatorSeen) × (mutators.old ≡ m ∷ []) × IsYoungMutator m }
 {
     let _ = segments.layout();
-    one_young_object();
+    a_stop_may_have_a_new_object();
     promotion.promote(words, segments, mutators);
     assert!(rt; mutators.len() == 1);
     assert!(rt; mutators[0].nursery.top == 2080);

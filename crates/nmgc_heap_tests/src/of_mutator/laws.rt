@@ -8,5 +8,5 @@ ghost use Rattle.nmgc_heap_tests.specs.Sample.{snapshot_opening, IsSnapshotHeap}
 pub(super) fn a_marking_round_opens()
     ensures { (words : List ℕ) → IsSnapshotHeap words → CanOpen snapshot_opening words }
 {
-    nmgc_heap_spec::laws::one_snapshot();
+    nmgc_heap_spec::laws::a_small_world_has_words();
 }

@@ -103,7 +103,7 @@ pub distinct_ordered : (xs : List Name) → AreDistinct xs → IsInOrder (in_ord
 distinct_ordered [] d = tt
 distinct_ordered (x ∷ xs) d = put_ordered x (in_order xs) (distinct_ordered xs d.1) (λ c. d.0 ((in_order_has xs x).0 c))
 
--- so a list of exactly the names with P, each once, lists them in order after it is put in order
+-- a list of exactly the names with P, each once, lists them in order after it is put in order
 pub lists_in_order : (P : Name → Type 0) (xs : List Name) → AreDistinct xs → ((n : Name) → Contains xs n ↔ P n) → Lists P (in_order xs)
 lists_in_order P xs d h = record {
   ordered = distinct_ordered xs d;
@@ -268,7 +268,7 @@ many_once (x ∷ xs) h = (
   many_once xs (λ n. let all = sum_by-cons (one_if n) x xs in let most = h n in omega (arith, all, most)),
 )
 
--- so names whose ordered list is strictly ordered have no duplicate
+-- names whose ordered list is strictly ordered have no duplicate
 pub ordered_once : (xs : List Name) → IsInOrder (in_order xs) → AreDistinct xs
 ordered_once xs o = many_once xs (λ n.
     let same = many_in_order n xs in

@@ -35,7 +35,7 @@ span_more maker first count n m s =
     ap (λ (k : ℕ). names_from maker first k) one ∙ span_suc maker first count ∙ ap (λ (last : Name).
     names_from maker first count ++ last ∷ []) (sym (same_name n (named maker (first + count)) m s))
 
--- its names are the maker's names from the first serial on
+-- a span's names are the maker's names from the first serial on
 pub span_has : (maker first count : ℕ) (n : Name) → Contains (names_from maker first count) n →
     (n.maker ≡ maker) × (first ≤ n.serial) × (n.serial < first + count)
 span_has maker first zero n c = absurd (omega (arith, c.1))
@@ -87,7 +87,7 @@ many_in n (s ∷ spans) =
     sum_by-append (one_if n) (names_of s) (names_in spans) ∙ ap (λ (k : ℕ). many n (names_of s) + k) (many_in n spans) ∙
     sym (sum_by-cons (λ (t : Span). many n (names_of t)) s spans)
 
--- they have the same number of each name
+-- the same spans in another order have the same number of each name
 same_many : (n : Name) (old new : List Span) → IsPermutation old new → many n (names_in new) ≡ many n (names_in old)
 same_many n old new p = many_in n new ∙ sum_by-IsPermutation (λ (s : Span). many n (names_of s)) old new p ∙ sym (many_in n old)
 
@@ -179,8 +179,7 @@ sorted_rising (x ∷ y ∷ ys) s = rising_cons x (y ∷ ys)
     heads : (a b : Span) (xs ys : List Span) → a ∷ xs ≡ b ∷ ys → a ≡ b
     heads a b xs ys e = cc
 
--- if two spans share no name and the second doesn't begin before the first, no name of the second is before one of the first =>
--- Answers whether any block
+-- if two spans share no name and the second doesn't begin first, no name of the second is before a name of the first
 spans_apart : (s t : Span) (m n : Name) → (IsBefore (first_of t) (first_of s) → ⊥) → ((x : Name) → Contains (names_of s) x → Contains (names_of t) x → ⊥) →
     Contains (names_of t) m → Contains (names_of s) n → IsBefore m n → ⊥
 spans_apart s t m n rises apart c d (inl less) =
@@ -216,7 +215,7 @@ rising_steady (s ∷ spans) r d =
     spans_apart s in_t.0 m n (r.0 in_t.0 in_t.1)
     (λ x p q. apart_append (names_of s) (names_in spans) d x p (contains_flat names_of spans in_t.0 x in_t.1 q)) in_t.2 e b)
 
--- so sorted spans have their names in order, if there is no duplicate
+-- sorted spans have their names in order, if there is no duplicate
 pub spans_in_order : (old new : List Span) → IsPermutation old new → AreSorted new → AreDistinct (names_in old) →
     names_in new ≡ in_order (names_in old)
 spans_in_order old new p sorted once =

@@ -172,14 +172,14 @@ module _ (s : State) (f : Facts s) (w : IsWorld s.world) (m : ℕ) (c : Command)
     | inr new ↦ owed_safe name (opened_owed s.world m c name new)
   ]
 
-  -- and so is the weak pointer that it finalised
+  -- the weak pointer that this command finalised is owed
   command_ended : (weak : Name) → Contains next.finalised weak → IsSome (node_of s.snapshot weak) → IsSafe next weak
   command_ended weak h there = elim (Contains-append_cases s.finalised (finalised_by s.world m c) weak h) [
     | inl old ↦ still_safe weak (f.ended weak old there)
     | inr new ↦ owed_safe weak ((finalised_owed s.world m c weak new).2 weak (inl refl))
   ]
 
-  -- and so are the names that this weak pointer kept, since it kept the same names in the snapshot
+  -- the names that this weak pointer kept are owed, since it kept the same names in the snapshot
   command_finalised : (weak target : Name) (parts : Parts) → Contains next.finalised weak → IsAlive s.snapshot weak parts →
       IsKeptBy weak parts target → IsSafe next target
   command_finalised weak target parts h a kept = elim (Contains-append_cases s.finalised (finalised_by s.world m c) weak h) [

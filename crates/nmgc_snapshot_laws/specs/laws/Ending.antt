@@ -77,7 +77,7 @@ module _ (s : State) (f : Facts s) (queue : s.queue ≡ []) (owed : AreEmpty s.o
     | inr v ↦ first_part weak target parts alive kept (λ w u. IsRevived.revived_key weak target key parts w is v kept u)
   ]
 
-  -- and only live names, since the target of a live name's field was its target in the snapshot, or may be held
+  -- only live names are marked first, since the target of a live name's field was its target in the snapshot, or may be held
   revived_live : (name : Name) → IsRevived s name → IsLiveIn s name
   revived_live name (closing.plain_key weak target parts w plain kept u) = reach.plain_key weak target parts w.alive plain kept
   revived_live name (closing.marked_key weak target key parts w is c kept u) = reach.live_key weak target key parts w.alive is (f.base.live key c) kept

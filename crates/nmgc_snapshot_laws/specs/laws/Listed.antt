@@ -34,7 +34,7 @@ listed_from name xs h = by_test (is_listed name xs) refl
     by_test true e = refl
     by_test false e = absurd (not_listed name xs e h)
 
--- lists with one of them replaced
+-- the lists after one of them was replaced
 pub names_same : (lists : List (List Name)) (m : ℕ) (xs : List Name) → m < length lists → names_of (set lists m xs) m ≡ xs
 names_same lists m xs lt = get_or-set_same lists m xs [] lt
 

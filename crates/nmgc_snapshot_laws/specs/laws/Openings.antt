@@ -66,7 +66,7 @@ values_snapshot s (value.Number n ∷ values) = values_snapshot s values
 values_snapshot s (value.Ref name ∷ values) = values_snapshot (mark_name s name) values ∙
     mark_cases (λ t. t.snapshot ≡ s.snapshot) s name (λ e. refl) (λ e. refl)
 
--- and so do the opened and the finalised names
+-- the opened and the finalised names stay
 values_lists : (s : State) (values : List Value) → ((mark_values s values).opened ≡ s.opened) × ((mark_values s values).finalised ≡ s.finalised)
 values_lists s [] = (refl, refl)
 values_lists s (value.Nil ∷ values) = values_lists s values

@@ -8,7 +8,7 @@ use Rattle.nmgc_alloc.specs.{Numbered.nth, Numbered.Segments, Numbered.HasNumber
 use Rattle.nmgc_heap_spec.specs.Moves.{Moved}
 use Rattle.nmgc_sweep.specs.NameTable.{AreNamed, HaveEntries, HaveNoted, entry_of, named_at}
 
--- a segment with a name isn't free
+-- a segment whose cells are empty has no name
 
 lies_not_free : (a : AllocState) (number block : ℕ) (name : Name) → cells a number ≡ no_cells → LiesIn a number block name → ⊥
 lies_not_free a number block name none lies = none_some (name_in no_cells block) name refl (ap (λ (x : Cells). name_in x block) (sym none) ∙ lies)
@@ -26,7 +26,7 @@ lies_used : (s : Segments) (words : List ℕ) (a : AllocState) → StandsFor s w
 lies_used s words a stood number block name lies free =
     lies_not_free a number block name ((stood.shows number (lies_exists s words a stood number block name lies)).free free) lies
 
--- and has the class of the allocation state
+-- a segment with a name has the class of the allocation state
 pub lies_class : (s : Segments) (words : List ℕ) (a : AllocState) → StandsFor s words a → (number block : ℕ) (name : Name) →
     LiesIn a number block name → (cells a number).class ≡ (nth s.segments number).class
 lies_class s words a stood number block name lies =
@@ -54,7 +54,7 @@ later_entry p q size above four apart same = omega (arith, above, four, apart, s
 pub entry_there : (at n : ℕ) → FIRST_PLACE ≤ at → at < FIRST_PLACE + MIN_BLOCK_WORDS * n → entry_of at < n
 entry_there at n above below = div_below (at - FIRST_PLACE) MIN_BLOCK_WORDS n (omega arith) (omega (arith, above, below))
 
--- so every address below the nurseries has an entry
+-- every address below the nurseries has an entry
 pub low_entry : (layout : Layout) (names : List Name) (at : ℕ) → IsLayout layout → HaveEntries layout names →
     at < FIRST_PLACE + layout.segments * layout.words → entry_of at < length names
 low_entry layout names at sound enough low =
@@ -68,7 +68,7 @@ place_above s number block at sound begins =
     let i = (lies_in s number block at at sound begins (omega arith) (omega (arith, four))).from in
     omega (arith, i)
 
--- so no two blocks have the same entry
+-- no two blocks have the same entry
 pub one_entry : (s : Segments) (m b at n c to : ℕ) → IsSegments s → IsBlockAt s m b at → IsBlockAt s n c to → entry_of at ≡ entry_of to → (m ≡ n) × (b ≡ c)
 one_entry s m b at n c to sound first second same = elim (blocks_lie_apart s m b at n c to sound first second) [
   | inl one ↦ one
@@ -82,7 +82,7 @@ one_entry s m b at n c to sound first second same = elim (blocks_lie_apart s m b
 pub named_first : (layout : Layout) (names : List Name) (count : ℕ) → AreNamed layout names (all_empty count)
 named_first layout names count number block name lies = absurd (lies_not_free (all_empty count) number block name (first_cells count number) lies)
 
--- a step that keeps names and classes
+-- the array still has the names of blocks after a step that adds no name and keeps the classes of blocks with names
 named_over : (layout : Layout) (names : List Name) (a b : AllocState) →
     ((number block : ℕ) (name : Name) → LiesIn b number block name → LiesIn a number block name ×
     ((cells b number).class ≡ (cells a number).class)) → AreNamed layout names a → AreNamed layout names b
@@ -133,7 +133,8 @@ pub named_swept : (layout : Layout) (names : List Name) (Kept : Name → Type 0)
     AreNamed layout names a → AreNamed layout names b
 named_swept layout names Kept count a b s named = named_each layout names Kept a b s.numbers s.sweeps named
 
--- noted moves: each name moved to its block or has its entry from before, and each moved object lies at its new address
+-- the array has the names of blocks after noted moves. Each name moved to its block or has its entry from before, and each
+-- moved object lies at its new address
 pub named_noted : (s : Segments) (words : List ℕ) (b : AllocState) (moves : List Moved) (old new : List Name) → IsSegments s → StandsFor s words b →
     HaveNoted moves old new
     → ((m : Moved) → Contains moves m → (number : ℕ) × (block : ℕ) × LiesIn b number block m.name ×

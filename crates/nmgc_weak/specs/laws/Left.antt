@@ -36,7 +36,7 @@ left_is_stayed words (at ∷ places) list =
     left_is_stayed words places (filter (λ (w : OldWeak). not (leaves_at words at w)) list) ∙
     filter_twice (λ (w : OldWeak). not (leaves_at words at w)) (λ (w : OldWeak). stays words places w) list
 
--- an alive weak pointer stays
+-- a weak pointer that is alive stays
 alive_stays : (words places : List ℕ) (w : OldWeak) → is_alive words w ≡ true → stays words places w ≡ true
 alive_stays words [] w alive = refl
 alive_stays words (at ∷ places) w alive =

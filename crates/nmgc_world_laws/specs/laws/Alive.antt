@@ -1,4 +1,4 @@
--- Alive weak pointers: a command makes no weak pointer alive except a new one.
+-- Weak pointers that are alive: a command makes no weak pointer alive except a new one.
 use Rattle.nmgc_world_laws.specs.{laws.Vocabulary.◌≡◌, laws.Vocabulary.◌≢◌, laws.Vocabulary.◌<◌, laws.Vocabulary.ℕ, laws.Vocabulary.length, laws.Vocabulary.refl, laws.Vocabulary.sym, laws.Vocabulary.◌∙◌, laws.Vocabulary.Some, laws.Vocabulary.None, laws.Vocabulary.IfSome, laws.Vocabulary.Operand, laws.Vocabulary.Command, laws.Vocabulary.Change, laws.Vocabulary.SHARED_MAKER, laws.Vocabulary.Name, laws.Vocabulary.Parts, laws.Vocabulary.Node, laws.Vocabulary.Con, laws.Vocabulary.Var, laws.Vocabulary.Arr, laws.Vocabulary.Thunk, laws.Vocabulary.Weak, laws.Vocabulary.Stack, laws.Vocabulary.World, laws.Vocabulary.state_of, laws.Vocabulary.node_of, laws.Vocabulary.changed, laws.Vocabulary.value_for, laws.Vocabulary.next_name, laws.Vocabulary.step, laws.Vocabulary.at_some, laws.Vocabulary.SameShape, laws.Vocabulary.kind_of, laws.Vocabulary.made_by, laws.Keeps.Any, laws.Keeps.stepped, laws.Keeps.stepped_nodes, laws.NodeShapes.changed_shape}
 use Rattle.nmgc_world_spec.specs.declared.command.Command.TheVariants as command
 use Rattle.nmgc_world_spec.specs.declared.change.Change.TheVariants as change

@@ -1,7 +1,7 @@
 -- A step as its changes of a world: first of an object, then of the mutator's registers and queue. A property that each of
 -- the two changes keeps is kept by every command.
 --
--- Q is a property of values. The world's values have it, and so do the values that the command brings.
+-- Q is a property of values. The values of the world and the values that the command brings have Q.
 use Rattle.std.specs.Prelude.{◌≡◌, ◌-◌, ◌∷◌, ◌++◌}
 use Rattle.nmgc_world_laws.specs.laws.Vocabulary.{ℕ, List, [], length, map, set, drop, refl, sym, subst, Option, Some, None, Bool, true, false, eqb, ltb, inl, inr, slice_get, IfSome, All, get_or_past, All-cons, All-nil, All-head, All-set, All-push, All-take, All-drop, All-get_or, cases_lt, Operand, Register, Shared, Command, Reply, Change, Name, Value, Node, Con, Var, Arr, Thunk, Weak, Stack, MutatorState, World, state_of, node_of, given, held_by, changed, field_read, result_read, value_read, stack_pushed, stack_popped, shared_name, value_of, value_for, with_state, with_register, with_node, with_finaliser, holding_given, keeping, born, object_of, read_object, change_node, change_object, change_into, asked, step, item_has, at_some, Fields, made_by}
 use Rattle.nmgc_world_spec.specs.declared.command.Command.TheVariants as command

@@ -6,8 +6,8 @@ loop-debt-init c = λ before h. subst (λ (l : List Debt). IsLeastIn l c.args.so
 
 pub loop-debt-preserved : goal.loop-debt-preserved
 loop-debt-preserved c = λ before h.
-    least_step c.args.marks.now c.args.debts.now c.loop-debt.debt-index _ before c.lesser-least.result c.loop-debt-test.true
-    (c.lesser-least.ensures (before ++ unpaid c.args.marks.now (take c.loop-debt.debt-index c.args.debts.now)) (c.loop-debt.invariant before h))
+    least_step c.args.marks.now c.args.debts.now c.loop-debt.debt-index _ before c.lesser_unpaid-least.result c.loop-debt-test.true
+    (c.lesser_unpaid-least.ensures (before ++ unpaid c.args.marks.now (take c.loop-debt.debt-index c.args.debts.now)) (c.loop-debt.invariant before h))
 
 pub returns : goal.returns
 returns c = λ before h. subst (λ (l : List Debt). IsLeastIn (before ++

@@ -4,7 +4,7 @@ pub returns : goal.returns
 returns c = record {
   opens = c.an_opening_leads.ensures;
   history = c.a_round_is_a_history.ensures;
-  stopped = c.a_round_is_stopped.ensures;
+  stopped = c.a_round_leaves_a_heap_at_a_stop.ensures;
   finalised = c.finalised_are_listed.ensures;
   holds = c.the_heap_goes_on.ensures.round;
   goes_on = c.the_machine_goes_on.ensures;
@@ -15,6 +15,6 @@ returns c = record {
   drops = c.freed_places_go.ensures.remembered;
   grows = c.freed_places_go.ensures.free;
   waits = c.a_closed_cycle_sweeps.ensures.marked;
-  left = c.segments_are_left.ensures.stays;
-  counted = c.segments_are_left.ensures.add_passes;
+  left = c.unswept_segments_wait.ensures.stays;
+  counted = c.unswept_segments_wait.ensures.counted;
 }

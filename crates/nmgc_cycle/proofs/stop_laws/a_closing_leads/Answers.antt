@@ -10,7 +10,7 @@ returns-clause-leads c = closing_leads (finishing_leads (record {
   marked = c.the_heap_goes_on.ensures.marked;
   sweeps = c.a_resolved_cycle_is_closed.ensures.sweeps;
   waits = c.a_closed_cycle_sweeps.ensures.marked;
-  left = c.segments_are_left.ensures.stays;
+  left = c.unswept_segments_wait.ensures.stays;
   works = c.closing_begins_work.ensures;
 }))
 

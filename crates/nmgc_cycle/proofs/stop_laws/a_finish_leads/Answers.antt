@@ -15,7 +15,7 @@ returns-clause-closing c = finishing_now_leads (record {
   marked = c.the_heap_goes_on.ensures.marked;
   sweeps = c.a_resolved_cycle_is_closed.ensures.sweeps;
   waits = c.a_closed_cycle_sweeps.ensures.marked;
-  left = c.segments_are_left.ensures.stays;
+  left = c.unswept_segments_wait.ensures.stays;
   works = c.closing_begins_work.ensures;
 })
 
@@ -24,7 +24,7 @@ returns-clause-sweep_ready c = sweep_rest_ready
 
 pub returns-clause-sweeping : goal.returns-clause-sweeping
 returns-clause-sweeping c = sweeping_rest_leads (record {
-  counted = c.segments_are_left.ensures.add_passes;
+  counted = c.unswept_segments_wait.ensures.counted;
   frees = c.freed_places_go.ensures.stop;
   holds = c.freed_places_go.ensures.at_stop;
 })

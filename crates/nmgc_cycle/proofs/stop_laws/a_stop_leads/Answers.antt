@@ -9,7 +9,7 @@ returns c = record {
     sweeping = c.a_closed_cycle_sweeps.ensures.stays;
     settled = c.a_closed_cycle_sweeps.ensures.settled;
     waits = c.a_closed_cycle_sweeps.ensures.placed;
-    left = c.segments_are_left.ensures.stays;
+    left = c.unswept_segments_wait.ensures.stays;
     work = c.work_goes_on.ensures.goes_on;
   };
   adding = c.an_adding_leads.ensures;

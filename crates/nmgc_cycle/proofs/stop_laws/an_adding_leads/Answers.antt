@@ -8,5 +8,5 @@ returns c = adding_leads (record {
   paced = c.a_closing_is_in_bounds.ensures.paced;
   pace = c.the_pace_is_kept.ensures.stop;
   waits = c.a_closed_cycle_sweeps.ensures.marked;
-  left = c.segments_are_left.ensures.stays;
+  left = c.unswept_segments_wait.ensures.stays;
 })

@@ -11,8 +11,8 @@ load-word-requires g c =
     let r = c.requires.inside in
     omega (arith, e, r)
 
-pub put-requires : goal.put-requires
-put-requires g c =
+pub store_if_changed-requires : goal.store_if_changed-requires
+store_if_changed-requires g c =
     let e = c.loop-i.invariant.total in
     let f = ap length c.load-word.ensures.same in
     let r = c.requires.inside in
@@ -24,8 +24,8 @@ loop-i-preserved g c =
     let cur = g.W.HeapWords.words c.loop-i.words in
     let r = c.requires.inside in
     let a = c.requires.apart in
-    let word = c.forwarded.ensures ∙ ap (forward_word c.args.table.now c.args.base) c.load-word.ensures.word in
-    let stored = c.put.ensures ∙ ap (λ (ws : List ℕ). set ws (c.args.to + HEADER_WORDS + c.loop-i.i) c.forwarded.result) c.load-word.ensures.same ∙
+    let word = c.forward_word.ensures ∙ ap (forward_word c.args.table.now c.args.base) c.load-word.ensures.word in
+    let stored = c.store_if_changed.ensures ∙ ap (λ (ws : List ℕ). set ws (c.args.to + HEADER_WORDS + c.loop-i.i) c.forward_word.result) c.load-word.ensures.same ∙
     ap (λ (x : ℕ). set cur (c.args.to + HEADER_WORDS + c.loop-i.i) x) word in
     rw (stored) (fields_copied (forward_word c.args.table.now c.args.base) (g.W.HeapWords.words c.args.words.now) cur (c.args.from + HEADER_WORDS)
     (c.args.to + HEADER_WORDS) c.loop-i.i (omega (arith, a)) (omega (arith, r)) c.loop-i.invariant)

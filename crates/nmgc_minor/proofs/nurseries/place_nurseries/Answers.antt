@@ -65,8 +65,8 @@ loop-maker-init g c =
       same = refl;
     }
 
-pub place_all-requires-clause-inside : goal.place_all-requires-clause-inside
-place_all-requires-clause-inside g c =
+pub place_nursery-requires-clause-inside : goal.place_nursery-requires-clause-inside
+place_nursery-requires-clause-inside g c =
     let x = c.index-mutators-maker.result in
     let n = c.nursery-nursery.result in
     let is : n ≡ nursery_at (map g.M.MutatorRoots.nursery c.args.mutators.now) c.loop-maker.maker = c.nursery-nursery.ensures ∙
@@ -77,8 +77,8 @@ place_all-requires-clause-inside g c =
     let at = f.at in let within = f.within in let inside = f.inside in
     omega (arith, at, within, inside, size)
 
-pub place_all-requires-clause-objects : goal.place_all-requires-clause-objects
-place_all-requires-clause-objects g c =
+pub place_nursery-requires-clause-objects : goal.place_nursery-requires-clause-objects
+place_nursery-requires-clause-objects g c =
     let layout = c.args.segments.now.layout in
     let x = c.index-mutators-maker.result in
     let n = c.nursery-nursery.result in
@@ -98,8 +98,8 @@ place_all-requires-clause-objects g c =
     CanPlaceAll x c.loop-maker.maker (g.W.HeapWords.words c.args.words.now) c.loop-maker.table c.args.base n.base n.top)
     (sym c.loop-maker.invariant.layout) can)
 
-pub place_all-requires-clause-reserve : goal.place_all-requires-clause-reserve
-place_all-requires-clause-reserve g c =
+pub place_nursery-requires-clause-reserve : goal.place_nursery-requires-clause-reserve
+place_nursery-requires-clause-reserve g c =
     let x = c.index-mutators-maker.result in
     let n = c.nursery-nursery.result in
     let is : n ≡ nursery_at (map g.M.MutatorRoots.nursery c.args.mutators.now) c.loop-maker.maker = c.nursery-nursery.ensures ∙
@@ -110,8 +110,8 @@ place_all-requires-clause-reserve g c =
       | inr none ↦ inr (sym (subst (λ (y : Nursery). y.top ≡ y.base) (sym is) (none c.loop-maker.maker)))
     ]
 
-pub place_all-requires-clause-above : goal.place_all-requires-clause-above
-place_all-requires-clause-above g c =
+pub place_nursery-requires-clause-above : goal.place_nursery-requires-clause-above
+place_nursery-requires-clause-above g c =
     let x = c.index-mutators-maker.result in
     let n = c.nursery-nursery.result in
     let is : n ≡ nursery_at (map g.M.MutatorRoots.nursery c.args.mutators.now) c.loop-maker.maker = c.nursery-nursery.ensures ∙
@@ -121,8 +121,8 @@ place_all-requires-clause-above g c =
     let at = f.at in
     omega (arith, at)
 
-pub place_all-requires-clause-ordered : goal.place_all-requires-clause-ordered
-place_all-requires-clause-ordered g c =
+pub place_nursery-requires-clause-ordered : goal.place_nursery-requires-clause-ordered
+place_nursery-requires-clause-ordered g c =
     let x = c.index-mutators-maker.result in
     let n = c.nursery-nursery.result in
     let is : n ≡ nursery_at (map g.M.MutatorRoots.nursery c.args.mutators.now) c.loop-maker.maker = c.nursery-nursery.ensures ∙
@@ -131,8 +131,8 @@ place_all-requires-clause-ordered g c =
     c.requires.nurseries (rw (length-map c.args.mutators.now g.M.MutatorRoots.nursery) c.loop-maker-test.true) is in
     f.ordered
 
-pub place_all-requires-clause-nursery : goal.place_all-requires-clause-nursery
-place_all-requires-clause-nursery g c =
+pub place_nursery-requires-clause-nursery : goal.place_nursery-requires-clause-nursery
+place_nursery-requires-clause-nursery g c =
     let x = c.index-mutators-maker.result in
     let n = c.nursery-nursery.result in
     let is : n ≡ nursery_at (map g.M.MutatorRoots.nursery c.args.mutators.now) c.loop-maker.maker = c.nursery-nursery.ensures ∙
@@ -143,8 +143,8 @@ place_all-requires-clause-nursery g c =
     let same = ap (λ (l : Layout). l.nursery) c.loop-maker.invariant.layout in
     omega (arith, within, same)
 
-pub place_all-requires-clause-spare : goal.place_all-requires-clause-spare
-place_all-requires-clause-spare g c =
+pub place_nursery-requires-clause-spare : goal.place_nursery-requires-clause-spare
+place_nursery-requires-clause-spare g c =
     let x = c.index-mutators-maker.result in
     let n = c.nursery-nursery.result in
     let is : n ≡ nursery_at (map g.M.MutatorRoots.nursery c.args.mutators.now) c.loop-maker.maker = c.nursery-nursery.ensures ∙
@@ -168,20 +168,20 @@ loop-maker-preserved g c =
     let f = lies_by c.args.segments.now.layout c.args.base c.args.table.now (map g.M.MutatorRoots.nursery c.args.mutators.now) c.loop-maker.maker n
     c.requires.nurseries (rw (length-map c.args.mutators.now g.M.MutatorRoots.nursery) c.loop-maker-test.true) is in
     let at = f.at in let place = f.place in let ordered = f.ordered in let within = f.within in let next = f.next in let inside = f.inside in
-    let p = c.place_all.ensures in
+    let p = c.place_nursery.ensures in
     let from = nursery_place c.args.segments.now.layout c.loop-maker.maker in
     let to = nursery_place c.args.segments.now.layout (c.loop-maker.maker + 1) in
     let places = subst (λ (ws : List ℕ).
-    PlacesRange c.args.base ws c.loop-maker.segments c.place_all.new.segments c.loop-maker.table c.place_all.new.table p.places.0 n.base
+    PlacesRange c.args.base ws c.loop-maker.segments c.place_nursery.new.segments c.loop-maker.table c.place_nursery.new.table p.places.0 n.base
     n.top) i.same p.places.2 in
     let gap : (k : ℕ) → n.top ≤ k → k < to → slice_index c.loop-maker.table (k - c.args.base) ≡ 0 = λ k l h.
     i.placed.2.outside k (omega (arith, at, ordered, l)) (inr (omega (arith, place, ordered, l))) ∙
     c.requires.nurseries.unused c.loop-maker.maker k f.exists (subst (λ (y : Nursery). y.top ≤ k) is l) (omega (arith, next, h)) in
-    let part = range_gap c.args.base (g.W.HeapWords.words c.args.words.now) c.loop-maker.segments c.place_all.new.segments c.loop-maker.table
-    c.place_all.new.table p.places.0 n.base n.top to (omega (arith, at)) ordered (omega (arith, within, place, next)) gap places in
+    let part = range_gap c.args.base (g.W.HeapWords.words c.args.words.now) c.loop-maker.segments c.place_nursery.new.segments c.loop-maker.table
+    c.place_nursery.new.table p.places.0 n.base n.top to (omega (arith, at)) ordered (omega (arith, within, place, next)) gap places in
     let part' = subst (λ (k : ℕ).
-    PlacesRange c.args.base (g.W.HeapWords.words c.args.words.now) c.loop-maker.segments c.place_all.new.segments c.loop-maker.table
-    c.place_all.new.table p.places.0 k to) place part in
+    PlacesRange c.args.base (g.W.HeapWords.words c.args.words.now) c.loop-maker.segments c.place_nursery.new.segments c.loop-maker.table
+    c.place_nursery.new.table p.places.0 k to) place part in
     let low : c.args.base ≤ from = omega (arith, at, place) in
     record {
       sound = p.sound;
@@ -190,8 +190,8 @@ loop-maker-preserved g c =
       placed = (
         i.placed.0 ++ p.places.0,
         p.places.1 ∙ ap (λ (xs : List Move). xs ++ p.places.0) i.placed.1 ∙ append_assoc c.args.moves.now.items i.placed.0 p.places.0,
-        range_then c.args.base (g.W.HeapWords.words c.args.words.now) c.args.segments.now c.loop-maker.segments c.place_all.new.segments
-            c.args.table.now c.loop-maker.table c.place_all.new.table i.placed.0 p.places.0 c.args.base from to (omega arith) low (omega (
+        range_then c.args.base (g.W.HeapWords.words c.args.words.now) c.args.segments.now c.loop-maker.segments c.place_nursery.new.segments
+            c.args.table.now c.loop-maker.table c.place_nursery.new.table i.placed.0 p.places.0 c.args.base from to (omega arith) low (omega (
               arith,
               next,
             )) i.placed.2 part',
@@ -201,7 +201,7 @@ loop-maker-preserved g c =
       reserve = elim i.reserve [
         | inr none ↦ inr none
         | inl k ↦ inl (subst (λ (l : Layout).
-            KeepsReserve c.place_all.new.segments.layout c.place_all.new.segments.segments ((c.loop-maker.maker + 1) * l.nursery)) i.layout
+            KeepsReserve c.place_nursery.new.segments.layout c.place_nursery.new.segments.segments ((c.loop-maker.maker + 1) * l.nursery)) i.layout
             (p.reserve (subst (λ (l : Layout).
             KeepsReserve c.loop-maker.segments.layout c.loop-maker.segments.segments (c.loop-maker.maker * l.nursery)) (sym i.layout) k)))
       ];

@@ -34,9 +34,9 @@ pub loop-i-preserved : goal.loop-i-preserved
 loop-i-preserved c =
     let e = ap length c.words-i-end.ensures in
     let lt : c.loop-i.i < length c.args.queue.now.words = omega (arith, e, c.loop-i-test.true) in
-    queue_more (forward_word c.args.table.now c.args.base) c.args.queue.now c.loop-i.queue c.set.new.self c.loop-i.i c.forwarded.result lt
+    queue_more (forward_word c.args.table.now c.args.base) c.args.queue.now c.loop-i.queue c.set.new.self c.loop-i.i c.forward_word.result lt
     (ap (λ (q : FinQueue). q.words) c.loop-i.invariant)
     (ap (λ (q : FinQueue). q.spare) c.loop-i.invariant)
     c.set.ensures.words
     c.set.ensures.spare
-    (c.forwarded.ensures ∙ ap (λ (xs : List ℕ). forward_word c.args.table.now c.args.base (slice_index xs c.loop-i.i)) c.words.ensures)
+    (c.forward_word.ensures ∙ ap (λ (xs : List ℕ). forward_word c.args.table.now c.args.base (slice_index xs c.loop-i.i)) c.words.ensures)

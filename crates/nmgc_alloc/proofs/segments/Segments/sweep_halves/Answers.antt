@@ -20,7 +20,7 @@ pub invariant_of-self : goal.invariant_of-self
 invariant_of-self g c =
     swept_invariant _ c.args.epoch c.args.count _ _ _ _ _ _ _ _ _ _ _ _ _ _ _ _ c.self.invariant c.as_mut_slice.ensures.value c.as_mut_slice.ensures.len
     c.as_mut_slice-2.ensures.value c.as_mut_slice-2.ensures.len c.sweep_from-past.ensures.swept c.sweep_from-past.ensures.files c.place.ensures
-    c.index-waiting.ensures c.take_up.ensures.kinds c.take_up.ensures.each c.place-2.ensures c.starting.ensures
+    c.index-waiting.ensures c.take_up.ensures.kinds c.take_up.ensures.each c.place-2.ensures c.new.ensures
 
 pub returns-clause-swept : goal.returns-clause-swept
 returns-clause-swept g c =
@@ -30,4 +30,4 @@ pub returns-clause-sound : goal.returns-clause-sound
 returns-clause-sound g c =
     (swept_invariant _ c.args.epoch c.args.count _ _ _ _ _ _ _ _ _ _ _ _ _ _ _ _ c.self.invariant c.as_mut_slice.ensures.value c.as_mut_slice.ensures.len
     c.as_mut_slice-2.ensures.value c.as_mut_slice-2.ensures.len c.sweep_from-past.ensures.swept c.sweep_from-past.ensures.files c.place.ensures
-    c.index-waiting.ensures c.take_up.ensures.kinds c.take_up.ensures.each c.place-2.ensures c.starting.ensures).0
+    c.index-waiting.ensures c.take_up.ensures.kinds c.take_up.ensures.each c.place-2.ensures c.new.ensures).0

@@ -35,7 +35,7 @@ seat_all-requires-clause-count g c =
     let given = c.start-round.result.mutators in
     let s = c.start-round.ensures in
     let b : HasBegun script own o round given = record { may = may; has = record { opened = s.round.0; seen_are = s.mutators.0; at = s.mutators.1 } } in
-    c.replace-own.result.ok.0 ∙ ap (λ v. length v.items) c.replace-own.ensures.value ∙ sym (seats_are script own o round given b)
+    c.replace-mutators.result.ok.0 ∙ ap (λ v. length v.items) c.replace-mutators.ensures.value ∙ sym (seats_are script own o round given b)
 
 pub seat_all-requires-clause-room : goal.seat_all-requires-clause-room
 seat_all-requires-clause-room g c =
@@ -43,15 +43,15 @@ seat_all-requires-clause-room g c =
     let own : Collector = c.args.self.now in
     let o = c.args.opening.now.value in
     let may = may_begin c.slices_lead.ensures.opens script own o c.unwrap-words.result c.requires.limits c.requires.opens (sym c.take.ensures.value ∙ c.unwrap-words.ensures) in
-    let had = c.replace-own.result.ok.0 in
-    let own_had : length c.replace-own.result.items ≡ length own.mutators.items = ap (λ v. length v.items) c.replace-own.ensures.value in
+    let had = c.replace-mutators.result.ok.0 in
+    let own_had : length c.replace-mutators.result.items ≡ length own.mutators.items = ap (λ v. length v.items) c.replace-mutators.ensures.value in
     let count = may.still.kept.count in
     let fits = may.still.kept.workers in
     let room = c.lend-workers.ensures.room in
     (c.lend-workers.ensures.empty, omega (arith, had, own_had, count, fits, room))
 
-pub work-requires-clause-collector : goal.work-requires-clause-collector
-work-requires-clause-collector g c κs within =
+pub run_workers-requires-clause-collector : goal.run_workers-requires-clause-collector
+run_workers-requires-clause-collector g c κs within =
     let script = c.args.script.now in
     let own : Collector = c.args.self.now in
     let o = c.args.opening.now.value in
@@ -60,8 +60,8 @@ work-requires-clause-collector g c κs within =
     can_help c.slices_lead.ensures.opens c.slices_lead.ensures.tied script own may.run may.limits may.still c.start-round.result.round
     c.start-round.result.collector s.collector.0 o may.opens s.collector.1
 
-pub work-requires-clause-inbox : goal.work-requires-clause-inbox
-work-requires-clause-inbox g c κs within =
+pub run_workers-requires-clause-inbox : goal.run_workers-requires-clause-inbox
+run_workers-requires-clause-inbox g c κs within =
     let script = c.args.script.now in
     let own : Collector = c.args.self.now in
     let may = may_begin c.slices_lead.ensures.opens script own c.args.opening.now.value c.unwrap-words.result c.requires.limits c.requires.opens
@@ -70,8 +70,8 @@ work-requires-clause-inbox g c κs within =
     let count = may.still.kept.inbox in
     omega (arith, many, count)
 
-pub work-requires-clause-mutators : goal.work-requires-clause-mutators
-work-requires-clause-mutators g c κs within =
+pub run_workers-requires-clause-mutators : goal.run_workers-requires-clause-mutators
+run_workers-requires-clause-mutators g c κs within =
     let script = c.args.script.now in
     let own : Collector = c.args.self.now in
     let o = c.args.opening.now.value in
@@ -81,11 +81,11 @@ work-requires-clause-mutators g c κs within =
     let s = c.start-round.ensures in
     let b : HasBegun script own o round given = record { may = may; has = record { opened = s.round.0; seen_are = s.mutators.0; at = s.mutators.1 } } in
     let was : List Worker = c.as_mut_slice.result.now in
-    let u = are_seated script own o round given b c.replace-own.result c.replace-own.ensures.value was (c.as_mut_slice.ensures.value ∙ c.seat_all.ensures.workers) in
+    let u = are_seated script own o round given b c.replace-mutators.result c.replace-mutators.ensures.value was (c.as_mut_slice.ensures.value ∙ c.seat_all.ensures.workers) in
     can_play script own o round was u c.slices_lead.ensures.ready c.requires.room
 
-pub unseat_all-left-requires-clause-mutators : goal.unseat_all-left-requires-clause-mutators
-unseat_all-left-requires-clause-mutators g c =
+pub unseat_all-emptied-requires-clause-mutators : goal.unseat_all-emptied-requires-clause-mutators
+unseat_all-emptied-requires-clause-mutators g c =
     let script = c.args.script.now in
     let own : Collector = c.args.self.now in
     let o = c.args.opening.now.value in
@@ -95,20 +95,20 @@ unseat_all-left-requires-clause-mutators g c =
     let s = c.start-round.ensures in
     let b : HasBegun script own o round given = record { may = may; has = record { opened = s.round.0; seen_are = s.mutators.0; at = s.mutators.1 } } in
     let was : List Worker = c.as_mut_slice.result.now in
-    let u = are_seated script own o round given b c.replace-own.result c.replace-own.ensures.value was (c.as_mut_slice.ensures.value ∙ c.seat_all.ensures.workers) in
+    let u = are_seated script own o round given b c.replace-mutators.result c.replace-mutators.ensures.value was (c.as_mut_slice.ensures.value ∙ c.seat_all.ensures.workers) in
     let count = counted script own o round was u in
     let same = ap (λ (l : List Worker). length l) c.as_mut_slice.ensures.value in
     let all = c.seat_all.new.workers.ok.0 in
-    let had = c.replace-own.result.ok in
-    let own_had : length c.replace-own.result.items ≡ length own.mutators.items = ap (λ v. length v.items) c.replace-own.ensures.value in
+    let had = c.replace-mutators.result.ok in
+    let own_had : length c.replace-mutators.result.items ≡ length own.mutators.items = ap (λ v. length v.items) c.replace-mutators.ensures.value in
     let room = c.seat_all.ensures.left.1 in
-    let still : vec_capacity c.work.new.self.mutators ≡ vec_capacity c.seat_all.result = ap (λ (y : Collector). vec_capacity y.mutators) c.work.ensures.rest in (
-      ap (λ (y : Collector). y.mutators.items) c.work.ensures.rest ∙ c.seat_all.ensures.left.0,
+    let still : vec_capacity c.run_workers.new.self.mutators ≡ vec_capacity c.seat_all.result = ap (λ (y : Collector). vec_capacity y.mutators) c.run_workers.ensures.rest in (
+      ap (λ (y : Collector). y.mutators.items) c.run_workers.ensures.rest ∙ c.seat_all.ensures.left.0,
       omega (arith, count, same, all, had.0, had.1, own_had, room, still),
     )
 
-pub unseat_all-left-requires-clause-seats : goal.unseat_all-left-requires-clause-seats
-unseat_all-left-requires-clause-seats g c =
+pub unseat_all-emptied-requires-clause-seats : goal.unseat_all-emptied-requires-clause-seats
+unseat_all-emptied-requires-clause-seats g c =
     let script = c.args.script.now in
     let own : Collector = c.args.self.now in
     let o = c.args.opening.now.value in
@@ -118,12 +118,12 @@ unseat_all-left-requires-clause-seats g c =
     let s = c.start-round.ensures in
     let b : HasBegun script own o round given = record { may = may; has = record { opened = s.round.0; seen_are = s.mutators.0; at = s.mutators.1 } } in
     let was : List Worker = c.as_mut_slice.result.now in
-    let u = are_seated script own o round given b c.replace-own.result c.replace-own.ensures.value was (c.as_mut_slice.ensures.value ∙ c.seat_all.ensures.workers) in
-    let many = c.requires.lists.seats.1 in
+    let u = are_seated script own o round given b c.replace-mutators.result c.replace-mutators.ensures.value was (c.as_mut_slice.ensures.value ∙ c.seat_all.ensures.workers) in
+    let many = c.requires.lists.taken.1 in
     let count = counted script own o round was u in
     let same = ap (λ (l : List Worker). length l) c.as_mut_slice.ensures.value in
     let all = c.seat_all.new.workers.ok.0 in
-    (c.requires.lists.seats.0, omega (arith, many, count, same, all))
+    (c.requires.lists.taken.0, omega (arith, many, count, same, all))
 
 pub finish-words-requires-clause-seats : goal.finish-words-requires-clause-seats
 finish-words-requires-clause-seats g c =
@@ -136,15 +136,15 @@ finish-words-requires-clause-seats g c =
     let s = c.start-round.ensures in
     let b : HasBegun script own o round given = record { may = may; has = record { opened = s.round.0; seen_are = s.mutators.0; at = s.mutators.1 } } in
     let was : List Worker = c.as_mut_slice.result.now in
-    let u = are_seated script own o round given b c.replace-own.result c.replace-own.ensures.value was (c.as_mut_slice.ensures.value ∙ c.seat_all.ensures.workers) in
-    let new : List Worker = c.work.new.workers in
-    let ran = played script own o round was u c.slices_lead.ensures.gathered new c.work.ensures.mutators in
-    let left = left_in c.seat_all.new.workers was new c.as_mut_slice.ensures.value c.work.ensures.mutators.count in
-    let seat = c.work.new.seat in
-    let after : Collector = c.work.new.self in
+    let u = are_seated script own o round given b c.replace-mutators.result c.replace-mutators.ensures.value was (c.as_mut_slice.ensures.value ∙ c.seat_all.ensures.workers) in
+    let new : List Worker = c.run_workers.new.workers in
+    let ran = played script own o round was u c.slices_lead.ensures.gathered new c.run_workers.ensures.mutators in
+    let left = left_in c.seat_all.new.workers was new c.as_mut_slice.ensures.value c.run_workers.ensures.mutators.count in
+    let seat = c.run_workers.new.seat in
+    let after : Collector = c.run_workers.new.self in
     let has = scanned o round script.config.quota c.start-round.result.collector seat own.heap.segments after.heap.segments own.heap.names own.cycle.progress
-    after.cycle.progress s.collector.0 s.collector.1 c.work.ensures.collector in
-    let seats : c.in_place.result ≡ map seat_of new = c.in_place.ensures ∙ c.unseat_all-left.ensures.seats ∙ ap (λ (l : List Worker). map seat_of l) left in
+    after.cycle.progress s.collector.0 s.collector.1 c.run_workers.ensures.collector in
+    let seats : c.in_place.result ≡ map seat_of new = c.in_place.ensures ∙ c.unseat_all-emptied.ensures.seats ∙ ap (λ (l : List Worker). map seat_of l) left in
     (seats_at script own o may round new ran seat has c.in_place.result seats, has.at)
 
 pub finish-words-requires-clause-all : goal.finish-words-requires-clause-all
@@ -158,15 +158,15 @@ finish-words-requires-clause-all g c =
     let s = c.start-round.ensures in
     let b : HasBegun script own o round given = record { may = may; has = record { opened = s.round.0; seen_are = s.mutators.0; at = s.mutators.1 } } in
     let was : List Worker = c.as_mut_slice.result.now in
-    let u = are_seated script own o round given b c.replace-own.result c.replace-own.ensures.value was (c.as_mut_slice.ensures.value ∙ c.seat_all.ensures.workers) in
-    let new : List Worker = c.work.new.workers in
-    let ran = played script own o round was u c.slices_lead.ensures.gathered new c.work.ensures.mutators in
-    let left = left_in c.seat_all.new.workers was new c.as_mut_slice.ensures.value c.work.ensures.mutators.count in
-    let seat = c.work.new.seat in
-    let after : Collector = c.work.new.self in
+    let u = are_seated script own o round given b c.replace-mutators.result c.replace-mutators.ensures.value was (c.as_mut_slice.ensures.value ∙ c.seat_all.ensures.workers) in
+    let new : List Worker = c.run_workers.new.workers in
+    let ran = played script own o round was u c.slices_lead.ensures.gathered new c.run_workers.ensures.mutators in
+    let left = left_in c.seat_all.new.workers was new c.as_mut_slice.ensures.value c.run_workers.ensures.mutators.count in
+    let seat = c.run_workers.new.seat in
+    let after : Collector = c.run_workers.new.self in
     let has = scanned o round script.config.quota c.start-round.result.collector seat own.heap.segments after.heap.segments own.heap.names own.cycle.progress
-    after.cycle.progress s.collector.0 s.collector.1 c.work.ensures.collector in
-    let seats : c.in_place.result ≡ map seat_of new = c.in_place.ensures ∙ c.unseat_all-left.ensures.seats ∙ ap (λ (l : List Worker). map seat_of l) left in
+    after.cycle.progress s.collector.0 s.collector.1 c.run_workers.ensures.collector in
+    let seats : c.in_place.result ≡ map seat_of new = c.in_place.ensures ∙ c.unseat_all-emptied.ensures.seats ∙ ap (λ (l : List Worker). map seat_of l) left in
     has_all script own o may round new ran seat has c.slices_lead.ensures.parts c.in_place.result seats
 
 pub advance-requires-clause-count : goal.advance-requires-clause-count
@@ -180,13 +180,13 @@ advance-requires-clause-count g c =
     let s = c.start-round.ensures in
     let b : HasBegun script own o round given = record { may = may; has = record { opened = s.round.0; seen_are = s.mutators.0; at = s.mutators.1 } } in
     let was : List Worker = c.as_mut_slice.result.now in
-    let u = are_seated script own o round given b c.replace-own.result c.replace-own.ensures.value was (c.as_mut_slice.ensures.value ∙ c.seat_all.ensures.workers) in
-    let new : List Worker = c.work.new.workers in
-    let ran = played script own o round was u c.slices_lead.ensures.gathered new c.work.ensures.mutators in
-    let left = left_in c.seat_all.new.workers was new c.as_mut_slice.ensures.value c.work.ensures.mutators.count in
+    let u = are_seated script own o round given b c.replace-mutators.result c.replace-mutators.ensures.value was (c.as_mut_slice.ensures.value ∙ c.seat_all.ensures.workers) in
+    let new : List Worker = c.run_workers.new.workers in
+    let ran = played script own o round was u c.slices_lead.ensures.gathered new c.run_workers.ensures.mutators in
+    let left = left_in c.seat_all.new.workers was new c.as_mut_slice.ensures.value c.run_workers.ensures.mutators.count in
     let done : c.as_slice.result.now ≡ new = c.as_slice.ensures.value ∙ left in
     let positions : c.as_mut_slice-2.result.now ≡ own.positions.items = c.as_mut_slice-2.ensures.value ∙
-    ap (λ (y : Collector). y.positions.items) c.work.ensures.rest in
+    ap (λ (y : Collector). y.positions.items) c.run_workers.ensures.rest in
     ap (λ (l : List Worker). length l) done ∙ sym (positions_counted script own may.run may.limits may.still o round new ran.count ran.did) ∙
     sym (ap (λ (l : List ℕ). length l) positions)
 
@@ -201,13 +201,13 @@ advance-requires-clause-fits g c =
     let s = c.start-round.ensures in
     let b : HasBegun script own o round given = record { may = may; has = record { opened = s.round.0; seen_are = s.mutators.0; at = s.mutators.1 } } in
     let was : List Worker = c.as_mut_slice.result.now in
-    let u = are_seated script own o round given b c.replace-own.result c.replace-own.ensures.value was (c.as_mut_slice.ensures.value ∙ c.seat_all.ensures.workers) in
-    let new : List Worker = c.work.new.workers in
-    let ran = played script own o round was u c.slices_lead.ensures.gathered new c.work.ensures.mutators in
-    let left = left_in c.seat_all.new.workers was new c.as_mut_slice.ensures.value c.work.ensures.mutators.count in
+    let u = are_seated script own o round given b c.replace-mutators.result c.replace-mutators.ensures.value was (c.as_mut_slice.ensures.value ∙ c.seat_all.ensures.workers) in
+    let new : List Worker = c.run_workers.new.workers in
+    let ran = played script own o round was u c.slices_lead.ensures.gathered new c.run_workers.ensures.mutators in
+    let left = left_in c.seat_all.new.workers was new c.as_mut_slice.ensures.value c.run_workers.ensures.mutators.count in
     let done : c.as_slice.result.now ≡ new = c.as_slice.ensures.value ∙ left in
     let positions : c.as_mut_slice-2.result.now ≡ own.positions.items = c.as_mut_slice-2.ensures.value ∙
-    ap (λ (y : Collector). y.positions.items) c.work.ensures.rest in
+    ap (λ (y : Collector). y.positions.items) c.run_workers.ensures.rest in
     subst (λ (l : List ℕ). CanMove l (map done_by c.as_slice.result.now)) (sym positions) (subst (λ (l : List Worker).
     CanMove own.positions.items (map done_by l)) (sym done) (positions_fit script own may.run may.limits may.still o round new ran.count ran.did))
 
@@ -222,19 +222,19 @@ returns g c =
     let s = c.start-round.ensures in
     let b : HasBegun script own o round given = record { may = may; has = record { opened = s.round.0; seen_are = s.mutators.0; at = s.mutators.1 } } in
     let was : List Worker = c.as_mut_slice.result.now in
-    let u = are_seated script own o round given b c.replace-own.result c.replace-own.ensures.value was (c.as_mut_slice.ensures.value ∙ c.seat_all.ensures.workers) in
-    let new : List Worker = c.work.new.workers in
-    let ran = played script own o round was u c.slices_lead.ensures.gathered new c.work.ensures.mutators in
-    let left = left_in c.seat_all.new.workers was new c.as_mut_slice.ensures.value c.work.ensures.mutators.count in
-    let seat = c.work.new.seat in
-    let after : Collector = c.work.new.self in
+    let u = are_seated script own o round given b c.replace-mutators.result c.replace-mutators.ensures.value was (c.as_mut_slice.ensures.value ∙ c.seat_all.ensures.workers) in
+    let new : List Worker = c.run_workers.new.workers in
+    let ran = played script own o round was u c.slices_lead.ensures.gathered new c.run_workers.ensures.mutators in
+    let left = left_in c.seat_all.new.workers was new c.as_mut_slice.ensures.value c.run_workers.ensures.mutators.count in
+    let seat = c.run_workers.new.seat in
+    let after : Collector = c.run_workers.new.self in
     let has = scanned o round script.config.quota c.start-round.result.collector seat own.heap.segments after.heap.segments own.heap.names own.cycle.progress
-    after.cycle.progress s.collector.0 s.collector.1 c.work.ensures.collector in
-    let seats : c.in_place.result ≡ map seat_of new = c.in_place.ensures ∙ c.unseat_all-left.ensures.seats ∙ ap (λ (l : List Worker). map seat_of l) left in
+    after.cycle.progress s.collector.0 s.collector.1 c.run_workers.ensures.collector in
+    let seats : c.in_place.result ≡ map seat_of new = c.in_place.ensures ∙ c.unseat_all-emptied.ensures.seats ∙ ap (λ (l : List Worker). map seat_of l) left in
     let done : c.as_slice.result.now ≡ new = c.as_slice.ensures.value ∙ left in
     let positions : c.as_mut_slice-2.result.now ≡ own.positions.items = c.as_mut_slice-2.ensures.value ∙
-    ap (λ (y : Collector). y.positions.items) c.work.ensures.rest in
-    let same : after.positions ≡ own.positions = ap (λ (y : Collector). y.positions) c.work.ensures.rest in
+    ap (λ (y : Collector). y.positions.items) c.run_workers.ensures.rest in
+    let same : after.positions ≡ own.positions = ap (λ (y : Collector). y.positions) c.run_workers.ensures.rest in
     let moved : List ℕ = c.advance.new.positions in
     let many : length moved ≡ length own.positions.items = c.advance.ensures.count ∙ ap (λ (l : List ℕ). length l) positions in
     let back : (with_items after.positions moved).items ≡ moved = vec_back after.positions moved (many ∙
@@ -243,21 +243,21 @@ returns g c =
     subst (λ (l : List ℕ). HaveMoved l (map done_by new) moved) positions (subst (λ (l : List Worker).
     HaveMoved c.as_mut_slice-2.result.now (map done_by l) moved) done c.advance.ensures.each) in
     let did = did_slices script own o may round new ran seat has c.slices_lead.ensures.parts c.slices_lead.ensures.owed
-    c.start-round.result.collector s.collector.1 s.round.0 after.heap.segments c.work.ensures.sound after.cycle.progress c.work.ensures.collector
-    c.in_place.result seats c.finish-words.result.words c.finish-words.ensures.leaves after.cycle.collect after.cycle.full c.work.ensures.collect
-    c.work.ensures.full after.inbox c.work.ensures.polled c.unseat_all-left.new.mutators (with_items after.positions moved)
-    (c.unseat_all-left.ensures.mutators ∙ ap (λ (l : List Worker). map mutator_of l) left) (ap (λ (l : List ℕ). length l) back ∙
+    c.start-round.result.collector s.collector.1 s.round.0 after.heap.segments c.run_workers.ensures.sound after.cycle.progress c.run_workers.ensures.collector
+    c.in_place.result seats c.finish-words.result.words c.finish-words.ensures.leaves after.cycle.collect after.cycle.full c.run_workers.ensures.collect
+    c.run_workers.ensures.full after.inbox c.run_workers.ensures.polled c.unseat_all-emptied.new.mutators (with_items after.positions moved)
+    (c.unseat_all-emptied.ensures.mutators ∙ ap (λ (l : List Worker). map mutator_of l) left) (ap (λ (l : List ℕ). length l) back ∙
     many) (subst (λ (l : List ℕ). HaveMoved own.positions.items (map done_by new) l) (sym back) move) in
-    let room : c.give_back.new.self ≡ own.workers = c.give_back.ensures ∙ c.unseat_all-left.ensures.left.1 ∙ c.seat_all.ensures.room ∙
+    let room : c.give_back.new.self ≡ own.workers = c.give_back.ensures ∙ c.unseat_all-emptied.ensures.left.1 ∙ c.seat_all.ensures.room ∙
     c.lend-workers.ensures.room in
     subst (λ (n : ℕ). DidSlices script o own (record after {
       heap = record after.heap { words = Some c.finish-words.result.words };
-      mutators = c.unseat_all-left.new.mutators;
+      mutators = c.unseat_all-emptied.new.mutators;
       positions = with_items after.positions moved;
       workers = n;
     })) (sym room) (subst (λ (y : Collector). DidSlices script o own (record y {
       heap = record y.heap { words = Some c.finish-words.result.words };
-      mutators = c.unseat_all-left.new.mutators;
+      mutators = c.unseat_all-emptied.new.mutators;
       positions = with_items after.positions moved;
       workers = own.workers;
-    })) (sym c.work.ensures.rest) did)
+    })) (sym c.run_workers.ensures.rest) did)

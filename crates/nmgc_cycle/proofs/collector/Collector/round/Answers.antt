@@ -2,32 +2,32 @@ use Rattle.nmgc_cycle.proofs.{Vocabulary.◌∙◌, Vocabulary.ap, Vocabulary.sy
 use Rattle.nmgc_cycle.proofs.collector.Collector.round.Goals as goal
 
 pub meet_all-requires : goal.meet_all-requires
-meet_all-requires g c = lines_of c.args.script.now c.play.new.self (is_runnable c.args.script.now c.requires.limits).few c.in_ok-play.ensures.worked.0.kept
+meet_all-requires g c = lines_of c.args.script.now c.do_round.new.self (is_runnable c.args.script.now c.requires.limits).few c.in_ok-do_round.ensures.worked.0.kept
 
 pub returns-clause-worked : goal.returns-clause-worked
 returns-clause-worked g c =
-    round_met c.args.script.now c.args.self.now c.play.new.self c.meet_all.new.self _ c.meet_all.ensures.rest c.meet_all.ensures.met c.in_ok-play.ensures.worked
+    round_met c.args.script.now c.args.self.now c.do_round.new.self c.meet_all.new.self _ c.meet_all.ensures.rest c.meet_all.ensures.met c.in_ok-do_round.ensures.worked
 
 pub returns-clause-reported : goal.returns-clause-reported
-returns-clause-reported g c = let t = c.in_ok-play.ensures.reported in (t.0, ap (λ (x : Collector). x.rows.rounds) c.meet_all.ensures.rest ∙ t.1)
+returns-clause-reported g c = let t = c.in_ok-do_round.ensures.reported in (t.0, ap (λ (x : Collector). x.rows.rounds) c.meet_all.ensures.rest ∙ t.1)
 
 pub returns-clause-stops : goal.returns-clause-stops
-returns-clause-stops g c = ap (λ (x : Collector). x.rows.stops) c.meet_all.ensures.rest ∙ c.in_ok-play.ensures.stops
+returns-clause-stops g c = ap (λ (x : Collector). x.rows.stops) c.meet_all.ensures.rest ∙ c.in_ok-do_round.ensures.stops
 
 pub returns-clause-mutator_turns : goal.returns-clause-mutator_turns
 returns-clause-mutator_turns g c =
-    met_tried c.args.script.now c.args.self.now c.play.new.self c.meet_all.new.self _ c.meet_all.ensures.rest c.meet_all.ensures.met
-    c.in_ok-play.ensures.mutator_turns
+    met_tried c.args.script.now c.args.self.now c.do_round.new.self c.meet_all.new.self _ c.meet_all.ensures.rest c.meet_all.ensures.met
+    c.in_ok-do_round.ensures.mutator_turns
 
 pub returns-clause-turns : goal.returns-clause-turns
 returns-clause-turns g c = subst (λ (x : Collector). turns_of x ≡
-    passed (turns_of c.args.self.now) (worked_on c.args.self.now.cycle.progress x.cycle.progress)) (sym c.meet_all.ensures.rest) c.in_ok-play.ensures.turns
+    passed (turns_of c.args.self.now) (worked_on c.args.self.now.cycle.progress x.cycle.progress)) (sym c.meet_all.ensures.rest) c.in_ok-do_round.ensures.turns
 
 pub returns-clause-upper_turns : goal.returns-clause-upper_turns
 returns-clause-upper_turns g c = subst (λ (x : Collector). upper_turns_of x ≡
     passed (upper_turns_of c.args.self.now) (upper_worked_on c.args.self.now.cycle.progress x.cycle.progress)) (sym c.meet_all.ensures.rest)
-    c.in_ok-play.ensures.upper_turns
+    c.in_ok-do_round.ensures.upper_turns
 
 pub returns-clause-remembered : goal.returns-clause-remembered
 returns-clause-remembered g c =
-    all_in_order c.play.new.self.inbox c.meet_all.new.self.inbox c.play.new.self.mutators.items c.meet_all.new.self.mutators.items c.meet_all.ensures.met
+    all_in_order c.do_round.new.self.inbox c.meet_all.new.self.inbox c.do_round.new.self.mutators.items c.meet_all.new.self.mutators.items c.meet_all.ensures.met

@@ -38,22 +38,22 @@ try_close-requires-clause-can g c =
     (steps.stands_within c.a_stop_leads.ensures c.args.script.now c.args.self.now c.promote.new.self c.requires.limits c.requires.can
     c.in_ok-promoted.ensures.promoted c.in_ok-promoted.ensures.listed c.add_remembered.new.self c.add_remembered.ensures)
 
-pub has_left-left-requires : goal.has_left-left-requires
-has_left-left-requires g c =
+pub has_commands_left-left-requires : goal.has_commands_left-left-requires
+has_commands_left-left-requires g c =
     (steps.stands_ended c.a_stop_leads.ensures c.args.script.now c.args.self.now c.promote.new.self c.requires.limits c.requires.can
     c.in_ok-promoted.ensures.promoted c.in_ok-promoted.ensures.listed c.add_remembered.new.self c.add_remembered.ensures
     (length c.items.result.now) (ap (λ (rows : List StopRow).
     length rows) c.items.ensures) c.try_close.new.self c.try_close.ensures c.end.new.self c.in_ok-end.ensures).kept.positions_are
 
-pub proceed-requires-clause-stands : goal.proceed-requires-clause-stands
-proceed-requires-clause-stands g c κs within =
+pub do_due_cycle-requires-clause-stands : goal.do_due_cycle-requires-clause-stands
+do_due_cycle-requires-clause-stands g c κs within =
     steps.at_this_stop c.a_stop_leads.ensures c.args.script.now c.args.self.now c.promote.new.self c.requires.limits c.requires.can
     c.in_ok-promoted.ensures.promoted c.in_ok-promoted.ensures.listed c.add_remembered.new.self c.add_remembered.ensures
     (length c.items.result.now) (ap (λ (rows : List StopRow).
     length rows) c.items.ensures) c.try_close.new.self c.try_close.ensures c.end.new.self c.in_ok-end.ensures
 
-pub proceed-requires-clause-number : goal.proceed-requires-clause-number
-proceed-requires-clause-number g c κs within =
+pub do_due_cycle-requires-clause-number : goal.do_due_cycle-requires-clause-number
+do_due_cycle-requires-clause-number g c κs within =
     let few = (stop_fits c.args.script.now c.args.self.now c.requires.limits c.requires.can).begun in
     let same = steps.begun_is c.a_stop_leads.ensures c.args.script.now c.args.self.now c.promote.new.self c.requires.limits c.requires.can
     c.in_ok-promoted.ensures.promoted c.in_ok-promoted.ensures.listed c.add_remembered.new.self c.add_remembered.ensures
@@ -63,7 +63,7 @@ proceed-requires-clause-number g c κs within =
 
 -- the steps of the stop, the values read at its end, and the reason for its answer
 
-stepped : (g : Over) (c : goal.After-self-1 g) → IsStepped c.args.script.now c.args.self.now c.proceed.new.self
+stepped : (g : Over) (c : goal.After-self-1 g) → IsStepped c.args.script.now c.args.self.now c.do_due_cycle.new.self
 stepped g c = record {
   number = length c.items.result.now;
   number_is = ap (λ (rows : List StopRow). length rows) c.items.ensures;
@@ -76,16 +76,16 @@ stepped g c = record {
   closes = c.try_close.ensures;
   ended = c.end.new.self;
   ends = c.in_ok-end.ensures;
-  some = c.has_left-left.result;
-  some_is = c.has_left-left.ensures;
-  proceeds = c.in_ok-proceed.ensures;
+  some = c.has_commands_left-left.result;
+  some_is = c.has_commands_left-left.ensures;
+  proceeds = c.in_ok-do_due_cycle.ensures;
 }
 
-read : (g : Over) (c : goal.After-self-1 g) → IsRead c.args.script.now c.proceed.new.self
+read : (g : Over) (c : goal.After-self-1 g) → IsRead c.args.script.now c.do_due_cycle.new.self
 read g c = record {
-  left = c.has_left-left.result;
-  left_is = some_left_then c.args.script.now c.end.new.self c.proceed.new.self c.args.script.now.config.trigger (length c.items.result.now)
-      c.has_left-left.result c.in_ok-proceed.ensures c.has_left-left.ensures;
+  left = c.has_commands_left-left.result;
+  left_is = some_left_then c.args.script.now c.end.new.self c.do_due_cycle.new.self c.args.script.now.config.trigger (length c.items.result.now)
+      c.has_commands_left-left.result c.in_ok-do_due_cycle.ensures c.has_commands_left-left.ensures;
   phase = c.phase.result;
   phase_is = c.phase.ensures;
   free = c.free_count-free.result;
@@ -98,10 +98,10 @@ read g c = record {
   reserve_is = c.reserve-reserve.ensures ∙ ap reserve_count c.layout.ensures.layout;
 }
 
-why : (g : Over) (c : goal.After-self-1 g) → Why c.args.script.now c.proceed.new.self (read g c) c.if-left.end
+why : (g : Over) (c : goal.After-self-1 g) → Why c.args.script.now c.do_due_cycle.new.self (read g c) c.if-left.end
 unfolding read
 why g c =
-    let because : StopEnd → Type 0 = λ (e : StopEnd). Why c.args.script.now c.proceed.new.self (read g c) e in
+    let because : StopEnd → Type 0 = λ (e : StopEnd). Why c.args.script.now c.do_due_cycle.new.self (read g c) e in
     elim c.if-left.branch [
       | then-left+then-free-reserve w ↦ subst because (sym w.end-is) (refl, refl, w.if-left.true, w.if-free-reserve.true)
       | else-left+then-not-left+then-eq w ↦
@@ -111,14 +111,14 @@ why g c =
           let goes_on : because answer.GoOn = elim w.else-left.branch [
             | else-left-via-then-left+else-free-reserve v ↦ inl (v.if-left.true, v.if-free-reserve.false)
             | else-left-via-else-left v ↦
-                let none : c.has_left-left.result ≡ false = v.if-left.false in
+                let none : c.has_commands_left-left.result ≡ false = v.if-left.false in
                 let busy : because answer.GoOn = elim w.else-not-left.branch [
                   | else-not-left-via-then-not-left+else-eq u ↦ inr (
                     none,
                     λ e. same_false the_type u.phase-then-not-left.result Idle (sym u.eq.ensures ∙ u.if-eq.false) (u.phase-then-not-left.ensures ∙ e),
                   )
                   | else-not-left-via-else-not-left u ↦
-                      let some : c.has_left-left.result ≡ true = u.if-not-left.false in
+                      let some : c.has_commands_left-left.result ≡ true = u.if-not-left.false in
                       absurd (true_isnt (sym some ∙ none))
                 ] in
                 busy
@@ -129,56 +129,56 @@ why g c =
 pub returns-clause-answered : goal.returns-clause-answered
 unfolding stepped read
 returns-clause-answered g c =
-    has_answered c.a_stop_leads.ensures c.args.script.now c.args.self.now c.proceed.new.self c.requires.limits (stepped g c) (read g c)
-    c.in_ok-promoted.promoted c.in_ok-promoted.ensures.many c.push.new.self c.ended-self.result c.in_ok-push.ensures.ok c.requires.can c.if-left.end
-    (why g c) c.ended-self.ensures
+    has_answered c.a_stop_leads.ensures c.args.script.now c.args.self.now c.do_due_cycle.new.self c.requires.limits (stepped g c) (read g c)
+    c.in_ok-promoted.promoted c.in_ok-promoted.ensures.many c.push.new.self c.end_of_answer-self.result c.in_ok-push.ensures.ok c.requires.can c.if-left.end
+    (why g c) c.end_of_answer-self.ensures
 
 pub returns-clause-after : goal.returns-clause-after
 unfolding stepped read
 returns-clause-after g c =
-    stops_after c.a_stop_leads.ensures c.args.script.now c.args.self.now c.proceed.new.self c.requires.limits (stepped g c) (read g c)
-    c.in_ok-promoted.promoted c.in_ok-promoted.ensures.many c.push.new.self c.ended-self.result c.in_ok-push.ensures.ok c.if-left.end (why g c)
-    c.ended-self.ensures
+    stops_after c.a_stop_leads.ensures c.args.script.now c.args.self.now c.do_due_cycle.new.self c.requires.limits (stepped g c) (read g c)
+    c.in_ok-promoted.promoted c.in_ok-promoted.ensures.many c.push.new.self c.end_of_answer-self.result c.in_ok-push.ensures.ok c.if-left.end (why g c)
+    c.end_of_answer-self.ensures
 
 pub returns-clause-done : goal.returns-clause-done
 returns-clause-done g c =
-    let h = done_where c.args.script.now c.proceed.new.self (read g c) c.if-left.end (why g c) in
+    let h = done_where c.args.script.now c.do_due_cycle.new.self (read g c) c.if-left.end (why g c) in
     (λ e. let d = h.0 e in (d.0, d.1), λ d. h.1 (d.0, d.1))
 
 pub returns-clause-full : goal.returns-clause-full
 returns-clause-full g c = λ free reserve.
-    let h = full_where c.args.script.now c.proceed.new.self (read g c) c.if-left.end (why g c) free reserve in (
+    let h = full_where c.args.script.now c.do_due_cycle.new.self (read g c) c.if-left.end (why g c) free reserve in (
       λ e. let f = h.0 e in record { left = f.left; free_is = f.free_is; reserve_is = f.reserve_is; less = f.less },
       λ f. h.1 (record { left = f.left; free_is = f.free_is; reserve_is = f.reserve_is; less = f.less }),
     )
 
 pub returns-clause-marks_on : goal.returns-clause-marks_on
 unfolding stepped
-returns-clause-marks_on g c = marks_on c.args.script.now c.args.self.now c.proceed.new.self (stepped g c)
+returns-clause-marks_on g c = marks_on c.args.script.now c.args.self.now c.do_due_cycle.new.self (stepped g c)
 
 pub returns-clause-rounds : goal.returns-clause-rounds
 unfolding stepped read
 returns-clause-rounds g c =
-    rounds_are c.a_stop_leads.ensures c.args.script.now c.args.self.now c.proceed.new.self c.requires.limits (stepped g c) (read g c)
-    c.in_ok-promoted.promoted c.in_ok-promoted.ensures.many c.push.new.self c.ended-self.result c.in_ok-push.ensures.ok c.requires.can
+    rounds_are c.a_stop_leads.ensures c.args.script.now c.args.self.now c.do_due_cycle.new.self c.requires.limits (stepped g c) (read g c)
+    c.in_ok-promoted.promoted c.in_ok-promoted.ensures.many c.push.new.self c.end_of_answer-self.result c.in_ok-push.ensures.ok c.requires.can
 
 pub returns-clause-stops : goal.returns-clause-stops
 unfolding stepped read
 returns-clause-stops g c = (
-  row c.a_stop_leads.ensures c.args.script.now c.args.self.now c.proceed.new.self c.requires.limits (stepped g c) (read g c)
+  row c.a_stop_leads.ensures c.args.script.now c.args.self.now c.do_due_cycle.new.self c.requires.limits (stepped g c) (read g c)
       c.in_ok-promoted.promoted c.in_ok-promoted.ensures.many,
-  stops_are c.a_stop_leads.ensures c.args.script.now c.args.self.now c.proceed.new.self c.requires.limits (stepped g c) (read g c)
-      c.in_ok-promoted.promoted c.in_ok-promoted.ensures.many c.push.new.self c.ended-self.result c.in_ok-push.ensures.ok c.requires.can,
+  stops_are c.a_stop_leads.ensures c.args.script.now c.args.self.now c.do_due_cycle.new.self c.requires.limits (stepped g c) (read g c)
+      c.in_ok-promoted.promoted c.in_ok-promoted.ensures.many c.push.new.self c.end_of_answer-self.result c.in_ok-push.ensures.ok c.requires.can,
 )
 
 pub returns-clause-mutator_turns : goal.returns-clause-mutator_turns
 unfolding stepped
-returns-clause-mutator_turns g c = stop_turns c.args.script.now c.args.self.now c.proceed.new.self (stepped g c)
+returns-clause-mutator_turns g c = stop_turns c.args.script.now c.args.self.now c.do_due_cycle.new.self (stepped g c)
 
 pub returns-clause-turns : goal.returns-clause-turns
 unfolding stepped
-returns-clause-turns g c = stop_counts c.args.script.now c.args.self.now c.proceed.new.self (stepped g c)
+returns-clause-turns g c = stop_counts c.args.script.now c.args.self.now c.do_due_cycle.new.self (stepped g c)
 
 pub returns-clause-upper_turns : goal.returns-clause-upper_turns
 unfolding stepped
-returns-clause-upper_turns g c = stop_counts_upper c.args.script.now c.args.self.now c.proceed.new.self (stepped g c)
+returns-clause-upper_turns g c = stop_counts_upper c.args.script.now c.args.self.now c.do_due_cycle.new.self (stepped g c)

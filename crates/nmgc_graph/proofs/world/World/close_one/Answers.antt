@@ -1,8 +1,8 @@
 use Rattle.nmgc_graph.proofs.Closings.{dead_within, one_keeps, one_closes}
 use Rattle.nmgc_graph.proofs.world.World.close_one.Goals as goal
 
-pub die-requires : goal.die-requires
-die-requires c =
+pub kill_and_queue-requires : goal.kill_and_queue-requires
+kill_and_queue-requires c =
     dead_within (record {
       shared = c.self.inside.shared;
       mutators =
@@ -17,7 +17,7 @@ invariant_of-self c =
       mutators =
           c.self.inside.mutators;
     }) c.self.invariant c.args.weak (rw (← c.self.view_is) at c.requires) c.items_mut.result.now
-    c.items_mut.ensures.value _ _ c.die.result c.die.ensures.ok c.die.ensures.err
+    c.items_mut.ensures.value _ _ c.kill_and_queue.result c.kill_and_queue.ensures.ok c.kill_and_queue.ensures.err
 
 pub returns-clause-ok : goal.returns-clause-ok
 returns-clause-ok c =
@@ -25,4 +25,4 @@ returns-clause-ok c =
       shared = c.self.inside.shared;
       mutators = c.self.inside.mutators;
     }) c.self.invariant c.args.weak (rw (← c.self.view_is) at c.requires) c.items_mut.result.now
-    c.items_mut.ensures.value _ _ c.die.result c.die.ensures.ok c.die.ensures.err)
+    c.items_mut.ensures.value _ _ c.kill_and_queue.result c.kill_and_queue.ensures.ok c.kill_and_queue.ensures.err)

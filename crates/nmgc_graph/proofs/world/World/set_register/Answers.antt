@@ -8,6 +8,6 @@ invariant_of-self c =
       mutators =
           c.self.inside.mutators;
     }) c.self.invariant c.args.mutator (rw (← c.self.view_is) at c.requires.mutator) _ c.items_mut.ensures.value _ _
-    (λ s. holding s c.args.register c.args.value) c.hold.ensures
+    (λ s. holding s c.args.register c.args.value) c.write_register.ensures
     (holding_keeps _ c.args.mutator c.args.register c.args.value c.self.invariant (rw (← c.self.view_is) at c.requires.mutator)
     (rw (← c.self.view_is) at c.requires.known))

@@ -28,5 +28,5 @@ promote-requires-clause-stopped g c =
           IsStoppedBy (λ (x : Mutator). x.nursery) (λ (x : Mutator). x.registers) (λ (x : Mutator). x.queue) (λ (x : Mutator). x.recorded.items)
           (λ (x : Mutator). x.young_weaks.items) young_stop s words ms) (sym c.requires.one.1)
           (one s words m young_nurseries young_registers (ap (λ (n : Nursery). n ∷ []) y.nursery) y.registers y.queue y.recorded y.weaks
-          (c.one_young_object.ensures s words c.layout.ensures.sound c.requires.free c.requires.words)),
+          (c.a_stop_may_have_a_new_object.ensures s words c.layout.ensures.sound c.requires.free c.requires.words)),
     )

@@ -1,4 +1,4 @@
-use Rattle.nmgc_mark.proofs.{Vocabulary.◌≡◌, Vocabulary.◌≤◌, Vocabulary.◌∙◌, Vocabulary.refl, Vocabulary.sym, Vocabulary.arith, Vocabulary.true, Vocabulary.scanned_by, Vocabulary.entry_now, Vocabulary.has_results, Vocabulary.marked_none, Scanning.can_scan, Scanning.header_there, Fields.header_known, Fields.result_there, Fields.result_set, Fields.result_unset, Fields.field_within, Fields.next_field, Fields.no_result, Fields.with_result, Fields.marked_more, marker.Marker.scan.Goals.then-has_results+else-result-ne0, marker.Marker.scan.Goals.else-has_results}
+use Rattle.nmgc_mark.proofs.{Vocabulary.◌≡◌, Vocabulary.◌≤◌, Vocabulary.◌∙◌, Vocabulary.refl, Vocabulary.sym, Vocabulary.arith, Vocabulary.true, Vocabulary.scanned_by, Vocabulary.entry_now, Vocabulary.has_results, Vocabulary.marked_none, Scanning.can_scan, Scanning.header_there, Fields.header_known, Fields.result_there, Fields.result_set, Fields.result_unset, Fields.field_within, Fields.next_field, Fields.no_result, Fields.with_result, Fields.marked_more, marker.Marker.scan.Goals.then-is_thunk+else-result-ne0, marker.Marker.scan.Goals.else-is_thunk}
 use Rattle.nmgc_mark.proofs.marker.Marker.scan.Goals as goal
 
 pub load-requires : goal.load-requires
@@ -25,7 +25,7 @@ scan_field-result-requires-clause-scanning g c =
     let fields = c.fields_scanned-fields.result in
     let l = c.load.ensures c.args.source.now r.0 r.1 (can_scan r.0 s m c.args.at.0 0 0 r.2 refl) in
     let t = header_known r.0 s m c.args.at.0 c.load.result fields header r.2 l.1 c.header_of-header.ensures c.fields_scanned-fields.ensures in
-    let lt = result_there r.0.opening (entry_now r.0).name header fields t.0 (sym c.has_results.ensures ∙ c.if-has_results.true)
+    let lt = result_there r.0.opening (entry_now r.0).name header fields t.0 (sym c.is_thunk.ensures ∙ c.if-is_thunk.true)
     c.fields_scanned-fields.ensures in (
       c.args.source.now,
       scanned_by r.0 c.load.result,
@@ -40,7 +40,7 @@ returns-then-result-ne0-clause-done g c = λ v shows h.
     let m = c.args.self.now in
     let header = c.header_of-header.result in
     let fields = c.fields_scanned-fields.result in
-    let thunk = sym c.has_results.ensures ∙ c.if-has_results.true in
+    let thunk = sym c.is_thunk.ensures ∙ c.if-is_thunk.true in
     let l = c.load.ensures c.args.source.now v shows (can_scan v s m c.args.at.0 0 0 h refl) in
     let t = header_known v s m c.args.at.0 c.load.result fields header h l.1 c.header_of-header.ensures c.fields_scanned-fields.ensures in
     let lt = result_there v.opening (entry_now v).name header fields t.0 thunk c.fields_scanned-fields.ensures in
@@ -57,14 +57,14 @@ loop-field-init g c =
     let m = c.args.self.now in
     let header = c.header_of-header.result in
     let fields = c.fields_scanned-fields.result in
-    elim c.if-has_results.branch [
-      | then-has_results+else-result-ne0 w ↦ record {
+    elim c.if-is_thunk.branch [
+      | then-is_thunk+else-result-ne0 w ↦ record {
         marked = rw (w.segments-is, w.self-is) w.scan_field-result.ensures.marked;
         turns = rw w.self-is w.scan_field-result.ensures.turns;
         each = λ v shows h.
             let l = c.load.ensures c.args.source.now v shows (can_scan v s m c.args.at.0 0 0 h refl) in
             let t = header_known v s m c.args.at.0 c.load.result fields header h l.1 c.header_of-header.ensures c.fields_scanned-fields.ensures in
-            let lt = result_there v.opening (entry_now v).name header fields t.0 (sym c.has_results.ensures ∙ w.if-has_results.true)
+            let lt = result_there v.opening (entry_now v).name header fields t.0 (sym c.is_thunk.ensures ∙ w.if-is_thunk.true)
             c.fields_scanned-fields.ensures in
             let u = scanned_by v c.load.result in
             let f = w.scan_field-result.ensures.tied c.args.source.now u l.0 (t.1.more lt).0 in
@@ -75,7 +75,7 @@ loop-field-init g c =
                   header t.0 t.1 lt c.fields_scanned-fields.ensures f.1 (result_unset header.kind w.scan_field-result.result w.if-result-ne0.false),
             );
       }
-      | else-has_results w ↦ record {
+      | else-is_thunk w ↦ record {
         marked = rw (w.segments-is, w.self-is) (marked_none s m c.requires.room);
         turns = rw w.self-is refl;
         each = λ v shows h.
@@ -111,12 +111,12 @@ loop-field-preserved g c =
     let m = c.args.self.now in
     let inv = c.loop-field.invariant in
     let kind = c.header_of-header.result.kind in
-    let past : has_results kind ≡ true → 1 ≤ c.loop-field.field = λ thunk. elim c.if-has_results.branch [
-      | then-has_results+else-result-ne0 w ↦
+    let past : has_results kind ≡ true → 1 ≤ c.loop-field.field = λ thunk. elim c.if-is_thunk.branch [
+      | then-is_thunk+else-result-ne0 w ↦
           let one = w.first-is in
           let from = c.loop-field.auto.field in
           omega (arith, one, from)
-      | else-has_results w ↦ let other = sym c.has_results.ensures ∙ w.if-has_results.false in absurd cc
+      | else-is_thunk w ↦ let other = sym c.is_thunk.ensures ∙ w.if-is_thunk.false in absurd cc
     ] in
     record {
       marked = marked_more s c.loop-field.segments c.scan_field.new.segments m c.loop-field.self c.scan_field.new.self inv.marked c.scan_field.ensures.marked;

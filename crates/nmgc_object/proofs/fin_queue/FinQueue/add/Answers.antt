@@ -7,6 +7,6 @@ invariant_of-self c =
     let inv = c.self.invariant in
     let len = c.push_reserved.ensures.len in (
       omega (arith, inv.0, len),
-      subst (λ (l : List ℕ). HavePointersUpTo (drop q.first l) c.raised-self-inside.result) (sym c.push_reserved.ensures.items)
-          (added_up_to q.words.items q.first c.args.word q.highest c.raised-self-inside.result (grind (arith, inv.0)) inv.1 c.raised-self-inside.ensures.kept c.raised-self-inside.ensures.pointer),
+      subst (λ (l : List ℕ). HavePointersUpTo (drop q.first l) c.bound_with-self-inside.result) (sym c.push_reserved.ensures.items)
+          (added_up_to q.words.items q.first c.args.word q.highest c.bound_with-self-inside.result (grind (arith, inv.0)) inv.1 c.bound_with-self-inside.ensures.kept c.bound_with-self-inside.ensures.pointer),
     )

@@ -7,5 +7,5 @@ invariant_of-self c =
     let q = c.self.inside in
     let inv = c.self.invariant in (
       grind (arith, inv.0),
-      put_up_to q.words.items q.first c.args.place c.args.word q.highest c.raised-self-inside.result inv.1 c.raised-self-inside.ensures.kept c.raised-self-inside.ensures.pointer,
+      put_up_to q.words.items q.first c.args.place c.args.word q.highest c.bound_with-self-inside.result inv.1 c.bound_with-self-inside.ensures.kept c.bound_with-self-inside.ensures.pointer,
     )

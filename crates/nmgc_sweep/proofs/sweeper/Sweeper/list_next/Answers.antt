@@ -3,7 +3,7 @@ use Rattle.nmgc_sweep.proofs.sweeper.Sweeper.list_next.Goals as goal
 
 pub list_segment-requires-clause-waits : goal.list_segment-requires-clause-waits
 list_segment-requires-clause-waits c =
-    first_waits c.args.segments.now c.args.self.now c.self.inside.swept.items c.self.inside.done c.index-number.result.now (ap (λ (s : Sweeper).
+    first_waits c.args.segments.now c.args.self.now c.self.inside.noted.items c.self.inside.done c.index-number.result.now (ap (λ (s : Sweeper).
     s.left) c.self.view_is) c.requires.can c.requires.some c.index-number.ensures
 
 pub list_segment-requires-clause-exists : goal.list_segment-requires-clause-exists
@@ -11,7 +11,7 @@ list_segment-requires-clause-exists c = waits_exists c.args.segments.now.segment
 
 pub list_segment-requires-clause-had : goal.list_segment-requires-clause-had
 list_segment-requires-clause-had c =
-    let numbers : List ℕ = c.self.inside.swept.items in
+    let numbers : List ℕ = c.self.inside.noted.items in
     let left : drop c.self.inside.done numbers ≡ c.args.self.now.left = ap (λ (s : Sweeper). s.left) c.self.view_is in
     let most : c.self.inside.most ≡ c.args.self.now.most = ap (λ (s : Sweeper). s.most) c.self.view_is in
     let low : c.self.inside.done < length numbers = some_left numbers c.self.inside.done (λ none. c.requires.some (sym left ∙ none)) in
@@ -22,7 +22,7 @@ list_segment-requires-clause-had c =
 
 pub list_segment-requires-clause-freed : goal.list_segment-requires-clause-freed
 list_segment-requires-clause-freed c =
-    let numbers : List ℕ = c.self.inside.swept.items in
+    let numbers : List ℕ = c.self.inside.noted.items in
     let left : drop c.self.inside.done numbers ≡ c.args.self.now.left = ap (λ (s : Sweeper). s.left) c.self.view_is in
     let most : c.self.inside.most ≡ c.args.self.now.most = ap (λ (s : Sweeper). s.most) c.self.view_is in
     let low : c.self.inside.done < length numbers = some_left numbers c.self.inside.done (λ none. c.requires.some (sym left ∙ none)) in
@@ -33,7 +33,7 @@ list_segment-requires-clause-freed c =
 
 pub invariant_of-self : goal.invariant_of-self
 invariant_of-self c =
-    let numbers : List ℕ = c.self.inside.swept.items in
+    let numbers : List ℕ = c.self.inside.noted.items in
     let left : drop c.self.inside.done numbers ≡ c.args.self.now.left = ap (λ (s : Sweeper). s.left) c.self.view_is in
     let most : c.self.inside.most ≡ c.args.self.now.most = ap (λ (s : Sweeper). s.most) c.self.view_is in
     let low : c.self.inside.done < length numbers = some_left numbers c.self.inside.done (λ none. c.requires.some (sym left ∙ none)) in
@@ -49,7 +49,7 @@ invariant_of-self c =
 
 pub returns : goal.returns
 returns c =
-    let numbers : List ℕ = c.self.inside.swept.items in
+    let numbers : List ℕ = c.self.inside.noted.items in
     let first = c.index-number.result.now in
     let rest : List ℕ = drop (c.self.inside.done + 1) numbers in
     let left : drop c.self.inside.done numbers ≡ c.args.self.now.left = ap (λ (s : Sweeper). s.left) c.self.view_is in

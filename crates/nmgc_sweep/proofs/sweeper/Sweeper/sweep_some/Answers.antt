@@ -1,4 +1,4 @@
-use Rattle.nmgc_sweep.proofs.{Vocabulary.ℕ, Vocabulary.◌≡◌, Vocabulary.◌∙◌, Vocabulary.length, Vocabulary.refl, Vocabulary.sym, Vocabulary.ap, Vocabulary.subst, Vocabulary.arith, Vocabulary.min, Vocabulary.IsEpoch, Vocabulary.IsInHalf, Vocabulary.SweepsMany, Vocabulary.Sweeper, Vocabulary.HasSwept, Vocabulary.HasJudged, Begins.add_passes, Judged.judged, Steps.all_swept, Steps.can_list, Steps.listed_keeps}
+use Rattle.nmgc_sweep.proofs.{Vocabulary.ℕ, Vocabulary.◌≡◌, Vocabulary.◌∙◌, Vocabulary.length, Vocabulary.refl, Vocabulary.sym, Vocabulary.ap, Vocabulary.subst, Vocabulary.arith, Vocabulary.min, Vocabulary.IsEpoch, Vocabulary.IsInHalf, Vocabulary.SweepsMany, Vocabulary.Sweeper, Vocabulary.HasSwept, Vocabulary.HasJudged, Begins.waiting_counted, Judged.judged, Steps.all_swept, Steps.can_list, Steps.listed_keeps}
 use Rattle.nmgc_sweep.proofs.sweeper.Sweeper.sweep_some.Goals as goal
 
 pub list_first-requires-clause-can : goal.list_first-requires-clause-can
@@ -6,7 +6,7 @@ list_first-requires-clause-can g c = can_list c.args.segments.now c.args.self.no
 
 pub list_first-requires-clause-enough : goal.list_first-requires-clause-enough
 list_first-requires-clause-enough g c =
-    let all = add_passes c.args.segments.now c.args.self.now.left c.args.segments.now.segments c.requires.left.numbers in
+    let all = waiting_counted c.args.segments.now c.args.self.now.left c.args.segments.now.segments c.requires.left.numbers in
     let waiting = c.sweep_count.ensures in
     let least = c.min-count.ensures in
     omega (arith, all, waiting, least)
@@ -14,7 +14,7 @@ list_first-requires-clause-enough g c =
 -- exactly the listed segments are swept
 pub sweep_many-requires-clause-before : goal.sweep_many-requires-clause-before
 sweep_many-requires-clause-before g c κs within =
-    let all = add_passes c.args.segments.now c.args.self.now.left c.args.segments.now.segments c.requires.left.numbers in
+    let all = waiting_counted c.args.segments.now c.args.self.now.left c.args.segments.now.segments c.requires.left.numbers in
     let waiting = c.sweep_count.ensures in
     let least = c.min-count.ensures in
     let same : min c.min-count.result (length c.args.self.now.left) ≡ min c.args.quota (length c.args.self.now.left) = omega (arith, all, waiting, least) in
@@ -22,7 +22,7 @@ sweep_many-requires-clause-before g c κs within =
 
 pub returns-clause-many : goal.returns-clause-many
 returns-clause-many g c =
-    let all = add_passes c.args.segments.now c.args.self.now.left c.args.segments.now.segments c.requires.left.numbers in
+    let all = waiting_counted c.args.segments.now c.args.self.now.left c.args.segments.now.segments c.requires.left.numbers in
     let waiting = c.sweep_count.ensures in
     let least = c.min-count.ensures in
     let many = c.sweep_many.ensures.count in
@@ -35,7 +35,7 @@ returns-clause-swept g c =
     let x : Sweeper = c.args.self.now in
     let y : Sweeper = c.list_first.new.self in
     let count = c.min-count.result in
-    let all = add_passes old x.left old.segments c.requires.left.numbers in
+    let all = waiting_counted old x.left old.segments c.requires.left.numbers in
     let waiting = c.sweep_count.ensures in
     let least = c.min-count.ensures in
     let many = c.sweep_many.ensures.count in
@@ -60,7 +60,7 @@ returns-clause-judged g c =
     let x : Sweeper = c.args.self.now in
     let y : Sweeper = c.list_first.new.self in
     let count = c.min-count.result in
-    let all = add_passes old x.left old.segments c.requires.left.numbers in
+    let all = waiting_counted old x.left old.segments c.requires.left.numbers in
     let waiting = c.sweep_count.ensures in
     let least = c.min-count.ensures in
     let many = c.sweep_many.ensures.count in

@@ -44,4 +44,4 @@ no_where_none (x ∷ numbers) true h = (λ no. let bad : false ≡ true = no in 
 no_where_none (x ∷ numbers) false h = (λ no. let bad : false ≡ true = h.1 (λ none. cc) in cc, λ none. cc)
 
 pub returns-clause-finished : goal.returns-clause-finished
-returns-clause-finished g c = no_where_none (drop c.self-2.inside.done c.self-2.inside.swept.items) c.has_left.result c.has_left.ensures
+returns-clause-finished g c = no_where_none (drop c.self-2.inside.done c.self-2.inside.noted.items) c.is_work_left.result c.is_work_left.ensures

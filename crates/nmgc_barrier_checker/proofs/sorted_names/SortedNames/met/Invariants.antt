@@ -1,5 +1,0 @@
-use Rattle.nmgc_barrier_checker.proofs.Vocabulary.{take, AreMet}
-use Rattle.nmgc_barrier_checker.proofs.sorted_names.SortedNames.met.Given as goal
-
-abbrev pub invariant-loop-other : goal.invariant-loop-other
-invariant-loop-other l = AreMet l.self (take l.other-index l.others) l.met.items

@@ -1,5 +1,0 @@
-use Rattle.nmgc_barrier_laws.specs.laws.Finishing.{some_finisher}
-use Rattle.nmgc_barrier_laws.proofs.laws.a_marker_finishes.Goals as goal
-
-pub returns : goal.returns
-returns c = some_finisher

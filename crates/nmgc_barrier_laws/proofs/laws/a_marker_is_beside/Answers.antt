@@ -1,5 +1,0 @@
-use Rattle.nmgc_barrier_laws.specs.laws.Beside.{some_marker}
-use Rattle.nmgc_barrier_laws.proofs.laws.a_marker_is_beside.Goals as goal
-
-pub returns : goal.returns
-returns c = some_marker

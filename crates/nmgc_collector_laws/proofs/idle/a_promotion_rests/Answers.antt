@@ -1,5 +1,0 @@
-use Rattle.nmgc_collector_laws.specs.laws.Rests.{rests}
-use Rattle.nmgc_collector_laws.proofs.idle.a_promotion_rests.Goals as goal
-
-pub returns : goal.returns
-returns c = rests

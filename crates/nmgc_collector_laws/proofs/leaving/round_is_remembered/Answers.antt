@@ -1,5 +1,0 @@
-use Rattle.nmgc_collector_laws.specs.laws.Remembering.{round_is_remembered}
-use Rattle.nmgc_collector_laws.proofs.leaving.round_is_remembered.Goals as goal
-
-pub returns : goal.returns
-returns c = round_is_remembered

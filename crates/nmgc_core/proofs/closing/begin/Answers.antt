@@ -1,5 +1,0 @@
-use Rattle.nmgc_core.proofs.Reviving.{begins}
-use Rattle.nmgc_core.proofs.closing.begin.Goals as goal
-
-pub returns : goal.returns
-returns c = begins c.args.core.now _ c.names.ensures.there (rw (c.snapshot.ensures, c.names.ensures.names) at c.in_ok-marks.ensures) c.new-work.ensures

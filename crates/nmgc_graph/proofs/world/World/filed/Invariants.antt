@@ -1,5 +1,0 @@
-use Rattle.nmgc_graph.specs.Waiting.{AreFiled}
-use Rattle.nmgc_graph.proofs.world.World.filed.Given as goal
-
-abbrev pub invariant-loop-weak : goal.invariant-loop-weak
-invariant-loop-weak l = AreFiled l.self l.weaks l.weak-index l.waiting

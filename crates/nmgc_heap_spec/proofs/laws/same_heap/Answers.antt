@@ -1,5 +1,0 @@
-use Rattle.nmgc_heap_spec.specs.laws.Changes.{same_heap}
-use Rattle.nmgc_heap_spec.proofs.laws.same_heap.Goals as goal
-
-pub returns : goal.returns
-returns g c = λ layout earlier. same_heap layout earlier g.K.KnownNodes.knows

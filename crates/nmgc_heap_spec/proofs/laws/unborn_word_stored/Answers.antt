@@ -1,5 +1,0 @@
-use Rattle.nmgc_heap_spec.specs.laws.Changes.{unborn_stored}
-use Rattle.nmgc_heap_spec.proofs.laws.unborn_word_stored.Goals as goal
-
-pub returns : goal.returns
-returns g c = λ layout earlier. unborn_stored layout earlier g.K.KnownNodes.knows

@@ -1,5 +1,0 @@
-use Rattle.nmgc_mark.proofs.laws.round_ends.Goals as goal
-
-pub returns : goal.returns
-returns c = λ o words v s marker h collects same tied.
-    rw (h.scans collects).1 (rw same at tied)

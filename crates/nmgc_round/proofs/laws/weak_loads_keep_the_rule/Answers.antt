@@ -1,0 +1,5 @@
+use Rattle.nmgc_round.proofs.Weakens.{deref_keeps}
+use Rattle.nmgc_round.proofs.laws.weak_loads_keep_the_rule.Goals as goal
+
+pub returns : goal.returns
+returns c o words views id v p at command h here is can = deref_keeps o words views h id v here p is at command can

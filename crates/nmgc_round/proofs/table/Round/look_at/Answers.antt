@@ -1,0 +1,12 @@
+use Rattle.std.specs.Prelude.{◌+◌}
+use Rattle.nmgc_round.proofs.Modes.{meet_allows}
+use Rattle.nmgc_round.proofs.table.Round.look_at.Goals as goal
+
+pub load-requires : goal.load-requires
+load-requires g c =
+    let t = c.args.self.now.table.shared in
+    let p = c.args.seat.now in (
+      c.requires.seat.0,
+      c.requires.within,
+      rw c.requires.hoped (meet_allows t.table_id.slots p.id p.me c.requires.seat.1 (c.args.at.0 + c.args.offset) c.args.word c.requires.ready),
+    )

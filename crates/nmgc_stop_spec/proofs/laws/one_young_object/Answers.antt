@@ -1,5 +1,0 @@
-use Rattle.nmgc_stop_spec.proofs.YoungHeap.{one_young}
-use Rattle.nmgc_stop_spec.proofs.laws.one_young_object.Goals as goal
-
-pub returns : goal.returns
-returns c = one_young

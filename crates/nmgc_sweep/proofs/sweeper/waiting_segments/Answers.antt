@@ -1,0 +1,17 @@
+use Rattle.nmgc_sweep.proofs.{Vocabulary.rules, Vocabulary.ℕ, Vocabulary.◌∙◌, Vocabulary.◌+◌, Vocabulary.◌<◌, Vocabulary.List, Vocabulary.[], Vocabulary.◌∷◌, Vocabulary.◌++◌, Vocabulary.◌≡◌, Vocabulary.ap, Vocabulary.subst, Vocabulary.sym, Vocabulary.Vec, Vocabulary.Global, Vocabulary.IsWaiting, Vocabulary.ListsNumbers, Listed.below_more, Listed.below_skip, sweeper.waiting_segments.Goals.then-eq+in_ok-push, sweeper.waiting_segments.Goals.else-eq}
+use Rattle.nmgc_sweep.proofs.sweeper.waiting_segments.Goals as goal
+
+pub loop-number-preserved : goal.loop-number-preserved
+loop-number-preserved c =
+    elim c.if-eq.branch [
+      | then-eq+in_ok-push w ↦
+          let waits : IsWaiting c.args.segments.now c.loop-number.number = search rules in
+          let items : c.if-eq.numbers.items ≡ c.loop-number.numbers.items ++ c.loop-number.number ∷ [] =
+          ap (λ (v : Vec ℕ Global). v.items) w.numbers-is ∙ w.in_ok-push.ensures.items in
+          subst (λ (l : List ℕ). ListsNumbers (λ n. (n < c.loop-number.number + 1) × IsWaiting c.args.segments.now n) l) (sym items)
+          (below_more c.args.segments.now c.loop-number.number c.loop-number.numbers.items waits c.loop-number.invariant)
+      | else-eq w ↦
+          let not_waiting : IsWaiting c.args.segments.now c.loop-number.number → ⊥ = λ is. search rules in
+          subst (λ (v : Vec ℕ Global). ListsNumbers (λ n. (n < c.loop-number.number + 1) × IsWaiting c.args.segments.now n) v.items) (sym w.numbers-is)
+          (below_skip c.args.segments.now c.loop-number.number c.loop-number.numbers.items not_waiting c.loop-number.invariant)
+    ]
